@@ -1,0 +1,4 @@
+pub mod Words
+pub mod Tree
+pub mod Facts
+pub mod Nodes

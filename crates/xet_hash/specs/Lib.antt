@@ -1,0 +1,5 @@
+pub mod Blake3
+pub mod Keys
+pub mod Hash
+pub mod Order
+pub mod Merkle

@@ -1,0 +1,141 @@
+//! A hash of 32 bytes.
+
+ghost use Rattle.std.specs.Prelude.{◌≡◌, ℕ, ◌%◌, ◌<◌, ◌≢◌, IfOk, IsOkUnless, List, string_bytes, refl};
+ghost use Rattle.std.specs.Cmp.{partial_order_from_agreeing_total};
+ghost use Rattle.std.specs.Cmp.Lexicographic.{on_texts};
+ghost use Rattle.std.specs.Ordering.{as_partial_cmp};
+ghost use Rattle.xet_hash.specs.Hash.{hash_text, hash_word, shown_words, zero_hash};
+ghost use Rattle.xet_hash.specs.Order.{flipped, hash_cmp, hash_ties};
+
+use crate::error::StoreError;
+use std::alloc::Global;
+use std::cmp::Ordering;
+use std::marker::Model;
+
+/// The hash of a list of chunks.
+pub type MerkleHash = DataHash;
+
+/// A key under which hashes are hashed again.
+pub type HMACKey = DataHash;
+
+/// A hash: 32 bytes, seen as four little-endian words of 64 bits. Contracts see the bytes. Its order
+/// goes by the words in turn, as numbers, and so does the order of its texts.
+#[derive(Clone, Copy, PartialEq, Eq, Debug)]
+pub struct DataHash {
+    bytes: [u8; 32],
+}
+
+impl Model for DataHash {
+    ghost Value = { List ℕ };
+
+    ghost view = { λ h. h.bytes };
+
+    ghost inverse = { λ b. record { bytes = b } };
+}
+
+impl DataHash {
+    /// The hash of these bytes.
+    pub fn from_bytes(bytes: [u8; 32]) -> DataHash
+        ensures { result ≡ bytes }
+    {
+        DataHash { bytes }
+    }
+
+    /// Its bytes, in order.
+    pub fn as_bytes(&self) -> &[u8; 32]
+        ensures { result.now ≡ self.now }
+    {
+        &self.bytes
+    }
+
+    /// Its text: each word as sixteen lower-case hexadecimal digits, the high ones first.
+    pub fn hex(&self, alloc: Global) -> Result<String, StoreError>
+        ensures text { IfOk result (λ text. string_bytes text ≡ hash_text self.now) }
+        ensures memory { IsOkUnless result StoreError.OutOfMemory }
+    {
+        Ok(hex::encode(alloc, self.shown_words().as_slice())?)
+    }
+
+    /// Word `i`: bytes 8i to 8i + 7, the low byte first.
+    pub fn word(&self, i: usize) -> u64
+        requires { i < 4 }
+        ensures { result ≡ hash_word self.now i }
+    {
+        let b = &self.bytes;
+        let at = 8 * i;
+        u64::from_le_bytes([
+            b[at],
+            b[at + 1],
+            b[at + 2],
+            b[at + 3],
+            b[at + 4],
+            b[at + 5],
+            b[at + 6],
+            b[at + 7],
+        ])
+    }
+
+    /// The last word modulo `m`.
+    pub fn rem(&self, m: u64) -> u64
+        requires { m ≢ 0 }
+        ensures { result ≡ hash_word self.now 3 % m }
+    {
+        self.word(3) % m
+    }
+
+    /// Its words, the high byte of each first.
+    fn shown_words(&self) -> [u8; 32]
+        ensures { result ≡ shown_words self.now 4 }
+    {
+        let mut out = [0u8; 32];
+        'words: for i in 0..4 {
+            out[8 * i..8 * i + 8].copy_from_slice(&self.word(i).to_be_bytes());
+        }
+        out
+    }
+
+    /// The same, as the order compares them.
+    fn flipped(&self) -> [u8; 32]
+        ensures { result ≡ flipped self.now }
+    {
+        let b = &self.bytes;
+        [
+            b[7], b[6], b[5], b[4], b[3], b[2], b[1], b[0], b[15], b[14], b[13], b[12], b[11],
+            b[10], b[9], b[8], b[23], b[22], b[21], b[20], b[19], b[18], b[17], b[16], b[31],
+            b[30], b[29], b[28], b[27], b[26], b[25], b[24],
+        ]
+    }
+}
+
+impl Default for DataHash {
+    ghost is_default = { λ h. h ≡ zero_hash };
+
+    /// Zero, the hash of the empty file.
+    fn default() -> DataHash {
+        DataHash { bytes: [0; 32] }
+    }
+}
+
+impl Ord for DataHash {
+    ghost cmp = { hash_cmp };
+
+    ghost total = { on_texts flipped };
+
+    ghost matches_partial_cmp = { λ _ _. refl };
+
+    ghost matches_eq = { hash_ties };
+
+    fn cmp(&self, other: &DataHash) -> Ordering {
+        self.flipped().cmp(&other.flipped())
+    }
+}
+
+impl PartialOrd for DataHash {
+    ghost partial_cmp = { as_partial_cmp hash_cmp };
+
+    ghost laws = { partial_order_from_agreeing_total hash_cmp (on_texts flipped) (λ _ _. refl) hash_ties };
+
+    fn partial_cmp(&self, other: &DataHash) -> Option<Ordering> {
+        Some(self.cmp(other))
+    }
+}

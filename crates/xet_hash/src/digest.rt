@@ -1,0 +1,48 @@
+//! Digests of bytes in one piece. They take no memory.
+
+ghost use Rattle.std.specs.Prelude.{◌≡◌};
+ghost use Rattle.xet_hash.specs.Blake3.{keyed_digest, plain_digest};
+ghost use Rattle.xet_hash.specs.Keys.{data_key, node_key};
+
+use crate::blake3;
+use crate::data_hash::DataHash;
+
+/// The key of chunks' digests: the bytes 1 to 32.
+const DATA_KEY: [u8; 32] = [
+    1, 2, 3, 4, 5, 6, 7, 8, 9, 10, 11, 12, 13, 14, 15, 16, 17, 18, 19, 20, 21, 22, 23, 24, 25, 26,
+    27, 28, 29, 30, 31, 32,
+];
+
+/// The key of Merkle nodes' digests: the bytes 33 to 64.
+const NODE_KEY: [u8; 32] = [
+    33, 34, 35, 36, 37, 38, 39, 40, 41, 42, 43, 44, 45, 46, 47, 48, 49, 50, 51, 52, 53, 54, 55, 56,
+    57, 58, 59, 60, 61, 62, 63, 64,
+];
+
+/// The digest of a chunk's bytes: BLAKE3 under the data key.
+pub fn compute_data_hash(bytes: &[u8]) -> DataHash
+    ensures { result ≡ keyed_digest data_key bytes.now }
+{
+    keyed_hash(&DATA_KEY, bytes)
+}
+
+/// The digest of a Merkle node's lines: BLAKE3 under the node key.
+pub fn compute_internal_node_hash(bytes: &[u8]) -> DataHash
+    ensures { result ≡ keyed_digest node_key bytes.now }
+{
+    keyed_hash(&NODE_KEY, bytes)
+}
+
+/// BLAKE3 without a key.
+pub fn plain_hash(bytes: &[u8]) -> DataHash
+    ensures { result ≡ plain_digest bytes.now }
+{
+    DataHash::from_bytes(blake3::plain(bytes))
+}
+
+/// BLAKE3 under a key.
+pub(crate) fn keyed_hash(key: &[u8; 32], bytes: &[u8]) -> DataHash
+    ensures { result ≡ keyed_digest key.now bytes.now }
+{
+    DataHash::from_bytes(blake3::keyed(key, bytes))
+}

@@ -1,0 +1,5 @@
+pub mod Faults
+pub mod Streams
+pub mod Named
+pub mod Disk
+pub mod Memory

@@ -1,0 +1,41 @@
+//! Named sources.
+
+ghost use Rattle.std.specs.Prelude.{◌≡◌, ℕ, Bool, true, List, IfOk, IfSome, IsErrOf};
+ghost use Rattle.std.specs.Option.{option_map};
+ghost use Rattle.std.specs.FinMap.{get};
+ghost use Rattle.xet_io.specs.Faults.{HasCause, TakesFaults};
+ghost use Rattle.xet_io.specs.Named.{Named};
+
+use crate::fault::Refusal;
+use crate::source::Source;
+use std::marker::Send;
+
+/// Where sources are found by their names.
+pub trait Inputs {
+    type S: Source + Send + Drop;
+
+    /// Whether they tell their files. No call changes that.
+    ghost tells: { Self → Bool };
+
+    /// The bytes under each name, where they tell them. No call changes them.
+    ghost files: { Self → Named (List ℕ) };
+
+    /// How often they have failed, sources that came back included, up to 2^64 - 1.
+    ghost faults: { Self → ℕ };
+
+    /// Opens the source of that name: it has the name's bytes left and has not failed. None exactly
+    /// where the name is not there.
+    fn open(&mut self, name: &str) -> Result<Option<Self::S>, Refusal>
+        ensures told { tells self.old ≡ true → IfOk result (λ found. option_map Self.S.left found ≡ get (files self.old) name.now) }
+        ensures source_tells { tells self.old ≡ true → IfOk result (λ found. IfSome found (λ source. Self.S.tells source ≡ true)) }
+        ensures whole { IfOk result (λ found. IfSome found (λ source. Self.S.faults source ≡ 0)) }
+        ensures same { files self.new ≡ files self.old }
+        ensures tells { tells self.new ≡ tells self.old }
+        ensures cause { HasCause (faults self.old) (faults self.new) (IsErrOf result Refusal.Failed) };
+
+    /// Takes a source back. The count of the inputs rises where that source has failed.
+    fn close(&mut self, source: Self::S)
+        ensures same { files self.new ≡ files self.old }
+        ensures tells { tells self.new ≡ tells self.old }
+        ensures cause { TakesFaults (Self.S.faults source) (faults self.old) (faults self.new) };
+}

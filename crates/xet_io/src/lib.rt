@@ -1,0 +1,28 @@
+//! The traits of the outside: where bytes come from, where they go, and where files are kept. Each
+//! has a meaning, where it tells one, and a count of its failures, which never falls.
+#![tactic(auto)]
+
+mod disk;
+mod fault;
+mod inputs;
+mod memory;
+
+mod read_at;
+mod sink;
+mod slices;
+mod source;
+mod streams;
+
+pub use disk::{Disk, DiskEntry, put_file};
+pub use fault::{Failed, Refusal};
+pub use inputs::Inputs;
+pub use memory::{MemoryInputs, MemorySink, OwnedSource};
+
+pub use read_at::ReadAt;
+pub use sink::Sink;
+pub use slices::{SliceReader, SliceSource};
+pub use source::Source;
+pub use streams::{StdSink, StdSource};
+
+#[cfg(test)]
+mod tests;
