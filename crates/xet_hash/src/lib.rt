@@ -5,6 +5,7 @@ mod blake3;
 mod data_hash;
 mod digest;
 mod error;
+pub mod laws;
 mod merkle;
 
 pub use data_hash::{DataHash, HMACKey, MerkleHash};

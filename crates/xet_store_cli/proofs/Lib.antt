@@ -1,0 +1,3 @@
+pub mod Streaming
+pub mod LinesOf
+pub mod Said

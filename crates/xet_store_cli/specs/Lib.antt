@@ -1,0 +1,6 @@
+pub mod Words
+pub mod Lines
+pub mod Parsing
+pub mod Report
+pub mod Outcome
+pub mod Stops

@@ -1,0 +1,58 @@
+-- The words of a command line, each a text's bytes, and the command that they are.
+use Rattle.std.specs.Prelude.{ℕ, ◌*◌, ◌/◌, ◌^◌, ◌&&◌, ◌==◌, nat_lt, nat_le, nat_eq, Bool, true, false, min, List, [], ◌∷◌, length, replicate, codes, Option, Some, None, if◌then◌else◌, option_and_then}
+use Rattle.std.specs.Option.{option_map}
+use Rattle.std.specs.Int.{is_power_of_two}
+use Rattle.std.specs.Str.{all_ascii_digits, bytes_eq}
+use Rattle.std.specs.Str.Parse.{digits_value}
+use Rattle.xet_store.specs.declared.limits.LimitSettings.{LimitSettings}
+use Rattle.xet_store.specs.Limits.{is_between, shown_settings}
+use Rattle.xet_store.specs.Generator.{gear_table}
+use Rattle.xet_store_cli.specs.declared.words.Command.{Command}
+use Rattle.xet_store_cli.specs.declared.words.Command.TheVariants.{Pack}
+
+-- a number is 1 to 20 decimal digits, and below 2 ^ 64
+unfoldable pub number_of : List ℕ → Option ℕ
+number_of word =
+    if is_between 1 20 (length word) && all_ascii_digits word && nat_lt (digits_value 10 word) (2 ^ 64)
+    then Some (digits_value 10 word)
+    else None
+
+abbrev pub is_target : ℕ → Bool
+is_target n = is_power_of_two n && is_between 128 2097152 n
+
+abbrev pub target_if : ℕ → Option ℕ
+target_if n = if is_target n then Some n else None
+
+-- a target is a number that is a power of two from 128 to 2,097,152
+abbrev pub target_of : List ℕ → Option ℕ
+target_of word = option_and_then target_if (number_of word)
+
+-- a gear table is `zero`, `one`, or the number of a seed
+unfoldable pub gear_of : List ℕ → Option (List ℕ)
+gear_of word =
+    if bytes_eq word (codes "zero") then Some (replicate 256 0)
+    else if bytes_eq word (codes "one") then Some (replicate 256 1)
+    else option_map gear_table (number_of word)
+
+-- the settings of `pack`: the usual ones around a target, with the longest source that they allow
+abbrev pub pack_settings : ℕ → List ℕ → LimitSettings
+pack_settings target gear = record (shown_settings gear) {
+  target_chunk = target;
+  minimum_chunk = target / 8;
+  maximum_chunk = 2 * target;
+  max_source_bytes = min (2 ^ 29 * (target / 8)) (2 ^ 42);
+}
+
+abbrev pub pack_of : Option ℕ → Option (List ℕ) → Option Command
+pack_of None gear = None
+pack_of (Some target) None = None
+pack_of (Some target) (Some gear) = Some (Pack (pack_settings target gear))
+
+-- `pack TARGET GEAR`; any other words are no command
+unfoldable pub command_of : List (List ℕ) → Option Command
+command_of [] = None
+command_of (name ∷ []) = None
+command_of (name ∷ target ∷ []) = None
+command_of (name ∷ target ∷ gear ∷ []) =
+    if bytes_eq name (codes "pack") then pack_of (target_of target) (gear_of gear) else None
+command_of (name ∷ target ∷ gear ∷ more ∷ words) = None

@@ -1,0 +1,146 @@
+//! How a command ends.
+
+ghost use Rattle.std.specs.Prelude.{◌≡◌, ◌⊎◌, [], ◌++◌, true, ℕ, take, IfOk, IsOkUnless, string_bytes};
+ghost use Rattle.xet_io.specs.Faults.{HasCause};
+ghost use Rattle.xet_store_cli.specs.Outcome.{bad_line_text, outcome, Ends};
+ghost use Rattle.xet_store_cli.specs.Stops.{answer_outcome};
+
+use crate::output::print;
+use std::alloc::{AllocError, AllocFailed, Global};
+use std::marker::Model;
+use xet_io::{Refusal, Sink};
+
+/// Why a command stops before its report.
+#[derive(Clone, Copy, PartialEq, Eq, Debug)]
+pub enum Stop {
+    /// There was no memory.
+    OutOfMemory,
+    /// The input failed.
+    Input,
+    /// The input is too long.
+    TooLarge,
+    /// The line of this number, from 1, is the first bad one.
+    BadLine(u64),
+}
+
+impl From<AllocError> for Stop {
+    ghost use Rattle.std.specs.Prelude.{◌≡◌};
+    ghost use Rattle.xet_store_cli.specs.declared.ending.Stop.TheVariants.{OutOfMemory};
+
+    ghost from_gives = { λ _ e. e ≡ OutOfMemory };
+
+    fn from(_: AllocError) -> Stop {
+        Stop::OutOfMemory
+    }
+}
+
+impl<T: Drop> From<AllocFailed<T>> for Stop {
+    ghost use Rattle.std.specs.Prelude.{◌≡◌};
+    ghost use Rattle.xet_store_cli.specs.declared.ending.Stop.TheVariants.{OutOfMemory};
+
+    ghost from_gives = { λ _ e. e ≡ OutOfMemory };
+
+    fn from(_: AllocFailed<T>) -> Stop {
+        Stop::OutOfMemory
+    }
+}
+
+/// The status of a run whose report was printed.
+const DONE: u8 = 0;
+
+/// The status of a run for which there was no memory.
+const OUT_OF_MEMORY: u8 = 1;
+
+/// The status of a run whose words are no command.
+const BAD_WORDS: u8 = 2;
+
+/// The status of a run whose input has a bad line.
+const BAD_LINE: u8 = 3;
+
+/// The status of a run whose input failed.
+const INPUT_FAILED: u8 = 4;
+
+/// The status of a run whose output failed.
+const OUTPUT_FAILED: u8 = 5;
+
+/// The status of a run whose input is too long.
+const TOO_LARGE: u8 = 9;
+
+/// How a command ends: its status and all that it prints. Contracts see both.
+#[derive(Drop)]
+pub struct Ending {
+    status: u8,
+    text: Vec<u8>,
+}
+
+impl Model for Ending {
+    ghost use Rattle.xet_store_cli.specs.Outcome.{Outcome, outcome};
+
+    ghost Value = { Outcome };
+
+    ghost view = { λ e. outcome e.status e.text.items };
+}
+
+impl Ending {
+    ghost use Rattle.std.specs.Prelude.{◌≡◌, ◌≢◌, ◌⊎◌, [], true};
+    ghost use Rattle.xet_io.specs.Faults.{HasCause};
+    ghost use Rattle.xet_store_cli.specs.Outcome.{outcome, Ends};
+    ghost use Rattle.xet_store_cli.specs.Stops.{answer_outcome};
+
+    /// The end of words that are no command.
+    pub fn of_bad_words(alloc: Global) -> Ending
+        ensures { result ≡ outcome 2 [] }
+    {
+        Ending::silent(alloc, BAD_WORDS)
+    }
+
+    /// The end of a command that answers so, or that of no memory.
+    pub fn of_answer(alloc: Global, answer: Result<Vec<u8>, Stop>) -> Ending
+        ensures { (result ≡ answer_outcome answer) ⊎ (result ≡ outcome 1 []) }
+    {
+        match answer {
+            Ok(text) => Ending { status: DONE, text },
+            Err(Stop::OutOfMemory) => Ending::silent(alloc, OUT_OF_MEMORY),
+            Err(Stop::Input) => Ending::silent(alloc, INPUT_FAILED),
+            Err(Stop::TooLarge) => Ending::silent(alloc, TOO_LARGE),
+            Err(Stop::BadLine(number)) => match bad_line_text(alloc, number) {
+                Ok(text) => Ending {
+                    status: BAD_LINE,
+                    text,
+                },
+                Err(_) => Ending::silent(alloc, OUT_OF_MEMORY),
+            },
+        }
+    }
+
+    /// An end at which nothing is printed.
+    fn silent(alloc: Global, status: u8) -> Ending
+        ensures { result ≡ outcome status [] }
+    {
+        Ending {
+            status,
+            text: Vec::new(alloc),
+        }
+    }
+
+    /// Prints the text, and gives the status: that of the ending, unless the output refused.
+    pub fn print<O: Sink>(&self, output: &mut O) -> u8
+        ensures told { O.tells output.old ≡ true → Ends self.now (O.written output.old) (O.written output.new) result }
+        ensures status { (result ≡ self.now.status) ⊎ (result ≡ 1) ⊎ (result ≡ 5) }
+        ensures tells { O.tells output.new ≡ O.tells output.old }
+        ensures cause { HasCause (O.faults output.old) (O.faults output.new) ((result ≡ 5) × (self.now.status ≢ 5)) }
+    {
+        match print(output, &self.text) {
+            Ok(()) => self.status,
+            Err(Refusal::OutOfMemory) => OUT_OF_MEMORY,
+            Err(Refusal::Failed) => OUTPUT_FAILED,
+        }
+    }
+}
+
+fn bad_line_text(alloc: Global, number: u64) -> Result<Vec<u8>, AllocError>
+    ensures { IfOk result (λ text. text.items ≡ bad_line_text number) }
+{
+    let text = format!(in alloc; "bad line {number}\n")?;
+    Ok(text.into_bytes())
+}
