@@ -3,3 +3,4 @@ pub mod Streams
 pub mod Named
 pub mod Disk
 pub mod Memory
+pub mod MemoryFiles

@@ -1,5 +1,5 @@
 -- What a disk in memory is to contracts.
-use Rattle.std.specs.Prelude.{ℕ, List, refl}
+use Rattle.std.specs.Prelude.{ℕ, List, Bool, Option, refl}
 use Rattle.std.specs.Coded.{Coded, code_by, coded×, coded_list, coded_ℕ, coded_bool, coded_option}
 use Rattle.std.specs.FinMap as map
 use Rattle.xet_io.specs.Disk.{Files, File, Entry}
@@ -8,3 +8,15 @@ use Rattle.xet_io.specs.Disk.{Files, File, Entry}
 pub record Memory : Type 0 where
   pub files : Files
   pub calls : ℕ
+
+abbrev pub file_code : Coded File
+file_code =
+    code_by (List ℕ × ℕ) (coded× (coded_list coded_ℕ) coded_ℕ) (λ f. (f.bytes, f.stamp)) (λ p. record { bytes = p.0; stamp = p.1 }) (λ _. refl)
+
+abbrev pub entry_code : Coded Entry
+entry_code =
+    code_by (Option File × Bool) (coded× (coded_option file_code) coded_bool) (λ e. (e.file, e.stable)) (λ p. record { file = p.0; stable = p.1 }) (λ _. refl)
+
+abbrev pub memory_code : Coded Memory
+memory_code =
+    code_by (Files × ℕ) (coded× (map.code (coded_list coded_ℕ) entry_code) coded_ℕ) (λ m. (m.files, m.calls)) (λ p. record { files = p.0; calls = p.1 }) (λ _. refl)

@@ -4,9 +4,10 @@
 
 mod disk;
 mod fault;
+mod held;
 mod inputs;
 mod memory;
-
+mod memory_disk;
 mod read_at;
 mod sink;
 mod slices;
@@ -17,7 +18,7 @@ pub use disk::{Disk, DiskEntry, put_file};
 pub use fault::{Failed, Refusal};
 pub use inputs::Inputs;
 pub use memory::{MemoryInputs, MemorySink, OwnedSource};
-
+pub use memory_disk::MemoryDisk;
 pub use read_at::ReadAt;
 pub use sink::Sink;
 pub use slices::{SliceReader, SliceSource};

@@ -1,5 +1,5 @@
 -- Content-defined chunking: where a stream of bytes is cut into pieces, by the bytes before the cut.
-use Rattle.std.specs.Prelude.{ℕ, suc, ◌+◌, ◌-◌, ◌*◌, ◌/◌, ◌%◌, ◌^◌, ◌==◌, Bool, min, List, [], ◌∷◌, length, take, drop, bit_and, slice_index, unwrap_or}
+use Rattle.std.specs.Prelude.{ℕ, ◌+◌, ◌-◌, ◌*◌, ◌/◌, ◌%◌, ◌^◌, ◌==◌, Bool, min, List, [], ◌∷◌, length, take, drop, bit_and, slice_index, unwrap_or}
 use Rattle.xet_base.specs.Pieces.{first_of, pieces}
 use Rattle.xet_store.specs.declared.limits.LimitSettings.{LimitSettings}
 

@@ -1,5 +1,5 @@
 -- The limits of a store, each within its range.
-use Rattle.std.specs.Prelude.{ℕ, ◌/◌, ◌^◌, Bool, true, false, not, ◌&&◌, nat_le, nat_lt, List, [], ◌∷◌, Option, find}
+use Rattle.std.specs.Prelude.{ℕ, ◌/◌, ◌^◌, ◌<◌, ◌≤◌, Bool, IsTrue, true, false, not, ◌&&◌, nat_le, nat_lt, List, [], ◌∷◌, Option, find}
 use Rattle.std.specs.Int.{is_power_of_two}
 use Rattle.xet_hash.specs.declared.error.Field.{Field}
 use Rattle.xet_hash.specs.declared.error.Field.TheVariants.{TargetChunk, MinimumChunk, MaximumChunk, CutBytes, CutChunks, ShardTarget, GuardWindow, MinRange, LowFactor, BlockBytes, MaxSourceBytes, Scheme}
@@ -41,6 +41,30 @@ fields =
 -- the first limit that is out of its range
 unfoldable pub bad_field : LimitSettings → Option Field
 bad_field s = find (λ field. not (in_range s field)) fields
+
+-- that no limit is out of its range, fact by fact
+pub record AreInRange (s : LimitSettings) : Type 0 where
+  pub target_power : IsTrue (is_power_of_two s.target_chunk)
+  pub target_least : 128 ≤ s.target_chunk
+  pub target_most : s.target_chunk ≤ 4194304
+  pub minimum_least : 1 ≤ s.minimum_chunk
+  pub minimum_most : s.minimum_chunk < s.maximum_chunk
+  pub maximum_most : s.maximum_chunk < 8388608
+  pub cut_bytes_least : s.maximum_chunk ≤ s.cut_bytes
+  pub cut_bytes_most : s.cut_bytes ≤ 2 ^ 30
+  pub cut_chunks_least : 1 ≤ s.cut_chunks
+  pub cut_chunks_most : s.cut_chunks ≤ 65536
+  pub shard_target_most : s.shard_target < 2 ^ 32
+  pub guard_window_least : 1 ≤ s.guard_window
+  pub guard_window_most : s.guard_window ≤ 65536
+  pub min_range_least : 1 ≤ s.min_range.1
+  pub low_factor_least : 1 ≤ s.low_factor.1
+  pub block_bytes_least : 1 ≤ s.block_bytes
+  pub block_bytes_most : s.block_bytes ≤ 2 ^ 30
+  pub source_least : 1 ≤ s.max_source_bytes
+  pub source_most : s.max_source_bytes ≤ 2 ^ 42
+  pub source_chunks : s.max_source_bytes / s.minimum_chunk < 2 ^ 30
+  pub scheme_plain : IsTrue (is_plain_scheme s.scheme)
 
 -- the settings that are taken where nothing else is said
 abbrev pub shown_settings : List ℕ → LimitSettings

@@ -1,7 +1,7 @@
 //! Content-defined chunking of bytes that are all there.
 
-ghost use Rattle.std.specs.Prelude.{◌≡◌, ◌<◌, ◌≤◌, ◌+◌, ℕ, IfOk, IsOkUnless, length, map};
-ghost use Rattle.xet_hash.specs.Merkle.{members_of};
+ghost use Rattle.std.specs.Prelude.{◌≡◌, ◌<◌, ◌≤◌, IfOk, IsOkUnless, length, map};
+ghost use Rattle.xet_hash.specs.Merkle.{members_of, total_len};
 ghost use Rattle.xet_store.specs.Cut.{cut, mask, piece_len};
 
 use crate::limits::Limits;
@@ -18,7 +18,7 @@ pub fn piece_len(limits: &Limits, bytes: &[u8]) -> usize
     let mask = mask(limits.target_chunk());
     let minimum = limits.minimum_chunk() as usize;
     let end = bytes.len().min(limits.maximum_chunk() as usize);
-    let start = minimum.saturating_sub(65);
+    let start = minimum.saturating_sub(64);
     let mut sum = 0u64;
     for i in start..end {
         sum = (sum << 1).wrapping_add(gear[bytes[i] as usize]);
@@ -60,6 +60,7 @@ pub fn chunk_list(
     bytes: &[u8],
 ) -> Result<Vec<(MerkleHash, u64)>, StoreError>
     ensures members { IfOk result (λ members. members.items ≡ members_of (cut limits.now bytes.now)) }
+    ensures total { IfOk result (λ members. total_len members.items ≡ length bytes.now) }
     ensures memory { IsOkUnless result StoreError.OutOfMemory }
 {
     let mut members = Vec::new(alloc);

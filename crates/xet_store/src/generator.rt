@@ -1,7 +1,7 @@
 //! SplitMix64, which makes gear tables and files for tests.
 
 ghost use Rattle.std.specs.Prelude.{◌≡◌, IfOk, IsOkUnless};
-ghost use Rattle.xet_store.specs.Generator.{gear_table, generated, generated_byte, mixed, state};
+ghost use Rattle.xet_store.specs.Generator.{gear_table, generated, mixed};
 
 use std::alloc::Global;
 use xet_hash::StoreError;
@@ -10,6 +10,7 @@ use xet_hash::StoreError;
 const STEP: u64 = 0x9E37_79B9_7F4A_7C15;
 
 /// The output that a state gives.
+#[tactic(auto, unfolding(crate::specs::Generator::mixed))]
 fn mixed(state: u64) -> u64
     ensures { result ≡ mixed state }
 {

@@ -1,6 +1,6 @@
 //! The limits of a store.
 
-ghost use Rattle.std.specs.Prelude.{◌≡◌, ◌≤◌, ◌<◌, ◌^◌, ◌/◌, ℕ, List, None, Some, IfOk, IfErr, IsSomeAnd, IsTrue};
+ghost use Rattle.std.specs.Prelude.{◌≡◌, ◌≤◌, ◌<◌, ◌^◌, ◌/◌, None, IfOk, IfErr, IsSomeAnd, IsTrue};
 
 use std::marker::Model;
 use xet_hash::{Field, StoreError};
@@ -76,20 +76,20 @@ pub struct Limits {
 }
 
 impl Model for Limits {
-    ghost use Rattle.std.specs.Prelude.{◌≡◌, None};
     ghost use Rattle.xet_store.specs.declared.limits.LimitSettings.{LimitSettings};
-    ghost use Rattle.xet_store.specs.Limits.{bad_field};
+    ghost use Rattle.xet_store.specs.Limits.{AreInRange};
 
     ghost Value = { LimitSettings };
 
     ghost view = { λ l. l.settings };
 
-    ghost invariant = { λ l. bad_field l.settings ≡ None };
+    ghost invariant = { λ l. AreInRange l.settings };
 
     ghost inverse = { λ s. record { settings = s } };
 }
 
 impl Limits {
+    ghost use Rattle.std.specs.Int.{is_power_of_two};
     ghost use Rattle.xet_store.specs.Limits.{bad_field, is_plain_scheme};
 
     /// Limits of these settings. Refuses the first that is out of its range, in the order of the
@@ -107,6 +107,7 @@ impl Limits {
     /// The length that chunks are to have on the whole, in bytes: a power of two.
     pub fn target_chunk(&self) -> u32
         ensures value { result ≡ self.now.target_chunk }
+        ensures power { IsTrue (is_power_of_two result) }
         ensures range { (128 ≤ result) × (result ≤ 4194304) }
     {
         self.settings.target_chunk
@@ -239,9 +240,10 @@ const FIELDS: [Field; 12] = [
     Field::Scheme,
 ];
 
-ghost use Rattle.xet_store.specs.Limits.{bad_field, in_range, is_between};
+ghost use Rattle.xet_store.specs.Limits.{bad_field, in_range};
 
 /// The first limit that is out of its range.
+#[tactic(auto, unfolding(crate::specs::Limits::bad_field))]
 fn bad_field(settings: &LimitSettings) -> Option<Field>
     ensures { result ≡ bad_field settings.now }
 {
@@ -257,7 +259,7 @@ fn is_in_range(s: &LimitSettings, field: Field) -> bool
 {
     match field {
         Field::TargetChunk => {
-            s.target_chunk.is_power_of_two() && (128..=4_194_304).contains(&s.target_chunk)
+            s.target_chunk.is_power_of_two() && 128 <= s.target_chunk && s.target_chunk <= 4_194_304
         }
         Field::MinimumChunk => 1 <= s.minimum_chunk && s.minimum_chunk < s.maximum_chunk,
         Field::MaximumChunk => s.maximum_chunk < 8_388_608,
@@ -269,10 +271,7 @@ fn is_in_range(s: &LimitSettings, field: Field) -> bool
         Field::LowFactor => 1 <= s.low_factor.1,
         Field::BlockBytes => 1 <= s.block_bytes && s.block_bytes <= 1 << 30,
         Field::MaxSourceBytes => is_source_length(s),
-        Field::Scheme => matches!(
-            s.scheme,
-            CompressionScheme::None | CompressionScheme::Auto
-        ),
+        Field::Scheme => matches!(s.scheme, CompressionScheme::None | CompressionScheme::Auto),
     }
 }
 
@@ -280,7 +279,9 @@ fn is_in_range(s: &LimitSettings, field: Field) -> bool
 fn is_source_length(s: &LimitSettings) -> bool
     ensures { result ≡ in_range s.now Field.MaxSourceBytes }
 {
-    1 <= s.max_source_bytes
-        && s.max_source_bytes <= 1 << 42
-        && s.max_source_bytes / u64::from(s.minimum_chunk) < 1 << 30
+    let chunks = s
+        .max_source_bytes
+        .checked_div(u64::from(s.minimum_chunk))
+        .unwrap_or(0);
+    1 <= s.max_source_bytes && s.max_source_bytes <= 1 << 42 && chunks < 1 << 30
 }

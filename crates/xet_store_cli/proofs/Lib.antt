@@ -1,3 +1,5 @@
 pub mod Streaming
 pub mod LinesOf
 pub mod Said
+pub mod Commands
+pub mod Outcomes

@@ -50,6 +50,12 @@ run_outcome words input = command_outcome (command_of words) input
 abbrev pub IsStopped : ℕ → Type 0
 IsStopped status = (status ≡ 1) ⊎ (status ≡ 4) ⊎ (status ≡ 5)
 
+-- how a command ends before its text is printed: as it was to, or stopped with nothing to print
+pub data Ended (o e : Outcome) : Type 0 where
+  as_meant : e ≡ o → Ended o e
+  out_of_memory : e ≡ outcome 1 [] → Ended o e
+  input_failed : e ≡ outcome 4 [] → Ended o e
+
 -- A run has ended as it was to, with all of its text written, or it was stopped, and what was
 -- written is the front of that text.
 abbrev pub Ends : Outcome → List ℕ → List ℕ → ℕ → Type 0

@@ -2,7 +2,9 @@
 use Rattle.std.specs.Prelude.{ℕ, ◌*◌, ◌/◌, ◌^◌, ◌&&◌, ◌==◌, nat_lt, nat_le, nat_eq, Bool, true, false, min, List, [], ◌∷◌, length, replicate, codes, Option, Some, None, if◌then◌else◌, option_and_then}
 use Rattle.std.specs.Option.{option_map}
 use Rattle.std.specs.Int.{is_power_of_two}
-use Rattle.std.specs.Str.{all_ascii_digits, bytes_eq}
+use Rattle.std.specs.List.{list_all}
+use Rattle.std.specs.Char.{is_ascii_digit}
+use Rattle.std.specs.Str.{bytes_eq}
 use Rattle.std.specs.Str.Parse.{digits_value}
 use Rattle.xet_store.specs.declared.limits.LimitSettings.{LimitSettings}
 use Rattle.xet_store.specs.Limits.{is_between, shown_settings}
@@ -10,12 +12,14 @@ use Rattle.xet_store.specs.Generator.{gear_table}
 use Rattle.xet_store_cli.specs.declared.words.Command.{Command}
 use Rattle.xet_store_cli.specs.declared.words.Command.TheVariants.{Pack}
 
+-- 1 to 20 decimal digits
+abbrev pub is_digits : List ℕ → Bool
+is_digits word = is_between 1 20 (length word) && list_all is_ascii_digit word
+
 -- a number is 1 to 20 decimal digits, and below 2 ^ 64
 unfoldable pub number_of : List ℕ → Option ℕ
 number_of word =
-    if is_between 1 20 (length word) && all_ascii_digits word && nat_lt (digits_value 10 word) (2 ^ 64)
-    then Some (digits_value 10 word)
-    else None
+    if is_digits word && nat_lt (digits_value 10 word) (2 ^ 64) then Some (digits_value 10 word) else None
 
 abbrev pub is_target : ℕ → Bool
 is_target n = is_power_of_two n && is_between 128 2097152 n
@@ -48,11 +52,14 @@ pack_of None gear = None
 pack_of (Some target) None = None
 pack_of (Some target) (Some gear) = Some (Pack (pack_settings target gear))
 
+-- the command of three words
+abbrev pub three_words : List ℕ → List ℕ → List ℕ → Option Command
+three_words name target gear = if bytes_eq name (codes "pack") then pack_of (target_of target) (gear_of gear) else None
+
 -- `pack TARGET GEAR`; any other words are no command
 unfoldable pub command_of : List (List ℕ) → Option Command
 command_of [] = None
 command_of (name ∷ []) = None
 command_of (name ∷ target ∷ []) = None
-command_of (name ∷ target ∷ gear ∷ []) =
-    if bytes_eq name (codes "pack") then pack_of (target_of target) (gear_of gear) else None
+command_of (name ∷ target ∷ gear ∷ []) = three_words name target gear
 command_of (name ∷ target ∷ gear ∷ more ∷ words) = None

@@ -127,6 +127,7 @@ impl Ending {
     pub fn print<O: Sink>(&self, output: &mut O) -> u8
         ensures told { O.tells output.old ≡ true → Ends self.now (O.written output.old) (O.written output.new) result }
         ensures status { (result ≡ self.now.status) ⊎ (result ≡ 1) ⊎ (result ≡ 5) }
+        ensures silent { self.now.text ≡ [] → result ≡ self.now.status }
         ensures tells { O.tells output.new ≡ O.tells output.old }
         ensures cause { HasCause (O.faults output.old) (O.faults output.new) ((result ≡ 5) × (self.now.status ≢ 5)) }
     {

@@ -1,11 +1,12 @@
 //! The program as one call, over any input, output, disk and inputs.
 
-ghost use Rattle.std.specs.Prelude.{◌≡◌, ◌↔◌, ℕ, true, None, [], map, string_bytes};
+ghost use Rattle.std.specs.Prelude.{◌≡◌, ◌≢◌, ◌↔◌, true, None, Some, [], map, string_bytes, OnOk, IsErrOf};
 ghost use Rattle.xet_io.specs.Faults.{HasCause};
-ghost use Rattle.xet_store_cli.specs.Outcome.{Ends, Reports, run_outcome};
+ghost use Rattle.xet_store_cli.specs.Outcome.{Ended, Ends, Reports, command_outcome, run_outcome};
+ghost use Rattle.xet_store_cli.specs.Stops.{Answers};
 ghost use Rattle.xet_store_cli.specs.Words.{command_of};
 
-use crate::ending::Ending;
+use crate::ending::{Ending, Stop};
 use crate::pack::pack;
 use crate::words::{Command, command_of};
 use std::alloc::Global;
@@ -55,10 +56,34 @@ where
     ensures input_tells { I.tells input.new ≡ I.tells input.old }
     ensures output_tells { O.tells output.new ≡ O.tells output.old }
 {
-    let _ = (rt, inputs, now);
-    let ending = match command_of(words) {
-        None => Ending::of_bad_words(alloc),
-        Some(Command::Pack(limits)) => Ending::of_answer(alloc, pack(alloc, &limits, input)),
-    };
+    let ending = run_command(alloc, words, input);
     (disk, ending.print(output))
+}
+
+/// Runs the command of these words as far as its text.
+fn run_command<I: Source>(alloc: Global, words: &[String], input: &mut I) -> Ending
+    ensures words { (result.status ≡ 2) ↔ (command_of (map string_bytes words.now) ≡ None) }
+    ensures silent { result.status ≡ 2 → result.text ≡ [] }
+    ensures outcome { I.tells input.old ≡ true → Ended (run_outcome (map string_bytes words.now) (I.left input.old)) result }
+    ensures read { I.tells input.old ≡ true → result.status ≡ 0 → I.left input.new ≡ [] }
+    ensures input { HasCause (I.faults input.old) (I.faults input.new) (result.status ≡ 4) }
+    ensures output { result.status ≢ 5 }
+    ensures tells { I.tells input.new ≡ I.tells input.old }
+{
+    match command_of(words) {
+        None => Ending::of_bad_words(alloc),
+        Some(command) => Ending::of_answer(alloc, answer(alloc, &command, input)),
+    }
+}
+
+/// What a command answers: its report, or why it stops.
+fn answer<I: Source>(alloc: Global, command: &Command, input: &mut I) -> Result<Vec<u8>, Stop>
+    ensures answer { I.tells input.old ≡ true → Answers (command_outcome (Some command.now) (I.left input.old)) result }
+    ensures read { I.tells input.old ≡ true → OnOk result (I.left input.new ≡ []) }
+    ensures tells { I.tells input.new ≡ I.tells input.old }
+    ensures cause { HasCause (I.faults input.old) (I.faults input.new) (IsErrOf result Stop.Input) }
+{
+    match command {
+        Command::Pack(limits) => pack(alloc, limits, input),
+    }
 }

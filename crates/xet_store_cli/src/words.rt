@@ -1,12 +1,14 @@
 //! The words of a command line.
 
-ghost use Rattle.std.specs.Prelude.{◌≡◌, ◌<◌, ◌≤◌, ◌^◌, ℕ, List, map, string_bytes, IsTrue, IfSome};
-ghost use Rattle.xet_store_cli.specs.Words.{command_of, gear_of, number_of, pack_settings, is_target, target_of};
+ghost use Rattle.std.specs.Prelude.{◌≡◌, ◌≤◌, map, replicate, string_bytes, IsTrue, IfSome};
+ghost use Rattle.std.specs.Char.{is_ascii_digit};
+ghost use Rattle.std.specs.List.{list_all};
+ghost use Rattle.xet_store_cli.specs.Words.{command_of, gear_of, is_digits, is_target, number_of, pack_settings, target_of, three_words};
 
-use std::string::String;
 use xet_store::{LimitSettings, Limits, gear_table};
 
 /// A command of the program.
+#[derive(Clone, Copy, PartialEq, Eq, Debug)]
 pub enum Command {
     /// Reports the files of the lines of the input, under these limits.
     Pack(Limits),
@@ -16,19 +18,34 @@ pub enum Command {
 pub fn command_of(words: &[String]) -> Option<Command>
     ensures { result ≡ command_of (map string_bytes words.now) }
 {
-    let [name, target, gear] = words else {
-        return None;
-    };
-    if name.as_str() != "pack" {
+    if words.len() != 3 {
         return None;
     }
-    let target = target_of(target.as_str())?;
-    let gear = gear_of(gear.as_str())?;
-    let limits = Limits::new(pack_settings(target, gear)).ok()?;
-    Some(Command::Pack(limits))
+    pack_command(words[0].as_str(), words[1].as_str(), words[2].as_str())
 }
 
-/// The settings of `pack`: the usual ones around a target, with the longest source that they allow.
+fn pack_command(name: &str, target: &str, gear: &str) -> Option<Command>
+    ensures { result ≡ three_words name.now target.now gear.now }
+{
+    if name != "pack" {
+        return None;
+    }
+    let target = target_of(target)?;
+    let gear = gear_of(gear)?;
+    Some(Command::Pack(pack_limits(target, gear)))
+}
+
+/// The limits of `pack`: the usual ones around a target, with the longest source that they allow.
+fn pack_limits(target: u32, gear: [u64; 256]) -> Limits
+    requires { IsTrue (is_target target) }
+    ensures { result ≡ pack_settings target gear }
+{
+    match Limits::new(pack_settings(target, gear)) {
+        Ok(limits) => limits,
+        Err(_) => unreachable!(),
+    }
+}
+
 fn pack_settings(target: u32, gear: [u64; 256]) -> LimitSettings
     requires { target ≤ 2097152 }
     ensures { result ≡ pack_settings target gear }
@@ -61,18 +78,38 @@ fn gear_of(word: &str) -> Option<[u64; 256]>
     ensures { result ≡ gear_of word.now }
 {
     match word {
-        "zero" => Some([0; 256]),
-        "one" => Some([1; 256]),
+        "zero" => Some(constant_table(0)),
+        "one" => Some(constant_table(1)),
         _ => Some(gear_table(number_of(word)?)),
     }
+}
+
+fn constant_table(word: u64) -> [u64; 256]
+    ensures { result ≡ replicate 256 word }
+{
+    [word; 256]
 }
 
 /// A number: 1 to 20 decimal digits, below 2^64.
 fn number_of(word: &str) -> Option<u64>
     ensures { result ≡ number_of word.now }
 {
-    if word.len() > 20 || !word.bytes().all(|b| b.is_ascii_digit()) {
-        return None;
+    if is_digits(word) {
+        word.parse().ok()
+    } else {
+        None
     }
-    word.parse().ok()
+}
+
+/// Whether a word is 1 to 20 decimal digits.
+fn is_digits(word: &str) -> bool
+    ensures { result ≡ is_digits word.now }
+{
+    1 <= word.len() && word.len() <= 20 && all_digits(word)
+}
+
+fn all_digits(word: &str) -> bool
+    ensures { result ≡ list_all is_ascii_digit word.now }
+{
+    word.as_bytes().iter().all(|b| b.is_ascii_digit())
 }

@@ -1,0 +1,132 @@
+-- The files of a disk in memory, by what its names hold.
+use Rattle.std.proofs.Common.{◌≡◌, ℕ, Bool, true, false, cond, List, [], ◌∷◌, ◌++◌, map, Option, Some, None, is_some, IsSome, refl, sym, ◌∙◌, ap, subst, Bor}
+use Rattle.std.specs.Prelude.{String, string_bytes, string_cmp}
+use Rattle.std.specs.Global.{Global}
+use Rattle.std.specs.Ordering.{nat_cmp, is_eq, ordering_reverse}
+use Rattle.std.specs.Option.{option_map, option_copied}
+use Rattle.std.specs.Cmp.{eq_by_cmp_equiv}
+use Rattle.std.specs.Cmp.Lexicographic.{slice_cmp, nat_list_cmp_total}
+use Rattle.std.specs.Map.{lookup, keys_of}
+use Rattle.std.specs.BTreeMap.{BTreeMap, UpdatesBy, WritesThrough, get_by_text}
+use Rattle.std.specs.List.{AllByRecursion}
+use Rattle.std.specs.List.Sorted.{IsStrictlySortedBy}
+use Rattle.std.specs.declared.cmp.Ordering.TheVariants.{Less}
+use Rattle.std.proofs.lemmas.List.{map-append}
+use Rattle.std.specs.FinMap.{from_entries, from_entries_push, nat_cmp-IsAntisymmetric, slice_cmp-IsAntisymmetric, get, insert, remove, find, get-from_entries, get-insert, get-remove}
+use Rattle.std.specs.Str.{bytes_eq}
+use Rattle.std.proofs.lemmas.Map.Text.{is_eq-slice_cmp, btree_map_updates_text}
+use Rattle.xet_io.specs.declared.held.Held.{Held}
+use Rattle.xet_io.specs.Disk.{Entry}
+use Rattle.xet_io.specs.MemoryFiles.{file_of_held, entry_of, files_in, files_of}
+use Rattle.xet_io.proofs.Names.{is_name, same}
+
+abbrev pub Names : Type 0
+Names = BTreeMap (String Global) Held
+
+mapped : {A B : Type 0} (f : A → B) (b : Bool) (x : A) (r : Option A) → cond b (Some (f x)) (option_map f r) ≡ option_map f (cond b (Some x) r)
+mapped f true x r = refl
+mapped f false x r = refl
+
+mapped_none : {A B : Type 0} (f : A → B) (b : Bool) (r : Option A) → cond b None (option_map f r) ≡ option_map f (cond b None r)
+mapped_none f true r = refl
+mapped_none f false r = refl
+
+-- what is read behind references
+pub mapped_now : {A B : Type 0} (f : A → B) (r : Option (Bor A)) → option_map (λ x. f x.now) r ≡ option_map f (option_copied r)
+mapped_now f None = refl
+mapped_now f (Some x) = refl
+
+is_some-mapped : {A B : Type 0} (f : A → B) (r : Option A) → is_some (option_map f r) ≡ is_some r
+is_some-mapped f None = refl
+is_some-mapped f (Some x) = refl
+
+find_held : (q : List ℕ) (es : List (String Global × Held))
+    → find (slice_cmp nat_cmp) q (map (λ e. (string_bytes e.0, entry_of e.1)) es) ≡ option_map entry_of (lookup (λ k. is_eq (slice_cmp nat_cmp q (string_bytes k))) es)
+find_held q [] = refl
+find_held q (e ∷ es) =
+    let test = is_eq (slice_cmp nat_cmp q (string_bytes e.0)) in
+    ap (λ r. cond test (Some (entry_of e.1)) r) (find_held q es) ∙ mapped entry_of test e.1 _
+
+pub get_in : (es : List (String Global × Held)) (q : List ℕ) → get (files_in es) q ≡ option_map entry_of (lookup (λ k. is_eq (slice_cmp nat_cmp q (string_bytes k))) es)
+get_in es q = get-from_entries nat_list_cmp_total _ q ∙ find_held q es
+
+pub get_held : (m : Names) (q : List ℕ) → get (files_of m) q ≡ option_map entry_of (get_by_text m q)
+get_held m q = get_in m.entries q
+
+name_test : (bs q : List ℕ) → bytes_eq bs q ≡ is_name q bs
+name_test bs q = sym (is_eq-slice_cmp bs q) ∙ (eq_by_cmp_equiv nat_list_cmp_total).symm bs q
+
+module _ (m n : Names) (bs : List ℕ) where
+  -- a change at the name bs
+  abbrev pub Changed : Option Held → Type 0
+  Changed = UpdatesBy string_cmp (λ k. slice_cmp nat_cmp bs (string_bytes k)) m n
+
+  pub put_held : (held : Held) → Changed (Some held) → files_of n ≡ insert (files_of m) bs (entry_of held)
+  put_held held changed = same _ _ (λ q.
+      get_held n q
+      ∙ ap (λ r. option_map entry_of r) (btree_map_updates_text bs m n (Some held) changed q)
+      ∙ sym (mapped entry_of (bytes_eq bs q) held (get_by_text m q))
+      ∙ ap (λ b. cond b (Some (entry_of held)) (option_map entry_of (get_by_text m q))) (name_test bs q)
+      ∙ ap (λ r. cond (is_name q bs) (Some (entry_of held)) r) (sym (get_held m q))
+      ∙ sym (get-insert nat_list_cmp_total (files_of m) bs (entry_of held) q))
+
+  -- what is written through a borrow of the value at bs
+  pub write_held : (held : Held) → WritesThrough string_cmp (λ k. slice_cmp nat_cmp bs (string_bytes k)) m held n → IsSome (get_by_text m bs) → files_of n ≡ insert (files_of m) bs (entry_of held)
+  write_held held written there = put_held held (written.3 there)
+
+  pub drop_held : Changed None → files_of n ≡ remove (files_of m) bs
+  drop_held changed = same _ _ (λ q.
+      get_held n q
+      ∙ ap (λ r. option_map entry_of r) (btree_map_updates_text bs m n None changed q)
+      ∙ sym (mapped_none entry_of (bytes_eq bs q) (get_by_text m q))
+      ∙ ap (λ b. cond b None (option_map entry_of (get_by_text m q))) (name_test bs q)
+      ∙ ap (λ r. cond (is_name q bs) None r) (sym (get_held m q))
+      ∙ sym (get-remove nat_list_cmp_total (files_of m) bs q))
+
+pub held_entry : (m : Names) (q : List ℕ) (held : Held) → Some held ≡ get_by_text m q → get (files_of m) q ≡ Some (entry_of held)
+held_entry m q held is = get_held m q ∙ ap (λ r. option_map entry_of r) (sym is)
+
+pub there : (m : Names) (q : List ℕ) (held : Held) → Some held ≡ get_by_text m q → IsSome (get_by_text m q)
+there m q held is = subst (λ (r : Option Held). IsSome r) is refl
+
+pub has_file : (held : Held) → is_some (entry_of held).file ≡ is_some held.file
+has_file held = is_some-mapped file_of_held held.file
+
+pub no_entry : (m : Names) (q : List ℕ) → None ≡ get_by_text m q → get (files_of m) q ≡ None
+no_entry m q is = get_held m q ∙ ap (λ r. option_map entry_of r) (sym is)
+
+mapped_some : {A B : Type 0} (f : A → B) (r : Option A) → is_some r ≡ true → IsSome (option_map f r)
+mapped_some f None is = absurd (cc is)
+mapped_some f (Some x) is = refl
+
+pub has_entry : (m : Names) (q : List ℕ) → is_some (get_by_text m q) ≡ true → IsSome (get (files_of m) q)
+has_entry m q is = subst (λ (r : Option Entry). IsSome r) (sym (get_held m q)) (mapped_some entry_of (get_by_text m q) is)
+
+-- an insertion of a key with the bytes of a name
+pub inserted : (m n : Names) (key : String Global) (name : List ℕ) (held : Held) → UpdatesBy string_cmp (string_cmp key) m n (Some held) → string_bytes key ≡ name
+    → files_of n ≡ insert (files_of m) name (entry_of held)
+inserted m n key name held changed is = put_held m n (string_bytes key) held changed ∙ ap (λ bs. insert (files_of m) bs (entry_of held)) is
+
+-- the keys of a map are in order, so the key after the first ones is none of these
+less_at : (k : String Global) (es : List (String Global × Held)) (e : String Global × Held) (rest : List (String Global × Held))
+    → AllByRecursion (λ y. string_cmp k y ≡ Less) (keys_of (es ++ e ∷ rest)) → string_cmp k e.0 ≡ Less
+less_at k [] e rest all = all.0
+less_at k (x ∷ es) e rest all = less_at k es e rest all.1
+
+next_lookup : (es : List (String Global × Held)) (e : String Global × Held) (rest : List (String Global × Held))
+    → IsStrictlySortedBy string_cmp (keys_of (es ++ e ∷ rest)) → lookup (λ k. is_eq (slice_cmp nat_cmp (string_bytes e.0) (string_bytes k))) es ≡ None
+unfolding IsStrictlySortedBy
+next_lookup [] e rest sorted = refl
+next_lookup (x ∷ es) e rest sorted =
+    let less = less_at x.0 es e rest sorted.0 in
+    let other = nat_list_cmp_total.antisymm (string_bytes e.0) (string_bytes x.0) ∙ ap ordering_reverse less in
+    ap (λ r. cond (is_eq r) (Some x.1) (lookup (λ k. is_eq (slice_cmp nat_cmp (string_bytes e.0) (string_bytes k))) es)) other ∙ next_lookup es e rest sorted.1
+
+pub next_key : (es : List (String Global × Held)) (e : String Global × Held) (rest : List (String Global × Held))
+    → IsStrictlySortedBy string_cmp (keys_of (es ++ e ∷ rest)) → get (files_in es) (string_bytes e.0) ≡ None
+next_key es e rest sorted = get_in es (string_bytes e.0) ∙ ap (λ r. option_map entry_of r) (next_lookup es e rest sorted)
+
+pub files_push : (es : List (String Global × Held)) (e : String Global × Held) → get (files_in es) (string_bytes e.0) ≡ None
+    → files_in (es ++ e ∷ []) ≡ insert (files_in es) (string_bytes e.0) (entry_of e.1)
+files_push es e new = ap from_entries (map-append _ es (e ∷ []))
+    ∙ from_entries_push nat_list_cmp_total (slice_cmp-IsAntisymmetric nat_cmp-IsAntisymmetric) _ (string_bytes e.0) (entry_of e.1) (sym (get-from_entries nat_list_cmp_total _ (string_bytes e.0)) ∙ new)

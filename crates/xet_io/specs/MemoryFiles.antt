@@ -1,0 +1,21 @@
+-- The files of a disk in memory.
+use Rattle.std.specs.Prelude.{List, map, String, string_bytes}
+use Rattle.std.specs.Global.{Global}
+use Rattle.std.specs.Option.{option_map}
+use Rattle.std.specs.BTreeMap.{BTreeMap}
+use Rattle.std.specs.FinMap.{from_entries}
+use Rattle.xet_io.specs.Disk.{Files, Entry, File, file, entry}
+use Rattle.xet_io.specs.declared.held.Held.{Held}
+use Rattle.xet_io.specs.declared.held.HeldFile.{HeldFile}
+
+abbrev pub file_of_held : HeldFile → File
+file_of_held f = file f.bytes.items f.stamp
+
+abbrev pub entry_of : Held → Entry
+entry_of held = entry (option_map file_of_held held.file) held.stable
+
+abbrev pub files_in : List (String Global × Held) → Files
+files_in names = from_entries (map (λ e. (string_bytes e.0, entry_of e.1)) names)
+
+abbrev pub files_of : BTreeMap (String Global) Held → Files
+files_of names = files_in names.entries

@@ -1,0 +1,152 @@
+//! What a disk in memory holds under its names.
+
+ghost use Rattle.std.specs.Prelude.{◌≡◌, ◌≢◌, ℕ, List, IsTrue, IsSome, is_some, IfOk, IfErr, IfSome, OnOk, OnErr};
+ghost use Rattle.std.specs.Option.{option_map};
+ghost use Rattle.std.specs.FinMap.{get, insert, remove};
+ghost use Rattle.xet_io.specs.Disk.{Files, file_at, Lists, synced};
+ghost use Rattle.xet_io.specs.Named.{in_folder, is_plain};
+ghost use Rattle.xet_io.specs.MemoryFiles.{files_of, file_of_held, entry_of};
+
+use crate::disk::DiskEntry;
+use crate::fault::Refusal;
+use std::alloc::Global;
+use std::collections::BTreeMap;
+use xet_base::Text;
+
+/// A name's file, if it is there, and whether a crash keeps that.
+#[derive(Debug, Drop)]
+pub(crate) struct Held {
+    pub(crate) file: Option<HeldFile>,
+    pub(crate) stable: bool,
+}
+
+/// A file's bytes, and the stamp of the write that made it.
+#[derive(Debug, Drop)]
+pub(crate) struct HeldFile {
+    pub(crate) bytes: Vec<u8>,
+    pub(crate) stamp: u64,
+}
+
+pub(crate) type Names = BTreeMap<String, Held>;
+
+/// The file of a name, if it is there.
+pub(crate) fn held_file<'a>(names: &'a Names, name: &str) -> Option<&'a HeldFile>
+    ensures { option_map (λ f. file_of_held f.now) result ≡ file_at (files_of names.now) name.now }
+{
+    match names.get(name) {
+        Some(held) => held.file.as_ref(),
+        None => None,
+    }
+}
+
+/// Whether a name is there.
+pub(crate) fn is_there(names: &Names, name: &str) -> bool
+    ensures { result ≡ is_some (file_at (files_of names.now) name.now) }
+{
+    held_file(names, name).is_some()
+}
+
+/// Makes a name stable, and answers whether it is there.
+pub(crate) fn make_stable(names: &mut Names, name: &str) -> bool
+    ensures there { result ≡ is_some (file_at (files_of names.old) name.now) }
+    ensures synced { files_of names.new ≡ synced (files_of names.old) name.now }
+{
+    let Some(held) = names.get_mut(name) else {
+        return false;
+    };
+    if held.file.is_none() {
+        return false;
+    }
+    held.stable = true;
+    true
+}
+
+/// Sees to it that a name is held. Only this step of a rename may want memory.
+pub(crate) fn hold_name(names: &mut Names, alloc: Global, name: &str) -> Result<(), Refusal>
+    ensures held { OnOk result (IsSome (get (files_of names.new) name.now)) }
+    ensures others { (other : List ℕ) → other ≢ name.now → get (files_of names.new) other ≡ get (files_of names.old) other }
+    ensures kept { OnErr result (files_of names.new ≡ files_of names.old) }
+    ensures refused { IfErr result (λ e. e ≡ Refusal.OutOfMemory) }
+{
+    if names.contains_key(name) {
+        return Ok(());
+    }
+    let key = String::from_str(alloc, name)?;
+    let absent = Held {
+        file: None,
+        stable: false,
+    };
+    names.insert(key, absent)?;
+    Ok(())
+}
+
+/// Moves what one name holds to another that is held.
+pub(crate) fn move_held(names: &mut Names, from: &str, to: &str)
+    requires apart { from.now ≢ to.now }
+    requires held { IsSome (get (files_of names.old) to.now) }
+    ensures { IfSome (get (files_of names.old) from.now) (λ e. files_of names.new ≡ insert (remove (files_of names.old) from.now) to.now e) }
+{
+    if let Some(moved) = names.remove(from) {
+        if let Some(place) = names.get_mut(to) {
+            *place = moved;
+        }
+    }
+}
+
+/// The files of a folder, once each.
+pub(crate) fn list_folder(
+    names: &Names,
+    alloc: Global,
+    folder: &str,
+) -> Result<Vec<DiskEntry>, Refusal>
+    ensures told { IfOk result (λ listed. Lists (files_of names.now) folder.now listed.items) }
+    ensures refused { IfErr result (λ e. e ≡ Refusal.OutOfMemory) }
+{
+    let mut listed = Vec::new(alloc);
+    for (name, held) in names {
+        list_name(&mut listed, alloc, folder, name, held)?;
+    }
+    Ok(listed)
+}
+
+/// Lists a name more, if it is one of the folder's and its file is there.
+fn list_name(
+    listed: &mut Vec<DiskEntry>,
+    alloc: Global,
+    folder: &str,
+    name: &str,
+    held: &Held,
+) -> Result<(), Refusal>
+    ensures more { OnOk result ((files : Files) → get files name.now ≡ None → Lists files folder.now listed.old.items → Lists (insert files name.now (entry_of held.now)) folder.now listed.new.items) }
+    ensures refused { IfErr result (λ e. e ≡ Refusal.OutOfMemory) }
+{
+    let Some(file) = &held.file else {
+        return Ok(());
+    };
+    let Some(own) = own_name(folder, name) else {
+        return Ok(());
+    };
+    let entry = DiskEntry {
+        name: Text::new(String::from_str(alloc, own)?),
+        length: file.bytes.len() as u64,
+        stamp: file.stamp,
+    };
+    listed.push(entry)?;
+    Ok(())
+}
+
+/// A file's own name, if it is one of the folder's.
+fn own_name<'a>(folder: &str, name: &'a str) -> Option<&'a str>
+    ensures found { IfSome result (λ own. (name.now ≡ in_folder folder.now own.now) × IsTrue (is_plain own.now)) }
+    ensures all { (own : List ℕ) → IsTrue (is_plain own) → name.now ≡ in_folder folder.now own → IsSome result }
+{
+    let own = name.strip_prefix(folder)?.strip_prefix('/')?;
+    if is_plain_name(own) { Some(own) } else { None }
+}
+
+/// Whether there is no slash in a name.
+fn is_plain_name(name: &str) -> bool
+    ensures { result ≡ is_plain name.now }
+{
+    name.bytes().all(|b| b != b'/')
+}

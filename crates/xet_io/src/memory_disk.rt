@@ -1,0 +1,165 @@
+//! A disk in memory. It never fails.
+
+ghost use Rattle.std.specs.Prelude.{◌≡◌, ◌+◌, ◌-◌, ◌^◌, ◌≤◌, min, true, length, IfOk, IfSome, OnOk, OnErr, IsErrOf};
+ghost use Rattle.std.specs.Option.{option_map};
+ghost use Rattle.std.specs.FinMap.{empty};
+ghost use Rattle.xet_io.specs.Disk.{bytes_at, file_at, stat_of, ReadsAt, Lists, Changes, written, synced, renamed, removed};
+ghost use Rattle.xet_io.specs.Faults.{HasCause};
+
+use crate::disk::{Disk, DiskEntry};
+use crate::fault::Refusal;
+use crate::held::{
+    Held, HeldFile, Names, held_file, hold_name, is_there, list_folder, make_stable, move_held,
+};
+use crate::slices::copy_part;
+use std::alloc::Global;
+use std::collections::BTreeMap;
+use std::marker::Model;
+
+/// A disk in memory. Contracts see its files and how many calls it has taken.
+#[derive(Drop)]
+pub struct MemoryDisk {
+    alloc: Global,
+    names: Names,
+    calls: u64,
+}
+
+impl Model for MemoryDisk {
+    ghost use Rattle.xet_io.specs.Memory.{Memory, memory_code};
+
+    ghost Value = { Memory };
+
+    ghost coded = { memory_code };
+
+    ghost use Rattle.xet_io.specs.MemoryFiles.{files_of};
+
+    ghost view = { λ d. record { files = files_of d.names; calls = d.calls } };
+}
+
+impl MemoryDisk {
+    /// A disk with no files, before its first call. It takes no memory.
+    pub fn new(alloc: Global) -> MemoryDisk
+        ensures { result ≡ record { files = empty; calls = 0 } }
+    {
+        MemoryDisk {
+            alloc,
+            names: BTreeMap::new(alloc),
+            calls: 0,
+        }
+    }
+
+    /// The bytes of a file, if the name is there. It is no call of the disk.
+    pub fn get(&self, name: &str) -> Option<&[u8]>
+        ensures { option_map (λ bytes. bytes.now) result ≡ bytes_at self.now.files name.now }
+    {
+        match held_file(&self.names, name) {
+            Some(file) => Some(&file.bytes),
+            None => None,
+        }
+    }
+}
+
+impl Disk for MemoryDisk {
+    ghost tells = { λ _. true };
+
+    ghost files = { λ d. d.files };
+
+    ghost faults = { λ _. 0 };
+
+    fn stat(&mut self, name: &str) -> Result<Option<(u64, u64)>, Refusal>
+        ensures told { IfOk result (λ found. found ≡ stat_of (file_at self.old.files name.now)) }
+        ensures same { self.new.files ≡ self.old.files }
+        ensures counted { self.new.calls ≡ min (self.old.calls + 1) (2 ^ 64 - 1) }
+        ensures cause { HasCause 0 0 (IsErrOf result Refusal.Failed) }
+    {
+        self.calls = self.calls.saturating_add(1);
+        match held_file(&self.names, name) {
+            Some(file) => Ok(Some((file.bytes.len() as u64, file.stamp))),
+            None => Ok(None),
+        }
+    }
+
+    fn read_at(&mut self, name: &str, at: u64, buf: &mut [u8]) -> Result<Option<usize>, Refusal>
+        ensures bound { IfOk result (λ found. IfSome found (λ count. count ≤ length buf.new)) }
+        ensures told { IfOk result (ReadsAt (file_at self.old.files name.now) at buf.new) }
+        ensures same { self.new.files ≡ self.old.files }
+        ensures counted { self.new.calls ≡ min (self.old.calls + 1) (2 ^ 64 - 1) }
+        ensures cause { HasCause 0 0 (IsErrOf result Refusal.Failed) }
+    {
+        self.calls = self.calls.saturating_add(1);
+        match held_file(&self.names, name) {
+            Some(file) => Ok(Some(copy_part(&file.bytes, at, buf))),
+            None => Ok(None),
+        }
+    }
+
+    fn list(&mut self, alloc: Global, folder: &str) -> Result<Vec<DiskEntry>, Refusal>
+        ensures told { IfOk result (λ listed. Lists self.old.files folder.now listed.items) }
+        ensures same { self.new.files ≡ self.old.files }
+        ensures counted { self.new.calls ≡ min (self.old.calls + 1) (2 ^ 64 - 1) }
+        ensures cause { HasCause 0 0 (IsErrOf result Refusal.Failed) }
+    {
+        self.calls = self.calls.saturating_add(1);
+        list_folder(&self.names, alloc, folder)
+    }
+
+    fn write(&mut self, name: &str, bytes: &[u8]) -> Result<(), Refusal>
+        ensures stamped { OnOk result (self.new.files ≡ written self.old.files name.now bytes.now self.old.calls) }
+        ensures kept { OnErr result (self.new.files ≡ self.old.files) }
+        ensures counted { self.new.calls ≡ min (self.old.calls + 1) (2 ^ 64 - 1) }
+        ensures cause { HasCause 0 0 (IsErrOf result Refusal.Failed) }
+    {
+        let stamp = self.calls;
+        self.calls = self.calls.saturating_add(1);
+        let key = String::from_str(self.alloc, name)?;
+        let bytes = Vec::from_slice(self.alloc, bytes)?;
+        let held = Held {
+            file: Some(HeldFile { bytes, stamp }),
+            stable: false,
+        };
+        self.names.insert(key, held)?;
+        Ok(())
+    }
+
+    fn sync(&mut self, name: &str) -> Result<bool, Refusal>
+        ensures told { Changes (file_at self.old.files name.now) self.old.files (synced self.old.files name.now) result self.new.files }
+        ensures kept { OnErr result (self.new.files ≡ self.old.files) }
+        ensures counted { self.new.calls ≡ min (self.old.calls + 1) (2 ^ 64 - 1) }
+        ensures cause { HasCause 0 0 (IsErrOf result Refusal.Failed) }
+    {
+        self.calls = self.calls.saturating_add(1);
+        Ok(make_stable(&mut self.names, name))
+    }
+
+    fn rename(&mut self, from: &str, to: &str) -> Result<bool, Refusal>
+        ensures told { Changes (file_at self.old.files from.now) self.old.files (renamed self.old.files from.now to.now) result self.new.files }
+        ensures kept { OnErr result (self.new.files ≡ self.old.files) }
+        ensures counted { self.new.calls ≡ min (self.old.calls + 1) (2 ^ 64 - 1) }
+        ensures cause { HasCause 0 0 (IsErrOf result Refusal.Failed) }
+    {
+        self.calls = self.calls.saturating_add(1);
+        if !is_there(&self.names, from) {
+            return Ok(false);
+        }
+        if from == to {
+            return Ok(true);
+        }
+        hold_name(&mut self.names, self.alloc, to)?;
+        move_held(&mut self.names, from, to);
+        Ok(true)
+    }
+
+    fn remove(&mut self, name: &str) -> Result<bool, Refusal>
+        ensures told { Changes (file_at self.old.files name.now) self.old.files (removed self.old.files name.now) result self.new.files }
+        ensures kept { OnErr result (self.new.files ≡ self.old.files) }
+        ensures counted { self.new.calls ≡ min (self.old.calls + 1) (2 ^ 64 - 1) }
+        ensures cause { HasCause 0 0 (IsErrOf result Refusal.Failed) }
+    {
+        self.calls = self.calls.saturating_add(1);
+        if !is_there(&self.names, name) {
+            return Ok(false);
+        }
+        self.names.remove(name);
+        Ok(true)
+    }
+}

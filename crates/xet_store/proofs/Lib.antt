@@ -1,0 +1,4 @@
+pub mod Ranges
+pub mod Outputs
+pub mod GearSum
+pub mod PieceEnds
