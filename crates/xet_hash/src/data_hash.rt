@@ -2,14 +2,16 @@
 
 ghost use Rattle.std.specs.Prelude.{◌≡◌, ℕ, ◌%◌, ◌<◌, ◌≢◌, IfOk, IsOkUnless, List, string_bytes, refl};
 ghost use Rattle.std.specs.Cmp.{partial_order_from_agreeing_total};
-ghost use Rattle.std.specs.Cmp.Lexicographic.{on_texts};
+ghost use Rattle.std.specs.Cmp.Lexicographic.{bytes_decides, on_texts};
 ghost use Rattle.std.specs.Ordering.{as_partial_cmp};
-ghost use Rattle.xet_hash.specs.Hash.{hash_text, hash_word, shown_words, zero_hash};
+ghost use Rattle.std.proofs.Common.{ap};
+ghost use Rattle.xet_hash.specs.Hash.{hash_text, hash_word, shown_words, words_fed, zero_hash};
 ghost use Rattle.xet_hash.specs.Order.{flipped, hash_cmp, hash_ties};
 
 use crate::error::StoreError;
 use std::alloc::Global;
 use std::cmp::Ordering;
+use std::hash::{Hash, Hasher};
 use std::marker::Model;
 
 /// The hash of a list of chunks.
@@ -113,6 +115,20 @@ impl Default for DataHash {
     /// Zero, the hash of the empty file.
     fn default() -> DataHash {
         DataHash { bytes: [0; 32] }
+    }
+}
+
+impl Hash for DataHash {
+    ghost hash_input = { words_fed };
+
+    ghost respects_eq = { λ x y same. ap words_fed ((bytes_decides x y).0 same) };
+
+    /// Feeds the four words in turn.
+    fn hash<H: Hasher>(&self, state: &mut H) {
+        state.write_u64(self.word(0));
+        state.write_u64(self.word(1));
+        state.write_u64(self.word(2));
+        state.write_u64(self.word(3));
     }
 }
 

@@ -1,6 +1,6 @@
 -- Words as numbers, gear tables and commands.
-use Rattle.std.proofs.Common.{◌≡◌, ◌≢◌, ◌∙◌, ℕ, ◌*◌, ◌/◌, ◌^◌, ◌<◌, ◌≤◌, Bool, true, false, cond, ltb, leb, min, lit<, lit≤, List, [], ◌∷◌, length, get_or, map, replicate, Option, Some, None, Result, Ok, Err, IsTrue, codes, refl, sym, ap, subst, inl, inr, arith, rules}
-use Rattle.std.proofs.lemmas.Bool.{and_parts, leb-true, ltb-true, lt-ltb, false≢true, cases_lt, le-ltb}
+use Rattle.std.proofs.Common.{◌≡◌, ◌≢◌, ℕ, ◌*◌, ◌/◌, ◌^◌, ◌<◌, ◌≤◌, Bool, true, false, cond, ltb, leb, min, lit<, lit≤, List, [], ◌∷◌, length, get_or, map, replicate, Some, None, Result, Ok, Err, IsTrue, codes, refl, ap, inl, inr, arith, rules}
+use Rattle.std.proofs.lemmas.Bool.{and_parts, leb-true, lt-ltb, cases_lt, le-ltb}
 use Rattle.std.proofs.lemmas.Str.Parse.{IsNumeralModel, not_in_digits, numerals_by_value, parse_plain}
 use Rattle.std.proofs.Math.Nat.{div-lt_iff_lt-mul}
 use Rattle.std.specs.Char.{is_ascii_digit}
@@ -11,10 +11,9 @@ use Rattle.std.specs.Result.{OkIff, result_ok}
 use Rattle.std.specs.Str.{bytes_eq}
 use Rattle.std.specs.Str.Parse.{ParsesUnsigned, digits_value}
 use Rattle.std.specs.Cmp.Lexicographic.{bytes_decides}
-use Rattle.xet_store.specs.Limits.{AreInRange, bad_field, is_between}
+use Rattle.xet_store.specs.Limits.{bad_field, is_between}
 use Rattle.xet_store.specs.Generator.{gear_table}
 use Rattle.xet_store.proofs.Ranges.{none_bad}
-use Rattle.xet_store_cli.specs.declared.words.Command.{Command}
 use Rattle.xet_store_cli.specs.Words.{command_of, gear_of, is_digits, is_target, number_of, pack_of, pack_settings, target_of, three_words}
 
 -- ---- numbers

@@ -1,5 +1,5 @@
 -- How `pack` ends, by what it has read.
-use Rattle.std.proofs.Common.{◌≡◌, ◌∙◌, ℕ, zero, suc, ◌<◌, ◌≤◌, ◌⊎◌, inl, inr, true, false, List, [], ◌++◌, length, take, is_none, subst, arith, lit<, ◌∷◌, Option, Some, None, Result, Ok, Err, Vec, Global, unwrap_or, refl, sym, ap}
+use Rattle.std.proofs.Common.{◌≡◌, ◌∙◌, ℕ, zero, suc, ◌<◌, ◌≤◌, inl, inr, false, List, [], ◌++◌, length, take, is_none, subst, arith, lit<, ◌∷◌, Option, Some, None, Err, unwrap_or, refl, sym, ap}
 use Rattle.std.proofs.lemmas.Bool.{cases_lt, lt-ltb, le-ltb}
 use Rattle.std.proofs.lemmas.List.{take_all}
 use Rattle.std.specs.Str.Lines.{lines}

@@ -1,5 +1,5 @@
 -- What lines say, one more at a time.
-use Rattle.std.proofs.Common.{◌≡◌, ◌∙◌, ℕ, zero, suc, ◌+◌, ◌<◌, ◌≤◌, Bool, true, false, cond, leb, eqb, codes, Result, List, [], ◌∷◌, ◌++◌, length, take, drop, map, Option, Some, None, is_none, Vec, Global, refl, sym, ap, subst, arith, length-append}
+use Rattle.std.proofs.Common.{◌≡◌, ◌∙◌, ℕ, ◌+◌, ◌<◌, ◌≤◌, Bool, true, false, cond, leb, eqb, codes, Result, List, [], ◌∷◌, ◌++◌, length, take, drop, map, Option, Some, None, is_none, Vec, Global, refl, sym, ap, arith}
 use Rattle.std.proofs.lemmas.Bool.{le-leb, lt-leb}
 use Rattle.std.proofs.lemmas.List.{map-append}
 use Rattle.std.proofs.Math.Seq.{take-add, drop-drop}
@@ -7,7 +7,6 @@ use Rattle.std.specs.Option.{option_map, option_and_then}
 use Rattle.std.specs.Cmp.Lexicographic.{pointwise}
 use Rattle.hex.specs.Hex.{decode_of}
 use Rattle.hex.specs.declared.error.FromHexError.{FromHexError}
-use Rattle.xet_base.specs.Pieces.{first_of}
 use Rattle.xet_base.proofs.FirstOf.{first_of_here, first_of_none}
 use Rattle.xet_store_cli.specs.Lines.{Line, decoded, file_bytes, files_of, first_bad, good_lines, is_bad_at, limited, line_of, said, with_line}
 use Rattle.xet_store_cli.specs.Lines.Line.{FileLine}

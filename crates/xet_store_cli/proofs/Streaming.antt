@@ -1,5 +1,5 @@
 -- Bytes that are read or written in pieces.
-use Rattle.std.proofs.Common.{◌≡◌, ◌∙◌, ℕ, ◌+◌, ◌-◌, ◌≤◌, List, ◌++◌, length, take, drop, refl, sym, ap, arith, append_assoc, length-drop}
+use Rattle.std.proofs.Common.{◌≡◌, ◌∙◌, ℕ, ◌+◌, ◌-◌, ◌≤◌, List, ◌++◌, length, take, drop, sym, ap, arith, append_assoc, length-drop}
 use Rattle.std.proofs.Math.Seq.{take-add, take-append_seam, drop-drop}
 
 -- one more read, into the front of what is behind the first bytes

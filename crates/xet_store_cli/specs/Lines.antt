@@ -1,6 +1,6 @@
 -- The lines of an input, and what they say. A line ends at an LF; a CR directly before that belongs
 -- to its end. The last LF may lack.
-use Rattle.std.specs.Prelude.{ℕ, ◌+◌, ◌*◌, nat_le, Bool, true, false, List, [], ◌∷◌, ◌++◌, length, take, drop, codes, Option, Some, None, Result, Ok, Err, is_none, if◌then◌else◌, option_and_then}
+use Rattle.std.specs.Prelude.{ℕ, nat_le, Bool, List, [], ◌∷◌, length, take, drop, codes, Option, Some, None, Result, Ok, Err, is_none, if◌then◌else◌, option_and_then}
 use Rattle.std.specs.Option.{option_map}
 use Rattle.std.specs.Str.{bytes_eq}
 use Rattle.hex.specs.Hex.{decode_of}

@@ -1,5 +1,5 @@
 -- How a run is to end, by its words and its input.
-use Rattle.std.specs.Prelude.{◌≡◌, ◌⊎◌, ℕ, ◌^◌, ◌<◌, nat_lt, Bool, true, false, List, [], ◌∷◌, ◌++◌, length, take, codes, Option, Some, None, unwrap_or}
+use Rattle.std.specs.Prelude.{◌≡◌, ◌⊎◌, ℕ, ◌^◌, nat_lt, true, false, List, [], ◌∷◌, ◌++◌, length, take, codes, Option, Some, None, unwrap_or}
 use Rattle.std.specs.Str.Lines.{lines}
 use Rattle.std.specs.Fmt.{decimal}
 use Rattle.xet_store.specs.declared.limits.LimitSettings.{LimitSettings}

@@ -1,5 +1,5 @@
 -- What a command answers before it prints: its report, or why it stops.
-use Rattle.std.specs.Prelude.{◌≡◌, ◌⊎◌, ℕ, ◌<◌, ◌≤◌, List, [], length, Vec, Result, Ok, Err}
+use Rattle.std.specs.Prelude.{◌≡◌, ℕ, ◌<◌, ◌≤◌, List, [], length, Vec, Result, Ok, Err}
 use Rattle.std.specs.declared.alloc.Global.{Global}
 use Rattle.xet_store_cli.specs.declared.ending.Stop.{Stop}
 use Rattle.xet_store_cli.specs.declared.ending.Stop.TheVariants.{OutOfMemory, Input, TooLarge, BadLine}

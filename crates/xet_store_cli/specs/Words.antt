@@ -1,5 +1,5 @@
 -- The words of a command line, each a text's bytes, and the command that they are.
-use Rattle.std.specs.Prelude.{ℕ, ◌*◌, ◌/◌, ◌^◌, ◌&&◌, ◌==◌, nat_lt, nat_le, nat_eq, Bool, true, false, min, List, [], ◌∷◌, length, replicate, codes, Option, Some, None, if◌then◌else◌, option_and_then}
+use Rattle.std.specs.Prelude.{ℕ, ◌*◌, ◌/◌, ◌^◌, ◌&&◌, nat_lt, Bool, min, List, [], ◌∷◌, length, replicate, codes, Option, Some, None, if◌then◌else◌, option_and_then}
 use Rattle.std.specs.Option.{option_map}
 use Rattle.std.specs.Int.{is_power_of_two}
 use Rattle.std.specs.List.{list_all}

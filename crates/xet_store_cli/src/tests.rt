@@ -1,1 +1,105 @@
+//! Runs over an input, an output and a disk in memory.
 
+use crate::run::run_program;
+use std::alloc::Global;
+use std::marker::Sync;
+use std::sync::Wait;
+use std::test::Fail;
+use std::thread::Threads;
+use xet_io::{MemoryDisk, MemoryInputs, MemorySink, SliceSource};
+
+const ABC: &str =
+    "8679a9c73b087ee02033e84569cba8c79c2413d79f99a1e9bd1ae79ae88776cf 3 ba7816bf8f01cfea414140de5dae2223b00361a396177a9cb410ff61f20015ad\n";
+
+const NOTHING: &str =
+    "0000000000000000000000000000000000000000000000000000000000000000 0 e3b0c44298fc1c149afbf4c8996fb92427ae41e4649b934ca495991b7852b855\n";
+
+const ONE_ZERO: &str =
+    "b118eb6b1e0b61b6af72793e29bf136ad42b7d2052b0be0fae9a04a58e48f3b7 1 6e340b9cffb37a989ca544e6bb780a2c78901d3fb33738768511a30617afa01d\n";
+
+/// What a run with these words, parted by spaces, over this input prints, and its status.
+fn run<R: Threads + Wait + Sync>(
+    rt: &R,
+    alloc: Global,
+    words: &str,
+    input: &str,
+) -> Result<(String, u8), Fail> {
+    let mut list = Vec::new(alloc);
+    for word in words.split_whitespace() {
+        list.push(String::from_str(alloc, word)?)?;
+    }
+    let mut source = SliceSource::new(input.as_bytes());
+    let mut sink = MemorySink::new(alloc);
+    let mut inputs = MemoryInputs::new(alloc, Vec::new(alloc));
+    let disk = MemoryDisk::new(alloc);
+    let (_, status) = run_program(
+        alloc,
+        rt,
+        &list,
+        &mut source,
+        &mut sink,
+        disk,
+        &mut inputs,
+        0,
+    );
+    Ok((String::from_utf8_lossy(alloc, sink.bytes())?, status))
+}
+
+#[test]
+fn lines_of_an_input(rt: HostRuntime) -> Result<(), Fail> {
+    let rows = [
+        ("file 616263\n", ABC, 0u8),
+        ("file 616263", ABC, 0),
+        ("\n\r\nfile 616263\r\n\n", ABC, 0),
+        ("file\n", NOTHING, 0),
+        ("file \n", NOTHING, 0),
+        ("", "", 0),
+        ("\n\n", "", 0),
+        ("file 00\nfile 01\n", "bad line 2\n", 3),
+        ("file 00\n\n\nrange 1 0 0\n", "bad line 4\n", 3),
+        ("fil\n", "bad line 1\n", 3),
+        ("\nfile 0\n", "bad line 2\n", 3),
+        ("file  00\n", "bad line 1\n", 3),
+        ("file 0g\n", "bad line 1\n", 3),
+        ("file 00\r", "bad line 1\n", 3),
+        ("file 00\r\n", ONE_ZERO, 0),
+        ("File 00\n", "bad line 1\n", 3),
+    ];
+    for (input, text, status) in rows {
+        let found = run(&rt, rt.alloc(), "pack 512 zero", input)?;
+        assert_eq!(rt; found.0.as_str(), text, "over {input:?}");
+        assert_eq!(rt; found.1, status, "over {input:?}");
+    }
+    Ok(())
+}
+
+#[test]
+fn words_of_a_command(rt: HostRuntime) -> Result<(), Fail> {
+    let rows = [
+        ("pack 512 zero", 0u8),
+        ("pack 0512 one", 0),
+        ("pack 128 18446744073709551615", 0),
+        ("pack 2097152 00000000000000000007", 0),
+        ("", 2),
+        ("pack", 2),
+        ("pack 512", 2),
+        ("pack 512 zero 1", 2),
+        ("pick 512 zero", 2),
+        ("pack 100 zero", 2),
+        ("pack 64 zero", 2),
+        ("pack 4194304 zero", 2),
+        ("pack +512 zero", 2),
+        ("pack 512 -1", 2),
+        ("pack 512 two", 2),
+        ("pack 512 18446744073709551616", 2),
+        ("pack 512 000000000000000000007", 2),
+        ("-pack 512 zero", 2),
+        ("list", 2),
+    ];
+    for (words, status) in rows {
+        let found = run(&rt, rt.alloc(), words, "")?;
+        assert_eq!(rt; found.0.as_str(), "", "with {words}");
+        assert_eq!(rt; found.1, status, "with {words}");
+    }
+    Ok(())
+}

@@ -1,4 +1,4 @@
-use Rattle.std.proofs.Common.{◌≡◌, ◌∙◌, ap, arith, take, rules}
+use Rattle.std.proofs.Common.{◌∙◌, ap, arith, take, rules}
 use Rattle.xet_store_cli.proofs.Streaming.{reads_more}
 use Rattle.xet_store_cli.proofs.input.read_all.Goals as goal
 

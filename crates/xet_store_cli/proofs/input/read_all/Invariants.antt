@@ -1,4 +1,4 @@
-use Rattle.std.proofs.Common.{◌≡◌, ◌≤◌, ◌<◌, ◌+◌, ◌-◌, ◌++◌, true, length, take, vec_len}
+use Rattle.std.proofs.Common.{◌≡◌, ◌≤◌, ◌-◌, ◌++◌, true, take, vec_len}
 use Rattle.xet_store_cli.proofs.input.read_all.Given as goal
 
 abbrev pub invariant-reads : goal.invariant-reads

@@ -1,4 +1,4 @@
-use Rattle.std.proofs.Common.{◌≡◌, ◌∙◌, ap, sym, Some, Ok, Err, List, ℕ, true, false, eqb, codes, inl, inr}
+use Rattle.std.proofs.Common.{◌≡◌, ◌∙◌, ap, sym, Some, Ok, Err, true, false, eqb, codes, inl, inr}
 use Rattle.std.proofs.lemmas.Bool.{false≢true}
 use Rattle.hex.specs.Hex.{decode_of}
 use Rattle.std.specs.Cmp.Lexicographic.{pointwise}

@@ -1,11 +1,9 @@
-use Rattle.std.proofs.Common.{◌≡◌, ◌∙◌, ◌+◌, ◌≤◌, ◌<◌, ℕ, true, false, None, length, ap, sym, arith, rules, refl, inl, inr, Some, is_none, take, List, [], ◌∷◌, eqb}
+use Rattle.std.proofs.Common.{◌≡◌, ◌∙◌, ◌+◌, ℕ, true, length, ap, sym, arith, refl, inl, inr, Some, is_none, take, List, [], ◌∷◌, eqb}
 use Rattle.std.proofs.lemmas.Bool.{cases_lt}
 use Rattle.std.proofs.lemmas.Bool.Decides.{nat_tests}
 use Rattle.std.proofs.lemmas.List.{take_all}
-use Rattle.std.specs.Bool.{MatchBool}
 use Rattle.std.specs.Str.Lines.{lines}
-use Rattle.xet_store_cli.specs.Lines.{good_lines, is_bad_at}
-use Rattle.xet_store_cli.specs.Parsing.{with_next}
+use Rattle.xet_store_cli.specs.Lines.{good_lines}
 use Rattle.xet_store_cli.proofs.Said.{good_none, good_more, bad_here, bad_nowhere, drop_next}
 use Rattle.xet_store_cli.proofs.lines.parse.Goals as goal
 

@@ -1,4 +1,4 @@
-use Rattle.std.proofs.Common.{◌≡◌, ◌∙◌, ℕ, ◌-◌, length, drop, take, sym, arith, rules}
+use Rattle.std.proofs.Common.{◌∙◌, arith, rules}
 use Rattle.std.proofs.lemmas.List.{take_rest}
 use Rattle.xet_store_cli.proofs.Streaming.{rest_more, written_more}
 use Rattle.xet_store_cli.proofs.output.print.Goals as goal

@@ -1,4 +1,4 @@
-use Rattle.std.proofs.Common.{◌≡◌, ◌∙◌, ap, sym}
+use Rattle.std.proofs.Common.{◌∙◌}
 use Rattle.std.proofs.lemmas.Result.{err_from_is_err_and}
 use Rattle.xet_store_cli.proofs.Outcomes.{answers_bad, answers_good, answers_unread}
 use Rattle.xet_store_cli.proofs.pack.pack.Goals as goal

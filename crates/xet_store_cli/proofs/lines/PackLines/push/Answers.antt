@@ -1,7 +1,7 @@
-use Rattle.std.proofs.Common.{◌∙◌, ap, sym, arith, rules}
+use Rattle.std.proofs.Common.{◌∙◌, ap, sym, arith}
 use Rattle.std.proofs.lemmas.Bool.Decides.{nat_tests}
 use Rattle.std.specs.Option.{option_map}
-use Rattle.xet_store_cli.proofs.Said.{with_next_empty, with_next_bad, with_next_many, with_next_few}
+use Rattle.xet_store_cli.proofs.Said.{with_next_many}
 use Rattle.xet_store_cli.proofs.lines.PackLines.push.Goals as goal
 
 pub returns-then-len-ge-MOST_FILES-clause-good : goal.returns-then-len-ge-MOST_FILES-clause-good
