@@ -2,3 +2,4 @@ pub mod Words
 pub mod Tree
 pub mod Facts
 pub mod Nodes
+pub mod Texts

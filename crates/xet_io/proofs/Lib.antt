@@ -4,3 +4,4 @@ pub mod Lookup
 pub mod HeldNames
 pub mod Changes
 pub mod Listing
+pub mod Reading

@@ -4,3 +4,4 @@ pub mod Named
 pub mod Disk
 pub mod Memory
 pub mod MemoryFiles
+pub mod Whole

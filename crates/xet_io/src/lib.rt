@@ -13,6 +13,7 @@ mod sink;
 mod slices;
 mod source;
 mod streams;
+mod whole;
 
 pub use disk::{Disk, DiskEntry, put_file};
 pub use fault::{Failed, Refusal};
@@ -24,6 +25,7 @@ pub use sink::Sink;
 pub use slices::{SliceReader, SliceSource};
 pub use source::Source;
 pub use streams::{StdSink, StdSource};
+pub use whole::{Unread, read_all};
 
 #[cfg(test)]
 mod tests;

@@ -2,3 +2,13 @@ pub mod Ranges
 pub mod Outputs
 pub mod GearSum
 pub mod PieceEnds
+pub mod Tables
+pub mod Putting
+pub mod Plans
+pub mod Adding
+pub mod Whole
+pub mod Files
+pub mod Keeping
+pub mod Packing
+pub mod First
+pub mod MadeChunks

@@ -1,3 +1,14 @@
 pub mod Limits
 pub mod Generator
 pub mod Cut
+pub mod Plan
+pub mod Names
+pub mod Store
+pub mod Coding
+pub mod Tables
+pub mod Separate
+pub mod Packing
+pub mod Refusals
+pub mod Cleaning
+pub mod Steps
+pub mod First

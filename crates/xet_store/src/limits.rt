@@ -90,7 +90,7 @@ impl Model for Limits {
 
 impl Limits {
     ghost use Rattle.std.specs.Int.{is_power_of_two};
-    ghost use Rattle.xet_store.specs.Limits.{bad_field, is_plain_scheme};
+    ghost use Rattle.xet_store.specs.Limits.{AreInRange, bad_field, is_plain_scheme};
 
     /// Limits of these settings. Refuses the first that is out of its range, in the order of the
     /// fields.
@@ -102,6 +102,13 @@ impl Limits {
             Some(field) => Err(StoreError::BadLimits(field)),
             None => Ok(Limits { settings }),
         }
+    }
+
+    /// Does nothing: that all are in their ranges is known after it.
+    pub(crate) fn known(&self)
+        ensures { AreInRange self.now }
+    {
+        let _ = &self.settings;
     }
 
     /// The length that chunks are to have on the whole, in bytes: a power of two.

@@ -3,3 +3,4 @@ pub mod LinesOf
 pub mod Said
 pub mod Commands
 pub mod Outcomes
+pub mod Cleaned

@@ -1,122 +1,130 @@
 -- How `pack` ends, by what it has read.
-use Rattle.std.proofs.Common.{◌≡◌, ◌∙◌, ℕ, zero, suc, ◌<◌, ◌≤◌, inl, inr, false, List, [], ◌++◌, length, take, is_none, subst, arith, lit<, ◌∷◌, Option, Some, None, Err, unwrap_or, refl, sym, ap}
-use Rattle.std.proofs.lemmas.Bool.{cases_lt, lt-ltb, le-ltb}
-use Rattle.std.proofs.lemmas.List.{take_all}
+use Rattle.std.proofs.Common.{◌≡◌, ◌⊎◌, ◌∙◌, ℕ, zero, suc, ◌<◌, ◌≤◌, inl, inr, true, false, List, [], ◌++◌, length, take, subst, Option, Some, None, Result, Ok, Err, OnOk, IfOk, IfErr, Vec, Global, unwrap_or, refl, sym, ap}
+use Rattle.std.proofs.lemmas.Bool.{lt-ltb, le-ltb}
+use Rattle.std.proofs.lemmas.List.{append-nil}
 use Rattle.std.specs.Str.Lines.{lines}
+use Rattle.xet_io.specs.Disk.{Files}
+use Rattle.xet_io.specs.Whole.{ReadsAll}
+use Rattle.xet_io.specs.declared.whole.Unread.{Unread}
+use Rattle.xet_io.specs.declared.whole.Unread.TheVariants as unread
 use Rattle.xet_store.specs.declared.limits.LimitSettings.{LimitSettings}
+use Rattle.xet_store.specs.Names.{FindsShardLike}
 use Rattle.xet_store_cli.specs.declared.ending.Stop.{Stop}
-use Rattle.xet_store_cli.specs.declared.ending.Stop.TheVariants.{OutOfMemory, Input, TooLarge, BadLine}
-use Rattle.xet_store_cli.specs.Lines.{Line, first_bad, good_lines, is_bad_at}
-use Rattle.xet_base.proofs.FirstOf.{first_of_all}
-use Rattle.xet_store_cli.specs.declared.words.Command.{Command}
+use Rattle.xet_store_cli.specs.declared.ending.Stop.TheVariants.{OutOfMemory, Input, TooLarge, BadLine, Disk, BadShard}
 use Rattle.xet_store_cli.specs.declared.words.Command.TheVariants.{Pack}
-use Rattle.xet_store_cli.specs.Words.{command_of}
-use Rattle.xet_store_cli.proofs.Said.{good_none}
+use Rattle.xet_store_cli.specs.Lines.{Line, first_bad, good_lines}
+use Rattle.xet_store_cli.specs.Outcome.{Ended, Ends, EndsOver, IsDue, IsStopped, Outcome, are_short, at_first_bad, lines_said, most_input, outcome, pack_early, pack_late, store_folder}
+use Rattle.xet_store_cli.specs.Outcome.Ended.{as_due, stopped}
+use Rattle.xet_store_cli.specs.Outcome.IsDue.{early, late}
 use Rattle.xet_store_cli.specs.Parsing.{Says}
 use Rattle.xet_store_cli.specs.Report.{report}
-use Rattle.xet_store_cli.specs.Outcome.{Ended, Ends, IsStopped, Outcome, Reports, at_lines, command_outcome, lines_said, most_input, outcome, pack_outcome, run_outcome}
-use Rattle.xet_store_cli.specs.Outcome.Ended.{as_meant, out_of_memory, input_failed}
-use Rattle.xet_store_cli.specs.Stops.{Answers, ReadsAll}
+use Rattle.xet_store_cli.specs.Stops.{Answers, AnswersEarly, AnswersLate, IsCleaningStop, answer_outcome, stop_of_unread}
+use Rattle.xet_store_cli.specs.Words.{command_of}
 
-pack_too_long : (s : LimitSettings) (input : List ℕ) → most_input < length input → pack_outcome s input ≡ outcome 9 []
-unfolding pack_outcome
-pack_too_long s input long = rw (lt-ltb most_input (length input) long, pack_outcome) refl
+pub pack_too_long : (input : List ℕ) → most_input < length input → pack_early input ≡ Some (outcome 9 [])
+unfolding pack_early
+pack_too_long input long = rw (lt-ltb most_input (length input) long, pack_early) refl
 
-pack_lines : (s : LimitSettings) (input : List ℕ) → length input ≤ most_input → pack_outcome s input ≡ at_lines s (lines input) (first_bad (lines input))
-unfolding pack_outcome
-pack_lines s input short = rw (le-ltb most_input (length input) short, pack_outcome) refl
+pack_short : (input : List ℕ) → length input ≤ most_input → pack_early input ≡ at_first_bad (first_bad (lines input))
+unfolding pack_early
+pack_short input short = rw (le-ltb most_input (length input) short, pack_early) refl
 
 -- an input that was not read
-pub answers_unread : (s : LimitSettings) (left rest : List ℕ) (stop : Stop) → ReadsAll left (Err stop) rest → Answers (pack_outcome s left) (Err stop)
-answers_unread s left rest OutOfMemory h = tt
-answers_unread s left rest Input h = tt
-answers_unread s left rest TooLarge h = pack_too_long s left h
-answers_unread s left rest (BadLine n) h = absurd h
+pub early_unread : (left rest : List ℕ) (u : Unread) → ReadsAll most_input left (Err u) rest → AnswersEarly left (Err (stop_of_unread u))
+early_unread left rest unread.OutOfMemory h = tt
+early_unread left rest unread.Failed h = tt
+early_unread left rest unread.TooLong h = pack_too_long left h
 
 -- an input with a bad line
-pub answers_bad : (s : LimitSettings) (input read : List ℕ) (stop : Stop) → read ≡ input → length input ≤ most_input → Says (lines read) (Err stop)
-    → Answers (pack_outcome s input) (Err stop)
-answers_bad s input read OutOfMemory e short h = tt
-answers_bad s input read Input e short h = absurd h
-answers_bad s input read TooLarge e short h = absurd h
-answers_bad s input read (BadLine n) e short h =
-    pack_lines s input short ∙ ap (at_lines s (lines input)) (ap (λ (x : List ℕ). first_bad (lines x)) (sym e) ∙ h)
+pub early_bad : (input read : List ℕ) (stop : Stop) → read ≡ input → length input ≤ most_input → Says (lines read) (Err stop) → AnswersEarly input (Err stop)
+early_bad input read OutOfMemory e short h = tt
+early_bad input read Input e short h = tt
+early_bad input read TooLarge e short h = absurd h
+early_bad input read Disk e short h = absurd h
+early_bad input read (BadShard name) e short h = absurd h
+early_bad input read (BadLine n) e short h =
+    pack_short input short ∙ ap at_first_bad (ap (λ (x : List ℕ). first_bad (lines x)) (sym e) ∙ h)
 
 -- an input whose lines are good
-pub answers_good : (s : LimitSettings) (input read : List ℕ) (said : List Line) (text : List ℕ) → read ≡ input → length input ≤ most_input
-    → (first_bad (lines read) ≡ None) × (good_lines (lines read) ≡ Some said) → text ≡ report s said → pack_outcome s input ≡ outcome 0 text
-answers_good s input read said text e short (none, good) is =
-    pack_lines s input short ∙ ap (λ (x : List ℕ). at_lines s (lines x) (first_bad (lines x))) (sym e)
-    ∙ ap (at_lines s (lines read)) none ∙ ap (λ (o : Option (List Line)). outcome 0 (report s (unwrap_or o []))) good
-    ∙ ap (outcome 0) (sym is)
+pub early_good : (input read : List ℕ) (said : List Line) → read ≡ input → length input ≤ most_input → (first_bad (lines read) ≡ None) × (good_lines (lines read) ≡ Some said)
+    → AnswersEarly input (Ok said)
+early_good input read said e short (none, good) = (
+  pack_short input short ∙ ap at_first_bad (ap (λ (x : List ℕ). first_bad (lines x)) (sym e) ∙ none),
+  ap (λ (x : List ℕ). good_lines (lines x)) (sym e) ∙ good,
+)
 
--- ---- status 0
+pub early_read : (input read : List ℕ) (r : Result (List Line) Stop) → read ≡ input → length input ≤ most_input → Says (lines read) r → AnswersEarly input r
+early_read input read (Ok said) e short h = early_good input read said e short h
+early_read input read (Err stop) e short h = early_bad input read stop e short h
+
+-- ---- after the folder was looked at
+
+module _ (s : LimitSettings) (said : List Line) where
+  late_good : (text : List ℕ) → text ≡ report s said → are_short s said ≡ true → pack_late s said ≡ outcome 0 text
+  unfolding pack_late
+  late_good text is short = rw (short, pack_late) (ap (outcome 0) (sym is))
+
+  late_long : are_short s said ≡ false → pack_late s said ≡ outcome 9 []
+  unfolding pack_late
+  late_long long = rw (long, pack_late) refl
+
+  pub late_cleaned : (files : Files) (r : Result (Vec ℕ Global) Stop) → FindsShardLike files store_folder None → IfOk r (λ t. t.items ≡ report s said) → OnOk r (are_short s said ≡ true)
+      → IfErr r (IsCleaningStop s said) → AnswersLate s said files r
+  late_cleaned files (Ok t) none text short stop = (none, late_good t.items text short)
+  late_cleaned files (Err OutOfMemory) none text short stop = tt
+  late_cleaned files (Err Disk) none text short stop = tt
+  late_cleaned files (Err TooLarge) none text short stop = (none, late_long stop)
+  late_cleaned files (Err Input) none text short stop = absurd stop
+  late_cleaned files (Err (BadLine n)) none text short stop = absurd stop
+  late_cleaned files (Err (BadShard name)) none text short stop = absurd stop
+
+-- ---- how a run is to end
+
+-- what is said of an input whose lines are good
+pub said_of : (input : List ℕ) (said : List Line) → good_lines (lines input) ≡ Some said → lines_said (lines input) ≡ said
+said_of input said good = ap (λ (o : Option (List Line)). unwrap_or o []) good
+
+module _ (s : LimitSettings) (input : List ℕ) (files : Files) where
+  abbrev Due : Outcome → Type 0
+  Due o = IsDue (Some (Pack s)) input files o
+
+  pub due_early : (stop : Stop) → AnswersEarly input (Err stop) → Answers Due (Err stop)
+  due_early OutOfMemory h = tt
+  due_early Input h = tt
+  due_early Disk h = absurd h
+  due_early (BadShard name) h = absurd h
+  due_early TooLarge h = early h
+  due_early (BadLine n) h = early h
+
+  pub due_late : (said : List Line) (r : Result (Vec ℕ Global) Stop) → AnswersEarly input (Ok said) → AnswersLate s said files r → Answers Due r
+  due_late said (Ok t) (none, good) (finds, is) = late None none finds (sym is ∙ ap (pack_late s) (sym (said_of input said good)))
+  due_late said (Err OutOfMemory) (none, good) h = tt
+  due_late said (Err Disk) (none, good) h = tt
+  due_late said (Err TooLarge) (none, good) (finds, is) = late None none finds (sym is ∙ ap (pack_late s) (sym (said_of input said good)))
+  due_late said (Err (BadShard name)) (none, good) h = late (Some name) none h refl
+  due_late said (Err Input) (none, good) h = absurd h
+  due_late said (Err (BadLine n)) (none, good) h = absurd h
+
+-- how a command has ended that answers so
+pub ended_with : (Due : Outcome → Type 0) (r : Result (Vec ℕ Global) Stop) (e : Outcome) → Answers Due r → (e ≡ answer_outcome r) ⊎ (e ≡ outcome 1 []) → Ended Due e
+ended_with Due r e answers (inr is) = subst (Ended Due) (sym is) (stopped (inl refl) refl)
+ended_with Due (Ok t) e answers (inl is) = subst (Ended Due) (sym is) (as_due answers)
+ended_with Due (Err OutOfMemory) e answers (inl is) = subst (Ended Due) (sym is) (stopped (inl refl) refl)
+ended_with Due (Err Input) e answers (inl is) = subst (Ended Due) (sym is) (stopped (inr (inl refl)) refl)
+ended_with Due (Err Disk) e answers (inl is) = subst (Ended Due) (sym is) (stopped (inr (inr (inr refl))) refl)
+ended_with Due (Err TooLarge) e answers (inl is) = subst (Ended Due) (sym is) (as_due answers)
+ended_with Due (Err (BadLine n)) e answers (inl is) = subst (Ended Due) (sym is) (as_due answers)
+ended_with Due (Err (BadShard name)) e answers (inl is) = subst (Ended Due) (sym is) (as_due answers)
 
 none_taken : (n : ℕ) → take {A = ℕ} n [] ≡ []
 none_taken zero = refl
 none_taken (suc n) = refl
 
 -- what is printed of how a command ends
-pub ends_through : (o e : Outcome) (before after : List ℕ) (status : ℕ) → Ended o e → Ends e before after status → Ends o before after status
-ends_through o e before after status ended ends = by_cases ended
-  where
-    stopped : (code : ℕ) → IsStopped code → Ends (outcome code []) before after status → Ends o before after status
-    stopped code stop (inl (is, wrote)) = inr (subst IsStopped (sym is) stop, 0, wrote)
-    stopped code stop (inr (stop', n, wrote)) = inr (stop', 0, wrote ∙ ap (λ (t : List ℕ). before ++ t) (none_taken n))
-
-    by_cases : Ended o e → Ends o before after status
-    by_cases (as_meant is) = subst (λ (x : Outcome). Ends x before after status) is ends
-    by_cases (out_of_memory is) = stopped 1 (inl refl) (subst (λ (x : Outcome). Ends x before after status) is ends)
-    by_cases (input_failed is) = stopped 4 (inr (inl refl)) (subst (λ (x : Outcome). Ends x before after status) is ends)
-
-some_said : (o : Option (List Line)) → is_none o ≡ false → o ≡ Some (unwrap_or o [])
-some_said None e = absurd (cc e)
-some_said (Some said) e = refl
-
-none_bad_at : (ls : List (List ℕ)) → first_bad ls ≡ None → (j : ℕ) → 1 ≤ j → j ≤ length ls → is_bad_at ls j ≡ false
-unfolding first_bad
-none_bad_at ls none j low high = first_of_all (is_bad_at ls) 1 (length ls) none j low (omega arith)
-
--- with no bad line, all lines are good
-all_good : (ls : List (List ℕ)) → first_bad ls ≡ None → good_lines ls ≡ Some (lines_said ls)
-all_good [] none = some_said (good_lines []) (ap is_none good_none)
-all_good (l ∷ ls) none =
-    let all : List (List ℕ) = l ∷ ls in
-    let whole : take (length all) all ≡ all = take_all (length all) all (omega arith) in
-    some_said (good_lines all) (ap (λ (x : List (List ℕ)). is_none (good_lines x)) (sym whole) ∙ none_bad_at all none (length all) (omega arith) (omega arith))
-
--- status 0 comes of a report alone
-module _ (words : List (List ℕ)) (input before after : List ℕ) (status : ℕ) (done : status ≡ 0) where
-  not_stopped : IsStopped status → ⊥
-  not_stopped (inl is) = omega arith
-  not_stopped (inr (inl is)) = omega arith
-  not_stopped (inr (inr is)) = omega arith
-
-  not_code : (code : ℕ) (text : List ℕ) → 0 < code → Ends (outcome code text) before after status → ⊥
-  not_code code text some (inl (is, wrote)) = omega arith
-  not_code code text some (inr (stop, n, wrote)) = not_stopped stop
-
-  of_lines : (s : LimitSettings) (bad : Option ℕ) → command_of words ≡ Some (Pack s) → first_bad (lines input) ≡ bad
-      → Ends (at_lines s (lines input) bad) before after status → Reports words input before after
-  of_lines s (Some n) command is ends = absurd (not_code 3 _ (lit< tt) ends)
-  of_lines s None command is (inr (stop, n, wrote)) = absurd (not_stopped stop)
-  of_lines s None command is (inl (code, wrote)) = record {
-    settings = s;
-    said = lines_said (lines input);
-    command = command;
-    good = all_good (lines input) is;
-    written = wrote;
-  }
-
-  of_pack : (s : LimitSettings) → command_of words ≡ Some (Pack s) → Ends (pack_outcome s input) before after status → Reports words input before after
-  of_pack s command ends = elim (cases_lt most_input (length input)) [
-    | inl long ↦ absurd (not_code 9 [] (lit< tt) (subst (λ (o : Outcome). Ends o before after status) (pack_too_long s input long) ends))
-    | inr short ↦ of_lines s (first_bad (lines input)) command refl (subst (λ (o : Outcome). Ends o before after status) (pack_lines s input short) ends)
-  ]
-
-  of_command : (o : Option Command) → command_of words ≡ o → Ends (command_outcome o input) before after status → Reports words input before after
-  of_command None is ends = absurd (not_code 2 [] (lit< tt) ends)
-  of_command (Some (Pack s)) is ends = of_pack s is ends
-
-  pub reports_of : Ends (run_outcome words input) before after status → Reports words input before after
-  reports_of ends = of_command (command_of words) refl ends
+pub ends_over : (words : List (List ℕ)) (input : List ℕ) (files : Files) (e : Outcome) (before after : List ℕ) (status : ℕ) → Ended (IsDue (command_of words) input files) e → Ends e before after status
+    → EndsOver words input files before after status
+ends_over words input files e before after status (as_due due) ends = inl (e, due, ends)
+ends_over words input files e before after status (stopped stop silent) (inl (is, wrote)) =
+    inr (subst IsStopped (sym is) stop, wrote ∙ ap (λ (t : List ℕ). before ++ t) silent ∙ append-nil before)
+ends_over words input files e before after status (stopped stop silent) (inr (stop', n, wrote)) =
+    inr (stop', wrote ∙ ap (λ (t : List ℕ). before ++ take n t) silent ∙ ap (λ (t : List ℕ). before ++ t) (none_taken n) ∙ append-nil before)

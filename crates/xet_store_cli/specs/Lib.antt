@@ -4,3 +4,4 @@ pub mod Parsing
 pub mod Report
 pub mod Outcome
 pub mod Stops
+pub mod Stored

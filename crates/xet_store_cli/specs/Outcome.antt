@@ -1,12 +1,15 @@
 -- How a run is to end, by its words and its input.
-use Rattle.std.specs.Prelude.{◌≡◌, ◌⊎◌, ℕ, ◌^◌, nat_lt, true, false, List, [], ◌∷◌, ◌++◌, length, take, codes, Option, Some, None, unwrap_or}
+use Rattle.std.specs.Prelude.{◌≡◌, ◌⊎◌, ℕ, ◌^◌, nat_lt, nat_le, Bool, true, false, List, [], ◌∷◌, ◌++◌, length, take, codes, Option, Some, None, unwrap_or}
+use Rattle.std.specs.List.{list_all}
 use Rattle.std.specs.Str.Lines.{lines}
 use Rattle.std.specs.Fmt.{decimal}
+use Rattle.xet_io.specs.Disk.{Files}
 use Rattle.xet_store.specs.declared.limits.LimitSettings.{LimitSettings}
+use Rattle.xet_store.specs.Names.{FindsShardLike}
 use Rattle.xet_store_cli.specs.declared.words.Command.{Command}
 use Rattle.xet_store_cli.specs.declared.words.Command.TheVariants.{Pack}
 use Rattle.xet_store_cli.specs.Words.{command_of}
-use Rattle.xet_store_cli.specs.Lines.{Line, first_bad, good_lines}
+use Rattle.xet_store_cli.specs.Lines.{Line, files_of, first_bad, good_lines}
 use Rattle.xet_store_cli.specs.Report.{report}
 
 -- the status, and all that is printed
@@ -28,40 +31,71 @@ bad_line_text n = codes "bad line " ++ decimal n ++ 10 ∷ []
 abbrev pub lines_said : List (List ℕ) → List Line
 lines_said ls = unwrap_or (good_lines ls) []
 
--- at the first bad line there is its number, else the report
-abbrev pub at_lines : LimitSettings → List (List ℕ) → Option ℕ → Outcome
-at_lines s ls None = outcome 0 (report s (lines_said ls))
-at_lines s ls (Some n) = outcome 3 (bad_line_text n)
+-- How a command ends before its store is opened: where its input is too long, or at the first bad
+-- line.
+abbrev pub at_first_bad : Option ℕ → Option Outcome
+at_first_bad None = None
+at_first_bad (Some n) = Some (outcome 3 (bad_line_text n))
 
--- `pack` over an input: one that is too long is refused before its lines are looked at
-unfoldable pub pack_outcome : LimitSettings → List ℕ → Outcome
-pack_outcome s input =
-    elim (nat_lt most_input (length input)) [ true ↦ outcome 9 [] | false ↦ at_lines s (lines input) (first_bad (lines input)) ]
+unfoldable pub pack_early : List ℕ → Option Outcome
+pack_early input = elim (nat_lt most_input (length input)) [ true ↦ Some (outcome 9 []) | false ↦ at_first_bad (first_bad (lines input)) ]
 
-abbrev pub command_outcome : Option Command → List ℕ → Outcome
-command_outcome None input = outcome 2 []
-command_outcome (Some (Pack s)) input = pack_outcome s input
+abbrev pub early_outcome : Option Command → List ℕ → Option Outcome
+early_outcome None input = Some (outcome 2 [])
+early_outcome (Some (Pack s)) input = pack_early input
 
--- how a run with these words over this input ends, if it is not stopped
-abbrev pub run_outcome : List (List ℕ) → List ℕ → Outcome
-run_outcome words input = command_outcome (command_of words) input
+-- the folder of the store
+abbrev pub store_folder : List ℕ
+store_folder = codes "store"
 
--- A run is stopped where memory is wanting or where the input or the output fails.
+abbrev pub bad_shard_text : List ℕ → List ℕ
+bad_shard_text name = codes "bad shard " ++ name ++ 10 ∷ []
+
+-- whether each file is as short as a source must be
+abbrev pub are_short_files : LimitSettings → List (List ℕ) → Bool
+are_short_files s files = list_all (λ bytes. nat_le (length bytes) s.max_source_bytes) files
+
+abbrev pub are_short : LimitSettings → List Line → Bool
+are_short s said = are_short_files s (files_of said)
+
+-- how `pack` ends over a folder that is opened
+unfoldable pub pack_late : LimitSettings → List Line → Outcome
+pack_late s said = elim (are_short s said) [ true ↦ outcome 0 (report s said) | false ↦ outcome 9 [] ]
+
+-- How a command ends after that, where a file of the folder ends as a shard's, or where none does.
+abbrev pub late_outcome : Option Command → List ℕ → Option (List ℕ) → Outcome
+late_outcome command input (Some name) = outcome 7 (bad_shard_text name)
+late_outcome None input None = outcome 2 []
+late_outcome (Some (Pack s)) input None = pack_late s (lines_said (lines input))
+
+-- How a run with a command over this input and a disk with these files is to end.
+pub data IsDue (command : Option Command) (input : List ℕ) (files : Files) (o : Outcome) : Type 0 where
+  early : early_outcome command input ≡ Some o → IsDue command input files o
+  late : (found : Option (List ℕ)) → early_outcome command input ≡ None → FindsShardLike files store_folder found
+      → o ≡ late_outcome command input found → IsDue command input files o
+
+-- A run is stopped where memory is wanting or where the input, the output or the disk fails.
 abbrev pub IsStopped : ℕ → Type 0
-IsStopped status = (status ≡ 1) ⊎ (status ≡ 4) ⊎ (status ≡ 5)
+IsStopped status = (status ≡ 1) ⊎ (status ≡ 4) ⊎ (status ≡ 5) ⊎ (status ≡ 6)
 
--- how a command ends before its text is printed: as it was to, or stopped with nothing to print
-pub data Ended (o e : Outcome) : Type 0 where
-  as_meant : e ≡ o → Ended o e
-  out_of_memory : e ≡ outcome 1 [] → Ended o e
-  input_failed : e ≡ outcome 4 [] → Ended o e
-
--- A run has ended as it was to, with all of its text written, or it was stopped, and what was
--- written is the front of that text.
+-- A run has ended as it is to, with all of its text written, or it was stopped, and what was written is
+-- the front of that text.
 abbrev pub Ends : Outcome → List ℕ → List ℕ → ℕ → Type 0
 Ends o before after status =
     ((status ≡ o.status) × (after ≡ before ++ o.text))
     ⊎ (IsStopped status × (n : ℕ) × (after ≡ before ++ take n o.text))
+
+-- How a command ends before its text is printed: as is due, or stopped with nothing to print.
+pub data Ended (Due : Outcome → Type 0) (e : Outcome) : Type 0 where
+  as_due : Due e → Ended Due e
+  stopped : IsStopped e.status → e.text ≡ [] → Ended Due e
+
+-- A run over a disk with these files has ended as it is to; one that was stopped before it was known how it is to end has
+-- written nothing.
+abbrev pub EndsOver : List (List ℕ) → List ℕ → Files → List ℕ → List ℕ → ℕ → Type 0
+EndsOver words input files before after status =
+    ((o : Outcome) × IsDue (command_of words) input files o × Ends o before after status)
+    ⊎ (IsStopped status × (after ≡ before))
 
 -- Status 0 of `pack`: the words are that command, all lines are good, and the report of what they
 -- say was written.
@@ -71,3 +105,15 @@ pub record Reports (words : List (List ℕ)) (input before after : List ℕ) : T
   pub command : command_of words ≡ Some (Pack settings)
   pub good : good_lines (lines input) ≡ Some said
   pub written : after ≡ before ++ report settings said
+
+-- The text is the report of what this input says to the command.
+pub record IsReportOf (command : Command) (input text : List ℕ) : Type 0 where
+  pub settings : LimitSettings
+  pub said : List Line
+  pub is_pack : command ≡ Pack settings
+  pub good : good_lines (lines input) ≡ Some said
+  pub reported : text ≡ report settings said
+
+-- the statuses at which no file of the disk has changed
+abbrev pub IsIdle : ℕ → Type 0
+IsIdle status = (status ≡ 2) ⊎ (status ≡ 3) ⊎ (status ≡ 7)

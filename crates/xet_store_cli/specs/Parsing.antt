@@ -1,7 +1,7 @@
 -- What lines say, one more at a time.
 use Rattle.std.specs.Prelude.{◌≡◌, ℕ, List, [], ◌∷◌, ◌++◌, Option, Some, None, Result, Ok, Err}
 use Rattle.xet_store_cli.specs.declared.ending.Stop.{Stop}
-use Rattle.xet_store_cli.specs.declared.ending.Stop.TheVariants.{OutOfMemory, Input, TooLarge, BadLine}
+use Rattle.xet_store_cli.specs.declared.ending.Stop.TheVariants.{OutOfMemory, Input, TooLarge, BadLine, Disk, BadShard}
 use Rattle.xet_store_cli.specs.Lines.{Line, first_bad, good_lines, limited, line_of}
 
 abbrev pub and_line : List Line → Option Line → Option (List Line)
@@ -19,4 +19,6 @@ Says lines (Ok said) = (first_bad lines ≡ None) × (good_lines lines ≡ Some 
 Says lines (Err OutOfMemory) = Unit {0}
 Says lines (Err Input) = ⊥
 Says lines (Err TooLarge) = ⊥
+Says lines (Err Disk) = ⊥
+Says lines (Err (BadShard name)) = ⊥
 Says lines (Err (BadLine n)) = first_bad lines ≡ Some n

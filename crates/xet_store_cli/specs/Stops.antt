@@ -1,32 +1,107 @@
 -- What a command answers before it prints: its report, or why it stops.
-use Rattle.std.specs.Prelude.{◌≡◌, ℕ, ◌<◌, ◌≤◌, List, [], length, Vec, Result, Ok, Err}
+use Rattle.std.specs.Prelude.{◌≡◌, ℕ, false, List, [], Vec, Option, Some, None, Result, Ok, Err}
 use Rattle.std.specs.declared.alloc.Global.{Global}
+use Rattle.std.specs.List.{flat_map}
+use Rattle.std.specs.Str.Lines.{lines}
+use Rattle.xet_io.specs.Disk.{Files}
+use Rattle.xet_io.specs.declared.whole.Unread.{Unread}
+use Rattle.xet_io.specs.declared.whole.Unread.TheVariants as unread
+use Rattle.xet_hash.specs.declared.error.StoreError.{StoreError}
+use Rattle.xet_hash.specs.declared.error.StoreError.TheVariants.{Io}
+use Rattle.xet_hash.specs.declared.error.StoreError.TheVariants as error
+use Rattle.xet_store.specs.declared.limits.LimitSettings.{LimitSettings}
+use Rattle.xet_store.specs.declared.info.Cleaned.{Cleaned}
+use Rattle.xet_store.specs.Names.{FindsShardLike, IsFirstShardLike}
 use Rattle.xet_store_cli.specs.declared.ending.Stop.{Stop}
-use Rattle.xet_store_cli.specs.declared.ending.Stop.TheVariants.{OutOfMemory, Input, TooLarge, BadLine}
-use Rattle.xet_store_cli.specs.Outcome.{Outcome, bad_line_text, most_input, outcome}
+use Rattle.xet_store_cli.specs.declared.ending.Stop.TheVariants.{OutOfMemory, Input, TooLarge, BadLine, Disk, BadShard}
+use Rattle.xet_store_cli.specs.Lines.{Line, good_lines}
+use Rattle.xet_store_cli.specs.Report.{info_line}
+use Rattle.xet_store_cli.specs.Outcome.{Outcome, are_short, bad_line_text, bad_shard_text, outcome, pack_early, pack_late, store_folder}
 
--- An input that is read to its end has given all its bytes, and not too many; one that is too large
--- had too many.
-abbrev pub ReadsAll : List ℕ → Result (Vec ℕ Global) Stop → List ℕ → Type 0
-ReadsAll left (Ok bytes) rest = (bytes.items ≡ left) × (rest ≡ []) × (length left ≤ most_input)
-ReadsAll left (Err OutOfMemory) rest = Unit {0}
-ReadsAll left (Err Input) rest = Unit {0}
-ReadsAll left (Err TooLarge) rest = most_input < length left
-ReadsAll left (Err (BadLine n)) rest = ⊥
-
--- An answer that a run is to end with: a report of status 0, or the refusal that it stands for. Want
--- of memory and a failed input stop any run.
-abbrev pub Answers : Outcome → Result (Vec ℕ Global) Stop → Type 0
-Answers o (Ok text) = o ≡ outcome 0 text.items
-Answers o (Err OutOfMemory) = Unit {0}
-Answers o (Err Input) = Unit {0}
-Answers o (Err TooLarge) = o ≡ outcome 9 []
-Answers o (Err (BadLine n)) = o ≡ outcome 3 (bad_line_text n)
+-- an input that was not read, as a stop
+abbrev pub stop_of_unread : Unread → Stop
+stop_of_unread unread.OutOfMemory = OutOfMemory
+stop_of_unread unread.Failed = Input
+stop_of_unread unread.TooLong = TooLarge
 
 -- how a run ends with an answer
 abbrev pub answer_outcome : Result (Vec ℕ Global) Stop → Outcome
 answer_outcome (Ok text) = outcome 0 text.items
 answer_outcome (Err OutOfMemory) = outcome 1 []
 answer_outcome (Err Input) = outcome 4 []
+answer_outcome (Err Disk) = outcome 6 []
 answer_outcome (Err TooLarge) = outcome 9 []
 answer_outcome (Err (BadLine n)) = outcome 3 (bad_line_text n)
+answer_outcome (Err (BadShard name)) = outcome 7 (bad_shard_text name)
+
+-- An answer is due. Want of memory, a failed input and a failed disk stop any run.
+abbrev pub Answers : (Outcome → Type 0) → Result (Vec ℕ Global) Stop → Type 0
+Answers Due (Err OutOfMemory) = Unit {0}
+Answers Due (Err Input) = Unit {0}
+Answers Due (Err Disk) = Unit {0}
+Answers Due r = Due (answer_outcome r)
+
+-- What the lines of an input say, or how the run ends before its store is opened.
+abbrev pub AnswersEarly : List ℕ → Result (List Line) Stop → Type 0
+AnswersEarly input (Ok said) = (pack_early input ≡ None) × (good_lines (lines input) ≡ Some said)
+AnswersEarly input (Err OutOfMemory) = Unit {0}
+AnswersEarly input (Err Input) = Unit {0}
+AnswersEarly input (Err Disk) = ⊥
+AnswersEarly input (Err TooLarge) = pack_early input ≡ Some (outcome 9 [])
+AnswersEarly input (Err (BadLine n)) = pack_early input ≡ Some (outcome 3 (bad_line_text n))
+AnswersEarly input (Err (BadShard name)) = ⊥
+
+-- What storing the files of some lines answers over a disk with these files: where no file of the
+-- folder ends as a shard's, their report, or that one of them is too large; else the first that does.
+abbrev pub AnswersLate : LimitSettings → List Line → Files → Result (Vec ℕ Global) Stop → Type 0
+AnswersLate s said files (Ok text) = FindsShardLike files store_folder None × (pack_late s said ≡ outcome 0 text.items)
+AnswersLate s said files (Err OutOfMemory) = Unit {0}
+AnswersLate s said files (Err Disk) = Unit {0}
+AnswersLate s said files (Err (BadShard name)) = IsFirstShardLike files store_folder name
+AnswersLate s said files (Err Input) = ⊥
+AnswersLate s said files (Err TooLarge) = FindsShardLike files store_folder None × (pack_late s said ≡ outcome 9 [])
+AnswersLate s said files (Err (BadLine n)) = ⊥
+
+-- a stop before the store is opened, and one after that
+abbrev pub IsEarlyStop : Stop → Type 0
+IsEarlyStop Disk = ⊥
+IsEarlyStop (BadShard name) = ⊥
+IsEarlyStop _ = Unit {0}
+
+abbrev pub IsLateStop : Stop → Type 0
+IsLateStop Input = ⊥
+IsLateStop (BadLine n) = ⊥
+IsLateStop _ = Unit {0}
+
+-- a stop at which no file of the disk has changed
+abbrev pub IsIdleStop : Stop → Type 0
+IsIdleStop (BadLine n) = Unit {0}
+IsIdleStop (BadShard name) = Unit {0}
+IsIdleStop _ = ⊥
+
+-- a refusal of the store, as a stop
+abbrev pub stop_of_error : StoreError → Stop
+stop_of_error (Io place) = Disk
+stop_of_error (error.TooLarge what) = TooLarge
+stop_of_error _ = OutOfMemory
+
+-- a folder that was not opened, with the name that is told, as a stop
+abbrev pub stop_of_refusal : StoreError → Option (List ℕ) → Stop
+stop_of_refusal error (Some name) = BadShard name
+stop_of_refusal error None = stop_of_error error
+
+-- a stop of cleaning: a file is too large only where one is
+abbrev pub IsCleaningStop : LimitSettings → List Line → Stop → Type 0
+IsCleaningStop s said OutOfMemory = Unit {0}
+IsCleaningStop s said Disk = Unit {0}
+IsCleaningStop s said TooLarge = are_short s said ≡ false
+IsCleaningStop s said _ = ⊥
+
+-- the text and the stop of what cleaning answers
+abbrev pub TellsCleaned : Result Cleaned StoreError → List ℕ → Type 0
+TellsCleaned (Ok cleaned) text = text ≡ flat_map info_line cleaned.infos.items
+TellsCleaned (Err error) text = ⊥
+
+abbrev pub StopsCleaned : Result Cleaned StoreError → Stop → Type 0
+StopsCleaned (Ok cleaned) stop = stop ≡ OutOfMemory
+StopsCleaned (Err error) stop = stop ≡ stop_of_error error

@@ -2,16 +2,17 @@
 
 ghost use Rattle.std.specs.Prelude.{◌≡◌, ◌⊎◌, [], ◌++◌, true, ℕ, take, IfOk, IsOkUnless, string_bytes};
 ghost use Rattle.xet_io.specs.Faults.{HasCause};
-ghost use Rattle.xet_store_cli.specs.Outcome.{bad_line_text, outcome, Ends};
+ghost use Rattle.xet_store_cli.specs.Outcome.{bad_line_text, bad_shard_text, outcome, Ends};
 ghost use Rattle.xet_store_cli.specs.Stops.{answer_outcome};
 
 use crate::output::print;
 use std::alloc::{AllocError, AllocFailed, Global};
 use std::marker::Model;
-use xet_io::{Refusal, Sink};
+use xet_base::Text;
+use xet_io::{Refusal, Sink, Unread};
 
 /// Why a command stops before its report.
-#[derive(Clone, Copy, PartialEq, Eq, Debug)]
+#[derive(Debug, Drop)]
 pub enum Stop {
     /// There was no memory.
     OutOfMemory,
@@ -21,6 +22,25 @@ pub enum Stop {
     TooLarge,
     /// The line of this number, from 1, is the first bad one.
     BadLine(u64),
+    /// The disk failed.
+    Disk,
+    /// The first file of the folder that ends as a shard's has this name.
+    BadShard(Text),
+}
+
+impl From<Unread> for Stop {
+    ghost use Rattle.std.specs.Prelude.{◌≡◌};
+    ghost use Rattle.xet_store_cli.specs.Stops.{stop_of_unread};
+
+    ghost from_gives = { λ unread e. e ≡ stop_of_unread unread };
+
+    fn from(unread: Unread) -> Stop {
+        match unread {
+            Unread::OutOfMemory => Stop::OutOfMemory,
+            Unread::Failed => Stop::Input,
+            Unread::TooLong => Stop::TooLarge,
+        }
+    }
 }
 
 impl From<AllocError> for Stop {
@@ -63,6 +83,12 @@ const INPUT_FAILED: u8 = 4;
 /// The status of a run whose output failed.
 const OUTPUT_FAILED: u8 = 5;
 
+/// The status of a run whose disk failed.
+const DISK_FAILED: u8 = 6;
+
+/// The status of a run over a folder that can't be opened.
+const BAD_SHARD: u8 = 7;
+
 /// The status of a run whose input is too long.
 const TOO_LARGE: u8 = 9;
 
@@ -82,7 +108,7 @@ impl Model for Ending {
 }
 
 impl Ending {
-    ghost use Rattle.std.specs.Prelude.{◌≡◌, ◌≢◌, ◌⊎◌, [], true};
+    ghost use Rattle.std.specs.Prelude.{◌≡◌, ◌≢◌, ◌⊎◌, [], true, IfOk, OnErr};
     ghost use Rattle.xet_io.specs.Faults.{HasCause};
     ghost use Rattle.xet_store_cli.specs.Outcome.{outcome, Ends};
     ghost use Rattle.xet_store_cli.specs.Stops.{answer_outcome};
@@ -96,20 +122,32 @@ impl Ending {
 
     /// The end of a command that answers so, or that of no memory.
     pub fn of_answer(alloc: Global, answer: Result<Vec<u8>, Stop>) -> Ending
-        ensures { (result ≡ answer_outcome answer) ⊎ (result ≡ outcome 1 []) }
+        ensures ends { (result ≡ answer_outcome answer) ⊎ (result ≡ outcome 1 []) }
+        ensures report { IfOk answer (λ text. result ≡ outcome 0 text.items) }
     {
         match answer {
             Ok(text) => Ending { status: DONE, text },
             Err(Stop::OutOfMemory) => Ending::silent(alloc, OUT_OF_MEMORY),
             Err(Stop::Input) => Ending::silent(alloc, INPUT_FAILED),
             Err(Stop::TooLarge) => Ending::silent(alloc, TOO_LARGE),
-            Err(Stop::BadLine(number)) => match bad_line_text(alloc, number) {
-                Ok(text) => Ending {
-                    status: BAD_LINE,
-                    text,
-                },
-                Err(_) => Ending::silent(alloc, OUT_OF_MEMORY),
-            },
+            Err(Stop::Disk) => Ending::silent(alloc, DISK_FAILED),
+            Err(Stop::BadLine(number)) => {
+                Ending::told(alloc, BAD_LINE, bad_line_text(alloc, number))
+            }
+            Err(Stop::BadShard(name)) => {
+                Ending::told(alloc, BAD_SHARD, bad_shard_text(alloc, name.as_str()))
+            }
+        }
+    }
+
+    /// An end at which a text is printed, or that of no memory where there was none for the text.
+    fn told(alloc: Global, status: u8, text: Result<Vec<u8>, AllocError>) -> Ending
+        ensures told { IfOk text (λ text. result ≡ outcome status text.items) }
+        ensures memory { OnErr text (result ≡ outcome 1 []) }
+    {
+        match text {
+            Ok(text) => Ending { status, text },
+            Err(_) => Ending::silent(alloc, OUT_OF_MEMORY),
         }
     }
 
@@ -143,5 +181,12 @@ fn bad_line_text(alloc: Global, number: u64) -> Result<Vec<u8>, AllocError>
     ensures { IfOk result (λ text. text.items ≡ bad_line_text number) }
 {
     let text = format!(in alloc; "bad line {number}\n")?;
+    Ok(text.into_bytes())
+}
+
+fn bad_shard_text(alloc: Global, name: &str) -> Result<Vec<u8>, AllocError>
+    ensures { IfOk result (λ text. text.items ≡ bad_shard_text name.now) }
+{
+    let text = format!(in alloc; "bad shard {name}\n")?;
     Ok(text.into_bytes())
 }

@@ -1,10 +1,9 @@
-//! The program: `pack TARGET GEAR` reports the file that a line of standard input gives in
+//! The program: `pack TARGET GEAR` stores and reports the file that a line of standard input gives in
 //! hexadecimal. `run_program` is the whole of it, over any input, output and disk; `main` hands in
 //! the real ones.
 #![tactic(auto)]
 
 mod ending;
-mod input;
 mod lines;
 mod output;
 mod pack;

@@ -1,9 +1,12 @@
 //! The program as one call, over any input, output, disk and inputs.
 
-ghost use Rattle.std.specs.Prelude.{◌≡◌, ◌≢◌, ◌↔◌, true, None, Some, [], map, string_bytes, OnOk, IsErrOf};
+ghost use Rattle.std.specs.Prelude.{◌≡◌, ◌≢◌, ◌↔◌, true, None, Some, [], List, ℕ, map, string_bytes, OnOk, IfErr, IfOk, IsErrOf};
+ghost use Rattle.std.specs.FinMap.{get};
 ghost use Rattle.xet_io.specs.Faults.{HasCause};
-ghost use Rattle.xet_store_cli.specs.Outcome.{Ended, Ends, Reports, command_outcome, run_outcome};
-ghost use Rattle.xet_store_cli.specs.Stops.{Answers};
+ghost use Rattle.xet_store.specs.Names.{IsForeign};
+ghost use Rattle.xet_store_cli.specs.Outcome.{Ended, EndsOver, IsDue, IsIdle, IsReportOf, Reports, store_folder};
+ghost use Rattle.xet_store_cli.specs.Stops.{Answers, IsIdleStop};
+ghost use Rattle.xet_store_cli.specs.Stored.{HasStored, HasStoredBy};
 ghost use Rattle.xet_store_cli.specs.Words.{command_of};
 
 use crate::ending::{Ending, Stop};
@@ -15,17 +18,18 @@ use std::sync::Wait;
 use std::thread::Threads;
 use xet_io::{Disk, Inputs, Sink, Source};
 
-/// Runs the command of these words: it reads `input`, prints to `output`, and hands the disk back
-/// with the status. `now` is the moment, in seconds. So far the disk and the inputs are not used,
-/// and no thread is started.
+/// Runs the command of these words: it reads `input`, works on the disk, prints to `output`, and hands the
+/// disk back with the status. `now` is the moment, in seconds. So far the inputs are not used, and no
+/// thread is started.
 ///
 /// | Status | Comes |
 /// |---|---|
-/// | 0 | the input was read to its end, and the report of its lines was printed |
+/// | 0 | the input was read to its end, its files were stored, and the report of its lines was printed |
 /// | 1 | there was no memory |
 /// | 2 | exactly where the words are no command |
 /// | 3 | exactly at the first bad line n, where it prints `bad line n` |
-/// | 4, 5 | only where the input, the output failed in this call |
+/// | 4, 5, 6 | only where the input, the output, the disk failed in this call |
+/// | 7 | exactly where a file of the folder `store` ends in `.mdb`, where it prints `bad shard NAME` of the first NAME |
 /// | 9 | exactly where the input is longer than 2^31 bytes |
 pub fn run_program<I, O, D, F, R>(
     alloc: Global,
@@ -44,46 +48,82 @@ where
     F: Inputs,
     R: Threads + Wait + Sync,
     ensures words { (result.1 ≡ 2) ↔ (command_of (map string_bytes words.now) ≡ None) }
-    ensures outcome { I.tells input.old ≡ true → O.tells output.old ≡ true
-        → Ends (run_outcome (map string_bytes words.now) (I.left input.old)) (O.written output.old) (O.written output.new) result.1 }
+    ensures outcome { I.tells input.old ≡ true → O.tells output.old ≡ true → D.tells disk ≡ true
+        → EndsOver (map string_bytes words.now) (I.left input.old) (D.files disk) (O.written output.old) (O.written output.new) result.1 }
     ensures report { I.tells input.old ≡ true → O.tells output.old ≡ true → result.1 ≡ 0
         → Reports (map string_bytes words.now) (I.left input.old) (O.written output.old) (O.written output.new) }
     ensures read { I.tells input.old ≡ true → result.1 ≡ 0 → I.left input.new ≡ [] }
+    ensures stored { I.tells input.old ≡ true → D.tells disk ≡ true → result.1 ≡ 0
+        → HasStored (map string_bytes words.now) (I.left input.old) (D.files result.0) }
+    ensures kept { D.tells disk ≡ true → IsIdle result.1 → D.files result.0 ≡ D.files disk }
+    ensures foreign { D.tells disk ≡ true → (name : List ℕ) → IsForeign store_folder name → get (D.files result.0) name ≡ get (D.files disk) name }
     ensures input { HasCause (I.faults input.old) (I.faults input.new) (result.1 ≡ 4) }
     ensures output { HasCause (O.faults output.old) (O.faults output.new) (result.1 ≡ 5) }
-    ensures disk { result.0 ≡ disk }
+    ensures disk { HasCause (D.faults disk) (D.faults result.0) (result.1 ≡ 6) }
     ensures inputs { inputs.new ≡ inputs.old }
     ensures input_tells { I.tells input.new ≡ I.tells input.old }
     ensures output_tells { O.tells output.new ≡ O.tells output.old }
+    ensures disk_tells { D.tells result.0 ≡ D.tells disk }
 {
-    let ending = run_command(alloc, words, input);
-    (disk, ending.print(output))
+    let (disk, ending) = run_command(alloc, words, input, disk, now);
+    let status = ending.print(output);
+    (disk, status)
 }
 
 /// Runs the command of these words as far as its text.
-fn run_command<I: Source>(alloc: Global, words: &[String], input: &mut I) -> Ending
-    ensures words { (result.status ≡ 2) ↔ (command_of (map string_bytes words.now) ≡ None) }
-    ensures silent { result.status ≡ 2 → result.text ≡ [] }
-    ensures outcome { I.tells input.old ≡ true → Ended (run_outcome (map string_bytes words.now) (I.left input.old)) result }
-    ensures read { I.tells input.old ≡ true → result.status ≡ 0 → I.left input.new ≡ [] }
-    ensures input { HasCause (I.faults input.old) (I.faults input.new) (result.status ≡ 4) }
-    ensures output { result.status ≢ 5 }
+fn run_command<I: Source, D: Disk + Send>(
+    alloc: Global,
+    words: &[String],
+    input: &mut I,
+    disk: D,
+    now: u64,
+) -> (D, Ending)
+    ensures words { (result.1.status ≡ 2) ↔ (command_of (map string_bytes words.now) ≡ None) }
+    ensures silent { result.1.status ≡ 2 → result.1.text ≡ [] }
+    ensures outcome { I.tells input.old ≡ true → D.tells disk ≡ true
+        → Ended (IsDue (command_of (map string_bytes words.now)) (I.left input.old) (D.files disk)) result.1 }
+    ensures report { I.tells input.old ≡ true → result.1.status ≡ 0 → Reports (map string_bytes words.now) (I.left input.old) [] result.1.text }
+    ensures read { I.tells input.old ≡ true → result.1.status ≡ 0 → I.left input.new ≡ [] }
+    ensures stored { I.tells input.old ≡ true → D.tells disk ≡ true → result.1.status ≡ 0
+        → HasStored (map string_bytes words.now) (I.left input.old) (D.files result.0) }
+    ensures kept { D.tells disk ≡ true → IsIdle result.1.status → D.files result.0 ≡ D.files disk }
+    ensures foreign { D.tells disk ≡ true → (name : List ℕ) → IsForeign store_folder name → get (D.files result.0) name ≡ get (D.files disk) name }
+    ensures input { HasCause (I.faults input.old) (I.faults input.new) (result.1.status ≡ 4) }
+    ensures output { result.1.status ≢ 5 }
+    ensures disk { HasCause (D.faults disk) (D.faults result.0) (result.1.status ≡ 6) }
     ensures tells { I.tells input.new ≡ I.tells input.old }
+    ensures disk_tells { D.tells result.0 ≡ D.tells disk }
 {
     match command_of(words) {
-        None => Ending::of_bad_words(alloc),
-        Some(command) => Ending::of_answer(alloc, answer(alloc, &command, input)),
+        None => (disk, Ending::of_bad_words(alloc)),
+        Some(command) => {
+            let (disk, answer) = answer(alloc, &command, input, disk, now);
+            (disk, Ending::of_answer(alloc, answer))
+        }
     }
 }
 
 /// What a command answers: its report, or why it stops.
-fn answer<I: Source>(alloc: Global, command: &Command, input: &mut I) -> Result<Vec<u8>, Stop>
-    ensures answer { I.tells input.old ≡ true → Answers (command_outcome (Some command.now) (I.left input.old)) result }
-    ensures read { I.tells input.old ≡ true → OnOk result (I.left input.new ≡ []) }
+fn answer<I: Source, D: Disk + Send>(
+    alloc: Global,
+    command: &Command,
+    input: &mut I,
+    disk: D,
+    now: u64,
+) -> (D, Result<Vec<u8>, Stop>)
+    ensures answer { I.tells input.old ≡ true → D.tells disk ≡ true
+        → Answers (IsDue (Some command.now) (I.left input.old) (D.files disk)) result.1 }
+    ensures report { I.tells input.old ≡ true → IfOk result.1 (λ text. IsReportOf command.now (I.left input.old) text.items) }
+    ensures read { I.tells input.old ≡ true → OnOk result.1 (I.left input.new ≡ []) }
+    ensures stored { I.tells input.old ≡ true → D.tells disk ≡ true → OnOk result.1 (HasStoredBy command.now (I.left input.old) (D.files result.0)) }
+    ensures kept { D.tells disk ≡ true → IfErr result.1 (λ stop. IsIdleStop stop → D.files result.0 ≡ D.files disk) }
+    ensures foreign { D.tells disk ≡ true → (name : List ℕ) → IsForeign store_folder name → get (D.files result.0) name ≡ get (D.files disk) name }
+    ensures input { HasCause (I.faults input.old) (I.faults input.new) (IsErrOf result.1 Stop.Input) }
+    ensures disk { HasCause (D.faults disk) (D.faults result.0) (IsErrOf result.1 Stop.Disk) }
     ensures tells { I.tells input.new ≡ I.tells input.old }
-    ensures cause { HasCause (I.faults input.old) (I.faults input.new) (IsErrOf result Stop.Input) }
+    ensures disk_tells { D.tells result.0 ≡ D.tells disk }
 {
     match command {
-        Command::Pack(limits) => pack(alloc, limits, input),
+        Command::Pack(limits) => pack(alloc, limits, input, disk, now),
     }
 }

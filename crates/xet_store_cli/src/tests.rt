@@ -6,7 +6,8 @@ use std::marker::Sync;
 use std::sync::Wait;
 use std::test::Fail;
 use std::thread::Threads;
-use xet_io::{MemoryDisk, MemoryInputs, MemorySink, SliceSource};
+use xet_hash::compute_data_hash;
+use xet_io::{Disk, MemoryDisk, MemoryInputs, MemorySink, SliceSource};
 
 const ABC: &str =
     "8679a9c73b087ee02033e84569cba8c79c2413d79f99a1e9bd1ae79ae88776cf 3 ba7816bf8f01cfea414140de5dae2223b00361a396177a9cb410ff61f20015ad\n";
@@ -17,13 +18,14 @@ const NOTHING: &str =
 const ONE_ZERO: &str =
     "b118eb6b1e0b61b6af72793e29bf136ad42b7d2052b0be0fae9a04a58e48f3b7 1 6e340b9cffb37a989ca544e6bb780a2c78901d3fb33738768511a30617afa01d\n";
 
-/// What a run with these words, parted by spaces, over this input prints, and its status.
+/// What a run with these words, parted by spaces, over this input and disk prints, and its status.
 fn run<R: Threads + Wait + Sync>(
     rt: &R,
     alloc: Global,
     words: &str,
     input: &str,
-) -> Result<(String, u8), Fail> {
+    disk: MemoryDisk,
+) -> Result<(MemoryDisk, String, u8), Fail> {
     let mut list = Vec::new(alloc);
     for word in words.split_whitespace() {
         list.push(String::from_str(alloc, word)?)?;
@@ -31,8 +33,7 @@ fn run<R: Threads + Wait + Sync>(
     let mut source = SliceSource::new(input.as_bytes());
     let mut sink = MemorySink::new(alloc);
     let mut inputs = MemoryInputs::new(alloc, Vec::new(alloc));
-    let disk = MemoryDisk::new(alloc);
-    let (_, status) = run_program(
+    let (disk, status) = run_program(
         alloc,
         rt,
         &list,
@@ -42,7 +43,7 @@ fn run<R: Threads + Wait + Sync>(
         &mut inputs,
         0,
     );
-    Ok((String::from_utf8_lossy(alloc, sink.bytes())?, status))
+    Ok((disk, String::from_utf8_lossy(alloc, sink.bytes())?, status))
 }
 
 #[test]
@@ -66,9 +67,10 @@ fn lines_of_an_input(rt: HostRuntime) -> Result<(), Fail> {
         ("File 00\n", "bad line 1\n", 3),
     ];
     for (input, text, status) in rows {
-        let found = run(&rt, rt.alloc(), "pack 512 zero", input)?;
-        assert_eq!(rt; found.0.as_str(), text, "over {input:?}");
-        assert_eq!(rt; found.1, status, "over {input:?}");
+        let disk = MemoryDisk::new(rt.alloc());
+        let found = run(&rt, rt.alloc(), "pack 512 zero", input, disk)?;
+        assert_eq!(rt; found.1.as_str(), text, "over {input:?}");
+        assert_eq!(rt; found.2, status, "over {input:?}");
     }
     Ok(())
 }
@@ -97,9 +99,37 @@ fn words_of_a_command(rt: HostRuntime) -> Result<(), Fail> {
         ("list", 2),
     ];
     for (words, status) in rows {
-        let found = run(&rt, rt.alloc(), words, "")?;
-        assert_eq!(rt; found.0.as_str(), "", "with {words}");
-        assert_eq!(rt; found.1, status, "with {words}");
+        let found = run(&rt, rt.alloc(), words, "", MemoryDisk::new(rt.alloc()))?;
+        assert_eq!(rt; found.1.as_str(), "", "with {words}");
+        assert_eq!(rt; found.2, status, "with {words}");
     }
+    Ok(())
+}
+
+#[test]
+fn stores_what_it_reports(rt: HostRuntime) -> Result<(), Fail> {
+    let alloc = rt.alloc();
+    let disk = MemoryDisk::new(alloc);
+    let (mut disk, _, status) = run(&rt, alloc, "pack 512 zero", "file 616263\n", disk)?;
+    assert_eq!(rt; status, 0);
+    assert_eq!(rt; disk.list(alloc, "store")?.len(), 1);
+    let hash = compute_data_hash(b"abc").hex(alloc)?;
+    let name = format!(in alloc; "store/{hash}.xorb")?;
+    assert_eq!(rt; disk.get(name.as_str()).map(|bytes| bytes.len()), Some(147));
+    let empty = MemoryDisk::new(alloc);
+    let (mut empty, _, status) = run(&rt, alloc, "pack 512 zero", "file\n", empty)?;
+    assert_eq!(rt; status, 0);
+    assert_eq!(rt; empty.list(alloc, "store")?.len(), 0);
+    Ok(())
+}
+
+#[test]
+fn names_the_file_that_it_cannot_read(rt: HostRuntime) -> Result<(), Fail> {
+    let alloc = rt.alloc();
+    let mut disk = MemoryDisk::new(alloc);
+    disk.write("store/x.mdb", b"")?;
+    let (_, text, status) = run(&rt, alloc, "pack 512 zero", "file 00\n", disk)?;
+    assert_eq!(rt; text.as_str(), "bad shard x.mdb\n");
+    assert_eq!(rt; status, 7);
     Ok(())
 }

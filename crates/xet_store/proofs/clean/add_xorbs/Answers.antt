@@ -1,0 +1,79 @@
+use Rattle.std.proofs.Common.{◌≡◌, ◌∙◌, ◌++◌, ◌∷◌, [], ℕ, ◌<◌, ◌≤◌, List, length, map, drop, take, ap, subst, sym, refl, arith}
+use Rattle.std.specs.List.{AllByRecursion}
+use Rattle.std.proofs.lemmas.Bool.{eqb-true}
+use Rattle.xet_hash.specs.Merkle.{xorb_hash}
+use Rattle.xet_xorb.specs.declared.chunk.Chunk.{Chunk}
+use Rattle.xet_xorb.specs.Chunks.{bytes_of, chunk_member, total}
+use Rattle.xet_store.specs.declared.limits.LimitSettings.{LimitSettings}
+use Rattle.xet_store.specs.declared.plan.FileDataSequenceEntry.{FileDataSequenceEntry as Segment}
+use Rattle.xet_store.specs.Packing.{packs}
+use Rattle.xet_store.specs.Store.{IsListed}
+use Rattle.xet_store.proofs.Keeping.{keeps_nothing, keeps_then}
+use Rattle.xet_store.proofs.Packing.{IsPackListed, Packed, all_drop, all_more, all_take, packed_all, packed_more, packed_none}
+use Rattle.xet_store.proofs.clean.add_xorbs.Goals as goal
+
+pub xorbs-init : goal.xorbs-init
+xorbs-init g c =
+    let chunks = c.args.chunks.now in
+    let s = c.args.session.now in
+    record {
+      packed = subst (λ (plan : List Segment). Packed s.xorbs c.limits.result.now plan chunks chunks) (sym c.new-plan.ensures.items) (packed_none s.xorbs c.limits.result.now chunks);
+      keeps = keeps_nothing s;
+      records = refl;
+      digests = c.requires.digests;
+      fit = subst (λ (l : LimitSettings). AllByRecursion (λ (x : Chunk). length x.bytes ≤ l.maximum_chunk) chunks) (sym c.limits.ensures) c.requires.fit;
+    }
+
+pub pack_len-count-requires-clause-fit : goal.pack_len-count-requires-clause-fit
+pack_len-count-requires-clause-fit g c =
+    let l = c.limits.result.now in
+    all_more (λ (x : Chunk). length x.bytes ≤ l.maximum_chunk) (λ (x : Chunk). length x.bytes ≤ l.cut_bytes) c.xorbs.rest.now (λ x h. omega (arith, h, c.known.ensures.cut_bytes_least)) c.xorbs.invariant.fit
+
+pub add_xorb-requires-clause-small : goal.add_xorb-requires-clause-small
+add_xorb-requires-clause-small g c = λ κs met.
+    let l = c.limits.result.now in
+    let P = λ (x : Chunk). length x.bytes ≤ l.maximum_chunk in
+    let pack = subst (AllByRecursion P) {x = take c.pack_len-count.result c.xorbs.rest.now} {y = c.split_at.result.0.now} (sym {b = take c.pack_len-count.result c.xorbs.rest.now} c.split_at.ensures.front) (all_take P c.pack_len-count.result c.xorbs.rest.now c.xorbs.invariant.fit) in
+    all_more P (λ (x : Chunk). length x.bytes < 8388608) c.split_at.result.0.now (λ x h. omega (arith, h, c.known.ensures.maximum_most)) pack
+
+pub returns-in_err-hash-clause-keeps : goal.returns-in_err-hash-clause-keeps
+returns-in_err-hash-clause-keeps g c = keeps_then c.args.session.now c.xorbs.session c.add_xorb.new.self c.xorbs.invariant.keeps c.add_xorb.ensures.keeps
+
+pub returns-in_err-push-clause-keeps : goal.returns-in_err-push-clause-keeps
+returns-in_err-push-clause-keeps g c = keeps_then c.args.session.now c.xorbs.session c.add_xorb.new.self c.xorbs.invariant.keeps c.add_xorb.ensures.keeps
+
+pub xorbs-preserved : goal.xorbs-preserved
+xorbs-preserved g c =
+    let old = c.xorbs.session.xorbs in
+    let new = c.add_xorb.new.self.xorbs in
+    let l = c.limits.result.now in
+    let n = c.pack_len-count.result in
+    let rest = c.xorbs.rest.now in
+    let chunks = c.args.chunks.now in
+    let segment = c.whole_xorb.result in
+    let before = c.xorbs.invariant in
+    let front : c.split_at.result.0.now ≡ take n rest = c.split_at.ensures.front in
+    let tail = c.split_at.result.1.now in
+    let back : drop n rest ≡ tail = sym c.split_at.ensures.back in
+    let listed = subst (λ (p : List Chunk). (c.in_ok-hash.hash ≡ xorb_hash (map chunk_member p)) × IsListed new c.in_ok-hash.hash (map chunk_member p)) front c.in_ok-hash.ensures.listed in
+    let is_hash : segment.xorb_hash ≡ c.in_ok-hash.hash = ap (λ (s : Segment). s.xorb_hash) c.whole_xorb.ensures in
+    let packed = packed_more old new l c.xorbs.plan.items rest chunks n segment c.add_xorb.ensures.keeps.xorbs before.digests
+    c.pack_len-count.ensures.value c.pack_len-count.ensures.some c.pack_len-count.ensures.bound
+    (is_hash ∙ listed.0) (subst (λ (h : List ℕ). IsListed new h (map chunk_member (take n rest))) (sym is_hash) listed.1)
+    (ap (λ (s : Segment). s.chunk_index_start) c.whole_xorb.ensures) (ap (λ (s : Segment). s.chunk_index_end) c.whole_xorb.ensures ∙ ap length front)
+    (ap (λ (s : Segment). s.unpacked_segment_bytes) c.whole_xorb.ensures ∙ ap total front) before.packed in
+    record {
+      packed = subst (λ (r : List Chunk). Packed new l c.push.new.self.items r chunks) {x = drop n rest} {y = tail} back
+          (subst (λ (plan : List Segment). Packed new l plan (drop n rest) chunks) {x = c.xorbs.plan.items ++ segment ∷ []} {y = c.push.new.self.items} (sym {a = c.push.new.self.items} {b = c.xorbs.plan.items ++ segment ∷ []} c.in_ok-push.ensures.items) packed);
+      keeps = keeps_then c.args.session.now c.xorbs.session c.add_xorb.new.self before.keeps c.add_xorb.ensures.keeps;
+      records = c.add_xorb.ensures.records ∙ before.records;
+      digests = subst (AllByRecursion _) back (all_drop _ n rest before.digests);
+      fit = subst (AllByRecursion _) back (all_drop _ n rest before.fit);
+    }
+
+pub returns-clause-listed : goal.returns-clause-listed
+returns-clause-listed g c =
+    let s = c.xorbs.session in
+    let chunks = c.args.chunks.now in
+    let done = packed_all s.xorbs c.limits.result.now c.xorbs.plan.items c.xorbs.rest.now chunks (eqb-true _ _ (sym c.xorbs-test.ensures)) c.xorbs.invariant.packed in
+    subst (λ (l : LimitSettings). AllByRecursion (IsPackListed s.xorbs) (packs l (map bytes_of chunks))) (c.limits.ensures ∙ sym c.xorbs.invariant.keeps.limits) done.1

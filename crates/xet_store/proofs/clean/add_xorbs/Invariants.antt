@@ -1,0 +1,18 @@
+use Rattle.std.proofs.Common.{◌≡◌, ◌≤◌, length}
+use Rattle.std.specs.List.{AllByRecursion}
+use Rattle.xet_hash.specs.Merkle.{chunk_hash}
+use Rattle.xet_store.specs.Cleaning.{Keeps}
+use Rattle.xet_store.proofs.Packing.{Packed}
+use Rattle.xet_store.proofs.clean.add_xorbs.Given as goal
+
+abbrev pub invariant-xorbs : goal.invariant-xorbs
+invariant-xorbs g l = record {
+  packed : Packed l.session.xorbs l.limits l.plan.items l.rest l.chunks;
+  keeps : Keeps l.fn.session l.session;
+  records : l.session.records ≡ l.fn.session.records;
+  digests : AllByRecursion (λ c. c.hash ≡ chunk_hash c.bytes) l.rest;
+  fit : AllByRecursion (λ c. length c.bytes ≤ l.limits.maximum_chunk) l.rest;
+}
+
+abbrev pub decreases-xorbs : goal.decreases-xorbs
+decreases-xorbs g l = length l.rest

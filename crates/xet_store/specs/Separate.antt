@@ -1,0 +1,54 @@
+-- Digests separate what was met: in what a store and some files show, equal digests have equal
+-- contents, and no digest is zero or the marker. BLAKE3 is believed to do so for all that is ever met;
+-- no one can prove it.
+use Rattle.std.specs.Prelude.{◌≡◌, ◌≢◌, ◌⊎◌, ℕ, ◌<◌, List, [], ◌∷◌, length, replicate, IsSome}
+use Rattle.xet_io.specs.Disk.{Files}
+use Rattle.xet_hash.specs.Hash.{zero_hash}
+use Rattle.xet_hash.specs.Merkle.{chunk_hash, xorb_hash, file_hash, members_of}
+use Rattle.xet_store.specs.declared.plan.FileDataSequenceEntry.{FileDataSequenceEntry as Segment}
+use Rattle.xet_store.specs.Plan.{Joins}
+use Rattle.xet_store.specs.Store.{State, found, IsListed, IsStored}
+
+-- the hash of all ones, which stands for the end of lists
+abbrev pub marker_hash : List ℕ
+marker_hash = replicate 32 255
+
+abbrev pub Among : {X : Type 0} → List X → X → Type 0
+Among [] x = ⊥
+Among (y ∷ ys) x = (y ≡ x) ⊎ Among ys x
+
+-- of what is met
+pub record Apart {X : Type 0} (digest : X → List ℕ) (Met : X → Type 0) : Type 0 where
+  pub same : (x y : X) → Met x → Met y → digest x ≡ digest y → x ≡ y
+  pub not_zero : (x : X) → Met x → digest x ≢ zero_hash
+  pub not_marker : (x : X) → Met x → digest x ≢ marker_hash
+
+-- a listed xorb has these chunks on the disk
+abbrev pub HasChunks : State → List ℕ → List (List ℕ) → Type 0
+HasChunks s h chunks = IsSome (found s.xorbs h) × IsStored s.files s.folder h chunks
+
+-- a chunk of a listed xorb, or of one of these files
+abbrev pub MetChunk : State → List (List (List ℕ)) → List ℕ → Type 0
+MetChunk s files b =
+    ((h : List ℕ) × (c : List (List ℕ)) × HasChunks s h c × Among c b) ⊎ ((f : List (List ℕ)) × Among files f × Among f b)
+
+-- a chunk of a xorb that stands in a folder, or of one of these files
+abbrev pub MetStored : Files → List ℕ → List (List (List ℕ)) → List ℕ → Type 0
+MetStored disk folder files b =
+    ((h : List ℕ) × (c : List (List ℕ)) × IsStored disk folder h c × Among c b) ⊎ ((f : List (List ℕ)) × Among files f × Among f b)
+
+-- the members of a listed xorb
+abbrev pub MetXorb : State → List (List ℕ × ℕ) → Type 0
+MetXorb s members = (h : List ℕ) × IsListed s.xorbs h members
+
+-- the members of a recorded file, or of one of these files that is not empty
+abbrev pub MetFile : State → List (List (List ℕ)) → List (List ℕ × ℕ) → Type 0
+MetFile s files members =
+    ((r : List ℕ × List Segment) × Among s.records r × Joins (IsListed s.xorbs) (λ m. m.1) r.1 members)
+    ⊎ ((f : List (List ℕ)) × Among files f × (0 < length f) × (members ≡ members_of f))
+
+-- Digests separate what a store and these files, each as its chunks, show.
+pub record Separate (s : State) (files : List (List (List ℕ))) : Type 0 where
+  pub chunks : Apart chunk_hash (MetChunk s files)
+  pub xorbs : Apart xorb_hash (MetXorb s)
+  pub lists : Apart file_hash (MetFile s files)

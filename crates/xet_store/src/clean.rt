@@ -1,0 +1,182 @@
+//! Files into a store.
+
+ghost use Rattle.std.specs.Prelude.{◌≡◌, ◌≤◌, ◌<◌, ◌^◌, ◌∷◌, [], ℕ, true, length, map, OnOk, OnErr, IfOk, IfErr, IsSome};
+ghost use Rattle.std.specs.List.{AllByRecursion};
+ghost use Rattle.xet_hash.specs.Merkle.{chunk_hash};
+ghost use Rattle.xet_xorb.specs.Chunks.{bytes_of, chunk_member, total};
+ghost use Rattle.xet_store.specs.Cleaning.{Adds, EachTold, HasFile, HasReason, HasXorbs, Keeps, cuts, info_of};
+ghost use Rattle.xet_store.specs.Cut.{cut};
+ghost use Rattle.xet_store.specs.Plan.{Joins};
+ghost use Rattle.xet_store.specs.Refusals.{HasDiskReason, HasSourceReason};
+ghost use Rattle.xet_store.specs.Separate.{Apart, MetChunk, Separate};
+ghost use Rattle.xet_store.specs.Steps.{HasReasonOfOne, ListsXorbs};
+ghost use Rattle.xet_store.specs.Store.{IsListed, plan_of};
+
+use crate::cutting::{chunks_of, pack_len};
+use crate::info::{Cleaned, Sha256, XetFileInfo};
+use crate::limits::Limits;
+use crate::plan::FileDataSequenceEntry;
+use crate::store::Store;
+use sha2::Digest;
+use std::alloc::Global;
+use std::marker::Send;
+use xet_hash::{MerkleHash, Place, StoreError, What, file_hash};
+use xet_io::{Disk, Source, Unread, read_all};
+use xet_xorb::{Chunk, chunk_members};
+
+/// Reads each source to its end and stores its file, in order. So far at most one source; all work runs
+/// on the caller. A refusal hands the session back with its earlier files; xorbs that were put already
+/// may stay.
+pub fn clean_files<D: Disk + Send, S: Source + Send>(
+    alloc: Global,
+    session: Store<D>,
+    sources: &mut [S],
+    workers: u32,
+) -> (Store<D>, Result<Cleaned, StoreError>)
+    requires one { length sources.old ≤ 1 }
+    requires workers { (1 ≤ workers) × (workers ≤ 256) }
+
+    // Ok: each source was read to its end, and each answer is that of the bytes it had left.
+    ensures infos { IfOk result.1 (λ cleaned. EachTold S.tells S.left (λ bytes info. info ≡ info_of session.limits bytes) sources.old cleaned.infos.items) }
+    ensures read { OnOk result.1 (AllByRecursion (λ s. S.tells s ≡ true → S.left s ≡ []) sources.new) }
+    ensures short { OnOk result.1 (AllByRecursion (λ s. S.tells s ≡ true → length (S.left s) ≤ session.limits.max_source_bytes) sources.old) }
+
+    // Where all tell and digests separate, each source has a plan that joins to its chunks; where those
+    // of chunks do, each of its xorbs is stored.
+    ensures files { session.tells ≡ true → AllByRecursion (λ s. S.tells s ≡ true) sources.old → Separate result.0 (cuts S.left session.limits sources.old)
+        → OnOk result.1 (AllByRecursion (HasFile result.0) (cuts S.left session.limits sources.old)) }
+    ensures xorbs { session.tells ≡ true → AllByRecursion (λ s. S.tells s ≡ true) sources.old → Apart chunk_hash (MetChunk result.0 (cuts S.left session.limits sources.old))
+        → OnOk result.1 (AllByRecursion (HasXorbs result.0) (cuts S.left session.limits sources.old)) }
+
+    // Nothing is taken away, whatever the answer; new records stand behind the earlier ones, each of a
+    // source.
+    ensures keeps { Keeps session result.0 }
+    ensures adds { IfOk result.1 (λ cleaned. Adds session.records result.0.records (map (λ info. info.hash) cleaned.infos.items)) }
+    ensures err { OnErr result.1 (result.0.records ≡ session.records) }
+
+    // A refusal has a reason.
+    ensures reason { IfErr result.1 (HasReason S.tells S.left S.faults sources.old sources.new session result.0) }
+{
+    let _ = workers;
+    let mut session = session;
+    let result = clean_all(alloc, &mut session, sources);
+    session.known();
+    (session, result)
+}
+
+fn clean_all<D: Disk + Send, S: Source + Send>(
+    alloc: Global,
+    session: &mut Store<D>,
+    sources: &mut [S],
+) -> Result<Cleaned, StoreError>
+    requires one { length sources.old ≤ 1 }
+    ensures infos { IfOk result (λ cleaned. EachTold S.tells S.left (λ bytes info. info ≡ info_of session.old.limits bytes) sources.old cleaned.infos.items) }
+    ensures read { OnOk result (AllByRecursion (λ s. S.tells s ≡ true → S.left s ≡ []) sources.new) }
+    ensures short { OnOk result (AllByRecursion (λ s. S.tells s ≡ true → length (S.left s) ≤ session.old.limits.max_source_bytes) sources.old) }
+    ensures recorded { IfOk result (λ cleaned. AllByRecursion (λ info. IsSome (plan_of session.new.records info.hash)) cleaned.infos.items) }
+    ensures listed { AllByRecursion (λ s. S.tells s ≡ true) sources.old → OnOk result (AllByRecursion (ListsXorbs session.new) (cuts S.left session.old.limits sources.old)) }
+    ensures keeps { Keeps session.old session.new }
+    ensures adds { IfOk result (λ cleaned. Adds session.old.records session.new.records (map (λ info. info.hash) cleaned.infos.items)) }
+    ensures err { OnErr result (session.new.records ≡ session.old.records) }
+    ensures reason { IfErr result (HasReason S.tells S.left S.faults sources.old sources.new session.old session.new) }
+{
+    let mut infos = Vec::with_capacity(alloc, 1)?;
+    if !sources.is_empty() {
+        infos.push_reserved(clean_source(session, &mut sources[0])?);
+    }
+    Ok(Cleaned { infos })
+}
+
+/// Reads a source, that of number 0, to its end and stores its file.
+fn clean_source<D: Disk + Send, S: Source + Send>(
+    session: &mut Store<D>,
+    source: &mut S,
+) -> Result<XetFileInfo, StoreError>
+    ensures info { S.tells source.old ≡ true → IfOk result (λ info. info ≡ info_of session.old.limits (S.left source.old)) }
+    ensures read { S.tells source.new ≡ true → OnOk result (S.left source.new ≡ []) }
+    ensures short { S.tells source.old ≡ true → OnOk result (length (S.left source.old) ≤ session.old.limits.max_source_bytes) }
+    ensures keeps { Keeps session.old session.new }
+    ensures recorded { IfOk result (λ info. IsSome (plan_of session.new.records info.hash)) }
+    ensures adds { IfOk result (λ info. Adds session.old.records session.new.records (info.hash ∷ [])) }
+    ensures xorbs { S.tells source.old ≡ true → OnOk result (ListsXorbs session.new (cut session.old.limits (S.left source.old))) }
+    ensures err { OnErr result (session.new.records ≡ session.old.records) }
+    ensures reason { IfErr result (HasReasonOfOne S.tells S.left S.faults source.old source.new session.old session.new) }
+    ensures later { S.faults source.old ≤ S.faults source.new }
+{
+    let alloc = session.alloc();
+    let limits = *session.limits();
+    let bytes = read_source(alloc, &limits, source)?;
+    let file_size = bytes.len() as u64;
+    let sha256 = Sha256::from_bytes(sha2::Sha256::digest(&bytes).into());
+    let chunks = chunks_of(alloc, &limits, bytes)?;
+    let hash = file_hash(alloc, &chunk_members(alloc, &chunks)?)?;
+    if !chunks.is_empty() {
+        let plan = add_xorbs(session, &chunks)?;
+        session.add_file(hash, plan)?;
+    }
+    Ok(XetFileInfo {
+        hash,
+        file_size,
+        sha256: Some(sha256),
+    })
+}
+
+/// Stores chunks in xorbs, packed in order, and gives the segment of each.
+fn add_xorbs<D: Disk + Send>(
+    session: &mut Store<D>,
+    chunks: &[Chunk],
+) -> Result<Vec<FileDataSequenceEntry>, StoreError>
+    requires digests { AllByRecursion (λ c. c.hash ≡ chunk_hash c.bytes) chunks.now }
+    requires fit { AllByRecursion (λ c. length c.bytes ≤ session.old.limits.maximum_chunk) chunks.now }
+    ensures joins { IfOk result (λ plan. Joins (IsListed session.new.xorbs) (λ m. m.1) plan.items (map chunk_member chunks.now)) }
+    ensures listed { OnOk result (ListsXorbs session.new (map bytes_of chunks.now)) }
+    ensures keeps { Keeps session.old session.new }
+    ensures records { session.new.records ≡ session.old.records }
+    ensures reason { IfErr result (HasDiskReason session.old.faults session.new.faults) }
+{
+    let limits = *session.limits();
+    limits.known();
+    let mut plan = Vec::new(session.alloc());
+    let mut rest = chunks;
+    'xorbs: while !rest.is_empty() {
+        let count = pack_len(&limits, rest);
+        let (pack, tail) = rest.split_at(count);
+        let hash = session.add_xorb(pack)?;
+        plan.push(whole_xorb(hash, pack))?;
+        rest = tail;
+    }
+    Ok(plan)
+}
+
+/// The segment of all of a xorb's chunks.
+fn whole_xorb(hash: MerkleHash, chunks: &[Chunk]) -> FileDataSequenceEntry
+    requires count { length chunks.now ≤ 65536 }
+    requires bytes { total chunks.now ≤ 2 ^ 30 }
+    ensures { result ≡ record { xorb_hash = hash; xorb_flags = 0; unpacked_segment_bytes = total chunks.now; chunk_index_start = 0; chunk_index_end = length chunks.now } }
+{
+    let bytes: usize = chunks.iter().map(|chunk| chunk.bytes.len()).sum();
+    FileDataSequenceEntry::new(hash, bytes as u32, 0, chunks.len() as u32)
+}
+
+/// All bytes that are left in the source of number 0, read at most `block_bytes` at a time.
+fn read_source<S: Source>(
+    alloc: Global,
+    limits: &Limits,
+    source: &mut S,
+) -> Result<Vec<u8>, StoreError>
+    ensures bytes { S.tells source.old ≡ true → IfOk result (λ bytes. bytes.items ≡ S.left source.old) }
+    ensures read { S.tells source.old ≡ true → OnOk result (S.left source.new ≡ []) }
+    ensures short { IfOk result (λ bytes. length bytes.items ≤ limits.now.max_source_bytes) }
+    ensures tells { S.tells source.new ≡ S.tells source.old }
+    ensures later { S.faults source.old ≤ S.faults source.new }
+    ensures reason { IfErr result (HasSourceReason (S.tells source.old) (S.left source.old) (S.faults source.old) (S.faults source.new) limits.now.max_source_bytes) }
+{
+    let block = limits.block_bytes() as usize;
+    let most = limits.max_source_bytes() as usize;
+    match read_all(alloc, source, block, most) {
+        Ok(bytes) => Ok(bytes),
+        Err(Unread::OutOfMemory) => Err(StoreError::OutOfMemory),
+        Err(Unread::Failed) => Err(StoreError::Io(Place::Source(0))),
+        Err(Unread::TooLong) => Err(StoreError::TooLarge(What::Source(0))),
+    }
+}

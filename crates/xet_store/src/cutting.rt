@@ -1,0 +1,53 @@
+//! A file's bytes as chunks, and its chunks in xorbs.
+
+ghost use Rattle.std.specs.Prelude.{◌≡◌, ◌≤◌, ◌<◌, ℕ, length, map, take, IfOk, IsOkUnless};
+ghost use Rattle.std.specs.List.{AllByRecursion};
+ghost use Rattle.xet_xorb.specs.Chunks.{bytes_of, chunk_of, total};
+ghost use Rattle.xet_store.specs.Cut.{cut};
+ghost use Rattle.xet_store.specs.Packing.{pack_len};
+
+use crate::cut::piece_len;
+use crate::limits::Limits;
+use bytes::Bytes;
+use std::alloc::Global;
+use xet_hash::StoreError;
+use xet_xorb::Chunk;
+
+/// The chunks into which a file's bytes are cut. They share the bytes.
+pub fn chunks_of(alloc: Global, limits: &Limits, bytes: Vec<u8>) -> Result<Vec<Chunk>, StoreError>
+    ensures chunks { IfOk result (λ chunks. chunks.items ≡ map chunk_of (cut limits.now bytes.items)) }
+    ensures total { IfOk result (λ chunks. total chunks.items ≡ length bytes.items) }
+    ensures memory { IsOkUnless result StoreError.OutOfMemory }
+{
+    let mut rest = Bytes::from_vec(bytes)?;
+    let mut chunks = Vec::new(alloc);
+    'pieces: while rest.len() > 0 {
+        let length = piece_len(limits, rest.as_slice());
+        chunks.push(Chunk::new(rest.split_to(length)?))?;
+    }
+    Ok(chunks)
+}
+
+/// How many of the chunks at the front go into the next xorb.
+pub fn pack_len(limits: &Limits, chunks: &[Chunk]) -> usize
+    requires some { 0 < length chunks.now }
+    requires fit { AllByRecursion (λ c. length c.bytes ≤ limits.now.cut_bytes) chunks.now }
+    ensures value { result ≡ pack_len limits.now (map bytes_of chunks.now) }
+    ensures some { 0 < result }
+    ensures bound { result ≤ length chunks.now }
+    ensures count { result ≤ limits.now.cut_chunks }
+    ensures bytes { total (take result chunks.now) ≤ limits.now.cut_bytes }
+{
+    let most = chunks.len().min(limits.cut_chunks() as usize);
+    let mut room = limits.cut_bytes() as usize;
+    let mut count = 0;
+    'chunks: while count < most {
+        let length = chunks[count].bytes.len();
+        if length > room {
+            break 'chunks;
+        }
+        room -= length;
+        count += 1;
+    }
+    count
+}

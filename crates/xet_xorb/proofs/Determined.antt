@@ -1,0 +1,54 @@
+-- The bytes of a xorb determine its chunks.
+use Rattle.std.proofs.Common.{◌≡◌, ◌∙◌, ℕ, ◌+◌, ◌*◌, ◌<◌, ◌^◌, ◌/◌, ◌%◌, List, [], ◌∷◌, ◌++◌, length, drop, take, refl, sym, ap, arith, append_assoc}
+use Rattle.std.proofs.lemmas.List.{take_at, drop_at}
+use Rattle.std.specs.List.{flat_map, AllByRecursion}
+use Rattle.std.specs.Int.{w32, to_le_bytes}
+use Rattle.xet_xorb.specs.Spelling.{footer, spelling, xorb_text}
+use Rattle.xet_xorb.specs.Xorb.{IsXorbText}
+
+-- a number below 2 ^ 24 is determined by its three bytes
+le24_same : (n m : ℕ) → n < 2 ^ 24 → m < 2 ^ 24 → (n % 256 ≡ m % 256) → (n / 256 % 256 ≡ m / 256 % 256) → (n / 65536 % 256 ≡ m / 65536 % 256) → n ≡ m
+le24_same n m a b x y z = omega arith
+
+-- a list that begins with 88, as a footer does
+abbrev Begins : ℕ → List ℕ → Type 0
+Begins k s = (rest : List ℕ) × (s ≡ k ∷ rest)
+
+-- a stored chunk is determined by what begins with it
+one_chunk : (b d s t : List ℕ) → length b < 2 ^ 24 → length d < 2 ^ 24 → spelling b ++ s ≡ spelling d ++ t → (b ≡ d) × (s ≡ t)
+unfolding spelling
+one_chunk b d s t sb sd e =
+    let n0 : length b % 256 ≡ length d % 256 = cc in
+    let n1 : length b / 256 % 256 ≡ length d / 256 % 256 = cc in
+    let n2 : length b / 65536 % 256 ≡ length d / 65536 % 256 = cc in
+    let same : length b ≡ length d = le24_same (length b) (length d) sb sd n0 n1 n2 in
+    let rest : b ++ s ≡ d ++ t = cc in
+    let left : b ≡ d = sym (take_at b s (length b) refl) ∙ ap (take (length b)) rest ∙ take_at d t (length b) (sym same) in
+    let right : s ≡ t = sym (drop_at b s (length b) refl) ∙ ap (drop (length b)) rest ∙ drop_at d t (length b) (sym same) in
+    (left, right)
+
+-- stored chunks are determined by what begins with them, where a footer follows
+all_chunks : (cs ds : List (List ℕ)) (s t : List ℕ) → AllByRecursion (λ b. length b < 2 ^ 24) cs → AllByRecursion (λ b. length b < 2 ^ 24) ds → Begins 88 s → Begins 88 t
+    → flat_map spelling cs ++ s ≡ flat_map spelling ds ++ t → cs ≡ ds
+unfolding spelling
+all_chunks [] [] s t sc sd fs ft e = refl
+all_chunks [] (d ∷ ds) s t sc sd fs ft e =
+    let x : 88 ∷ fs.0 ≡ spelling d ++ (flat_map spelling ds ++ t) = sym fs.1 ∙ e ∙ append_assoc (spelling d) (flat_map spelling ds) t in cc
+all_chunks (c ∷ cs) [] s t sc sd fs ft e =
+    let x : 88 ∷ ft.0 ≡ spelling c ++ (flat_map spelling cs ++ s) = sym ft.1 ∙ sym e ∙ append_assoc (spelling c) (flat_map spelling cs) s in cc
+all_chunks (c ∷ cs) (d ∷ ds) s t sc sd fs ft e =
+    let parts = one_chunk c d (flat_map spelling cs ++ s) (flat_map spelling ds ++ t) sc.0 sd.0 (sym (append_assoc (spelling c) (flat_map spelling cs) s) ∙ e ∙ append_assoc (spelling d) (flat_map spelling ds) t) in
+    let rest : cs ≡ ds = all_chunks cs ds s t sc.1 sd.1 fs ft parts.1 in
+    ap (λ (x : List ℕ). x ∷ cs) parts.0 ∙ ap (λ (xs : List (List ℕ)). d ∷ xs) rest
+
+-- what stands behind the chunks begins as a footer
+text_parts : (hash : List ℕ) (ms : List (List ℕ × ℕ)) (cs : List (List ℕ)) (spare : List ℕ) → (s : List ℕ) × Begins 88 s × (xorb_text hash ms cs spare ≡ flat_map spelling cs ++ s)
+unfolding xorb_text footer
+text_parts hash ms cs spare =
+    (footer hash ms spare ++ to_le_bytes w32 (92 + 40 * length ms), (_, refl), append_assoc (flat_map spelling cs) (footer hash ms spare) (to_le_bytes w32 (92 + 40 * length ms)))
+
+pub text_determines : (bytes : List ℕ) (cs ds : List (List ℕ)) → IsXorbText bytes cs → IsXorbText bytes ds → cs ≡ ds
+text_determines bytes cs ds x y =
+    let p = text_parts _ _ cs x.spare in
+    let q = text_parts _ _ ds y.spare in
+    all_chunks cs ds p.0 q.0 x.small y.small p.1 q.1 (sym p.2 ∙ sym x.spelled ∙ y.spelled ∙ q.2)
