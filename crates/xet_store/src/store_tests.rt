@@ -1,6 +1,6 @@
 //! Files that are cleaned over a disk in memory.
 
-use crate::{Cleaned, FileDataSequenceEntry, LimitSettings, Limits, Store, clean_files};
+use crate::{FileDataSequenceEntry, LimitSettings, Limits, Store, XetFileInfo, clean_files};
 use std::alloc::Global;
 use std::test::Fail;
 use xet_hash::{MerkleHash, Reason, StoreError, compute_data_hash};
@@ -22,14 +22,18 @@ fn opened(alloc: Global, disk: MemoryDisk) -> Result<Store<MemoryDisk>, StoreErr
     Store::open(alloc, disk, "store", limits()?, 0, false).map_err(|refused| refused.error)
 }
 
+/// The session after a file of these bytes was cleaned, and its pointer record.
 fn cleaned(
     alloc: Global,
     session: Store<MemoryDisk>,
     bytes: &[u8],
-) -> Result<(Store<MemoryDisk>, Cleaned), StoreError> {
+) -> Result<(Store<MemoryDisk>, XetFileInfo), StoreError> {
     let mut sources = [SliceSource::new(bytes)];
     let (session, answer) = clean_files(alloc, session, &mut sources, 1);
-    Ok((session, answer?))
+    match answer?.infos.first() {
+        Some(info) => Ok((session, *info)),
+        None => Err(StoreError::FileNotFound),
+    }
 }
 
 fn plan_of(
@@ -44,8 +48,7 @@ fn plan_of(
 fn stores_a_file_of_one_chunk(rt: HostRuntime) -> Result<(), Fail> {
     let alloc = rt.alloc();
     let session = opened(alloc, MemoryDisk::new(alloc))?;
-    let (session, answer) = cleaned(alloc, session, b"abc")?;
-    let info = answer.infos[0];
+    let (session, info) = cleaned(alloc, session, b"abc")?;
     assert_eq!(rt;
         info.hash.hex(alloc)?.as_str(),
         "8679a9c73b087ee02033e84569cba8c79c2413d79f99a1e9bd1ae79ae88776cf"
@@ -79,8 +82,8 @@ fn stores_a_file_of_one_chunk(rt: HostRuntime) -> Result<(), Fail> {
 fn keeps_no_record_of_the_empty_file(rt: HostRuntime) -> Result<(), Fail> {
     let alloc = rt.alloc();
     let session = opened(alloc, MemoryDisk::new(alloc))?;
-    let (session, answer) = cleaned(alloc, session, b"")?;
-    assert_eq!(rt; answer.infos[0].hash, MerkleHash::default());
+    let (session, info) = cleaned(alloc, session, b"")?;
+    assert_eq!(rt; info.hash, MerkleHash::default());
     assert_eq!(rt; session.xorb_count(), 0);
     assert_eq!(rt; session.files(alloc)?.len(), 0);
     assert_eq!(rt; plan_of(alloc, &session, &MerkleHash::default())?.len(), 0);
@@ -93,9 +96,9 @@ fn packs_chunks_in_order_and_keeps_earlier_plans(rt: HostRuntime) -> Result<(), 
     let alloc = rt.alloc();
     let session = opened(alloc, MemoryDisk::new(alloc))?;
     let (session, first) = cleaned(alloc, session, b"abc")?;
-    let before = plan_of(alloc, &session, &first.infos[0].hash)?;
+    let before = plan_of(alloc, &session, &first.hash)?;
     let (session, second) = cleaned(alloc, session, &[0; 200])?;
-    let plan = plan_of(alloc, &session, &second.infos[0].hash)?;
+    let plan = plan_of(alloc, &session, &second.hash)?;
     assert_eq!(rt; plan.len(), 2);
     for (segment, bytes) in plan.iter().zip([128, 72]) {
         assert_eq!(rt; segment.unpacked_segment_bytes, bytes);
@@ -103,12 +106,12 @@ fn packs_chunks_in_order_and_keeps_earlier_plans(rt: HostRuntime) -> Result<(), 
         assert_eq!(rt; segment.chunk_index_end, 2);
     }
     assert_eq!(rt; session.xorb_count(), 3);
-    let after = plan_of(alloc, &session, &first.infos[0].hash)?;
+    let after = plan_of(alloc, &session, &first.hash)?;
     assert_eq!(rt; after.as_slice(), before.as_slice());
     let files = session.files(alloc)?;
     assert_eq!(rt;
         files.as_slice(),
-        [(first.infos[0].hash, 3), (second.infos[0].hash, 200)].as_slice()
+        [(first.hash, 3), (second.hash, 200)].as_slice()
     );
     Ok(())
 }
