@@ -5,3 +5,5 @@ pub mod HeldNames
 pub mod Changes
 pub mod Listing
 pub mod Reading
+pub mod Retained
+pub mod Streaming

@@ -65,6 +65,14 @@ pub record Lists (files : Files) (folder : List ℕ) (listed : List DiskEntry) :
 abbrev pub written : Files → List ℕ → List ℕ → ℕ → Files
 written files name bytes stamp = insert files name (entry (Some (file bytes stamp)) false)
 
+abbrev pub unstable_if : Files → List ℕ → Option Entry → Files
+unstable_if files name None = files
+unstable_if files name (Some e) = insert files name (entry e.file false)
+
+-- a name that is held is no longer stable, with the bytes that it had
+abbrev pub unstable : Files → List ℕ → Files
+unstable files name = unstable_if files name (get files name)
+
 abbrev pub stable_if : Files → List ℕ → Option File → Files
 stable_if files name None = files
 stable_if files name (Some f) = insert files name (entry (Some f) true)

@@ -1,7 +1,9 @@
 pub mod Faults
 pub mod Streams
+pub mod FailingStreams
 pub mod Named
 pub mod Disk
+pub mod FailingCalls
 pub mod Memory
 pub mod MemoryFiles
 pub mod Whole

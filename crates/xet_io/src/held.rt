@@ -3,7 +3,7 @@
 ghost use Rattle.std.specs.Prelude.{◌≡◌, ◌≢◌, ℕ, List, IsTrue, IsSome, is_some, IfOk, IfErr, IfSome, OnOk, OnErr};
 ghost use Rattle.std.specs.Option.{option_map};
 ghost use Rattle.std.specs.FinMap.{get, insert, remove};
-ghost use Rattle.xet_io.specs.Disk.{Files, file_at, Lists, synced};
+ghost use Rattle.xet_io.specs.Disk.{Files, file_at, Lists, synced, unstable};
 ghost use Rattle.xet_io.specs.Named.{in_folder, is_plain};
 ghost use Rattle.xet_io.specs.MemoryFiles.{files_of, file_of_held, entry_of};
 
@@ -59,6 +59,15 @@ pub(crate) fn make_stable(names: &mut Names, name: &str) -> bool
     }
     held.stable = true;
     true
+}
+
+/// Makes a name unstable, if it is held.
+pub(crate) fn make_unstable(names: &mut Names, name: &str)
+    ensures { files_of names.new ≡ unstable (files_of names.old) name.now }
+{
+    if let Some(held) = names.get_mut(name) {
+        held.stable = false;
+    }
 }
 
 /// Sees to it that a name is held. Only this step of a rename may want memory.

@@ -2,30 +2,38 @@
 //! has a meaning, where it tells one, and a count of its failures, which never falls.
 #![tactic(auto)]
 
+mod count;
 mod disk;
+mod failing;
 mod fault;
 mod held;
 mod inputs;
 mod memory;
 mod memory_disk;
 mod read_at;
+mod reader;
 mod sink;
 mod slices;
 mod source;
 mod streams;
 mod whole;
+mod writing;
 
+pub use count::Op;
 pub use disk::{Disk, DiskEntry, put_file};
+pub use failing::{FailingSink, FailingSource};
 pub use fault::{Failed, Refusal};
 pub use inputs::Inputs;
 pub use memory::{MemoryInputs, MemorySink, OwnedSource};
 pub use memory_disk::MemoryDisk;
 pub use read_at::ReadAt;
+pub use reader::read_whole;
 pub use sink::Sink;
 pub use slices::{SliceReader, SliceSource};
 pub use source::Source;
 pub use streams::{StdSink, StdSource};
 pub use whole::{Unread, read_all};
+pub use writing::write_all;
 
 #[cfg(test)]
 mod tests;

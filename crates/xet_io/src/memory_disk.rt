@@ -1,27 +1,32 @@
-//! A disk in memory. It never fails.
+//! A disk in memory. It fails only where it is made to.
 
-ghost use Rattle.std.specs.Prelude.{◌≡◌, ◌+◌, ◌-◌, ◌^◌, ◌≤◌, min, true, length, IfOk, IfSome, OnOk, OnErr, IsErrOf};
+ghost use Rattle.std.specs.Prelude.{◌≡◌, ◌+◌, ◌-◌, ◌^◌, ◌≤◌, ◌↔◌, min, true, [], cond, length, IfOk, IfSome, IsTrue, OnOk, OnErr, IsErrOf};
 ghost use Rattle.std.specs.Option.{option_map};
 ghost use Rattle.std.specs.FinMap.{empty};
-ghost use Rattle.xet_io.specs.Disk.{bytes_at, file_at, stat_of, ReadsAt, Lists, Changes, written, synced, renamed, removed};
+ghost use Rattle.xet_io.specs.Disk.{bytes_at, file_at, stat_of, ReadsAt, Lists, Changes, written, unstable, synced, renamed, removed};
 ghost use Rattle.xet_io.specs.Faults.{HasCause};
+ghost use Rattle.xet_io.specs.FailingCalls.{fails_now, fails_after, faults_after};
+ghost use Rattle.xet_io.specs.declared.count.Op.TheVariants as op;
 
+use crate::count::{Count, Op};
 use crate::disk::{Disk, DiskEntry};
 use crate::fault::Refusal;
 use crate::held::{
-    Held, HeldFile, Names, held_file, hold_name, is_there, list_folder, make_stable, move_held,
+    Held, HeldFile, Names, held_file, hold_name, is_there, list_folder, make_stable, make_unstable,
+    move_held,
 };
 use crate::slices::copy_part;
 use std::alloc::Global;
 use std::collections::BTreeMap;
 use std::marker::Model;
 
-/// A disk in memory. Contracts see its files and how many calls it has taken.
+/// A disk in memory. Contracts see its files, how many calls it has taken, how often it has failed
+/// and which of its calls are still to fail.
 #[derive(Drop)]
 pub struct MemoryDisk {
     alloc: Global,
     names: Names,
-    calls: u64,
+    count: Count,
 }
 
 impl Model for MemoryDisk {
@@ -33,18 +38,26 @@ impl Model for MemoryDisk {
 
     ghost use Rattle.xet_io.specs.MemoryFiles.{files_of};
 
-    ghost view = { λ d. record { files = files_of d.names; calls = d.calls } };
+    ghost view = { λ d. record { files = files_of d.names; calls = d.count.calls; faults = d.count.faults; fails = d.count.fails.items } };
 }
 
 impl MemoryDisk {
-    /// A disk with no files, before its first call. It takes no memory.
+    /// A disk with no files, before its first call, of which no call fails. It takes no memory.
     pub fn new(alloc: Global) -> MemoryDisk
-        ensures { result ≡ record { files = empty; calls = 0 } }
+        ensures { result ≡ record { files = empty; calls = 0; faults = 0; fails = [] } }
+    {
+        MemoryDisk::failing(alloc, Vec::new(alloc))
+    }
+
+    /// A disk with no files, before its first call. For each pair the call of that kind fails that
+    /// comes after so many others of it. It takes no memory.
+    pub fn failing(alloc: Global, fails: Vec<(Op, u64)>) -> MemoryDisk
+        ensures { result ≡ record { files = empty; calls = 0; faults = 0; fails = fails.items } }
     {
         MemoryDisk {
             alloc,
             names: BTreeMap::new(alloc),
-            calls: 0,
+            count: Count::new(fails),
         }
     }
 
@@ -64,15 +77,20 @@ impl Disk for MemoryDisk {
 
     ghost files = { λ d. d.files };
 
-    ghost faults = { λ _. 0 };
+    ghost faults = { λ d. d.faults };
 
     fn stat(&mut self, name: &str) -> Result<Option<(u64, u64)>, Refusal>
         ensures told { IfOk result (λ found. found ≡ stat_of (file_at self.old.files name.now)) }
         ensures same { self.new.files ≡ self.old.files }
         ensures counted { self.new.calls ≡ min (self.old.calls + 1) (2 ^ 64 - 1) }
-        ensures cause { HasCause 0 0 (IsErrOf result Refusal.Failed) }
+        ensures failed { IsErrOf result Refusal.Failed ↔ IsTrue (fails_now self.old.fails op.Stat) }
+        ensures faults { self.new.faults ≡ faults_after self.old.fails op.Stat self.old.faults }
+        ensures fails { self.new.fails ≡ fails_after self.old.fails op.Stat }
+        ensures cause { HasCause self.old.faults self.new.faults (IsErrOf result Refusal.Failed) }
     {
-        self.calls = self.calls.saturating_add(1);
+        if self.count.fails(Op::Stat) {
+            return Err(Refusal::Failed);
+        }
         match held_file(&self.names, name) {
             Some(file) => Ok(Some((file.bytes.len() as u64, file.stamp))),
             None => Ok(None),
@@ -84,9 +102,14 @@ impl Disk for MemoryDisk {
         ensures told { IfOk result (ReadsAt (file_at self.old.files name.now) at buf.new) }
         ensures same { self.new.files ≡ self.old.files }
         ensures counted { self.new.calls ≡ min (self.old.calls + 1) (2 ^ 64 - 1) }
-        ensures cause { HasCause 0 0 (IsErrOf result Refusal.Failed) }
+        ensures failed { IsErrOf result Refusal.Failed ↔ IsTrue (fails_now self.old.fails op.ReadAt) }
+        ensures faults { self.new.faults ≡ faults_after self.old.fails op.ReadAt self.old.faults }
+        ensures fails { self.new.fails ≡ fails_after self.old.fails op.ReadAt }
+        ensures cause { HasCause self.old.faults self.new.faults (IsErrOf result Refusal.Failed) }
     {
-        self.calls = self.calls.saturating_add(1);
+        if self.count.fails(Op::ReadAt) {
+            return Err(Refusal::Failed);
+        }
         match held_file(&self.names, name) {
             Some(file) => Ok(Some(copy_part(&file.bytes, at, buf))),
             None => Ok(None),
@@ -97,20 +120,32 @@ impl Disk for MemoryDisk {
         ensures told { IfOk result (λ listed. Lists self.old.files folder.now listed.items) }
         ensures same { self.new.files ≡ self.old.files }
         ensures counted { self.new.calls ≡ min (self.old.calls + 1) (2 ^ 64 - 1) }
-        ensures cause { HasCause 0 0 (IsErrOf result Refusal.Failed) }
+        ensures failed { IsErrOf result Refusal.Failed ↔ IsTrue (fails_now self.old.fails op.List) }
+        ensures faults { self.new.faults ≡ faults_after self.old.fails op.List self.old.faults }
+        ensures fails { self.new.fails ≡ fails_after self.old.fails op.List }
+        ensures cause { HasCause self.old.faults self.new.faults (IsErrOf result Refusal.Failed) }
     {
-        self.calls = self.calls.saturating_add(1);
+        if self.count.fails(Op::List) {
+            return Err(Refusal::Failed);
+        }
         list_folder(&self.names, alloc, folder)
     }
 
+    /// A write that fails leaves the bytes as they were, under a name that is no longer stable.
     fn write(&mut self, name: &str, bytes: &[u8]) -> Result<(), Refusal>
         ensures stamped { OnOk result (self.new.files ≡ written self.old.files name.now bytes.now self.old.calls) }
-        ensures kept { OnErr result (self.new.files ≡ self.old.files) }
+        ensures kept { OnErr result (self.new.files ≡ cond (fails_now self.old.fails op.Write) (unstable self.old.files name.now) self.old.files) }
         ensures counted { self.new.calls ≡ min (self.old.calls + 1) (2 ^ 64 - 1) }
-        ensures cause { HasCause 0 0 (IsErrOf result Refusal.Failed) }
+        ensures failed { IsErrOf result Refusal.Failed ↔ IsTrue (fails_now self.old.fails op.Write) }
+        ensures faults { self.new.faults ≡ faults_after self.old.fails op.Write self.old.faults }
+        ensures fails { self.new.fails ≡ fails_after self.old.fails op.Write }
+        ensures cause { HasCause self.old.faults self.new.faults (IsErrOf result Refusal.Failed) }
     {
-        let stamp = self.calls;
-        self.calls = self.calls.saturating_add(1);
+        let stamp = self.count.calls;
+        if self.count.fails(Op::Write) {
+            make_unstable(&mut self.names, name);
+            return Err(Refusal::Failed);
+        }
         let key = String::from_str(self.alloc, name)?;
         let bytes = Vec::from_slice(self.alloc, bytes)?;
         let held = Held {
@@ -125,9 +160,14 @@ impl Disk for MemoryDisk {
         ensures told { Changes (file_at self.old.files name.now) self.old.files (synced self.old.files name.now) result self.new.files }
         ensures kept { OnErr result (self.new.files ≡ self.old.files) }
         ensures counted { self.new.calls ≡ min (self.old.calls + 1) (2 ^ 64 - 1) }
-        ensures cause { HasCause 0 0 (IsErrOf result Refusal.Failed) }
+        ensures failed { IsErrOf result Refusal.Failed ↔ IsTrue (fails_now self.old.fails op.Sync) }
+        ensures faults { self.new.faults ≡ faults_after self.old.fails op.Sync self.old.faults }
+        ensures fails { self.new.fails ≡ fails_after self.old.fails op.Sync }
+        ensures cause { HasCause self.old.faults self.new.faults (IsErrOf result Refusal.Failed) }
     {
-        self.calls = self.calls.saturating_add(1);
+        if self.count.fails(Op::Sync) {
+            return Err(Refusal::Failed);
+        }
         Ok(make_stable(&mut self.names, name))
     }
 
@@ -135,9 +175,14 @@ impl Disk for MemoryDisk {
         ensures told { Changes (file_at self.old.files from.now) self.old.files (renamed self.old.files from.now to.now) result self.new.files }
         ensures kept { OnErr result (self.new.files ≡ self.old.files) }
         ensures counted { self.new.calls ≡ min (self.old.calls + 1) (2 ^ 64 - 1) }
-        ensures cause { HasCause 0 0 (IsErrOf result Refusal.Failed) }
+        ensures failed { IsErrOf result Refusal.Failed ↔ IsTrue (fails_now self.old.fails op.Rename) }
+        ensures faults { self.new.faults ≡ faults_after self.old.fails op.Rename self.old.faults }
+        ensures fails { self.new.fails ≡ fails_after self.old.fails op.Rename }
+        ensures cause { HasCause self.old.faults self.new.faults (IsErrOf result Refusal.Failed) }
     {
-        self.calls = self.calls.saturating_add(1);
+        if self.count.fails(Op::Rename) {
+            return Err(Refusal::Failed);
+        }
         if !is_there(&self.names, from) {
             return Ok(false);
         }
@@ -153,9 +198,14 @@ impl Disk for MemoryDisk {
         ensures told { Changes (file_at self.old.files name.now) self.old.files (removed self.old.files name.now) result self.new.files }
         ensures kept { OnErr result (self.new.files ≡ self.old.files) }
         ensures counted { self.new.calls ≡ min (self.old.calls + 1) (2 ^ 64 - 1) }
-        ensures cause { HasCause 0 0 (IsErrOf result Refusal.Failed) }
+        ensures failed { IsErrOf result Refusal.Failed ↔ IsTrue (fails_now self.old.fails op.Remove) }
+        ensures faults { self.new.faults ≡ faults_after self.old.fails op.Remove self.old.faults }
+        ensures fails { self.new.fails ≡ fails_after self.old.fails op.Remove }
+        ensures cause { HasCause self.old.faults self.new.faults (IsErrOf result Refusal.Failed) }
     {
-        self.calls = self.calls.saturating_add(1);
+        if self.count.fails(Op::Remove) {
+            return Err(Refusal::Failed);
+        }
         if !is_there(&self.names, name) {
             return Ok(false);
         }

@@ -53,6 +53,13 @@ fn slice_source_gives_short_reads(rt: HostRuntime) -> Result<(), Fail> {
 }
 
 #[test]
+fn whole_readers_are_read_in_blocks(rt: HostRuntime) -> Result<(), Fail> {
+    let bytes = read_whole(rt.alloc(), &mut SliceReader::new(b"abcde"), 2)?;
+    assert_eq!(rt; bytes.as_slice(), b"abcde".as_slice());
+    Ok(())
+}
+
+#[test]
 fn slice_reader_reads_at_any_place(rt: HostRuntime) -> Result<(), Fail> {
     let mut reader = SliceReader::new(b"abcde");
     let mut buf = [0u8; 3];
@@ -168,5 +175,73 @@ fn adapters_fail_after_a_good_call(rt: HostRuntime) -> Result<(), Fail> {
     assert_eq!(rt; source.read(&mut buf)?, 1);
     assert_eq!(rt; source.read(&mut buf), Err(Failed));
     assert_eq!(rt; source.read(&mut buf), Err(Failed));
+    Ok(())
+}
+
+/// Where a failure comes in a run over few bytes, and how often.
+const FAILURES: [(u64, u32); 5] = [(0, 1), (1, 1), (2, 1), (3, 1), (4, 0)];
+
+#[test]
+fn failing_source_fails_once(rt: HostRuntime) -> Result<(), Fail> {
+    for (fail_at, wanted) in FAILURES {
+        let mut source = FailingSource::new(b"abc", fail_at);
+        let mut bytes = Vec::new(rt.alloc());
+        let mut failures = 0u32;
+        let mut ended = false;
+        assert_eq!(rt; source.read(&mut [])?, 0);
+        for _ in 0..9 {
+            let mut buf = [0u8; 2];
+            match source.read(&mut buf) {
+                Ok(0) => ended = true,
+                Ok(count) => bytes.extend_from_slice(&buf[..count])?,
+                Err(Failed) => failures = failures.saturating_add(1),
+            }
+        }
+        assert!(rt; ended);
+        assert_eq!(rt; bytes.as_slice(), b"abc".as_slice());
+        assert_eq!(rt; failures, wanted);
+    }
+    Ok(())
+}
+
+#[test]
+fn failing_sink_fails_once(rt: HostRuntime) -> Result<(), Fail> {
+    for (fail_at, wanted) in FAILURES {
+        let mut sink = FailingSink::new(rt.alloc(), fail_at);
+        let mut piece = b"abcd".as_slice();
+        let mut failures = 0u32;
+        assert_eq!(rt; sink.write(b"")?, 0);
+        for _ in 0..9 {
+            match sink.write(piece) {
+                Ok(count) => piece = &piece[count..],
+                Err(Refusal::Failed) => failures = failures.saturating_add(1),
+                Err(refusal) => return Err(refusal.into()),
+            }
+        }
+        assert_eq!(rt; sink.bytes(), b"abcd".as_slice());
+        assert_eq!(rt; failures, wanted);
+    }
+    Ok(())
+}
+
+#[test]
+fn failing_disk_counts_each_kind_apart(rt: HostRuntime) -> Result<(), Fail> {
+    let alloc = rt.alloc();
+    let mut fails = Vec::new(alloc);
+    fails.push((Op::Rename, 1))?;
+    fails.push((Op::Write, 1))?;
+    let mut disk = MemoryDisk::failing(alloc, fails);
+    disk.write("a", b"old")?;
+    assert!(rt; disk.sync("a")?);
+    assert_eq!(rt; disk.write("a", b"new one"), Err(Refusal::Failed));
+    assert_eq!(rt; disk.get("a").ok_or("it is there")?, b"old".as_slice());
+    assert_eq!(rt; disk.stat("a")?, Some((3, 0)));
+    assert!(rt; disk.rename("a", "b")?);
+    assert_eq!(rt; disk.rename("b", "c"), Err(Refusal::Failed));
+    assert!(rt; disk.get("c").is_none());
+    assert!(rt; disk.rename("b", "c")?);
+    assert_eq!(rt; disk.get("c").ok_or("it is there")?, b"old".as_slice());
+    disk.write("b", b"newer")?;
+    assert_eq!(rt; disk.stat("b")?, Some((5, 7)));
     Ok(())
 }

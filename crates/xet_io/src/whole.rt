@@ -66,7 +66,7 @@ pub fn read_all<S: Source>(
 }
 
 /// Makes room behind the first `filled` bytes, twice as much each time.
-fn make_room(bytes: &mut Vec<u8>, filled: usize) -> Result<(), AllocError>
+pub(crate) fn make_room(bytes: &mut Vec<u8>, filled: usize) -> Result<(), AllocError>
     requires bound { filled ≤ vec_len bytes.old }
     requires most { filled ≤ 2 ^ 62 }
     ensures room { OnOk result (filled < vec_len bytes.new) }
