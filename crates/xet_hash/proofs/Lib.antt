@@ -3,3 +3,8 @@ pub mod Tree
 pub mod Facts
 pub mod Nodes
 pub mod Texts
+pub mod Ties
+pub mod Counter
+pub mod Tail
+pub mod Blocks
+pub mod Hashing

@@ -1,14 +1,21 @@
 //! A hash of 32 bytes.
 
-ghost use Rattle.std.specs.Prelude.{◌≡◌, ℕ, ◌%◌, ◌<◌, ◌≢◌, IfOk, IsOkUnless, List, string_bytes, refl};
+ghost use Rattle.std.specs.Prelude.{◌≡◌, ◌↔◌, ℕ, ◌%◌, ◌<◌, ◌≢◌, IfErr, IfOk, IsOk, IsOkUnless, List, length, string_bytes, refl};
 ghost use Rattle.std.specs.Cmp.{partial_order_from_agreeing_total};
 ghost use Rattle.std.specs.Cmp.Lexicographic.{bytes_decides, on_texts};
 ghost use Rattle.std.specs.Ordering.{as_partial_cmp};
+ghost use Rattle.std.specs.Str.{str_to_ascii_lowercase};
 ghost use Rattle.std.proofs.Common.{ap};
-ghost use Rattle.xet_hash.specs.Hash.{hash_text, hash_word, shown_words, words_fed, zero_hash};
+ghost use Rattle.hex.specs.Hex.{IsBytes};
+ghost use Rattle.xet_hash.specs.Blake3.{keyed_digest};
+ghost use Rattle.xet_hash.specs.declared.error.Reason.TheVariants.{HexText};
+ghost use Rattle.xet_hash.specs.declared.error.StoreError.TheVariants.{MalformedData};
+ghost use Rattle.xet_hash.specs.Hash.{IsHashText, hash_text, hash_word, is_global_dedup_eligible, marker, shown_words, words_fed, zero_hash};
 ghost use Rattle.xet_hash.specs.Order.{flipped, hash_cmp, hash_ties};
 
-use crate::error::StoreError;
+use crate::digest::keyed_hash;
+use crate::error::{Reason, StoreError};
+use hex::FromHex;
 use std::alloc::Global;
 use std::cmp::Ordering;
 use std::hash::{Hash, Hasher};
@@ -20,6 +27,9 @@ pub type MerkleHash = DataHash;
 /// A key under which hashes are hashed again.
 pub type HMACKey = DataHash;
 
+/// Of how many chunks one may be looked up in other stores.
+pub const MDB_SHARD_GLOBAL_DEDUP_CHUNK_MODULUS: u64 = 1024;
+
 /// A hash: 32 bytes, seen as four little-endian words of 64 bits. Contracts see the bytes. Its order
 /// goes by the words in turn, as numbers, and so does the order of its texts.
 #[derive(Clone, Copy, PartialEq, Eq, Debug)]
@@ -28,6 +38,8 @@ pub struct DataHash {
 }
 
 impl Model for DataHash {
+    ghost use Rattle.std.specs.Prelude.{List, ℕ};
+
     ghost Value = { List ℕ };
 
     ghost view = { λ h. h.bytes };
@@ -41,6 +53,27 @@ impl DataHash {
         ensures { result ≡ bytes }
     {
         DataHash { bytes }
+    }
+
+    /// The hash of this text: 64 hexadecimal digits, of either case. Another text is refused as
+    /// `MalformedData(HexText)`.
+    pub fn from_hex(text: &str) -> Result<DataHash, StoreError>
+        ensures digits { IsOk result ↔ IsHashText text.now }
+        ensures refused { IfErr result (λ error. error ≡ MalformedData HexText) }
+        ensures hash { IfOk result (λ hash. hash_text hash ≡ str_to_ascii_lowercase text.now) }
+        ensures inverts { (h : List ℕ) → length h ≡ 32 → IsBytes h → text.now ≡ hash_text h → result ≡ Ok h }
+    {
+        match <[u8; 32] as FromHex>::from_hex(text) {
+            Ok(shown) => Ok(DataHash::from_bytes(DataHash::from_bytes(shown).flipped())),
+            Err(_) => Err(StoreError::MalformedData(Reason::HexText)),
+        }
+    }
+
+    /// The hash whose bits are all ones.
+    pub fn marker() -> DataHash
+        ensures { result ≡ marker }
+    {
+        DataHash { bytes: [255; 32] }
     }
 
     /// Its bytes, in order.
@@ -85,6 +118,13 @@ impl DataHash {
         self.word(3) % m
     }
 
+    /// Its digest under the key.
+    pub fn hmac(&self, key: HMACKey) -> DataHash
+        ensures { result ≡ keyed_digest key self.now }
+    {
+        keyed_hash(key.as_bytes(), &self.bytes)
+    }
+
     /// Its words, the high byte of each first.
     fn shown_words(&self) -> [u8; 32]
         ensures { result ≡ shown_words self.now 4 }
@@ -107,6 +147,14 @@ impl DataHash {
             b[30], b[29], b[28], b[27], b[26], b[25], b[24],
         ]
     }
+}
+
+/// Whether a chunk of this hash may be looked up in other stores: whether its last word is divisible
+/// by the modulus.
+pub fn hash_is_global_dedup_eligible(h: &MerkleHash) -> bool
+    ensures { result ≡ is_global_dedup_eligible h.now }
+{
+    h.rem(MDB_SHARD_GLOBAL_DEDUP_CHUNK_MODULUS) == 0
 }
 
 impl Default for DataHash {

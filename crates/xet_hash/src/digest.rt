@@ -8,7 +8,7 @@ use crate::blake3;
 use crate::data_hash::DataHash;
 
 /// The key of chunks' digests: the bytes 1 to 32.
-const DATA_KEY: [u8; 32] = [
+pub(crate) const DATA_KEY: [u8; 32] = [
     1, 2, 3, 4, 5, 6, 7, 8, 9, 10, 11, 12, 13, 14, 15, 16, 17, 18, 19, 20, 21, 22, 23, 24, 25, 26,
     27, 28, 29, 30, 31, 32,
 ];
@@ -17,6 +17,12 @@ const DATA_KEY: [u8; 32] = [
 const NODE_KEY: [u8; 32] = [
     33, 34, 35, 36, 37, 38, 39, 40, 41, 42, 43, 44, 45, 46, 47, 48, 49, 50, 51, 52, 53, 54, 55, 56,
     57, 58, 59, 60, 61, 62, 63, 64,
+];
+
+/// The key under which the hashes of a range of chunks are hashed.
+pub const VERIFICATION_KEY: [u8; 32] = [
+    127, 24, 87, 214, 206, 86, 237, 102, 18, 127, 249, 19, 231, 165, 195, 243, 164, 205, 38, 213,
+    181, 219, 73, 230, 65, 36, 152, 127, 40, 251, 148, 195,
 ];
 
 /// The digest of a chunk's bytes: BLAKE3 under the data key.

@@ -5,13 +5,22 @@ mod blake3;
 mod data_hash;
 mod digest;
 mod error;
+mod hasher;
 pub mod laws;
 mod merkle;
+mod open_chunk;
+mod range;
+mod slots;
 
-pub use data_hash::{DataHash, HMACKey, MerkleHash};
-pub use digest::{compute_data_hash, compute_internal_node_hash, plain_hash};
+pub use data_hash::{
+    DataHash, HMACKey, MDB_SHARD_GLOBAL_DEDUP_CHUNK_MODULUS, MerkleHash,
+    hash_is_global_dedup_eligible,
+};
+pub use digest::{VERIFICATION_KEY, compute_data_hash, compute_internal_node_hash, plain_hash};
 pub use error::{Field, Place, Reason, Refused, StoreError, What};
-pub use merkle::{file_hash, xorb_hash};
+pub use hasher::DataHasher;
+pub use merkle::{file_hash, file_hash_with_salt, xorb_hash};
+pub use range::range_hash_from_chunks;
 
 #[cfg(test)]
 mod tests;

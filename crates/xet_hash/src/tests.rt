@@ -1,6 +1,7 @@
 ghost use Rattle.std.specs.Prelude.{◌≤◌, ◌*◌, ℕ, IfOk};
 ghost use Rattle.xet_hash.specs.Merkle.{total_len};
 
+use crate::digest::DATA_KEY;
 use crate::*;
 use std::alloc::Global;
 use std::test::Fail;
@@ -100,12 +101,108 @@ fn a_hash_goes_by_words(rt: HostRuntime) -> Result<(), Fail> {
     );
     assert_eq!(rt; hash.rem(4), 0);
     assert_eq!(rt; hash.rem(1_024), 280);
+    assert!(rt; !hash_is_global_dedup_eligible(&hash));
+    assert!(rt; hash_is_global_dedup_eligible(&DataHash::default()));
     let mut high = [0u8; 32];
     high[7] = 1;
     let mut low = [0u8; 32];
     low[0] = 255;
     assert!(rt; DataHash::from_bytes(low) < DataHash::from_bytes(high));
     assert!(rt; DataHash::default() < DataHash::from_bytes(low));
+    Ok(())
+}
+
+#[test]
+fn a_hash_is_read_from_its_text(rt: HostRuntime) -> Result<(), Fail> {
+    let alloc = rt.alloc();
+    let hash = compute_data_hash(b"abc");
+    let rows = [
+        (
+            "a7a4503536ef03728637f985222dd18a540f11d7ee36c848f70aeb6119db62c6",
+            Ok(hash),
+        ),
+        (
+            "A7A4503536EF03728637f985222dd18a540f11d7ee36c848f70aeb6119DB62C6",
+            Ok(hash),
+        ),
+        (
+            "ffffffffffffffffffffffffffffffffffffffffffffffffffffffffffffffff",
+            Ok(DataHash::marker()),
+        ),
+        ("xyz", Err(StoreError::MalformedData(Reason::HexText))),
+        (
+            "a7a4503536ef03728637f985222dd18a540f11d7ee36c848f70aeb6119db62c",
+            Err(StoreError::MalformedData(Reason::HexText)),
+        ),
+        (
+            "a7a4503536ef03728637f985222dd18a540f11d7ee36c848f70aeb6119db62c60",
+            Err(StoreError::MalformedData(Reason::HexText)),
+        ),
+        (
+            "a7a4503536ef03728637f985222dd18a540f11d7ee36c848f70aeb6119db62é",
+            Err(StoreError::MalformedData(Reason::HexText)),
+        ),
+    ];
+    for (text, found) in rows {
+        assert_eq!(rt; DataHash::from_hex(text), found);
+    }
+    assert_eq!(rt; DataHash::from_hex(hash.hex(alloc)?.as_str())?, hash);
+    Ok(())
+}
+
+/// The digest under the data key, of pieces of these lengths and of what is left behind them.
+fn in_pieces(bytes: &[u8], lengths: &[usize]) -> DataHash {
+    let mut hasher = DataHasher::new(DATA_KEY);
+    let mut rest = bytes;
+    'pieces: for length in lengths {
+        let (front, tail) = rest.split_at(rest.len().min(*length));
+        hasher.update(front);
+        rest = tail;
+    }
+    hasher.update(rest);
+    hasher.finish()
+}
+
+#[test]
+fn pieces_are_hashed_as_the_whole(rt: HostRuntime) -> Result<(), Fail> {
+    let rows: [(usize, &[usize]); 12] = [
+        (0, &[]),
+        (1, &[0, 1]),
+        (63, &[1, 62]),
+        (64, &[64]),
+        (65, &[64]),
+        (1_023, &[63, 1, 896]),
+        (1_024, &[64, 960]),
+        (1_025, &[1_024]),
+        (3_072, &[1_024, 1_024]),
+        (5_120, &[1_025, 3_072]),
+        (6_337, &[1, 63, 64, 65, 1_023, 1_024, 1_025, 3_072]),
+        (9_000, &[3_072, 1_025, 1_024, 1_023, 65, 64, 63, 1]),
+    ];
+    for (length, lengths) in rows {
+        let bytes = counting(rt.alloc(), length)?;
+        assert_eq!(rt; in_pieces(&bytes, lengths), compute_data_hash(&bytes));
+    }
+    Ok(())
+}
+
+#[test]
+fn hashes_of_ranges(rt: HostRuntime) -> Result<(), Fail> {
+    let alloc = rt.alloc();
+    let two = [compute_data_hash(&[0]), compute_data_hash(&[1])];
+    let rows = [
+        (
+            two.as_slice(),
+            "cea0cdf9cf0a14d0f72cf40a5592a307c22556121ffac2515b0ed46954f9e1bf",
+        ),
+        (
+            &two[..0],
+            "b81ce0cc7ce434c719c5f31801bc0825ead2a9ebae7419605afc00726961e5d9",
+        ),
+    ];
+    for (hashes, text) in rows {
+        assert_eq!(rt; range_hash_from_chunks(hashes).hex(alloc)?.as_str(), text);
+    }
     Ok(())
 }
 
@@ -121,6 +218,19 @@ fn hashes_of_few_chunks(rt: HostRuntime) -> Result<(), Fail> {
     assert_eq!(rt; xorb_hash(alloc, &one)?, abc);
     assert_eq!(rt; xorb_hash(alloc, &[])?, DataHash::default());
     assert_eq!(rt; file_hash(alloc, &[])?, DataHash::default());
+    assert_eq!(rt;
+        file_hash_with_salt(alloc, &[], &[7; 32])?,
+        DataHash::default()
+    );
+    assert_eq!(rt;
+        file_hash_with_salt(alloc, &one, &[0; 32])?,
+        file_hash(alloc, &one)?
+    );
+    assert!(rt; file_hash_with_salt(alloc, &one, &[7; 32])? != file_hash(alloc, &one)?);
+    assert_eq!(rt;
+        abc.hmac(DataHash::from_bytes(DATA_KEY)),
+        compute_data_hash(abc.as_bytes())
+    );
     assert_eq!(rt;
         file_hash(alloc, &one)?.hex(alloc)?.as_str(),
         "8679a9c73b087ee02033e84569cba8c79c2413d79f99a1e9bd1ae79ae88776cf"
