@@ -11,11 +11,11 @@ le24_same : (n m : ℕ) → n < 2 ^ 24 → m < 2 ^ 24 → (n % 256 ≡ m % 256) 
 le24_same n m a b x y z = omega arith
 
 -- a list that begins with 88, as a footer does
-abbrev Begins : ℕ → List ℕ → Type 0
+abbrev pub Begins : ℕ → List ℕ → Type 0
 Begins k s = (rest : List ℕ) × (s ≡ k ∷ rest)
 
 -- a stored chunk is determined by what begins with it
-one_chunk : (b d s t : List ℕ) → length b < 2 ^ 24 → length d < 2 ^ 24 → spelling b ++ s ≡ spelling d ++ t → (b ≡ d) × (s ≡ t)
+pub one_chunk : (b d s t : List ℕ) → length b < 2 ^ 24 → length d < 2 ^ 24 → spelling b ++ s ≡ spelling d ++ t → (b ≡ d) × (s ≡ t)
 unfolding spelling
 one_chunk b d s t sb sd e =
     let n0 : length b % 256 ≡ length d % 256 = cc in
@@ -28,7 +28,7 @@ one_chunk b d s t sb sd e =
     (left, right)
 
 -- stored chunks are determined by what begins with them, where a footer follows
-all_chunks : (cs ds : List (List ℕ)) (s t : List ℕ) → AllByRecursion (λ b. length b < 2 ^ 24) cs → AllByRecursion (λ b. length b < 2 ^ 24) ds → Begins 88 s → Begins 88 t
+pub all_chunks : (cs ds : List (List ℕ)) (s t : List ℕ) → AllByRecursion (λ b. length b < 2 ^ 24) cs → AllByRecursion (λ b. length b < 2 ^ 24) ds → Begins 88 s → Begins 88 t
     → flat_map spelling cs ++ s ≡ flat_map spelling ds ++ t → cs ≡ ds
 unfolding spelling
 all_chunks [] [] s t sc sd fs ft e = refl

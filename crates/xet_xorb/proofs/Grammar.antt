@@ -1,5 +1,5 @@
 -- The program's chunks, seen as their bytes.
-use Rattle.std.proofs.Common.{◌≡◌, ◌∙◌, ℕ, ◌+◌, ◌*◌, ◌<◌, ◌≤◌, ◌^◌, List, [], ◌∷◌, length, map, replicate, refl, ap, arith}
+use Rattle.std.proofs.Common.{◌≡◌, ◌∙◌, ℕ, ◌+◌, ◌*◌, ◌<◌, ◌≤◌, ◌^◌, List, [], ◌∷◌, length, map, replicate, refl, sym, subst, ap, arith}
 use Rattle.std.proofs.lemmas.List.{length-map}
 use Rattle.std.proofs.lemmas.List.Elements.{All-head, All-map, All-tail, recursion_from_All}
 use Rattle.std.proofs.lemmas.List.Sums.{sum_by-cons}
@@ -9,7 +9,7 @@ use Rattle.xet_xorb.specs.declared.chunk.Chunk.{Chunk}
 use Rattle.xet_xorb.specs.Chunks.{bytes_of, chunk_member, text_of, total}
 use Rattle.xet_xorb.specs.Spelling.{xorb_text}
 use Rattle.xet_xorb.specs.Xorb.{IsXorbText}
-use Rattle.xet_xorb.proofs.Digests.{length-xorb_hash, members_hashed}
+use Rattle.xet_xorb.proofs.Digests.{AreHashed, length-xorb_hash, members_hashed}
 use Rattle.xet_xorb.proofs.Lengths.{length-xorb_text}
 
 pub total-members : (chunks : List Chunk) → total_len (map chunk_member chunks) ≡ total chunks
@@ -17,7 +17,7 @@ total-members [] = refl
 total-members (c ∷ cs) =
     omega (arith, sum_by-cons (λ (m : List ℕ × ℕ). m.1) (chunk_member c) (map chunk_member cs), sum_by-cons (λ (c : Chunk). length c.bytes) c cs, total-members cs)
 
-total-bytes : (chunks : List Chunk) → sum_by length (map bytes_of chunks) ≡ total chunks
+pub total-bytes : (chunks : List Chunk) → sum_by length (map bytes_of chunks) ≡ total chunks
 total-bytes [] = refl
 total-bytes (c ∷ cs) =
     omega (arith, sum_by-cons length c.bytes (map bytes_of cs), sum_by-cons (λ (c : Chunk). length c.bytes) c cs, total-bytes cs)
@@ -29,6 +29,9 @@ members_are (c ∷ cs) own =
     let head : c.hash ≡ chunk_hash c.bytes = All-head (λ (c : Chunk). c.hash ≡ chunk_hash c.bytes) c cs own in
     let rest : map chunk_member cs ≡ members_of (map bytes_of cs) = members_are cs (All-tail (λ (c : Chunk). c.hash ≡ chunk_hash c.bytes) c cs own) in
     λ i. (head i, length c.bytes) ∷ rest i
+
+pub members_hashed_of : (chunks : List Chunk) → All (λ c. c.hash ≡ chunk_hash c.bytes) chunks → AreHashed (map chunk_member chunks)
+members_hashed_of chunks own = subst AreHashed (sym (members_are chunks own)) (members_hashed (map bytes_of chunks))
 
 -- what is written of such chunks is a xorb of their bytes
 pub text_is : (chunks : List Chunk) (text : List ℕ) → 0 < length chunks → All (λ c. length c.bytes < 2 ^ 24) chunks → length chunks ≤ 65536 → total chunks ≤ 2 ^ 30

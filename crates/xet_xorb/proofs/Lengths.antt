@@ -5,7 +5,7 @@ use Rattle.std.specs.List.{flat_map, sum_by}
 use Rattle.xet_xorb.specs.Spelling.{ends_from, footer, spelling, xorb_text}
 use Rattle.xet_xorb.proofs.Digests.{AreHashed}
 
-length-spellings : (chunks : List (List ℕ)) → length (flat_map spelling chunks) ≡ sum_by length chunks + 8 * length chunks
+pub length-spellings : (chunks : List (List ℕ)) → length (flat_map spelling chunks) ≡ sum_by length chunks + 8 * length chunks
 unfolding spelling
 length-spellings [] = refl
 length-spellings (b ∷ bs) =
@@ -21,14 +21,14 @@ length-hashes [] h = refl
 length-hashes (m ∷ ms) h =
     omega (arith, length-append m.0 (flat_map (λ (m : List ℕ × ℕ). m.0) ms), h.0, length-hashes ms h.1)
 
-length-footer : (hash : List ℕ) (ms : List (List ℕ × ℕ)) (spare : List ℕ) → length hash ≡ 32 → AreHashed ms → length spare ≡ 16
-    → length (footer hash ms spare) ≡ 92 + 40 * length ms
+pub length-footer : (hash : List ℕ) (ms : List (List ℕ × ℕ)) (spare : List ℕ) → length hash ≡ 32 → AreHashed ms
+    → length (footer hash ms spare) ≡ 76 + 40 * length ms + length spare
 unfolding footer
-length-footer hash ms spare lh h ls =
-    simp length-append (omega (arith, lh, ls, length-hashes ms h, length-ends 8 0 ms, length-ends 0 0 ms))
+length-footer hash ms spare lh h =
+    simp length-append (omega (arith, lh, length-hashes ms h, length-ends 8 0 ms, length-ends 0 0 ms))
 
 pub length-xorb_text : (hash : List ℕ) (ms : List (List ℕ × ℕ)) (chunks : List (List ℕ)) (spare : List ℕ) → length hash ≡ 32 → AreHashed ms → length spare ≡ 16
     → length (xorb_text hash ms chunks spare) ≡ sum_by length chunks + 8 * length chunks + 96 + 40 * length ms
 unfolding xorb_text
 length-xorb_text hash ms chunks spare lh h ls =
-    simp length-append (omega (arith, length-spellings chunks, length-footer hash ms spare lh h ls))
+    simp length-append (omega (arith, length-spellings chunks, length-footer hash ms spare lh h, ls))

@@ -3,3 +3,8 @@ pub mod Determined
 pub mod Digests
 pub mod Lengths
 pub mod Grammar
+pub mod Front
+pub mod Stored
+pub mod Refusals
+pub mod Ending
+pub mod Parts

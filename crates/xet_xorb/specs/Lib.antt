@@ -1,3 +1,4 @@
 pub mod Spelling
 pub mod Xorb
 pub mod Chunks
+pub mod Reading

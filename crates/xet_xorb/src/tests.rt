@@ -1,8 +1,9 @@
 use crate::*;
 use bytes::Bytes;
+use std::alloc::Global;
 use std::convert::AsSlice;
 use std::test::Fail;
-use xet_hash::xorb_hash;
+use xet_hash::{Reason, StoreError, xorb_hash};
 
 #[test]
 fn a_xorb_of_one_chunk(rt: HostRuntime) -> Result<(), Fail> {
@@ -53,5 +54,54 @@ fn a_xorb_of_two_chunks(rt: HostRuntime) -> Result<(), Fail> {
     );
     assert_eq!(rt; &text[180..196], [0; 16].as_slice());
     assert_eq!(rt; &text[196..], [172, 0, 0, 0].as_slice());
+    Ok(())
+}
+
+/// The xorb of `abc`.
+fn xorb_of_abc(alloc: Global) -> Result<Vec<u8>, StoreError> {
+    xorb_text(alloc, &[Chunk::new(Bytes::from_static(b"abc"))])
+}
+
+/// Why these bytes are not read.
+fn refusal(alloc: Global, text: Vec<u8>, max_chunk: u32) -> Result<Option<StoreError>, StoreError> {
+    let bytes = Bytes::from_vec(text)?;
+    Ok(read_xorb_text(alloc, &bytes, max_chunk).err())
+}
+
+#[test]
+fn a_xorb_reads_back(rt: HostRuntime) -> Result<(), Fail> {
+    let alloc = rt.alloc();
+    let chunks = [Chunk::new(Bytes::from_static(b"abc"))];
+    let bytes = Bytes::from_vec(xorb_text(alloc, &chunks)?)?;
+    assert!(rt; bytes.len() == 147);
+    let (hash, read) = read_xorb(alloc, &bytes, 3)?;
+    assert_eq!(rt; read.as_slice(), chunks.as_slice());
+    assert_eq!(rt; hash, chunks[0].hash);
+    assert_eq!(rt;
+        read_xorb_text(alloc, &bytes, 3)?.as_slice(),
+        chunks.as_slice()
+    );
+    Ok(())
+}
+
+#[test]
+fn a_changed_xorb_is_refused(rt: HostRuntime) -> Result<(), Fail> {
+    let alloc = rt.alloc();
+    let malformed = Some(StoreError::MalformedData(Reason::XorbText));
+    assert_eq!(rt; refusal(alloc, xorb_of_abc(alloc)?, 3)?, None);
+    assert_eq!(rt;
+        refusal(alloc, xorb_of_abc(alloc)?, 2)?,
+        malformed,
+        "longer than the limit"
+    );
+    let mut text = xorb_of_abc(alloc)?;
+    text.pop();
+    text.push(1)?;
+    assert_eq!(rt; refusal(alloc, text, 3)?, malformed, "the last byte");
+    let text = xorb_of_abc(alloc)?;
+    assert!(rt; text.len() == 147);
+    let mut other = Vec::from_slice(alloc, b"\x00\x03\x00\x00\x00\x03\x00\x00abd")?;
+    other.extend_from_slice(&text[11..])?;
+    assert_eq!(rt; refusal(alloc, other, 3)?, malformed, "a chunk's byte");
     Ok(())
 }

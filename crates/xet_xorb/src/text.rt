@@ -1,6 +1,6 @@
 //! The bytes of a xorb, as they are written.
 
-ghost use Rattle.std.specs.Prelude.{◌≡◌, ◌≤◌, ◌<◌, ◌+◌, ◌*◌, ◌^◌, ◌∷◌, [], ◌++◌, IfOk, IsOkUnless, OnOk, length, map, replicate};
+ghost use Rattle.std.specs.Prelude.{◌≡◌, ◌≤◌, ◌<◌, ◌+◌, ◌*◌, ◌^◌, ◌∷◌, [], ◌++◌, IfOk, IsOkUnless, OnOk, length, map};
 ghost use Rattle.std.specs.List.{All, flat_map};
 ghost use Rattle.std.specs.Int.{to_le_bytes, w32};
 ghost use Rattle.xet_hash.specs.Merkle.{chunk_hash, total_len};
@@ -14,13 +14,13 @@ use std::alloc::{AllocError, Global};
 use xet_hash::{MerkleHash, StoreError, xorb_hash};
 
 /// The bytes of a chunk's header.
-const HEADER_LEN: usize = 8;
+pub(crate) const HEADER_LEN: usize = 8;
 
 /// The bytes of a footer of no chunks.
-const FOOTER_LEN: usize = 92;
+pub(crate) const FOOTER_LEN: usize = 92;
 
 /// The bytes that each chunk adds to a footer: its hash and two ends.
-const FOOTER_ENTRY_LEN: usize = 40;
+pub(crate) const FOOTER_ENTRY_LEN: usize = 40;
 
 /// The xorb of these chunks: the bytes of each behind a header of eight bytes, then the footer, then
 /// the footer's length in four bytes. There is at least one chunk and at most 65,536, each has fewer
@@ -43,8 +43,7 @@ pub fn xorb_text(alloc: Global, chunks: &[Chunk]) -> Result<Vec<u8>, StoreError>
     let hash = xorb_hash(alloc, &members)?;
     let mut text = Vec::with_capacity(alloc, text_len(chunks))?;
     push_chunks(&mut text, chunks)?;
-    push_footer(&mut text, &hash, &members)?;
-    push_number(&mut text, footer_len(chunks.len()) as u32)?;
+    push_ending(&mut text, &hash, &members, &[0; 16])?;
     Ok(text)
 }
 
@@ -59,8 +58,8 @@ fn text_len(chunks: &[Chunk]) -> usize
 }
 
 /// The length of a footer of so many chunks.
-fn footer_len(count: usize) -> usize
-    requires { count ≤ 65536 }
+pub(crate) fn footer_len(count: usize) -> usize
+    requires { count < 2 ^ 32 }
     ensures { result ≡ 92 + 40 * count }
 {
     FOOTER_LEN + FOOTER_ENTRY_LEN * count
@@ -89,15 +88,33 @@ fn push_chunk(text: &mut Vec<u8>, bytes: &[u8]) -> Result<(), AllocError>
     Ok(())
 }
 
-/// The footer of a xorb of this hash and these members, with zeros for its spare bytes.
+/// What stands behind the chunks in a xorb of this hash and these members: the footer, with these spare
+/// bytes, and its length.
+pub(crate) fn push_ending(
+    text: &mut Vec<u8>,
+    hash: &MerkleHash,
+    members: &[(MerkleHash, u64)],
+    spare: &[u8],
+) -> Result<(), AllocError>
+    requires len { 92 + 40 * length members.now < 2 ^ 32 }
+    requires ends { total_len members.now + 8 * length members.now < 2 ^ 32 }
+    ensures { OnOk result (text.new.items ≡ text.old.items ++ footer hash.now members.now spare.now ++ to_le_bytes w32 (92 + 40 * length members.now)) }
+{
+    push_footer(text, hash, members, spare)?;
+    push_number(text, footer_len(members.len()) as u32)
+}
+
+/// The footer of a xorb of this hash and these members, with these spare bytes. Each of its numbers
+/// fits in four bytes.
 fn push_footer(
     text: &mut Vec<u8>,
     hash: &MerkleHash,
     members: &[(MerkleHash, u64)],
+    spare: &[u8],
 ) -> Result<(), AllocError>
-    requires count { length members.now ≤ 65536 }
-    requires bytes { total_len members.now ≤ 2 ^ 30 }
-    ensures { OnOk result (text.new.items ≡ text.old.items ++ footer hash.now members.now (replicate 16 0)) }
+    requires len { 92 + 40 * length members.now < 2 ^ 32 }
+    requires ends { total_len members.now + 8 * length members.now < 2 ^ 32 }
+    ensures { OnOk result (text.new.items ≡ text.old.items ++ footer hash.now members.now spare.now) }
 {
     let count = members.len() as u32;
     push_ident(text, b"XETBLOB", 1)?;
@@ -113,7 +130,7 @@ fn push_footer(
     // How far before the footer's end its two sections begin.
     push_number(text, 52 + 40 * count)?;
     push_number(text, 40 + 8 * count)?;
-    text.extend_from_slice(&[0; 16])?;
+    text.extend_from_slice(spare)?;
     Ok(())
 }
 

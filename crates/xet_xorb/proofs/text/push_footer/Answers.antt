@@ -1,4 +1,4 @@
-use Rattle.std.proofs.Common.{◌≡◌, ℕ, ◌+◌, ◌*◌, ◌∷◌, [], ◌++◌, List, codes, length, replicate, append_assoc}
+use Rattle.std.proofs.Common.{◌≡◌, ℕ, ◌+◌, ◌*◌, ◌∷◌, [], ◌++◌, List, codes, length, append_assoc}
 use Rattle.std.specs.List.{flat_map}
 use Rattle.std.specs.Int.{w32, to_le_bytes}
 use Rattle.xet_xorb.specs.Spelling.{ends_from, footer}
@@ -28,4 +28,4 @@ returns c =
       c.as_bytes.ensures,
     )
     (regroup c.args.text.now.items (codes "XETBLOB" ++ 1 ∷ []) c.args.hash.now (codes "XBLBHSH" ++ 0 ∷ []) (to_le_bytes w32 (length ms)) (flat_map (λ (m : List ℕ × ℕ). m.0) ms) (codes "XBLBBND" ++ 1 ∷ [])
-    (ends_from 8 0 ms) (ends_from 0 0 ms) (to_le_bytes w32 (52 + 40 * length ms)) (to_le_bytes w32 (40 + 8 * length ms)) (replicate 16 0))
+    (ends_from 8 0 ms) (ends_from 0 0 ms) (to_le_bytes w32 (52 + 40 * length ms)) (to_le_bytes w32 (40 + 8 * length ms)) c.args.spare.now)
