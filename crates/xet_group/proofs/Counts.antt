@@ -1,0 +1,96 @@
+-- Tables of counts, one byte at a time.
+use Rattle.std.proofs.Common.{◌≡◌, ◌∙◌, ℕ, ◌+◌, ◌<◌, ◌≤◌, ◌%◌, ◌==◌, ◌&&◌, if◌then◌else◌, Bool, true, false, List, [], length, map, get_or, set, drop, count_ones, refl, sym, ap, subst, arith, ◌^◌, ◌∷◌}
+use Rattle.std.proofs.lemmas.Bool.{eqb-true, eqb-false, eq-eqb}
+use Rattle.std.proofs.lemmas.List.{at_drop_more, at_drop_all, get_or-set_other, get_or-set_same, length-set}
+use Rattle.std.proofs.lemmas.List.FromFn.{fill_by_all, get_or-map-range_with_len}
+use Rattle.std.specs.List.{range_with_len}
+use Rattle.xet_group.specs.Histogram.{CountsFit, IsTable, count_at, counted, table}
+
+-- a table of these counts is the one that has them
+pub table_from : (counts : List (List ℕ)) (f : ℕ → ℕ → ℕ) → IsTable counts → ((g k : ℕ) → g < 4 → k < 9 → count_at counts g k ≡ f g k) → counts ≡ table f
+table_from counts f shape each =
+    fill_by_all _ counts 4 [] shape.rows (λ g low. fill_by_all (f g) (get_or counts g []) 9 0 (shape.places g low) (λ k less. each g k low less))
+
+count_at-table : (f : ℕ → ℕ → ℕ) (g k : ℕ) → g < 4 → k < 9 → count_at (table f) g k ≡ f g k
+count_at-table f g k low less =
+    ap (λ row. get_or row k 0) (get_or-map-range_with_len (λ g. map (f g) (range_with_len 0 9)) 0 4 g g [] low (omega arith)) ∙ get_or-map-range_with_len (f g) 0 9 k k 0 less (omega arith)
+
+-- 1 at the place [g'][k'], and else 0
+abbrev pub one_at : ℕ → ℕ → ℕ → ℕ → ℕ
+one_at g' k' g k = if (g' == g) && (k' == k) then 1 else 0
+
+-- the first byte is counted, and the rest
+pub counted_step : (at : ℕ) (bytes : List ℕ) (i g k : ℕ) → i < length bytes
+    → counted at (drop i bytes) g k ≡ one_at (at % 4) (count_ones (get_or bytes i 0)) g k + counted (at + 1) (drop (i + 1) bytes) g k
+unfolding counted
+counted_step at bytes i g k here = at_drop_more (λ l. counted at l g k) bytes i 0 here
+
+pub counted_none : (at : ℕ) (bytes : List ℕ) (i g k : ℕ) → length bytes ≤ i → counted at (drop i bytes) g k ≡ 0
+unfolding counted
+counted_none at bytes i g k past = at_drop_all (λ l. counted at l g k) bytes i past
+
+-- the table with another count at one place
+abbrev pub put : List (List ℕ) → ℕ → ℕ → ℕ → List (List ℕ)
+put counts g' k' n = set counts g' (set (get_or counts g' []) k' n)
+
+pub put_shape : (counts : List (List ℕ)) (g' k' n : ℕ) → IsTable counts → g' < 4 → IsTable (put counts g' k' n)
+put_shape counts g' k' n shape low = record {
+  rows = length-set counts g' _ ∙ shape.rows;
+  places = λ g h. place g h (g' == g) refl;
+}
+  where
+    place : (g : ℕ) → g < 4 → (d : Bool) → (g' == g) ≡ d → length (get_or (put counts g' k' n) g []) ≡ 9
+    place g h true e =
+        subst (λ x. length (get_or (put counts g' k' n) x []) ≡ 9) (eqb-true g' g e)
+        (ap length (get_or-set_same counts g' _ [] (omega (arith, shape.rows))) ∙ length-set (get_or counts g' []) k' n ∙ shape.places g' low)
+    place g h false e = ap length (get_or-set_other counts g' g _ [] (λ q. eqb-false g' g e (sym q))) ∙ shape.places g h
+
+-- one more at a place of a row adds 1 there, and 0 elsewhere
+row_one : (row : List ℕ) (k' k : ℕ) → k' < length row → (d : Bool) → (k' == k) ≡ d
+    → get_or (set row k' (get_or row k' 0 + 1)) k 0 ≡ (if d then 1 else 0) + get_or row k 0
+row_one row k' k low true e =
+    subst (λ x. get_or (set row k' (get_or row k' 0 + 1)) x 0 ≡ 1 + get_or row x 0) (eqb-true k' k e) (get_or-set_same row k' _ 0 low ∙ omega arith)
+row_one row k' k low false e = get_or-set_other row k' k _ 0 (λ q. eqb-false k' k e (sym q)) ∙ omega arith
+
+-- and so at a place of a table
+pub put_one : (counts : List (List ℕ)) (g' k' g k : ℕ) → IsTable counts → g' < 4 → k' < 9
+    → count_at (put counts g' k' (count_at counts g' k' + 1)) g k ≡ one_at g' k' g k + count_at counts g k
+put_one counts g' k' g k shape lg lk = cell (g' == g) refl
+  where
+    cell : (d : Bool) → (g' == g) ≡ d → count_at (put counts g' k' (count_at counts g' k' + 1)) g k ≡ (if d && (k' == k) then 1 else 0) + count_at counts g k
+    cell true e =
+        subst (λ x. count_at (put counts g' k' (count_at counts g' k' + 1)) x k ≡ (if k' == k then 1 else 0) + count_at counts x k) (eqb-true g' g e)
+        (ap (λ row. get_or row k 0) (get_or-set_same counts g' _ [] (omega (arith, shape.rows))) ∙ row_one (get_or counts g' []) k' k (omega (arith, shape.places g' lg)) (k' == k) refl)
+    cell false e = ap (λ row. get_or row k 0) (get_or-set_other counts g' g _ [] (λ q. eqb-false g' g e (sym q))) ∙ omega arith
+
+-- one more byte is counted, where what stands and what is left were kept
+pub one_counted : (counts : List (List ℕ)) (bytes : List ℕ) (at next i g k total : ℕ) → IsTable counts → count_ones (get_or bytes i 0) < 9 → i < length bytes → next ≡ at + 1
+    → count_at counts g k + counted at (drop i bytes) g k ≡ total
+    → count_at (put counts (at % 4) (count_ones (get_or bytes i 0)) (count_at counts (at % 4) (count_ones (get_or bytes i 0)) + 1)) g k + counted next (drop (i + 1) bytes) g k ≡ total
+one_counted counts bytes at next i g k total shape few here one kept =
+    rw one
+    (omega (arith, kept, put_one counts (at % 4) (count_ones (get_or bytes i 0)) g k shape (omega arith) few, counted_step at bytes i g k here))
+
+-- one more fits
+pub one_fits : (counts : List (List ℕ)) (bytes : List ℕ) (at i total : ℕ) → i < length bytes → total < 2 ^ 32
+    → count_at counts (at % 4) (count_ones (get_or bytes i 0)) + counted at (drop i bytes) (at % 4) (count_ones (get_or bytes i 0)) ≡ total
+    → count_at counts (at % 4) (count_ones (get_or bytes i 0)) + 1 < 2 ^ 32
+one_fits counts bytes at i total here fits kept =
+    let g = at % 4 in
+    let k = count_ones (get_or bytes i 0) in
+    let one : one_at g k g k ≡ 1 = rw (eq-eqb g g refl, eq-eqb k k refl) refl in
+    omega (arith, kept, fits, counted_step at bytes i g k here, one)
+
+counted-le : (at : ℕ) (bytes : List ℕ) (g k : ℕ) → counted at bytes g k ≤ length bytes
+unfolding counted
+counted-le at [] g k = omega arith
+counted-le at (b ∷ bs) g k = elim ((at % 4 == g) && (count_ones b == k)) as (λ d. (if d then 1 else 0) + counted (at + 1) bs g k ≤ length (b ∷ bs)) [
+  | true ↦ omega (arith, counted-le (at + 1) bs g k)
+  | false ↦ omega (arith, counted-le (at + 1) bs g k)
+]
+
+-- what is counted in fewer than 2 ^ 32 bytes fits a table of zeros
+pub zeros_fit : (counts : List (List ℕ)) (at : ℕ) (bytes : List ℕ) → counts ≡ table (λ _ _. 0) → length bytes < 2 ^ 32 → CountsFit counts at bytes
+zeros_fit counts at bytes zeros few = λ g k low less.
+    let none : count_at counts g k ≡ 0 = ap (λ t. count_at t g k) zeros ∙ count_at-table (λ _ _. 0) g k low less in
+    omega (arith, none, counted-le at bytes g k)

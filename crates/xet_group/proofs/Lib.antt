@@ -1,0 +1,3 @@
+pub mod Fourths
+pub mod Woven
+pub mod Counts

@@ -1,0 +1,145 @@
+ghost use Rattle.std.specs.Prelude.{◌≡◌, ◌^◌, ◌<◌, IfOk, length};
+
+use crate::*;
+use std::alloc::{AllocError, Global};
+use std::process::Abort;
+use std::test::Fail;
+
+/// Lengths round those of words and lanes, and a long one.
+const LENGTHS: [u32; 9] = [0, 1, 15, 16, 17, 63, 64, 65, 131_072];
+
+/// The bytes 0 to 250, again and again.
+fn counting(alloc: Global, count: u32) -> Result<Vec<u8>, AllocError>
+    ensures { IfOk result (λ bytes. length bytes.items ≡ count) }
+{
+    let mut bytes = Vec::with_capacity(alloc, count as usize)?;
+    for i in 0..count {
+        bytes.push((i % 251) as u8)?;
+    }
+    Ok(bytes)
+}
+
+#[test]
+fn seven_bytes_are_split_and_put_back(rt: HostRuntime) -> Result<(), Fail> {
+    let alloc = rt.alloc();
+    let bytes = counting(alloc, 7)?;
+    let joined = bg4_split(alloc, &bytes)?;
+    assert_eq!(rt; joined.as_slice(), [0, 4, 1, 5, 2, 6, 3].as_slice());
+    let [first, second, third, fourth] = bg4_split_separate(alloc, &bytes)?;
+    assert_eq!(rt; first.as_slice(), [0, 4].as_slice());
+    assert_eq!(rt; second.as_slice(), [1, 5].as_slice());
+    assert_eq!(rt; third.as_slice(), [2, 6].as_slice());
+    assert_eq!(rt; fourth.as_slice(), [3].as_slice());
+    Ok(())
+}
+
+/// The joined groups by each form are these bytes' and give them back.
+fn joined_come_back(rt: &impl Abort, alloc: Global, bytes: &[u8]) -> Result<(), AllocError> {
+    let joined = bg4_split(alloc, bytes)?;
+    assert!(rt; bg4_split_together(alloc, bytes)? == joined);
+    for back in [
+        bg4_regroup(alloc, &joined)?,
+        bg4_regroup_together(alloc, &joined)?,
+        bg4_regroup_together_combined_write_4(alloc, &joined)?,
+        bg4_regroup_together_combined_write_8(alloc, &joined)?,
+    ] {
+        assert!(rt; back.as_slice() == bytes);
+    }
+    Ok(())
+}
+
+#[test]
+fn joined_groups_come_back(rt: HostRuntime) -> Result<(), Fail> {
+    let alloc = rt.alloc();
+    joined_come_back(&rt, alloc, &[0, 1, 2, 3, 4, 5, 6])?;
+    for count in LENGTHS {
+        joined_come_back(&rt, alloc, &counting(alloc, count)?)?;
+    }
+    Ok(())
+}
+
+/// The separate groups are the joined ones, and give the bytes back.
+fn separate_come_back(rt: &impl Abort, alloc: Global, bytes: &[u8]) -> Result<(), AllocError> {
+    let groups = bg4_split_separate(alloc, bytes)?;
+    assert!(rt; groups_fit(&groups));
+    assert!(rt; bg4_regroup_separate(alloc, &groups)?.as_slice() == bytes);
+    let mut joined = Vec::with_capacity(alloc, bytes.len())?;
+    for group in groups {
+        joined.extend_from_slice(&group)?;
+    }
+    assert!(rt; bg4_split(alloc, bytes)? == joined);
+    Ok(())
+}
+
+#[test]
+fn separate_groups_come_back(rt: HostRuntime) -> Result<(), Fail> {
+    let alloc = rt.alloc();
+    separate_come_back(&rt, alloc, &[0, 1, 2, 3, 4, 5, 6])?;
+    for count in LENGTHS {
+        separate_come_back(&rt, alloc, &counting(alloc, count)?)?;
+    }
+    Ok(())
+}
+
+#[test]
+fn other_lists_are_no_groups(rt: HostRuntime) -> Result<(), Fail> {
+    let alloc = rt.alloc();
+    let three = [vec![in alloc]?, vec![in alloc]?, vec![in alloc]?];
+    assert!(rt; !groups_fit(&three));
+    let rising = [
+        vec![in alloc; 0]?,
+        vec![in alloc; 1, 5]?,
+        vec![in alloc; 2, 6]?,
+        vec![in alloc; 3, 7]?,
+    ];
+    assert!(rt; !groups_fit(&rising));
+    Ok(())
+}
+
+/// The table of these bytes by `add_data`.
+fn histograms(offset: usize, bytes: &[u8]) -> [[u32; 9]; 4]
+    requires { length bytes.now < 2 ^ 32 }
+{
+    let mut predictor = BG4Predictor::default();
+    predictor.add_data(offset, bytes);
+    predictor.histograms()
+}
+
+/// Each form counts these bytes as `add_data` does.
+fn counts_alike(rt: &impl Abort, bytes: &[u8])
+    requires { length bytes.now < 2 ^ 32 }
+{
+    let table = histograms(3, bytes);
+    let mut reference = BG4Predictor::default();
+    reference.add_data_reference(3, bytes);
+    assert!(rt; reference.histograms() == table);
+    let mut first = BG4Predictor::default();
+    first.add_data_v1(3, bytes);
+    assert!(rt; first.histograms() == table);
+    let mut by_words = BG4Predictor::default();
+    by_words.add_data_swar(3, bytes);
+    assert!(rt; by_words.histograms() == table);
+}
+
+#[test]
+fn each_form_counts_alike(rt: HostRuntime) -> Result<(), Fail> {
+    for count in LENGTHS {
+        counts_alike(&rt, &counting(rt.alloc(), count)?);
+    }
+    Ok(())
+}
+
+#[test]
+fn bytes_are_counted_by_place(rt: HostRuntime) {
+    let none = [0; 9];
+    let all_set = [0, 0, 0, 0, 0, 0, 0, 0, 1];
+    assert!(rt; histograms(2, b"\xFF") == [none, none, all_set, none]);
+    assert!(rt; histograms(usize::MAX, b"\xFF") == [none, none, none, all_set]);
+    let six = [
+        [1, 1, 0, 0, 0, 0, 0, 0, 0],
+        [0, 1, 1, 0, 0, 0, 0, 0, 0],
+        [0, 1, 0, 0, 0, 0, 0, 0, 0],
+        [0, 0, 1, 0, 0, 0, 0, 0, 0],
+    ];
+    assert!(rt; histograms(0, &[0, 1, 2, 3, 4, 5]) == six);
+}
