@@ -1,0 +1,75 @@
+-- How many bytes the text of a shard has.
+use Rattle.std.proofs.Common.{◌≡◌, ℕ, ◌+◌, ◌*◌, List, [], ◌∷◌, ◌++◌, length, Option, arith, length-append}
+use Rattle.std.specs.List.{sum_by}
+use Rattle.std.proofs.lemmas.List.{length-map}
+use Rattle.std.proofs.lemmas.List.Sums.{sum_by-cons}
+use Rattle.xet_shard.specs.declared.record.MDBFileInfo.{MDBFileInfo}
+use Rattle.xet_shard.specs.declared.record.MDBXorbInfo.{MDBXorbInfo}
+use Rattle.xet_shard.specs.Held.{Held, by_hash, file_record_size, held_shard, held_size, xorb_record_size}
+use Rattle.xet_shard.specs.Lookups.{all_lookups, chunk_items, chunks_from, file_items, head_text, heads_text, place_text, places_text, xorb_items}
+use Rattle.xet_shard.specs.Records.{chunk_row, file_hash, file_rows, file_section, xorb_hash, xorb_rows, xorb_section}
+use Rattle.xet_shard.specs.Rows.{rows_text}
+use Rattle.xet_shard.specs.Text.{Fits, Shard, footer_of, footer_text, full_text, shard_text}
+use Rattle.xet_hash.specs.Order.{hash_cmp}
+use Rattle.xet_shard.proofs.Bytes.{length-rows_text}
+use Rattle.xet_shard.proofs.Counts.{chunk_count, chunks_in, length-heads_from, length-section}
+use Rattle.xet_shard.proofs.Footers.{length-footer_text}
+use Rattle.xet_shard.proofs.Rising.{rows_sorted}
+use Rattle.xet_shard.proofs.Sorting.{length-sorted}
+use Rattle.xet_shard.proofs.WholeTaken.{head_len, length-items_text, place_len}
+
+-- header and footer, 48 bytes a row, and 12 or 16 an item
+length-full_text : (s : Shard) → Fits s
+    → length (full_text s) ≡ 248 + 48 * length (file_section s.files) + 48 * length (xorb_section s.blocks) + 12 * length s.files + 12 * length s.blocks + 16 * length (chunk_items s.blocks)
+unfolding shard_text footer_of
+length-full_text s fits =
+    let footer : List ℕ = footer_text (footer_of all_lookups s) in
+    let chunks : List ℕ = places_text (chunk_items s.blocks) in
+    let xorbs : List ℕ = heads_text (xorb_items s.blocks) in
+    let files : List ℕ = heads_text (file_items s.files) in
+    let blocks : List ℕ = rows_text (xorb_section s.blocks) in
+    omega (
+      arith,
+      length-append (rows_text (file_section s.files)) (blocks ++ (files ++ (xorbs ++ (chunks ++ footer)))),
+      length-append blocks (files ++ (xorbs ++ (chunks ++ footer))),
+      length-append files (xorbs ++ (chunks ++ footer)),
+      length-append xorbs (chunks ++ footer),
+      length-append chunks footer,
+      length-rows_text (file_section s.files) fits.files,
+      length-rows_text (xorb_section s.blocks) fits.blocks,
+      length-items_text head_text 12 head_len (file_items s.files),
+      length-items_text head_text 12 head_len (xorb_items s.blocks),
+      length-items_text place_text 16 place_len (chunk_items s.blocks),
+      length-heads_from file_hash file_rows 0 s.files,
+      length-heads_from xorb_hash xorb_rows 0 s.blocks,
+      length-footer_text (footer_of all_lookups s) fits.key.0,
+    )
+
+-- the rows and the items of records, and the row at the end
+files_size : (files : List MDBFileInfo) → 48 * length (file_section files) + 12 * length files ≡ 48 + sum_by file_record_size files
+files_size [] = omega arith
+files_size (f ∷ files) = omega (arith, length-section file_rows f files, sum_by-cons file_record_size f files, files_size files)
+
+blocks_size : (at : ℕ) (blocks : List MDBXorbInfo) → 48 * length (xorb_section blocks) + 12 * length blocks + 16 * length (chunks_from at blocks) ≡ 48 + sum_by xorb_record_size blocks
+blocks_size at [] = omega (arith, chunks_in at [])
+blocks_size at (x ∷ xs) =
+    let next : ℕ = at + length (xorb_rows x) in
+    omega (arith, chunks_in at (x ∷ xs), chunks_in next xs, length-section xorb_rows x xs, length-map x.chunks chunk_row, sum_by-cons xorb_record_size x xs, blocks_size next xs)
+
+pub held_length : (h : Held) (creation : ℕ) (expiry : Option ℕ) → Fits (held_shard h creation expiry) → length (full_text (held_shard h creation expiry)) ≡ held_size h
+held_length h creation expiry fits =
+    let blocks : List MDBXorbInfo = by_hash xorb_hash h.blocks in
+    let xorb_order = λ (x y : MDBXorbInfo). hash_cmp (xorb_hash x) (xorb_hash y) in
+    let file_order = λ (x y : MDBFileInfo). hash_cmp (file_hash x) (file_hash y) in
+    omega (
+      arith,
+      length-full_text (held_shard h creation expiry) fits,
+      rows_sorted file_order file_rows h.files,
+      rows_sorted xorb_order xorb_rows h.blocks,
+      length-sorted file_order h.files,
+      length-sorted xorb_order h.blocks,
+      chunk_count blocks,
+      chunks_in 0 h.blocks,
+      files_size h.files,
+      blocks_size 0 h.blocks,
+    )

@@ -1,0 +1,76 @@
+-- What a shard in memory holds, and the shard that is written of it.
+use Rattle.std.specs.Prelude.{◌≡◌, ◌≢◌, ◌<◌, ℕ, ◌+◌, ◌-◌, ◌*◌, ◌^◌, List, [], ◌∷◌, ◌++◌, filter, length, not, nat_eq, Option, unwrap_or}
+use Rattle.std.specs.Cmp.Lexicographic.{pointwise}
+use Rattle.std.specs.List.{AllByRecursion, sum_by}
+use Rattle.xet_hash.specs.declared.error.Place.TheVariants.{Output}
+use Rattle.xet_hash.specs.declared.error.StoreError.{StoreError}
+use Rattle.xet_hash.specs.declared.error.StoreError.TheVariants.{Io, OutOfMemory}
+use Rattle.xet_hash.specs.Hash.{marker, zero_hash}
+use Rattle.xet_hash.specs.Order.{hash_cmp}
+use Rattle.xet_shard.specs.declared.record.MDBFileInfo.{MDBFileInfo}
+use Rattle.xet_shard.specs.declared.record.MDBXorbInfo.{MDBXorbInfo}
+use Rattle.xet_shard.specs.Records.{IsFile, IsXorb, file_hash, file_rows, file_section, xorb_hash, xorb_rows, xorb_section}
+use Rattle.xet_shard.specs.Sorted.{sorted}
+use Rattle.xet_shard.specs.Text.{Shard, shard}
+
+-- xorbs and files in the order in which they were added, each hash once
+pub record Held : Type 0 where
+  pub blocks : List MDBXorbInfo
+  pub files : List MDBFileInfo
+
+abbrev pub held : List MDBXorbInfo → List MDBFileInfo → Held
+held blocks files = record { blocks = blocks; files = files }
+
+abbrev pub nothing : Held
+nothing = held [] []
+
+-- a list with one more at its end, which takes the place of one of an equal hash
+abbrev pub with_last : {X : Type 0} → (X → List ℕ) → List X → X → List X
+with_last hash xs x = filter (λ y. not (pointwise nat_eq (hash y) (hash x))) xs ++ x ∷ []
+
+-- no two have the same hash
+abbrev pub DifferBy : {X : Type 0} → (X → List ℕ) → List X → Type 0
+DifferBy hash [] = Unit {0}
+DifferBy hash (x ∷ xs) = AllByRecursion (λ y. hash x ≢ hash y) xs × DifferBy hash xs
+
+-- Each record has the form and a hash of its own, which isn't the marker, and the sections have fewer than 2 ^ 32 rows.
+pub record IsHeld (h : Held) : Type 0 where
+  pub blocks : AllByRecursion (λ x. (xorb_hash x ≢ marker) × IsXorb x) h.blocks
+  pub files : AllByRecursion (λ f. (file_hash f ≢ marker) × IsFile f) h.files
+  pub blocks_differ : DifferBy xorb_hash h.blocks
+  pub files_differ : DifferBy file_hash h.files
+  pub few_blocks : length (xorb_section h.blocks) < 2 ^ 32
+  pub few_files : length (file_section h.files) < 2 ^ 32
+
+-- each record stands under its hash
+abbrev pub Keyed : {X : Type 0} → (X → List ℕ) → List (List ℕ × X) → Type 0
+Keyed hash entries = AllByRecursion (λ e. e.0 ≡ hash e.1) entries
+
+-- in rising order of hash
+abbrev pub by_hash : {X : Type 0} → (X → List ℕ) → List X → List X
+by_hash hash xs = sorted (λ x y. hash_cmp (hash x) (hash y)) xs
+
+-- the greatest moment, which is no expiry
+abbrev pub never : ℕ
+never = 2 ^ 64 - 1
+
+-- the shard that is written of what is held: without a key, with these moments of creation and expiry
+abbrev pub held_shard : Held → ℕ → Option ℕ → Shard
+held_shard h creation expiry = shard (by_hash xorb_hash h.blocks) (by_hash file_hash h.files) zero_hash creation (unwrap_or expiry never)
+
+-- how many bytes a record adds to a shard: its rows and its items in the look-ups
+abbrev pub file_record_size : MDBFileInfo → ℕ
+file_record_size f = 48 * length (file_rows f) + 12
+
+abbrev pub xorb_record_size : MDBXorbInfo → ℕ
+xorb_record_size x = 48 * length (xorb_rows x) + 12 + 16 * length x.chunks
+
+-- the bytes of an empty shard, and of each record
+abbrev pub held_size : Held → ℕ
+held_size h = 344 + sum_by xorb_record_size h.blocks + sum_by file_record_size h.files
+
+-- the refusals of writing a shard
+abbrev pub IsWriteRefusal : StoreError → Type 0
+IsWriteRefusal OutOfMemory = Unit {0}
+IsWriteRefusal (Io place) = place ≡ Output
+IsWriteRefusal e = ⊥

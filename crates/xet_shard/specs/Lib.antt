@@ -1,0 +1,9 @@
+pub mod Rows
+pub mod Records
+pub mod Sorted
+pub mod Lookups
+pub mod Text
+pub mod Reading
+pub mod Names
+pub mod Held
+pub mod Boundaries

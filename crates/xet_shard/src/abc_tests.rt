@@ -1,0 +1,99 @@
+//! The shard of the xorb and the file of `abc`.
+
+ghost use Rattle.std.specs.Prelude.{◌≡◌, IfOk, length};
+ghost use Rattle.xet_shard.specs.Records.{IsFile, IsXorb, file_hash, file_rows, xorb_hash, xorb_rows};
+
+use crate::*;
+use std::alloc::Global;
+use std::test::Fail;
+use xet_base::Items;
+use xet_hash::{
+    MerkleHash, Reason, StoreError, compute_data_hash, file_hash, range_hash_from_chunks,
+};
+use xet_io::{MemorySink, SliceReader};
+
+/// The xorb of the one chunk `abc`.
+fn xorb_of_abc(alloc: Global, chunk: MerkleHash) -> Result<MDBXorbInfo, StoreError>
+    ensures form { IfOk result IsXorb }
+    ensures hash { IfOk result (λ xorb. xorb_hash xorb ≡ chunk) }
+    ensures rows { IfOk result (λ xorb. length (xorb_rows xorb) ≡ 2) }
+{
+    Ok(MDBXorbInfo {
+        metadata: XorbChunkSequenceHeader::new(chunk, 1, 3),
+        chunks: Items::from_vec(vec![in alloc; XorbChunkSequenceEntry::new(chunk, 3, 0)]?),
+    })
+}
+
+/// The file of this hash whose one segment is that chunk.
+fn file_of_abc(
+    alloc: Global,
+    hash: MerkleHash,
+    chunk: MerkleHash,
+) -> Result<MDBFileInfo, StoreError>
+    ensures form { IfOk result IsFile }
+    ensures hash { IfOk result (λ file. file_hash file ≡ hash) }
+    ensures rows { IfOk result (λ file. length (file_rows file) ≡ 4) }
+{
+    let digest = Sha256::from_hex(
+        "ba7816bf8f01cfea414140de5dae2223b00361a396177a9cb410ff61f20015ad",
+    )?;
+    let range_hash = range_hash_from_chunks(&[chunk]);
+    Ok(MDBFileInfo {
+        metadata: FileDataSequenceHeader::new(hash, 1, true, true),
+        segments: Items::from_vec(vec![in alloc; FileDataSequenceEntry::new(chunk, 3, 0, 1)]?),
+        verification: Items::from_vec(vec![in alloc; FileVerificationEntry::new(range_hash)]?),
+        metadata_ext: Some(FileMetadataExt::new(digest)),
+    })
+}
+
+/// The bytes of the shard of both, and what begins and ends them.
+fn shard_of_abc(alloc: Global) -> Result<(Vec<u8>, MDBShardInfo), StoreError> {
+    let chunk = compute_data_hash(b"abc");
+    let hash = file_hash(alloc, &[(chunk, 3)])?;
+    if chunk == MerkleHash::marker() || hash == MerkleHash::marker() {
+        return Err(StoreError::HashMismatch);
+    }
+    let mut shard = MDBInMemoryShard::new(alloc);
+    shard.add_xorb_block(xorb_of_abc(alloc, chunk)?)?;
+    shard.add_file_reconstruction_info(file_of_abc(alloc, hash, chunk)?)?;
+    let mut sink = MemorySink::new(alloc);
+    let info = shard.serialize_from(alloc, &mut sink, 0, None)?;
+    Ok((Vec::from_slice(alloc, sink.bytes())?, info))
+}
+
+#[test]
+fn is_written_and_read(rt: HostRuntime) -> Result<(), Fail> {
+    let alloc = rt.alloc();
+    let (text, info) = shard_of_abc(alloc)?;
+    assert_eq!(rt; (text.len(), info.metadata.footer_offset), (672, 472));
+    let name = shard_file_name(alloc, &compute_data_hash(&text))?;
+    assert_eq!(rt;
+        name.as_str(),
+        "8285f56118ed97b102aafe3e2cc404ca510a016dde7acaa2c16d8c935fb38ae3.mdb"
+    );
+    let mut reader = SliceReader::new(&text);
+    let (blocks, files, footer) = MDBShardInfo::check_whole(alloc, &mut reader)?;
+    assert_eq!(rt; (blocks.len(), files.len()), (1, 1));
+    assert_eq!(rt; footer, info.metadata);
+    Ok(())
+}
+
+#[test]
+fn is_refused_with_another_byte(rt: HostRuntime) -> Result<(), Fail> {
+    let alloc = rt.alloc();
+    let (text, _) = shard_of_abc(alloc)?;
+    let rows = [
+        (0, 0, Reason::Tag),
+        (32, 3, Reason::ShardVersion),
+        (40, 199, Reason::FooterSize),
+    ];
+    for (at, byte, reason) in rows {
+        let mut other = Vec::from_slice(alloc, &text)?;
+        if let Some(place) = other.get_mut(at) {
+            *place = byte;
+        }
+        let read = MDBShardInfo::check_whole(alloc, &mut SliceReader::new(&other));
+        assert_eq!(rt; read.err(), Some(StoreError::MalformedData(reason)));
+    }
+    Ok(())
+}

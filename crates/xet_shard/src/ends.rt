@@ -1,0 +1,156 @@
+//! The header and the footer of a shard's bytes.
+
+ghost use Rattle.std.specs.Prelude.{◌≡◌, ◌≤◌, ◌+◌, ◌*◌, ◌==◌, IfOk, OnOk, length};
+ghost use Rattle.xet_shard.specs.Reading.{Gives, IsPlaced, footer_at, footer_in, header_at, places_at};
+
+use crate::info::{MDBShardFileFooter, MDBShardFileHeader};
+use crate::row::{hash, word};
+use xet_hash::{Reason, StoreError};
+
+/// With which a shard begins.
+const TAG: [u8; 32] = *b"XETSHARD\0\0\0\0\0\0\0\0\0\0\0\0\0\0\0\0\0\0\0\0\0\0\0\0";
+
+/// The header of every shard.
+pub const HEADER: MDBShardFileHeader = MDBShardFileHeader {
+    tag: TAG,
+    version: 2,
+    footer_size: 200,
+};
+
+/// Checks the header, and that there is room for a footer.
+#[tactic(auto, unfolding(crate::specs::Reading::header_at))]
+pub fn header(bytes: &[u8]) -> Result<(), StoreError>
+    ensures gives { Gives (λ _. tt) result (header_at bytes.now) }
+    ensures long { OnOk result (248 ≤ length bytes.now) }
+{
+    if bytes.len() < 32 {
+        return Err(StoreError::UnexpectedEof);
+    }
+    let (tag, _) = bytes.split_at(32);
+    if tag != TAG.as_slice() {
+        return Err(StoreError::MalformedData(Reason::Tag));
+    }
+    if bytes.len() < 40 {
+        return Err(StoreError::UnexpectedEof);
+    }
+    if word(bytes, 32) != 2 {
+        return Err(StoreError::MalformedData(Reason::ShardVersion));
+    }
+    if bytes.len() < 48 {
+        return Err(StoreError::UnexpectedEof);
+    }
+    if word(bytes, 40) != 200 {
+        return Err(StoreError::MalformedData(Reason::FooterSize));
+    }
+    if bytes.len() < 248 {
+        return Err(StoreError::UnexpectedEof);
+    }
+    Ok(())
+}
+
+/// The footer, whose places are those of parts without gaps.
+#[tactic(auto, unfolding(crate::specs::Reading::footer_at))]
+pub fn footer(bytes: &[u8]) -> Result<MDBShardFileFooter, StoreError>
+    requires { 248 ≤ length bytes.now }
+    ensures gives { Gives (λ f. f) result (footer_at bytes.now) }
+    ensures placed { IfOk result (IsPlaced (length bytes.now)) }
+{
+    let (_, end) = bytes.split_at(bytes.len() - 200);
+    if word(end, 0) != 1 {
+        return Err(StoreError::MalformedData(Reason::ShardVersion));
+    }
+    let (_, rest) = end.split_at(120);
+    let (unused, _) = rest.split_at(48);
+    if unused != [0u8; 48].as_slice() {
+        return Err(StoreError::MalformedData(Reason::SectionPlace));
+    }
+    let footer = footer_in(end);
+    places(bytes.len() as u64, &footer)?;
+    Ok(footer)
+}
+
+/// The fields of a footer.
+#[tactic(auto, unfolding(crate::specs::Reading::footer_in))]
+fn footer_in(bytes: &[u8]) -> MDBShardFileFooter
+    requires { length bytes.now ≡ 200 }
+    ensures { result ≡ footer_in bytes.now }
+{
+    MDBShardFileFooter {
+        version: word(bytes, 0),
+        file_info_offset: word(bytes, 8),
+        xorb_info_offset: word(bytes, 16),
+        file_lookup_offset: word(bytes, 24),
+        file_lookup_num_entry: word(bytes, 32),
+        xorb_lookup_offset: word(bytes, 40),
+        xorb_lookup_num_entry: word(bytes, 48),
+        chunk_lookup_offset: word(bytes, 56),
+        chunk_lookup_num_entry: word(bytes, 64),
+        chunk_hash_hmac_key: hash(bytes, 72),
+        shard_creation_timestamp: word(bytes, 104),
+        shard_key_expiry: word(bytes, 112),
+        stored_bytes_on_disk: word(bytes, 168),
+        materialized_bytes: word(bytes, 176),
+        stored_bytes: word(bytes, 184),
+        footer_offset: word(bytes, 192),
+    }
+}
+
+/// Checks that the parts of so many bytes follow each other without gaps.
+#[tactic(auto, using(crate::proofs::Footers::places_take))]
+fn places(len: u64, f: &MDBShardFileFooter) -> Result<(), StoreError>
+    ensures gives { Gives (λ _. tt) result (places_at len f.now) }
+    ensures placed { OnOk result (IsPlaced len f.now) }
+{
+    places_follow(len, f)?;
+    Ok(())
+}
+
+/// The same.
+#[tactic(auto, unfolding(crate::specs::Reading::places_at))]
+fn places_follow(len: u64, f: &MDBShardFileFooter) -> Result<(), StoreError>
+    ensures { Gives (λ _. tt) result (places_at len f.now) }
+{
+    let file_rows = f.xorb_info_offset.saturating_sub(f.file_info_offset) / 48;
+    let xorb_rows = f.file_lookup_offset.saturating_sub(f.xorb_info_offset) / 48;
+    if f.file_info_offset != 48
+        || !follows(f.xorb_info_offset, f.file_info_offset, 48, file_rows)
+        || file_rows >= 1 << 32
+        || !follows(f.file_lookup_offset, f.xorb_info_offset, 48, xorb_rows)
+        || xorb_rows >= 1 << 32
+        || !follows(
+            f.xorb_lookup_offset,
+            f.file_lookup_offset,
+            12,
+            f.file_lookup_num_entry,
+        )
+        || !follows(
+            f.chunk_lookup_offset,
+            f.xorb_lookup_offset,
+            12,
+            f.xorb_lookup_num_entry,
+        )
+        || !follows(
+            f.footer_offset,
+            f.chunk_lookup_offset,
+            16,
+            f.chunk_lookup_num_entry,
+        )
+        || !follows(len, f.footer_offset, 200, 1)
+    {
+        return Err(StoreError::MalformedData(Reason::SectionPlace));
+    }
+    Ok(())
+}
+
+/// Whether a place comes so many items of a size after another.
+fn follows(to: u64, from: u64, size: u64, count: u64) -> bool
+    ensures { result ≡ (to == from + size * count) }
+{
+    match size.checked_mul(count) {
+        None => false,
+        Some(len) => match from.checked_add(len) {
+            None => false,
+            Some(end) => to == end,
+        },
+    }
+}
