@@ -13,7 +13,7 @@ use Rattle.xet_xorb.specs.declared.chunk.Chunk.{Chunk}
 use Rattle.xet_xorb.specs.Chunks.{bytes_of, chunk_member}
 use Rattle.xet_xorb.specs.Xorb.{IsXorbText}
 use Rattle.xet_xorb.proofs.Grammar.{members_are}
-use Rattle.xet_store.specs.declared.plan.FileDataSequenceEntry.{FileDataSequenceEntry as Segment}
+use Rattle.xet_shard.specs.declared.record.FileDataSequenceEntry.{FileDataSequenceEntry as Segment}
 use Rattle.xet_store.specs.Cleaning.{Adds, Keeps}
 use Rattle.xet_store.specs.Names.{xorb_name, IsForeign}
 use Rattle.xet_store.specs.Store.{State, Records, Xorbs, IsListed, IsRecord, IsBacked, Sound, found}

@@ -11,7 +11,7 @@ use Rattle.xet_xorb.proofs.Grammar.{members_are}
 use Rattle.xet_xorb.specs.Chunks.{bytes_of, chunk_member, total}
 use Rattle.xet_xorb.specs.declared.chunk.Chunk.{Chunk}
 use Rattle.xet_store.specs.declared.limits.LimitSettings.{LimitSettings}
-use Rattle.xet_store.specs.declared.plan.FileDataSequenceEntry.{FileDataSequenceEntry as Segment}
+use Rattle.xet_shard.specs.declared.record.FileDataSequenceEntry.{FileDataSequenceEntry as Segment}
 use Rattle.xet_store.specs.Cleaning.{Keeps, cuts}
 use Rattle.xet_store.specs.Cut.{cut}
 use Rattle.xet_store.specs.Packing.{fitting, pack_len, packs}

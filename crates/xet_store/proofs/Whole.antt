@@ -3,7 +3,7 @@ use Rattle.std.proofs.Common.{◌≡◌, inl, inr, ◌∙◌, ℕ, suc, ◌<◌,
 use Rattle.std.specs.List.{AllByRecursion}
 use Rattle.std.specs.Cmp.Lexicographic.{pointwise, bytes_decides}
 use Rattle.xet_hash.specs.Merkle.{chunk_hash, file_hash, member_of, members_of}
-use Rattle.xet_store.specs.declared.plan.FileDataSequenceEntry.{FileDataSequenceEntry as Segment}
+use Rattle.xet_shard.specs.declared.record.FileDataSequenceEntry.{FileDataSequenceEntry as Segment}
 use Rattle.xet_store.specs.Plan.{Joins}
 use Rattle.xet_store.specs.Store.{State, IsStored, IsListed, IsRecord, Sound, found}
 use Rattle.xet_store.specs.Separate.{Among, Apart, HasChunks, MetChunk, Separate}

@@ -7,7 +7,7 @@ use Rattle.xet_io.specs.Memory.{entry_code}
 use Rattle.xet_xorb.specs.declared.scheme.CompressionScheme.{CompressionScheme}
 use Rattle.xet_xorb.specs.declared.scheme.CompressionScheme.TheVariants as scheme
 use Rattle.xet_store.specs.declared.limits.LimitSettings.{LimitSettings}
-use Rattle.xet_store.specs.declared.plan.FileDataSequenceEntry.{FileDataSequenceEntry as Segment}
+use Rattle.xet_shard.specs.declared.record.FileDataSequenceEntry.{FileDataSequenceEntry as Segment}
 use Rattle.xet_store.specs.Store.{State, Xorbs, Records}
 
 abbrev pub scheme_number : CompressionScheme → ℕ

@@ -1,17 +1,13 @@
 -- Digests separate what was met: in what a store and some files show, equal digests have equal
 -- contents, and no digest is zero or the marker. BLAKE3 is believed to do so for all that is ever met;
 -- no one can prove it.
-use Rattle.std.specs.Prelude.{◌≡◌, ◌≢◌, ◌⊎◌, ℕ, ◌<◌, List, [], ◌∷◌, length, replicate, IsSome}
+use Rattle.std.specs.Prelude.{◌≡◌, ◌≢◌, ◌⊎◌, ℕ, ◌<◌, List, [], ◌∷◌, length, IsSome}
 use Rattle.xet_io.specs.Disk.{Files}
-use Rattle.xet_hash.specs.Hash.{zero_hash}
+use Rattle.xet_hash.specs.Hash.{marker, zero_hash}
 use Rattle.xet_hash.specs.Merkle.{chunk_hash, xorb_hash, file_hash, members_of}
-use Rattle.xet_store.specs.declared.plan.FileDataSequenceEntry.{FileDataSequenceEntry as Segment}
+use Rattle.xet_shard.specs.declared.record.FileDataSequenceEntry.{FileDataSequenceEntry as Segment}
 use Rattle.xet_store.specs.Plan.{Joins}
 use Rattle.xet_store.specs.Store.{State, found, IsListed, IsStored}
-
--- the hash of all ones, which stands for the end of lists
-abbrev pub marker_hash : List ℕ
-marker_hash = replicate 32 255
 
 abbrev pub Among : {X : Type 0} → List X → X → Type 0
 Among [] x = ⊥
@@ -21,7 +17,7 @@ Among (y ∷ ys) x = (y ≡ x) ⊎ Among ys x
 pub record Apart {X : Type 0} (digest : X → List ℕ) (Met : X → Type 0) : Type 0 where
   pub same : (x y : X) → Met x → Met y → digest x ≡ digest y → x ≡ y
   pub not_zero : (x : X) → Met x → digest x ≢ zero_hash
-  pub not_marker : (x : X) → Met x → digest x ≢ marker_hash
+  pub not_marker : (x : X) → Met x → digest x ≢ marker
 
 -- a listed xorb has these chunks on the disk
 abbrev pub HasChunks : State → List ℕ → List (List ℕ) → Type 0

@@ -8,7 +8,7 @@ use Rattle.xet_hash.specs.Hash.{zero_hash}
 use Rattle.xet_hash.specs.Merkle.{xorb_hash, file_hash, members_of, total_len}
 use Rattle.xet_xorb.specs.Xorb.{IsXorbText}
 use Rattle.xet_store.specs.declared.limits.LimitSettings.{LimitSettings}
-use Rattle.xet_store.specs.declared.plan.FileDataSequenceEntry.{FileDataSequenceEntry as Segment}
+use Rattle.xet_shard.specs.declared.record.FileDataSequenceEntry.{FileDataSequenceEntry as Segment}
 use Rattle.xet_store.specs.Names.{xorb_name}
 use Rattle.xet_store.specs.Plan.{Joins, plan_bytes}
 

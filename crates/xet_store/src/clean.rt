@@ -13,15 +13,15 @@ ghost use Rattle.xet_store.specs.Steps.{HasReasonOfOne, ListsXorbs};
 ghost use Rattle.xet_store.specs.Store.{IsListed, plan_of};
 
 use crate::cutting::{chunks_of, pack_len};
-use crate::info::{Cleaned, Sha256, XetFileInfo};
+use crate::info::{Cleaned, XetFileInfo};
 use crate::limits::Limits;
-use crate::plan::FileDataSequenceEntry;
 use crate::store::Store;
 use sha2::Digest;
 use std::alloc::Global;
 use std::marker::Send;
 use xet_hash::{MerkleHash, Place, StoreError, What, file_hash};
 use xet_io::{Disk, Source, Unread, read_all};
+use xet_shard::{FileDataSequenceEntry, Sha256};
 use xet_xorb::{Chunk, chunk_members};
 
 /// Reads each source to its end and stores its file, in order. So far at most one source; all work runs

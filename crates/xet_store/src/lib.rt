@@ -7,7 +7,6 @@ mod cutting;
 mod generator;
 mod info;
 mod limits;
-mod plan;
 mod refusal;
 mod store;
 mod xorb_file;
@@ -15,9 +14,8 @@ mod xorb_file;
 pub use clean::clean_files;
 pub use cut::{chunk_list, cut_lengths, piece_len};
 pub use generator::{gear_table, generated};
-pub use info::{Cleaned, Sha256, XetFileInfo};
+pub use info::{Cleaned, XetFileInfo};
 pub use limits::{LimitSettings, Limits};
-pub use plan::FileDataSequenceEntry;
 pub use store::Store;
 
 /// A session in which files are cleaned.

@@ -14,7 +14,6 @@ ghost use Rattle.xet_store.specs.Refusals.{HasDiskReason, IsOpenRefusal};
 ghost use Rattle.xet_store.specs.Store.{IsListed, IsOpened, IsRecord, files_of, found, plan_of};
 
 use crate::limits::Limits;
-use crate::plan::FileDataSequenceEntry;
 use crate::refusal::store_error;
 use crate::xorb_file::{known_bytes, put_xorb};
 use indexmap::IndexMap;
@@ -23,6 +22,7 @@ use std::marker::{Model, Send};
 use xet_base::Text;
 use xet_hash::{MerkleHash, Reason, Refused, StoreError, xorb_hash};
 use xet_io::{Disk, Refusal};
+use xet_shard::FileDataSequenceEntry;
 use xet_xorb::{Chunk, chunk_members, xorb_text};
 
 /// A store of files in a folder of a disk. Contracts see a `State`.

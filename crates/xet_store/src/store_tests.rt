@@ -1,10 +1,11 @@
 //! Files that are cleaned over a disk in memory.
 
-use crate::{FileDataSequenceEntry, LimitSettings, Limits, Store, XetFileInfo, clean_files};
+use crate::{LimitSettings, Limits, Store, XetFileInfo, clean_files};
 use std::alloc::Global;
 use std::test::Fail;
 use xet_hash::{MerkleHash, Reason, StoreError, compute_data_hash};
 use xet_io::{Disk, MemoryDisk, SliceSource};
+use xet_shard::FileDataSequenceEntry;
 
 /// Pieces from 64 to 1,024 bytes that end as soon as they may, and two chunks a xorb.
 fn limits() -> Result<Limits, StoreError> {

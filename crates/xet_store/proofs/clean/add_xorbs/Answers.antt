@@ -5,7 +5,7 @@ use Rattle.xet_hash.specs.Merkle.{xorb_hash}
 use Rattle.xet_xorb.specs.declared.chunk.Chunk.{Chunk}
 use Rattle.xet_xorb.specs.Chunks.{bytes_of, chunk_member, total}
 use Rattle.xet_store.specs.declared.limits.LimitSettings.{LimitSettings}
-use Rattle.xet_store.specs.declared.plan.FileDataSequenceEntry.{FileDataSequenceEntry as Segment}
+use Rattle.xet_shard.specs.declared.record.FileDataSequenceEntry.{FileDataSequenceEntry as Segment}
 use Rattle.xet_store.specs.Packing.{packs}
 use Rattle.xet_store.specs.Store.{IsListed}
 use Rattle.xet_store.proofs.Keeping.{keeps_nothing, keeps_then}
