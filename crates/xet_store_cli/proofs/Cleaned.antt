@@ -1,6 +1,6 @@
 -- What cleaning the files of some lines gives.
 use Rattle.std.proofs.Common.{◌≡◌, ◌∙◌, ℕ, zero, suc, ◌≤◌, inl, inr, Bool, true, false, leb, List, [], ◌∷◌, ◌++◌, length, map, subst, arith, Result, Ok, Err, OnOk, IfOk, IfErr, IsErrOf, Vec, Global, refl, sym, ap}
-use Rattle.std.proofs.lemmas.Bool.{le-leb, lt-leb}
+use Rattle.std.proofs.lemmas.Bool.{lt-leb}
 use Rattle.std.specs.List.{AllByRecursion, flat_map, list_all}
 use Rattle.xet_io.specs.Disk.{Files}
 use Rattle.xet_io.specs.Faults.{HasCause, Rose}
@@ -37,11 +37,6 @@ lines_of_infos s (f ∷ fs) [] told = absurd told
 lines_of_infos s (f ∷ fs) (i ∷ is) told =
     ap (λ (t : List ℕ). t ++ flat_map info_line is) (ap info_line (told.0 refl) ∙ line_of_info s f)
     ∙ ap (λ (t : List ℕ). file_line s f ++ t) (lines_of_infos s fs is told.1)
-
--- files that are all short
-pub short_all : (most : ℕ) (files : List (List ℕ)) → AllByRecursion (λ f. true ≡ true → length f ≤ most) files → list_all (λ f. leb (length f) most) files ≡ true
-short_all most [] all = refl
-short_all most (f ∷ fs) all = rw (le-leb (length f) most (all.0 refl)) (short_all most fs all.1)
 
 -- one that is too long
 pub long_one : (most : ℕ) (files : List (List ℕ)) (i : ℕ) → IsLongAt (λ _. true) (λ f. f) files most i → list_all (λ f. leb (length f) most) files ≡ false
@@ -93,11 +88,6 @@ pub told_report : (s : LimitSettings) (files : List (List ℕ)) (cleaned : Resul
 told_report s files (Ok c) (Ok t) told text = text ∙ lines_of_infos s files c.infos.items told
 told_report s files (Err e) (Ok t) told text = absurd text
 told_report s files cleaned (Err stop) told text = tt
-
-pub told_on : {P Q : Type 0} (cleaned : Result Cleaned StoreError) (answer : Result (Vec ℕ Global) Stop) → (P → Q) → OnOk cleaned P → IfOk answer (λ t. TellsCleaned cleaned t.items) → OnOk answer Q
-told_on (Ok c) (Ok t) f p text = f p
-told_on (Err e) (Ok t) f p text = absurd text
-told_on cleaned (Err stop) f p text = tt
 
 module _ (old new : List (List ℕ)) (before after : State) where
   abbrev Reason : StoreError → Type 0

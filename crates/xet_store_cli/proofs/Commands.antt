@@ -1,12 +1,13 @@
 -- Words as numbers, gear tables and commands.
-use Rattle.std.proofs.Common.{◌≡◌, ◌≢◌, ℕ, ◌*◌, ◌/◌, ◌^◌, ◌<◌, ◌≤◌, Bool, true, false, cond, ltb, leb, min, lit<, lit≤, List, [], ◌∷◌, length, get_or, map, replicate, Some, None, Result, Ok, Err, IsTrue, codes, refl, ap, inl, inr, arith, rules}
+use Rattle.std.proofs.Common.{◌≡◌, ◌≢◌, ℕ, ◌*◌, ◌/◌, ◌^◌, ◌<◌, ◌≤◌, Bool, true, false, cond, ltb, leb, min, lit<, lit≤, List, [], ◌∷◌, length, get_or, map, replicate, Option, Some, None, Result, Ok, Err, IsTrue, codes, refl, ap, inl, inr, arith, rules}
 use Rattle.std.proofs.lemmas.Bool.{and_parts, leb-true, lt-ltb, cases_lt, le-ltb}
 use Rattle.std.proofs.lemmas.Str.Parse.{IsNumeralModel, not_in_digits, numerals_by_value, parse_plain}
 use Rattle.std.proofs.Math.Nat.{div-lt_iff_lt-mul}
 use Rattle.std.specs.Char.{is_ascii_digit}
 use Rattle.std.specs.Int.{is_power_of_two}
 use Rattle.std.specs.List.{list_all}
-use Rattle.std.specs.Option.{option_map}
+use Rattle.std.specs.Option.{option_map, option_and_then}
+use Rattle.std.specs.Prelude.{IfSome}
 use Rattle.std.specs.Result.{OkIff, result_ok}
 use Rattle.std.specs.Str.{bytes_eq}
 use Rattle.std.specs.Str.Parse.{ParsesUnsigned, digits_value}
@@ -14,7 +15,10 @@ use Rattle.std.specs.Cmp.Lexicographic.{bytes_decides}
 use Rattle.xet_store.specs.Limits.{bad_field, is_between}
 use Rattle.xet_store.specs.Generator.{gear_table}
 use Rattle.xet_store.proofs.Ranges.{none_bad}
-use Rattle.xet_store_cli.specs.Words.{command_of, gear_of, is_digits, is_target, number_of, pack_of, pack_settings, target_of, three_words}
+use Rattle.xet_store_cli.specs.declared.words.Command.{Command}
+use Rattle.xet_store_cli.specs.Allowed.{AllowsInput}
+use Rattle.xet_store_cli.specs.Outcome.{most_input}
+use Rattle.xet_store_cli.specs.Words.{command_of, gear_of, is_digits, is_target, number_of, pack_of, pack_settings, target_if, target_of, three_words}
 
 -- ---- numbers
 
@@ -91,6 +95,38 @@ pub is_pack : (name target gear : List ℕ) → name ≡ codes "pack" → three_
 is_pack name target gear e = rw e refl
 
 -- ---- limits
+
+allows_target : (n : ℕ) (gear : List ℕ) → IsTrue (is_target n) → most_input ≤ (pack_settings n gear).max_source_bytes
+allows_target n gear t =
+    let range = and_parts (leb 128 n) (leb n 2097152) (and_parts (is_power_of_two n) (is_between 128 2097152 n) t).1 in
+    let low : 128 ≤ n = leb-true 128 n range.0 in
+    let eighth : 16 ≤ n / 8 = omega arith in
+    omega arith
+
+abbrev Allows : Option Command → Type 0
+Allows command = IfSome command AllowsInput
+
+-- a command allows any input
+pub allows_command : (ws : List (List ℕ)) → Allows (command_of ws)
+unfolding command_of
+allows_command [] = tt
+allows_command (name ∷ []) = tt
+allows_command (name ∷ target ∷ []) = tt
+allows_command (name ∷ target ∷ gear ∷ []) = by_name (bytes_eq name (codes "pack"))
+  where
+    by_target : (n : ℕ) (t : Bool) (o : Option (List ℕ)) → is_target n ≡ t → Allows (pack_of (cond t (Some n) None) o)
+    by_target n true (Some table) is = allows_target n table is
+    by_target n true None is = tt
+    by_target n false o is = tt
+
+    by_number : (found : Option ℕ) → Allows (pack_of (option_and_then target_if found) (gear_of gear))
+    by_number (Some n) = by_target n (is_target n) (gear_of gear) refl
+    by_number None = tt
+
+    by_name : (t : Bool) → Allows (cond t (pack_of (target_of target) (gear_of gear)) None)
+    by_name true = by_number (number_of target)
+    by_name false = tt
+allows_command (name ∷ target ∷ gear ∷ more ∷ ws) = tt
 
 pub pack_in_range : (target : ℕ) (gear : List ℕ) → IsTrue (is_target target) → bad_field (pack_settings target gear) ≡ None
 pack_in_range target gear t =

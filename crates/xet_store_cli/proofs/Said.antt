@@ -84,7 +84,7 @@ appended s (b ∷ bs) = option_map (λ x. s ++ x ∷ []) (line_of (b ∷ bs))
 abbrev BothSome : Option Line → Option (List Line) → List Line → Type 0
 BothSome o m s = (x : Line) × (t : List Line) × (o ≡ Some x) × (m ≡ Some t) × (s ≡ x ∷ t)
 
-both_some : (o : Option Line) (m : Option (List Line)) (s : List Line) → with_line o m ≡ Some s → BothSome o m s
+pub both_some : (o : Option Line) (m : Option (List Line)) (s : List Line) → with_line o m ≡ Some s → BothSome o m s
 both_some None m s e = absurd (none-some s e)
 both_some (Some x) None s e = absurd (none-some s e)
 both_some (Some x) (Some t) s e = (x, t, refl, refl, sym (some-injective (x ∷ t) s e))
@@ -121,7 +121,7 @@ limited_some t s true e = some-injective t s e
 limited_some t s false e = absurd (none-some s e)
 
 -- what good lines say, and that it is not too much
-good_said : (o : Option (List Line)) (s : List Line) → option_and_then limited o ≡ Some s → (o ≡ Some s) × (limited s ≡ Some s)
+pub good_said : (o : Option (List Line)) (s : List Line) → option_and_then limited o ≡ Some s → (o ≡ Some s) × (limited s ≡ Some s)
 good_said None s e = absurd (none-some s e)
 good_said (Some t) s e =
     let same : t ≡ s = limited_some t s (leb (length (files_of t)) 1) e in

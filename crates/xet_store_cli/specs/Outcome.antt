@@ -1,6 +1,5 @@
 -- How a run is to end, by its words and its input.
-use Rattle.std.specs.Prelude.{◌≡◌, ◌⊎◌, ℕ, ◌^◌, nat_lt, nat_le, Bool, true, false, List, [], ◌∷◌, ◌++◌, length, take, codes, Option, Some, None, unwrap_or}
-use Rattle.std.specs.List.{list_all}
+use Rattle.std.specs.Prelude.{◌≡◌, ◌≢◌, ◌⊎◌, ℕ, ◌^◌, nat_lt, true, false, List, [], ◌∷◌, ◌++◌, length, take, codes, Option, Some, None, unwrap_or}
 use Rattle.std.specs.Str.Lines.{lines}
 use Rattle.std.specs.Fmt.{decimal}
 use Rattle.xet_io.specs.Disk.{Files}
@@ -9,7 +8,7 @@ use Rattle.xet_store.specs.Names.{FindsShardLike}
 use Rattle.xet_store_cli.specs.declared.words.Command.{Command}
 use Rattle.xet_store_cli.specs.declared.words.Command.TheVariants.{Pack}
 use Rattle.xet_store_cli.specs.Words.{command_of}
-use Rattle.xet_store_cli.specs.Lines.{Line, files_of, first_bad, good_lines}
+use Rattle.xet_store_cli.specs.Lines.{Line, first_bad, good_lines}
 use Rattle.xet_store_cli.specs.Report.{report}
 
 -- the status, and all that is printed
@@ -51,22 +50,11 @@ store_folder = codes "store"
 abbrev pub bad_shard_text : List ℕ → List ℕ
 bad_shard_text name = codes "bad shard " ++ name ++ 10 ∷ []
 
--- whether each file is as short as a source must be
-abbrev pub are_short_files : LimitSettings → List (List ℕ) → Bool
-are_short_files s files = list_all (λ bytes. nat_le (length bytes) s.max_source_bytes) files
-
-abbrev pub are_short : LimitSettings → List Line → Bool
-are_short s said = are_short_files s (files_of said)
-
--- how `pack` ends over a folder that is opened
-unfoldable pub pack_late : LimitSettings → List Line → Outcome
-pack_late s said = elim (are_short s said) [ true ↦ outcome 0 (report s said) | false ↦ outcome 9 [] ]
-
 -- How a command ends after that, where a file of the folder ends as a shard's, or where none does.
 abbrev pub late_outcome : Option Command → List ℕ → Option (List ℕ) → Outcome
 late_outcome command input (Some name) = outcome 7 (bad_shard_text name)
 late_outcome None input None = outcome 2 []
-late_outcome (Some (Pack s)) input None = pack_late s (lines_said (lines input))
+late_outcome (Some (Pack s)) input None = outcome 0 (report s (lines_said (lines input)))
 
 -- How a run with a command over this input and a disk with these files is to end.
 pub data IsDue (command : Option Command) (input : List ℕ) (files : Files) (o : Outcome) : Type 0 where
@@ -85,13 +73,24 @@ Ends o before after status =
     ((status ≡ o.status) × (after ≡ before ++ o.text))
     ⊎ (IsStopped status × (n : ℕ) × (after ≡ before ++ take n o.text))
 
+-- How a run ends, by what is known before its store is opened: as is due then; else with neither of the
+-- statuses that are due then.
+abbrev pub EndsEarly : Option Outcome → List ℕ → List ℕ → ℕ → Type 0
+EndsEarly (Some o) before after status = Ends o before after status
+EndsEarly None before after status = (status ≢ 3) × (status ≢ 9)
+
 -- How a command ends before its text is printed: as is due, or stopped with nothing to print.
 pub data Ended (Due : Outcome → Type 0) (e : Outcome) : Type 0 where
   as_due : Due e → Ended Due e
   stopped : IsStopped e.status → e.text ≡ [] → Ended Due e
 
--- A run over a disk with these files has ended as it is to; one that was stopped before it was known how it is to end has
--- written nothing.
+-- How a command ends before its text is printed, by what is known before its store is opened.
+abbrev pub EndedEarly : Option Outcome → Outcome → Type 0
+EndedEarly (Some o) e = Ended (λ due. due ≡ o) e
+EndedEarly None e = (e.status ≢ 3) × (e.status ≢ 9)
+
+-- A run over a disk with these files has ended as it is to; one that was stopped before it was known how
+-- it is to end has written nothing.
 abbrev pub EndsOver : List (List ℕ) → List ℕ → Files → List ℕ → List ℕ → ℕ → Type 0
 EndsOver words input files before after status =
     ((o : Outcome) × IsDue (command_of words) input files o × Ends o before after status)
@@ -113,6 +112,14 @@ pub record IsReportOf (command : Command) (input text : List ℕ) : Type 0 where
   pub is_pack : command ≡ Pack settings
   pub good : good_lines (lines input) ≡ Some said
   pub reported : text ≡ report settings said
+
+-- Words, input and disk give a run no cause to refuse: the words are `pack`, the input is not too long and its
+-- lines are good, and no file of the folder ends as a shard's.
+pub record IsFaultless (words : List (List ℕ)) (input : List ℕ) (files : Files) : Type 0 where
+  pub settings : LimitSettings
+  pub command : command_of words ≡ Some (Pack settings)
+  pub lines_good : pack_early input ≡ None
+  pub folder : FindsShardLike files store_folder None
 
 -- the statuses at which no file of the disk has changed
 abbrev pub IsIdle : ℕ → Type 0

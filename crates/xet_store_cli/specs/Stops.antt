@@ -15,8 +15,9 @@ use Rattle.xet_store.specs.Names.{FindsShardLike, IsFirstShardLike}
 use Rattle.xet_store_cli.specs.declared.ending.Stop.{Stop}
 use Rattle.xet_store_cli.specs.declared.ending.Stop.TheVariants.{OutOfMemory, Input, TooLarge, BadLine, Disk, BadShard}
 use Rattle.xet_store_cli.specs.Lines.{Line, good_lines}
-use Rattle.xet_store_cli.specs.Report.{info_line}
-use Rattle.xet_store_cli.specs.Outcome.{Outcome, are_short, bad_line_text, bad_shard_text, outcome, pack_early, pack_late, store_folder}
+use Rattle.xet_store_cli.specs.Report.{info_line, report}
+use Rattle.xet_store_cli.specs.Outcome.{Outcome, bad_line_text, bad_shard_text, outcome, pack_early, store_folder}
+use Rattle.xet_store_cli.specs.Allowed.{are_short}
 
 -- an input that was not read, as a stop
 abbrev pub stop_of_unread : Unread → Stop
@@ -41,6 +42,17 @@ Answers Due (Err Input) = Unit {0}
 Answers Due (Err Disk) = Unit {0}
 Answers Due r = Due (answer_outcome r)
 
+-- What an answer shows of how the run is due to end before its store is opened: a bad line or too long an
+-- input is answered only where that is due, and a report or the name of a shard only where nothing is.
+abbrev pub AnswersByInput : Option Outcome → Result (Vec ℕ Global) Stop → Type 0
+AnswersByInput early (Ok text) = early ≡ None
+AnswersByInput early (Err OutOfMemory) = Unit {0}
+AnswersByInput early (Err Input) = Unit {0}
+AnswersByInput early (Err Disk) = Unit {0}
+AnswersByInput early (Err TooLarge) = early ≡ Some (outcome 9 [])
+AnswersByInput early (Err (BadLine n)) = early ≡ Some (outcome 3 (bad_line_text n))
+AnswersByInput early (Err (BadShard name)) = early ≡ None
+
 -- What the lines of an input say, or how the run ends before its store is opened.
 abbrev pub AnswersEarly : List ℕ → Result (List Line) Stop → Type 0
 AnswersEarly input (Ok said) = (pack_early input ≡ None) × (good_lines (lines input) ≡ Some said)
@@ -52,26 +64,29 @@ AnswersEarly input (Err (BadLine n)) = pack_early input ≡ Some (outcome 3 (bad
 AnswersEarly input (Err (BadShard name)) = ⊥
 
 -- What storing the files of some lines answers over a disk with these files: where no file of the
--- folder ends as a shard's, their report, or that one of them is too large; else the first that does.
+-- folder ends as a shard's, their report; else the first that does. Too large is answered only where one
+-- of the files is.
 abbrev pub AnswersLate : LimitSettings → List Line → Files → Result (Vec ℕ Global) Stop → Type 0
-AnswersLate s said files (Ok text) = FindsShardLike files store_folder None × (pack_late s said ≡ outcome 0 text.items)
+AnswersLate s said files (Ok text) = FindsShardLike files store_folder None × (text.items ≡ report s said)
 AnswersLate s said files (Err OutOfMemory) = Unit {0}
 AnswersLate s said files (Err Disk) = Unit {0}
 AnswersLate s said files (Err (BadShard name)) = IsFirstShardLike files store_folder name
 AnswersLate s said files (Err Input) = ⊥
-AnswersLate s said files (Err TooLarge) = FindsShardLike files store_folder None × (pack_late s said ≡ outcome 9 [])
+AnswersLate s said files (Err TooLarge) = are_short s said ≡ false
 AnswersLate s said files (Err (BadLine n)) = ⊥
 
--- a stop before the store is opened, and one after that
+-- a stop before the store is opened
 abbrev pub IsEarlyStop : Stop → Type 0
 IsEarlyStop Disk = ⊥
 IsEarlyStop (BadShard name) = ⊥
 IsEarlyStop _ = Unit {0}
 
-abbrev pub IsLateStop : Stop → Type 0
-IsLateStop Input = ⊥
-IsLateStop (BadLine n) = ⊥
-IsLateStop _ = Unit {0}
+-- a stop after that: too large only where a file is
+abbrev pub IsLateStop : LimitSettings → List Line → Stop → Type 0
+IsLateStop s said Input = ⊥
+IsLateStop s said (BadLine n) = ⊥
+IsLateStop s said TooLarge = are_short s said ≡ false
+IsLateStop s said _ = Unit {0}
 
 -- a stop at which no file of the disk has changed
 abbrev pub IsIdleStop : Stop → Type 0

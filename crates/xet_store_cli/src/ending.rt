@@ -5,11 +5,10 @@ ghost use Rattle.xet_io.specs.Faults.{HasCause};
 ghost use Rattle.xet_store_cli.specs.Outcome.{bad_line_text, bad_shard_text, outcome, Ends};
 ghost use Rattle.xet_store_cli.specs.Stops.{answer_outcome};
 
-use crate::output::print;
 use std::alloc::{AllocError, AllocFailed, Global};
 use std::marker::Model;
 use xet_base::Text;
-use xet_io::{Refusal, Sink, Unread};
+use xet_io::{Refusal, Sink, Unread, write_all};
 
 /// Why a command stops before its report.
 #[derive(Debug, Drop)]
@@ -169,7 +168,7 @@ impl Ending {
         ensures tells { O.tells output.new ≡ O.tells output.old }
         ensures cause { HasCause (O.faults output.old) (O.faults output.new) ((result ≡ 5) × (self.now.status ≢ 5)) }
     {
-        match print(output, &self.text) {
+        match write_all(output, &self.text) {
             Ok(()) => self.status,
             Err(Refusal::OutOfMemory) => OUT_OF_MEMORY,
             Err(Refusal::Failed) => OUTPUT_FAILED,

@@ -5,7 +5,6 @@
 
 mod ending;
 mod lines;
-mod output;
 mod pack;
 mod report;
 mod run;

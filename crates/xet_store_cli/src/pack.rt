@@ -5,8 +5,9 @@ ghost use Rattle.std.specs.FinMap.{get};
 ghost use Rattle.xet_io.specs.Faults.{HasCause};
 ghost use Rattle.xet_store.specs.Names.{IsForeign};
 ghost use Rattle.xet_store_cli.specs.Lines.{files_of};
-ghost use Rattle.xet_store_cli.specs.Outcome.{IsDue, IsReportOf, are_short, store_folder};
-ghost use Rattle.xet_store_cli.specs.Stops.{Answers, AnswersEarly, AnswersLate, IsCleaningStop, IsEarlyStop, IsIdleStop, IsLateStop, StopsCleaned, TellsCleaned, stop_of_error, stop_of_refusal};
+ghost use Rattle.xet_store_cli.specs.Outcome.{IsDue, IsReportOf, early_outcome, store_folder};
+ghost use Rattle.xet_store_cli.specs.Allowed.{AllowsInput};
+ghost use Rattle.xet_store_cli.specs.Stops.{Answers, AnswersByInput, AnswersEarly, AnswersLate, IsCleaningStop, IsEarlyStop, IsIdleStop, IsLateStop, StopsCleaned, TellsCleaned, stop_of_error, stop_of_refusal};
 ghost use Rattle.xet_store_cli.specs.Report.{report};
 ghost use Rattle.xet_store_cli.specs.Stored.{HasStoredBy, Stores};
 
@@ -38,8 +39,10 @@ pub fn pack<I: Source, D: Disk + Send>(
     disk: D,
     now: u64,
 ) -> (D, Result<Vec<u8>, Stop>)
+    requires { AllowsInput (Command.Pack limits.now) }
     ensures answer { I.tells input.old ≡ true → D.tells disk ≡ true
         → Answers (IsDue (Some (Command.Pack limits.now)) (I.left input.old) (D.files disk)) result.1 }
+    ensures early { I.tells input.old ≡ true → AnswersByInput (early_outcome (Some (Command.Pack limits.now)) (I.left input.old)) result.1 }
     ensures report { I.tells input.old ≡ true → IfOk result.1 (λ text. IsReportOf (Command.Pack limits.now) (I.left input.old) text.items) }
     ensures read { I.tells input.old ≡ true → OnOk result.1 (I.left input.new ≡ []) }
     ensures stored { I.tells input.old ≡ true → D.tells disk ≡ true
@@ -81,7 +84,7 @@ fn store_lines<D: Disk + Send>(
     requires { length (files_of lines.now) ≤ 1 }
     ensures answer { D.tells disk ≡ true → AnswersLate limits.now lines.now (D.files disk) result.1 }
     ensures report { IfOk result.1 (λ text. text.items ≡ report limits.now lines.now) }
-    ensures stop { IfErr result.1 IsLateStop }
+    ensures stop { IfErr result.1 (IsLateStop limits.now lines.now) }
     ensures stored { D.tells disk ≡ true → OnOk result.1 (Stores limits.now lines.now (D.files result.0)) }
     ensures kept { D.tells disk ≡ true → IfErr result.1 (λ stop. IsIdleStop stop → D.files result.0 ≡ D.files disk) }
     ensures foreign { D.tells disk ≡ true → (name : List ℕ) → IsForeign store_folder name → get (D.files result.0) name ≡ get (D.files disk) name }
@@ -116,7 +119,6 @@ fn clean_lines<D: Disk + Send>(
     requires few { length (files_of lines.now) ≤ 1 }
     requires folder { session.folder ≡ store_folder }
     ensures report { IfOk result.1 (λ text. text.items ≡ report session.limits lines.now) }
-    ensures short { OnOk result.1 (are_short session.limits lines.now ≡ true) }
     ensures stored { session.tells ≡ true → OnOk result.1 (Stores session.limits lines.now (D.files result.0)) }
     ensures stop { IfErr result.1 (IsCleaningStop session.limits lines.now) }
     ensures foreign { session.tells ≡ true → (name : List ℕ) → IsForeign store_folder name → get (D.files result.0) name ≡ get session.files name }

@@ -1,11 +1,12 @@
 //! The program as one call, over any input, output, disk and inputs.
 
-ghost use Rattle.std.specs.Prelude.{◌≡◌, ◌≢◌, ◌↔◌, true, None, Some, [], List, ℕ, map, string_bytes, OnOk, IfErr, IfOk, IsErrOf};
+ghost use Rattle.std.specs.Prelude.{◌≡◌, ◌≢◌, ◌⊎◌, ◌↔◌, true, None, Some, [], List, ℕ, map, string_bytes, OnOk, IfErr, IfOk, IsErrOf};
 ghost use Rattle.std.specs.FinMap.{get};
 ghost use Rattle.xet_io.specs.Faults.{HasCause};
 ghost use Rattle.xet_store.specs.Names.{IsForeign};
-ghost use Rattle.xet_store_cli.specs.Outcome.{Ended, EndsOver, IsDue, IsIdle, IsReportOf, Reports, store_folder};
-ghost use Rattle.xet_store_cli.specs.Stops.{Answers, IsIdleStop};
+ghost use Rattle.xet_store_cli.specs.Outcome.{Ended, EndedEarly, EndsEarly, EndsOver, IsDue, IsFaultless, IsIdle, IsReportOf, IsStopped, Reports, early_outcome, store_folder};
+ghost use Rattle.xet_store_cli.specs.Allowed.{AllowsInput};
+ghost use Rattle.xet_store_cli.specs.Stops.{Answers, AnswersByInput, IsIdleStop};
 ghost use Rattle.xet_store_cli.specs.Stored.{HasStored, HasStoredBy};
 ghost use Rattle.xet_store_cli.specs.Words.{command_of};
 
@@ -27,10 +28,14 @@ use xet_io::{Disk, Inputs, Sink, Source};
 /// | 0 | the input was read to its end, its files were stored, and the report of its lines was printed |
 /// | 1 | there was no memory |
 /// | 2 | exactly where the words are no command |
-/// | 3 | exactly at the first bad line n, where it prints `bad line n` |
+/// | 3 | exactly where the input has a bad line; it prints `bad line n` of the first, counted from 1 |
 /// | 4, 5, 6 | only where the input, the output, the disk failed in this call |
-/// | 7 | exactly where a file of the folder `store` ends in `.mdb`, where it prints `bad shard NAME` of the first NAME |
+/// | 7 | exactly where a file of the folder `store` ends in `.mdb`; it prints `bad shard NAME` of the first NAME |
 /// | 9 | exactly where the input is longer than 2^31 bytes |
+///
+/// Of 2, 9, 3 and 7 the first that fits is due, and else 0. A run to which another status than 2 is due may be
+/// stopped by 1, 4, 5 or 6, with no more printed than a front of its text. What is said of an input, an output
+/// and a disk holds where they tell.
 pub fn run_program<I, O, D, F, R>(
     alloc: Global,
     rt: &R,
@@ -50,6 +55,10 @@ where
     ensures words { (result.1 ≡ 2) ↔ (command_of (map string_bytes words.now) ≡ None) }
     ensures outcome { I.tells input.old ≡ true → O.tells output.old ≡ true → D.tells disk ≡ true
         → EndsOver (map string_bytes words.now) (I.left input.old) (D.files disk) (O.written output.old) (O.written output.new) result.1 }
+    ensures early { I.tells input.old ≡ true → O.tells output.old ≡ true
+        → EndsEarly (early_outcome (command_of (map string_bytes words.now)) (I.left input.old)) (O.written output.old) (O.written output.new) result.1 }
+    ensures complete { I.tells input.old ≡ true → O.tells output.old ≡ true → D.tells disk ≡ true
+        → IsFaultless (map string_bytes words.now) (I.left input.old) (D.files disk) → (result.1 ≡ 0) ⊎ IsStopped result.1 }
     ensures report { I.tells input.old ≡ true → O.tells output.old ≡ true → result.1 ≡ 0
         → Reports (map string_bytes words.now) (I.left input.old) (O.written output.old) (O.written output.new) }
     ensures read { I.tells input.old ≡ true → result.1 ≡ 0 → I.left input.new ≡ [] }
@@ -82,6 +91,7 @@ fn run_command<I: Source, D: Disk + Send>(
     ensures silent { result.1.status ≡ 2 → result.1.text ≡ [] }
     ensures outcome { I.tells input.old ≡ true → D.tells disk ≡ true
         → Ended (IsDue (command_of (map string_bytes words.now)) (I.left input.old) (D.files disk)) result.1 }
+    ensures early { I.tells input.old ≡ true → EndedEarly (early_outcome (command_of (map string_bytes words.now)) (I.left input.old)) result.1 }
     ensures report { I.tells input.old ≡ true → result.1.status ≡ 0 → Reports (map string_bytes words.now) (I.left input.old) [] result.1.text }
     ensures read { I.tells input.old ≡ true → result.1.status ≡ 0 → I.left input.new ≡ [] }
     ensures stored { I.tells input.old ≡ true → D.tells disk ≡ true → result.1.status ≡ 0
@@ -111,8 +121,10 @@ fn answer<I: Source, D: Disk + Send>(
     disk: D,
     now: u64,
 ) -> (D, Result<Vec<u8>, Stop>)
+    requires { AllowsInput command.now }
     ensures answer { I.tells input.old ≡ true → D.tells disk ≡ true
         → Answers (IsDue (Some command.now) (I.left input.old) (D.files disk)) result.1 }
+    ensures early { I.tells input.old ≡ true → AnswersByInput (early_outcome (Some command.now) (I.left input.old)) result.1 }
     ensures report { I.tells input.old ≡ true → IfOk result.1 (λ text. IsReportOf command.now (I.left input.old) text.items) }
     ensures read { I.tells input.old ≡ true → OnOk result.1 (I.left input.new ≡ []) }
     ensures stored { I.tells input.old ≡ true → D.tells disk ≡ true → OnOk result.1 (HasStoredBy command.now (I.left input.old) (D.files result.0)) }

@@ -3,6 +3,7 @@
 ghost use Rattle.std.specs.Prelude.{◌≡◌, ◌≤◌, map, replicate, string_bytes, IsTrue, IfSome};
 ghost use Rattle.std.specs.Char.{is_ascii_digit};
 ghost use Rattle.std.specs.List.{list_all};
+ghost use Rattle.xet_store_cli.specs.Allowed.{AllowsInput};
 ghost use Rattle.xet_store_cli.specs.Words.{command_of, gear_of, is_digits, is_target, number_of, pack_settings, target_of, three_words};
 
 use xet_store::{LimitSettings, Limits, gear_table};
@@ -14,9 +15,11 @@ pub enum Command {
     Pack(Limits),
 }
 
-/// The command that these words are, if they are one: `pack TARGET GEAR`.
+/// The command that these words are, if they are one: `pack TARGET GEAR`. Its limits allow a source as long
+/// as the longest input.
 pub fn command_of(words: &[String]) -> Option<Command>
-    ensures { result ≡ command_of (map string_bytes words.now) }
+    ensures command { result ≡ command_of (map string_bytes words.now) }
+    ensures allows { IfSome result AllowsInput }
 {
     if words.len() != 3 {
         return None;

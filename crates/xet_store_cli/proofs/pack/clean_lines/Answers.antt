@@ -1,11 +1,10 @@
-use Rattle.std.proofs.Common.{◌≡◌, ◌∙◌, ℕ, List, IfOk, IsErrOf, refl, subst, sym, ap}
+use Rattle.std.proofs.Common.{◌≡◌, ◌∙◌, ℕ, List, IfOk, IsErrOf, refl, subst, sym}
 use Rattle.std.specs.List.{flat_map}
 use Rattle.xet_io.specs.Faults.{HasCause}
 use Rattle.xet_store_cli.specs.declared.ending.Stop.TheVariants.{Disk}
 use Rattle.xet_store_cli.specs.Lines.{files_of}
-use Rattle.xet_store_cli.specs.Outcome.{are_short_files}
 use Rattle.xet_store_cli.specs.Report.{file_line, report}
-use Rattle.xet_store_cli.proofs.Cleaned.{short_all, stores_cleaned, told_cause, told_on, told_report, told_stop}
+use Rattle.xet_store_cli.proofs.Cleaned.{stores_cleaned, told_cause, told_report, told_stop}
 use Rattle.xet_store_cli.proofs.pack.clean_lines.Goals as goal
 
 pub returns-clause-report : goal.returns-clause-report
@@ -14,12 +13,6 @@ returns-clause-report g c =
     let files : c.deref_mut.result.now ≡ files_of c.args.lines.now = c.deref_mut.ensures.value ∙ c.in-Ok.ensures.sources in
     subst (λ (fs : List (List ℕ)). IfOk c.report_cleaned-answer.result (λ t. t.items ≡ flat_map (file_line c.args.session.limits) fs)) files
     (told_report c.args.session.limits c.deref_mut.result.now _ _ c.clean_files-session.ensures.infos c.report_cleaned-answer.ensures.text)
-
-pub returns-clause-short : goal.returns-clause-short
-returns-clause-short g c =
-    let files : c.deref_mut.result.now ≡ files_of c.args.lines.now = c.deref_mut.ensures.value ∙ c.in-Ok.ensures.sources in
-    told_on _ _ (λ short. ap (are_short_files c.args.session.limits) (sym files) ∙ short_all c.args.session.limits.max_source_bytes c.deref_mut.result.now short)
-    c.clean_files-session.ensures.short c.report_cleaned-answer.ensures.text
 
 pub returns-clause-stop : goal.returns-clause-stop
 returns-clause-stop g c =
