@@ -1,5 +1,5 @@
 -- What a disk holds, and what each of its calls does to that.
-use Rattle.std.specs.Prelude.{◌≡◌, ◌≢◌, ◌⊎◌, ℕ, Bool, true, false, List, length, Option, Some, None, Result, Ok, Err, is_some, IsSome, IsTrue, All, AllPairs, Any}
+use Rattle.std.specs.Prelude.{◌≡◌, ◌≢◌, ◌⊎◌, ℕ, ◌+◌, ◌-◌, ◌<◌, ◌≤◌, min, Bool, true, false, List, length, take, drop, Option, Some, None, Result, Ok, Err, is_some, IsSome, IsTrue, All, AllPairs, Any}
 use Rattle.std.specs.Option.{option_map}
 use Rattle.std.specs.FinMap.{get, insert, remove}
 use Rattle.xet_io.specs.declared.disk.DiskEntry.{DiskEntry}
@@ -47,6 +47,20 @@ abbrev pub ReadsAt : Option File → ℕ → List ℕ → Option ℕ → Type 0
 ReadsAt None at buffer count = count ≡ None
 ReadsAt (Some f) at buffer None = ⊥
 ReadsAt (Some f) at buffer (Some count) = ReadsPart f.bytes at buffer count
+
+-- The buffer's front has a file's bytes from a place on, so many as there are or as the buffer has room
+-- for.
+abbrev pub FillsFront : Option (List ℕ) → ℕ → List ℕ → ℕ → Type 0
+FillsFront None at buffer filled = filled ≡ 0
+FillsFront (Some bytes) at buffer filled =
+    (filled ≡ min (length buffer) (length bytes - at)) × (take filled buffer ≡ take filled (drop at bytes))
+
+-- The buffer is filled with a file's bytes from a place on, or there is no such file, or it ends before.
+abbrev pub FillsFrom : Option (List ℕ) → ℕ → List ℕ → Bool → Type 0
+FillsFrom None at buffer filled = filled ≡ false
+FillsFrom (Some bytes) at buffer true =
+    (at + length buffer ≤ length bytes) × (buffer ≡ take (length buffer) (drop at bytes))
+FillsFrom (Some bytes) at buffer false = length bytes < at + length buffer
 
 -- what is listed of a file under its own name
 abbrev pub IsListed : Files → List ℕ → DiskEntry → Type 0

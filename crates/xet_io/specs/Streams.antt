@@ -1,5 +1,5 @@
 -- What a call does to the bytes that a source has left, that a reader has, and that a sink was given.
-use Rattle.std.specs.Prelude.{◌≡◌, ℕ, ◌-◌, ◌<◌, ◌≤◌, List, ◌++◌, length, take, drop, Result, Ok, Err}
+use Rattle.std.specs.Prelude.{◌≡◌, ℕ, ◌+◌, ◌-◌, ◌<◌, ◌≤◌, Bool, true, false, List, ◌++◌, length, take, drop, Result, Ok, Err}
 
 -- The next `count` bytes stand at the buffer's front and are no longer left. None come only where
 -- none is left or the buffer is empty.
@@ -18,6 +18,12 @@ pub record ReadsPart (bytes : List ℕ) (at : ℕ) (buffer : List ℕ) (count : 
   pub part : take count buffer ≡ take count (drop at bytes)
   pub within : count ≤ length bytes - at
   pub some : at < length bytes → 0 < length buffer → 0 < count
+
+-- A read of as many bytes as the buffer takes, which then has those at the place; false where they end
+-- before.
+abbrev pub Fills : List ℕ → ℕ → List ℕ → Bool → Type 0
+Fills bytes at buffer true = buffer ≡ take (length buffer) (drop at bytes)
+Fills bytes at buffer false = length bytes < at + length buffer
 
 -- A write to a sink: it has taken the front of the piece; a refused one takes nothing.
 abbrev pub Takes : {E : Type 0} → List ℕ → List ℕ → Result ℕ E → List ℕ → Type 0

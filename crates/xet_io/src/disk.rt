@@ -1,7 +1,8 @@
 //! A disk as its callers see it: files under names, and how often it has failed.
 
-ghost use Rattle.std.specs.Prelude.{◌≡◌, ◌≢◌, ◌≤◌, ℕ, Bool, true, List, length, IfOk, IfSome, IsErrOf, OnOk, OnErr};
-ghost use Rattle.xet_io.specs.Disk.{Files, file_at, stat_of, ReadsAt, Lists, Writes, Changes, synced, renamed, removed, IsPut, IsPutOrKept};
+ghost use Rattle.std.specs.Prelude.{◌≡◌, ◌≢◌, ◌≤◌, ◌<◌, ◌+◌, ◌^◌, ℕ, Bool, true, length, take, drop, IfOk, IfSome, IsErrOf, OnOk, OnErr};
+ghost use Rattle.std.specs.Option.{option_map};
+ghost use Rattle.xet_io.specs.Disk.{Files, bytes_at, file_at, stat_of, FillsFrom, FillsFront, ReadsAt, Lists, Writes, Changes, synced, renamed, removed, IsPut, IsPutOrKept};
 ghost use Rattle.xet_io.specs.Faults.{HasCause};
 
 use crate::fault::Refusal;
@@ -99,4 +100,88 @@ pub fn put_file<D: Disk>(disk: &mut D, temp: &str, name: &str, bytes: &[u8]) -> 
     disk.sync(temp)?;
     disk.rename(temp, name)?;
     Ok(())
+}
+
+/// All bytes of a file, read straight into their place. None exactly where the name is absent.
+pub fn read_file<D: Disk>(
+    disk: &mut D,
+    alloc: Global,
+    name: &str,
+) -> Result<Option<Vec<u8>>, Refusal>
+    ensures told { D.tells disk.old ≡ true → IfOk result (λ found. option_map (λ b. b.items) found ≡ bytes_at (D.files disk.old) name.now) }
+    ensures same { D.files disk.new ≡ D.files disk.old }
+    ensures tells { D.tells disk.new ≡ D.tells disk.old }
+    ensures cause { HasCause (D.faults disk.old) (D.faults disk.new) (IsErrOf result Refusal.Failed) }
+{
+    let Some((length, _)) = disk.stat(name)? else {
+        return Ok(None);
+    };
+    let mut bytes = vec![in alloc; 0; length as usize]?;
+    let filled = fill_from_file(disk, name, 0, &mut bytes)?;
+    bytes.truncate(filled);
+    Ok(Some(bytes))
+}
+
+/// Fills `buf` with a file's bytes from place `at` on. False where the name is absent or the file ends
+/// before `buf` is full.
+pub fn read_file_at<D: Disk>(
+    disk: &mut D,
+    name: &str,
+    at: u64,
+    buf: &mut [u8],
+) -> Result<bool, Refusal>
+    requires some { 0 < length buf.old }
+    requires fits { at + length buf.old < 2 ^ 64 }
+    ensures told { D.tells disk.old ≡ true → IfOk result (FillsFrom (bytes_at (D.files disk.old) name.now) at buf.new) }
+    ensures same { D.files disk.new ≡ D.files disk.old }
+    ensures tells { D.tells disk.new ≡ D.tells disk.old }
+    ensures cause { HasCause (D.faults disk.old) (D.faults disk.new) (IsErrOf result Refusal.Failed) }
+{
+    let filled = fill_from_file(disk, name, at, buf)?;
+    Ok(filled == buf.len())
+}
+
+/// Reads a file from place `at` on, up to the end of `buf` or of what comes, and returns how many bytes.
+fn fill_from_file<D: Disk>(
+    disk: &mut D,
+    name: &str,
+    at: u64,
+    buf: &mut [u8],
+) -> Result<usize, Refusal>
+    requires { at + length buf.old < 2 ^ 64 }
+    ensures told { D.tells disk.old ≡ true → IfOk result (FillsFront (bytes_at (D.files disk.old) name.now) at buf.new) }
+    ensures same { D.files disk.new ≡ D.files disk.old }
+    ensures tells { D.tells disk.new ≡ D.tells disk.old }
+    ensures cause { HasCause (D.faults disk.old) (D.faults disk.new) (IsErrOf result Refusal.Failed) }
+{
+    let mut filled = 0;
+    'reads: while filled < buf.len() {
+        match read_behind(disk, name, at, buf, filled) {
+            Ok(Some(0)) | Ok(None) => return Ok(filled),
+            Ok(Some(count)) => filled += count,
+            Err(refusal) => return Err(refusal),
+        }
+    }
+    Ok(filled)
+}
+
+/// Reads once, from behind the first `filled` bytes of what begins at place `at` of the file, into the
+/// room behind the first `filled` bytes of `buf`.
+fn read_behind<D: Disk>(
+    disk: &mut D,
+    name: &str,
+    at: u64,
+    buf: &mut [u8],
+    filled: usize,
+) -> Result<Option<usize>, Refusal>
+    requires room { filled < length buf.old }
+    requires fits { at + length buf.old < 2 ^ 64 }
+    ensures told { D.tells disk.old ≡ true → IfOk result (ReadsAt (file_at (D.files disk.old) name.now) (at + filled) (drop filled buf.new)) }
+    ensures front { take filled buf.new ≡ take filled buf.old }
+    ensures bound { IfOk result (λ found. IfSome found (λ count. filled + count ≤ length buf.new)) }
+    ensures same { D.files disk.new ≡ D.files disk.old }
+    ensures tells { D.tells disk.new ≡ D.tells disk.old }
+    ensures cause { HasCause (D.faults disk.old) (D.faults disk.new) (IsErrOf result Refusal.Failed) }
+{
+    disk.read_at(name, at + filled as u64, &mut buf[filled..])
 }

@@ -20,19 +20,19 @@ mod whole;
 mod writing;
 
 pub use count::Op;
-pub use disk::{Disk, DiskEntry, put_file};
+pub use disk::{Disk, DiskEntry, put_file, read_file, read_file_at};
 pub use failing::{FailingSink, FailingSource};
 pub use fault::{Failed, Refusal};
 pub use inputs::Inputs;
 pub use memory::{MemoryInputs, MemorySink, OwnedSource};
 pub use memory_disk::MemoryDisk;
 pub use read_at::ReadAt;
-pub use reader::read_whole;
+pub use reader::{read_exact_at, read_whole};
 pub use sink::Sink;
 pub use slices::{SliceReader, SliceSource};
 pub use source::Source;
 pub use streams::{StdSink, StdSource};
-pub use whole::{Unread, read_all};
+pub use whole::{Unread, read_all, read_full};
 pub use writing::write_all;
 
 #[cfg(test)]

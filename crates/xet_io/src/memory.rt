@@ -38,6 +38,13 @@ impl MemorySink {
     {
         &self.buffer
     }
+
+    /// Gives up the bytes that were written. It takes no memory.
+    pub fn into_bytes(self) -> Vec<u8>
+        ensures { result.items ≡ self }
+    {
+        self.buffer
+    }
 }
 
 impl Sink for MemorySink {

@@ -3,7 +3,7 @@
 ghost use Rattle.std.specs.Prelude.{◌≡◌, ◌≤◌, ◌<◌, ◌+◌, ◌^◌, true, length, vec_len, drop, take, IfOk, OnOk, IsErr, IsErrOf};
 ghost use Rattle.xet_io.specs.Faults.{HasCause};
 ghost use Rattle.xet_io.specs.Streams.{Reads};
-ghost use Rattle.xet_io.specs.Whole.{ReadsAll};
+ghost use Rattle.xet_io.specs.Whole.{Fills, ReadsAll};
 
 use crate::fault::Failed;
 use crate::source::Source;
@@ -63,6 +63,26 @@ pub fn read_all<S: Source>(
         }
     }
     Err(Unread::TooLong)
+}
+
+/// Reads until `buf` is full or the source has ended, and returns how many bytes it took, which stand at
+/// the front of `buf`.
+pub fn read_full<S: Source>(source: &mut S, buf: &mut [u8]) -> Result<usize, Failed>
+    ensures told { S.tells source.old ≡ true → Fills (S.left source.old) buf.new result (S.left source.new) }
+    ensures bound { IfOk result (λ count. count ≤ length buf.new) }
+    ensures tells { S.tells source.new ≡ S.tells source.old }
+    ensures cause { HasCause (S.faults source.old) (S.faults source.new) (IsErr result) }
+{
+    let len = buf.len();
+    let mut filled = 0;
+    'reads: while filled < len {
+        let count = read_behind(source, buf, filled, len)?;
+        if count == 0 {
+            return Ok(filled);
+        }
+        filled += count;
+    }
+    Ok(filled)
 }
 
 /// Makes room behind the first `filled` bytes, twice as much each time.

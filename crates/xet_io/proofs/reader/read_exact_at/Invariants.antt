@@ -1,0 +1,15 @@
+use Rattle.std.proofs.Common.{◌≡◌, ◌≤◌, ◌-◌, true, drop, length, take}
+use Rattle.xet_io.proofs.reader.read_exact_at.Given as goal
+
+abbrev pub invariant-reads : goal.invariant-reads
+invariant-reads g l = record {
+  room : l.filled ≤ length l.buf;
+  len : length l.buf ≡ length l.fn.buf;
+  read : g.R.ReadAt.tells l.fn.reader ≡ true → take l.filled (drop l.at (g.R.ReadAt.bytes l.fn.reader)) ≡ take l.filled l.buf;
+  same : g.R.ReadAt.bytes l.reader ≡ g.R.ReadAt.bytes l.fn.reader;
+  tells : g.R.ReadAt.tells l.reader ≡ g.R.ReadAt.tells l.fn.reader;
+  later : g.R.ReadAt.faults l.fn.reader ≤ g.R.ReadAt.faults l.reader;
+}
+
+abbrev pub decreases-reads : goal.decreases-reads
+decreases-reads g l = length l.initial.buf - l.filled
