@@ -4,8 +4,8 @@ ghost use Rattle.std.specs.Prelude.{◌≡◌};
 ghost use Rattle.xet_hash.specs.Blake3.{keyed_digest, plain_digest};
 ghost use Rattle.xet_hash.specs.Keys.{data_key, node_key};
 
-use crate::blake3;
 use crate::data_hash::DataHash;
+use crate::hasher::DataHasher;
 
 /// The key of chunks' digests: the bytes 1 to 32.
 pub(crate) const DATA_KEY: [u8; 32] = [
@@ -43,12 +43,16 @@ pub fn compute_internal_node_hash(bytes: &[u8]) -> DataHash
 pub fn plain_hash(bytes: &[u8]) -> DataHash
     ensures { result ≡ plain_digest bytes.now }
 {
-    DataHash::from_bytes(blake3::plain(bytes))
+    let mut hasher = DataHasher::plain();
+    hasher.update(bytes);
+    hasher.finish_in_mode()
 }
 
 /// BLAKE3 under a key.
 pub(crate) fn keyed_hash(key: &[u8; 32], bytes: &[u8]) -> DataHash
     ensures { result ≡ keyed_digest key.now bytes.now }
 {
-    DataHash::from_bytes(blake3::keyed(key, bytes))
+    let mut hasher = DataHasher::new(*key);
+    hasher.update(bytes);
+    hasher.finish()
 }

@@ -3,10 +3,12 @@
 
 mod blake3;
 mod data_hash;
+pub mod definition;
 mod digest;
 mod error;
 mod hasher;
 pub mod laws;
+mod maps;
 mod merkle;
 mod open_chunk;
 mod range;
@@ -19,6 +21,7 @@ pub use data_hash::{
 pub use digest::{VERIFICATION_KEY, compute_data_hash, compute_internal_node_hash, plain_hash};
 pub use error::{Field, Place, Reason, Refused, StoreError, What};
 pub use hasher::DataHasher;
+pub use maps::{MerkleHashMap, PassThroughHashMap, TruncatedMerkleHashMap};
 pub use merkle::{file_hash, file_hash_with_salt, xorb_hash};
 pub use range::range_hash_from_chunks;
 
