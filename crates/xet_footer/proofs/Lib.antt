@@ -1,0 +1,11 @@
+pub mod Moving
+pub mod Pieces
+pub mod Texts
+pub mod Listing
+pub mod Fronts
+pub mod Steps
+pub mod Shorts
+pub mod Known
+pub mod Starts
+pub mod Taking
+pub mod Readback

@@ -1,0 +1,30 @@
+-- What is written of a footer is read back.
+use Rattle.std.specs.Prelude.{◌≡◌, ◌<◌, ◌≤◌, ℕ, ◌+◌, ◌*◌, ◌^◌, List, ◌++◌, length, Ok}
+use Rattle.std.specs.List.{AllByRecursion}
+use Rattle.xet_footer.specs.declared.info.XorbObjectInfoV1.{XorbObjectInfoV1}
+use Rattle.xet_footer.specs.Reading.{footer_at}
+use Rattle.xet_footer.specs.Spelled.{HasLists, boundaries_ident, footer_ident, hashes_ident, most_chunks, text_v1}
+
+-- a footer of version 1 as it is to be
+pub record IsStandard (i : XorbObjectInfoV1) : Type 0 where
+  pub ident : i.ident ≡ footer_ident
+  pub version : i.version ≡ 1
+  pub hash : length i.xorb_hash ≡ 32
+  pub hashes_ident : i.ident_hash_section ≡ hashes_ident
+  pub hashes_version : i.hashes_version ≡ 0
+  pub boundaries_ident : i.ident_boundary_section ≡ boundaries_ident
+  pub boundaries_version : i.boundaries_version ≡ 1
+  pub few : i.num_chunks ≤ most_chunks
+  pub lists : HasLists i
+  pub whole_hashes : AllByRecursion (λ h. length h ≡ 32) i.chunk_hashes
+  pub small_stored : AllByRecursion (λ n. n < 2 ^ 32) i.chunk_boundary_offsets
+  pub small_plain : AllByRecursion (λ n. n < 2 ^ 32) i.unpacked_chunk_offsets
+  pub hashes_offset : i.hashes_section_offset_from_end ≡ 52 + 40 * i.num_chunks
+  pub boundary_offset : i.boundary_section_offset_from_end ≡ 40 + 8 * i.num_chunks
+  pub spare : length i.spare ≡ 16
+
+abbrev pub WrittenIsRead : Type 0
+WrittenIsRead = (i : XorbObjectInfoV1) (more : List ℕ) → IsStandard i → footer_at (text_v1 i ++ more) ≡ Ok (i, more)
+
+abbrev pub LengthIsKnown : Type 0
+LengthIsKnown = (i : XorbObjectInfoV1) → IsStandard i → length (text_v1 i) ≡ 92 + 40 * i.num_chunks

@@ -1,0 +1,9 @@
+pub mod Spelled
+pub mod Reading
+pub mod Written
+pub mod Held
+pub mod Items
+pub mod Machine
+pub mod Reader
+pub mod Refusals
+pub mod Laws

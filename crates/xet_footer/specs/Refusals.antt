@@ -1,0 +1,42 @@
+-- Why a footer is refused, and what a call that reads one returns.
+use Rattle.std.specs.Prelude.{◌≡◌, Bool, true, false, Result, Ok, Err}
+use Rattle.xet_hash.specs.declared.error.Place.TheVariants.{Input}
+use Rattle.xet_hash.specs.declared.error.Reason.{Reason}
+use Rattle.xet_hash.specs.declared.error.Reason.TheVariants as reasons
+use Rattle.xet_hash.specs.declared.error.StoreError.{StoreError}
+use Rattle.xet_hash.specs.declared.error.StoreError.TheVariants as errors
+
+-- a check of a footer
+abbrev pub is_check : Reason → Bool
+is_check reasons.Ident = true
+is_check reasons.Version = true
+is_check reasons.HashesIdent = true
+is_check reasons.HashesVersion = true
+is_check reasons.BoundariesIdent = true
+is_check reasons.BoundariesVersion = true
+is_check reasons.ChunkCount = true
+is_check reasons.CountMismatch = true
+is_check reasons.HashesOffset = true
+is_check reasons.BoundaryOffset = true
+is_check reason = false
+
+-- a refusal of the bytes, or for want of memory
+abbrev pub IsRefusal : StoreError → Type 0
+IsRefusal errors.OutOfMemory = Unit {0}
+IsRefusal errors.UnexpectedEof = Unit {0}
+IsRefusal (errors.MalformedData reason) = is_check reason ≡ true
+IsRefusal e = ⊥
+
+-- what a call that reads a footer from a source may refuse with
+abbrev pub IsFooterRefusal : StoreError → Type 0
+IsFooterRefusal (errors.Io place) = place ≡ Input
+IsFooterRefusal e = IsRefusal e
+
+-- what a function returned, seen by view, is this, unless memory was wanting
+abbrev pub Fails : {Y : Type 0} → StoreError → Result Y StoreError → Type 0
+Fails errors.OutOfMemory read = Unit {0}
+Fails e read = read ≡ Err e
+
+abbrev pub Gives : {X Y : Type 0} → (X → Y) → Result X StoreError → Result Y StoreError → Type 0
+Gives view (Ok x) read = read ≡ Ok (view x)
+Gives view (Err e) read = Fails e read
