@@ -1,13 +1,15 @@
 -- How many rows and items there are.
-use Rattle.std.proofs.Common.{◌≡◌, ℕ, suc, ◌+◌, ◌^◌, ◌<◌, ◌≤◌, List, [], ◌∷◌, length, refl, ap, ◌∙◌, arith, length-append}
+use Rattle.std.proofs.Common.{◌≡◌, ℕ, Bool, true, false, cond, suc, ◌+◌, ◌^◌, ◌<◌, ◌≤◌, List, [], ◌∷◌, ◌++◌, length, refl, sym, ap, ◌∙◌, arith, length-append}
 use Rattle.std.specs.List.{flat_map}
+use Rattle.std.proofs.lemmas.Grind.{flat_map-append}
 use Rattle.std.proofs.lemmas.List.{length-map}
 use Rattle.xet_shard.specs.declared.row.Row.{Row}
 use Rattle.xet_shard.specs.declared.record.MDBFileInfo.{MDBFileInfo}
 use Rattle.xet_shard.specs.declared.record.MDBXorbInfo.{MDBXorbInfo}
 use Rattle.xet_shard.specs.declared.record.XorbChunkSequenceEntry.{XorbChunkSequenceEntry}
 use Rattle.xet_shard.specs.Records.{chunk_row, end_row, file_hash, file_head, file_rest, file_rows, file_section, section, xorb_hash, xorb_head, xorb_rest, xorb_rows, xorb_section}
-use Rattle.xet_shard.specs.Lookups.{chunk_items, chunks_from, file_items, heads_from, place_cmp, places_from, xorb_items}
+use Rattle.xet_shard.specs.Lookups.{Lookups, chunk_items, chunks_from, file_items, heads_from, left_in, place_cmp, places_from, xorb_items}
+use Rattle.xet_shard.specs.Text.{Shard, footer_of, footer_with, materialized, stored}
 use Rattle.xet_shard.proofs.SectionLaws.{section_cons}
 use Rattle.xet_shard.proofs.Sorting.{length-sorted}
 
@@ -49,3 +51,31 @@ chunks_in at (x ∷ xs) =
 
 pub chunk_count : (blocks : List MDBXorbInfo) → length (chunk_items blocks) + length blocks + 1 ≡ length (xorb_section blocks)
 chunk_count blocks = omega (arith, length-sorted place_cmp (chunks_from 0 blocks), chunks_in 0 blocks)
+
+-- with one more record at the end there are more rows than records before
+pub before_last : {X : Type 0} (head : X → Row) (others : X → List Row) (xs : List X) (x : X) (n : ℕ) → length (section (λ x. head x ∷ others x) (xs ++ x ∷ [])) < n → length xs < n
+before_last head others xs x n few = omega (arith, rows_le head others (xs ++ x ∷ []), length-append xs (x ∷ []), few)
+
+-- more records have no fewer rows
+pub fewer_rows : {X : Type 0} (rows : X → List Row) (xs ys : List X) → length (section rows xs) ≤ length (section rows (xs ++ ys))
+fewer_rows rows xs ys =
+    omega (arith, ap length (flat_map-append rows xs ys), length-append (flat_map rows xs) (flat_map rows ys), length-append (flat_map rows xs) (end_row ∷ []), length-append (flat_map rows (xs ++ ys)) (end_row ∷ []))
+
+-- the items of a look-up that stands or is left out
+pub length-left_in : {X : Type 0} (stands : Bool) (items : List X) → length (left_in stands items) ≡ cond stands (length items) 0
+length-left_in true items = refl
+length-left_in false items = refl
+
+-- the footer of so many rows and items, of which those of a look-up that is left out are not counted
+pub footer_counted : (w : Lookups) (s : Shard) {file_rows xorb_rows files xorbs chunks all_files all_xorbs all_chunks bytes stored_bytes : ℕ} → file_rows ≡ length (file_section s.files) → xorb_rows ≡ length (xorb_section s.blocks)
+    → files ≡ cond w.files all_files 0 → xorbs ≡ cond w.xorbs all_xorbs 0 → chunks ≡ cond w.chunks all_chunks 0
+    → all_files ≡ length (file_items s.files) → all_xorbs ≡ length (xorb_items s.blocks) → all_chunks ≡ length (chunk_items s.blocks)
+    → bytes ≡ materialized s.files → stored_bytes ≡ stored s.blocks
+    → footer_with file_rows xorb_rows files xorbs chunks s.key s.creation s.expiry bytes stored_bytes ≡ footer_of w s
+unfolding footer_of
+footer_counted w s e1 e2 f x k all_f all_x all_k m t =
+    let counted = λ (stands : Bool) (n all count : ℕ) (left : ℕ) (a : n ≡ cond stands all 0) (b : all ≡ count) (l : left ≡ cond stands count 0). a ∙ ap (λ (j : ℕ). cond stands j 0) b ∙ sym l in
+    let ef = counted w.files _ _ _ _ f all_f (length-left_in w.files (file_items s.files)) in
+    let ex = counted w.xorbs _ _ _ _ x all_x (length-left_in w.xorbs (xorb_items s.blocks)) in
+    let ek = counted w.chunks _ _ _ _ k all_k (length-left_in w.chunks (chunk_items s.blocks)) in
+    λ i. footer_with (e1 i) (e2 i) (ef i) (ex i) (ek i) s.key s.creation s.expiry (m i) (t i)

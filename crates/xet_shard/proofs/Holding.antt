@@ -1,18 +1,18 @@
 -- Tables of records under their hashes, and what is put last in them.
-use Rattle.std.proofs.Common.{◌≡◌, ◌≢◌, ◌<◌, ◌^◌, ◌∙◌, ℕ, Bool, true, false, cond, not, List, [], ◌∷◌, ◌++◌, filter, length, nat_eq, refl, sym, ap, subst}
+use Rattle.std.proofs.Common.{◌≡◌, ◌≢◌, ◌<◌, ◌^◌, ◌∙◌, ℕ, Bool, true, false, cond, not, List, [], ◌∷◌, ◌++◌, filter, length, nat_eq, None, Some, refl, sym, ap, subst, arith}
 use Rattle.std.proofs.lemmas.Bool.{true≢false}
 use Rattle.std.proofs.lemmas.List.{map-append}
 use Rattle.std.specs.Cmp.Lexicographic.{bytes_decides, nat_list_eq_equiv, pointwise}
 use Rattle.std.specs.List.{AllByRecursion}
-use Rattle.std.specs.Map.{remove_entry, values_of}
+use Rattle.std.specs.Map.{lookup, remove_entry, values_of}
 use Rattle.xet_shard.specs.declared.record.MDBFileInfo.{MDBFileInfo}
 use Rattle.xet_shard.specs.declared.record.MDBXorbInfo.{MDBXorbInfo}
-use Rattle.xet_shard.specs.Held.{DifferBy, Held, IsHeld, Keyed, held, with_last}
+use Rattle.xet_shard.specs.Held.{DifferBy, Held, IsHeld, Keyed, held, nothing, record_of, with_last}
 use Rattle.xet_hash.specs.Hash.{marker}
 use Rattle.xet_shard.specs.Records.{IsFile, IsXorb, file_hash, file_section, xorb_hash, xorb_section}
 
 -- whether a record has another hash
-abbrev is_other : {X : Type 0} → (X → List ℕ) → List ℕ → X → Bool
+abbrev pub is_other : {X : Type 0} → (X → List ℕ) → List ℕ → X → Bool
 is_other hash h y = not (pointwise nat_eq (hash y) h)
 
 same : (a b : List ℕ) → pointwise nat_eq a b ≡ true → a ≡ b
@@ -66,7 +66,7 @@ filter_all {X} hash h (x ∷ xs) all =
     ap (λ b. cond (not b) (x ∷ rest) rest) (differs (hash x) h (λ e. all.0 (sym e))) ∙ ap (λ l. x ∷ l) (filter_all hash h xs all.1)
 
 -- without the entry of a hash, the records are those of other hashes
-values_removed : {X : Type 0} (hash : X → List ℕ) (h : List ℕ) (es : List (List ℕ × X)) → Keyed hash es → DifferBy hash (values_of es)
+pub values_removed : {X : Type 0} (hash : X → List ℕ) (h : List ℕ) (es : List (List ℕ × X)) → Keyed hash es → DifferBy hash (values_of es)
     → values_of (remove_entry (pointwise nat_eq h) es) ≡ filter (is_other hash h) (values_of es)
 values_removed hash h [] keyed differ = refl
 values_removed {X} hash h (e ∷ es) keyed differ = by (pointwise nat_eq h e.0) refl (values_removed hash h es keyed.1 differ.1)
@@ -126,3 +126,38 @@ held_with_file h file is form hash few = record {
   few_blocks = is.few_blocks;
   few_files = few;
 }
+
+-- a hash that is not there is not taken out
+pub removed_none : {X : Type 0} (test : List ℕ → Bool) (es : List (List ℕ × X)) → lookup test es ≡ None → remove_entry test es ≡ es
+removed_none test [] none = refl
+removed_none {X} test (e ∷ es) none = by (test e.0) none (removed_none test es)
+  where
+    by : (b : Bool) → cond b (Some e.1) (lookup test es) ≡ None → (lookup test es ≡ None → remove_entry test es ≡ es) → cond b es (e ∷ remove_entry test es) ≡ e ∷ es
+    by true n later = absurd cc
+    by false n later = ap (λ l. e ∷ l) (later n)
+
+filter_none : {X : Type 0} (hash : X → List ℕ) (h : List ℕ) (es : List (List ℕ × X)) → Keyed hash es → lookup (pointwise nat_eq h) es ≡ None → filter (is_other hash h) (values_of es) ≡ values_of es
+filter_none hash h [] keyed none = refl
+filter_none {X} hash h (e ∷ es) keyed none = by (pointwise nat_eq h e.0) refl none (filter_none hash h es keyed.1)
+  where
+    rest : List X
+    rest = filter (is_other hash h) (values_of es)
+
+    by : (b : Bool) → pointwise nat_eq h e.0 ≡ b → cond b (Some e.1) (lookup (pointwise nat_eq h) es) ≡ None → (lookup (pointwise nat_eq h) es ≡ None → rest ≡ values_of es)
+        → filter (is_other hash h) (e.1 ∷ values_of es) ≡ e.1 ∷ values_of es
+    by true t n later = absurd cc
+    by false t n later =
+        ap (λ c. cond (not c) (e.1 ∷ rest) rest) (nat_list_eq_equiv.symm (hash e.1) h ∙ ap (pointwise nat_eq h) (sym keyed.0) ∙ t)
+        ∙ ap (λ l. e.1 ∷ l) (later n)
+
+-- nothing goes for a record of a new hash
+pub last_new : {X : Type 0} (hash : X → List ℕ) (es : List (List ℕ × X)) (x : X) → Keyed hash es → lookup (pointwise nat_eq (hash x)) es ≡ None → with_last hash (values_of es) x ≡ values_of es ++ x ∷ []
+last_new hash es x keyed none = ap (λ l. l ++ x ∷ []) (filter_none hash (hash x) es keyed none)
+
+pub nothing_held : IsHeld nothing
+nothing_held = record { blocks = tt; files = tt; blocks_differ = tt; files_differ = tt; few_blocks = omega arith; few_files = omega arith }
+
+-- a look-up finds the record of a hash
+pub record_found : {X : Type 0} (hash : X → List ℕ) (h : List ℕ) (es : List (List ℕ × X)) → Keyed hash es → lookup (pointwise nat_eq h) es ≡ record_of hash h (values_of es)
+record_found hash h [] keyed = refl
+record_found {X} hash h (e ∷ es) keyed = λ j. cond (pointwise nat_eq h (keyed.0 j)) (Some e.1) (record_found hash h es keyed.1 j)

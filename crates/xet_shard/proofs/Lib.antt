@@ -17,8 +17,24 @@ pub mod Finding
 pub mod Steps
 pub mod Growing
 mod Capitals
-mod Holding
+pub mod Holding
 mod Sizes
-mod Refusing
-mod Rising
+pub mod Refusing
+pub mod Rising
 mod Lengths
+pub mod FirstLast
+pub mod Faulting
+pub mod ItemLists
+pub mod PartLaws
+mod ItemsAgain
+mod PartsAgain
+mod AskedAgain
+mod Placing
+mod Running
+mod OneRecord
+mod Asking
+pub mod Keying
+pub mod Exporting
+pub mod Merging
+pub mod Uniting
+pub mod Alike

@@ -1,6 +1,8 @@
 -- Reading refuses bytes that end too early, or that fail a check, and nothing else.
-use Rattle.std.proofs.Common.{◌≡◌, ℕ, zero, suc, ◌+◌, ◌-◌, ◌*◌, ◌^◌, Bool, true, false, List, [], ◌∷◌, length, drop, take, replicate, nat_eq, nat_le, nat_lt, if◌then◌else◌, Option, None, Some, Result, Ok, Err, IfErr, IsErrOf, subst, refl}
+use Rattle.std.proofs.Common.{◌≡◌, ℕ, zero, suc, ◌+◌, ◌-◌, ◌*◌, ◌^◌, ◌≤◌, Bool, true, false, List, [], ◌∷◌, length, drop, take, replicate, nat_eq, nat_le, nat_lt, if◌then◌else◌, Option, None, Some, Result, Ok, Err, IfErr, IsErrOf, subst, refl, ap}
 use Rattle.xet_hash.specs.declared.error.Place.{Place}
+use Rattle.xet_hash.specs.declared.error.Place.TheVariants.{Input}
+use Rattle.xet_io.specs.Faults.{HasCause}
 use Rattle.xet_hash.specs.declared.error.Reason.{Reason}
 use Rattle.xet_hash.specs.declared.error.Reason.TheVariants.{Lookup, SectionPlace, Totals}
 use Rattle.xet_hash.specs.declared.error.StoreError.{StoreError}
@@ -13,6 +15,8 @@ use Rattle.xet_hash.specs.Hash.{marker}
 use Rattle.xet_shard.specs.Records.{file_hash, flags_of, is_after, xorb_hash}
 use Rattle.xet_shard.specs.Rows.{word}
 use Rattle.xet_shard.specs.Text.{tag}
+use Rattle.xet_shard.specs.Pieces.{footer_of_last, header_of_first}
+use Rattle.xet_shard.proofs.FirstLast.{footer_is, header_is}
 use Rattle.xet_shard.specs.Reading.{Fails, Gives, GivesUnlessFault, IsShardRefusal, Parts, all_of, chunk_in, chunks_at, end_at, ext_at, file_at, file_row_count, footer_at, footer_in, has_ext, is_verified, xorb_row_count, hash_at, hash_in, header_at, lookup_at, places_at, reaches, row_at, section_at, segment_at, step_at, times, totals_at, verification_at, wants, xorb_at, ◌>>=◌}
 
 abbrev pub IsOfBytes : StoreError → Type 0
@@ -84,7 +88,7 @@ unfolding ext_at
 an_ext false rows = fine _
 an_ext true rows = both (hash_at rows) _ (a_hash rows) (λ _. fine _)
 
-a_file : (head : Row) (rows : List Row) → IsAnswer (file_at head rows)
+pub a_file : (head : Row) (rows : List Row) → IsAnswer (file_at head rows)
 unfolding file_at
 a_file head rows =
     let checks : ℕ = if is_verified head.a then head.b else 0 in
@@ -104,7 +108,7 @@ some_chunks (suc n) at rows =
     both (row_at rows) _ (a_row rows) (λ r. both (chunk_in r.0 at) _ (a_chunk r.0 at) (λ c.
     both (chunks_at n (r.0.a + r.0.b) r.1) _ (some_chunks n (r.0.a + r.0.b) r.1) (λ cs. fine _)))
 
-a_xorb : (head : Row) (rows : List Row) → IsAnswer (xorb_at head rows)
+pub a_xorb : (head : Row) (rows : List Row) → IsAnswer (xorb_at head rows)
 unfolding xorb_at
 a_xorb head rows =
     test (head.a == 0) _ _ (test (head.d == 0) _ _ (both (chunks_at head.b 0 rows) _ (some_chunks head.b 0 rows) (λ chunks. test (chunks.1 == head.c) _ _ (fine _))))
@@ -120,7 +124,7 @@ module _ {X : Type 0} (record_at : Row → List Row → Result (X × List Row) S
       both (row_at rows) _ (a_row rows) (λ r. either (pointwise nat_eq r.0.hash marker) _ _ (both (end_at r.0 r.1) _ (an_end r.0 r.1) (λ _. fine _))
       (test (is_after last r.0.hash) _ _ (both (record_at r.0 r.1) _ (each r.0 r.1) (λ _. fine _))))
 
-  a_section : (hash : X → List ℕ) (n : ℕ) (last : Option (List ℕ)) (rows : List Row) → IsAnswer (section_at record_at hash n last rows)
+  pub a_section : (hash : X → List ℕ) (n : ℕ) (last : Option (List ℕ)) (rows : List Row) → IsAnswer (section_at record_at hash n last rows)
   unfolding section_at
   a_section hash zero last rows = fails (errors.MalformedData SectionPlace) tt
   a_section hash (suc n) last rows =
@@ -130,11 +134,14 @@ module _ {X : Type 0} (record_at : Row → List Row → Result (X × List Row) S
         | Some y ↦ both (section_at record_at hash n (Some (hash y)) x.1) _ (a_section hash n (Some (hash y)) x.1) (λ _. fine _)
       ])
 
+pub a_first : (len : ℕ) (first : List ℕ) → IsAnswer (header_of_first len first)
+unfolding header_of_first
+a_first len first =
+    reach (nat_le 32 len) _ (test (pointwise nat_eq (take 32 first) tag) _ _ (reach (nat_le 40 len) _ (test (word first 32 == 2) _ _
+    (reach (nat_le 48 len) _ (test (word first 40 == 200) _ _ (reached (nat_le 248 len)))))))
+
 a_header : (bytes : List ℕ) → IsAnswer (header_at bytes)
-unfolding header_at
-a_header bytes =
-    reach (nat_le 32 (length bytes)) _ (test (pointwise nat_eq (take 32 bytes) tag) _ _ (reach (nat_le 40 (length bytes)) _ (test (word bytes 32 == 2) _ _
-    (reach (nat_le 48 (length bytes)) _ (test (word bytes 40 == 200) _ _ (reached (nat_le 248 (length bytes))))))))
+a_header bytes = subst IsAnswer (header_is bytes) (a_first (length bytes) bytes)
 
 some_places : (len : ℕ) (f : MDBShardFileFooter) → IsAnswer (places_at len f)
 unfolding places_at
@@ -145,12 +152,14 @@ some_places len f =
     (test (f.chunk_lookup_offset == f.xorb_lookup_offset + 12 * f.xorb_lookup_num_entry) _ _
     (test (f.footer_offset == f.chunk_lookup_offset + 16 * f.chunk_lookup_num_entry) _ _ (wanted (len == f.footer_offset + 200) SectionPlace))))))))
 
+pub a_last : (len : ℕ) (last : List ℕ) → IsAnswer (footer_of_last len last)
+unfolding footer_of_last
+a_last len last =
+    test (word last 0 == 1) _ _ (test (pointwise nat_eq (take 48 (drop 120 last)) (replicate 48 0)) _ _
+    (both (places_at len (footer_in last)) _ (some_places len (footer_in last)) (λ _. fine _)))
+
 a_footer : (bytes : List ℕ) → IsAnswer (footer_at bytes)
-unfolding footer_at
-a_footer bytes =
-    let end : List ℕ = drop (length bytes - 200) bytes in
-    test (word end 0 == 1) _ _ (test (pointwise nat_eq (take 48 (drop 120 end)) (replicate 48 0)) _ _
-    (both (places_at (length bytes) (footer_in end)) _ (some_places (length bytes) (footer_in end)) (λ _. fine _)))
+a_footer bytes = subst IsAnswer (footer_is bytes) (a_last (length bytes) (drop (length bytes - 200) bytes))
 
 a_lookup : (bytes : List ℕ) (at len : ℕ) (text : List ℕ) → IsAnswer (lookup_at bytes at len text)
 unfolding lookup_at
@@ -195,9 +204,13 @@ gives_unless : {X Y : Type 0} (view : X → Y) (result : Result X StoreError) (r
 gives_unless view (Ok x) read answers gives = gives
 gives_unless view (Err e) read answers gives = fault_none view e read answers gives
 
+-- what was read of a part of some bytes is so of the whole
+pub gives_whole : {X Y : Type 0} (view : X → Y) (result : Result X StoreError) (read whole : Result Y StoreError) → IsAnswer read → read ≡ whole → Gives view result read → GivesUnlessFault view result whole
+gives_whole {X} {Y} view result read whole answers same gives =
+    subst (λ (r : Result Y StoreError). GivesUnlessFault view result r) same (gives_unless view result read answers gives)
+
 pub gives_all : {X : Type 0} (view : X → Parts) (result : Result X StoreError) (bytes whole : List ℕ) → bytes ≡ whole → Gives view result (all_of bytes) → GivesUnlessFault view result (all_of whole)
-gives_all view result bytes whole same gives =
-    subst (λ (b : List ℕ). GivesUnlessFault view result (all_of b)) same (gives_unless view result (all_of bytes) (all_answers bytes) gives)
+gives_all view result bytes whole same gives = gives_whole view result (all_of bytes) (all_of whole) (all_answers bytes) (ap all_of same) gives
 
 allowed : {Y : Type 0} (e : StoreError) (read : Result Y StoreError) → IsAnswer read → Fails e read → IsShardRefusal e
 allowed errors.OutOfMemory read answers fails = tt
@@ -225,3 +238,10 @@ refuses view (Err e) read answers gives = allowed e read answers gives
 pub no_fault : {X Y : Type 0} (view : X → Y) (result : Result X StoreError) (read : Result Y StoreError) (place : Place) → IsAnswer read → Gives view result read → IsErrOf result (errors.Io place) → ⊥
 no_fault {X} {Y} view result read place answers gives failed =
     of_bytes (errors.Io place) read answers (subst (λ (r : Result X StoreError). Gives view r read) failed gives)
+
+-- the cause of a failure of what comes before reading
+pub cause_before : {X Y : Type 0} (view : X → Y) (result : Result X StoreError) (read : Result Y StoreError) (before now : ℕ) → IsAnswer read → Gives view result read → before ≤ now → HasCause before now (IsErrOf result (errors.Io Input))
+cause_before view result read before now answers gives later = record {
+  later = later;
+  rose = λ failed. absurd (no_fault view result read Input answers gives failed);
+}

@@ -23,7 +23,7 @@ use Rattle.xet_shard.specs.Sorted.{put_in, sorted}
 use Rattle.xet_shard.specs.Text.{IsShard}
 use Rattle.xet_shard.proofs.Sorting.{sorted_apart}
 
-hash_total : IsTotalOrder hash_cmp
+pub hash_total : IsTotalOrder hash_cmp
 hash_total = on_texts flipped
 
 -- ---- the order of hashes
@@ -34,7 +34,7 @@ turned Equal p e less other = absurd (other refl)
 turned Greater p e less other = ap is_lt e
 
 -- of two hashes that differ, one is less
-other_less : (a b : List ℕ) → a ≢ b → is_lt (hash_cmp b a) ≡ false → is_lt (hash_cmp a b) ≡ true
+pub other_less : (a b : List ℕ) → a ≢ b → is_lt (hash_cmp b a) ≡ false → is_lt (hash_cmp a b) ≡ true
 other_less a b unequal less = turned (hash_cmp b a) (hash_cmp a b) (hash_total.antisymm a b) less (λ e. unequal (sym (hash_equal b a e)))
 
 -- ---- what is put in

@@ -1,6 +1,9 @@
 -- The rows at the front of bytes.
-use Rattle.std.proofs.Common.{◌≡◌, ℕ, zero, suc, ◌-◌, ◌<◌, List, [], ◌∷◌, length, drop, refl, ap, arith}
-use Rattle.xet_shard.specs.Rows.{row_of, rows_in}
+use Rattle.std.proofs.Common.{◌+◌, ◌*◌, ◌≤◌, take, ◌∙◌, ◌≡◌, ℕ, zero, suc, ◌-◌, ◌<◌, List, [], ◌∷◌, length, drop, refl, ap, arith}
+use Rattle.std.proofs.lemmas.List.{drop-take, take-take}
+use Rattle.xet_shard.specs.declared.row.Row.{Row}
+use Rattle.xet_shard.specs.Rows.{row, row_of, rows_in}
+use Rattle.xet_shard.proofs.FirstLast.{half_word_first}
 
 pub length-rows_in : (n : ℕ) (bytes : List ℕ) → length (rows_in n bytes) ≡ n
 unfolding rows_in
@@ -16,3 +19,15 @@ unfolding rows_in
 rows_next n bytes lt =
     let e : n ≡ suc (n - 1) = omega arith in
     ap (λ (k : ℕ). rows_in k bytes) e
+
+-- the first rows are those of the first bytes
+pub row_first : (m : ℕ) (bytes : List ℕ) → 48 ≤ m → row_of (take m bytes) ≡ row_of bytes
+unfolding row_of
+row_first m bytes le = λ i. row (take-take 32 m bytes (omega arith) i) (half_word_first 32 m bytes (omega arith) i) (half_word_first 36 m bytes (omega arith) i) (half_word_first 40 m bytes (omega arith) i) (half_word_first 44 m bytes (omega arith) i)
+
+pub rows_first : (n : ℕ) (bytes : List ℕ) → rows_in n (take (48 * n) bytes) ≡ rows_in n bytes
+unfolding rows_in
+rows_first zero bytes = refl
+rows_first (suc n) bytes =
+    let more : 48 * suc n ≡ 48 + 48 * n = omega arith in
+    (λ i. row_first (48 * suc n) bytes (omega arith) i ∷ rows_in n (drop 48 (take (more i) bytes))) ∙ (λ i. row_of bytes ∷ rows_in n (drop-take 48 (48 * n) bytes i)) ∙ ap (λ (rs : List Row). row_of bytes ∷ rs) (rows_first n (drop 48 bytes))

@@ -1,14 +1,18 @@
 -- How many bytes records add to a shard.
-use Rattle.std.proofs.Common.{◌≡◌, ℕ, ◌+◌, ◌*◌, ◌^◌, ◌<◌, ◌≤◌, List, [], ◌∷◌, length, arith}
+use Rattle.std.proofs.Common.{◌≡◌, ℕ, ◌+◌, ◌*◌, ◌^◌, ◌<◌, ◌≤◌, Bool, List, [], ◌∷◌, ◌++◌, filter, length, nat_eq, option_map, unwrap_or, ap, arith}
 use Rattle.std.proofs.lemmas.List.{length-append, length-map}
 use Rattle.std.proofs.lemmas.List.Concat.{length-flat_map}
-use Rattle.std.proofs.lemmas.List.Sums.{sum_by-cons, sum_by-le-sum_by}
+use Rattle.std.proofs.lemmas.List.Sums.{sum_by-append, sum_by-cons, sum_by-le-sum_by}
+use Rattle.std.proofs.lemmas.Map.Entries.{sum_by-remove_entry}
+use Rattle.std.specs.Cmp.Lexicographic.{pointwise}
+use Rattle.std.specs.Map.{lookup, remove_entry, values_of}
 use Rattle.std.specs.List.{flat_map, sum_by}
 use Rattle.xet_shard.specs.declared.record.MDBFileInfo.{MDBFileInfo}
 use Rattle.xet_shard.specs.declared.record.MDBXorbInfo.{MDBXorbInfo}
 use Rattle.xet_shard.specs.declared.row.Row.{Row}
-use Rattle.xet_shard.specs.Held.{file_record_size, xorb_record_size}
+use Rattle.xet_shard.specs.Held.{DifferBy, Keyed, file_record_size, with_last, xorb_record_size}
 use Rattle.xet_shard.specs.Records.{chunk_row, file_rows, file_section, section, xorb_rows, xorb_section}
+use Rattle.xet_shard.proofs.Holding.{is_other, values_removed}
 
 -- a number times a sum
 times_sum : {X : Type 0} (f : X → ℕ) (xs : List X) → sum_by (λ x. 64 * f x) xs ≡ 64 * sum_by f xs
@@ -34,3 +38,17 @@ few_xorb_bytes blocks = few xorb_rows xorb_record_size blocks (λ x. omega (arit
 
 pub few_file_bytes : (files : List MDBFileInfo) → length (file_section files) < 2 ^ 32 → sum_by file_record_size files < 2 ^ 38
 few_file_bytes files = few file_rows file_record_size files (λ f. omega arith)
+
+-- what the record of a hash adds is a part of the sum, and goes where another takes its place
+pub part_le : {X : Type 0} (size : X → ℕ) (test : List ℕ → Bool) (es : List (List ℕ × X)) → unwrap_or (option_map size (lookup test es)) 0 ≤ sum_by size (values_of es)
+part_le size test es = omega (arith, sum_by-remove_entry size test es)
+
+pub sum_last : {X : Type 0} (size : X → ℕ) (hash : X → List ℕ) (es : List (List ℕ × X)) (x : X) (h : List ℕ) → h ≡ hash x → Keyed hash es → DifferBy hash (values_of es)
+    → sum_by size (with_last hash (values_of es) x) + unwrap_or (option_map size (lookup (pointwise nat_eq h) es)) 0 ≡ sum_by size (values_of es) + size x
+sum_last {X} size hash es x h is keyed differ =
+    let stay : List X = filter (is_other hash (hash x)) (values_of es) in
+    let split : sum_by size (stay ++ x ∷ []) ≡ sum_by size stay + sum_by size (x ∷ []) = sum_by-append size stay (x ∷ []) in
+    let one : sum_by size (x ∷ []) ≡ size x + 0 = sum_by-cons size x [] in
+    let same : sum_by size (values_of (remove_entry (pointwise nat_eq (hash x)) es)) ≡ sum_by size stay = ap (sum_by size) (values_removed hash (hash x) es keyed differ) in
+    let whole = sum_by-remove_entry size (pointwise nat_eq (hash x)) es in
+    rw is (omega (arith, split, one, same, whole))

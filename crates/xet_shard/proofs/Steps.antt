@@ -32,6 +32,10 @@ pub heads_step : {X : Type 0} (hash : X → List ℕ) (rows : X → List Row) (a
 unfolding heads_from
 heads_step hash rows at xs i x lt is = ap (heads_from hash rows at) (left xs i x lt is)
 
+pub heads_none : {X : Type 0} (hash : X → List ℕ) (rows : X → List Row) (at : ℕ) (xs : List X) (i : ℕ) → length xs ≤ i → heads_from hash rows at (drop i xs) ≡ []
+unfolding heads_from
+heads_none hash rows at xs i le = ap (heads_from hash rows at) (drop_all i xs le)
+
 -- the rows of what is left, from the record at i on
 pub section_left : {X : Type 0} (rows : X → List Row) (xs : List X) (i : ℕ) (x : X) → i < length xs → x ≡ get_or xs i x → section rows (drop i xs) ≡ rows x ++ section rows (drop (i + 1) xs)
 section_left rows xs i x below is = ap (section rows) (left xs i x below is) ∙ section_cons rows x (drop (i + 1) xs)
@@ -51,7 +55,7 @@ unfolding chunks_from
 chunks_step at xs i x lt is = ap (chunks_from at) (left xs i x lt is)
 
 -- one more at the end of what was found
-onto : {X : Type 0} (found : List X) (x : X) (rest total whole : List X) → whole ≡ x ∷ rest → found ++ whole ≡ total → (found ++ x ∷ []) ++ rest ≡ total
+pub onto : {X : Type 0} (found : List X) (x : X) (rest total whole : List X) → whole ≡ x ∷ rest → found ++ whole ≡ total → (found ++ x ∷ []) ++ rest ≡ total
 onto found x rest total whole e so_far = append_assoc found (x ∷ []) rest ∙ ap (λ (t : List _). found ++ t) (sym e) ∙ so_far
 
 pub places_more : (found total : List (ℕ × ℕ × ℕ)) (row place : ℕ) (cs : List XorbChunkSequenceEntry) (i : ℕ) (c : XorbChunkSequenceEntry) → i < length cs → c ≡ get_or cs i c

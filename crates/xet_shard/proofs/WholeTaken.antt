@@ -45,7 +45,7 @@ no_items size (suc n) len e z =
 same_items : (size n m : ℕ) → suc size * n ≡ suc size * m → n ≡ m
 same_items size n m e = let pos : 0 < suc size = omega arith in sym (mul-div_cancel_left n pos) ∙ ap (λ (k : ℕ). k / suc size) e ∙ mul-div_cancel_left m pos
 
-lookup_takes : {I : Type 0} (text : I → List ℕ) (size : ℕ) (each : (i : I) → length (text i) ≡ suc size) (items : List I) (bytes : List ℕ) (at n len : ℕ) (u : Unit {0}) → len ≡ suc size * n → at + len ≤ length bytes
+pub lookup_takes : {I : Type 0} (text : I → List ℕ) (size : ℕ) (each : (i : I) → length (text i) ≡ suc size) (items : List I) (bytes : List ℕ) (at n len : ℕ) (u : Unit {0}) → len ≡ suc size * n → at + len ≤ length bytes
     → lookup_at bytes at len (flat_map text items) ≡ Ok u → LeftIn text items n (take len (drop at bytes))
 unfolding lookup_at
 lookup_takes text size each items bytes at n len u e le h =

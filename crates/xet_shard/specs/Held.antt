@@ -1,5 +1,5 @@
 -- What a shard in memory holds, and the shard that is written of it.
-use Rattle.std.specs.Prelude.{◌≡◌, ◌≢◌, ◌<◌, ℕ, ◌+◌, ◌-◌, ◌*◌, ◌^◌, List, [], ◌∷◌, ◌++◌, filter, length, not, nat_eq, Option, unwrap_or}
+use Rattle.std.specs.Prelude.{◌≡◌, ◌≢◌, ◌<◌, ℕ, ◌+◌, ◌-◌, ◌*◌, ◌^◌, List, [], ◌∷◌, ◌++◌, filter, length, not, nat_eq, Option, Some, None, if◌then◌else◌, unwrap_or}
 use Rattle.std.specs.Cmp.Lexicographic.{pointwise}
 use Rattle.std.specs.List.{AllByRecursion, sum_by}
 use Rattle.xet_hash.specs.declared.error.Place.TheVariants.{Output}
@@ -41,6 +41,11 @@ pub record IsHeld (h : Held) : Type 0 where
   pub files_differ : DifferBy file_hash h.files
   pub few_blocks : length (xorb_section h.blocks) < 2 ^ 32
   pub few_files : length (file_section h.files) < 2 ^ 32
+
+-- the record of a hash, if there is one
+abbrev pub record_of : {X : Type 0} → (X → List ℕ) → List ℕ → List X → Option X
+record_of hash h [] = None
+record_of hash h (x ∷ xs) = if pointwise nat_eq h (hash x) then Some x else record_of hash h xs
 
 -- each record stands under its hash
 abbrev pub Keyed : {X : Type 0} → (X → List ℕ) → List (List ℕ × X) → Type 0

@@ -4,6 +4,14 @@ pub mod Sorted
 pub mod Lookups
 pub mod Text
 pub mod Reading
+pub mod Pieces
+pub mod Sections
 pub mod Names
 pub mod Held
 pub mod Boundaries
+pub mod Runs
+pub mod LastPlaces
+pub mod Queries
+pub mod Export
+pub mod Union
+pub mod Merging

@@ -1,6 +1,6 @@
 -- The three look-ups of a shard. Each says by the first word of a hash where its record stands; a row is
 -- counted from the front of its section.
-use Rattle.std.specs.Prelude.{ℕ, ◌+◌, Bool, true, false, List, [], ◌∷◌, ◌++◌, length}
+use Rattle.std.specs.Prelude.{ℕ, ◌+◌, Bool, true, false, List, [], ◌∷◌, ◌++◌, length, map}
 use Rattle.std.specs.declared.cmp.Ordering.{Ordering}
 use Rattle.std.specs.Int.{w32, w64, to_le_bytes}
 use Rattle.std.specs.List.{flat_map}
@@ -38,6 +38,13 @@ place_cmp x y = ordering_then (ordering_then (nat_cmp x.0 y.0) (nat_cmp x.1 y.1)
 
 abbrev pub chunk_items : List MDBXorbInfo → List (ℕ × ℕ × ℕ)
 chunk_items blocks = sorted place_cmp (chunks_from 0 blocks)
+
+-- a place whose row and place in the xorb stand in a pair
+abbrev pub flat_place : ℕ × (ℕ × ℕ) → ℕ × ℕ × ℕ
+flat_place p = (p.0, p.1.0, p.1.1)
+
+abbrev pub flat_places : List (ℕ × (ℕ × ℕ)) → List (ℕ × ℕ × ℕ)
+flat_places places = map flat_place places
 
 -- an item is 12 bytes, or 16
 abbrev pub head_text : ℕ × ℕ → List ℕ

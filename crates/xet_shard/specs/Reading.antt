@@ -237,6 +237,10 @@ footer_at bytes = do
   _ ← places_at (length bytes) (footer_in end)
   Ok (footer_in end)
 
+-- the footer, where the bytes begin with a header
+abbrev pub ends_of : List ℕ → Result MDBShardFileFooter StoreError
+ends_of bytes = header_at bytes >>= λ _. footer_at bytes
+
 -- ---- look-ups and totals
 
 -- The bytes of a look-up, so many from a place on, are none, or its text.

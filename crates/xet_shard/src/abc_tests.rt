@@ -25,7 +25,7 @@ fn xorb_of_abc(alloc: Global, chunk: MerkleHash) -> Result<MDBXorbInfo, StoreErr
 }
 
 /// The file of this hash whose one segment is that chunk.
-fn file_of_abc(
+pub(crate) fn file_of_abc(
     alloc: Global,
     hash: MerkleHash,
     chunk: MerkleHash,
@@ -47,8 +47,13 @@ fn file_of_abc(
 }
 
 /// The bytes of the shard of both, and what begins and ends them.
-fn shard_of_abc(alloc: Global) -> Result<(Vec<u8>, MDBShardInfo), StoreError> {
-    let chunk = compute_data_hash(b"abc");
+pub fn shard_of_abc(alloc: Global) -> Result<(Vec<u8>, MDBShardInfo), StoreError> {
+    shard_of(alloc, b"abc")
+}
+
+/// The same of three other bytes.
+pub(crate) fn shard_of(alloc: Global, bytes: &[u8]) -> Result<(Vec<u8>, MDBShardInfo), StoreError> {
+    let chunk = compute_data_hash(bytes);
     let hash = file_hash(alloc, &[(chunk, 3)])?;
     if chunk == MerkleHash::marker() || hash == MerkleHash::marker() {
         return Err(StoreError::HashMismatch);

@@ -1,7 +1,8 @@
 //! The header and the footer of a shard's bytes.
 
-ghost use Rattle.std.specs.Prelude.{◌≡◌, ◌≤◌, ◌+◌, ◌*◌, ◌==◌, IfOk, OnOk, length};
-ghost use Rattle.xet_shard.specs.Reading.{Gives, IsPlaced, footer_at, footer_in, header_at, places_at};
+ghost use Rattle.std.specs.Prelude.{◌≡◌, ◌≤◌, ◌+◌, ◌*◌, ◌==◌, IfOk, OnOk, length, min};
+ghost use Rattle.xet_shard.specs.Pieces.{footer_of_last, header_of_first};
+ghost use Rattle.xet_shard.specs.Reading.{Gives, IsPlaced, ends_of, footer_at, footer_in, header_at, places_at};
 
 use crate::info::{MDBShardFileFooter, MDBShardFileHeader};
 use crate::row::{hash, word};
@@ -17,55 +18,91 @@ pub const HEADER: MDBShardFileHeader = MDBShardFileHeader {
     footer_size: 200,
 };
 
+/// The footer of a shard's bytes, by the checks of the header and of the footer alone: what comes
+/// between them is not looked at. It takes no memory.
+pub fn read_footer(bytes: &[u8]) -> Result<MDBShardFileFooter, StoreError>
+    ensures { result ≡ ends_of bytes.now }
+{
+    header(bytes)?;
+    footer(bytes)
+}
+
 /// Checks the header, and that there is room for a footer.
-#[tactic(auto, unfolding(crate::specs::Reading::header_at))]
+#[tactic(auto, using(crate::proofs::FirstLast::header_is))]
 pub fn header(bytes: &[u8]) -> Result<(), StoreError>
     ensures gives { Gives (λ _. tt) result (header_at bytes.now) }
+    ensures exact { result ≡ header_at bytes.now }
     ensures long { OnOk result (248 ≤ length bytes.now) }
 {
-    if bytes.len() < 32 {
+    header_of_first(bytes.len() as u64, bytes)?;
+    Ok(())
+}
+
+/// Checks the header of a shard of so many bytes, whose first 48 are these, and that there is room for a
+/// footer.
+#[tactic(auto, unfolding(crate::specs::Pieces::header_of_first))]
+pub fn header_of_first(len: u64, first: &[u8]) -> Result<(), StoreError>
+    requires { min len 48 ≤ length first.now }
+    ensures gives { Gives (λ _. tt) result (header_of_first len first.now) }
+    ensures exact { result ≡ header_of_first len first.now }
+    ensures long { OnOk result (248 ≤ len) }
+{
+    if len < 32 {
         return Err(StoreError::UnexpectedEof);
     }
-    let (tag, _) = bytes.split_at(32);
+    let (tag, _) = first.split_at(32);
     if tag != TAG.as_slice() {
         return Err(StoreError::MalformedData(Reason::Tag));
     }
-    if bytes.len() < 40 {
+    if len < 40 {
         return Err(StoreError::UnexpectedEof);
     }
-    if word(bytes, 32) != 2 {
+    if word(first, 32) != 2 {
         return Err(StoreError::MalformedData(Reason::ShardVersion));
     }
-    if bytes.len() < 48 {
+    if len < 48 {
         return Err(StoreError::UnexpectedEof);
     }
-    if word(bytes, 40) != 200 {
+    if word(first, 40) != 200 {
         return Err(StoreError::MalformedData(Reason::FooterSize));
     }
-    if bytes.len() < 248 {
+    if len < 248 {
         return Err(StoreError::UnexpectedEof);
     }
     Ok(())
 }
 
 /// The footer, whose places are those of parts without gaps.
-#[tactic(auto, unfolding(crate::specs::Reading::footer_at))]
+#[tactic(auto, using(crate::proofs::FirstLast::footer_is))]
 pub fn footer(bytes: &[u8]) -> Result<MDBShardFileFooter, StoreError>
     requires { 248 ≤ length bytes.now }
     ensures gives { Gives (λ f. f) result (footer_at bytes.now) }
+    ensures exact { result ≡ footer_at bytes.now }
     ensures placed { IfOk result (IsPlaced (length bytes.now)) }
 {
-    let (_, end) = bytes.split_at(bytes.len() - 200);
-    if word(end, 0) != 1 {
+    let (_, last) = bytes.split_at(bytes.len() - 200);
+    let footer = footer_of_last(bytes.len() as u64, last)?;
+    Ok(footer)
+}
+
+/// The footer of a shard of so many bytes, whose last 200 are these.
+#[tactic(auto, unfolding(crate::specs::Pieces::footer_of_last))]
+pub fn footer_of_last(len: u64, last: &[u8]) -> Result<MDBShardFileFooter, StoreError>
+    requires { length last.now ≡ 200 }
+    ensures gives { Gives (λ f. f) result (footer_of_last len last.now) }
+    ensures exact { result ≡ footer_of_last len last.now }
+    ensures placed { IfOk result (IsPlaced len) }
+{
+    if word(last, 0) != 1 {
         return Err(StoreError::MalformedData(Reason::ShardVersion));
     }
-    let (_, rest) = end.split_at(120);
+    let (_, rest) = last.split_at(120);
     let (unused, _) = rest.split_at(48);
     if unused != [0u8; 48].as_slice() {
         return Err(StoreError::MalformedData(Reason::SectionPlace));
     }
-    let footer = footer_in(end);
-    places(bytes.len() as u64, &footer)?;
+    let footer = footer_in(last);
+    places(len, &footer)?;
     Ok(footer)
 }
 
@@ -99,6 +136,7 @@ fn footer_in(bytes: &[u8]) -> MDBShardFileFooter
 #[tactic(auto, using(crate::proofs::Footers::places_take))]
 fn places(len: u64, f: &MDBShardFileFooter) -> Result<(), StoreError>
     ensures gives { Gives (λ _. tt) result (places_at len f.now) }
+    ensures exact { result ≡ places_at len f.now }
     ensures placed { OnOk result (IsPlaced len f.now) }
 {
     places_follow(len, f)?;
@@ -108,7 +146,8 @@ fn places(len: u64, f: &MDBShardFileFooter) -> Result<(), StoreError>
 /// The same.
 #[tactic(auto, unfolding(crate::specs::Reading::places_at))]
 fn places_follow(len: u64, f: &MDBShardFileFooter) -> Result<(), StoreError>
-    ensures { Gives (λ _. tt) result (places_at len f.now) }
+    ensures gives { Gives (λ _. tt) result (places_at len f.now) }
+    ensures exact { result ≡ places_at len f.now }
 {
     let file_rows = f.xorb_info_offset.saturating_sub(f.file_info_offset) / 48;
     let xorb_rows = f.file_lookup_offset.saturating_sub(f.xorb_info_offset) / 48;

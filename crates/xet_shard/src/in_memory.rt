@@ -1,8 +1,9 @@
 //! A shard in memory.
 
-ghost use Rattle.std.specs.Prelude.{◌≡◌, ◌≢◌, ◌↔◌, ◌<◌, ◌^◌, ◌++◌, ℕ, IfErr, IfOk, IsErrOf, IsOkUnless, IsTrue, OnErr, OnOk, length, map, take, true};
+ghost use Rattle.std.specs.Prelude.{◌≡◌, ◌≢◌, ◌↔◌, ◌<◌, ◌^◌, ◌++◌, ℕ, IfErr, IfOk, IsErrOf, IsOkUnless, IsTrue, OnErr, OnOk, length, map, nat_eq, option_map, take, true, unwrap_or};
 ghost use Rattle.std.specs.List.{sum_by};
-ghost use Rattle.indexmap.specs.IndexMap.{values};
+ghost use Rattle.std.specs.Cmp.Lexicographic.{pointwise};
+ghost use Rattle.indexmap.specs.IndexMap.{get, values};
 ghost use Rattle.xet_io.specs.Faults.{HasCause};
 ghost use Rattle.xet_shard.specs.Held.{DifferBy, Held, IsHeld, IsWriteRefusal, Keyed, by_hash, held_shard, file_record_size, held_size, nothing, with_last, xorb_record_size};
 ghost use Rattle.xet_shard.specs.Lookups.{all_lookups};
@@ -10,15 +11,19 @@ ghost use Rattle.xet_shard.specs.Text.{Fits, IsShard, footer_of, full_text, head
 ghost use Rattle.xet_hash.specs.Hash.{marker};
 ghost use Rattle.xet_shard.specs.Records.{IsFile, IsXorb, file_hash, file_section, xorb_hash, xorb_section};
 
+mod places;
+mod queries;
+
 use crate::info::MDBShardInfo;
 use crate::record::{MDBFileInfo, MDBXorbInfo};
 use crate::section::Record;
-use crate::writing::write_shard;
+use crate::writing::{write_shard, write_text};
 use indexmap::IndexMap;
+use places::{LastPlaces, put_block};
 use std::alloc::{AllocError, Global};
 use std::marker::Model;
 use xet_hash::{HMACKey, MerkleHash, Place, StoreError};
-use xet_io::{Refusal, Sink, write_all};
+use xet_io::Sink;
 
 /// The bytes of a shard of nothing.
 const EMPTY_SIZE: u64 = 344;
@@ -27,13 +32,21 @@ const EMPTY_SIZE: u64 = 344;
 /// in which they were added.
 #[derive(Drop)]
 pub struct MDBInMemoryShard {
+    /// The xorbs, in the order in which they were added.
     blocks: IndexMap<MerkleHash, MDBXorbInfo>,
+    /// The files, in the order in which they were added.
     files: IndexMap<MerkleHash, MDBFileInfo>,
+    /// Where the chunks of the xorbs stand.
+    places: LastPlaces,
+    /// The bytes of the shard that would be written.
+    size: u64,
 }
 
 impl Model for MDBInMemoryShard {
     ghost use Rattle.indexmap.specs.IndexMap.{values};
-    ghost use Rattle.xet_shard.specs.Held.{Held, IsHeld, Keyed};
+    ghost use Rattle.std.specs.Prelude.{◌≡◌};
+    ghost use Rattle.xet_shard.specs.Held.{Held, IsHeld, Keyed, held_size};
+    ghost use Rattle.xet_shard.specs.LastPlaces.{HasPlaces};
     ghost use Rattle.xet_shard.specs.Records.{file_hash, xorb_hash};
 
     ghost Value = { Held };
@@ -41,7 +54,9 @@ impl Model for MDBInMemoryShard {
     ghost view = { λ s. record { blocks = values s.blocks; files = values s.files } };
 
     ghost invariant = { λ s. Keyed xorb_hash s.blocks.entries × Keyed file_hash s.files.entries
-        × IsHeld (record { blocks = values s.blocks; files = values s.files }) };
+        × IsHeld (record { blocks = values s.blocks; files = values s.files })
+        × HasPlaces s.places.entries (values s.blocks)
+        × (s.size ≡ held_size (record { blocks = values s.blocks; files = values s.files })) };
 }
 
 impl MDBInMemoryShard {
@@ -52,6 +67,8 @@ impl MDBInMemoryShard {
         MDBInMemoryShard {
             blocks: IndexMap::new(alloc),
             files: IndexMap::new(alloc),
+            places: IndexMap::new(alloc),
+            size: EMPTY_SIZE,
         }
     }
 
@@ -73,7 +90,7 @@ impl MDBInMemoryShard {
     pub fn shard_file_size(&self) -> u64
         ensures { result ≡ held_size self.now }
     {
-        EMPTY_SIZE + total_size(&self.blocks) + total_size(&self.files)
+        self.size
     }
 
     /// Adds a xorb, which takes the place of one of an equal hash.
@@ -85,7 +102,10 @@ impl MDBInMemoryShard {
         ensures kept { OnErr result (self.new ≡ self.old) }
         ensures memory { IsOkUnless result StoreError.OutOfMemory }
     {
-        put_last(&mut self.blocks, block)?;
+        let replaced = size_at(&self.blocks, &block.hash());
+        let added = block.num_bytes();
+        put_block(&mut self.blocks, &mut self.places, block)?;
+        self.size = self.size - replaced + added;
         Ok(())
     }
 
@@ -98,7 +118,10 @@ impl MDBInMemoryShard {
         ensures kept { OnErr result (self.new ≡ self.old) }
         ensures memory { IsOkUnless result StoreError.OutOfMemory }
     {
+        let replaced = size_at(&self.files, &file.hash());
+        let added = file.num_bytes();
         put_last(&mut self.files, file)?;
+        self.size = self.size - replaced + added;
         Ok(())
     }
 
@@ -123,16 +146,14 @@ impl MDBInMemoryShard {
         ensures cause { HasCause (W.faults sink.old) (W.faults sink.new) (IsErrOf result (StoreError.Io Place.Output)) }
         ensures tells { W.tells sink.new ≡ W.tells sink.old }
     {
-        let (text, info) = self.text(alloc, creation, expiry)?;
-        match write_all(sink, &text) {
-            Ok(()) => Ok(info),
-            Err(Refusal::Failed) => Err(StoreError::Io(Place::Output)),
-            Err(Refusal::OutOfMemory) => Err(StoreError::OutOfMemory),
-        }
+        let (text, info) = self.shard_text(alloc, creation, expiry)?;
+        write_text(sink, &text)?;
+        Ok(info)
     }
 
-    /// The text of that shard, its header and its footer.
-    fn text(
+    /// The text of the shard that `serialize_from` writes, its header and its footer. Where there is no
+    /// memory for it, the call fails with `StoreError::OutOfMemory`, and for no other reason.
+    pub fn shard_text(
         &self,
         alloc: Global,
         creation: u64,
@@ -196,16 +217,15 @@ fn put_last<X: Record>(table: &mut IndexMap<MerkleHash, X>, value: X) -> Result<
     }
 }
 
-/// The bytes that the records add to a shard.
-fn total_size<X: Measured>(table: &IndexMap<MerkleHash, X>) -> u64
+/// The bytes that the record of a hash adds to a shard, 0 where there is none.
+fn size_at<X: Measured>(table: &IndexMap<MerkleHash, X>, hash: &MerkleHash) -> u64
     requires { sum_by X.size (values table.now) < 2 ^ 64 }
-    ensures { result ≡ sum_by X.size (values table.now) }
+    ensures { result ≡ unwrap_or (option_map X.size (get (pointwise nat_eq) table.now hash.now)) 0 }
 {
-    let mut total = 0;
-    for value in table.values() {
-        total += value.size();
+    match table.get(hash) {
+        Some(record) => record.size(),
+        None => 0,
     }
-    total
 }
 
 /// The records of a table in rising order of hash.

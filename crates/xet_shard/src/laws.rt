@@ -1,10 +1,12 @@
 //! Laws over the definitions. Each is the contract of a call without parameters, which does nothing.
 
-ghost use Rattle.std.specs.Prelude.{◌≡◌, ◌<◌, ℕ, List, Ok, Option, length};
+ghost use Rattle.std.specs.Prelude.{◌≡◌, [], ◌∷◌, ◌<◌, ℕ, List, None, Ok, Option, length};
 ghost use Rattle.std.specs.List.{All};
-ghost use Rattle.xet_shard.specs.Lookups.{Lookups};
+ghost use Rattle.xet_shard.specs.Lookups.{Lookups, chunk_items, xorb_items};
+ghost use Rattle.xet_shard.specs.Sections.{blocks_in, chunk_lookup_in, files_in, info_at, xorb_lookup_in};
 ghost use Rattle.xet_shard.specs.Held.{Held, held_shard, held_size};
-ghost use Rattle.xet_shard.specs.Text.{Fits, IsShard, Shard, full_text, shard_text};
+ghost use Rattle.xet_shard.specs.Queries.{found_file, found_run, shard_file, shard_run, shard_run_at, told_run};
+ghost use Rattle.xet_shard.specs.Text.{Fits, IsShard, Shard, footer_of, full_text, header, shard_text};
 ghost use Rattle.xet_shard.specs.Reading.{IsRead, Parts, all_of, parts_of};
 
 /// What is written of a shard, with whichever look-ups, is read as that shard.
@@ -25,4 +27,22 @@ pub fn what_is_read_is_a_shard()
 /// The length that is told of a shard in memory is that of its text.
 pub fn size_is_length()
     ensures { (h : Held) (creation : ℕ) (expiry : Option ℕ) → Fits (held_shard h creation expiry) → length (full_text (held_shard h creation expiry)) ≡ held_size h }
+{}
+
+/// On the text of a shard, under its own footer, what is read of each part alone is that part, whichever
+/// look-ups stand.
+pub fn parts_are_read()
+    ensures info { (w : Lookups) (s : Shard) → IsShard s → Fits s → info_at (shard_text w s) ≡ Ok (record { header = header; metadata = footer_of w s }) }
+    ensures files { (w : Lookups) (s : Shard) → IsShard s → Fits s → files_in (footer_of w s) (shard_text w s) ≡ Ok s.files }
+    ensures blocks { (w : Lookups) (s : Shard) → IsShard s → Fits s → blocks_in (footer_of w s) (shard_text w s) ≡ Ok s.blocks }
+    ensures xorb_lookup { (w : Lookups) (s : Shard) → IsShard s → Fits s → xorb_lookup_in (footer_of w s) (shard_text w s) ≡ Ok (xorb_items s.blocks) }
+    ensures chunk_lookup { (w : Lookups) (s : Shard) → IsShard s → Fits s → chunk_lookup_in (footer_of w s) (shard_text w s) ≡ Ok (chunk_items s.blocks) }
+{}
+
+/// On the text of a shard, under its own footer, the questions are answered by what the shard holds,
+/// whichever look-ups stand.
+pub fn questions_are_answered()
+    ensures file { (w : Lookups) (s : Shard) → IsShard s → Fits s → (h : List ℕ) → found_file (footer_of w s) h (shard_text w s) ≡ shard_file s h }
+    ensures run { (w : Lookups) (s : Shard) → IsShard s → Fits s → (query : List (List ℕ)) → found_run (footer_of w s) query (shard_text w s) ≡ Ok (shard_run s query) }
+    ensures told { (w : Lookups) (s : Shard) → IsShard s → Fits s → (query : List (List ℕ)) (row place : ℕ) → told_run (footer_of w s) query row place (shard_text w s) ≡ Ok (elim query [ [] ↦ None | h ∷ hs ↦ shard_run_at s (h ∷ hs) row place ]) }
 {}

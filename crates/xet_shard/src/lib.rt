@@ -1,23 +1,33 @@
 //! Shards: records of files and of the xorbs of which they are made, and the bytes that keep them.
 #![tactic(auto)]
 
+mod alone;
 mod check;
 mod ends;
+mod export;
 mod in_memory;
 mod info;
+mod info_reading;
+mod items;
 pub mod laws;
 mod lookup;
+mod lookup_reading;
 mod names;
+mod piece;
 mod pieces;
+mod queries;
 mod reading;
 mod record;
 mod row;
 mod rows;
+mod runs;
 mod section;
 mod sha256;
+mod union;
 mod whole;
 mod writing;
 
+pub use ends::read_footer;
 pub use in_memory::MDBInMemoryShard;
 pub use info::{MDBShardFileFooter, MDBShardFileHeader, MDBShardInfo};
 pub use names::{parse_shard_filename, shard_file_name, truncate_hash};
@@ -26,12 +36,21 @@ pub use record::{
     MDBFileInfo, MDBXorbInfo, XorbChunkSequenceEntry, XorbChunkSequenceHeader,
 };
 pub use sha256::Sha256;
+pub use union::shard_set_union;
 pub use whole::read_shard;
 pub use writing::write_shard;
 
 #[cfg(test)]
 mod abc_tests;
 #[cfg(test)]
+mod asked_tests;
+#[cfg(test)]
+mod export_tests;
+#[cfg(test)]
 mod held_tests;
+#[cfg(test)]
+mod part_tests;
+#[cfg(test)]
+mod query_tests;
 #[cfg(test)]
 mod tests;

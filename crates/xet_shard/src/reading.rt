@@ -3,7 +3,7 @@
 ghost use Rattle.std.specs.Prelude.{◌≡◌, ◌++◌, ◌∷◌, [], None, IfErr, OnOk};
 ghost use Rattle.xet_hash.specs.declared.error.StoreError.TheVariants.{OutOfMemory};
 ghost use Rattle.xet_shard.specs.Records.{file_hash, flags_of, is_after, xorb_hash};
-ghost use Rattle.xet_shard.specs.Reading.{Gives, chunk_in, chunks_at, end_at, ext_at, file_at, hash_at, hash_in, section_at, segment_at, step_at, times, verification_at, xorb_at};
+ghost use Rattle.xet_shard.specs.Reading.{Gives, chunk_in, chunks_at, end_at, ext_at, file_at, has_ext, hash_at, hash_in, is_verified, section_at, segment_at, step_at, times, verification_at, xorb_at};
 
 use crate::record::{
     FileDataSequenceEntry, FileDataSequenceHeader, FileMetadataExt, FileVerificationEntry,
@@ -163,13 +163,27 @@ fn flags_of(verified: bool, with_ext: bool) -> u32
     }
 }
 
+/// Whether these flags tell of verification rows.
+pub fn is_verified(flags: u32) -> bool
+    ensures { result ≡ is_verified flags }
+{
+    flags >= VERIFIED
+}
+
+/// Whether these flags tell of a metadata row.
+pub fn has_ext(flags: u32) -> bool
+    ensures { result ≡ has_ext flags }
+{
+    flags % VERIFIED >= WITH_EXT
+}
+
 /// The file whose head was read.
 #[tactic(auto, unfolding(crate::specs::Reading::file_at))]
 pub fn file(alloc: Global, head: &Row, rows: &mut Rows) -> Result<MDBFileInfo, StoreError>
     ensures { Gives (λ f. (f, rows.new)) result (file_at head.now rows.old) }
 {
-    let verified = head.a >= VERIFIED;
-    let with_ext = head.a % VERIFIED >= WITH_EXT;
+    let verified = is_verified(head.a);
+    let with_ext = has_ext(head.a);
     if head.a != flags_of(verified, with_ext) {
         return Err(StoreError::MalformedData(Reason::SectionEntry));
     }

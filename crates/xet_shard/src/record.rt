@@ -1,6 +1,6 @@
 //! The records of a shard: files, and the xorbs of which they are made.
 
-ghost use Rattle.std.specs.Prelude.{◌≡◌, ◌<◌, ◌^◌, [], IfOk, IsOkUnless};
+ghost use Rattle.std.specs.Prelude.{◌≡◌, ◌<◌, ◌≤◌, ◌^◌, ◌*◌, [], IfOk, IsOkUnless, length};
 ghost use Rattle.xet_hash.specs.Hash.{zero_hash};
 ghost use Rattle.xet_shard.specs.Boundaries.{boundaries_from};
 ghost use Rattle.xet_shard.specs.Held.{file_record_size, xorb_record_size};
@@ -186,6 +186,32 @@ impl MDBFileInfo {
         self.metadata.file_hash
     }
 
+    /// A copy. Where there is no memory for it, the call fails with `StoreError::OutOfMemory`.
+    pub fn copy(&self, alloc: Global) -> Result<MDBFileInfo, StoreError>
+        ensures copy { IfOk result (λ copy. copy ≡ self.now) }
+        ensures memory { IsOkUnless result StoreError.OutOfMemory }
+    {
+        Ok(MDBFileInfo {
+            metadata: self.metadata,
+            segments: Items::from_vec(Vec::from_slice(alloc, self.segments.as_slice())?),
+            verification: Items::from_vec(Vec::from_slice(alloc, self.verification.as_slice())?),
+            metadata_ext: self.metadata_ext,
+        })
+    }
+
+    /// The bytes of its segments together, of which there are not too many for their sum.
+    pub(crate) fn known_size(&self) -> u64
+        requires { length self.now.segments < 2 ^ 32 }
+        ensures size { result ≡ segment_bytes self.now.segments }
+        ensures small { result ≤ 2 ^ 32 * length self.now.segments }
+    {
+        let mut total: u64 = 0;
+        for segment in self.segments.as_slice() {
+            total += u64::from(segment.unpacked_segment_bytes);
+        }
+        total
+    }
+
     /// The bytes of its segments together.
     pub fn file_size(&self) -> u64
         requires { segment_bytes self.now.segments < 2 ^ 64 }
@@ -312,6 +338,14 @@ impl MDBXorbInfo {
         ensures { result ≡ xorb_hash self.now }
     {
         self.metadata.xorb_hash
+    }
+
+    /// The bytes of its chunks together, as its head tells them.
+    pub(crate) fn told_size(&self) -> u64
+        ensures size { result ≡ self.now.metadata.num_bytes_in_xorb }
+        ensures small { result < 2 ^ 32 }
+    {
+        u64::from(self.metadata.num_bytes_in_xorb)
     }
 
     /// The bytes that it adds to a shard: its rows and its items in the look-ups.

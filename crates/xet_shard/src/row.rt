@@ -36,7 +36,7 @@ impl Row {
 }
 
 /// The number in the four bytes at a place.
-fn half_word(bytes: &[u8], at: usize) -> u32
+pub fn half_word(bytes: &[u8], at: usize) -> u32
     requires { at + 4 ≤ length bytes.now }
     ensures { result ≡ half_word bytes.now at }
 {

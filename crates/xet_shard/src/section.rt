@@ -1,6 +1,6 @@
 //! What the records of a section have in common.
 
-ghost use Rattle.std.specs.Prelude.{◌≡◌, ◌<◌, ◌^◌, ◌++◌, ℕ, List, OnOk, Result, length};
+ghost use Rattle.std.specs.Prelude.{◌≡◌, ◌↔◌, ◌<◌, ◌^◌, ◌++◌, ℕ, List, IsTrue, OnOk, Result, length};
 ghost use Rattle.std.specs.List.{AllByRecursion};
 ghost use Rattle.xet_hash.specs.declared.error.StoreError.{StoreError};
 ghost use Rattle.xet_shard.specs.declared.row.Row.{Row};
@@ -9,7 +9,8 @@ ghost use Rattle.xet_shard.specs.Records.{chunk_row, file_hash, file_rows, segme
 ghost use Rattle.xet_shard.specs.Reading.{Gives, file_at, xorb_at};
 
 use crate::record::{
-    FileDataSequenceEntry, FileVerificationEntry, MDBFileInfo, MDBXorbInfo, XorbChunkSequenceEntry,
+    FileDataSequenceEntry, FileMetadataExt, FileVerificationEntry, MDBFileInfo, MDBXorbInfo,
+    XorbChunkSequenceEntry,
 };
 use crate::row::Row;
 use crate::rows::Rows;
@@ -31,6 +32,10 @@ pub trait Record: Drop {
     /// The hash.
     fn hash(&self) -> MerkleHash
         ensures { result ≡ hash_of self.now };
+
+    /// Whether another is the same record.
+    fn same(&self, other: &Self) -> bool
+        ensures { IsTrue result ↔ (self.now ≡ other.now) };
 
     /// The number of rows.
     fn num_rows(&self) -> u32
@@ -58,6 +63,19 @@ impl Record for MDBFileInfo {
         self.metadata.file_hash
     }
 
+    fn same(&self, other: &MDBFileInfo) -> bool {
+        if self.metadata != other.metadata {
+            return false;
+        }
+        if !same_segments(self.segments.as_slice(), other.segments.as_slice()) {
+            return false;
+        }
+        if !same_verifications(self.verification.as_slice(), other.verification.as_slice()) {
+            return false;
+        }
+        same_ext(&self.metadata_ext, &other.metadata_ext)
+    }
+
     fn num_rows(&self) -> u32 {
         let ext = if self.metadata_ext.is_some() { 1 } else { 0 };
         1 + self.segments.as_slice().len() as u32 + self.verification.as_slice().len() as u32 + ext
@@ -83,6 +101,13 @@ impl Record for MDBXorbInfo {
         self.metadata.xorb_hash
     }
 
+    fn same(&self, other: &MDBXorbInfo) -> bool {
+        if self.metadata != other.metadata {
+            return false;
+        }
+        same_chunks(self.chunks.as_slice(), other.chunks.as_slice())
+    }
+
     fn num_rows(&self) -> u32 {
         1 + self.chunks.as_slice().len() as u32
     }
@@ -94,6 +119,38 @@ impl Record for MDBXorbInfo {
     fn push(&self, text: &mut Vec<u8>) -> Result<(), AllocError> {
         pieces::push_xorb(text, self)
     }
+}
+
+/// Whether two files have the same segments.
+fn same_segments(ours: &[FileDataSequenceEntry], theirs: &[FileDataSequenceEntry]) -> bool
+    ensures { IsTrue result ↔ (ours.now ≡ theirs.now) }
+{
+    ours == theirs
+}
+
+/// Whether the same verifies the segments of two files.
+fn same_verifications(ours: &[FileVerificationEntry], theirs: &[FileVerificationEntry]) -> bool
+    ensures { IsTrue result ↔ (ours.now ≡ theirs.now) }
+{
+    ours == theirs
+}
+
+/// Whether the same is told else of two files.
+fn same_ext(ours: &Option<FileMetadataExt>, theirs: &Option<FileMetadataExt>) -> bool
+    ensures { IsTrue result ↔ (ours.now ≡ theirs.now) }
+{
+    match (ours, theirs) {
+        (None, None) => true,
+        (Some(this), Some(other)) => this.sha256 == other.sha256,
+        _ => false,
+    }
+}
+
+/// Whether two xorbs have the same chunks.
+fn same_chunks(ours: &[XorbChunkSequenceEntry], theirs: &[XorbChunkSequenceEntry]) -> bool
+    ensures { IsTrue result ↔ (ours.now ≡ theirs.now) }
+{
+    ours == theirs
 }
 
 /// An entry of a record: a row after its head.

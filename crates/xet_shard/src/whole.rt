@@ -99,7 +99,7 @@ fn all_xorbs(
 }
 
 /// The records of the section of so many rows at a place.
-fn records_at<R: Record>(
+pub fn records_at<R: Record>(
     alloc: Global,
     bytes: &[u8],
     at: u64,

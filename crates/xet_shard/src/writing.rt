@@ -1,33 +1,54 @@
 //! A shard, written as a whole.
 
-ghost use Rattle.std.specs.Prelude.{◌≡◌, ◌<◌, ◌+◌, ◌*◌, ◌^◌, IfOk, IsOkUnless, OnOk, length, map};
+ghost use Rattle.std.specs.Prelude.{◌≡◌, ◌<◌, ◌+◌, ◌*◌, ◌^◌, ◌++◌, ℕ, IfErr, IfOk, IsErrOf, IsOkUnless, OnOk, cond, length, map, take, true};
+ghost use Rattle.xet_io.specs.Faults.{HasCause};
+ghost use Rattle.xet_shard.specs.Held.{IsWriteRefusal};
 ghost use Rattle.xet_shard.specs.Records.{file_section, section, xorb_section};
 ghost use Rattle.xet_shard.specs.Lookups.{all_lookups, chunk_items, file_items, xorb_items};
-ghost use Rattle.xet_shard.specs.Text.{Fits, footer_of, footer_with, full_text, header, shard};
+ghost use Rattle.xet_shard.specs.Text.{Fits, footer_of, footer_with, full_text, header, shard, shard_text};
 
 use crate::ends::HEADER;
 use crate::info::{MDBShardFileFooter, MDBShardInfo};
-use crate::lookup::{materialized, push_heads, push_places, stored};
+use crate::lookup::{materialized, push_standing_heads, push_standing_places, stored};
 use crate::pieces::{known_hash, push_footer, push_header, push_section};
 use crate::record::{MDBFileInfo, MDBXorbInfo};
 use crate::section::{Lends, Record};
 use std::alloc::Global;
-use xet_hash::{HMACKey, StoreError};
+use xet_hash::{HMACKey, Place, StoreError};
+use xet_io::{Refusal, Sink, write_all};
 
-/// How much there is in a shard with all its look-ups.
+/// How much there is in a shard.
 #[derive(Clone, Copy)]
 struct Counts {
     /// The rows of the files.
     file_rows: u32,
     /// The rows of the xorbs.
     xorb_rows: u32,
-    /// The files.
+    /// The items of the look-up of files.
     files: u32,
-    /// The xorbs.
+    /// Those of the look-up of xorbs.
     xorbs: u32,
-    /// The chunks of the xorbs.
+    /// Those of the look-up of chunks.
     chunks: u32,
 }
+
+/// Which of the look-ups stand in a shard. The others are left out.
+#[derive(Clone, Copy)]
+pub(crate) struct Lookups {
+    /// The files'.
+    pub(crate) files: bool,
+    /// The xorbs'.
+    pub(crate) xorbs: bool,
+    /// The chunks'.
+    pub(crate) chunks: bool,
+}
+
+/// All look-ups.
+const ALL_LOOKUPS: Lookups = Lookups {
+    files: true,
+    xorbs: true,
+    chunks: true,
+};
 
 /// The full text of a shard with these xorbs and files, in the order in which they are given, with its
 /// header and footer. The memory of the text is taken once, for its exact length. Where there is none,
@@ -47,35 +68,86 @@ pub fn write_shard(
     ensures fits { OnOk result (Fits (shard (map (λ x. x.now) blocks.now) (map (λ f. f.now) files.now) key creation expiry)) }
     ensures memory { IsOkUnless result StoreError.OutOfMemory }
 {
+    write_with_lookups::<&MDBXorbInfo, &MDBFileInfo>(
+        alloc,
+        ALL_LOOKUPS,
+        blocks,
+        files,
+        key,
+        creation,
+        expiry,
+    )
+}
+
+/// The text of a shard with these xorbs, files and look-ups, with its header and footer. The memory of the
+/// text is taken once, for its exact length.
+pub(crate) fn write_with_lookups<B: Lends<MDBXorbInfo>, F: Lends<MDBFileInfo>>(
+    alloc: Global,
+    lookups: Lookups,
+    blocks: &[B],
+    files: &[F],
+    key: HMACKey,
+    creation: u64,
+    expiry: u64,
+) -> Result<(Vec<u8>, MDBShardInfo), StoreError>
+    requires few_files { length (file_section (map F.lent files.now)) < 2 ^ 32 }
+    requires few_blocks { length (xorb_section (map B.lent blocks.now)) < 2 ^ 32 }
+    ensures text { IfOk result (λ x. x.0.items ≡ shard_text (record { files = lookups.files; xorbs = lookups.xorbs; chunks = lookups.chunks }) (shard (map B.lent blocks.now) (map F.lent files.now) key creation expiry)) }
+    ensures info { IfOk result (λ x. x.1 ≡ record { header = header; metadata = footer_of (record { files = lookups.files; xorbs = lookups.xorbs; chunks = lookups.chunks }) (shard (map B.lent blocks.now) (map F.lent files.now) key creation expiry) }) }
+    ensures fits { OnOk result (Fits (shard (map B.lent blocks.now) (map F.lent files.now) key creation expiry)) }
+    ensures memory { IsOkUnless result StoreError.OutOfMemory }
+{
     known_hash(&key);
-    let counts = count(blocks, files);
+    let all = count::<B, F>(blocks, files);
+    let counts = all.standing(lookups);
     let mut text = Vec::with_capacity(alloc, counts.footer_offset() as usize + 200)?;
     push_header(&mut text, &HEADER)?;
-    push_section::<MDBFileInfo, &MDBFileInfo>(&mut text, files)?;
-    push_section::<MDBXorbInfo, &MDBXorbInfo>(&mut text, blocks)?;
-    push_heads::<MDBFileInfo, &MDBFileInfo>(&mut text, files)?;
-    push_heads::<MDBXorbInfo, &MDBXorbInfo>(&mut text, blocks)?;
-    push_places::<&MDBXorbInfo>(alloc, &mut text, blocks)?;
-    let metadata = counts.footer(key, creation, expiry, materialized(files), stored(blocks));
+    push_section::<MDBFileInfo, F>(&mut text, files)?;
+    push_section::<MDBXorbInfo, B>(&mut text, blocks)?;
+    push_standing_heads::<MDBFileInfo, F>(&mut text, lookups.files, files)?;
+    push_standing_heads::<MDBXorbInfo, B>(&mut text, lookups.xorbs, blocks)?;
+    push_standing_places::<B>(alloc, &mut text, lookups.chunks, blocks)?;
+    let metadata = counts.footer(
+        key,
+        creation,
+        expiry,
+        materialized::<F>(files),
+        stored::<B>(blocks),
+    );
     push_footer(&mut text, &metadata)?;
     let header = HEADER;
     Ok((text, MDBShardInfo { header, metadata }))
 }
 
-/// How much there is in the shard of these records.
-fn count(blocks: &[&MDBXorbInfo], files: &[&MDBFileInfo]) -> Counts
-    requires few_files { length (file_section (map (λ f. f.now) files.now)) < 2 ^ 32 }
-    requires few_blocks { length (xorb_section (map (λ x. x.now) blocks.now)) < 2 ^ 32 }
-    ensures file_rows { result.file_rows ≡ length (file_section (map (λ f. f.now) files.now)) }
-    ensures xorb_rows { result.xorb_rows ≡ length (xorb_section (map (λ x. x.now) blocks.now)) }
-    ensures files { result.files ≡ length (file_items (map (λ f. f.now) files.now)) }
-    ensures xorbs { result.xorbs ≡ length (xorb_items (map (λ x. x.now) blocks.now)) }
-    ensures chunks { result.chunks ≡ length (chunk_items (map (λ x. x.now) blocks.now)) }
+/// Gives the text of a shard to a sink.
+pub(crate) fn write_text<W: Sink>(sink: &mut W, text: &[u8]) -> Result<(), StoreError>
+    ensures whole { W.tells sink.old ≡ true → OnOk result (W.written sink.new ≡ W.written sink.old ++ text.now) }
+    ensures front { W.tells sink.old ≡ true → (n : ℕ) × (W.written sink.new ≡ W.written sink.old ++ take n text.now) }
+    ensures refusals { IfErr result IsWriteRefusal }
+    ensures cause { HasCause (W.faults sink.old) (W.faults sink.new) (IsErrOf result (StoreError.Io Place.Output)) }
+    ensures tells { W.tells sink.new ≡ W.tells sink.old }
 {
-    let xorb_rows = section_rows::<MDBXorbInfo, &MDBXorbInfo>(blocks);
+    match write_all(sink, text) {
+        Ok(()) => Ok(()),
+        Err(Refusal::Failed) => Err(StoreError::Io(Place::Output)),
+        Err(Refusal::OutOfMemory) => Err(StoreError::OutOfMemory),
+    }
+}
+
+/// How much there is in the shard of these records.
+fn count<B: Lends<MDBXorbInfo>, F: Lends<MDBFileInfo>>(blocks: &[B], files: &[F]) -> Counts
+    requires few_files { length (file_section (map F.lent files.now)) < 2 ^ 32 }
+    requires few_blocks { length (xorb_section (map B.lent blocks.now)) < 2 ^ 32 }
+    ensures file_rows { result.file_rows ≡ length (file_section (map F.lent files.now)) }
+    ensures xorb_rows { result.xorb_rows ≡ length (xorb_section (map B.lent blocks.now)) }
+    ensures files { result.files ≡ length (file_items (map F.lent files.now)) }
+    ensures xorbs { result.xorbs ≡ length (xorb_items (map B.lent blocks.now)) }
+    ensures chunks { result.chunks ≡ length (chunk_items (map B.lent blocks.now)) }
+{
+    let xorb_rows = section_rows::<MDBXorbInfo, B>(blocks);
     let xorbs = blocks.len() as u32;
     Counts {
-        file_rows: section_rows::<MDBFileInfo, &MDBFileInfo>(files),
+        file_rows: section_rows::<MDBFileInfo, F>(files),
         xorb_rows,
         files: files.len() as u32,
         xorbs,
@@ -96,7 +168,31 @@ fn section_rows<R: Record, T: Lends<R>>(records: &[T]) -> u32
     rows
 }
 
+/// So many items of a look-up, or none where it is left out.
+fn count_standing(stands: bool, count: u32) -> u32
+    ensures { result ≡ cond stands count 0 }
+{
+    if stands { count } else { 0 }
+}
+
 impl Counts {
+    /// The same, with the items of these look-ups alone.
+    fn standing(&self, lookups: Lookups) -> Counts
+        ensures file_rows { result.file_rows ≡ self.now.file_rows }
+        ensures xorb_rows { result.xorb_rows ≡ self.now.xorb_rows }
+        ensures files { result.files ≡ cond lookups.files self.now.files 0 }
+        ensures xorbs { result.xorbs ≡ cond lookups.xorbs self.now.xorbs 0 }
+        ensures chunks { result.chunks ≡ cond lookups.chunks self.now.chunks 0 }
+    {
+        Counts {
+            file_rows: self.file_rows,
+            xorb_rows: self.xorb_rows,
+            files: count_standing(lookups.files, self.files),
+            xorbs: count_standing(lookups.xorbs, self.xorbs),
+            chunks: count_standing(lookups.chunks, self.chunks),
+        }
+    }
+
     /// Where the footer begins.
     fn footer_offset(&self) -> u64
         ensures { result ≡ 48 + 48 * self.now.file_rows + 48 * self.now.xorb_rows + 12 * self.now.files + 12 * self.now.xorbs + 16 * self.now.chunks }

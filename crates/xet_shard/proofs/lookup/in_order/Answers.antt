@@ -1,7 +1,12 @@
-use Rattle.xet_shard.specs.Lookups.{place_cmp}
-use Rattle.xet_shard.proofs.Places.{place_exact, place_total}
+use Rattle.xet_shard.specs.Lookups.{flat_places, place_cmp}
+use Rattle.std.proofs.lemmas.List.Sorted.{IsPermutation-map}
+use Rattle.xet_shard.specs.Lookups.{flat_place}
+use Rattle.xet_shard.proofs.Places.{flat_sorted, place_exact, place_total}
 use Rattle.xet_shard.proofs.Sorting.{sorted_exact}
 use Rattle.xet_shard.proofs.lookup.in_order.Goals as goal
 
 pub returns : goal.returns
-returns c = sorted_exact place_cmp place_total place_exact c.args.places.items c.sort.new.self.items c.in_ok-sort.ensures.permutation c.in_ok-sort.ensures.sorted
+returns c =
+    let found = c.args.places.items in
+    let ordered = c.sort.new.self.items in
+    sorted_exact place_cmp place_total place_exact (flat_places found) (flat_places ordered) (IsPermutation-map flat_place found ordered c.in_ok-sort.ensures.permutation) (flat_sorted ordered c.in_ok-sort.ensures.sorted)

@@ -1,5 +1,5 @@
 use Rattle.xet_shard.proofs.Lengths.{held_length}
 use Rattle.xet_shard.proofs.in_memory.MDBInMemoryShard.serialize_from.Goals as goal
 
-pub returns-in-Ok-clause-size : goal.returns-in-Ok-clause-size
-returns-in-Ok-clause-size g c = held_length c.args.self.now c.args.creation c.args.expiry c.in_ok-text.ensures.fits
+pub returns-clause-size : goal.returns-clause-size
+returns-clause-size g c = held_length c.args.self.now c.args.creation c.args.expiry c.in_ok-text.ensures.fits

@@ -1,7 +1,6 @@
 use Rattle.std.proofs.Common.{◌∙◌}
-use Rattle.xet_hash.specs.declared.error.Place.TheVariants.{Input}
 use Rattle.xet_shard.specs.Reading.{all_of}
-use Rattle.xet_shard.proofs.Refusing.{all_answers, gives_all, no_fault, refuses}
+use Rattle.xet_shard.proofs.Refusing.{all_answers, cause_before, gives_all, refuses}
 use Rattle.xet_shard.proofs.info.MDBShardInfo.check_whole.Goals as goal
 
 pub returns-in-Ok-clause-exact : goal.returns-in-Ok-clause-exact
@@ -12,7 +11,4 @@ pub returns-in-Ok-clause-refusals : goal.returns-in-Ok-clause-refusals
 returns-in-Ok-clause-refusals g c = refuses _ c.read_shard.result (all_of c.deref.result.now) (all_answers c.deref.result.now) c.read_shard.ensures.exact
 
 pub returns-in-Ok-clause-cause : goal.returns-in-Ok-clause-cause
-returns-in-Ok-clause-cause g c = record {
-  later = c.in-Ok.ensures.cause.later;
-  rose = λ failed. absurd (no_fault _ c.read_shard.result (all_of c.deref.result.now) Input (all_answers c.deref.result.now) c.read_shard.ensures.exact failed);
-}
+returns-in-Ok-clause-cause g c = cause_before _ c.read_shard.result (all_of c.deref.result.now) _ _ (all_answers c.deref.result.now) c.read_shard.ensures.exact c.in-Ok.ensures.cause.later

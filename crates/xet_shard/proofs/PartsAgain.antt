@@ -1,0 +1,145 @@
+-- The parts of a shard's text are read, each for itself.
+use Rattle.std.proofs.Common.{◌≡◌, ◌≢◌, ℕ, ◌+◌, ◌-◌, ◌*◌, ◌^◌, ◌<◌, ◌≤◌, true, false, eqb, List, length, take, drop, replicate, nat_eq, None, Result, Ok, refl, sym, subst, ◌∙◌, arith, inl, inr}
+use Rattle.std.specs.Cmp.Lexicographic.{pointwise}
+use Rattle.std.specs.List.{flat_map}
+use Rattle.std.proofs.lemmas.Bool.{cases_Bool, eqb-false, eqb-true, le-leb, lt-ltb}
+use Rattle.xet_hash.specs.declared.error.StoreError.{StoreError}
+use Rattle.xet_shard.specs.declared.info.MDBShardFileFooter.{MDBShardFileFooter}
+use Rattle.xet_shard.specs.declared.record.MDBXorbInfo.{MDBXorbInfo}
+use Rattle.xet_shard.specs.declared.record.MDBFileInfo.{MDBFileInfo}
+use Rattle.xet_shard.specs.Queries.{file_lookup_in}
+use Rattle.xet_shard.specs.declared.row.Row.{Row}
+use Rattle.xet_shard.specs.Lookups.{Lookups, chunk_items, file_items, head_text, heads_text, left_in, place_text, places_text, xorb_items}
+use Rattle.xet_shard.specs.Pieces.{piece_at}
+use Rattle.xet_shard.specs.Reading.{◌>>=◌, IsPlaced, Parts, all_of, file_at, file_row_count, footer_at, footer_in, header_at, lookup_at, places_at, section_at, totals_at, xorb_at, xorb_row_count}
+use Rattle.xet_shard.specs.Records.{file_hash, xorb_hash}
+use Rattle.xet_shard.specs.Rows.{rows_in, word}
+use Rattle.xet_shard.specs.Sections.{blocks_in, chunk_lookup_in, files_in, heads_in, info_at, places_in, section_in, xorb_lookup_in}
+use Rattle.xet_shard.specs.Text.{Fits, IsShard, Shard, footer_of, header, materialized, shard_text, stored}
+use Rattle.xet_shard.proofs.Faulting.{info_of, piece_there}
+use Rattle.xet_shard.proofs.Footers.{places_take}
+use Rattle.xet_shard.proofs.ItemsAgain.{chunk_items_fit, file_items_fit, heads_again, places_again, xorb_items_fit}
+use Rattle.xet_shard.proofs.PartLaws.{chunks_kept, chunks_made, files_kept, files_made, goes_on, xorbs_kept, xorbs_made}
+use Rattle.xet_shard.proofs.RowLaws.{bind_ok, ok_is, wants_ok}
+use Rattle.xet_shard.proofs.WholeAgain.{all_again}
+use Rattle.xet_shard.proofs.WholeTaken.{LeftIn, head_len, lookup_takes, place_len}
+
+-- what reading the whole has checked of each part
+pub record Checked (bytes : List ℕ) (p : Parts) : Type 0 where
+  pub header : header_at bytes ≡ Ok tt
+  pub footer : footer_at bytes ≡ Ok p.2
+  pub files : section_at file_at file_hash (file_row_count p.2) None (rows_in (file_row_count p.2) (drop p.2.file_info_offset bytes)) ≡ Ok p.1
+  pub blocks : section_at xorb_at xorb_hash (xorb_row_count p.2) None (rows_in (xorb_row_count p.2) (drop p.2.xorb_info_offset bytes)) ≡ Ok p.0
+  pub heads : lookup_at bytes p.2.file_lookup_offset (12 * p.2.file_lookup_num_entry) (heads_text (file_items p.1)) ≡ Ok tt
+  pub xorbs : lookup_at bytes p.2.xorb_lookup_offset (12 * p.2.xorb_lookup_num_entry) (heads_text (xorb_items p.0)) ≡ Ok tt
+  pub chunks : lookup_at bytes p.2.chunk_lookup_offset (16 * p.2.chunk_lookup_num_entry) (places_text (chunk_items p.0)) ≡ Ok tt
+
+checked : (bytes : List ℕ) (p : Parts) → all_of bytes ≡ Ok p → Checked bytes p
+unfolding all_of
+checked bytes p e =
+    let h = bind_ok (header_at bytes) _ _ e in
+    let g = bind_ok (footer_at bytes) _ _ h.2 in
+    let fs = bind_ok (section_at file_at file_hash (file_row_count g.0) None (rows_in (file_row_count g.0) (drop g.0.file_info_offset bytes))) _ _ g.2 in
+    let xs = bind_ok (section_at xorb_at xorb_hash (xorb_row_count g.0) None (rows_in (xorb_row_count g.0) (drop g.0.xorb_info_offset bytes))) _ _ fs.2 in
+    let l1 = bind_ok (lookup_at bytes g.0.file_lookup_offset (12 * g.0.file_lookup_num_entry) (heads_text (file_items fs.0))) _ _ xs.2 in
+    let l2 = bind_ok (lookup_at bytes g.0.xorb_lookup_offset (12 * g.0.xorb_lookup_num_entry) (heads_text (xorb_items xs.0))) _ _ l1.2 in
+    let l3 = bind_ok (lookup_at bytes g.0.chunk_lookup_offset (16 * g.0.chunk_lookup_num_entry) (places_text (chunk_items xs.0))) _ _ l2.2 in
+    let t = bind_ok (totals_at g.0 (materialized fs.0) (stored xs.0)) _ _ l3.2 in
+    let made : Parts = (xs.0, fs.0, g.0) in
+    subst (λ (q : Parts). Checked bytes q) (ok_is made p t.2) (record { header = h.1; footer = g.1; files = fs.1; blocks = xs.1; heads = l1.1; xorbs = l2.1; chunks = l3.1 })
+
+placed : (bytes : List ℕ) (f : MDBShardFileFooter) → footer_at bytes ≡ Ok f → IsPlaced (length bytes) f
+unfolding footer_at
+placed bytes f e =
+    let end : List ℕ = drop (length bytes - 200) bytes in
+    let a = wants_ok (eqb (word end 0) 1) _ _ _ e in
+    let b = wants_ok (pointwise nat_eq (take 48 (drop 120 end)) (replicate 48 0)) _ _ _ a.1 in
+    let c = bind_ok (places_at (length bytes) (footer_in end)) _ _ b.1 in
+    subst (λ (g : MDBShardFileFooter). IsPlaced (length bytes) g) (ok_is _ _ c.2) (places_take _ _ c.0 c.1)
+
+section_there : {X : Type 0} (record_at : Row → List Row → Result (X × List Row) StoreError) (hash : X → List ℕ) (at count : ℕ) (bytes : List ℕ) (xs : List X) → count < 2 ^ 32 → at + 48 * count ≤ length bytes
+    → section_at record_at hash count None (rows_in count (drop at bytes)) ≡ Ok xs → section_in record_at hash at count bytes ≡ Ok xs
+unfolding section_in
+section_there record_at hash at count bytes xs few le e = rw (lt-ltb count (2 ^ 32) few, le-leb (at + 48 * count) (length bytes) le) e
+
+-- the items of a look-up that stands
+stands : {I : Type 0} (text : I → List ℕ) (items : List I) (n : ℕ) (piece : List ℕ) → n ≢ 0 → LeftIn text items n piece → (n ≡ length items) × (piece ≡ flat_map text items)
+stands {I} text items n piece ne left =
+    elim (left.stands) as (λ b. n ≡ length (left_in b items) → piece ≡ flat_map text (left_in b items) → (n ≡ length items) × (piece ≡ flat_map text items)) [
+      | true ↦ λ e is. (e, is)
+      | false ↦ λ e is. absurd (ne e)
+    ] left.count left.is
+
+-- a look-up of records that stands, or is made
+heads_there : (bytes : List ℕ) (items : List (ℕ × ℕ)) (at n : ℕ) (whole : Result (List (ℕ × ℕ)) StoreError) → (n ≡ 0 → whole ≡ Ok items) → (n ≢ 0 → (piece_at at (12 * n) bytes >>= λ p. Ok (heads_in n p)) ≡ whole) → at + 12 * n ≤ length bytes
+    → heads_in (length items) (heads_text items) ≡ items → lookup_at bytes at (12 * n) (heads_text items) ≡ Ok tt → whole ≡ Ok items
+heads_there bytes items at n whole made kept le again e = elim (cases_Bool (eqb n 0)) [
+  | inl none ↦ made (eqb-true n 0 none)
+  | inr some ↦
+      let ne : n ≢ 0 = eqb-false n 0 some in
+      let both = stands head_text items n (take (12 * n) (drop at bytes)) ne (lookup_takes head_text 11 head_len items bytes at n (12 * n) tt refl le e) in
+      goes_on (λ (x : List ℕ). x) (λ (x : List (ℕ × ℕ)). x) (take (12 * n) (drop at bytes)) items (piece_at at (12 * n) bytes) (heads_in n) whole (kept ne) (piece_there at (12 * n) bytes le) (sym again ∙ (λ i. heads_in (sym both.0 i) (sym both.1 i)))
+]
+
+files_there : (bytes : List ℕ) (f : MDBShardFileFooter) (files : List MDBFileInfo) → IsPlaced (length bytes) f → heads_in (length (file_items files)) (heads_text (file_items files)) ≡ file_items files → files_in f bytes ≡ Ok files
+    → lookup_at bytes f.file_lookup_offset (12 * f.file_lookup_num_entry) (heads_text (file_items files)) ≡ Ok tt → file_lookup_in f bytes ≡ Ok (file_items files)
+files_there bytes f files p again whole e =
+    heads_there bytes (file_items files) f.file_lookup_offset f.file_lookup_num_entry (file_lookup_in f bytes)
+    (λ none. goes_on (λ (x : List MDBFileInfo). x) (λ (x : List (ℕ × ℕ)). x) files (file_items files) (files_in f bytes) file_items (file_lookup_in f bytes) (files_made f bytes none) whole refl)
+    (files_kept f bytes) (omega (arith, p.xorb_lookup, p.chunk_lookup, p.footer, p.end)) again e
+
+xorbs_there : (bytes : List ℕ) (f : MDBShardFileFooter) (blocks : List MDBXorbInfo) → IsPlaced (length bytes) f → heads_in (length (xorb_items blocks)) (heads_text (xorb_items blocks)) ≡ xorb_items blocks → blocks_in f bytes ≡ Ok blocks
+    → lookup_at bytes f.xorb_lookup_offset (12 * f.xorb_lookup_num_entry) (heads_text (xorb_items blocks)) ≡ Ok tt → xorb_lookup_in f bytes ≡ Ok (xorb_items blocks)
+xorbs_there bytes f blocks p again whole e =
+    heads_there bytes (xorb_items blocks) f.xorb_lookup_offset f.xorb_lookup_num_entry (xorb_lookup_in f bytes)
+    (λ none. goes_on (λ (x : List MDBXorbInfo). x) (λ (x : List (ℕ × ℕ)). x) blocks (xorb_items blocks) (blocks_in f bytes) xorb_items (xorb_lookup_in f bytes) (xorbs_made f bytes none) whole refl)
+    (xorbs_kept f bytes) (omega (arith, p.chunk_lookup, p.footer, p.end)) again e
+
+chunks_there : (bytes : List ℕ) (f : MDBShardFileFooter) (blocks : List MDBXorbInfo) → IsPlaced (length bytes) f → places_in (length (chunk_items blocks)) (places_text (chunk_items blocks)) ≡ chunk_items blocks → blocks_in f bytes ≡ Ok blocks
+    → lookup_at bytes f.chunk_lookup_offset (16 * f.chunk_lookup_num_entry) (places_text (chunk_items blocks)) ≡ Ok tt → chunk_lookup_in f bytes ≡ Ok (chunk_items blocks)
+chunks_there bytes f blocks p again whole e =
+    let at = f.chunk_lookup_offset in
+    let n = f.chunk_lookup_num_entry in
+    let items = chunk_items blocks in
+    let le : at + 16 * n ≤ length bytes = omega (arith, p.footer, p.end) in
+    elim (cases_Bool (eqb n 0)) [
+      | inl none ↦ goes_on (λ (x : List MDBXorbInfo). x) (λ (x : List (ℕ × ℕ × ℕ)). x) blocks items (blocks_in f bytes) chunk_items (chunk_lookup_in f bytes) (chunks_made f bytes (eqb-true n 0 none)) whole refl
+      | inr some ↦
+          let ne : n ≢ 0 = eqb-false n 0 some in
+          let both = stands place_text items n (take (16 * n) (drop at bytes)) ne (lookup_takes place_text 15 place_len items bytes at n (16 * n) tt refl le e) in
+          goes_on (λ (x : List ℕ). x) (λ (x : List (ℕ × ℕ × ℕ)). x) (take (16 * n) (drop at bytes)) items (piece_at at (16 * n) bytes) (places_in n) (chunk_lookup_in f bytes) (chunks_kept f bytes ne) (piece_there at (16 * n) bytes le)
+          (sym again ∙ (λ i. places_in (sym both.0 i) (sym both.1 i)))
+    ]
+
+-- ---- the parts of a text
+
+module _ (w : Lookups) (s : Shard) (form : IsShard s) (fits : Fits s) where
+  abbrev text : List ℕ
+  text = shard_text w s
+
+  abbrev foot : MDBShardFileFooter
+  foot = footer_of w s
+
+  pub text_checked : Checked text (s.blocks, s.files, foot)
+  text_checked = checked text (s.blocks, s.files, foot) (all_again w s form fits)
+
+  pub text_placed : IsPlaced (length text) foot
+  text_placed = placed text foot text_checked.footer
+
+  pub info_again : info_at text ≡ Ok (record { header = header; metadata = foot })
+  info_again = info_of text foot text_checked.header text_checked.footer
+
+  pub files_again : files_in foot text ≡ Ok s.files
+  files_again = let p = text_placed in section_there file_at file_hash foot.file_info_offset (file_row_count foot) text s.files p.few_files (omega (arith, p.xorbs, p.file_lookup, p.xorb_lookup, p.chunk_lookup, p.footer, p.end)) text_checked.files
+
+  pub blocks_again : blocks_in foot text ≡ Ok s.blocks
+  blocks_again = let p = text_placed in section_there xorb_at xorb_hash foot.xorb_info_offset (xorb_row_count foot) text s.blocks p.few_xorbs (omega (arith, p.file_lookup, p.xorb_lookup, p.chunk_lookup, p.footer, p.end)) text_checked.blocks
+
+  pub file_lookup_again : file_lookup_in foot text ≡ Ok (file_items s.files)
+  file_lookup_again = files_there text foot s.files text_placed (heads_again (file_items s.files) (file_items_fit s.files fits.files form.few_files)) files_again text_checked.heads
+
+  pub xorbs_again : xorb_lookup_in foot text ≡ Ok (xorb_items s.blocks)
+  xorbs_again = xorbs_there text foot s.blocks text_placed (heads_again (xorb_items s.blocks) (xorb_items_fit s.blocks fits.blocks form.few_blocks)) blocks_again text_checked.xorbs
+
+  pub chunks_again : chunk_lookup_in foot text ≡ Ok (chunk_items s.blocks)
+  chunks_again = chunks_there text foot s.blocks text_placed (places_again (chunk_items s.blocks) (chunk_items_fit s.blocks fits.blocks form.few_blocks)) blocks_again text_checked.chunks

@@ -1,0 +1,84 @@
+-- The union of two shards: each record of either, each hash once.
+use Rattle.std.specs.Prelude.{◌≡◌, ◌≢◌, ◌⊎◌, ◌≤◌, ℕ, ◌^◌, List, ◌++◌, filter, is_none, length, max, take, Result, Ok, Err}
+use Rattle.std.specs.List.{AllByRecursion}
+use Rattle.xet_hash.specs.Hash.{zero_hash}
+use Rattle.xet_hash.specs.declared.error.Place.TheVariants.{Input, Output}
+use Rattle.xet_hash.specs.declared.error.StoreError.{StoreError}
+use Rattle.xet_hash.specs.declared.error.Reason.TheVariants.{SectionPlace}
+use Rattle.xet_hash.specs.declared.error.StoreError.TheVariants.{InvalidArguments, Io, OutOfMemory, MalformedData}
+use Rattle.xet_shard.specs.declared.info.MDBShardFileFooter.{MDBShardFileFooter}
+use Rattle.xet_shard.specs.declared.record.MDBFileInfo.{MDBFileInfo}
+use Rattle.xet_shard.specs.declared.record.MDBXorbInfo.{MDBXorbInfo}
+use Rattle.xet_shard.specs.Held.{by_hash, never, record_of}
+use Rattle.xet_shard.specs.Reading.{◌>>=◌}
+use Rattle.xet_shard.specs.Records.{file_hash, file_section, xorb_hash, xorb_section}
+use Rattle.xet_shard.specs.Sections.{blocks_in, files_in}
+use Rattle.xet_shard.specs.declared.info.MDBShardInfo.{MDBShardInfo}
+use Rattle.xet_shard.specs.Lookups.{all_lookups}
+use Rattle.xet_shard.specs.Text.{Fits, IsShard, Shard, footer_of, full_text, header, shard}
+
+-- the records of the first list, and those of the second whose hash none of the first has, in rising order
+abbrev pub union : {X : Type 0} → (X → List ℕ) → List X → List X → List X
+union hash xs ys = by_hash hash (xs ++ filter (λ y. is_none (record_of hash (hash y) xs)) ys)
+
+-- what has the same hash in both is the same record
+abbrev pub Agree : {X : Type 0} → (X → List ℕ) → List X → List X → Type 0
+Agree hash xs ys = AllByRecursion (λ x. AllByRecursion (λ y. hash x ≡ hash y → x ≡ y) ys) xs
+
+-- the xorbs and the files that a shard's bytes hold
+abbrev pub Records : Type 0
+Records = List MDBXorbInfo × List MDBFileInfo
+
+unfoldable pub records_in : MDBShardFileFooter → List ℕ → Result Records StoreError
+records_in f bytes = do
+  files ← files_in f bytes
+  blocks ← blocks_in f bytes
+  Ok (blocks, files)
+
+-- those of two shards, the first one's read first
+unfoldable pub both_in : MDBShardFileFooter → List ℕ → MDBShardFileFooter → List ℕ → Result (Records × Records) StoreError
+both_in f bytes g others = do
+  x ← records_in f bytes
+  y ← records_in g others
+  Ok (x, y)
+
+abbrev pub AgreeBoth : Records × Records → Type 0
+AgreeBoth p = Agree xorb_hash p.0.0 p.1.0 × Agree file_hash p.0.1 p.1.1
+
+-- The shard of both: without a key and without an expiry, created at the later moment.
+abbrev pub union_shard : Records × Records → ℕ → ℕ → Shard
+union_shard p creation other = shard (union xorb_hash p.0.0 p.1.0) (union file_hash p.0.1 p.1.1) zero_hash (max creation other) never
+
+-- a shard's chunks are hashed again under a key
+abbrev pub IsKeyed : MDBShardFileFooter → Type 0
+IsKeyed f = f.chunk_hash_hmac_key ≢ zero_hash
+
+-- one of the sections has 2 ^ 32 rows or more
+abbrev pub HasTooMany : Shard → Type 0
+HasTooMany s = (2 ^ 32 ≤ length (file_section s.files)) ⊎ (2 ^ 32 ≤ length (xorb_section s.blocks))
+
+-- What was written behind what stood there is the full text of the union, whose header and footer are these.
+pub record IsUnion (read : Result (Records × Records) StoreError) (creation other : ℕ) (ends : MDBShardInfo) (before after : List ℕ) : Type 0 where
+  pub both : Records × Records
+  pub found : read ≡ Ok both
+  pub agree : AgreeBoth both
+  pub form : IsShard (union_shard both creation other)
+  pub fits : Fits (union_shard both creation other)
+  pub info : ends ≡ record { header = header; metadata = footer_of all_lookups (union_shard both creation other) }
+  pub text : after ≡ before ++ full_text (union_shard both creation other)
+
+-- After a refusal nothing was written, or a front of the union's text.
+abbrev pub HasUnionFront : Result (Records × Records) StoreError → ℕ → ℕ → List ℕ → List ℕ → Type 0
+HasUnionFront read creation other before after =
+    (after ≡ before)
+    ⊎ ((both : Records × Records) × (n : ℕ) × (read ≡ Ok both) × AgreeBoth both × (after ≡ before ++ take n (full_text (union_shard both creation other))))
+
+-- why there is no union
+abbrev pub IsNoUnion : MDBShardFileFooter → MDBShardFileFooter → Result (Records × Records) StoreError → StoreError → Type 0
+IsNoUnion f g read OutOfMemory = Unit {0}
+IsNoUnion f g read (Io Input) = Unit {0}
+IsNoUnion f g read (Io Output) = Unit {0}
+IsNoUnion f g read InvalidArguments = IsKeyed f ⊎ IsKeyed g ⊎ ((both : Records × Records) × (read ≡ Ok both) × (AgreeBoth both → ⊥))
+IsNoUnion f g read e =
+    (read ≡ Err e)
+    ⊎ ((e ≡ MalformedData SectionPlace) × (both : Records × Records) × (read ≡ Ok both) × HasTooMany (union_shard both f.shard_creation_timestamp g.shard_creation_timestamp))

@@ -1,0 +1,138 @@
+//! What a shard is asked over a reader.
+
+ghost use Rattle.std.specs.Prelude.{◌≡◌, length};
+ghost use Rattle.xet_shard.specs.Records.{file_rows};
+
+use crate::abc_tests::shard_of_abc;
+use crate::part_tests::without_lookups;
+use crate::*;
+use std::alloc::Global;
+use std::test::Fail;
+use xet_base::Items;
+use xet_hash::{HMACKey, MerkleHash, StoreError, compute_data_hash, file_hash};
+use xet_io::SliceReader;
+
+/// The hash of this last byte, the others of which are one.
+fn hash_of(last: u8) -> MerkleHash {
+    let mut bytes = [1; 32];
+    bytes[31] = last;
+    MerkleHash::from_bytes(bytes)
+}
+
+/// The file of no segments whose hash has this last byte.
+fn file_of(alloc: Global, last: u8) -> MDBFileInfo
+    ensures { length (file_rows result) ≡ 1 }
+{
+    MDBFileInfo {
+        metadata: FileDataSequenceHeader::new(hash_of(last), 0, false, false),
+        segments: Items::new(alloc),
+        verification: Items::new(alloc),
+        metadata_ext: None,
+    }
+}
+
+/// The bytes of a shard of seven files under one first word, or of eight.
+fn shard_of_files(alloc: Global, eight: bool) -> Result<Vec<u8>, StoreError> {
+    let a = file_of(alloc, 0);
+    let b = file_of(alloc, 1);
+    let c = file_of(alloc, 2);
+    let d = file_of(alloc, 3);
+    let e = file_of(alloc, 4);
+    let f = file_of(alloc, 5);
+    let g = file_of(alloc, 6);
+    let h = file_of(alloc, 7);
+    let key = HMACKey::default();
+    let (text, _) = if eight {
+        write_shard(alloc, &[], &[&a, &b, &c, &d, &e, &f, &g, &h], key, 0, 0)?
+    } else {
+        write_shard(alloc, &[], &[&a, &b, &c, &d, &e, &f, &g], key, 0, 0)?
+    };
+    Ok(text)
+}
+
+/// A run.
+type Run = Option<(usize, FileDataSequenceEntry)>;
+
+/// What the shard of `abc` in these bytes answers: the number of the file's segments, the run of its chunk,
+/// and the runs at the first row and at the second.
+fn answers(alloc: Global, text: &[u8]) -> Result<(Option<usize>, Run, Run, Run), StoreError> {
+    let mut reader = SliceReader::new(text);
+    let info = MDBShardInfo::load_from_reader(&mut reader)?;
+    let chunk = compute_data_hash(b"abc");
+    let hash = file_hash(alloc, &[(chunk, 3)])?;
+    let file = info.get_file_reconstruction_info(alloc, &mut reader, &hash)?;
+    let segments = file.map(|file| file.segments.as_slice().len());
+    let query = [chunk, hash];
+    let found = info.chunk_hash_dedup_query(alloc, &mut reader, &query)?;
+    let first = info.chunk_hash_dedup_query_direct(alloc, &mut reader, &query, 0, 0)?;
+    let second = info.chunk_hash_dedup_query_direct(alloc, &mut reader, &query, 1, 0)?;
+    Ok((segments, found, first, second))
+}
+
+/// The run of the one chunk.
+fn run_of_abc() -> Run {
+    let chunk = compute_data_hash(b"abc");
+    Some((1, FileDataSequenceEntry::new(chunk, 3, 0, 1)))
+}
+
+/// What it is to answer.
+fn wanted() -> (Option<usize>, Run, Run, Run) {
+    (Some(1), run_of_abc(), run_of_abc(), None)
+}
+
+#[test]
+fn what_stands_is_found(rt: HostRuntime) -> Result<(), Fail> {
+    let alloc = rt.alloc();
+    let (text, _) = shard_of_abc(alloc)?;
+    assert_eq!(rt; answers(alloc, &text)?, wanted());
+    Ok(())
+}
+
+#[test]
+fn what_stands_is_found_without_the_look_ups(rt: HostRuntime) -> Result<(), Fail> {
+    let alloc = rt.alloc();
+    let (text, _) = shard_of_abc(alloc)?;
+    if text.len() != 672 {
+        return Err(StoreError::UnexpectedEof.into());
+    }
+    let other = without_lookups(alloc, &text)?;
+    assert_eq!(rt; answers(alloc, &other)?, wanted());
+    Ok(())
+}
+
+#[test]
+fn a_first_word_alone_is_no_run(rt: HostRuntime) -> Result<(), Fail> {
+    let alloc = rt.alloc();
+    let (text, info) = shard_of_abc(alloc)?;
+    let mut reader = SliceReader::new(&text);
+    let mut bytes = *compute_data_hash(b"abc").as_bytes();
+    bytes[31] = 0;
+    let query = [MerkleHash::from_bytes(bytes)];
+    let run = info.chunk_hash_dedup_query(alloc, &mut reader, &query)?;
+    assert_eq!(rt; run, None);
+    Ok(())
+}
+
+#[test]
+fn seven_files_of_a_first_word_are_told_apart(rt: HostRuntime) -> Result<(), Fail> {
+    let alloc = rt.alloc();
+    let text = shard_of_files(alloc, false)?;
+    let mut reader = SliceReader::new(&text);
+    let info = MDBShardInfo::load_from_reader(&mut reader)?;
+    let file = info.get_file_reconstruction_info(alloc, &mut reader, &hash_of(6))?;
+    assert_eq!(rt; file.map(|file| file.hash()), Some(hash_of(6)));
+    let none = info.get_file_reconstruction_info(alloc, &mut reader, &hash_of(7))?;
+    assert!(rt; none.is_none());
+    Ok(())
+}
+
+#[test]
+fn eight_files_of_a_first_word_are_refused(rt: HostRuntime) -> Result<(), Fail> {
+    let alloc = rt.alloc();
+    let text = shard_of_files(alloc, true)?;
+    let mut reader = SliceReader::new(&text);
+    let info = MDBShardInfo::load_from_reader(&mut reader)?;
+    let file = info.get_file_reconstruction_info(alloc, &mut reader, &hash_of(6));
+    assert_eq!(rt; file.err(), Some(StoreError::TruncatedHashCollision));
+    Ok(())
+}

@@ -1,0 +1,141 @@
+use super::*;
+use crate::abc_tests::{file_of_abc, shard_of, shard_of_abc};
+use std::alloc::Global;
+use std::test::Fail;
+use xet_hash::{HMACKey, MerkleHash, StoreError, compute_data_hash};
+use xet_io::{MemorySink, SliceReader};
+
+/// The bytes of a shard, and what begins and ends them.
+type Written = (Vec<u8>, MDBShardInfo);
+
+/// The shard under the key of 32 bytes 1, created at 5 and valid for 10 seconds, with its files and all
+/// look-ups or without them.
+fn keyed(alloc: Global, shard: &Written, whole: bool) -> Result<Vec<u8>, StoreError> {
+    let key = HMACKey::from_bytes([1; 32]);
+    if key == HMACKey::default() || shard.1.metadata.chunk_hash_hmac_key != HMACKey::default() {
+        return Err(StoreError::HashMismatch);
+    }
+    let mut reader = SliceReader::new(&shard.0);
+    let mut sink = MemorySink::new(alloc);
+    shard.1.export_as_keyed_shard(
+        alloc,
+        &mut reader,
+        &mut sink,
+        key,
+        10,
+        whole,
+        whole,
+        whole,
+        5,
+    )?;
+    Ok(sink.into_bytes())
+}
+
+/// The union of two shards.
+fn union(alloc: Global, ours: &Written, theirs: &Written) -> Result<Vec<u8>, StoreError> {
+    let mut first = SliceReader::new(&ours.0);
+    let mut second = SliceReader::new(&theirs.0);
+    let mut sink = MemorySink::new(alloc);
+    shard_set_union(
+        alloc,
+        &ours.1,
+        &mut first,
+        &theirs.1,
+        &mut second,
+        &mut sink,
+    )?;
+    Ok(sink.into_bytes())
+}
+
+/// The shard of one file, whose hash is of 32 bytes 7 and whose chunk is of these bytes.
+fn shard_of_file(alloc: Global, bytes: &[u8]) -> Result<Written, StoreError> {
+    let hash = MerkleHash::from_bytes([7; 32]);
+    if hash == MerkleHash::marker() {
+        return Err(StoreError::HashMismatch);
+    }
+    let mut shard = MDBInMemoryShard::new(alloc);
+    shard.add_file_reconstruction_info(file_of_abc(alloc, hash, compute_data_hash(bytes))?)?;
+    let mut sink = MemorySink::new(alloc);
+    let info = shard.serialize_from(alloc, &mut sink, 0, None)?;
+    Ok((sink.into_bytes(), info))
+}
+
+#[test]
+fn chunks_are_hashed_under_the_key(rt: HostRuntime) -> Result<(), Fail> {
+    let alloc = rt.alloc();
+    let text = keyed(alloc, &shard_of_abc(alloc)?, true)?;
+    let (blocks, files, footer) = read_shard(alloc, &text)?;
+    let key = HMACKey::from_bytes([1; 32]);
+    assert_eq!(rt; (blocks.len(), files.len()), (1, 1));
+    assert_eq!(rt; footer.chunk_hash_hmac_key, key);
+    assert_eq!(rt;
+        (footer.shard_creation_timestamp, footer.shard_key_expiry),
+        (5, 15)
+    );
+    let chunk = compute_data_hash(b"abc");
+    for block in &blocks {
+        assert_eq!(rt; block.hash(), chunk);
+        for entry in block.chunks.as_slice() {
+            assert_eq!(rt; entry.chunk_hash, chunk.hmac(key));
+        }
+    }
+    Ok(())
+}
+
+#[test]
+fn a_keyed_shard_is_asked_by_plain_hashes(rt: HostRuntime) -> Result<(), Fail> {
+    let alloc = rt.alloc();
+    let text = keyed(alloc, &shard_of_abc(alloc)?, true)?;
+    let mut reader = SliceReader::new(&text);
+    let info = MDBShardInfo::load_from_reader(&mut reader)?;
+    let chunk = compute_data_hash(b"abc");
+    let run = info.chunk_hash_dedup_query(alloc, &mut reader, &[chunk])?;
+    assert_eq!(rt; run, Some((1, FileDataSequenceEntry::new(chunk, 3, 0, 1))));
+    Ok(())
+}
+
+#[test]
+fn files_and_look_ups_are_left_out(rt: HostRuntime) -> Result<(), Fail> {
+    let alloc = rt.alloc();
+    let shard = shard_of_abc(alloc)?;
+    let text = keyed(alloc, &shard, false)?;
+    assert_eq!(rt; (shard.0.len(), text.len()), (672, 440));
+    let (blocks, files, _) = read_shard(alloc, &text)?;
+    assert_eq!(rt; (blocks.len(), files.len()), (1, 0));
+    Ok(())
+}
+
+#[test]
+fn a_union_has_each_file_once(rt: HostRuntime) -> Result<(), Fail> {
+    let alloc = rt.alloc();
+    let abc = shard_of_abc(alloc)?;
+    let abd = shard_of(alloc, b"abd")?;
+    let text = union(alloc, &abc, &abd)?;
+    let (blocks, files, _) = read_shard(alloc, &text)?;
+    assert_eq!(rt; (text.len(), blocks.len(), files.len()), (1_000, 2, 2));
+    assert_eq!(rt; union(alloc, &abc, &abc)?.len(), 672);
+    Ok(())
+}
+
+#[test]
+fn there_is_no_union_with_a_keyed_shard(rt: HostRuntime) -> Result<(), Fail> {
+    let alloc = rt.alloc();
+    let abc = shard_of_abc(alloc)?;
+    let text = keyed(alloc, &abc, true)?;
+    let info = MDBShardInfo::load_from_reader(&mut SliceReader::new(&text))?;
+    let none = union(alloc, &abc, &(text, info));
+    assert_eq!(rt; none.err(), Some(StoreError::InvalidArguments));
+    Ok(())
+}
+
+#[test]
+fn there_is_no_union_of_two_records_of_a_hash(rt: HostRuntime) -> Result<(), Fail> {
+    let alloc = rt.alloc();
+    let none = union(
+        alloc,
+        &shard_of_file(alloc, b"abc")?,
+        &shard_of_file(alloc, b"abd")?,
+    );
+    assert_eq!(rt; none.err(), Some(StoreError::InvalidArguments));
+    Ok(())
+}

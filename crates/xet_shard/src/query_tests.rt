@@ -1,0 +1,108 @@
+//! What a shard in memory is asked.
+
+ghost use Rattle.std.specs.Prelude.{◌≡◌, IfOk, length};
+ghost use Rattle.xet_shard.specs.Records.{IsXorb, xorb_hash, xorb_rows};
+
+use crate::abc_tests::file_of_abc;
+use crate::*;
+use std::alloc::Global;
+use std::test::Fail;
+use xet_base::Items;
+use xet_hash::{MerkleHash, StoreError, compute_data_hash};
+
+/// The xorb of a hash whose chunks have these digests and ten bytes each.
+fn xorb_of(
+    alloc: Global,
+    hash: MerkleHash,
+    first: MerkleHash,
+    second: MerkleHash,
+    third: MerkleHash,
+) -> Result<MDBXorbInfo, StoreError>
+    ensures form { IfOk result IsXorb }
+    ensures hash { IfOk result (λ xorb. xorb_hash xorb ≡ hash) }
+    ensures rows { IfOk result (λ xorb. length (xorb_rows xorb) ≡ 4) }
+{
+    Ok(MDBXorbInfo {
+        metadata: XorbChunkSequenceHeader::new(hash, 3, 30),
+        chunks: Items::from_vec(vec![in alloc;
+            XorbChunkSequenceEntry::new(first, 10, 0),
+            XorbChunkSequenceEntry::new(second, 10, 10),
+            XorbChunkSequenceEntry::new(third, 10, 20),
+        ]?),
+    })
+}
+
+#[test]
+fn a_run_ends_where_a_hash_differs(rt: HostRuntime) -> Result<(), Fail> {
+    let alloc = rt.alloc();
+    let [a, b, c] = [
+        MerkleHash::from_bytes([1; 32]),
+        MerkleHash::from_bytes([2; 32]),
+        MerkleHash::from_bytes([3; 32]),
+    ];
+    let xorb = MerkleHash::default();
+    let mut shard = MDBInMemoryShard::new(alloc);
+    shard.add_xorb_block(xorb_of(alloc, xorb, a, b, c)?)?;
+    assert_eq!(rt;
+        shard.chunk_hash_dedup_query(&[b, c, a]),
+        Some((2, FileDataSequenceEntry::new(xorb, 20, 1, 3)))
+    );
+    assert_eq!(rt;
+        shard.chunk_hash_dedup_query(&[a, c]),
+        Some((1, FileDataSequenceEntry::new(xorb, 10, 0, 1)))
+    );
+    assert_eq!(rt; shard.chunk_hash_dedup_query(&[xorb, a]), None);
+    assert_eq!(rt; shard.chunk_hash_dedup_query(&[]), None);
+    Ok(())
+}
+
+#[test]
+fn a_run_begins_at_the_last_place(rt: HostRuntime) -> Result<(), Fail> {
+    let alloc = rt.alloc();
+    let [a, b] = [
+        MerkleHash::from_bytes([1; 32]),
+        MerkleHash::from_bytes([2; 32]),
+    ];
+    let xorb = MerkleHash::default();
+    let mut shard = MDBInMemoryShard::new(alloc);
+    shard.add_xorb_block(xorb_of(alloc, xorb, a, b, a)?)?;
+    assert_eq!(rt;
+        shard.chunk_hash_dedup_query(&[a, b]),
+        Some((1, FileDataSequenceEntry::new(xorb, 10, 2, 3)))
+    );
+    Ok(())
+}
+
+#[test]
+fn a_replaced_xorb_is_forgotten(rt: HostRuntime) -> Result<(), Fail> {
+    let alloc = rt.alloc();
+    let [a, b] = [
+        MerkleHash::from_bytes([1; 32]),
+        MerkleHash::from_bytes([2; 32]),
+    ];
+    let xorb = MerkleHash::default();
+    let mut shard = MDBInMemoryShard::new(alloc);
+    shard.add_xorb_block(xorb_of(alloc, xorb, a, a, a)?)?;
+    shard.add_xorb_block(xorb_of(alloc, xorb, b, b, b)?)?;
+    assert_eq!(rt; shard.chunk_hash_dedup_query(&[a]), None);
+    assert_eq!(rt; (shard.num_xorb_entries(), shard.stored_bytes()), (1, 30));
+    Ok(())
+}
+
+#[test]
+fn a_file_is_found_by_its_hash(rt: HostRuntime) -> Result<(), Fail> {
+    let alloc = rt.alloc();
+    let chunk = compute_data_hash(b"abc");
+    let hash = MerkleHash::default();
+    let mut shard = MDBInMemoryShard::new(alloc);
+    shard.add_file_reconstruction_info(file_of_abc(alloc, hash, chunk)?)?;
+    let found = shard.get_file_reconstruction_info(alloc, &hash)?;
+    assert_eq!(rt; found.map(|file| file.segments.as_slice().len()), Some(1));
+    let other = shard.get_file_reconstruction_info(alloc, &MerkleHash::marker())?;
+    assert!(rt; other.is_none());
+    assert_eq!(rt;
+        (shard.num_file_entries(), shard.materialized_bytes()),
+        (1, 3)
+    );
+    Ok(())
+}
