@@ -11,7 +11,8 @@ pub record IsHeaderOf (n : ℕ) (text : List ℕ) : Type 0 where
   pub plain : get_or text 5 0 + get_or text 6 0 * 256 + get_or text 7 0 * 65536 ≡ n
   pub within : 8 + n ≤ length text
 
-eight : (text : List ℕ) → 8 ≤ length text
+-- the first eight bytes, one by one
+pub eight : (text : List ℕ) → 8 ≤ length text
     → text ≡ get_or text 0 0 ∷ get_or text 1 0 ∷ get_or text 2 0 ∷ get_or text 3 0 ∷ get_or text 4 0 ∷ get_or text 5 0 ∷ get_or text 6 0 ∷ get_or text 7 0 ∷ drop 8 text
 eight (a ∷ b ∷ c ∷ d ∷ e ∷ f ∷ g ∷ h ∷ rest) long = refl
 eight (a ∷ b ∷ c ∷ d ∷ e ∷ f ∷ g ∷ []) long = absurd (omega arith)

@@ -8,3 +8,16 @@ pub mod Stored
 pub mod Refusals
 pub mod Ending
 pub mod Parts
+pub mod Headers
+pub mod Written
+pub mod Checks
+pub mod Fronts
+pub mod Blocks
+pub mod Tallies
+pub mod Passed
+pub mod More
+pub mod Gathered
+pub mod Completed
+pub mod Absorbed
+pub mod Streamed
+pub mod Readback

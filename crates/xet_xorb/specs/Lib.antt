@@ -2,3 +2,12 @@ pub mod Spelling
 pub mod Xorb
 pub mod Chunks
 pub mod Reading
+pub mod Header
+pub mod Stream
+pub mod Scheme
+pub mod Outside
+pub mod Taking
+pub mod Passing
+pub mod Decoder
+pub mod Segment
+pub mod Spelled
