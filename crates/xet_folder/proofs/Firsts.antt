@@ -1,0 +1,106 @@
+-- The first row of each hash, one row after the other.
+use Rattle.std.proofs.Common.{◌≡◌, ◌∙◌, ℕ, Bool, true, false, not, cond, filter, if◌then◌else◌, List, [], ◌∷◌, ◌++◌, Option, Some, None, is_some, nat_eq, refl, sym, ap, append_assoc}
+use Rattle.std.proofs.lemmas.List.{append-nil}
+use Rattle.std.proofs.lemmas.List.Elements.{filter-append}
+use Rattle.std.specs.Cmp.Lexicographic.{bytes_decides, pointwise}
+use Rattle.std.specs.List.{AllByRecursion}
+use Rattle.xet_shard.proofs.Fitting.{all_both}
+use Rattle.xet_shard.specs.declared.record.FileDataSequenceEntry.{FileDataSequenceEntry as Segment}
+use Rattle.xet_folder.specs.Contents.{firsts}
+use Rattle.xet_folder.specs.Gathering.{with_first, with_firsts}
+use Rattle.xet_folder.specs.Xorbs.{Records, found}
+
+abbrev Row : Type 0
+Row = List ℕ × List Segment
+
+-- the test that leaves out the rows of a hash
+abbrev apart : List ℕ → Row → Bool
+apart h q = not (pointwise nat_eq q.0 h)
+
+-- rows of other hashes may be left out
+found_apart : (x h : List ℕ) → pointwise nat_eq h x ≡ false → (rows : Records) → found (filter (apart x) rows) h ≡ found rows h
+found_apart x h differ [] = refl
+found_apart x h differ (q ∷ rows) = go (pointwise nat_eq q.0 x) refl (found_apart x h differ rows)
+  where
+    go : (b : Bool) → pointwise nat_eq q.0 x ≡ b → found (filter (apart x) rows) h ≡ found rows h
+        → found (cond (not b) (q ∷ filter (apart x) rows) (filter (apart x) rows)) h ≡ cond (pointwise nat_eq h q.0) (Some q.1) (found rows h)
+    go true same rest =
+        let other : pointwise nat_eq h q.0 ≡ false = ap (λ (k : List ℕ). pointwise nat_eq h k) ((bytes_decides q.0 x).0 same) ∙ differ in
+        rest ∙ ap (λ (c : Bool). cond c (Some q.1) (found rows h)) (sym other)
+    go false same rest = ap (λ (o : Option (List Segment)). cond (pointwise nat_eq h q.0) (Some q.1) o) rest
+
+-- a row more after a row, and the others without its hash
+module _ (x r : Row) (rest : Records) where
+  abbrev others : Records
+  others = filter (apart x.0) rest
+
+  -- by whether a row has the hash, and how the test of it ends
+  abbrev added : Bool → Records
+  added has = if has then rest else rest ++ r ∷ []
+
+  abbrev after : Bool → Records
+  after has = if has then x ∷ others else (x ∷ others) ++ r ∷ []
+
+  abbrev tested : Bool → Bool
+  tested same = is_some (cond same (Some x.1) (found others r.0))
+
+  first_after : x ∷ filter (apart x.0) (with_first rest r) ≡ with_first (x ∷ others) r
+  first_after = go (pointwise nat_eq r.0 x.0) refl (is_some (found rest r.0)) refl
+    where
+      last : (b : Bool) → pointwise nat_eq r.0 x.0 ≡ b → filter (apart x.0) (rest ++ r ∷ []) ≡ others ++ cond (not b) (r ∷ []) []
+      last b same = filter-append (apart x.0) rest (r ∷ []) ∙ ap (λ (t : Bool). others ++ cond (not t) (r ∷ []) []) same
+
+      go : (b : Bool) → pointwise nat_eq r.0 x.0 ≡ b → (c : Bool) → is_some (found rest r.0) ≡ c → x ∷ filter (apart x.0) (added (is_some (found rest r.0))) ≡ after (tested (pointwise nat_eq r.0 x.0))
+      go true same true has = ap (λ (t : Bool). x ∷ filter (apart x.0) (added t)) has ∙ sym (ap (λ (t : Bool). after (tested t)) same)
+      go true same false has =
+          ap (λ (t : Bool). x ∷ filter (apart x.0) (added t)) has ∙ ap (λ (l : Records). x ∷ l) (last true same ∙ append-nil others) ∙ sym (ap (λ (t : Bool). after (tested t)) same)
+      go false differ c has =
+          ap (λ (t : Bool). x ∷ filter (apart x.0) (added t)) has ∙ by c
+          ∙ sym (ap (λ (t : Bool). after (tested t)) differ ∙ ap after (ap is_some (found_apart x.0 r.0 differ rest) ∙ has))
+        where
+          by : (c : Bool) → x ∷ filter (apart x.0) (added c) ≡ after c
+          by true = refl
+          by false = ap (λ (l : Records). x ∷ l) (last false differ)
+
+firsts_one : (rows : Records) (r : Row) → firsts (rows ++ r ∷ []) ≡ with_first (firsts rows) r
+unfolding firsts
+firsts_one [] r = refl
+firsts_one (x ∷ rows) r = ap (λ (l : Records). x ∷ filter (apart x.0) l) (firsts_one rows r) ∙ first_after x r (firsts rows)
+
+-- the first ones of more rows
+pub firsts_more : (rows more : Records) → firsts (rows ++ more) ≡ with_firsts (firsts rows) more
+firsts_more rows [] = ap firsts (append-nil rows)
+firsts_more rows (r ∷ more) =
+    ap firsts (sym (append_assoc rows (r ∷ []) more)) ∙ firsts_more (rows ++ r ∷ []) more ∙ ap (λ (l : Records). with_firsts l more) (firsts_one rows r)
+
+pub first_there : (rows : Records) (r : Row) → is_some (found rows r.0) ≡ true → rows ≡ with_first rows r
+first_there rows r has = sym (ap (λ (t : Bool). if t then rows else rows ++ r ∷ []) has)
+
+pub first_new : (rows : Records) (r : Row) → found rows r.0 ≡ None → rows ++ r ∷ [] ≡ with_first rows r
+first_new rows r none = sym (ap (λ (o : Option (List Segment)). if is_some o then rows else rows ++ r ∷ []) none)
+
+-- what holds of all rows
+first_holds : (P : Row → Type 0) (rows : Records) (r : Row) → AllByRecursion P rows → P r → AllByRecursion P (with_first rows r)
+first_holds P rows r all here = go (is_some (found rows r.0))
+  where
+    go : (b : Bool) → AllByRecursion P (if b then rows else rows ++ r ∷ [])
+    go true = all
+    go false = all_both P rows (r ∷ []) all (here, tt)
+
+pub firsts_hold : (P : Row → Type 0) (rows more : Records) → AllByRecursion P rows → AllByRecursion P more → AllByRecursion P (with_firsts rows more)
+firsts_hold P rows [] all also = all
+firsts_hold P rows (r ∷ more) all also = firsts_hold P (with_first rows r) more (first_holds P rows r all also.0) also.1
+
+pub not_some : (o : Option (List Segment)) → is_some o ≡ false → o ≡ None
+not_some None e = refl
+not_some (Some v) e = absurd (cc e)
+
+-- what is found among the first ones is what is found among all
+pub found_firsts : (rows : Records) (h : List ℕ) → found (firsts rows) h ≡ found rows h
+unfolding firsts
+found_firsts [] h = refl
+found_firsts (r ∷ rows) h = go (pointwise nat_eq h r.0) refl (found_firsts rows h)
+  where
+    go : (b : Bool) → pointwise nat_eq h r.0 ≡ b → found (firsts rows) h ≡ found rows h → cond b (Some r.1) (found (filter (apart r.0) (firsts rows)) h) ≡ cond b (Some r.1) (found rows h)
+    go true same rest = refl
+    go false differ rest = found_apart r.0 h differ (firsts rows) ∙ rest

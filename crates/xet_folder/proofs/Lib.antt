@@ -1,0 +1,17 @@
+pub mod Paths
+pub mod Putting
+pub mod Backing
+pub mod Tables
+pub mod Ranges
+pub mod Placing
+pub mod Runs
+pub mod Comparing
+pub mod Rest
+pub mod Joining
+pub mod Refused
+pub mod Agreeing
+pub mod Registering
+pub mod ListedShards
+pub mod Firsts
+pub mod MoreShards
+pub mod Stopping

@@ -1,0 +1,136 @@
+-- Tables of xorbs that grow.
+use Rattle.std.proofs.Common.{◌≡◌, ◌⊎◌, inl, inr, ◌∙◌, ℕ, Bool, true, false, cond, List, [], ◌∷◌, ◌++◌, Option, Some, None, IsSome, refl, sym, ap, subst, nat_eq, append_assoc}
+use Rattle.std.proofs.lemmas.List.{append-nil}
+use Rattle.std.specs.Cmp.Lexicographic.{bytes_decides, pointwise}
+use Rattle.std.specs.List.{AllByRecursion}
+use Rattle.std.specs.Option.{is_some, option_map}
+use Rattle.xet_io.specs.Disk.{Files}
+use Rattle.xet_shard.specs.declared.record.FileDataSequenceEntry.{FileDataSequenceEntry as Segment}
+use Rattle.xet_shard.specs.declared.record.MDBFileInfo.{MDBFileInfo}
+use Rattle.xet_shard.specs.declared.record.MDBXorbInfo.{MDBXorbInfo}
+use Rattle.xet_shard.specs.Records.{xorb_hash}
+use Rattle.xet_shard.proofs.Fitting.{all_both}
+use Rattle.xet_folder.specs.Checks.{Grows, Has, HasFile, Knows}
+use Rattle.xet_folder.specs.Contents.{IsFileRecord, IsRecord, listed_of}
+use Rattle.xet_folder.specs.Plan.{Joins}
+use Rattle.xet_folder.specs.Stored.{IsBacked}
+use Rattle.xet_folder.specs.Xorbs.{IsListed, Records, Xorbs, found}
+
+module _ {V : Type 0} where
+  -- what is in a table stays in it
+  pub found_kept : (rows added : List (List ℕ × V)) (h : List ℕ) (v : V) → found rows h ≡ Some v → found (rows ++ added) h ≡ Some v
+  found_kept [] added h v e = absurd (cc e)
+  found_kept (r ∷ rows) added h v e = go (pointwise nat_eq h r.0) (found rows h) (found (rows ++ added) h) e (found_kept rows added h v)
+    where
+      go : (b : Bool) (o p : Option V) → cond b (Some r.1) o ≡ Some v → (o ≡ Some v → p ≡ Some v) → cond b (Some r.1) p ≡ Some v
+      go true o p e f = e
+      go false o p e f = f e
+
+  -- a row at the end of a table that lacks its hash
+  pub found_here : (rows : List (List ℕ × V)) (k : List ℕ) (v : V) → found rows k ≡ None → found (rows ++ (k, v) ∷ []) k ≡ Some v
+  found_here [] k v e = ap (λ (b : Bool). cond b (Some v) None) ((bytes_decides k k).1 refl)
+  found_here (r ∷ rows) k v e = go (pointwise nat_eq k r.0) (found rows k) (found (rows ++ (k, v) ∷ []) k) e (found_here rows k v)
+    where
+      go : (b : Bool) (o p : Option V) → cond b (Some r.1) o ≡ None → (o ≡ None → p ≡ Some v) → cond b (Some r.1) p ≡ Some v
+      go true o p e f = absurd (cc e)
+      go false o p e f = f e
+
+  -- what is found in a longer table was there, or is the last row
+  pub found_either : (rows : List (List ℕ × V)) (k h : List ℕ) (v w : V) → found (rows ++ (k, v) ∷ []) h ≡ Some w → (found rows h ≡ Some w) ⊎ ((k ≡ h) × (v ≡ w))
+  found_either [] k h v w e = go (pointwise nat_eq h k) ((bytes_decides h k).0) e
+    where
+      go : (b : Bool) → (b ≡ true → h ≡ k) → cond b (Some v) None ≡ Some w → (found [] h ≡ Some w) ⊎ ((k ≡ h) × (v ≡ w))
+      go true same e = inr (sym (same refl), cc e)
+      go false same e = absurd (cc e)
+  found_either (r ∷ rows) k h v w e = go (pointwise nat_eq h r.0) (found rows h) (found (rows ++ (k, v) ∷ []) h) e (found_either rows k h v w)
+    where
+      go : (b : Bool) (o p : Option V) → cond b (Some r.1) p ≡ Some w → (p ≡ Some w → (o ≡ Some w) ⊎ ((k ≡ h) × (v ≡ w))) → (cond b (Some r.1) o ≡ Some w) ⊎ ((k ≡ h) × (v ≡ w))
+      go true o p e f = inl e
+      go false o p e f = f e
+
+pub none_of : {T U : Type 0} (f : T → U) (o : Option T) (p : Option U) → option_map f o ≡ p → is_some o ≡ false → p ≡ None
+none_of f None p e no_value = sym e
+none_of f (Some x) p e no_value = absurd (cc no_value)
+
+has_some : (o p : Option (List (List ℕ × ℕ))) → ((v : List (List ℕ × ℕ)) → o ≡ Some v → p ≡ Some v) → IsSome o → IsSome p
+has_some None p f some = absurd (cc some)
+has_some (Some v) p f some = subst (λ (q : Option (List (List ℕ × ℕ))). IsSome q) (sym (f v refl)) refl
+
+-- a table that has grown
+pub record IsLater (old new : Xorbs) : Type 0 where
+  pub added : Xorbs
+  pub is : new ≡ old ++ added
+
+pub later_none : (t : Xorbs) → IsLater t t
+later_none t = record { added = []; is = sym (append-nil t) }
+
+pub later_of : (Of : List ℕ → Type 0) (old new : Xorbs) → Grows Of old new → IsLater old new
+later_of Of old new g = record { added = g.added; is = g.is }
+
+pub later_then : (a b c : Xorbs) → IsLater a b → IsLater b c → IsLater a c
+later_then a b c one two = record { added = one.added ++ two.added; is = two.is ∙ ap (λ (rows : Xorbs). rows ++ two.added) one.is ∙ append_assoc a one.added two.added }
+
+pub listed_later : (old new : Xorbs) (h : List ℕ) (members : List (List ℕ × ℕ)) → IsLater old new → found old h ≡ Some members → found new h ≡ Some members
+listed_later old new h members later e = ap (λ (rows : Xorbs). found rows h) later.is ∙ found_kept old later.added h members e
+
+pub has_later : (old new : Xorbs) (h : List ℕ) → IsLater old new → Has old h → Has new h
+has_later old new h later has = has_some (found old h) (found new h) (λ v e. listed_later old new h v later e) has
+
+pub found_some : (rows : Xorbs) (h : List ℕ) (v : List (List ℕ × ℕ)) → found rows h ≡ Some v → Has rows h
+found_some rows h v e = subst (λ (o : Option (List (List ℕ × ℕ))). IsSome o) (sym e) refl
+
+pub grows_none : (Of : List ℕ → Type 0) (t : Xorbs) → Grows Of t t
+grows_none Of t = record { added = []; is = sym (append-nil t); named = tt }
+
+all_rows : (P Q : List ℕ → Type 0) → ((h : List ℕ) → P h → Q h) → (rows : Xorbs) → AllByRecursion (λ row. P row.0) rows → AllByRecursion (λ row. Q row.0) rows
+all_rows P Q f [] all = tt
+all_rows P Q f (r ∷ rows) all = (f r.0 all.0, all_rows P Q f rows all.1)
+
+pub grows_more : (P Q : List ℕ → Type 0) → ((h : List ℕ) → P h → Q h) → (a b : Xorbs) → Grows P a b → Grows Q a b
+grows_more P Q f a b g = record { added = g.added; is = g.is; named = all_rows P Q f g.added g.named }
+
+pub grows_then : (P Q : List ℕ → Type 0) → ((h : List ℕ) → Q h → P h) → (a b c : Xorbs) → Grows P a b → Grows Q b c → Grows P a c
+grows_then P Q f a b c one two = record {
+  added = one.added ++ two.added;
+  is = two.is ∙ ap (λ (rows : Xorbs). rows ++ two.added) one.is ∙ append_assoc a one.added two.added;
+  named = all_both (λ row. P row.0) one.added two.added one.named (all_rows Q P f two.added two.named);
+}
+
+-- one row more
+pub knows_more : (tells tells2 : Bool) (files files2 : Files) (folder : List ℕ) (old new : Xorbs) (hash : List ℕ) (members : List (List ℕ × ℕ)) → tells2 ≡ tells → files2 ≡ files
+    → new ≡ old ++ (hash, members) ∷ [] → (tells ≡ true → IsBacked files folder hash members) → Knows tells files folder old → Knows tells2 files2 folder new
+knows_more tells tells2 files files2 folder old new hash members same_tells same_files is backs k = record {
+  told = same_tells ∙ k.told;
+  backed = λ h v e. subst (λ (f : Files). IsBacked f folder h v) (sym same_files) (go h v (found_either old hash h members v (ap (λ (rows : Xorbs). found rows h) (sym is) ∙ e)));
+}
+  where
+    go : (h : List ℕ) (v : List (List ℕ × ℕ)) → (found old h ≡ Some v) ⊎ ((hash ≡ h) × (members ≡ v)) → IsBacked files folder h v
+    go h v (inl e) = k.backed h v e
+    go h v (inr e) = subst (λ (x : List ℕ). IsBacked files folder x v) e.0 (subst (λ (ms : List (List ℕ × ℕ)). IsBacked files folder hash ms) e.1 (backs k.told))
+
+all_later : (old new : Xorbs) (segments : List Segment) → IsLater old new → AllByRecursion (λ s. Has old s.xorb_hash) segments → AllByRecursion (λ s. Has new s.xorb_hash) segments
+all_later old new [] later has = tt
+all_later old new (s ∷ ss) later has = (has_later old new s.xorb_hash later has.0, all_later old new ss later has.1)
+
+pub has_file_later : (old new : Xorbs) (f : MDBFileInfo) → IsLater old new → HasFile old f → HasFile new f
+has_file_later old new f later has = all_later old new f.segments later has
+
+pub blocks_later : (old new : Xorbs) (blocks : List MDBXorbInfo) → IsLater old new → AllByRecursion (λ b. Has old (xorb_hash b)) blocks → AllByRecursion (λ b. Has new (xorb_hash b)) blocks
+blocks_later old new [] later has = tt
+blocks_later old new (b ∷ bs) later has = (has_later old new (xorb_hash b) later has.0, blocks_later old new bs later has.1)
+
+-- plans still join, and records stand
+pub joins_later : (old new : Xorbs) (segments : List Segment) (out : List (List ℕ × ℕ)) → IsLater old new → Joins (IsListed old) (λ m. m.1) segments out → Joins (IsListed new) (λ m. m.1) segments out
+joins_later old new [] out later none = none
+joins_later old new (s ∷ ss) out later (xs, rest, listed, lies, parts, more) = (xs, rest, listed_later old new s.xorb_hash xs later listed, lies, parts, joins_later old new ss rest later more)
+
+pub record_later : (old new : Xorbs) (r : List ℕ × List Segment) → IsLater old new → IsRecord old r → IsRecord new r
+record_later old new r later is = record { members = is.members; joins = joins_later old new r.1 is.members later is.joins; hash = is.hash; some = is.some; bound = is.bound }
+
+pub records_later : (old new : Xorbs) (rs : Records) → IsLater old new → AllByRecursion (IsRecord old) rs → AllByRecursion (IsRecord new) rs
+records_later old new [] later all = tt
+records_later old new (r ∷ rs) later all = (record_later old new r later all.0, records_later old new rs later all.1)
+
+pub all_listed : (xorbs : Xorbs) (files : List MDBFileInfo) → AllByRecursion (IsFileRecord xorbs) files → AllByRecursion (IsRecord xorbs) (listed_of files)
+all_listed xorbs [] all = tt
+all_listed xorbs (f ∷ fs) all = (all.0, all_listed xorbs fs all.1)

@@ -1,0 +1,25 @@
+use Rattle.std.proofs.Common.{ℕ}
+use Rattle.xet_io.specs.Disk.{file}
+use Rattle.xet_hash.specs.declared.error.StoreError.{StoreError}
+use Rattle.xet_shard.proofs.Fitting.{materialized_below}
+use Rattle.xet_folder.specs.Admission.{ShardFails}
+use Rattle.xet_folder.specs.Checks.{IsCheckRefusal, Knows}
+use Rattle.xet_folder.proofs.Refused.{on_exit, read_refusal}
+use Rattle.xet_folder.proofs.Tables.{all_listed}
+use Rattle.xet_folder.proofs.admission.admit_shard.Goals as goal
+
+pub returns-in_err-parts-clause-refused : goal.returns-in_err-parts-clause-refused
+returns-in_err-parts-clause-refused g c =
+    let files = g.D.Disk.files c.args.disk.now in
+    let known = Knows (g.D.Disk.tells c.args.disk.now) files c.args.folder.now c.args.table.now in
+    let fails : StoreError → Type 0 = λ e. (stamp : ℕ) → ShardFails files c.args.folder.now (record { hash = c.args.hash.now; file = file c.args.bytes.now stamp }) e in
+    let count = g.D.Disk.faults c.args.disk.now in
+    on_exit c.from_residual.result c.in_err-parts.field-0.0 (IsCheckRefusal known fails count count) c.from_residual.ensures.1
+    (read_refusal known fails count count c.args.bytes.now c.in_err-parts.field-0.0 (λ k refused stamp. ShardFails.grammar refused) c.in_err-parts.ensures.exact)
+
+pub check_parts-requires-clause-total : goal.check_parts-requires-clause-total
+check_parts-requires-clause-total g c =
+    materialized_below c.in_ok-parts.parts.1.items c.in_ok-parts.ensures.found.shard.few_files c.in_ok-parts.ensures.found.fits.files
+
+pub returns-clause-recorded : goal.returns-clause-recorded
+returns-clause-recorded g c = all_listed c.check_parts.new.table c.in_ok-parts.parts.1.items c.in_ok-check_parts.ensures.recorded

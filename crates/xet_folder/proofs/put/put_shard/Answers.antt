@@ -1,0 +1,26 @@
+use Rattle.std.proofs.Common.{◌≡◌, ◌∙◌, ap, rules, Option}
+use Rattle.xet_io.specs.Disk.{Entry, file_of}
+use Rattle.xet_folder.specs.Names.{shard_path, temp_name, xorb_path}
+use Rattle.xet_folder.proofs.Paths.{shard_no_temp, xorb_no_shard, xorb_no_temp, shards_apart}
+use Rattle.xet_folder.proofs.put.put_shard.Goals as goal
+
+pub returns : goal.returns
+returns g c =
+    let path : c.as_str.result.now ≡ shard_path c.args.folder.now c.args.hash.now = c.as_str.ensures.value ∙ c.in_ok-path.ensures.path in
+    record {
+      there = search rules;
+      stable = search rules;
+      refused = search rules;
+      xorbs = λ told h is.
+          ap (λ (e : Option Entry). file_of e) (c.put_text.ensures.others told (xorb_path c.args.folder.now h)
+          (λ s. xorb_no_shard c.args.folder.now h c.args.hash.now (s ∙ path)) (λ s. xorb_no_temp c.args.folder.now h c.as_str.result.now s));
+      shards = λ told h is apart.
+          ap (λ (e : Option Entry). file_of e) (c.put_text.ensures.others told (shard_path c.args.folder.now h)
+          (λ s. shards_apart c.args.folder.now h c.args.hash.now is (c.known_bytes.ensures.length, c.known_bytes.ensures.bytes) apart (s ∙ path)) (λ s. shard_no_temp c.args.folder.now h c.as_str.result.now s));
+      foreign = λ told name is.
+          let free = is.no_shard c.args.hash.now (c.known_bytes.ensures.length, c.known_bytes.ensures.bytes) in
+          c.put_text.ensures.others told name (λ s. free.0 (s ∙ path)) (λ s. free.1 (s ∙ ap temp_name path));
+      tells = search rules;
+      later = search rules;
+      reason = search rules;
+    }

@@ -1,0 +1,79 @@
+-- What checks of what shards name do to the table of xorbs, and why they refuse.
+use Rattle.std.specs.Prelude.{◌≡◌, ◌⊎◌, ℕ, Bool, true, List, ◌++◌, map, IsSome, Ok}
+use Rattle.std.specs.List.{AllByRecursion, IsAmong}
+use Rattle.xet_io.specs.Disk.{Files}
+use Rattle.xet_io.specs.Faults.{Rose}
+use Rattle.xet_hash.specs.declared.error.StoreError.{StoreError}
+use Rattle.xet_hash.specs.declared.error.StoreError.TheVariants.{Io, OutOfMemory}
+use Rattle.xet_hash.specs.declared.error.Place.TheVariants.{Disk}
+use Rattle.xet_shard.specs.declared.record.FileDataSequenceEntry.{FileDataSequenceEntry as Segment}
+use Rattle.xet_shard.specs.declared.record.MDBFileInfo.{MDBFileInfo}
+use Rattle.xet_shard.specs.declared.record.MDBXorbInfo.{MDBXorbInfo}
+use Rattle.xet_shard.specs.Reading.{Parts, all_of}
+use Rattle.xet_shard.specs.Records as record_of
+use Rattle.xet_folder.specs.Plan.{LiesIn, part}
+use Rattle.xet_folder.specs.Stored.{IsBacked}
+use Rattle.xet_folder.specs.Xorbs.{AreBacked, IsListed, Xorbs, found}
+
+-- the disk tells, and each xorb in the table is stored so
+pub record Knows (tells : Bool) (files : Files) (folder : List ℕ) (xorbs : Xorbs) : Type 0 where
+  pub told : tells ≡ true
+  pub backed : AreBacked files folder xorbs
+
+-- A table has grown: its rows stand first, and each of the others is of such a hash.
+pub record Grows (Of : List ℕ → Type 0) (old new : Xorbs) : Type 0 where
+  pub added : Xorbs
+  pub is : new ≡ old ++ added
+  pub named : AllByRecursion (λ row. Of row.0) added
+
+-- a xorb is in the table
+abbrev pub Has : Xorbs → List ℕ → Type 0
+Has xorbs h = IsSome (found xorbs h)
+
+-- what blocks name, and what files do
+abbrev pub OfBlocks : List MDBXorbInfo → List ℕ → Type 0
+OfBlocks blocks h = IsAmong (map record_of.xorb_hash blocks) h
+
+abbrev pub OfSegments : List Segment → List ℕ → Type 0
+OfSegments segments h = IsAmong (map (λ s. s.xorb_hash) segments) h
+
+abbrev pub OfFile : MDBFileInfo → List ℕ → Type 0
+OfFile f h = OfSegments f.segments h
+
+abbrev pub OfFiles : List MDBFileInfo → List ℕ → Type 0
+OfFiles files h = (f : MDBFileInfo) × IsAmong files f × OfFile f h
+
+abbrev pub OfShard : Parts → List ℕ → Type 0
+OfShard p h = OfBlocks p.0 h ⊎ OfFiles p.1 h
+
+abbrev pub OfBytes : List ℕ → List ℕ → Type 0
+OfBytes bytes h = (p : Parts) × (all_of bytes ≡ Ok p) × OfShard p h
+
+-- each xorb that a file names is in the table
+abbrev pub HasFile : Xorbs → MDBFileInfo → Type 0
+HasFile xorbs f = AllByRecursion (λ s. Has xorbs s.xorb_hash) f.segments
+
+-- each that a shard names
+pub record HasShard (xorbs : Xorbs) (p : Parts) : Type 0 where
+  pub blocks : AllByRecursion (λ b. Has xorbs (record_of.xorb_hash b)) p.0
+  pub files : AllByRecursion (HasFile xorbs) p.1
+
+-- A check refuses where the disk has failed, or memory is wanting, or, where enough is known, by what fails.
+abbrev pub IsCheckRefusal : Type 0 → (StoreError → Type 0) → ℕ → ℕ → StoreError → Type 0
+IsCheckRefusal Known Fails before now (Io Disk) = Rose before now
+IsCheckRefusal Known Fails before now OutOfMemory = Unit {0}
+IsCheckRefusal Known Fails before now e = Known → Fails e
+
+-- A segment's run of its stored xorb was added to the chunks of a file.
+pub record AddsRun (files : Files) (folder : List ℕ) (s : Segment) (old new : List (List ℕ × ℕ)) : Type 0 where
+  pub members : List (List ℕ × ℕ)
+  pub backed : IsBacked files folder s.xorb_hash members
+  pub lies : LiesIn (λ m. m.1) s members
+  pub is : new ≡ old ++ part s members
+
+-- The same of a xorb in the table.
+pub record AddsListed (xorbs : Xorbs) (s : Segment) (old new : List (List ℕ × ℕ)) : Type 0 where
+  pub members : List (List ℕ × ℕ)
+  pub listed : IsListed xorbs s.xorb_hash members
+  pub lies : LiesIn (λ m. m.1) s members
+  pub is : new ≡ old ++ part s members

@@ -1,0 +1,65 @@
+-- What an admitted folder contains: its registered shards, the xorbs that they name, and the plans of
+-- the files that they list.
+use Rattle.std.specs.Prelude.{◌≡◌, ◌↔◌, ℕ, ◌<◌, ◌^◌, Bool, true, List, [], ◌∷◌, length, filter, map, not, nat_eq, Option, Some, None, IsSome, Any, Ok, Err}
+use Rattle.std.specs.Cmp.Lexicographic.{pointwise}
+use Rattle.std.specs.List.{flat_map}
+use Rattle.xet_io.specs.Disk.{Files}
+use Rattle.xet_io.specs.Faults.{Rose}
+use Rattle.xet_hash.specs.declared.error.StoreError.{StoreError}
+use Rattle.xet_hash.specs.declared.error.StoreError.TheVariants.{Io, OutOfMemory}
+use Rattle.xet_hash.specs.declared.error.Place.TheVariants.{Disk}
+use Rattle.xet_hash.specs.Merkle.{file_hash, total_len}
+use Rattle.xet_shard.specs.declared.record.FileDataSequenceEntry.{FileDataSequenceEntry as Segment}
+use Rattle.xet_shard.specs.declared.record.MDBFileInfo.{MDBFileInfo}
+use Rattle.xet_shard.specs.Reading.{all_of}
+use Rattle.xet_shard.specs.Records as record_of
+use Rattle.xet_folder.specs.declared.contents.Contents.{Contents}
+use Rattle.xet_folder.specs.Admission.{Admits, Refuses}
+use Rattle.xet_folder.specs.Checks.{OfBytes}
+use Rattle.xet_folder.specs.Plan.{Joins}
+use Rattle.xet_folder.specs.Shards.{ShardFile}
+use Rattle.xet_folder.specs.Xorbs.{IsListed, Records, Xorbs, found}
+
+-- the files that a shard's bytes list, each under its hash with its plan
+abbrev pub listed_of : List MDBFileInfo → Records
+listed_of files = map (λ f. (record_of.file_hash f, f.segments)) files
+
+abbrev pub listed_in : List ℕ → Records
+listed_in bytes = elim (all_of bytes) [ Ok p ↦ listed_of p.1 | Err e ↦ [] ]
+
+-- the first of each hash
+unfoldable pub firsts : Records → Records
+firsts [] = []
+firsts (r ∷ rs) = r ∷ filter (λ q. not (pointwise nat_eq q.0 r.0)) (firsts rs)
+
+-- The plan joins, over the listed members, to members, not none, of which this is the file hash.
+pub record IsRecord (xorbs : Xorbs) (r : List ℕ × List Segment) : Type 0 where
+  pub members : List (List ℕ × ℕ)
+  pub joins : Joins (IsListed xorbs) (λ m. m.1) r.1 members
+  pub hash : file_hash members ≡ r.0
+  pub some : 0 < length members
+  pub bound : total_len members < 2 ^ 64
+
+-- the same of what a shard lists
+abbrev pub IsFileRecord : Xorbs → MDBFileInfo → Type 0
+IsFileRecord xorbs f = IsRecord xorbs (record_of.file_hash f, f.segments)
+
+-- The contents of these shards: they are registered, the xorbs are those that they name, and the files
+-- are the first record of each hash.
+pub record AreContents (shards : List ShardFile) (c : Contents) : Type 0 where
+  pub registered : c.shards ≡ map (λ f. f.hash) shards
+  pub named : (h : List ℕ) → IsSome (found c.xorbs h) ↔ Any (λ f. OfBytes f.file.bytes h) shards
+  pub records : c.records ≡ firsts (flat_map (λ f. listed_in f.file.bytes) shards)
+
+-- The folder is admitted at a moment, and these are its contents.
+pub record HasContents (files : Files) (folder : List ℕ) (now : ℕ) (c : Contents) : Type 0 where
+  pub shards : List ShardFile
+  pub admits : Admits files folder now shards
+  pub contents : AreContents shards c
+
+-- why a folder is not admitted, with the file name of the shard at which it was refused
+abbrev pub IsUnadmitted : Bool → Files → List ℕ → ℕ → ℕ → ℕ → StoreError → Option (List ℕ) → Type 0
+IsUnadmitted tells files folder now before after (Io Disk) None = Rose before after
+IsUnadmitted tells files folder now before after OutOfMemory None = Unit {0}
+IsUnadmitted tells files folder now before after e (Some name) = tells ≡ true → Refuses files folder now e name
+IsUnadmitted tells files folder now before after e None = ⊥

@@ -1,0 +1,26 @@
+-- The names of a store's files in its folder.
+use Rattle.std.specs.Prelude.{◌≡◌, ◌≢◌, ℕ, List, length, ◌++◌, codes}
+use Rattle.hex.specs.Hex.{IsBytes}
+use Rattle.xet_io.specs.Named.{in_folder}
+use Rattle.xet_hash.specs.Hash.{hash_text}
+use Rattle.xet_shard.specs.Names.{shard_name}
+
+-- a hash is 32 bytes
+abbrev pub IsHash : List ℕ → Type 0
+IsHash h = (length h ≡ 32) × IsBytes h
+
+-- the name of a xorb's file, and that of a shard's
+abbrev pub xorb_path : List ℕ → List ℕ → List ℕ
+xorb_path folder h = in_folder folder (hash_text h ++ codes ".xorb")
+
+abbrev pub shard_path : List ℕ → List ℕ → List ℕ
+shard_path folder h = in_folder folder (shard_name h)
+
+-- the name under which a file is written before it has its own
+abbrev pub temp_name : List ℕ → List ℕ
+temp_name name = name ++ codes "_temp"
+
+-- a name that no file of a store has, nor one that is being written
+pub record IsForeign (folder name : List ℕ) : Type 0 where
+  pub no_xorb : (h : List ℕ) → IsHash h → (name ≢ xorb_path folder h) × (name ≢ temp_name (xorb_path folder h))
+  pub no_shard : (h : List ℕ) → IsHash h → (name ≢ shard_path folder h) × (name ≢ temp_name (shard_path folder h))

@@ -1,0 +1,44 @@
+-- Parts of stored xorbs that are read.
+use Rattle.std.specs.Prelude.{◌≡◌, ℕ, ◌+◌, ◌-◌, ◌<◌, ◌≤◌, List, length, take, drop, Option, Some}
+use Rattle.std.specs.List.{flat_map, sum_by}
+use Rattle.xet_io.specs.Faults.{Rose}
+use Rattle.xet_hash.specs.Merkle.{members_of, total_len}
+use Rattle.xet_hash.specs.declared.error.StoreError.{StoreError}
+use Rattle.xet_hash.specs.declared.error.StoreError.TheVariants.{Io, MalformedData, OutOfMemory}
+use Rattle.xet_hash.specs.declared.error.Place.TheVariants.{Disk}
+use Rattle.xet_hash.specs.declared.error.Reason.TheVariants.{XorbText}
+use Rattle.xet_xorb.specs.Spelling.{spelling}
+
+-- the bytes of chunks as they are stored, each behind a header of eight bytes
+abbrev pub stored_len : List (List ℕ × ℕ) → ℕ
+stored_len members = sum_by (λ m. 8 + m.1) members
+
+-- The chunks of a run of which the bytes from one place to before another are: they stand behind the first
+-- ones, so many and of so many bytes, which end at or before the range begins, and no fewer reach its end.
+pub record Touches (run : List (List ℕ × ℕ)) (from to first skipped : ℕ) (chunks : List (List ℕ × ℕ)) : Type 0 where
+  pub count : ℕ
+  pub within : first + count ≤ length run
+  pub is : chunks ≡ take count (drop first run)
+  pub bytes : skipped ≡ total_len (take first run)
+  pub before : skipped ≤ from
+  pub next : from < total_len (take (first + 1) run)
+  pub reaches : to - skipped ≤ total_len chunks
+  pub least : (k : ℕ) → k < count → total_len (take k (drop first run)) < to - skipped
+
+-- the file has so many bytes from a place on
+pub record HasPlace (file : Option (List ℕ)) (at size : ℕ) : Type 0 where
+  pub bytes : List ℕ
+  pub there : file ≡ Some bytes
+  pub reaches : at + size ≤ length bytes
+
+-- The bytes are these chunks as they are stored, and the chunks have these digests and lengths.
+pub record Spells (bytes : List ℕ) (members : List (List ℕ × ℕ)) (chunks : List (List ℕ)) : Type 0 where
+  pub same : members_of chunks ≡ members
+  pub spelled : bytes ≡ flat_map spelling chunks
+
+-- why a part of a xorb is not read, where There says that the xorb is as it is listed
+abbrev pub IsRunRefusal : Type 0 → ℕ → ℕ → StoreError → Type 0
+IsRunRefusal There before now (Io Disk) = Rose before now
+IsRunRefusal There before now (MalformedData XorbText) = There → ⊥
+IsRunRefusal There before now OutOfMemory = Unit {0}
+IsRunRefusal There before now e = ⊥

@@ -1,0 +1,37 @@
+-- Xorbs that were read of a store's folder.
+use Rattle.std.specs.Prelude.{◌≡◌, ℕ, List, Option, Some, None, IsSome, nat_eq}
+use Rattle.std.specs.Cmp.Lexicographic.{pointwise}
+use Rattle.std.specs.Map.{lookup}
+use Rattle.xet_io.specs.Disk.{Files, bytes_at}
+use Rattle.xet_shard.specs.declared.record.FileDataSequenceEntry.{FileDataSequenceEntry as Segment}
+use Rattle.xet_folder.specs.declared.xorbs.XorbFile.{XorbFile}
+use Rattle.xet_folder.specs.declared.xorbs.XorbFile.TheVariants.{Missing, Malformed, Stored}
+use Rattle.xet_folder.specs.Names.{xorb_path}
+use Rattle.xet_folder.specs.Stored.{IsBacked, IsStored}
+
+-- the xorbs that were read, each under its hash with its chunks' digests and lengths, in order
+abbrev pub Xorbs : Type 0
+Xorbs = List (List ℕ × List (List ℕ × ℕ))
+
+-- what stands under a hash
+abbrev pub found : {X : Type 0} → List (List ℕ × X) → List ℕ → Option X
+found rows h = lookup (pointwise nat_eq h) rows
+
+-- the xorb h is listed with these members
+abbrev pub IsListed : Xorbs → List ℕ → List (List ℕ × ℕ) → Type 0
+IsListed xorbs h members = found xorbs h ≡ Some members
+
+-- recorded files, each under its hash with its plan, in order of recording
+abbrev pub Records : Type 0
+Records = List (List ℕ × List Segment)
+
+-- each of them is stored so
+abbrev pub AreBacked : Files → List ℕ → Xorbs → Type 0
+AreBacked files folder xorbs = (h : List ℕ) (members : List (List ℕ × ℕ)) → found xorbs h ≡ Some members → IsBacked files folder h members
+
+-- What was read of a xorb: there is no file of it; there is one, which is not a xorb of that hash whose
+-- chunks can be read; or its chunks' digests and lengths.
+abbrev pub IsXorbFile : Files → List ℕ → List ℕ → XorbFile → Type 0
+IsXorbFile files folder h Missing = bytes_at files (xorb_path folder h) ≡ None
+IsXorbFile files folder h Malformed = IsSome (bytes_at files (xorb_path folder h)) × ((chunks : List (List ℕ)) → IsStored files folder h chunks → ⊥)
+IsXorbFile files folder h (Stored members) = IsBacked files folder h members

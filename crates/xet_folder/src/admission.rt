@@ -1,0 +1,266 @@
+//! Whether what a shard names is stored.
+
+ghost use Rattle.std.specs.Prelude.{◌≡◌, ◌≤◌, ◌<◌, ◌+◌, ◌^◌, ◌↔◌, IfErr, IfOk, IsOkUnless, IsTrue, Ok, OnOk, length, ℕ};
+ghost use Rattle.std.specs.List.{AllByRecursion};
+ghost use Rattle.xet_folder.specs.Admission.{BlockFails, BlockHolds, FileFails, FileHolds, FirstFails, SegmentFails, SegmentHolds, ShardFails, ShardHolds};
+ghost use Rattle.xet_folder.specs.Contents.{IsFileRecord, IsRecord, listed_of};
+ghost use Rattle.xet_folder.specs.Checks.{AddsListed, AddsRun, Grows, Has, HasFile, HasShard, IsCheckRefusal, Knows, OfBlocks, OfBytes, OfFile, OfFiles, OfSegments};
+ghost use Rattle.xet_folder.specs.Plan.{Joins};
+ghost use Rattle.xet_folder.specs.Stored.{IsBacked};
+ghost use Rattle.xet_folder.specs.Xorbs.{IsListed};
+ghost use Rattle.xet_hash.specs.Merkle.{file_hash as hash_of_file, total_len};
+ghost use Rattle.xet_shard.specs.Records.{segment_bytes, xorb_hash};
+ghost use Rattle.xet_shard.specs.Reading.{Parts, all_of};
+ghost use Rattle.xet_shard.specs.Text.{materialized};
+ghost use Rattle.xet_io.specs.Disk.{file};
+
+use crate::members::{lies_in, lists_members, run_of};
+use crate::verifying::verify_xorb;
+use crate::xorbs::XorbTable;
+use std::alloc::Global;
+use xet_hash::{MerkleHash, Reason, StoreError, compute_data_hash, file_hash};
+use xet_io::Disk;
+use xet_shard::{FileDataSequenceEntry, MDBFileInfo, MDBShardFileFooter, MDBXorbInfo, read_shard};
+
+/// The files of a shard's bytes, which stand under the name of this hash: reads them, and checks that
+/// the shard is whole, has this digest and no key, and that what it names is stored. Each xorb that it
+/// names is then in the table. Refused as `Io(Disk)` only where the disk has failed, as `OutOfMemory`,
+/// or as the first check that fails says.
+pub fn admit_shard<D: Disk>(
+    disk: &mut D,
+    alloc: Global,
+    folder: &str,
+    hash: &MerkleHash,
+    bytes: &[u8],
+    table: &mut XorbTable,
+) -> Result<Vec<MDBFileInfo>, StoreError>
+    ensures files { IfOk result (λ files. (p : Parts) × (all_of bytes.now ≡ Ok p) × (files.items ≡ p.1)) }
+    ensures recorded { IfOk result (λ files. AllByRecursion (IsRecord table.new) (listed_of files.items)) }
+    ensures holds { OnOk result (Knows (D.tells disk.old) (D.files disk.old) folder.now table.old → (stamp : ℕ) → ShardHolds (D.files disk.old) folder.now (record { hash = hash.now; file = file bytes.now stamp })) }
+    ensures there { OnOk result ((p : Parts) → all_of bytes.now ≡ Ok p → HasShard table.new p) }
+    ensures grows { Grows (OfBytes bytes.now) table.old table.new }
+    ensures knows { Knows (D.tells disk.old) (D.files disk.old) folder.now table.old → Knows (D.tells disk.new) (D.files disk.new) folder.now table.new }
+    ensures refused { IfErr result (IsCheckRefusal (Knows (D.tells disk.old) (D.files disk.old) folder.now table.old) (λ e. (stamp : ℕ) → ShardFails (D.files disk.old) folder.now (record { hash = hash.now; file = file bytes.now stamp }) e) (D.faults disk.old) (D.faults disk.new)) }
+    ensures same { D.files disk.new ≡ D.files disk.old }
+    ensures tells { D.tells disk.new ≡ D.tells disk.old }
+    ensures later { D.faults disk.old ≤ D.faults disk.new }
+{
+    let parts = read_shard(alloc, bytes)?;
+    check_parts(disk, alloc, folder, hash, bytes, &parts, table)?;
+    Ok(parts.1)
+}
+
+/// The xorbs and the files of a shard, and its footer.
+type ShardParts = (Vec<MDBXorbInfo>, Vec<MDBFileInfo>, MDBShardFileFooter);
+
+/// Checks what was read of a shard.
+fn check_parts<D: Disk>(
+    disk: &mut D,
+    alloc: Global,
+    folder: &str,
+    hash: &MerkleHash,
+    bytes: &[u8],
+    parts: &ShardParts,
+    table: &mut XorbTable,
+) -> Result<(), StoreError>
+    requires read { all_of bytes.now ≡ Ok (parts.now.0.items, parts.now.1.items, parts.now.2) }
+    requires total { materialized parts.now.1.items < 2 ^ 64 }
+    ensures holds { OnOk result (Knows (D.tells disk.old) (D.files disk.old) folder.now table.old → (stamp : ℕ) → ShardHolds (D.files disk.old) folder.now (record { hash = hash.now; file = file bytes.now stamp })) }
+    ensures recorded { OnOk result (AllByRecursion (IsFileRecord table.new) parts.now.1.items) }
+    ensures there { OnOk result ((p : Parts) → all_of bytes.now ≡ Ok p → HasShard table.new p) }
+    ensures grows { Grows (OfBytes bytes.now) table.old table.new }
+    ensures knows { Knows (D.tells disk.old) (D.files disk.old) folder.now table.old → Knows (D.tells disk.new) (D.files disk.new) folder.now table.new }
+    ensures refused { IfErr result (IsCheckRefusal (Knows (D.tells disk.old) (D.files disk.old) folder.now table.old) (λ e. (stamp : ℕ) → ShardFails (D.files disk.old) folder.now (record { hash = hash.now; file = file bytes.now stamp }) e) (D.faults disk.old) (D.faults disk.new)) }
+    ensures same { D.files disk.new ≡ D.files disk.old }
+    ensures tells { D.tells disk.new ≡ D.tells disk.old }
+    ensures later { D.faults disk.old ≤ D.faults disk.new }
+{
+    if compute_data_hash(bytes) != *hash {
+        return Err(StoreError::MalformedData(Reason::ShardHash));
+    }
+    if parts.2.chunk_hash_hmac_key != MerkleHash::default() {
+        return Err(StoreError::InvalidShard(*hash, Reason::OtherChunks));
+    }
+    check_blocks(disk, alloc, folder, hash, &parts.0, table)?;
+    check_files(disk, alloc, folder, hash, &parts.1, table)?;
+    Ok(())
+}
+
+/// Checks that a shard's block lists the chunks of its stored xorb.
+fn check_block<D: Disk>(
+    disk: &mut D,
+    alloc: Global,
+    folder: &str,
+    shard: &MerkleHash,
+    block: &MDBXorbInfo,
+    table: &mut XorbTable,
+) -> Result<(), StoreError>
+    ensures holds { OnOk result (Knows (D.tells disk.old) (D.files disk.old) folder.now table.old → BlockHolds (D.files disk.old) folder.now shard.now block.now) }
+    ensures there { OnOk result (Has table.new (xorb_hash block.now)) }
+    ensures grows { Grows (λ h. h ≡ xorb_hash block.now) table.old table.new }
+    ensures knows { Knows (D.tells disk.old) (D.files disk.old) folder.now table.old → Knows (D.tells disk.new) (D.files disk.new) folder.now table.new }
+    ensures refused { IfErr result (IsCheckRefusal (Knows (D.tells disk.old) (D.files disk.old) folder.now table.old) (BlockFails (D.files disk.old) folder.now shard.now block.now) (D.faults disk.old) (D.faults disk.new)) }
+    ensures same { D.files disk.new ≡ D.files disk.old }
+    ensures tells { D.tells disk.new ≡ D.tells disk.old }
+    ensures later { D.faults disk.old ≤ D.faults disk.new }
+{
+    let hash = block.hash();
+    verify_xorb(disk, alloc, folder, shard, &hash, table)?;
+    if lists_members(block, table.members(&hash)) {
+        Ok(())
+    } else {
+        Err(StoreError::InvalidShard(*shard, Reason::OtherChunks))
+    }
+}
+
+/// Checks a shard's blocks, in order.
+fn check_blocks<D: Disk>(
+    disk: &mut D,
+    alloc: Global,
+    folder: &str,
+    shard: &MerkleHash,
+    blocks: &[MDBXorbInfo],
+    table: &mut XorbTable,
+) -> Result<(), StoreError>
+    ensures holds { OnOk result (Knows (D.tells disk.old) (D.files disk.old) folder.now table.old → AllByRecursion (BlockHolds (D.files disk.old) folder.now shard.now) blocks.now) }
+    ensures there { OnOk result (AllByRecursion (λ b. Has table.new (xorb_hash b)) blocks.now) }
+    ensures grows { Grows (OfBlocks blocks.now) table.old table.new }
+    ensures knows { Knows (D.tells disk.old) (D.files disk.old) folder.now table.old → Knows (D.tells disk.new) (D.files disk.new) folder.now table.new }
+    ensures refused { IfErr result (IsCheckRefusal (Knows (D.tells disk.old) (D.files disk.old) folder.now table.old)
+        (FirstFails (BlockHolds (D.files disk.old) folder.now shard.now) (BlockFails (D.files disk.old) folder.now shard.now) blocks.now) (D.faults disk.old) (D.faults disk.new)) }
+    ensures same { D.files disk.new ≡ D.files disk.old }
+    ensures tells { D.tells disk.new ≡ D.tells disk.old }
+    ensures later { D.faults disk.old ≤ D.faults disk.new }
+{
+    for block in blocks {
+        check_block(disk, alloc, folder, shard, block, table)?;
+    }
+    Ok(())
+}
+
+/// Checks that a segment lies in its stored xorb, and adds the chunks that it names.
+fn add_segment<D: Disk>(
+    disk: &mut D,
+    alloc: Global,
+    folder: &str,
+    shard: &MerkleHash,
+    segment: &FileDataSequenceEntry,
+    table: &mut XorbTable,
+    members: &mut Vec<(MerkleHash, u64)>,
+) -> Result<(), StoreError>
+    ensures adds { OnOk result (Knows (D.tells disk.old) (D.files disk.old) folder.now table.old → AddsRun (D.files disk.old) folder.now segment.now members.old.items members.new.items) }
+    ensures lists { OnOk result (AddsListed table.new segment.now members.old.items members.new.items) }
+    ensures total { OnOk result (total_len members.new.items ≡ total_len members.old.items + segment.now.unpacked_segment_bytes) }
+    ensures there { OnOk result (Has table.new segment.now.xorb_hash) }
+    ensures grows { Grows (λ h. h ≡ segment.now.xorb_hash) table.old table.new }
+    ensures knows { Knows (D.tells disk.old) (D.files disk.old) folder.now table.old → Knows (D.tells disk.new) (D.files disk.new) folder.now table.new }
+    ensures refused { IfErr result (IsCheckRefusal (Knows (D.tells disk.old) (D.files disk.old) folder.now table.old) (SegmentFails (D.files disk.old) folder.now shard.now segment.now) (D.faults disk.old) (D.faults disk.new)) }
+    ensures same { D.files disk.new ≡ D.files disk.old }
+    ensures tells { D.tells disk.new ≡ D.tells disk.old }
+    ensures later { D.faults disk.old ≤ D.faults disk.new }
+{
+    let hash = segment.xorb_hash;
+    verify_xorb(disk, alloc, folder, shard, &hash, table)?;
+    let found = table.members(&hash);
+    if !lies_in(segment, found) {
+        return Err(StoreError::InvalidShard(*shard, Reason::MissingRun));
+    }
+    members.extend_from_slice(run_of(segment, found))?;
+    Ok(())
+}
+
+/// Checks a file's segments, in order, and gives the chunks to which they join.
+fn join_segments<D: Disk>(
+    disk: &mut D,
+    alloc: Global,
+    folder: &str,
+    shard: &MerkleHash,
+    segments: &[FileDataSequenceEntry],
+    table: &mut XorbTable,
+) -> Result<Vec<(MerkleHash, u64)>, StoreError>
+    ensures joins { IfOk result (λ members. Knows (D.tells disk.old) (D.files disk.old) folder.now table.old → Joins (IsBacked (D.files disk.old) folder.now) (λ m. m.1) segments.now members.items) }
+    ensures listed { IfOk result (λ members. Joins (IsListed table.new) (λ m. m.1) segments.now members.items) }
+    ensures total { IfOk result (λ members. total_len members.items ≡ segment_bytes segments.now) }
+    ensures there { OnOk result (AllByRecursion (λ s. Has table.new s.xorb_hash) segments.now) }
+    ensures grows { Grows (OfSegments segments.now) table.old table.new }
+    ensures knows { Knows (D.tells disk.old) (D.files disk.old) folder.now table.old → Knows (D.tells disk.new) (D.files disk.new) folder.now table.new }
+    ensures refused { IfErr result (IsCheckRefusal (Knows (D.tells disk.old) (D.files disk.old) folder.now table.old) (FirstFails (SegmentHolds (D.files disk.old) folder.now shard.now) (SegmentFails (D.files disk.old) folder.now shard.now) segments.now) (D.faults disk.old) (D.faults disk.new)) }
+    ensures same { D.files disk.new ≡ D.files disk.old }
+    ensures tells { D.tells disk.new ≡ D.tells disk.old }
+    ensures later { D.faults disk.old ≤ D.faults disk.new }
+{
+    let mut members = Vec::new(alloc);
+    for segment in segments {
+        add_segment(disk, alloc, folder, shard, segment, table, &mut members)?;
+    }
+    Ok(members)
+}
+
+/// Checks that a shard's file joins to stored chunks of which it has the hash.
+fn check_file<D: Disk>(
+    disk: &mut D,
+    alloc: Global,
+    folder: &str,
+    shard: &MerkleHash,
+    file: &MDBFileInfo,
+    table: &mut XorbTable,
+) -> Result<(), StoreError>
+    requires { segment_bytes file.now.segments < 2 ^ 64 }
+    ensures holds { OnOk result (Knows (D.tells disk.old) (D.files disk.old) folder.now table.old → FileHolds (D.files disk.old) folder.now shard.now file.now) }
+    ensures recorded { OnOk result (IsFileRecord table.new file.now) }
+    ensures there { OnOk result (HasFile table.new file.now) }
+    ensures grows { Grows (OfFile file.now) table.old table.new }
+    ensures knows { Knows (D.tells disk.old) (D.files disk.old) folder.now table.old → Knows (D.tells disk.new) (D.files disk.new) folder.now table.new }
+    ensures refused { IfErr result (IsCheckRefusal (Knows (D.tells disk.old) (D.files disk.old) folder.now table.old) (FileFails (D.files disk.old) folder.now shard.now file.now) (D.faults disk.old) (D.faults disk.new)) }
+    ensures same { D.files disk.new ≡ D.files disk.old }
+    ensures tells { D.tells disk.new ≡ D.tells disk.old }
+    ensures later { D.faults disk.old ≤ D.faults disk.new }
+{
+    let segments = file.segments.as_slice();
+    let members = join_segments(disk, alloc, folder, shard, segments, table)?;
+    if has_file_hash(alloc, &members, &file.hash())? {
+        Ok(())
+    } else {
+        Err(StoreError::InvalidShard(*shard, Reason::OtherFileHash))
+    }
+}
+
+/// Whether there are chunks, and their file has this hash.
+fn has_file_hash(
+    alloc: Global,
+    members: &[(MerkleHash, u64)],
+    hash: &MerkleHash,
+) -> Result<bool, StoreError>
+    requires { total_len members.now < 2 ^ 64 }
+    ensures has { IfOk result (λ has. IsTrue has ↔ ((0 < length members.now) × (hash_of_file members.now ≡ hash.now))) }
+    ensures memory { IsOkUnless result StoreError.OutOfMemory }
+{
+    let found = file_hash(alloc, members)?;
+    Ok(!members.is_empty() && found == *hash)
+}
+
+/// Checks a shard's files, in order.
+fn check_files<D: Disk>(
+    disk: &mut D,
+    alloc: Global,
+    folder: &str,
+    shard: &MerkleHash,
+    files: &[MDBFileInfo],
+    table: &mut XorbTable,
+) -> Result<(), StoreError>
+    requires { materialized files.now < 2 ^ 64 }
+    ensures holds { OnOk result (Knows (D.tells disk.old) (D.files disk.old) folder.now table.old → AllByRecursion (FileHolds (D.files disk.old) folder.now shard.now) files.now) }
+    ensures recorded { OnOk result (AllByRecursion (IsFileRecord table.new) files.now) }
+    ensures there { OnOk result (AllByRecursion (HasFile table.new) files.now) }
+    ensures grows { Grows (OfFiles files.now) table.old table.new }
+    ensures knows { Knows (D.tells disk.old) (D.files disk.old) folder.now table.old → Knows (D.tells disk.new) (D.files disk.new) folder.now table.new }
+    ensures refused { IfErr result (IsCheckRefusal (Knows (D.tells disk.old) (D.files disk.old) folder.now table.old) (FirstFails (FileHolds (D.files disk.old) folder.now shard.now) (FileFails (D.files disk.old) folder.now shard.now) files.now) (D.faults disk.old) (D.faults disk.new)) }
+    ensures same { D.files disk.new ≡ D.files disk.old }
+    ensures tells { D.tells disk.new ≡ D.tells disk.old }
+    ensures later { D.faults disk.old ≤ D.faults disk.new }
+{
+    for file in files {
+        check_file(disk, alloc, folder, shard, file, table)?;
+    }
+    Ok(())
+}

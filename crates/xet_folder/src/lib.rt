@@ -1,0 +1,30 @@
+//! The folder of a store: the files of its xorbs and shards, how they are put, read and verified.
+#![tactic(auto)]
+
+mod admission;
+mod contents;
+mod gathering;
+pub mod laws;
+mod listing;
+mod members;
+mod names;
+mod put;
+mod refusal;
+mod run;
+mod verifying;
+mod xorbs;
+
+pub use admission::admit_shard;
+pub use contents::{Contents, PlanTable, Unadmitted, admit_folder};
+pub use listing::{ShardEntry, list_shards};
+pub use names::{known_bytes, shard_path, xorb_path};
+pub use put::{put_shard, put_xorb};
+pub use refusal::store_error;
+pub use run::RunReader;
+pub use verifying::verify_xorb;
+pub use xorbs::{XorbFile, XorbTable, read_xorb};
+
+#[cfg(test)]
+mod run_tests;
+#[cfg(test)]
+mod tests;

@@ -1,0 +1,79 @@
+//! Files that are put into a store's folder.
+
+ghost use Rattle.std.specs.Prelude.{◌≡◌, ◌≢◌, ◌≤◌, ◌⊎◌, ℕ, List, true, OnErr, OnOk, IfErr, Some, option_map};
+ghost use Rattle.std.specs.FinMap.{get};
+ghost use Rattle.xet_io.specs.Disk.{bytes_at, file_at};
+ghost use Rattle.xet_folder.specs.Names.{IsForeign, IsHash, shard_path, temp_name, xorb_path};
+ghost use Rattle.xet_folder.specs.Refusals.{HasDiskReason};
+
+use crate::names::{known_bytes, shard_path, xorb_path};
+use crate::refusal::store_error;
+use std::alloc::Global;
+use xet_hash::{MerkleHash, StoreError};
+use xet_io::{Disk, put_file};
+
+/// Puts the text of a xorb under its name, so that a crash keeps it.
+pub fn put_xorb<D: Disk>(
+    disk: &mut D,
+    alloc: Global,
+    folder: &str,
+    hash: &MerkleHash,
+    text: &[u8],
+) -> Result<(), StoreError>
+    ensures there { D.tells disk.old ≡ true → OnOk result (bytes_at (D.files disk.new) (xorb_path folder.now hash.now) ≡ Some text.now) }
+    ensures stable { D.tells disk.old ≡ true → OnOk result (option_map (λ e. e.stable) (get (D.files disk.new) (xorb_path folder.now hash.now)) ≡ Some true) }
+    ensures refused { D.tells disk.old ≡ true → OnErr result ((file_at (D.files disk.new) (xorb_path folder.now hash.now) ≡ file_at (D.files disk.old) (xorb_path folder.now hash.now))
+        ⊎ (bytes_at (D.files disk.new) (xorb_path folder.now hash.now) ≡ Some text.now)) }
+    ensures xorbs { D.tells disk.old ≡ true → (h : List ℕ) → IsHash h → h ≢ hash.now → file_at (D.files disk.new) (xorb_path folder.now h) ≡ file_at (D.files disk.old) (xorb_path folder.now h) }
+    ensures shards { D.tells disk.old ≡ true → (h : List ℕ) → IsHash h → file_at (D.files disk.new) (shard_path folder.now h) ≡ file_at (D.files disk.old) (shard_path folder.now h) }
+    ensures foreign { D.tells disk.old ≡ true → (name : List ℕ) → IsForeign folder.now name → get (D.files disk.new) name ≡ get (D.files disk.old) name }
+    ensures tells { D.tells disk.new ≡ D.tells disk.old }
+    ensures later { D.faults disk.old ≤ D.faults disk.new }
+    ensures reason { IfErr result (HasDiskReason (D.faults disk.old) (D.faults disk.new)) }
+{
+    known_bytes(hash);
+    let path = xorb_path(alloc, folder, hash)?;
+    put_text(disk, alloc, path.as_str(), text)
+}
+
+/// Puts the text of a shard under its name, so that a crash keeps it.
+pub fn put_shard<D: Disk>(
+    disk: &mut D,
+    alloc: Global,
+    folder: &str,
+    hash: &MerkleHash,
+    text: &[u8],
+) -> Result<(), StoreError>
+    ensures there { D.tells disk.old ≡ true → OnOk result (bytes_at (D.files disk.new) (shard_path folder.now hash.now) ≡ Some text.now) }
+    ensures stable { D.tells disk.old ≡ true → OnOk result (option_map (λ e. e.stable) (get (D.files disk.new) (shard_path folder.now hash.now)) ≡ Some true) }
+    ensures refused { D.tells disk.old ≡ true → OnErr result ((file_at (D.files disk.new) (shard_path folder.now hash.now) ≡ file_at (D.files disk.old) (shard_path folder.now hash.now))
+        ⊎ (bytes_at (D.files disk.new) (shard_path folder.now hash.now) ≡ Some text.now)) }
+    ensures xorbs { D.tells disk.old ≡ true → (h : List ℕ) → IsHash h → file_at (D.files disk.new) (xorb_path folder.now h) ≡ file_at (D.files disk.old) (xorb_path folder.now h) }
+    ensures shards { D.tells disk.old ≡ true → (h : List ℕ) → IsHash h → h ≢ hash.now → file_at (D.files disk.new) (shard_path folder.now h) ≡ file_at (D.files disk.old) (shard_path folder.now h) }
+    ensures foreign { D.tells disk.old ≡ true → (name : List ℕ) → IsForeign folder.now name → get (D.files disk.new) name ≡ get (D.files disk.old) name }
+    ensures tells { D.tells disk.new ≡ D.tells disk.old }
+    ensures later { D.faults disk.old ≤ D.faults disk.new }
+    ensures reason { IfErr result (HasDiskReason (D.faults disk.old) (D.faults disk.new)) }
+{
+    known_bytes(hash);
+    let path = shard_path(alloc, folder, hash)?;
+    put_text(disk, alloc, path.as_str(), text)
+}
+
+/// Puts a text under a name.
+fn put_text<D: Disk>(disk: &mut D, alloc: Global, name: &str, text: &[u8]) -> Result<(), StoreError>
+    ensures there { D.tells disk.old ≡ true → OnOk result (bytes_at (D.files disk.new) name.now ≡ Some text.now) }
+    ensures stable { D.tells disk.old ≡ true → OnOk result (option_map (λ e. e.stable) (get (D.files disk.new) name.now) ≡ Some true) }
+    ensures refused { D.tells disk.old ≡ true → OnErr result ((file_at (D.files disk.new) name.now ≡ file_at (D.files disk.old) name.now) ⊎ (bytes_at (D.files disk.new) name.now ≡ Some text.now)) }
+    ensures others { D.tells disk.old ≡ true → (other : List ℕ) → other ≢ name.now → other ≢ temp_name name.now → get (D.files disk.new) other ≡ get (D.files disk.old) other }
+    ensures tells { D.tells disk.new ≡ D.tells disk.old }
+    ensures later { D.faults disk.old ≤ D.faults disk.new }
+    ensures reason { IfErr result (HasDiskReason (D.faults disk.old) (D.faults disk.new)) }
+{
+    let mut temp = String::from_str(alloc, name)?;
+    temp.push_str("_temp")?;
+    match put_file(disk, temp.as_str(), name, text) {
+        Ok(()) => Ok(()),
+        Err(refusal) => Err(store_error(refusal)),
+    }
+}

@@ -1,0 +1,154 @@
+//! Xorbs that are read of a store's folder.
+
+ghost use Rattle.std.specs.Prelude.{◌≡◌, ◌≤◌, ◌∷◌, ◌++◌, [], ℕ, List, true, IfOk, IfErr, IsOkUnless, IsSome, OnErr, OnOk, Some, None, length, option_map};
+ghost use Rattle.std.specs.List.{AllByRecursion};
+ghost use Rattle.xet_io.specs.Disk.{Files, bytes_at};
+ghost use Rattle.xet_folder.specs.Names.{IsHash, xorb_path};
+ghost use Rattle.xet_folder.specs.Refusals.{HasDiskReason};
+ghost use Rattle.xet_folder.specs.Xorbs.{IsXorbFile, found};
+
+use crate::names::{known_bytes, xorb_path};
+use crate::refusal::store_error;
+use bytes::Bytes;
+use indexmap::IndexMap;
+use std::alloc::Global;
+use std::marker::Model;
+use xet_base::Items;
+use xet_hash::{MerkleHash, StoreError};
+use xet_io::{Disk, read_file};
+use xet_xorb::{chunk_members, read_xorb as read_text};
+
+/// The most bytes of a chunk that can be read.
+const MAX_CHUNK: u32 = (1 << 23) - 1;
+
+/// What stands under a xorb's name.
+#[derive(Debug, Drop)]
+pub enum XorbFile {
+    /// No file.
+    Missing,
+    /// A file that is not a xorb of that hash, or has a chunk that is too long to be read.
+    Malformed,
+    /// A xorb: the digest and the length in bytes of each of its chunks, in order.
+    Stored(Items<(MerkleHash, u64)>),
+}
+
+/// Reads what stands under a xorb's name.
+pub fn read_xorb<D: Disk>(
+    disk: &mut D,
+    alloc: Global,
+    folder: &str,
+    hash: &MerkleHash,
+) -> Result<XorbFile, StoreError>
+    ensures told { D.tells disk.old ≡ true → IfOk result (IsXorbFile (D.files disk.old) folder.now hash.now) }
+    ensures same { D.files disk.new ≡ D.files disk.old }
+    ensures tells { D.tells disk.new ≡ D.tells disk.old }
+    ensures later { D.faults disk.old ≤ D.faults disk.new }
+    ensures reason { IfErr result (HasDiskReason (D.faults disk.old) (D.faults disk.new)) }
+{
+    let path = xorb_path(alloc, folder, hash)?;
+    match read_file(disk, alloc, path.as_str()) {
+        Ok(Some(bytes)) => xorb_of(alloc, bytes, hash),
+        Ok(None) => Ok(XorbFile::Missing),
+        Err(refusal) => Err(store_error(refusal)),
+    }
+}
+
+/// What these bytes are under a xorb's name.
+fn xorb_of(alloc: Global, bytes: Vec<u8>, hash: &MerkleHash) -> Result<XorbFile, StoreError>
+    ensures told { (files : Files) (folder : List ℕ) → bytes_at files (xorb_path folder hash.now) ≡ Some bytes.items → IfOk result (IsXorbFile files folder hash.now) }
+    ensures memory { IsOkUnless result StoreError.OutOfMemory }
+{
+    let bytes = Bytes::from_vec(bytes)?;
+    match read_text(alloc, &bytes, MAX_CHUNK) {
+        Ok(xorb) => {
+            if xorb.0 != *hash {
+                return Ok(XorbFile::Malformed);
+            }
+            Ok(XorbFile::Stored(Items::from_vec(chunk_members(alloc, &xorb.1)?)))
+        }
+        Err(StoreError::MalformedData(_)) => Ok(XorbFile::Malformed),
+        Err(_) => Err(StoreError::OutOfMemory),
+    }
+}
+
+/// Xorbs that were read, each under its hash. Contracts see the rows in the order in which they were
+/// added: the hash, and the digest and the length in bytes of each chunk.
+#[derive(Drop)]
+pub struct XorbTable {
+    rows: IndexMap<MerkleHash, Items<(MerkleHash, u64)>>,
+}
+
+impl Model for XorbTable {
+    ghost use Rattle.std.specs.List.{AllByRecursion};
+    ghost use Rattle.xet_folder.specs.Names.{IsHash};
+    ghost use Rattle.xet_folder.specs.Xorbs.{Xorbs};
+
+    ghost Value = { Xorbs };
+
+    ghost view = { λ t. t.rows.entries };
+
+    ghost invariant = { λ t. AllByRecursion (λ row. IsHash row.0) t.rows.entries };
+}
+
+impl XorbTable {
+    /// A table of no rows. It takes no memory.
+    pub fn new(alloc: Global) -> XorbTable
+        ensures { result ≡ [] }
+    {
+        XorbTable {
+            rows: IndexMap::new(alloc),
+        }
+    }
+
+    /// The number of rows.
+    pub fn len(&self) -> usize
+        ensures { result ≡ length self.now }
+    {
+        self.rows.len()
+    }
+
+    /// The chunks of a xorb; none where it is not in the table.
+    pub fn get(&self, hash: &MerkleHash) -> Option<&[(MerkleHash, u64)]>
+        ensures { option_map (λ members. members.now) result ≡ found self.now hash.now }
+    {
+        match self.rows.get(hash) {
+            Some(members) => Some(members.as_slice()),
+            None => None,
+        }
+    }
+
+    /// The chunks of a xorb that is in the table.
+    pub fn members(&self, hash: &MerkleHash) -> &[(MerkleHash, u64)]
+        requires { IsSome (found self.now hash.now) }
+        ensures { found self.now hash.now ≡ Some result.now }
+    {
+        match self.rows.get(hash) {
+            Some(members) => members.as_slice(),
+            None => &[],
+        }
+    }
+
+    /// Adds a xorb that is not in the table.
+    pub fn insert(
+        &mut self,
+        hash: MerkleHash,
+        members: Items<(MerkleHash, u64)>,
+    ) -> Result<(), StoreError>
+        requires { found self.old hash ≡ None }
+        ensures added { OnOk result (self.new ≡ self.old ++ (hash, members) ∷ []) }
+        ensures kept { OnErr result (self.new ≡ self.old) }
+        ensures memory { IsOkUnless result StoreError.OutOfMemory }
+    {
+        known_bytes(&hash);
+        self.rows.insert(hash, members)?;
+        Ok(())
+    }
+
+    /// The rows themselves.
+    pub fn into_rows(self) -> IndexMap<MerkleHash, Items<(MerkleHash, u64)>>
+        ensures rows { result.entries ≡ self }
+        ensures hashes { AllByRecursion (λ row. IsHash row.0) self }
+    {
+        self.rows
+    }
+}
