@@ -11,7 +11,9 @@ use Rattle.xet_store.specs.declared.info.XetFileInfo.{XetFileInfo}
 use Rattle.xet_store.specs.declared.info.Cleaned.{Cleaned}
 use Rattle.xet_store.specs.Cut.{cut}
 use Rattle.xet_store.specs.Packing.{packs, pack_len}
-use Rattle.xet_store.specs.Store.{State, IsStored, IsListed, Records, Sound, found, plan_of}
+use Rattle.xet_folder.specs.Stored.{IsStored}
+use Rattle.xet_folder.specs.Xorbs.{IsListed, Records, found}
+use Rattle.xet_store.specs.Store.{State, Sound, plan_of}
 use Rattle.xet_store.specs.Separate.{Among, Apart, MetChunk, Separate}
 use Rattle.xet_store.specs.Cleaning.{HasFile, HasXorbs, EachTold, info_of, cuts}
 use Rattle.xet_store.specs.Steps.{ListsXorbs}
@@ -87,8 +89,8 @@ blocks_stored s files chunks sound tells apart given (p ∷ ps) within listed =
     let h = xorb_hash (members_of p) in
     let back = sound.backed tells h (members_of p) listed.0 in
     let is : IsSome (found s.xorbs h) = subst (λ (o : Option (List (List ℕ × ℕ))). IsSome o) (sym listed.0) refl in
-    let same : back.0 ≡ p = same_chunks (MetChunk s files) apart back.0 p (λ b a. inl (h, back.0, (is, back.1), a)) (λ b a. inr (chunks, given, within p (inl refl) b a)) back.2 in
-    (subst (λ (c : List (List ℕ)). IsStored s.files s.folder h c) same back.1, blocks_stored s files chunks sound tells apart given ps (λ q a. within q (inr a)) listed.1)
+    let same : back.chunks ≡ p = same_chunks (MetChunk s files) apart back.chunks p (λ b a. inl (h, back.chunks, (is, back.stored), a)) (λ b a. inr (chunks, given, within p (inl refl) b a)) back.same in
+    (subst (λ (c : List (List ℕ)). IsStored s.files s.folder h c) same back.stored, blocks_stored s files chunks sound tells apart given ps (λ q a. within q (inr a)) listed.1)
 
 -- each source's xorbs
 pub xorbs_all : (s : State) (files : List (List (List ℕ))) → Sound s → s.tells ≡ true → Apart chunk_hash (MetChunk s files)

@@ -10,14 +10,16 @@ use Rattle.xet_hash.specs.Merkle.{chunk_hash, members_of, xorb_hash}
 use Rattle.xet_xorb.proofs.Grammar.{members_are}
 use Rattle.xet_xorb.specs.Chunks.{bytes_of, chunk_member, total}
 use Rattle.xet_xorb.specs.declared.chunk.Chunk.{Chunk}
+use Rattle.xet_shard.proofs.Holding.{all_more as all_push}
 use Rattle.xet_store.specs.declared.limits.LimitSettings.{LimitSettings}
 use Rattle.xet_shard.specs.declared.record.FileDataSequenceEntry.{FileDataSequenceEntry as Segment}
 use Rattle.xet_store.specs.Cleaning.{Keeps, cuts}
 use Rattle.xet_store.specs.Cut.{cut}
 use Rattle.xet_store.specs.Packing.{fitting, pack_len, packs}
-use Rattle.xet_store.specs.Plan.{Joins, LiesIn, part}
+use Rattle.xet_folder.specs.Plan.{Joins, LiesIn, part}
+use Rattle.xet_folder.specs.Xorbs.{IsListed, Xorbs}
 use Rattle.xet_store.specs.Steps.{ListsXorbs}
-use Rattle.xet_store.specs.Store.{IsListed, State, Xorbs}
+use Rattle.xet_store.specs.Store.{State}
 use Rattle.xet_store.proofs.Plans.{joins_more, joins_push, sum_by-map}
 
 -- what holds of all holds of those at the front
@@ -36,11 +38,6 @@ all_drop P (suc n) (x ∷ xs) h = all_drop P n xs h.1
 pub all_more : {X : Type 0} (P Q : X → Type 0) (xs : List X) → ((x : X) → P x → Q x) → AllByRecursion P xs → AllByRecursion Q xs
 all_more P Q [] more h = tt
 all_more P Q (x ∷ xs) more h = (more x h.0, all_more P Q xs more h.1)
-
--- one element more
-pub all_push : {X : Type 0} (P : X → Type 0) (xs : List X) (x : X) → AllByRecursion P xs → P x → AllByRecursion P (xs ++ x ∷ [])
-all_push P [] x h last = (last, tt)
-all_push P (y ∷ ys) x h last = (h.0, all_push P ys x h.1 last)
 
 -- one chunk more fits
 fitting_more : (bytes count : ℕ) (chunks rest : List (List ℕ)) (c : List ℕ) → chunks ≡ c ∷ rest → 0 < count → length c ≤ bytes

@@ -5,9 +5,10 @@ use Rattle.std.proofs.lemmas.List.Sums.{sum_by-append, sum_by-cons}
 use Rattle.std.specs.List.{sum_by}
 use Rattle.xet_hash.specs.Merkle.{total_len}
 use Rattle.xet_shard.specs.declared.record.FileDataSequenceEntry.{FileDataSequenceEntry as Segment}
-use Rattle.xet_store.specs.Plan.{part, plan_bytes, LiesIn, Joins}
+use Rattle.xet_folder.specs.Plan.{part, plan_bytes, LiesIn, Joins}
+use Rattle.xet_folder.specs.Xorbs.{IsListed, Xorbs}
 use Rattle.xet_store.specs.Separate.{Among}
-use Rattle.xet_store.specs.Store.{Xorbs, IsListed, IsRecord}
+use Rattle.xet_folder.specs.Contents.{IsRecord}
 
 -- the run of what is made of each element
 pub part-map : {X Y : Type 0} (f : X → Y) (s : Segment) (xs : List X) → part s (map f xs) ≡ map f (part s xs)

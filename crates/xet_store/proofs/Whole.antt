@@ -1,11 +1,14 @@
 -- Where digests separate what was met, a recorded file of a sound store joins to its chunks.
-use Rattle.std.proofs.Common.{◌≡◌, inl, inr, ◌∙◌, ℕ, suc, ◌<◌, Bool, true, false, List, [], ◌∷◌, length, Option, Some, IsSome, refl, sym, ap, subst, arith, nat_eq}
+use Rattle.std.proofs.Common.{◌≡◌, inl, inr, ◌∙◌, ℕ, suc, ◌<◌, Bool, true, false, cond, List, [], ◌∷◌, length, Option, Some, IsSome, refl, sym, ap, subst, arith, nat_eq}
 use Rattle.std.specs.List.{AllByRecursion}
 use Rattle.std.specs.Cmp.Lexicographic.{pointwise, bytes_decides}
 use Rattle.xet_hash.specs.Merkle.{chunk_hash, file_hash, member_of, members_of}
 use Rattle.xet_shard.specs.declared.record.FileDataSequenceEntry.{FileDataSequenceEntry as Segment}
-use Rattle.xet_store.specs.Plan.{Joins}
-use Rattle.xet_store.specs.Store.{State, IsStored, IsListed, IsRecord, Sound, found}
+use Rattle.xet_folder.specs.Plan.{Joins}
+use Rattle.xet_folder.specs.Stored.{IsStored}
+use Rattle.xet_folder.specs.Xorbs.{IsListed, found}
+use Rattle.xet_folder.specs.Contents.{IsRecord}
+use Rattle.xet_store.specs.Store.{State, Sound}
 use Rattle.xet_store.specs.Separate.{Among, Apart, HasChunks, MetChunk, Separate}
 use Rattle.xet_store.proofs.Plans.{joins_more, joins_map, joins_among}
 
@@ -28,31 +31,27 @@ pub same_key : (a b : List ℕ) → pointwise nat_eq a b ≡ true → a ≡ b
 same_key a b e = (bytes_decides a b).0 e
 
 -- what is found has what all have
-pub found_has : {X : Type 0} (P : List ℕ × X → Type 0) (es : List (List ℕ × X)) (h : List ℕ) (x : X) → AllByRecursion P es → found es h ≡ Some x → P (h, x) × Among es (h, x)
-unfolding found
+pub found_has : {X : Type 0} (P : List ℕ × X → Type 0) (es : List (List ℕ × X)) (h : List ℕ) (x : X) → AllByRecursion P es → found es h ≡ Some x → P (h, x)
 found_has P [] h x all e = absurd (cc e)
-found_has {X} P (y ∷ ys) h x all e = by_cases (pointwise nat_eq y.0 h) refl (λ at. let rest = found_has P ys h x all.1 at in (rest.0, inr rest.1))
+found_has {X} P (y ∷ ys) h x all e = go (pointwise nat_eq h y.0) refl e (λ at. found_has P ys h x all.1 at)
   where
-    by_cases : (b : Bool) → pointwise nat_eq y.0 h ≡ b → (found ys h ≡ Some x → P (h, x) × Among (y ∷ ys) (h, x)) → P (h, x) × Among (y ∷ ys) (h, x)
-    by_cases true t later =
-        let at : Some y.1 ≡ Some x = rw (t, found) at e in
+    go : (b : Bool) → pointwise nat_eq h y.0 ≡ b → cond b (Some y.1) (found ys h) ≡ Some x → (found ys h ≡ Some x → P (h, x)) → P (h, x)
+    go true t at later =
         let value : y.1 ≡ x = cc in
-        let key : y.0 ≡ h = same_key y.0 h t in
+        let key : y.0 ≡ h = sym (same_key h y.0 t) in
         let whole : y ≡ (h, x) = λ i. (key i, value i) in
-        (subst P whole all.0, inl whole)
-    by_cases false t later =
-        let at : found ys h ≡ Some x = rw (t, found) at e in
-        later at
+        subst P whole all.0
+    go false t at later = later at
 
 pub has_file : (s : State) (files : List (List (List ℕ))) (chunks : List (List ℕ)) (plan : List Segment)
     → Sound s → s.tells ≡ true → Separate s files → Among files chunks → 0 < length chunks
     → found s.records (file_hash (members_of chunks)) ≡ Some plan → Joins (IsStored s.files s.folder) length plan chunks
 has_file s files chunks plan sound tells apart given some there =
     let r = found_has (IsRecord s.xorbs) s.records (file_hash (members_of chunks)) plan sound.recorded there in
-    let ms = r.0.members in
-    let list : ms ≡ members_of chunks = apart.lists.same ms (members_of chunks) (inl (_, r.1, r.0.joins)) (inr (chunks, given, some, refl)) r.0.hash in
+    let ms = r.members in
+    let list : ms ≡ members_of chunks = apart.lists.same ms (members_of chunks) (inl (file_hash (members_of chunks), plan, there, r.joins)) (inr (chunks, given, some, refl)) r.hash in
     let whole = joins_map member_of (IsListed s.xorbs) (HasChunks s) (λ (m : List ℕ × ℕ). m.1)
-    (λ h members listed. let b = sound.backed tells h members listed in (b.0, (subst (λ (o : Option (List (List ℕ × ℕ))). IsSome o) (sym listed) refl, b.1), b.2)) plan ms r.0.joins in
+    (λ h members listed. let b = sound.backed tells h members listed in (b.chunks, (subst (λ (o : Option (List (List ℕ × ℕ))). IsSome o) (sym listed) refl, b.stored), b.same)) plan ms r.joins in
     let same : whole.0 ≡ chunks = same_chunks (MetChunk s files) apart.chunks whole.0 chunks
     (λ b a. let from = joins_among (HasChunks s) length plan whole.0 b whole.1 a in inl (from.0, from.1, from.2, from.3)) (λ b a. inr (chunks, given, a)) (whole.2 ∙ list) in
     subst (λ (l : List (List ℕ)). Joins (IsStored s.files s.folder) length plan l) same (joins_more (HasChunks s) (IsStored s.files s.folder) length (λ h c x. x.1) plan whole.0 whole.1)

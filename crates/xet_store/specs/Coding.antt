@@ -1,6 +1,6 @@
 -- Codes of what contracts see of a store, as a model wants them.
-use Rattle.std.specs.Prelude.{ℕ, zero, suc, ◌≡◌, Bool, List, refl}
-use Rattle.std.specs.Coded.{Coded, code_by, coded×, coded_ℕ, coded_bool, coded_list}
+use Rattle.std.specs.Prelude.{ℕ, zero, suc, ◌≡◌, Bool, List, Option, refl}
+use Rattle.std.specs.Coded.{Coded, code_by, coded×, coded_ℕ, coded_bool, coded_list, coded_option}
 use Rattle.std.specs.FinMap as map
 use Rattle.xet_io.specs.Disk.{Files}
 use Rattle.xet_io.specs.Memory.{entry_code}
@@ -8,7 +8,14 @@ use Rattle.xet_xorb.specs.declared.scheme.CompressionScheme.{CompressionScheme}
 use Rattle.xet_xorb.specs.declared.scheme.CompressionScheme.TheVariants as scheme
 use Rattle.xet_store.specs.declared.limits.LimitSettings.{LimitSettings}
 use Rattle.xet_shard.specs.declared.record.FileDataSequenceEntry.{FileDataSequenceEntry as Segment}
-use Rattle.xet_store.specs.Store.{State, Xorbs, Records}
+use Rattle.xet_shard.specs.declared.record.FileMetadataExt.{FileMetadataExt}
+use Rattle.xet_shard.specs.declared.record.FileVerificationEntry.{FileVerificationEntry}
+use Rattle.xet_shard.specs.declared.record.MDBFileInfo.{MDBFileInfo}
+use Rattle.xet_shard.specs.declared.record.MDBXorbInfo.{MDBXorbInfo}
+use Rattle.xet_shard.specs.declared.record.XorbChunkSequenceEntry.{XorbChunkSequenceEntry}
+use Rattle.xet_shard.specs.Held.{Held}
+use Rattle.xet_folder.specs.Xorbs.{Records, Xorbs}
+use Rattle.xet_store.specs.Store.{State}
 
 abbrev pub scheme_number : CompressionScheme → ℕ
 scheme_number scheme.None = 0
@@ -67,15 +74,69 @@ segment_code = code_by (List ℕ × (Pair × Pair)) (coded× (coded_list coded_�
     (λ p. record { xorb_hash = p.0; xorb_flags = p.1.0.0; unpacked_segment_bytes = p.1.0.1; chunk_index_start = p.1.1.0; chunk_index_end = p.1.1.1 })
     (λ _. refl)
 
+-- a hash
+abbrev pub Bytes : Type 0
+Bytes = List ℕ
+
+abbrev pub bytes_code : Coded Bytes
+bytes_code = coded_list coded_ℕ
+
 abbrev pub xorbs_code : Coded Xorbs
-xorbs_code = coded_list (coded× (coded_list coded_ℕ) (coded_list (coded× (coded_list coded_ℕ) coded_ℕ)))
+xorbs_code = coded_list (coded× bytes_code (coded_list (coded× bytes_code coded_ℕ)))
 
 abbrev pub records_code : Coded Records
-records_code = coded_list (coded× (coded_list coded_ℕ) (coded_list segment_code))
+records_code = coded_list (coded× bytes_code (coded_list segment_code))
+
+abbrev pub chunk_code : Coded XorbChunkSequenceEntry
+chunk_code = code_by (Bytes × Pair) (coded× bytes_code pair_code)
+    (λ c. (c.chunk_hash, (c.chunk_byte_range_start, c.unpacked_segment_bytes)))
+    (λ p. record { chunk_hash = p.0; chunk_byte_range_start = p.1.0; unpacked_segment_bytes = p.1.1 })
+    (λ _. refl)
+
+abbrev pub block_code : Coded MDBXorbInfo
+block_code = code_by ((Bytes × (Pair × Pair)) × List XorbChunkSequenceEntry) (coded× (coded× bytes_code (coded× pair_code pair_code)) (coded_list chunk_code))
+    (λ b. ((b.metadata.xorb_hash, ((b.metadata.xorb_flags, b.metadata.num_entries), (b.metadata.num_bytes_in_xorb, b.metadata.num_bytes_on_disk))), b.chunks))
+    (λ p. record {
+      metadata = record { xorb_hash = p.0.0; xorb_flags = p.0.1.0.0; num_entries = p.0.1.0.1; num_bytes_in_xorb = p.0.1.1.0; num_bytes_on_disk = p.0.1.1.1 };
+      chunks = p.1;
+    })
+    (λ _. refl)
+
+abbrev pub verification_code : Coded FileVerificationEntry
+verification_code = code_by Bytes bytes_code (λ v. v.range_hash) (λ h. record { range_hash = h }) (λ _. refl)
+
+abbrev pub ext_code : Coded FileMetadataExt
+ext_code = code_by Bytes bytes_code (λ m. m.sha256) (λ h. record { sha256 = h }) (λ _. refl)
+
+abbrev pub file_code : Coded MDBFileInfo
+file_code = code_by ((Bytes × Pair) × (List Segment × (List FileVerificationEntry × Option FileMetadataExt)))
+    (coded× (coded× bytes_code pair_code) (coded× (coded_list segment_code) (coded× (coded_list verification_code) (coded_option ext_code))))
+    (λ f. ((f.metadata.file_hash, (f.metadata.file_flags, f.metadata.num_entries)), (f.segments, (f.verification, f.metadata_ext))))
+    (λ p. record {
+      metadata = record { file_hash = p.0.0; file_flags = p.0.1.0; num_entries = p.0.1.1 };
+      segments = p.1.0;
+      verification = p.1.1.0;
+      metadata_ext = p.1.1.1;
+    })
+    (λ _. refl)
+
+abbrev pub held_code : Coded Held
+held_code = code_by (List MDBXorbInfo × List MDBFileInfo) (coded× (coded_list block_code) (coded_list file_code)) (λ h. (h.blocks, h.files)) (λ p. record { blocks = p.0; files = p.1 }) (λ _. refl)
 
 abbrev pub state_code : Coded State
-state_code = code_by ((Bool × (Files × ℕ)) × ((List ℕ × LimitSettings) × (Xorbs × Records)))
-    (coded× (coded× coded_bool (coded× (map.code (coded_list coded_ℕ) entry_code) coded_ℕ)) (coded× (coded× (coded_list coded_ℕ) limits_code) (coded× xorbs_code records_code)))
-    (λ s. ((s.tells, (s.files, s.faults)), ((s.folder, s.limits), (s.xorbs, s.records))))
-    (λ p. record { tells = p.0.0; files = p.0.1.0; faults = p.0.1.1; folder = p.1.0.0; limits = p.1.0.1; xorbs = p.1.1.0; records = p.1.1.1 })
+state_code = code_by ((Bool × (Files × ℕ)) × ((Bytes × (LimitSettings × ℕ)) × ((Xorbs × Records) × (List Bytes × Held))))
+    (coded× (coded× coded_bool (coded× (map.code bytes_code entry_code) coded_ℕ)) (coded× (coded× bytes_code (coded× limits_code coded_ℕ)) (coded× (coded× xorbs_code records_code) (coded× (coded_list bytes_code) held_code))))
+    (λ s. ((s.tells, (s.files, s.faults)), ((s.folder, (s.limits, s.opened)), ((s.xorbs, s.records), (s.shards, s.pending)))))
+    (λ p. record {
+      tells = p.0.0;
+      files = p.0.1.0;
+      faults = p.0.1.1;
+      folder = p.1.0.0;
+      limits = p.1.0.1.0;
+      opened = p.1.0.1.1;
+      xorbs = p.1.1.0.0;
+      records = p.1.1.0.1;
+      shards = p.1.1.1.0;
+      pending = p.1.1.1.1;
+    })
     (λ _. refl)

@@ -1,13 +1,17 @@
 -- Digests separate what was met: in what a store and some files show, equal digests have equal
 -- contents, and no digest is zero or the marker. BLAKE3 is believed to do so for all that is ever met;
 -- no one can prove it.
-use Rattle.std.specs.Prelude.{◌≡◌, ◌≢◌, ◌⊎◌, ℕ, ◌<◌, List, [], ◌∷◌, length, IsSome}
+use Rattle.std.specs.Prelude.{◌≡◌, ◌≢◌, ◌⊎◌, ℕ, ◌<◌, List, [], ◌∷◌, length, Some, IsSome}
 use Rattle.xet_io.specs.Disk.{Files}
 use Rattle.xet_hash.specs.Hash.{marker, zero_hash}
 use Rattle.xet_hash.specs.Merkle.{chunk_hash, xorb_hash, file_hash, members_of}
 use Rattle.xet_shard.specs.declared.record.FileDataSequenceEntry.{FileDataSequenceEntry as Segment}
-use Rattle.xet_store.specs.Plan.{Joins}
-use Rattle.xet_store.specs.Store.{State, found, IsListed, IsStored}
+use Rattle.xet_shard.specs.declared.record.MDBFileInfo.{MDBFileInfo}
+use Rattle.xet_folder.specs.Listed.{Lists}
+use Rattle.xet_folder.specs.Plan.{Joins}
+use Rattle.xet_folder.specs.Stored.{IsBacked, IsStored}
+use Rattle.xet_folder.specs.Xorbs.{IsListed, found}
+use Rattle.xet_store.specs.Store.{State}
 
 abbrev pub Among : {X : Type 0} → List X → X → Type 0
 Among [] x = ⊥
@@ -40,7 +44,7 @@ MetXorb s members = (h : List ℕ) × IsListed s.xorbs h members
 -- the members of a recorded file, or of one of these files that is not empty
 abbrev pub MetFile : State → List (List (List ℕ)) → List (List ℕ × ℕ) → Type 0
 MetFile s files members =
-    ((r : List ℕ × List Segment) × Among s.records r × Joins (IsListed s.xorbs) (λ m. m.1) r.1 members)
+    ((h : List ℕ) × (plan : List Segment) × (found s.records h ≡ Some plan) × Joins (IsListed s.xorbs) (λ m. m.1) plan members)
     ⊎ ((f : List (List ℕ)) × Among files f × (0 < length f) × (members ≡ members_of f))
 
 -- Digests separate what a store and these files, each as its chunks, show.
@@ -48,3 +52,19 @@ pub record Separate (s : State) (files : List (List (List ℕ))) : Type 0 where
   pub chunks : Apart chunk_hash (MetChunk s files)
   pub xorbs : Apart xorb_hash (MetXorb s)
   pub lists : Apart file_hash (MetFile s files)
+
+-- the members of a file that a folder lists at a moment, or of one of these files that is not empty
+abbrev pub MetListed : Files → List ℕ → ℕ → List (List (List ℕ)) → List (List ℕ × ℕ) → Type 0
+MetListed disk folder now files members =
+    ((f : MDBFileInfo) × Lists disk folder now f × Joins (IsBacked disk folder) (λ m. m.1) f.segments members)
+    ⊎ ((f : List (List ℕ)) × Among files f × (0 < length f) × (members ≡ members_of f))
+
+-- the members of a xorb that stands in a folder
+abbrev pub MetBacked : Files → List ℕ → List (List ℕ × ℕ) → Type 0
+MetBacked disk folder members = (h : List ℕ) × IsBacked disk folder h members
+
+-- Digests separate what stands in a folder at a moment, and these files, each as its chunks.
+pub record SeparateIn (disk : Files) (folder : List ℕ) (now : ℕ) (files : List (List (List ℕ))) : Type 0 where
+  pub chunks : Apart chunk_hash (MetStored disk folder files)
+  pub xorbs : Apart xorb_hash (MetBacked disk folder)
+  pub lists : Apart file_hash (MetListed disk folder now files)

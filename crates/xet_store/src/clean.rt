@@ -4,17 +4,19 @@ ghost use Rattle.std.specs.Prelude.{◌≡◌, ◌≤◌, ◌<◌, ◌^◌, ◌�
 ghost use Rattle.std.specs.List.{AllByRecursion};
 ghost use Rattle.xet_hash.specs.Merkle.{chunk_hash};
 ghost use Rattle.xet_xorb.specs.Chunks.{bytes_of, chunk_member, total};
-ghost use Rattle.xet_store.specs.Cleaning.{Adds, EachTold, HasFile, HasReason, HasXorbs, Keeps, cuts, info_of};
+ghost use Rattle.xet_store.specs.Cleaning.{Adds, AddsPending, EachTold, HasFile, HasReason, HasXorbs, Keeps, cuts, info_of};
 ghost use Rattle.xet_store.specs.Cut.{cut};
-ghost use Rattle.xet_store.specs.Plan.{Joins};
-ghost use Rattle.xet_store.specs.Refusals.{HasDiskReason, HasSourceReason};
+ghost use Rattle.xet_folder.specs.Plan.{Joins};
+ghost use Rattle.xet_folder.specs.Refusals.{HasDiskReason};
 ghost use Rattle.xet_store.specs.Separate.{Apart, MetChunk, Separate};
-ghost use Rattle.xet_store.specs.Steps.{HasReasonOfOne, ListsXorbs};
-ghost use Rattle.xet_store.specs.Store.{IsListed, plan_of};
+ghost use Rattle.xet_store.specs.Steps.{HasReasonOfOne, HasSourceReason, ListsXorbs};
+ghost use Rattle.xet_folder.specs.Xorbs.{IsListed};
+ghost use Rattle.xet_store.specs.Store.{plan_of};
 
 use crate::cutting::{chunks_of, pack_len};
 use crate::info::{Cleaned, XetFileInfo};
 use crate::limits::Limits;
+use crate::records::file_record;
 use crate::store::Store;
 use sha2::Digest;
 use std::alloc::Global;
@@ -48,11 +50,15 @@ pub fn clean_files<D: Disk + Send, S: Source + Send>(
     ensures xorbs { session.tells ≡ true → AllByRecursion (λ s. S.tells s ≡ true) sources.old → Apart chunk_hash (MetChunk result.0 (cuts S.left session.limits sources.old))
         → OnOk result.1 (AllByRecursion (HasXorbs result.0) (cuts S.left session.limits sources.old)) }
 
+    // Where all tell, each of their xorbs is listed.
+    ensures listed { AllByRecursion (λ s. S.tells s ≡ true) sources.old → OnOk result.1 (AllByRecursion (ListsXorbs result.0) (cuts S.left session.limits sources.old)) }
+
     // Nothing is taken away, whatever the answer; new records stand behind the earlier ones, each of a
     // source.
     ensures keeps { Keeps session result.0 }
     ensures adds { IfOk result.1 (λ cleaned. Adds session.records result.0.records (map (λ info. info.hash) cleaned.infos.items)) }
     ensures err { OnErr result.1 (result.0.records ≡ session.records) }
+    ensures pending { AllByRecursion (λ s. S.tells s ≡ true) sources.old → AddsPending session.limits (map S.left sources.old) session.pending result.0.pending }
 
     // A refusal has a reason.
     ensures reason { IfErr result.1 (HasReason S.tells S.left S.faults sources.old sources.new session result.0) }
@@ -78,6 +84,7 @@ fn clean_all<D: Disk + Send, S: Source + Send>(
     ensures keeps { Keeps session.old session.new }
     ensures adds { IfOk result (λ cleaned. Adds session.old.records session.new.records (map (λ info. info.hash) cleaned.infos.items)) }
     ensures err { OnErr result (session.new.records ≡ session.old.records) }
+    ensures pending { AllByRecursion (λ s. S.tells s ≡ true) sources.old → AddsPending session.old.limits (map S.left sources.old) session.old.pending session.new.pending }
     ensures reason { IfErr result (HasReason S.tells S.left S.faults sources.old sources.new session.old session.new) }
 {
     let mut infos = Vec::with_capacity(alloc, 1)?;
@@ -100,6 +107,7 @@ fn clean_source<D: Disk + Send, S: Source + Send>(
     ensures adds { IfOk result (λ info. Adds session.old.records session.new.records (info.hash ∷ [])) }
     ensures xorbs { S.tells source.old ≡ true → OnOk result (ListsXorbs session.new (cut session.old.limits (S.left source.old))) }
     ensures err { OnErr result (session.new.records ≡ session.old.records) }
+    ensures pending { S.tells source.old ≡ true → AddsPending session.old.limits (S.left source.old ∷ []) session.old.pending session.new.pending }
     ensures reason { IfErr result (HasReasonOfOne S.tells S.left S.faults source.old source.new session.old session.new) }
     ensures later { S.faults source.old ≤ S.faults source.new }
 {
@@ -109,10 +117,11 @@ fn clean_source<D: Disk + Send, S: Source + Send>(
     let file_size = bytes.len() as u64;
     let sha256 = Sha256::from_bytes(sha2::Sha256::digest(&bytes).into());
     let chunks = chunks_of(alloc, &limits, bytes)?;
-    let hash = file_hash(alloc, &chunk_members(alloc, &chunks)?)?;
+    let members = chunk_members(alloc, &chunks)?;
+    let hash = file_hash(alloc, &members)?;
     if !chunks.is_empty() {
         let plan = add_xorbs(session, &chunks)?;
-        session.add_file(hash, plan)?;
+        session.add_file(file_record(alloc, hash, &members, plan, sha256)?)?;
     }
     Ok(XetFileInfo {
         hash,
@@ -129,9 +138,11 @@ fn add_xorbs<D: Disk + Send>(
     requires digests { AllByRecursion (λ c. c.hash ≡ chunk_hash c.bytes) chunks.now }
     requires fit { AllByRecursion (λ c. length c.bytes ≤ session.old.limits.maximum_chunk) chunks.now }
     ensures joins { IfOk result (λ plan. Joins (IsListed session.new.xorbs) (λ m. m.1) plan.items (map chunk_member chunks.now)) }
+    ensures plain { IfOk result (λ plan. AllByRecursion (λ s. s.xorb_flags ≡ 0) plan.items) }
     ensures listed { OnOk result (ListsXorbs session.new (map bytes_of chunks.now)) }
     ensures keeps { Keeps session.old session.new }
     ensures records { session.new.records ≡ session.old.records }
+    ensures files { session.new.pending.files ≡ session.old.pending.files }
     ensures reason { IfErr result (HasDiskReason session.old.faults session.new.faults) }
 {
     let limits = *session.limits();

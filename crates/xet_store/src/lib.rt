@@ -7,9 +7,8 @@ mod cutting;
 mod generator;
 mod info;
 mod limits;
-mod refusal;
+mod records;
 mod store;
-mod xorb_file;
 
 pub use clean::clean_files;
 pub use cut::{chunk_list, cut_lengths, piece_len};
@@ -21,7 +20,5 @@ pub use store::Store;
 /// A session in which files are cleaned.
 pub type Session<D> = Store<D>;
 
-#[cfg(test)]
-mod store_tests;
 #[cfg(test)]
 mod tests;

@@ -105,7 +105,7 @@ impl Limits {
     }
 
     /// Does nothing: that all are in their ranges is known after it.
-    pub(crate) fn known(&self)
+    pub fn known(&self)
         ensures { AreInRange self.now }
     {
         let _ = &self.settings;

@@ -1,29 +1,23 @@
-//! The store: xorbs in a folder of a disk, and the plans of files over them.
+//! The store: xorbs and shards in a folder of a disk, and the plans of files over them.
 
-ghost use Rattle.std.specs.Prelude.{◌≡◌, ◌≤◌, ◌<◌, ◌^◌, ◌∷◌, [], ℕ, false, true, length, map, OnOk, OnErr, IfOk, IfErr, IsErrOf, IsOkUnless, IsSome, Some, None};
+ghost use Rattle.std.specs.Prelude.{◌≡◌, ◌<◌, ◌^◌, length, IfOk, IsOkUnless};
 ghost use Rattle.std.specs.Option.{option_map};
-ghost use Rattle.std.specs.List.{AllByRecursion};
-ghost use Rattle.xet_io.specs.Faults.{HasCause};
-ghost use Rattle.xet_hash.specs.Merkle.{chunk_hash, xorb_hash};
-ghost use Rattle.xet_xorb.specs.Chunks.{chunk_member, total};
-ghost use Rattle.xet_store.specs.Cleaning.{Adds, Keeps};
-ghost use Rattle.xet_store.specs.First.{is_earlier};
-ghost use Rattle.xet_store.specs.Names.{FindsShardLike, ends_as_shard};
-ghost use Rattle.xet_store.specs.Plan.{plan_bytes};
-ghost use Rattle.xet_store.specs.Refusals.{HasDiskReason, IsOpenRefusal};
-ghost use Rattle.xet_store.specs.Store.{IsListed, IsOpened, IsRecord, files_of, found, plan_of};
+ghost use Rattle.xet_folder.specs.Plan.{plan_bytes};
+ghost use Rattle.xet_store.specs.Store.{files_of, plan_of};
+
+mod adding;
+mod flushing;
+mod opening;
+mod reading;
 
 use crate::limits::Limits;
-use crate::refusal::store_error;
-use crate::xorb_file::{known_bytes, put_xorb};
 use indexmap::IndexMap;
 use std::alloc::Global;
 use std::marker::{Model, Send};
-use xet_base::Text;
-use xet_hash::{MerkleHash, Reason, Refused, StoreError, xorb_hash};
-use xet_io::{Disk, Refusal};
-use xet_shard::FileDataSequenceEntry;
-use xet_xorb::{Chunk, chunk_members, xorb_text};
+use xet_base::{Items, Text};
+use xet_hash::{MerkleHash, StoreError};
+use xet_io::Disk;
+use xet_shard::{FileDataSequenceEntry, MDBInMemoryShard};
 
 /// A store of files in a folder of a disk. Contracts see a `State`.
 #[derive(Drop)]
@@ -32,15 +26,21 @@ pub struct Store<D: Disk + Send> {
     alloc: Global,
     folder: Text,
     limits: Limits,
-    xorbs: IndexMap<MerkleHash, Vec<(MerkleHash, u64)>>,
-    records: IndexMap<MerkleHash, Vec<FileDataSequenceEntry>>,
+    /// The moment of opening, in seconds.
+    opened: u64,
+    /// The digests and lengths of each listed xorb's chunks.
+    xorbs: IndexMap<MerkleHash, Items<(MerkleHash, u64)>>,
+    /// The plan of each recorded file.
+    records: IndexMap<MerkleHash, Items<FileDataSequenceEntry>>,
+    /// The registered shards.
+    shards: Vec<MerkleHash>,
+    /// What no shard keeps yet.
+    pending: MDBInMemoryShard,
 }
 
 impl<D: Disk + Send> Model for Store<D> {
-    ghost use Rattle.std.specs.Prelude.{map};
     ghost use Rattle.xet_store.specs.Coding.{state_code};
     ghost use Rattle.xet_store.specs.Store.{Sound, State};
-    ghost use Rattle.xet_store.specs.Tables.{row_of};
 
     ghost Value = { State };
 
@@ -52,8 +52,11 @@ impl<D: Disk + Send> Model for Store<D> {
       faults = D.faults s.disk;
       folder = s.folder;
       limits = s.limits;
-      xorbs = map row_of s.xorbs.entries;
-      records = map row_of s.records.entries;
+      opened = s.opened;
+      xorbs = s.xorbs.entries;
+      records = s.records.entries;
+      shards = s.shards.items;
+      pending = s.pending;
     } };
 
     ghost invariant = { λ s. Sound (record {
@@ -62,75 +65,16 @@ impl<D: Disk + Send> Model for Store<D> {
       faults = D.faults s.disk;
       folder = s.folder;
       limits = s.limits;
-      xorbs = map row_of s.xorbs.entries;
-      records = map row_of s.records.entries;
+      opened = s.opened;
+      xorbs = s.xorbs.entries;
+      records = s.records.entries;
+      shards = s.shards.items;
+      pending = s.pending;
     }) };
 }
 
 impl<D: Disk + Send> Store<D> {
     ghost use Rattle.xet_store.specs.Store.{Sound};
-
-    /// Opens the folder of a disk, at a moment in seconds. So far no file there may end in `.mdb`: that
-    /// of a shard can't be read yet, and is refused as `MalformedData(ShardName)`, with the first such name. `prune` is not used.
-    pub fn open(
-        alloc: Global,
-        disk: D,
-        folder: &str,
-        limits: Limits,
-        now: u64,
-        prune: bool,
-    ) -> Result<Store<D>, Refused<D>>
-        requires { prune ≡ false }
-        ensures opened { IfOk result (λ store. IsOpened (D.tells disk) (D.files disk) folder.now limits store) }
-        ensures no_shards { D.tells disk ≡ true → IfOk result (λ store. FindsShardLike (D.files disk) folder.now None) }
-        ensures later { IfOk result (λ store. D.faults disk ≤ store.faults) }
-        ensures disk { IfErr result (λ refused. (D.tells refused.disk ≡ D.tells disk) × (D.files refused.disk ≡ D.files disk)) }
-        ensures counted { IfErr result (λ refused. D.faults disk ≤ D.faults refused.disk) }
-        ensures reason { IfErr result (λ refused. IsOpenRefusal (D.tells disk) (D.files disk) folder.now (D.faults disk) (D.faults refused.disk) refused.error refused.name) }
-    {
-        let _ = (now, prune);
-        let mut disk = disk;
-        match shard_like(alloc, &mut disk, folder) {
-            Ok(None) => Store::of_folder(alloc, disk, folder, limits),
-            Ok(name) => Err(Refused {
-                disk,
-                error: StoreError::MalformedData(Reason::ShardName),
-                name,
-            }),
-            Err(refusal) => Err(Refused {
-                disk,
-                error: store_error(refusal),
-                name: None,
-            }),
-        }
-    }
-
-    /// A store of nothing.
-    fn of_folder(
-        alloc: Global,
-        disk: D,
-        folder: &str,
-        limits: Limits,
-    ) -> Result<Store<D>, Refused<D>>
-        ensures opened { IfOk result (λ store. IsOpened (D.tells disk) (D.files disk) folder.now limits store × (store.faults ≡ D.faults disk)) }
-        ensures refused { IfErr result (λ refused. (refused.disk ≡ disk) × (refused.error ≡ StoreError.OutOfMemory) × (refused.name ≡ None)) }
-    {
-        match String::from_str(alloc, folder) {
-            Ok(folder) => Ok(Store {
-                disk,
-                alloc,
-                folder: Text::new(folder),
-                limits,
-                xorbs: IndexMap::new(alloc),
-                records: IndexMap::new(alloc),
-            }),
-            Err(_) => Err(Refused {
-                disk,
-                error: StoreError::OutOfMemory,
-                name: None,
-            }),
-        }
-    }
 
     /// Does nothing: what every store has is known after it.
     pub fn known(&self)
@@ -168,10 +112,7 @@ impl<D: Disk + Send> Store<D> {
         ensures plan { IfOk result (λ plan. option_map (λ segments. segments.items) plan ≡ plan_of self.now.records hash.now) }
         ensures memory { IsOkUnless result StoreError.OutOfMemory }
     {
-        if *hash == MerkleHash::default() {
-            return Ok(Some(Vec::new(alloc)));
-        }
-        match self.records.get(hash) {
+        match plan_in(&self.records, hash) {
             Some(segments) => Ok(Some(Vec::from_slice(alloc, segments)?)),
             None => Ok(None),
         }
@@ -185,12 +126,12 @@ impl<D: Disk + Send> Store<D> {
     {
         let mut files = Vec::with_capacity(alloc, self.records.len())?;
         for (hash, segments) in &self.records {
-            files.push((*hash, plan_bytes(segments)))?;
+            files.push((*hash, plan_bytes(segments.as_slice())))?;
         }
         Ok(files)
     }
 
-    /// The disk, as it is.
+    /// The disk, as it is. What is pending is dropped.
     pub fn into_disk(self) -> D
         ensures tells { D.tells result ≡ self.tells }
         ensures files { D.files result ≡ self.files }
@@ -201,65 +142,29 @@ impl<D: Disk + Send> Store<D> {
             alloc: _,
             folder: _,
             limits: _,
+            opened: _,
             xorbs: _,
             records: _,
+            shards: _,
+            pending: _,
         } = self;
         disk
     }
+}
 
-    /// Stores these chunks as a xorb and lists it, where it is not listed yet, and gives its hash. Where
-    /// one of that hash is listed with other members, it refuses.
-    pub(crate) fn add_xorb(&mut self, chunks: &[Chunk]) -> Result<MerkleHash, StoreError>
-        requires some { 0 < length chunks.now }
-        requires digests { AllByRecursion (λ c. c.hash ≡ chunk_hash c.bytes) chunks.now }
-        requires small { AllByRecursion (λ c. length c.bytes < 2 ^ 23) chunks.now }
-        requires count { length chunks.now ≤ 65536 }
-        requires bytes { total chunks.now ≤ 2 ^ 30 }
-        ensures keeps { Keeps self.old self.new }
-        ensures records { self.new.records ≡ self.old.records }
-        ensures listed { IfOk result (λ h. (h ≡ xorb_hash (map chunk_member chunks.now)) × IsListed self.new.xorbs h (map chunk_member chunks.now)) }
-        ensures reason { IfErr result (HasDiskReason self.old.faults self.new.faults) }
-    {
-        let members = chunk_members(self.alloc, chunks)?;
-        let hash = xorb_hash(self.alloc, &members)?;
-        if let Some(listed) = self.xorbs.get(&hash) {
-            if listed.as_slice() != members.as_slice() {
-                return Err(StoreError::OutOfMemory);
-            }
-            return Ok(hash);
-        }
-        known_bytes(&hash);
-        let text = xorb_text(self.alloc, chunks)?;
-        self.xorbs.reserve(1)?;
-        put_xorb(
-            &mut self.disk,
-            self.alloc,
-            self.folder.as_str(),
-            &hash,
-            &text,
-        )?;
-        self.xorbs.insert(hash, members)?;
-        Ok(hash)
+/// The segments of a file's plan; none where it is not recorded. The empty file has the empty plan.
+fn plan_in<'a>(
+    records: &'a IndexMap<MerkleHash, Items<FileDataSequenceEntry>>,
+    hash: &MerkleHash,
+) -> Option<&'a [FileDataSequenceEntry]>
+    ensures { option_map (λ plan. plan.now) result ≡ plan_of records.now.entries hash.now }
+{
+    if *hash == MerkleHash::default() {
+        return Some(&[]);
     }
-
-    /// Records a file. One that is recorded keeps its plan.
-    pub(crate) fn add_file(
-        &mut self,
-        hash: MerkleHash,
-        plan: Vec<FileDataSequenceEntry>,
-    ) -> Result<(), StoreError>
-        requires { IsRecord self.old.xorbs (hash, plan.items) }
-        ensures keeps { Keeps self.old self.new }
-        ensures there { OnOk result (IsSome (found self.new.records hash)) }
-        ensures adds { OnOk result (Adds self.old.records self.new.records (hash ∷ [])) }
-        ensures err { OnErr result (self.new ≡ self.old) }
-        ensures memory { IsOkUnless result StoreError.OutOfMemory }
-    {
-        if self.records.contains_key(&hash) {
-            return Ok(());
-        }
-        self.records.insert(hash, plan)?;
-        Ok(())
+    match records.get(hash) {
+        Some(segments) => Some(segments.as_slice()),
+        None => None,
     }
 }
 
@@ -272,37 +177,4 @@ fn plan_bytes(segments: &[FileDataSequenceEntry]) -> u64
         .iter()
         .map(|segment| u64::from(segment.unpacked_segment_bytes))
         .sum()
-}
-
-/// The first name, in the order of texts, of a file of the folder that ends as a shard's.
-fn shard_like<D: Disk>(alloc: Global, disk: &mut D, folder: &str) -> Result<Option<Text>, Refusal>
-    ensures told { D.tells disk.old ≡ true → IfOk result (FindsShardLike (D.files disk.old) folder.now) }
-    ensures same { D.files disk.new ≡ D.files disk.old }
-    ensures tells { D.tells disk.new ≡ D.tells disk.old }
-    ensures cause { HasCause (D.faults disk.old) (D.faults disk.new) (IsErrOf result Refusal.Failed) }
-{
-    let mut first = None;
-    for entry in disk.list(alloc, folder)? {
-        if ends_as_shard(&entry.name) && is_earlier(&entry.name, &first) {
-            first = Some(entry.name);
-        }
-    }
-    Ok(first)
-}
-
-/// Whether a name ends as a shard's.
-fn ends_as_shard(name: &Text) -> bool
-    ensures { result ≡ ends_as_shard name.now }
-{
-    name.as_str().as_bytes().ends_with(b".mdb")
-}
-
-/// Whether a name is earlier than the first so far.
-fn is_earlier(name: &Text, first: &Option<Text>) -> bool
-    ensures { result ≡ is_earlier name.now first.now }
-{
-    match first {
-        Some(first) => name.as_str() < first.as_str(),
-        None => true,
-    }
 }

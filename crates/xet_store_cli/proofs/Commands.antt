@@ -1,6 +1,8 @@
 -- Words as numbers, gear tables and commands.
-use Rattle.std.proofs.Common.{◌≡◌, ◌≢◌, ℕ, ◌*◌, ◌/◌, ◌^◌, ◌<◌, ◌≤◌, Bool, true, false, cond, ltb, leb, min, lit<, lit≤, List, [], ◌∷◌, length, get_or, map, replicate, Option, Some, None, Result, Ok, Err, IsTrue, codes, refl, ap, inl, inr, arith, rules}
+use Rattle.std.proofs.Common.{◌≡◌, ◌≢◌, ℕ, zero, suc, ◌*◌, ◌/◌, ◌^◌, ◌<◌, ◌≤◌, Bool, true, false, cond, ltb, leb, min, lit<, lit≤, List, [], ◌∷◌, length, get_or, map, replicate, Option, Some, None, Result, Ok, Err, IsTrue, codes, refl, ap, inl, inr, arith, rules}
 use Rattle.std.proofs.lemmas.Bool.{and_parts, leb-true, lt-ltb, cases_lt, le-ltb}
+use Rattle.std.proofs.lemmas.Bool.Decides.{nat_tests}
+use Rattle.std.proofs.lemmas.Str.{IsUtf8-from_ascii}
 use Rattle.std.proofs.lemmas.Str.Parse.{IsNumeralModel, not_in_digits, numerals_by_value, parse_plain}
 use Rattle.std.proofs.Math.Nat.{div-lt_iff_lt-mul}
 use Rattle.std.specs.Char.{is_ascii_digit}
@@ -9,7 +11,7 @@ use Rattle.std.specs.List.{list_all}
 use Rattle.std.specs.Option.{option_map, option_and_then}
 use Rattle.std.specs.Prelude.{IfSome}
 use Rattle.std.specs.Result.{OkIff, result_ok}
-use Rattle.std.specs.Str.{bytes_eq}
+use Rattle.std.specs.Str.{IsAscii, IsUtf8, bytes_eq}
 use Rattle.std.specs.Str.Parse.{ParsesUnsigned, digits_value}
 use Rattle.std.specs.Cmp.Lexicographic.{bytes_decides}
 use Rattle.xet_store.specs.Limits.{bad_field, is_between}
@@ -49,6 +51,19 @@ pub number_refused : (word : List ℕ) → is_digits word ≡ false → number_o
 unfolding number_of
 number_refused word e = rw e refl
 
+digits_ascii : (word : List ℕ) → list_all is_ascii_digit word ≡ true → IsAscii word
+digits_ascii [] all i = omega arith
+digits_ascii (b ∷ bs) all zero = let digit = (and_parts (is_ascii_digit b) (list_all is_ascii_digit bs) all).0 in grind (arith, nat_tests)
+digits_ascii (b ∷ bs) all (suc i) = digits_ascii bs (and_parts (is_ascii_digit b) (list_all is_ascii_digit bs) all).1 i
+
+-- a number is text
+pub number_not_text : (word : List ℕ) → (IsUtf8 word → ⊥) → number_of word ≡ None
+number_not_text word never = by_test (is_digits word) refl
+  where
+    by_test : (t : Bool) → is_digits word ≡ t → number_of word ≡ None
+    by_test true e = absurd (never (IsUtf8-from_ascii word (digits_ascii word (and_parts (is_between 1 20 (length word)) (list_all is_ascii_digit word) e).1)))
+    by_test false e = number_refused word e
+
 -- ---- commands
 
 pub command_none : (ws : List (List ℕ)) → length ws ≢ 3 → command_of ws ≡ None
@@ -87,12 +102,6 @@ gear_one word e = rw e refl
 pub gear_seed : (word : List ℕ) → word ≢ codes "zero" → word ≢ codes "one" → gear_of word ≡ option_map gear_table (number_of word)
 unfolding gear_of
 gear_seed word n m = rw (other_bytes word (codes "zero") n, other_bytes word (codes "one") m) refl
-
-pub not_pack : (name target gear : List ℕ) → name ≢ codes "pack" → three_words name target gear ≡ None
-not_pack name target gear n = rw (other_bytes name (codes "pack") n) refl
-
-pub is_pack : (name target gear : List ℕ) → name ≡ codes "pack" → three_words name target gear ≡ pack_of (target_of target) (gear_of gear)
-is_pack name target gear e = rw e refl
 
 -- ---- limits
 

@@ -1,5 +1,5 @@
 -- How long the files of an input's lines are: none is longer than the input.
-use Rattle.std.proofs.Common.{◌≡◌, ◌∙◌, ℕ, suc, ◌-◌, ◌≤◌, Bool, true, false, cond, leb, eqb, List, [], ◌∷◌, length, take, drop, Option, Some, None, Result, Ok, Err, codes, refl, sym, ap, arith}
+use Rattle.std.proofs.Common.{◌≡◌, ◌∙◌, subst, ℕ, suc, ◌-◌, ◌≤◌, Bool, true, false, cond, leb, eqb, List, [], ◌∷◌, length, take, drop, Option, Some, None, Result, Ok, Err, codes, refl, sym, ap, arith}
 use Rattle.std.proofs.lemmas.Bool.{le-leb}
 use Rattle.std.proofs.lemmas.List.{length-take, length-drop}
 use Rattle.std.specs.List.{AllByRecursion, list_all, onto_first, slice_split}
@@ -12,8 +12,9 @@ use Rattle.hex.specs.declared.error.FromHexError.{FromHexError}
 use Rattle.hex.proofs.HexLemmas.{decode_of-ok}
 use Rattle.xet_store.specs.declared.limits.LimitSettings.{LimitSettings}
 use Rattle.xet_store_cli.specs.Allowed.{are_short}
-use Rattle.xet_store_cli.specs.Lines.{Line, decoded, file_bytes, files_of, good_lines, line_of, said}
-use Rattle.xet_store_cli.specs.Lines.Line.{FileLine}
+use Rattle.xet_store_cli.specs.declared.lines.FileRange.{FileRange}
+use Rattle.xet_store_cli.specs.Lines.{Line, decoded, file_bytes, files_of, good_lines, line_of, range_of, said, words_of}
+use Rattle.xet_store_cli.specs.Lines.Line.{FileLine, RangeLine}
 use Rattle.xet_store_cli.proofs.Said.{both_some, file_bare, file_digits, file_other, good_said}
 
 -- each list has at most so many elements
@@ -77,15 +78,20 @@ file_bytes_within line bytes e = by_tests (pointwise eqb line (codes "file")) (p
         omega (arith, within, length-drop 5 line)
     by_tests false false t u = absurd (cc (sym (file_other line t u) ∙ e))
 
-mapped_file : (o : Option (List ℕ)) (bytes : List ℕ) → option_map FileLine o ≡ Some (FileLine bytes) → o ≡ Some bytes
-mapped_file None bytes e = absurd (cc e)
-mapped_file (Some found) bytes e =
-    let same : found ≡ bytes = cc e in ap (λ (x : List ℕ). Some x) same
-
 line_within : (most : ℕ) (line : List ℕ) (x : Line) (t : List Line) → length line ≤ most → line_of line ≡ Some x → AreWithin most (files_of t) → AreWithin most (files_of (x ∷ t))
-line_within most line (FileLine bytes) t short is all =
-    let within = file_bytes_within line bytes (mapped_file (file_bytes line) bytes is) in
-    (omega (arith, short, within), all)
+line_within most line x t short is all = by_bytes (file_bytes line) refl is
+  where
+    by_range : (o : Option FileRange) → option_map RangeLine o ≡ Some x → AreWithin most (files_of (x ∷ t))
+    by_range None e = absurd (cc e)
+    by_range (Some r) e =
+        let same : RangeLine r ≡ x = cc e in subst (λ (y : Line). AreWithin most (files_of (y ∷ t))) same all
+
+    by_bytes : (o : Option (List ℕ)) → file_bytes line ≡ o → elim o [ Some bytes ↦ Some (FileLine bytes) | None ↦ option_map RangeLine (range_of (words_of line)) ] ≡ Some x → AreWithin most (files_of (x ∷ t))
+    by_bytes None here e = by_range (range_of (words_of line)) e
+    by_bytes (Some bytes) here e =
+        let same : FileLine bytes ≡ x = cc e in
+        let within = file_bytes_within line bytes here in
+        subst (λ (y : Line). AreWithin most (files_of (y ∷ t))) same (omega (arith, short, within), all)
 
 said_within : (most : ℕ) (ls : List (List ℕ)) (s : List Line) → AreWithin most ls → said ls ≡ Some s → AreWithin most (files_of s)
 unfolding said
@@ -108,6 +114,6 @@ short_all most [] all = refl
 short_all most (f ∷ fs) all = rw (le-leb (length f) most all.0) (short_all most fs all.1)
 
 -- files that an input gives are short where an input may be as long
-pub short_said : (s : LimitSettings) (input : List ℕ) (said : List Line) → length input ≤ s.max_source_bytes → good_lines (lines input) ≡ Some said → are_short s said ≡ true
+pub short_said : (s : LimitSettings) (input : List ℕ) (said : List Line) → length input ≤ s.max_source_bytes → good_lines (lines input) ≡ Some said → are_short s (files_of said) ≡ true
 short_said s input said allowed good =
     short_all s.max_source_bytes (files_of said) (within_more (length input) s.max_source_bytes (files_of said) allowed (files_within input said good))

@@ -1,7 +1,11 @@
-pub mod Streaming
 pub mod LinesOf
+pub mod Ranged
 pub mod Said
 pub mod Commands
 pub mod Lengths
 pub mod Outcomes
+pub mod Cuts
 pub mod Cleaned
+pub mod Reading
+pub mod Settled
+pub mod Listing

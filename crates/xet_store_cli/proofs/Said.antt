@@ -1,27 +1,20 @@
 -- What lines say, one more at a time.
-use Rattle.std.proofs.Common.{◌≡◌, ◌∙◌, ℕ, ◌+◌, ◌<◌, ◌≤◌, Bool, true, false, cond, leb, eqb, codes, Result, List, [], ◌∷◌, ◌++◌, length, take, drop, map, Option, Some, None, is_none, Vec, Global, refl, sym, ap, arith}
-use Rattle.std.proofs.lemmas.Bool.{le-leb, lt-leb}
-use Rattle.std.proofs.lemmas.List.{map-append}
+use Rattle.std.proofs.Common.{◌≡◌, ◌∙◌, inl, inr, ℕ, ◌+◌, ◌<◌, ◌≤◌, Bool, true, false, cond, leb, eqb, codes, Result, List, [], ◌∷◌, ◌++◌, length, take, drop, Option, Some, None, is_none, refl, sym, ap, arith}
+use Rattle.std.proofs.lemmas.Bool.{cases_lt, le-leb, lt-leb, le-ltb, lt-ltb, leb-true}
+use Rattle.std.proofs.lemmas.List.{append-nil, length-append}
 use Rattle.std.proofs.Math.Seq.{take-add, drop-drop}
 use Rattle.std.specs.Option.{option_map, option_and_then}
 use Rattle.std.specs.Cmp.Lexicographic.{pointwise}
 use Rattle.hex.specs.Hex.{decode_of}
 use Rattle.hex.specs.declared.error.FromHexError.{FromHexError}
 use Rattle.xet_base.proofs.FirstOf.{first_of_here, first_of_none}
-use Rattle.xet_store_cli.specs.Lines.{Line, decoded, file_bytes, files_of, first_bad, good_lines, is_bad_at, limited, line_of, said, with_line}
-use Rattle.xet_store_cli.specs.Lines.Line.{FileLine}
-use Rattle.xet_store_cli.specs.Parsing.{and_line, with_next}
+use Rattle.xet_store_cli.specs.declared.lines.FileRange.{FileRange}
+use Rattle.xet_store_cli.specs.Lines.{Line, decoded, file_bytes, files_of, first_bad, good_lines, is_bad_at, limited, line_of, ranges_of, said, with_line}
+use Rattle.xet_store_cli.specs.Lines.Line.{FileLine, RangeLine}
+use Rattle.xet_store_cli.specs.Parsing.{Said, and_line, parted, with_next}
 
-abbrev pub made : List (Vec ℕ Global) → List Line
-made fs = map (λ f. FileLine f.items) fs
-
-pub files_of-made : (fs : List (Vec ℕ Global)) → files_of (made fs) ≡ map (λ f. f.items) fs
-files_of-made [] = refl
-files_of-made (f ∷ fs) = ap (λ (xs : List (List ℕ)). f.items ∷ xs) (files_of-made fs)
-
-length-files_of-made : (fs : List (Vec ℕ Global)) (b : List ℕ) → length (files_of (made fs ++ FileLine b ∷ [])) ≡ length fs + 1
-length-files_of-made [] b = refl
-length-files_of-made (f ∷ fs) b = omega (arith, length-files_of-made fs b)
+same_said : {a b : List (List ℕ)} {r q : List FileRange} → a ≡ b → r ≡ q → ◌≡◌ {A = Said} (record { files = a; ranges = r }) (record { files = b; ranges = q })
+same_said e f = λ i. record { files = e i; ranges = f i }
 
 some-injective : {X : Type 0} (x y : X) → Some x ≡ Some y → x ≡ y
 some-injective x y e = cc e
@@ -43,37 +36,6 @@ pub file_digits : (line : List ℕ) (r : Result (List ℕ) FromHexError) → poi
     → decode_of (drop 5 line) ≡ r → file_bytes line ≡ decoded r
 unfolding file_bytes
 file_digits line r e f d = rw (e, f) (ap decoded d)
-
--- an empty line says nothing
-pub with_next_empty : (s : List Line) (line : List ℕ) → length line ≡ 0 → with_next s line ≡ Some s
-with_next_empty s [] e = refl
-with_next_empty s (b ∷ bs) e = absurd (omega arith)
-
-pub with_next_bad : (s : List Line) (line : List ℕ) → 0 < length line → file_bytes line ≡ None → with_next s line ≡ None
-with_next_bad s [] some e = absurd (omega arith)
-with_next_bad s (b ∷ bs) some e = ap (λ (o : Option (List ℕ)). and_line s (option_map FileLine o)) e
-
-with_next_file : (s : List Line) (line bytes : List ℕ) → 0 < length line → file_bytes line ≡ Some bytes
-    → with_next s line ≡ limited (s ++ FileLine bytes ∷ [])
-with_next_file s [] bytes some e = absurd (omega arith)
-with_next_file s (b ∷ bs) bytes some e = ap (λ (o : Option (List ℕ)). and_line s (option_map FileLine o)) e
-
--- one file line too many
-pub with_next_many : (s : List Line) (fs : List (Vec ℕ Global)) (line bytes : List ℕ) → made fs ≡ s → 0 < length line → file_bytes line ≡ Some bytes
-    → 1 ≤ length fs → with_next s line ≡ None
-with_next_many s fs line bytes view some e many =
-    with_next_file s line bytes some e
-    ∙ ap (λ (t : List Line). limited (t ++ FileLine bytes ∷ [])) (sym view)
-    ∙ ap (λ (t : Bool). cond t (Some (made fs ++ FileLine bytes ∷ [])) None) (lt-leb (length (files_of (made fs ++ FileLine bytes ∷ []))) 1 (omega (arith, length-files_of-made fs bytes)))
-
--- one file line more
-pub with_next_few : (s : List Line) (fs more : List (Vec ℕ Global)) (f : Vec ℕ Global) (line : List ℕ) → made fs ≡ s → 0 < length line
-    → file_bytes line ≡ Some f.items → length fs < 1 → more ≡ fs ++ f ∷ [] → with_next s line ≡ Some (made more)
-with_next_few s fs more f line view some e few is =
-    with_next_file s line f.items some e
-    ∙ ap (λ (t : List Line). limited (t ++ FileLine f.items ∷ [])) (sym view)
-    ∙ ap (λ (t : Bool). cond t (Some (made fs ++ FileLine f.items ∷ [])) None) (le-leb (length (files_of (made fs ++ FileLine f.items ∷ []))) 1 (omega (arith, length-files_of-made fs f.items)))
-    ∙ ap (λ (t : List Line). Some t) (sym (ap made is ∙ map-append (λ (v : Vec ℕ Global). FileLine v.items) fs (f ∷ [])))
 
 -- ---- all lines
 
@@ -116,34 +78,64 @@ said-push ((b ∷ bs) ∷ ls) l s e =
     ap (with_line (line_of (b ∷ bs))) (said-push ls l t em) ∙ ap (λ (o : Option Line). with_line o (appended t l)) eo
     ∙ with_line-appended x t l ∙ ap (λ (u : List Line). appended u l) (sym es)
 
-limited_some : (t s : List Line) (b : Bool) → cond b (Some t) None ≡ Some s → t ≡ s
-limited_some t s true e = some-injective t s e
+limited_some : (t s : List Line) (b : Bool) → cond b (Some t) None ≡ Some s → (t ≡ s) × (b ≡ true)
+limited_some t s true e = (some-injective t s e, refl)
 limited_some t s false e = absurd (none-some s e)
 
 -- what good lines say, and that it is not too much
 pub good_said : (o : Option (List Line)) (s : List Line) → option_and_then limited o ≡ Some s → (o ≡ Some s) × (limited s ≡ Some s)
 good_said None s e = absurd (none-some s e)
 good_said (Some t) s e =
-    let same : t ≡ s = limited_some t s (leb (length (files_of t)) 1) e in
+    let same : t ≡ s = (limited_some t s (leb (length (files_of t)) 1) e).0 in
     (ap (λ (u : List Line). Some u) same, ap limited (sym same) ∙ e)
 
-pub good_none : good_lines [] ≡ Some []
-unfolding said
-good_none = refl
+few_files : (s : List Line) → limited s ≡ Some s → length (files_of s) ≤ 1
+few_files s e = leb-true (length (files_of s)) 1 (limited_some s s (leb (length (files_of s)) 1) e).1
 
 -- good lines and one more
-pub good_next : (ls : List (List ℕ)) (l : List ℕ) (s : List Line) → good_lines ls ≡ Some s → good_lines (ls ++ l ∷ []) ≡ with_next s l
-good_next ls l s e =
-    let both = good_said (said ls) s e in
-    ap (option_and_then limited) (said-push ls l s both.0) ∙ by_cases l both.1
-  where
-    by_line : (s : List Line) (o : Option Line) → option_and_then limited (option_map (λ x. s ++ x ∷ []) o) ≡ and_line s o
-    by_line s None = refl
-    by_line s (Some x) = refl
+good_next : (ls : List (List ℕ)) (l : List ℕ) (s : List Line) → good_lines ls ≡ Some s → good_lines (ls ++ l ∷ []) ≡ option_and_then limited (appended s l)
+good_next ls l s e = ap (option_and_then limited) (said-push ls l s (good_said (said ls) s e).0)
 
-    by_cases : (l : List ℕ) → limited s ≡ Some s → option_and_then limited (appended s l) ≡ with_next s l
-    by_cases [] few = few
-    by_cases (b ∷ bs) few = by_line s (line_of (b ∷ bs))
+files_more : (s : List Line) (x : Line) → files_of (s ++ x ∷ []) ≡ files_of s ++ files_of (x ∷ [])
+files_more [] x = refl
+files_more (FileLine b ∷ s) x = ap (λ (fs : List (List ℕ)). b ∷ fs) (files_more s x)
+files_more (RangeLine r ∷ s) x = files_more s x
+
+ranges_more : (s : List Line) (x : Line) → ranges_of (s ++ x ∷ []) ≡ ranges_of s ++ ranges_of (x ∷ [])
+ranges_more [] x = refl
+ranges_more (FileLine b ∷ s) x = ranges_more s x
+ranges_more (RangeLine r ∷ s) x = ap (λ (rs : List FileRange). r ∷ rs) (ranges_more s x)
+
+-- what good lines say with one more, by files and ranges
+parted_more : (s : List Line) (o : Option Line) → limited s ≡ Some s → option_map parted (option_and_then limited (option_map (λ x. s ++ x ∷ []) o)) ≡ and_line (parted s) o
+parted_more s None few = refl
+parted_more s (Some (FileLine b)) few =
+    let count : length (files_of (s ++ FileLine b ∷ [])) ≡ length (files_of s) + 1 = ap length (files_more s (FileLine b)) ∙ length-append (files_of s) (b ∷ []) in
+    elim (cases_lt (length (files_of s)) 1) [
+      | inl low ↦ rw (le-leb (length (files_of (s ++ FileLine b ∷ []))) 1 (omega arith), lt-ltb (length (files_of s)) 1 low) (ap (λ (x : Said). Some x) (same_said (files_more s (FileLine b)) (ranges_more s (FileLine b) ∙ append-nil (ranges_of s))))
+      | inr high ↦ rw (lt-leb (length (files_of (s ++ FileLine b ∷ []))) 1 (omega arith), le-ltb (length (files_of s)) 1 high) refl
+    ]
+parted_more s (Some (RangeLine r)) few =
+    let same : files_of (s ++ RangeLine r ∷ []) ≡ files_of s = files_more s (RangeLine r) ∙ append-nil (files_of s) in
+    let count : length (files_of (s ++ RangeLine r ∷ [])) ≤ 1 = omega (arith, ap length same, few_files s few) in
+    rw (le-leb (length (files_of (s ++ RangeLine r ∷ []))) 1 count) (ap (λ (x : Said). Some x) (same_said same (ranges_more s (RangeLine r))))
+
+parted_next : (s : List Line) (l : List ℕ) → limited s ≡ Some s → option_map parted (option_and_then limited (appended s l)) ≡ with_next (parted s) l
+parted_next s [] few = ap (option_map parted) few
+parted_next s (b ∷ bs) few = parted_more s (line_of (b ∷ bs)) few
+
+mapped : (o : Option (List Line)) (x : Said) → option_map parted o ≡ Some x → (s : List Line) × (o ≡ Some s) × (parted s ≡ x)
+mapped None x e = absurd (cc e)
+mapped (Some s) x e =
+    let same : parted s ≡ x = cc e in (s, refl, same)
+
+-- what good lines say, as lines
+pub good_parted : (ls : List (List ℕ)) (x : Said) → option_map parted (good_lines ls) ≡ Some x → (s : List Line) × (good_lines ls ≡ Some s) × (parted s ≡ x)
+good_parted ls x e = mapped (good_lines ls) x e
+
+pub good_none : option_map parted (good_lines []) ≡ Some (parted [])
+unfolding said
+good_none = refl
 
 -- ---- the first bad line
 
@@ -154,14 +146,25 @@ pub drop_next : {X : Type 0} (xs : List X) (n : ℕ) (x : X) (ys : List X) → d
 drop_next xs n x ys e = ap (λ (zs : List _). drop 1 zs) (sym e) ∙ drop-drop 1 n xs
 
 -- the lines so far with one more
-pub good_more : (all : List (List ℕ)) (n : ℕ) (l : List ℕ) (more : List (List ℕ)) (s : List Line) → drop n all ≡ l ∷ more
-    → good_lines (take n all) ≡ Some s → good_lines (take (n + 1) all) ≡ with_next s l
-good_more all n l more s e good = ap good_lines (take_next all n l more e) ∙ good_next (take n all) l s good
+pub good_more : (all : List (List ℕ)) (n : ℕ) (l : List ℕ) (more : List (List ℕ)) (x : Said) → drop n all ≡ l ∷ more
+    → option_map parted (good_lines (take n all)) ≡ Some x → option_map parted (good_lines (take (n + 1) all)) ≡ with_next x l
+good_more all n l more x e good =
+    let m = good_parted (take n all) x good in
+    ap (λ (ls : List (List ℕ)). option_map parted (good_lines ls)) (take_next all n l more e) ∙ ap (option_map parted) (good_next (take n all) l m.0 m.1)
+    ∙ parted_next m.0 l (good_said (said (take n all)) m.0 m.1).1 ∙ ap (λ (y : Said). with_next y l) m.2
+
+none_mapped : (o : Option (List Line)) → is_none (option_map parted o) ≡ is_none o
+none_mapped None = refl
+none_mapped (Some s) = refl
+
+-- lines that are good, and lines that are not
+pub good_here : (all : List (List ℕ)) (n : ℕ) (o : Option Said) → option_map parted (good_lines (take n all)) ≡ o → is_bad_at all n ≡ is_none o
+good_here all n o e = sym (none_mapped (good_lines (take n all))) ∙ ap is_none e
 
 pub bad_here : (all : List (List ℕ)) (n : ℕ) → 1 ≤ n → n ≤ length all → ((j : ℕ) → 1 ≤ j → j < n → is_bad_at all j ≡ false)
-    → good_lines (take n all) ≡ None → first_bad all ≡ Some n
+    → option_map parted (good_lines (take n all)) ≡ None → first_bad all ≡ Some n
 unfolding first_bad
-bad_here all n low high before bad = first_of_here (is_bad_at all) 1 (length all) n low (omega arith) before (ap is_none bad)
+bad_here all n low high before bad = first_of_here (is_bad_at all) 1 (length all) n low (omega arith) before (good_here all n None bad)
 
 pub bad_nowhere : (all : List (List ℕ)) → ((j : ℕ) → 1 ≤ j → j ≤ length all → is_bad_at all j ≡ false) → first_bad all ≡ None
 unfolding first_bad

@@ -4,15 +4,11 @@ use Rattle.std.specs.List.{list_all}
 use Rattle.xet_store.specs.declared.limits.LimitSettings.{LimitSettings}
 use Rattle.xet_store_cli.specs.declared.words.Command.{Command}
 use Rattle.xet_store_cli.specs.declared.words.Command.TheVariants.{Pack}
-use Rattle.xet_store_cli.specs.Lines.{Line, files_of}
 use Rattle.xet_store_cli.specs.Outcome.{most_input}
 
 -- whether each file is as short as a source must be
-abbrev pub are_short_files : LimitSettings → List (List ℕ) → Bool
-are_short_files s files = list_all (λ bytes. nat_le (length bytes) s.max_source_bytes) files
-
-abbrev pub are_short : LimitSettings → List Line → Bool
-are_short s said = are_short_files s (files_of said)
+abbrev pub are_short : LimitSettings → List (List ℕ) → Bool
+are_short s files = list_all (λ bytes. nat_le (length bytes) s.max_source_bytes) files
 
 -- A source may be as long as the longest input.
 abbrev pub AllowsInput : Command → Type 0

@@ -6,3 +6,4 @@ pub mod Outcome
 pub mod Allowed
 pub mod Stops
 pub mod Stored
+pub mod Steps

@@ -1,15 +1,21 @@
 -- The lines of an input, and what they say. A line ends at an LF; a CR directly before that belongs
 -- to its end. The last LF may lack.
-use Rattle.std.specs.Prelude.{ℕ, nat_le, Bool, List, [], ◌∷◌, length, take, drop, codes, Option, Some, None, Result, Ok, Err, is_none, if◌then◌else◌, option_and_then}
+use Rattle.std.specs.Prelude.{ℕ, zero, suc, ◌==◌, ◌&&◌, nat_le, Bool, List, [], ◌∷◌, length, take, drop, codes, Option, Some, None, Result, Ok, Err, is_none, is_some, if◌then◌else◌, option_and_then}
+use Rattle.std.specs.List.{list_all}
 use Rattle.std.specs.Option.{option_map}
 use Rattle.std.specs.Str.{bytes_eq}
 use Rattle.hex.specs.Hex.{decode_of}
 use Rattle.hex.specs.declared.error.FromHexError.{FromHexError}
 use Rattle.xet_base.specs.Pieces.{first_of}
+use Rattle.xet_folder.specs.Plan.{range}
+use Rattle.xet_store_cli.specs.declared.lines.FileRange.{FileRange}
+use Rattle.xet_store_cli.specs.Words.{number_of}
 
 pub data Line : Type 0 where
   -- a file of these bytes
   FileLine : (bytes : List ℕ) → Line
+  -- a range of the bytes of one of the files
+  RangeLine : (range : FileRange) → Line
 
 abbrev pub decoded : Result (List ℕ) FromHexError → Option (List ℕ)
 decoded (Ok bytes) = Some bytes
@@ -23,8 +29,28 @@ file_bytes line =
     else if bytes_eq (take 5 line) (codes "file ") then decoded (decode_of (drop 5 line))
     else None
 
+abbrev pub range_by : Option ℕ → Option ℕ → Option ℕ → Option FileRange
+range_by (Some file) (Some from) (Some to) = Some (record { file = file; from = from; to = to })
+range_by _ _ _ = None
+
+-- four words: `range` and three numbers, of the file and of the first byte and that after the last
+abbrev pub range_of : List (List ℕ) → Option FileRange
+range_of (name ∷ file ∷ from ∷ to ∷ []) =
+    if bytes_eq name (codes "range") then range_by (number_of file) (number_of from) (number_of to) else None
+range_of _ = None
+
+-- the words of a line, between which stand single spaces
+abbrev pub and_byte : ℕ → List (List ℕ) → List (List ℕ)
+and_byte b [] = (b ∷ []) ∷ []
+and_byte b (word ∷ words) = (b ∷ word) ∷ words
+
+unfoldable pub words_of : List ℕ → List (List ℕ)
+words_of [] = [] ∷ []
+words_of (b ∷ bs) = if b == 32 then [] ∷ words_of bs else and_byte b (words_of bs)
+
+-- what a line says that is in form
 abbrev pub line_of : List ℕ → Option Line
-line_of line = option_map FileLine (file_bytes line)
+line_of line = elim (file_bytes line) [ Some bytes ↦ Some (FileLine bytes) | None ↦ option_map RangeLine (range_of (words_of line)) ]
 
 abbrev pub with_line : Option Line → Option (List Line) → Option (List Line)
 with_line None more = None
@@ -41,6 +67,13 @@ said ((b ∷ bs) ∷ lines) = with_line (line_of (b ∷ bs)) (said lines)
 abbrev pub files_of : List Line → List (List ℕ)
 files_of [] = []
 files_of (FileLine bytes ∷ lines) = bytes ∷ files_of lines
+files_of (RangeLine range ∷ lines) = files_of lines
+
+-- the ranges of the range lines, in order
+abbrev pub ranges_of : List Line → List FileRange
+ranges_of [] = []
+ranges_of (FileLine bytes ∷ lines) = ranges_of lines
+ranges_of (RangeLine range ∷ lines) = range ∷ ranges_of lines
 
 -- the greatest number of file lines
 abbrev pub most_files : ℕ
@@ -61,3 +94,22 @@ is_bad_at lines n = is_none (good_lines (take n lines))
 -- the number, from 1, of the first bad line: the least number of first lines that are not all good
 unfoldable pub first_bad : List (List ℕ) → Option ℕ
 first_bad lines = first_of (is_bad_at lines) 1 (length lines)
+
+-- the file of a number, counted from 1
+abbrev pub numbered : List (List ℕ) → ℕ → Option (List ℕ)
+numbered [] n = None
+numbered (file ∷ files) zero = None
+numbered (file ∷ files) (suc zero) = Some file
+numbered (file ∷ files) (suc (suc n)) = numbered files (suc n)
+
+abbrev pub bytes_in : ℕ → ℕ → List ℕ → Option (List ℕ)
+bytes_in from to bytes = if nat_le from to && nat_le to (length bytes) then Some (range bytes from to) else None
+
+-- The bytes of a range of these files: none where no file has its number, where it is reversed, or where
+-- it passes the file's end.
+unfoldable pub range_bytes : List (List ℕ) → FileRange → Option (List ℕ)
+range_bytes files r = option_and_then (bytes_in r.from r.to) (numbered files r.file)
+
+-- whether each range line names bytes of the file lines
+abbrev pub are_ranges : List Line → Bool
+are_ranges lines = list_all (λ r. is_some (range_bytes (files_of lines) r)) (ranges_of lines)

@@ -1,15 +1,19 @@
 -- How a run is to end, by its words and its input.
-use Rattle.std.specs.Prelude.{◌≡◌, ◌≢◌, ◌⊎◌, ℕ, ◌^◌, nat_lt, true, false, List, [], ◌∷◌, ◌++◌, length, take, codes, Option, Some, None, unwrap_or}
+use Rattle.std.specs.Prelude.{◌≡◌, ◌≢◌, ◌⊎◌, ℕ, ◌^◌, nat_lt, Bool, true, false, List, [], ◌∷◌, ◌++◌, length, map, take, codes, Option, Some, None, unwrap_or, if◌then◌else◌}
 use Rattle.std.specs.Str.Lines.{lines}
 use Rattle.std.specs.Fmt.{decimal}
 use Rattle.xet_io.specs.Disk.{Files}
 use Rattle.xet_store.specs.declared.limits.LimitSettings.{LimitSettings}
-use Rattle.xet_store.specs.Names.{FindsShardLike}
+use Rattle.xet_hash.specs.declared.error.StoreError.{StoreError}
+use Rattle.xet_folder.specs.Admission.{Admits, Refuses}
+use Rattle.xet_folder.specs.Shards.{ShardFile}
+use Rattle.xet_store.specs.Cut.{cut}
+use Rattle.xet_store.specs.Separate.{SeparateIn}
 use Rattle.xet_store_cli.specs.declared.words.Command.{Command}
 use Rattle.xet_store_cli.specs.declared.words.Command.TheVariants.{Pack}
 use Rattle.xet_store_cli.specs.Words.{command_of}
-use Rattle.xet_store_cli.specs.Lines.{Line, first_bad, good_lines}
-use Rattle.xet_store_cli.specs.Report.{report}
+use Rattle.xet_store_cli.specs.Lines.{Line, are_ranges, files_of, first_bad, good_lines}
+use Rattle.xet_store_cli.specs.Report.{IsReport}
 
 -- the status, and all that is printed
 pub record Outcome : Type 0 where
@@ -30,14 +34,18 @@ bad_line_text n = codes "bad line " ++ decimal n ++ 10 ∷ []
 abbrev pub lines_said : List (List ℕ) → List Line
 lines_said ls = unwrap_or (good_lines ls) []
 
--- How a command ends before its store is opened: where its input is too long, or at the first bad
--- line.
-abbrev pub at_first_bad : Option ℕ → Option Outcome
-at_first_bad None = None
-at_first_bad (Some n) = Some (outcome 3 (bad_line_text n))
+-- How a command ends before its store is opened: where its input is too long, at the first bad line, or
+-- where a range line names no bytes of the file lines.
+abbrev pub by_ranges : List Line → Option Outcome
+by_ranges lines = if are_ranges lines then None else Some (outcome 8 [])
+
+abbrev pub by_lines : Option ℕ → List Line → Option Outcome
+by_lines None lines = by_ranges lines
+by_lines (Some n) lines = Some (outcome 3 (bad_line_text n))
 
 unfoldable pub pack_early : List ℕ → Option Outcome
-pack_early input = elim (nat_lt most_input (length input)) [ true ↦ Some (outcome 9 []) | false ↦ at_first_bad (first_bad (lines input)) ]
+pack_early input =
+    elim (nat_lt most_input (length input)) [ true ↦ Some (outcome 9 []) | false ↦ by_lines (first_bad (lines input)) (lines_said (lines input)) ]
 
 abbrev pub early_outcome : Option Command → List ℕ → Option Outcome
 early_outcome None input = Some (outcome 2 [])
@@ -50,17 +58,23 @@ store_folder = codes "store"
 abbrev pub bad_shard_text : List ℕ → List ℕ
 bad_shard_text name = codes "bad shard " ++ name ++ 10 ∷ []
 
--- How a command ends after that, where a file of the folder ends as a shard's, or where none does.
-abbrev pub late_outcome : Option Command → List ℕ → Option (List ℕ) → Outcome
-late_outcome command input (Some name) = outcome 7 (bad_shard_text name)
-late_outcome None input None = outcome 2 []
-late_outcome (Some (Pack s)) input None = outcome 0 (report s (lines_said (lines input)))
+-- the chunks of the files of these lines
+abbrev pub cuts_of : LimitSettings → List Line → List (List (List ℕ))
+cuts_of s said = map (cut s) (files_of said)
 
--- How a run with a command over this input and a disk with these files is to end.
-pub data IsDue (command : Option Command) (input : List ℕ) (files : Files) (o : Outcome) : Type 0 where
-  early : early_outcome command input ≡ Some o → IsDue command input files o
-  late : (found : Option (List ℕ)) → early_outcome command input ≡ None → FindsShardLike files store_folder found
-      → o ≡ late_outcome command input found → IsDue command input files o
+-- A disk tells, and digests separate what stands in its folder and what these lines say.
+abbrev pub AreSeparate : Bool → Files → ℕ → LimitSettings → List Line → Type 0
+AreSeparate tells files now s said = (tells ≡ true) × SeparateIn files store_folder now (cuts_of s said)
+
+-- How a run with a command at a moment over this input and a disk with these files is to end, where they
+-- have then become those others. Past its input it is a report, where the folder is admitted; else it
+-- tells the shard with which the first check fails.
+pub data IsDue (command : Option Command) (input : List ℕ) (now : ℕ) (old new : Files) (o : Outcome) : Type 0 where
+  early : early_outcome command input ≡ Some o → IsDue command input now old new o
+  refused : early_outcome command input ≡ None → (e : StoreError) (name : List ℕ) → Refuses old store_folder now e name
+      → o ≡ outcome 7 (bad_shard_text name) → IsDue command input now old new o
+  admitted : early_outcome command input ≡ None → (s : LimitSettings) → command ≡ Some (Pack s) → (shards : List ShardFile) → Admits old store_folder now shards
+      → o.status ≡ 0 → IsReport (AreSeparate true new now s (lines_said (lines input))) s (lines_said (lines input)) o.text → IsDue command input now old new o
 
 -- A run is stopped where memory is wanting or where the input, the output or the disk fails.
 abbrev pub IsStopped : ℕ → Type 0
@@ -77,7 +91,7 @@ Ends o before after status =
 -- statuses that are due then.
 abbrev pub EndsEarly : Option Outcome → List ℕ → List ℕ → ℕ → Type 0
 EndsEarly (Some o) before after status = Ends o before after status
-EndsEarly None before after status = (status ≢ 3) × (status ≢ 9)
+EndsEarly None before after status = (status ≢ 3) × (status ≢ 8) × (status ≢ 9)
 
 -- How a command ends before its text is printed: as is due, or stopped with nothing to print.
 pub data Ended (Due : Outcome → Type 0) (e : Outcome) : Type 0 where
@@ -87,40 +101,45 @@ pub data Ended (Due : Outcome → Type 0) (e : Outcome) : Type 0 where
 -- How a command ends before its text is printed, by what is known before its store is opened.
 abbrev pub EndedEarly : Option Outcome → Outcome → Type 0
 EndedEarly (Some o) e = Ended (λ due. due ≡ o) e
-EndedEarly None e = (e.status ≢ 3) × (e.status ≢ 9)
+EndedEarly None e = (e.status ≢ 3) × (e.status ≢ 8) × (e.status ≢ 9)
 
--- A run over a disk with these files has ended as it is to; one that was stopped before it was known how
--- it is to end has written nothing.
-abbrev pub EndsOver : List (List ℕ) → List ℕ → Files → List ℕ → List ℕ → ℕ → Type 0
-EndsOver words input files before after status =
-    ((o : Outcome) × IsDue (command_of words) input files o × Ends o before after status)
+-- A run over a disk with these files, which have become those others, has ended as it is to; one that was
+-- stopped before it was known how it is to end has written nothing.
+abbrev pub EndsOver : List (List ℕ) → List ℕ → ℕ → Files → Files → List ℕ → List ℕ → ℕ → Type 0
+EndsOver words input now old new before after status =
+    ((o : Outcome) × IsDue (command_of words) input now old new o × Ends o before after status)
     ⊎ (IsStopped status × (after ≡ before))
 
--- Status 0 of `pack`: the words are that command, all lines are good, and the report of what they
--- say was written.
-pub record Reports (words : List (List ℕ)) (input before after : List ℕ) : Type 0 where
+-- Status 0 of `pack`: the words are that command, all lines are good, and a report of what they say was
+-- written.
+pub record Reports (words : List (List ℕ)) (input : List ℕ) (tells : Bool) (files : Files) (now : ℕ) (before after : List ℕ) : Type 0 where
   pub settings : LimitSettings
   pub said : List Line
   pub command : command_of words ≡ Some (Pack settings)
   pub good : good_lines (lines input) ≡ Some said
-  pub written : after ≡ before ++ report settings said
+  pub ranges_good : are_ranges said ≡ true
+  pub text : List ℕ
+  pub report : IsReport (AreSeparate tells files now settings said) settings said text
+  pub written : after ≡ before ++ text
 
--- The text is the report of what this input says to the command.
-pub record IsReportOf (command : Command) (input text : List ℕ) : Type 0 where
+-- The text is a report of what this input says to the command.
+pub record IsReportOf (command : Command) (input : List ℕ) (tells : Bool) (files : Files) (now : ℕ) (text : List ℕ) : Type 0 where
   pub settings : LimitSettings
   pub said : List Line
   pub is_pack : command ≡ Pack settings
   pub good : good_lines (lines input) ≡ Some said
-  pub reported : text ≡ report settings said
+  pub ranges_good : are_ranges said ≡ true
+  pub report : IsReport (AreSeparate tells files now settings said) settings said text
 
--- Words, input and disk give a run no cause to refuse: the words are `pack`, the input is not too long and its
--- lines are good, and no file of the folder ends as a shard's.
-pub record IsFaultless (words : List (List ℕ)) (input : List ℕ) (files : Files) : Type 0 where
+-- Words, input and disk give a run no cause to refuse: the words are `pack`, the input is not too long, its
+-- lines and ranges are good, and the folder is admitted.
+pub record IsFaultless (words : List (List ℕ)) (input : List ℕ) (now : ℕ) (files : Files) : Type 0 where
   pub settings : LimitSettings
   pub command : command_of words ≡ Some (Pack settings)
   pub lines_good : pack_early input ≡ None
-  pub folder : FindsShardLike files store_folder None
+  pub shards : List ShardFile
+  pub folder : Admits files store_folder now shards
 
 -- the statuses at which no file of the disk has changed
 abbrev pub IsIdle : ℕ → Type 0
-IsIdle status = (status ≡ 2) ⊎ (status ≡ 3) ⊎ (status ≡ 7)
+IsIdle status = (status ≡ 2) ⊎ (status ≡ 3) ⊎ (status ≡ 7) ⊎ (status ≡ 8)

@@ -1,24 +1,45 @@
--- What lines say, one more at a time.
-use Rattle.std.specs.Prelude.{◌≡◌, ℕ, List, [], ◌∷◌, ◌++◌, Option, Some, None, Result, Ok, Err}
+-- What lines say, one more at a time: the files and the ranges, each in order.
+use Rattle.std.specs.Prelude.{◌≡◌, ℕ, nat_lt, Bool, List, [], ◌∷◌, ◌++◌, length, Option, Some, None, is_some, Result, Ok, Err, if◌then◌else◌}
+use Rattle.std.specs.List.{list_all}
+use Rattle.std.specs.Option.{option_map}
 use Rattle.xet_store_cli.specs.declared.ending.Stop.{Stop}
-use Rattle.xet_store_cli.specs.declared.ending.Stop.TheVariants.{OutOfMemory, Input, TooLarge, BadLine, Disk, BadShard}
-use Rattle.xet_store_cli.specs.Lines.{Line, first_bad, good_lines, limited, line_of}
+use Rattle.xet_store_cli.specs.declared.ending.Stop.TheVariants.{OutOfMemory, BadLine}
+use Rattle.xet_store_cli.specs.declared.lines.FileRange.{FileRange}
+use Rattle.xet_store_cli.specs.Lines.{Line, files_of, first_bad, good_lines, line_of, most_files, range_bytes, ranges_of}
+use Rattle.xet_store_cli.specs.Lines.Line.{FileLine, RangeLine}
 
-abbrev pub and_line : List Line → Option Line → Option (List Line)
+pub record Said : Type 0 where
+  pub files : List (List ℕ)
+  pub ranges : List FileRange
+
+abbrev pub parted : List Line → Said
+parted lines = record { files = files_of lines; ranges = ranges_of lines }
+
+-- of all lines that say this
+abbrev pub ForLines : Said → (List Line → Type 0) → Type 0
+ForLines said P = (lines : List Line) → parted lines ≡ said → P lines
+
+-- whether each range names bytes of the files
+abbrev pub are_good : Said → Bool
+are_good said = list_all (λ r. is_some (range_bytes said.files r)) said.ranges
+
+abbrev pub and_file : Said → List ℕ → Option Said
+and_file said bytes =
+    if nat_lt (length said.files) most_files then Some (record { files = said.files ++ bytes ∷ []; ranges = said.ranges }) else None
+
+abbrev pub and_line : Said → Option Line → Option Said
 and_line said None = None
-and_line said (Some line) = limited (said ++ line ∷ [])
+and_line said (Some (FileLine bytes)) = and_file said bytes
+and_line said (Some (RangeLine range)) = Some (record { files = said.files; ranges = said.ranges ++ range ∷ [] })
 
 -- what good lines say with one line more, or none where it is bad
-abbrev pub with_next : List Line → List ℕ → Option (List Line)
+abbrev pub with_next : Said → List ℕ → Option Said
 with_next said [] = Some said
 with_next said (b ∷ bs) = and_line said (line_of (b ∷ bs))
 
 -- What the lines of an input say, or the number of the first bad one.
-abbrev pub Says : List (List ℕ) → Result (List Line) Stop → Type 0
-Says lines (Ok said) = (first_bad lines ≡ None) × (good_lines lines ≡ Some said)
+abbrev pub Says : List (List ℕ) → Result Said Stop → Type 0
+Says lines (Ok said) = (first_bad lines ≡ None) × (option_map parted (good_lines lines) ≡ Some said)
 Says lines (Err OutOfMemory) = Unit {0}
-Says lines (Err Input) = ⊥
-Says lines (Err TooLarge) = ⊥
-Says lines (Err Disk) = ⊥
-Says lines (Err (BadShard name)) = ⊥
 Says lines (Err (BadLine n)) = first_bad lines ≡ Some n
+Says lines (Err _) = ⊥

@@ -8,6 +8,7 @@ ghost use Rattle.xet_store_cli.specs.Stops.{answer_outcome};
 use std::alloc::{AllocError, AllocFailed, Global};
 use std::marker::Model;
 use xet_base::Text;
+use xet_hash::StoreError;
 use xet_io::{Refusal, Sink, Unread, write_all};
 
 /// Why a command stops before its report.
@@ -21,10 +22,14 @@ pub enum Stop {
     TooLarge,
     /// The line of this number, from 1, is the first bad one.
     BadLine(u64),
+    /// A range line names no bytes of the file lines.
+    BadRange,
     /// The disk failed.
     Disk,
-    /// The first file of the folder that ends as a shard's has this name.
+    /// The shard of this file name is the first that fails a check.
     BadShard(Text),
+    /// A stored xorb was other than when it was checked.
+    Malformed,
 }
 
 impl From<Unread> for Stop {
@@ -38,6 +43,22 @@ impl From<Unread> for Stop {
             Unread::OutOfMemory => Stop::OutOfMemory,
             Unread::Failed => Stop::Input,
             Unread::TooLong => Stop::TooLarge,
+        }
+    }
+}
+
+impl From<StoreError> for Stop {
+    ghost use Rattle.std.specs.Prelude.{◌≡◌};
+    ghost use Rattle.xet_store_cli.specs.Stops.{stop_of_error};
+
+    ghost from_gives = { λ error e. e ≡ stop_of_error error };
+
+    fn from(error: StoreError) -> Stop {
+        match error {
+            StoreError::Io(_) => Stop::Disk,
+            StoreError::TooLarge(_) => Stop::TooLarge,
+            StoreError::MalformedData(_) => Stop::Malformed,
+            _ => Stop::OutOfMemory,
         }
     }
 }
@@ -88,8 +109,14 @@ const DISK_FAILED: u8 = 6;
 /// The status of a run over a folder that can't be opened.
 const BAD_SHARD: u8 = 7;
 
+/// The status of a run whose input has a range line that names no bytes of its file lines.
+const BAD_RANGE: u8 = 8;
+
 /// The status of a run whose input is too long.
 const TOO_LARGE: u8 = 9;
+
+/// The status of a run over a disk on which a stored xorb changed by itself.
+const MALFORMED: u8 = 10;
 
 /// How a command ends: its status and all that it prints. Contracts see both.
 #[derive(Drop)]
@@ -128,7 +155,9 @@ impl Ending {
             Ok(text) => Ending { status: DONE, text },
             Err(Stop::OutOfMemory) => Ending::silent(alloc, OUT_OF_MEMORY),
             Err(Stop::Input) => Ending::silent(alloc, INPUT_FAILED),
+            Err(Stop::BadRange) => Ending::silent(alloc, BAD_RANGE),
             Err(Stop::TooLarge) => Ending::silent(alloc, TOO_LARGE),
+            Err(Stop::Malformed) => Ending::silent(alloc, MALFORMED),
             Err(Stop::Disk) => Ending::silent(alloc, DISK_FAILED),
             Err(Stop::BadLine(number)) => {
                 Ending::told(alloc, BAD_LINE, bad_line_text(alloc, number))

@@ -1,12 +1,14 @@
 //! The lines of an input.
 
-ghost use Rattle.std.specs.Prelude.{◌≡◌, ℕ, ◌<◌, ◌∷◌, List, length, IfOk, IsOkUnless, MatchBool, None, Some, IsTrue, ◌↔◌};
+ghost use Rattle.std.specs.Prelude.{◌≡◌, ℕ, ◌<◌, ◌∷◌, [], List, length, IfOk, IfNone, IfSome, IsOkUnless, MatchBool, None, Some, IsTrue, ◌↔◌};
 ghost use Rattle.std.specs.Option.{option_map};
 ghost use Rattle.std.specs.Str.Lines.{lines, strip_carriage_return};
-ghost use Rattle.xet_store_cli.specs.Lines.{file_bytes};
+ghost use Rattle.xet_store_cli.specs.Lines.{file_bytes, range_by, range_of, words_of};
 ghost use Rattle.xet_store_cli.specs.Parsing.{Says, with_next};
+ghost use Rattle.xet_store_cli.specs.Words.{number_of};
 
 use crate::ending::Stop;
+use crate::words::number_in;
 use hex::FromHexError;
 use memchr::memchr;
 use std::alloc::Global;
@@ -15,40 +17,77 @@ use std::marker::Model;
 /// The greatest number of file lines.
 const MOST_FILES: usize = 1;
 
-/// What the lines of an input say. Contracts see the lines.
+/// A range of the bytes of one of an input's files.
+#[derive(Clone, Copy, PartialEq, Eq, Debug)]
+pub struct FileRange {
+    /// The number of the file's line among the file lines, from 1.
+    pub file: u64,
+    /// The place of the first byte.
+    pub from: u64,
+    /// The place behind the last byte.
+    pub to: u64,
+}
+
+/// What the lines of an input say. Contracts see the files and the ranges, each in order.
 #[derive(Debug, Drop)]
 pub struct PackLines {
     files: Vec<Vec<u8>>,
+    ranges: Vec<FileRange>,
 }
 
 impl Model for PackLines {
-    ghost use Rattle.std.specs.Prelude.{List, map};
-    ghost use Rattle.xet_store_cli.specs.Lines.{Line};
-    ghost use Rattle.xet_store_cli.specs.Lines.Line.{FileLine};
+    ghost use Rattle.std.specs.Prelude.{map};
+    ghost use Rattle.xet_store_cli.specs.Parsing.{Said};
 
-    ghost Value = { List Line };
+    ghost Value = { Said };
 
-    ghost view = { λ p. map (λ f. FileLine f.items) p.files.items };
+    ghost view = { λ p. record { files = map (λ f. f.items) p.files.items; ranges = p.ranges.items } };
 }
 
 impl PackLines {
-    ghost use Rattle.std.specs.Prelude.{◌≡◌, ℕ, [], map, IfOk, IsOkUnless, MatchBool, None, Some};
-    ghost use Rattle.xet_store_cli.specs.Lines.{files_of};
-    ghost use Rattle.xet_store_cli.specs.Parsing.{with_next};
+    ghost use Rattle.std.specs.Prelude.{◌≡◌, ℕ, [], map, is_some, IfOk, IsOkUnless, MatchBool, None, Some};
+    ghost use Rattle.xet_store_cli.specs.Lines.{range_bytes};
+    ghost use Rattle.xet_store_cli.specs.Parsing.{and_file, are_good, parted, with_next};
 
     fn new(alloc: Global) -> PackLines
-        ensures { result ≡ [] }
+        ensures { result ≡ parted [] }
     {
         PackLines {
             files: Vec::new(alloc),
+            ranges: Vec::new(alloc),
         }
     }
 
     /// The bytes of the file lines, in order.
     pub fn files(&self) -> &[Vec<u8>]
-        ensures { map (λ f. f.items) result.now ≡ files_of self.now }
+        ensures { map (λ f. f.items) result.now ≡ self.now.files }
     {
         &self.files
+    }
+
+    /// The ranges of the range lines, in order.
+    pub fn ranges(&self) -> &[FileRange]
+        ensures { result.now ≡ self.now.ranges }
+    {
+        &self.ranges
+    }
+
+    /// Whether each range names bytes of the files.
+    pub fn are_good(&self) -> bool
+        ensures { result ≡ are_good self.now }
+    {
+        self.ranges.iter().all(|range| self.has(range))
+    }
+
+    /// Whether a range names bytes of the files.
+    fn has(&self, range: &FileRange) -> bool
+        ensures { result ≡ is_some (range_bytes self.now.files range.now) }
+    {
+        if range.file == 0 || range.file > self.files.len() as u64 {
+            return false;
+        }
+        let size = self.files[(range.file - 1) as usize].len() as u64;
+        range.from <= range.to && range.to <= size
     }
 
     /// Adds what one more line says. False where it is bad.
@@ -59,9 +98,23 @@ impl PackLines {
         if line.is_empty() {
             return Ok(true);
         }
-        let Some(bytes) = file_bytes(alloc, line)? else {
-            return Ok(false);
-        };
+        if let Some(bytes) = file_bytes(alloc, line)? {
+            return self.push_file(bytes);
+        }
+        match range_of(line) {
+            Some(range) => {
+                self.ranges.push(range)?;
+                Ok(true)
+            }
+            None => Ok(false),
+        }
+    }
+
+    /// Adds a file. False where it is one too many.
+    fn push_file(&mut self, bytes: Vec<u8>) -> Result<bool, Stop>
+        ensures good { IfOk result (λ good. MatchBool good (and_file self.old bytes.items ≡ Some self.new) (and_file self.old bytes.items ≡ None)) }
+        ensures memory { IsOkUnless result Stop.OutOfMemory }
+    {
         if self.files.len() >= MOST_FILES {
             return Ok(false);
         }
@@ -131,6 +184,39 @@ fn file_bytes(alloc: Global, line: &[u8]) -> Result<Option<Vec<u8>>, Stop>
             }
         }
     }
+}
+
+/// The range of a range line; none where the line is out of form.
+fn range_of(line: &[u8]) -> Option<FileRange>
+    ensures { result ≡ range_of (words_of line.now) }
+{
+    let (name, numbers) = first_word(line)?;
+    if name != b"range".as_slice() {
+        return None;
+    }
+    let (file, places) = first_word(numbers)?;
+    let (from, to) = first_word(places)?;
+    range_by(file, from, to)
+}
+
+/// The range of three numbers; none where a word is none.
+fn range_by(file: &[u8], from: &[u8], to: &[u8]) -> Option<FileRange>
+    ensures { result ≡ range_by (number_of file.now) (number_of from.now) (number_of to.now) }
+{
+    Some(FileRange {
+        file: number_in(file)?,
+        from: number_in(from)?,
+        to: number_in(to)?,
+    })
+}
+
+/// The word before the first space, and what follows that; none where there is no space.
+fn first_word(line: &[u8]) -> Option<(&[u8], &[u8])>
+    ensures found { IfSome result (λ found. words_of line.now ≡ found.0.now ∷ words_of found.1.now) }
+    ensures none { IfNone result (words_of line.now ≡ line.now ∷ []) }
+{
+    let end = memchr(b' ', line)?;
+    Some((&line[..end], &line[end + 1..]))
 }
 
 fn is_out_of_memory(error: &FromHexError) -> bool

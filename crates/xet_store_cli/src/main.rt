@@ -1,6 +1,6 @@
 //! The program: `pack TARGET GEAR` stores and reports the file that a line of standard input gives in
-//! hexadecimal. `run_program` is the whole of it, over any input, output and disk; `main` hands in
-//! the real ones.
+//! hexadecimal, and prints the ranges of it that other lines name. `run_program` is the whole of it, over
+//! any input, output and disk; `main` hands in the real ones.
 #![tactic(auto)]
 
 mod ending;
@@ -8,6 +8,7 @@ mod lines;
 mod pack;
 mod report;
 mod run;
+mod session;
 mod words;
 
 use run::run_program;

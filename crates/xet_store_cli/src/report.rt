@@ -2,7 +2,7 @@
 
 ghost use Rattle.std.specs.Prelude.{◌≡◌, ◌++◌, IfOk, OnOk, IsOkUnless, IsSome};
 ghost use Rattle.std.specs.List.{AllByRecursion, flat_map};
-ghost use Rattle.xet_store_cli.specs.Report.{info_line};
+ghost use Rattle.xet_store_cli.specs.Report.{bytes_line, info_line};
 
 use crate::ending::Stop;
 use std::alloc::Global;
@@ -25,7 +25,7 @@ fn push_info_line(alloc: Global, info: &XetFileInfo, text: &mut Vec<u8>) -> Resu
     ensures line { OnOk result (text.new.items ≡ text.old.items ++ info_line info.now) }
     ensures memory { IsOkUnless result Stop.OutOfMemory }
 {
-    let hash = info.hash.hex(alloc).map_err(|_| Stop::OutOfMemory)?;
+    let hash = info.hash.hex(alloc)?;
     let length = info.file_size;
     let sha256 = match &info.sha256 {
         Some(sha256) => hex::encode(alloc, sha256.as_bytes().as_slice())?,
@@ -34,4 +34,20 @@ fn push_info_line(alloc: Global, info: &XetFileInfo, text: &mut Vec<u8>) -> Resu
     let line = format!(in alloc; "{hash} {length} {sha256}\n")?;
     text.extend_from_slice(line.as_bytes())?;
     Ok(())
+}
+
+/// Adds the line of some bytes: in lower-case hexadecimal.
+pub fn push_bytes_line(bytes: &[u8], text: &mut Vec<u8>) -> Result<(), Stop>
+    ensures line { OnOk result (text.new.items ≡ text.old.items ++ bytes_line bytes.now) }
+    ensures memory { IsOkUnless result Stop.OutOfMemory }
+{
+    let start = text.len();
+    let Some(end) = start.checked_add(2 * bytes.len()) else {
+        return Err(Stop::OutOfMemory);
+    };
+    text.resize(end, b'0')?;
+    match hex::encode_to_slice(bytes, &mut text[start..]) {
+        Ok(()) => Ok(text.push(b'\n')?),
+        Err(_) => unreachable!(),
+    }
 }

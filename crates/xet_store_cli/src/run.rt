@@ -1,13 +1,13 @@
 //! The program as one call, over any input, output, disk and inputs.
 
-ghost use Rattle.std.specs.Prelude.{◌≡◌, ◌≢◌, ◌⊎◌, ◌↔◌, true, None, Some, [], List, ℕ, map, string_bytes, OnOk, IfErr, IfOk, IsErrOf};
+ghost use Rattle.std.specs.Prelude.{◌≡◌, ◌≢◌, ◌⊎◌, ◌↔◌, true, false, None, Some, [], List, ℕ, map, string_bytes, OnOk, IfErr, IfOk, IsErrOf};
 ghost use Rattle.std.specs.FinMap.{get};
 ghost use Rattle.xet_io.specs.Faults.{HasCause};
-ghost use Rattle.xet_store.specs.Names.{IsForeign};
+ghost use Rattle.xet_folder.specs.Names.{IsForeign};
 ghost use Rattle.xet_store_cli.specs.Outcome.{Ended, EndedEarly, EndsEarly, EndsOver, IsDue, IsFaultless, IsIdle, IsReportOf, IsStopped, Reports, early_outcome, store_folder};
 ghost use Rattle.xet_store_cli.specs.Allowed.{AllowsInput};
 ghost use Rattle.xet_store_cli.specs.Stops.{Answers, AnswersByInput, IsIdleStop};
-ghost use Rattle.xet_store_cli.specs.Stored.{HasStored, HasStoredBy};
+ghost use Rattle.xet_store_cli.specs.Stored.{HasRecorded, HasRecordedBy, HasStored, HasStoredBy, KeepsListed};
 ghost use Rattle.xet_store_cli.specs.Words.{command_of};
 
 use crate::ending::{Ending, Stop};
@@ -30,12 +30,14 @@ use xet_io::{Disk, Inputs, Sink, Source};
 /// | 2 | exactly where the words are no command |
 /// | 3 | exactly where the input has a bad line; it prints `bad line n` of the first, counted from 1 |
 /// | 4, 5, 6 | only where the input, the output, the disk failed in this call |
-/// | 7 | exactly where a file of the folder `store` ends in `.mdb`; it prints `bad shard NAME` of the first NAME |
+/// | 7 | exactly where the folder `store` is not admitted; it prints `bad shard NAME` of the first shard that fails a check |
+/// | 8 | exactly where a range line names no bytes of the file lines |
 /// | 9 | exactly where the input is longer than 2^31 bytes |
+/// | 10 | only over a disk that does not tell: a stored xorb was other than when it was checked |
 ///
-/// Of 2, 9, 3 and 7 the first that fits is due, and else 0. A run to which another status than 2 is due may be
-/// stopped by 1, 4, 5 or 6, with no more printed than a front of its text. What is said of an input, an output
-/// and a disk holds where they tell.
+/// Of 2, 9, 3, 8 and 7 the first that fits is due, and else 0. A run to which another status than 2 is due may
+/// be stopped by 1, 4, 5 or 6, with no more printed than a front of its text. What is said of an input, an
+/// output and a disk holds where they tell.
 pub fn run_program<I, O, D, F, R>(
     alloc: Global,
     rt: &R,
@@ -54,18 +56,22 @@ where
     R: Threads + Wait + Sync,
     ensures words { (result.1 ≡ 2) ↔ (command_of (map string_bytes words.now) ≡ None) }
     ensures outcome { I.tells input.old ≡ true → O.tells output.old ≡ true → D.tells disk ≡ true
-        → EndsOver (map string_bytes words.now) (I.left input.old) (D.files disk) (O.written output.old) (O.written output.new) result.1 }
+        → EndsOver (map string_bytes words.now) (I.left input.old) now (D.files disk) (D.files result.0) (O.written output.old) (O.written output.new) result.1 }
     ensures early { I.tells input.old ≡ true → O.tells output.old ≡ true
         → EndsEarly (early_outcome (command_of (map string_bytes words.now)) (I.left input.old)) (O.written output.old) (O.written output.new) result.1 }
     ensures complete { I.tells input.old ≡ true → O.tells output.old ≡ true → D.tells disk ≡ true
-        → IsFaultless (map string_bytes words.now) (I.left input.old) (D.files disk) → (result.1 ≡ 0) ⊎ IsStopped result.1 }
+        → IsFaultless (map string_bytes words.now) (I.left input.old) now (D.files disk) → (result.1 ≡ 0) ⊎ IsStopped result.1 }
     ensures report { I.tells input.old ≡ true → O.tells output.old ≡ true → result.1 ≡ 0
-        → Reports (map string_bytes words.now) (I.left input.old) (O.written output.old) (O.written output.new) }
+        → Reports (map string_bytes words.now) (I.left input.old) (D.tells disk) (D.files result.0) now (O.written output.old) (O.written output.new) }
     ensures read { I.tells input.old ≡ true → result.1 ≡ 0 → I.left input.new ≡ [] }
     ensures stored { I.tells input.old ≡ true → D.tells disk ≡ true → result.1 ≡ 0
         → HasStored (map string_bytes words.now) (I.left input.old) (D.files result.0) }
+    ensures recorded { I.tells input.old ≡ true → D.tells disk ≡ true → result.1 ≡ 0
+        → HasRecorded (map string_bytes words.now) (I.left input.old) now (D.files result.0) }
+    ensures listed { D.tells disk ≡ true → KeepsListed now (D.files disk) (D.files result.0) }
     ensures kept { D.tells disk ≡ true → IsIdle result.1 → D.files result.0 ≡ D.files disk }
     ensures foreign { D.tells disk ≡ true → (name : List ℕ) → IsForeign store_folder name → get (D.files result.0) name ≡ get (D.files disk) name }
+    ensures malformed { result.1 ≡ 10 → D.tells disk ≡ false }
     ensures input { HasCause (I.faults input.old) (I.faults input.new) (result.1 ≡ 4) }
     ensures output { HasCause (O.faults output.old) (O.faults output.new) (result.1 ≡ 5) }
     ensures disk { HasCause (D.faults disk) (D.faults result.0) (result.1 ≡ 6) }
@@ -90,14 +96,19 @@ fn run_command<I: Source, D: Disk + Send>(
     ensures words { (result.1.status ≡ 2) ↔ (command_of (map string_bytes words.now) ≡ None) }
     ensures silent { result.1.status ≡ 2 → result.1.text ≡ [] }
     ensures outcome { I.tells input.old ≡ true → D.tells disk ≡ true
-        → Ended (IsDue (command_of (map string_bytes words.now)) (I.left input.old) (D.files disk)) result.1 }
+        → Ended (IsDue (command_of (map string_bytes words.now)) (I.left input.old) now (D.files disk) (D.files result.0)) result.1 }
     ensures early { I.tells input.old ≡ true → EndedEarly (early_outcome (command_of (map string_bytes words.now)) (I.left input.old)) result.1 }
-    ensures report { I.tells input.old ≡ true → result.1.status ≡ 0 → Reports (map string_bytes words.now) (I.left input.old) [] result.1.text }
+    ensures report { I.tells input.old ≡ true → result.1.status ≡ 0
+        → Reports (map string_bytes words.now) (I.left input.old) (D.tells disk) (D.files result.0) now [] result.1.text }
     ensures read { I.tells input.old ≡ true → result.1.status ≡ 0 → I.left input.new ≡ [] }
     ensures stored { I.tells input.old ≡ true → D.tells disk ≡ true → result.1.status ≡ 0
         → HasStored (map string_bytes words.now) (I.left input.old) (D.files result.0) }
+    ensures recorded { I.tells input.old ≡ true → D.tells disk ≡ true → result.1.status ≡ 0
+        → HasRecorded (map string_bytes words.now) (I.left input.old) now (D.files result.0) }
+    ensures listed { D.tells disk ≡ true → KeepsListed now (D.files disk) (D.files result.0) }
     ensures kept { D.tells disk ≡ true → IsIdle result.1.status → D.files result.0 ≡ D.files disk }
     ensures foreign { D.tells disk ≡ true → (name : List ℕ) → IsForeign store_folder name → get (D.files result.0) name ≡ get (D.files disk) name }
+    ensures malformed { result.1.status ≡ 10 → D.tells disk ≡ false }
     ensures input { HasCause (I.faults input.old) (I.faults input.new) (result.1.status ≡ 4) }
     ensures output { result.1.status ≢ 5 }
     ensures disk { HasCause (D.faults disk) (D.faults result.0) (result.1.status ≡ 6) }
@@ -123,13 +134,17 @@ fn answer<I: Source, D: Disk + Send>(
 ) -> (D, Result<Vec<u8>, Stop>)
     requires { AllowsInput command.now }
     ensures answer { I.tells input.old ≡ true → D.tells disk ≡ true
-        → Answers (IsDue (Some command.now) (I.left input.old) (D.files disk)) result.1 }
+        → Answers (IsDue (Some command.now) (I.left input.old) now (D.files disk) (D.files result.0)) result.1 }
     ensures early { I.tells input.old ≡ true → AnswersByInput (early_outcome (Some command.now) (I.left input.old)) result.1 }
-    ensures report { I.tells input.old ≡ true → IfOk result.1 (λ text. IsReportOf command.now (I.left input.old) text.items) }
+    ensures report { I.tells input.old ≡ true
+        → IfOk result.1 (λ text. IsReportOf command.now (I.left input.old) (D.tells disk) (D.files result.0) now text.items) }
     ensures read { I.tells input.old ≡ true → OnOk result.1 (I.left input.new ≡ []) }
     ensures stored { I.tells input.old ≡ true → D.tells disk ≡ true → OnOk result.1 (HasStoredBy command.now (I.left input.old) (D.files result.0)) }
+    ensures recorded { I.tells input.old ≡ true → D.tells disk ≡ true → OnOk result.1 (HasRecordedBy command.now (I.left input.old) now (D.files result.0)) }
+    ensures listed { D.tells disk ≡ true → KeepsListed now (D.files disk) (D.files result.0) }
     ensures kept { D.tells disk ≡ true → IfErr result.1 (λ stop. IsIdleStop stop → D.files result.0 ≡ D.files disk) }
     ensures foreign { D.tells disk ≡ true → (name : List ℕ) → IsForeign store_folder name → get (D.files result.0) name ≡ get (D.files disk) name }
+    ensures malformed { IsErrOf result.1 Stop.Malformed → D.tells disk ≡ false }
     ensures input { HasCause (I.faults input.old) (I.faults input.new) (IsErrOf result.1 Stop.Input) }
     ensures disk { HasCause (D.faults disk) (D.faults result.0) (IsErrOf result.1 Stop.Disk) }
     ensures tells { I.tells input.new ≡ I.tells input.old }

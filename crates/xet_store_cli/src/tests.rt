@@ -63,7 +63,13 @@ fn lines_of_an_input(rt: HostRuntime) -> Result<(), Fail> {
         ("", "", 0),
         ("\n\n", "", 0),
         ("file 00\nfile 01\n", "bad line 2\n", 3),
-        ("file 00\n\n\nrange 1 0 0\n", "bad line 4\n", 3),
+        ("file 00\n\n\nrange 1 0\n", "bad line 4\n", 3),
+        ("range 1 0 0 \n", "bad line 1\n", 3),
+        ("range  1 0 0\n", "bad line 1\n", 3),
+        ("range 1 0 -0\n", "bad line 1\n", 3),
+        ("range 1 0 18446744073709551616\n", "bad line 1\n", 3),
+        ("Range 1 0 0\n", "bad line 1\n", 3),
+        ("range 1 0 0\nfile 0\n", "bad line 2\n", 3),
         ("fil\n", "bad line 1\n", 3),
         ("\nfile 0\n", "bad line 2\n", 3),
         ("file  00\n", "bad line 1\n", 3),
@@ -113,30 +119,134 @@ fn words_of_a_command(rt: HostRuntime) -> Result<(), Fail> {
 }
 
 #[test]
+fn ranges_of_a_file(rt: HostRuntime) -> Result<(), Fail> {
+    let alloc = rt.alloc();
+    let rows = [
+        ("file 616263\nrange 1 1 3\n", ABC, "6263\n", 0u8),
+        ("range 01 0 1\r\nfile 616263\nrange 1 3 3", ABC, "61\n\n", 0),
+        ("file\nrange 1 0 0\n", NOTHING, "\n", 0),
+        ("file 616263\nrange 1 3 2\n", "", "", 8),
+        ("file 616263\nrange 1 0 4\n", "", "", 8),
+        ("file 616263\nrange 2 0 0\n", "", "", 8),
+        ("file 616263\nrange 0 0 0\n", "", "", 8),
+        ("range 1 0 0\n", "", "", 8),
+    ];
+    for (input, line, ranges, status) in rows {
+        let disk = MemoryDisk::new(alloc);
+        let (mut disk, text, found) = run(&rt, alloc, "pack 512 zero", input, disk)?;
+        let mut due = String::from_str(alloc, line)?;
+        due.push_str(ranges)?;
+        assert_eq!(rt; text.as_str(), due.as_str(), "over {input:?}");
+        assert_eq!(rt; found, status, "over {input:?}");
+        let files = if line == ABC { 2usize } else { 0 };
+        assert_eq!(rt; disk.list(alloc, "store")?.len(), files, "over {input:?}");
+    }
+    Ok(())
+}
+
+/// The name of the one shard of the folder of a disk.
+fn shard_name(alloc: Global, disk: &mut MemoryDisk) -> Result<String, Fail> {
+    let mut found = String::new(alloc);
+    for entry in disk.list(alloc, "store")? {
+        let name = entry.name.as_str();
+        if name.ends_with(".mdb") {
+            found = String::from_str(alloc, name)?;
+        }
+    }
+    Ok(found)
+}
+
+/// The bytes of a file of the folder of a disk; none where it is not there.
+fn bytes_of(alloc: Global, disk: &MemoryDisk, name: &str) -> Result<Vec<u8>, Fail> {
+    let path = format!(in alloc; "store/{name}")?;
+    match disk.get(path.as_str()) {
+        Some(bytes) => Ok(Vec::from_slice(alloc, bytes)?),
+        None => Ok(Vec::new(alloc)),
+    }
+}
+
+/// The name of the xorb of `abc`, and a disk on which that file is stored.
+fn stored<R: Threads + Wait + Sync>(rt: &R, alloc: Global) -> Result<(String, MemoryDisk), Fail> {
+    let (disk, _, _) = run(rt, alloc, WORDS, INPUT, MemoryDisk::new(alloc))?;
+    let hash = compute_data_hash(b"abc").hex(alloc)?;
+    Ok((format!(in alloc; "{hash}.xorb")?, disk))
+}
+
+#[test]
 fn stores_what_it_reports(rt: HostRuntime) -> Result<(), Fail> {
     let alloc = rt.alloc();
-    let disk = MemoryDisk::new(alloc);
-    let (mut disk, _, status) = run(&rt, alloc, "pack 512 zero", "file 616263\n", disk)?;
-    assert_eq!(rt; status, 0);
-    assert_eq!(rt; disk.list(alloc, "store")?.len(), 1);
-    let hash = compute_data_hash(b"abc").hex(alloc)?;
-    let name = format!(in alloc; "store/{hash}.xorb")?;
-    assert_eq!(rt; disk.get(name.as_str()).map(|bytes| bytes.len()), Some(147));
-    let empty = MemoryDisk::new(alloc);
-    let (mut empty, _, status) = run(&rt, alloc, "pack 512 zero", "file\n", empty)?;
-    assert_eq!(rt; status, 0);
-    assert_eq!(rt; empty.list(alloc, "store")?.len(), 0);
+    let (xorb, mut disk) = stored(&rt, alloc)?;
+    assert_eq!(rt; disk.list(alloc, "store")?.len(), 2);
+    assert_eq!(rt; bytes_of(alloc, &disk, xorb.as_str())?.len(), 147);
+    let name = shard_name(alloc, &mut disk)?;
+    let shard = bytes_of(alloc, &disk, name.as_str())?;
+    let hash = compute_data_hash(&shard).hex(alloc)?;
+    let due = format!(in alloc; "{hash}.mdb")?;
+    assert_eq!(rt; name.as_str(), due.as_str());
     Ok(())
 }
 
 #[test]
-fn names_the_file_that_it_cannot_read(rt: HostRuntime) -> Result<(), Fail> {
+fn later_runs_keep_earlier_files(rt: HostRuntime) -> Result<(), Fail> {
+    let alloc = rt.alloc();
+    let (_, mut disk) = stored(&rt, alloc)?;
+    let name = shard_name(alloc, &mut disk)?;
+    let shard = bytes_of(alloc, &disk, name.as_str())?;
+    let rows = [("file 00\n", ONE_ZERO, 4usize), ("file 616263\n", ABC, 4)];
+    for (input, due, files) in rows {
+        let (next, text, status) = run(&rt, alloc, WORDS, input, disk)?;
+        disk = next;
+        assert_eq!(rt; text.as_str(), due, "over {input:?}");
+        assert_eq!(rt; status, 0, "over {input:?}");
+        assert_eq!(rt; disk.list(alloc, "store")?.len(), files, "over {input:?}");
+        assert_eq!(rt;
+            bytes_of(alloc, &disk, name.as_str())?.as_slice(),
+            shard.as_slice()
+        );
+    }
+    Ok(())
+}
+
+#[test]
+fn names_the_shard_that_fails_a_check(rt: HostRuntime) -> Result<(), Fail> {
+    let alloc = rt.alloc();
+    let zeros = "0000000000000000000000000000000000000000000000000000000000000000.mdb";
+    for copies in [false, true] {
+        let (xorb, mut disk) = stored(&rt, alloc)?;
+        let shard = shard_name(alloc, &mut disk)?;
+        let from = if copies {
+            shard.as_str()
+        } else {
+            xorb.as_str()
+        };
+        let mut bytes = bytes_of(alloc, &disk, from)?;
+        if !copies && let Some(byte) = bytes.get_mut(8) {
+            *byte ^= 1;
+        }
+        let to = if copies { zeros } else { xorb.as_str() };
+        let path = format!(in alloc; "store/{to}")?;
+        disk.write(path.as_str(), &bytes)?;
+        let (_, text, status) = run(&rt, alloc, WORDS, INPUT, disk)?;
+        let told = if copies { zeros } else { shard.as_str() };
+        let due = format!(in alloc; "bad shard {told}\n")?;
+        assert_eq!(rt; text.as_str(), due.as_str());
+        assert_eq!(rt; status, 7);
+    }
+    Ok(())
+}
+
+#[test]
+fn leaves_other_files_alone(rt: HostRuntime) -> Result<(), Fail> {
     let alloc = rt.alloc();
     let mut disk = MemoryDisk::new(alloc);
-    disk.write("store/x.mdb", b"")?;
-    let (_, text, status) = run(&rt, alloc, "pack 512 zero", "file 00\n", disk)?;
-    assert_eq!(rt; text.as_str(), "bad shard x.mdb\n");
-    assert_eq!(rt; status, 7);
+    disk.write("store/x.mdb", b"x")?;
+    let (disk, text, status) = run(&rt, alloc, WORDS, INPUT, disk)?;
+    assert_eq!(rt; text.as_str(), ABC);
+    assert_eq!(rt; status, 0);
+    assert_eq!(rt;
+        bytes_of(alloc, &disk, "x.mdb")?.as_slice(),
+        b"x".as_slice()
+    );
     Ok(())
 }
 
@@ -188,11 +298,11 @@ fn a_write_that_fails_is_status_5(rt: HostRuntime) -> Result<(), Fail> {
 #[test]
 fn a_disk_that_fails_is_status_6(rt: HostRuntime) -> Result<(), Fail> {
     let alloc = rt.alloc();
-    for op in [Op::List, Op::Write, Op::Sync, Op::Rename] {
+    for op in [Op::List, Op::Write, Op::Sync, Op::Rename, Op::ReadAt] {
         let mut fails = Vec::new(alloc);
         fails.push((op, 0))?;
         let disk = MemoryDisk::failing(alloc, fails);
-        let (disk, text, status) = run(&rt, alloc, WORDS, INPUT, disk)?;
+        let (disk, text, status) = run(&rt, alloc, WORDS, "file 616263\nrange 1 0 3\n", disk)?;
         assert_eq!(rt; status, 6, "at {op:?}");
         assert_eq!(rt; text.len(), 0, "at {op:?}");
         assert!(rt; runs_again(&rt, alloc, disk)?, "at {op:?}");

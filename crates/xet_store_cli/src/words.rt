@@ -104,6 +104,16 @@ fn number_of(word: &str) -> Option<u64>
     }
 }
 
+/// The same, of bytes.
+pub fn number_in(bytes: &[u8]) -> Option<u64>
+    ensures { result ≡ number_of bytes.now }
+{
+    match str::from_utf8(bytes) {
+        Ok(word) => number_of(word),
+        Err(_) => None,
+    }
+}
+
 /// Whether a word is 1 to 20 decimal digits.
 fn is_digits(word: &str) -> bool
     ensures { result ≡ is_digits word.now }

@@ -4,10 +4,11 @@ use Rattle.std.proofs.lemmas.Bool.{eqb-true}
 use Rattle.xet_hash.specs.Merkle.{xorb_hash}
 use Rattle.xet_xorb.specs.declared.chunk.Chunk.{Chunk}
 use Rattle.xet_xorb.specs.Chunks.{bytes_of, chunk_member, total}
+use Rattle.xet_shard.proofs.Holding.{all_more as all_push}
 use Rattle.xet_store.specs.declared.limits.LimitSettings.{LimitSettings}
 use Rattle.xet_shard.specs.declared.record.FileDataSequenceEntry.{FileDataSequenceEntry as Segment}
 use Rattle.xet_store.specs.Packing.{packs}
-use Rattle.xet_store.specs.Store.{IsListed}
+use Rattle.xet_folder.specs.Xorbs.{IsListed}
 use Rattle.xet_store.proofs.Keeping.{keeps_nothing, keeps_then}
 use Rattle.xet_store.proofs.Packing.{IsPackListed, Packed, all_drop, all_more, all_take, packed_all, packed_more, packed_none}
 use Rattle.xet_store.proofs.clean.add_xorbs.Goals as goal
@@ -19,7 +20,9 @@ xorbs-init g c =
     record {
       packed = subst (λ (plan : List Segment). Packed s.xorbs c.limits.result.now plan chunks chunks) (sym c.new-plan.ensures.items) (packed_none s.xorbs c.limits.result.now chunks);
       keeps = keeps_nothing s;
+      plain = subst (AllByRecursion (λ (x : Segment). x.xorb_flags ≡ 0)) (sym c.new-plan.ensures.items) tt;
       records = refl;
+      files = refl;
       digests = c.requires.digests;
       fit = subst (λ (l : LimitSettings). AllByRecursion (λ (x : Chunk). length x.bytes ≤ l.maximum_chunk) chunks) (sym c.limits.ensures) c.requires.fit;
     }
@@ -66,7 +69,9 @@ xorbs-preserved g c =
       packed = subst (λ (r : List Chunk). Packed new l c.push.new.self.items r chunks) {x = drop n rest} {y = tail} back
           (subst (λ (plan : List Segment). Packed new l plan (drop n rest) chunks) {x = c.xorbs.plan.items ++ segment ∷ []} {y = c.push.new.self.items} (sym {a = c.push.new.self.items} {b = c.xorbs.plan.items ++ segment ∷ []} c.in_ok-push.ensures.items) packed);
       keeps = keeps_then c.args.session.now c.xorbs.session c.add_xorb.new.self before.keeps c.add_xorb.ensures.keeps;
+      plain = subst (AllByRecursion (λ (x : Segment). x.xorb_flags ≡ 0)) (sym c.in_ok-push.ensures.items) (all_push (λ (x : Segment). x.xorb_flags ≡ 0) c.xorbs.plan.items segment before.plain (ap (λ (x : Segment). x.xorb_flags) c.whole_xorb.ensures));
       records = c.add_xorb.ensures.records ∙ before.records;
+      files = c.add_xorb.ensures.files ∙ before.files;
       digests = subst (AllByRecursion _) back (all_drop _ n rest before.digests);
       fit = subst (AllByRecursion _) back (all_drop _ n rest before.fit);
     }

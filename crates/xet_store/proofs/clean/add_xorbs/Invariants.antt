@@ -9,7 +9,9 @@ abbrev pub invariant-xorbs : goal.invariant-xorbs
 invariant-xorbs g l = record {
   packed : Packed l.session.xorbs l.limits l.plan.items l.rest l.chunks;
   keeps : Keeps l.fn.session l.session;
+  plain : AllByRecursion (λ s. s.xorb_flags ≡ 0) l.plan.items;
   records : l.session.records ≡ l.fn.session.records;
+  files : l.session.pending.files ≡ l.fn.session.pending.files;
   digests : AllByRecursion (λ c. c.hash ≡ chunk_hash c.bytes) l.rest;
   fit : AllByRecursion (λ c. length c.bytes ≤ l.limits.maximum_chunk) l.rest;
 }

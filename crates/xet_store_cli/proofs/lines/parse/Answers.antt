@@ -1,10 +1,12 @@
-use Rattle.std.proofs.Common.{◌≡◌, ◌∙◌, ◌+◌, ℕ, true, length, ap, sym, arith, refl, inl, inr, Some, is_none, take, List, [], ◌∷◌, eqb}
+use Rattle.std.proofs.Common.{◌≡◌, ◌∙◌, ◌+◌, ℕ, true, length, ap, sym, arith, refl, inl, inr, Some, take, List, [], ◌∷◌, eqb}
 use Rattle.std.proofs.lemmas.Bool.{cases_lt}
 use Rattle.std.proofs.lemmas.Bool.Decides.{nat_tests}
 use Rattle.std.proofs.lemmas.List.{take_all}
 use Rattle.std.specs.Str.Lines.{lines}
+use Rattle.std.specs.Option.{option_map}
 use Rattle.xet_store_cli.specs.Lines.{good_lines}
-use Rattle.xet_store_cli.proofs.Said.{good_none, good_more, bad_here, bad_nowhere, drop_next}
+use Rattle.xet_store_cli.specs.Parsing.{parted}
+use Rattle.xet_store_cli.proofs.Said.{good_none, good_more, good_here, bad_here, bad_nowhere, drop_next}
 use Rattle.xet_store_cli.proofs.lines.parse.Goals as goal
 
 nothing_left : (bs : List ℕ) → eqb (length bs) 0 ≡ true → bs ≡ []
@@ -46,7 +48,7 @@ lines-preserved c =
       before = λ j low high. elim (cases_lt j (c.lines.number + 1)) [
         | inl earlier ↦ i.before j low (omega arith)
         | inr here ↦
-            let e : j ≡ c.lines.number + 1 = omega arith in rw e (ap is_none said)
+            let e : j ≡ c.lines.number + 1 = omega arith in rw e (good_here all (c.lines.number + 1) _ said)
       ];
     }
 
@@ -57,4 +59,4 @@ returns c =
     let none : c.lines.rest.now ≡ [] = nothing_left c.lines.rest.now (sym c.is_empty.ensures ∙ c.lines-test.false) in
     let count : length (lines c.lines.rest.now) ≡ 0 = ap (λ (bs : List ℕ). length (lines bs)) none in
     let whole : take c.lines.number all ≡ all = take_all c.lines.number all (omega (arith, count)) in
-    (bad_nowhere all (λ j low high. i.before j low (omega (arith, count))), ap good_lines (sym whole) ∙ i.said)
+    (bad_nowhere all (λ j low high. i.before j low (omega (arith, count))), ap (λ (ls : List (List ℕ)). option_map parted (good_lines ls)) (sym whole) ∙ i.said)

@@ -1,20 +1,29 @@
-use Rattle.std.proofs.Common.{sym, subst, List, OnOk}
-use Rattle.xet_store_cli.specs.Lines.{Line}
-use Rattle.xet_store_cli.specs.Stored.{HasStoredBy, Stores}
-use Rattle.xet_store_cli.proofs.Outcomes.{by_input_early, by_input_late, due_late, said_of}
+use Rattle.std.proofs.Common.{Bool, IfOk, subst}
+use Rattle.std.proofs.lemmas.Result.{on_ok_weaker}
+use Rattle.std.specs.Str.Lines.{lines}
+use Rattle.xet_store_cli.specs.Outcome.{AreSeparate, lines_said}
+use Rattle.xet_store_cli.specs.Parsing.{ForLines}
+use Rattle.xet_store_cli.specs.Report.{IsReport}
+use Rattle.xet_store_cli.specs.Stored.{HasRecordedBy, HasStoredBy}
+use Rattle.xet_store_cli.proofs.Outcomes.{by_input_late, due_late}
 use Rattle.xet_store_cli.proofs.pack.pack.Goals as goal
 
 pub returns-in-Ok-clause-answer : goal.returns-in-Ok-clause-answer
-returns-in-Ok-clause-answer g c = λ told disk_told. due_late _ _ _ _ _ c.requires (c.in-Ok.ensures.answer told) (c.store_lines.ensures.answer disk_told)
+returns-in-Ok-clause-answer g c = λ told disk_told.
+    let s = c.args.limits.now in
+    let files = g.D.Disk.files c.store_lines.result.0 in
+    due_late s _ c.args.now _ files c.in-Ok.lines c.store_lines.result.1 c.requires (c.in-Ok.ensures.answer told) (c.store_lines.ensures.answer disk_told)
+    (subst (λ (t : Bool). IfOk c.store_lines.result.1 (λ text. ForLines c.in-Ok.lines (λ said. IsReport (AreSeparate t files c.args.now s said) s said text.items))) disk_told c.store_lines.ensures.report)
 
 pub returns-in-Ok-clause-stored : goal.returns-in-Ok-clause-stored
 unfolding HasStoredBy
 returns-in-Ok-clause-stored g c = λ told disk_told.
-    subst (λ (said : List Line). OnOk c.store_lines.result.1 (Stores c.args.limits.now said (g.D.Disk.files c.store_lines.result.0)))
-    (sym (said_of (g.I.Source.left c.args.input.now) c.in-Ok.lines (c.in-Ok.ensures.answer told).1)) (c.store_lines.ensures.stored disk_told)
+    on_ok_weaker c.store_lines.result.1 (λ all. all (lines_said (lines (g.I.Source.left c.args.input.now))) (c.in-Ok.ensures.answer told).parts) (c.store_lines.ensures.stored disk_told)
+
+pub returns-in-Ok-clause-recorded : goal.returns-in-Ok-clause-recorded
+unfolding HasRecordedBy
+returns-in-Ok-clause-recorded g c = λ told disk_told.
+    on_ok_weaker c.store_lines.result.1 (λ all. all (lines_said (lines (g.I.Source.left c.args.input.now))) (c.in-Ok.ensures.answer told).parts) (c.store_lines.ensures.recorded disk_told)
 
 pub returns-in-Ok-clause-early : goal.returns-in-Ok-clause-early
-returns-in-Ok-clause-early g c = λ told. by_input_late c.args.limits.now _ _ _ c.requires (c.in-Ok.ensures.answer told) c.store_lines.ensures.stop
-
-pub returns-in-Err-clause-early : goal.returns-in-Err-clause-early
-returns-in-Err-clause-early g c = λ told. by_input_early _ _ (c.in-Err.ensures.answer told)
+returns-in-Ok-clause-early g c = λ told. by_input_late _ c.args.limits.now _ _ _ c.requires (c.in-Ok.ensures.answer told) c.store_lines.ensures.stop

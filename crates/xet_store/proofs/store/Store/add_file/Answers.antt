@@ -1,32 +1,59 @@
-use Rattle.std.proofs.Common.{◌∙◌, ◌∷◌, [], map, IsSome, sym, subst, refl, rules}
-use Rattle.xet_store.specs.Cleaning.{Adds}
-use Rattle.xet_store.specs.Store.{State, IsRecord, found}
-use Rattle.xet_store.specs.Tables.{row_of}
-use Rattle.xet_store.proofs.Adding.{found_one, keeps_at, keeps_recorded, records_one, sound_recorded}
-use Rattle.xet_store.proofs.Tables.{absent, found_none, found_there, rows_inserted}
+use Rattle.std.proofs.Common.{◌≡◌, ◌∙◌, true, refl, sym, subst, rules, arith}
+use Rattle.xet_store.specs.Store.{IsNewFile, State}
+use Rattle.xet_store.proofs.Keeping.{keeps_nothing}
+use Rattle.xet_store.proofs.Pending.{few_files, file_form}
+use Rattle.xet_store.proofs.Recording.{adds_at, keeps_recorded_at, record_kept, record_pending, sound_recorded_at}
+use Rattle.xet_store.proofs.Rows.{absent_at, recorded_at}
+use Rattle.xet_store.proofs.Staying.{keeps_unchanged}
 use Rattle.xet_store.proofs.store.Store.add_file.Goals as goal
 
-pub returns-then-contains_key-clause-there : goal.returns-then-contains_key-clause-there
-returns-then-contains_key-clause-there g c =
-    subst (λ (s : State). IsSome (found s.records c.args.hash)) c.self.view_is
-    (found_there c.self.inside.records c.args.hash (sym c.if-contains_key.true ∙ c.contains_key.ensures))
+pub returns-then-contains_key-clause-keeps : goal.returns-then-contains_key-clause-keeps
+returns-then-contains_key-clause-keeps g c = keeps_nothing c.args.self.now
+
+pub returns-then-eq-clause-keeps : goal.returns-then-eq-clause-keeps
+returns-then-eq-clause-keeps g c = keeps_nothing c.args.self.now
+
+pub returns-in_err-plan-clause-keeps : goal.returns-in_err-plan-clause-keeps
+returns-in_err-plan-clause-keeps g c = keeps_nothing c.args.self.now
+
+pub returns-in_err-reserve-clause-keeps : goal.returns-in_err-reserve-clause-keeps
+returns-in_err-reserve-clause-keeps g c = keeps_unchanged _ _ c.self.invariant c.self.view_is refl c.reserve.ensures.entries refl refl
+
+pub add_file_reconstruction_info-requires-clause-form : goal.add_file_reconstruction_info-requires-clause-form
+add_file_reconstruction_info-requires-clause-form g c = file_form c.requires.members c.args.file c.requires.form c.requires.plain
+
+pub add_file_reconstruction_info-requires-clause-few : goal.add_file_reconstruction_info-requires-clause-few
+add_file_reconstruction_info-requires-clause-few g c =
+    let fits : c.has_room.result ≡ true = search rules in
+    few_files c.self.inside.pending c.requires.members c.args.file c.requires.form (omega (arith, c.has_room.ensures.0 fits, c.from.ensures))
+
+pub returns-in_err-add_file_reconstruction_info-clause-keeps : goal.returns-in_err-add_file_reconstruction_info-clause-keeps
+returns-in_err-add_file_reconstruction_info-clause-keeps g c =
+    keeps_unchanged _ _ c.self.invariant c.self.view_is refl c.reserve.ensures.entries refl c.in_err-add_file_reconstruction_info.ensures.kept
 
 pub invariant_of-self-2 : goal.invariant_of-self-2
 invariant_of-self-2 g c =
-    let none = absent c.self.inside.records c.args.hash (sym c.if-contains_key.false ∙ c.contains_key.ensures) in
-    let more = rows_inserted c.self.inside.records c.args.hash _ _ c.args.plan none refl c.in_ok-insert.ensures.entries in
-    sound_recorded _ _ _ more c.self.invariant (subst (λ (s : State). IsRecord s.xorbs (c.args.hash, c.args.plan.items)) (sym c.self.view_is) c.requires)
+    let none = absent_at c.self.inside.records _ _ c.hash-hash.ensures (sym c.if-contains_key.false ∙ c.contains_key.ensures) in
+    let more = recorded_at c.self.inside.records _ _ c.reserve.new.self.entries _ _ c.args.file.segments c.hash-hash.ensures (c.from_vec.ensures ∙ c.in_ok-plan.ensures.items ∙ c.as_slice.ensures) none c.reserve.ensures.entries c.in_ok-insert.ensures.entries in
+    sound_recorded_at _ c.args.file c.self.invariant none more c.in_ok-add_file_reconstruction_info.ensures.added (subst (λ (s : State). IsNewFile s.xorbs c.args.file) (sym c.self.view_is) c.requires) c.known.ensures
 
-pub returns : goal.returns
-returns g c =
-    let none = absent c.self.inside.records c.args.hash (sym c.if-contains_key.false ∙ c.contains_key.ensures) in
-    let more = rows_inserted c.self.inside.records c.args.hash _ _ c.args.plan none refl c.in_ok-insert.ensures.entries in
-    let unfound = found_none c.self.inside.records c.args.hash none in
-    record {
-      keeps = keeps_at _ _ _ c.self.view_is (keeps_recorded _ _ _ more);
-      there = found_one _ _ c.args.hash c.args.plan.items more unfound;
-      adds = subst (λ (s : State). Adds s.records (map row_of c.insert.new.self.entries) (c.args.hash ∷ [])) c.self.view_is
-          (records_one _ _ c.args.hash c.args.plan.items more unfound);
-      err = search rules;
-      memory = search rules;
-    }
+pub returns-clause-keeps : goal.returns-clause-keeps
+returns-clause-keeps g c =
+    let none = absent_at c.self.inside.records _ _ c.hash-hash.ensures (sym c.if-contains_key.false ∙ c.contains_key.ensures) in
+    let more = recorded_at c.self.inside.records _ _ c.reserve.new.self.entries _ _ c.args.file.segments c.hash-hash.ensures (c.from_vec.ensures ∙ c.in_ok-plan.ensures.items ∙ c.as_slice.ensures) none c.reserve.ensures.entries c.in_ok-insert.ensures.entries in
+    keeps_recorded_at _ c.args.file c.self.invariant none more c.in_ok-add_file_reconstruction_info.ensures.added _ c.self.view_is
+
+pub returns-clause-adds : goal.returns-clause-adds
+returns-clause-adds g c =
+    let none = absent_at c.self.inside.records _ _ c.hash-hash.ensures (sym c.if-contains_key.false ∙ c.contains_key.ensures) in
+    let more = recorded_at c.self.inside.records _ _ c.reserve.new.self.entries _ _ c.args.file.segments c.hash-hash.ensures (c.from_vec.ensures ∙ c.in_ok-plan.ensures.items ∙ c.as_slice.ensures) none c.reserve.ensures.entries c.in_ok-insert.ensures.entries in
+    adds_at _ c.args.file c.self.invariant none more c.in_ok-add_file_reconstruction_info.ensures.added _ c.self.view_is
+
+pub returns-then-contains_key-clause-pending : goal.returns-then-contains_key-clause-pending
+returns-then-contains_key-clause-pending g c =
+    record_kept _ _ c.self.invariant c.self.view_is c.args.file c.hash-hash.result c.hash-hash.ensures (sym c.contains_key.ensures ∙ c.if-contains_key.true)
+
+pub returns-clause-pending : goal.returns-clause-pending
+returns-clause-pending g c =
+    let none = absent_at c.self.inside.records _ _ c.hash-hash.ensures (sym c.if-contains_key.false ∙ c.contains_key.ensures) in
+    record_pending _ _ c.self.invariant c.self.view_is c.args.file _ none c.in_ok-add_file_reconstruction_info.ensures.added

@@ -1,67 +1,148 @@
-use Rattle.std.proofs.Common.{◌≡◌, ◌∙◌, ℕ, List, map, Some, None, sym, ap, subst, rules}
+use Rattle.std.proofs.Common.{◌≡◌, ◌∙◌, ℕ, List, length, map, Some, None, true, refl, sym, ap, subst, rules, arith}
 use Rattle.std.proofs.lemmas.List.Elements.{All-from_recursion}
 use Rattle.xet_io.specs.Disk.{bytes_at}
 use Rattle.xet_hash.specs.Merkle.{xorb_hash}
 use Rattle.xet_xorb.specs.Chunks.{chunk_member}
-use Rattle.xet_store.specs.Names.{xorb_name}
-use Rattle.xet_store.specs.Store.{State, Xorbs, IsBacked, found}
-use Rattle.xet_store.specs.Tables.{row_of}
-use Rattle.xet_store.proofs.Adding.{backed_by_text, keeps_added, keeps_at, keeps_refused, listed_new, put_of, same_members, sound_added, sound_refused, true_from}
-use Rattle.xet_store.proofs.Tables.{found_none, found_some, rows_inserted}
+use Rattle.xet_shard.specs.declared.record.MDBXorbInfo.{MDBXorbInfo}
+use Rattle.xet_shard.specs.Held.{held, with_last}
+use Rattle.xet_shard.specs.Records as record_of
+use Rattle.xet_folder.specs.Names.{xorb_path}
+use Rattle.xet_folder.specs.Stored.{IsBacked}
+use Rattle.xet_folder.specs.Xorbs.{found}
+use Rattle.xet_store.specs.Records.{xorb_record}
+use Rattle.xet_store.specs.Store.{State}
+use Rattle.xet_store.proofs.Adding.{backed_by_text, block_listed, block_pending, keeps_added_at, listed_at, same_members, sound_added_at, true_from}
+use Rattle.xet_store.proofs.Keeping.{keeps_nothing}
+use Rattle.xet_store.proofs.Pending.{few_blocks_of, xorb_form_of}
+use Rattle.xet_store.proofs.Rows.{recorded_at}
+use Rattle.xet_store.proofs.Staying.{keeps_refused, keeps_unchanged, sound_refused, stays_xorb}
 use Rattle.xet_store.proofs.store.Store.add_xorb.Goals as goal
+
+pub returns-in_err-members-clause-keeps : goal.returns-in_err-members-clause-keeps
+returns-in_err-members-clause-keeps g c = keeps_nothing c.args.self.now
+
+pub returns-in_err-hash-clause-keeps : goal.returns-in_err-hash-clause-keeps
+returns-in_err-hash-clause-keeps g c = keeps_nothing c.args.self.now
+
+pub returns-then-ne-clause-keeps : goal.returns-then-ne-clause-keeps
+returns-then-ne-clause-keeps g c = keeps_nothing c.args.self.now
+
+pub returns-in-Some-clause-keeps : goal.returns-in-Some-clause-keeps
+returns-in-Some-clause-keeps g c = keeps_nothing c.args.self.now
+
+pub returns-then-eq-clause-keeps : goal.returns-then-eq-clause-keeps
+returns-then-eq-clause-keeps g c = keeps_nothing c.args.self.now
+
+pub returns-in_err-block-clause-keeps : goal.returns-in_err-block-clause-keeps
+returns-in_err-block-clause-keeps g c = keeps_nothing c.args.self.now
+
+pub returns-in_err-text-clause-keeps : goal.returns-in_err-text-clause-keeps
+returns-in_err-text-clause-keeps g c = keeps_nothing c.args.self.now
 
 pub returns-in-Some-clause-listed : goal.returns-in-Some-clause-listed
 returns-in-Some-clause-listed g c =
     let h = c.in_ok-hash.hash in
     let is_hash : h ≡ xorb_hash (map chunk_member c.args.chunks.now) = c.in_ok-hash.ensures.hash ∙ ap xorb_hash (c.deref.ensures.value ∙ c.in_ok-members.ensures.members) in
-    let rows : map row_of c.self.inside.xorbs.entries ≡ c.args.self.now.xorbs = ap (λ (s : State). s.xorbs) c.self.view_is in
-    let there = found_some c.self.inside.xorbs h c.in-Some.listed.now c.in-Some.ensures.value in
     let same = same_members c.as_slice.result.now c.as_slice-in-Some.result.now (true_from _ (sym c.if-ne.false ∙ c.ne.ensures)) in
-    let members = sym c.as_slice.ensures.value ∙ same ∙ c.as_slice-in-Some.ensures.value ∙ c.in_ok-members.ensures.members in
-    (is_hash, ap (λ (l : Xorbs). found l h) (sym rows) ∙ there ∙ ap Some members)
+    let members = sym c.as_slice.ensures ∙ same ∙ c.as_slice-in-Some.ensures.value ∙ c.in_ok-members.ensures.members in
+    (is_hash, ap (λ (s : State). found s.xorbs h) (sym c.self.view_is) ∙ sym c.in-Some.ensures.value ∙ ap Some members)
+
+pub returns-in-Some-clause-pending : goal.returns-in-Some-clause-pending
+returns-in-Some-clause-pending g c =
+    let h = c.in_ok-hash.hash in
+    block_listed c.args.self.now h _ c.in-Some.listed.now (ap (λ (s : State). found s.xorbs h) (sym c.self.view_is) ∙ sym c.in-Some.ensures.value)
+
+pub returns-in_err-reserve-clause-keeps : goal.returns-in_err-reserve-clause-keeps
+returns-in_err-reserve-clause-keeps g c = keeps_unchanged _ _ c.self.invariant c.self.view_is c.reserve.ensures.entries refl refl refl
 
 pub invariant_of-self-in_err-put_xorb : goal.invariant_of-self-in_err-put_xorb
 invariant_of-self-in_err-put_xorb g c =
-    let put = put_of _ c.in_ok-hash.hash _ _ (g.D.Disk.files c.put_xorb.new.disk) (g.D.Disk.faults c.put_xorb.new.disk) c.as_str.ensures (found_none c.self.inside.xorbs c.in_ok-hash.hash c.in_default.ensures.value)
-    c.put_xorb.ensures.tells c.put_xorb.ensures.later c.put_xorb.ensures.others c.put_xorb.ensures.foreign in
-    sound_refused _ c.in_ok-hash.hash _ _ _ _ c.self.invariant put (ap (map row_of) c.reserve.ensures.entries)
+    let h = c.in_ok-hash.hash in
+    let files = g.D.Disk.files c.put_xorb.new.disk in
+    let faults = g.D.Disk.faults c.put_xorb.new.disk in
+    let none : found c.self.inside.xorbs.entries h ≡ None = sym c.in_default.ensures.value in
+    let stays = stays_xorb _ c.as_str.result.now h _ files faults c.self.invariant c.as_str.ensures c.put_xorb.ensures.tells c.put_xorb.ensures.later none
+    c.put_xorb.ensures.xorbs c.put_xorb.ensures.shards c.put_xorb.ensures.foreign in
+    sound_refused _ _ files faults stays c.self.invariant c.reserve.ensures.entries refl refl refl
 
 pub returns-in_err-put_xorb-clause-keeps : goal.returns-in_err-put_xorb-clause-keeps
 returns-in_err-put_xorb-clause-keeps g c =
-    keeps_at _ _ _ c.self.view_is
-    (keeps_refused _ c.in_ok-hash.hash _ (g.D.Disk.files c.put_xorb.new.disk) (g.D.Disk.faults c.put_xorb.new.disk) _ c.self.invariant
-    (put_of _ c.in_ok-hash.hash _ _ _ _ c.as_str.ensures (found_none c.self.inside.xorbs c.in_ok-hash.hash c.in_default.ensures.value)
-    c.put_xorb.ensures.tells c.put_xorb.ensures.later c.put_xorb.ensures.others c.put_xorb.ensures.foreign)
-    (ap (map row_of) c.reserve.ensures.entries))
+    let h = c.in_ok-hash.hash in
+    let files = g.D.Disk.files c.put_xorb.new.disk in
+    let faults = g.D.Disk.faults c.put_xorb.new.disk in
+    let none : found c.self.inside.xorbs.entries h ≡ None = sym c.in_default.ensures.value in
+    let stays = stays_xorb _ c.as_str.result.now h _ files faults c.self.invariant c.as_str.ensures c.put_xorb.ensures.tells c.put_xorb.ensures.later none
+    c.put_xorb.ensures.xorbs c.put_xorb.ensures.shards c.put_xorb.ensures.foreign in
+    keeps_refused _ _ files faults stays c.self.invariant _ c.self.view_is c.reserve.ensures.entries refl refl refl
+
+pub add_xorb_block-requires-clause-form : goal.add_xorb_block-requires-clause-form
+add_xorb_block-requires-clause-form g c = xorb_form_of _ _ _ c.in_ok-block.ensures.exact
+
+pub add_xorb_block-requires-clause-few : goal.add_xorb_block-requires-clause-few
+add_xorb_block-requires-clause-few g c =
+    let fits : c.has_room.result ≡ true = search rules in
+    let count : c.len.result ≡ length c.deref-2.result.now = omega (arith, c.len.ensures, c.in_ok-members.members.ok, ap length c.deref-2.ensures.value) in
+    few_blocks_of _ _ _ c.in_ok-block.ensures.exact c.self.inside.pending c.len.result count (omega (arith, c.has_room.ensures.0 fits))
+
+pub invariant_of-self-in_err-add_xorb_block : goal.invariant_of-self-in_err-add_xorb_block
+invariant_of-self-in_err-add_xorb_block g c =
+    let h = c.in_ok-hash.hash in
+    let files = g.D.Disk.files c.put_xorb.new.disk in
+    let faults = g.D.Disk.faults c.put_xorb.new.disk in
+    let none : found c.self.inside.xorbs.entries h ≡ None = sym c.in_default.ensures.value in
+    let stays = stays_xorb _ c.as_str.result.now h _ files faults c.self.invariant c.as_str.ensures c.put_xorb.ensures.tells c.put_xorb.ensures.later none
+    c.put_xorb.ensures.xorbs c.put_xorb.ensures.shards c.put_xorb.ensures.foreign in
+    sound_refused _ _ files faults stays c.self.invariant c.reserve.ensures.entries refl refl c.in_err-add_xorb_block.ensures.kept
+
+pub returns-in_err-add_xorb_block-clause-keeps : goal.returns-in_err-add_xorb_block-clause-keeps
+returns-in_err-add_xorb_block-clause-keeps g c =
+    let h = c.in_ok-hash.hash in
+    let files = g.D.Disk.files c.put_xorb.new.disk in
+    let faults = g.D.Disk.faults c.put_xorb.new.disk in
+    let none : found c.self.inside.xorbs.entries h ≡ None = sym c.in_default.ensures.value in
+    let stays = stays_xorb _ c.as_str.result.now h _ files faults c.self.invariant c.as_str.ensures c.put_xorb.ensures.tells c.put_xorb.ensures.later none
+    c.put_xorb.ensures.xorbs c.put_xorb.ensures.shards c.put_xorb.ensures.foreign in
+    keeps_refused _ _ files faults stays c.self.invariant _ c.self.view_is c.reserve.ensures.entries refl refl c.in_err-add_xorb_block.ensures.kept
 
 pub invariant_of-self-2 : goal.invariant_of-self-2
 invariant_of-self-2 g c =
     let h = c.in_ok-hash.hash in
-    let more = rows_inserted c.self.inside.xorbs h c.reserve.new.self.entries _ c.in_ok-members.members c.in_default.ensures.value c.reserve.ensures.entries c.in_ok-insert.ensures.entries in
-    sound_added _ h _ (g.D.Disk.files c.put_xorb.new.disk) (g.D.Disk.faults c.put_xorb.new.disk) _ c.self.invariant
-    (put_of _ h _ _ _ _ c.as_str.ensures (found_none c.self.inside.xorbs h c.in_default.ensures.value)
-    c.put_xorb.ensures.tells c.put_xorb.ensures.later c.put_xorb.ensures.others c.put_xorb.ensures.foreign)
-    c.in_ok-members.members.items more c.known_bytes.ensures.length c.known_bytes.ensures.bytes
+    let files = g.D.Disk.files c.put_xorb.new.disk in
+    let faults = g.D.Disk.faults c.put_xorb.new.disk in
+    let none : found c.self.inside.xorbs.entries h ≡ None = sym c.in_default.ensures.value in
+    let stays = stays_xorb _ c.as_str.result.now h _ files faults c.self.invariant c.as_str.ensures c.put_xorb.ensures.tells c.put_xorb.ensures.later none
+    c.put_xorb.ensures.xorbs c.put_xorb.ensures.shards c.put_xorb.ensures.foreign in
+    let members = c.in_ok-members.members.items in
+    let more = recorded_at c.self.inside.xorbs h h c.reserve.new.self.entries _ _ members refl c.from_vec.ensures none c.reserve.ensures.entries c.in_ok-insert.ensures.entries in
+    let exact = c.in_ok-block.ensures.exact ∙ ap (xorb_record h) c.deref-2.ensures.value in
+    let pending = c.in_ok-add_xorb_block.ensures.added ∙ ap (λ (b : MDBXorbInfo). held (with_last record_of.xorb_hash c.self.inside.pending.blocks b) c.self.inside.pending.files) exact in
+    sound_added_at _ h members _ files faults stays c.self.invariant more pending none (c.known_bytes.ensures.length, c.known_bytes.ensures.bytes) c.known.ensures
     (λ told.
     let is_hash : h ≡ xorb_hash (map chunk_member c.args.chunks.now) = c.in_ok-hash.ensures.hash ∙ ap xorb_hash (c.deref.ensures.value ∙ c.in_ok-members.ensures.members) in
-    let there = subst (λ (f : List ℕ). bytes_at (g.D.Disk.files c.put_xorb.new.disk) (xorb_name f h) ≡ Some c.deref-2.result.now) c.as_str.ensures (c.in_ok-put_xorb.ensures.there told) in
+    let there = subst (λ (f : List ℕ). bytes_at files (xorb_path f h) ≡ Some c.deref-3.result.now) c.as_str.ensures (c.in_ok-put_xorb.ensures.there told) in
     let text = c.in_ok-text.ensures.grammar (All-from_recursion _ c.args.chunks.now c.requires.digests) in
-    subst (λ (m : List (List ℕ × ℕ)). IsBacked (g.D.Disk.files c.put_xorb.new.disk) c.self.inside.folder h m) (sym c.in_ok-members.ensures.members)
-    (backed_by_text _ _ h c.in_ok-text.text.items c.args.chunks.now c.requires.digests c.requires.small text is_hash (there ∙ ap Some c.deref-2.ensures.value)))
+    subst (λ (m : List (List ℕ × ℕ)). IsBacked files c.self.inside.folder h m) (sym c.in_ok-members.ensures.members)
+    (backed_by_text _ _ h c.in_ok-text.text.items c.args.chunks.now c.requires.digests c.requires.small text is_hash (there ∙ ap Some c.deref-3.ensures.value)))
 
 pub returns : goal.returns
 returns g c =
     let h = c.in_ok-hash.hash in
+    let files = g.D.Disk.files c.put_xorb.new.disk in
+    let faults = g.D.Disk.faults c.put_xorb.new.disk in
+    let none : found c.self.inside.xorbs.entries h ≡ None = sym c.in_default.ensures.value in
+    let stays = stays_xorb _ c.as_str.result.now h _ files faults c.self.invariant c.as_str.ensures c.put_xorb.ensures.tells c.put_xorb.ensures.later none
+    c.put_xorb.ensures.xorbs c.put_xorb.ensures.shards c.put_xorb.ensures.foreign in
     let members = c.in_ok-members.members.items in
+    let more = recorded_at c.self.inside.xorbs h h c.reserve.new.self.entries _ _ members refl c.from_vec.ensures none c.reserve.ensures.entries c.in_ok-insert.ensures.entries in
+    let exact = c.in_ok-block.ensures.exact ∙ ap (xorb_record h) c.deref-2.ensures.value in
+    let pending = c.in_ok-add_xorb_block.ensures.added ∙ ap (λ (b : MDBXorbInfo). held (with_last record_of.xorb_hash c.self.inside.pending.blocks b) c.self.inside.pending.files) exact in
     let is_hash : h ≡ xorb_hash (map chunk_member c.args.chunks.now) = c.in_ok-hash.ensures.hash ∙ ap xorb_hash (c.deref.ensures.value ∙ c.in_ok-members.ensures.members) in
-    let none : found (map row_of c.self.inside.xorbs.entries) h ≡ None = found_none c.self.inside.xorbs h c.in_default.ensures.value in
-    let more = rows_inserted c.self.inside.xorbs h c.reserve.new.self.entries _ c.in_ok-members.members c.in_default.ensures.value c.reserve.ensures.entries c.in_ok-insert.ensures.entries in
     record {
-      keeps = keeps_at _ _ _ c.self.view_is
-          (keeps_added _ h _ (g.D.Disk.files c.put_xorb.new.disk) (g.D.Disk.faults c.put_xorb.new.disk) _ c.self.invariant
-          (put_of _ h _ _ _ _ c.as_str.ensures none c.put_xorb.ensures.tells c.put_xorb.ensures.later c.put_xorb.ensures.others c.put_xorb.ensures.foreign)
-          members more);
+      keeps = keeps_added_at _ h members _ files faults stays c.self.invariant more pending _ c.self.view_is;
       records = search rules;
-      listed = (is_hash, listed_new (map row_of c.self.inside.xorbs.entries) _ h members more none ∙ ap Some c.in_ok-members.ensures.members);
+      files = search rules;
+      listed = (is_hash, listed_at c.self.inside.xorbs.entries _ h members more none ∙ ap Some c.in_ok-members.ensures.members);
+      pending = block_pending _ _ c.self.invariant c.self.view_is h (map chunk_member c.args.chunks.now) _ none
+          (pending ∙ ap (λ (ms : List (List ℕ × ℕ)). held (with_last record_of.xorb_hash c.self.inside.pending.blocks (xorb_record h ms)) c.self.inside.pending.files) c.in_ok-members.ensures.members);
       reason = search rules;
     }

@@ -1,8 +1,7 @@
 use Rattle.std.proofs.Common.{◌≡◌, map}
 use Rattle.std.specs.Map.Iter.{deref_pair}
 use Rattle.xet_store.specs.Store.{files_of}
-use Rattle.xet_store.specs.Tables.{row_of}
 use Rattle.xet_store.proofs.store.Store.files.Given as goal
 
 abbrev pub invariant-loop-hash : goal.invariant-loop-hash
-invariant-loop-hash g l = l.files.items ≡ files_of (map row_of (map deref_pair l.yielded))
+invariant-loop-hash g l = l.files.items ≡ files_of (map deref_pair l.yielded)

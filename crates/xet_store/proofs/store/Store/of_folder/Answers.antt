@@ -1,6 +1,10 @@
-use Rattle.std.proofs.Common.{map, ap}
-use Rattle.xet_store.proofs.Adding.{sound_nothing}
+use Rattle.std.proofs.Common.{◌≡◌, sym}
+use Rattle.xet_folder.specs.declared.contents.Contents.{Contents}
+use Rattle.xet_store.proofs.Opened.{sound_opened}
 use Rattle.xet_store.proofs.store.Store.of_folder.Goals as goal
 
 pub invariant_of-result : goal.invariant_of-result
-invariant_of-result g c = sound_nothing _ (ap (map _) c.new-in-Ok.ensures.empty) (ap (map _) c.new-in-Ok-2.ensures.empty)
+invariant_of-result g c =
+    let same : ◌≡◌ {A = Contents} c.args.contents (record { shards = c.into_vec.result.items; xorbs = c.into_rows.result.entries; records = c.into_rows-2.result.entries })
+    = λ i. record { shards = sym c.into_vec.ensures i; xorbs = sym c.into_rows.ensures.rows i; records = sym c.into_rows-2.ensures i } in
+    sound_opened _ c.args.contents same c.new.ensures c.requires.backed c.requires.recorded c.requires.hashes c.into_rows.ensures.hashes c.requires.contents

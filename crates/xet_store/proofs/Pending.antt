@@ -1,0 +1,127 @@
+-- Records that are pending: their form, and the room that they take in a shard.
+use Rattle.std.proofs.Common.{◌≡◌, ◌∙◌, ℕ, ◌+◌, ◌*◌, ◌<◌, ◌≤◌, ◌^◌, Bool, true, false, cond, not, nat_eq, filter, List, [], ◌∷◌, ◌++◌, length, map, drop, Option, Some, None, option_map, is_some, refl, sym, ap, subst, arith}
+use Rattle.std.proofs.lemmas.List.{length-append, length-map}
+use Rattle.std.proofs.lemmas.List.Concat.{length-flat_map}
+use Rattle.std.proofs.lemmas.List.Sums.{sum_by-append, sum_by-cons}
+use Rattle.std.specs.Cmp.Lexicographic.{pointwise}
+use Rattle.std.specs.List.{AllByRecursion, flat_map, sum_by}
+use Rattle.xet_hash.specs.Merkle.{total_len}
+use Rattle.xet_shard.specs.declared.record.FileDataSequenceEntry.{FileDataSequenceEntry as Segment}
+use Rattle.xet_shard.specs.declared.record.FileMetadataExt.{FileMetadataExt}
+use Rattle.xet_shard.specs.declared.record.MDBFileInfo.{MDBFileInfo}
+use Rattle.xet_shard.specs.declared.record.MDBXorbInfo.{MDBXorbInfo}
+use Rattle.xet_shard.specs.declared.record.XorbChunkSequenceEntry.{XorbChunkSequenceEntry}
+use Rattle.xet_shard.specs.declared.row.Row.{Row}
+use Rattle.xet_shard.specs.Held.{Held, held_size, file_record_size, with_last, xorb_record_size}
+use Rattle.xet_shard.specs.Records.{IsFile, IsXorb, StartAt, chunk_bytes, chunk_row, end_row, ext_rows, file_hash, file_rows, file_section, flags_of, section, segment_row, verification_row, xorb_hash, xorb_rows, xorb_section}
+use Rattle.xet_folder.specs.Admission.{entry_member}
+use Rattle.xet_store.specs.Records.{IsRecordOf, entries_from, range_hashes, run_len, xorb_record}
+
+-- ---- the record of a xorb
+
+pub entries_members : (at : ℕ) (ms : List (List ℕ × ℕ)) → map entry_member (entries_from at ms) ≡ ms
+entries_members at [] = refl
+entries_members at (m ∷ ms) = ap (λ (l : List (List ℕ × ℕ)). m ∷ l) (entries_members (at + m.1) ms)
+
+pub entries_count : (at : ℕ) (ms : List (List ℕ × ℕ)) → length (entries_from at ms) ≡ length ms
+entries_count at [] = refl
+entries_count at (m ∷ ms) = omega (arith, entries_count (at + m.1) ms)
+
+entries_start : (at : ℕ) (ms : List (List ℕ × ℕ)) → StartAt at (entries_from at ms)
+entries_start at [] = tt
+entries_start at (m ∷ ms) = (refl, entries_start (at + m.1) ms)
+
+entries_bytes : (at : ℕ) (ms : List (List ℕ × ℕ)) → total_len ms ≡ chunk_bytes (entries_from at ms)
+entries_bytes at [] = refl
+entries_bytes at (m ∷ ms) =
+    let entry : XorbChunkSequenceEntry = record { chunk_hash = m.0; chunk_byte_range_start = at; unpacked_segment_bytes = m.1 } in
+    sum_by-cons (λ (n : List ℕ × ℕ). n.1) m ms ∙ ap (λ (n : ℕ). m.1 + n) (entries_bytes (at + m.1) ms) ∙ sym (sum_by-cons (λ (c : XorbChunkSequenceEntry). c.unpacked_segment_bytes) entry (entries_from (at + m.1) ms))
+
+pub xorb_form : (h : List ℕ) (ms : List (List ℕ × ℕ)) → IsXorb (xorb_record h ms)
+xorb_form h ms = record { counted = sym (entries_count 0 ms); plain = refl; starts = entries_start 0 ms; total = entries_bytes 0 ms; on_disk = refl }
+
+-- ---- the record of a file
+
+pub ranges_count : (plan : List Segment) (ms : List (List ℕ × ℕ)) → length (range_hashes plan ms) ≡ length plan
+ranges_count [] ms = refl
+ranges_count (s ∷ ss) ms = omega (arith, ranges_count ss (drop (run_len s) ms))
+
+some_mapped : {X Y : Type 0} (f : X → Y) (o : Option X) → is_some o ≡ is_some (option_map f o)
+some_mapped f None = refl
+some_mapped f (Some x) = refl
+
+pub file_form : (ms : List (List ℕ × ℕ)) (f : MDBFileInfo) → IsRecordOf ms f → AllByRecursion (λ s. s.xorb_flags ≡ 0) f.segments → IsFile f
+file_form ms f form plain = record {
+  counted = ap (λ (g : MDBFileInfo). g.metadata.num_entries) form.is;
+  plain = plain;
+  verified = true;
+  verifications = ap (λ (g : MDBFileInfo). length g.verification) form.is ∙ ranges_count f.segments ms;
+  flags = ap (λ (g : MDBFileInfo). g.metadata.file_flags) form.is ∙ ap (λ (b : Bool). flags_of true b) (some_mapped _ form.sha256 ∙ sym (ap (λ (g : MDBFileInfo). is_some g.metadata_ext) form.is));
+}
+
+-- ---- room
+
+module _ {X : Type 0} (rows : X → List Row) (size : X → ℕ) (each : (x : X) → 48 * length (rows x) ≤ size x) where
+  abbrev counts : X → ℕ
+  counts x = length (rows x)
+
+  filtered : (test : X → Bool) (xs : List X) → 48 * sum_by counts (filter test xs) ≤ sum_by size xs
+  filtered test [] = omega arith
+  filtered test (x ∷ xs) = go (test x) (filtered test xs)
+    where
+      go : (b : Bool) → 48 * sum_by counts (filter test xs) ≤ sum_by size xs → 48 * sum_by counts (cond b (x ∷ filter test xs) (filter test xs)) ≤ sum_by size (x ∷ xs)
+      go true later = omega (arith, later, each x, sum_by-cons counts x (filter test xs), sum_by-cons size x xs)
+      go false later = omega (arith, later, sum_by-cons size x xs)
+
+  -- a section with one record more, where the shard has room for its rows
+  few_rows : (hash : X → List ℕ) (xs : List X) (x : X) (n : ℕ) → counts x ≤ n → sum_by size xs + 48 * n < 2 ^ 37 → length (section rows (with_last hash xs x)) < 2 ^ 32
+  few_rows hash xs x n within room =
+      let test : X → Bool = λ y. not (pointwise nat_eq (hash y) (hash x)) in
+      let kept : List X = filter test xs in
+      let whole : List X = kept ++ x ∷ [] in
+      let count : length (section rows whole) ≡ length (flat_map rows whole) + 1 = length-append (flat_map rows whole) (end_row ∷ []) in
+      let sum : length (flat_map rows whole) ≡ sum_by counts whole = length-flat_map rows whole in
+      let parted : sum_by counts whole ≡ sum_by counts kept + sum_by counts (x ∷ []) = sum_by-append counts kept (x ∷ []) in
+      let last : sum_by counts (x ∷ []) ≡ counts x + 0 = sum_by-cons counts x [] in
+      let below : 48 * sum_by counts kept ≤ sum_by size xs = filtered test xs in
+      omega (arith, count, sum, parted, last, below, within, room)
+
+xorb_rows_size : (b : MDBXorbInfo) → 48 * length (xorb_rows b) ≤ xorb_record_size b
+xorb_rows_size b = omega arith
+
+file_rows_size : (f : MDBFileInfo) → 48 * length (file_rows f) ≤ file_record_size f
+file_rows_size f = omega arith
+
+-- the rows of a xorb's record, and those of a file's
+xorb_row_count : (h : List ℕ) (ms : List (List ℕ × ℕ)) → length (xorb_rows (xorb_record h ms)) ≡ 1 + length ms
+xorb_row_count h ms = omega (arith, length-map (entries_from 0 ms) chunk_row, entries_count 0 ms)
+
+few_ext : (o : Option FileMetadataExt) → length (ext_rows o) ≤ 1
+few_ext None = omega arith
+few_ext (Some m) = omega arith
+
+file_row_count : (f : MDBFileInfo) (n : ℕ) → length f.segments ≡ n → length f.verification ≡ n → length (file_rows f) ≤ 2 + 2 * n
+file_row_count f n segments verification =
+    let rest = length-append (map verification_row f.verification) (ext_rows f.metadata_ext) in
+    omega (arith, length-append (map segment_row f.segments) (map verification_row f.verification ++ ext_rows f.metadata_ext), rest, length-map f.segments segment_row, length-map f.verification verification_row, few_ext f.metadata_ext, segments, verification)
+
+pub few_blocks : (p : Held) (h : List ℕ) (ms : List (List ℕ × ℕ)) → held_size p + 48 * (1 + length ms) < 2 ^ 37 → length (xorb_section (with_last xorb_hash p.blocks (xorb_record h ms))) < 2 ^ 32
+few_blocks p h ms room =
+    let rows : length (xorb_rows (xorb_record h ms)) ≤ 1 + length ms = omega (arith, xorb_row_count h ms) in
+    few_rows xorb_rows xorb_record_size xorb_rows_size xorb_hash p.blocks (xorb_record h ms) (1 + length ms) rows (omega (arith, room))
+
+-- the same of a record that is equal to it
+module _ (b : MDBXorbInfo) (h : List ℕ) (ms : List (List ℕ × ℕ)) (exact : b ≡ xorb_record h ms) where
+  pub xorb_form_of : IsXorb b
+  xorb_form_of = subst IsXorb (sym exact) (xorb_form h ms)
+
+  pub few_blocks_of : (p : Held) (n : ℕ) → n ≡ length ms → held_size p + 48 * (1 + n) < 2 ^ 37 → length (xorb_section (with_last xorb_hash p.blocks b)) < 2 ^ 32
+  few_blocks_of p n count room =
+      subst (λ (x : MDBXorbInfo). length (xorb_section (with_last xorb_hash p.blocks x)) < 2 ^ 32) (sym exact) (few_blocks p h ms (omega (arith, count, room)))
+
+pub few_files : (p : Held) (ms : List (List ℕ × ℕ)) (f : MDBFileInfo) → IsRecordOf ms f → held_size p + 48 * (2 + 2 * f.metadata.num_entries) < 2 ^ 37 → length (file_section (with_last file_hash p.files f)) < 2 ^ 32
+few_files p ms f form room =
+    let n : ℕ = f.metadata.num_entries in
+    let segments : length f.segments ≡ n = sym (ap (λ (g : MDBFileInfo). g.metadata.num_entries) form.is) in
+    let verification : length f.verification ≡ n = ap (λ (g : MDBFileInfo). length g.verification) form.is ∙ ranges_count f.segments ms ∙ segments in
+    few_rows file_rows file_record_size file_rows_size file_hash p.files f (2 + 2 * n) (file_row_count f n segments verification) (omega (arith, room))

@@ -1,0 +1,215 @@
+-- What a session shows of its disk.
+use Rattle.std.proofs.Common.{◌≡◌, ◌≢◌, ◌⊎◌, inl, inr, ◌∙◌, ℕ, Bool, true, false, List, [], ◌∷◌, length, Option, Some, IsSome, refl, sym, ap, subst, nat_eq}
+use Rattle.std.specs.Cmp.Lexicographic.{pointwise}
+use Rattle.std.specs.List.{IsAmong, concat}
+use Rattle.xet_io.specs.Disk.{Files, bytes_at, file_at}
+use Rattle.xet_hash.specs.Hash.{zero_hash}
+use Rattle.xet_hash.specs.Merkle.{chunk_hash, file_hash, members_of, xorb_hash}
+use Rattle.xet_shard.specs.declared.record.FileDataSequenceEntry.{FileDataSequenceEntry as Segment}
+use Rattle.xet_shard.specs.declared.record.MDBFileInfo.{MDBFileInfo}
+use Rattle.xet_shard.specs.Held.{Held, nothing}
+use Rattle.xet_shard.specs.Records as record_of
+use Rattle.xet_folder.proofs.Agreeing.{joins_once, stored_once}
+use Rattle.xet_folder.proofs.Rest.{among_map}
+use Rattle.xet_folder.specs.Checks.{OfBytes}
+use Rattle.xet_folder.specs.Contents.{HasContents, IsRecord}
+use Rattle.xet_folder.specs.Listed.{JoinsTo, Lists}
+use Rattle.xet_folder.specs.Names.{shard_path, xorb_path}
+use Rattle.xet_folder.specs.Plan.{Joins, range}
+use Rattle.xet_folder.specs.Shards.{ShardFile}
+use Rattle.xet_folder.specs.Stored.{IsBacked, IsStored}
+use Rattle.xet_folder.specs.Xorbs.{IsListed, Records, found}
+use Rattle.xet_store.specs.Cleaning.{HasFile, Keeps}
+use Rattle.xet_store.specs.Opening.{contents_of}
+use Rattle.xet_store.specs.Ranges.{IsRange}
+use Rattle.xet_store.specs.Separate.{Among, Apart, MetBacked, MetChunk, MetFile, MetListed, MetStored, MetXorb, Separate, SeparateIn}
+use Rattle.xet_store.specs.Store.{State, IsKept, IsPending, Sound, plan_of}
+use Rattle.xet_store.proofs.Rows.{from_among, is_some_found, to_among}
+use Rattle.xet_store.proofs.Staying.{all_among}
+use Rattle.xet_store.proofs.Whole.{found_has, same_key}
+
+-- ---- plans
+
+module _ {X : Type 0} (P : List ℕ → List X → Type 0) (len : X → ℕ) where
+  -- A plan joins as well where another relation has what the first has of each xorb that it names.
+  joins_named : (Q : List ℕ → List X → Type 0) (plan : List Segment) (out : List X) → ((s : Segment) → Among plan s → (xs : List X) → P s.xorb_hash xs → Q s.xorb_hash xs)
+      → Joins P len plan out → Joins Q len plan out
+  joins_named Q [] out all j = j
+  joins_named Q (s ∷ ss) out all (xs, rest, has, lies, parts, more) =
+      (xs, rest, all s (inl refl) xs has, lies, parts, joins_named Q ss rest (λ t a. all t (inr a)) more)
+
+  -- the elements of a xorb that a plan names
+  joins_has : (plan : List Segment) (out : List X) (s : Segment) → Joins P len plan out → Among plan s → (xs : List X) × P s.xorb_hash xs
+  joins_has [] out s j a = absurd a
+  joins_has (t ∷ ts) out s (xs, rest, has, lies, parts, more) (inl is) = (xs, subst (λ (u : Segment). P u.xorb_hash xs) is has)
+  joins_has (t ∷ ts) out s (xs, rest, has, lies, parts, more) (inr a) = joins_has ts rest s more a
+
+-- a plan is recorded, or it is the empty file's
+plan_either : (records : Records) (h : List ℕ) (plan : List Segment) → plan_of records h ≡ Some plan → ((h ≡ zero_hash) × (plan ≡ [])) ⊎ (found records h ≡ Some plan)
+unfolding plan_of
+plan_either records h plan e = by_cases (pointwise nat_eq h zero_hash) refl
+  where
+    by_cases : (b : Bool) → pointwise nat_eq h zero_hash ≡ b → ((h ≡ zero_hash) × (plan ≡ [])) ⊎ (found records h ≡ Some plan)
+    by_cases true t =
+        let empty : plan_of records h ≡ Some [] = rw (t, plan_of) refl in
+        let same : ◌≡◌ {A = Option (List Segment)} (Some plan) (Some []) = sym e ∙ empty in inl (same_key h zero_hash t, cc same)
+    by_cases false t =
+        let there : plan_of records h ≡ found records h = rw (t, plan_of) refl in inr (sym there ∙ e)
+
+-- Each xorb that a plan of a sound store names is listed.
+module _ (s : State) (sound : Sound s) where
+  record_listed : (h : List ℕ) (plan : List Segment) → found s.records h ≡ Some plan → (t : Segment) → Among plan t → IsSome (found s.xorbs t.xorb_hash)
+  record_listed h plan e t a =
+      let r = found_has (IsRecord s.xorbs) s.records h plan sound.recorded e in
+      let listed = joins_has (IsListed s.xorbs) (λ (m : List ℕ × ℕ). m.1) plan r.members t r.joins a in
+      is_some_found s.xorbs t.xorb_hash listed.0 listed.1
+
+  plan_listed : (h : List ℕ) (plan : List Segment) → plan_of s.records h ≡ Some plan → (t : Segment) → Among plan t → IsSome (found s.xorbs t.xorb_hash)
+  plan_listed h plan e t a = go (plan_either s.records h plan e)
+    where
+      go : ((h ≡ zero_hash) × (plan ≡ [])) ⊎ (found s.records h ≡ Some plan) → IsSome (found s.xorbs t.xorb_hash)
+      go (inl empty) = absurd (subst (λ (l : List Segment). Among l t) empty.1 a)
+      go (inr there) = record_listed h plan there t a
+
+-- ---- a disk that has changed
+
+module _ (old new : Files) (folder : List ℕ) where
+  -- a xorb whose bytes are the same is stored with the same chunks
+  stored_same : (h : List ℕ) (chunks : List (List ℕ)) → bytes_at new (xorb_path folder h) ≡ bytes_at old (xorb_path folder h) → IsStored old folder h chunks → IsStored new folder h chunks
+  stored_same h chunks same s = record { bytes = s.bytes; there = same ∙ s.there; text = s.text; readable = s.readable; hash = s.hash }
+
+  -- a file is listed by a shard whose file is the same
+  lists_same : (now : ℕ) (f : MDBFileInfo) (l : Lists old folder now f) → file_at new (shard_path folder l.shard.hash) ≡ file_at old (shard_path folder l.shard.hash) → Lists new folder now f
+  lists_same now f l same = record {
+    shard = l.shard;
+    there = record { named = l.there.named; there = same ∙ l.there.there };
+    valid = l.valid;
+    parts = l.parts;
+    read = l.read;
+    among = l.among;
+  }
+
+-- ---- what was there when the folder was opened
+
+module _ (old new : State) (told : old.tells ≡ true) (contents : HasContents old.files old.folder old.opened (contents_of old)) (keeps : Keeps old new) (f : MDBFileInfo)
+    (l : Lists old.files old.folder old.opened f) where
+  -- the shard that lists it
+  registered : IsAmong contents.shards l.shard
+  registered = contents.admits.registers.all l.shard l.there l.valid
+
+  shard_among : Among old.shards l.shard.hash
+  shard_among =
+      let r = registered in
+      to_among old.shards l.shard.hash
+      (subst (λ (hs : List (List ℕ)). IsAmong hs l.shard.hash) (sym contents.contents.registered) (among_map contents.shards r.0 l.shard r.1.0 r.1.1 (λ (s : ShardFile). s.hash)))
+
+  -- Each file that was listed when the folder was opened is listed still.
+  pub listed_stay : Lists new.files old.folder old.opened f
+  listed_stay = lists_same old.files new.files old.folder old.opened f l (all_among (λ h. file_at new.files (shard_path old.folder h) ≡ file_at old.files (shard_path old.folder h)) old.shards l.shard.hash (keeps.shard_files told) shard_among)
+
+  -- each xorb that it names was read
+  named_listed : (s : Segment) → Among f.segments s → IsSome (found old.xorbs s.xorb_hash)
+  named_listed s a =
+      let r = registered in
+      let i = from_among f.segments s a in
+      let named : OfBytes l.shard.file.bytes s.xorb_hash = (l.parts, l.read, inr (f, l.among, among_map f.segments i.0 s i.1.0 i.1.1 (λ (t : Segment). t.xorb_hash))) in
+      (contents.contents.named s.xorb_hash).1 (r.0, l.shard, r.1.0, sym r.1.1, named)
+
+  -- and it joins to the same chunks
+  pub joins_stay : (chunks : List (List ℕ)) → JoinsTo old.files old.folder f chunks → JoinsTo new.files old.folder f chunks
+  joins_stay chunks j = joins_named (IsStored old.files old.folder) length (IsStored new.files old.folder) f.segments chunks
+      (λ s a c stored. stored_same old.files new.files old.folder s.xorb_hash c (keeps.texts told s.xorb_hash (named_listed s a)) stored) j
+
+-- ---- what a session that keeps shows
+
+-- What is apart is, where less is met.
+apart_less : {X : Type 0} (digest : X → List ℕ) (Met Less : X → Type 0) → ((x : X) → Less x → Met x) → Apart digest Met → Apart digest Less
+apart_less digest Met Less met apart = record {
+  same = λ x y a b e. apart.same x y (met x a) (met y b) e;
+  not_zero = λ x a. apart.not_zero x (met x a);
+  not_marker = λ x a. apart.not_marker x (met x a);
+}
+
+module _ (before after : State) (told : before.tells ≡ true) where
+  -- a listed xorb stays stored
+  stored_stays : Keeps before after → (h : List ℕ) (chunks : List (List ℕ)) → IsSome (found before.xorbs h) → IsStored before.files before.folder h chunks → IsStored after.files after.folder h chunks
+  stored_stays keeps h chunks listed stored = subst (λ (folder : List ℕ). IsStored after.files folder h chunks) (sym keeps.folder)
+      (stored_same before.files after.files before.folder h chunks (keeps.texts told h listed) stored)
+
+  backed_stays : Sound before → Keeps before after → (h : List ℕ) (members : List (List ℕ × ℕ)) → IsListed before.xorbs h members → IsBacked after.files after.folder h members
+  backed_stays sound keeps h members listed =
+      let b = sound.backed told h members listed in
+      record { chunks = b.chunks; stored = stored_stays keeps h b.chunks (is_some_found before.xorbs h members listed) b.stored; same = b.same }
+
+  -- what a plan joins to stays
+  plan_stays : Sound before → Keeps before after → (h : List ℕ) (plan : List Segment) → plan_of before.records h ≡ Some plan → (chunks : List (List ℕ))
+      → Joins (IsStored before.files before.folder) length plan chunks → Joins (IsStored after.files after.folder) length plan chunks
+  plan_stays sound keeps h plan planned chunks j = joins_named (IsStored before.files before.folder) length (IsStored after.files after.folder) plan chunks
+      (λ s a c stored. stored_stays keeps s.xorb_hash c (plan_listed before sound h plan planned s a) stored) j
+
+  -- A session that has a file has it after the flush.
+  pub has_file_stays : Sound before → Keeps before after → after.records ≡ before.records → (chunks : List (List ℕ)) → HasFile before chunks → HasFile after chunks
+  has_file_stays sound keeps same chunks (plan, planned, joins) =
+      (plan, ap (λ (rs : Records). plan_of rs (file_hash (members_of chunks))) same ∙ planned, plan_stays sound keeps (file_hash (members_of chunks)) plan planned chunks joins)
+
+-- where nothing is pending, a registered shard lists each recorded file
+kept_now : (s : State) → s.tells ≡ true → Sound s → s.pending ≡ nothing → (h : List ℕ) (plan : List Segment) → found s.records h ≡ Some plan → IsKept s.files s.folder s.opened s.shards h plan
+kept_now s told sound none h plan e = go (sound.kept h plan e)
+  where
+    go : IsPending s.pending h plan ⊎ (s.tells ≡ true → IsKept s.files s.folder s.opened s.shards h plan) → IsKept s.files s.folder s.opened s.shards h plan
+    go (inl p) = absurd (subst (λ (held : Held). Among held.files p.file) none (to_among s.pending.files p.file p.among))
+    go (inr kept) = kept told
+
+-- ---- what its folder shows after a flush
+
+module _ (before after : State) (told : before.tells ≡ true) (sound : Sound before) (flushed : Sound after) (keeps : Keeps before after) (same : after.records ≡ before.records)
+    (none : after.pending ≡ nothing) where
+  recorded_kept : (h : List ℕ) (plan : List Segment) → found before.records h ≡ Some plan → IsKept after.files after.folder after.opened after.shards h plan
+  recorded_kept h plan e = kept_now after (keeps.tells ∙ told) flushed none h plan (ap (λ (rs : Records). found rs h) same ∙ e)
+
+  -- Where digests separate what the folder shows, they separate what the session showed before its flush.
+  pub separate_by_folder : (files : List (List (List ℕ))) → SeparateIn after.files after.folder after.opened files → Separate before files
+  separate_by_folder files apart = record {
+    chunks = apart_less chunk_hash (MetStored after.files after.folder files) (MetChunk before files) met_chunk apart.chunks;
+    xorbs = apart_less xorb_hash (MetBacked after.files after.folder) (MetXorb before) (λ members met. (met.0, backed_stays before after told sound keeps met.0 members met.1)) apart.xorbs;
+    lists = apart_less file_hash (MetListed after.files after.folder after.opened files) (MetFile before files) met_file apart.lists;
+  }
+    where
+      met_chunk : (b : List ℕ) → MetChunk before files b → MetStored after.files after.folder files b
+      met_chunk b (inl (h, c, has, among)) = inl (h, c, stored_stays before after told keeps h c has.0 has.1, among)
+      met_chunk b (inr given) = inr given
+
+      met_file : (members : List (List ℕ × ℕ)) → MetFile before files members → MetListed after.files after.folder after.opened files members
+      met_file members (inl (h, plan, recorded, joins)) =
+          let k = recorded_kept h plan recorded in
+          let moved = joins_named (IsListed before.xorbs) (λ (m : List ℕ × ℕ). m.1) (IsBacked after.files after.folder) plan members (λ s a ms listed. backed_stays before after told sound keeps s.xorb_hash ms listed) joins in
+          inl (k.file, k.lists, subst (λ (p : List Segment). Joins (IsBacked after.files after.folder) (λ m. m.1) p members) (sym k.plan_of_it) moved)
+      met_file members (inr given) = inr given
+
+  -- A file that the session has is listed by its folder after the flush.
+  pub recorded_by_folder : (chunks : List (List ℕ)) → file_hash (members_of chunks) ≢ zero_hash → HasFile before chunks
+      → (f : MDBFileInfo) × Lists after.files after.folder after.opened f × (record_of.file_hash f ≡ file_hash (members_of chunks)) × JoinsTo after.files after.folder f chunks
+  recorded_by_folder chunks other (plan, planned, joins) = go (plan_either before.records h plan planned)
+    where
+      h : List ℕ
+      h = file_hash (members_of chunks)
+
+      go : ((h ≡ zero_hash) × (plan ≡ [])) ⊎ (found before.records h ≡ Some plan)
+          → (f : MDBFileInfo) × Lists after.files after.folder after.opened f × (record_of.file_hash f ≡ h) × JoinsTo after.files after.folder f chunks
+      go (inl empty) = absurd (other empty.0)
+      go (inr recorded) =
+          let k = recorded_kept h plan recorded in
+          let moved = plan_stays before after told sound keeps h plan planned chunks joins in
+          (k.file, k.lists, k.hash, subst (λ (p : List Segment). Joins (IsStored after.files after.folder) length p chunks) (sym k.plan_of_it) moved)
+
+-- ---- ranges
+
+-- A range that is read of a file that a store has is that range of its bytes.
+pub range_of_file : (s : State) (chunks : List (List ℕ)) (from to : ℕ) (bytes : List ℕ) → HasFile s chunks → IsRange s (file_hash (members_of chunks)) from to bytes
+    → bytes ≡ range (concat chunks) from to
+range_of_file s chunks from to bytes (plan, planned, joins) r =
+    let plans : ◌≡◌ {A = Option (List Segment)} (Some r.plan) (Some plan) = sym r.planned ∙ planned in
+    let one : r.plan ≡ plan = cc plans in
+    let there = subst (λ (p : List Segment). Joins (IsStored s.files s.folder) length p r.chunks) one r.joins in
+    let same : r.chunks ≡ chunks = joins_once (IsStored s.files s.folder) length (stored_once s.files s.folder) plan r.chunks chunks there joins in
+    r.is ∙ ap (λ (cs : List (List ℕ)). range (concat cs) from to) same

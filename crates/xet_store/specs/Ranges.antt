@@ -1,0 +1,40 @@
+-- Ranges of files that are read.
+use Rattle.std.specs.Prelude.{◌≡◌, ◌⊎◌, ℕ, ◌<◌, ◌≤◌, false, List, length, Some, None}
+use Rattle.std.specs.List.{concat}
+use Rattle.xet_io.specs.Faults.{Rose}
+use Rattle.xet_hash.specs.declared.error.StoreError.{StoreError}
+use Rattle.xet_hash.specs.declared.error.StoreError.TheVariants.{FileNotFound, InvalidRange, Io, MalformedData, OutOfMemory}
+use Rattle.xet_hash.specs.declared.error.Place.TheVariants.{Disk}
+use Rattle.xet_hash.specs.declared.error.Reason.TheVariants.{XorbText}
+use Rattle.xet_shard.specs.declared.record.FileDataSequenceEntry.{FileDataSequenceEntry as Segment}
+use Rattle.xet_folder.specs.Plan.{Joins, plan_bytes, range}
+use Rattle.xet_folder.specs.Stored.{IsStored}
+use Rattle.xet_store.specs.Store.{State, plan_of}
+
+-- The bytes are that range of the chunks to which the file's plan joins, as they are stored.
+pub record IsRange (s : State) (h : List ℕ) (from to : ℕ) (bytes : List ℕ) : Type 0 where
+  pub plan : List Segment
+  pub planned : plan_of s.records h ≡ Some plan
+  pub chunks : List (List ℕ)
+  pub joins : Joins (IsStored s.files s.folder) length plan chunks
+  pub is : bytes ≡ range (concat chunks) from to
+
+-- a range that is reversed or passes the file's end
+pub record IsOutside (s : State) (h : List ℕ) (from to : ℕ) : Type 0 where
+  pub plan : List Segment
+  pub planned : plan_of s.records h ≡ Some plan
+  pub outside : (to < from) ⊎ (plan_bytes plan < to)
+
+-- After reading all is as it was but the disk's failures.
+pub record IsUnchanged (old new : State) : Type 0 where
+  pub is : new ≡ record old { faults = new.faults }
+  pub later : old.faults ≤ new.faults
+
+-- why a range is not read
+abbrev pub IsRangeRefusal : State → List ℕ → ℕ → ℕ → ℕ → StoreError → Type 0
+IsRangeRefusal s h from to after FileNotFound = plan_of s.records h ≡ None
+IsRangeRefusal s h from to after InvalidRange = IsOutside s h from to
+IsRangeRefusal s h from to after (Io Disk) = Rose s.faults after
+IsRangeRefusal s h from to after (MalformedData XorbText) = s.tells ≡ false
+IsRangeRefusal s h from to after OutOfMemory = Unit {0}
+IsRangeRefusal s h from to after e = ⊥

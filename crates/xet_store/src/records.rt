@@ -1,0 +1,103 @@
+//! Records of xorbs and files, as shards keep them.
+
+ghost use Rattle.std.specs.Prelude.{◌≡◌, ◌<◌, ◌^◌, IfOk, IsOkUnless, Some, length, map};
+ghost use Rattle.xet_hash.specs.Merkle.{file_hash, total_len};
+ghost use Rattle.xet_store.specs.Records.{entries_from, file_record, range_hashes, run_len, xorb_record};
+
+use std::alloc::Global;
+use xet_base::Items;
+use xet_hash::{MerkleHash, StoreError, range_hash_from_chunks};
+use xet_shard::{
+    FileDataSequenceEntry, FileDataSequenceHeader, FileMetadataExt, FileVerificationEntry,
+    MDBFileInfo, MDBXorbInfo, Sha256, XorbChunkSequenceEntry, XorbChunkSequenceHeader,
+};
+
+/// The record of the xorb of this hash with these members.
+pub fn xorb_record(
+    alloc: Global,
+    hash: MerkleHash,
+    members: &[(MerkleHash, u64)],
+) -> Result<MDBXorbInfo, StoreError>
+    requires count { length members.now < 2 ^ 32 }
+    requires bytes { total_len members.now < 2 ^ 32 }
+    ensures exact { IfOk result (λ block. block ≡ xorb_record hash members.now) }
+    ensures memory { IsOkUnless result StoreError.OutOfMemory }
+{
+    let mut entries = Vec::with_capacity(alloc, members.len())?;
+    let mut start = 0;
+    for (chunk, bytes) in members {
+        let bytes = *bytes as u32;
+        entries.push(XorbChunkSequenceEntry::new(*chunk, bytes, start))?;
+        start += bytes;
+    }
+    Ok(MDBXorbInfo {
+        metadata: XorbChunkSequenceHeader::new(hash, members.len() as u32, start),
+        chunks: Items::from_vec(entries),
+    })
+}
+
+/// The record of the file of these members, of which this is the hash, with this plan and this SHA-256.
+pub fn file_record(
+    alloc: Global,
+    hash: MerkleHash,
+    members: &[(MerkleHash, u64)],
+    plan: Vec<FileDataSequenceEntry>,
+    sha256: Sha256,
+) -> Result<MDBFileInfo, StoreError>
+    requires { hash ≡ file_hash members.now }
+    ensures exact { IfOk result (λ file. file ≡ file_record members.now plan.items (Some sha256)) }
+    ensures memory { IsOkUnless result StoreError.OutOfMemory }
+{
+    if plan.len() > u32::MAX as usize {
+        return Err(StoreError::OutOfMemory);
+    }
+    let verification = range_hashes(alloc, &plan, members)?;
+    Ok(MDBFileInfo {
+        metadata: FileDataSequenceHeader::new(hash, plan.len() as u32, true, true),
+        segments: Items::from_vec(plan),
+        verification: Items::from_vec(verification),
+        metadata_ext: Some(FileMetadataExt::new(sha256)),
+    })
+}
+
+/// The digest of the chunks' hashes of each segment.
+fn range_hashes(
+    alloc: Global,
+    plan: &[FileDataSequenceEntry],
+    members: &[(MerkleHash, u64)],
+) -> Result<Vec<FileVerificationEntry>, StoreError>
+    ensures ranges { IfOk result (λ ranges. ranges.items ≡ range_hashes plan.now members.now) }
+    ensures memory { IsOkUnless result StoreError.OutOfMemory }
+{
+    let mut ranges = Vec::with_capacity(alloc, plan.len())?;
+    let mut rest = members;
+    for segment in plan {
+        let run = run_len(segment).min(rest.len());
+        let (front, back) = rest.split_at(run);
+        let hashes = hashes_of(alloc, front)?;
+        ranges.push(FileVerificationEntry::new(range_hash_from_chunks(&hashes)))?;
+        rest = back;
+    }
+    Ok(ranges)
+}
+
+/// How many chunks a segment names.
+fn run_len(segment: &FileDataSequenceEntry) -> usize
+    ensures { result ≡ run_len segment.now }
+{
+    segment
+        .chunk_index_end
+        .saturating_sub(segment.chunk_index_start) as usize
+}
+
+/// The digests of members.
+fn hashes_of(alloc: Global, members: &[(MerkleHash, u64)]) -> Result<Vec<MerkleHash>, StoreError>
+    ensures hashes { IfOk result (λ hashes. hashes.items ≡ map (λ m. m.0) members.now) }
+    ensures memory { IsOkUnless result StoreError.OutOfMemory }
+{
+    let mut hashes = Vec::with_capacity(alloc, members.len())?;
+    for (hash, _) in members {
+        hashes.push(*hash)?;
+    }
+    Ok(hashes)
+}

@@ -1,0 +1,104 @@
+//! Xorbs and files that are added to a store.
+
+ghost use Rattle.std.specs.Prelude.{◌≡◌, ◌↔◌, ◌≤◌, ◌<◌, ◌+◌, ◌*◌, ◌^◌, ◌∷◌, [], length, map, OnOk, OnErr, IfOk, IfErr, IsOkUnless, IsSome, IsTrue};
+ghost use Rattle.std.specs.List.{AllByRecursion};
+ghost use Rattle.xet_hash.specs.Merkle.{chunk_hash, xorb_hash};
+ghost use Rattle.xet_shard.specs.Held.{held_size};
+ghost use Rattle.xet_shard.specs.Records.{file_hash};
+ghost use Rattle.xet_xorb.specs.Chunks.{chunk_member, total};
+ghost use Rattle.xet_folder.specs.Refusals.{HasDiskReason};
+ghost use Rattle.xet_folder.specs.Xorbs.{IsListed, found};
+ghost use Rattle.xet_store.specs.Cleaning.{Adds, Keeps};
+ghost use Rattle.xet_store.specs.Steps.{with_block, with_record};
+ghost use Rattle.xet_store.specs.Store.{IsNewFile};
+
+use crate::records::xorb_record;
+use crate::store::Store;
+use std::marker::Send;
+use xet_base::Items;
+use xet_folder::{known_bytes, put_xorb};
+use xet_hash::{MerkleHash, StoreError, xorb_hash};
+use xet_io::Disk;
+use xet_shard::{MDBFileInfo, MDBInMemoryShard};
+use xet_xorb::{Chunk, chunk_members, xorb_text};
+
+impl<D: Disk + Send> Store<D> {
+    /// Stores these chunks as a xorb and lists it, where it is not listed yet, and gives its hash. Where
+    /// one of that hash is listed with other members, it refuses.
+    pub(crate) fn add_xorb(&mut self, chunks: &[Chunk]) -> Result<MerkleHash, StoreError>
+        requires some { 0 < length chunks.now }
+        requires digests { AllByRecursion (λ c. c.hash ≡ chunk_hash c.bytes) chunks.now }
+        requires small { AllByRecursion (λ c. length c.bytes < 2 ^ 23) chunks.now }
+        requires count { length chunks.now ≤ 65536 }
+        requires bytes { total chunks.now ≤ 2 ^ 30 }
+        ensures keeps { Keeps self.old self.new }
+        ensures records { self.new.records ≡ self.old.records }
+        ensures listed { IfOk result (λ h. (h ≡ xorb_hash (map chunk_member chunks.now)) × IsListed self.new.xorbs h (map chunk_member chunks.now)) }
+        ensures files { self.new.pending.files ≡ self.old.pending.files }
+        ensures pending { IfOk result (λ h. self.new.pending ≡ with_block self.old.xorbs self.old.pending h (map chunk_member chunks.now)) }
+        ensures reason { IfErr result (HasDiskReason self.old.faults self.new.faults) }
+    {
+        let members = chunk_members(self.alloc, chunks)?;
+        let hash = xorb_hash(self.alloc, &members)?;
+        if let Some(listed) = self.xorbs.get(&hash) {
+            if listed.as_slice() != members.as_slice() {
+                return Err(StoreError::OutOfMemory);
+            }
+            return Ok(hash);
+        }
+        if hash == MerkleHash::marker() || !has_room(&self.pending, 1 + members.len() as u64) {
+            return Err(StoreError::OutOfMemory);
+        }
+        known_bytes(&hash);
+        let block = xorb_record(self.alloc, hash, &members)?;
+        let text = xorb_text(self.alloc, chunks)?;
+        self.xorbs.reserve(1)?;
+        put_xorb(
+            &mut self.disk,
+            self.alloc,
+            self.folder.as_str(),
+            &hash,
+            &text,
+        )?;
+        self.pending.add_xorb_block(block)?;
+        self.pending.known();
+        self.xorbs.insert(hash, Items::from_vec(members))?;
+        Ok(hash)
+    }
+
+    /// Records a file by its plan, and its record is pending. One that is recorded keeps its plan.
+    pub(crate) fn add_file(&mut self, file: MDBFileInfo) -> Result<(), StoreError>
+        requires { IsNewFile self.old.xorbs file }
+        ensures keeps { Keeps self.old self.new }
+        ensures there { OnOk result (IsSome (found self.new.records (file_hash file))) }
+        ensures adds { OnOk result (Adds self.old.records self.new.records (file_hash file ∷ [])) }
+        ensures pending { OnOk result (self.new.pending ≡ with_record self.old.records self.old.pending file) }
+        ensures err { OnErr result (self.new ≡ self.old) }
+        ensures memory { IsOkUnless result StoreError.OutOfMemory }
+    {
+        let hash = file.hash();
+        if self.records.contains_key(&hash) {
+            return Ok(());
+        }
+        let rows = 2 + 2 * u64::from(file.metadata.num_entries);
+        if hash == MerkleHash::marker() || !has_room(&self.pending, rows) {
+            return Err(StoreError::OutOfMemory);
+        }
+        let plan = Vec::from_slice(self.alloc, file.segments.as_slice())?;
+        self.records.reserve(1)?;
+        self.pending.add_file_reconstruction_info(file)?;
+        self.pending.known();
+        self.records.insert(hash, Items::from_vec(plan))?;
+        Ok(())
+    }
+}
+
+/// Whether a shard has room for what is held and so many rows more. One with less than 2^37 bytes has
+/// fewer than 2^32 rows.
+fn has_room(held: &MDBInMemoryShard, rows: u64) -> bool
+    requires { rows < 2 ^ 40 }
+    ensures { IsTrue result ↔ (held_size held.now + 48 * rows < 2 ^ 37) }
+{
+    let size = held.shard_file_size();
+    size < 1 << 37 && size + 48 * rows < 1 << 37
+}

@@ -1,0 +1,49 @@
+//! Shards of what is pending.
+
+ghost use Rattle.std.specs.Prelude.{◌≡◌, ◌↔◌, None, IfErr, IfOk, IfSome, OnErr};
+ghost use Rattle.xet_shard.specs.Held.{nothing};
+ghost use Rattle.xet_folder.specs.Refusals.{HasDiskReason};
+ghost use Rattle.xet_store.specs.Cleaning.{Keeps};
+ghost use Rattle.xet_store.specs.Flushing.{IsFlushed, IsUnflushed};
+
+use crate::store::Store;
+use std::marker::Send;
+use xet_folder::{known_bytes, put_shard};
+use xet_hash::{MerkleHash, StoreError, compute_data_hash};
+use xet_io::Disk;
+use xet_shard::MDBInMemoryShard;
+
+impl<D: Disk + Send> Store<D> {
+    /// Puts a shard of what is pending, so that a crash keeps it, and gives its hash; none where nothing
+    /// is pending. After a refusal all of it is pending still.
+    pub fn flush(&mut self) -> Result<Option<MerkleHash>, StoreError>
+        ensures none { IfOk result (λ h. (h ≡ None) ↔ (self.old.pending ≡ nothing)) }
+        ensures idle { IfOk result (λ h. h ≡ None → self.new ≡ self.old) }
+        ensures flushed { IfOk result (λ h. IfSome h (λ shard. IsFlushed self.old shard self.new)) }
+        ensures refused { OnErr result (IsUnflushed self.old self.new) }
+        ensures keeps { Keeps self.old self.new }
+        ensures reason { IfErr result (HasDiskReason self.old.faults self.new.faults) }
+    {
+        if self.pending.is_empty() {
+            return Ok(None);
+        }
+        let (text, _) = self.pending.shard_text(self.alloc, self.opened, None)?;
+        let hash = compute_data_hash(&text);
+        // No registered shard keeps what is pending, so none has this hash where digests separate.
+        if self.shards.contains(&hash) {
+            return Err(StoreError::OutOfMemory);
+        }
+        known_bytes(&hash);
+        self.shards.reserve(1)?;
+        put_shard(
+            &mut self.disk,
+            self.alloc,
+            self.folder.as_str(),
+            &hash,
+            &text,
+        )?;
+        self.shards.push_reserved(hash);
+        self.pending = MDBInMemoryShard::new(self.alloc);
+        Ok(Some(hash))
+    }
+}

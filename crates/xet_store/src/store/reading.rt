@@ -1,0 +1,122 @@
+//! Ranges of files.
+
+ghost use Rattle.std.specs.Prelude.{◌≡◌, ◌≤◌, ◌<◌, ◌+◌, ◌-◌, ◌++◌, ◌^◌, ℕ, List, true, length, min, None, IfErr, IfOk, IsErrOf, OnOk};
+ghost use Rattle.std.specs.List.{concat};
+ghost use Rattle.std.specs.Option.{option_map};
+ghost use Rattle.xet_folder.specs.Plan.{Joins, part, plan_bytes, range};
+ghost use Rattle.xet_folder.specs.Runs.{IsRunRefusal};
+ghost use Rattle.xet_folder.specs.Xorbs.{AreBacked};
+ghost use Rattle.xet_store.specs.Ranges.{IsOutside, IsRange, IsRangeRefusal, IsUnchanged};
+ghost use Rattle.xet_store.specs.Reading.{IsStoredListed, JoinsListed, LiesListed};
+ghost use Rattle.xet_store.specs.Store.{plan_of};
+
+use crate::store::{Store, plan_bytes, plan_in};
+use indexmap::IndexMap;
+use std::marker::Send;
+use xet_base::Items;
+use xet_folder::RunReader;
+use xet_hash::{MerkleHash, Reason, StoreError};
+use xet_io::Disk;
+use xet_shard::FileDataSequenceEntry;
+
+impl<D: Disk + Send> Store<D> {
+    /// Reads the bytes of a file from one place to before another. Only the chunks that the range touches
+    /// are read. The empty file, whose hash is zero, has the range from 0 to 0. Refused as `FileNotFound`
+    /// exactly where another hash has no plan, then as `InvalidRange` exactly where the range is reversed or
+    /// passes the file's end, as `Io(Disk)` only where the disk has failed, as `MalformedData(XorbText)`
+    /// only over a disk that does not tell, or as `OutOfMemory`.
+    pub fn read_range(
+        &mut self,
+        hash: &MerkleHash,
+        from: u64,
+        to: u64,
+    ) -> Result<Vec<u8>, StoreError>
+        ensures range { self.old.tells ≡ true → IfOk result (λ bytes. IsRange self.old hash.now from to bytes.items) }
+        ensures length { IfOk result (λ bytes. length bytes.items ≡ to - from) }
+        ensures missing { plan_of self.old.records hash.now ≡ None → IsErrOf result StoreError.FileNotFound }
+        ensures outside { IsOutside self.old hash.now from to → IsErrOf result StoreError.InvalidRange }
+        ensures refused { IfErr result (IsRangeRefusal self.old hash.now from to self.new.faults) }
+        ensures unchanged { IsUnchanged self.old self.new }
+    {
+        let Some(plan) = plan_in(&self.records, hash) else {
+            return Err(StoreError::FileNotFound);
+        };
+        if from > to || to > plan_bytes(plan) {
+            return Err(StoreError::InvalidRange);
+        }
+        let mut reader = RunReader::with_capacity(self.alloc, (to - from) as usize)?;
+        let folder = self.folder.as_str();
+        read_plan(
+            &mut self.disk,
+            folder,
+            &self.xorbs,
+            plan,
+            from,
+            to,
+            &mut reader,
+        )?;
+        Ok(reader.into_bytes())
+    }
+}
+
+/// Reads, of the chunks to which a plan joins, the bytes from one place to before another.
+fn read_plan<D: Disk>(
+    disk: &mut D,
+    folder: &str,
+    xorbs: &IndexMap<MerkleHash, Items<(MerkleHash, u64)>>,
+    plan: &[FileDataSequenceEntry],
+    from: u64,
+    to: u64,
+    reader: &mut RunReader,
+) -> Result<(), StoreError>
+    requires joins { JoinsListed xorbs.now.entries plan.now }
+    requires order { from ≤ to }
+    requires within { to ≤ plan_bytes plan.now }
+    ensures range { D.tells disk.old ≡ true → OnOk result ((chunks : List (List ℕ)) → Joins (IsStoredListed (D.files disk.old) folder.now xorbs.now.entries) length plan.now chunks → reader.new ≡ reader.old ++ range (concat chunks) from to) }
+    ensures len { OnOk result (length reader.new ≡ length reader.old + (to - from)) }
+    ensures refused { IfErr result (IsRunRefusal ((D.tells disk.old ≡ true) × AreBacked (D.files disk.old) folder.now xorbs.now.entries) (D.faults disk.old) (D.faults disk.new)) }
+    ensures same { D.files disk.new ≡ D.files disk.old }
+    ensures tells { D.tells disk.new ≡ D.tells disk.old }
+    ensures later { D.faults disk.old ≤ D.faults disk.new }
+{
+    let mut from = from;
+    let mut to = to;
+    for segment in plan {
+        if from >= to {
+            return Ok(());
+        }
+        read_segment(disk, folder, xorbs, segment, from, to, reader)?;
+        let size = u64::from(segment.unpacked_segment_bytes);
+        from = from.saturating_sub(size);
+        to = to.saturating_sub(size);
+    }
+    Ok(())
+}
+
+/// Reads, of the bytes of a segment's chunks, those from one place to before another that it has.
+fn read_segment<D: Disk>(
+    disk: &mut D,
+    folder: &str,
+    xorbs: &IndexMap<MerkleHash, Items<(MerkleHash, u64)>>,
+    segment: &FileDataSequenceEntry,
+    from: u64,
+    to: u64,
+    reader: &mut RunReader,
+) -> Result<(), StoreError>
+    requires { LiesListed xorbs.now.entries segment.now }
+    ensures range { D.tells disk.old ≡ true → OnOk result ((chunks : List (List ℕ)) → IsStoredListed (D.files disk.old) folder.now xorbs.now.entries segment.now.xorb_hash chunks → reader.new ≡ reader.old ++ range (concat (part segment.now chunks)) from to) }
+    ensures len { OnOk result (length reader.new ≡ length reader.old + (min to segment.now.unpacked_segment_bytes - min from segment.now.unpacked_segment_bytes)) }
+    ensures refused { IfErr result (IsRunRefusal ((D.tells disk.old ≡ true) × AreBacked (D.files disk.old) folder.now xorbs.now.entries) (D.faults disk.old) (D.faults disk.new)) }
+    ensures same { D.files disk.new ≡ D.files disk.old }
+    ensures tells { D.tells disk.new ≡ D.tells disk.old }
+    ensures later { D.faults disk.old ≤ D.faults disk.new }
+{
+    let end = to.min(u64::from(segment.unpacked_segment_bytes));
+    if from >= end {
+        return Ok(());
+    }
+    let Some(members) = xorbs.get(&segment.xorb_hash) else {
+        return Err(StoreError::MalformedData(Reason::XorbText));
+    };
+    reader.read_run(disk, folder, segment, members.as_slice(), from, end)
+}

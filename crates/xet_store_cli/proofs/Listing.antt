@@ -1,0 +1,32 @@
+-- What was listed when a folder was opened is listed still.
+use Rattle.std.proofs.Common.{◌≡◌, ◌∙◌, ℕ, Bool, true, List, subst, sym}
+use Rattle.xet_io.specs.Disk.{Files}
+use Rattle.xet_folder.specs.Contents.{HasContents}
+use Rattle.xet_folder.specs.Listed.{JoinsTo, Lists}
+use Rattle.xet_store.specs.declared.limits.LimitSettings.{LimitSettings}
+use Rattle.xet_store.specs.Cleaning.{Keeps}
+use Rattle.xet_store.specs.Opening.{IsOpened, contents_of}
+use Rattle.xet_store.specs.Store.{State}
+use Rattle.xet_store.proofs.Sessions.{joins_stay, listed_stay}
+use Rattle.xet_store_cli.specs.Outcome.{store_folder}
+use Rattle.xet_store_cli.specs.Stored.{KeepsListed}
+
+-- by a session
+kept_by : (s t : State) → s.tells ≡ true → s.folder ≡ store_folder → HasContents s.files s.folder s.opened (contents_of s) → Keeps s t → KeepsListed s.opened s.files t.files
+kept_by s t told folder contents keeps = record {
+  listed = λ f l. subst (λ (x : List ℕ). Lists t.files x s.opened f) folder (listed_stay s t told contents keeps f (subst (λ (x : List ℕ). Lists s.files x s.opened f) (sym folder) l));
+  joins = λ f l chunks joins. subst (λ (x : List ℕ). JoinsTo t.files x f chunks) folder
+      (joins_stay s t told contents keeps f (subst (λ (x : List ℕ). Lists s.files x s.opened f) (sym folder) l) chunks (subst (λ (x : List ℕ). JoinsTo s.files x f chunks) (sym folder) joins));
+}
+
+-- over the disk that it hands back
+pub keeps_listed : (tells : Bool) (old new : Files) (limits : LimitSettings) (now : ℕ) (s t : State) → tells ≡ true → IsOpened tells old store_folder limits now s
+    → HasContents old store_folder now (contents_of s) → Keeps s t → new ≡ t.files → KeepsListed now old new
+keeps_listed tells old new limits now s t told opened contents keeps is =
+    let of_files : HasContents s.files store_folder now (contents_of s) = subst (λ (x : Files). HasContents x store_folder now (contents_of s)) (sym opened.same_files) contents in
+    let of_folder : HasContents s.files s.folder now (contents_of s) = subst (λ (x : List ℕ). HasContents s.files x now (contents_of s)) (sym opened.same_folder) of_files in
+    let of_moment : HasContents s.files s.folder s.opened (contents_of s) = subst (λ (x : ℕ). HasContents s.files s.folder x (contents_of s)) (sym opened.moment) of_folder in
+    let kept : KeepsListed s.opened s.files t.files = kept_by s t (opened.same_tells ∙ told) opened.same_folder of_moment keeps in
+    let at : KeepsListed now s.files t.files = subst (λ (x : ℕ). KeepsListed x s.files t.files) opened.moment kept in
+    let from : KeepsListed now old t.files = subst (λ (x : Files). KeepsListed now x t.files) opened.same_files at in
+    subst (λ (x : Files). KeepsListed now old x) (sym is) from

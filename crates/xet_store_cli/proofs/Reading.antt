@@ -1,0 +1,70 @@
+-- Ranges that are read of a session.
+use Rattle.std.proofs.Common.{◌≡◌, ◌∙◌, ℕ, List, [], ◌∷◌, ◌++◌, append_assoc, refl, sym, ap, subst, arith}
+use Rattle.std.proofs.lemmas.List.{append-nil}
+use Rattle.xet_store.specs.Cleaning.{Keeps}
+use Rattle.xet_store.specs.Ranges.{IsUnchanged}
+use Rattle.xet_store.specs.Store.{State}
+use Rattle.xet_store.specs.declared.info.XetFileInfo.{XetFileInfo}
+use Rattle.xet_store.proofs.Keeping.{keeps_nothing}
+use Rattle.xet_store_cli.specs.declared.lines.FileRange.{FileRange}
+use Rattle.xet_store_cli.specs.Steps.{AreRead, IsLineRead}
+
+-- ---- after reading all is as it was
+
+pub unchanged_then : (a b c : State) → IsUnchanged a b → IsUnchanged b c → IsUnchanged a c
+unchanged_then a b c x y = record { is = y.is ∙ ap (λ (s : State). record s { faults = c.faults }) x.is; later = omega (arith, x.later, y.later) }
+
+pub keeps_unchanged : (a b : State) → IsUnchanged a b → Keeps a b
+keeps_unchanged a b x = subst (λ (s : State). Keeps a s) (sym x.is) (with_faults (keeps_nothing a))
+  where
+    with_faults : Keeps a a → Keeps a (record a { faults = b.faults })
+    with_faults k = record {
+      tells = k.tells;
+      folder = k.folder;
+      limits = k.limits;
+      opened = k.opened;
+      later = x.later;
+      xorbs = k.xorbs;
+      texts = k.texts;
+      records = k.records;
+      shards = k.shards;
+      shard_files = k.shard_files;
+      foreign = k.foreign;
+    }
+
+-- ---- what was read
+
+module _ (infos : List XetFileInfo) where
+  line_faults : (s : State) (f : ℕ) (r : FileRange) (line : List ℕ) → IsLineRead (record s { faults = f }) infos r line → IsLineRead s infos r line
+  line_faults s f r line l = record {
+    bytes = l.bytes;
+    read = λ told.
+        let g = l.read told in record { plan = g.plan; planned = g.planned; chunks = g.chunks; joins = g.joins; is = g.is };
+    is = l.is;
+  }
+
+  line_faults_after : (s : State) (f : ℕ) (r : FileRange) (line : List ℕ) → IsLineRead s infos r line → IsLineRead (record s { faults = f }) infos r line
+  line_faults_after s f r line l = record {
+    bytes = l.bytes;
+    read = λ told.
+        let g = l.read told in record { plan = g.plan; planned = g.planned; chunks = g.chunks; joins = g.joins; is = g.is };
+    is = l.is;
+  }
+
+  -- a line that is read later is that of before
+  pub line_before : (a b : State) (r : FileRange) (line : List ℕ) → IsUnchanged a b → IsLineRead b infos r line → IsLineRead a infos r line
+  line_before a b r line x l = line_faults a b.faults r line (subst (λ (s : State). IsLineRead s infos r line) x.is l)
+
+  -- and lines that were read are those of after
+  pub read_after : (a b : State) (rs : List FileRange) (text : List ℕ) → IsUnchanged a b → AreRead a infos rs text → AreRead b infos rs text
+  read_after a b [] text x are = are
+  read_after a b (r ∷ rs) text x (line, rest, one, is, more) =
+      (line, rest, subst (λ (s : State). IsLineRead s infos r line) (sym x.is) (line_faults_after a b.faults r line one), is, read_after a b rs rest x more)
+
+  -- one line more
+  pub read_more : (s : State) (rs : List FileRange) (r : FileRange) (text line : List ℕ) → AreRead s infos rs text → IsLineRead s infos r line → AreRead s infos (rs ++ r ∷ []) (text ++ line)
+  read_more s [] r text line are one =
+      let none : text ++ line ≡ line = ap (λ (t : List ℕ). t ++ line) are in
+      (line, [], one, none ∙ sym (append-nil line), refl)
+  read_more s (q ∷ rs) r text line (first, rest, of, is, more) one =
+      (first, rest ++ line, of, ap (λ (t : List ℕ). t ++ line) is ∙ append_assoc first rest line, read_more s rs r rest line more one)

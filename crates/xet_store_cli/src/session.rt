@@ -1,0 +1,148 @@
+//! The files and ranges of some lines, over a session.
+
+ghost use Rattle.std.specs.Prelude.{◌≡◌, ◌≤◌, ◌<◌, ◌++◌, ℕ, List, true, length, map, All, IfErr, IfOk, OnOk, IsErrOf, IsOkUnless};
+ghost use Rattle.std.specs.List.{AllByRecursion, flat_map};
+ghost use Rattle.xet_io.specs.Faults.{HasCause};
+ghost use Rattle.xet_store.specs.Cleaning.{HasFile, Keeps, info_of};
+ghost use Rattle.xet_store.specs.Cut.{cut};
+ghost use Rattle.xet_store.specs.Ranges.{IsUnchanged};
+ghost use Rattle.xet_store.specs.Separate.{Separate};
+ghost use Rattle.xet_store.specs.Steps.{ListsXorbs};
+ghost use Rattle.xet_store_cli.specs.Outcome.{AreSeparate, store_folder};
+ghost use Rattle.xet_store_cli.specs.Parsing.{ForLines, are_good};
+ghost use Rattle.xet_store_cli.specs.Report.{IsReport, info_line};
+ghost use Rattle.xet_store_cli.specs.Steps.{AreRead, IsLineRead, IsReadingStop, IsSettled};
+ghost use Rattle.xet_store_cli.specs.Stops.{IsSessionStop};
+ghost use Rattle.xet_store_cli.specs.Stored.{Records, Stores};
+
+use crate::ending::Stop;
+use crate::lines::{FileRange, PackLines};
+use crate::report::{push_bytes_line, report};
+use std::alloc::Global;
+use std::marker::Send;
+use xet_io::{Disk, SliceSource};
+use xet_store::{Cleaned, Store, XetFileInfo, clean_files};
+
+/// Stores the files of some lines in a session, and reports them and their ranges.
+pub fn report_lines<D: Disk + Send>(
+    alloc: Global,
+    session: Store<D>,
+    lines: &PackLines,
+) -> (Store<D>, Result<Vec<u8>, Stop>)
+    requires few { length lines.now.files ≤ 1 }
+    requires good { are_good lines.now ≡ true }
+    requires folder { session.folder ≡ store_folder }
+    ensures report { IfOk result.1 (λ text. ForLines lines.now (λ said. IsReport (AreSeparate session.tells result.0.files session.opened session.limits said) session.limits said text.items)) }
+    ensures stored { session.tells ≡ true → OnOk result.1 (ForLines lines.now (λ said. Stores session.limits said result.0.files)) }
+    ensures recorded { session.tells ≡ true → OnOk result.1 (ForLines lines.now (λ said. Records session.limits said session.opened result.0.files)) }
+    ensures keeps { Keeps session result.0 }
+    ensures stop { IfErr result.1 (IsSessionStop session.tells session.limits lines.now) }
+    ensures cause { HasCause session.faults result.0.faults (IsErrOf result.1 Stop.Disk) }
+{
+    session.limits().known();
+    let (mut session, cleaned) = clean_lines(alloc, session, lines);
+    session.known();
+    match cleaned {
+        Ok(cleaned) => {
+            let answer = report_cleaned(alloc, &mut session, &cleaned.infos, lines.ranges());
+            session.known();
+            (session, answer)
+        }
+        Err(stop) => (session, Err(stop)),
+    }
+}
+
+/// Cleans the files of some lines in a session.
+fn clean_lines<D: Disk + Send>(
+    alloc: Global,
+    session: Store<D>,
+    lines: &PackLines,
+) -> (Store<D>, Result<Cleaned, Stop>)
+    requires { length lines.now.files ≤ 1 }
+    ensures infos { IfOk result.1 (λ cleaned. cleaned.infos.items ≡ map (info_of session.limits) lines.now.files) }
+    ensures files { session.tells ≡ true → Separate result.0 (map (cut session.limits) lines.now.files)
+        → OnOk result.1 (AllByRecursion (HasFile result.0) (map (cut session.limits) lines.now.files)) }
+    ensures listed { OnOk result.1 (AllByRecursion (ListsXorbs result.0) (map (cut session.limits) lines.now.files)) }
+    ensures keeps { Keeps session result.0 }
+    ensures stop { IfErr result.1 (IsSessionStop session.tells session.limits lines.now) }
+    ensures cause { HasCause session.faults result.0.faults (IsErrOf result.1 Stop.Disk) }
+{
+    let mut sources = match sources_of(alloc, lines) {
+        Ok(sources) => sources,
+        Err(stop) => return (session, Err(stop)),
+    };
+    let (session, cleaned) = clean_files(alloc, session, &mut sources, 1);
+    match cleaned {
+        Ok(cleaned) => (session, Ok(cleaned)),
+        Err(error) => (session, Err(Stop::from(error))),
+    }
+}
+
+/// The bytes of the file lines, as sources.
+fn sources_of<'a>(alloc: Global, lines: &'a PackLines) -> Result<Vec<SliceSource<'a>>, Stop>
+    ensures sources { IfOk result (λ sources. sources.items ≡ lines.now.files) }
+    ensures memory { IsOkUnless result Stop.OutOfMemory }
+{
+    let mut sources = Vec::new(alloc);
+    for file in lines.files() {
+        sources.push(SliceSource::new(file))?;
+    }
+    Ok(sources)
+}
+
+/// Keeps what a session has pending, and gives the report of files and of ranges of them.
+fn report_cleaned<D: Disk + Send>(
+    alloc: Global,
+    session: &mut Store<D>,
+    infos: &[XetFileInfo],
+    ranges: &[FileRange],
+) -> Result<Vec<u8>, Stop>
+    requires { All (λ r. (0 < r.file) × (r.file ≤ length infos.now)) ranges.now }
+    ensures text { IfOk result (λ text. (lines : List ℕ) × AreRead session.new infos.now ranges.now lines × (text.items ≡ flat_map info_line infos.now ++ lines)) }
+    ensures settled { OnOk result (IsSettled session.old session.new) }
+    ensures keeps { Keeps session.old session.new }
+    ensures stop { IfErr result (IsReadingStop session.old.tells) }
+    ensures cause { HasCause session.old.faults session.new.faults (IsErrOf result Stop.Disk) }
+{
+    session.flush()?;
+    let mut text = report(alloc, infos)?;
+    push_ranges(session, infos, ranges, &mut text)?;
+    Ok(text)
+}
+
+/// Adds the line of each range, in order.
+fn push_ranges<D: Disk + Send>(
+    session: &mut Store<D>,
+    infos: &[XetFileInfo],
+    ranges: &[FileRange],
+    text: &mut Vec<u8>,
+) -> Result<(), Stop>
+    requires { All (λ r. (0 < r.file) × (r.file ≤ length infos.now)) ranges.now }
+    ensures lines { OnOk result ((lines : List ℕ) × AreRead session.old infos.now ranges.now lines × (text.new.items ≡ text.old.items ++ lines)) }
+    ensures unchanged { IsUnchanged session.old session.new }
+    ensures stop { IfErr result (IsReadingStop session.old.tells) }
+    ensures cause { HasCause session.old.faults session.new.faults (IsErrOf result Stop.Disk) }
+{
+    for range in ranges {
+        push_range(session, infos, range, text)?;
+    }
+    Ok(())
+}
+
+/// Adds the line of a range, whose bytes are read of a session.
+fn push_range<D: Disk + Send>(
+    session: &mut Store<D>,
+    infos: &[XetFileInfo],
+    range: &FileRange,
+    text: &mut Vec<u8>,
+) -> Result<(), Stop>
+    requires { (0 < range.now.file) × (range.now.file ≤ length infos.now) }
+    ensures line { OnOk result ((line : List ℕ) × IsLineRead session.old infos.now range.now line × (text.new.items ≡ text.old.items ++ line)) }
+    ensures unchanged { IsUnchanged session.old session.new }
+    ensures stop { IfErr result (IsReadingStop session.old.tells) }
+    ensures cause { HasCause session.old.faults session.new.faults (IsErrOf result Stop.Disk) }
+{
+    let info = &infos[(range.file - 1) as usize];
+    let bytes = session.read_range(&info.hash, range.from, range.to)?;
+    push_bytes_line(&bytes, text)
+}

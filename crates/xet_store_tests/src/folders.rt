@@ -1,0 +1,80 @@
+//! What stands in the folder of a store: names of its files, and shards that are another but for a number.
+
+use crate::session::{Session, bytes_of, put_bytes};
+use std::alloc::Global;
+use xet_folder::shard_path;
+use xet_hash::{MerkleHash, StoreError, compute_data_hash};
+use xet_io::MemoryDisk;
+use xet_shard::read_shard;
+use xet_store::XetFileInfo;
+
+/// The place of the moment of creation in a shard of 672 bytes.
+pub const CREATION: usize = 576;
+
+/// The place of the expiry in a shard of 672 bytes.
+pub const EXPIRY: usize = 584;
+
+/// What a shard lists: hashes of its xorbs and of its files, the bytes of these, and the place of its footer.
+#[derive(Drop)]
+pub struct Listed {
+    pub xorbs: Vec<MerkleHash>,
+    pub files: Vec<MerkleHash>,
+    pub bytes: u64,
+    pub footer: u64,
+}
+
+/// The disk of a store in which a file of these bytes was cleaned and flushed, with its pointer record and
+/// its shard.
+pub fn written(
+    alloc: Global,
+    disk: MemoryDisk,
+    bytes: &[u8],
+) -> Result<(MemoryDisk, XetFileInfo, MerkleHash), StoreError> {
+    let (mut session, info) = Session::open(alloc, disk)?.clean(bytes)?;
+    let shard = session.flush()?.ok_or(StoreError::FileNotFound)?;
+    Ok((session.into_disk(), info, shard))
+}
+
+/// Puts a shard that is another but for a number at this place, and gives its hash.
+pub fn put_changed(
+    alloc: Global,
+    disk: &mut MemoryDisk,
+    shard: &MerkleHash,
+    at: usize,
+    number: u64,
+) -> Result<MerkleHash, StoreError> {
+    let name = shard_path(alloc, "store", shard)?;
+    let mut bytes = bytes_of(alloc, disk, name.as_str())?;
+    change(&mut bytes, at, number);
+    let hash = compute_data_hash(&bytes);
+    let name = shard_path(alloc, "store", &hash)?;
+    put_bytes(disk, name.as_str(), &bytes)?;
+    Ok(hash)
+}
+
+/// Writes a number of eight bytes at a place.
+fn change(bytes: &mut Vec<u8>, at: usize, number: u64) {
+    for (i, byte) in number.to_le_bytes().iter().enumerate() {
+        if let Some(place) = bytes.get_mut(at.saturating_add(i)) {
+            *place = *byte;
+        }
+    }
+}
+
+/// What the text of a shard lists.
+pub fn read_listed(alloc: Global, text: &[u8]) -> Result<Listed, StoreError> {
+    let (blocks, files, footer) = read_shard(alloc, text)?;
+    let mut listed = Listed {
+        xorbs: Vec::new(alloc),
+        files: Vec::new(alloc),
+        bytes: footer.materialized_bytes,
+        footer: footer.footer_offset,
+    };
+    for block in &blocks {
+        listed.xorbs.push(block.hash())?;
+    }
+    for file in &files {
+        listed.files.push(file.hash())?;
+    }
+    Ok(listed)
+}

@@ -1,0 +1,12 @@
+//! Tests of a store on a disk in memory. They call it through a `Session`, whose calls have no contract, so
+//! that each step is proved by itself.
+#![tactic(auto)]
+
+#[cfg(test)]
+mod cleaning_tests;
+#[cfg(test)]
+mod folders;
+#[cfg(test)]
+mod opening_tests;
+#[cfg(test)]
+mod session;

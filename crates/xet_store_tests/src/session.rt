@@ -1,0 +1,140 @@
+//! A store, by calls that say nothing of what they do.
+
+use std::alloc::Global;
+use xet_hash::{MerkleHash, Place, Refused, StoreError};
+use xet_io::{Disk, MemoryDisk, SliceSource};
+use xet_shard::FileDataSequenceEntry;
+use xet_store::{LimitSettings, Limits, Store, XetFileInfo, clean_files};
+
+/// The moment at which stores are opened.
+pub const NOW: u64 = 1_000;
+
+/// A store in the folder `store` of a disk in memory.
+#[derive(Drop)]
+pub struct Session {
+    alloc: Global,
+    store: Store<MemoryDisk>,
+}
+
+/// Why a folder is not opened: the refusal, and the name that it tells.
+#[derive(Drop)]
+pub struct Unopened {
+    pub error: StoreError,
+    pub name: String,
+}
+
+/// Pieces from 64 to 1,024 bytes that end as soon as they may, and two chunks a xorb.
+fn limits() -> Result<Limits, StoreError> {
+    Limits::new(LimitSettings {
+        target_chunk: 512,
+        minimum_chunk: 64,
+        maximum_chunk: 1024,
+        cut_chunks: 2,
+        max_source_bytes: 1 << 30,
+        ..LimitSettings::shown([0; 256])
+    })
+}
+
+impl Session {
+    /// Opens the folder of a disk.
+    pub fn open(alloc: Global, disk: MemoryDisk) -> Result<Session, StoreError> {
+        match Store::open(alloc, disk, "store", limits()?, NOW, false) {
+            Ok(store) => Ok(Session { alloc, store }),
+            Err(refused) => Err(refused.error),
+        }
+    }
+
+    /// Opens the folder of a new disk.
+    pub fn new(alloc: Global) -> Result<Session, StoreError> {
+        Session::open(alloc, MemoryDisk::new(alloc))
+    }
+
+    /// Cleans a file of these bytes.
+    pub fn clean(self, bytes: &[u8]) -> Result<(Session, XetFileInfo), StoreError> {
+        let alloc = self.alloc;
+        let mut sources = [SliceSource::new(bytes)];
+        let (store, answer) = clean_files(alloc, self.store, &mut sources, 1);
+        match answer?.infos.first() {
+            Some(info) => Ok((Session { alloc, store }, *info)),
+            None => Err(StoreError::FileNotFound),
+        }
+    }
+
+    /// Puts a shard of what is pending.
+    pub fn flush(&mut self) -> Result<Option<MerkleHash>, StoreError> {
+        self.store.flush()
+    }
+
+    /// The bytes of a file from one place to before another.
+    pub fn read(&mut self, hash: &MerkleHash, from: u64, to: u64) -> Result<Vec<u8>, StoreError> {
+        self.store.read_range(hash, from, to)
+    }
+
+    /// The plan of a recorded file.
+    pub fn plan(&self, hash: &MerkleHash) -> Result<Vec<FileDataSequenceEntry>, StoreError> {
+        self.store
+            .plan(self.alloc, hash)?
+            .ok_or(StoreError::FileNotFound)
+    }
+
+    /// The recorded files.
+    pub fn files(&self) -> Result<Vec<(MerkleHash, u64)>, StoreError> {
+        self.store.files(self.alloc)
+    }
+
+    /// The number of listed xorbs.
+    pub fn xorb_count(&self) -> u64 {
+        self.store.xorb_count()
+    }
+
+    /// The disk.
+    pub fn into_disk(self) -> MemoryDisk {
+        self.store.into_disk()
+    }
+}
+
+/// The refusal of opening the folder of a disk; none where it is opened.
+pub fn refusal(alloc: Global, disk: MemoryDisk) -> Result<Option<Unopened>, StoreError> {
+    match Store::open(alloc, disk, "store", limits()?, NOW, false) {
+        Ok(_) => Ok(None),
+        Err(refused) => Ok(Some(reason_of(alloc, refused))),
+    }
+}
+
+/// What a refused opening tells.
+fn reason_of(alloc: Global, refused: Refused<MemoryDisk>) -> Unopened {
+    let Refused {
+        disk: _,
+        error,
+        name,
+    } = refused;
+    Unopened {
+        error,
+        name: match name {
+            Some(name) => name.into_string(),
+            None => String::new(alloc),
+        },
+    }
+}
+
+/// The bytes of a file of a disk.
+pub fn bytes_of(alloc: Global, disk: &MemoryDisk, name: &str) -> Result<Vec<u8>, StoreError> {
+    let bytes = disk.get(name).ok_or(StoreError::FileNotFound)?;
+    Ok(Vec::from_slice(alloc, bytes)?)
+}
+
+/// Puts bytes in place of a file of a disk.
+pub fn put_bytes(disk: &mut MemoryDisk, name: &str, bytes: &[u8]) -> Result<(), StoreError> {
+    match disk.write(name, bytes) {
+        Ok(()) => Ok(()),
+        Err(_) => Err(StoreError::Io(Place::Disk)),
+    }
+}
+
+/// Takes a file of a disk away; whether it was there.
+pub fn remove(disk: &mut MemoryDisk, name: &str) -> Result<bool, StoreError> {
+    match disk.remove(name) {
+        Ok(found) => Ok(found),
+        Err(_) => Err(StoreError::Io(Place::Disk)),
+    }
+}
