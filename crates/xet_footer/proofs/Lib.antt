@@ -9,3 +9,9 @@ pub mod Known
 pub mod Starts
 pub mod Taking
 pub mod Readback
+pub mod Endings
+pub mod Exits
+pub mod Joining
+pub mod Decoding
+pub mod Placing
+pub mod Sections

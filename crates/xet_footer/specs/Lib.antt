@@ -7,3 +7,7 @@ pub mod Machine
 pub mod Reader
 pub mod Refusals
 pub mod Laws
+pub mod Ends
+pub mod Joining
+pub mod Decoder
+pub mod Places

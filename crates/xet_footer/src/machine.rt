@@ -15,7 +15,7 @@ use xet_hash::{MerkleHash, Reason, StoreError};
 const BLOCK: usize = 64;
 
 /// The most chunks of a footer.
-const MOST_CHUNKS: u32 = 107374180;
+pub(crate) const MOST_CHUNKS: u32 = 107374180;
 
 /// A field of a footer.
 #[derive(Clone, Copy, PartialEq, Eq, Debug)]
@@ -472,7 +472,7 @@ impl FooterReader {
 }
 
 /// The number in the first four bytes.
-fn number_of(bytes: &[u8]) -> u32
+pub(crate) fn number_of(bytes: &[u8]) -> u32
     requires { 4 ≤ length bytes.now }
     ensures first { result ≡ from_le_bytes w32 (take 4 bytes.now) }
     ensures whole { length bytes.now ≡ 4 → result ≡ from_le_bytes w32 bytes.now }
@@ -493,7 +493,11 @@ fn hash_of(bytes: &[u8]) -> MerkleHash
 }
 
 /// Adds the first so many numbers of a field.
-fn push_numbers(list: &mut Vec<u32>, field: &[u8], count: usize) -> Result<(), AllocError>
+pub(crate) fn push_numbers(
+    list: &mut Vec<u32>,
+    field: &[u8],
+    count: usize,
+) -> Result<(), AllocError>
     requires { 4 * count ≤ length field.now }
     ensures items { OnOk result (list.new.items ≡ list.old.items ++ numbers_in count field.now) }
     ensures bound { vec_len list.new ≤ vec_len list.old + count }
