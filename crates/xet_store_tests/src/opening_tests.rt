@@ -26,21 +26,29 @@ fn reads(
     Ok(session.read(hash, from, to)?.as_slice() == bytes)
 }
 
-/// Whether each range of `abc`, and each of the zeros and of the empty file, is as it is to be.
-fn reads_ranges(alloc: Global) -> Result<(bool, bool), StoreError> {
+/// How many of six ranges of `abc`, of the zeros and of the empty file are as they are to be.
+fn reads_ranges(alloc: Global) -> Result<u32, StoreError> {
     let (mut session, abc, zeros) = reopened(alloc)?;
-    let letters = reads(&mut session, &abc, 1, 3, b"bc")?
-        && reads(&mut session, &abc, 0, 3, b"abc")?
-        && reads(&mut session, &abc, 3, 3, b"")?;
-    let others = reads(&mut session, &zeros, 60, 70, &[0; 10])?
-        && reads(&mut session, &zeros, 0, 200, &[0; 200])?
-        && reads(&mut session, &MerkleHash::default(), 0, 0, b"")?;
-    Ok((letters, others))
+    let rows = [
+        (abc, 1u64, 3u64, b"bc".as_slice()),
+        (abc, 0, 3, b"abc".as_slice()),
+        (abc, 3, 3, b"".as_slice()),
+        (zeros, 60, 70, [0; 10].as_slice()),
+        (zeros, 0, 200, [0; 200].as_slice()),
+        (MerkleHash::default(), 0, 0, b"".as_slice()),
+    ];
+    let mut right = 0u32;
+    for (hash, from, to, bytes) in rows {
+        if reads(&mut session, &hash, from, to, bytes)? {
+            right = right.saturating_add(1);
+        }
+    }
+    Ok(right)
 }
 
 #[test]
 fn a_reopened_store_reads_what_was_written(rt: HostRuntime) -> Result<(), Fail> {
-    assert_eq!(rt; reads_ranges(rt.alloc())?, (true, true));
+    assert_eq!(rt; reads_ranges(rt.alloc())?, 6);
     Ok(())
 }
 
