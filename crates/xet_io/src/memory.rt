@@ -32,6 +32,13 @@ impl MemorySink {
         }
     }
 
+    /// A sink to which these bytes were written, and with their room. It takes no memory.
+    pub fn from_vec(bytes: Vec<u8>) -> MemorySink
+        ensures { result ≡ bytes.items }
+    {
+        MemorySink { buffer: bytes }
+    }
+
     /// The bytes that were written.
     pub fn bytes(&self) -> &[u8]
         ensures { result.now ≡ self.now }

@@ -53,5 +53,5 @@ pub record AreOfShard (p : Records) : Type 0 where
 abbrev pub IsNoText : Records × Records → ℕ → ℕ → StoreError → Type 0
 IsNoText p creation other OutOfMemory = Unit {0}
 IsNoText p creation other InvalidArguments = AgreeBoth p → ⊥
-IsNoText p creation other (MalformedData reason) = (reason ≡ SectionPlace) × HasTooMany (union_shard p creation other)
+IsNoText p creation other (MalformedData reason) = (reason ≡ SectionPlace) × AgreeBoth p × HasTooMany (union_shard p creation other)
 IsNoText p creation other e = ⊥

@@ -81,4 +81,4 @@ IsNoUnion f g read (Io Output) = Unit {0}
 IsNoUnion f g read InvalidArguments = IsKeyed f ⊎ IsKeyed g ⊎ ((both : Records × Records) × (read ≡ Ok both) × (AgreeBoth both → ⊥))
 IsNoUnion f g read e =
     (read ≡ Err e)
-    ⊎ ((e ≡ MalformedData SectionPlace) × (both : Records × Records) × (read ≡ Ok both) × HasTooMany (union_shard both f.shard_creation_timestamp g.shard_creation_timestamp))
+    ⊎ ((e ≡ MalformedData SectionPlace) × (both : Records × Records) × (read ≡ Ok both) × AgreeBoth both × HasTooMany (union_shard both f.shard_creation_timestamp g.shard_creation_timestamp))

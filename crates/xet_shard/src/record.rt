@@ -340,6 +340,17 @@ impl MDBXorbInfo {
         self.metadata.xorb_hash
     }
 
+    /// A copy. Where there is no memory for it, the call fails with `StoreError::OutOfMemory`.
+    pub fn copy(&self, alloc: Global) -> Result<MDBXorbInfo, StoreError>
+        ensures copy { IfOk result (λ copy. copy ≡ self.now) }
+        ensures memory { IsOkUnless result StoreError.OutOfMemory }
+    {
+        Ok(MDBXorbInfo {
+            metadata: self.metadata,
+            chunks: Items::from_vec(Vec::from_slice(alloc, self.chunks.as_slice())?),
+        })
+    }
+
     /// The bytes of its chunks together, as its head tells them.
     pub(crate) fn told_size(&self) -> u64
         ensures size { result ≡ self.now.metadata.num_bytes_in_xorb }

@@ -23,9 +23,9 @@ type Records = (Vec<MDBXorbInfo>, Vec<MDBFileInfo>);
 /// Writes the full text of the shard of all xorbs and files of two shards, each hash once, without a key
 /// and without an expiry, created at the later of their moments, and gives its header and footer. The call
 /// fails with `InvalidArguments` where either is keyed, or where one hash has two different records; files
-/// and xorbs that are malformed are refused by the first check that fails, those of the first shard first,
-/// and nothing is written. A failing reader is `Io(Input)`, a failing sink `Io(Output)`; a section of 2^32
-/// rows or more is `MalformedData(SectionPlace)`.
+/// and xorbs that are malformed are refused by the first check that fails, those of the first shard first.
+/// After these refusals nothing was written. A failing reader is `Io(Input)`, a failing sink `Io(Output)`;
+/// where no records differ, a section of 2^32 rows or more is `MalformedData(SectionPlace)`.
 pub fn shard_set_union<R: ReadAt, Q: ReadAt, W: Sink>(
     alloc: Global,
     first: &MDBShardInfo,
@@ -35,6 +35,7 @@ pub fn shard_set_union<R: ReadAt, Q: ReadAt, W: Sink>(
     sink: &mut W,
 ) -> Result<MDBShardInfo, StoreError>
     ensures keyed { IsKeyed first.now.metadata ⊎ IsKeyed second.now.metadata → IsErrOf result StoreError.InvalidArguments }
+    ensures nothing { IsKeyed first.now.metadata ⊎ IsKeyed second.now.metadata → W.written sink.new ≡ W.written sink.old }
     ensures written { R.tells reader.old ≡ true → Q.tells other.old ≡ true → W.tells sink.old ≡ true
         → IfOk result (λ info. IsUnion (both_in first.now.metadata (R.bytes reader.old) second.now.metadata (Q.bytes other.old)) first.now.metadata.shard_creation_timestamp second.now.metadata.shard_creation_timestamp info (W.written sink.old) (W.written sink.new)) }
     ensures front { R.tells reader.old ≡ true → Q.tells other.old ≡ true → W.tells sink.old ≡ true
