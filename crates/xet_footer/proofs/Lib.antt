@@ -9,7 +9,9 @@ pub mod Known
 pub mod Starts
 pub mod Taking
 pub mod Readback
+pub mod ReadbackV0
 pub mod Endings
+pub mod LastRead
 pub mod Exits
 pub mod Joining
 pub mod Decoding

@@ -20,16 +20,16 @@ is_back : (n : ℕ) (reason : Reason) (more : List ℕ) → n < 2 ^ 32 → numbe
 is_back n reason more small =
     number_is_whole n reason (number n) more refl ∙ ap (λ (b : _). wants b reason >>= λ _. Ok (tt, more)) (eq-eqb (from_le_bytes w32 (number n)) n (from_le_bytes-to_le_bytes_4 n small))
 
-count_back : (n : ℕ) (more : List ℕ) → n ≤ most_chunks → count_at (number n ++ more) ≡ Ok (n, more)
+pub count_back : (n : ℕ) (more : List ℕ) → n ≤ most_chunks → count_at (number n ++ more) ≡ Ok (n, more)
 unfolding count_at
 count_back n more few = rw (number_back n more (omega arith), le-leb n most_chunks few) refl
 
-hashes_back : (hs : List (List ℕ)) (more : List ℕ) → AllByRecursion (λ h. length h ≡ 32) hs → times (bytes_at 32) (length hs) (joined hs ++ more) ≡ Ok (hs, more)
+pub hashes_back : (hs : List (List ℕ)) (more : List ℕ) → AllByRecursion (λ h. length h ≡ 32) hs → times (bytes_at 32) (length hs) (joined hs ++ more) ≡ Ok (hs, more)
 unfolding times
 hashes_back [] more all = refl
 hashes_back (h ∷ hs) more all = rw (append_assoc h (joined hs) more, bytes_whole 32 h (joined hs ++ more) all.0, hashes_back hs more all.1) refl
 
-numbers_back : (ns : List ℕ) (more : List ℕ) → AllByRecursion (λ n. n < 2 ^ 32) ns → times number_at (length ns) (numbers ns ++ more) ≡ Ok (ns, more)
+pub numbers_back : (ns : List ℕ) (more : List ℕ) → AllByRecursion (λ n. n < 2 ^ 32) ns → times number_at (length ns) (numbers ns ++ more) ≡ Ok (ns, more)
 unfolding times
 numbers_back [] more all = refl
 numbers_back (n ∷ ns) more all =
@@ -126,7 +126,7 @@ written_is_read i more s =
     ∙ rest_back i.xorb_hash i.num_chunks i.chunk_hashes i.chunk_boundary_offsets i.unpacked_chunk_offsets i.spare more s.hash s.few s.lists.hashes s.lists.stored s.lists.plain s.whole_hashes s.small_stored s.small_plain s.spare
     ∙ ap (λ (x : XorbObjectInfoV1). Ok (x, more)) (sym is)
 
-length_joined : (hs : List (List ℕ)) → AllByRecursion (λ h. length h ≡ 32) hs → length (joined hs) ≡ 32 * length hs
+pub length_joined : (hs : List (List ℕ)) → AllByRecursion (λ h. length h ≡ 32) hs → length (joined hs) ≡ 32 * length hs
 length_joined [] all = refl
 length_joined (h ∷ hs) all = omega (arith, length-append h (joined hs), all.0, length_joined hs all.1)
 

@@ -1,9 +1,11 @@
 -- What is written of a footer is read back.
 use Rattle.std.specs.Prelude.{◌≡◌, ◌<◌, ◌≤◌, ℕ, ◌+◌, ◌*◌, ◌^◌, List, ◌++◌, length, Ok}
 use Rattle.std.specs.List.{AllByRecursion}
+use Rattle.xet_footer.specs.declared.info.XorbObjectInfoV0.{XorbObjectInfoV0}
 use Rattle.xet_footer.specs.declared.info.XorbObjectInfoV1.{XorbObjectInfoV1}
+use Rattle.xet_footer.specs.Ends.{last_footer}
 use Rattle.xet_footer.specs.Reading.{footer_at}
-use Rattle.xet_footer.specs.Spelled.{HasLists, boundaries_ident, footer_ident, hashes_ident, most_chunks, text_v1}
+use Rattle.xet_footer.specs.Spelled.{HasLists, boundaries_ident, footer_ident, hashes_ident, most_chunks, number, of_v0, text_v0, text_v1}
 
 -- a footer of version 1 as it is to be
 pub record IsStandard (i : XorbObjectInfoV1) : Type 0 where
@@ -28,3 +30,30 @@ WrittenIsRead = (i : XorbObjectInfoV1) (more : List ℕ) → IsStandard i → fo
 
 abbrev pub LengthIsKnown : Type 0
 LengthIsKnown = (i : XorbObjectInfoV1) → IsStandard i → length (text_v1 i) ≡ 92 + 40 * i.num_chunks
+
+-- a footer that is read at the end of other bytes, before its length
+abbrev pub LastIsRead : Type 0
+LastIsRead = (i : XorbObjectInfoV1) (front : List ℕ) → IsStandard i → last_footer (front ++ (text_v1 i ++ number (92 + 40 * i.num_chunks))) ≡ Ok (i, 92 + 40 * i.num_chunks)
+
+-- ---- version 0
+
+-- a footer of version 0 as it is to be
+pub record IsStandardV0 (i : XorbObjectInfoV0) : Type 0 where
+  pub ident : i.ident ≡ footer_ident
+  pub version : i.version ≡ 0
+  pub hash : length i.xorb_hash ≡ 32
+  pub few : i.num_chunks ≤ most_chunks
+  pub hashes : length i.chunk_hashes ≡ i.num_chunks
+  pub stored : length i.chunk_boundary_offsets ≡ i.num_chunks
+  pub whole_hashes : AllByRecursion (λ h. length h ≡ 32) i.chunk_hashes
+  pub small_stored : AllByRecursion (λ n. n < 2 ^ 32) i.chunk_boundary_offsets
+  pub spare : length i.spare ≡ 16
+
+abbrev pub WrittenIsReadV0 : Type 0
+WrittenIsReadV0 = (i : XorbObjectInfoV0) (more : List ℕ) → IsStandardV0 i → footer_at (text_v0 i ++ more) ≡ Ok (of_v0 i, more)
+
+abbrev pub LengthIsKnownV0 : Type 0
+LengthIsKnownV0 = (i : XorbObjectInfoV0) → IsStandardV0 i → length (text_v0 i) ≡ 60 + 36 * i.num_chunks
+
+abbrev pub LastIsReadV0 : Type 0
+LastIsReadV0 = (i : XorbObjectInfoV0) (front : List ℕ) → IsStandardV0 i → last_footer (front ++ (text_v0 i ++ number (60 + 36 * i.num_chunks))) ≡ Ok (of_v0 i, 60 + 36 * i.num_chunks)

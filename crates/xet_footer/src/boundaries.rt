@@ -10,7 +10,7 @@ ghost use Rattle.xet_footer.specs.Reading.{number_at, number_is, times};
 ghost use Rattle.xet_footer.specs.Refusals.{IsFooterRefusal, is_check};
 ghost use Rattle.xet_footer.specs.Spelled.{most_chunks};
 
-use crate::ends::{fill, length_of};
+use crate::ends::{read_exact, reader_length};
 use crate::info::{BOUNDARIES_IDENT, XorbObjectInfoV1};
 use crate::machine::{MOST_CHUNKS, push_numbers};
 use std::alloc::Global;
@@ -40,7 +40,7 @@ impl XorbObjectInfoV1 {
         ensures same { R.bytes reader.new ≡ R.bytes reader.old }
         ensures tells { R.tells reader.new ≡ R.tells reader.old }
     {
-        let end = length_of(reader)?;
+        let end = reader_length(reader)?;
         let at = boundaries_start(reader, end)?;
         let info = read_boundaries(alloc, reader, at, end)?;
         let count = 40 + 8 * info.num_chunks;
@@ -63,7 +63,7 @@ fn read_part<R: ReadAt>(reader: &mut R, at: u64, end: u64, buf: &mut [u8]) -> Re
     if end - at < buf.len() as u64 {
         return Err(StoreError::UnexpectedEof);
     }
-    fill(reader, at, buf)
+    read_exact(reader, at, buf)
 }
 
 /// The number at a place before the end.

@@ -32,7 +32,7 @@ pub fn told_length<R: ReadAt>(reader: &mut R) -> Result<u32, StoreError>
     ensures same { R.bytes reader.new ≡ R.bytes reader.old }
     ensures tells { R.tells reader.new ≡ R.tells reader.old }
 {
-    let len = length_of(reader)?;
+    let len = reader_length(reader)?;
     number_at_end(reader, len)
 }
 
@@ -51,12 +51,12 @@ pub fn last_footer<R: ReadAt>(
     ensures same { R.bytes reader.new ≡ R.bytes reader.old }
     ensures tells { R.tells reader.new ≡ R.tells reader.old }
 {
-    let len = length_of(reader)?;
+    let len = reader_length(reader)?;
     footer_before(alloc, reader, len)
 }
 
-/// The number of a reader's bytes.
-pub(crate) fn length_of<R: ReadAt>(reader: &mut R) -> Result<u64, StoreError>
+/// How many bytes a reader has. It takes no memory. Refused as `Io(Input)`.
+pub fn reader_length<R: ReadAt>(reader: &mut R) -> Result<u64, StoreError>
     ensures told { R.tells reader.old ≡ true → IfOk result (λ len. len ≡ length (R.bytes reader.old)) }
     ensures fault { IfErr result (λ e. e ≡ Io Input) }
     ensures cause { HasCause (R.faults reader.old) (R.faults reader.new) (IsErrOf result (Io Input)) }
@@ -69,8 +69,9 @@ pub(crate) fn length_of<R: ReadAt>(reader: &mut R) -> Result<u64, StoreError>
     }
 }
 
-/// Fills `buf` with the bytes from place `at` on. A reader that tells its bytes has as many.
-pub(crate) fn fill<R: ReadAt>(reader: &mut R, at: u64, buf: &mut [u8]) -> Result<(), StoreError>
+/// Fills `buf` with a reader's bytes from place `at` on. It takes no memory. Refused as `UnexpectedEof` where
+/// the reader ends before `buf` is full, or as `Io(Input)`; what `buf` then holds is not said.
+pub fn read_exact<R: ReadAt>(reader: &mut R, at: u64, buf: &mut [u8]) -> Result<(), StoreError>
     requires { at + length buf.old < 2 ^ 64 }
     ensures told { R.tells reader.old ≡ true → at + length buf.old ≤ length (R.bytes reader.old) → OnOk result (buf.new ≡ take (length buf.old) (drop at (R.bytes reader.old))) }
     ensures fault { R.tells reader.old ≡ true → at + length buf.old ≤ length (R.bytes reader.old) → IfErr result (λ e. e ≡ Io Input) }
@@ -100,7 +101,7 @@ fn number_at_end<R: ReadAt>(reader: &mut R, len: u64) -> Result<u32, StoreError>
         return Err(StoreError::UnexpectedEof);
     }
     let mut last = [0; 4];
-    fill(reader, len - LENGTH_SIZE, &mut last)?;
+    read_exact(reader, len - LENGTH_SIZE, &mut last)?;
     Ok(u32::from_le_bytes(last))
 }
 
@@ -181,7 +182,7 @@ fn read_field_at<R: ReadAt>(
         return Err(StoreError::UnexpectedEof);
     }
     let (field, _) = block.split_at_mut(wanted);
-    fill(reader, at, field)?;
+    read_exact(reader, at, field)?;
     footer.take(field)?;
     Ok(at + wanted as u64)
 }

@@ -1,8 +1,9 @@
 //! Footers of xorbs, as values.
 
-ghost use Rattle.std.specs.Prelude.{◌≡◌, ◌≤◌, ◌≢◌, ◌↔◌, [], IfOk, IsOkUnless, IsTrue, length};
+ghost use Rattle.std.specs.Prelude.{◌+◌, ◌*◌, ◌≡◌, ◌≤◌, ◌≢◌, ◌↔◌, [], IfOk, IsOkUnless, IsTrue, length};
 ghost use Rattle.xet_footer.specs.Spelled.{HasShortLists, empty_v0, empty_v1, filled, length_of, most_chunks, of_v0, of_v0_with};
 
+use serde::Serialize;
 use std::alloc::Global;
 use xet_base::Items;
 use xet_hash::{MerkleHash, StoreError};
@@ -22,14 +23,15 @@ pub(crate) const HASHES_IDENT: XorbObjectIdent = *b"XBLBHSH";
 /// With what its section of boundaries begins.
 pub(crate) const BOUNDARIES_IDENT: XorbObjectIdent = *b"XBLBBND";
 
-/// A footer of version 0.
-#[derive(Debug, Drop)]
+/// A footer of version 0. JSON has its fields in this order, the hash as `cashash`, and no spare bytes.
+#[derive(PartialEq, Eq, Debug, Drop, Serialize)]
 pub struct XorbObjectInfoV0 {
     /// `XETBLOB`.
     pub ident: XorbObjectIdent,
     /// 0.
     pub version: u8,
     /// The hash of the xorb.
+    #[serde(rename = "cashash")]
     pub xorb_hash: MerkleHash,
     /// The number of chunks.
     pub num_chunks: u32,
@@ -38,17 +40,19 @@ pub struct XorbObjectInfoV0 {
     /// The hash of each chunk.
     pub chunk_hashes: Items<MerkleHash>,
     /// Kept as read.
+    #[serde(skip)]
     pub(crate) spare: [u8; SPARE],
 }
 
-/// A footer of version 1.
-#[derive(Debug, Drop)]
+/// A footer of version 1. JSON has its fields in this order, the hash as `cashash`, and no spare bytes.
+#[derive(PartialEq, Eq, Debug, Drop, Serialize)]
 pub struct XorbObjectInfoV1 {
     /// `XETBLOB`.
     pub ident: XorbObjectIdent,
     /// 1.
     pub version: u8,
     /// The hash of the xorb.
+    #[serde(rename = "cashash")]
     pub xorb_hash: MerkleHash,
     /// `XBLBHSH`.
     pub ident_hash_section: XorbObjectIdent,
@@ -71,6 +75,7 @@ pub struct XorbObjectInfoV1 {
     /// Where the section of boundaries begins, counted from the footer's end.
     pub boundary_section_offset_from_end: u32,
     /// Kept as read.
+    #[serde(skip)]
     pub(crate) spare: [u8; SPARE],
 }
 
@@ -87,6 +92,28 @@ impl XorbObjectInfoV0 {
             chunk_boundary_offsets: Items::new(alloc),
             chunk_hashes: Items::new(alloc),
             spare: [0; SPARE],
+        }
+    }
+
+    /// A footer of these lists, which have as many items as there are chunks, at most 107,374,180. It takes no
+    /// memory.
+    pub fn from_lists(
+        xorb_hash: MerkleHash,
+        stored_ends: Vec<u32>,
+        chunk_hashes: Vec<MerkleHash>,
+        spare: [u8; 16],
+    ) -> XorbObjectInfoV0
+        requires { length chunk_hashes.items ≤ most_chunks }
+        ensures { result ≡ record empty_v0 { xorb_hash = xorb_hash; num_chunks = length chunk_hashes.items; chunk_boundary_offsets = stored_ends.items; chunk_hashes = chunk_hashes.items; spare = spare } }
+    {
+        XorbObjectInfoV0 {
+            ident: FOOTER_IDENT,
+            version: 0,
+            xorb_hash,
+            num_chunks: chunk_hashes.len() as u32,
+            chunk_boundary_offsets: Items::from_vec(stored_ends),
+            chunk_hashes: Items::from_vec(chunk_hashes),
+            spare,
         }
     }
 
@@ -127,6 +154,37 @@ impl XorbObjectInfoV1 {
             hashes_section_offset_from_end: 52,
             boundary_section_offset_from_end: 40,
             spare: [0; SPARE],
+        }
+    }
+
+    /// A footer of these lists, which have as many items as there are chunks, at most 107,374,180. It takes no
+    /// memory.
+    pub fn from_lists(
+        xorb_hash: MerkleHash,
+        chunk_hashes: Vec<MerkleHash>,
+        stored_ends: Vec<u32>,
+        plain_ends: Vec<u32>,
+        spare: [u8; 16],
+    ) -> XorbObjectInfoV1
+        requires { length chunk_hashes.items ≤ most_chunks }
+        ensures { result ≡ record empty_v1 { xorb_hash = xorb_hash; chunk_hashes = chunk_hashes.items; chunk_boundary_offsets = stored_ends.items; unpacked_chunk_offsets = plain_ends.items; num_chunks = length chunk_hashes.items; hashes_section_offset_from_end = 52 + 40 * length chunk_hashes.items; boundary_section_offset_from_end = 40 + 8 * length chunk_hashes.items; spare = spare } }
+    {
+        let count = chunk_hashes.len() as u32;
+        XorbObjectInfoV1 {
+            ident: FOOTER_IDENT,
+            version: 1,
+            xorb_hash,
+            ident_hash_section: HASHES_IDENT,
+            hashes_version: 0,
+            chunk_hashes: Items::from_vec(chunk_hashes),
+            ident_boundary_section: BOUNDARIES_IDENT,
+            boundaries_version: 1,
+            chunk_boundary_offsets: Items::from_vec(stored_ends),
+            unpacked_chunk_offsets: Items::from_vec(plain_ends),
+            num_chunks: count,
+            hashes_section_offset_from_end: 52 + 40 * count,
+            boundary_section_offset_from_end: 40 + 8 * count,
+            spare,
         }
     }
 

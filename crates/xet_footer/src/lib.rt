@@ -12,7 +12,7 @@ mod reading;
 mod writing;
 
 pub use decoder::FooterDecoder;
-pub use ends::{last_footer, told_length};
+pub use ends::{last_footer, read_exact, reader_length, told_length};
 pub use info::{XorbObjectIdent, XorbObjectInfoV0, XorbObjectInfoV1};
 
 #[cfg(test)]

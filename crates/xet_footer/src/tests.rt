@@ -125,3 +125,27 @@ fn damaged(rt: HostRuntime) -> Result<(), Fail> {
     assert_eq!(rt; cut.err(), Some(StoreError::UnexpectedEof));
     Ok(())
 }
+
+/// A footer of version 0 and of one chunk.
+fn of_one_chunk(alloc: Global) -> Result<XorbObjectInfoV0, StoreError> {
+    let mut bytes = [0; 32];
+    bytes[0] = 1;
+    bytes[8] = 2;
+    bytes[16] = 3;
+    bytes[31] = 128;
+    of_chunks(alloc, &[11], &[MerkleHash::from_bytes(bytes)])
+}
+
+#[test]
+fn as_json(rt: HostRuntime) -> Result<(), Fail> {
+    let alloc = rt.alloc();
+    assert_eq!(rt;
+        serde_json::to_string(alloc, &XorbObjectInfoV1::default(alloc))?.as_str(),
+        r#"{"ident":[88,69,84,66,76,79,66],"version":1,"cashash":[0,0,0,0],"ident_hash_section":[88,66,76,66,72,83,72],"hashes_version":0,"chunk_hashes":[],"ident_boundary_section":[88,66,76,66,66,78,68],"boundaries_version":1,"chunk_boundary_offsets":[],"unpacked_chunk_offsets":[],"num_chunks":0,"hashes_section_offset_from_end":52,"boundary_section_offset_from_end":40}"#
+    );
+    assert_eq!(rt;
+        serde_json::to_string(alloc, &of_one_chunk(alloc)?)?.as_str(),
+        r#"{"ident":[88,69,84,66,76,79,66],"version":0,"cashash":[0,0,0,0],"num_chunks":1,"chunk_boundary_offsets":[11],"chunk_hashes":[[1,2,3,9223372036854775808]]}"#
+    );
+    Ok(())
+}

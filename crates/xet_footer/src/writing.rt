@@ -22,6 +22,7 @@ impl XorbObjectInfoV0 {
         requires stored { length self.now.chunk_boundary_offsets ≤ most_chunks }
         ensures written { W.tells sink.old ≡ true → OnOk result (W.written sink.new ≡ W.written sink.old ++ text_v0 self.now) }
         ensures bytes { IfOk result (λ n. n ≡ length (text_v0 self.now)) }
+        ensures length { IfOk result (λ n. n ≡ length_of_v0 self.now) }
         ensures front { W.tells sink.old ≡ true → (n : ℕ) × (W.written sink.new ≡ W.written sink.old ++ take n (text_v0 self.now)) }
         ensures refused { IfErr result StopsWriting }
         ensures cause { HasCause (W.faults sink.old) (W.faults sink.new) (IsErrOf result (Io Output)) }
@@ -74,6 +75,7 @@ impl XorbObjectInfoV1 {
         ensures lists { (HasLists self.now → ⊥) → IsErrOf result (MalformedData ListLength) }
         ensures written { W.tells sink.old ≡ true → OnOk result (W.written sink.new ≡ W.written sink.old ++ text_v1 self.now) }
         ensures bytes { IfOk result (λ n. n ≡ length (text_v1 self.now)) }
+        ensures length { IfOk result (λ n. n ≡ length_of self.now) }
         ensures nothing { W.tells sink.old ≡ true → IsErrOf result (MalformedData ListLength) → W.written sink.new ≡ W.written sink.old }
         ensures front { W.tells sink.old ≡ true → (n : ℕ) × (W.written sink.new ≡ W.written sink.old ++ take n (text_v1 self.now)) }
         ensures refused { IfErr result (λ e. (e ≡ Io Output) ⊎ (e ≡ OutOfMemory) ⊎ ((e ≡ MalformedData ListLength) × (HasLists self.now → ⊥))) }

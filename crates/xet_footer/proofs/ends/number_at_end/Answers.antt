@@ -8,5 +8,5 @@ returns-then-len-lt-LENGTH_SIZE-clause-refused g c = λ told len. inl (told_shor
 pub returns-clause-read : goal.returns-clause-read
 returns-clause-read g c = λ told len.
     let bytes = g.R.ReadAt.bytes c.args.reader.now in
-    let buf = c.fill.new.buf in
-    told_is c.args.len bytes buf len (omega arith) (c.in_ok-fill.ensures.told told (omega arith)) ∙ ap Ok (sym c.from_le_bytes.ensures)
+    let buf = c.read_exact.new.buf in
+    told_is c.args.len bytes buf len (omega arith) (c.in_ok-read_exact.ensures.told told (omega arith)) ∙ ap Ok (sym c.from_le_bytes.ensures)

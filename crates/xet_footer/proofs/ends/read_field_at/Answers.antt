@@ -17,15 +17,15 @@ returns-in_err-take-clause-refused g c = λ told end.
     let bytes = g.R.ReadAt.bytes c.args.reader.now in
     let n = c.wanted-wanted.result in
     let len = c.split_at_mut-field.ensures.front_len in
-    let is = c.in_ok-fill.ensures.told told (omega arith) ∙ ap (λ (k : ℕ). take k (drop c.args.at bytes)) len in
+    let is = c.in_ok-read_exact.ensures.told told (omega arith) ∙ ap (λ (k : ℕ). take k (drop c.args.at bytes)) len in
     let r = c.args.footer.now in
     exit_with (λ (e : StoreError). (rest_of r (drop c.args.at bytes) ≡ Err e) ⊎ (e ≡ Io Input) ⊎ (e ≡ OutOfMemory)) _ _ c.from_residual-in_err-take.ensures.1
-    (field_refused r.next (parts_of r) n c.args.at c.fill.new.buf bytes _ is c.in_err-take.ensures.refused)
+    (field_refused r.next (parts_of r) n c.args.at c.read_exact.new.buf bytes _ is c.in_err-take.ensures.refused)
 
 pub returns-clause-taken : goal.returns-clause-taken
 returns-clause-taken g c = λ told end.
     let bytes = g.R.ReadAt.bytes c.args.reader.now in
     let n = c.wanted-wanted.result in
     let len = c.split_at_mut-field.ensures.front_len in
-    let two = field_then n c.args.at c.fill.new.buf bytes (c.in_ok-fill.ensures.told told (omega arith) ∙ ap (λ (k : ℕ). take k (drop c.args.at bytes)) len) in
+    let two = field_then n c.args.at c.read_exact.new.buf bytes (c.in_ok-read_exact.ensures.told told (omega arith) ∙ ap (λ (k : ℕ). take k (drop c.args.at bytes)) len) in
     ap (λ (b : List ℕ). rest_of c.args.footer.now b) two ∙ c.in_ok-take.ensures.taken (drop (c.args.at + n) bytes)
