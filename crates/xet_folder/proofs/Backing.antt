@@ -1,17 +1,16 @@
 -- What backs the members of a xorb.
-use Rattle.std.proofs.Common.{◌≡◌, ◌≢◌, ◌∙◌, ℕ, ◌<◌, ◌≤◌, ◌^◌, Bool, true, false, not, List, [], ◌∷◌, map, length, Option, Some, IsSome, refl, sym, ap, subst, arith, nat_eq}
-use Rattle.std.proofs.lemmas.List.Elements.{All-from_recursion, recursion_from_All}
+use Rattle.std.proofs.Common.{◌≡◌, ◌≢◌, ◌∙◌, ℕ, ◌+◌, ◌-◌, ◌<◌, ◌≤◌, ◌^◌, Bool, true, false, not, List, [], ◌∷◌, map, length, Option, Some, None, IfSome, IsNone, IsSome, is_some, refl, sym, ap, subst, arith, nat_eq}
 use Rattle.std.specs.Cmp.Lexicographic.{bytes_decides, pointwise}
-use Rattle.std.specs.List.{All, AllByRecursion}
+use Rattle.std.specs.List.{AllByRecursion}
 use Rattle.xet_io.specs.Disk.{Files, bytes_at}
-use Rattle.xet_hash.specs.Merkle.{chunk_hash, members_of, xorb_hash}
-use Rattle.xet_xorb.specs.Chunks.{bytes_of, chunk_member}
+use Rattle.xet_hash.specs.Merkle.{members_of}
+use Rattle.xet_xorb.specs.declared.object.XorbObject.{XorbObject}
+use Rattle.xet_xorb.specs.Footer.{V0, V1, Version, ends_from, footer_info}
+use Rattle.xet_xorb.specs.Validation.{IsValid, IsXorbOf}
 use Rattle.xet_xorb.specs.Xorb.{IsXorbText}
-use Rattle.xet_xorb.specs.declared.chunk.Chunk.{Chunk}
-use Rattle.xet_xorb.proofs.Determined.{text_determines}
-use Rattle.xet_xorb.proofs.Grammar.{members_are}
 use Rattle.xet_folder.specs.Names.{xorb_path}
 use Rattle.xet_folder.specs.Stored.{IsBacked, IsStored}
+use Rattle.xet_folder.specs.Xorbs.{spans_from}
 
 -- what the test of two hashes tells
 pub differ : (x y : List ℕ) → not (pointwise nat_eq x y) ≡ true → x ≢ y
@@ -28,34 +27,53 @@ same_hash x y n = (bytes_decides x y).0 (go (pointwise nat_eq x y) n)
     go true n = refl
     go false n = absurd (cc n)
 
-all_readable : (chunks : List Chunk) → AllByRecursion (λ c. length c.bytes ≤ 8388607) chunks → AllByRecursion (λ b. length b < 2 ^ 23) (map bytes_of chunks)
-all_readable [] h = tt
-all_readable (c ∷ cs) h = (let here = h.0 in omega arith, all_readable cs h.1)
+readable : (chunks : List (List ℕ)) → AllByRecursion (λ b. length b ≤ 8388607) chunks → AllByRecursion (λ b. length b < 2 ^ 23) chunks
+readable [] h = tt
+readable (c ∷ cs) h = (let here = h.0 in omega arith, readable cs h.1)
+
+fitting : (chunks : List (List ℕ)) → AllByRecursion (λ b. length b < 2 ^ 23) chunks → AllByRecursion (λ b. length b ≤ 8388607) chunks
+fitting [] h = tt
+fitting (c ∷ cs) h = (let here = h.0 in omega arith, fitting cs h.1)
+
+-- ends give the members back
+spans_back : (at : ℕ) (ms : List (List ℕ × ℕ)) → spans_from at (map (λ (m : List ℕ × ℕ). m.0) ms) (ends_from 8 at ms) ≡ ms
+unfolding ends_from
+spans_back at [] = refl
+spans_back at (m ∷ ms) =
+    let span : (at + (m.1 + 8)) - (at + 8) ≡ m.1 = omega arith in let rest = spans_back (at + (m.1 + 8)) ms in λ i. (m.0, span i) ∷ rest i
+
+-- and so do those of a footer
+spans_listed : (version : Version) (hash : List ℕ) (ms : List (List ℕ × ℕ)) (spare : List ℕ)
+    → let info = footer_info version hash ms spare in spans_from 0 info.chunk_hashes info.chunk_boundary_offsets ≡ ms
+spans_listed V0 hash ms spare = spans_back 0 ms
+spans_listed V1 hash ms spare = spans_back 0 ms
 
 module _ (files : Files) (folder h bytes : List ℕ) (there : bytes_at files (xorb_path folder h) ≡ Some bytes) where
   pub bytes_there : IsSome (bytes_at files (xorb_path folder h))
   bytes_there = subst (λ (o : Option (List ℕ)). IsSome o) (sym there) refl
 
-  text_of : (chunks : List (List ℕ)) → IsStored files folder h chunks → IsXorbText bytes chunks
-  text_of chunks s = let same : s.bytes ≡ bytes = cc (s.there, there) in subst (λ (b : List ℕ). IsXorbText b chunks) same s.text
-
-  -- a xorb's text under its name backs its chunks
-  pub backed : (chunks : List Chunk) → All (λ c. c.hash ≡ chunk_hash c.bytes) chunks → All (λ c. length c.bytes ≤ 8388607) chunks → IsXorbText bytes (map bytes_of chunks)
-      → h ≡ xorb_hash (map chunk_member chunks) → IsBacked files folder h (map chunk_member chunks)
-  backed chunks digests small text is_hash =
-      let same : map chunk_member chunks ≡ members_of (map bytes_of chunks) = members_are chunks digests in
+  -- a xorb under its name backs its chunks
+  backed : (chunks : List (List ℕ)) (o : XorbObject) → IsValid 8388607 h bytes chunks o → IsBacked files folder h (spans_from 0 o.info.chunk_hashes o.info.chunk_boundary_offsets)
+  backed chunks o v =
+      let ms = members_of chunks in
+      let listed : spans_from 0 o.info.chunk_hashes o.info.chunk_boundary_offsets ≡ ms =
+      ap (λ (o : XorbObject). spans_from 0 o.info.chunk_hashes o.info.chunk_boundary_offsets) v.listed ∙ spans_listed v.xorb.text.version h ms v.xorb.text.spare in
       record {
-        chunks = map bytes_of chunks;
-        stored = record { bytes = bytes; there = there; text = text; readable = all_readable chunks (recursion_from_All _ chunks small); hash = sym (is_hash ∙ ap xorb_hash same) };
-        same = sym same;
+        chunks = chunks;
+        stored = record { bytes = bytes; there = there; text = v.xorb.text; readable = readable chunks v.xorb.fit; hash = v.xorb.hashed };
+        same = sym listed;
       }
 
-  -- where no chunks that can be read have the text, none are stored
-  pub no_text : ((chunks : List (List ℕ)) → IsXorbText bytes chunks → All (λ b. length b ≤ 8388607) chunks → ⊥) → (chunks : List (List ℕ)) → IsStored files folder h chunks → ⊥
-  no_text never chunks s = never chunks (text_of chunks s) (λ k d below. let short : length _ < 2 ^ 23 = All-from_recursion _ chunks s.readable k d below in omega arith)
+  pub found_backed : (seen : List ℕ) (found : Option XorbObject) (o : XorbObject) (ms : List (List ℕ × ℕ)) → seen ≡ bytes → found ≡ Some o
+      → IfSome found (λ object. (chunks : List (List ℕ)) × IsValid 8388607 h seen chunks object)
+      → ms ≡ spans_from 0 o.info.chunk_hashes o.info.chunk_boundary_offsets → IsBacked files folder h ms
+  found_backed seen found o ms all is valid spans =
+      let v = subst (λ (x : Option XorbObject). IfSome x (λ object. (chunks : List (List ℕ)) × IsValid 8388607 h seen chunks object)) is valid in
+      subst (λ (l : List (List ℕ × ℕ)). IsBacked files folder h l) (sym spans) (backed v.0 o (subst (λ (b : List ℕ). IsValid 8388607 h b v.0 o) all v.1))
 
-  -- nor where the text has another hash
-  pub no_other_text : (read : List Chunk) (hash : List ℕ) → All (λ c. c.hash ≡ chunk_hash c.bytes) read → IsXorbText bytes (map bytes_of read) → hash ≡ xorb_hash (map chunk_member read) → hash ≢ h
+  -- where the bytes are no xorb of that hash, none is stored
+  pub none_stored : (seen : List ℕ) (found : Option XorbObject) → seen ≡ bytes → found ≡ None → (IsNone found → (chunks : List (List ℕ)) → IsXorbOf 8388607 h seen chunks → ⊥)
       → (chunks : List (List ℕ)) → IsStored files folder h chunks → ⊥
-  no_other_text read hash digests text is_hash other chunks s =
-      other (is_hash ∙ ap xorb_hash (members_are read digests ∙ ap members_of (text_determines bytes (map bytes_of read) chunks text (text_of chunks s))) ∙ s.hash)
+  none_stored seen found all is never chunks s =
+      let same : s.bytes ≡ seen = cc (s.there, there) ∙ sym all in
+      never (ap is_some is) chunks (record { text = subst (λ (b : List ℕ). IsXorbText b chunks) same s.text; fit = fitting chunks s.readable; hashed = s.hash })

@@ -15,3 +15,4 @@ pub mod ListedShards
 pub mod Firsts
 pub mod MoreShards
 pub mod Stopping
+pub mod Spans

@@ -4,13 +4,13 @@ use Rattle.std.proofs.lemmas.Grind.{flat_map-append}
 use Rattle.std.proofs.lemmas.List.{drop-drop, drop-map, drop-take, drop_at, length-drop, length-take-le, take-append-drop, take-map, take-take, take_all, take_at}
 use Rattle.std.proofs.lemmas.List.Sums.{sum_by-cons}
 use Rattle.std.specs.List.{concat, flat_map}
-use Rattle.std.specs.Int.{w32, to_le_bytes}
 use Rattle.xet_io.specs.Disk.{Files, FillsFrom, bytes_at}
-use Rattle.xet_hash.specs.Merkle.{chunk_hash, member_of, members_of, total_len}
+use Rattle.xet_hash.specs.Merkle.{chunk_hash, member_of, members_of, total_len, xorb_hash}
 use Rattle.xet_shard.specs.declared.record.FileDataSequenceEntry.{FileDataSequenceEntry as Segment}
-use Rattle.xet_xorb.specs.Spelling.{spelling}
-use Rattle.xet_xorb.specs.Xorb.{IsXorbText}
-use Rattle.xet_xorb.proofs.Parts.{parts}
+use Rattle.xet_footer.specs.Spelled.{number}
+use Rattle.xet_chunk.specs.Spelling.{spelling}
+use Rattle.xet_xorb.specs.Xorb.{IsXorbText, xorb_text}
+use Rattle.xet_xorb.specs.Footer.{footer_len, footer_text}
 use Rattle.xet_folder.specs.Names.{xorb_path}
 use Rattle.xet_folder.specs.Plan.{LiesIn, part, range}
 use Rattle.xet_folder.specs.Runs.{HasPlace, Spells, Touches, stored_len}
@@ -57,8 +57,8 @@ piece-piece at n first count xs within =
 
 -- ---- the place of chunks in a xorb
 
-regroup : (before here rest foot last : List ℕ) → (before ++ (here ++ rest)) ++ foot ++ last ≡ before ++ (here ++ (rest ++ foot ++ last))
-regroup before here rest foot last = simp append_assoc
+regroup : (before here rest foot : List ℕ) → (before ++ (here ++ rest)) ++ foot ≡ before ++ (here ++ (rest ++ foot))
+regroup before here rest foot = simp append_assoc
 
 -- Stored chunks stand behind those before them.
 record IsPlace (bytes before here : List ℕ) : Type 0 where
@@ -66,18 +66,19 @@ record IsPlace (bytes before here : List ℕ) : Type 0 where
   is : bytes ≡ before ++ (here ++ after)
 
 place_in : (bytes : List ℕ) (chunks : List (List ℕ)) (at count : ℕ) → IsXorbText bytes chunks → IsPlace bytes (flat_map spelling (take at chunks)) (flat_map spelling (piece at count chunks))
+unfolding xorb_text
 place_in bytes chunks at count text =
-    let p = parts bytes chunks text in
-    let last : List ℕ = to_le_bytes w32 (92 + 40 * length chunks) in
+    let ms = members_of chunks in
+    let foot : List ℕ = footer_text text.version (xorb_hash ms) ms text.spare ++ number (footer_len text.version (length ms)) in
     let rest : List (List ℕ) = drop count (drop at chunks) in
     let two : flat_map spelling chunks ≡ flat_map spelling (take at chunks) ++ flat_map spelling (drop at chunks) =
     ap (λ (l : List (List ℕ)). flat_map spelling l) (sym (take-append-drop at chunks)) ∙ flat_map-append spelling (take at chunks) (drop at chunks) in
     let three : flat_map spelling (drop at chunks) ≡ flat_map spelling (piece at count chunks) ++ flat_map spelling rest =
     ap (λ (l : List (List ℕ)). flat_map spelling l) (sym (take-append-drop count (drop at chunks))) ∙ flat_map-append spelling (piece at count chunks) rest in
     record {
-      after = flat_map spelling rest ++ p.foot ++ last;
-      is = p.told ∙ ap (λ (l : List ℕ). l ++ p.foot ++ last) (two ∙ ap (λ (l : List ℕ). flat_map spelling (take at chunks) ++ l) three)
-          ∙ regroup (flat_map spelling (take at chunks)) (flat_map spelling (piece at count chunks)) (flat_map spelling rest) p.foot last;
+      after = flat_map spelling rest ++ foot;
+      is = text.spelled ∙ ap (λ (l : List ℕ). l ++ foot) (two ∙ ap (λ (l : List ℕ). flat_map spelling (take at chunks) ++ l) three)
+          ∙ regroup (flat_map spelling (take at chunks)) (flat_map spelling (piece at count chunks)) (flat_map spelling rest) foot;
     }
 
 place_reaches : (bytes before here : List ℕ) → IsPlace bytes before here → length before + length here ≤ length bytes

@@ -7,7 +7,7 @@ use Rattle.xet_hash.specs.declared.error.StoreError.{StoreError}
 use Rattle.xet_hash.specs.declared.error.StoreError.TheVariants.{Io, MalformedData, OutOfMemory}
 use Rattle.xet_hash.specs.declared.error.Place.TheVariants.{Disk}
 use Rattle.xet_hash.specs.declared.error.Reason.TheVariants.{XorbText}
-use Rattle.xet_xorb.specs.Spelling.{spelling}
+use Rattle.xet_chunk.specs.Spelling.{spelling}
 
 -- the bytes of chunks as they are stored, each behind a header of eight bytes
 abbrev pub stored_len : List (List ℕ × ℕ) → ℕ

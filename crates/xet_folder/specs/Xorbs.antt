@@ -1,5 +1,5 @@
 -- Xorbs that were read of a store's folder.
-use Rattle.std.specs.Prelude.{◌≡◌, ℕ, List, Option, Some, None, IsSome, nat_eq}
+use Rattle.std.specs.Prelude.{◌≡◌, ℕ, ◌+◌, ◌-◌, List, [], ◌∷◌, Option, Some, None, IsSome, nat_eq}
 use Rattle.std.specs.Cmp.Lexicographic.{pointwise}
 use Rattle.std.specs.Map.{lookup}
 use Rattle.xet_io.specs.Disk.{Files, bytes_at}
@@ -28,6 +28,13 @@ Records = List (List ℕ × List Segment)
 -- each of them is stored so
 abbrev pub AreBacked : Files → List ℕ → Xorbs → Type 0
 AreBacked files folder xorbs = (h : List ℕ) (members : List (List ℕ × ℕ)) → found xorbs h ≡ Some members → IsBacked files folder h members
+
+-- The digest and the length of each chunk by the digests and the ends of the stored chunks, of which the first stands
+-- behind so many bytes. Eight bytes of each are its header.
+abbrev pub spans_from : ℕ → List (List ℕ) → List ℕ → List (List ℕ × ℕ)
+spans_from at [] ends = []
+spans_from at (h ∷ hs) [] = []
+spans_from at (h ∷ hs) (end ∷ ends) = (h, end - (at + 8)) ∷ spans_from end hs ends
 
 -- What was read of a xorb: there is no file of it; there is one, which is not a xorb of that hash whose
 -- chunks can be read; or its chunks' digests and lengths.

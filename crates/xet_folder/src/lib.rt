@@ -28,3 +28,5 @@ pub use xorbs::{XorbFile, XorbTable, read_xorb};
 mod run_tests;
 #[cfg(test)]
 mod tests;
+#[cfg(test)]
+mod texts;

@@ -4,8 +4,8 @@ ghost use Rattle.std.specs.Prelude.{◌≡◌, ◌≤◌, ◌<◌, ◌+◌, ◌-
 ghost use Rattle.std.specs.List.{concat, flat_map};
 ghost use Rattle.xet_io.specs.Disk.{FillsFrom, bytes_at};
 ghost use Rattle.xet_hash.specs.Merkle.{members_of, total_len};
-ghost use Rattle.xet_xorb.specs.Reading.{IsRefusal};
-ghost use Rattle.xet_xorb.specs.Spelling.{spelling};
+ghost use Rattle.xet_folder.specs.Refusals.{IsRefusal};
+ghost use Rattle.xet_chunk.specs.Spelling.{spelling};
 ghost use Rattle.xet_folder.specs.Plan.{LiesIn, part, range};
 ghost use Rattle.xet_folder.specs.Runs.{HasPlace, IsRunRefusal, Spells, Touches, stored_len};
 ghost use Rattle.xet_folder.specs.Stored.{IsBacked, IsStored};

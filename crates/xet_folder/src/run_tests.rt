@@ -1,6 +1,7 @@
 //! Parts of xorbs on a disk in memory.
 
 use crate::members::lies_in;
+use crate::texts::xorb_text;
 use crate::*;
 use bytes::Bytes;
 use std::alloc::Global;
@@ -8,7 +9,7 @@ use std::test::Fail;
 use xet_hash::{MerkleHash, StoreError, compute_data_hash, xorb_hash};
 use xet_io::MemoryDisk;
 use xet_shard::FileDataSequenceEntry;
-use xet_xorb::{Chunk, chunk_members, xorb_text};
+use xet_xorb::{Chunk, chunk_members};
 
 /// Puts a xorb of three chunks, and gives its hash and the digests and lengths of these.
 fn put_three(

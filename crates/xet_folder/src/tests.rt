@@ -1,5 +1,6 @@
 //! A folder of a disk in memory.
 
+use crate::texts::xorb_text;
 use crate::*;
 use bytes::Bytes;
 use std::alloc::Global;
@@ -11,7 +12,7 @@ use xet_shard::{
     FileDataSequenceEntry, FileDataSequenceHeader, MDBFileInfo, MDBXorbInfo,
     XorbChunkSequenceEntry, XorbChunkSequenceHeader, shard_file_name, write_shard,
 };
-use xet_xorb::{Chunk, xorb_text};
+use xet_xorb::Chunk;
 
 /// A disk on which the xorb of `abc` is stored.
 fn stored(alloc: Global) -> Result<MemoryDisk, StoreError> {

@@ -5,21 +5,23 @@ ghost use Rattle.std.specs.List.{AllByRecursion};
 ghost use Rattle.xet_io.specs.Disk.{Files, bytes_at};
 ghost use Rattle.xet_folder.specs.Names.{IsHash, xorb_path};
 ghost use Rattle.xet_folder.specs.Refusals.{HasDiskReason};
-ghost use Rattle.xet_folder.specs.Xorbs.{IsXorbFile, found};
+ghost use Rattle.xet_folder.specs.Xorbs.{IsXorbFile, found, spans_from};
 
 use crate::names::{known_bytes, xorb_path};
 use crate::refusal::store_error;
-use bytes::Bytes;
 use indexmap::IndexMap;
 use std::alloc::Global;
 use std::marker::Model;
 use xet_base::Items;
 use xet_hash::{MerkleHash, StoreError};
-use xet_io::{Disk, read_file};
-use xet_xorb::{chunk_members, read_xorb as read_text};
+use xet_io::{Disk, SliceReader, read_file};
+use xet_xorb::XorbObject;
 
 /// The most bytes of a chunk that can be read.
 const MAX_CHUNK: u32 = (1 << 23) - 1;
+
+/// The bytes of a stored chunk's header.
+const HEADER_LEN: u64 = 8;
 
 /// What stands under a xorb's name.
 #[derive(Debug, Drop)]
@@ -58,17 +60,36 @@ fn xorb_of(alloc: Global, bytes: Vec<u8>, hash: &MerkleHash) -> Result<XorbFile,
     ensures told { (files : Files) (folder : List ℕ) → bytes_at files (xorb_path folder hash.now) ≡ Some bytes.items → IfOk result (IsXorbFile files folder hash.now) }
     ensures memory { IsOkUnless result StoreError.OutOfMemory }
 {
-    let bytes = Bytes::from_vec(bytes)?;
-    match read_text(alloc, &bytes, MAX_CHUNK) {
-        Ok(xorb) => {
-            if xorb.0 != *hash {
-                return Ok(XorbFile::Malformed);
-            }
-            Ok(XorbFile::Stored(Items::from_vec(chunk_members(alloc, &xorb.1)?)))
+    let mut reader = SliceReader::new(&bytes);
+    match XorbObject::validate_xorb_object(alloc, &mut reader, hash, MAX_CHUNK) {
+        Ok(Some(object)) => {
+            let hashes = object.info.chunk_hashes.as_slice();
+            let ends = object.info.chunk_boundary_offsets.as_slice();
+            Ok(XorbFile::Stored(Items::from_vec(spans_of(alloc, hashes, ends)?)))
         }
-        Err(StoreError::MalformedData(_)) => Ok(XorbFile::Malformed),
+        Ok(None) => Ok(XorbFile::Malformed),
         Err(_) => Err(StoreError::OutOfMemory),
     }
+}
+
+/// The digest and the length in bytes of each chunk, by the digests and the ends of the stored chunks.
+fn spans_of(
+    alloc: Global,
+    hashes: &[MerkleHash],
+    ends: &[u32],
+) -> Result<Vec<(MerkleHash, u64)>, StoreError>
+    ensures spans { IfOk result (λ spans. spans.items ≡ spans_from 0 hashes.now ends.now) }
+    ensures memory { IsOkUnless result StoreError.OutOfMemory }
+{
+    let count = hashes.len().min(ends.len());
+    let mut spans = Vec::with_capacity(alloc, count)?;
+    let mut at: u64 = 0;
+    'chunks: for i in 0..count {
+        let end = u64::from(ends[i]);
+        spans.push((hashes[i], end.saturating_sub(at + HEADER_LEN)))?;
+        at = end;
+    }
+    Ok(spans)
 }
 
 /// Xorbs that were read, each under its hash. Contracts see the rows in the order in which they were

@@ -1,17 +1,20 @@
 -- A xorb more.
-use Rattle.std.proofs.Common.{◌≡◌, ◌⊎◌, inl, inr, ◌∙◌, ℕ, ◌<◌, ◌^◌, Bool, true, false, not, ◌&&◌, List, [], ◌∷◌, ◌++◌, length, map, Option, Some, None, IsSome, is_some, if◌then◌else◌, refl, sym, ap, subst, nat_eq}
+use Rattle.std.proofs.Common.{◌≡◌, ◌⊎◌, inl, inr, ◌∙◌, ℕ, ◌<◌, ◌≤◌, ◌^◌, arith, Bool, true, false, not, ◌&&◌, List, [], ◌∷◌, ◌++◌, length, map, Option, Some, None, IsSome, is_some, if◌then◌else◌, refl, sym, ap, subst, nat_eq}
 use Rattle.std.specs.List.{AllByRecursion}
 use Rattle.std.specs.Cmp.Lexicographic.{pointwise, bytes_decides}
 use Rattle.std.proofs.lemmas.Bool.{and_parts, eqb-true}
-use Rattle.std.proofs.lemmas.List.{append-nil}
+use Rattle.std.proofs.lemmas.List.{append-nil, length-map}
 use Rattle.std.proofs.lemmas.List.Elements.{All-from_recursion}
 use Rattle.xet_io.specs.Disk.{Files, bytes_at}
 use Rattle.xet_hash.specs.Merkle.{chunk_hash, members_of, xorb_hash}
-use Rattle.xet_xorb.specs.declared.chunk.Chunk.{Chunk}
-use Rattle.xet_xorb.specs.Chunks.{bytes_of, chunk_member}
+use Rattle.xet_chunk.specs.declared.chunk.Chunk.{Chunk}
+use Rattle.xet_chunk.specs.Chunks.{bytes_of, chunk_member, total}
 use Rattle.xet_xorb.specs.Xorb.{IsXorbText}
-use Rattle.xet_xorb.proofs.Grammar.{members_are}
+use Rattle.xet_chunk.proofs.Grammar.{members_are, total-bytes}
+use Rattle.xet_xorb.specs.declared.raw.RawXorbData.{RawXorbData}
+use Rattle.xet_xorb.specs.Raw.{ArePartsOfXorb, raw_members, raw_of}
 use Rattle.xet_shard.specs.declared.record.MDBFileInfo.{MDBFileInfo}
+use Rattle.xet_shard.specs.declared.record.MDBXorbInfo.{MDBXorbInfo}
 use Rattle.xet_shard.specs.Held.{Held, IsHeld, held as the_held, with_last}
 use Rattle.xet_shard.specs.Records as record_of
 use Rattle.xet_shard.proofs.Holding.{all_last}
@@ -132,6 +135,36 @@ backed_by_text files folder h text chunks digests small is_text is_hash there =
       stored = record { bytes = text; there = there; text = is_text; readable = all_readable chunks small; hash = sym (is_hash ∙ ap xorb_hash same) };
       same = sym same;
     }
+
+-- the hash and the record of a raw xorb of chunks
+module _ (raw : RawXorbData) (chunks : List Chunk) (boundaries : List ℕ) (exact : raw ≡ raw_of chunks boundaries) (h : List ℕ) (hash : h ≡ raw.xorb_info.metadata.xorb_hash) where
+  pub raw_hash : h ≡ xorb_hash (map chunk_member chunks)
+  raw_hash = hash ∙ ap (λ (r : RawXorbData). r.xorb_info.metadata.xorb_hash) exact
+
+  pub raw_block : (block : MDBXorbInfo) (ms : Members) → ms ≡ map chunk_member chunks → block ≡ raw.xorb_info → block ≡ xorb_record h ms
+  raw_block block ms same copied =
+      copied ∙ ap (λ (r : RawXorbData). r.xorb_info) exact ∙ ap (λ (x : List ℕ). xorb_record x (map chunk_member chunks)) (sym raw_hash) ∙ ap (xorb_record h) (sym same)
+
+  -- its text is a xorb of their bytes
+  pub raw_text : (text : List ℕ) → AllByRecursion (λ c. c.hash ≡ chunk_hash c.bytes) chunks → 0 < length chunks → raw_members raw ≡ map chunk_member chunks
+      → (0 < length raw.parts → raw_members raw ≡ members_of raw.parts → raw.xorb_info.metadata.xorb_hash ≡ xorb_hash (members_of raw.parts) → IsXorbText text raw.parts) → IsXorbText text (map bytes_of chunks)
+  raw_text text digests some members is_text =
+      let parts : raw.parts ≡ map bytes_of chunks = ap (λ (r : RawXorbData). r.parts) exact in
+      let same : map chunk_member chunks ≡ members_of raw.parts = members_are chunks (All-from_recursion _ chunks digests) ∙ ap members_of (sym parts) in
+      let many : length raw.parts ≡ length chunks = ap length parts ∙ length-map chunks bytes_of in
+      subst (λ (l : List (List ℕ)). IsXorbText text l) parts (is_text (omega arith) (members ∙ same) (sym hash ∙ raw_hash ∙ ap xorb_hash same))
+
+-- chunks that a xorb may have
+pub parts_fit : (chunks : List Chunk) → AllByRecursion (λ c. length c.bytes < 2 ^ 23) chunks → length chunks ≤ 65536 → total chunks ≤ 2 ^ 30 → ArePartsOfXorb (map bytes_of chunks)
+parts_fit chunks small count bytes = record {
+  count = let many = length-map chunks bytes_of in omega arith;
+  small = small_parts chunks small;
+  total = let all = total-bytes chunks in omega arith;
+}
+  where
+    small_parts : (cs : List Chunk) → AllByRecursion (λ c. length c.bytes < 2 ^ 23) cs → AllByRecursion (λ p. length p < 2 ^ 24) (map bytes_of cs)
+    small_parts [] all = tt
+    small_parts (c ∷ cs) all = (let here = all.0 in omega arith, small_parts cs all.1)
 
 -- ---- the comparison with the members that are listed
 

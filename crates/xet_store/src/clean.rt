@@ -3,7 +3,7 @@
 ghost use Rattle.std.specs.Prelude.{◌≡◌, ◌≤◌, ◌<◌, ◌^◌, ◌∷◌, [], ℕ, true, length, map, OnOk, OnErr, IfOk, IfErr, IsSome};
 ghost use Rattle.std.specs.List.{AllByRecursion};
 ghost use Rattle.xet_hash.specs.Merkle.{chunk_hash};
-ghost use Rattle.xet_xorb.specs.Chunks.{bytes_of, chunk_member, total};
+ghost use Rattle.xet_chunk.specs.Chunks.{bytes_of, chunk_member, total};
 ghost use Rattle.xet_store.specs.Cleaning.{Adds, AddsPending, EachTold, HasFile, HasReason, HasXorbs, Keeps, cuts, info_of};
 ghost use Rattle.xet_store.specs.Cut.{cut};
 ghost use Rattle.xet_folder.specs.Plan.{Joins};

@@ -2,7 +2,7 @@
 
 ghost use Rattle.std.specs.Prelude.{◌≡◌, ◌≤◌, ◌<◌, ℕ, length, map, take, IfOk, IsOkUnless};
 ghost use Rattle.std.specs.List.{AllByRecursion};
-ghost use Rattle.xet_xorb.specs.Chunks.{bytes_of, chunk_of, total};
+ghost use Rattle.xet_chunk.specs.Chunks.{bytes_of, chunk_of, total};
 ghost use Rattle.xet_store.specs.Cut.{cut};
 ghost use Rattle.xet_store.specs.Packing.{pack_len};
 

@@ -2,39 +2,15 @@
 
 ghost use Rattle.std.specs.Prelude.{◌≡◌, ◌<◌, ◌^◌, IfOk, IsOkUnless, Some, length, map};
 ghost use Rattle.xet_hash.specs.Merkle.{file_hash, total_len};
-ghost use Rattle.xet_store.specs.Records.{entries_from, file_record, range_hashes, run_len, xorb_record};
+ghost use Rattle.xet_store.specs.Records.{file_record, range_hashes, run_len};
 
 use std::alloc::Global;
 use xet_base::Items;
 use xet_hash::{MerkleHash, StoreError, range_hash_from_chunks};
 use xet_shard::{
     FileDataSequenceEntry, FileDataSequenceHeader, FileMetadataExt, FileVerificationEntry,
-    MDBFileInfo, MDBXorbInfo, Sha256, XorbChunkSequenceEntry, XorbChunkSequenceHeader,
+    MDBFileInfo, Sha256,
 };
-
-/// The record of the xorb of this hash with these members.
-pub fn xorb_record(
-    alloc: Global,
-    hash: MerkleHash,
-    members: &[(MerkleHash, u64)],
-) -> Result<MDBXorbInfo, StoreError>
-    requires count { length members.now < 2 ^ 32 }
-    requires bytes { total_len members.now < 2 ^ 32 }
-    ensures exact { IfOk result (λ block. block ≡ xorb_record hash members.now) }
-    ensures memory { IsOkUnless result StoreError.OutOfMemory }
-{
-    let mut entries = Vec::with_capacity(alloc, members.len())?;
-    let mut start = 0;
-    for (chunk, bytes) in members {
-        let bytes = *bytes as u32;
-        entries.push(XorbChunkSequenceEntry::new(*chunk, bytes, start))?;
-        start += bytes;
-    }
-    Ok(MDBXorbInfo {
-        metadata: XorbChunkSequenceHeader::new(hash, members.len() as u32, start),
-        chunks: Items::from_vec(entries),
-    })
-}
 
 /// The record of the file of these members, of which this is the hash, with this plan and this SHA-256.
 pub fn file_record(

@@ -6,7 +6,8 @@ use std::alloc::Global;
 use std::test::Fail;
 use xet_folder::{shard_path, xorb_path};
 use xet_hash::{MerkleHash, Reason, StoreError, compute_data_hash};
-use xet_io::MemoryDisk;
+use xet_io::{MemoryDisk, MemorySink};
+use xet_xorb::XorbObjectInfoV0;
 
 /// A reopened store of the files `abc` and 200 zeros, and their hashes.
 fn reopened(alloc: Global) -> Result<(Session, MerkleHash, MerkleHash), StoreError> {
@@ -156,5 +157,34 @@ fn opens_renamed(alloc: Global) -> Result<Option<(StoreError, bool)>, StoreError
 fn a_shard_under_another_name(rt: HostRuntime) -> Result<(), Fail> {
     let wanted = Some((StoreError::MalformedData(Reason::ShardHash), true));
     assert_eq!(rt; opens_renamed(rt.alloc())?, wanted);
+    Ok(())
+}
+
+/// Puts a xorb with a footer of version 0 in the place of that of `abc`.
+fn put_older_xorb(alloc: Global, disk: &mut MemoryDisk) -> Result<(), StoreError> {
+    let hash = compute_data_hash(b"abc");
+    let ends = vec![in alloc; 11u32]?;
+    let hashes = vec![in alloc; hash]?;
+    let footer = XorbObjectInfoV0::from_lists(hash, ends, hashes, [7; 16]);
+    let stored = Vec::from_slice(alloc, b"\x00\x03\x00\x00\x00\x03\x00\x00abc")?;
+    let mut sink = MemorySink::from_vec(stored);
+    footer.serialize(&mut sink)?;
+    let mut text = sink.into_bytes();
+    text.extend_from_slice(&96u32.to_le_bytes())?;
+    let name = xorb_path(alloc, "store", &hash)?;
+    put_bytes(disk, name.as_str(), &text)
+}
+
+/// Whether a store over such a xorb opens, and its file reads.
+fn reads_older_xorb(alloc: Global) -> Result<bool, StoreError> {
+    let (mut disk, abc, _) = written(alloc, MemoryDisk::new(alloc), b"abc")?;
+    put_older_xorb(alloc, &mut disk)?;
+    let mut session = Session::open(alloc, disk)?;
+    reads(&mut session, &abc.hash, 0, 3, b"abc")
+}
+
+#[test]
+fn a_xorb_with_a_footer_of_version_0(rt: HostRuntime) -> Result<(), Fail> {
+    assert!(rt; reads_older_xorb(rt.alloc())?);
     Ok(())
 }

@@ -1,18 +1,19 @@
 -- The bytes of a xorb determine its chunks.
-use Rattle.std.proofs.Common.{◌≡◌, ◌∙◌, ℕ, ◌+◌, ◌*◌, ◌<◌, ◌^◌, ◌/◌, ◌%◌, List, [], ◌∷◌, ◌++◌, length, drop, take, refl, sym, ap, arith, append_assoc}
+use Rattle.std.proofs.Common.{◌≡◌, ◌∙◌, ℕ, ◌<◌, ◌^◌, ◌/◌, ◌%◌, List, [], ◌∷◌, ◌++◌, length, drop, take, refl, sym, ap, arith, append_assoc}
 use Rattle.std.proofs.lemmas.List.{take_at, drop_at}
 use Rattle.std.specs.List.{flat_map, AllByRecursion}
-use Rattle.std.specs.Int.{w32, to_le_bytes}
-use Rattle.xet_xorb.specs.Spelling.{footer, spelling, xorb_text}
-use Rattle.xet_xorb.specs.Xorb.{IsXorbText}
+use Rattle.xet_footer.specs.Spelled.{number, text_v0, text_v1}
+use Rattle.xet_chunk.specs.Spelling.{spelling}
+use Rattle.xet_xorb.specs.Footer.{Version, V0, V1, footer_len, footer_text}
+use Rattle.xet_xorb.specs.Xorb.{IsXorbText, xorb_text}
 
 -- a number below 2 ^ 24 is determined by its three bytes
-le24_same : (n m : ℕ) → n < 2 ^ 24 → m < 2 ^ 24 → (n % 256 ≡ m % 256) → (n / 256 % 256 ≡ m / 256 % 256) → (n / 65536 % 256 ≡ m / 65536 % 256) → n ≡ m
+pub le24_same : (n m : ℕ) → n < 2 ^ 24 → m < 2 ^ 24 → (n % 256 ≡ m % 256) → (n / 256 % 256 ≡ m / 256 % 256) → (n / 65536 % 256 ≡ m / 65536 % 256) → n ≡ m
 le24_same n m a b x y z = omega arith
 
--- a list that begins with 88, as a footer does
-abbrev pub Begins : ℕ → List ℕ → Type 0
-Begins k s = (rest : List ℕ) × (s ≡ k ∷ rest)
+-- a list that begins so
+abbrev pub BeginsWith : ℕ → List ℕ → Type 0
+BeginsWith k s = (rest : List ℕ) × (s ≡ k ∷ rest)
 
 -- a stored chunk is determined by what begins with it
 pub one_chunk : (b d s t : List ℕ) → length b < 2 ^ 24 → length d < 2 ^ 24 → spelling b ++ s ≡ spelling d ++ t → (b ≡ d) × (s ≡ t)
@@ -28,7 +29,7 @@ one_chunk b d s t sb sd e =
     (left, right)
 
 -- stored chunks are determined by what begins with them, where a footer follows
-pub all_chunks : (cs ds : List (List ℕ)) (s t : List ℕ) → AllByRecursion (λ b. length b < 2 ^ 24) cs → AllByRecursion (λ b. length b < 2 ^ 24) ds → Begins 88 s → Begins 88 t
+pub all_chunks : (cs ds : List (List ℕ)) (s t : List ℕ) → AllByRecursion (λ b. length b < 2 ^ 24) cs → AllByRecursion (λ b. length b < 2 ^ 24) ds → BeginsWith 88 s → BeginsWith 88 t
     → flat_map spelling cs ++ s ≡ flat_map spelling ds ++ t → cs ≡ ds
 unfolding spelling
 all_chunks [] [] s t sc sd fs ft e = refl
@@ -42,13 +43,17 @@ all_chunks (c ∷ cs) (d ∷ ds) s t sc sd fs ft e =
     ap (λ (x : List ℕ). x ∷ cs) parts.0 ∙ ap (λ (xs : List (List ℕ)). d ∷ xs) rest
 
 -- what stands behind the chunks begins as a footer
-text_parts : (hash : List ℕ) (ms : List (List ℕ × ℕ)) (cs : List (List ℕ)) (spare : List ℕ) → (s : List ℕ) × Begins 88 s × (xorb_text hash ms cs spare ≡ flat_map spelling cs ++ s)
-unfolding xorb_text footer
-text_parts hash ms cs spare =
-    (footer hash ms spare ++ to_le_bytes w32 (92 + 40 * length ms), (_, refl), append_assoc (flat_map spelling cs) (footer hash ms spare) (to_le_bytes w32 (92 + 40 * length ms)))
+footer_begins : (version : Version) (hash : List ℕ) (ms : List (List ℕ × ℕ)) (spare more : List ℕ) → BeginsWith 88 (footer_text version hash ms spare ++ more)
+unfolding text_v0 text_v1
+footer_begins V0 hash ms spare more = (_, refl)
+footer_begins V1 hash ms spare more = (_, refl)
+
+text_parts : (version : Version) (hash : List ℕ) (ms : List (List ℕ × ℕ)) (cs : List (List ℕ)) (spare : List ℕ) → (s : List ℕ) × BeginsWith 88 s × (xorb_text version hash ms cs spare ≡ flat_map spelling cs ++ s)
+unfolding xorb_text
+text_parts version hash ms cs spare = (footer_text version hash ms spare ++ number (footer_len version (length ms)), footer_begins version hash ms spare _, refl)
 
 pub text_determines : (bytes : List ℕ) (cs ds : List (List ℕ)) → IsXorbText bytes cs → IsXorbText bytes ds → cs ≡ ds
 text_determines bytes cs ds x y =
-    let p = text_parts _ _ cs x.spare in
-    let q = text_parts _ _ ds y.spare in
+    let p = text_parts _ _ _ cs x.spare in
+    let q = text_parts _ _ _ ds y.spare in
     all_chunks cs ds p.0 q.0 x.small y.small p.1 q.1 (sym p.2 ∙ sym x.spelled ∙ y.spelled ∙ q.2)

@@ -1,29 +1,29 @@
 //! Laws over the definitions. Each is the contract of a call without parameters, which does nothing.
 
-ghost use Rattle.std.specs.Prelude.{◌≡◌, ◌↔◌, ◌*◌, ◌<◌, ◌≤◌, ◌^◌, ℕ, List, Ok, codes, slice_index, take, true};
-ghost use Rattle.xet_xorb.specs.Header.{Header, header_at, header_bytes, is_scheme};
-ghost use Rattle.xet_xorb.specs.Spelled.{AreSpelled};
-ghost use Rattle.xet_xorb.specs.Stream.{IsStream};
-ghost use Rattle.xet_xorb.specs.Xorb.{IsXorbText};
+ghost use Rattle.xet_xorb.specs.Laws.{ContentsAreChunks, LastFooterIsRead, LengthsAddUp, RangesAreChunks, TextDeterminesChunks};
 
 /// The bytes of a xorb determine its chunks.
 pub fn text_determines_chunks()
-    ensures { (bytes : List ℕ) (one other : List (List ℕ)) → IsXorbText bytes one → IsXorbText bytes other → one ≡ other }
+    ensures { TextDeterminesChunks }
 {}
 
-/// A header that was written is read back, where it passes the checks.
-pub fn header_is_read_back()
-    ensures { (most : ℕ) (h : Header) → most < 2 ^ 23 → is_scheme h.scheme ≡ true → h.version ≡ 0 → h.stored ≤ 2 * most → h.plain ≤ most
-        → header_at most (header_bytes h) ≡ Ok h }
+/// The footer that is read at the end of a xorb is that of its chunks.
+pub fn last_footer_is_read()
+    ensures { LastFooterIsRead }
 {}
 
-/// No header begins as a footer does.
-pub fn no_header_is_a_footer()
-    ensures { (most : ℕ) (bytes : List ℕ) (h : Header) → header_at most bytes ≡ Ok h → take 7 bytes ≡ codes "XETBLOB" → ⊥ }
+/// What is read of a range of a validated xorb, whose hash is not zero, is what its chunks are. Where the hash is
+/// zero the footer is refused as not complete.
+pub fn ranges_are_chunks()
+    ensures { RangesAreChunks }
 {}
 
-/// Bytes are a whole stream of chunks exactly where they are these as they are stored.
-pub fn stream_is_its_chunks()
-    ensures { (most : ℕ) (bytes : List ℕ) (chunks : List (List ℕ)) → most < 2 ^ 23 → ((i : ℕ) → slice_index bytes i < 256)
-        → (IsStream most bytes chunks (Ok tt) ↔ AreSpelled most bytes chunks) }
+/// What is read of all of a validated xorb, whose hash is not zero, is what its chunks are.
+pub fn contents_are_chunks()
+    ensures { ContentsAreChunks }
+{}
+
+/// Lengths of ranges add up on a validated xorb with a footer of version 1, whose hash is not zero.
+pub fn lengths_add_up()
+    ensures { LengthsAddUp }
 {}

@@ -1,40 +1,51 @@
-//! Chunks and the objects in which they are stored, called xorbs.
+//! Xorbs, the objects in which chunks are stored: their footers as objects, ranges that are read of them, their
+//! validation, and how they are built. With all of chunks and of footers.
 #![tactic(auto)]
 
-mod chunk;
-mod chunk_front;
-mod chunk_stream;
-mod constants;
-mod decoder;
-mod header;
+mod building;
+mod footer_decoder;
+mod footers;
 pub mod laws;
-mod outside;
-mod reading;
-mod scheme;
-mod segment;
-mod stream;
-mod text;
+mod object;
+mod places;
+mod ranges;
+mod raw;
+mod reconstruction;
+mod reference;
+mod samples;
+mod validation;
 
-pub use chunk::{Chunk, chunk_members};
-pub use chunk_stream::{
-    deserialize_chunk, deserialize_chunk_header, deserialize_chunk_to_writer, serialize_chunk,
+pub use building::SerializedXorbObject;
+pub use footer_decoder::FooterDecoder;
+pub use object::XorbObject;
+pub use raw::{RawXorbData, raw_xorb_to_vec, xorb_record};
+pub use reconstruction::reconstruct_xorb_with_footer;
+pub use reference::{
+    build_and_verify_xorb_object, serialize_xorb_to_stream_reference,
+    serialized_xorb_object_from_components, verify_serialized_xorb_object,
 };
-pub use constants::{
-    MAX_CHUNK_SIZE, MAX_XORB_BYTES, MAX_XORB_CHUNKS, MAXIMUM_CHUNK_MULTIPLIER,
-    MINIMUM_CHUNK_DIVISOR, TARGET_CHUNK_SIZE, XORB_BLOCK_SIZE, XORB_CUT_THRESHOLD_BYTES,
-    XORB_CUT_THRESHOLD_CHUNKS,
+pub use samples::{ChunkSize, build_raw_xorb, build_xorb_object, gen_random_bytes};
+pub use xet_chunk::{
+    Chunk, ChunkDecoder, CompressionScheme, MAX_CHUNK_SIZE, MAX_XORB_BYTES, MAX_XORB_CHUNKS,
+    MAXIMUM_CHUNK_MULTIPLIER, MINIMUM_CHUNK_DIVISOR, TARGET_CHUNK_SIZE, XORB_BLOCK_SIZE,
+    XORB_CHUNK_HEADER_LENGTH, XORB_CUT_THRESHOLD_BYTES, XORB_CUT_THRESHOLD_CHUNKS, XorbChunkHeader,
+    append_chunk_segment, chunk_len, chunk_members, deserialize_chunk, deserialize_chunk_header,
+    deserialize_chunk_to_writer, deserialize_chunks, deserialize_chunks_to_writer,
+    parse_chunk_header, serialize_chunk, write_chunk_header,
 };
-pub use decoder::ChunkDecoder;
-pub use header::{
-    XORB_CHUNK_HEADER_LENGTH, XorbChunkHeader, parse_chunk_header, write_chunk_header,
-};
-pub use reading::{read_xorb, read_xorb_text};
-pub use scheme::CompressionScheme;
-pub use segment::append_chunk_segment;
-pub use stream::{deserialize_chunks, deserialize_chunks_to_writer};
-pub use text::xorb_text;
+pub use xet_footer::{XorbObjectIdent, XorbObjectInfoV0, XorbObjectInfoV1};
 
 #[cfg(test)]
-mod chunk_tests;
+mod abc;
 #[cfg(test)]
-mod tests;
+mod building_tests;
+#[cfg(test)]
+mod damage_tests;
+#[cfg(test)]
+mod object_tests;
+#[cfg(test)]
+mod range_tests;
+#[cfg(test)]
+mod sample_tests;
+#[cfg(test)]
+mod validation_tests;

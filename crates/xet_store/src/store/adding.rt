@@ -5,22 +5,21 @@ ghost use Rattle.std.specs.List.{AllByRecursion};
 ghost use Rattle.xet_hash.specs.Merkle.{chunk_hash, xorb_hash};
 ghost use Rattle.xet_shard.specs.Held.{held_size};
 ghost use Rattle.xet_shard.specs.Records.{file_hash};
-ghost use Rattle.xet_xorb.specs.Chunks.{chunk_member, total};
+ghost use Rattle.xet_chunk.specs.Chunks.{chunk_member, total};
 ghost use Rattle.xet_folder.specs.Refusals.{HasDiskReason};
 ghost use Rattle.xet_folder.specs.Xorbs.{IsListed, found};
 ghost use Rattle.xet_store.specs.Cleaning.{Adds, Keeps};
 ghost use Rattle.xet_store.specs.Steps.{with_block, with_record};
 ghost use Rattle.xet_store.specs.Store.{IsNewFile};
 
-use crate::records::xorb_record;
 use crate::store::Store;
 use std::marker::Send;
 use xet_base::Items;
 use xet_folder::{known_bytes, put_xorb};
-use xet_hash::{MerkleHash, StoreError, xorb_hash};
+use xet_hash::{MerkleHash, StoreError};
 use xet_io::Disk;
 use xet_shard::{MDBFileInfo, MDBInMemoryShard};
-use xet_xorb::{Chunk, chunk_members, xorb_text};
+use xet_xorb::{Chunk, RawXorbData, SerializedXorbObject, chunk_members};
 
 impl<D: Disk + Send> Store<D> {
     /// Stores these chunks as a xorb and lists it, where it is not listed yet, and gives its hash. Where
@@ -39,7 +38,8 @@ impl<D: Disk + Send> Store<D> {
         ensures reason { IfErr result (HasDiskReason self.old.faults self.new.faults) }
     {
         let members = chunk_members(self.alloc, chunks)?;
-        let hash = xorb_hash(self.alloc, &members)?;
+        let raw = RawXorbData::from_chunks(self.alloc, chunks, Vec::new(self.alloc))?;
+        let hash = raw.hash();
         if let Some(listed) = self.xorbs.get(&hash) {
             if listed.as_slice() != members.as_slice() {
                 return Err(StoreError::OutOfMemory);
@@ -50,15 +50,15 @@ impl<D: Disk + Send> Store<D> {
             return Err(StoreError::OutOfMemory);
         }
         known_bytes(&hash);
-        let block = xorb_record(self.alloc, hash, &members)?;
-        let text = xorb_text(self.alloc, chunks)?;
+        let block = raw.xorb_info.copy(self.alloc)?;
+        let built = SerializedXorbObject::from_xorb(self.alloc, raw, true)?;
         self.xorbs.reserve(1)?;
         put_xorb(
             &mut self.disk,
             self.alloc,
             self.folder.as_str(),
             &hash,
-            &text,
+            built.serialized_data.as_slice(),
         )?;
         self.pending.add_xorb_block(block)?;
         self.pending.known();

@@ -1,29 +1,19 @@
-use Rattle.std.proofs.Common.{◌∙◌, ℕ, List, map, Some, sym, ap, subst}
-use Rattle.xet_xorb.specs.Chunks.{chunk_member}
-use Rattle.xet_xorb.specs.declared.chunk.Chunk.{Chunk}
-use Rattle.xet_folder.specs.Stored.{IsBacked}
-use Rattle.xet_folder.proofs.Backing.{backed, bytes_there, differ, no_text, no_other_text, same_hash}
+use Rattle.std.proofs.Common.{◌∙◌, ℕ, List, ap, refl}
+use Rattle.xet_folder.specs.Xorbs.{spans_from}
+use Rattle.xet_folder.proofs.Backing.{bytes_there, found_backed, none_stored}
 use Rattle.xet_folder.proofs.xorbs.xorb_of.Goals as goal
 
-pub returns-then-ne-clause-told : goal.returns-then-ne-clause-told
-returns-then-ne-clause-told c = λ files folder there.
-    let here = there ∙ ap Some (sym c.in_ok-bytes.ensures.ok) in (
-      bytes_there files folder c.args.hash.now c.in_ok-bytes.bytes here,
-      no_other_text files folder c.args.hash.now c.in_ok-bytes.bytes here c.in-Ok.xorb.1.items c.in-Ok.xorb.0 c.in-Ok.ensures.digests c.in-Ok.ensures.found c.in-Ok.ensures.hash
-          (differ c.in-Ok.xorb.0 c.args.hash.now (sym c.ne.ensures ∙ c.if-ne.true)),
+pub returns-in-Ok-Some-clause-told : goal.returns-in-Ok-Some-clause-told
+returns-in-Ok-Some-clause-told c = λ files folder there.
+    found_backed files folder c.args.hash.now c.args.bytes.items there c.new-reader.result c.in-Ok-Some.field-0 c.in-Ok-Some.object c.from_vec.result (c.new-reader.ensures ∙ c.deref.ensures.value)
+    c.in-Ok-Some.field-0-is (c.in-Ok-Some.ensures.valid refl) (
+    c.from_vec.ensures ∙ c.in_ok-spans_of-in-Ok-Some.ensures.spans ∙ ap (λ (hs : List (List ℕ)). spans_from 0 hs c.as_slice-ends.result.now) c.as_slice-hashes.ensures
+    ∙ ap (spans_from 0 c.in-Ok-Some.object.info.chunk_hashes) c.as_slice-ends.ensures
     )
 
-pub returns-in-Ok-clause-told : goal.returns-in-Ok-clause-told
-returns-in-Ok-clause-told c = λ files folder there.
-    let here = there ∙ ap Some (sym c.in_ok-bytes.ensures.ok) in
-    let hash = sym (same_hash c.in-Ok.xorb.0 c.args.hash.now (sym c.ne.ensures ∙ c.if-ne.false)) ∙ c.in-Ok.ensures.hash in
-    let members = c.from_vec-in-Ok.ensures ∙ c.in_ok-chunk_members-in-Ok.ensures.members ∙ ap (λ (cs : List Chunk). map chunk_member cs) c.deref.ensures.value in
-    subst (λ (ms : List (List ℕ × ℕ)). IsBacked files folder c.args.hash.now ms) (sym members)
-    (backed files folder c.args.hash.now c.in_ok-bytes.bytes here c.in-Ok.xorb.1.items c.in-Ok.ensures.digests c.in-Ok.ensures.small c.in-Ok.ensures.found hash)
-
-pub returns-in-Err-MalformedData-clause-told : goal.returns-in-Err-MalformedData-clause-told
-returns-in-Err-MalformedData-clause-told c = λ files folder there.
-    let here = there ∙ ap Some (sym c.in_ok-bytes.ensures.ok) in (
-      bytes_there files folder c.args.hash.now c.in_ok-bytes.bytes here,
-      no_text files folder c.args.hash.now c.in_ok-bytes.bytes here (λ chunks text small. let no = c.in-Err-MalformedData.ensures.only chunks text small in cc),
-    )
+pub returns-in-Ok-None-clause-told : goal.returns-in-Ok-None-clause-told
+returns-in-Ok-None-clause-told c = λ files folder there. (
+  bytes_there files folder c.args.hash.now c.args.bytes.items there,
+  none_stored files folder c.args.hash.now c.args.bytes.items there c.new-reader.result c.in-Ok-None.field-0 (c.new-reader.ensures ∙ c.deref.ensures.value) c.in-Ok-None.field-0-is
+      (c.in-Ok-None.ensures.none refl),
+)

@@ -2,4 +2,4 @@ use Rattle.xet_xorb.proofs.Determined.{text_determines}
 use Rattle.xet_xorb.proofs.laws.text_determines_chunks.Goals as goal
 
 pub returns : goal.returns
-returns c = λ bytes one other. text_determines bytes one other
+returns c = text_determines

@@ -5,7 +5,7 @@ use Rattle.std.proofs.lemmas.Result.{IfErr-weaker, on_ok_weaker}
 use Rattle.std.specs.List.{concat}
 use Rattle.xet_hash.specs.Merkle.{total_len}
 use Rattle.xet_io.specs.Disk.{bytes_at}
-use Rattle.xet_xorb.specs.Reading.{IsRefusal}
+use Rattle.xet_folder.specs.Refusals.{IsRefusal}
 use Rattle.xet_folder.specs.Names.{xorb_path}
 use Rattle.xet_folder.specs.Plan.{part, range}
 use Rattle.xet_folder.specs.Runs.{HasPlace, IsRunRefusal, Spells, Touches}

@@ -1,8 +1,7 @@
 use Rattle.std.proofs.Common.{◌≡◌, ◌∙◌, ℕ, List, length, map, Some, None, true, refl, sym, ap, subst, rules, arith}
-use Rattle.std.proofs.lemmas.List.Elements.{All-from_recursion}
 use Rattle.xet_io.specs.Disk.{bytes_at}
 use Rattle.xet_hash.specs.Merkle.{xorb_hash}
-use Rattle.xet_xorb.specs.Chunks.{chunk_member}
+use Rattle.xet_chunk.specs.Chunks.{chunk_member}
 use Rattle.xet_shard.specs.declared.record.MDBXorbInfo.{MDBXorbInfo}
 use Rattle.xet_shard.specs.Held.{held, with_last}
 use Rattle.xet_shard.specs.Records as record_of
@@ -11,7 +10,7 @@ use Rattle.xet_folder.specs.Stored.{IsBacked}
 use Rattle.xet_folder.specs.Xorbs.{found}
 use Rattle.xet_store.specs.Records.{xorb_record}
 use Rattle.xet_store.specs.Store.{State}
-use Rattle.xet_store.proofs.Adding.{backed_by_text, block_listed, block_pending, keeps_added_at, listed_at, same_members, sound_added_at, true_from}
+use Rattle.xet_store.proofs.Adding.{backed_by_text, block_listed, block_pending, keeps_added_at, listed_at, parts_fit, raw_block, raw_hash, raw_text, same_members, sound_added_at, true_from}
 use Rattle.xet_store.proofs.Keeping.{keeps_nothing}
 use Rattle.xet_store.proofs.Pending.{few_blocks_of, xorb_form_of}
 use Rattle.xet_store.proofs.Rows.{recorded_at}
@@ -21,8 +20,11 @@ use Rattle.xet_store.proofs.store.Store.add_xorb.Goals as goal
 pub returns-in_err-members-clause-keeps : goal.returns-in_err-members-clause-keeps
 returns-in_err-members-clause-keeps g c = keeps_nothing c.args.self.now
 
-pub returns-in_err-hash-clause-keeps : goal.returns-in_err-hash-clause-keeps
-returns-in_err-hash-clause-keeps g c = keeps_nothing c.args.self.now
+pub from_chunks-requires : goal.from_chunks-requires
+from_chunks-requires g c = parts_fit c.args.chunks.now c.requires.small c.requires.count c.requires.bytes
+
+pub returns-in_err-raw-clause-keeps : goal.returns-in_err-raw-clause-keeps
+returns-in_err-raw-clause-keeps g c = keeps_nothing c.args.self.now
 
 pub returns-then-ne-clause-keeps : goal.returns-then-ne-clause-keeps
 returns-then-ne-clause-keeps g c = keeps_nothing c.args.self.now
@@ -36,20 +38,20 @@ returns-then-eq-clause-keeps g c = keeps_nothing c.args.self.now
 pub returns-in_err-block-clause-keeps : goal.returns-in_err-block-clause-keeps
 returns-in_err-block-clause-keeps g c = keeps_nothing c.args.self.now
 
-pub returns-in_err-text-clause-keeps : goal.returns-in_err-text-clause-keeps
-returns-in_err-text-clause-keeps g c = keeps_nothing c.args.self.now
+pub returns-in_err-built-clause-keeps : goal.returns-in_err-built-clause-keeps
+returns-in_err-built-clause-keeps g c = keeps_nothing c.args.self.now
 
 pub returns-in-Some-clause-listed : goal.returns-in-Some-clause-listed
 returns-in-Some-clause-listed g c =
-    let h = c.in_ok-hash.hash in
-    let is_hash : h ≡ xorb_hash (map chunk_member c.args.chunks.now) = c.in_ok-hash.ensures.hash ∙ ap xorb_hash (c.deref.ensures.value ∙ c.in_ok-members.ensures.members) in
+    let h = c.hash-hash.result in
+    let is_hash : h ≡ xorb_hash (map chunk_member c.args.chunks.now) = raw_hash c.in_ok-raw.raw c.args.chunks.now _ c.in_ok-raw.ensures.exact h c.hash-hash.ensures in
     let same = same_members c.as_slice.result.now c.as_slice-in-Some.result.now (true_from _ (sym c.if-ne.false ∙ c.ne.ensures)) in
     let members = sym c.as_slice.ensures ∙ same ∙ c.as_slice-in-Some.ensures.value ∙ c.in_ok-members.ensures.members in
     (is_hash, ap (λ (s : State). found s.xorbs h) (sym c.self.view_is) ∙ sym c.in-Some.ensures.value ∙ ap Some members)
 
 pub returns-in-Some-clause-pending : goal.returns-in-Some-clause-pending
 returns-in-Some-clause-pending g c =
-    let h = c.in_ok-hash.hash in
+    let h = c.hash-hash.result in
     block_listed c.args.self.now h _ c.in-Some.listed.now (ap (λ (s : State). found s.xorbs h) (sym c.self.view_is) ∙ sym c.in-Some.ensures.value)
 
 pub returns-in_err-reserve-clause-keeps : goal.returns-in_err-reserve-clause-keeps
@@ -57,7 +59,7 @@ returns-in_err-reserve-clause-keeps g c = keeps_unchanged _ _ c.self.invariant c
 
 pub invariant_of-self-in_err-put_xorb : goal.invariant_of-self-in_err-put_xorb
 invariant_of-self-in_err-put_xorb g c =
-    let h = c.in_ok-hash.hash in
+    let h = c.hash-hash.result in
     let files = g.D.Disk.files c.put_xorb.new.disk in
     let faults = g.D.Disk.faults c.put_xorb.new.disk in
     let none : found c.self.inside.xorbs.entries h ≡ None = sym c.in_default.ensures.value in
@@ -67,7 +69,7 @@ invariant_of-self-in_err-put_xorb g c =
 
 pub returns-in_err-put_xorb-clause-keeps : goal.returns-in_err-put_xorb-clause-keeps
 returns-in_err-put_xorb-clause-keeps g c =
-    let h = c.in_ok-hash.hash in
+    let h = c.hash-hash.result in
     let files = g.D.Disk.files c.put_xorb.new.disk in
     let faults = g.D.Disk.faults c.put_xorb.new.disk in
     let none : found c.self.inside.xorbs.entries h ≡ None = sym c.in_default.ensures.value in
@@ -76,17 +78,20 @@ returns-in_err-put_xorb-clause-keeps g c =
     keeps_refused _ _ files faults stays c.self.invariant _ c.self.view_is c.reserve.ensures.entries refl refl refl
 
 pub add_xorb_block-requires-clause-form : goal.add_xorb_block-requires-clause-form
-add_xorb_block-requires-clause-form g c = xorb_form_of _ _ _ c.in_ok-block.ensures.exact
+add_xorb_block-requires-clause-form g c =
+    xorb_form_of _ _ _ (raw_block c.in_ok-raw.raw c.args.chunks.now _ c.in_ok-raw.ensures.exact c.hash-hash.result c.hash-hash.ensures c.in_ok-block.block _ refl c.in_ok-block.ensures.copy)
 
 pub add_xorb_block-requires-clause-few : goal.add_xorb_block-requires-clause-few
 add_xorb_block-requires-clause-few g c =
     let fits : c.has_room.result ≡ true = search rules in
-    let count : c.len.result ≡ length c.deref-2.result.now = omega (arith, c.len.ensures, c.in_ok-members.members.ok, ap length c.deref-2.ensures.value) in
-    few_blocks_of _ _ _ c.in_ok-block.ensures.exact c.self.inside.pending c.len.result count (omega (arith, c.has_room.ensures.0 fits))
+    let count : c.len.result ≡ length c.in_ok-members.members.items = omega (arith, c.len.ensures, c.in_ok-members.members.ok) in
+    let exact = raw_block c.in_ok-raw.raw c.args.chunks.now _ c.in_ok-raw.ensures.exact c.hash-hash.result c.hash-hash.ensures c.in_ok-block.block c.in_ok-members.members.items c.in_ok-members.ensures.members
+    c.in_ok-block.ensures.copy in
+    few_blocks_of _ _ _ exact c.self.inside.pending c.len.result count (omega (arith, c.has_room.ensures.0 fits))
 
 pub invariant_of-self-in_err-add_xorb_block : goal.invariant_of-self-in_err-add_xorb_block
 invariant_of-self-in_err-add_xorb_block g c =
-    let h = c.in_ok-hash.hash in
+    let h = c.hash-hash.result in
     let files = g.D.Disk.files c.put_xorb.new.disk in
     let faults = g.D.Disk.faults c.put_xorb.new.disk in
     let none : found c.self.inside.xorbs.entries h ≡ None = sym c.in_default.ensures.value in
@@ -96,7 +101,7 @@ invariant_of-self-in_err-add_xorb_block g c =
 
 pub returns-in_err-add_xorb_block-clause-keeps : goal.returns-in_err-add_xorb_block-clause-keeps
 returns-in_err-add_xorb_block-clause-keeps g c =
-    let h = c.in_ok-hash.hash in
+    let h = c.hash-hash.result in
     let files = g.D.Disk.files c.put_xorb.new.disk in
     let faults = g.D.Disk.faults c.put_xorb.new.disk in
     let none : found c.self.inside.xorbs.entries h ≡ None = sym c.in_default.ensures.value in
@@ -106,7 +111,7 @@ returns-in_err-add_xorb_block-clause-keeps g c =
 
 pub invariant_of-self-2 : goal.invariant_of-self-2
 invariant_of-self-2 g c =
-    let h = c.in_ok-hash.hash in
+    let h = c.hash-hash.result in
     let files = g.D.Disk.files c.put_xorb.new.disk in
     let faults = g.D.Disk.faults c.put_xorb.new.disk in
     let none : found c.self.inside.xorbs.entries h ≡ None = sym c.in_default.ensures.value in
@@ -114,19 +119,20 @@ invariant_of-self-2 g c =
     c.put_xorb.ensures.xorbs c.put_xorb.ensures.shards c.put_xorb.ensures.foreign in
     let members = c.in_ok-members.members.items in
     let more = recorded_at c.self.inside.xorbs h h c.reserve.new.self.entries _ _ members refl c.from_vec.ensures none c.reserve.ensures.entries c.in_ok-insert.ensures.entries in
-    let exact = c.in_ok-block.ensures.exact ∙ ap (xorb_record h) c.deref-2.ensures.value in
+    let exact = raw_block c.in_ok-raw.raw c.args.chunks.now _ c.in_ok-raw.ensures.exact h c.hash-hash.ensures c.in_ok-block.block members c.in_ok-members.ensures.members c.in_ok-block.ensures.copy in
     let pending = c.in_ok-add_xorb_block.ensures.added ∙ ap (λ (b : MDBXorbInfo). held (with_last record_of.xorb_hash c.self.inside.pending.blocks b) c.self.inside.pending.files) exact in
     sound_added_at _ h members _ files faults stays c.self.invariant more pending none (c.known_bytes.ensures.length, c.known_bytes.ensures.bytes) c.known.ensures
     (λ told.
-    let is_hash : h ≡ xorb_hash (map chunk_member c.args.chunks.now) = c.in_ok-hash.ensures.hash ∙ ap xorb_hash (c.deref.ensures.value ∙ c.in_ok-members.ensures.members) in
-    let there = subst (λ (f : List ℕ). bytes_at files (xorb_path f h) ≡ Some c.deref-3.result.now) c.as_str.ensures (c.in_ok-put_xorb.ensures.there told) in
-    let text = c.in_ok-text.ensures.grammar (All-from_recursion _ c.args.chunks.now c.requires.digests) in
+    let is_hash : h ≡ xorb_hash (map chunk_member c.args.chunks.now) = raw_hash c.in_ok-raw.raw c.args.chunks.now _ c.in_ok-raw.ensures.exact h c.hash-hash.ensures in
+    let there = subst (λ (f : List ℕ). bytes_at files (xorb_path f h) ≡ Some c.as_slice-2.result.now) c.as_str.ensures (c.in_ok-put_xorb.ensures.there told) in
+    let text = raw_text c.in_ok-raw.raw c.args.chunks.now _ c.in_ok-raw.ensures.exact h c.hash-hash.ensures c.in_ok-built.built.serialized_data c.requires.digests c.requires.some c.in_ok-raw.ensures.members
+    (c.in_ok-built.ensures.grammar refl) in
     subst (λ (m : List (List ℕ × ℕ)). IsBacked files c.self.inside.folder h m) (sym c.in_ok-members.ensures.members)
-    (backed_by_text _ _ h c.in_ok-text.text.items c.args.chunks.now c.requires.digests c.requires.small text is_hash (there ∙ ap Some c.deref-3.ensures.value)))
+    (backed_by_text _ _ h c.in_ok-built.built.serialized_data c.args.chunks.now c.requires.digests c.requires.small text is_hash (there ∙ ap Some c.as_slice-2.ensures)))
 
 pub returns : goal.returns
 returns g c =
-    let h = c.in_ok-hash.hash in
+    let h = c.hash-hash.result in
     let files = g.D.Disk.files c.put_xorb.new.disk in
     let faults = g.D.Disk.faults c.put_xorb.new.disk in
     let none : found c.self.inside.xorbs.entries h ≡ None = sym c.in_default.ensures.value in
@@ -134,9 +140,9 @@ returns g c =
     c.put_xorb.ensures.xorbs c.put_xorb.ensures.shards c.put_xorb.ensures.foreign in
     let members = c.in_ok-members.members.items in
     let more = recorded_at c.self.inside.xorbs h h c.reserve.new.self.entries _ _ members refl c.from_vec.ensures none c.reserve.ensures.entries c.in_ok-insert.ensures.entries in
-    let exact = c.in_ok-block.ensures.exact ∙ ap (xorb_record h) c.deref-2.ensures.value in
+    let exact = raw_block c.in_ok-raw.raw c.args.chunks.now _ c.in_ok-raw.ensures.exact h c.hash-hash.ensures c.in_ok-block.block members c.in_ok-members.ensures.members c.in_ok-block.ensures.copy in
     let pending = c.in_ok-add_xorb_block.ensures.added ∙ ap (λ (b : MDBXorbInfo). held (with_last record_of.xorb_hash c.self.inside.pending.blocks b) c.self.inside.pending.files) exact in
-    let is_hash : h ≡ xorb_hash (map chunk_member c.args.chunks.now) = c.in_ok-hash.ensures.hash ∙ ap xorb_hash (c.deref.ensures.value ∙ c.in_ok-members.ensures.members) in
+    let is_hash : h ≡ xorb_hash (map chunk_member c.args.chunks.now) = raw_hash c.in_ok-raw.raw c.args.chunks.now _ c.in_ok-raw.ensures.exact h c.hash-hash.ensures in
     record {
       keeps = keeps_added_at _ h members _ files faults stays c.self.invariant more pending _ c.self.view_is;
       records = search rules;

@@ -1,0 +1,18 @@
+//! Texts of xorbs, for tests.
+
+ghost use Rattle.std.specs.Prelude.{map};
+ghost use Rattle.xet_chunk.specs.Chunks.{bytes_of};
+ghost use Rattle.xet_xorb.specs.Raw.{ArePartsOfXorb};
+
+use std::alloc::Global;
+use xet_hash::StoreError;
+use xet_xorb::{Chunk, RawXorbData, SerializedXorbObject};
+
+/// The xorb of these chunks.
+pub(crate) fn xorb_text(alloc: Global, chunks: &[Chunk]) -> Result<Vec<u8>, StoreError>
+    requires { ArePartsOfXorb (map bytes_of chunks.now) }
+{
+    let raw = RawXorbData::from_chunks(alloc, chunks, Vec::new(alloc))?;
+    let built = SerializedXorbObject::from_xorb(alloc, raw, true)?;
+    Ok(built.serialized_data.into_vec())
+}

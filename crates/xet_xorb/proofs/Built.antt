@@ -1,0 +1,120 @@
+-- Xorbs as they are built: how many bytes they have, and that they are xorbs of their parts.
+use Rattle.std.proofs.Common.{◌≡◌, ◌∙◌, ℕ, ◌+◌, ◌*◌, ◌<◌, Bool, true, false, List, [], ◌∷◌, ◌++◌, length, map, Some, refl, sym, ap, subst, arith, length-append}
+use Rattle.std.proofs.lemmas.List.{length-map}
+use Rattle.std.proofs.lemmas.List.Sums.{sum_by-cons}
+use Rattle.std.specs.Bool.{then_some}
+use Rattle.std.specs.List.{flat_map, sum_by}
+use Rattle.xet_hash.specs.Merkle.{member_of, members_of, total_len, xorb_hash}
+use Rattle.xet_shard.specs.Records.{chunk_bytes}
+use Rattle.xet_shard.specs.declared.record.XorbChunkSequenceEntry.{XorbChunkSequenceEntry}
+use Rattle.xet_footer.specs.Spelled.{length_of, number, text_v1}
+use Rattle.xet_footer.proofs.Readback.{length_is_known}
+use Rattle.xet_chunk.specs.Spelling.{spelling}
+use Rattle.xet_xorb.specs.declared.building.SerializedXorbObject.{SerializedXorbObject}
+use Rattle.xet_xorb.specs.declared.raw.RawXorbData.{RawXorbData}
+use Rattle.xet_xorb.specs.Building.{built_of, ending, no_spare, start_of_footer}
+use Rattle.xet_xorb.specs.Footer.{V1, footer_len, footer_v1}
+use Rattle.xet_xorb.specs.Raw.{ArePartsOfXorb, IsRaw, raw_members}
+use Rattle.xet_xorb.specs.Xorb.{IsXorbText, xorb_text}
+use Rattle.xet_xorb.proofs.Digests.{length-xorb_hash, members_hashed}
+use Rattle.xet_xorb.proofs.OfMembers.{length-ends, length-hashes, standard_v1}
+
+-- ---- what is listed
+
+abbrev pub entry_member : XorbChunkSequenceEntry → List ℕ × ℕ
+entry_member c = (c.chunk_hash, c.unpacked_segment_bytes)
+
+abbrev lengths_of : List XorbChunkSequenceEntry → List ℕ
+lengths_of entries = map (λ (c : XorbChunkSequenceEntry). c.unpacked_segment_bytes) entries
+
+total_of : (parts : List (List ℕ)) (entries : List XorbChunkSequenceEntry) → map length parts ≡ lengths_of entries → (total_len (map entry_member entries) ≡ sum_by length parts) × (chunk_bytes entries ≡ sum_by length parts)
+total_of [] [] e = (refl, refl)
+total_of [] (c ∷ cs) e = absurd (cc e)
+total_of (p ∷ ps) [] e = absurd (cc e)
+total_of (p ∷ ps) (c ∷ cs) e =
+    let head : length p ≡ c.unpacked_segment_bytes = cc e in
+    let tail : map length ps ≡ lengths_of cs = cc e in
+    let rest = total_of ps cs tail in (
+      omega (arith, head, rest.0, sum_by-cons length p ps, sum_by-cons (λ (m : List ℕ × ℕ). m.1) (entry_member c) (map entry_member cs)),
+      omega (arith, head, rest.1, sum_by-cons length p ps, sum_by-cons (λ (x : XorbChunkSequenceEntry). x.unpacked_segment_bytes) c cs),
+    )
+
+-- the listed members are as many as the parts, and have as many bytes
+pub count_listed : (x : RawXorbData) → IsRaw x → length (raw_members x) ≡ length x.parts
+count_listed x raw = length-map x.xorb_info.chunks _ ∙ sym (length-map x.xorb_info.chunks _) ∙ ap length (sym raw.listed) ∙ length-map x.parts length
+
+pub total_listed : (x : RawXorbData) → IsRaw x → total_len (raw_members x) ≡ sum_by length x.parts
+total_listed x raw = (total_of x.parts x.xorb_info.chunks raw.listed).0
+
+pub plain_listed : (x : RawXorbData) → IsRaw x → chunk_bytes x.xorb_info.chunks ≡ sum_by length x.parts
+plain_listed x raw = (total_of x.parts x.xorb_info.chunks raw.listed).1
+
+-- ---- lengths
+
+pub total_members : (chunks : List (List ℕ)) → total_len (members_of chunks) ≡ sum_by length chunks
+total_members [] = refl
+total_members (c ∷ cs) = omega (arith, total_members cs, sum_by-cons length c cs, sum_by-cons (λ (m : List ℕ × ℕ). m.1) (member_of c) (members_of cs))
+
+length-spelling : (b : List ℕ) → length (spelling b) ≡ 8 + length b
+unfolding spelling
+length-spelling b = omega arith
+
+pub length_spelled : (chunks : List (List ℕ)) → length (flat_map spelling chunks) ≡ sum_by length chunks + 8 * length chunks
+length_spelled [] = refl
+length_spelled (c ∷ cs) = omega (arith, length-append (spelling c) (flat_map spelling cs), length-spelling c, length_spelled cs, sum_by-cons length c cs)
+
+-- the footer of members is as long as it is told
+pub told_of_members : (hash : List ℕ) (ms : List (List ℕ × ℕ)) (spare : List ℕ) → length_of (footer_v1 hash ms spare) ≡ footer_len V1 (length ms)
+told_of_members hash ms spare = omega (arith, length-hashes ms, length-ends 8 0 ms, length-ends 0 0 ms)
+
+-- ---- the whole
+
+-- a footer of members, and its length
+pub ending_is : (hash : List ℕ) (ms : List (List ℕ × ℕ)) (info : _) → info ≡ footer_v1 hash ms no_spare → text_v1 info ++ number (length_of info) ≡ ending true hash ms
+ending_is hash ms info is =
+    ap (λ (i : _). text_v1 i ++ number (length_of i)) is ∙ ap (λ (n : ℕ). text_v1 (footer_v1 hash ms no_spare) ++ number n) (told_of_members hash ms no_spare)
+
+-- parts that have their digests and their hash are a xorb
+pub parts_text : (parts : List (List ℕ)) → ArePartsOfXorb parts → 0 < length parts → IsXorbText (flat_map spelling parts ++ ending true (xorb_hash (members_of parts)) (members_of parts)) parts
+unfolding xorb_text
+parts_text parts are some =
+    let ms : List (List ℕ × ℕ) = members_of parts in
+    let hash : List ℕ = xorb_hash ms in
+    let hashed = members_hashed parts in
+    let count : length ms ≡ length parts = length-map parts _ in
+    let total : total_len ms ≡ sum_by length parts = total_members parts in
+    let standard = standard_v1 hash ms no_spare (length-xorb_hash ms hashed) hashed (omega (arith, are.count)) (omega (arith, are.count, are.total)) refl in
+    let footer : length (text_v1 (footer_v1 hash ms no_spare)) ≡ 92 + 40 * length ms = length_is_known (footer_v1 hash ms no_spare) standard in
+    let tail : List ℕ = number (92 + 40 * length ms) in
+    let four : length tail ≡ 4 = refl in
+    record {
+      some = some;
+      small = are.small;
+      bound = omega (arith, are.count, are.total, length_spelled parts, length-append (flat_map spelling parts) (text_v1 (footer_v1 hash ms no_spare) ++ tail), length-append (text_v1 (footer_v1 hash ms no_spare)) tail);
+      version = V1;
+      spare = no_spare;
+      spare_len = refl;
+      spelled = refl;
+    }
+
+-- a footer begins where the stored chunks end
+pub start_is : (footer : Bool) (n : ℕ) (parts : List (List ℕ)) → n ≡ length (flat_map spelling parts) → then_some footer n ≡ start_of_footer footer parts
+start_is true n parts e = ap (λ (m : ℕ). Some m) e
+start_is false n parts e = refl
+
+-- the record of what was built
+pub built_is : (x : RawXorbData) (footer : Bool) (s : SerializedXorbObject) → IsRaw x → s.serialized_data ≡ flat_map spelling x.parts ++ ending footer x.xorb_info.metadata.xorb_hash (raw_members x)
+    → s.hash ≡ x.xorb_info.metadata.xorb_hash → s.raw_num_bytes ≡ chunk_bytes x.xorb_info.chunks → s.num_chunks ≡ length x.parts → s.footer_start ≡ start_of_footer footer x.parts → s ≡ built_of x footer
+built_is x footer s raw bytes hash plain count start =
+    let all : s.raw_num_bytes ≡ sum_by length x.parts = plain ∙ plain_listed x raw in
+    λ i. record { serialized_data = bytes i; hash = hash i; raw_num_bytes = all i; num_chunks = count i; footer_start = start i }
+
+-- with a footer, and with the digests of its parts, it is a xorb
+pub built_text : (x : RawXorbData) (footer : Bool) (s : SerializedXorbObject) → IsRaw x → s ≡ built_of x footer → footer ≡ true → 0 < length x.parts → raw_members x ≡ members_of x.parts
+    → x.xorb_info.metadata.xorb_hash ≡ xorb_hash (members_of x.parts) → IsXorbText s.serialized_data x.parts
+built_text x footer s raw built with some members hash =
+    let bytes : s.serialized_data ≡ flat_map spelling x.parts ++ ending true (xorb_hash (members_of x.parts)) (members_of x.parts) =
+    ap (λ (t : SerializedXorbObject). t.serialized_data) built ∙ ap (λ (f : Bool). flat_map spelling x.parts ++ ending f x.xorb_info.metadata.xorb_hash (raw_members x)) with
+    ∙ ap (λ (h : List ℕ). flat_map spelling x.parts ++ ending true h (raw_members x)) hash
+    ∙ ap (λ (ms : List (List ℕ × ℕ)). flat_map spelling x.parts ++ ending true (xorb_hash (members_of x.parts)) ms) members in
+    subst (λ (b : List ℕ). IsXorbText b x.parts) (sym bytes) (parts_text x.parts raw.parts some)

@@ -1,0 +1,178 @@
+-- Stored chunks that are read one by one, and what they are determined by.
+use Rattle.std.proofs.Common.{◌≡◌, ◌∙◌, ℕ, ◌+◌, ◌-◌, ◌*◌, ◌<◌, ◌≤◌, ◌^◌, ◌/◌, ◌%◌, List, Option, Some, [], ◌∷◌, ◌++◌, length, length-append, drop, slice_range, take, refl, sym, ap, arith, append_assoc}
+use Rattle.std.proofs.lemmas.Grind.{flat_map-append}
+use Rattle.std.proofs.lemmas.List.{append-nil, drop-drop, drop-take, length-drop, length-take-le, map-append, take-append-drop, take-take, take_at}
+use Rattle.std.proofs.lemmas.List.Sums.{sum_by-append}
+use Rattle.std.specs.List.{AllByRecursion, flat_map}
+use Rattle.xet_hash.specs.Merkle.{chunk_hash, member_of, members_of, total_len}
+use Rattle.xet_chunk.specs.Spelling.{spelling}
+use Rattle.xet_xorb.specs.Checking.{AreChunks, HaveMembers, StandsAt, header_of}
+use Rattle.xet_xorb.proofs.Determined.{all_chunks, le24_same, one_chunk}
+
+-- ---- one chunk
+
+-- some bytes, in two parts
+pub take_two : (n m : ℕ) (bytes : List ℕ) → take (n + m) bytes ≡ take n bytes ++ take m (drop n bytes)
+take_two n m bytes =
+    sym (take-append-drop n (take (n + m) bytes)) ∙ ap (λ (t : List ℕ). t ++ drop n (take (n + m) bytes)) (take-take n (n + m) bytes (omega arith)) ∙ ap (λ (t : List ℕ). take n bytes ++ t) (drop-take n m bytes)
+
+-- a chunk is stored as its header and its bytes
+pub spelled : (b : List ℕ) → spelling b ≡ header_of (length b) ++ b
+unfolding spelling
+spelled b = refl
+
+length-spelling : (b : List ℕ) → length (spelling b) ≡ 8 + length b
+unfolding spelling
+length-spelling b = omega arith
+
+-- the header and the bytes that were read are those of a stored chunk
+pub stands : (most at end size : ℕ) (bytes header : List ℕ) → size ≤ most → at + (8 + size) ≤ end → end ≤ length bytes
+    → header ≡ take 8 (drop at bytes) → header ≡ header_of size → StandsAt most bytes at end (take size (drop (at + 8) bytes))
+stands most at end size bytes header fits within room read is =
+    let body : List ℕ = take size (drop (at + 8) bytes) in
+    let long : length body ≡ size = length-take-le size (drop (at + 8) bytes) (omega (arith, length-drop (at + 8) bytes)) in
+    let both : take (8 + size) (drop at bytes) ≡ take 8 (drop at bytes) ++ take size (drop 8 (drop at bytes)) = take_two 8 size (drop at bytes) in
+    let behind : drop 8 (drop at bytes) ≡ drop (at + 8) bytes = drop-drop 8 at bytes in
+    let front : take 8 (drop at bytes) ≡ header_of (length body) = sym read ∙ is ∙ ap header_of (sym long) in
+    record {
+      fits = omega arith;
+      within = omega arith;
+      stored = ap (λ (n : ℕ). take (8 + n) (drop at bytes)) long ∙ both ∙ ap (λ (t : List ℕ). t ++ take size (drop 8 (drop at bytes))) front ∙ ap (λ (t : List ℕ). header_of (length body) ++ take size t) behind ∙ sym (spelled body);
+    }
+
+-- the header of a chunk that is stored
+pub header_shown : (most at end : ℕ) (bytes header chunk : List ℕ) → header ≡ take 8 (drop at bytes) → StandsAt most bytes at end chunk → header ≡ header_of (length chunk)
+header_shown most at end bytes header chunk read s =
+    let front : take 8 (take (8 + length chunk) (drop at bytes)) ≡ take 8 (drop at bytes) = take-take 8 (8 + length chunk) (drop at bytes) (omega arith) in
+    read ∙ sym front ∙ ap (take 8) (s.stored ∙ spelled chunk) ∙ take_at (header_of (length chunk)) chunk 8 refl
+
+-- a header tells one number
+pub header_same : (n m : ℕ) → n < 2 ^ 24 → m < 2 ^ 24 → header_of n ≡ header_of m → n ≡ m
+header_same n m small tiny e =
+    let first : n % 256 ≡ m % 256 = cc in
+    let second : n / 256 % 256 ≡ m / 256 % 256 = cc in
+    let third : n / 65536 % 256 ≡ m / 65536 % 256 = cc in
+    le24_same n m small tiny first second third
+
+-- what was digested is a member
+pub digested : (at size : ℕ) (bytes seen digest : List ℕ) (found : Option (List ℕ)) → seen ≡ bytes → found ≡ Some (chunk_hash (take size (drop (at + 8) seen))) → found ≡ Some digest
+    → at + 8 + size ≤ length bytes → (digest, size) ≡ member_of (take size (drop (at + 8) bytes))
+digested at size bytes seen digest found same is some room =
+    let body : List ℕ = take size (drop (at + 8) bytes) in
+    let long : length body ≡ size = length-take-le size (drop (at + 8) bytes) (omega (arith, length-drop (at + 8) bytes)) in
+    let here : Some digest ≡ Some (chunk_hash (take size (drop (at + 8) seen))) = sym some ∙ is in
+    let read : digest ≡ chunk_hash (take size (drop (at + 8) seen)) = cc in
+    let hash : digest ≡ chunk_hash body = read ∙ ap (λ (b : List ℕ). chunk_hash (take size (drop (at + 8) b))) same in
+    λ i. (hash i, sym long i)
+
+-- ---- all chunks
+
+-- one more member, and how many bytes it adds
+pub total_more : (ms : List (List ℕ × ℕ)) (m : List ℕ × ℕ) → total_len (ms ++ m ∷ []) + 8 * length (ms ++ m ∷ []) ≡ total_len ms + 8 * length ms + (8 + m.1)
+total_more ms m = omega (arith, sum_by-append (λ (x : List ℕ × ℕ). x.1) ms (m ∷ []), length-append ms (m ∷ []))
+
+-- no chunk is in no bytes
+pub none_yet : (most : ℕ) (bytes : List ℕ) → HaveMembers most (take 0 bytes) []
+none_yet most bytes = record { chunks = []; are = record { fit = tt; stored = refl }; members = refl }
+
+fit_more : (most : ℕ) (cs : List (List ℕ)) (c : List ℕ) → AllByRecursion (λ b. length b ≤ most) cs → length c ≤ most → AllByRecursion (λ b. length b ≤ most) (cs ++ c ∷ [])
+fit_more most [] c fit one = (one, tt)
+fit_more most (b ∷ bs) c fit one = (fit.0, fit_more most bs c fit.1 one)
+
+-- one more chunk was read
+pub one_more : (most at end : ℕ) (bytes : List ℕ) (ms : List (List ℕ × ℕ)) (m : List ℕ × ℕ) (chunk : List ℕ) → HaveMembers most (take at bytes) ms → StandsAt most bytes at end chunk → m ≡ member_of chunk
+    → HaveMembers most (take (at + (8 + m.1)) bytes) (ms ++ m ∷ [])
+one_more most at end bytes ms m chunk h s is =
+    let size : m.1 ≡ length chunk = ap (λ (x : List ℕ × ℕ). x.1) is in
+    let last : flat_map spelling (chunk ∷ []) ≡ spelling chunk = append-nil (spelling chunk) in
+    let both : flat_map spelling (h.chunks ++ chunk ∷ []) ≡ flat_map spelling h.chunks ++ spelling chunk = flat_map-append spelling h.chunks (chunk ∷ []) ∙ ap (λ (t : List ℕ). flat_map spelling h.chunks ++ t) last in
+    let read : take (at + (8 + length chunk)) bytes ≡ flat_map spelling h.chunks ++ spelling chunk =
+    take_two at (8 + length chunk) bytes ∙ ap (λ (t : List ℕ). t ++ take (8 + length chunk) (drop at bytes)) h.are.stored ∙ ap (λ (t : List ℕ). flat_map spelling h.chunks ++ t) s.stored in
+    record {
+      chunks = h.chunks ++ chunk ∷ [];
+      are = record { fit = fit_more most h.chunks chunk h.are.fit s.fits; stored = ap (λ (n : ℕ). take (at + (8 + n)) bytes) size ∙ read ∙ sym both };
+      members = ap (λ (x : List (List ℕ × ℕ)). x ++ m ∷ []) h.members ∙ ap (λ (x : List ℕ × ℕ). members_of h.chunks ++ x ∷ []) is ∙ sym (map-append member_of h.chunks (chunk ∷ []));
+    }
+
+small_of : (most : ℕ) (cs : List (List ℕ)) → most < 2 ^ 23 → AllByRecursion (λ b. length b ≤ most) cs → AllByRecursion (λ b. length b < 2 ^ 24) cs
+small_of most [] small fit = tt
+small_of most (b ∷ bs) small fit = (omega (arith, fit.0), small_of most bs small fit.1)
+
+-- chunks at most so long are below 2 ^ 24 bytes
+pub all_small : (most : ℕ) (cs : List (List ℕ)) → most < 2 ^ 23 → AllByRecursion (λ b. length b ≤ most) cs → AllByRecursion (λ b. length b < 2 ^ 24) cs
+all_small = small_of
+
+-- the chunks that are left, where the first are known
+rest_of : (most : ℕ) (cs all : List (List ℕ)) (s : List ℕ) → most < 2 ^ 23 → AllByRecursion (λ b. length b ≤ most) cs → AllByRecursion (λ b. length b ≤ most) all → 0 < length s
+    → flat_map spelling cs ++ s ≡ flat_map spelling all → (r : List ℕ) × (rest : List ℕ) × (length r ≤ most) × (s ≡ spelling r ++ rest)
+unfolding spelling
+rest_of most [] [] s small fc fa some e = absurd (omega (arith, ap length e))
+rest_of most [] (r ∷ rs) s small fc fa some e = (r, flat_map spelling rs, fa.0, e)
+rest_of most (c ∷ cs) [] s small fc fa some e = absurd (omega (arith, ap length e))
+rest_of most (c ∷ cs) (d ∷ ds) s small fc fa some e =
+    let same = one_chunk c d (flat_map spelling cs ++ s) (flat_map spelling ds) (omega (arith, fc.0)) (omega (arith, fa.0)) (sym (append_assoc (spelling c) (flat_map spelling cs) s) ∙ e) in
+    rest_of most cs ds s small fc.1 fa.1 some same.1
+
+-- bytes up to a place, in two parts
+take_to : (at end : ℕ) (bytes : List ℕ) → at ≤ end → take end bytes ≡ take at bytes ++ take (end - at) (drop at bytes)
+take_to at end bytes before =
+    let sum : at + (end - at) ≡ end = omega arith in ap (λ (n : ℕ). take n bytes) (sym sum) ∙ take_two at (end - at) bytes
+
+-- the chunk that begins what is left
+first_stands : (most at end : ℕ) (bytes chunk rest : List ℕ) → at ≤ end → end ≤ length bytes → length chunk ≤ most → take (end - at) (drop at bytes) ≡ spelling chunk ++ rest → StandsAt most bytes at end chunk
+first_stands most at end bytes chunk rest before room fits is =
+    let long : length (take (end - at) (drop at bytes)) ≡ end - at = length-take-le (end - at) (drop at bytes) (omega (arith, length-drop at bytes)) in
+    let size : length (spelling chunk) ≡ 8 + length chunk = length-spelling chunk in
+    let sum : end - at ≡ 8 + length chunk + length rest = omega (arith, ap length is, length-append (spelling chunk) rest) in
+    record {
+      fits = fits;
+      within = omega arith;
+      stored = sym (take-take (8 + length chunk) (end - at) (drop at bytes) (omega arith)) ∙ ap (take (8 + length chunk)) is ∙ take_at (spelling chunk) rest (8 + length chunk) size;
+    }
+
+-- where bytes are left a chunk stands
+pub next_stands : (most at end : ℕ) (bytes : List ℕ) (ms : List (List ℕ × ℕ)) (all : List (List ℕ)) → most < 2 ^ 23 → at < end → end ≤ length bytes
+    → HaveMembers most (take at bytes) ms → AreChunks most (take end bytes) all → (chunk : List ℕ) × StandsAt most bytes at end chunk
+next_stands most at end bytes ms all small before room h a =
+    let long : length (take (end - at) (drop at bytes)) ≡ end - at = length-take-le (end - at) (drop at bytes) (omega (arith, length-drop at bytes)) in
+    let e : flat_map spelling h.chunks ++ take (end - at) (drop at bytes) ≡ flat_map spelling all =
+    sym (ap (λ (t : List ℕ). t ++ take (end - at) (drop at bytes)) h.are.stored) ∙ sym (take_to at end bytes (omega arith)) ∙ a.stored in
+    let r = rest_of most h.chunks all (take (end - at) (drop at bytes)) small h.are.fit a.fit (omega arith) e in
+    (r.0, first_stands most at end bytes r.0 r.1 (omega arith) room r.2 r.3)
+
+-- the same bytes hold the same stored chunks
+pub same_chunks : (most : ℕ) (bytes : List ℕ) (cs ds : List (List ℕ)) → most < 2 ^ 23 → AreChunks most bytes cs → AreChunks most bytes ds → cs ≡ ds
+same_chunks most bytes cs ds small c d =
+    all_chunks cs ds (88 ∷ []) (88 ∷ []) (all_small most cs small c.fit) (all_small most ds small d.fit) (_, refl) (_, refl) (ap (λ (t : List ℕ). t ++ 88 ∷ []) (sym c.stored ∙ d.stored))
+
+-- ---- bytes that are compared piece by piece
+
+-- the next piece of a text
+piece_is : (done size : ℕ) (text piece : List ℕ) → done + size ≤ length text → piece ≡ slice_range text done (done + size) → (piece ≡ take size (drop done text)) × (length piece ≡ size)
+piece_is done size text piece room is =
+    let count : done + size - done ≡ size = omega arith in
+    let here : piece ≡ take size (drop done text) = is ∙ ap (λ (n : ℕ). take n (drop done text)) count in
+    (here, ap length here ∙ length-take-le size (drop done text) (omega (arith, length-drop done text)))
+
+-- one more piece is the same
+pub piece_more : (at done size : ℕ) (text bytes seen piece : List ℕ) → done + size ≤ length text → piece ≡ slice_range text done (done + size) → seen ≡ bytes
+    → take done text ≡ take done (drop at bytes) → piece ≡ take (length piece) (drop (at + done) seen) → take (done + size) text ≡ take (done + size) (drop at bytes)
+piece_more at done size text bytes seen piece room is same kept equal =
+    let p = piece_is done size text piece room is in
+    let behind : drop done (drop at bytes) ≡ drop (at + done) bytes = drop-drop done at bytes in
+    let next : take size (drop done text) ≡ take size (drop done (drop at bytes)) =
+    sym p.0 ∙ equal ∙ ap (λ (n : ℕ). take n (drop (at + done) seen)) p.1 ∙ ap (λ (b : List ℕ). take size (drop (at + done) b)) same ∙ ap (take size) (sym behind) in
+    take_two done size text ∙ ap (λ (t : List ℕ). t ++ take size (drop done text)) kept ∙ ap (λ (t : List ℕ). take done (drop at bytes) ++ t) next ∙ sym (take_two done size (drop at bytes))
+
+-- each piece of the same bytes is the same
+pub piece_same : (at done size : ℕ) (text bytes seen piece : List ℕ) → done + size ≤ length text → piece ≡ slice_range text done (done + size) → seen ≡ bytes
+    → text ≡ take (length text) (drop at bytes) → piece ≡ take (length piece) (drop (at + done) seen)
+piece_same at done size text bytes seen piece room is same equal =
+    let p = piece_is done size text piece room is in
+    let more : ℕ = length text - done in
+    let all : done + more ≡ length text = omega arith in
+    let behind : drop done (drop at bytes) ≡ drop (at + done) bytes = drop-drop done at bytes in
+    let rest : drop done text ≡ take more (drop done (drop at bytes)) =
+    ap (drop done) (equal ∙ ap (λ (n : ℕ). take n (drop at bytes)) (sym all)) ∙ drop-take done more (drop at bytes) in
+    let here : piece ≡ take size (drop (at + done) bytes) = p.0 ∙ ap (take size) rest ∙ take-take size more (drop done (drop at bytes)) (omega arith) ∙ ap (take size) behind in
+    here ∙ ap (λ (n : ℕ). take n (drop (at + done) bytes)) (sym p.1) ∙ ap (λ (b : List ℕ). take (length piece) (drop (at + done) b)) (sym same)

@@ -1,0 +1,97 @@
+use Rattle.std.proofs.Common.{◌≡◌, ◌∙◌, ◌<◌, ◌^◌, List, Ok, ap, arith, drop, false, length, refl, subst, sym, take, true, ℕ}
+use Rattle.xet_footer.specs.Ends.{last_footer}
+use Rattle.xet_xorb.specs.declared.object.XorbObject.{XorbObject}
+use Rattle.xet_xorb.specs.Checking.{AreChunks, HaveMembers, IsEnding}
+use Rattle.xet_xorb.specs.Validation.{IsValid, IsXorbOf}
+use Rattle.xet_xorb.proofs.Validated.{chunks_at, ending_at, hash_at, hash_size, hashed_of, is_valid, members_at, none_more, parts_of, some_more, valid_is_read}
+use Rattle.xet_xorb.proofs.object.XorbObject.validate_xorb_object.Goals as goal
+
+pub returns-in_default-clause-none : goal.returns-in_default-clause-none
+returns-in_default-clause-none g c = λ told _ chunks x.
+    let p = parts_of c.args.max_chunk c.args.hash.now (g.R.ReadAt.bytes c.args.reader.now) chunks x in
+    c.in_ok-start.ensures.none told (rw c.in_default.is refl) x.text.bound p.told p.enough (omega (arith, p.whole)) p.tells
+
+pub returns-in_default-2-clause-none : goal.returns-in_default-2-clause-none
+returns-in_default-2-clause-none g c = λ told _ chunks x.
+    let most = c.args.max_chunk in
+    let bytes = g.R.ReadAt.bytes c.args.reader.now in
+    let start = c.in-Some.start in
+    let same = c.in_ok-start.ensures.same in
+    let whole = rw c.in-Some.is at (c.in_ok-start.ensures.whole told) in
+    let tells = rw c.in-Some.is at (c.in_ok-start.ensures.told told) in
+    let are = chunks_at most start c.in-Some.told c.args.hash.now bytes chunks whole tells x in
+    c.in_ok-members.ensures.none (c.in_ok-start.ensures.tells ∙ told) (omega (arith, whole, ap length same)) (rw c.in_default-2.is refl) chunks
+    (subst (λ (b : List ℕ). AreChunks most (take start b) chunks) (sym same) are)
+
+pub returns-then-not-branch-clause-none : goal.returns-then-not-branch-clause-none
+returns-then-not-branch-clause-none g c = λ told _ chunks x.
+    let most = c.args.max_chunk in
+    let hash = c.args.hash.now in
+    let bytes = g.R.ReadAt.bytes c.args.reader.now in
+    let start = c.in-Some.start in
+    let ms = c.in-Some-2.members.items in
+    let same = c.in_ok-start.ensures.same in
+    let whole = rw c.in-Some.is at (c.in_ok-start.ensures.whole told) in
+    let tells = rw c.in-Some.is at (c.in_ok-start.ensures.told told) in
+    let found = rw c.in-Some-2.is at (c.in_ok-members.ensures.found (c.in_ok-start.ensures.tells ∙ told) (omega (arith, whole, ap length same))) in
+    let have = subst (λ (b : List ℕ). HaveMembers most (take start b) ms) same found in
+    let is = members_at most start c.in-Some.told hash bytes ms chunks c.requires.most whole tells have x in
+    let hashes = rw (c.if-not-branch.true, c.deref.ensures.value) at c.in_ok-have_hash.ensures.same in
+    let no : false ≡ true = hashes.1 (hash_at most hash bytes ms chunks is x) in
+    cc
+
+pub returns-clause-valid : goal.returns-clause-valid
+returns-clause-valid g c = λ told.
+    let most = c.args.max_chunk in
+    let hash = c.args.hash.now in
+    let bytes = g.R.ReadAt.bytes c.args.reader.now in
+    let start = c.in-Some.start in
+    let ms = c.in-Some-2.members.items in
+    let same = c.in_ok-start.ensures.same in
+    let both = c.in_ok-members.ensures.same ∙ same in
+    let seen = g.R.ReadAt.bytes c.stored_members.new.reader in
+    let whole = rw c.in-Some.is at (c.in_ok-start.ensures.whole told) in
+    let bound = rw c.in-Some.is at c.in_ok-start.ensures.bound in
+    let found = rw c.in-Some-2.is at (c.in_ok-members.ensures.found (c.in_ok-start.ensures.tells ∙ told) (omega (arith, whole, ap length same))) in
+    let have = subst (λ (b : List ℕ). HaveMembers most (take start b) ms) same found in
+    let hashes = rw (c.if-not-branch.false, c.deref.ensures.value) at c.in_ok-have_hash.ensures.same in
+    let is = hashes.0 refl in
+    let hashed = hashed_of most (take start bytes) ms have in
+    let ends = rw c.deref-2.ensures.value at c.checked_object.ensures.found in
+    let small : length bytes < 2 ^ 32 = omega (arith, whole, bound) in
+    some_more (λ (o : XorbObject). IsEnding hash ms (drop start seen) o) (λ (o : XorbObject). (chunks : List (List ℕ)) × IsValid most hash bytes chunks o) c.checked_object.result
+    (λ o e. is_valid most start hash bytes ms o c.requires.most small have is.0 is.1 (subst (λ (b : List ℕ). IsEnding hash ms (drop start b) o) both e))
+    (ends (c.in_ok-members.ensures.tells ∙ c.in_ok-start.ensures.tells ∙ told) (whole ∙ ap length (sym both)) hashed (hash_size ms hash hashed is.1))
+
+pub returns-clause-read : goal.returns-clause-read
+returns-clause-read g c = λ told.
+    let most = c.args.max_chunk in
+    let hash = c.args.hash.now in
+    let bytes = g.R.ReadAt.bytes c.args.reader.now in
+    some_more (λ (o : XorbObject). (chunks : List (List ℕ)) × IsValid most hash bytes chunks o) (λ (o : XorbObject). last_footer bytes ≡ Ok (o.info, o.info_length)) c.checked_object.result
+    (λ o v. valid_is_read most hash bytes o v) (returns-clause-valid g c told)
+
+pub returns-clause-none : goal.returns-clause-none
+returns-clause-none g c = λ told.
+    let most = c.args.max_chunk in
+    let hash = c.args.hash.now in
+    let bytes = g.R.ReadAt.bytes c.args.reader.now in
+    let start = c.in-Some.start in
+    let ms = c.in-Some-2.members.items in
+    let same = c.in_ok-start.ensures.same in
+    let both = c.in_ok-members.ensures.same ∙ same in
+    let seen = g.R.ReadAt.bytes c.stored_members.new.reader in
+    let whole = rw c.in-Some.is at (c.in_ok-start.ensures.whole told) in
+    let tells = rw c.in-Some.is at (c.in_ok-start.ensures.told told) in
+    let found = rw c.in-Some-2.is at (c.in_ok-members.ensures.found (c.in_ok-start.ensures.tells ∙ told) (omega (arith, whole, ap length same))) in
+    let have = subst (λ (b : List ℕ). HaveMembers most (take start b) ms) same found in
+    let hashes = rw (c.if-not-branch.false, c.deref.ensures.value) at c.in_ok-have_hash.ensures.same in
+    let hashed = hashed_of most (take start bytes) ms have in
+    let none = rw c.deref-2.ensures.value at c.checked_object.ensures.none in
+    none_more ((o : XorbObject) → IsEnding hash ms (drop start seen) o → ⊥) ((chunks : List (List ℕ)) → IsXorbOf most hash bytes chunks → ⊥) c.checked_object.result
+    (λ no chunks x.
+    let e = ending_at most start c.in-Some.told hash bytes chunks whole tells x in
+    let is = members_at most start c.in-Some.told hash bytes ms chunks c.requires.most whole tells have x in
+    let here = subst (λ (l : List (List ℕ × ℕ)). IsEnding hash l (drop start bytes) e.0) (sym is) e.1 in
+    no e.0 (subst (λ (b : List ℕ). IsEnding hash ms (drop start b) e.0) (sym both) here))
+    (none (c.in_ok-members.ensures.tells ∙ c.in_ok-start.ensures.tells ∙ told) (whole ∙ ap length (sym both)) hashed (hash_size ms hash hashed (hashes.0 refl).1))

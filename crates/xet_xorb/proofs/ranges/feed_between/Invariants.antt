@@ -1,0 +1,24 @@
+use Rattle.std.proofs.Common.{◌≡◌, ◌≤◌, ◌-◌, ◌+◌, ◌++◌, ℕ, List, true, length, slice_range}
+use Rattle.std.specs.List.{concat}
+use Rattle.xet_chunk.specs.Decoder.{Holds, fed_len, most_of, whole_of}
+use Rattle.xet_xorb.proofs.ranges.feed_between.Given as goal
+
+abbrev pub invariant-reads : goal.invariant-reads
+invariant-reads g l = record {
+  whole : whole_of l.decoder ≡ true;
+  most : most_of l.decoder ≡ most_of l.fn.decoder;
+  after : l.fn.from ≤ l.at;
+  within : l.at ≤ l.fn.to;
+  count : fed_len l.decoder + l.fn.from ≡ l.at;
+  held : (fed : List ℕ) × (chunks : List (List ℕ)) × Holds l.decoder fed chunks
+      × (g.R.ReadAt.tells l.fn.reader ≡ true → l.fn.to ≤ length (g.R.ReadAt.bytes l.fn.reader) → fed ≡ slice_range (g.R.ReadAt.bytes l.fn.reader) l.fn.from l.at)
+      × (g.W.Sink.tells l.fn.w ≡ true → g.W.Sink.written l.w ≡ g.W.Sink.written l.fn.w ++ concat chunks);
+  same : g.R.ReadAt.bytes l.reader ≡ g.R.ReadAt.bytes l.fn.reader;
+  reader_tells : g.R.ReadAt.tells l.reader ≡ g.R.ReadAt.tells l.fn.reader;
+  sink_tells : g.W.Sink.tells l.w ≡ g.W.Sink.tells l.fn.w;
+  reader_later : g.R.ReadAt.faults l.fn.reader ≤ g.R.ReadAt.faults l.reader;
+  sink_later : g.W.Sink.faults l.fn.w ≤ g.W.Sink.faults l.w;
+}
+
+abbrev pub decreases-reads : goal.decreases-reads
+decreases-reads g l = l.fn.to - l.at

@@ -1,0 +1,6 @@
+use Rattle.std.proofs.Common.{◌≡◌, map, take}
+use Rattle.xet_chunk.specs.Chunks.{bytes_of}
+use Rattle.xet_xorb.proofs.raw.parts_of.Given as goal
+
+abbrev pub invariant-loop-chunk : goal.invariant-loop-chunk
+invariant-loop-chunk l = l.parts.items ≡ map bytes_of (take l.chunk-index l.chunks)

@@ -1,0 +1,10 @@
+use Rattle.std.proofs.Common.{◌≡◌, ◌+◌, ◌++◌, drop}
+use Rattle.xet_hash.specs.Merkle.{total_len}
+use Rattle.xet_xorb.specs.Raw.{entries_from}
+use Rattle.xet_xorb.proofs.raw.xorb_record.Given as goal
+
+abbrev pub invariant-loop-chunk : goal.invariant-loop-chunk
+invariant-loop-chunk l = record {
+  entries : l.entries.items ++ entries_from l.start (drop l.chunk-index l.members) ≡ entries_from 0 l.members;
+  start : l.start + total_len (drop l.chunk-index l.members) ≡ total_len l.members;
+}

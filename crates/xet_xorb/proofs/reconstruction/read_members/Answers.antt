@@ -1,0 +1,54 @@
+use Rattle.std.proofs.Common.{◌+◌, ◌++◌, ◌∷◌, [], List, ap, arith, drop, length, rules, take, ℕ}
+use Rattle.std.proofs.lemmas.List.{length-map, take_rest}
+use Rattle.xet_hash.specs.Merkle.{member_of}
+use Rattle.xet_chunk.proofs.Checks.{exit_with}
+use Rattle.xet_xorb.specs.Copying.{IsNoCopy}
+use Rattle.xet_xorb.proofs.Rebuilt.{AreBytes, all_copied, copied_small, each_more, next_is, next_member, no_copy, too_many}
+use Rattle.xet_xorb.proofs.reconstruction.read_members.Goals as goal
+
+pub returns-in_err-length-clause-refused : goal.returns-in_err-length-clause-refused
+returns-in_err-length-clause-refused c =
+    let f = c.chunks.invariant.front in
+    let raw = c.args.raw.now in
+    exit_with (IsNoCopy c.args.max_chunk raw) _ _ c.from_residual.ensures.1 (no_copy c.args.max_chunk raw f.0 c.chunks.at _ _ f.1 (take_rest raw c.chunks.at) c.in_err-length.ensures.next)
+
+pub returns-then-len-eq-MOST_CHUNKS-clause-refused : goal.returns-then-len-eq-MOST_CHUNKS-clause-refused
+returns-then-len-eq-MOST_CHUNKS-clause-refused c =
+    let f = c.chunks.invariant.front in
+    let raw = c.args.raw.now in
+    let small : AreBytes raw = search rules in
+    let next = rw c.in-Some.is at c.in_ok-length.ensures.next in
+    let count = ap (λ (ms : List (List ℕ × ℕ)). length ms) f.2 in
+    too_many c.args.max_chunk raw f.0 c.chunks.at _ _ (next_is c.args.max_chunk raw f.0 c.chunks.at c.in-Some.length _ small c.requires.bound f.1 (take_rest raw c.chunks.at) next)
+    (omega (arith, count, length-map f.0 member_of, c.chunks.members.ok.0))
+
+pub chunks-preserved : goal.chunks-preserved
+chunks-preserved c =
+    let f = c.chunks.invariant.front in
+    let raw = c.args.raw.now in
+    let n : ℕ = c.in-Some.length in
+    let small : AreBytes raw = search rules in
+    let next = rw c.in-Some.is at c.in_ok-length.ensures.next in
+    let front = next_is c.args.max_chunk raw f.0 c.chunks.at n _ small c.requires.bound f.1 (take_rest raw c.chunks.at) next in
+    record {
+      within = front.within;
+      few = search rules;
+      each = each_more c.chunks.members.items _ (c.compute_data_hash.result, n) c.chunks.invariant.each (rw c.in-Some.is at c.in_ok-length.ensures.small) c.in_ok-push.ensures.items;
+      front = (
+        f.0 ++ take n (drop (c.chunks.at + 8) raw) ∷ [],
+        front,
+        next_member c.args.max_chunk raw f.0 c.chunks.at n _ c.compute_data_hash.result _ _ (take_rest raw c.chunks.at) next c.compute_data_hash.ensures c.in_ok-push.ensures.items f.2,
+      );
+    }
+
+pub returns-clause-copied : goal.returns-clause-copied
+returns-clause-copied c =
+    let f = c.chunks.invariant.front in
+    let raw = c.args.raw.now in
+    let next = rw c.in_default.is at c.in_ok-length.ensures.next in
+    all_copied c.args.max_chunk raw f.0 c.chunks.at _ _ f.1 (take_rest raw c.chunks.at) next f.2 (omega (arith, c.chunks.members.ok.0, c.chunks.invariant.few))
+
+pub returns-clause-small : goal.returns-clause-small
+returns-clause-small c =
+    let f = c.chunks.invariant.front in
+    copied_small c.args.max_chunk c.args.raw.now f.0 c.chunks.at _ f.1 c.requires.bound f.2

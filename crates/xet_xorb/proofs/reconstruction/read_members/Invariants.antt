@@ -1,0 +1,17 @@
+use Rattle.std.proofs.Common.{◌≡◌, ◌<◌, ◌≤◌, ◌^◌, ◌-◌, ℕ, List, length, vec_len}
+use Rattle.std.specs.List.{AllByRecursion}
+use Rattle.xet_hash.specs.Merkle.{members_of}
+use Rattle.xet_footer.specs.Spelled.{most_chunks}
+use Rattle.xet_xorb.specs.Copying.{AreInFront}
+use Rattle.xet_xorb.proofs.reconstruction.read_members.Given as goal
+
+abbrev pub invariant-chunks : goal.invariant-chunks
+invariant-chunks l = record {
+  within : l.at ≤ length l.raw;
+  few : vec_len l.members ≤ most_chunks;
+  each : AllByRecursion (λ m. m.1 < 2 ^ 24) l.members.items;
+  front : (chunks : List (List ℕ)) × AreInFront l.max_chunk l.raw chunks l.at × (l.members.items ≡ members_of chunks);
+}
+
+abbrev pub decreases-chunks : goal.decreases-chunks
+decreases-chunks l = length l.raw - l.at

@@ -1,0 +1,5 @@
+use Rattle.xet_xorb.specs.Samples.{AreSampleChunks}
+use Rattle.xet_xorb.proofs.samples.random_chunks.Given as goal
+
+abbrev pub invariant-draws : goal.invariant-draws
+invariant-draws g l = AreSampleChunks l.counter l.size l.chunks.items

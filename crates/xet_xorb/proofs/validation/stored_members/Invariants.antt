@@ -1,0 +1,18 @@
+use Rattle.std.proofs.Common.{◌≡◌, ◌+◌, ◌*◌, ◌-◌, ◌≤◌, length, take, true}
+use Rattle.xet_io.specs.Faults.{HasCause}
+use Rattle.xet_hash.specs.Merkle.{total_len}
+use Rattle.xet_xorb.specs.Checking.{HaveMembers}
+use Rattle.xet_xorb.proofs.validation.stored_members.Given as goal
+
+abbrev pub invariant-chunks : goal.invariant-chunks
+invariant-chunks g l = record {
+  size : total_len l.members.items + 8 * length l.members.items ≡ l.at;
+  within : l.at ≤ l.end;
+  same : g.R.ReadAt.bytes l.reader ≡ g.R.ReadAt.bytes l.initial.reader;
+  tells : g.R.ReadAt.tells l.reader ≡ g.R.ReadAt.tells l.initial.reader;
+  cause : HasCause (g.R.ReadAt.faults l.initial.reader) (g.R.ReadAt.faults l.reader) ⊥;
+  found : g.R.ReadAt.tells l.initial.reader ≡ true → l.end ≤ length (g.R.ReadAt.bytes l.initial.reader) → HaveMembers l.max_chunk (take l.at (g.R.ReadAt.bytes l.initial.reader)) l.members.items;
+}
+
+abbrev pub decreases-chunks : goal.decreases-chunks
+decreases-chunks g l = l.end - l.at

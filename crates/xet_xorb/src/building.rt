@@ -1,0 +1,148 @@
+//! Xorbs as they are stored.
+
+ghost use Rattle.std.specs.Prelude.{◌≡◌, ◌⊎◌, ◌<◌, ◌≤◌, ◌+◌, ◌*◌, ◌^◌, ◌++◌, [], Err, true, IfErr, IfOk, IsOkUnless, OnOk, length, map};
+ghost use Rattle.std.specs.List.{AllByRecursion, flat_map};
+ghost use Rattle.xet_hash.specs.Merkle.{members_of, xorb_hash};
+ghost use Rattle.xet_hash.specs.declared.error.StoreError.{StoreError};
+ghost use Rattle.xet_hash.specs.declared.error.StoreError.TheVariants.{OutOfMemory};
+ghost use Rattle.xet_chunk.specs.Scheme.{compressed};
+ghost use Rattle.xet_chunk.specs.Spelling.{spelling};
+ghost use Rattle.xet_xorb.specs.Building.{built_of, ending};
+ghost use Rattle.xet_xorb.specs.Raw.{IsRaw, raw_members};
+ghost use Rattle.xet_xorb.specs.Xorb.{IsXorbText};
+
+use crate::footers::new_footer;
+use crate::object::XorbObject;
+use crate::raw::RawXorbData;
+use bytes::Bytes;
+use std::alloc::Global;
+use xet_base::Items;
+use xet_chunk::{CompressionScheme, XORB_CHUNK_HEADER_LENGTH, serialize_chunk};
+use xet_hash::{MerkleHash, StoreError};
+use xet_io::MemorySink;
+use xet_shard::MDBXorbInfo;
+
+/// A xorb as it is stored.
+#[derive(Debug, Drop)]
+pub struct SerializedXorbObject {
+    /// Its bytes.
+    pub serialized_data: Items<u8>,
+    /// Its hash.
+    pub hash: MerkleHash,
+    /// The plain bytes of its chunks together.
+    pub raw_num_bytes: u64,
+    /// The number of its chunks.
+    pub num_chunks: usize,
+    /// Where its footer begins; none, where it has none.
+    pub footer_start: Option<u64>,
+}
+
+impl SerializedXorbObject {
+    /// A raw xorb as it is stored: each part behind its header, uncompressed, and then, if it is wanted, a footer of
+    /// version 1 and its length. With a footer it is a xorb of its parts, where there is one and the hashes are
+    /// theirs.
+    ///
+    /// The memory for the bytes is taken once. Where there is none, the call fails with `StoreError::OutOfMemory`,
+    /// and for no other reason.
+    pub fn from_xorb(
+        alloc: Global,
+        xorb: RawXorbData,
+        footer: bool,
+    ) -> Result<SerializedXorbObject, StoreError>
+        requires { IsRaw xorb }
+        ensures built { IfOk result (λ made. made ≡ built_of xorb footer) }
+        ensures grammar { footer ≡ true → 0 < length xorb.parts → raw_members xorb ≡ members_of xorb.parts → xorb.xorb_info.metadata.xorb_hash ≡ xorb_hash (members_of xorb.parts)
+            → IfOk result (λ made. IsXorbText made.serialized_data xorb.parts) }
+        ensures memory { IsOkUnless result StoreError.OutOfMemory }
+    {
+        let parts = xorb.parts.as_slice();
+        let plain = xorb.num_bytes();
+        let stored = plain + XORB_CHUNK_HEADER_LENGTH * parts.len();
+        let room = stored + ending_length(parts.len(), footer);
+        let mut sink = MemorySink::from_vec(Vec::with_capacity(alloc, room)?);
+        write_parts(parts, &mut sink)?;
+        write_ending(alloc, &xorb, footer, &mut sink)?;
+        Ok(SerializedXorbObject {
+            serialized_data: Items::from_vec(sink.into_bytes()),
+            hash: xorb.hash(),
+            raw_num_bytes: plain as u64,
+            num_chunks: parts.len(),
+            footer_start: footer.then_some(stored as u64),
+        })
+    }
+
+    /// A raw xorb as it is stored under a scheme, as `from_xorb` gives it for `None` and for `Auto`. The other schemes
+    /// are refused as `CompressionError` of their number.
+    pub fn from_xorb_with_compression(
+        alloc: Global,
+        xorb: RawXorbData,
+        scheme: CompressionScheme,
+        footer: bool,
+    ) -> Result<SerializedXorbObject, StoreError>
+        requires { IsRaw xorb }
+        ensures built { IfOk result (λ made. made ≡ built_of xorb footer) }
+        ensures grammar { footer ≡ true → 0 < length xorb.parts → raw_members xorb ≡ members_of xorb.parts → xorb.xorb_info.metadata.xorb_hash ≡ xorb_hash (members_of xorb.parts)
+            → IfOk result (λ made. IsXorbText made.serialized_data xorb.parts) }
+        ensures scheme { (e : StoreError) → compressed scheme [] ≡ Err e → result ≡ Err e }
+        ensures refusals { IfErr result (λ e. (compressed scheme [] ≡ Err e) ⊎ (e ≡ OutOfMemory)) }
+    {
+        scheme.compress_from_slice(&[])?;
+        SerializedXorbObject::from_xorb(alloc, xorb, footer)
+    }
+}
+
+/// How many bytes stand behind so many stored chunks.
+fn ending_length(count: usize, footer: bool) -> usize
+    requires { count ≤ 65536 }
+    ensures { result ≤ 96 + 40 * count }
+{
+    if footer { 96 + 40 * count } else { 0 }
+}
+
+/// Writes each part behind its header. Refused as `OutOfMemory`.
+fn write_parts(parts: &[Bytes], sink: &mut MemorySink) -> Result<(), StoreError>
+    requires { AllByRecursion (λ p. length p < 2 ^ 24) parts.now }
+    ensures written { OnOk result (sink.new ≡ sink.old ++ flat_map spelling parts.now) }
+    ensures memory { IsOkUnless result StoreError.OutOfMemory }
+{
+    for part in parts {
+        serialize_chunk(part.as_slice(), sink, CompressionScheme::None)?;
+    }
+    Ok(())
+}
+
+/// Writes the footer of the listed members and its length, if a footer is wanted. Refused as `OutOfMemory`.
+fn write_ending(
+    alloc: Global,
+    xorb: &RawXorbData,
+    footer: bool,
+    sink: &mut MemorySink,
+) -> Result<(), StoreError>
+    requires { IsRaw xorb.now }
+    ensures written { OnOk result (sink.new ≡ sink.old ++ ending footer xorb.now.xorb_info.metadata.xorb_hash (raw_members xorb.now)) }
+    ensures memory { IsOkUnless result StoreError.OutOfMemory }
+{
+    if !footer {
+        return Ok(());
+    }
+    let members = listed_members(alloc, &xorb.xorb_info)?;
+    let info = new_footer(alloc, &xorb.hash(), &members, [0; 16])?;
+    XorbObject::serialize_given_info(sink, info)?;
+    Ok(())
+}
+
+/// The hash and the length of each chunk that is listed. Refused as `OutOfMemory`.
+fn listed_members(
+    alloc: Global,
+    xorb_info: &MDBXorbInfo,
+) -> Result<Vec<(MerkleHash, u64)>, StoreError>
+    ensures members { IfOk result (λ members. members.items ≡ map (λ c. (c.chunk_hash, c.unpacked_segment_bytes)) xorb_info.now.chunks) }
+    ensures memory { IsOkUnless result StoreError.OutOfMemory }
+{
+    let chunks = xorb_info.chunks.as_slice();
+    let mut members = Vec::with_capacity(alloc, chunks.len())?;
+    for chunk in chunks {
+        members.push((chunk.chunk_hash, u64::from(chunk.unpacked_segment_bytes)))?;
+    }
+    Ok(members)
+}

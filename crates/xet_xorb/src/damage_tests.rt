@@ -1,0 +1,115 @@
+//! Damaged footers.
+
+use crate::abc::XORB_OF_ABC;
+use crate::*;
+use std::alloc::Global;
+use std::test::Fail;
+use xet_hash::{Reason, StoreError};
+use xet_io::SliceReader;
+
+/// What the reader of the last footer answers.
+fn answer(alloc: Global, text: &[u8]) -> &'static str {
+    let mut reader = SliceReader::new(text);
+    match XorbObject::deserialize(alloc, &mut reader) {
+        Ok(_) => "read",
+        Err(StoreError::UnexpectedEof) => "end",
+        Err(StoreError::MalformedData(reason)) => name_of(reason),
+        Err(_) => "other",
+    }
+}
+
+/// The name of a footer's check.
+fn name_of(reason: Reason) -> &'static str {
+    match reason {
+        Reason::Ident => "ident",
+        Reason::Version => "version",
+        Reason::HashesIdent => "ident of hashes",
+        Reason::HashesVersion => "version of hashes",
+        Reason::ChunkCount => "count",
+        Reason::BoundariesIdent => "ident of boundaries",
+        Reason::BoundariesVersion => "version of boundaries",
+        Reason::CountMismatch => "count again",
+        Reason::HashesOffset => "offset of hashes",
+        Reason::BoundaryOffset => "offset of boundaries",
+        Reason::InfoLength => "length",
+        _ => "other",
+    }
+}
+
+/// The answers where each byte in turn is complemented: each with the first place of those that have it.
+fn answers_of_changes(alloc: Global) -> Result<Vec<(usize, &'static str)>, StoreError> {
+    let mut found: Vec<(usize, &'static str)> = Vec::new(alloc);
+    let mut last = "";
+    for at in 0..XORB_OF_ABC.len() {
+        let mut text = XORB_OF_ABC;
+        text[at] = !text[at];
+        let now = answer(alloc, &text);
+        if now != last {
+            found.push((at, now))?;
+            last = now;
+        }
+    }
+    Ok(found)
+}
+
+/// The answers where the text is cut after so many bytes, each with the first such number.
+fn answers_of_cuts(alloc: Global) -> Result<Vec<(usize, &'static str)>, StoreError> {
+    let mut found: Vec<(usize, &'static str)> = Vec::new(alloc);
+    let mut last = "";
+    for len in 0..XORB_OF_ABC.len() + 1 {
+        let now = answer(alloc, &XORB_OF_ABC[..len]);
+        if now != last {
+            found.push((len, now))?;
+            last = now;
+        }
+    }
+    Ok(found)
+}
+
+#[test]
+fn each_byte_changed(rt: HostRuntime) -> Result<(), Fail> {
+    let found = answers_of_changes(rt.alloc())?;
+    let expected = [
+        (0, "read"),
+        (11, "ident"),
+        (18, "version"),
+        (19, "read"),
+        (51, "ident of hashes"),
+        (58, "version of hashes"),
+        (59, "end"),
+        (62, "count"),
+        (63, "read"),
+        (95, "ident of boundaries"),
+        (102, "version of boundaries"),
+        (103, "count again"),
+        (107, "read"),
+        (115, "count again"),
+        (119, "offset of hashes"),
+        (123, "offset of boundaries"),
+        (127, "read"),
+        (143, "ident"),
+        (144, "end"),
+    ];
+    assert_eq!(rt; found.as_slice(), expected.as_slice());
+    Ok(())
+}
+
+// Where the last four bytes of a cut text are a small number, a footer is looked for before them.
+#[test]
+fn cut_at_each_length(rt: HostRuntime) -> Result<(), Fail> {
+    let found = answers_of_cuts(rt.alloc())?;
+    let expected = [
+        (0, "end"),
+        (111, "ident"),
+        (112, "end"),
+        (115, "ident"),
+        (116, "end"),
+        (123, "ident"),
+        (124, "end"),
+        (127, "ident"),
+        (128, "end"),
+        (147, "read"),
+    ];
+    assert_eq!(rt; found.as_slice(), expected.as_slice());
+    Ok(())
+}

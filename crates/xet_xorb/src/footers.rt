@@ -1,0 +1,112 @@
+//! Footers that are made of members.
+
+ghost use Rattle.std.specs.Prelude.{◌≡◌, ◌≤◌, ◌<◌, ◌+◌, ◌*◌, ◌^◌, IfOk, IsOkUnless, length, map};
+ghost use Rattle.xet_hash.specs.Merkle.{total_len};
+ghost use Rattle.xet_footer.specs.Spelled.{HasLists, HasShortLists, most_chunks};
+ghost use Rattle.xet_xorb.specs.Footer.{ends_from, footer_v0, footer_v1};
+
+use std::alloc::Global;
+use xet_footer::{XorbObjectInfoV0, XorbObjectInfoV1};
+use xet_hash::{MerkleHash, StoreError};
+
+/// The bytes of a chunk's header.
+const HEADER_LENGTH: u64 = 8;
+
+/// Where each member ends among the stored bytes, its header counted in. Refused as `OutOfMemory`.
+pub(crate) fn stored_ends(
+    alloc: Global,
+    members: &[(MerkleHash, u64)],
+) -> Result<Vec<u32>, StoreError>
+    requires { total_len members.now + 8 * length members.now < 2 ^ 32 }
+    ensures ends { IfOk result (λ ends. ends.items ≡ ends_from 8 0 members.now) }
+    ensures memory { IsOkUnless result StoreError.OutOfMemory }
+{
+    ends_with(alloc, members, HEADER_LENGTH)
+}
+
+/// Where each member ends among the plain bytes. Refused as `OutOfMemory`.
+pub(crate) fn plain_ends(
+    alloc: Global,
+    members: &[(MerkleHash, u64)],
+) -> Result<Vec<u32>, StoreError>
+    requires { total_len members.now < 2 ^ 32 }
+    ensures ends { IfOk result (λ ends. ends.items ≡ ends_from 0 0 members.now) }
+    ensures memory { IsOkUnless result StoreError.OutOfMemory }
+{
+    ends_with(alloc, members, 0)
+}
+
+/// Where each member ends, if so many bytes stand before each one's own. Refused as `OutOfMemory`.
+fn ends_with(
+    alloc: Global,
+    members: &[(MerkleHash, u64)],
+    before: u64,
+) -> Result<Vec<u32>, StoreError>
+    requires { total_len members.now + before * length members.now < 2 ^ 32 }
+    ensures ends { IfOk result (λ ends. ends.items ≡ ends_from before 0 members.now) }
+    ensures memory { IsOkUnless result StoreError.OutOfMemory }
+{
+    let mut ends = Vec::with_capacity(alloc, members.len())?;
+    let mut end: u64 = 0;
+    for member in members {
+        end += member.1 + before;
+        ends.push(end as u32)?;
+    }
+    Ok(ends)
+}
+
+/// The hash of each member. Refused as `OutOfMemory`.
+pub(crate) fn hashes_of(
+    alloc: Global,
+    members: &[(MerkleHash, u64)],
+) -> Result<Vec<MerkleHash>, StoreError>
+    ensures hashes { IfOk result (λ hashes. hashes.items ≡ map (λ m. m.0) members.now) }
+    ensures memory { IsOkUnless result StoreError.OutOfMemory }
+{
+    let mut hashes = Vec::with_capacity(alloc, members.len())?;
+    for member in members {
+        hashes.push(member.0)?;
+    }
+    Ok(hashes)
+}
+
+/// The footer of version 1 of a xorb of this hash with these members, and with these spare bytes. Refused as
+/// `OutOfMemory`.
+pub(crate) fn new_footer(
+    alloc: Global,
+    hash: &MerkleHash,
+    members: &[(MerkleHash, u64)],
+    spare: [u8; 16],
+) -> Result<XorbObjectInfoV1, StoreError>
+    requires few { length members.now ≤ most_chunks }
+    requires bound { total_len members.now + 8 * length members.now < 2 ^ 32 }
+    ensures footer { IfOk result (λ footer. footer ≡ footer_v1 hash.now members.now spare) }
+    ensures lists { IfOk result HasLists }
+    ensures short { IfOk result HasShortLists }
+    ensures memory { IsOkUnless result StoreError.OutOfMemory }
+{
+    let hashes = hashes_of(alloc, members)?;
+    let stored = stored_ends(alloc, members)?;
+    let plain = plain_ends(alloc, members)?;
+    Ok(XorbObjectInfoV1::from_lists(*hash, hashes, stored, plain, spare))
+}
+
+/// The footer of version 0 of a xorb of this hash with these members, and with these spare bytes. Refused as
+/// `OutOfMemory`.
+pub(crate) fn new_footer_v0(
+    alloc: Global,
+    hash: &MerkleHash,
+    members: &[(MerkleHash, u64)],
+    spare: [u8; 16],
+) -> Result<XorbObjectInfoV0, StoreError>
+    requires few { length members.now ≤ most_chunks }
+    requires bound { total_len members.now + 8 * length members.now < 2 ^ 32 }
+    ensures footer { IfOk result (λ footer. footer ≡ footer_v0 hash.now members.now spare) }
+    ensures hashes { IfOk result (λ footer. length footer.chunk_hashes ≤ most_chunks) }
+    ensures stored { IfOk result (λ footer. length footer.chunk_boundary_offsets ≤ most_chunks) }
+    ensures memory { IsOkUnless result StoreError.OutOfMemory }
+{
+    let hashes = hashes_of(alloc, members)?;
+    let stored = stored_ends(alloc, members)?;
+    Ok(XorbObjectInfoV0::from_lists(*hash, stored, hashes, spare))
+}

@@ -1,0 +1,66 @@
+//! Objects of footers.
+
+use crate::abc::{HASH_OF_ABC, XORB_OF_ABC};
+use crate::*;
+use std::alloc::Global;
+use std::test::Fail;
+use xet_hash::{MerkleHash, Reason, StoreError};
+use xet_io::{MemorySink, SliceReader};
+
+/// The footer of no chunks, with its length.
+fn empty_footer(alloc: Global) -> Result<Vec<u8>, StoreError> {
+    let mut sink = MemorySink::new(alloc);
+    XorbObject::serialize_given_info(&mut sink, XorbObjectInfoV1::default(alloc))?;
+    Ok(sink.into_bytes())
+}
+
+/// The object of a footer and its length that come in two pieces.
+fn in_two_pieces(alloc: Global, bytes: &[u8]) -> Result<XorbObject, StoreError> {
+    let (front, back) = bytes.split_at(bytes.len() / 2);
+    let mut decoder = FooterDecoder::new(alloc);
+    decoder.feed(front)?;
+    decoder.feed(back)?;
+    decoder.finish()
+}
+
+/// What is told and read at the end of some bytes.
+fn at_the_end(alloc: Global, bytes: &[u8]) -> Result<(u32, XorbObject), StoreError> {
+    let mut reader = SliceReader::new(bytes);
+    let told = XorbObject::get_info_length(&mut reader)?;
+    Ok((told, XorbObject::deserialize(alloc, &mut reader)?))
+}
+
+#[test]
+fn the_footer_of_no_chunks(rt: HostRuntime) -> Result<(), Fail> {
+    let alloc = rt.alloc();
+    let bytes = empty_footer(alloc)?;
+    let (told, object) = at_the_end(alloc, &bytes)?;
+    assert!(rt; (bytes.len(), told) == (96, 92));
+    assert_eq!(rt; object, XorbObject::default(alloc));
+    assert_eq!(rt; in_two_pieces(alloc, &bytes)?, object);
+    assert_eq!(rt;
+        object.get_contents_length(),
+        Err(StoreError::MalformedData(Reason::Incomplete))
+    );
+    Ok(())
+}
+
+/// The bytes of the chunks of a xorb of this hash; none, where the bytes are no such xorb.
+fn plain_bytes(alloc: Global, bytes: &[u8], hash: [u8; 32]) -> Result<Vec<u8>, StoreError> {
+    let mut reader = SliceReader::new(bytes);
+    let hash = MerkleHash::from_bytes(hash);
+    match XorbObject::validate_xorb_object(alloc, &mut reader, &hash, 3)? {
+        Some(object) => object.get_all_bytes(alloc, &mut reader, 3),
+        None => Ok(Vec::new(alloc)),
+    }
+}
+
+#[test]
+fn the_bytes_of_a_validated_xorb(rt: HostRuntime) -> Result<(), Fail> {
+    let alloc = rt.alloc();
+    let plain = plain_bytes(alloc, &XORB_OF_ABC, HASH_OF_ABC)?;
+    assert_eq!(rt; plain.as_slice(), b"abc".as_slice());
+    let none = plain_bytes(alloc, &XORB_OF_ABC, [1; 32])?;
+    assert!(rt; none.is_empty());
+    Ok(())
+}

@@ -1,0 +1,170 @@
+//! Chunks that are read of a xorb where its footer says that they are stored.
+
+ghost use Rattle.std.specs.Prelude.{◌≡◌, ◌<◌, ◌≤◌, ◌^◌, ◌++◌, ◌⊎◌, [], ℕ, List, Ok, Err, true, IfErr, IfOk, IsErrOf, IsOkUnless, OnOk, length, nat_le, slice_range, vec_len};
+ghost use Rattle.std.specs.List.{concat};
+ghost use Rattle.xet_hash.specs.declared.error.Place.TheVariants.{Input, Output};
+ghost use Rattle.xet_hash.specs.declared.error.Reason.TheVariants.{Offsets};
+ghost use Rattle.xet_hash.specs.declared.error.StoreError.{StoreError};
+ghost use Rattle.xet_hash.specs.declared.error.StoreError.TheVariants.{Io, UnexpectedEof};
+ghost use Rattle.xet_io.specs.Faults.{HasCause};
+ghost use Rattle.xet_chunk.specs.Decoder.{Holds, fed_len, most_of, whole_of};
+ghost use Rattle.xet_chunk.specs.Outside.{IsCheck, StopsReading, StopsWriting};
+ghost use Rattle.xet_chunk.specs.Stream.{Decodes};
+ghost use Rattle.xet_footer.specs.Reading.{wants};
+ghost use Rattle.xet_xorb.specs.Ranges.{ReadsPlain, in_file, listed_contents, listed_range};
+
+use crate::object::XorbObject;
+use std::alloc::Global;
+use xet_chunk::ChunkDecoder;
+use xet_footer::{read_exact, reader_length};
+use xet_hash::{Reason, StoreError};
+use xet_io::{MemorySink, ReadAt, Sink};
+
+/// The most bytes that are read at once.
+const BLOCK: usize = 1 << 17;
+
+impl XorbObject {
+    /// The plain bytes of all chunks of a xorb of this footer, of at most `max_chunk` bytes each, which is below
+    /// 2^23. Refused as `MalformedData(Incomplete)` where the footer does not list all its chunks, as
+    /// `UnexpectedEof` where the last is said to end behind the xorb's bytes, before any chunk is read, by the
+    /// first check of the chunks that fails, as `Io(Input)`, or as `OutOfMemory`.
+    pub fn get_all_bytes<R: ReadAt>(
+        &self,
+        alloc: Global,
+        reader: &mut R,
+        max_chunk: u32,
+    ) -> Result<Vec<u8>, StoreError>
+        requires most { max_chunk < 2 ^ 23 }
+        ensures bytes { R.tells reader.old ≡ true → IfOk result (λ plain. ReadsPlain max_chunk (R.bytes reader.old) (in_file (length (R.bytes reader.old)) (listed_contents self.now.info)) (Ok plain.items)) }
+        ensures listed { (e : StoreError) → listed_contents self.now.info ≡ Err e → IsErrOf result e }
+        ensures refused { R.tells reader.old ≡ true → IfErr result (λ e. ReadsPlain max_chunk (R.bytes reader.old) (in_file (length (R.bytes reader.old)) (listed_contents self.now.info)) (Err e) ⊎ StopsReading e) }
+        ensures kinds { IfErr result (λ e. (listed_contents self.now.info ≡ Err e) ⊎ ((e ≡ UnexpectedEof) ⊎ (IsCheck e ⊎ StopsReading e))) }
+        ensures cause { HasCause (R.faults reader.old) (R.faults reader.new) (IsErrOf result (Io Input)) }
+        ensures same { R.bytes reader.new ≡ R.bytes reader.old }
+        ensures tells { R.tells reader.new ≡ R.tells reader.old }
+    {
+        let end = self.get_contents_length()?;
+        read_plain(alloc, reader, 0, end, max_chunk)
+    }
+
+    /// The plain bytes of the chunks from `start` to before `end`, as `get_all_bytes` reads them. Also refused as
+    /// `InvalidArguments` where the range is empty or passes the last chunk, and as `MalformedData(Offsets)` where
+    /// it is said to end before it begins. No other places are looked at.
+    pub fn get_bytes_by_chunk_range<R: ReadAt>(
+        &self,
+        alloc: Global,
+        reader: &mut R,
+        start: u32,
+        end: u32,
+        max_chunk: u32,
+    ) -> Result<Vec<u8>, StoreError>
+        requires most { max_chunk < 2 ^ 23 }
+        ensures bytes { R.tells reader.old ≡ true → IfOk result (λ plain. ReadsPlain max_chunk (R.bytes reader.old) (in_file (length (R.bytes reader.old)) (listed_range self.now.info start end)) (Ok plain.items)) }
+        ensures listed { (e : StoreError) → listed_range self.now.info start end ≡ Err e → IsErrOf result e }
+        ensures refused { R.tells reader.old ≡ true → IfErr result (λ e. ReadsPlain max_chunk (R.bytes reader.old) (in_file (length (R.bytes reader.old)) (listed_range self.now.info start end)) (Err e) ⊎ StopsReading e) }
+        ensures kinds { IfErr result (λ e. (listed_range self.now.info start end ≡ Err e) ⊎ ((e ≡ UnexpectedEof) ⊎ (IsCheck e ⊎ StopsReading e))) }
+        ensures cause { HasCause (R.faults reader.old) (R.faults reader.new) (IsErrOf result (Io Input)) }
+        ensures same { R.bytes reader.new ≡ R.bytes reader.old }
+        ensures tells { R.tells reader.new ≡ R.tells reader.old }
+    {
+        let (from, to) = self.get_byte_offset(start, end)?;
+        check_order(from, to)?;
+        read_plain(alloc, reader, from, to, max_chunk)
+    }
+}
+
+/// Refuses places of which the later is before the earlier, as `MalformedData(Offsets)`.
+fn check_order(from: u32, to: u32) -> Result<(), StoreError>
+    ensures { result ≡ wants (nat_le from to) Offsets }
+{
+    if from <= to {
+        Ok(())
+    } else {
+        Err(StoreError::MalformedData(Reason::Offsets))
+    }
+}
+
+/// The plain bytes of the chunks that are stored between two places. Refused as `UnexpectedEof` where the reader
+/// ends before the later one, by the first check of the chunks that fails, as `Io(Input)`, or as `OutOfMemory`.
+fn read_plain<R: ReadAt>(
+    alloc: Global,
+    reader: &mut R,
+    from: u32,
+    to: u32,
+    max_chunk: u32,
+) -> Result<Vec<u8>, StoreError>
+    requires most { max_chunk < 2 ^ 23 }
+    requires order { from ≤ to }
+    ensures bytes { R.tells reader.old ≡ true → IfOk result (λ plain. ReadsPlain max_chunk (R.bytes reader.old) (in_file (length (R.bytes reader.old)) (Ok (from, to))) (Ok plain.items)) }
+    ensures refused { R.tells reader.old ≡ true → IfErr result (λ e. ReadsPlain max_chunk (R.bytes reader.old) (in_file (length (R.bytes reader.old)) (Ok (from, to))) (Err e) ⊎ StopsReading e) }
+    ensures kinds { IfErr result (λ e. IsCheck e ⊎ StopsReading e) }
+    ensures cause { HasCause (R.faults reader.old) (R.faults reader.new) (IsErrOf result (Io Input)) }
+    ensures same { R.bytes reader.new ≡ R.bytes reader.old }
+    ensures tells { R.tells reader.new ≡ R.tells reader.old }
+{
+    if reader_length(reader)? < to as u64 {
+        return Err(StoreError::UnexpectedEof);
+    }
+    let stored = (to - from) as usize;
+    let mut block = new_block(alloc, stored)?;
+    let mut decoder = ChunkDecoder::new(alloc, max_chunk);
+    let mut sink = MemorySink::from_vec(Vec::with_capacity(alloc, stored)?);
+    feed_between(
+        &mut decoder,
+        reader,
+        &mut sink,
+        from as u64,
+        to as u64,
+        &mut block,
+    )?;
+    decoder.finish()?;
+    Ok(sink.into_bytes())
+}
+
+/// Room for what is read at once of so many bytes. Refused as `OutOfMemory`.
+fn new_block(alloc: Global, count: usize) -> Result<Vec<u8>, StoreError>
+    ensures some { IfOk result (λ block. 0 < count → 0 < vec_len block) }
+    ensures memory { IsOkUnless result StoreError.OutOfMemory }
+{
+    let mut block = Vec::new(alloc);
+    block.resize(count.min(BLOCK), 0)?;
+    Ok(block)
+}
+
+/// Feeds a new decoder a reader's bytes between two places, block by block. Refused by the first check of the chunks
+/// that fails, as `Io(Input)`, `Io(Output)` or `OutOfMemory`.
+fn feed_between<R: ReadAt, W: Sink>(
+    decoder: &mut ChunkDecoder,
+    reader: &mut R,
+    w: &mut W,
+    from: u64,
+    to: u64,
+    block: &mut [u8],
+) -> Result<(), StoreError>
+    requires whole { whole_of decoder.old ≡ true }
+    requires new { Holds decoder.old [] [] }
+    requires len { fed_len decoder.old ≡ 0 }
+    requires block { from < to → 0 < length block.old }
+    requires order { from ≤ to }
+    requires bound { to < 2 ^ 32 }
+    ensures fed { R.tells reader.old ≡ true → to ≤ length (R.bytes reader.old) → OnOk result ((chunks : List (List ℕ)) × Holds decoder.new (slice_range (R.bytes reader.old) from to) chunks × (W.tells w.old ≡ true → W.written w.new ≡ W.written w.old ++ concat chunks)) }
+    ensures whole { OnOk result (whole_of decoder.new ≡ true) }
+    ensures most { most_of decoder.new ≡ most_of decoder.old }
+    ensures refused { R.tells reader.old ≡ true → to ≤ length (R.bytes reader.old) → IfErr result (λ e. ((chunks : List (List ℕ)) × Decodes (most_of decoder.old) 0 (slice_range (R.bytes reader.old) from to) chunks (Err e)) ⊎ (StopsWriting e ⊎ (e ≡ Io Input))) }
+    ensures kinds { IfErr result (λ e. IsCheck e ⊎ (StopsWriting e ⊎ (e ≡ Io Input))) }
+    ensures reader_cause { HasCause (R.faults reader.old) (R.faults reader.new) (IsErrOf result (Io Input)) }
+    ensures sink_cause { HasCause (W.faults w.old) (W.faults w.new) (IsErrOf result (Io Output)) }
+    ensures same { R.bytes reader.new ≡ R.bytes reader.old }
+    ensures reader_tells { R.tells reader.new ≡ R.tells reader.old }
+    ensures sink_tells { W.tells w.new ≡ W.tells w.old }
+{
+    let mut at = from;
+    'reads: while at < to {
+        let count = block.len().min((to - at) as usize);
+        let (piece, _) = block.split_at_mut(count);
+        read_exact(reader, at, piece)?;
+        decoder.feed(piece, w)?;
+        at += count as u64;
+    }
+    Ok(())
+}

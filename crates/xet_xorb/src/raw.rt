@@ -1,0 +1,153 @@
+//! Xorbs that are to be stored.
+
+ghost use Rattle.std.specs.Prelude.{◌≡◌, ◌<◌, ◌^◌, [], IfOk, IsOkUnless, OnOk, length, map};
+ghost use Rattle.std.specs.List.{concat};
+ghost use Rattle.xet_hash.specs.Merkle.{total_len};
+ghost use Rattle.xet_shard.specs.Records.{chunk_bytes};
+ghost use Rattle.xet_chunk.specs.Chunks.{bytes_of, chunk_member};
+ghost use Rattle.xet_xorb.specs.Raw.{ArePartsOfXorb, IsRaw, raw_members, raw_of, xorb_record};
+
+use bytes::Bytes;
+use std::alloc::Global;
+use xet_base::Items;
+use xet_chunk::{Chunk, chunk_members};
+use xet_hash::{MerkleHash, StoreError, xorb_hash};
+use xet_shard::{MDBXorbInfo, XorbChunkSequenceEntry, XorbChunkSequenceHeader};
+
+/// A xorb that is to be stored.
+#[derive(Debug, Drop)]
+pub struct RawXorbData {
+    /// The bytes of its chunks, which they share.
+    pub parts: Items<Bytes>,
+    /// Its record: its hash, and the hash, the start and the length of each chunk.
+    pub xorb_info: MDBXorbInfo,
+    /// The places of the chunks with which files begin.
+    pub file_boundaries: Items<usize>,
+}
+
+impl RawXorbData {
+    /// A xorb of no chunks, whose hash is zero. It takes no memory.
+    pub fn default(alloc: Global) -> RawXorbData
+        ensures { result ≡ raw_of [] [] }
+    {
+        RawXorbData {
+            parts: Items::new(alloc),
+            xorb_info: MDBXorbInfo::default(alloc),
+            file_boundaries: Items::new(alloc),
+        }
+    }
+
+    /// The xorb of these chunks, by the hashes that they carry. There are at most 65,536, of fewer than 2^24 bytes
+    /// each and of at most 2^30 together. It shares their bytes. Where there is no memory, the call fails with
+    /// `StoreError::OutOfMemory`, and for no other reason.
+    pub fn from_chunks(
+        alloc: Global,
+        chunks: &[Chunk],
+        file_boundaries: Vec<usize>,
+    ) -> Result<RawXorbData, StoreError>
+        requires { ArePartsOfXorb (map bytes_of chunks.now) }
+        ensures exact { IfOk result (λ raw. raw ≡ raw_of chunks.now file_boundaries.items) }
+        ensures members { IfOk result (λ raw. raw_members raw ≡ map chunk_member chunks.now) }
+        ensures raw { IfOk result IsRaw }
+        ensures memory { IsOkUnless result StoreError.OutOfMemory }
+    {
+        let members = chunk_members(alloc, chunks)?;
+        let hash = xorb_hash(alloc, &members)?;
+        Ok(RawXorbData {
+            parts: Items::from_vec(parts_of(alloc, chunks)?),
+            xorb_info: xorb_record(alloc, hash, &members)?,
+            file_boundaries: Items::from_vec(file_boundaries),
+        })
+    }
+
+    /// The same xorb again, which shares the bytes.
+    pub fn clone(&self, alloc: Global) -> Result<RawXorbData, StoreError>
+        ensures same { IfOk result (λ copy. copy ≡ self.now) }
+        ensures memory { IsOkUnless result StoreError.OutOfMemory }
+    {
+        let boundaries = Vec::from_slice(alloc, self.file_boundaries.as_slice())?;
+        Ok(RawXorbData {
+            parts: Items::from_vec(shared(alloc, self.parts.as_slice())?),
+            xorb_info: self.xorb_info.copy(alloc)?,
+            file_boundaries: Items::from_vec(boundaries),
+        })
+    }
+
+    /// Its hash. It takes no memory.
+    pub fn hash(&self) -> MerkleHash
+        ensures { result ≡ self.now.xorb_info.metadata.xorb_hash }
+    {
+        self.xorb_info.metadata.xorb_hash
+    }
+
+    /// The plain bytes of its chunks together. It takes no memory.
+    pub fn num_bytes(&self) -> usize
+        requires { IsRaw self.now }
+        ensures { result ≡ chunk_bytes self.now.xorb_info.chunks }
+    {
+        self.parts.as_slice().iter().map(|part| part.len()).sum()
+    }
+}
+
+/// The bytes of its chunks, joined. Where there is no memory, the call fails with `StoreError::OutOfMemory`, and for
+/// no other reason.
+pub fn raw_xorb_to_vec(alloc: Global, xorb: &RawXorbData) -> Result<Vec<u8>, StoreError>
+    requires { IsRaw xorb.now }
+    ensures joined { IfOk result (λ bytes. bytes.items ≡ concat xorb.now.parts) }
+    ensures memory { IsOkUnless result StoreError.OutOfMemory }
+{
+    let mut bytes = Vec::with_capacity(alloc, xorb.num_bytes())?;
+    for part in xorb.parts.as_slice() {
+        bytes.extend_from_slice(part.as_slice())?;
+    }
+    Ok(bytes)
+}
+
+/// The bytes of each chunk, which are shared.
+fn parts_of(alloc: Global, chunks: &[Chunk]) -> Result<Vec<Bytes>, StoreError>
+    ensures parts { IfOk result (λ parts. parts.items ≡ map bytes_of chunks.now) }
+    ensures memory { IsOkUnless result StoreError.OutOfMemory }
+{
+    let mut parts = Vec::with_capacity(alloc, chunks.len())?;
+    for chunk in chunks {
+        parts.push(chunk.bytes.clone()?)?;
+    }
+    Ok(parts)
+}
+
+/// The same bytes again, which are shared.
+fn shared(alloc: Global, parts: &[Bytes]) -> Result<Vec<Bytes>, StoreError>
+    ensures same { IfOk result (λ copies. copies.items ≡ parts.now) }
+    ensures memory { IsOkUnless result StoreError.OutOfMemory }
+{
+    let mut copies = Vec::with_capacity(alloc, parts.len())?;
+    for part in parts {
+        copies.push(part.clone()?)?;
+    }
+    Ok(copies)
+}
+
+/// The record of the xorb of this hash with these members, each a chunk's hash and length. Where there is no memory,
+/// the call fails with `StoreError::OutOfMemory`, and for no other reason.
+pub fn xorb_record(
+    alloc: Global,
+    hash: MerkleHash,
+    members: &[(MerkleHash, u64)],
+) -> Result<MDBXorbInfo, StoreError>
+    requires count { length members.now < 2 ^ 32 }
+    requires bytes { total_len members.now < 2 ^ 32 }
+    ensures exact { IfOk result (λ block. block ≡ xorb_record hash members.now) }
+    ensures memory { IsOkUnless result StoreError.OutOfMemory }
+{
+    let mut entries = Vec::with_capacity(alloc, members.len())?;
+    let mut start = 0;
+    for (chunk, bytes) in members {
+        let bytes = *bytes as u32;
+        entries.push(XorbChunkSequenceEntry::new(*chunk, bytes, start))?;
+        start += bytes;
+    }
+    Ok(MDBXorbInfo {
+        metadata: XorbChunkSequenceHeader::new(hash, members.len() as u32, start),
+        chunks: Items::from_vec(entries),
+    })
+}

@@ -1,0 +1,135 @@
+//! Footers for stored chunks.
+
+ghost use Rattle.std.specs.Prelude.{◌≡◌, ◌⊎◌, ◌<◌, ◌≤◌, ◌+◌, ◌*◌, ◌^◌, ◌++◌, ℕ, true, IfErr, IfOk, IfSome, IsErrOf, OnErr, OnOk, length, take};
+ghost use Rattle.std.specs.List.{AllByRecursion};
+ghost use Rattle.xet_hash.specs.declared.error.Place.TheVariants.{Output};
+ghost use Rattle.xet_hash.specs.declared.error.StoreError.TheVariants.{Io, OutOfMemory};
+ghost use Rattle.xet_hash.specs.Merkle.{total_len};
+ghost use Rattle.xet_io.specs.Faults.{HasCause};
+ghost use Rattle.xet_footer.specs.Spelled.{HasLists, HasShortLists, length_of, most_chunks, number, text_v1};
+ghost use Rattle.xet_chunk.specs.Outside.{IsCheck, StopsWriting};
+ghost use Rattle.xet_xorb.specs.Building.{IsNoRebuild, Rebuilds, RebuildsFront};
+ghost use Rattle.xet_xorb.specs.Copying.{IsCopied, IsNoCopy, ShowsNext};
+
+use crate::footers::new_footer;
+use crate::object::XorbObject;
+use std::alloc::Global;
+use xet_chunk::{XORB_CHUNK_HEADER_LENGTH, chunk_len};
+use xet_footer::XorbObjectInfoV1;
+use xet_hash::{MerkleHash, Place, Reason, StoreError, compute_data_hash, xorb_hash};
+use xet_io::{Refusal, Sink, write_all};
+
+/// The most chunks of a footer: one of so many has fewer than 2^32 bytes.
+const MOST_CHUNKS: usize = 107_374_180;
+
+/// Writes the xorb of the stored chunks in `raw`, which has fewer than 2^32 bytes, up to its end or to a footer, at
+/// which nothing is looked: the chunks as they stand, each of at most `max_chunk` bytes, which is below 2^23, and the
+/// footer of version 1 that they have. Gives its object and the xorb's hash. It is a xorb, where there is a chunk and it
+/// has fewer than 2^32 bytes.
+///
+/// Refused by the first check of the chunks that fails, as `MalformedData(ChunkCount)` at chunk 107,374,181, with
+/// nothing written; as `Io(Output)`, or as `OutOfMemory`, with a front of the xorb written.
+pub fn reconstruct_xorb_with_footer<W: Sink>(
+    alloc: Global,
+    sink: &mut W,
+    raw: &[u8],
+    max_chunk: u32,
+) -> Result<(XorbObject, MerkleHash), StoreError>
+    requires most { max_chunk < 2 ^ 23 }
+    requires bound { length raw.now < 2 ^ 32 }
+    ensures rebuilt { IfOk result (Rebuilds max_chunk raw.now (W.tells sink.old ≡ true) (W.written sink.old) (W.written sink.new)) }
+    ensures refused { IfErr result (IsNoRebuild max_chunk raw.now) }
+    ensures nothing { W.tells sink.old ≡ true → IfErr result (λ e. IsCheck e → W.written sink.new ≡ W.written sink.old) }
+    ensures front { W.tells sink.old ≡ true → OnErr result (RebuildsFront max_chunk raw.now (W.written sink.old) (W.written sink.new)) }
+    ensures cause { HasCause (W.faults sink.old) (W.faults sink.new) (IsErrOf result (Io Output)) }
+    ensures tells { W.tells sink.new ≡ W.tells sink.old }
+{
+    let (members, end) = read_members(alloc, raw, max_chunk)?;
+    let hash = xorb_hash(alloc, &members)?;
+    let footer = new_footer(alloc, &hash, &members, [0; 16])?;
+    let object = write_with_footer(sink, &raw[..end], footer)?;
+    Ok((object, hash))
+}
+
+/// The digest and the length of each stored chunk, and where they end: at the end of `raw`, or where a footer begins.
+fn read_members(
+    alloc: Global,
+    raw: &[u8],
+    max_chunk: u32,
+) -> Result<(Vec<(MerkleHash, u64)>, usize), StoreError>
+    requires most { max_chunk < 2 ^ 23 }
+    requires bound { length raw.now < 2 ^ 32 }
+    ensures copied { IfOk result (λ read. IsCopied max_chunk raw.now read.0.items read.1) }
+    ensures few { IfOk result (λ read. length read.0.items ≤ most_chunks) }
+    ensures each { IfOk result (λ read. AllByRecursion (λ m. m.1 < 2 ^ 24) read.0.items) }
+    ensures small { IfOk result (λ read. total_len read.0.items + 8 * length read.0.items < 2 ^ 32) }
+    ensures end { IfOk result (λ read. read.1 ≤ length raw.now) }
+    ensures refused { IfErr result (IsNoCopy max_chunk raw.now) }
+    ensures kinds { IfErr result (λ e. IsCheck e ⊎ (e ≡ OutOfMemory)) }
+{
+    let mut members = Vec::new(alloc);
+    let mut at = 0;
+    'chunks: while let Some(length) = next_chunk(&raw[at..], max_chunk)? {
+        if members.len() == MOST_CHUNKS {
+            return Err(StoreError::MalformedData(Reason::ChunkCount));
+        }
+        let start = at + XORB_CHUNK_HEADER_LENGTH;
+        let end = start + length;
+        members.push((compute_data_hash(&raw[start..end]), length as u64))?;
+        at = end;
+    }
+    Ok((members, at))
+}
+
+/// How many bytes the next chunk has behind its header; none, where the bytes end or a footer begins. Refused by the
+/// first check that fails, or as `UnexpectedEof` inside a chunk.
+fn next_chunk(bytes: &[u8], max_chunk: u32) -> Result<Option<usize>, StoreError>
+    requires { max_chunk < 2 ^ 23 }
+    ensures next { ShowsNext max_chunk bytes.now result }
+    ensures small { IfOk result (λ length. IfSome length (λ n. n < 2 ^ 24)) }
+    ensures check { IfErr result IsCheck }
+{
+    match chunk_len(bytes, max_chunk) {
+        Ok(Some(length)) => Ok(Some(length)),
+        Ok(None) if bytes.is_empty() => Ok(None),
+        Ok(None) => Err(StoreError::UnexpectedEof),
+        Err(StoreError::ChunkHeaderParse) => Ok(None),
+        Err(error) => Err(error),
+    }
+}
+
+/// Writes stored chunks, and then a footer and its length: gives its object. Refused as `Io(Output)`, or as
+/// `OutOfMemory`, with a front of the bytes written.
+fn write_with_footer<W: Sink>(
+    sink: &mut W,
+    stored: &[u8],
+    footer: XorbObjectInfoV1,
+) -> Result<XorbObject, StoreError>
+    requires short { HasShortLists footer }
+    requires lists { HasLists footer }
+    ensures object { IfOk result (λ object. object ≡ record { info = footer; info_length = length_of footer }) }
+    ensures written { W.tells sink.old ≡ true → OnOk result (W.written sink.new ≡ W.written sink.old ++ (stored.now ++ (text_v1 footer ++ number (length_of footer)))) }
+    ensures front { W.tells sink.old ≡ true → (n : ℕ) × (W.written sink.new ≡ W.written sink.old ++ take n (stored.now ++ (text_v1 footer ++ number (length_of footer)))) }
+    ensures refused { IfErr result StopsWriting }
+    ensures cause { HasCause (W.faults sink.old) (W.faults sink.new) (IsErrOf result (Io Output)) }
+    ensures tells { W.tells sink.new ≡ W.tells sink.old }
+{
+    write_stored(sink, stored)?;
+    let (object, _) = XorbObject::serialize_given_info(sink, footer)?;
+    Ok(object)
+}
+
+/// Writes stored chunks. After a refusal, as `Io(Output)` or as `OutOfMemory`, a front of them was written.
+fn write_stored<W: Sink>(sink: &mut W, stored: &[u8]) -> Result<(), StoreError>
+    ensures written { W.tells sink.old ≡ true → OnOk result (W.written sink.new ≡ W.written sink.old ++ stored.now) }
+    ensures front { W.tells sink.old ≡ true → (n : ℕ) × (W.written sink.new ≡ W.written sink.old ++ take n stored.now) }
+    ensures refused { IfErr result StopsWriting }
+    ensures cause { HasCause (W.faults sink.old) (W.faults sink.new) (IsErrOf result (Io Output)) }
+    ensures tells { W.tells sink.new ≡ W.tells sink.old }
+{
+    match write_all(sink, stored) {
+        Ok(()) => Ok(()),
+        Err(Refusal::Failed) => Err(StoreError::Io(Place::Output)),
+        Err(Refusal::OutOfMemory) => Err(StoreError::OutOfMemory),
+    }
+}

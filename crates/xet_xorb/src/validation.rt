@@ -1,0 +1,386 @@
+//! Bytes that are validated as a xorb.
+
+ghost use Rattle.std.specs.Prelude.{◌≡◌, ◌≤◌, ◌<◌, ◌+◌, ◌*◌, ◌^◌, ◌↔◌, ℕ, List, Ok, Some, true, IfErr, IfOk, IfSome, IsErrOf, IsNone, IsOkUnless, IsTrue, drop, length, take};
+ghost use Rattle.std.specs.List.{AllByRecursion};
+ghost use Rattle.xet_hash.specs.declared.error.Place.TheVariants.{Input};
+ghost use Rattle.xet_hash.specs.declared.error.StoreError.TheVariants.{Io};
+ghost use Rattle.xet_hash.specs.Merkle.{chunk_hash, member_of, total_len, xorb_hash};
+ghost use Rattle.xet_io.specs.Faults.{HasCause};
+ghost use Rattle.xet_footer.specs.Ends.{last_footer, told_length};
+ghost use Rattle.xet_footer.specs.Spelled.{HasLists, HasShortLists, most_chunks, text_v0, text_v1};
+ghost use Rattle.xet_chunk.specs.Outside.{StopsReading};
+ghost use Rattle.xet_xorb.specs.Checking.{AreChunks, HaveMembers, IsEnding, StandsAt, ending, header_of};
+ghost use Rattle.xet_xorb.specs.Footer.{Version, footer_info, footer_len, footer_text};
+ghost use Rattle.xet_xorb.specs.Validation.{IsValid, IsXorbOf};
+
+use crate::footers::{new_footer, new_footer_v0};
+use crate::object::XorbObject;
+use std::alloc::Global;
+use xet_footer::{XorbObjectInfoV0, XorbObjectInfoV1, read_exact, reader_length, told_length};
+use xet_hash::{MerkleHash, StoreError, compute_data_hash, xorb_hash};
+use xet_io::{MemorySink, ReadAt};
+
+/// The bytes of a chunk's header.
+const HEADER_SIZE: u64 = 8;
+
+/// The bytes of a footer's length.
+const LENGTH_SIZE: u64 = 4;
+
+/// The spare bytes at a footer's end.
+const SPARE_SIZE: u64 = 16;
+
+/// The bytes of a footer of no chunks, and those that each chunk adds, of version 0 and of version 1.
+const EMPTY_V0: u64 = 60;
+
+const EACH_V0: u64 = 36;
+
+const EMPTY_V1: u64 = 92;
+
+const EACH_V1: u64 = 40;
+
+/// The most bytes that are compared at a time.
+const BLOCK: usize = 4096;
+
+impl XorbObject {
+    /// The object of a xorb of this hash, whose chunks have at most `max_chunk` bytes each, which is below 2^23; none,
+    /// where the bytes are anything else. Each chunk is digested: what the footer says is only compared with what
+    /// the chunks are. Refused as `Io(Input)`, or as `OutOfMemory`.
+    pub fn validate_xorb_object<R: ReadAt>(
+        alloc: Global,
+        reader: &mut R,
+        hash: &MerkleHash,
+        max_chunk: u32,
+    ) -> Result<Option<XorbObject>, StoreError>
+        requires most { max_chunk < 2 ^ 23 }
+        ensures valid { R.tells reader.old ≡ true → IfOk result (λ found. IfSome found (λ object. (chunks : List (List ℕ)) × IsValid max_chunk hash.now (R.bytes reader.old) chunks object)) }
+        ensures read { R.tells reader.old ≡ true → IfOk result (λ found. IfSome found (λ object. last_footer (R.bytes reader.old) ≡ Ok (object.info, object.info_length))) }
+        ensures none { R.tells reader.old ≡ true → IfOk result (λ found. IsNone found → (chunks : List (List ℕ)) → IsXorbOf max_chunk hash.now (R.bytes reader.old) chunks → ⊥) }
+        ensures refusals { IfErr result StopsReading }
+        ensures cause { HasCause (R.faults reader.old) (R.faults reader.new) (IsErrOf result (Io Input)) }
+        ensures same { R.bytes reader.new ≡ R.bytes reader.old }
+        ensures tells { R.tells reader.new ≡ R.tells reader.old }
+    {
+        let Some((start, told)) = footer_place(reader)? else {
+            return Ok(None);
+        };
+        let Some(members) = stored_members(alloc, reader, start, max_chunk)? else {
+            return Ok(None);
+        };
+        if !have_hash(alloc, &members, hash)? {
+            return Ok(None);
+        }
+        checked_object(alloc, reader, start, told, hash, &members)
+    }
+}
+
+/// Where the footer begins, and how many bytes it has, as the last four bytes tell it; none, where it cannot have
+/// as many, or there are 2^32 bytes. Refused as `Io(Input)`.
+fn footer_place<R: ReadAt>(reader: &mut R) -> Result<Option<(u64, u32)>, StoreError>
+    ensures bound { IfOk result (λ found. IfSome found (λ place. place.0 + place.1 + 4 < 2 ^ 32)) }
+    ensures some { IfOk result (λ found. IfSome found (λ place. 60 ≤ place.1)) }
+    ensures whole { R.tells reader.old ≡ true → IfOk result (λ found. IfSome found (λ place. place.0 + place.1 + 4 ≡ length (R.bytes reader.old))) }
+    ensures told { R.tells reader.old ≡ true → IfOk result (λ found. IfSome found (λ place. told_length (R.bytes reader.old) ≡ Ok place.1)) }
+    ensures none { R.tells reader.old ≡ true → IfOk result (λ found. IsNone found → length (R.bytes reader.old) < 2 ^ 32 → (n : ℕ) → 60 ≤ n → n + 4 ≤ length (R.bytes reader.old) → told_length (R.bytes reader.old) ≡ Ok n → ⊥) }
+    ensures refusals { IfErr result StopsReading }
+    ensures cause { HasCause (R.faults reader.old) (R.faults reader.new) (IsErrOf result (Io Input)) }
+    ensures same { R.bytes reader.new ≡ R.bytes reader.old }
+    ensures tells { R.tells reader.new ≡ R.tells reader.old }
+{
+    let length = reader_length(reader)?;
+    if length > u32::MAX as u64 || length < EMPTY_V0 + LENGTH_SIZE {
+        return Ok(None);
+    }
+    let told = match told_length(reader) {
+        Ok(told) => told,
+        Err(StoreError::UnexpectedEof) => return Ok(None),
+        Err(error) => return Err(error),
+    };
+    let size = told as u64 + LENGTH_SIZE;
+    if (told as u64) < EMPTY_V0 || length < size {
+        return Ok(None);
+    }
+    Ok(Some((length - size, told)))
+}
+
+/// The members of the chunks that are stored before place `end`, of at most `max_chunk` bytes each; none, where
+/// anything else stands there. Refused as `Io(Input)`, or as `OutOfMemory`.
+fn stored_members<R: ReadAt>(
+    alloc: Global,
+    reader: &mut R,
+    end: u64,
+    max_chunk: u32,
+) -> Result<Option<Vec<(MerkleHash, u64)>>, StoreError>
+    requires most { max_chunk < 2 ^ 23 }
+    requires end { end < 2 ^ 32 }
+    ensures size { IfOk result (λ found. IfSome found (λ members. total_len members.items + 8 * length members.items ≡ end)) }
+    ensures found { R.tells reader.old ≡ true → end ≤ length (R.bytes reader.old) → IfOk result (λ found. IfSome found (λ members. HaveMembers max_chunk (take end (R.bytes reader.old)) members.items)) }
+    ensures none { R.tells reader.old ≡ true → end ≤ length (R.bytes reader.old) → IfOk result (λ found. IsNone found → (chunks : List (List ℕ)) → AreChunks max_chunk (take end (R.bytes reader.old)) chunks → ⊥) }
+    ensures refusals { IfErr result StopsReading }
+    ensures cause { HasCause (R.faults reader.old) (R.faults reader.new) (IsErrOf result (Io Input)) }
+    ensures same { R.bytes reader.new ≡ R.bytes reader.old }
+    ensures tells { R.tells reader.new ≡ R.tells reader.old }
+{
+    let mut members = Vec::new(alloc);
+    let mut body = Vec::new(alloc);
+    let mut at: u64 = 0;
+    'chunks: while at < end {
+        let Some(member) = member_at(reader, at, end, max_chunk, &mut body)? else {
+            return Ok(None);
+        };
+        at += HEADER_SIZE + member.1;
+        members.push(member)?;
+    }
+    Ok(Some(members))
+}
+
+/// The digest and the length of the chunk that is stored at place `at`; none, where none of at most `max_chunk`
+/// bytes is, which ends at place `end` or before. Its bytes are read into `body`. Refused as `Io(Input)`, or as
+/// `OutOfMemory`.
+fn member_at<R: ReadAt>(
+    reader: &mut R,
+    at: u64,
+    end: u64,
+    max_chunk: u32,
+    body: &mut Vec<u8>,
+) -> Result<Option<(MerkleHash, u64)>, StoreError>
+    requires most { max_chunk < 2 ^ 23 }
+    requires place { at ≤ end }
+    requires end { end < 2 ^ 32 }
+    ensures within { IfOk result (λ found. IfSome found (λ member. at + (8 + member.1) ≤ end)) }
+    ensures found { R.tells reader.old ≡ true → end ≤ length (R.bytes reader.old) → IfOk result (λ found. IfSome found (λ member. (chunk : List ℕ) × StandsAt max_chunk (R.bytes reader.old) at end chunk × (member ≡ member_of chunk))) }
+    ensures none { R.tells reader.old ≡ true → end ≤ length (R.bytes reader.old) → IfOk result (λ found. IsNone found → (chunk : List ℕ) → StandsAt max_chunk (R.bytes reader.old) at end chunk → ⊥) }
+    ensures refusals { IfErr result StopsReading }
+    ensures cause { HasCause (R.faults reader.old) (R.faults reader.new) (IsErrOf result (Io Input)) }
+    ensures same { R.bytes reader.new ≡ R.bytes reader.old }
+    ensures tells { R.tells reader.new ≡ R.tells reader.old }
+{
+    let room = end - at;
+    if room < HEADER_SIZE {
+        return Ok(None);
+    }
+    let mut header = [0; 8];
+    if !fill(reader, at, &mut header)? {
+        return Ok(None);
+    }
+    let Some(size) = chunk_size(header, max_chunk) else {
+        return Ok(None);
+    };
+    if room - HEADER_SIZE < size as u64 {
+        return Ok(None);
+    }
+    let Some(digest) = digest_at(reader, at + HEADER_SIZE, size as usize, body)? else {
+        return Ok(None);
+    };
+    Ok(Some((digest, size as u64)))
+}
+
+/// How many bytes a stored chunk with this header has; none, where it is not the header of a stored chunk of at most
+/// `max_chunk` bytes.
+fn chunk_size(header: [u8; 8], max_chunk: u32) -> Option<u32>
+    requires { max_chunk < 2 ^ 23 }
+    ensures fits { IfSome result (λ n. n ≤ max_chunk) }
+    ensures found { IfSome result (λ n. header ≡ header_of n) }
+    ensures none { IsNone result → (n : ℕ) → n ≤ max_chunk → header ≡ header_of n → ⊥ }
+{
+    let [version, a, b, c, scheme, d, e, f] = header;
+    let stored = u32::from_le_bytes([a, b, c, 0]);
+    let plain = u32::from_le_bytes([d, e, f, 0]);
+    if version != 0 || scheme != 0 || stored != plain || plain > max_chunk {
+        return None;
+    }
+    Some(plain)
+}
+
+/// The digest of so many bytes from place `at` on, which are read into `body`; none, where there are fewer. Refused as
+/// `Io(Input)`, or as `OutOfMemory`.
+fn digest_at<R: ReadAt>(
+    reader: &mut R,
+    at: u64,
+    size: usize,
+    body: &mut Vec<u8>,
+) -> Result<Option<MerkleHash>, StoreError>
+    requires { at + size < 2 ^ 64 }
+    ensures read { R.tells reader.old ≡ true → at + size ≤ length (R.bytes reader.old) → IfOk result (λ digest. digest ≡ Some (chunk_hash (take size (drop at (R.bytes reader.old))))) }
+    ensures refusals { IfErr result StopsReading }
+    ensures cause { HasCause (R.faults reader.old) (R.faults reader.new) (IsErrOf result (Io Input)) }
+    ensures same { R.bytes reader.new ≡ R.bytes reader.old }
+    ensures tells { R.tells reader.new ≡ R.tells reader.old }
+{
+    body.resize(size, 0)?;
+    if !fill(reader, at, body)? {
+        return Ok(None);
+    }
+    Ok(Some(compute_data_hash(body)))
+}
+
+/// Whether there is a member, and the xorb of these members has this hash. Refused as `OutOfMemory`.
+fn have_hash(
+    alloc: Global,
+    members: &[(MerkleHash, u64)],
+    hash: &MerkleHash,
+) -> Result<bool, StoreError>
+    requires { total_len members.now < 2 ^ 64 }
+    ensures same { IfOk result (λ same. IsTrue same ↔ ((0 < length members.now) × (xorb_hash members.now ≡ hash.now))) }
+    ensures memory { IsOkUnless result StoreError.OutOfMemory }
+{
+    let found = xorb_hash(alloc, members)?;
+    Ok(!members.is_empty() && found == *hash)
+}
+
+/// The object of the footer from place `start` on, which has `told` bytes; none, where anything but the footer of a
+/// xorb of this hash with these members, and its length, stands there. Refused as `Io(Input)`, or as `OutOfMemory`.
+fn checked_object<R: ReadAt>(
+    alloc: Global,
+    reader: &mut R,
+    start: u64,
+    told: u32,
+    hash: &MerkleHash,
+    members: &[(MerkleHash, u64)],
+) -> Result<Option<XorbObject>, StoreError>
+    requires some { 60 ≤ told }
+    requires bound { start + told + 4 < 2 ^ 32 }
+    requires size { total_len members.now + 8 * length members.now ≡ start }
+    ensures found { R.tells reader.old ≡ true → start + told + 4 ≡ length (R.bytes reader.old) → AllByRecursion (λ m. length m.0 ≡ 32) members.now → length hash.now ≡ 32 → IfOk result (λ found. IfSome found (IsEnding hash.now members.now (drop start (R.bytes reader.old)))) }
+    ensures none { R.tells reader.old ≡ true → start + told + 4 ≡ length (R.bytes reader.old) → AllByRecursion (λ m. length m.0 ≡ 32) members.now → length hash.now ≡ 32 → IfOk result (λ found. IsNone found → (object : _) → IsEnding hash.now members.now (drop start (R.bytes reader.old)) object → ⊥) }
+    ensures refusals { IfErr result StopsReading }
+    ensures cause { HasCause (R.faults reader.old) (R.faults reader.new) (IsErrOf result (Io Input)) }
+    ensures same { R.bytes reader.new ≡ R.bytes reader.old }
+    ensures tells { R.tells reader.new ≡ R.tells reader.old }
+{
+    let mut spare = [0; 16];
+    if !fill(reader, start + told as u64 - SPARE_SIZE, &mut spare)? {
+        return Ok(None);
+    }
+    let Some((info, text)) = ending_of(alloc, hash, members, told, spare)? else {
+        return Ok(None);
+    };
+    if !stands_at(reader, start, &text)? {
+        return Ok(None);
+    }
+    Ok(Some(XorbObject {
+        info,
+        info_length: told,
+    }))
+}
+
+/// The footer of `told` bytes of a xorb of this hash with these members, and with these spare bytes, and the bytes of it
+/// and of its length; none, where none has as many. Refused as `OutOfMemory`.
+fn ending_of(
+    alloc: Global,
+    hash: &MerkleHash,
+    members: &[(MerkleHash, u64)],
+    told: u32,
+    spare: [u8; 16],
+) -> Result<Option<(XorbObjectInfoV1, Vec<u8>)>, StoreError>
+    requires { total_len members.now + 8 * length members.now + told + 4 < 2 ^ 32 }
+    ensures found { IfOk result (λ found. IfSome found (λ made. (version : Version) × (told ≡ footer_len version (length members.now)) × (made.0 ≡ footer_info version hash.now members.now spare) × (made.1.items ≡ ending version hash.now members.now spare))) }
+    ensures none { IfOk result (λ found. IsNone found → (version : Version) → told ≡ footer_len version (length members.now) → ⊥) }
+    ensures memory { IsOkUnless result StoreError.OutOfMemory }
+{
+    let count = members.len() as u64;
+    if told as u64 == EMPTY_V1 + EACH_V1 * count {
+        let info = new_footer(alloc, hash, members, spare)?;
+        let mut text = text_of(alloc, &info)?;
+        text.extend_from_slice(&told.to_le_bytes())?;
+        return Ok(Some((info, text)));
+    }
+    if told as u64 == EMPTY_V0 + EACH_V0 * count {
+        let info = new_footer_v0(alloc, hash, members, spare)?;
+        let mut text = text_of_v0(alloc, &info)?;
+        text.extend_from_slice(&told.to_le_bytes())?;
+        return Ok(Some((XorbObjectInfoV1::from_v0(info), text)));
+    }
+    Ok(None)
+}
+
+/// The bytes of a footer of version 1. Refused as `OutOfMemory`, since a sink in memory fails for no other reason.
+fn text_of(alloc: Global, info: &XorbObjectInfoV1) -> Result<Vec<u8>, StoreError>
+    requires { HasShortLists info.now }
+    ensures text { IfOk result (λ text. text.items ≡ text_v1 info.now) }
+    ensures memory { IsOkUnless result StoreError.OutOfMemory }
+{
+    let mut sink = MemorySink::new(alloc);
+    match info.serialize(&mut sink) {
+        Ok(_) => Ok(sink.into_bytes()),
+        Err(_) => Err(StoreError::OutOfMemory),
+    }
+}
+
+/// The bytes of a footer of version 0. Refused as `OutOfMemory`, since a sink in memory fails for no other reason.
+fn text_of_v0(alloc: Global, info: &XorbObjectInfoV0) -> Result<Vec<u8>, StoreError>
+    requires hashes { length info.now.chunk_hashes ≤ most_chunks }
+    requires stored { length info.now.chunk_boundary_offsets ≤ most_chunks }
+    ensures text { IfOk result (λ text. text.items ≡ text_v0 info.now) }
+    ensures memory { IsOkUnless result StoreError.OutOfMemory }
+{
+    let mut sink = MemorySink::new(alloc);
+    match info.serialize(&mut sink) {
+        Ok(_) => Ok(sink.into_bytes()),
+        Err(_) => Err(StoreError::OutOfMemory),
+    }
+}
+
+/// Whether these bytes stand at place `at`. Refused as `Io(Input)`.
+fn stands_at<R: ReadAt>(reader: &mut R, at: u64, text: &[u8]) -> Result<bool, StoreError>
+    requires { at + length text.now < 2 ^ 64 }
+    ensures found { R.tells reader.old ≡ true → at + length text.now ≤ length (R.bytes reader.old) → IfOk result (λ same. IsTrue same ↔ (text.now ≡ take (length text.now) (drop at (R.bytes reader.old)))) }
+    ensures refusals { IfErr result StopsReading }
+    ensures cause { HasCause (R.faults reader.old) (R.faults reader.new) (IsErrOf result (Io Input)) }
+    ensures same { R.bytes reader.new ≡ R.bytes reader.old }
+    ensures tells { R.tells reader.new ≡ R.tells reader.old }
+{
+    let mut block = [0; BLOCK];
+    let mut done = 0;
+    'pieces: while done < text.len() {
+        let size = BLOCK.min(text.len() - done);
+        if !piece_stands_at(
+            reader,
+            at + done as u64,
+            &text[done..done + size],
+            &mut block,
+        )? {
+            return Ok(false);
+        }
+        done += size;
+    }
+    Ok(true)
+}
+
+/// Whether this piece, of at most as many bytes as the block has, stands at place `at`. Refused as `Io(Input)`.
+fn piece_stands_at<R: ReadAt>(
+    reader: &mut R,
+    at: u64,
+    piece: &[u8],
+    block: &mut [u8],
+) -> Result<bool, StoreError>
+    requires place { at + length piece.now < 2 ^ 64 }
+    requires room { length piece.now ≤ length block.old }
+    ensures found { R.tells reader.old ≡ true → at + length piece.now ≤ length (R.bytes reader.old) → IfOk result (λ same. IsTrue same ↔ (piece.now ≡ take (length piece.now) (drop at (R.bytes reader.old)))) }
+    ensures len { length block.new ≡ length block.old }
+    ensures refusals { IfErr result StopsReading }
+    ensures cause { HasCause (R.faults reader.old) (R.faults reader.new) (IsErrOf result (Io Input)) }
+    ensures same { R.bytes reader.new ≡ R.bytes reader.old }
+    ensures tells { R.tells reader.new ≡ R.tells reader.old }
+{
+    let (front, _) = block.split_at_mut(piece.len());
+    let filled = fill(reader, at, front)?;
+    Ok(filled && piece == front)
+}
+
+/// Fills `buf` with the bytes from place `at` on; false, where there are fewer. Refused as `Io(Input)`.
+fn fill<R: ReadAt>(reader: &mut R, at: u64, buf: &mut [u8]) -> Result<bool, StoreError>
+    requires { at + length buf.old < 2 ^ 64 }
+    ensures whole { R.tells reader.old ≡ true → at + length buf.old ≤ length (R.bytes reader.old) → IfOk result (λ whole. whole ≡ true) }
+    ensures read { R.tells reader.old ≡ true → at + length buf.old ≤ length (R.bytes reader.old) → IfOk result (λ _. buf.new ≡ take (length buf.old) (drop at (R.bytes reader.old))) }
+    ensures len { length buf.new ≡ length buf.old }
+    ensures refusals { IfErr result (λ e. e ≡ Io Input) }
+    ensures cause { HasCause (R.faults reader.old) (R.faults reader.new) (IsErrOf result (Io Input)) }
+    ensures same { R.bytes reader.new ≡ R.bytes reader.old }
+    ensures tells { R.tells reader.new ≡ R.tells reader.old }
+{
+    match read_exact(reader, at, buf) {
+        Ok(()) => Ok(true),
+        Err(StoreError::UnexpectedEof) => Ok(false),
+        Err(error) => Err(error),
+    }
+}
