@@ -5,8 +5,10 @@ use std::alloc::{AllocError, Global};
 use std::process::Abort;
 use std::test::Fail;
 
-/// Lengths round those of words and lanes, and a long one.
-const LENGTHS: [u32; 9] = [0, 1, 15, 16, 17, 63, 64, 65, 131_072];
+/// Lengths round those of words and lanes, and long ones.
+const LENGTHS: [u32; 12] = [
+    0, 1, 15, 16, 17, 63, 64, 65, 65_483, 65_536, 65_671, 131_072,
+];
 
 /// The bytes 0 to 250, again and again.
 fn counting(alloc: Global, count: u32) -> Result<Vec<u8>, AllocError>
@@ -142,4 +144,68 @@ fn bytes_are_counted_by_place(rt: HostRuntime) {
         [0, 0, 1, 0, 0, 0, 0, 0, 0],
     ];
     assert!(rt; histograms(0, &[0, 1, 2, 3, 4, 5]) == six);
+}
+
+/// Long inputs: a length, the hashes of its bytes split and regrouped, and the table that counts them
+/// from offset 3 on. Computed apart, from the definition of the groups.
+const LONG: [(u32, u32, u32, [[u32; 9]; 4]); 3] = [
+    (
+        65_536,
+        0xFD24_8998,
+        0x8870_D8AC,
+        [
+            [65, 522, 1829, 3657, 4570, 3655, 1761, 325, 0],
+            [65, 521, 1827, 3658, 4572, 3655, 1761, 325, 0],
+            [66, 523, 1824, 3646, 4565, 3660, 1770, 330, 0],
+            [66, 527, 1838, 3662, 4565, 3646, 1755, 325, 0],
+        ],
+    ),
+    (
+        65_483,
+        0xBDF9_0CB0,
+        0x207C_B57C,
+        [
+            [65, 521, 1826, 3655, 4569, 3652, 1758, 325, 0],
+            [65, 521, 1826, 3655, 4569, 3652, 1758, 325, 0],
+            [65, 520, 1821, 3646, 4565, 3659, 1767, 327, 0],
+            [66, 526, 1835, 3659, 4562, 3643, 1755, 325, 0],
+        ],
+    ),
+    (
+        65_671,
+        0x765F_921C,
+        0xDC5F_04B8,
+        [
+            [65, 522, 1832, 3668, 4583, 3661, 1762, 325, 0],
+            [65, 521, 1827, 3661, 4583, 3668, 1767, 326, 0],
+            [66, 526, 1834, 3659, 4571, 3661, 1770, 330, 0],
+            [66, 527, 1841, 3673, 4578, 3652, 1756, 325, 0],
+        ],
+    ),
+];
+
+/// The 32-bit FNV-1a hash.
+fn fnv1a(bytes: &[u8]) -> u32 {
+    let mut hash = 0x811C_9DC5u32;
+    for byte in bytes {
+        hash = (hash ^ u32::from(*byte)).wrapping_mul(0x0100_0193);
+    }
+    hash
+}
+
+/// The hashes of these bytes split, and of them regrouped as if they were joined groups.
+fn hashes(alloc: Global, bytes: &[u8]) -> Result<(u32, u32), AllocError> {
+    let split = fnv1a(&bg4_split(alloc, bytes)?);
+    let regrouped = fnv1a(&bg4_regroup(alloc, bytes)?);
+    Ok((split, regrouped))
+}
+
+#[test]
+fn long_inputs_give_known_values(rt: HostRuntime) -> Result<(), Fail> {
+    for (count, split, regrouped, table) in LONG {
+        let bytes = counting(rt.alloc(), count)?;
+        let found = hashes(rt.alloc(), &bytes)?;
+        assert!(rt; found == (split, regrouped) && histograms(3, &bytes) == table);
+    }
+    Ok(())
 }

@@ -1,5 +1,5 @@
 -- What the calls of a disk do to its files.
-use Rattle.std.proofs.Common.{◌≡◌, ◌≢◌, ⊎_elim, ℕ, true, false, cond, List, Option, Some, None, is_some, IfSome, refl, sym, ◌∙◌, ap, subst}
+use Rattle.std.proofs.Common.{◌≡◌, ◌≢◌, ⊎_elim, ℕ, true, false, cond, List, Option, Some, None, is_some, IsSome, IfSome, Result, Ok, Err, OnOk, OnErr, refl, sym, ◌∙◌, ap, subst}
 use Rattle.std.specs.Cmp.Lexicographic.{nat_list_cmp_total}
 use Rattle.std.specs.FinMap.{get, insert, remove, get-remove}
 use Rattle.xet_io.specs.Disk.{Files, Entry, File, entry, file_of, file_at, stable_if, synced, gone_if, moved_if, renamed, removed}
@@ -15,6 +15,19 @@ some_of (Some x) is = (x, refl)
 
 pub there_in : (n : List ℕ) (m files : Files) → m ≡ files → true ≡ is_some (file_at m n) → true ≡ is_some (file_at files n)
 there_in n m files is there = there ∙ ap (λ (m : Files). is_some (file_at m n)) is
+
+pub on_ok : {T E P Q : Type 0} (r : Result T E) → (P → Q) → OnOk r P → OnOk r Q
+on_ok (Ok x) f p = f p
+on_ok (Err e) f p = tt
+
+-- a name that was to be held
+module _ (m new : Files) (n : List ℕ) (e : Entry) where
+  pub held_here : {T E : Type 0} (r : Result T E) → OnOk r (new ≡ insert m n e) → OnOk r (IsSome (get new n))
+  held_here r held = on_ok r (λ is. subst (λ (o : Option Entry). IsSome o) (sym (ap (λ (m : Files). get m n) is ∙ get_here m n e)) refl) held
+
+  pub held_others : {T E : Type 0} (r : Result T E) → OnOk r (new ≡ insert m n e) → OnErr r (new ≡ m) → (q : List ℕ) → q ≢ n → get new q ≡ get m q
+  held_others (Ok x) held kept q d = ap (λ (m : Files). get m q) held ∙ get_other m n e q d
+  held_others (Err x) held kept q d = ap (λ (m : Files). get m q) kept
 
 module _ (m : Files) (n : List ℕ) where
   pub synced_absent : file_at m n ≡ None → synced m n ≡ m

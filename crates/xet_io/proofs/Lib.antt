@@ -3,6 +3,7 @@ pub mod Put
 pub mod Lookup
 pub mod HeldNames
 pub mod Changes
+pub mod Caused
 pub mod Listing
 pub mod Reading
 pub mod Retained

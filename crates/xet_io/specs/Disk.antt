@@ -79,13 +79,9 @@ pub record Lists (files : Files) (folder : List ℕ) (listed : List DiskEntry) :
 abbrev pub written : Files → List ℕ → List ℕ → ℕ → Files
 written files name bytes stamp = insert files name (entry (Some (file bytes stamp)) false)
 
-abbrev pub unstable_if : Files → List ℕ → Option Entry → Files
-unstable_if files name None = files
-unstable_if files name (Some e) = insert files name (entry e.file false)
-
--- a name that is held is no longer stable, with the bytes that it had
+-- a name that is not stable, with the file that it had, if any: a crash may leave anything there
 abbrev pub unstable : Files → List ℕ → Files
-unstable files name = unstable_if files name (get files name)
+unstable files name = insert files name (entry (file_at files name) false)
 
 abbrev pub stable_if : Files → List ℕ → Option File → Files
 stable_if files name None = files

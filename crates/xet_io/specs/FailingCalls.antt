@@ -1,7 +1,10 @@
--- The calls of a disk that are to fail: (op, n) is the call of the kind op after n others of it.
-use Rattle.std.specs.Prelude.{◌≡◌, ◌==◌, ◌&&◌, ◌+◌, ◌-◌, ◌^◌, min, ℕ, Bool, not, cond, List, refl}
+-- The calls of a disk that are to fail.
+use Rattle.std.specs.Prelude.{◌≡◌, ◌==◌, ◌&&◌, ◌-◌, ◌⊎◌, ℕ, Bool, not, cond, List, refl}
+use Rattle.std.proofs.Common.{inl, inr}
 use Rattle.std.specs.List.{list_any, retain_mut}
-use Rattle.std.specs.Coded.{Coded, code_by, coded_ℕ}
+use Rattle.std.specs.Coded.{Coded, code_by, coded_ℕ, coded_list, coded×, coded⊎}
+use Rattle.xet_io.specs.declared.count.Plan.{Plan}
+use Rattle.xet_io.specs.declared.count.Plan.TheVariants as plan
 use Rattle.xet_io.specs.declared.count.Op.{Op}
 use Rattle.xet_io.specs.declared.count.Op.TheVariants.{Stat, ReadAt, List as Listing, Write, Sync, Rename, Remove}
 
@@ -30,6 +33,33 @@ op_numbered-op_number Remove = refl
 abbrev pub op_code : Coded Op
 op_code = code_by ℕ coded_ℕ op_number op_numbered op_numbered-op_number
 
+-- Which calls fail: for each (op, n) the call of the kind op after n others of it; or each call after so
+-- many of any kind.
+pub data FailPlan : Type 0 where
+  Calls : List (Op × ℕ) → FailPlan
+  After : ℕ → FailPlan
+
+abbrev pub plan_parts : FailPlan → List (Op × ℕ) ⊎ ℕ
+plan_parts (Calls calls) = inl calls
+plan_parts (After count) = inr count
+
+abbrev pub plan_of_parts : List (Op × ℕ) ⊎ ℕ → FailPlan
+plan_of_parts (inl calls) = Calls calls
+plan_of_parts (inr count) = After count
+
+pub plan_of_parts-plan_parts : (plan : FailPlan) → plan_of_parts (plan_parts plan) ≡ plan
+plan_of_parts-plan_parts (Calls calls) = refl
+plan_of_parts-plan_parts (After count) = refl
+
+abbrev pub plan_code : Coded FailPlan
+plan_code =
+    code_by (List (Op × ℕ) ⊎ ℕ) (coded⊎ (coded_list (coded× op_code coded_ℕ)) coded_ℕ) plan_parts plan_of_parts plan_of_parts-plan_parts
+
+-- what a plan is to contracts
+abbrev pub plan_of : Plan → FailPlan
+plan_of (plan.Calls calls) = Calls calls.items
+plan_of (plan.After count) = After count
+
 -- of one kind
 abbrev pub same_op : Op → Op → Bool
 same_op a b = op_number a == op_number b
@@ -38,9 +68,13 @@ same_op a b = op_number a == op_number b
 abbrev pub is_now : Op → Op × ℕ → Bool
 is_now op f = same_op f.0 op && f.1 == 0
 
--- a call of a kind fails
-abbrev pub fails_now : List (Op × ℕ) → Op → Bool
-fails_now fails op = list_any (is_now op) fails
+abbrev pub one_is_now : List (Op × ℕ) → Op → Bool
+one_is_now calls op = list_any (is_now op) calls
+
+-- a call of a kind is to fail
+abbrev pub fails_now : FailPlan → Op → Bool
+fails_now (Calls calls) op = one_is_now calls op
+fails_now (After count) op = count == 0
 
 -- a failure one call of a kind later
 abbrev pub nearer : Op → Op × ℕ → Op × ℕ
@@ -48,9 +82,10 @@ nearer op f = cond (same_op f.0 op) (f.0, f.1 - 1) f
 
 -- The failures to come after a call of a kind: those of the call are past, and those of its kind are
 -- one call nearer.
-abbrev pub fails_after : List (Op × ℕ) → Op → List (Op × ℕ)
-fails_after fails op = retain_mut (λ f. not (is_now op f)) (nearer op) fails
+abbrev pub all_nearer : List (Op × ℕ) → Op → List (Op × ℕ)
+all_nearer calls op = retain_mut (λ f. not (is_now op f)) (nearer op) calls
 
--- the count of failures after a call of a kind
-abbrev pub faults_after : List (Op × ℕ) → Op → ℕ → ℕ
-faults_after fails op faults = cond (fails_now fails op) (min (faults + 1) (2 ^ 64 - 1)) faults
+-- the plan after a call of a kind; where each call fails, each later one does
+abbrev pub fails_after : FailPlan → Op → FailPlan
+fails_after (Calls calls) op = Calls (all_nearer calls op)
+fails_after (After count) op = After (count - 1)

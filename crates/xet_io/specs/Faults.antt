@@ -1,5 +1,7 @@
 -- Counts of failures: each object of the outside counts how often it has failed, up to 2 ^ 64 - 1.
-use Rattle.std.specs.Prelude.{ℕ, ◌+◌, ◌-◌, ◌^◌, ◌<◌, ◌≤◌, min}
+use Rattle.std.specs.Prelude.{ℕ, ◌+◌, ◌-◌, ◌^◌, ◌<◌, ◌≤◌, min, Result, Ok, Err}
+use Rattle.xet_io.specs.declared.fault.Refusal.{Refusal}
+use Rattle.xet_io.specs.declared.fault.Refusal.TheVariants.{Failed, OutOfMemory}
 
 -- The count rose between two moments. At its last value it counts as risen.
 abbrev pub Rose : ℕ → ℕ → Type 0
@@ -14,3 +16,18 @@ pub record HasCause (before now : ℕ) (failed : Type 0) : Type 0 where
 pub record TakesFaults (other before now : ℕ) : Type 0 where
   pub later : before ≤ now
   pub rose : 0 < other → Rose before now
+
+-- one more, up to 2 ^ 64 - 1
+abbrev pub one_more : ℕ → ℕ
+one_more faults = min (faults + 1) (2 ^ 64 - 1)
+
+-- the count after a call whose errors are all failures
+abbrev pub counted : {T E : Type 0} → Result T E → ℕ → ℕ
+counted (Ok x) faults = faults
+counted (Err e) faults = one_more faults
+
+-- the count after a call that may also run out of memory, which is no failure
+abbrev pub faults_after : {T : Type 0} → Result T Refusal → ℕ → ℕ
+faults_after (Ok x) faults = faults
+faults_after (Err Failed) faults = one_more faults
+faults_after (Err OutOfMemory) faults = faults

@@ -2,9 +2,8 @@
 use Rattle.std.specs.Prelude.{ℕ, List, Bool, Option, refl}
 use Rattle.std.specs.Coded.{Coded, code_by, coded×, coded_list, coded_ℕ, coded_bool, coded_option}
 use Rattle.std.specs.FinMap as map
-use Rattle.xet_io.specs.declared.count.Op.{Op}
 use Rattle.xet_io.specs.Disk.{Files, File, Entry}
-use Rattle.xet_io.specs.FailingCalls.{op_code}
+use Rattle.xet_io.specs.FailingCalls.{FailPlan, plan_code}
 
 -- Its files, and how many calls it has taken: a write's stamp is the number of its call, from 0. How
 -- often it has failed, up to 2 ^ 64 - 1, and the failures to come.
@@ -12,7 +11,7 @@ pub record Memory : Type 0 where
   pub files : Files
   pub calls : ℕ
   pub faults : ℕ
-  pub fails : List (Op × ℕ)
+  pub fails : FailPlan
 
 abbrev pub file_code : Coded File
 file_code =
@@ -24,5 +23,5 @@ entry_code =
 
 abbrev pub memory_code : Coded Memory
 memory_code =
-    code_by (Files × (ℕ × (ℕ × List (Op × ℕ)))) (coded× (map.code (coded_list coded_ℕ) entry_code) (coded× coded_ℕ (coded× coded_ℕ (coded_list (coded× op_code coded_ℕ)))))
+    code_by (Files × (ℕ × (ℕ × FailPlan))) (coded× (map.code (coded_list coded_ℕ) entry_code) (coded× coded_ℕ (coded× coded_ℕ plan_code)))
     (λ m. (m.files, (m.calls, (m.faults, m.fails)))) (λ p. record { files = p.0; calls = p.1.0; faults = p.1.1.0; fails = p.1.1.1 }) (λ _. refl)

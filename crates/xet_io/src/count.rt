@@ -1,8 +1,10 @@
 //! The count of a disk's calls, and of those that are to fail.
 
-ghost use Rattle.std.specs.Prelude.{◌≡◌, ◌+◌, ◌-◌, ◌^◌, min, cond, not, IsTrue};
-ghost use Rattle.xet_io.specs.Faults.{HasCause};
-ghost use Rattle.xet_io.specs.FailingCalls.{is_now, nearer, fails_now, fails_after};
+ghost use Rattle.std.specs.Prelude.{◌≡◌, ◌+◌, ◌-◌, ◌^◌, min, not};
+ghost use Rattle.xet_io.specs.Faults.{HasCause, one_more};
+ghost use Rattle.xet_io.specs.FailingCalls.{plan_of, is_now, one_is_now, nearer, all_nearer, fails_now, fails_after};
+
+use crate::fault::Refusal;
 
 /// A kind of call of a disk.
 #[derive(Clone, Copy, PartialEq, Eq, Debug)]
@@ -23,52 +25,88 @@ pub enum Op {
     Remove,
 }
 
+/// Which calls are still to fail.
+#[derive(Debug, Drop)]
+pub(crate) enum Plan {
+    /// For each pair the call of that kind after so many others of it.
+    Calls(Vec<(Op, u64)>),
+    /// Each call after so many of any kind.
+    After(u64),
+}
+
+impl Plan {
+    /// Passes a call of a kind, and answers whether it is to fail.
+    fn pass(&mut self, op: Op) -> bool
+        ensures now { result ≡ fails_now (plan_of self.old) op }
+        ensures later { plan_of self.new ≡ fails_after (plan_of self.old) op }
+    {
+        match self {
+            Plan::Calls(calls) => {
+                let fails = one_is_now(calls, op);
+                come_nearer(calls, op);
+                fails
+            }
+            Plan::After(count) => {
+                let fails = *count == 0;
+                *count = count.saturating_sub(1);
+                fails
+            }
+        }
+    }
+}
+
 /// How many calls there were, how many of them failed, both up to 2^64 - 1, and which are still to
 /// fail.
 #[derive(Debug, Drop)]
 pub(crate) struct Count {
     pub(crate) calls: u64,
     pub(crate) faults: u64,
-    pub(crate) fails: Vec<(Op, u64)>,
+    pub(crate) plan: Plan,
 }
 
 impl Count {
     /// No call yet.
-    pub(crate) fn new(fails: Vec<(Op, u64)>) -> Count
+    pub(crate) fn new(plan: Plan) -> Count
         ensures calls { result.calls ≡ 0 }
         ensures faults { result.faults ≡ 0 }
-        ensures fails { result.fails.items ≡ fails.items }
+        ensures fails { plan_of result.plan ≡ plan_of plan }
     {
         Count {
             calls: 0,
             faults: 0,
-            fails,
+            plan,
         }
     }
 
-    /// Counts a call of a kind, and answers whether it fails.
+    /// Counts a call of a kind, and answers whether it is to fail.
     pub(crate) fn fails(&mut self, op: Op) -> bool
-        ensures now { result ≡ fails_now self.old.fails.items op }
+        ensures now { result ≡ fails_now (plan_of self.old.plan) op }
         ensures calls { self.new.calls ≡ min (self.old.calls + 1) (2 ^ 64 - 1) }
-        ensures faults { self.new.faults ≡ cond result (min (self.old.faults + 1) (2 ^ 64 - 1)) self.old.faults }
-        ensures fails { self.new.fails.items ≡ fails_after self.old.fails.items op }
-        ensures cause { HasCause self.old.faults self.new.faults (IsTrue result) }
+        ensures faults { self.new.faults ≡ self.old.faults }
+        ensures fails { plan_of self.new.plan ≡ fails_after (plan_of self.old.plan) op }
     {
         self.calls = self.calls.saturating_add(1);
-        let fails = fails_now(&self.fails, op);
-        if fails {
-            self.faults = self.faults.saturating_add(1);
-        }
-        come_nearer(&mut self.fails, op);
-        fails
+        self.plan.pass(op)
+    }
+
+    /// Counts a failure, and answers it.
+    pub(crate) fn failed(&mut self) -> Refusal
+        ensures failed { result ≡ Refusal.Failed }
+        ensures calls { self.new.calls ≡ self.old.calls }
+        ensures faults { self.new.faults ≡ one_more self.old.faults }
+        ensures fails { self.new.plan ≡ self.old.plan }
+        ensures cause { HasCause self.old.faults self.new.faults (result ≡ Refusal.Failed) }
+    {
+        self.faults = self.faults.saturating_add(1);
+        Refusal::Failed
     }
 }
 
-/// Whether a call of a kind fails.
-fn fails_now(fails: &[(Op, u64)], op: Op) -> bool
-    ensures { result ≡ fails_now fails.now op }
+/// Whether one of these failures is that of the next call, if it is of this kind.
+fn one_is_now(calls: &[(Op, u64)], op: Op) -> bool
+    ensures { result ≡ one_is_now calls.now op }
 {
-    fails.iter().any(|fail| is_now(op, fail))
+    calls.iter().any(|fail| is_now(op, fail))
 }
 
 /// Whether a failure is that of the next call, if it is of this kind.
@@ -79,8 +117,8 @@ fn is_now(op: Op, fail: &(Op, u64)) -> bool
 }
 
 /// Brings the failures of a kind one call nearer, without those of this call.
-fn come_nearer(fails: &mut Vec<(Op, u64)>, op: Op)
-    ensures { fails.new.items ≡ fails_after fails.old.items op }
+fn come_nearer(calls: &mut Vec<(Op, u64)>, op: Op)
+    ensures { calls.new.items ≡ all_nearer calls.old.items op }
 {
     let comes = move |fail: &mut (Op, u64)| -> bool
         ensures { (result ≡ not (is_now op fail.entry.now)) × (fail.exit.now ≡ nearer op fail.entry.now) }
@@ -91,5 +129,5 @@ fn come_nearer(fails: &mut Vec<(Op, u64)>, op: Op)
         }
         later
     };
-    fails.retain_mut(comes);
+    calls.retain_mut(comes);
 }

@@ -1,9 +1,9 @@
 //! What a disk in memory holds under its names.
 
-ghost use Rattle.std.specs.Prelude.{◌≡◌, ◌≢◌, ℕ, List, IsTrue, IsSome, is_some, IfOk, IfErr, IfSome, OnOk, OnErr};
+ghost use Rattle.std.specs.Prelude.{◌≡◌, ◌≢◌, ℕ, false, List, None, IsTrue, IsSome, is_some, IfOk, IfErr, IfSome, OnOk, OnErr};
 ghost use Rattle.std.specs.Option.{option_map};
 ghost use Rattle.std.specs.FinMap.{get, insert, remove};
-ghost use Rattle.xet_io.specs.Disk.{Files, file_at, Lists, synced, unstable};
+ghost use Rattle.xet_io.specs.Disk.{Files, entry, file_at, Lists, synced, unstable};
 ghost use Rattle.xet_io.specs.Named.{in_folder, is_plain};
 ghost use Rattle.xet_io.specs.MemoryFiles.{files_of, file_of_held, entry_of};
 
@@ -61,13 +61,17 @@ pub(crate) fn make_stable(names: &mut Names, name: &str) -> bool
     true
 }
 
-/// Makes a name unstable, if it is held.
-pub(crate) fn make_unstable(names: &mut Names, name: &str)
-    ensures { files_of names.new ≡ unstable (files_of names.old) name.now }
+/// Makes a name unstable, with the file that it has, if any. It may want memory where the name is not held.
+pub(crate) fn make_unstable(names: &mut Names, alloc: Global, name: &str) -> Result<(), Refusal>
+    ensures unstable { OnOk result (files_of names.new ≡ unstable (files_of names.old) name.now) }
+    ensures kept { OnErr result (files_of names.new ≡ files_of names.old) }
+    ensures refused { IfErr result (λ e. e ≡ Refusal.OutOfMemory) }
 {
-    if let Some(held) = names.get_mut(name) {
-        held.stable = false;
-    }
+    let Some(held) = names.get_mut(name) else {
+        return hold_absent(names, alloc, name);
+    };
+    held.stable = false;
+    Ok(())
 }
 
 /// Sees to it that a name is held. Only this step of a rename may want memory.
@@ -80,6 +84,15 @@ pub(crate) fn hold_name(names: &mut Names, alloc: Global, name: &str) -> Result<
     if names.contains_key(name) {
         return Ok(());
     }
+    hold_absent(names, alloc, name)
+}
+
+/// Holds a name with no file, unstable.
+fn hold_absent(names: &mut Names, alloc: Global, name: &str) -> Result<(), Refusal>
+    ensures held { OnOk result (files_of names.new ≡ insert (files_of names.old) name.now (entry None false)) }
+    ensures kept { OnErr result (files_of names.new ≡ files_of names.old) }
+    ensures refused { IfErr result (λ e. e ≡ Refusal.OutOfMemory) }
+{
     let key = String::from_str(alloc, name)?;
     let absent = Held {
         file: None,

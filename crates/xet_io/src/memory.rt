@@ -1,7 +1,9 @@
 //! A sink and named inputs in memory. They never fail.
 
-ghost use Rattle.std.specs.Prelude.{◌≡◌, ◌≤◌, ℕ, List, [], true, drop, map, string_bytes, vec_len};
+ghost use Rattle.std.specs.Prelude.{◌≡◌, ◌<◌, ◌≤◌, ◌++◌, ℕ, List, [], true, drop, length, map, string_bytes, vec_len, IfOk, IfErr, OnOk, OnErr, IsErrOf};
 ghost use Rattle.std.specs.FinMap.{from_entries};
+ghost use Rattle.xet_io.specs.Faults.{HasCause};
+ghost use Rattle.xet_io.specs.Streams.{Takes};
 
 use crate::fault::{Failed, Refusal};
 use crate::inputs::Inputs;
@@ -61,7 +63,17 @@ impl Sink for MemorySink {
 
     ghost faults = { λ _. 0 };
 
-    fn write(&mut self, piece: &[u8]) -> Result<usize, Refusal> {
+    /// Takes all of the piece, or runs out of memory and takes none.
+    fn write(&mut self, piece: &[u8]) -> Result<usize, Refusal>
+        ensures bound { IfOk result (λ count. count ≤ length piece.now) }
+        ensures some { 0 < length piece.now → IfOk result (λ count. 0 < count) }
+        ensures bytes { Takes self.old piece.now result self.new }
+        ensures cause { HasCause 0 0 (IsErrOf result Refusal.Failed) }
+        ensures count { IfOk result (λ count. count ≡ length piece.now) }
+        ensures whole { OnOk result (self.new ≡ self.old ++ piece.now) }
+        ensures kept { OnErr result (self.new ≡ self.old) }
+        ensures memory { IfErr result (λ e. e ≡ Refusal.OutOfMemory) }
+    {
         self.buffer.extend_from_slice(piece)?;
         Ok(piece.len())
     }

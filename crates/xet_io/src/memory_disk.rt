@@ -1,14 +1,15 @@
 //! A disk in memory. It fails only where it is made to.
+#![tactic(auto, using(crate::proofs::Caused::failed_cause))]
 
-ghost use Rattle.std.specs.Prelude.{◌≡◌, ◌+◌, ◌-◌, ◌^◌, ◌≤◌, ◌↔◌, min, true, [], cond, length, IfOk, IfSome, IsTrue, OnOk, OnErr, IsErrOf};
+ghost use Rattle.std.specs.Prelude.{◌≡◌, ◌+◌, ◌-◌, ◌^◌, ◌≤◌, ◌↔◌, min, true, [], length, IfOk, IfSome, IsTrue, OnOk, OnErr, IsErr, IsErrOf};
 ghost use Rattle.std.specs.Option.{option_map};
 ghost use Rattle.std.specs.FinMap.{empty};
 ghost use Rattle.xet_io.specs.Disk.{bytes_at, file_at, stat_of, ReadsAt, Lists, Changes, written, unstable, synced, renamed, removed};
-ghost use Rattle.xet_io.specs.Faults.{HasCause};
-ghost use Rattle.xet_io.specs.FailingCalls.{fails_now, fails_after, faults_after};
+ghost use Rattle.xet_io.specs.Faults.{HasCause, faults_after};
+ghost use Rattle.xet_io.specs.FailingCalls.{Calls, After, plan_of, fails_now, fails_after};
 ghost use Rattle.xet_io.specs.declared.count.Op.TheVariants as op;
 
-use crate::count::{Count, Op};
+use crate::count::{Count, Op, Plan};
 use crate::disk::{Disk, DiskEntry};
 use crate::fault::Refusal;
 use crate::held::{
@@ -37,27 +38,55 @@ impl Model for MemoryDisk {
     ghost coded = { memory_code };
 
     ghost use Rattle.xet_io.specs.MemoryFiles.{files_of};
+    ghost use Rattle.xet_io.specs.FailingCalls.{plan_of};
 
-    ghost view = { λ d. record { files = files_of d.names; calls = d.count.calls; faults = d.count.faults; fails = d.count.fails.items } };
+    ghost view = { λ d. record { files = files_of d.names; calls = d.count.calls; faults = d.count.faults; fails = plan_of d.count.plan } };
 }
 
 impl MemoryDisk {
-    /// A disk with no files, before its first call, of which no call fails. It takes no memory.
+    /// An empty disk, before its first call, of which no call fails. It takes no memory.
     pub fn new(alloc: Global) -> MemoryDisk
-        ensures { result ≡ record { files = empty; calls = 0; faults = 0; fails = [] } }
+        ensures files { result.files ≡ empty }
+        ensures calls { result.calls ≡ 0 }
+        ensures faults { result.faults ≡ 0 }
+        ensures fails { result.fails ≡ Calls [] }
     {
         MemoryDisk::failing(alloc, Vec::new(alloc))
     }
 
-    /// A disk with no files, before its first call. For each pair the call of that kind fails that
-    /// comes after so many others of it. It takes no memory.
+    /// An empty disk, before its first call. For each pair the call of that kind fails that comes
+    /// after so many others of it. It takes no memory.
     pub fn failing(alloc: Global, fails: Vec<(Op, u64)>) -> MemoryDisk
-        ensures { result ≡ record { files = empty; calls = 0; faults = 0; fails = fails.items } }
+        ensures files { result.files ≡ empty }
+        ensures calls { result.calls ≡ 0 }
+        ensures faults { result.faults ≡ 0 }
+        ensures fails { result.fails ≡ Calls fails.items }
+    {
+        MemoryDisk::with_plan(alloc, Plan::Calls(fails))
+    }
+
+    /// An empty disk, before its first call. It passes `k` calls of any kind, and each later one
+    /// fails. It takes no memory.
+    pub fn stopping(alloc: Global, k: u64) -> MemoryDisk
+        ensures files { result.files ≡ empty }
+        ensures calls { result.calls ≡ 0 }
+        ensures faults { result.faults ≡ 0 }
+        ensures fails { result.fails ≡ After k }
+    {
+        MemoryDisk::with_plan(alloc, Plan::After(k))
+    }
+
+    /// An empty disk, before its first call.
+    fn with_plan(alloc: Global, plan: Plan) -> MemoryDisk
+        ensures files { result.files ≡ empty }
+        ensures calls { result.calls ≡ 0 }
+        ensures faults { result.faults ≡ 0 }
+        ensures fails { result.fails ≡ plan_of plan }
     {
         MemoryDisk {
             alloc,
             names: BTreeMap::new(alloc),
-            count: Count::new(fails),
+            count: Count::new(plan),
         }
     }
 
@@ -84,12 +113,12 @@ impl Disk for MemoryDisk {
         ensures same { self.new.files ≡ self.old.files }
         ensures counted { self.new.calls ≡ min (self.old.calls + 1) (2 ^ 64 - 1) }
         ensures failed { IsErrOf result Refusal.Failed ↔ IsTrue (fails_now self.old.fails op.Stat) }
-        ensures faults { self.new.faults ≡ faults_after self.old.fails op.Stat self.old.faults }
+        ensures faults { self.new.faults ≡ faults_after result self.old.faults }
         ensures fails { self.new.fails ≡ fails_after self.old.fails op.Stat }
         ensures cause { HasCause self.old.faults self.new.faults (IsErrOf result Refusal.Failed) }
     {
         if self.count.fails(Op::Stat) {
-            return Err(Refusal::Failed);
+            return Err(self.count.failed());
         }
         match held_file(&self.names, name) {
             Some(file) => Ok(Some((file.bytes.len() as u64, file.stamp))),
@@ -103,12 +132,12 @@ impl Disk for MemoryDisk {
         ensures same { self.new.files ≡ self.old.files }
         ensures counted { self.new.calls ≡ min (self.old.calls + 1) (2 ^ 64 - 1) }
         ensures failed { IsErrOf result Refusal.Failed ↔ IsTrue (fails_now self.old.fails op.ReadAt) }
-        ensures faults { self.new.faults ≡ faults_after self.old.fails op.ReadAt self.old.faults }
+        ensures faults { self.new.faults ≡ faults_after result self.old.faults }
         ensures fails { self.new.fails ≡ fails_after self.old.fails op.ReadAt }
         ensures cause { HasCause self.old.faults self.new.faults (IsErrOf result Refusal.Failed) }
     {
         if self.count.fails(Op::ReadAt) {
-            return Err(Refusal::Failed);
+            return Err(self.count.failed());
         }
         match held_file(&self.names, name) {
             Some(file) => Ok(Some(copy_part(&file.bytes, at, buf))),
@@ -121,30 +150,33 @@ impl Disk for MemoryDisk {
         ensures same { self.new.files ≡ self.old.files }
         ensures counted { self.new.calls ≡ min (self.old.calls + 1) (2 ^ 64 - 1) }
         ensures failed { IsErrOf result Refusal.Failed ↔ IsTrue (fails_now self.old.fails op.List) }
-        ensures faults { self.new.faults ≡ faults_after self.old.fails op.List self.old.faults }
+        ensures faults { self.new.faults ≡ faults_after result self.old.faults }
         ensures fails { self.new.fails ≡ fails_after self.old.fails op.List }
         ensures cause { HasCause self.old.faults self.new.faults (IsErrOf result Refusal.Failed) }
     {
         if self.count.fails(Op::List) {
-            return Err(Refusal::Failed);
+            return Err(self.count.failed());
         }
         list_folder(&self.names, alloc, folder)
     }
 
-    /// A write that fails leaves the bytes as they were, under a name that is no longer stable.
+    /// A write that fails leaves the name with the file that it had, if any, and not stable. Where memory
+    /// is wanting, nothing has changed.
     fn write(&mut self, name: &str, bytes: &[u8]) -> Result<(), Refusal>
         ensures stamped { OnOk result (self.new.files ≡ written self.old.files name.now bytes.now self.old.calls) }
-        ensures kept { OnErr result (self.new.files ≡ cond (fails_now self.old.fails op.Write) (unstable self.old.files name.now) self.old.files) }
+        ensures unstable { IsErrOf result Refusal.Failed → self.new.files ≡ unstable self.old.files name.now }
+        ensures kept { IsErrOf result Refusal.OutOfMemory → self.new.files ≡ self.old.files }
         ensures counted { self.new.calls ≡ min (self.old.calls + 1) (2 ^ 64 - 1) }
-        ensures failed { IsErrOf result Refusal.Failed ↔ IsTrue (fails_now self.old.fails op.Write) }
-        ensures faults { self.new.faults ≡ faults_after self.old.fails op.Write self.old.faults }
+        ensures failed { IsErrOf result Refusal.Failed → IsTrue (fails_now self.old.fails op.Write) }
+        ensures refused { IsTrue (fails_now self.old.fails op.Write) → IsErr result }
+        ensures faults { self.new.faults ≡ faults_after result self.old.faults }
         ensures fails { self.new.fails ≡ fails_after self.old.fails op.Write }
         ensures cause { HasCause self.old.faults self.new.faults (IsErrOf result Refusal.Failed) }
     {
         let stamp = self.count.calls;
         if self.count.fails(Op::Write) {
-            make_unstable(&mut self.names, name);
-            return Err(Refusal::Failed);
+            make_unstable(&mut self.names, self.alloc, name)?;
+            return Err(self.count.failed());
         }
         let key = String::from_str(self.alloc, name)?;
         let bytes = Vec::from_slice(self.alloc, bytes)?;
@@ -160,13 +192,14 @@ impl Disk for MemoryDisk {
         ensures told { Changes (file_at self.old.files name.now) self.old.files (synced self.old.files name.now) result self.new.files }
         ensures kept { OnErr result (self.new.files ≡ self.old.files) }
         ensures counted { self.new.calls ≡ min (self.old.calls + 1) (2 ^ 64 - 1) }
-        ensures failed { IsErrOf result Refusal.Failed ↔ IsTrue (fails_now self.old.fails op.Sync) }
-        ensures faults { self.new.faults ≡ faults_after self.old.fails op.Sync self.old.faults }
+        ensures failed { IsErrOf result Refusal.Failed → IsTrue (fails_now self.old.fails op.Sync) }
+        ensures refused { IsTrue (fails_now self.old.fails op.Sync) → IsErr result }
+        ensures faults { self.new.faults ≡ faults_after result self.old.faults }
         ensures fails { self.new.fails ≡ fails_after self.old.fails op.Sync }
         ensures cause { HasCause self.old.faults self.new.faults (IsErrOf result Refusal.Failed) }
     {
         if self.count.fails(Op::Sync) {
-            return Err(Refusal::Failed);
+            return Err(self.count.failed());
         }
         Ok(make_stable(&mut self.names, name))
     }
@@ -175,13 +208,14 @@ impl Disk for MemoryDisk {
         ensures told { Changes (file_at self.old.files from.now) self.old.files (renamed self.old.files from.now to.now) result self.new.files }
         ensures kept { OnErr result (self.new.files ≡ self.old.files) }
         ensures counted { self.new.calls ≡ min (self.old.calls + 1) (2 ^ 64 - 1) }
-        ensures failed { IsErrOf result Refusal.Failed ↔ IsTrue (fails_now self.old.fails op.Rename) }
-        ensures faults { self.new.faults ≡ faults_after self.old.fails op.Rename self.old.faults }
+        ensures failed { IsErrOf result Refusal.Failed → IsTrue (fails_now self.old.fails op.Rename) }
+        ensures refused { IsTrue (fails_now self.old.fails op.Rename) → IsErr result }
+        ensures faults { self.new.faults ≡ faults_after result self.old.faults }
         ensures fails { self.new.fails ≡ fails_after self.old.fails op.Rename }
         ensures cause { HasCause self.old.faults self.new.faults (IsErrOf result Refusal.Failed) }
     {
         if self.count.fails(Op::Rename) {
-            return Err(Refusal::Failed);
+            return Err(self.count.failed());
         }
         if !is_there(&self.names, from) {
             return Ok(false);
@@ -198,13 +232,14 @@ impl Disk for MemoryDisk {
         ensures told { Changes (file_at self.old.files name.now) self.old.files (removed self.old.files name.now) result self.new.files }
         ensures kept { OnErr result (self.new.files ≡ self.old.files) }
         ensures counted { self.new.calls ≡ min (self.old.calls + 1) (2 ^ 64 - 1) }
-        ensures failed { IsErrOf result Refusal.Failed ↔ IsTrue (fails_now self.old.fails op.Remove) }
-        ensures faults { self.new.faults ≡ faults_after self.old.fails op.Remove self.old.faults }
+        ensures failed { IsErrOf result Refusal.Failed → IsTrue (fails_now self.old.fails op.Remove) }
+        ensures refused { IsTrue (fails_now self.old.fails op.Remove) → IsErr result }
+        ensures faults { self.new.faults ≡ faults_after result self.old.faults }
         ensures fails { self.new.fails ≡ fails_after self.old.fails op.Remove }
         ensures cause { HasCause self.old.faults self.new.faults (IsErrOf result Refusal.Failed) }
     {
         if self.count.fails(Op::Remove) {
-            return Err(Refusal::Failed);
+            return Err(self.count.failed());
         }
         if !is_there(&self.names, name) {
             return Ok(false);

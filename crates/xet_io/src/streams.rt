@@ -1,6 +1,7 @@
 //! Thin adapters to the standard library's readers and writers. They tell no bytes.
 
-ghost use Rattle.std.specs.Prelude.{◌≡◌, ℕ, [], false};
+ghost use Rattle.std.specs.Prelude.{◌≡◌, ◌<◌, ◌≤◌, ℕ, [], false, length, IfOk, IfErr, IsErr, IsErrOf};
+ghost use Rattle.xet_io.specs.Faults.{HasCause, counted};
 
 use crate::fault::{Failed, Refusal};
 use crate::sink::Sink;
@@ -37,7 +38,11 @@ impl<R: Read> Source for StdSource<R> {
 
     ghost faults = { λ s. s };
 
-    fn read(&mut self, buf: &mut [u8]) -> Result<usize, Failed> {
+    fn read(&mut self, buf: &mut [u8]) -> Result<usize, Failed>
+        ensures bound { IfOk result (λ count. count ≤ length buf.new) }
+        ensures counted { self.new ≡ counted result self.old }
+        ensures cause { HasCause self.old self.new (IsErr result) }
+    {
         match self.inner.read(buf) {
             Ok(count) => Ok(count),
             Err(_) => {
@@ -78,7 +83,13 @@ impl<W: Write> Sink for StdSink<W> {
     ghost faults = { λ s. s };
 
     /// A writer that takes none of a piece which is not empty has failed.
-    fn write(&mut self, piece: &[u8]) -> Result<usize, Refusal> {
+    fn write(&mut self, piece: &[u8]) -> Result<usize, Refusal>
+        ensures bound { IfOk result (λ count. count ≤ length piece.now) }
+        ensures some { 0 < length piece.now → IfOk result (λ count. 0 < count) }
+        ensures counted { self.new ≡ counted result self.old }
+        ensures failed { IfErr result (λ e. e ≡ Refusal.Failed) }
+        ensures cause { HasCause self.old self.new (IsErrOf result Refusal.Failed) }
+    {
         match self.inner.write(piece) {
             Ok(count) if count > 0 || piece.is_empty() => Ok(count),
             _ => {

@@ -98,58 +98,84 @@ fn memory_inputs_open_the_first_of_a_name(rt: HostRuntime) -> Result<(), Fail> {
     Ok(())
 }
 
-#[test]
-fn memory_disk_changes_files(rt: HostRuntime) -> Result<(), Fail> {
-    let mut disk = MemoryDisk::new(rt.alloc());
-    let mut buf = [0u8; 3];
+/// A file is written, read in part and moved over another, which `b` is, and then into a folder.
+fn change_files(disk: &mut MemoryDisk) -> Result<(), Refusal> {
     disk.write("a", b"hello")?;
     disk.write("b", b"old")?;
-    assert_eq!(rt; disk.stat("a")?, Some((5, 0)));
-    assert_eq!(rt; disk.read_at("a", 3, &mut buf)?, Some(2));
-    assert_eq!(rt; &buf[..2], b"lo".as_slice());
-    assert_eq!(rt; disk.read_at("c", 0, &mut buf)?, None);
-    assert!(rt; disk.sync("a")?);
-    assert!(rt; disk.rename("a", "b")?);
-    assert!(rt; disk.get("a").is_none());
-    assert_eq!(rt; disk.get("b").ok_or("it is there")?, b"hello".as_slice());
-    assert!(rt; disk.rename("b", "d/e")?);
-    assert!(rt; disk.rename("d/e", "d/e")?);
-    assert!(rt; !disk.rename("b", "a")?);
-    assert_eq!(rt; disk.stat("d/e")?, Some((5, 0)));
-    assert!(rt; disk.remove("d/e")?);
-    assert!(rt; !disk.remove("d/e")?);
-    assert!(rt; !disk.sync("d/e")?);
-    assert_eq!(rt; disk.stat("d/e")?, None);
-    Ok(())
+    let synced = disk.sync("a")?;
+    let moved = disk.rename("a", "b")?;
+    let again = disk.rename("b", "d/e")?;
+    let itself = disk.rename("d/e", "d/e")?;
+    if synced && moved && again && itself {
+        Ok(())
+    } else {
+        Err(Refusal::Failed)
+    }
+}
+
+/// What is read of the file that was moved: length and stamp, a part and how long it is, and of one that
+/// was not written.
+fn read_moved(disk: &mut MemoryDisk) -> Result<((u64, u64), [u8; 3], usize, bool), Refusal> {
+    let mut buf = [0u8; 3];
+    let stat = disk.stat("d/e")?.unwrap_or((0, 0));
+    let part = disk.read_at("d/e", 3, &mut buf)?.unwrap_or(9);
+    let none = disk.read_at("c", 0, &mut buf)?.is_none();
+    Ok((stat, buf, part, none))
+}
+
+/// Whether it is removed once, and whether what is not there is moved, removed or synced.
+fn remove_moved(disk: &mut MemoryDisk) -> Result<(bool, [bool; 3]), Refusal> {
+    let removed = disk.remove("d/e")?;
+    let renamed = disk.rename("b", "a")?;
+    let again = disk.remove("d/e")?;
+    let synced = disk.sync("d/e")?;
+    Ok((removed, [renamed, again, synced]))
+}
+
+#[test]
+fn memory_disk_changes_files(rt: HostRuntime) {
+    let mut disk = MemoryDisk::new(rt.alloc());
+    let changed = change_files(&mut disk).is_ok();
+    let read = read_moved(&mut disk);
+    let removed = remove_moved(&mut disk);
+    assert!(rt; changed);
+    assert!(rt; read == Ok(((5, 0), *b"lo\0", 2, true)));
+    assert!(rt; removed == Ok((true, [false; 3])));
+}
+
+/// Files in and beside a folder.
+fn write_folders(disk: &mut MemoryDisk) -> Result<(), Refusal> {
+    disk.write("a/b/c", b"nested")?;
+    disk.write("a/one", b"1")?;
+    disk.write("ab/one", b"")?;
+    disk.write("a", b"")?;
+    disk.write("a/two", b"22")
 }
 
 #[test]
 fn memory_disk_lists_a_folder_alone(rt: HostRuntime) -> Result<(), Fail> {
     let alloc = rt.alloc();
     let mut disk = MemoryDisk::new(alloc);
-    disk.write("a/b/c", b"nested")?;
-    disk.write("a/one", b"1")?;
-    disk.write("ab/one", b"")?;
-    disk.write("a", b"")?;
-    disk.write("a/two", b"22")?;
-    let listed = disk.list(alloc, "a")?;
+    let written = write_folders(&mut disk);
+    let listed = disk.list(alloc, "a");
+    written?;
+    let listed = listed?;
     assert_eq!(rt; listed.len(), 2);
     assert_eq!(rt; listed[0].name.as_str(), "one");
     assert_eq!(rt; (listed[0].length, listed[0].stamp), (1, 1));
     assert_eq!(rt; listed[1].name.as_str(), "two");
     assert_eq!(rt; (listed[1].length, listed[1].stamp), (2, 4));
-    assert!(rt; disk.list(alloc, "none")?.is_empty());
     Ok(())
 }
 
 #[test]
-fn put_file_leaves_no_temporary(rt: HostRuntime) -> Result<(), Fail> {
+fn put_file_leaves_no_temporary(rt: HostRuntime) {
     let mut disk = MemoryDisk::new(rt.alloc());
-    disk.write("f", b"old")?;
-    put_file(&mut disk, "temp", "f", b"new")?;
-    assert_eq!(rt; disk.get("f").ok_or("it is there")?, b"new".as_slice());
-    assert!(rt; disk.get("temp").is_none());
-    Ok(())
+    let old = disk.write("f", b"old").is_ok();
+    let put = put_file(&mut disk, "temp", "f", b"new").is_ok();
+    let kept = disk.get("f") == Some(b"new".as_slice());
+    let gone = disk.get("temp").is_none();
+    assert!(rt; old && put && kept && gone);
 }
 
 #[test]
@@ -224,24 +250,53 @@ fn failing_sink_fails_once(rt: HostRuntime) -> Result<(), Fail> {
     Ok(())
 }
 
+/// Writes and moves of which the second of each fails: whether it does, and the length and stamp of
+/// what is left at the end.
+fn fail_apart(disk: &mut MemoryDisk) -> Result<(bool, bool, Option<(u64, u64)>), Refusal> {
+    disk.write("a", b"old")?;
+    let write = disk.write("a", b"new one") == Err(Refusal::Failed);
+    let first = disk.rename("a", "b")?;
+    let second = disk.rename("b", "c") == Err(Refusal::Failed);
+    let third = disk.rename("b", "c")?;
+    Ok((write && second, first && third, disk.stat("c")?))
+}
+
 #[test]
 fn failing_disk_counts_each_kind_apart(rt: HostRuntime) -> Result<(), Fail> {
     let alloc = rt.alloc();
-    let mut fails = Vec::new(alloc);
-    fails.push((Op::Rename, 1))?;
-    fails.push((Op::Write, 1))?;
+    let fails = vec![in alloc; (Op::Rename, 1), (Op::Write, 1)]?;
     let mut disk = MemoryDisk::failing(alloc, fails);
-    disk.write("a", b"old")?;
-    assert!(rt; disk.sync("a")?);
-    assert_eq!(rt; disk.write("a", b"new one"), Err(Refusal::Failed));
-    assert_eq!(rt; disk.get("a").ok_or("it is there")?, b"old".as_slice());
-    assert_eq!(rt; disk.stat("a")?, Some((3, 0)));
-    assert!(rt; disk.rename("a", "b")?);
-    assert_eq!(rt; disk.rename("b", "c"), Err(Refusal::Failed));
-    assert!(rt; disk.get("c").is_none());
-    assert!(rt; disk.rename("b", "c")?);
-    assert_eq!(rt; disk.get("c").ok_or("it is there")?, b"old".as_slice());
-    disk.write("b", b"newer")?;
-    assert_eq!(rt; disk.stat("b")?, Some((5, 7)));
+    let seen = fail_apart(&mut disk);
+    assert!(rt; seen == Ok((true, true, Some((3, 0)))));
     Ok(())
+}
+
+/// Whether a write fails, and what is seen of its name then: whether it is there, how many files its
+/// folder has, and whether it is removed.
+fn fail_absent(disk: &mut MemoryDisk, alloc: Global) -> Result<(bool, bool, usize, bool), Refusal> {
+    let failed = disk.write("d/a", b"lost") == Err(Refusal::Failed);
+    let there = disk.stat("d/a")?.is_some();
+    let listed = disk.list(alloc, "d")?.len();
+    let removed = disk.remove("d/a")?;
+    Ok((failed, there, listed, removed))
+}
+
+#[test]
+fn failed_write_of_an_absent_name_leaves_it_absent(rt: HostRuntime) -> Result<(), Fail> {
+    let alloc = rt.alloc();
+    let mut disk = MemoryDisk::failing(alloc, vec![in alloc; (Op::Write, 0)]?);
+    let seen = fail_absent(&mut disk, alloc);
+    assert!(rt; seen == Ok((true, false, 0, false)));
+    Ok(())
+}
+
+#[test]
+fn stopping_disk_fails_from_then_on(rt: HostRuntime) {
+    let mut disk = MemoryDisk::stopping(rt.alloc(), 2);
+    let written = disk.write("a", b"kept").is_ok();
+    let synced = disk.sync("a") == Ok(true);
+    let stat = disk.stat("a") == Err(Refusal::Failed);
+    let renamed = disk.rename("a", "b") == Err(Refusal::Failed);
+    let kept = disk.get("a") == Some(b"kept".as_slice());
+    assert!(rt; written && synced && stat && renamed && kept);
 }

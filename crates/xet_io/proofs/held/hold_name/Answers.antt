@@ -1,11 +1,8 @@
-use Rattle.std.proofs.Common.{sym, ◌∙◌, ap, subst, refl, Option, IsSome}
-use Rattle.std.specs.FinMap.{get}
-use Rattle.xet_io.specs.Disk.{Files, Entry}
-use Rattle.xet_io.specs.declared.held.Held.{Held}
-use Rattle.xet_io.specs.MemoryFiles.{files_of, entry_of}
-use Rattle.std.proofs.Common.{None, false}
-use Rattle.xet_io.proofs.Names.{get_here, get_other}
-use Rattle.xet_io.proofs.HeldNames.{has_entry, inserted}
+use Rattle.std.proofs.Common.{None, false, sym}
+use Rattle.xet_io.specs.Disk.{entry}
+use Rattle.xet_io.specs.MemoryFiles.{files_of}
+use Rattle.xet_io.proofs.Changes.{held_here, held_others}
+use Rattle.xet_io.proofs.HeldNames.{has_entry}
 use Rattle.xet_io.proofs.held.hold_name.Goals as goal
 
 pub returns-then-contains_key-clause-held : goal.returns-then-contains_key-clause-held
@@ -13,15 +10,8 @@ returns-then-contains_key-clause-held c = has_entry c.args.names.now c.args.name
 
 pub returns-clause-held : goal.returns-clause-held
 returns-clause-held c =
-    let name = c.args.name.now in
-    let absent : Held = record { file = None; stable = false } in
-    let files = inserted c.args.names.now c.insert.new.self c.in_ok-key.key name absent c.in_ok-insert.ensures.updates c.in_ok-key.ensures.ok in
-    let here = ap (λ (m : Files). get m name) files ∙ get_here (files_of c.args.names.now) name (entry_of absent) in
-    subst (λ (r : Option Entry). IsSome r) (sym here) refl
+    held_here (files_of c.args.names.now) (files_of c.hold_absent.new.names) c.args.name.now (entry None false) c.hold_absent.result c.hold_absent.ensures.held
 
 pub returns-clause-others : goal.returns-clause-others
-returns-clause-others c = λ other apart.
-    let name = c.args.name.now in
-    let absent : Held = record { file = None; stable = false } in
-    let files = inserted c.args.names.now c.insert.new.self c.in_ok-key.key name absent c.in_ok-insert.ensures.updates c.in_ok-key.ensures.ok in
-    ap (λ (m : Files). get m other) files ∙ get_other (files_of c.args.names.now) name (entry_of absent) other apart
+returns-clause-others c =
+    held_others (files_of c.args.names.now) (files_of c.hold_absent.new.names) c.args.name.now (entry None false) c.hold_absent.result c.hold_absent.ensures.held c.hold_absent.ensures.kept

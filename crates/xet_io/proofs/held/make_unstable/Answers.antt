@@ -1,22 +1,27 @@
-use Rattle.std.proofs.Common.{false, Option, ap, sym, ◌∙◌}
+use Rattle.std.proofs.Common.{false, None, Option, ap, sym, ◌∙◌}
 use Rattle.xet_io.specs.declared.held.Held.{Held}
-use Rattle.xet_io.specs.Disk.{Entry, unstable_if}
-use Rattle.xet_io.specs.MemoryFiles.{files_of}
+use Rattle.xet_io.specs.Disk.{Entry, File, entry, file_of}
+use Rattle.std.specs.FinMap.{insert}
+use Rattle.xet_io.specs.MemoryFiles.{files_of, entry_of}
+use Rattle.xet_io.proofs.Changes.{on_ok, file_of_entry}
 use Rattle.xet_io.proofs.HeldNames.{Names, there, no_entry, held_entry, write_held}
 use Rattle.xet_io.proofs.held.make_unstable.Goals as goal
 
-pub returns-in-Some : goal.returns-in-Some
-returns-in-Some c =
+pub returns-clause-unstable : goal.returns-clause-unstable
+returns-clause-unstable c =
     let names = c.args.names.now in
     let name = c.args.name.now in
     let held = c.in-Some.held.now in
     let loose : Held = record { file = held.file; stable = false } in
+    let here = held_entry names name held c.in-Some.ensures.value in
     write_held names (c.get_mut.follows.lender loose) name loose (c.get_mut.follows.holds loose) (there names name held c.in-Some.ensures.value)
-    ∙ sym (ap (λ (e : Option Entry). unstable_if (files_of names) name e) (held_entry names name held c.in-Some.ensures.value))
+    ∙ sym (ap (λ (f : Option File). insert (files_of names) name (entry f false)) (file_of_entry (files_of names) name (entry_of held) here))
 
-pub returns-in_default : goal.returns-in_default
-returns-in_default c =
+pub returns-in_default-clause-unstable : goal.returns-in_default-clause-unstable
+returns-in_default-clause-unstable c =
     let names = c.args.names.now in
     let name = c.args.name.now in
-    ap (λ (m : Names). files_of m) c.get_mut.follows.holds-at-none
-    ∙ sym (ap (λ (e : Option Entry). unstable_if (files_of names) name e) (no_entry names name c.in_default.ensures.value))
+    let absent = ap (λ (e : Option Entry). file_of e) (no_entry names name c.in_default.ensures.value) in
+    on_ok c.hold_absent.result (λ held.
+    held ∙ ap (λ (m : Names). insert (files_of m) name (entry None false)) c.get_mut.follows.holds-at-none
+    ∙ sym (ap (λ (f : Option File). insert (files_of names) name (entry f false)) absent)) c.hold_absent.ensures.held
