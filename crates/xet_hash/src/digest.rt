@@ -14,7 +14,7 @@ pub(crate) const DATA_KEY: [u8; 32] = [
 ];
 
 /// The key of Merkle nodes' digests: the bytes 33 to 64.
-const NODE_KEY: [u8; 32] = [
+pub(crate) const NODE_KEY: [u8; 32] = [
     33, 34, 35, 36, 37, 38, 39, 40, 41, 42, 43, 44, 45, 46, 47, 48, 49, 50, 51, 52, 53, 54, 55, 56,
     57, 58, 59, 60, 61, 62, 63, 64,
 ];
