@@ -1,15 +1,16 @@
 -- What refuses by a check never stands for a failure of the outside or for want of memory.
-use Rattle.std.proofs.Common.{◌≡◌, ◌⊎◌, ◌==◌, ◌*◌, ℕ, nat_le, Bool, true, false, List, Ok, Err, IfErr, Result, refl, sym, ap, ◌∙◌, Option, subst, cond, inl, inr}
+use Rattle.std.proofs.Common.{◌≡◌, ◌⊎◌, ◌==◌, ◌*◌, ℕ, nat_le, nat_lt, length, take, Bool, true, false, List, Ok, Err, IfErr, Result, refl, sym, ap, ◌∙◌, Option, subst, cond, inl, inr}
 use Rattle.std.proofs.lemmas.Bool.{false≢true}
 use Rattle.std.specs.Result.{IsErrAnd}
 use Rattle.xet_hash.specs.declared.error.Place.{Place}
 use Rattle.xet_hash.specs.declared.error.StoreError.{StoreError}
-use Rattle.xet_hash.specs.declared.error.StoreError.TheVariants.{ChunkHeaderParse, Io, MalformedData, OutOfMemory}
+use Rattle.xet_hash.specs.declared.error.StoreError.TheVariants.{ChunkHeaderParse, Io, MalformedData, OutOfMemory, UnexpectedEof}
 use Rattle.xet_hash.specs.declared.error.Reason.TheVariants.{HeaderVersion, PlainLength, Scheme, StoredLength}
-use Rattle.xet_chunk.specs.Header.{header_at, header_of, is_ident, is_scheme, wants}
+use Rattle.xet_chunk.specs.Header.{Header, header_at, header_of, is_ident, is_scheme, wants}
 use Rattle.xet_chunk.specs.Outside.{IsCheck}
 use Rattle.xet_chunk.specs.Passing.{ShowsFront}
 use Rattle.xet_chunk.specs.Stream.{Fails, front_of}
+use Rattle.xet_chunk.specs.Taking.{header_in}
 
 by_check : {X : Type 0} (holds : Bool) (error : StoreError) (next : Result X StoreError) (e : StoreError) → IsCheck error → (next ≡ Err e → IsCheck e)
     → wants holds error next ≡ Err e → IsCheck e
@@ -34,6 +35,13 @@ header_checks most bytes e =
     (by_check (nat_le (header_of bytes).stored (2 * most)) (MalformedData StoredLength) _ e refl
     (by_check (nat_le (header_of bytes).plain most) (MalformedData PlainLength) _ e refl (accepts (header_of bytes) e)))))
 
+by_length : (few : Bool) (r : Result Header StoreError) (e : StoreError) → (r ≡ Err e → IsCheck e) → cond few (Err UnexpectedEof) r ≡ Err e → IsCheck e
+by_length true r e rest h = let same : UnexpectedEof ≡ e = cc h in subst IsCheck same refl
+by_length false r e rest h = rest h
+
+pub header_in_checks : (most : ℕ) (bytes : List ℕ) (e : StoreError) → header_in most bytes ≡ Err e → IsCheck e
+header_in_checks most bytes e = by_length (nat_lt (length bytes) 8) (header_at most (take 8 bytes)) e (header_checks most (take 8 bytes) e)
+
 -- the same of a result
 pub checks_of : {X : Type 0} (r : Result X StoreError) → ((e : StoreError) → r ≡ Err e → IsCheck e) → IfErr r IsCheck
 checks_of (Ok x) h = tt
@@ -42,7 +50,7 @@ checks_of (Err e) h = h e refl
 -- a check is no failure of the outside
 pub no_failure : {X : Type 0} (r : Result X StoreError) (place : Place) → IfErr r IsCheck → r ≡ Err (Io place) → ⊥
 no_failure (Ok x) place check e = cc e
-no_failure (Err error) place check e = let same : error ≡ Io place = cc e in false≢true (sym (subst IsCheck same check))
+no_failure (Err error) place check e = let same : error ≡ Io place = cc e in false≢true (subst IsCheck same check)
 
 -- what the exit of a `?` returns
 pub exit_with : {T : Type 0} (P : StoreError → Type 0) (r : Result T StoreError) (e : StoreError) → IsErrAnd r (λ y. y ≡ e) → P e → IfErr r P

@@ -2,6 +2,7 @@ pub mod Grammar
 pub mod Front
 pub mod Headers
 pub mod Written
+pub mod Prefixes
 pub mod Checks
 pub mod Fronts
 pub mod Blocks

@@ -1,7 +1,9 @@
 -- What a call that reads a source or writes a sink may refuse with beside its checks.
 use Rattle.std.specs.Prelude.{◌≡◌, ◌⊎◌, Bool, true, false}
 use Rattle.xet_hash.specs.declared.error.StoreError.{StoreError}
-use Rattle.xet_hash.specs.declared.error.StoreError.TheVariants.{Io, OutOfMemory, TooLarge}
+use Rattle.xet_hash.specs.declared.error.StoreError.TheVariants.{ChunkHeaderParse, CompressionError, Io, MalformedData, OutOfMemory, TooLarge, UnexpectedEof}
+use Rattle.xet_hash.specs.declared.error.Reason.{Reason}
+use Rattle.xet_hash.specs.declared.error.Reason.TheVariants as reasons
 use Rattle.xet_hash.specs.declared.error.Place.TheVariants.{Input, Output}
 use Rattle.xet_hash.specs.declared.error.What.TheVariants.{Input as InputLength}
 
@@ -13,16 +15,28 @@ StopsWriting e = (e ≡ Io Output) ⊎ (e ≡ OutOfMemory)
 abbrev pub StopsReading : StoreError → Type 0
 StopsReading e = (e ≡ Io Input) ⊎ (e ≡ OutOfMemory)
 
--- whether it is a refusal that no check of the bytes makes
-abbrev pub is_stop : StoreError → Bool
-is_stop (Io place) = true
-is_stop OutOfMemory = true
-is_stop (TooLarge what) = true
-is_stop e = false
+-- a check of a chunk's header, of its body, or of the length of all chunks
+abbrev pub is_chunk_check : Reason → Bool
+is_chunk_check reasons.Scheme = true
+is_chunk_check reasons.HeaderVersion = true
+is_chunk_check reasons.StoredLength = true
+is_chunk_check reasons.PlainLength = true
+is_chunk_check reasons.AutoScheme = true
+is_chunk_check reasons.BodyLength = true
+is_chunk_check reasons.TotalLength = true
+is_chunk_check reason = false
 
--- a check of the bytes refuses so
+-- whether it is an error of a check of the bytes: they end inside a chunk, have no header, are malformed,
+-- or are compressed under a scheme that is not supported
+abbrev pub is_check : StoreError → Bool
+is_check UnexpectedEof = true
+is_check ChunkHeaderParse = true
+is_check (MalformedData reason) = is_chunk_check reason
+is_check (CompressionError scheme) = true
+is_check e = false
+
 abbrev pub IsCheck : StoreError → Type 0
-IsCheck e = is_stop e ≡ false
+IsCheck e = is_check e ≡ true
 
 -- the source, which does not tell, had more than 2 ^ 63 bytes
 abbrev pub PassesLimit : StoreError → Type 0

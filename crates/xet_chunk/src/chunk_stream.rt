@@ -1,6 +1,6 @@
 //! Chunks that are written to sinks and read from sources, one by one.
 
-ghost use Rattle.std.specs.Prelude.{◌≡◌, ◌<◌, ◌≤◌, ◌+◌, ◌^◌, ◌++◌, ◌⊎◌, ℕ, Ok, Err, true, IfErr, IfOk, IsErrOf, OnErr, OnOk, drop, length, take, vec_len};
+ghost use Rattle.std.specs.Prelude.{◌≡◌, ◌<◌, ◌≤◌, ◌+◌, ◌^◌, ◌++◌, ◌⊎◌, [], ℕ, Ok, Err, true, IfErr, IfOk, IsErrOf, OnErr, OnOk, drop, length, take, vec_len};
 ghost use Rattle.xet_hash.specs.declared.error.StoreError.{StoreError};
 ghost use Rattle.xet_hash.specs.declared.error.StoreError.TheVariants.{Io, UnexpectedEof};
 ghost use Rattle.xet_hash.specs.declared.error.Place.TheVariants.{Input, Output};
@@ -10,7 +10,7 @@ ghost use Rattle.xet_chunk.specs.Outside.{IsCheck, StopsReading, StopsWriting};
 ghost use Rattle.xet_chunk.specs.Scheme.{compressed};
 ghost use Rattle.xet_chunk.specs.Spelling.{spelling};
 ghost use Rattle.xet_chunk.specs.Stream.{chunk_at};
-ghost use Rattle.xet_chunk.specs.Taking.{WritesChunk, WritesFront, header_in};
+ghost use Rattle.xet_chunk.specs.Taking.{TakesFailedChunk, TakesFailedHeader, TakesPrefix, WritesChunk, WritesFront, header_in};
 
 use crate::header::{
     XORB_CHUNK_HEADER_LENGTH, XorbChunkHeader, parse_chunk_header, write_chunk_header,
@@ -52,7 +52,8 @@ pub fn serialize_chunk<W: Sink>(
 
 /// Takes the header at the front of a source, of a chunk of at most `max_chunk` bytes, which is below
 /// 2^23. Refused as `UnexpectedEof` where fewer than eight bytes are left, as `parse_chunk_header`
-/// refuses, as `Io(Input)`, or as `OutOfMemory`.
+/// refuses, as `Io(Input)`, or as `OutOfMemory`. A check that fails has taken the eight bytes, or all where
+/// fewer are left.
 pub fn deserialize_chunk_header<R: Source>(
     r: &mut R,
     max_chunk: u32,
@@ -60,6 +61,7 @@ pub fn deserialize_chunk_header<R: Source>(
     requires { max_chunk < 2 ^ 23 }
     ensures header { R.tells r.old ≡ true → IfOk result (λ header. header_in max_chunk (R.left r.old) ≡ Ok header) }
     ensures taken { R.tells r.old ≡ true → OnOk result (R.left r.new ≡ drop 8 (R.left r.old)) }
+    ensures rest { R.tells r.old ≡ true → IfErr result (TakesFailedHeader max_chunk (R.left r.old) (R.left r.new)) }
     ensures refusals { R.tells r.old ≡ true → IfErr result (λ e. (header_in max_chunk (R.left r.old) ≡ Err e) ⊎ StopsReading e) }
     ensures kinds { IfErr result (λ e. IsCheck e ⊎ StopsReading e) }
     ensures tells { R.tells r.new ≡ R.tells r.old }
@@ -79,6 +81,8 @@ fn take_bytes<R: Source>(alloc: Global, r: &mut R, wanted: usize) -> Result<Vec<
     requires { wanted < 2 ^ 32 }
     ensures bytes { R.tells r.old ≡ true → IfOk result (λ bytes. R.left r.old ≡ bytes.items ++ R.left r.new) }
     ensures length { IfOk result (λ bytes. vec_len bytes ≡ wanted) }
+    ensures prefix { R.tells r.old ≡ true → TakesPrefix (R.left r.old) (R.left r.new) }
+    ensures ended { R.tells r.old ≡ true → IfErr result (λ e. IsCheck e → R.left r.new ≡ []) }
     ensures refusals { R.tells r.old ≡ true → IfErr result (λ e. ((e ≡ UnexpectedEof) × (length (R.left r.old) < wanted)) ⊎ StopsReading e) }
     ensures kinds { IfErr result (λ e. IsCheck e ⊎ StopsReading e) }
     ensures tells { R.tells r.new ≡ R.tells r.old }
@@ -117,7 +121,7 @@ fn fill_behind<R: Source>(
 /// Takes the chunk at the front of a source, of at most `max_chunk` bytes, which is below 2^23. Gives its
 /// bytes, how many bytes are stored of it with its header, and its length. Refused as `UnexpectedEof`
 /// where the bytes end inside it, as the first check that fails says, as `Io(Input)`, or as
-/// `OutOfMemory`.
+/// `OutOfMemory`. A check of the header that fails has taken the header, and one of the body the body too.
 pub fn deserialize_chunk<R: Source>(
     alloc: Global,
     r: &mut R,
@@ -127,6 +131,7 @@ pub fn deserialize_chunk<R: Source>(
     ensures chunk { R.tells r.old ≡ true → IfOk result (λ read. chunk_at max_chunk (R.left r.old) ≡ Ok read.0.items) }
     ensures sizes { IfOk result (λ read. (read.1 ≡ 8 + length read.0.items) × (read.2 ≡ length read.0.items)) }
     ensures taken { R.tells r.old ≡ true → IfOk result (λ read. R.left r.new ≡ drop read.1 (R.left r.old)) }
+    ensures rest { R.tells r.old ≡ true → IfErr result (TakesFailedChunk max_chunk (R.left r.old) (R.left r.new)) }
     ensures refusals { R.tells r.old ≡ true → IfErr result (λ e. (chunk_at max_chunk (R.left r.old) ≡ Err e) ⊎ StopsReading e) }
     ensures kinds { IfErr result (λ e. IsCheck e ⊎ StopsReading e) }
     ensures tells { R.tells r.new ≡ R.tells r.old }
@@ -141,7 +146,8 @@ pub fn deserialize_chunk<R: Source>(
 
 /// Takes the chunk at the front of a source, as `deserialize_chunk` does, and writes it: only when it is
 /// whole and has passed every check. Gives how many bytes are stored of it with its header, and its
-/// length. Also refused as `Io(Output)`; a front of the chunk was written then.
+/// length. Also refused as `Io(Output)`; a front of the chunk was written then. After `Io(Input)` or a
+/// check that fails nothing was written.
 pub fn deserialize_chunk_to_writer<R: Source, W: Sink>(
     alloc: Global,
     r: &mut R,
@@ -151,8 +157,13 @@ pub fn deserialize_chunk_to_writer<R: Source, W: Sink>(
     requires { max_chunk < 2 ^ 23 }
     ensures whole { R.tells r.old ≡ true → W.tells w.old ≡ true → OnOk result (WritesChunk max_chunk (R.left r.old) (W.written w.old) (W.written w.new)) }
     ensures front { R.tells r.old ≡ true → W.tells w.old ≡ true → OnErr result (WritesFront max_chunk (R.left r.old) (W.written w.old) (W.written w.new)) }
-    ensures sizes { R.tells r.old ≡ true → IfOk result (λ read. IfOk (chunk_at max_chunk (R.left r.old)) (λ chunk. (read.0 ≡ 8 + length chunk) × (read.1 ≡ length chunk))) }
+    ensures nothing { W.tells w.old ≡ true → IfErr result (λ e. IsCheck e ⊎ (e ≡ Io Input) → W.written w.new ≡ W.written w.old) }
+    ensures sizes { IfOk result (λ read. read.0 ≡ 8 + read.1) }
+    ensures plain { R.tells r.old ≡ true → IfOk result (λ read. IfOk (chunk_at max_chunk (R.left r.old)) (λ chunk. read.1 ≡ length chunk)) }
+    ensures written { W.tells w.old ≡ true → IfOk result (λ read. length (W.written w.new) ≡ length (W.written w.old) + read.1) }
     ensures taken { R.tells r.old ≡ true → IfOk result (λ read. R.left r.new ≡ drop read.0 (R.left r.old)) }
+    ensures prefix { R.tells r.old ≡ true → TakesPrefix (R.left r.old) (R.left r.new) }
+    ensures rest { R.tells r.old ≡ true → IfErr result (λ e. StopsWriting e ⊎ TakesFailedChunk max_chunk (R.left r.old) (R.left r.new) e) }
     ensures refusals { R.tells r.old ≡ true → IfErr result (λ e. (chunk_at max_chunk (R.left r.old) ≡ Err e) ⊎ (StopsReading e ⊎ StopsWriting e)) }
     ensures kinds { IfErr result (λ e. IsCheck e ⊎ (StopsReading e ⊎ StopsWriting e)) }
     ensures source_tells { R.tells r.new ≡ R.tells r.old }

@@ -168,6 +168,7 @@ pub struct ChunkDecoder {
     whole: bool,
     ghost small: { most < 2 ^ 23 },
     ghost short: { whole ≡ true → front_of most held.items ≡ Short },
+    ghost fits: { whole ≡ true → passed.stored + vec_len held ≤ 2 ^ 63 },
 }
 
 impl ChunkDecoder {
@@ -204,18 +205,19 @@ impl ChunkDecoder {
         self.whole
     }
 
-    /// How many bytes were fed.
-    pub(crate) fn fed_len(&self) -> usize
-        requires { fed_len self.now ≤ 2 ^ 63 }
-        ensures { result ≡ fed_len self.now }
+    /// How many bytes were fed, headers included: at most 2^63. Not to be asked after a refusal.
+    pub fn fed_len(&self) -> usize
+        requires { whole_of self.now ≡ true }
+        ensures value { result ≡ fed_len self.now }
+        ensures bound { result ≤ 2 ^ 63 }
     {
         self.passed.stored + self.held.len()
     }
 
     /// Takes the next piece of the stream, and writes each chunk that is whole now. At most 2^63 bytes are
-    /// fed in all. Refused as the first check that fails says, as soon as it is decided, with all
-    /// chunks before it written; or as `Io(Output)` or `OutOfMemory`, with a front of the whole chunks
-    /// written. Nothing may be fed after a refusal.
+    /// fed in all, which `fed_len` counts. Refused as the first check that fails says, as soon as it is
+    /// decided, with all chunks before it written; or as `Io(Output)` or `OutOfMemory`, with a front of the
+    /// whole chunks written. Nothing may be fed after a refusal.
     pub fn feed<W: Sink>(&mut self, piece: &[u8], w: &mut W) -> Result<(), StoreError>
         requires whole { whole_of self.old ≡ true }
         requires len { fed_len self.old + length piece.now ≤ 2 ^ 63 }

@@ -9,6 +9,7 @@ ghost use Rattle.xet_chunk.specs.Decoder.{Holds, fed_len, most_of, whole_of};
 ghost use Rattle.xet_chunk.specs.Outside.{IsCheck, PassesLimit, StopsReading, StopsWriting};
 ghost use Rattle.xet_chunk.specs.Passing.{Refuses, RefusesStream, WritesStream, WritesWhole};
 ghost use Rattle.xet_chunk.specs.Stream.{IsStream, places_from, stored_bytes};
+ghost use Rattle.xet_chunk.specs.Taking.{TakesPrefix};
 
 use crate::decoder::ChunkDecoder;
 use crate::outside::{MOST, new_block, read_some};
@@ -32,6 +33,7 @@ pub fn deserialize_chunks<R: Source>(
     requires bound { R.tells r.old ≡ true → length (R.left r.old) < 2 ^ 63 }
     ensures stream { R.tells r.old ≡ true → IfOk result (λ read. (chunks : List (List ℕ)) × IsStream max_chunk (R.left r.old) chunks (Ok tt) × (read.0.items ≡ concat chunks) × (read.1.items ≡ places_from 0 chunks)) }
     ensures end { R.tells r.old ≡ true → OnOk result (R.left r.new ≡ []) }
+    ensures prefix { R.tells r.old ≡ true → TakesPrefix (R.left r.old) (R.left r.new) }
     ensures refusals { R.tells r.old ≡ true → IfErr result (λ e. ((chunks : List (List ℕ)) × IsStream max_chunk (R.left r.old) chunks (Err e)) ⊎ StopsReading e) }
     ensures kinds { IfErr result (λ e. IsCheck e ⊎ (StopsReading e ⊎ PassesLimit e)) }
     ensures tells { R.tells r.new ≡ R.tells r.old }
@@ -56,6 +58,7 @@ pub fn deserialize_chunks_to_writer<R: Source, W: Sink>(
     requires bound { R.tells r.old ≡ true → length (R.left r.old) < 2 ^ 63 }
     ensures stream { R.tells r.old ≡ true → IfOk result (λ read. WritesStream max_chunk (R.left r.old) (W.tells w.old ≡ true) (W.written w.old) (W.written w.new) (λ chunks. (read.0 ≡ stored_bytes chunks) × (read.1.items ≡ places_from 0 chunks))) }
     ensures end { R.tells r.old ≡ true → OnOk result (R.left r.new ≡ []) }
+    ensures prefix { R.tells r.old ≡ true → TakesPrefix (R.left r.old) (R.left r.new) }
     ensures refusals { R.tells r.old ≡ true → IfErr result (RefusesStream max_chunk (R.left r.old) (W.tells w.old ≡ true) (W.written w.old) (W.written w.new)) }
     ensures kinds { IfErr result (λ e. IsCheck e ⊎ (StopsWriting e ⊎ ((e ≡ Io Input) ⊎ PassesLimit e))) }
     ensures source_tells { R.tells r.new ≡ R.tells r.old }
@@ -83,6 +86,7 @@ fn feed_all<R: Source, W: Sink>(
     requires bound { R.tells r.old ≡ true → length (R.left r.old) < 2 ^ 63 }
     ensures fed { R.tells r.old ≡ true → OnOk result ((chunks : List (List ℕ)) × Holds decoder.new (R.left r.old) chunks × (W.tells w.old ≡ true → W.written w.new ≡ W.written w.old ++ concat chunks)) }
     ensures end { R.tells r.old ≡ true → OnOk result (R.left r.new ≡ []) }
+    ensures prefix { R.tells r.old ≡ true → TakesPrefix (R.left r.old) (R.left r.new) }
     ensures whole { OnOk result (whole_of decoder.new ≡ true) }
     ensures most { most_of decoder.new ≡ most_of decoder.old }
     ensures refusals { R.tells r.old ≡ true → IfErr result (λ e. Refuses (most_of decoder.old) 0 (R.left r.old) (W.tells w.old ≡ true) (W.written w.old) (W.written w.new) e ⊎ ((e ≡ Io Input) × (W.tells w.old ≡ true → WritesWhole (most_of decoder.old) (R.left r.old) (W.written w.old) (W.written w.new)))) }

@@ -1,5 +1,6 @@
 use Rattle.std.proofs.Common.{◌∙◌, ap, arith, rules, take}
 use Rattle.xet_chunk.proofs.Blocks.{block_taken}
+use Rattle.xet_chunk.proofs.Prefixes.{prefix_of, prefix_then}
 use Rattle.xet_chunk.proofs.chunk_stream.take_bytes.Goals as goal
 
 pub reads-preserved : goal.reads-preserved
@@ -14,3 +15,10 @@ reads-preserved g c =
       tells = c.in_ok-count.ensures.tells ∙ i.tells;
       later = omega (arith, c.in_ok-count.ensures.cause.later, i.later);
     }
+
+pub returns-in_err-count-clause-prefix : goal.returns-in_err-count-clause-prefix
+returns-in_err-count-clause-prefix g c = λ told.
+    let i = c.reads.invariant in
+    let left = g.R.Source.left c.args.r.now in
+    let middle = g.R.Source.left c.reads.r in
+    prefix_then left middle (g.R.Source.left c.fill_behind.new.source) (prefix_of left c.reads.bytes.items middle (i.read told)) (c.in_err-count.ensures.told (i.tells ∙ told))

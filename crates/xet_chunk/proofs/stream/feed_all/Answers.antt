@@ -1,4 +1,4 @@
-use Rattle.std.proofs.Common.{◌≡◌, ◌∙◌, ◌⊎◌, ◌++◌, List, ap, arith, inl, inr, length, length-append, refl, subst, take, true, ℕ}
+use Rattle.std.proofs.Common.{◌≡◌, ◌∙◌, ◌⊎◌, ◌++◌, List, ap, arith, inl, inr, length, length-append, refl, subst, sym, take, true, ℕ}
 use Rattle.std.proofs.lemmas.List.{length-take-le}
 use Rattle.xet_hash.specs.declared.error.StoreError.{StoreError}
 use Rattle.xet_hash.specs.declared.error.StoreError.TheVariants.{Io}
@@ -6,6 +6,7 @@ use Rattle.xet_hash.specs.declared.error.Place.TheVariants.{Input}
 use Rattle.xet_chunk.specs.Passing.{Refuses, RefusesMore, WritesWhole}
 use Rattle.xet_chunk.proofs.Checks.{exit_with}
 use Rattle.xet_chunk.proofs.Passed.{written_after}
+use Rattle.xet_chunk.proofs.Prefixes.{prefix_of}
 use Rattle.xet_chunk.proofs.Streamed.{block_refused, holds_len, writes_whole}
 use Rattle.xet_chunk.proofs.Written.{block_fed}
 use Rattle.xet_chunk.proofs.stream.feed_all.Goals as goal
@@ -84,3 +85,34 @@ returns-in_err-feed-clause-refusals g c = λ told.
     (inl (block_refused most left (h.0 ++ take c.in_ok-count.count c.read_some.new.buf) _ h.1 tells now_tells old middle now _ whole (λ t. i.sink_tells ∙ t) h.4
     (subst (λ (m : ℕ). RefusesMore m (h.0 ++ take c.in_ok-count.count c.read_some.new.buf) h.1 now_tells middle now c.in_err-feed.field-0.0) i.most
     (c.in_err-feed.ensures.refusals h.0 h.1 h.2))))
+
+pub returns-in_err-count-clause-prefix : goal.returns-in_err-count-clause-prefix
+returns-in_err-count-clause-prefix g c = λ told.
+    let i = c.reads.invariant in
+    let h = i.held in
+    prefix_of (g.R.Source.left c.args.r.now) h.0 (g.R.Source.left c.read_some.new.source)
+    (h.3 told ∙ ap (λ (x : List ℕ). h.0 ++ x) (sym (c.in_err-count.ensures.told (i.source_tells ∙ told))))
+
+pub returns-then-count-eq0-clause-prefix : goal.returns-then-count-eq0-clause-prefix
+returns-then-count-eq0-clause-prefix g c = λ told.
+    let i = c.reads.invariant in
+    let h = i.held in
+    let next = (c.in_ok-count.ensures.told (i.source_tells ∙ told)).next in
+    prefix_of (g.R.Source.left c.args.r.now) (h.0 ++ take c.in_ok-count.count c.read_some.new.buf) (g.R.Source.left c.read_some.new.source)
+    (block_fed _ h.0 _ c.read_some.new.buf _ c.in_ok-count.count (h.3 told) next)
+
+pub returns-then-count-fed_len-clause-prefix : goal.returns-then-count-fed_len-clause-prefix
+returns-then-count-fed_len-clause-prefix g c = λ told.
+    let i = c.reads.invariant in
+    let h = i.held in
+    let next = (c.in_ok-count.ensures.told (i.source_tells ∙ told)).next in
+    prefix_of (g.R.Source.left c.args.r.now) (h.0 ++ take c.in_ok-count.count c.read_some.new.buf) (g.R.Source.left c.read_some.new.source)
+    (block_fed _ h.0 _ c.read_some.new.buf _ c.in_ok-count.count (h.3 told) next)
+
+pub returns-in_err-feed-clause-prefix : goal.returns-in_err-feed-clause-prefix
+returns-in_err-feed-clause-prefix g c = λ told.
+    let i = c.reads.invariant in
+    let h = i.held in
+    let next = (c.in_ok-count.ensures.told (i.source_tells ∙ told)).next in
+    prefix_of (g.R.Source.left c.args.r.now) (h.0 ++ take c.in_ok-count.count c.read_some.new.buf) (g.R.Source.left c.read_some.new.source)
+    (block_fed _ h.0 _ c.read_some.new.buf _ c.in_ok-count.count (h.3 told) next)
