@@ -11,9 +11,8 @@ use Rattle.xet_hash.specs.declared.error.StoreError.TheVariants.{Io, MalformedDa
 use Rattle.xet_footer.specs.declared.info.XorbObjectInfoV1.{XorbObjectInfoV1}
 use Rattle.xet_footer.specs.Ends.{last_footer, told_length}
 use Rattle.xet_footer.specs.declared.machine.Field.{Field}
-use Rattle.xet_footer.specs.Machine.{Parts, as_value, info_of, rest, wanted_of}
+use Rattle.xet_footer.specs.Machine.{Parts, as_value, info_of, rest}
 use Rattle.xet_footer.specs.Reading.{◌>>=◌, Taken, footer_at, wants}
-use Rattle.xet_footer.proofs.Shorts.{rest_short}
 
 pub told_short : (bytes : List ℕ) → length bytes < 4 → told_length bytes ≡ Err UnexpectedEof
 unfolding told_length
@@ -37,10 +36,6 @@ last_beyond len n bytes same told lt = rw (told, lt-leb (n + 4) (length bytes) (
 -- a field at a place, and what is behind it
 pub field_then : (n at : ℕ) (field bytes : List ℕ) → field ≡ take n (drop at bytes) → drop at bytes ≡ field ++ drop (at + n) bytes
 field_then n at field bytes is = sym (take-append-drop n (drop at bytes)) ∙ ap (λ (b : List ℕ). b ++ drop n (drop at bytes)) (sym is) ∙ ap (λ (b : List ℕ). field ++ b) (drop-drop n at bytes)
-
--- a field would end behind the end
-pub field_beyond : (f : Field) (p : Parts) (at end : ℕ) (bytes : List ℕ) → end ≡ length bytes → end - at < wanted_of f p → rest f p (drop at bytes) ≡ Err UnexpectedEof
-field_beyond f p at end bytes same lt = rest_short f p (drop at bytes) (omega (arith, length-drop at bytes))
 
 -- a field is refused
 pub field_refused : (f : Field) (p : Parts) (n at : ℕ) (field bytes : List ℕ) (e : StoreError) → field ≡ take n (drop at bytes) → (e ≡ OutOfMemory) ⊎ ((more : List ℕ) → rest f p (field ++ more) ≡ Err e)

@@ -11,7 +11,7 @@ use Rattle.xet_footer.specs.declared.machine.Field.TheVariants as fields
 use Rattle.xet_footer.specs.Items.{hashes_in, numbers_in}
 use Rattle.xet_footer.specs.Machine.{IsSettled, Parts, behind_ends, behind_hashes, block_of, ends_v0, ends_v1, hashes_v0, hashes_v1, lacks, more_ends, more_hashes, more_plain, plain_v1, room_behind_ends, room_of, step, wanted_of}
 use Rattle.xet_footer.specs.Reading.{◌>>=◌, wants}
-use Rattle.xet_footer.specs.Refusals.{IsRefusal, is_check}
+use Rattle.xet_footer.specs.Refusals.{IsFailedCheck, is_check}
 use Rattle.xet_footer.specs.Spelled.{most_chunks}
 use Rattle.xet_footer.proofs.Fronts.{length_items}
 
@@ -213,15 +213,15 @@ step_room fields.Done p field = omega arith
 
 -- ---- why a field is refused
 
-refused : (b : Bool) (reason : Reason) (next : Field) (p : Parts) → is_check reason ≡ true → IfErr {T = Field × Parts} (wants b reason >>= λ _. Ok (next, p)) IsRefusal
+refused : (b : Bool) (reason : Reason) (next : Field) (p : Parts) → is_check reason ≡ true → IfErr {T = Field × Parts} (wants b reason >>= λ _. Ok (next, p)) IsFailedCheck
 refused true reason next p is = tt
 refused false reason next p is = is
 
-version_refused : (b : Bool) (p : Parts) (field : List ℕ) → IfErr {T = Field × Parts} (cond b (Ok (fields.Hash, record p { is_v1 = true })) (wants (pointwise nat_eq field (0 ∷ [])) reasons.Version >>= λ _. Ok (fields.Hash, record p { is_v1 = false }))) IsRefusal
+version_refused : (b : Bool) (p : Parts) (field : List ℕ) → IfErr {T = Field × Parts} (cond b (Ok (fields.Hash, record p { is_v1 = true })) (wants (pointwise nat_eq field (0 ∷ [])) reasons.Version >>= λ _. Ok (fields.Hash, record p { is_v1 = false }))) IsFailedCheck
 version_refused true p field = tt
 version_refused false p field = refused (pointwise nat_eq field (0 ∷ [])) reasons.Version fields.Hash (record p { is_v1 = false }) refl
 
-pub step_refused : (f : Field) (p : Parts) (field : List ℕ) → IfErr (step f p field) IsRefusal
+pub step_refused : (f : Field) (p : Parts) (field : List ℕ) → IfErr (step f p field) IsFailedCheck
 unfolding step
 step_refused fields.Ident p field = refused _ reasons.Ident _ p refl
 step_refused fields.Version p field = version_refused (p.either && pointwise nat_eq field (1 ∷ [])) p field

@@ -16,4 +16,5 @@ pub mod Exits
 pub mod Joining
 pub mod Decoding
 pub mod Placing
+pub mod Blocks
 pub mod Sections

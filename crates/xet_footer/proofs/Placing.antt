@@ -7,12 +7,17 @@ use Rattle.xet_hash.specs.declared.error.Reason.{Reason}
 use Rattle.xet_hash.specs.declared.error.StoreError.{StoreError}
 use Rattle.xet_hash.specs.declared.error.StoreError.TheVariants.{MalformedData, UnexpectedEof}
 use Rattle.xet_footer.specs.Items.{numbers_in}
-use Rattle.xet_footer.specs.Places.{EndsBefore, RefusedBy, Tells, checked_at}
+use Rattle.xet_footer.specs.declared.block.Block.{Block}
+use Rattle.xet_footer.specs.Places.{EndsBefore, IsPart, RefusedBy, Sees, Tells, checked_at}
 use Rattle.xet_footer.specs.Reading.{◌>>=◌, Taken, bytes_at, number_at, number_is, times, wants}
 use Rattle.xet_footer.proofs.Fronts.{a_number, bytes_short, bytes_whole, length_items, list_block, list_full, list_short, number_whole}
 
-pub tells_on : {b c : Bool} {seen now bytes : List ℕ} {end : ℕ} → Tells b seen bytes end → c ≡ b → now ≡ seen → Tells c now bytes end
-tells_on t tells same = record { told = tells ∙ t.told; same = same ∙ t.same; all = t.all }
+pub sees_on : {b c : Bool} {seen now bytes : List ℕ} {end : ℕ} {old new : Block} → Sees b seen bytes end old → c ≡ b → now ≡ seen → IsPart new bytes → Sees c now bytes end new
+sees_on t tells same part = record { told = tells ∙ t.told; same = same ∙ t.same; all = t.all; part = part }
+
+-- with a block of no bytes
+pub sees_first : {b : Bool} {seen bytes : List ℕ} {end : ℕ} (block : Block) → Tells b seen bytes end → IsPart block bytes → Sees b seen bytes end block
+sees_first block t part = record { told = t.told; same = t.same; all = t.all; part = part }
 
 -- ---- one after the other
 
@@ -29,7 +34,7 @@ refused_after r f x e ok (inr other) = inr other
 -- too few bytes, for what needs as many
 pub short_refused : {X : Type 0} (read : List ℕ → Taken X) (bytes : List ℕ) (at n : ℕ) (e : StoreError) → ((b : List ℕ) → length b < n → read b ≡ Err UnexpectedEof) → EndsBefore bytes at n e → RefusedBy (read (drop at bytes)) e
 short_refused read bytes at n e short (inl few) = inl (short (drop at bytes) few.1 ∙ ap Err (sym few.0))
-short_refused read bytes at n e short (inr fault) = inr (inl fault)
+short_refused read bytes at n e short (inr other) = inr other
 
 pub number_there : (bytes field more : List ℕ) (n : ℕ) → bytes ≡ field ++ more → length field ≡ 4 → n ≡ from_le_bytes w32 field → number_at bytes ≡ Ok (n, more)
 number_there bytes field more n two len is = ap number_at two ∙ number_whole field more len ∙ ap (λ (k : ℕ). Ok (k, more)) (sym is)
@@ -94,9 +99,6 @@ behind_short count n ns bytes is lt = list_short number_at (from_le_bytes w32) 4
 
 pub part_refused : {X : Type 0} (read : List ℕ → Taken X) (bytes : List ℕ) (at len n : ℕ) (e : StoreError) → len ≡ n → ((b : List ℕ) → length b < n → read b ≡ Err UnexpectedEof) → EndsBefore bytes at len e → RefusedBy (read (drop at bytes)) e
 part_refused read bytes at len n e same short ends = short_refused read bytes at n e short (subst (λ (k : ℕ). EndsBefore bytes at k e) same ends)
-
-pub part_read : (bytes field : List ℕ) (at len n : ℕ) → len ≡ n → drop at bytes ≡ field ++ drop (at + len) bytes → drop at bytes ≡ field ++ drop (at + n) bytes
-part_read bytes field at len n same two = two ∙ ap (λ (k : ℕ). field ++ drop (at + k) bytes) same
 
 pub behind_refused : (count n : ℕ) (ns bytes : List ℕ) (to len : ℕ) (all : Taken (List ℕ)) (e : StoreError) → n ≡ min 64 (count - length ns) → len ≡ 4 * n → behind count ns (drop to bytes) ≡ all → EndsBefore bytes to len e → RefusedBy all e
 behind_refused count n ns bytes to len all e is long same ends =

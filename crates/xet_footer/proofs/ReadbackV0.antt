@@ -4,7 +4,7 @@ use Rattle.std.specs.List.{AllByRecursion}
 use Rattle.xet_hash.specs.declared.error.Reason.TheVariants as reasons
 use Rattle.xet_footer.specs.declared.info.XorbObjectInfoV0.{XorbObjectInfoV0}
 use Rattle.xet_footer.specs.Laws.{IsStandardV0}
-use Rattle.xet_footer.specs.Reading.{◌>>=◌, bytes_at, count_at, footer_at, number_at, rest_v0, times, version_of}
+use Rattle.xet_footer.specs.Reading.{◌>>=◌, bytes_at, footer_at, number_at, rest_v0, times, version_of}
 use Rattle.xet_footer.specs.Spelled.{footer_ident, joined, most_chunks, number, numbers, of_v0, text_v0}
 use Rattle.xet_footer.proofs.Fronts.{bytes_whole, ident_whole}
 use Rattle.xet_footer.proofs.Readback.{count_back, hashes_back, length_joined, numbers_back}

@@ -1,5 +1,5 @@
 -- The parts of a section of boundaries that is read for itself.
-use Rattle.std.proofs.Common.{◌≡◌, ◌∙◌, ℕ, ◌+◌, ◌-◌, ◌*◌, ◌≤◌, ◌<◌, nat_le, Bool, List, [], ◌∷◌, ◌++◌, Ok, Err, ap, arith, drop, inl, inr, length, length-drop, refl, subst, sym, take}
+use Rattle.std.proofs.Common.{◌≡◌, ◌∙◌, ℕ, ◌+◌, ◌-◌, ◌*◌, ◌≤◌, ◌<◌, nat_le, Bool, List, [], ◌∷◌, ◌++◌, Ok, Err, ap, arith, drop, length, refl, subst, sym, take}
 use Rattle.std.proofs.lemmas.Bool.{le-leb, lt-leb}
 use Rattle.std.specs.Int.{w32, from_le_bytes}
 use Rattle.xet_hash.specs.declared.error.Reason.TheVariants.{BoundariesIdent, BoundariesVersion, BoundaryOffset, ChunkCount, CountMismatch}
@@ -194,26 +194,8 @@ pub last_few : (end : ℕ) (bytes : List ℕ) → end ≡ length bytes → end <
 unfolding last_boundaries
 last_few end bytes same lt = rw (lt-leb 24 (length bytes) (omega arith)) refl
 
-number_front : (b : List ℕ) → 4 ≤ length b → number_at b ≡ Ok (from_le_bytes w32 (take 4 b), drop 4 b)
-unfolding number_at bytes_at
-number_front b le = rw (le-leb 4 (length b) le) refl
-
-number_of : Taken ℕ → ℕ
-number_of (Ok x) = x.0
-number_of (Err e) = 0
-
-told_front : (end : ℕ) (bytes : List ℕ) → end ≡ length bytes → 24 ≤ end → number_at (drop (end - 24) bytes) ≡ Ok (number_before 24 bytes, drop 4 (drop (length bytes - 24) bytes))
-told_front end bytes same le =
-    let long : 4 ≤ length (drop (length bytes - 24) bytes) = omega (arith, length-drop (length bytes - 24) bytes) in
-    ap (λ (k : ℕ). number_at (drop (k - 24) bytes)) same ∙ number_front (drop (length bytes - 24) bytes) long
-
-pub told_is : (end n : ℕ) (bytes more : List ℕ) → end ≡ length bytes → 24 ≤ end → number_at (drop (end - 24) bytes) ≡ Ok (n, more) → n ≡ number_before 24 bytes
-unfolding number_of
-told_is end n bytes more same le read = ap number_of (sym read ∙ told_front end bytes same le)
-
-pub told_unread : {X : Type 0} (r : Taken X) (end : ℕ) (bytes : List ℕ) (e : StoreError) → end ≡ length bytes → 24 ≤ end → RefusedBy (number_at (drop (end - 24) bytes)) e → RefusedBy r e
-told_unread r end bytes e same le (inl is) = let both = sym is ∙ told_front end bytes same le in absurd (cc both)
-told_unread r end bytes e same le (inr other) = inr other
+pub told_is : (end : ℕ) (bytes last : List ℕ) → end ≡ length bytes → last ≡ take 4 (drop (end - 24) bytes) → from_le_bytes w32 last ≡ number_before 24 bytes
+told_is end bytes last same is = ap (from_le_bytes w32) (is ∙ ap (λ (k : ℕ). take 4 (drop (k - 24) bytes)) same)
 
 begun : (end : ℕ) (bytes : List ℕ) → end ≡ length bytes → 24 ≤ end → last_boundaries bytes ≡ (reaches (nat_le (number_before 24 bytes + 4) (length bytes)) >>= λ _. boundaries (drop (length bytes - (number_before 24 bytes + 4)) bytes))
 unfolding last_boundaries

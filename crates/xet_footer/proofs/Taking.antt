@@ -1,11 +1,11 @@
 -- What a reader knows after a field.
 use Rattle.std.proofs.Common.{◌≡◌, ◌∙◌, ℕ, ◌+◌, ◌≤◌, ◌⊎◌, List, ◌++◌, Result, Ok, Err, ap, inl, inr, length, refl, subst, sym}
-use Rattle.std.specs.Result.{IfErr, IfOk, OnOk}
+use Rattle.std.specs.Result.{IfErr, IfOk, IsErrOf, OnOk}
 use Rattle.xet_hash.specs.declared.error.StoreError.{StoreError}
 use Rattle.xet_hash.specs.declared.error.StoreError.TheVariants as errors
 use Rattle.xet_footer.specs.declared.machine.Field.{Field}
 use Rattle.xet_footer.specs.Machine.{IsSettled, Next, Parts, rest, room_of, step, wanted_of}
-use Rattle.xet_footer.specs.Refusals.{Fails, Gives, IsRefusal}
+use Rattle.xet_footer.specs.Refusals.{Fails, Gives, IsFailedCheck, IsRefusal}
 use Rattle.xet_footer.proofs.Known.{step_refused, step_room, step_settled}
 use Rattle.xet_footer.proofs.Steps.{behind, rest_step}
 
@@ -40,13 +40,29 @@ refused f n p q field (Err e) len gives = by (fails_by e (step f p field) gives)
     by (inl memory) = inl memory
     by (inr is) = inr (λ more. rest_step f p field more len ∙ ap (λ (s : Next). behind s more) is)
 
+refusal_of : (e : StoreError) → IsFailedCheck e → IsRefusal e
+refusal_of (errors.MalformedData reason) is = is
+refusal_of e is = absurd is
+
 pub kinds : {U : Type 0} (f n : Field) (p q : Parts) (field : List ℕ) (r : Result U StoreError) → Gives (λ _. (n, q)) r (step f p field) → IfErr r IsRefusal
 kinds f n p q field (Ok u) gives = tt
 kinds f n p q field (Err e) gives = by (fails_by e (step f p field) gives)
   where
     by : (e ≡ errors.OutOfMemory) ⊎ (step f p field ≡ Err e) → IsRefusal e
     by (inl memory) = subst IsRefusal (sym memory) tt
-    by (inr is) = subst (λ (s : Next). IfErr s IsRefusal) is (step_refused f p field)
+    by (inr is) = refusal_of e (subst (λ (s : Next). IfErr s IsFailedCheck) is (step_refused f p field))
+
+-- a field that is there does not end before its end
+pub unended : {U : Type 0} (f n : Field) (p q : Parts) (field : List ℕ) (r : Result U StoreError) → Gives (λ _. (n, q)) r (step f p field) → IsErrOf r errors.UnexpectedEof → ⊥
+unended f n p q field (Ok u) gives ended = cc
+unended f n p q field (Err e) gives ended = by (fails_by e (step f p field) gives)
+  where
+    same : e ≡ errors.UnexpectedEof
+    same = cc
+
+    by : (e ≡ errors.OutOfMemory) ⊎ (step f p field ≡ Err e) → ⊥
+    by (inl memory) = let both : errors.OutOfMemory ≡ errors.UnexpectedEof = sym memory ∙ same in cc
+    by (inr is) = subst IsFailedCheck same (subst (λ (s : Next). IfErr s IsFailedCheck) is (step_refused f p field))
 
 pub settled : {U : Type 0} (f n : Field) (p q : Parts) (field : List ℕ) (r : Result U StoreError) → Gives (λ _. (n, q)) r (step f p field) → OnOk r (IsSettled n q)
 settled f n p q field (Ok u) gives = subst (λ (s : Next). IfOk s (λ x. IsSettled x.0 x.1)) gives (step_settled f p field)

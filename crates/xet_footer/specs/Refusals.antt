@@ -20,6 +20,11 @@ is_check reasons.HashesOffset = true
 is_check reasons.BoundaryOffset = true
 is_check reason = false
 
+-- a check of the bytes that fails
+abbrev pub IsFailedCheck : StoreError → Type 0
+IsFailedCheck (errors.MalformedData reason) = is_check reason ≡ true
+IsFailedCheck e = ⊥
+
 -- a refusal of the bytes, or for want of memory
 abbrev pub IsRefusal : StoreError → Type 0
 IsRefusal errors.OutOfMemory = Unit {0}

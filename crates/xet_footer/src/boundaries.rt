@@ -5,28 +5,30 @@ ghost use Rattle.xet_hash.specs.declared.error.Place.TheVariants.{Input};
 ghost use Rattle.xet_hash.specs.declared.error.StoreError.TheVariants.{Io, OutOfMemory};
 ghost use Rattle.xet_io.specs.Faults.{HasCause};
 ghost use Rattle.xet_footer.specs.Ends.{boundaries, last_boundaries, number_before};
-ghost use Rattle.xet_footer.specs.Places.{EndsBefore, RefusedBy, Tells, checked_at, head_at, lists_at, tail_at};
+ghost use Rattle.xet_footer.specs.Places.{IsPart, RefusedBy, Sees, Tells, checked_at, head_at, lists_at, tail_at};
 ghost use Rattle.xet_footer.specs.Reading.{number_at, number_is, times};
 ghost use Rattle.xet_footer.specs.Refusals.{IsFooterRefusal, is_check};
 ghost use Rattle.xet_footer.specs.Spelled.{most_chunks};
 
+use crate::block::Block;
 use crate::ends::{read_exact, reader_length};
 use crate::info::{BOUNDARIES_IDENT, XorbObjectInfoV1};
-use crate::machine::{MOST_CHUNKS, push_numbers};
+use crate::lists::{number_of, push_numbers};
+use crate::machine::MOST_CHUNKS;
 use std::alloc::Global;
 use xet_base::Items;
 use xet_hash::{Reason, StoreError};
 use xet_io::ReadAt;
 
-/// The most numbers that are read at once.
+/// The maximum number of numbers that are taken from a block at once.
 const BLOCK: usize = 64;
 
 impl XorbObjectInfoV1 {
-    /// Reads the section of boundaries of the footer before the last four bytes, and what is behind it, and
-    /// how many bytes these have. Nothing before them is read: hash and hashes are those of no chunks. The
-    /// section begins where the number tells that begins 24 bytes before the end. Refused as
-    /// `UnexpectedEof` where that is before the bytes begin, by the first check that fails, as `Io(Input)`,
-    /// or as `OutOfMemory`.
+    /// Reads the section of boundaries of the footer before the last four bytes, and what is after it, and
+    /// returns it with their number of bytes. Nothing before them is read: hash and hashes are those of no
+    /// chunks. The section begins where the number tells that begins 24 bytes before the end. From there it is
+    /// read in blocks of 64 KiB, or in one where it is shorter. The error is `UnexpectedEof` where it would
+    /// begin before the bytes do, else that of the first check that fails, `Io(Input)`, or `OutOfMemory`.
     pub fn deserialize_only_boundaries_section<R: ReadAt>(
         alloc: Global,
         reader: &mut R,
@@ -48,43 +50,31 @@ impl XorbObjectInfoV1 {
     }
 }
 
-/// Fills `buf` with the bytes at a place before the end.
-fn read_part<R: ReadAt>(reader: &mut R, at: u64, end: u64, buf: &mut [u8]) -> Result<(), StoreError>
+/// The number at an offset before the end.
+fn read_number<R: ReadAt>(
+    reader: &mut R,
+    block: &mut Block,
+    at: u64,
+    end: u64,
+) -> Result<u32, StoreError>
     requires { at ≤ end }
-    ensures read { (bytes : List ℕ) → Tells (R.tells reader.old) (R.bytes reader.old) bytes end → OnOk result (drop at bytes ≡ buf.new ++ drop (at + length buf.old) bytes) }
-    ensures within { OnOk result (at + length buf.old ≤ end) }
-    ensures refused { (bytes : List ℕ) → Tells (R.tells reader.old) (R.bytes reader.old) bytes end → IfErr result (EndsBefore bytes at (length buf.old)) }
-    ensures len { length buf.new ≡ length buf.old }
-    ensures kinds { IfErr result IsFooterRefusal }
-    ensures cause { HasCause (R.faults reader.old) (R.faults reader.new) (IsErrOf result (Io Input)) }
-    ensures same { R.bytes reader.new ≡ R.bytes reader.old }
-    ensures tells { R.tells reader.new ≡ R.tells reader.old }
-{
-    if end - at < buf.len() as u64 {
-        return Err(StoreError::UnexpectedEof);
-    }
-    read_exact(reader, at, buf)
-}
-
-/// The number at a place before the end.
-fn read_number<R: ReadAt>(reader: &mut R, at: u64, end: u64) -> Result<u32, StoreError>
-    requires { at ≤ end }
-    ensures read { (bytes : List ℕ) → Tells (R.tells reader.old) (R.bytes reader.old) bytes end → IfOk result (λ n. number_at (drop at bytes) ≡ Ok (n, drop (at + 4) bytes)) }
+    ensures read { (bytes : List ℕ) → Sees (R.tells reader.old) (R.bytes reader.old) bytes end block.old → IfOk result (λ n. number_at (drop at bytes) ≡ Ok (n, drop (at + 4) bytes)) }
+    ensures part { (bytes : List ℕ) → Sees (R.tells reader.old) (R.bytes reader.old) bytes end block.old → OnOk result (IsPart block.new bytes) }
     ensures within { OnOk result (at + 4 ≤ end) }
-    ensures refused { (bytes : List ℕ) → Tells (R.tells reader.old) (R.bytes reader.old) bytes end → IfErr result (RefusedBy (number_at (drop at bytes))) }
+    ensures refused { (bytes : List ℕ) → Sees (R.tells reader.old) (R.bytes reader.old) bytes end block.old → IfErr result (RefusedBy (number_at (drop at bytes))) }
     ensures kinds { IfErr result IsFooterRefusal }
     ensures cause { HasCause (R.faults reader.old) (R.faults reader.new) (IsErrOf result (Io Input)) }
     ensures same { R.bytes reader.new ≡ R.bytes reader.old }
     ensures tells { R.tells reader.new ≡ R.tells reader.old }
 {
-    let mut number = [0; 4];
-    read_part(reader, at, end, &mut number)?;
-    Ok(u32::from_le_bytes(number))
+    block.load(reader, at, end, 4)?;
+    Ok(number_of(block.part(at, 4)))
 }
 
-/// Checks that this number is at a place before the end.
+/// Checks that this number is at an offset before the end.
 fn expect_number<R: ReadAt>(
     reader: &mut R,
+    block: &mut Block,
     at: u64,
     end: u64,
     wanted: u32,
@@ -92,23 +82,25 @@ fn expect_number<R: ReadAt>(
 ) -> Result<(), StoreError>
     requires within { at ≤ end }
     requires check { is_check reason ≡ true }
-    ensures read { (bytes : List ℕ) → Tells (R.tells reader.old) (R.bytes reader.old) bytes end → OnOk result (number_is wanted reason (drop at bytes) ≡ Ok (tt, drop (at + 4) bytes)) }
+    ensures read { (bytes : List ℕ) → Sees (R.tells reader.old) (R.bytes reader.old) bytes end block.old → OnOk result (number_is wanted reason (drop at bytes) ≡ Ok (tt, drop (at + 4) bytes)) }
+    ensures part { (bytes : List ℕ) → Sees (R.tells reader.old) (R.bytes reader.old) bytes end block.old → OnOk result (IsPart block.new bytes) }
     ensures within { OnOk result (at + 4 ≤ end) }
-    ensures refused { (bytes : List ℕ) → Tells (R.tells reader.old) (R.bytes reader.old) bytes end → IfErr result (RefusedBy (number_is wanted reason (drop at bytes))) }
+    ensures refused { (bytes : List ℕ) → Sees (R.tells reader.old) (R.bytes reader.old) bytes end block.old → IfErr result (RefusedBy (number_is wanted reason (drop at bytes))) }
     ensures kinds { IfErr result IsFooterRefusal }
     ensures cause { HasCause (R.faults reader.old) (R.faults reader.new) (IsErrOf result (Io Input)) }
     ensures same { R.bytes reader.new ≡ R.bytes reader.old }
     ensures tells { R.tells reader.new ≡ R.tells reader.old }
 {
-    if read_number(reader, at, end)? != wanted {
+    if read_number(reader, block, at, end)? != wanted {
         return Err(StoreError::MalformedData(reason));
     }
     Ok(())
 }
 
-/// Checks that these bytes, at most seven, are at a place before the end.
+/// Checks that these bytes, at most seven, are at an offset before the end.
 fn expect_bytes<R: ReadAt>(
     reader: &mut R,
+    block: &mut Block,
     at: u64,
     end: u64,
     wanted: &[u8],
@@ -117,122 +109,149 @@ fn expect_bytes<R: ReadAt>(
     requires within { at ≤ end }
     requires few { length wanted.now ≤ 7 }
     requires check { is_check reason ≡ true }
-    ensures read { (bytes : List ℕ) → Tells (R.tells reader.old) (R.bytes reader.old) bytes end → OnOk result (checked_at (length wanted.now) wanted.now reason (drop at bytes) ≡ Ok (tt, drop (at + length wanted.now) bytes)) }
+    ensures read { (bytes : List ℕ) → Sees (R.tells reader.old) (R.bytes reader.old) bytes end block.old → OnOk result (checked_at (length wanted.now) wanted.now reason (drop at bytes) ≡ Ok (tt, drop (at + length wanted.now) bytes)) }
+    ensures part { (bytes : List ℕ) → Sees (R.tells reader.old) (R.bytes reader.old) bytes end block.old → OnOk result (IsPart block.new bytes) }
     ensures within { OnOk result (at + length wanted.now ≤ end) }
-    ensures refused { (bytes : List ℕ) → Tells (R.tells reader.old) (R.bytes reader.old) bytes end → IfErr result (RefusedBy (checked_at (length wanted.now) wanted.now reason (drop at bytes))) }
+    ensures refused { (bytes : List ℕ) → Sees (R.tells reader.old) (R.bytes reader.old) bytes end block.old → IfErr result (RefusedBy (checked_at (length wanted.now) wanted.now reason (drop at bytes))) }
     ensures kinds { IfErr result IsFooterRefusal }
     ensures cause { HasCause (R.faults reader.old) (R.faults reader.new) (IsErrOf result (Io Input)) }
     ensures same { R.bytes reader.new ≡ R.bytes reader.old }
     ensures tells { R.tells reader.new ≡ R.tells reader.old }
 {
-    let mut room = [0; 7];
-    let (found, _) = room.split_at_mut(wanted.len());
-    read_part(reader, at, end, found)?;
-    if &*found != wanted {
+    block.load(reader, at, end, wanted.len())?;
+    if block.part(at, wanted.len()) != wanted {
         return Err(StoreError::MalformedData(reason));
     }
     Ok(())
 }
 
-/// So many numbers, from a place on before the end.
+/// So many numbers, from an offset on before the end. The list is reserved once the bytes are known to be there.
 fn read_numbers<R: ReadAt>(
     alloc: Global,
     reader: &mut R,
+    block: &mut Block,
     at: u64,
     end: u64,
     count: u32,
 ) -> Result<Vec<u32>, StoreError>
     requires { at ≤ end }
-    ensures read { (bytes : List ℕ) → Tells (R.tells reader.old) (R.bytes reader.old) bytes end → IfOk result (λ v. times number_at count (drop at bytes) ≡ Ok (v.items, drop (at + 4 * count) bytes)) }
+    ensures read { (bytes : List ℕ) → Sees (R.tells reader.old) (R.bytes reader.old) bytes end block.old → IfOk result (λ v. times number_at count (drop at bytes) ≡ Ok (v.items, drop (at + 4 * count) bytes)) }
+    ensures part { (bytes : List ℕ) → Sees (R.tells reader.old) (R.bytes reader.old) bytes end block.old → OnOk result (IsPart block.new bytes) }
     ensures within { OnOk result (at + 4 * count ≤ end) }
-    ensures refused { (bytes : List ℕ) → Tells (R.tells reader.old) (R.bytes reader.old) bytes end → IfErr result (RefusedBy (times number_at count (drop at bytes))) }
+    ensures refused { (bytes : List ℕ) → Sees (R.tells reader.old) (R.bytes reader.old) bytes end block.old → IfErr result (RefusedBy (times number_at count (drop at bytes))) }
     ensures kinds { IfErr result IsFooterRefusal }
     ensures cause { HasCause (R.faults reader.old) (R.faults reader.new) (IsErrOf result (Io Input)) }
     ensures same { R.bytes reader.new ≡ R.bytes reader.old }
     ensures tells { R.tells reader.new ≡ R.tells reader.old }
 {
-    let mut list = Vec::new(alloc);
-    let mut block = [0; 4 * BLOCK];
+    if end - at < 4 * count as u64 {
+        return Err(StoreError::UnexpectedEof);
+    }
+    let mut list = Vec::with_capacity(alloc, count as usize)?;
     let mut to = at;
     'numbers: while list.len() < count as usize {
         let wanted = BLOCK.min(count as usize - list.len());
-        let (part, _) = block.split_at_mut(4 * wanted);
-        read_part(reader, to, end, part)?;
-        push_numbers(&mut list, part, wanted)?;
+        block.load(reader, to, end, 4 * wanted)?;
+        push_numbers(&mut list, block.part(to, 4 * wanted), wanted)?;
         to += 4 * wanted as u64;
     }
     Ok(list)
 }
 
-/// The number of chunks, behind ident and version, at a place before the end.
-fn read_head<R: ReadAt>(reader: &mut R, at: u64, end: u64) -> Result<u32, StoreError>
+/// The number of chunks, after ident and version, at an offset before the end.
+fn read_head<R: ReadAt>(
+    reader: &mut R,
+    block: &mut Block,
+    at: u64,
+    end: u64,
+) -> Result<u32, StoreError>
     requires { at ≤ end }
-    ensures read { (bytes : List ℕ) → Tells (R.tells reader.old) (R.bytes reader.old) bytes end → IfOk result (λ n. head_at (drop at bytes) ≡ Ok (n, drop (at + 12) bytes)) }
+    ensures read { (bytes : List ℕ) → Sees (R.tells reader.old) (R.bytes reader.old) bytes end block.old → IfOk result (λ n. head_at (drop at bytes) ≡ Ok (n, drop (at + 12) bytes)) }
+    ensures part { (bytes : List ℕ) → Sees (R.tells reader.old) (R.bytes reader.old) bytes end block.old → OnOk result (IsPart block.new bytes) }
     ensures within { OnOk result (at + 12 ≤ end) }
     ensures few { IfOk result (λ n. n ≤ most_chunks) }
-    ensures refused { (bytes : List ℕ) → Tells (R.tells reader.old) (R.bytes reader.old) bytes end → IfErr result (RefusedBy (head_at (drop at bytes))) }
+    ensures refused { (bytes : List ℕ) → Sees (R.tells reader.old) (R.bytes reader.old) bytes end block.old → IfErr result (RefusedBy (head_at (drop at bytes))) }
     ensures kinds { IfErr result IsFooterRefusal }
     ensures cause { HasCause (R.faults reader.old) (R.faults reader.new) (IsErrOf result (Io Input)) }
     ensures same { R.bytes reader.new ≡ R.bytes reader.old }
     ensures tells { R.tells reader.new ≡ R.tells reader.old }
 {
-    expect_bytes(reader, at, end, &BOUNDARIES_IDENT, Reason::BoundariesIdent)?;
-    expect_bytes(reader, at + 7, end, &[1], Reason::BoundariesVersion)?;
-    let count = read_number(reader, at + 8, end)?;
+    expect_bytes(
+        reader,
+        block,
+        at,
+        end,
+        &BOUNDARIES_IDENT,
+        Reason::BoundariesIdent,
+    )?;
+    expect_bytes(reader, block, at + 7, end, &[1], Reason::BoundariesVersion)?;
+    let count = read_number(reader, block, at + 8, end)?;
     if count > MOST_CHUNKS {
         return Err(StoreError::MalformedData(Reason::ChunkCount));
     }
     Ok(count)
 }
 
-/// The stored ends and the plain ends of so many chunks, from a place on before the end.
+/// The stored ends and the plain ends of so many chunks, from an offset on before the end.
 fn read_lists<R: ReadAt>(
     alloc: Global,
     reader: &mut R,
+    block: &mut Block,
     at: u64,
     end: u64,
     count: u32,
 ) -> Result<(Vec<u32>, Vec<u32>), StoreError>
     requires { at ≤ end }
-    ensures read { (bytes : List ℕ) → Tells (R.tells reader.old) (R.bytes reader.old) bytes end → IfOk result (λ v. lists_at count (drop at bytes) ≡ Ok ((v.0.items, v.1.items), drop (at + 8 * count) bytes)) }
+    ensures read { (bytes : List ℕ) → Sees (R.tells reader.old) (R.bytes reader.old) bytes end block.old → IfOk result (λ v. lists_at count (drop at bytes) ≡ Ok ((v.0.items, v.1.items), drop (at + 8 * count) bytes)) }
+    ensures part { (bytes : List ℕ) → Sees (R.tells reader.old) (R.bytes reader.old) bytes end block.old → OnOk result (IsPart block.new bytes) }
     ensures within { OnOk result (at + 8 * count ≤ end) }
-    ensures refused { (bytes : List ℕ) → Tells (R.tells reader.old) (R.bytes reader.old) bytes end → IfErr result (RefusedBy (lists_at count (drop at bytes))) }
+    ensures refused { (bytes : List ℕ) → Sees (R.tells reader.old) (R.bytes reader.old) bytes end block.old → IfErr result (RefusedBy (lists_at count (drop at bytes))) }
     ensures kinds { IfErr result IsFooterRefusal }
     ensures cause { HasCause (R.faults reader.old) (R.faults reader.new) (IsErrOf result (Io Input)) }
     ensures same { R.bytes reader.new ≡ R.bytes reader.old }
     ensures tells { R.tells reader.new ≡ R.tells reader.old }
 {
-    let ends = read_numbers(alloc, reader, at, end, count)?;
-    let plain = read_numbers(alloc, reader, at + 4 * count as u64, end, count)?;
+    let ends = read_numbers(alloc, reader, block, at, end, count)?;
+    let plain = read_numbers(alloc, reader, block, at + 4 * count as u64, end, count)?;
     Ok((ends, plain))
 }
 
-/// Where the section of hashes begins, and the spare bytes, behind the section of so many chunks.
+/// Where the section of hashes begins, and the spare bytes, after the section of so many chunks.
 fn read_tail<R: ReadAt>(
     reader: &mut R,
+    block: &mut Block,
     at: u64,
     end: u64,
     count: u32,
 ) -> Result<(u32, [u8; 16]), StoreError>
     requires within { at ≤ end }
     requires few { count ≤ most_chunks }
-    ensures read { (bytes : List ℕ) → Tells (R.tells reader.old) (R.bytes reader.old) bytes end → IfOk result (λ x. tail_at count (drop at bytes) ≡ Ok ((x.0, x.1), drop (at + 28) bytes)) }
+    ensures read { (bytes : List ℕ) → Sees (R.tells reader.old) (R.bytes reader.old) bytes end block.old → IfOk result (λ x. tail_at count (drop at bytes) ≡ Ok ((x.0, x.1), drop (at + 28) bytes)) }
+    ensures part { (bytes : List ℕ) → Sees (R.tells reader.old) (R.bytes reader.old) bytes end block.old → OnOk result (IsPart block.new bytes) }
     ensures within { OnOk result (at + 28 ≤ end) }
-    ensures refused { (bytes : List ℕ) → Tells (R.tells reader.old) (R.bytes reader.old) bytes end → IfErr result (RefusedBy (tail_at count (drop at bytes))) }
+    ensures refused { (bytes : List ℕ) → Sees (R.tells reader.old) (R.bytes reader.old) bytes end block.old → IfErr result (RefusedBy (tail_at count (drop at bytes))) }
     ensures kinds { IfErr result IsFooterRefusal }
     ensures cause { HasCause (R.faults reader.old) (R.faults reader.new) (IsErrOf result (Io Input)) }
     ensures same { R.bytes reader.new ≡ R.bytes reader.old }
     ensures tells { R.tells reader.new ≡ R.tells reader.old }
 {
-    expect_number(reader, at, end, count, Reason::CountMismatch)?;
-    let hashes = read_number(reader, at + 4, end)?;
-    expect_number(reader, at + 8, end, 40 + 8 * count, Reason::BoundaryOffset)?;
+    expect_number(reader, block, at, end, count, Reason::CountMismatch)?;
+    let hashes = read_number(reader, block, at + 4, end)?;
+    expect_number(
+        reader,
+        block,
+        at + 8,
+        end,
+        40 + 8 * count,
+        Reason::BoundaryOffset,
+    )?;
+    block.load(reader, at + 12, end, 16)?;
     let mut spare = [0; 16];
-    read_part(reader, at + 12, end, &mut spare)?;
+    spare.copy_from_slice(block.part(at + 12, 16));
     Ok((hashes, spare))
 }
 
-/// The section that begins at a place, and what is behind it, before the end.
+/// The section that begins at an offset, and what is after it, before the end.
 fn read_boundaries<R: ReadAt>(
     alloc: Global,
     reader: &mut R,
@@ -249,9 +268,11 @@ fn read_boundaries<R: ReadAt>(
     ensures same { R.bytes reader.new ≡ R.bytes reader.old }
     ensures tells { R.tells reader.new ≡ R.tells reader.old }
 {
-    let count = read_head(reader, at, end)?;
-    let (ends, plain) = read_lists(alloc, reader, at + 12, end, count)?;
-    let (hashes, spare) = read_tail(reader, at + 12 + 8 * count as u64, end, count)?;
+    let mut block = Block::new(alloc);
+    let count = read_head(reader, &mut block, at, end)?;
+    let (ends, plain) = read_lists(alloc, reader, &mut block, at + 12, end, count)?;
+    let tail = at + 12 + 8 * count as u64;
+    let (hashes, spare) = read_tail(reader, &mut block, tail, end, count)?;
     let mut info = XorbObjectInfoV1::default(alloc);
     info.chunk_boundary_offsets = Items::from_vec(ends);
     info.unpacked_chunk_offsets = Items::from_vec(plain);
@@ -276,8 +297,9 @@ fn boundaries_start<R: ReadAt>(reader: &mut R, end: u64) -> Result<u64, StoreErr
     if end < 24 {
         return Err(StoreError::UnexpectedEof);
     }
-    let told = read_number(reader, end - 24, end)?;
-    let size = told as u64 + 4;
+    let mut told = [0; 4];
+    read_exact(reader, end - 24, &mut told)?;
+    let size = u32::from_le_bytes(told) as u64 + 4;
     if end < size {
         return Err(StoreError::UnexpectedEof);
     }

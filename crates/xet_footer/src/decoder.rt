@@ -4,7 +4,8 @@ ghost use Rattle.std.specs.Prelude.{◌≡◌, ◌≤◌, ◌<◌, ◌+◌, ◌�
 ghost use Rattle.xet_footer.specs.Joining.{IsReady, joined_wanted};
 
 use crate::info::XorbObjectInfoV1;
-use crate::machine::{FooterReader, number_of};
+use crate::lists::number_of;
+use crate::machine::FooterReader;
 use std::alloc::Global;
 use xet_hash::{Reason, StoreError};
 
@@ -37,7 +38,7 @@ impl Joined {
         ensures ended { result.ended ≡ false }
     {
         Joined {
-            footer: FooterReader::of_either(alloc),
+            footer: FooterReader::of_either(alloc, 0),
             count: 0,
             ended: false,
         }

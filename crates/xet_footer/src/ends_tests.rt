@@ -4,7 +4,7 @@ use crate::*;
 use std::alloc::Global;
 use std::test::Fail;
 use xet_base::Items;
-use xet_hash::{Reason, StoreError, compute_data_hash};
+use xet_hash::{MerkleHash, Reason, StoreError, compute_data_hash};
 use xet_io::{MemorySink, SliceReader};
 
 /// The footer of no chunks, with this length behind it.
@@ -45,6 +45,28 @@ fn an_empty_footer_at_the_end(rt: HostRuntime) -> Result<(), Fail> {
     Ok(())
 }
 
+/// The footer of 2,000 chunks, which is longer than a block, with its length after it.
+fn long_text(alloc: Global) -> Result<Vec<u8>, StoreError> {
+    let hashes = vec![in alloc; compute_data_hash(b"abc"); 2000]?;
+    let ends = vec![in alloc; 11; 2000]?;
+    let plain = vec![in alloc; 3; 2000]?;
+    let hash = MerkleHash::default();
+    let info = XorbObjectInfoV1::from_lists(hash, hashes, ends, plain, [7; 16]);
+    let mut sink = MemorySink::new(alloc);
+    info.serialize(&mut sink)?;
+    let mut bytes = sink.into_bytes();
+    bytes.extend_from_slice(&80092_u32.to_le_bytes())?;
+    Ok(bytes)
+}
+
+#[test]
+fn a_footer_of_two_blocks(rt: HostRuntime) -> Result<(), Fail> {
+    let alloc = rt.alloc();
+    let bytes = long_text(alloc)?;
+    assert!(rt; at_end(alloc, &bytes)? == (1, 80092));
+    Ok(())
+}
+
 #[test]
 fn boundaries_alone(rt: HostRuntime) -> Result<(), Fail> {
     let alloc = rt.alloc();
@@ -67,6 +89,21 @@ fn boundaries_alone(rt: HostRuntime) -> Result<(), Fail> {
     assert_eq!(rt; found.unpacked_chunk_offsets.as_slice(), [3].as_slice());
     assert!(rt; found.hashes_section_offset_from_end == 92);
     assert!(rt; !found.has_chunk_hashes());
+    Ok(())
+}
+
+#[test]
+fn boundaries_of_no_chunks(rt: HostRuntime) -> Result<(), Fail> {
+    let alloc = rt.alloc();
+    let bytes = text(alloc, 92)?;
+    let (found, count) = XorbObjectInfoV1::deserialize_only_boundaries_section(
+        alloc,
+        &mut SliceReader::new(&bytes),
+    )?;
+    assert!(rt; (count, found.num_chunks) == (40, 0));
+    assert!(rt; found.chunk_boundary_offsets.as_slice().is_empty());
+    assert!(rt; found.unpacked_chunk_offsets.as_slice().is_empty());
+    assert!(rt; found.hashes_section_offset_from_end == 52);
     Ok(())
 }
 

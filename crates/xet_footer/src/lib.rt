@@ -1,12 +1,14 @@
 //! Footers of xorbs, as values: written to sinks, and read from sources, at the end of a reader and in pieces.
 #![tactic(auto)]
 
+mod block;
 mod boundaries;
 mod buffer;
 mod decoder;
 mod ends;
 mod info;
 pub mod laws;
+mod lists;
 mod machine;
 mod reading;
 mod writing;

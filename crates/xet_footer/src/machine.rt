@@ -1,12 +1,11 @@
 //! A footer that is read field by field.
 
-ghost use Rattle.std.specs.Prelude.{◌≡◌, ◌≤◌, ◌+◌, ◌*◌, ◌++◌, OnOk, length, take, vec_len};
-ghost use Rattle.std.specs.Int.{from_le_bytes, w32};
-ghost use Rattle.xet_footer.specs.Items.{hashes_in, numbers_in};
+ghost use Rattle.std.specs.Prelude.{◌≤◌, vec_len};
 
 use crate::info::{
     BOUNDARIES_IDENT, FOOTER_IDENT, HASHES_IDENT, XorbObjectInfoV0, XorbObjectInfoV1,
 };
+use crate::lists::{hash_of, number_of, push_hashes, push_numbers};
 use std::alloc::{AllocError, Global};
 use xet_base::Items;
 use xet_hash::{MerkleHash, Reason, StoreError};
@@ -77,6 +76,8 @@ pub(crate) struct FooterReader {
     plain: Vec<u32>,
     /// The spare bytes.
     spare: [u8; 16],
+    /// How many bytes are there, of the footer and after it, as far as that is known.
+    available: u64,
     ghost few: { count ≤ 107374180 },
     ghost few_hashes: { vec_len hashes ≤ 107374180 },
     ghost few_ends: { vec_len ends ≤ 107374180 },
@@ -84,21 +85,22 @@ pub(crate) struct FooterReader {
 }
 
 impl FooterReader {
-    ghost use Rattle.std.specs.Prelude.{◌≡◌, ◌≤◌, ◌⊎◌, ℕ, ◌+◌, ◌-◌, ◌*◌, List, ◌++◌, Err, IfErr, OnOk, length, min, nat_lt};
-    ghost use Rattle.xet_hash.specs.declared.error.StoreError.TheVariants.{OutOfMemory};
+    ghost use Rattle.std.specs.Prelude.{◌≡◌, ◌≤◌, ◌⊎◌, ℕ, ◌+◌, ◌-◌, ◌*◌, List, ◌++◌, Err, IfErr, IsErrOf, OnOk, length, min, nat_lt};
+    ghost use Rattle.xet_hash.specs.declared.error.StoreError.TheVariants.{OutOfMemory, UnexpectedEof};
     ghost use Rattle.xet_footer.specs.Machine.{IsSettled, as_value, behind_ends, block_of, ends_v0, ends_v1, expects, expects_number, hashes_v0, hashes_v1, info_of, info_v0, next_count, next_ends, next_hash, next_hashes, next_plain, next_spare, next_version, plain_v1, started, step};
     ghost use Rattle.xet_footer.specs.Reader.{bytes_left, bytes_wanted, parts_of, rest_of};
     ghost use Rattle.xet_footer.specs.Reading.{footer_at, footer_v0, rest_v0};
     ghost use Rattle.xet_footer.specs.Refusals.{Gives, IsRefusal};
     ghost use Rattle.xet_footer.specs.Spelled.{most_chunks};
 
-    /// A reader of a footer of either version.
-    pub(crate) fn of_either(alloc: Global) -> FooterReader
+    /// A reader of a footer of either version, for which so many bytes are available: lists that fit into them are
+    /// reserved once, as soon as their length is read, and others grow.
+    pub(crate) fn of_either(alloc: Global, available: u64) -> FooterReader
         ensures rest { (bytes : List ℕ) → as_value info_of (rest_of result bytes) ≡ footer_at bytes }
         ensures settled { IsSettled result.next (parts_of result) }
         ensures left { bytes_left result ≤ 92 + 40 * most_chunks }
     {
-        FooterReader::started(alloc, true, Field::Ident)
+        FooterReader::started(alloc, true, Field::Ident, available)
     }
 
     /// A reader of a footer of version 0.
@@ -107,7 +109,7 @@ impl FooterReader {
         ensures settled { IsSettled result.next (parts_of result) }
         ensures left { bytes_left result ≤ 92 + 40 * most_chunks }
     {
-        FooterReader::started(alloc, false, Field::Ident)
+        FooterReader::started(alloc, false, Field::Ident, 0)
     }
 
     /// A reader of what stands behind ident and version of a footer of version 0.
@@ -116,11 +118,11 @@ impl FooterReader {
         ensures settled { IsSettled result.next (parts_of result) }
         ensures left { bytes_left result ≤ 92 + 40 * most_chunks }
     {
-        FooterReader::started(alloc, false, Field::Hash)
+        FooterReader::started(alloc, false, Field::Hash, 0)
     }
 
     /// A reader that has read nothing.
-    fn started(alloc: Global, either: bool, next: Field) -> FooterReader
+    fn started(alloc: Global, either: bool, next: Field, available: u64) -> FooterReader
         ensures next { result.next ≡ next }
         ensures parts { parts_of result ≡ started either }
     {
@@ -134,6 +136,7 @@ impl FooterReader {
             ends: Vec::new(alloc),
             plain: Vec::new(alloc),
             spare: [0; 16],
+            available,
         }
     }
 
@@ -209,6 +212,7 @@ impl FooterReader {
         ensures taken { OnOk result ((more : List ℕ) → rest_of self.old (field.now ++ more) ≡ rest_of self.new more) }
         ensures refused { IfErr result (λ e. (e ≡ OutOfMemory) ⊎ ((more : List ℕ) → rest_of self.old (field.now ++ more) ≡ Err e)) }
         ensures kinds { IfErr result IsRefusal }
+        ensures whole { IsErrOf result UnexpectedEof → ⊥ }
         ensures settled { OnOk result (IsSettled self.new.next (parts_of self.new)) }
         ensures left { OnOk result (length field.now + bytes_left self.new ≤ bytes_left self.old) }
     {
@@ -342,11 +346,31 @@ impl FooterReader {
             return Err(StoreError::MalformedData(Reason::ChunkCount));
         }
         self.count = count;
+        self.reserve()?;
         self.next = if self.is_v1 {
             self.hashes_v1()
         } else {
             self.ends_v0()
         };
+        Ok(())
+    }
+
+    /// Reserves the lists, if they fit into the bytes that are available: a chunk has 40 bytes there in version 1,
+    /// and 36 in version 0.
+    fn reserve(&mut self) -> Result<(), AllocError>
+        ensures next { self.new.next ≡ self.old.next }
+        ensures parts { parts_of self.new ≡ parts_of self.old }
+    {
+        let count = self.count as usize;
+        let each = if self.is_v1 { 40 } else { 36 };
+        if self.available < each * count as u64 {
+            return Ok(());
+        }
+        self.hashes.reserve(count)?;
+        self.ends.reserve(count)?;
+        if self.is_v1 {
+            self.plain.reserve(count)?;
+        }
         Ok(())
     }
 
@@ -469,59 +493,4 @@ impl FooterReader {
             self.hashes_v0()
         }
     }
-}
-
-/// The number in the first four bytes.
-pub(crate) fn number_of(bytes: &[u8]) -> u32
-    requires { 4 ≤ length bytes.now }
-    ensures first { result ≡ from_le_bytes w32 (take 4 bytes.now) }
-    ensures whole { length bytes.now ≡ 4 → result ≡ from_le_bytes w32 bytes.now }
-{
-    let b = &bytes[..4];
-    u32::from_le_bytes([b[0], b[1], b[2], b[3]])
-}
-
-/// The hash in the first 32 bytes.
-fn hash_of(bytes: &[u8]) -> MerkleHash
-    requires { 32 ≤ length bytes.now }
-    ensures first { result ≡ take 32 bytes.now }
-    ensures whole { length bytes.now ≡ 32 → result ≡ bytes.now }
-{
-    let mut hash = [0; 32];
-    hash.copy_from_slice(&bytes[..32]);
-    MerkleHash::from_bytes(hash)
-}
-
-/// Adds the first so many numbers of a field.
-pub(crate) fn push_numbers(
-    list: &mut Vec<u32>,
-    field: &[u8],
-    count: usize,
-) -> Result<(), AllocError>
-    requires { 4 * count ≤ length field.now }
-    ensures items { OnOk result (list.new.items ≡ list.old.items ++ numbers_in count field.now) }
-    ensures bound { vec_len list.new ≤ vec_len list.old + count }
-{
-    let mut rest = field;
-    for _done in 0..count {
-        list.push(number_of(rest))?;
-        let (_, behind) = rest.split_at(4);
-        rest = behind;
-    }
-    Ok(())
-}
-
-/// Adds the first so many hashes of a field.
-fn push_hashes(list: &mut Vec<MerkleHash>, field: &[u8], count: usize) -> Result<(), AllocError>
-    requires { 32 * count ≤ length field.now }
-    ensures items { OnOk result (list.new.items ≡ list.old.items ++ hashes_in count field.now) }
-    ensures bound { vec_len list.new ≤ vec_len list.old + count }
-{
-    let mut rest = field;
-    for _done in 0..count {
-        list.push(hash_of(rest))?;
-        let (_, behind) = rest.split_at(32);
-        rest = behind;
-    }
-    Ok(())
 }

@@ -1,8 +1,8 @@
 //! Footers that are read from sources.
 
-ghost use Rattle.std.specs.Prelude.{◌≡◌, ◌≤◌, ◌+◌, ◌*◌, ◌⊎◌, Ok, Err, true, IfErr, IfOk, IsErrOf, OnOk, length};
+ghost use Rattle.std.specs.Prelude.{◌≡◌, ◌≤◌, ◌+◌, ◌*◌, ◌⊎◌, ℕ, [], Ok, Err, true, IfErr, IfOk, IsErrOf, OnOk, drop, length};
 ghost use Rattle.xet_hash.specs.declared.error.Place.TheVariants.{Input};
-ghost use Rattle.xet_hash.specs.declared.error.StoreError.TheVariants.{Io, OutOfMemory};
+ghost use Rattle.xet_hash.specs.declared.error.StoreError.TheVariants.{Io, OutOfMemory, UnexpectedEof};
 ghost use Rattle.xet_io.specs.Faults.{HasCause};
 ghost use Rattle.xet_io.specs.Whole.{Fills};
 ghost use Rattle.xet_footer.specs.Machine.{IsSettled};
@@ -21,9 +21,11 @@ use xet_io::{Source, read_full};
 const BLOCK: usize = 2048;
 
 impl XorbObjectInfoV1 {
-    /// Reads a footer of either version from the front of a source, as one of version 1, and how many bytes
-    /// it has. It is refused by the first check that fails, as `UnexpectedEof` where the bytes end inside
-    /// it, as `Io(Input)`, or as `OutOfMemory`.
+    /// Reads a footer of either version from a source, as one of version 1, and returns it with its number of
+    /// bytes. The error is that of the first check that fails, `UnexpectedEof` where the bytes end inside the
+    /// footer, `Io(Input)`, or `OutOfMemory`. Whatever comes, a prefix of the source is taken: with a footer
+    /// just its bytes, with `UnexpectedEof` all bytes. A source is read field by field, and not in larger
+    /// blocks: what it has after the footer stays there.
     pub fn deserialize<R: Source>(
         alloc: Global,
         source: &mut R,
@@ -31,19 +33,21 @@ impl XorbObjectInfoV1 {
         ensures read { R.tells source.old ≡ true → IfOk result (λ x. footer_at (R.left source.old) ≡ Ok (x.0, R.left source.new)) }
         ensures count { R.tells source.old ≡ true → IfOk result (λ x. length (R.left source.old) ≡ x.1 + length (R.left source.new)) }
         ensures refused { R.tells source.old ≡ true → IfErr result (λ e. (footer_at (R.left source.old) ≡ Err e) ⊎ (e ≡ Io Input) ⊎ (e ≡ OutOfMemory)) }
+        ensures prefix { R.tells source.old ≡ true → (n : ℕ) × (R.left source.new ≡ drop n (R.left source.old)) }
+        ensures ended { R.tells source.old ≡ true → IsErrOf result UnexpectedEof → R.left source.new ≡ [] }
         ensures kinds { IfErr result IsFooterRefusal }
         ensures cause { HasCause (R.faults source.old) (R.faults source.new) (IsErrOf result (Io Input)) }
         ensures tells { R.tells source.new ≡ R.tells source.old }
     {
-        let mut reader = FooterReader::of_either(alloc);
+        let mut reader = FooterReader::of_either(alloc, 0);
         let count = read_fields(&mut reader, source)?;
         Ok((reader.into_v1(), count))
     }
 }
 
 impl XorbObjectInfoV0 {
-    /// Reads a footer of version 0 from the front of a source, and how many bytes it has. It is refused as
-    /// one of either version is.
+    /// Reads a footer of version 0 from a source, and returns it with its number of bytes. Errors, and what is
+    /// taken of the source, are as for a footer of either version.
     pub fn deserialize<R: Source>(
         alloc: Global,
         source: &mut R,
@@ -51,6 +55,8 @@ impl XorbObjectInfoV0 {
         ensures read { R.tells source.old ≡ true → IfOk result (λ x. footer_v0 (R.left source.old) ≡ Ok (x.0, R.left source.new)) }
         ensures count { R.tells source.old ≡ true → IfOk result (λ x. length (R.left source.old) ≡ x.1 + length (R.left source.new)) }
         ensures refused { R.tells source.old ≡ true → IfErr result (λ e. (footer_v0 (R.left source.old) ≡ Err e) ⊎ (e ≡ Io Input) ⊎ (e ≡ OutOfMemory)) }
+        ensures prefix { R.tells source.old ≡ true → (n : ℕ) × (R.left source.new ≡ drop n (R.left source.old)) }
+        ensures ended { R.tells source.old ≡ true → IsErrOf result UnexpectedEof → R.left source.new ≡ [] }
         ensures kinds { IfErr result IsFooterRefusal }
         ensures cause { HasCause (R.faults source.old) (R.faults source.new) (IsErrOf result (Io Input)) }
         ensures tells { R.tells source.new ≡ R.tells source.old }
@@ -60,7 +66,7 @@ impl XorbObjectInfoV0 {
         Ok((reader.into_v0(), count))
     }
 
-    /// Reads what stands behind ident and version of such a footer, and how many bytes that has.
+    /// Reads what stands after ident and version of such a footer, and returns it with its number of bytes.
     pub fn deserialize_v0<R: Source>(
         alloc: Global,
         source: &mut R,
@@ -68,6 +74,8 @@ impl XorbObjectInfoV0 {
         ensures read { R.tells source.old ≡ true → IfOk result (λ x. rest_v0 (R.left source.old) ≡ Ok (x.0, R.left source.new)) }
         ensures count { R.tells source.old ≡ true → IfOk result (λ x. length (R.left source.old) ≡ x.1 + length (R.left source.new)) }
         ensures refused { R.tells source.old ≡ true → IfErr result (λ e. (rest_v0 (R.left source.old) ≡ Err e) ⊎ (e ≡ Io Input) ⊎ (e ≡ OutOfMemory)) }
+        ensures prefix { R.tells source.old ≡ true → (n : ℕ) × (R.left source.new ≡ drop n (R.left source.old)) }
+        ensures ended { R.tells source.old ≡ true → IsErrOf result UnexpectedEof → R.left source.new ≡ [] }
         ensures kinds { IfErr result IsFooterRefusal }
         ensures cause { HasCause (R.faults source.old) (R.faults source.new) (IsErrOf result (Io Input)) }
         ensures tells { R.tells source.new ≡ R.tells source.old }
@@ -85,6 +93,8 @@ fn read_fields<R: Source>(reader: &mut FooterReader, source: &mut R) -> Result<u
     ensures read { R.tells source.old ≡ true → OnOk result (rest_of reader.old (R.left source.old) ≡ Ok (parts_of reader.new, R.left source.new)) }
     ensures count { R.tells source.old ≡ true → IfOk result (λ n. length (R.left source.old) ≡ n + length (R.left source.new)) }
     ensures refused { R.tells source.old ≡ true → IfErr result (λ e. (rest_of reader.old (R.left source.old) ≡ Err e) ⊎ (e ≡ Io Input) ⊎ (e ≡ OutOfMemory)) }
+    ensures prefix { R.tells source.old ≡ true → (n : ℕ) × (R.left source.new ≡ drop n (R.left source.old)) }
+    ensures ended { R.tells source.old ≡ true → IsErrOf result UnexpectedEof → R.left source.new ≡ [] }
     ensures kinds { IfErr result IsFooterRefusal }
     ensures cause { HasCause (R.faults source.old) (R.faults source.new) (IsErrOf result (Io Input)) }
     ensures tells { R.tells source.new ≡ R.tells source.old }
@@ -111,6 +121,8 @@ fn read_field<R: Source>(
     ensures settled { OnOk result (IsSettled reader.new.next (parts_of reader.new)) }
     ensures left { IfOk result (λ n. n + bytes_left reader.new ≤ bytes_left reader.old) }
     ensures refused { R.tells source.old ≡ true → IfErr result (λ e. (rest_of reader.old (R.left source.old) ≡ Err e) ⊎ (e ≡ Io Input) ⊎ (e ≡ OutOfMemory)) }
+    ensures prefix { R.tells source.old ≡ true → (n : ℕ) × (R.left source.new ≡ drop n (R.left source.old)) }
+    ensures ended { R.tells source.old ≡ true → IsErrOf result UnexpectedEof → R.left source.new ≡ [] }
     ensures kinds { IfErr result IsFooterRefusal }
     ensures cause { HasCause (R.faults source.old) (R.faults source.new) (IsErrOf result (Io Input)) }
     ensures tells { R.tells source.new ≡ R.tells source.old }

@@ -1,12 +1,12 @@
 //! Footers that are written to sinks.
 
-ghost use Rattle.std.specs.Prelude.{◌≡◌, ◌≤◌, ◌⊎◌, ℕ, ◌++◌, true, IfErr, IfOk, IsErrOf, OnErr, OnOk, take, length, ◌↔◌, IsTrue};
+ghost use Rattle.std.specs.Prelude.{◌≡◌, ◌<◌, ◌^◌, ◌⊎◌, ℕ, ◌++◌, true, IfErr, IfOk, IsErrOf, OnErr, OnOk, take, length, ◌↔◌, IsTrue};
 ghost use Rattle.xet_hash.specs.declared.error.Place.TheVariants.{Output};
 ghost use Rattle.xet_hash.specs.declared.error.Reason.TheVariants.{ListLength};
 ghost use Rattle.xet_hash.specs.declared.error.StoreError.TheVariants.{Io, MalformedData, OutOfMemory};
 ghost use Rattle.xet_io.specs.Faults.{HasCause};
 ghost use Rattle.xet_footer.specs.Held.{held_in};
-ghost use Rattle.xet_footer.specs.Spelled.{HasLists, HasShortLists, length_of, length_of_v0, most_chunks, text_v0, text_v1};
+ghost use Rattle.xet_footer.specs.Spelled.{HasLists, HasShortLists, length_of, length_of_v0, text_v0, text_v1};
 ghost use Rattle.xet_footer.specs.Written.{Front, Moves, StopsWriting};
 
 use crate::buffer::Buffer;
@@ -15,11 +15,10 @@ use xet_hash::{Reason, StoreError};
 use xet_io::Sink;
 
 impl XorbObjectInfoV0 {
-    /// Writes the footer, its lists as they stand, and returns how many bytes these are. Where the sink
-    /// refuses, a front of them was written.
+    /// Writes the footer, its lists as they stand, and returns how many bytes these are, which must be fewer
+    /// than 2^64. Where the sink fails, a prefix of them was written.
     pub fn serialize<W: Sink>(&self, sink: &mut W) -> Result<usize, StoreError>
-        requires hashes { length self.now.chunk_hashes ≤ most_chunks }
-        requires stored { length self.now.chunk_boundary_offsets ≤ most_chunks }
+        requires { length_of_v0 self.now < 2 ^ 64 }
         ensures written { W.tells sink.old ≡ true → OnOk result (W.written sink.new ≡ W.written sink.old ++ text_v0 self.now) }
         ensures bytes { IfOk result (λ n. n ≡ length (text_v0 self.now)) }
         ensures length { IfOk result (λ n. n ≡ length_of_v0 self.now) }

@@ -1,5 +1,5 @@
 use Rattle.xet_footer.specs.Reader.{parts_of}
-use Rattle.xet_footer.proofs.Taking.{kinds, left, refused, settled, taken}
+use Rattle.xet_footer.proofs.Taking.{kinds, left, refused, settled, taken, unended}
 use Rattle.xet_footer.proofs.machine.FooterReader.take.Goals as goal
 
 pub returns-clause-taken : goal.returns-clause-taken
@@ -16,3 +16,6 @@ returns-clause-settled c = settled c.args.self.now.next c.step.new.self.next (pa
 
 pub returns-clause-left : goal.returns-clause-left
 returns-clause-left c = left c.args.self.now.next c.step.new.self.next (parts_of c.args.self.now) (parts_of c.step.new.self) c.args.field.now c.step.result c.requires c.step.ensures
+
+pub returns-clause-whole : goal.returns-clause-whole
+returns-clause-whole c = unended c.args.self.now.next c.step.new.self.next (parts_of c.args.self.now) (parts_of c.step.new.self) c.args.field.now c.step.result c.step.ensures

@@ -1,7 +1,7 @@
 use Rattle.std.proofs.Common.{arith, rules}
 use Rattle.std.specs.Int.{from_le_bytes, w32}
 use Rattle.xet_footer.proofs.Listing.{goes_on, is_done}
-use Rattle.xet_footer.proofs.machine.push_numbers.Goals as goal
+use Rattle.xet_footer.proofs.lists.push_numbers.Goals as goal
 
 pub loop-done-preserved : goal.loop-done-preserved
 loop-done-preserved c = record {

@@ -1,6 +1,6 @@
 use Rattle.std.proofs.Common.{List, arith, rules, ℕ}
 use Rattle.xet_footer.proofs.Listing.{goes_on, is_done}
-use Rattle.xet_footer.proofs.machine.push_hashes.Goals as goal
+use Rattle.xet_footer.proofs.lists.push_hashes.Goals as goal
 
 pub loop-done-preserved : goal.loop-done-preserved
 loop-done-preserved c = record {

@@ -1,6 +1,6 @@
 use Rattle.std.proofs.Common.{◌≡◌, ◌≤◌, ◌*◌, ◌-◌, ◌+◌, ◌++◌, length, vec_len}
 use Rattle.xet_footer.specs.Items.{numbers_in}
-use Rattle.xet_footer.proofs.machine.push_numbers.Given as goal
+use Rattle.xet_footer.proofs.lists.push_numbers.Given as goal
 
 abbrev pub invariant-loop-done : goal.invariant-loop-done
 invariant-loop-done l = record {
