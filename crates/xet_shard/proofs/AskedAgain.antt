@@ -16,7 +16,7 @@ use Rattle.xet_shard.specs.declared.row.Row.{Row}
 use Rattle.xet_shard.specs.Held.{record_of}
 use Rattle.xet_shard.specs.Lookups.{Lookups, chunk_items, chunks_from, heads_from, place_cmp, places_from}
 use Rattle.xet_shard.specs.Queries.{block_at, block_in, file_in, first_file, found_file, found_run, kept_hash, last_of, record_in, rows_of, run_in, shard_file, shard_run, shard_run_at, told_run}
-use Rattle.xet_shard.specs.Reading.{file_at, file_row_count, xorb_at, xorb_row_count}
+use Rattle.xet_shard.specs.Reading.{◌>>=◌, file_at, file_row_count, xorb_at, xorb_row_count}
 use Rattle.xet_shard.specs.Records.{AreRecords, IsFile, IsXorb, file_hash, file_head, file_rest, file_rows, first_word, section, xorb_hash, xorb_head, xorb_rest, xorb_rows}
 use Rattle.xet_shard.specs.Rows.{rows_in}
 use Rattle.xet_shard.specs.Runs.{run_at}
@@ -24,6 +24,7 @@ use Rattle.xet_shard.specs.Text.{Fits, IsShard, Shard, footer_of, shard_text}
 use Rattle.xet_shard.proofs.Fitting.{all_both}
 use Rattle.xet_shard.proofs.ItemsAgain.{sorted_all}
 use Rattle.xet_shard.proofs.PartsAgain.{chunks_again, file_lookup_again, text_checked, text_placed, xorbs_again}
+use Rattle.xet_shard.proofs.PartLaws.{count_whole}
 use Rattle.xet_shard.proofs.RowList.{length-rows_in}
 use Rattle.xet_shard.proofs.SectionLaws.{Reading, files_reading, section_cons, section_takes, xorbs_reading}
 
@@ -176,15 +177,17 @@ module _ (w : Lookups) (s : Shard) (form : IsShard s) (fits : Fits s) where
   files_there =
       let p = text_placed w s form fits in
       let all = section_takes file_at file_hash file_head file_rest IsFile files_reading (file_row_count foot) None (rows_in (file_row_count foot) (drop foot.file_info_offset text)) s.files (text_checked w s form fits).files in
-      records_there file_at file_hash file_head file_rest IsFile files_reading foot.file_info_offset (file_row_count foot) text p.few_files (omega (arith, p.xorbs, p.file_lookup, p.xorb_lookup, p.chunk_lookup, p.footer, p.end)) 0 None s.files all.0
-      (omega (arith, ap length all.0, length-rows_in (file_row_count foot) (drop foot.file_info_offset text))) all.1
+      subst (λ (r : Result ℕ StoreError). Each file_rows (λ k x. (r >>= λ n. record_in file_at foot.file_info_offset n k text) ≡ Ok x) 0 s.files) (sym (count_whole foot.file_info_offset foot.xorb_info_offset p.xorbs))
+      (records_there file_at file_hash file_head file_rest IsFile files_reading foot.file_info_offset (file_row_count foot) text p.few_files (omega (arith, p.xorbs, p.file_lookup, p.xorb_lookup, p.chunk_lookup, p.footer, p.end)) 0 None s.files all.0
+      (omega (arith, ap length all.0, length-rows_in (file_row_count foot) (drop foot.file_info_offset text))) all.1)
 
   blocks_there : Each xorb_rows (λ r x. block_in foot r text ≡ Ok x) 0 s.blocks
   blocks_there =
       let p = text_placed w s form fits in
       let all = section_takes xorb_at xorb_hash xorb_head xorb_rest IsXorb xorbs_reading (xorb_row_count foot) None (rows_in (xorb_row_count foot) (drop foot.xorb_info_offset text)) s.blocks (text_checked w s form fits).blocks in
-      records_there xorb_at xorb_hash xorb_head xorb_rest IsXorb xorbs_reading foot.xorb_info_offset (xorb_row_count foot) text p.few_xorbs (omega (arith, p.file_lookup, p.xorb_lookup, p.chunk_lookup, p.footer, p.end)) 0 None s.blocks all.0
-      (omega (arith, ap length all.0, length-rows_in (xorb_row_count foot) (drop foot.xorb_info_offset text))) all.1
+      subst (λ (r : Result ℕ StoreError). Each xorb_rows (λ k x. (r >>= λ n. record_in xorb_at foot.xorb_info_offset n k text) ≡ Ok x) 0 s.blocks) (sym (count_whole foot.xorb_info_offset foot.file_lookup_offset p.file_lookup))
+      (records_there xorb_at xorb_hash xorb_head xorb_rest IsXorb xorbs_reading foot.xorb_info_offset (xorb_row_count foot) text p.few_xorbs (omega (arith, p.file_lookup, p.xorb_lookup, p.chunk_lookup, p.footer, p.end)) 0 None s.blocks all.0
+      (omega (arith, ap length all.0, length-rows_in (xorb_row_count foot) (drop foot.xorb_info_offset text))) all.1)
 
   key_again : foot.chunk_hash_hmac_key ≡ s.key
   unfolding footer_of

@@ -1,6 +1,8 @@
 -- Rows that fit, and how few bytes files and xorbs then have.
-use Rattle.std.proofs.Common.{ℕ, ◌+◌, ◌*◌, ◌^◌, ◌<◌, ◌≤◌, List, [], ◌∷◌, ◌++◌, length, map, ap, subst, arith, length-append}
+use Rattle.std.proofs.Common.{◌≡◌, Result, Ok, Err, ℕ, ◌+◌, ◌*◌, ◌^◌, ◌<◌, ◌≤◌, List, [], ◌∷◌, ◌++◌, length, map, ap, subst, arith, length-append}
 use Rattle.std.specs.List.{AllByRecursion, sum_by}
+use Rattle.std.specs.Prelude.{IfOk, OnOk}
+use Rattle.xet_hash.specs.declared.error.StoreError.{StoreError}
 use Rattle.std.proofs.lemmas.List.{length-map}
 use Rattle.std.proofs.lemmas.List.Sums.{sum_by-cons}
 use Rattle.xet_shard.specs.declared.record.FileDataSequenceEntry.{FileDataSequenceEntry}
@@ -9,7 +11,8 @@ use Rattle.xet_shard.specs.declared.record.MDBXorbInfo.{MDBXorbInfo}
 use Rattle.xet_shard.specs.declared.row.Row.{Row}
 use Rattle.xet_shard.specs.Rows.{RowFits}
 use Rattle.xet_shard.specs.Records.{ext_rows, file_rows, file_section, section, segment_bytes, segment_row, verification_row, xorb_rows, xorb_section}
-use Rattle.xet_shard.specs.Text.{materialized, stored}
+use Rattle.xet_shard.specs.Lookups.{all_lookups}
+use Rattle.xet_shard.specs.Text.{Fits, IsShard, IsShardText, Shard, full_text, materialized, stored}
 use Rattle.xet_shard.proofs.SectionLaws.{section_cons}
 
 pub all_front : {X : Type 0} (P : X → Type 0) (xs ys : List X) → AllByRecursion P (xs ++ ys) → AllByRecursion P xs
@@ -56,3 +59,8 @@ materialized_below files few fits = omega (arith, few, sum_below file_rows (λ (
 
 pub stored_below : (blocks : List MDBXorbInfo) → length (xorb_section blocks) < 2 ^ 32 → AllByRecursion RowFits (xorb_section blocks) → stored blocks < 2 ^ 64
 stored_below blocks few fits = omega (arith, few, sum_below xorb_rows (λ (x : MDBXorbInfo). x.metadata.num_bytes_in_xorb) xorb_bytes_below blocks fits)
+
+-- what is written of records that have the form and rise
+pub text_of_shard : {X : Type 0} (text : X → List ℕ) (r : Result X StoreError) (s : Shard) → IsShard s → IfOk r (λ x. text x ≡ full_text s) → OnOk r (Fits s) → IfOk r (λ x. IsShardText (text x) s)
+text_of_shard text (Ok x) s form is fits = record { shard = form; fits = fits; lookups = all_lookups; text = is }
+text_of_shard text (Err e) s form is fits = tt

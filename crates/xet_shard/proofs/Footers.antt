@@ -125,17 +125,21 @@ unfolding places_at
 places_take len f u e =
     let a = wants_ok (eqb f.file_info_offset 48) _ _ _ e in
     let b = wants_ok (eqb f.xorb_info_offset (f.file_info_offset + 48 * file_row_count f)) _ _ _ a.1 in
-    let c = wants_ok (ltb (file_row_count f) (2 ^ 32)) _ _ _ b.1 in
+    let x = wants_ok (ltb 0 (file_row_count f)) _ _ _ b.1 in
+    let c = wants_ok (ltb (file_row_count f) (2 ^ 32)) _ _ _ x.1 in
     let d = wants_ok (eqb f.file_lookup_offset (f.xorb_info_offset + 48 * xorb_row_count f)) _ _ _ c.1 in
-    let g = wants_ok (ltb (xorb_row_count f) (2 ^ 32)) _ _ _ d.1 in
+    let y = wants_ok (ltb 0 (xorb_row_count f)) _ _ _ d.1 in
+    let g = wants_ok (ltb (xorb_row_count f) (2 ^ 32)) _ _ _ y.1 in
     let h = wants_ok (eqb f.xorb_lookup_offset (f.file_lookup_offset + 12 * f.file_lookup_num_entry)) _ _ _ g.1 in
     let i = wants_ok (eqb f.chunk_lookup_offset (f.xorb_lookup_offset + 12 * f.xorb_lookup_num_entry)) _ _ _ h.1 in
     let j = wants_ok (eqb f.footer_offset (f.chunk_lookup_offset + 16 * f.chunk_lookup_num_entry)) _ _ _ i.1 in
     record {
       files = eqb-true _ _ a.0;
       xorbs = eqb-true _ _ b.0;
+      some_files = ltb-true _ _ x.0;
       few_files = ltb-true _ _ c.0;
       file_lookup = eqb-true _ _ d.0;
+      some_xorbs = ltb-true _ _ y.0;
       few_xorbs = ltb-true _ _ g.0;
       xorb_lookup = eqb-true _ _ h.0;
       chunk_lookup = eqb-true _ _ i.0;
@@ -146,4 +150,4 @@ places_take len f u e =
 pub places_again : (len : ℕ) (f : MDBShardFileFooter) → IsPlaced len f → places_at len f ≡ Ok tt
 unfolding places_at
 places_again len f p =
-    rw (eq-eqb _ _ p.files, eq-eqb _ _ p.xorbs, lt-ltb _ _ p.few_files, eq-eqb _ _ p.file_lookup, lt-ltb _ _ p.few_xorbs, eq-eqb _ _ p.xorb_lookup, eq-eqb _ _ p.chunk_lookup, eq-eqb _ _ p.footer, eq-eqb _ _ p.end) refl
+    rw (eq-eqb _ _ p.files, eq-eqb _ _ p.xorbs, lt-ltb _ _ p.some_files, lt-ltb _ _ p.few_files, eq-eqb _ _ p.file_lookup, lt-ltb _ _ p.some_xorbs, lt-ltb _ _ p.few_xorbs, eq-eqb _ _ p.xorb_lookup, eq-eqb _ _ p.chunk_lookup, eq-eqb _ _ p.footer, eq-eqb _ _ p.end) refl

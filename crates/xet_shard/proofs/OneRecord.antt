@@ -1,7 +1,7 @@
 -- A record is read of the rows that its head tells, and what comes after them is not looked at.
-use Rattle.std.proofs.Common.{◌≡◌, ℕ, zero, suc, ◌+◌, ◌-◌, ◌*◌, ◌^◌, ◌≤◌, ◌<◌, Bool, true, false, List, [], ◌∷◌, cond, eqb, ltb, length, take, drop, Option, Some, Result, Ok, Err, refl, sym, ap, subst, ◌∙◌, arith, min}
-use Rattle.std.proofs.lemmas.Bool.{le-leb, le-ltb, lt-leb, lt-ltb}
-use Rattle.std.proofs.lemmas.List.{drop-drop, take_min}
+use Rattle.std.proofs.Common.{◌≡◌, ℕ, zero, suc, ◌+◌, ◌-◌, ◌*◌, ◌^◌, ◌≤◌, ◌<◌, Bool, true, false, List, [], ◌∷◌, cond, eqb, ltb, length, take, drop, Option, Some, Result, Ok, Err, refl, sym, ap, subst, ◌∙◌, arith, min, inl, inr, leb}
+use Rattle.std.proofs.lemmas.Bool.{cases_Bool, leb-false, leb-true, le-leb, le-ltb, lt-leb, lt-ltb}
+use Rattle.std.proofs.lemmas.List.{drop-drop, length-take, take_min}
 use Rattle.xet_hash.specs.declared.error.Reason.TheVariants.{SectionEntry, SectionPlace}
 use Rattle.xet_hash.specs.declared.error.Reason.{Reason}
 use Rattle.xet_hash.specs.declared.error.StoreError.{StoreError}
@@ -14,7 +14,7 @@ use Rattle.xet_shard.specs.declared.record.MDBXorbInfo.{MDBXorbInfo}
 use Rattle.xet_shard.specs.declared.record.XorbChunkSequenceEntry.{XorbChunkSequenceEntry}
 use Rattle.xet_shard.specs.declared.row.Row.{Row}
 use Rattle.xet_shard.specs.Queries.{alone, record_in}
-use Rattle.xet_shard.specs.Reading.{◌>>=◌, Gives, GivesUnlessFault, chunk_in, chunks_at, ext_at, file_at, has_ext, hash_at, hash_in, is_verified, row_at, segment_at, times, verification_at, wants, xorb_at}
+use Rattle.xet_shard.specs.Reading.{◌>>=◌, Gives, GivesUnlessFault, chunk_in, chunks_at, ext_at, file_at, has_ext, hash_at, has_rows, hash_in, is_verified, row_at, rows_after_file, segment_at, times, verification_at, wants, xorb_at}
 use Rattle.xet_shard.specs.Records.{flags_of}
 use Rattle.xet_shard.specs.Rows.{row_of, rows_in}
 use Rattle.xet_shard.proofs.Chunks.{Read}
@@ -100,11 +100,17 @@ ext_cut true rows =
     let made : List ℕ × List Row → Result (Option FileMetadataExt × List Row) StoreError = λ h. Ok (Some (record { sha256 = h.0 }), h.1) in
     after_cut 0 0 (hash_at (take 1 rows)) (hash_at rows) made (hash_cut 0 rows) (λ h rest. refl)
 
--- the rows after a file's head
-abbrev pub rows_of_file : Row → ℕ
-rows_of_file head = head.b + (cond (is_verified head.a) head.b 0 + cond (has_ext head.a) 1 0)
+-- so many rows are left, whether or not more are looked at
+room : (n : ℕ) (rows : List Row) → leb n (length (take n rows)) ≡ leb n (length rows)
+room n rows = elim (cases_Bool (leb n (length rows))) [
+  | inl e ↦ le-leb n (length (take n rows)) (omega (arith, leb-true n (length rows) e, length-take n rows)) ∙ sym e
+  | inr e ↦ lt-leb n (length (take n rows)) (omega (arith, leb-false n (length rows) e, length-take n rows)) ∙ sym e
+]
 
-file_cut : (head : Row) (rows : List Row) → file_at head (take (rows_of_file head) rows) ≡ cut 0 (file_at head rows)
+room_cut : {B : Type 0} (n : ℕ) (rows : List Row) (part all : Result (B × List Row) StoreError) → part ≡ cut 0 all → (has_rows n (take n rows) >>= λ _. part) ≡ cut 0 (has_rows n rows >>= λ _. all)
+room_cut n rows part all same = ap (λ (b : Bool). wants b SectionPlace >>= λ _. part) (room n rows) ∙ test_cut (leb n (length rows)) SectionPlace part all same
+
+file_cut : (head : Row) (rows : List Row) → file_at head (take (rows_after_file head) rows) ≡ cut 0 (file_at head rows)
 unfolding file_at
 file_cut head rows =
     let b : ℕ = cond (is_verified head.a) head.b 0 in
@@ -113,11 +119,11 @@ file_cut head rows =
     let last : List FileDataSequenceEntry → List FileVerificationEntry → Option FileMetadataExt × List Row → Result (MDBFileInfo × List Row) StoreError = λ ss vs m. Ok (made ss vs m.0, m.1) in
     let second : List FileDataSequenceEntry → List FileVerificationEntry × List Row → Result (MDBFileInfo × List Row) StoreError = λ ss vs. ext_at (has_ext head.a) vs.1 >>= last ss vs.0 in
     let first : List FileDataSequenceEntry × List Row → Result (MDBFileInfo × List Row) StoreError = λ ss. times verification_at b ss.1 >>= second ss.0 in
-    test_cut (eqb head.a (flags_of (is_verified head.a) (has_ext head.a))) SectionEntry _ _
+    room_cut (rows_after_file head) rows _ _ (test_cut (eqb head.a (flags_of (is_verified head.a) (has_ext head.a))) SectionEntry _ _
     (test_cut (eqb head.c 0) SectionEntry _ _ (test_cut (eqb head.d 0) SectionEntry _ _
     (after_cut (b + e) 0 (times segment_at head.b (take (head.b + (b + e)) rows)) (times segment_at head.b rows) first (times_cut segment_at segment_cut head.b (b + e) rows) (λ ss rest.
     after_cut e 0 (times verification_at b (take (b + e) rest)) (times verification_at b rest) (second ss) (times_cut verification_at verification_cut b e rest) (λ vs others.
-    after_cut 0 0 (ext_at (has_ext head.a) (take e others)) (ext_at (has_ext head.a) others) (last ss vs) (ext_cut (has_ext head.a) others) (λ m left. refl))))))
+    after_cut 0 0 (ext_at (has_ext head.a) (take e others)) (ext_at (has_ext head.a) others) (last ss vs) (ext_cut (has_ext head.a) others) (λ m left. refl)))))))
 
 -- the same of chunks, with where they end
 abbrev cut_ends : ℕ → Read → Read
@@ -150,14 +156,14 @@ xorb_cut head rows =
     let made : List XorbChunkSequenceEntry → MDBXorbInfo = λ cs. record { metadata = record { xorb_hash = head.hash; xorb_flags = head.a; num_entries = head.b; num_bytes_in_xorb = head.c; num_bytes_on_disk = head.d }; chunks = cs } in
     let last : Read → Result (MDBXorbInfo × List Row) StoreError = λ r. r >>= λ x. wants (eqb x.1 head.c) SectionEntry >>= λ _. Ok (made x.0, x.2) in
     let e : head.b ≡ head.b + 0 = omega arith in
-    test_cut (eqb head.a 0) SectionEntry _ _ (test_cut (eqb head.d 0) SectionEntry _ _
-    (ap (λ (k : ℕ). last (chunks_at head.b 0 (take k rows))) e ∙ ap last (chunks_cut head.b 0 0 rows) ∙ xorb_ends head.c made (chunks_at head.b 0 rows)))
+    room_cut head.b rows _ _ (test_cut (eqb head.a 0) SectionEntry _ _ (test_cut (eqb head.d 0) SectionEntry _ _
+    (ap (λ (k : ℕ). last (chunks_at head.b 0 (take k rows))) e ∙ ap last (chunks_cut head.b 0 0 rows) ∙ xorb_ends head.c made (chunks_at head.b 0 rows))))
 
 alone_cut : {X : Type 0} (read : Result (X × List Row) StoreError) → alone (cut 0 read) ≡ alone read
 alone_cut (Ok x) = refl
 alone_cut (Err e) = refl
 
-pub file_alone : (head : Row) (n : ℕ) (rows : List Row) → n ≡ rows_of_file head → alone (file_at head (take n rows)) ≡ alone (file_at head rows)
+pub file_alone : (head : Row) (n : ℕ) (rows : List Row) → n ≡ rows_after_file head → alone (file_at head (take n rows)) ≡ alone (file_at head rows)
 file_alone head n rows e = ap (λ (k : ℕ). alone (file_at head (take k rows))) e ∙ ap (λ (r : Result (MDBFileInfo × List Row) StoreError). alone r) (file_cut head rows) ∙ alone_cut (file_at head rows)
 
 pub xorb_alone : (head : Row) (n : ℕ) (rows : List Row) → n ≡ head.b → alone (xorb_at head (take n rows)) ≡ alone (xorb_at head rows)

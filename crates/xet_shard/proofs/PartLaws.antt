@@ -1,15 +1,16 @@
 -- The parts of a shard by their own pieces of its bytes.
-use Rattle.std.proofs.Common.{◌≡◌, ◌≢◌, if◌then◌else◌, ℕ, ◌+◌, ◌*◌, ◌^◌, Bool, true, false, List, length, take, drop, nat_le, nat_lt, None, Result, Ok, Err, refl, sym, ap, subst, ◌∙◌}
+use Rattle.std.proofs.Common.{◌≡◌, ◌≢◌, if◌then◌else◌, ℕ, ◌+◌, ◌-◌, ◌*◌, ◌/◌, ◌^◌, Bool, true, false, List, length, take, drop, nat_le, nat_lt, None, Result, Ok, Err, refl, sym, ap, subst, ◌∙◌}
 use Rattle.xet_hash.specs.declared.error.Reason.{Reason}
 use Rattle.xet_hash.specs.declared.error.Reason.TheVariants.{SectionPlace}
 use Rattle.xet_hash.specs.declared.error.StoreError.{StoreError}
+use Rattle.xet_hash.specs.declared.error.StoreError.TheVariants.{MalformedData}
 use Rattle.xet_shard.specs.declared.info.MDBShardFileFooter.{MDBShardFileFooter}
 use Rattle.xet_shard.specs.declared.row.Row.{Row}
 use Rattle.xet_shard.specs.Queries.{file_lookup_in}
 use Rattle.xet_shard.specs.Reading.{◌>>=◌, Gives, GivesUnlessFault, reaches, section_at, wants}
 use Rattle.xet_shard.specs.Pieces.{piece_at, rows_at}
 use Rattle.xet_shard.specs.Rows.{rows_in}
-use Rattle.xet_shard.specs.Sections.{block_heads_in, blocks_in, chunk_lookup_in, files_in, heads_in, heads_of, places_in, section_in, xorb_lookup_in}
+use Rattle.xet_shard.specs.Sections.{block_heads_in, blocks_in, chunk_lookup_in, files_in, heads_in, heads_of, places_in, row_count, section_in, xorb_lookup_in}
 use Rattle.std.specs.Prelude.{◌==◌}
 use Rattle.std.proofs.lemmas.Bool.{eq-eqb, ne_eqb}
 use Rattle.xet_shard.specs.Lookups.{chunk_items, file_items, xorb_items}
@@ -24,6 +25,19 @@ regroup : {P Y : Type 0} (a b : Bool) (reason : Reason) (p : P) (f : P → Resul
 regroup false b reason p f x e = refl
 regroup true false reason p f x e = refl
 regroup true true reason p f x e = e
+
+-- whole rows are counted
+pub count_whole : (from to : ℕ) → to ≡ from + 48 * ((to - from) / 48) → row_count from to ≡ Ok ((to - from) / 48)
+unfolding row_count
+count_whole from to e = rw (eq-eqb _ _ e) refl
+
+pub counted : {B Y : Type 0} (view : B → Y) (from to n : ℕ) (result : Result B StoreError) (f : ℕ → Result Y StoreError) → Ok n ≡ row_count from to → GivesUnlessFault view result (f n) → GivesUnlessFault view result (row_count from to >>= f)
+counted view from to n result f is gives = subst (λ (r : Result ℕ StoreError). GivesUnlessFault view result (r >>= f)) is gives
+
+pub count_fails : {B Y : Type 0} (view : B → Y) (from to : ℕ) (e : StoreError) (f : ℕ → Result Y StoreError) → e ≡ MalformedData SectionPlace → Err e ≡ row_count from to → GivesUnlessFault view (Err e) (row_count from to >>= f)
+count_fails {B} {Y} view from to e f is refused =
+    let fails : (row_count from to >>= f) ≡ Err (MalformedData SectionPlace) = ap (λ (r : Result ℕ StoreError). r >>= f) (sym refused) ∙ ap Err is in
+    subst (λ (d : StoreError). GivesUnlessFault {X = B} view (Err d) (row_count from to >>= f)) (sym is) fails
 
 module _ {X : Type 0} (record_at : Row → List Row → Result (X × List Row) StoreError) (hash : X → List ℕ) (at count : ℕ) (whole : List ℕ) where
   -- how a section is read of its rows' bytes

@@ -1,5 +1,5 @@
 -- The parts of a shard's text are read, each for itself.
-use Rattle.std.proofs.Common.{◌≡◌, ◌≢◌, ℕ, ◌+◌, ◌-◌, ◌*◌, ◌^◌, ◌<◌, ◌≤◌, true, false, eqb, List, length, take, drop, replicate, nat_eq, None, Result, Ok, refl, sym, subst, ◌∙◌, arith, inl, inr}
+use Rattle.std.proofs.Common.{◌≡◌, ◌≢◌, ℕ, ◌+◌, ◌-◌, ◌*◌, ◌^◌, ◌<◌, ◌≤◌, true, false, eqb, List, length, take, drop, replicate, nat_eq, None, Result, Ok, refl, sym, ap, subst, ◌∙◌, arith, inl, inr}
 use Rattle.std.specs.Cmp.Lexicographic.{pointwise}
 use Rattle.std.specs.List.{flat_map}
 use Rattle.std.proofs.lemmas.Bool.{cases_Bool, eqb-false, eqb-true, le-leb, lt-ltb}
@@ -19,7 +19,7 @@ use Rattle.xet_shard.specs.Text.{Fits, IsShard, Shard, footer_of, header, materi
 use Rattle.xet_shard.proofs.Faulting.{info_of, piece_there}
 use Rattle.xet_shard.proofs.Footers.{places_take}
 use Rattle.xet_shard.proofs.ItemsAgain.{chunk_items_fit, file_items_fit, heads_again, places_again, xorb_items_fit}
-use Rattle.xet_shard.proofs.PartLaws.{chunks_kept, chunks_made, files_kept, files_made, goes_on, xorbs_kept, xorbs_made}
+use Rattle.xet_shard.proofs.PartLaws.{chunks_kept, chunks_made, count_whole, files_kept, files_made, goes_on, xorbs_kept, xorbs_made}
 use Rattle.xet_shard.proofs.RowLaws.{bind_ok, ok_is, wants_ok}
 use Rattle.xet_shard.proofs.WholeAgain.{all_again}
 use Rattle.xet_shard.proofs.WholeTaken.{LeftIn, head_len, lookup_takes, place_len}
@@ -130,10 +130,10 @@ module _ (w : Lookups) (s : Shard) (form : IsShard s) (fits : Fits s) where
   info_again = info_of text foot text_checked.header text_checked.footer
 
   pub files_again : files_in foot text ≡ Ok s.files
-  files_again = let p = text_placed in section_there file_at file_hash foot.file_info_offset (file_row_count foot) text s.files p.few_files (omega (arith, p.xorbs, p.file_lookup, p.xorb_lookup, p.chunk_lookup, p.footer, p.end)) text_checked.files
+  files_again = let p = text_placed in ap (λ (r : Result ℕ StoreError). r >>= λ n. section_in file_at file_hash foot.file_info_offset n text) (count_whole foot.file_info_offset foot.xorb_info_offset p.xorbs) ∙ section_there file_at file_hash foot.file_info_offset (file_row_count foot) text s.files p.few_files (omega (arith, p.xorbs, p.file_lookup, p.xorb_lookup, p.chunk_lookup, p.footer, p.end)) text_checked.files
 
   pub blocks_again : blocks_in foot text ≡ Ok s.blocks
-  blocks_again = let p = text_placed in section_there xorb_at xorb_hash foot.xorb_info_offset (xorb_row_count foot) text s.blocks p.few_xorbs (omega (arith, p.file_lookup, p.xorb_lookup, p.chunk_lookup, p.footer, p.end)) text_checked.blocks
+  blocks_again = let p = text_placed in ap (λ (r : Result ℕ StoreError). r >>= λ n. section_in xorb_at xorb_hash foot.xorb_info_offset n text) (count_whole foot.xorb_info_offset foot.file_lookup_offset p.file_lookup) ∙ section_there xorb_at xorb_hash foot.xorb_info_offset (xorb_row_count foot) text s.blocks p.few_xorbs (omega (arith, p.file_lookup, p.xorb_lookup, p.chunk_lookup, p.footer, p.end)) text_checked.blocks
 
   pub file_lookup_again : file_lookup_in foot text ≡ Ok (file_items s.files)
   file_lookup_again = files_there text foot s.files text_placed (heads_again (file_items s.files) (file_items_fit s.files fits.files form.few_files)) files_again text_checked.heads

@@ -1,5 +1,5 @@
 -- Reading refuses bytes that end too early, or that fail a check, and nothing else.
-use Rattle.std.proofs.Common.{◌≡◌, ℕ, zero, suc, ◌+◌, ◌-◌, ◌*◌, ◌^◌, ◌≤◌, Bool, true, false, List, [], ◌∷◌, length, drop, take, replicate, nat_eq, nat_le, nat_lt, if◌then◌else◌, Option, None, Some, Result, Ok, Err, IfErr, IsErrOf, subst, refl, ap}
+use Rattle.std.proofs.Common.{◌≡◌, ℕ, zero, suc, ◌+◌, ◌-◌, ◌*◌, ◌^◌, ◌≤◌, Bool, true, false, List, [], ◌∷◌, length, drop, take, replicate, nat_eq, nat_le, nat_lt, if◌then◌else◌, Option, None, Some, Result, Ok, Err, IfErr, IsErrOf, subst, refl, sym, ap}
 use Rattle.xet_hash.specs.declared.error.Place.{Place}
 use Rattle.xet_hash.specs.declared.error.Place.TheVariants.{Input}
 use Rattle.xet_io.specs.Faults.{HasCause}
@@ -17,7 +17,7 @@ use Rattle.xet_shard.specs.Rows.{word}
 use Rattle.xet_shard.specs.Text.{tag}
 use Rattle.xet_shard.specs.Pieces.{footer_of_last, header_of_first}
 use Rattle.xet_shard.proofs.FirstLast.{footer_is, header_is}
-use Rattle.xet_shard.specs.Reading.{Fails, Gives, GivesUnlessFault, IsShardRefusal, Parts, all_of, chunk_in, chunks_at, end_at, ext_at, file_at, file_row_count, footer_at, footer_in, has_ext, is_verified, xorb_row_count, hash_at, hash_in, header_at, lookup_at, places_at, reaches, row_at, section_at, segment_at, step_at, times, totals_at, verification_at, wants, xorb_at, ◌>>=◌}
+use Rattle.xet_shard.specs.Reading.{Fails, Gives, GivesUnlessFault, IsInputError, IsShardRefusal, IsUnlessFault, Parts, all_of, chunk_in, chunks_at, end_at, ext_at, file_at, file_row_count, footer_at, footer_in, has_ext, is_verified, xorb_row_count, hash_at, hash_in, header_at, lookup_at, places_at, reaches, row_at, rows_after_file, section_at, segment_at, step_at, times, totals_at, verification_at, wants, xorb_at, ◌>>=◌}
 
 abbrev pub IsOfBytes : StoreError → Type 0
 IsOfBytes errors.UnexpectedEof = Unit {0}
@@ -92,10 +92,10 @@ pub a_file : (head : Row) (rows : List Row) → IsAnswer (file_at head rows)
 unfolding file_at
 a_file head rows =
     let checks : ℕ = if is_verified head.a then head.b else 0 in
-    test (head.a == flags_of (is_verified head.a) (has_ext head.a)) _ _ (test (head.c == 0) _ _ (test (head.d == 0) _ _
+    test (nat_le (rows_after_file head) (length rows)) _ _ (test (head.a == flags_of (is_verified head.a) (has_ext head.a)) _ _ (test (head.c == 0) _ _ (test (head.d == 0) _ _
     (both (times segment_at head.b rows) _ (some_times segment_at a_segment head.b rows) (λ segments.
     both (times verification_at checks segments.1) _ (some_times verification_at a_verification checks segments.1) (λ verification.
-    both (ext_at (has_ext head.a) verification.1) _ (an_ext (has_ext head.a) verification.1) (λ _. fine _))))))
+    both (ext_at (has_ext head.a) verification.1) _ (an_ext (has_ext head.a) verification.1) (λ _. fine _)))))))
 
 a_chunk : (r : Row) (at : ℕ) → IsAnswer (chunk_in r at)
 unfolding chunk_in
@@ -111,7 +111,7 @@ some_chunks (suc n) at rows =
 pub a_xorb : (head : Row) (rows : List Row) → IsAnswer (xorb_at head rows)
 unfolding xorb_at
 a_xorb head rows =
-    test (head.a == 0) _ _ (test (head.d == 0) _ _ (both (chunks_at head.b 0 rows) _ (some_chunks head.b 0 rows) (λ chunks. test (chunks.1 == head.c) _ _ (fine _))))
+    test (nat_le head.b (length rows)) _ _ (test (head.a == 0) _ _ (test (head.d == 0) _ _ (both (chunks_at head.b 0 rows) _ (some_chunks head.b 0 rows) (λ chunks. test (chunks.1 == head.c) _ _ (fine _)))))
 
 an_end : (r : Row) (rows : List Row) → IsAnswer (end_at r rows)
 unfolding end_at
@@ -122,7 +122,7 @@ module _ {X : Type 0} (record_at : Row → List Row → Result (X × List Row) S
   unfolding step_at
   a_step last rows =
       both (row_at rows) _ (a_row rows) (λ r. either (pointwise nat_eq r.0.hash marker) _ _ (both (end_at r.0 r.1) _ (an_end r.0 r.1) (λ _. fine _))
-      (test (is_after last r.0.hash) _ _ (both (record_at r.0 r.1) _ (each r.0 r.1) (λ _. fine _))))
+      (both (record_at r.0 r.1) _ (each r.0 r.1) (λ _. test (is_after last r.0.hash) _ _ (fine _))))
 
   pub a_section : (hash : X → List ℕ) (n : ℕ) (last : Option (List ℕ)) (rows : List Row) → IsAnswer (section_at record_at hash n last rows)
   unfolding section_at
@@ -146,11 +146,11 @@ a_header bytes = subst IsAnswer (header_is bytes) (a_first (length bytes) bytes)
 some_places : (len : ℕ) (f : MDBShardFileFooter) → IsAnswer (places_at len f)
 unfolding places_at
 some_places len f =
-    test (f.file_info_offset == 48) _ _ (test (f.xorb_info_offset == f.file_info_offset + 48 * file_row_count f) _ _ (test (nat_lt (file_row_count f) (2 ^ 32)) _ _
-    (test (f.file_lookup_offset == f.xorb_info_offset + 48 * xorb_row_count f) _ _ (test (nat_lt (xorb_row_count f) (2 ^ 32)) _ _
+    test (f.file_info_offset == 48) _ _ (test (f.xorb_info_offset == f.file_info_offset + 48 * file_row_count f) _ _ (test (nat_lt 0 (file_row_count f)) _ _ (test (nat_lt (file_row_count f) (2 ^ 32)) _ _
+    (test (f.file_lookup_offset == f.xorb_info_offset + 48 * xorb_row_count f) _ _ (test (nat_lt 0 (xorb_row_count f)) _ _ (test (nat_lt (xorb_row_count f) (2 ^ 32)) _ _
     (test (f.xorb_lookup_offset == f.file_lookup_offset + 12 * f.file_lookup_num_entry) _ _
     (test (f.chunk_lookup_offset == f.xorb_lookup_offset + 12 * f.xorb_lookup_num_entry) _ _
-    (test (f.footer_offset == f.chunk_lookup_offset + 16 * f.chunk_lookup_num_entry) _ _ (wanted (len == f.footer_offset + 200) SectionPlace))))))))
+    (test (f.footer_offset == f.chunk_lookup_offset + 16 * f.chunk_lookup_num_entry) _ _ (wanted (len == f.footer_offset + 200) SectionPlace))))))))))
 
 pub a_last : (len : ℕ) (last : List ℕ) → IsAnswer (footer_of_last len last)
 unfolding footer_of_last
@@ -233,6 +233,23 @@ allowed (errors.BadLimits field) read answers fails = of_bytes (errors.BadLimits
 pub refuses : {X Y : Type 0} (view : X → Y) (result : Result X StoreError) (read : Result Y StoreError) → IsAnswer read → Gives view result read → IfErr result IsShardRefusal
 refuses view (Ok x) read answers gives = tt
 refuses view (Err e) read answers gives = allowed e read answers gives
+
+-- the same of a call that takes no memory
+input_of : (e : StoreError) → IsOfBytes e → IsInputError e
+input_of errors.UnexpectedEof of = tt
+input_of (errors.MalformedData reason) of = tt
+input_of e of = absurd of
+
+pub gives_input_error : {X : Type 0} (result read : Result X StoreError) → IsAnswer read → result ≡ read → IfErr result IsInputError
+gives_input_error (Ok x) read answers is = tt
+gives_input_error (Err e) read answers is = input_of e (of_bytes e read answers (sym is))
+
+pub is_unless_fault : {X : Type 0} (result read : Result X StoreError) → GivesUnlessFault (λ x. x) result read → IfErr result IsInputError → IsUnlessFault result read
+is_unless_fault (Ok x) read gives refusal = sym gives
+is_unless_fault (Err (errors.Io place)) read gives refusal = gives
+is_unless_fault (Err errors.UnexpectedEof) read gives refusal = sym gives
+is_unless_fault (Err (errors.MalformedData reason)) read gives refusal = sym gives
+is_unless_fault (Err e) read gives refusal = absurd refusal
 
 -- and none is that of an object of the outside
 pub no_fault : {X Y : Type 0} (view : X → Y) (result : Result X StoreError) (read : Result Y StoreError) (place : Place) → IsAnswer read → Gives view result read → IsErrOf result (errors.Io place) → ⊥

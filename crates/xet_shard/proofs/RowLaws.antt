@@ -1,8 +1,9 @@
 -- Two laws of each reader on rows: what it read are the rows of the value, and the rows of a value are read.
-use Rattle.std.proofs.Common.{inl, inr, ◌≡◌, ℕ, zero, suc, Bool, true, false, cond, eqb, List, [], ◌∷◌, ◌++◌, length, map, Option, Some, None, Result, Ok, Err, refl, sym, ap, subst, ◌∙◌, append_assoc}
+use Rattle.std.proofs.Common.{inl, inr, ◌≡◌, ℕ, zero, suc, Bool, true, false, cond, eqb, leb, List, [], ◌∷◌, ◌++◌, length, map, Option, Some, None, Result, Ok, Err, refl, sym, ap, subst, ◌∙◌, append_assoc, arith, length-append}
 use Rattle.std.specs.List.{AllByRecursion}
 use Rattle.std.specs.Prelude.{◌⊎◌, is_some}
-use Rattle.std.proofs.lemmas.Bool.{eqb-true, eq-eqb}
+use Rattle.std.proofs.lemmas.Bool.{eqb-true, eq-eqb, le-leb}
+use Rattle.std.proofs.lemmas.List.{length-map}
 use Rattle.xet_shard.specs.declared.record.FileDataSequenceEntry.{FileDataSequenceEntry}
 use Rattle.xet_shard.specs.declared.record.FileMetadataExt.{FileMetadataExt}
 use Rattle.xet_shard.specs.declared.record.FileVerificationEntry.{FileVerificationEntry}
@@ -12,7 +13,7 @@ use Rattle.xet_hash.specs.declared.error.StoreError.{StoreError}
 use Rattle.xet_hash.specs.declared.error.Reason.{Reason}
 use Rattle.xet_shard.specs.Rows.{row}
 use Rattle.xet_shard.specs.Records.{IsFile, ext_rows, file_head, file_rest, flags_of, segment_row, verification_row}
-use Rattle.xet_shard.specs.Reading.{ext_at, file_at, has_ext, hash_at, hash_in, is_verified, reaches, row_at, segment_at, times, verification_at, wants, ◌>>=◌}
+use Rattle.xet_shard.specs.Reading.{ext_at, file_at, has_ext, hash_at, hash_in, is_verified, reaches, row_at, rows_after_file, segment_at, times, verification_at, wants, ◌>>=◌}
 
 -- ---- tools
 
@@ -162,10 +163,15 @@ has_ext_again false true = refl
 has_ext_again true false = refl
 has_ext_again true true = refl
 
+ext_count : (m : Option FileMetadataExt) → cond (is_some m) 1 0 ≡ length (ext_rows m)
+ext_count None = refl
+ext_count (Some m) = refl
+
 pub file_takes : (head : Row) (rows : List Row) (f : MDBFileInfo) (rest : List Row) → file_at head rows ≡ Ok (f, rest) → (head ≡ file_head f) × (rows ≡ file_rest f ++ rest) × IsFile f
 unfolding file_at
 file_takes head rows f rest e =
-    let a = wants_ok (eqb head.a (flags_of (is_verified head.a) (has_ext head.a))) _ _ _ e in
+    let z = wants_ok (leb (rows_after_file head) (length rows)) _ _ _ e in
+    let a = wants_ok (eqb head.a (flags_of (is_verified head.a) (has_ext head.a))) _ _ _ z.1 in
     let c = wants_ok (eqb head.c 0) _ _ _ a.1 in
     let d = wants_ok (eqb head.d 0) _ _ _ c.1 in
     let ss = bind_ok (times segment_at head.b rows) _ _ d.1 in
@@ -199,4 +205,19 @@ file_again f rest form =
     append_assoc (map segment_row f.segments) (map verification_row f.verification ++ ext_rows f.metadata_ext) rest ∙ ap (λ (rs : List Row). map segment_row f.segments ++ rs) (append_assoc (map verification_row f.verification) (ext_rows f.metadata_ext) rest) in
     let ss : times segment_at f.metadata.num_entries (file_rest f ++ rest) ≡ Ok (f.segments, map verification_row f.verification ++ (ext_rows f.metadata_ext ++ rest)) =
     ap (λ (n : ℕ). times segment_at n (file_rest f ++ rest)) form.counted ∙ ap (times segment_at (length f.segments)) regrouped ∙ times_again segment_at segment_row IsPlain segments_read f.segments _ form.plain in
-    rw (vi, ei, ok, ss, count, times_again verification_at verification_row (λ _. Unit {0}) verifications_read f.verification (ext_rows f.metadata_ext ++ rest) (any_each f.verification), ext_again f.metadata_ext rest) refl
+    let checks : cond (is_verified f.metadata.file_flags) f.metadata.num_entries 0 ≡ length f.verification = ap (λ (b : Bool). cond b f.metadata.num_entries 0) vi ∙ count in
+    let extra : cond (has_ext f.metadata.file_flags) 1 0 ≡ length (ext_rows f.metadata_ext) = ap (λ (b : Bool). cond b 1 0) ei ∙ ext_count f.metadata_ext in
+    let room : leb (rows_after_file (file_head f)) (length (file_rest f ++ rest)) ≡ true =
+    le-leb _ _ (omega (
+      arith,
+      ap length regrouped,
+      length-append (map segment_row f.segments) (map verification_row f.verification ++ (ext_rows f.metadata_ext ++ rest)),
+      length-append (map verification_row f.verification) (ext_rows f.metadata_ext ++ rest),
+      length-append (ext_rows f.metadata_ext) rest,
+      length-map f.segments segment_row,
+      length-map f.verification verification_row,
+      form.counted,
+      checks,
+      extra,
+    )) in
+    rw (room, vi, ei, ok, ss, count, times_again verification_at verification_row (λ _. Unit {0}) verifications_read f.verification (ext_rows f.metadata_ext ++ rest) (any_each f.verification), ext_again f.metadata_ext rest) refl

@@ -1,10 +1,10 @@
 -- The same two laws for xorbs and for whole sections.
-use Rattle.std.proofs.Common.{◌≡◌, ℕ, zero, suc, ◌+◌, ◌<◌, true, false, eqb, List, [], ◌∷◌, ◌++◌, length, map, Option, Some, None, Result, Ok, refl, sym, ap, subst, ◌∙◌, append_assoc, arith, inl, inr}
+use Rattle.std.proofs.Common.{◌≡◌, ℕ, zero, suc, ◌+◌, ◌<◌, true, false, eqb, leb, List, [], ◌∷◌, ◌++◌, length, map, Option, Some, None, Result, Ok, refl, sym, ap, subst, ◌∙◌, append_assoc, length-append, arith, inl, inr}
 use Rattle.std.specs.List.{flat_map}
 use Rattle.std.specs.Prelude.{nat_eq}
 use Rattle.std.specs.Cmp.Lexicographic.{pointwise, bytes_decides}
-use Rattle.std.proofs.lemmas.Bool.{eqb-true, eq-eqb, false_from_ne_true, true≢false}
-use Rattle.std.proofs.lemmas.List.{nil_from_length}
+use Rattle.std.proofs.lemmas.Bool.{eqb-true, eq-eqb, le-leb, false_from_ne_true, true≢false}
+use Rattle.std.proofs.lemmas.List.{length-map, nil_from_length}
 use Rattle.std.proofs.lemmas.List.Concat.{flat_map-cons}
 use Rattle.std.proofs.lemmas.List.Sums.{sum_by-cons}
 use Rattle.xet_shard.specs.declared.record.MDBXorbInfo.{MDBXorbInfo}
@@ -62,7 +62,8 @@ chunks_again at (c ∷ cs) rest s =
 pub xorb_takes : (head : Row) (rows : List Row) (x : MDBXorbInfo) (rest : List Row) → xorb_at head rows ≡ Ok (x, rest) → (head ≡ xorb_head x) × (rows ≡ xorb_rest x ++ rest) × IsXorb x
 unfolding xorb_at
 xorb_takes head rows x rest e =
-    let a = wants_ok (eqb head.a 0) _ _ _ e in
+    let z = wants_ok (leb head.b (length rows)) _ _ _ e in
+    let a = wants_ok (eqb head.a 0) _ _ _ z.1 in
     let b = wants_ok (eqb head.d 0) _ _ _ a.1 in
     let c = bind_ok (chunks_at head.b 0 rows) _ _ b.1 in
     let d = wants_ok (eqb c.0.1 head.c) _ _ _ c.2 in
@@ -82,7 +83,8 @@ unfolding xorb_at
 xorb_again x rest form =
     let cs : chunks_at x.metadata.num_entries 0 (map chunk_row x.chunks ++ rest) ≡ Ok (x.chunks, 0 + chunk_bytes x.chunks, rest) = ap (λ (n : ℕ). chunks_at n 0 (map chunk_row x.chunks ++ rest)) form.counted ∙ chunks_again 0 x.chunks rest form.starts in
     let total : eqb (0 + chunk_bytes x.chunks) x.metadata.num_bytes_in_xorb ≡ true = eq-eqb _ _ (omega (arith, form.total)) in
-    rw (eq-eqb _ _ form.plain, eq-eqb _ _ form.on_disk, cs, total) refl
+    let room : leb x.metadata.num_entries (length (map chunk_row x.chunks ++ rest)) ≡ true = le-leb _ _ (omega (arith, length-append (map chunk_row x.chunks) rest, length-map x.chunks chunk_row, form.counted)) in
+    rw (room, eq-eqb _ _ form.plain, eq-eqb _ _ form.on_disk, cs, total) refl
 
 -- ---- sections
 
@@ -126,10 +128,10 @@ section_takes {X} record_at hash head others Form each (suc n) last rows xs e =
           subst (λ (ys : List X). (rows ≡ section (λ x. head x ∷ others x) ys) × AreRecords hash Form last ys) empty
           (row_ok rows b.0 b.1 ∙ ap (λ (r : Row). r ∷ b.0.1) t.0 ∙ ap (λ (rs : List Row). end_row ∷ rs) t.1, tt)
       | inr (m, f) ↦
-          let w = wants_ok (is_after last b.0.0.hash) _ _ _ f in
-          let x = bind_ok (record_at b.0.0 b.0.1) _ _ w.1 in
+          let x = bind_ok (record_at b.0.0 b.0.1) _ _ f in
+          let w = wants_ok (is_after last b.0.0.hash) _ _ _ x.2 in
           let t = each.takes b.0.0 b.0.1 x.0.0 x.0.1 x.1 in
-          let same : (Some x.0.0, x.0.1) ≡ a.0 = ok_is (Some x.0.0, x.0.1) a.0 x.2 in
+          let same : (Some x.0.0, x.0.1) ≡ a.0 = ok_is (Some x.0.0, x.0.1) a.0 w.1 in
           let next : (section_at record_at hash n (Some (hash x.0.0)) x.0.1 >>= λ ys. Ok (x.0.0 ∷ ys)) ≡ Ok xs = ap (λ (p : Option X × List Row). elim (p.0) as (λ _. Result (List X) StoreError) [ None ↦ Ok [] | Some y ↦ section_at record_at hash n (Some (hash y)) p.1 >>= λ ys. Ok (y ∷ ys) ]) same ∙ a.2 in
           let ys = bind_ok (section_at record_at hash n (Some (hash x.0.0)) x.0.1) _ _ next in
           let rest = section_takes record_at hash head others Form each n (Some (hash x.0.0)) x.0.1 ys.0 ys.1 in
@@ -149,4 +151,4 @@ section_again {X} record_at hash head others Form each (suc n) last (x ∷ xs) l
     let apart : pointwise nat_eq (head x).hash marker ≡ false = false_from_ne_true _ (λ e. absurd (r.1 (sym (each.hash_is x) ∙ (bytes_decides (head x).hash marker).0 e))) in
     let after : is_after last (head x).hash ≡ true = ap (is_after last) (each.hash_is x) ∙ r.0 in
     ap (section_at record_at hash (suc n) last) (section_cons (λ (x : X). head x ∷ others x) x xs)
-    ∙ rw (apart, after, each.again x (section (λ x. head x ∷ others x) xs) r.2, section_again record_at hash head others Form each n (Some (hash x)) xs (omega arith) r.3) refl
+    ∙ rw (apart, each.again x (section (λ x. head x ∷ others x) xs) r.2, after, section_again record_at hash head others Form each n (Some (hash x)) xs (omega arith) r.3) refl

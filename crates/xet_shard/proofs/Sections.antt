@@ -17,9 +17,9 @@ unfolding step_at
 end_fails record_at last rows r after e h m = fails_on e (end_at r after) (step_at record_at last rows) (λ f. rw (h, m, f) refl)
 
 pub record_fails : {X : Type 0} (record_at : Row → List Row → Result (X × List Row) StoreError) (last : Option (List ℕ)) (rows : List Row) (r : Row) (after : List Row) (e : StoreError)
-    → row_at rows ≡ Ok (r, after) → pointwise nat_eq r.hash marker ≡ false → is_after last r.hash ≡ true → Fails e (record_at r after) → Fails e (step_at record_at last rows)
+    → row_at rows ≡ Ok (r, after) → pointwise nat_eq r.hash marker ≡ false → Fails e (record_at r after) → Fails e (step_at record_at last rows)
 unfolding step_at
-record_fails record_at last rows r after e h m a = fails_on e (record_at r after) (step_at record_at last rows) (λ f. rw (h, m, a, f) refl)
+record_fails record_at last rows r after e h m = fails_on e (record_at r after) (step_at record_at last rows) (λ f. rw (h, m, f) refl)
 
 -- what was read before, and what is still read
 abbrev pub records_before : {X : Type 0} → List X → Result (List X) StoreError → Result (List X) StoreError

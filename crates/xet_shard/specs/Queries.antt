@@ -14,12 +14,12 @@ use Rattle.xet_shard.specs.declared.record.MDBFileInfo.{MDBFileInfo}
 use Rattle.xet_shard.specs.declared.record.MDBXorbInfo.{MDBXorbInfo}
 use Rattle.xet_shard.specs.declared.row.Row.{Row}
 use Rattle.xet_shard.specs.Lookups.{chunk_items, file_items}
-use Rattle.xet_shard.specs.Reading.{◌>>=◌, IsShardRefusal, file_at, file_row_count, reaches, row_at, wants, xorb_at, xorb_row_count}
+use Rattle.xet_shard.specs.Reading.{◌>>=◌, IsShardRefusal, file_at, reaches, row_at, wants, xorb_at}
 use Rattle.xet_shard.specs.Records.{file_hash, first_word, xorb_rows}
 use Rattle.xet_shard.specs.Held.{record_of}
 use Rattle.xet_shard.specs.Rows.{rows_in}
 use Rattle.xet_shard.specs.Runs.{run_at}
-use Rattle.xet_shard.specs.Sections.{chunk_lookup_in, files_in, heads_in, xorb_lookup_in}
+use Rattle.xet_shard.specs.Sections.{chunk_lookup_in, files_in, heads_in, row_count, xorb_lookup_in}
 use Rattle.xet_shard.specs.Text.{Shard}
 
 -- what was read, without the rows after it
@@ -37,10 +37,10 @@ record_in record_at at count row bytes = do
   Ok x.0
 
 abbrev pub file_in : MDBShardFileFooter → ℕ → List ℕ → Result MDBFileInfo StoreError
-file_in f row bytes = record_in file_at f.file_info_offset (file_row_count f) row bytes
+file_in f row bytes = row_count f.file_info_offset f.xorb_info_offset >>= λ count. record_in file_at f.file_info_offset count row bytes
 
 abbrev pub block_in : MDBShardFileFooter → ℕ → List ℕ → Result MDBXorbInfo StoreError
-block_in f row bytes = record_in xorb_at f.xorb_info_offset (xorb_row_count f) row bytes
+block_in f row bytes = row_count f.xorb_info_offset f.file_lookup_offset >>= λ count. record_in xorb_at f.xorb_info_offset count row bytes
 
 -- ---- files
 

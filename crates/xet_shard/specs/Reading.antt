@@ -39,6 +39,18 @@ abbrev pub GivesUnlessFault : {X Y : Type 0} → (X → Y) → Result X StoreErr
 GivesUnlessFault view (Err (Io place)) read = place ≡ Input
 GivesUnlessFault view r read = Gives view r read
 
+-- A call that allocates nothing returned what reading gives, unless the reader failed.
+abbrev pub IsUnlessFault : {X : Type 0} → Result X StoreError → Result X StoreError → Type 0
+IsUnlessFault (Err (Io place)) read = place ≡ Input
+IsUnlessFault r read = r ≡ read
+
+-- the errors of such a call
+abbrev pub IsInputError : StoreError → Type 0
+IsInputError UnexpectedEof = Unit {0}
+IsInputError (MalformedData reason) = Unit {0}
+IsInputError (Io place) = place ≡ Input
+IsInputError e = ⊥
+
 -- the refusals of reading a shard
 abbrev pub IsShardRefusal : StoreError → Type 0
 IsShardRefusal OutOfMemory = Unit {0}
@@ -110,9 +122,19 @@ is_verified flags = nat_le (2 ^ 31) flags
 abbrev pub has_ext : ℕ → Bool
 has_ext flags = nat_le (2 ^ 30) (flags % 2 ^ 31)
 
--- the file whose head was read
+-- the number of rows of a file after its header
+abbrev pub rows_after_file : Row → ℕ
+rows_after_file head = head.b + ((if is_verified head.a then head.b else 0) + (if has_ext head.a then 1 else 0))
+
+-- A record is within its section: so many rows are left.
+abbrev pub has_rows : ℕ → List Row → Result (Unit {0}) StoreError
+has_rows count rows = wants (nat_le count (length rows)) SectionPlace
+
+-- The file whose header was read. Checked are that its rows are within the section, then its header, then each
+-- entry in order.
 unfoldable pub file_at : Row → List Row → Result (MDBFileInfo × List Row) StoreError
 file_at head rows = do
+  _ ← has_rows (rows_after_file head) rows
   _ ← wants (head.a == flags_of (is_verified head.a) (has_ext head.a)) SectionEntry
   _ ← wants (head.c == 0) SectionEntry
   _ ← wants (head.d == 0) SectionEntry
@@ -138,8 +160,10 @@ chunks_at (suc n) at rows = do
   cs ← chunks_at n (r.0.a + r.0.b) r.1
   Ok (c ∷ cs.0, cs.1, cs.2)
 
+-- The xorb whose header was read, by the same checks. Its total is checked after its chunks.
 unfoldable pub xorb_at : Row → List Row → Result (MDBXorbInfo × List Row) StoreError
 xorb_at head rows = do
+  _ ← has_rows head.b rows
   _ ← wants (head.a == 0) SectionEntry
   _ ← wants (head.d == 0) SectionEntry
   chunks ← chunks_at head.b 0 rows
@@ -152,11 +176,12 @@ end_at r rows = do
   _ ← hash_in r
   wants (length rows == 0) SectionPlace
 
--- the next record, whose hash is greater than the last one, or none at the section's end
+-- The next record, or none at the end of the section. Its hash has to be greater than the last one, which is
+-- checked after all that is in the record.
 unfoldable pub step_at : {X : Type 0} → (Row → List Row → Result (X × List Row) StoreError) → Option (List ℕ) → List Row → Result (Option X × List Row) StoreError
 step_at record_at last rows = do
   r ← row_at rows
-  if pointwise nat_eq r.0.hash marker then (end_at r.0 r.1 >>= λ _. Ok (None, r.1)) else (wants (is_after last r.0.hash) SectionOrder >>= λ _. record_at r.0 r.1 >>= λ x. Ok (Some x.0, x.1))
+  if pointwise nat_eq r.0.hash marker then (end_at r.0 r.1 >>= λ _. Ok (None, r.1)) else (record_at r.0 r.1 >>= λ x. wants (is_after last r.0.hash) SectionOrder >>= λ _. Ok (Some x.0, x.1))
 
 -- at most n records up to the section's end
 unfoldable pub section_at : {X : Type 0} → (Row → List Row → Result (X × List Row) StoreError) → (X → List ℕ) → ℕ → Option (List ℕ) → List Row → Result (List X) StoreError
@@ -204,13 +229,15 @@ file_row_count f = (f.xorb_info_offset - f.file_info_offset) / 48
 abbrev pub xorb_row_count : MDBShardFileFooter → ℕ
 xorb_row_count f = (f.file_lookup_offset - f.xorb_info_offset) / 48
 
--- Each part begins where the one before ends, and the footer ends the bytes.
+-- Each part begins where the one before ends, and the footer ends the bytes. A section has at least its end row.
 unfoldable pub places_at : ℕ → MDBShardFileFooter → Result (Unit {0}) StoreError
 places_at len f = do
   _ ← wants (f.file_info_offset == 48) SectionPlace
   _ ← wants (f.xorb_info_offset == f.file_info_offset + 48 * file_row_count f) SectionPlace
+  _ ← wants (nat_lt 0 (file_row_count f)) SectionPlace
   _ ← wants (nat_lt (file_row_count f) (2 ^ 32)) SectionPlace
   _ ← wants (f.file_lookup_offset == f.xorb_info_offset + 48 * xorb_row_count f) SectionPlace
+  _ ← wants (nat_lt 0 (xorb_row_count f)) SectionPlace
   _ ← wants (nat_lt (xorb_row_count f) (2 ^ 32)) SectionPlace
   _ ← wants (f.xorb_lookup_offset == f.file_lookup_offset + 12 * f.file_lookup_num_entry) SectionPlace
   _ ← wants (f.chunk_lookup_offset == f.xorb_lookup_offset + 12 * f.xorb_lookup_num_entry) SectionPlace
@@ -221,8 +248,10 @@ places_at len f = do
 pub record IsPlaced (len : ℕ) (f : MDBShardFileFooter) : Type 0 where
   pub files : f.file_info_offset ≡ 48
   pub xorbs : f.xorb_info_offset ≡ f.file_info_offset + 48 * file_row_count f
+  pub some_files : 0 < file_row_count f
   pub few_files : file_row_count f < 2 ^ 32
   pub file_lookup : f.file_lookup_offset ≡ f.xorb_info_offset + 48 * xorb_row_count f
+  pub some_xorbs : 0 < xorb_row_count f
   pub few_xorbs : xorb_row_count f < 2 ^ 32
   pub xorb_lookup : f.xorb_lookup_offset ≡ f.file_lookup_offset + 12 * f.file_lookup_num_entry
   pub chunk_lookup : f.chunk_lookup_offset ≡ f.xorb_lookup_offset + 12 * f.xorb_lookup_num_entry

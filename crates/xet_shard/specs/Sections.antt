@@ -1,6 +1,6 @@
 -- The parts of a shard, each read for itself at the place that a footer tells, with the first check that
 -- fails.
-use Rattle.std.specs.Prelude.{◌≡◌, ℕ, zero, suc, ◌+◌, ◌*◌, ◌^◌, ◌==◌, nat_le, nat_lt, List, [], ◌∷◌, length, drop, Option, Some, None, Result, Ok, if◌then◌else◌}
+use Rattle.std.specs.Prelude.{◌≡◌, ℕ, zero, suc, ◌+◌, ◌-◌, ◌*◌, ◌/◌, ◌^◌, ◌==◌, nat_le, nat_lt, List, [], ◌∷◌, length, drop, Option, Some, None, Result, Ok, if◌then◌else◌}
 use Rattle.xet_hash.specs.declared.error.Reason.TheVariants.{SectionPlace}
 use Rattle.xet_hash.specs.declared.error.StoreError.{StoreError}
 use Rattle.xet_hash.specs.Hash.{zero_hash}
@@ -11,7 +11,7 @@ use Rattle.xet_shard.specs.declared.record.MDBXorbInfo.{MDBXorbInfo}
 use Rattle.xet_shard.specs.declared.record.XorbChunkSequenceHeader.{XorbChunkSequenceHeader}
 use Rattle.xet_shard.specs.declared.row.Row.{Row}
 use Rattle.xet_shard.specs.Lookups.{chunk_items, xorb_items}
-use Rattle.xet_shard.specs.Reading.{◌>>=◌, file_at, file_row_count, footer_at, header_at, reaches, section_at, wants, xorb_at, xorb_row_count}
+use Rattle.xet_shard.specs.Reading.{◌>>=◌, file_at, footer_at, header_at, reaches, section_at, wants, xorb_at}
 use Rattle.xet_shard.specs.Records.{file_hash, xorb_hash, xorb_rows}
 use Rattle.xet_shard.specs.Rows.{half_word, rows_in, word}
 use Rattle.xet_shard.specs.Text.{header}
@@ -30,11 +30,17 @@ section_in record_at hash at count bytes = do
   _ ← reaches (nat_le (at + 48 * count) (length bytes))
   section_at record_at hash count None (rows_in count (drop at bytes))
 
+-- the number of rows from one offset to another, which are whole
+unfoldable pub row_count : ℕ → ℕ → Result ℕ StoreError
+row_count from to = do
+  _ ← wants (to == from + 48 * ((to - from) / 48)) SectionPlace
+  Ok ((to - from) / 48)
+
 abbrev pub files_in : MDBShardFileFooter → List ℕ → Result (List MDBFileInfo) StoreError
-files_in f bytes = section_in file_at file_hash f.file_info_offset (file_row_count f) bytes
+files_in f bytes = row_count f.file_info_offset f.xorb_info_offset >>= λ count. section_in file_at file_hash f.file_info_offset count bytes
 
 abbrev pub blocks_in : MDBShardFileFooter → List ℕ → Result (List MDBXorbInfo) StoreError
-blocks_in f bytes = section_in xorb_at xorb_hash f.xorb_info_offset (xorb_row_count f) bytes
+blocks_in f bytes = row_count f.xorb_info_offset f.file_lookup_offset >>= λ count. section_in xorb_at xorb_hash f.xorb_info_offset count bytes
 
 -- the head of each xorb, with its row
 unfoldable pub heads_of : ℕ → List MDBXorbInfo → List (XorbChunkSequenceHeader × ℕ)

@@ -45,14 +45,7 @@ impl Alone for MDBFileInfo {
     ghost form = { IsFile };
 
     fn rows_after(head: &Row) -> u64 {
-        let entries = u64::from(head.b);
-        let checks = if reading::is_verified(head.a) {
-            entries
-        } else {
-            0
-        };
-        let ext = if reading::has_ext(head.a) { 1 } else { 0 };
-        entries + (checks + ext)
+        reading::rows_after_file(head)
     }
 
     fn read_of(

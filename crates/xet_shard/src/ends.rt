@@ -153,8 +153,10 @@ fn places_follow(len: u64, f: &MDBShardFileFooter) -> Result<(), StoreError>
     let xorb_rows = f.file_lookup_offset.saturating_sub(f.xorb_info_offset) / 48;
     if f.file_info_offset != 48
         || !follows(f.xorb_info_offset, f.file_info_offset, 48, file_rows)
+        || file_rows == 0
         || file_rows >= 1 << 32
         || !follows(f.file_lookup_offset, f.xorb_info_offset, 48, xorb_rows)
+        || xorb_rows == 0
         || xorb_rows >= 1 << 32
         || !follows(
             f.xorb_lookup_offset,
@@ -182,7 +184,7 @@ fn places_follow(len: u64, f: &MDBShardFileFooter) -> Result<(), StoreError>
 }
 
 /// Whether a place comes so many items of a size after another.
-fn follows(to: u64, from: u64, size: u64, count: u64) -> bool
+pub fn follows(to: u64, from: u64, size: u64, count: u64) -> bool
     ensures { result ≡ (to == from + size * count) }
 {
     match size.checked_mul(count) {

@@ -1,30 +1,30 @@
 //! The parts of a shard, each read for itself from any reader.
 
-ghost use Rattle.std.specs.Prelude.{◌≡◌, ◌≤◌, ◌<◌, ◌+◌, ◌-◌, ◌*◌, ◌/◌, ◌^◌, min, None, true, length, IfErr, IfOk, IsErrOf, OnOk};
+ghost use Rattle.std.specs.Prelude.{◌≡◌, ◌≤◌, ◌<◌, ◌+◌, ◌-◌, ◌*◌, ◌^◌, min, None, true, length, IfErr, IfOk, IsErrOf, OnOk};
 ghost use Rattle.xet_io.specs.Faults.{HasCause};
-ghost use Rattle.xet_shard.specs.Reading.{GivesUnlessFault, IsShardRefusal, footer_at, header_at};
+ghost use Rattle.xet_shard.specs.Reading.{GivesUnlessFault, IsInputError, IsShardRefusal, IsUnlessFault, footer_at, header_at};
 ghost use Rattle.xet_shard.specs.Records.{AreRecords, IsFile, IsXorb, file_hash, file_section, xorb_hash, xorb_section};
-ghost use Rattle.xet_shard.specs.Sections.{block_heads_in, blocks_in, files_in, info_at, key_of};
+ghost use Rattle.xet_shard.specs.Sections.{block_heads_in, blocks_in, files_in, info_at, key_of, row_count};
 
-use crate::ends::{HEADER, footer_of_last, header_of_first};
+use crate::ends::{HEADER, follows, footer_of_last, header_of_first};
 use crate::info::{MDBShardFileFooter, MDBShardInfo};
 use crate::items::heads_of;
 use crate::piece::{fill, length_of, rows_at};
 use crate::record::{MDBFileInfo, MDBXorbInfo, XorbChunkSequenceHeader};
 use crate::whole::records_at;
 use std::alloc::Global;
-use xet_hash::{HMACKey, Place, StoreError};
+use xet_hash::{HMACKey, Place, Reason, StoreError};
 use xet_io::ReadAt;
 
 /// The bytes of a footer.
 const FOOTER_SIZE: u64 = 200;
 
 impl MDBShardInfo {
-    /// The header and the footer of a shard. Only the first 48 and the last 200 bytes are read. A failing
-    /// reader is `Io(Input)`.
+    /// The header and the footer of a shard. Only the first 48 and the last 200 bytes are read, and
+    /// nothing is allocated. A failing reader is `Io(Input)`.
     pub fn load_from_reader<R: ReadAt>(reader: &mut R) -> Result<MDBShardInfo, StoreError>
-        ensures exact { R.tells reader.old ≡ true → GivesUnlessFault (λ info. info) result (info_at (R.bytes reader.old)) }
-        ensures refusals { IfErr result IsShardRefusal }
+        ensures exact { R.tells reader.old ≡ true → IsUnlessFault result (info_at (R.bytes reader.old)) }
+        ensures refusals { IfErr result IsInputError }
         ensures cause { HasCause (R.faults reader.old) (R.faults reader.new) (IsErrOf result (StoreError.Io Place.Input)) }
         ensures same { R.bytes reader.new ≡ R.bytes reader.old }
         ensures tells { R.tells reader.new ≡ R.tells reader.old }
@@ -117,11 +117,17 @@ impl MDBShardInfo {
     }
 }
 
-/// The rows of a section that goes from a place to another.
-pub fn row_count(from: u64, to: u64) -> u64
-    ensures { result ≡ (to - from) / 48 }
+/// The number of rows from one offset to another: `MalformedData(SectionPlace)` where they are not whole.
+#[tactic(auto, unfolding(crate::specs::Sections::row_count))]
+pub fn row_count(from: u64, to: u64) -> Result<u64, StoreError>
+    ensures exact { result ≡ row_count from to }
+    ensures error { IfErr result (λ e. e ≡ StoreError.MalformedData Reason.SectionPlace) }
 {
-    to.saturating_sub(from) / 48
+    let count = to.saturating_sub(from) / 48;
+    if !follows(to, from, 48, count) {
+        return Err(StoreError::MalformedData(Reason::SectionPlace));
+    }
+    Ok(count)
 }
 
 /// The files.
@@ -138,7 +144,7 @@ pub fn files<R: ReadAt>(
     ensures same { R.bytes reader.new ≡ R.bytes reader.old }
     ensures tells { R.tells reader.new ≡ R.tells reader.old }
 {
-    let count = row_count(f.file_info_offset, f.xorb_info_offset);
+    let count = row_count(f.file_info_offset, f.xorb_info_offset)?;
     match rows_at(alloc, reader, f.file_info_offset, count) {
         Ok(bytes) => records_at(alloc, &bytes, 0, count as u32),
         Err(refusal) => Err(refusal),
@@ -159,7 +165,7 @@ pub fn blocks<R: ReadAt>(
     ensures same { R.bytes reader.new ≡ R.bytes reader.old }
     ensures tells { R.tells reader.new ≡ R.tells reader.old }
 {
-    let count = row_count(f.xorb_info_offset, f.file_lookup_offset);
+    let count = row_count(f.xorb_info_offset, f.file_lookup_offset)?;
     match rows_at(alloc, reader, f.xorb_info_offset, count) {
         Ok(bytes) => records_at(alloc, &bytes, 0, count as u32),
         Err(refusal) => Err(refusal),
@@ -169,7 +175,7 @@ pub fn blocks<R: ReadAt>(
 /// Header and footer of a shard of so many bytes.
 fn load<R: ReadAt>(reader: &mut R, len: u64) -> Result<MDBShardInfo, StoreError>
     ensures exact { R.tells reader.old ≡ true → len ≡ length (R.bytes reader.old) → GivesUnlessFault (λ info. info) result (info_at (R.bytes reader.old)) }
-    ensures refusals { IfErr result IsShardRefusal }
+    ensures refusals { IfErr result IsInputError }
     ensures cause { HasCause (R.faults reader.old) (R.faults reader.new) (IsErrOf result (StoreError.Io Place.Input)) }
     ensures same { R.bytes reader.new ≡ R.bytes reader.old }
     ensures tells { R.tells reader.new ≡ R.tells reader.old }
@@ -186,7 +192,7 @@ fn load<R: ReadAt>(reader: &mut R, len: u64) -> Result<MDBShardInfo, StoreError>
 fn read_header<R: ReadAt>(reader: &mut R, len: u64) -> Result<(), StoreError>
     ensures exact { R.tells reader.old ≡ true → len ≡ length (R.bytes reader.old) → GivesUnlessFault (λ _. tt) result (header_at (R.bytes reader.old)) }
     ensures long { OnOk result (248 ≤ len) }
-    ensures refusals { IfErr result IsShardRefusal }
+    ensures refusals { IfErr result IsInputError }
     ensures cause { HasCause (R.faults reader.old) (R.faults reader.new) (IsErrOf result (StoreError.Io Place.Input)) }
     ensures same { R.bytes reader.new ≡ R.bytes reader.old }
     ensures tells { R.tells reader.new ≡ R.tells reader.old }
@@ -201,7 +207,7 @@ fn read_header<R: ReadAt>(reader: &mut R, len: u64) -> Result<(), StoreError>
 fn read_footer<R: ReadAt>(reader: &mut R, len: u64) -> Result<MDBShardFileFooter, StoreError>
     requires { 248 ≤ len }
     ensures exact { R.tells reader.old ≡ true → len ≡ length (R.bytes reader.old) → GivesUnlessFault (λ f. f) result (footer_at (R.bytes reader.old)) }
-    ensures refusals { IfErr result IsShardRefusal }
+    ensures refusals { IfErr result IsInputError }
     ensures cause { HasCause (R.faults reader.old) (R.faults reader.new) (IsErrOf result (StoreError.Io Place.Input)) }
     ensures same { R.bytes reader.new ≡ R.bytes reader.old }
     ensures tells { R.tells reader.new ≡ R.tells reader.old }

@@ -41,16 +41,4 @@ pub use whole::read_shard;
 pub use writing::write_shard;
 
 #[cfg(test)]
-mod abc_tests;
-#[cfg(test)]
-mod asked_tests;
-#[cfg(test)]
-mod export_tests;
-#[cfg(test)]
-mod held_tests;
-#[cfg(test)]
-mod part_tests;
-#[cfg(test)]
-mod query_tests;
-#[cfg(test)]
-mod tests;
+mod section_tests;

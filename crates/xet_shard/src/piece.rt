@@ -3,7 +3,7 @@
 ghost use Rattle.std.specs.Prelude.{◌≡◌, ◌≤◌, ◌<◌, ◌+◌, ◌*◌, ◌^◌, true, drop, take, length, IfErr, IfNone, IfOk, IfSome, IsErrOf, IsNone, OnOk};
 ghost use Rattle.xet_io.specs.Faults.{HasCause};
 ghost use Rattle.xet_shard.specs.Pieces.{piece_at, rows_at};
-ghost use Rattle.xet_shard.specs.Reading.{GivesUnlessFault, IsShardRefusal};
+ghost use Rattle.xet_shard.specs.Reading.{GivesUnlessFault, IsInputError, IsShardRefusal};
 
 use std::alloc::Global;
 use xet_hash::{Place, Reason, StoreError};
@@ -30,6 +30,7 @@ pub fn fill<R: ReadAt>(reader: &mut R, at: u64, buf: &mut [u8]) -> Result<(), St
     ensures fault { R.tells reader.old ≡ true → at + length buf.old ≤ length (R.bytes reader.old) → IfErr result (λ e. e ≡ StoreError.Io Place.Input) }
     ensures len { length buf.new ≡ length buf.old }
     ensures refusals { IfErr result IsShardRefusal }
+    ensures input { IfErr result IsInputError }
     ensures cause { HasCause (R.faults reader.old) (R.faults reader.new) (IsErrOf result (StoreError.Io Place.Input)) }
     ensures same { R.bytes reader.new ≡ R.bytes reader.old }
     ensures tells { R.tells reader.new ≡ R.tells reader.old }

@@ -230,7 +230,7 @@ fn file_in<R: ReadAt>(
     ensures same { R.bytes reader.new ≡ R.bytes reader.old }
     ensures tells { R.tells reader.new ≡ R.tells reader.old }
 {
-    let count = row_count(f.file_info_offset, f.xorb_info_offset);
+    let count = row_count(f.file_info_offset, f.xorb_info_offset)?;
     record_in(alloc, reader, f.file_info_offset, count, row)
 }
 
@@ -248,6 +248,6 @@ fn block_in<R: ReadAt>(
     ensures same { R.bytes reader.new ≡ R.bytes reader.old }
     ensures tells { R.tells reader.new ≡ R.tells reader.old }
 {
-    let count = row_count(f.xorb_info_offset, f.file_lookup_offset);
+    let count = row_count(f.xorb_info_offset, f.file_lookup_offset)?;
     record_in(alloc, reader, f.xorb_info_offset, count, row)
 }

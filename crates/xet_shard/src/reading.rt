@@ -3,7 +3,7 @@
 ghost use Rattle.std.specs.Prelude.{◌≡◌, ◌++◌, ◌∷◌, [], None, IfErr, OnOk};
 ghost use Rattle.xet_hash.specs.declared.error.StoreError.TheVariants.{OutOfMemory};
 ghost use Rattle.xet_shard.specs.Records.{file_hash, flags_of, is_after, xorb_hash};
-ghost use Rattle.xet_shard.specs.Reading.{Gives, chunk_in, chunks_at, end_at, ext_at, file_at, has_ext, hash_at, hash_in, is_verified, section_at, segment_at, step_at, times, verification_at, xorb_at};
+ghost use Rattle.xet_shard.specs.Reading.{Gives, chunk_in, chunks_at, end_at, ext_at, file_at, has_ext, hash_at, hash_in, is_verified, rows_after_file, section_at, segment_at, step_at, times, verification_at, xorb_at};
 
 use crate::record::{
     FileDataSequenceEntry, FileDataSequenceHeader, FileMetadataExt, FileVerificationEntry,
@@ -93,7 +93,7 @@ fn segments(
 ) -> Result<Vec<FileDataSequenceEntry>, StoreError>
     ensures { Gives (λ v. (v.items, rows.new)) result (times segment_at count rows.old) }
 {
-    let mut found = Vec::new(alloc);
+    let mut found = Vec::with_capacity(alloc, count as usize)?;
     for _done in 0..count {
         let next = segment(rows)?;
         found.push(next)?;
@@ -109,7 +109,7 @@ fn verifications(
 ) -> Result<Vec<FileVerificationEntry>, StoreError>
     ensures { Gives (λ v. (v.items, rows.new)) result (times verification_at count rows.old) }
 {
-    let mut found = Vec::new(alloc);
+    let mut found = Vec::with_capacity(alloc, count as usize)?;
     for _done in 0..count {
         let next = verification(rows)?;
         found.push(next)?;
@@ -140,7 +140,7 @@ fn chunks(
 ) -> Result<(Vec<XorbChunkSequenceEntry>, u64), StoreError>
     ensures { Gives (λ x. (x.0.items, x.1, rows.new)) result (chunks_at count 0 rows.old) }
 {
-    let mut found = Vec::new(alloc);
+    let mut found = Vec::with_capacity(alloc, count as usize)?;
     let mut at: u64 = 0;
     for _done in 0..count {
         let row = rows.next()?;
@@ -177,11 +177,24 @@ pub fn has_ext(flags: u32) -> bool
     flags % VERIFIED >= WITH_EXT
 }
 
-/// The file whose head was read.
+/// The number of rows of a file after its header.
+pub fn rows_after_file(head: &Row) -> u64
+    ensures { result ≡ rows_after_file head.now }
+{
+    let entries = u64::from(head.b);
+    let checks = if is_verified(head.a) { entries } else { 0 };
+    let ext = if has_ext(head.a) { 1 } else { 0 };
+    entries + (checks + ext)
+}
+
+/// The file whose header was read. Memory is reserved only for rows that are there.
 #[tactic(auto, unfolding(crate::specs::Reading::file_at))]
 pub fn file(alloc: Global, head: &Row, rows: &mut Rows) -> Result<MDBFileInfo, StoreError>
     ensures { Gives (λ f. (f, rows.new)) result (file_at head.now rows.old) }
 {
+    if !rows.has(rows_after_file(head)) {
+        return Err(StoreError::MalformedData(Reason::SectionPlace));
+    }
     let verified = is_verified(head.a);
     let with_ext = has_ext(head.a);
     if head.a != flags_of(verified, with_ext) {
@@ -205,11 +218,14 @@ pub fn file(alloc: Global, head: &Row, rows: &mut Rows) -> Result<MDBFileInfo, S
     })
 }
 
-/// The xorb whose head was read.
+/// The xorb whose header was read. Memory is reserved only for rows that are there.
 #[tactic(auto, unfolding(crate::specs::Reading::xorb_at))]
 pub fn xorb(alloc: Global, head: &Row, rows: &mut Rows) -> Result<MDBXorbInfo, StoreError>
     ensures { Gives (λ x. (x, rows.new)) result (xorb_at head.now rows.old) }
 {
+    if !rows.has(u64::from(head.b)) {
+        return Err(StoreError::MalformedData(Reason::SectionPlace));
+    }
     if head.a != 0 || head.d != 0 {
         return Err(StoreError::MalformedData(Reason::SectionEntry));
     }
@@ -251,7 +267,8 @@ fn end(row: &Row, rows: &Rows) -> Result<(), StoreError>
     Ok(())
 }
 
-/// The next record, whose hash is greater than the last one, or none at the section's end.
+/// The next record, or none at the end of the section. Its hash is compared with the last one after the record
+/// was read.
 #[tactic(auto, unfolding(crate::specs::Reading::step_at))]
 fn record_or_end<R: Record>(
     alloc: Global,
@@ -265,11 +282,12 @@ fn record_or_end<R: Record>(
         end(&row, rows)?;
         return Ok(None);
     }
-    if !is_after(last, row.hash) {
-        return Err(StoreError::MalformedData(Reason::SectionOrder));
-    }
     let found = R::read(alloc, &row, rows)?;
-    Ok(Some(found))
+    if is_after(last, row.hash) {
+        Ok(Some(found))
+    } else {
+        Err(StoreError::MalformedData(Reason::SectionOrder))
+    }
 }
 
 /// Adds an item at the end.

@@ -1,6 +1,6 @@
 //! The rows of a section, from front to end.
 
-ghost use Rattle.std.specs.Prelude.{◌≡◌, ◌≤◌, ◌*◌, ◌==◌, length};
+ghost use Rattle.std.specs.Prelude.{◌≡◌, ◌≤◌, ◌*◌, ◌==◌, length, nat_le};
 ghost use Rattle.xet_shard.specs.Rows.{rows_in};
 ghost use Rattle.xet_shard.specs.Reading.{Gives, row_at};
 
@@ -51,6 +51,13 @@ impl<'a> Rows<'a> {
         self.rest = rest;
         self.left -= 1;
         Ok(row)
+    }
+
+    /// Whether so many rows are left.
+    pub fn has(&self, count: u64) -> bool
+        ensures { result ≡ nat_le count (length self.now) }
+    {
+        count <= self.left as u64
     }
 
     /// Whether no row is left.

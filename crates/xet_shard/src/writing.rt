@@ -1,11 +1,11 @@
 //! A shard, written as a whole.
 
-ghost use Rattle.std.specs.Prelude.{◌≡◌, ◌<◌, ◌+◌, ◌*◌, ◌^◌, ◌++◌, ℕ, IfErr, IfOk, IsErrOf, IsOkUnless, OnOk, cond, length, map, take, true};
+ghost use Rattle.std.specs.Prelude.{◌≡◌, ◌<◌, ◌+◌, ◌*◌, ◌^◌, ◌++◌, ℕ, IfErr, IfOk, IsErrOf, IsOkUnless, OnOk, None, cond, length, map, take, true};
 ghost use Rattle.xet_io.specs.Faults.{HasCause};
 ghost use Rattle.xet_shard.specs.Held.{IsWriteRefusal};
-ghost use Rattle.xet_shard.specs.Records.{file_section, section, xorb_section};
+ghost use Rattle.xet_shard.specs.Records.{AreRecords, IsFile, IsXorb, file_hash, file_section, section, xorb_hash, xorb_section};
 ghost use Rattle.xet_shard.specs.Lookups.{all_lookups, chunk_items, file_items, xorb_items};
-ghost use Rattle.xet_shard.specs.Text.{Fits, footer_of, footer_with, full_text, header, shard, shard_text};
+ghost use Rattle.xet_shard.specs.Text.{Fits, IsShardText, footer_of, footer_with, full_text, header, shard, shard_text};
 
 use crate::ends::HEADER;
 use crate::info::{MDBShardFileFooter, MDBShardInfo};
@@ -51,8 +51,9 @@ const ALL_LOOKUPS: Lookups = Lookups {
 };
 
 /// The full text of a shard with these xorbs and files, in the order in which they are given, with its
-/// header and footer. The memory of the text is taken once, for its exact length. Where there is none,
-/// the call fails with `StoreError::OutOfMemory`, and for no other reason.
+/// header and footer. It is a shard where the records have the form and their hashes rise. The memory of
+/// the text is taken once, for its exact length. Where there is none, the call fails with
+/// `StoreError::OutOfMemory`, and for no other reason.
 pub fn write_shard(
     alloc: Global,
     blocks: &[&MDBXorbInfo],
@@ -66,6 +67,9 @@ pub fn write_shard(
     ensures text { IfOk result (λ x. x.0.items ≡ full_text (shard (map (λ x. x.now) blocks.now) (map (λ f. f.now) files.now) key creation expiry)) }
     ensures info { IfOk result (λ x. x.1 ≡ record { header = header; metadata = footer_of all_lookups (shard (map (λ x. x.now) blocks.now) (map (λ f. f.now) files.now) key creation expiry) }) }
     ensures fits { OnOk result (Fits (shard (map (λ x. x.now) blocks.now) (map (λ f. f.now) files.now) key creation expiry)) }
+    // Where the records have the form and rise, what is written is a shard.
+    ensures shard { AreRecords xorb_hash IsXorb None (map (λ x. x.now) blocks.now) → AreRecords file_hash IsFile None (map (λ f. f.now) files.now)
+        → IfOk result (λ x. IsShardText x.0.items (shard (map (λ x. x.now) blocks.now) (map (λ f. f.now) files.now) key creation expiry)) }
     ensures memory { IsOkUnless result StoreError.OutOfMemory }
 {
     write_with_lookups::<&MDBXorbInfo, &MDBFileInfo>(

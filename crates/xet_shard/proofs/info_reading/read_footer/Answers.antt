@@ -1,7 +1,7 @@
 use Rattle.std.proofs.Common.{arith}
 use Rattle.xet_shard.specs.Pieces.{footer_of_last}
 use Rattle.xet_shard.proofs.FirstLast.{footer_from}
-use Rattle.xet_shard.proofs.Refusing.{a_last, cause_before, gives_whole, refuses}
+use Rattle.xet_shard.proofs.Refusing.{a_last, cause_before, gives_whole, gives_input_error}
 use Rattle.xet_shard.proofs.info_reading.read_footer.Goals as goal
 
 pub returns-clause-exact : goal.returns-clause-exact
@@ -11,7 +11,7 @@ returns-clause-exact g c = λ told len.
     (footer_from c.args.len bytes c.fill.new.buf len (c.in_ok-fill.ensures.told told (omega (arith, len, c.requires)))) c.footer_of_last.ensures.gives
 
 pub returns-clause-refusals : goal.returns-clause-refusals
-returns-clause-refusals g c = refuses (λ f. f) c.footer_of_last.result _ (a_last c.args.len c.fill.new.buf) c.footer_of_last.ensures.gives
+returns-clause-refusals g c = gives_input_error c.footer_of_last.result _ (a_last c.args.len c.fill.new.buf) c.footer_of_last.ensures.exact
 
 pub returns-clause-cause : goal.returns-clause-cause
 returns-clause-cause g c = cause_before (λ f. f) c.footer_of_last.result _ _ _ (a_last c.args.len c.fill.new.buf) c.footer_of_last.ensures.gives c.in_ok-fill.ensures.cause.later

@@ -1,7 +1,7 @@
 use Rattle.std.proofs.Common.{◌∙◌, arith}
 use Rattle.xet_shard.specs.Pieces.{header_of_first}
 use Rattle.xet_shard.proofs.FirstLast.{header_from}
-use Rattle.xet_shard.proofs.Refusing.{a_first, cause_before, gives_whole, refuses}
+use Rattle.xet_shard.proofs.Refusing.{a_first, cause_before, gives_whole, gives_input_error}
 use Rattle.xet_shard.proofs.info_reading.read_header.Goals as goal
 
 pub returns-clause-exact : goal.returns-clause-exact
@@ -11,7 +11,7 @@ returns-clause-exact g c = λ told len.
     (header_from c.args.len _ bytes c.fill.new.buf len (c.split_at_mut-first.ensures.front_len ∙ c.min.ensures) (c.in_ok-fill.ensures.told told (omega (arith, len, c.min.ensures, c.split_at_mut-first.ensures.front_len)))) c.header_of_first.ensures.gives
 
 pub returns-clause-refusals : goal.returns-clause-refusals
-returns-clause-refusals g c = refuses (λ _. tt) c.header_of_first.result _ (a_first c.args.len c.fill.new.buf) c.header_of_first.ensures.gives
+returns-clause-refusals g c = gives_input_error c.header_of_first.result _ (a_first c.args.len c.fill.new.buf) c.header_of_first.ensures.exact
 
 pub returns-clause-cause : goal.returns-clause-cause
 returns-clause-cause g c = cause_before (λ _. tt) c.header_of_first.result _ _ _ (a_first c.args.len c.fill.new.buf) c.header_of_first.ensures.gives c.in_ok-fill.ensures.cause.later

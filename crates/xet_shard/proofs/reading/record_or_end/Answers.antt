@@ -11,4 +11,4 @@ returns-in_err-end g c =
 pub returns-in_err-found : goal.returns-in_err-found
 returns-in_err-found g c =
     let p = err_from_is_err_and c.from_residual-in_err-found.result c.from_residual-in_err-found.ensures.1 in
-    rw (p.1, p.2) (record_fails g.R.Record.record_at c.args.last c.args.rows.now c.in_ok-row.row c.next.new.self c.in_err-found.field-0.0 c.in_ok-row.ensures (search rules) (search rules) c.in_err-found.ensures)
+    rw (p.1, p.2) (record_fails g.R.Record.record_at c.args.last c.args.rows.now c.in_ok-row.row c.next.new.self c.in_err-found.field-0.0 c.in_ok-row.ensures (search rules) c.in_err-found.ensures)

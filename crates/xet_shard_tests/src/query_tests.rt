@@ -4,11 +4,11 @@ ghost use Rattle.std.specs.Prelude.{◌≡◌, IfOk, length};
 ghost use Rattle.xet_shard.specs.Records.{IsXorb, xorb_hash, xorb_rows};
 
 use crate::abc_tests::file_of_abc;
-use crate::*;
 use std::alloc::Global;
 use std::test::Fail;
 use xet_base::Items;
 use xet_hash::{MerkleHash, StoreError, compute_data_hash};
+use xet_shard::*;
 
 /// The xorb of a hash whose chunks have these digests and ten bytes each.
 fn xorb_of(

@@ -1,6 +1,6 @@
-use crate::*;
 use std::test::Fail;
 use xet_hash::{HMACKey, StoreError};
+use xet_shard::*;
 
 #[test]
 fn an_empty_shard(rt: HostRuntime) -> Result<(), Fail> {

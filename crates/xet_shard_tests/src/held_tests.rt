@@ -1,8 +1,8 @@
-use super::*;
 use std::test::Fail;
 use xet_base::Items;
 use xet_hash::{MerkleHash, Reason, StoreError};
 use xet_io::{MemorySink, SliceReader};
+use xet_shard::*;
 
 #[test]
 fn a_shard_has_its_digests_name(rt: HostRuntime) -> Result<(), Fail> {

@@ -1,12 +1,9 @@
-use super::*;
-use crate::abc_tests::{file_of_abc, shard_of, shard_of_abc};
+use crate::abc_tests::{Written, file_of_abc, release, shard_of, shard_of_abc};
 use std::alloc::Global;
 use std::test::Fail;
 use xet_hash::{HMACKey, MerkleHash, StoreError, compute_data_hash};
 use xet_io::{MemorySink, SliceReader};
-
-/// The bytes of a shard, and what begins and ends them.
-type Written = (Vec<u8>, MDBShardInfo);
+use xet_shard::*;
 
 /// The shard under the key of 32 bytes 1, created at 5 and valid for 10 seconds, with its files and all
 /// look-ups or without them.
@@ -49,15 +46,12 @@ fn union(alloc: Global, ours: &Written, theirs: &Written) -> Result<Vec<u8>, Sto
 
 /// The shard of one file, whose hash is of 32 bytes 7 and whose chunk is of these bytes.
 fn shard_of_file(alloc: Global, bytes: &[u8]) -> Result<Written, StoreError> {
-    let hash = MerkleHash::from_bytes([7; 32]);
-    if hash == MerkleHash::marker() {
-        return Err(StoreError::HashMismatch);
-    }
-    let mut shard = MDBInMemoryShard::new(alloc);
-    shard.add_file_reconstruction_info(file_of_abc(alloc, hash, compute_data_hash(bytes))?)?;
-    let mut sink = MemorySink::new(alloc);
-    let info = shard.serialize_from(alloc, &mut sink, 0, None)?;
-    Ok((sink.into_bytes(), info))
+    let file = file_of_abc(
+        alloc,
+        MerkleHash::from_bytes([7; 32]),
+        compute_data_hash(bytes),
+    )?;
+    write_shard(alloc, &[], &[&file], HMACKey::default(), 0, u64::MAX)
 }
 
 #[test]

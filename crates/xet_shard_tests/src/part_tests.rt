@@ -3,11 +3,11 @@
 ghost use Rattle.std.specs.Prelude.{◌≡◌, length};
 
 use crate::abc_tests::shard_of_abc;
-use crate::*;
 use std::alloc::Global;
 use std::test::Fail;
-use xet_hash::{Reason, StoreError, compute_data_hash};
+use xet_hash::{MerkleHash, Reason, StoreError, compute_data_hash};
 use xet_io::SliceReader;
+use xet_shard::*;
 
 /// The same shard without its look-ups, which are the 40 bytes before the footer.
 pub(crate) fn without_lookups(alloc: Global, text: &[u8]) -> Result<Vec<u8>, StoreError>
@@ -35,28 +35,41 @@ fn are_found(rt: HostRuntime) -> Result<(), Fail> {
     let (text, written) = shard_of_abc(alloc)?;
     let mut reader = SliceReader::new(&text);
     let info = MDBShardInfo::load_from_reader(&mut reader)?;
-    assert_eq!(rt; info, written);
-    assert_eq!(rt; info.num_bytes(), 672);
-    assert_eq!(rt; (info.materialized_bytes(), info.stored_bytes()), (3, 3));
-    assert!(rt; info.chunk_hmac_key().is_none());
-    let files = info.read_all_file_info_sections(alloc, &mut reader)?;
-    let blocks = info.read_all_xorb_blocks_full(alloc, &mut reader)?;
-    assert_eq!(rt; (files.len(), blocks.len()), (1, 1));
     let chunk = compute_data_hash(b"abc");
-    let heads = info.read_all_xorb_blocks(alloc, &mut reader)?;
+    let head = XorbChunkSequenceHeader::new(chunk, 1, 3);
+    let totals = (info.materialized_bytes(), info.stored_bytes());
+    let unkeyed = info.chunk_hmac_key().is_none();
+    let files = info.read_all_file_info_sections(alloc, &mut reader)?.len();
+    let blocks = info.read_all_xorb_blocks_full(alloc, &mut reader)?.len();
+    let heads = info.read_all_xorb_blocks(alloc, &mut reader)?.as_slice() == [(head, 0)].as_slice();
+    let lookups = lookups_are_of(alloc, &info, &mut reader, chunk)?;
     assert_eq!(rt;
-        heads.as_slice(),
-        [(XorbChunkSequenceHeader::new(chunk, 1, 3), 0)].as_slice()
+        (info == written, info.num_bytes(), totals),
+        (true, 672, (3, 3))
     );
-    let xorbs = info.read_full_xorb_lookup(alloc, &mut reader)?;
-    assert_eq!(rt; xorbs.as_slice(), [(chunk.word(0), 0)].as_slice());
-    let chunks = info.read_all_truncated_hashes(alloc, &mut reader)?;
-    assert_eq!(rt; chunks.as_slice(), [(chunk.word(0), (0, 0))].as_slice());
+    assert_eq!(rt;
+        (files, blocks, unkeyed, heads, lookups),
+        (1, 1, true, true, true)
+    );
     Ok(())
 }
 
+/// Whether the lookup tables of xorbs and of chunks lead to this chunk's xorb in the first row.
+fn lookups_are_of(
+    alloc: Global,
+    info: &MDBShardInfo,
+    reader: &mut SliceReader,
+    chunk: MerkleHash,
+) -> Result<bool, StoreError> {
+    let word = chunk.word(0);
+    let xorbs = info.read_full_xorb_lookup(alloc, reader)?.as_slice() == [(word, 0)].as_slice();
+    let chunks = info.read_all_truncated_hashes(alloc, reader)?.as_slice()
+        == [(word, (0, 0))].as_slice();
+    Ok(xorbs && chunks)
+}
+
 #[test]
-fn are_found_without_the_look_ups(rt: HostRuntime) -> Result<(), Fail> {
+fn are_found_without_the_lookups(rt: HostRuntime) -> Result<(), Fail> {
     let alloc = rt.alloc();
     let (text, _) = shard_of_abc(alloc)?;
     if text.len() != 672 {
@@ -65,12 +78,8 @@ fn are_found_without_the_look_ups(rt: HostRuntime) -> Result<(), Fail> {
     let other = without_lookups(alloc, &text)?;
     let mut reader = SliceReader::new(&other);
     let info = MDBShardInfo::load_from_reader(&mut reader)?;
-    assert_eq!(rt; info.num_bytes(), 632);
-    let chunk = compute_data_hash(b"abc");
-    let xorbs = info.read_full_xorb_lookup(alloc, &mut reader)?;
-    assert_eq!(rt; xorbs.as_slice(), [(chunk.word(0), 0)].as_slice());
-    let chunks = info.read_all_truncated_hashes(alloc, &mut reader)?;
-    assert_eq!(rt; chunks.as_slice(), [(chunk.word(0), (0, 0))].as_slice());
+    let lookups = lookups_are_of(alloc, &info, &mut reader, compute_data_hash(b"abc"))?;
+    assert_eq!(rt; (info.num_bytes(), lookups), (632, true));
     Ok(())
 }
 
@@ -80,13 +89,15 @@ fn are_refused_past_the_end(rt: HostRuntime) -> Result<(), Fail> {
     let (text, mut info) = shard_of_abc(alloc)?;
     let mut reader = SliceReader::new(&text);
     info.metadata.chunk_lookup_num_entry = u64::MAX;
-    let chunks = info.read_all_truncated_hashes(alloc, &mut reader);
-    assert_eq!(rt; chunks.err(), Some(StoreError::UnexpectedEof));
-    info.metadata.file_lookup_offset = u64::MAX;
-    let blocks = info.read_all_xorb_blocks(alloc, &mut reader);
-    assert_eq!(rt;
-        blocks.err(),
-        Some(StoreError::MalformedData(Reason::SectionPlace))
+    let chunks = matches!(
+        info.read_all_truncated_hashes(alloc, &mut reader),
+        Err(StoreError::UnexpectedEof)
     );
+    info.metadata.file_lookup_offset = u64::MAX;
+    let blocks = matches!(
+        info.read_all_xorb_blocks(alloc, &mut reader),
+        Err(StoreError::MalformedData(Reason::SectionPlace))
+    );
+    assert_eq!(rt; (chunks, blocks), (true, true));
     Ok(())
 }

@@ -5,12 +5,12 @@ ghost use Rattle.xet_shard.specs.Records.{file_rows};
 
 use crate::abc_tests::shard_of_abc;
 use crate::part_tests::without_lookups;
-use crate::*;
 use std::alloc::Global;
 use std::test::Fail;
 use xet_base::Items;
 use xet_hash::{HMACKey, MerkleHash, StoreError, compute_data_hash, file_hash};
 use xet_io::SliceReader;
+use xet_shard::*;
 
 /// The hash of this last byte, the others of which are one.
 fn hash_of(last: u8) -> MerkleHash {

@@ -1,9 +1,10 @@
 //! The shard of the xorb and the file of `abc`.
 
-ghost use Rattle.std.specs.Prelude.{◌≡◌, IfOk, length};
+ghost use Rattle.std.specs.Prelude.{◌≡◌, ◌≢◌, IfOk, length};
+ghost use Rattle.xet_hash.specs.Hash.{marker};
+ghost use Rattle.xet_shard.specs.Held.{nothing};
 ghost use Rattle.xet_shard.specs.Records.{IsFile, IsXorb, file_hash, file_rows, xorb_hash, xorb_rows};
 
-use crate::*;
 use std::alloc::Global;
 use std::test::Fail;
 use xet_base::Items;
@@ -11,6 +12,7 @@ use xet_hash::{
     MerkleHash, Reason, StoreError, compute_data_hash, file_hash, range_hash_from_chunks,
 };
 use xet_io::{MemorySink, SliceReader};
+use xet_shard::*;
 
 /// The xorb of the one chunk `abc`.
 fn xorb_of_abc(alloc: Global, chunk: MerkleHash) -> Result<MDBXorbInfo, StoreError>
@@ -46,24 +48,60 @@ pub(crate) fn file_of_abc(
     })
 }
 
-/// The bytes of the shard of both, and what begins and ends them.
-pub fn shard_of_abc(alloc: Global) -> Result<(Vec<u8>, MDBShardInfo), StoreError> {
+/// The bytes of a shard, and its header and footer.
+pub type Written = (Vec<u8>, MDBShardInfo);
+
+/// The shard of the xorb and the file of `abc`.
+pub fn shard_of_abc(alloc: Global) -> Result<Written, StoreError> {
     shard_of(alloc, b"abc")
 }
 
 /// The same of three other bytes.
-pub(crate) fn shard_of(alloc: Global, bytes: &[u8]) -> Result<(Vec<u8>, MDBShardInfo), StoreError> {
+pub fn shard_of(alloc: Global, bytes: &[u8]) -> Result<Written, StoreError> {
     let chunk = compute_data_hash(bytes);
     let hash = file_hash(alloc, &[(chunk, 3)])?;
     if chunk == MerkleHash::marker() || hash == MerkleHash::marker() {
         return Err(StoreError::HashMismatch);
     }
+    added_and_written(alloc, hash, chunk)
+}
+
+/// The shard of this file and this chunk, added to a shard in memory.
+fn added_and_written(
+    alloc: Global,
+    hash: MerkleHash,
+    chunk: MerkleHash,
+) -> Result<Written, StoreError>
+    requires file { hash ≢ marker }
+    requires chunk { chunk ≢ marker }
+{
     let mut shard = MDBInMemoryShard::new(alloc);
+    let answer = written(alloc, &mut shard, hash, chunk);
+    release(shard);
+    answer
+}
+
+/// Adds both to a shard of nothing, and writes it.
+fn written(
+    alloc: Global,
+    shard: &mut MDBInMemoryShard,
+    hash: MerkleHash,
+    chunk: MerkleHash,
+) -> Result<Written, StoreError>
+    requires empty { shard.old ≡ nothing }
+    requires file { hash ≢ marker }
+    requires chunk { chunk ≢ marker }
+{
     shard.add_xorb_block(xorb_of_abc(alloc, chunk)?)?;
     shard.add_file_reconstruction_info(file_of_abc(alloc, hash, chunk)?)?;
     let mut sink = MemorySink::new(alloc);
     let info = shard.serialize_from(alloc, &mut sink, 0, None)?;
-    Ok((Vec::from_slice(alloc, sink.bytes())?, info))
+    Ok((sink.into_bytes(), info))
+}
+
+/// Drops a shard in memory.
+pub fn release(shard: MDBInMemoryShard) {
+    let _ = &shard;
 }
 
 #[test]

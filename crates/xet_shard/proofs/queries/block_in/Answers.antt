@@ -1,0 +1,17 @@
+use Rattle.std.proofs.lemmas.Result.{err_from_is_err_and}
+use Rattle.xet_shard.specs.declared.record.MDBXorbInfo.{MDBXorbInfo}
+use Rattle.xet_shard.specs.Queries.{record_in}
+use Rattle.xet_shard.specs.Reading.{xorb_at}
+use Rattle.xet_shard.proofs.PartLaws.{count_fails, counted}
+use Rattle.xet_shard.proofs.queries.block_in.Goals as goal
+
+pub returns-in_err-count-clause-exact : goal.returns-in_err-count-clause-exact
+returns-in_err-count-clause-exact g c = λ told.
+    let p = err_from_is_err_and c.from_residual.result c.from_residual.ensures.1 in
+    let at = c.args.f.now.xorb_info_offset in
+    rw (p.1, p.2) (count_fails (λ (x : MDBXorbInfo). x) at c.args.f.now.file_lookup_offset c.in_err-count.field-0.0 (λ n. record_in xorb_at at n c.args.row (g.R.ReadAt.bytes c.args.reader.now)) c.in_err-count.ensures.error c.in_err-count.ensures.exact)
+
+pub returns-clause-exact : goal.returns-clause-exact
+returns-clause-exact g c = λ told.
+    let at = c.args.f.now.xorb_info_offset in
+    counted (λ (x : MDBXorbInfo). x) at c.args.f.now.file_lookup_offset c.in_ok-count.count c.record_in.result (λ n. record_in xorb_at at n c.args.row (g.R.ReadAt.bytes c.args.reader.now)) c.in_ok-count.ensures.exact (c.record_in.ensures.exact told)

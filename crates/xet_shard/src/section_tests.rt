@@ -1,0 +1,73 @@
+//! Which check of a damaged section fails first.
+
+use crate::*;
+use std::alloc::Global;
+use std::test::Fail;
+use xet_hash::{Reason, StoreError};
+use xet_io::SliceReader;
+
+/// Sets bytes of some rows, each by its offset.
+fn set(rows: &mut [u8; 192], bytes: &[(usize, u8)]) {
+    for (at, byte) in bytes {
+        if let Some(place) = rows.get_mut(*at) {
+            *place = *byte;
+        }
+    }
+}
+
+/// The error of a section of so many bytes that begins with these rows, some bytes of which are changed: the
+/// header of a xorb of one chunk, its chunk of 5 bytes, the header of a xorb of none, the end row.
+fn error(alloc: Global, len: u64, changed: &[(usize, u8)]) -> Option<StoreError> {
+    let mut rows = [0; 192];
+    set(&mut rows, &[(0, 1), (36, 1), (40, 5), (84, 5), (96, 2)]);
+    rows[144..176].copy_from_slice(&[0xff; 32]);
+    set(&mut rows, changed);
+    let mut info = MDBShardInfo::default();
+    info.metadata.file_lookup_offset = len;
+    let mut reader = SliceReader::new(&rows);
+    let read = info.read_all_xorb_blocks_full(alloc, &mut reader);
+    read.err()
+}
+
+/// Whether that is the error.
+fn is(alloc: Global, len: u64, changed: &[(usize, u8)], expected: Option<Reason>) -> bool {
+    match (error(alloc, len, changed), expected) {
+        (None, None) => true,
+        (Some(StoreError::MalformedData(reason)), Some(expected)) => reason == expected,
+        _ => false,
+    }
+}
+
+#[test]
+fn a_record_leaves_its_section_is_broken_or_out_of_order(rt: HostRuntime) -> Result<(), Fail> {
+    let alloc = rt.alloc();
+    let (place, entry, order) = (
+        Some(Reason::SectionPlace),
+        Some(Reason::SectionEntry),
+        Some(Reason::SectionOrder),
+    );
+    assert!(rt; is(alloc, 192, &[], None));
+    // The second xorb has the hash of the first, and then a flag, and then more chunks than rows are left.
+    assert!(rt; is(alloc, 192, &[(96, 1)], order));
+    assert!(rt; is(alloc, 192, &[(96, 1), (128, 1)], entry));
+    assert!(rt; is(alloc, 192, &[(96, 1), (128, 1), (132, 2)], place));
+    // It takes the end row as its chunk: no row is left after it.
+    assert!(rt; is(alloc, 192, &[(132, 1)], place));
+    assert!(rt; is(alloc, 192, &[(96, 1), (132, 1)], order));
+    // The first xorb's total is not that of its chunk.
+    assert!(rt; is(alloc, 192, &[(40, 6)], entry));
+    // The end row is not zero after its hash.
+    assert!(rt; is(alloc, 192, &[(191, 1)], entry));
+    Ok(())
+}
+
+#[test]
+fn a_section_is_whole_rows(rt: HostRuntime) -> Result<(), Fail> {
+    let alloc = rt.alloc();
+    let place = Some(Reason::SectionPlace);
+    assert!(rt; is(alloc, 0, &[], place));
+    assert!(rt; is(alloc, 144, &[], place));
+    assert!(rt; is(alloc, 191, &[], place));
+    assert!(rt; is(alloc, 193, &[], place));
+    Ok(())
+}
