@@ -150,13 +150,14 @@ no_copy_by most raw chunks at rest e f is (inr s) = record {
 }
 
 -- a check fails
-pub no_copy : (most : ℕ) (raw : List ℕ) (chunks : List (List ℕ)) (at : ℕ) (rest : List ℕ) (e : StoreError) → AreInFront most raw chunks at → rest ≡ drop at raw → ShowsNext most rest (Err e) → IsNoCopy most raw e
-no_copy most raw chunks at rest e f is next = inl (chunks, no_copy_by most raw chunks at rest e f is next.1, next.0)
+pub no_copy : (most : ℕ) (raw : List ℕ) (chunks : List (List ℕ)) (at : ℕ) (rest : List ℕ) (e : StoreError) → AreInFront most raw chunks at → rest ≡ drop at raw → ShowsNext most rest (Err e) → length chunks ≤ most_chunks
+    → IsNoCopy most raw e
+no_copy most raw chunks at rest e f is next few = inl (record { chunks = chunks; stream = no_copy_by most raw chunks at rest e f is next.1; few = few; failure = next.0 })
 
 -- there are too many
 pub too_many : (most : ℕ) (raw : List ℕ) (chunks : List (List ℕ)) (at : ℕ) (chunk : List ℕ) (next : ℕ) → AreInFront most raw (chunks ++ chunk ∷ []) next → length chunks ≡ most_chunks → IsNoCopy most raw (MalformedData ChunkCount)
 too_many most raw chunks at chunk next f full =
-    inr (inl (refl, chunks ++ chunk ∷ [], (sum_by length (chunks ++ chunk ∷ []), drop next raw, f.passes), omega (arith, length_push chunks chunk)))
+    inr (inl (refl, record { chunks = chunks ++ chunk ∷ []; whole = (sum_by length (chunks ++ chunk ∷ []), drop next raw, f.passes); count = omega (arith, length_push chunks chunk) }))
 
 copied_by : (most : ℕ) (raw : List ℕ) (chunks : List (List ℕ)) (at : ℕ) (rest : List ℕ) → AreInFront most raw chunks at → rest ≡ drop at raw → (rest ≡ []) ⊎ (front_of most rest ≡ Fails ChunkHeaderParse)
     → IsStream most raw chunks (Ok tt) ⊎ IsStream most raw chunks (Err ChunkHeaderParse)

@@ -6,7 +6,7 @@ use Rattle.xet_hash.specs.declared.error.Reason.TheVariants.{ChunkCount}
 use Rattle.xet_hash.specs.declared.error.StoreError.{StoreError}
 use Rattle.xet_hash.specs.declared.error.StoreError.TheVariants.{ChunkHeaderParse, MalformedData}
 use Rattle.xet_footer.specs.Spelled.{most_chunks, number}
-use Rattle.xet_chunk.specs.Outside.{StopsWriting}
+use Rattle.xet_chunk.specs.Outside.{IsCheck, StopsWriting}
 use Rattle.xet_chunk.specs.Passing.{Begins}
 use Rattle.xet_chunk.specs.Spelling.{spelling}
 use Rattle.xet_chunk.specs.Stream.{IsStream}
@@ -67,13 +67,27 @@ Rebuilds most raw told before now made =
     × (0 < length chunks → length (text_of chunks) < 2 ^ 32 → IsXorbText (text_of chunks) chunks)
     × (told → now ≡ before ++ text_of chunks)
 
--- Why no footer is made: the first check that fails, but a footer is no failure; or there are too many chunks; or
--- the sink failed or there was no memory.
+-- The first check of stored chunks that fails, after no more of them than a footer lists. A footer is no failure.
+pub record FailsCheck (most : ℕ) (raw : List ℕ) (e : StoreError) : Type 0 where
+  pub chunks : List (List ℕ)
+  pub stream : IsStream most raw chunks (Err e)
+  pub few : length chunks ≤ most_chunks
+  pub failure : e ≢ ChunkHeaderParse
+
+-- One whole chunk more than a footer lists.
+pub record HasTooMany (most : ℕ) (raw : List ℕ) : Type 0 where
+  pub chunks : List (List ℕ)
+  pub whole : Begins most 0 raw chunks
+  pub count : length chunks ≡ 1 + most_chunks
+
+-- Why no footer is made: the first check that fails; or there are too many chunks; or the sink failed or there was no
+-- memory.
 abbrev pub IsNoRebuild : ℕ → List ℕ → StoreError → Type 0
-IsNoRebuild most raw e =
-    ((chunks : List (List ℕ)) × IsStream most raw chunks (Err e) × (e ≢ ChunkHeaderParse))
-    ⊎ ((e ≡ MalformedData ChunkCount) × (chunks : List (List ℕ)) × Begins most 0 raw chunks × (length chunks ≡ 1 + most_chunks))
-    ⊎ StopsWriting e
+IsNoRebuild most raw e = FailsCheck most raw e ⊎ ((e ≡ MalformedData ChunkCount) × HasTooMany most raw) ⊎ StopsWriting e
+
+-- a check of the stored chunks failed: one of the bytes, or the one that they are not too many
+abbrev pub IsRebuildCheck : StoreError → Type 0
+IsRebuildCheck e = IsCheck e ⊎ (e ≡ MalformedData ChunkCount)
 
 -- a front of the xorb was written, or nothing
 abbrev pub RebuildsFront : ℕ → List ℕ → List ℕ → List ℕ → Type 0

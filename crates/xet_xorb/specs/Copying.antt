@@ -5,11 +5,10 @@ use Rattle.xet_hash.specs.Merkle.{members_of}
 use Rattle.xet_hash.specs.declared.error.Reason.TheVariants.{ChunkCount}
 use Rattle.xet_hash.specs.declared.error.StoreError.{StoreError}
 use Rattle.xet_hash.specs.declared.error.StoreError.TheVariants.{ChunkHeaderParse, MalformedData, OutOfMemory, UnexpectedEof}
-use Rattle.xet_footer.specs.Spelled.{most_chunks}
-use Rattle.xet_chunk.specs.Passing.{Begins, Passes}
+use Rattle.xet_chunk.specs.Passing.{Passes}
 use Rattle.xet_chunk.specs.Spelling.{spelling}
-use Rattle.xet_chunk.specs.Stream.{Fails, IsStream, Short, Whole, front_of}
-use Rattle.xet_xorb.specs.Building.{AreCopied}
+use Rattle.xet_chunk.specs.Stream.{Fails, Short, Whole, front_of}
+use Rattle.xet_xorb.specs.Building.{AreCopied, FailsCheck, HasTooMany}
 
 -- What comes next: a whole chunk of so many bytes, or nothing, where the bytes end or a footer begins; or why it is
 -- refused.
@@ -32,10 +31,6 @@ pub record IsCopied (most : ℕ) (raw : List ℕ) (members : List (List ℕ × �
   pub spelled : take at raw ≡ flat_map spelling chunks
   pub within : at ≤ length raw
 
--- Why they are not told: the first check that fails, but a footer is no failure; or there are too many; or there was
--- no memory.
+-- Why they are not copied: the first check that fails; or there are too many; or there was no memory.
 abbrev pub IsNoCopy : ℕ → List ℕ → StoreError → Type 0
-IsNoCopy most raw e =
-    ((chunks : List (List ℕ)) × IsStream most raw chunks (Err e) × (e ≢ ChunkHeaderParse))
-    ⊎ ((e ≡ MalformedData ChunkCount) × (chunks : List (List ℕ)) × Begins most 0 raw chunks × (length chunks ≡ 1 + most_chunks))
-    ⊎ (e ≡ OutOfMemory)
+IsNoCopy most raw e = FailsCheck most raw e ⊎ ((e ≡ MalformedData ChunkCount) × HasTooMany most raw) ⊎ (e ≡ OutOfMemory)

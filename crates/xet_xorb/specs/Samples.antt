@@ -1,6 +1,9 @@
 -- Xorbs of random chunks, and xorbs from their parts, by which others are compared.
-use Rattle.std.specs.Prelude.{◌≡◌, ℕ, ◌+◌, ◌-◌, ◌*◌, ◌<◌, ◌≤◌, ◌^◌, List, [], ◌∷◌, ◌++◌, codes, decimal, length, map, slice_range}
+use Rattle.std.specs.Prelude.{◌≡◌, ℕ, ◌+◌, ◌-◌, ◌*◌, ◌<◌, ◌≤◌, ◌^◌, List, [], ◌∷◌, ◌++◌, codes, decimal, length, map, pos, ◌+ℤ◌, slice_range}
 use Rattle.std.specs.List.{AllByRecursion, concat, flat_map}
+use Rattle.rand.specs.Draw.{Gives}
+use Rattle.rand.specs.Uniform.{DrawsBetween, canon}
+use Rattle.rand_core.specs.Stream.{Stream, fill_bytes, next_u32}
 use Rattle.xet_hash.specs.Merkle.{chunk_hash}
 use Rattle.xet_chunk.specs.declared.chunk.Chunk.{Chunk}
 use Rattle.xet_chunk.specs.Chunks.{chunk_of}
@@ -38,24 +41,43 @@ pub record FitXorb (n : ℕ) (size : ChunkSize) : Type 0 where
   pub small : most_of size < 2 ^ 24
   pub total : n * most_of size ≤ 2 ^ 30
 
--- so many chunks of this size
-pub record AreSamples (n : ℕ) (size : ChunkSize) (chunks : List (List ℕ)) : Type 0 where
+-- What a generator's stream gives as the length of one chunk, and the stream that is left: a uniform number of the
+-- range. A fixed length draws nothing.
+abbrev pub DrawsSize : ChunkSize → Stream → ℕ → Stream → Type 0
+DrawsSize (Random least most) before n after = DrawsBetween pos (2 ^ 32) (Gives next_u32) (canon (2 ^ 32) next_u32) (pos least) (pos most +ℤ pos 1) before n after
+DrawsSize (Fixed size) before n after = (n ≡ size) × (after ≡ before)
+
+-- One chunk is drawn: its length, and then so many bytes.
+pub record DrawsChunk (size : ChunkSize) (before : Stream) (chunk : List ℕ) (after : Stream) : Type 0 where
+  pub sized : Stream
+  pub length_drawn : DrawsSize size before (length chunk) sized
+  pub bytes_drawn : (chunk, after) ≡ fill_bytes (length chunk) sized
+
+-- chunks are drawn one after another
+abbrev pub DrawsChunks : ChunkSize → Stream → List (List ℕ) → Stream → Type 0
+DrawsChunks size before [] after = after ≡ before
+DrawsChunks size before (c ∷ cs) after = (between : Stream) × DrawsChunk size before c between × DrawsChunks size between cs after
+
+-- So many chunks of this size, drawn from a stream, and the stream that is left.
+pub record AreSamples (n : ℕ) (size : ChunkSize) (before : Stream) (chunks : List (List ℕ)) (after : Stream) : Type 0 where
   pub count : length chunks ≡ n
   pub sizes : AllByRecursion (λ c. HasSize size (length c)) chunks
+  pub drawn : DrawsChunks size before chunks after
 
 -- they carry their own digests
-abbrev pub AreSampleChunks : ℕ → ChunkSize → List Chunk → Type 0
-AreSampleChunks n size chunks = (bytes : List (List ℕ)) × AreSamples n size bytes × (chunks ≡ map chunk_of bytes)
+abbrev pub AreSampleChunks : ℕ → ChunkSize → Stream → List Chunk → Stream → Type 0
+AreSampleChunks n size before chunks after = (bytes : List (List ℕ)) × AreSamples n size before bytes after × (chunks ≡ map chunk_of bytes)
 
 -- the digest of each chunk, and where it ends among the plain bytes, from a place on
 abbrev pub cuts_from : ℕ → List (List ℕ) → List (List ℕ × ℕ)
 cuts_from at [] = []
 cuts_from at (c ∷ cs) = (chunk_hash c, at + length c) ∷ cuts_from (at + length c) cs
 
--- The object of a xorb of so many chunks of this size, the chunks as they are stored, their plain bytes, and their cuts.
-pub record IsSampleOf (n : ℕ) (size : ChunkSize) (object : XorbObject) (stored plain : List ℕ) (cuts : List (List ℕ × ℕ)) : Type 0 where
+-- The object of a xorb of so many chunks of this size, which are drawn, the chunks as they are stored, their plain
+-- bytes, and their cuts.
+pub record IsSampleOf (n : ℕ) (size : ChunkSize) (before after : Stream) (object : XorbObject) (stored plain : List ℕ) (cuts : List (List ℕ × ℕ)) : Type 0 where
   pub chunks : List (List ℕ)
-  pub samples : AreSamples n size chunks
+  pub samples : AreSamples n size before chunks after
   pub of_chunks : object ≡ object_for chunks
   pub spelled : stored ≡ flat_map spelling chunks
   pub joined : plain ≡ concat chunks

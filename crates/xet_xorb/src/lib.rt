@@ -34,18 +34,3 @@ pub use xet_chunk::{
     parse_chunk_header, serialize_chunk, write_chunk_header,
 };
 pub use xet_footer::{XorbObjectIdent, XorbObjectInfoV0, XorbObjectInfoV1};
-
-#[cfg(test)]
-mod abc;
-#[cfg(test)]
-mod building_tests;
-#[cfg(test)]
-mod damage_tests;
-#[cfg(test)]
-mod object_tests;
-#[cfg(test)]
-mod range_tests;
-#[cfg(test)]
-mod sample_tests;
-#[cfg(test)]
-mod validation_tests;

@@ -8,7 +8,7 @@ ghost use Rattle.xet_hash.specs.Merkle.{total_len};
 ghost use Rattle.xet_io.specs.Faults.{HasCause};
 ghost use Rattle.xet_footer.specs.Spelled.{HasLists, HasShortLists, length_of, most_chunks, number, text_v1};
 ghost use Rattle.xet_chunk.specs.Outside.{IsCheck, StopsWriting};
-ghost use Rattle.xet_xorb.specs.Building.{IsNoRebuild, Rebuilds, RebuildsFront};
+ghost use Rattle.xet_xorb.specs.Building.{IsNoRebuild, IsRebuildCheck, Rebuilds, RebuildsFront};
 ghost use Rattle.xet_xorb.specs.Copying.{IsCopied, IsNoCopy, ShowsNext};
 
 use crate::footers::new_footer;
@@ -39,7 +39,7 @@ pub fn reconstruct_xorb_with_footer<W: Sink>(
     requires bound { length raw.now < 2 ^ 32 }
     ensures rebuilt { IfOk result (Rebuilds max_chunk raw.now (W.tells sink.old ≡ true) (W.written sink.old) (W.written sink.new)) }
     ensures refused { IfErr result (IsNoRebuild max_chunk raw.now) }
-    ensures nothing { W.tells sink.old ≡ true → IfErr result (λ e. IsCheck e → W.written sink.new ≡ W.written sink.old) }
+    ensures nothing { W.tells sink.old ≡ true → IfErr result (λ e. IsRebuildCheck e → W.written sink.new ≡ W.written sink.old) }
     ensures front { W.tells sink.old ≡ true → OnErr result (RebuildsFront max_chunk raw.now (W.written sink.old) (W.written sink.new)) }
     ensures cause { HasCause (W.faults sink.old) (W.faults sink.new) (IsErrOf result (Io Output)) }
     ensures tells { W.tells sink.new ≡ W.tells sink.old }
@@ -65,7 +65,7 @@ fn read_members(
     ensures small { IfOk result (λ read. total_len read.0.items + 8 * length read.0.items < 2 ^ 32) }
     ensures end { IfOk result (λ read. read.1 ≤ length raw.now) }
     ensures refused { IfErr result (IsNoCopy max_chunk raw.now) }
-    ensures kinds { IfErr result (λ e. IsCheck e ⊎ (e ≡ OutOfMemory)) }
+    ensures kinds { IfErr result (λ e. IsRebuildCheck e ⊎ (e ≡ OutOfMemory)) }
 {
     let mut members = Vec::new(alloc);
     let mut at = 0;

@@ -11,7 +11,7 @@ ghost use Rattle.xet_xorb.specs.Building.{no_spare};
 ghost use Rattle.xet_xorb.specs.Footer.{V1};
 ghost use Rattle.xet_xorb.specs.Object.{object_of};
 ghost use Rattle.xet_xorb.specs.Raw.{IsRaw, raw_of};
-ghost use Rattle.xet_xorb.specs.Samples.{AreCuts, AreSampleChunks, AreSamples, FitXorb, HasSize, IsOrdered, IsSampleOf, members_from, most_of, size_text};
+ghost use Rattle.xet_xorb.specs.Samples.{AreCuts, AreSampleChunks, AreSamples, DrawsSize, FitXorb, HasSize, IsOrdered, IsSampleOf, members_from, most_of, size_text};
 
 use crate::footers::new_footer;
 use crate::object::XorbObject;
@@ -48,7 +48,8 @@ impl ChunkSize {
     /// The size of one chunk. It takes no memory.
     fn draw<G: Rng>(self, rng: &mut G) -> u32
         requires { IsOrdered self }
-        ensures { HasSize self result }
+        ensures size { HasSize self result }
+        ensures drawn { DrawsSize self (G.stream rng.old) result (G.stream rng.new) }
     {
         match self {
             ChunkSize::Random(least, most) => rng.random_range(least..=most),
@@ -93,7 +94,7 @@ fn random_chunks<G: Rng>(
     rng: &mut G,
 ) -> Result<Vec<Chunk>, StoreError>
     requires { FitXorb num_chunks size }
-    ensures made { IfOk result (λ chunks. AreSampleChunks num_chunks size chunks.items) }
+    ensures made { IfOk result (λ chunks. AreSampleChunks num_chunks size (G.stream rng.old) chunks.items (G.stream rng.new)) }
     ensures memory { IsOkUnless result StoreError.OutOfMemory }
 {
     let mut chunks = Vec::with_capacity(alloc, num_chunks as usize)?;
@@ -104,8 +105,9 @@ fn random_chunks<G: Rng>(
     Ok(chunks)
 }
 
-/// The raw xorb of so many random chunks, whose first file begins at its first chunk. Where there is no memory, the
-/// call fails with `StoreError::OutOfMemory`, and for no other reason.
+/// The raw xorb of so many random chunks, whose first file begins at its first chunk. Of each chunk in turn the length
+/// and then the bytes are drawn, so that equal generators give equal xorbs. Where there is no memory, the call fails
+/// with `StoreError::OutOfMemory`, and for no other reason.
 pub fn build_raw_xorb<G: Rng>(
     alloc: Global,
     num_chunks: u32,
@@ -113,7 +115,7 @@ pub fn build_raw_xorb<G: Rng>(
     rng: &mut G,
 ) -> Result<RawXorbData, StoreError>
     requires { FitXorb num_chunks size }
-    ensures made { IfOk result (λ raw. (chunks : List (List ℕ)) × AreSamples num_chunks size chunks × (raw ≡ raw_of (map chunk_of chunks) (0 ∷ []))) }
+    ensures made { IfOk result (λ raw. (chunks : List (List ℕ)) × AreSamples num_chunks size (G.stream rng.old) chunks (G.stream rng.new) × (raw ≡ raw_of (map chunk_of chunks) (0 ∷ []))) }
     ensures raw { IfOk result IsRaw }
     ensures memory { IsOkUnless result StoreError.OutOfMemory }
 {
@@ -122,9 +124,9 @@ pub fn build_raw_xorb<G: Rng>(
     RawXorbData::from_chunks(alloc, &chunks, boundaries)
 }
 
-/// A xorb of so many random chunks: its object, the chunks as they are stored, their plain bytes, and of each chunk
-/// its digest and where it ends among these. The schemes that compress are refused as `CompressionError` of their
-/// number.
+/// A xorb of so many random chunks, drawn as `build_raw_xorb` draws them: its object, the chunks as they are stored,
+/// their plain bytes, and of each chunk its digest and where it ends among these. The schemes that compress are refused
+/// as `CompressionError` of their number.
 pub fn build_xorb_object<G: Rng>(
     alloc: Global,
     num_chunks: u32,
@@ -133,7 +135,7 @@ pub fn build_xorb_object<G: Rng>(
     rng: &mut G,
 ) -> Result<(XorbObject, Vec<u8>, Vec<u8>, Vec<(MerkleHash, u32)>), StoreError>
     requires { FitXorb num_chunks size }
-    ensures made { IfOk result (λ made. IsSampleOf num_chunks size made.0 made.1.items made.2.items made.3.items) }
+    ensures made { IfOk result (λ made. IsSampleOf num_chunks size (G.stream rng.old) (G.stream rng.new) made.0 made.1.items made.2.items made.3.items) }
     ensures scheme { (e : StoreError) → compressed scheme [] ≡ Err e → result ≡ Err e }
     ensures refusals { IfErr result (λ e. (compressed scheme [] ≡ Err e) ⊎ (e ≡ OutOfMemory)) }
 {

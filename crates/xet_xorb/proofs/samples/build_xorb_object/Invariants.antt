@@ -6,4 +6,4 @@ use Rattle.xet_xorb.proofs.samples.build_xorb_object.Given as goal
 
 abbrev pub invariant-draws : goal.invariant-draws
 invariant-draws g l =
-    (chunks : List (List ℕ)) × AreSamples l.counter l.size chunks × (l.stored ≡ flat_map spelling chunks) × (l.plain.items ≡ concat chunks) × (l.cuts.items ≡ cuts_from 0 chunks)
+    (chunks : List (List ℕ)) × AreSamples l.counter l.size (g.G.Rng.stream l.initial.rng) chunks (g.G.Rng.stream l.rng) × (l.stored ≡ flat_map spelling chunks) × (l.plain.items ≡ concat chunks) × (l.cuts.items ≡ cuts_from 0 chunks)

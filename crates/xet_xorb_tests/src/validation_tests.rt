@@ -3,11 +3,11 @@
 ghost use Rattle.std.specs.Prelude.{◌<◌, ◌^◌};
 
 use crate::abc::{HASH_OF_ABC, XORB_OF_ABC};
-use crate::*;
 use std::alloc::Global;
 use std::test::Fail;
 use xet_hash::{MerkleHash, StoreError, compute_data_hash};
 use xet_io::{MemorySink, SliceReader};
+use xet_xorb::*;
 
 /// The xorb of `abc` with a footer of version 0, of 111 bytes.
 fn old_xorb_of_abc(alloc: Global) -> Result<Vec<u8>, StoreError> {
@@ -98,5 +98,27 @@ fn no_chunks(rt: HostRuntime) -> Result<(), Fail> {
     bytes.extend_from_slice(&[92, 0, 0, 0])?;
     assert!(rt; validated(alloc, &bytes, &MerkleHash::default(), 3)? == (0, 0, 0));
     assert!(rt; validated(alloc, &[], &MerkleHash::default(), 3)? == (0, 0, 0));
+    Ok(())
+}
+
+/// Whether an object equals its clone, and has no plain ends.
+fn is_cloned(alloc: Global, object: &XorbObject) -> Result<bool, StoreError> {
+    Ok(object.clone(alloc)? == *object && object.info.boundaries_version == 0)
+}
+
+/// Whether the object of a xorb whose footer is of version 0 equals its clone.
+fn old_object_is_cloned(alloc: Global) -> Result<bool, StoreError> {
+    let bytes = old_xorb_of_abc(alloc)?;
+    let mut reader = SliceReader::new(&bytes);
+    let hash = MerkleHash::from_bytes(HASH_OF_ABC);
+    match XorbObject::validate_xorb_object(alloc, &mut reader, &hash, 3)? {
+        Some(object) => is_cloned(alloc, &object),
+        None => Ok(false),
+    }
+}
+
+#[test]
+fn clone_of_version_0(rt: HostRuntime) -> Result<(), Fail> {
+    assert!(rt; old_object_is_cloned(rt.alloc())?);
     Ok(())
 }

@@ -4,12 +4,12 @@ ghost use Rattle.std.specs.Prelude.{◌≡◌, ◌<◌, ◌^◌, IfOk, length};
 ghost use Rattle.xet_xorb.specs.Raw.{IsRaw};
 
 use crate::abc::{CHUNK_OF_ABC, HASH_OF_ABC, XORB_OF_ABC};
-use crate::*;
 use bytes::Bytes;
 use std::alloc::{AllocError, Global};
 use std::test::Fail;
 use xet_hash::{MerkleHash, StoreError, compute_data_hash};
 use xet_io::MemorySink;
+use xet_xorb::*;
 
 /// The chunk `abc`.
 fn chunk(alloc: Global) -> Result<Chunk, AllocError>

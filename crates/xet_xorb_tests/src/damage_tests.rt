@@ -1,11 +1,11 @@
 //! Damaged footers.
 
 use crate::abc::XORB_OF_ABC;
-use crate::*;
 use std::alloc::Global;
 use std::test::Fail;
 use xet_hash::{Reason, StoreError};
 use xet_io::SliceReader;
+use xet_xorb::*;
 
 /// What the reader of the last footer answers.
 fn answer(alloc: Global, text: &[u8]) -> &'static str {

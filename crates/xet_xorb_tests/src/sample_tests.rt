@@ -4,7 +4,6 @@ ghost use Rattle.std.specs.Prelude.{IfOk};
 ghost use Rattle.xet_xorb.specs.Raw.{IsRaw};
 ghost use Rattle.xet_xorb.specs.Samples.{AreCuts};
 
-use crate::*;
 use rand_core::SeedableRng;
 use rand_pcg::Pcg64;
 use std::alloc::Global;
@@ -12,6 +11,7 @@ use std::test::Fail;
 use xet_base::Items;
 use xet_hash::{MerkleHash, Place, StoreError};
 use xet_io::{FailingSink, MemorySink};
+use xet_xorb::*;
 
 const SCHEME: CompressionScheme = CompressionScheme::Auto;
 
@@ -221,16 +221,26 @@ fn schemes_are_refused(rt: HostRuntime) -> Result<(), Fail> {
     Ok(())
 }
 
-/// Whether one seed gives the same bytes twice, and how many.
-fn drawn(alloc: Global) -> Result<(bool, usize), StoreError> {
+/// Whether one seed gives the same bytes twice, and another seed others.
+fn drawn(alloc: Global) -> Result<(bool, bool), StoreError> {
     let one = gen_random_bytes(alloc, 100, &mut Pcg64::seed_from_u64(11))?;
-    let other = gen_random_bytes(alloc, 100, &mut Pcg64::seed_from_u64(11))?;
-    Ok((one == other, one.len()))
+    let again = gen_random_bytes(alloc, 100, &mut Pcg64::seed_from_u64(11))?;
+    let other = gen_random_bytes(alloc, 100, &mut Pcg64::seed_from_u64(12))?;
+    Ok((one == again, one != other))
+}
+
+/// Whether two chunks of a sample differ.
+fn chunks_differ(alloc: Global) -> Result<bool, StoreError> {
+    let plain = raw_xorb_to_vec(alloc, &three_chunks(alloc)?)?;
+    let (first, rest) = plain.as_slice().split_at(plain.len().min(10));
+    Ok(!first.is_empty() && !rest.starts_with(first))
 }
 
 #[test]
 fn bytes_are_drawn(rt: HostRuntime) -> Result<(), Fail> {
-    assert_eq!(rt; drawn(rt.alloc())?, (true, 100));
+    let alloc = rt.alloc();
+    assert_eq!(rt; drawn(alloc)?, (true, true));
+    assert!(rt; chunks_differ(alloc)?);
     Ok(())
 }
 

@@ -1,11 +1,11 @@
 //! Objects of footers.
 
 use crate::abc::{HASH_OF_ABC, XORB_OF_ABC};
-use crate::*;
 use std::alloc::Global;
 use std::test::Fail;
 use xet_hash::{MerkleHash, Reason, StoreError};
 use xet_io::{MemorySink, SliceReader};
+use xet_xorb::*;
 
 /// The footer of no chunks, with its length.
 fn empty_footer(alloc: Global) -> Result<Vec<u8>, StoreError> {

@@ -2,11 +2,11 @@
 
 ghost use Rattle.std.specs.Prelude.{◌<◌, ◌^◌};
 
-use crate::*;
 use std::alloc::Global;
 use std::test::Fail;
 use xet_hash::{Reason, StoreError, compute_data_hash, range_hash_from_chunks};
 use xet_io::SliceReader;
+use xet_xorb::*;
 
 /// The chunks `abc` and `defgh` as they are stored.
 const STORED: [u8; 24] = [
