@@ -10,7 +10,9 @@ use Rattle.xet_xorb.specs.Validation.{IsValid, IsXorbOf}
 use Rattle.xet_xorb.specs.Xorb.{IsXorbText}
 use Rattle.xet_folder.specs.Names.{xorb_path}
 use Rattle.xet_folder.specs.Stored.{IsBacked, IsStored}
+use Rattle.xet_folder.specs.Runs.{stored_len}
 use Rattle.xet_folder.specs.Xorbs.{spans_from}
+use Rattle.xet_folder.proofs.Placing.{stored_below}
 
 -- what the test of two hashes tells
 pub differ : (x y : List ℕ) → not (pointwise nat_eq x y) ≡ true → x ≢ y
@@ -77,3 +79,12 @@ module _ (files : Files) (folder h bytes : List ℕ) (there : bytes_at files (xo
   none_stored seen found all is never chunks s =
       let same : s.bytes ≡ seen = cc (s.there, there) ∙ sym all in
       never (ap is_some is) chunks (record { text = subst (λ (b : List ℕ). IsXorbText b chunks) same s.text; fit = fitting chunks s.readable; hashed = s.hash })
+
+-- a valid xorb's chunks are stored in fewer than 2 ^ 32 bytes
+pub found_below : (h seen : List ℕ) (found : Option XorbObject) (o : XorbObject) (ms : List (List ℕ × ℕ)) → found ≡ Some o
+    → IfSome found (λ object. (chunks : List (List ℕ)) × IsValid 8388607 h seen chunks object) → ms ≡ spans_from 0 o.info.chunk_hashes o.info.chunk_boundary_offsets → stored_len ms < 2 ^ 32
+found_below h seen found o ms is valid spans =
+    let v = subst (λ (x : Option XorbObject). IfSome x (λ object. (chunks : List (List ℕ)) × IsValid 8388607 h seen chunks object)) is valid in
+    let listed : ms ≡ members_of v.0 =
+    spans ∙ ap (λ (o : XorbObject). spans_from 0 o.info.chunk_hashes o.info.chunk_boundary_offsets) v.1.listed ∙ spans_listed v.1.xorb.text.version h (members_of v.0) v.1.xorb.text.spare in
+    subst (λ (l : List (List ℕ × ℕ)). stored_len l < 2 ^ 32) (sym listed) (stored_below seen v.0 v.1.xorb.text)

@@ -5,13 +5,13 @@ use Rattle.std.proofs.lemmas.List.Elements.{filter-append}
 use Rattle.std.specs.Cmp.Lexicographic.{bytes_decides, pointwise}
 use Rattle.std.specs.List.{AllByRecursion}
 use Rattle.xet_shard.proofs.Fitting.{all_both}
-use Rattle.xet_shard.specs.declared.record.FileDataSequenceEntry.{FileDataSequenceEntry as Segment}
+use Rattle.xet_shard.specs.declared.record.MDBFileInfo.{MDBFileInfo}
 use Rattle.xet_folder.specs.Contents.{firsts}
 use Rattle.xet_folder.specs.Gathering.{with_first, with_firsts}
 use Rattle.xet_folder.specs.Xorbs.{Records, found}
 
 abbrev Row : Type 0
-Row = List ℕ × List Segment
+Row = List ℕ × MDBFileInfo
 
 -- the test that leaves out the rows of a hash
 abbrev apart : List ℕ → Row → Bool
@@ -27,7 +27,7 @@ found_apart x h differ (q ∷ rows) = go (pointwise nat_eq q.0 x) refl (found_ap
     go true same rest =
         let other : pointwise nat_eq h q.0 ≡ false = ap (λ (k : List ℕ). pointwise nat_eq h k) ((bytes_decides q.0 x).0 same) ∙ differ in
         rest ∙ ap (λ (c : Bool). cond c (Some q.1) (found rows h)) (sym other)
-    go false same rest = ap (λ (o : Option (List Segment)). cond (pointwise nat_eq h q.0) (Some q.1) o) rest
+    go false same rest = ap (λ (o : Option MDBFileInfo). cond (pointwise nat_eq h q.0) (Some q.1) o) rest
 
 -- a row more after a row, and the others without its hash
 module _ (x r : Row) (rest : Records) where
@@ -77,7 +77,7 @@ pub first_there : (rows : Records) (r : Row) → is_some (found rows r.0) ≡ tr
 first_there rows r has = sym (ap (λ (t : Bool). if t then rows else rows ++ r ∷ []) has)
 
 pub first_new : (rows : Records) (r : Row) → found rows r.0 ≡ None → rows ++ r ∷ [] ≡ with_first rows r
-first_new rows r none = sym (ap (λ (o : Option (List Segment)). if is_some o then rows else rows ++ r ∷ []) none)
+first_new rows r none = sym (ap (λ (o : Option MDBFileInfo). if is_some o then rows else rows ++ r ∷ []) none)
 
 -- what holds of all rows
 first_holds : (P : Row → Type 0) (rows : Records) (r : Row) → AllByRecursion P rows → P r → AllByRecursion P (with_first rows r)
@@ -91,7 +91,7 @@ pub firsts_hold : (P : Row → Type 0) (rows more : Records) → AllByRecursion 
 firsts_hold P rows [] all also = all
 firsts_hold P rows (r ∷ more) all also = firsts_hold P (with_first rows r) more (first_holds P rows r all also.0) also.1
 
-pub not_some : (o : Option (List Segment)) → is_some o ≡ false → o ≡ None
+pub not_some : (o : Option MDBFileInfo) → is_some o ≡ false → o ≡ None
 not_some None e = refl
 not_some (Some v) e = absurd (cc e)
 

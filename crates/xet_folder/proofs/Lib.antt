@@ -4,6 +4,9 @@ pub mod Backing
 pub mod Tables
 pub mod Ranges
 pub mod Placing
+pub mod Sums
+pub mod ChunkEnds
+pub mod Touching
 pub mod Runs
 pub mod Comparing
 pub mod Rest
@@ -16,3 +19,4 @@ pub mod Firsts
 pub mod MoreShards
 pub mod Stopping
 pub mod Spans
+pub mod Distinct

@@ -60,7 +60,7 @@ plain_text (b ∷ bytes) tail plain = λ i. plain_digit (b / 16) i && (plain_dig
 plain_name : (h : List ℕ) → IsTrue (is_plain (shard_name h))
 plain_name h = plain_text (shown_words h 4) (codes ".mdb") refl
 
-name_determines : (a b : List ℕ) → IsHash a → IsHash b → shard_name a ≡ shard_name b → a ≡ b
+pub name_determines : (a b : List ℕ) → IsHash a → IsHash b → shard_name a ≡ shard_name b → a ≡ b
 name_determines a b is_a is_b e = hash_text_determines a b is_a.0 is_a.1 is_b.0 is_b.1 (append_cancel_right (hash_text a) (hash_text b) (codes ".mdb") e)
 
 -- ---- what is picked

@@ -42,14 +42,14 @@ stored_is (m ∷ ms) = omega (arith, sum_by-cons (λ (n : Member). n.1) m ms, su
 -- ---- parts of parts
 
 -- so many elements from a place on
-abbrev piece : {X : Type 0} → ℕ → ℕ → List X → List X
+abbrev pub piece : {X : Type 0} → ℕ → ℕ → List X → List X
 piece at n xs = take n (drop at xs)
 
 piece-map : {X Y : Type 0} (f : X → Y) (at n : ℕ) (xs : List X) → map f (piece at n xs) ≡ piece at n (map f xs)
 piece-map f at n xs = sym (ap (take n) (drop-map f at xs) ∙ take-map f n (drop at xs))
 
 -- a piece of a piece
-piece-piece : {X : Type 0} (at n first count : ℕ) (xs : List X) → first + count ≤ n → piece first count (piece at n xs) ≡ piece (at + first) count xs
+pub piece-piece : {X : Type 0} (at n first count : ℕ) (xs : List X) → first + count ≤ n → piece first count (piece at n xs) ≡ piece (at + first) count xs
 piece-piece at n first count xs within =
     let cut : first + (n - first) ≡ n = omega arith in
     ap (λ (k : ℕ). take count (drop first (take k (drop at xs)))) (sym cut) ∙ ap (take count) (drop-take first (n - first) (drop at xs))
@@ -86,6 +86,13 @@ place_reaches bytes before here p = omega (arith, ap length p.is, length-append 
 
 place_slice : (bytes before here : List ℕ) (at len : ℕ) → IsPlace bytes before here → length before ≡ at → length here ≡ len → take len (drop at bytes) ≡ here
 place_slice bytes before here at len p low size = ap (λ (l : List ℕ). take len (drop at l)) p.is ∙ ap (take len) (drop_at before (here ++ p.after) at low) ∙ take_at here p.after len size
+
+-- a xorb's chunks are stored in fewer bytes than it has
+pub stored_below : (bytes : List ℕ) (chunks : List (List ℕ)) → IsXorbText bytes chunks → stored_len (members_of chunks) < 2 ^ 32
+stored_below bytes chunks text =
+    let all = place_in bytes chunks 0 (length chunks) text in
+    let whole : piece 0 (length chunks) chunks ≡ chunks = take_all (length chunks) chunks (omega arith) in
+    omega (arith, place_reaches _ _ _ all, text.bound, stored_joined chunks, ap (λ (l : List (List ℕ)). length (flat_map spelling l)) whole)
 
 -- ---- what a range touches
 

@@ -28,6 +28,6 @@ module _ (old new : Files) (temp name bytes : List ℕ) where
   put_stable done = ap (λ (o : Option Entry). option_map (λ (e : Entry). e.stable) o) (at_name done)
 
   -- refused, it reads as before, or has them
-  pub put_refused : name ≢ temp → IsPutOrKept old temp name bytes new → (file_at new name ≡ file_at old name) ⊎ (bytes_at new name ≡ Some bytes)
-  put_refused apart (inl kept) = inl (ap file_of (kept name apart))
+  pub put_refused : name ≢ temp → IsPutOrKept old temp name bytes new → (get new name ≡ get old name) ⊎ (bytes_at new name ≡ Some bytes)
+  put_refused apart (inl kept) = inl (kept name apart)
   put_refused apart (inr done) = inr (put_there done)

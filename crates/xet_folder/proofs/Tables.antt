@@ -124,8 +124,8 @@ pub joins_later : (old new : Xorbs) (segments : List Segment) (out : List (List 
 joins_later old new [] out later none = none
 joins_later old new (s ∷ ss) out later (xs, rest, listed, lies, parts, more) = (xs, rest, listed_later old new s.xorb_hash xs later listed, lies, parts, joins_later old new ss rest later more)
 
-pub record_later : (old new : Xorbs) (r : List ℕ × List Segment) → IsLater old new → IsRecord old r → IsRecord new r
-record_later old new r later is = record { members = is.members; joins = joins_later old new r.1 is.members later is.joins; hash = is.hash; some = is.some; bound = is.bound }
+pub record_later : (old new : Xorbs) (r : List ℕ × MDBFileInfo) → IsLater old new → IsRecord old r → IsRecord new r
+record_later old new r later is = record { named = is.named; members = is.members; joins = joins_later old new r.1.segments is.members later is.joins; hash = is.hash; some = is.some; bound = is.bound }
 
 pub records_later : (old new : Xorbs) (rs : Records) → IsLater old new → AllByRecursion (IsRecord old) rs → AllByRecursion (IsRecord new) rs
 records_later old new [] later all = tt

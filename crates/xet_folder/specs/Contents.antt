@@ -1,4 +1,4 @@
--- What an admitted folder contains: its registered shards, the xorbs that they name, and the plans of
+-- What an admitted folder contains: its registered shards, the xorbs that they name, and the records of
 -- the files that they list.
 use Rattle.std.specs.Prelude.{◌≡◌, ◌↔◌, ℕ, ◌<◌, ◌^◌, Bool, true, List, [], ◌∷◌, length, filter, map, not, nat_eq, Option, Some, None, IsSome, Any, Ok, Err}
 use Rattle.std.specs.Cmp.Lexicographic.{pointwise}
@@ -9,7 +9,6 @@ use Rattle.xet_hash.specs.declared.error.StoreError.{StoreError}
 use Rattle.xet_hash.specs.declared.error.StoreError.TheVariants.{Io, OutOfMemory}
 use Rattle.xet_hash.specs.declared.error.Place.TheVariants.{Disk}
 use Rattle.xet_hash.specs.Merkle.{file_hash, total_len}
-use Rattle.xet_shard.specs.declared.record.FileDataSequenceEntry.{FileDataSequenceEntry as Segment}
 use Rattle.xet_shard.specs.declared.record.MDBFileInfo.{MDBFileInfo}
 use Rattle.xet_shard.specs.Reading.{all_of}
 use Rattle.xet_shard.specs.Records as record_of
@@ -20,9 +19,9 @@ use Rattle.xet_folder.specs.Plan.{Joins}
 use Rattle.xet_folder.specs.Shards.{ShardFile}
 use Rattle.xet_folder.specs.Xorbs.{IsListed, Records, Xorbs, found}
 
--- the files that a shard's bytes list, each under its hash with its plan
+-- the files that a shard's bytes list: the record of each under its hash
 abbrev pub listed_of : List MDBFileInfo → Records
-listed_of files = map (λ f. (record_of.file_hash f, f.segments)) files
+listed_of files = map (λ f. (record_of.file_hash f, f)) files
 
 abbrev pub listed_in : List ℕ → Records
 listed_in bytes = elim (all_of bytes) [ Ok p ↦ listed_of p.1 | Err e ↦ [] ]
@@ -32,17 +31,19 @@ unfoldable pub firsts : Records → Records
 firsts [] = []
 firsts (r ∷ rs) = r ∷ filter (λ q. not (pointwise nat_eq q.0 r.0)) (firsts rs)
 
--- The plan joins, over the listed members, to members, not none, of which this is the file hash.
-pub record IsRecord (xorbs : Xorbs) (r : List ℕ × List Segment) : Type 0 where
+-- The record has this hash, and its plan joins, over the listed members, to members, not none, of which this
+-- is the file hash.
+pub record IsRecord (xorbs : Xorbs) (r : List ℕ × MDBFileInfo) : Type 0 where
+  pub named : record_of.file_hash r.1 ≡ r.0
   pub members : List (List ℕ × ℕ)
-  pub joins : Joins (IsListed xorbs) (λ m. m.1) r.1 members
+  pub joins : Joins (IsListed xorbs) (λ m. m.1) r.1.segments members
   pub hash : file_hash members ≡ r.0
   pub some : 0 < length members
   pub bound : total_len members < 2 ^ 64
 
 -- the same of what a shard lists
 abbrev pub IsFileRecord : Xorbs → MDBFileInfo → Type 0
-IsFileRecord xorbs f = IsRecord xorbs (record_of.file_hash f, f.segments)
+IsFileRecord xorbs f = IsRecord xorbs (record_of.file_hash f, f)
 
 -- The contents of these shards: they are registered, the xorbs are those that they name, and the files
 -- are the first record of each hash.

@@ -6,7 +6,7 @@ use Rattle.xet_io.specs.Faults.{Rose}
 use Rattle.xet_hash.specs.declared.error.StoreError.{StoreError}
 use Rattle.xet_hash.specs.declared.error.StoreError.TheVariants.{Io, OutOfMemory}
 use Rattle.xet_hash.specs.declared.error.Place.TheVariants.{Disk}
-use Rattle.xet_shard.specs.declared.record.FileDataSequenceEntry.{FileDataSequenceEntry as Segment}
+use Rattle.xet_shard.specs.declared.record.MDBFileInfo.{MDBFileInfo}
 use Rattle.xet_shard.specs.Names.{shard_name}
 use Rattle.xet_folder.specs.declared.contents.Contents.{Contents}
 use Rattle.xet_folder.specs.declared.gathering.Gathered.{Gathered}
@@ -17,7 +17,7 @@ use Rattle.xet_folder.specs.Shards.{ShardFile, is_expired}
 use Rattle.xet_folder.specs.Xorbs.{AreBacked, Records, found}
 
 -- a row more, unless there is one of its hash
-abbrev pub with_first : Records → List ℕ × List Segment → Records
+abbrev pub with_first : Records → List ℕ × MDBFileInfo → Records
 with_first rows r = if is_some (found rows r.0) then rows else rows ++ r ∷ []
 
 abbrev pub with_firsts : Records → Records → Records

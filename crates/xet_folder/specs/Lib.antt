@@ -1,3 +1,4 @@
+pub mod Ends
 pub mod Plan
 pub mod Names
 pub mod Refusals

@@ -3,7 +3,7 @@ use Rattle.std.specs.Prelude.{◌≡◌, ℕ, ◌+◌, ◌-◌, List, [], ◌∷
 use Rattle.std.specs.Cmp.Lexicographic.{pointwise}
 use Rattle.std.specs.Map.{lookup}
 use Rattle.xet_io.specs.Disk.{Files, bytes_at}
-use Rattle.xet_shard.specs.declared.record.FileDataSequenceEntry.{FileDataSequenceEntry as Segment}
+use Rattle.xet_shard.specs.declared.record.MDBFileInfo.{MDBFileInfo}
 use Rattle.xet_folder.specs.declared.xorbs.XorbFile.{XorbFile}
 use Rattle.xet_folder.specs.declared.xorbs.XorbFile.TheVariants.{Missing, Malformed, Stored}
 use Rattle.xet_folder.specs.Names.{xorb_path}
@@ -21,9 +21,9 @@ found rows h = lookup (pointwise nat_eq h) rows
 abbrev pub IsListed : Xorbs → List ℕ → List (List ℕ × ℕ) → Type 0
 IsListed xorbs h members = found xorbs h ≡ Some members
 
--- recorded files, each under its hash with its plan, in order of recording
+-- recorded files: the record of each under its hash, in order of recording
 abbrev pub Records : Type 0
-Records = List (List ℕ × List Segment)
+Records = List (List ℕ × MDBFileInfo)
 
 -- each of them is stored so
 abbrev pub AreBacked : Files → List ℕ → Xorbs → Type 0

@@ -106,7 +106,7 @@ fn check_block<D: Disk>(
 {
     let hash = block.hash();
     verify_xorb(disk, alloc, folder, shard, &hash, table)?;
-    if lists_members(block, table.members(&hash)) {
+    if lists_members(block, table.members(&hash).as_slice()) {
         Ok(())
     } else {
         Err(StoreError::InvalidShard(*shard, Reason::OtherChunks))

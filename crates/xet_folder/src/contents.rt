@@ -1,11 +1,12 @@
 //! What an admitted folder contains.
 
-ghost use Rattle.std.specs.Prelude.{◌≡◌, ◌≤◌, [], true, IfErr, IfOk, IsOkUnless, OnErr, OnOk};
+ghost use Rattle.std.specs.Prelude.{◌≡◌, ◌≢◌, ◌≤◌, [], true, AllPairs, IfErr, IfOk, IsOkUnless, OnErr, OnOk};
 ghost use Rattle.std.specs.List.{AllByRecursion};
 ghost use Rattle.xet_folder.specs.Contents.{HasContents, IsRecord, IsUnadmitted};
 ghost use Rattle.xet_folder.specs.Gathering.{with_first};
 ghost use Rattle.xet_folder.specs.Names.{IsHash};
 ghost use Rattle.xet_folder.specs.Xorbs.{AreBacked};
+ghost use Rattle.xet_shard.specs.Records.{file_hash};
 
 use crate::gathering::gather_shards;
 use crate::listing::list_shards;
@@ -16,16 +17,16 @@ use std::marker::Model;
 use xet_base::{Items, Text};
 use xet_hash::{MerkleHash, StoreError};
 use xet_io::Disk;
-use xet_shard::FileDataSequenceEntry;
+use xet_shard::MDBFileInfo;
 
-/// Plans of files, each under the file's hash. Contracts see the rows in the order in which they were
+/// Records of files, each under the file's hash. Contracts see the rows in the order in which they were
 /// added.
 #[derive(Drop)]
-pub struct PlanTable {
-    rows: IndexMap<MerkleHash, Items<FileDataSequenceEntry>>,
+pub struct RecordTable {
+    rows: IndexMap<MerkleHash, MDBFileInfo>,
 }
 
-impl Model for PlanTable {
+impl Model for RecordTable {
     ghost use Rattle.xet_folder.specs.Xorbs.{Records};
 
     ghost Value = { Records };
@@ -33,38 +34,38 @@ impl Model for PlanTable {
     ghost view = { λ t. t.rows.entries };
 }
 
-impl PlanTable {
+impl RecordTable {
     /// A table of no rows. It takes no memory.
-    pub fn new(alloc: Global) -> PlanTable
+    pub fn new(alloc: Global) -> RecordTable
         ensures { result ≡ [] }
     {
-        PlanTable {
+        RecordTable {
             rows: IndexMap::new(alloc),
         }
     }
 
-    /// Adds a plan, unless the file has one.
-    pub fn add_first(
-        &mut self,
-        hash: MerkleHash,
-        segments: Items<FileDataSequenceEntry>,
-    ) -> Result<(), StoreError>
-        ensures added { OnOk result (self.new ≡ with_first self.old (hash, segments)) }
+    /// Adds the record of a file, unless the file has one.
+    pub fn add_first(&mut self, file: MDBFileInfo) -> Result<(), StoreError>
+        ensures added { OnOk result (self.new ≡ with_first self.old (file_hash file, file)) }
         ensures kept { OnErr result (self.new ≡ self.old) }
         ensures memory { IsOkUnless result StoreError.OutOfMemory }
     {
+        let hash = file.hash();
         if self.rows.contains_key(&hash) {
             return Ok(());
         }
-        self.rows.insert(hash, segments)?;
+        self.rows.insert(hash, file)?;
         Ok(())
     }
 
     /// The rows themselves.
-    pub fn into_rows(self) -> IndexMap<MerkleHash, Items<FileDataSequenceEntry>>
-        ensures { result.entries ≡ self }
+    pub fn into_rows(self) -> IndexMap<MerkleHash, MDBFileInfo>
+        ensures rows { result.entries ≡ self }
+        ensures differ { AllPairs (λ a b. a.0 ≢ b.0) self }
     {
-        self.rows
+        let RecordTable { rows } = self;
+        let _count = rows.len();
+        rows
     }
 }
 
@@ -75,8 +76,8 @@ pub struct Contents {
     pub shards: Items<MerkleHash>,
     /// The xorbs that they name.
     pub xorbs: XorbTable,
-    /// The first plan of each file that they list.
-    pub records: PlanTable,
+    /// The first record of each file that they list.
+    pub records: RecordTable,
 }
 
 /// Why a folder is not admitted.

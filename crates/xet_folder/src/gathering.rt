@@ -14,7 +14,7 @@ ghost use Rattle.xet_folder.specs.Refusals.{HasDiskReason};
 ghost use Rattle.xet_folder.specs.Shards.{IsThere, ShardFile, is_expired};
 
 use crate::admission::admit_shard;
-use crate::contents::{PlanTable, Unadmitted};
+use crate::contents::{RecordTable, Unadmitted};
 use crate::listing::ShardEntry;
 use crate::names::{known_bytes, shard_path};
 use crate::refusal::store_error;
@@ -32,8 +32,8 @@ pub struct Gathered {
     pub shards: Vec<MerkleHash>,
     /// The xorbs that they name.
     pub xorbs: XorbTable,
-    /// The first plan of each file that they list.
-    pub records: PlanTable,
+    /// The first record of each file that they list.
+    pub records: RecordTable,
 }
 
 /// Gathers what the listed shards that are valid at a moment contain, in the order of the list.
@@ -58,7 +58,7 @@ pub fn gather_shards<D: Disk>(
     let mut gathered = Gathered {
         shards: Vec::new(alloc),
         xorbs: XorbTable::new(alloc),
-        records: PlanTable::new(alloc),
+        records: RecordTable::new(alloc),
     };
     for entry in entries {
         gather_entry(disk, alloc, folder, now, &entry.hash, &mut gathered)?;
@@ -122,13 +122,13 @@ fn gather_shard<D: Disk>(
     Ok(())
 }
 
-/// Adds the plan of each of these files that has none yet.
-fn add_files(files: Vec<MDBFileInfo>, records: &mut PlanTable) -> Result<(), StoreError>
+/// Adds each of these records whose file has none yet.
+fn add_files(files: Vec<MDBFileInfo>, records: &mut RecordTable) -> Result<(), StoreError>
     ensures added { OnOk result (records.new ≡ with_firsts records.old (listed_of files.items)) }
     ensures memory { IsOkUnless result StoreError.OutOfMemory }
 {
     for file in files {
-        records.add_first(file.hash(), file.segments)?;
+        records.add_first(file)?;
     }
     Ok(())
 }

@@ -3,6 +3,7 @@
 
 mod admission;
 mod contents;
+mod ends;
 mod gathering;
 pub mod laws;
 mod listing;
@@ -15,8 +16,10 @@ mod verifying;
 mod xorbs;
 
 pub use admission::admit_shard;
-pub use contents::{Contents, PlanTable, Unadmitted, admit_folder};
+pub use contents::{Contents, RecordTable, Unadmitted, admit_folder};
+pub use ends::ends_below;
 pub use listing::{ShardEntry, list_shards};
+pub use members::Members;
 pub use names::{known_bytes, shard_path, xorb_path};
 pub use put::{put_shard, put_xorb};
 pub use refusal::store_error;

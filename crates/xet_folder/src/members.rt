@@ -1,12 +1,121 @@
-//! What records say of a xorb's chunks, compared with the chunks.
+//! A xorb's chunks by digest and length, and what records say of them.
 
-ghost use Rattle.std.specs.Prelude.{◌≡◌, ◌↔◌, IsTrue};
+ghost use Rattle.std.specs.Prelude.{◌≡◌, ◌≤◌, ◌<◌, ◌-◌, ◌^◌, ◌↔◌, ℕ, IfOk, IsOkUnless, IsTrue, drop, length, take};
 ghost use Rattle.std.specs.List.{sum_by};
+ghost use Rattle.xet_hash.specs.Merkle.{total_len};
 ghost use Rattle.xet_folder.specs.Admission.{block_members, entry_member};
+ghost use Rattle.xet_folder.specs.Ends.{AreEnds};
 ghost use Rattle.xet_folder.specs.Plan.{LiesIn, part};
+ghost use Rattle.xet_folder.specs.Runs.{stored_len};
 
-use xet_hash::MerkleHash;
+use crate::ends::ends_below;
+use std::alloc::Global;
+use std::marker::Model;
+use xet_hash::{MerkleHash, StoreError};
 use xet_shard::{FileDataSequenceEntry, MDBXorbInfo, XorbChunkSequenceEntry};
+
+/// The bytes of a stored chunk's header.
+const HEADER_LEN: u64 = 8;
+
+/// The chunks of a xorb: the digest and the length in bytes of each, in order. Contracts see this list.
+/// Stored with their headers they have fewer than 2^32 bytes.
+#[derive(Debug, Drop)]
+pub struct Members {
+    pairs: Vec<(MerkleHash, u64)>,
+    /// The bytes of the first chunks: of none, of one, and so on up to all.
+    ends: Vec<u64>,
+}
+
+impl Model for Members {
+    ghost use Rattle.std.specs.Prelude.{ℕ, List};
+    ghost use Rattle.xet_folder.specs.Runs.{HasEnds};
+
+    ghost Value = { List (List ℕ × ℕ) };
+
+    ghost view = { λ m. m.pairs.items };
+
+    ghost invariant = { λ m. HasEnds m.pairs.items m.ends.items };
+}
+
+impl Members {
+    /// The chunks of a list. It takes room for eight bytes a chunk.
+    pub fn from_vec(alloc: Global, pairs: Vec<(MerkleHash, u64)>) -> Result<Members, StoreError>
+        requires { stored_len pairs.items < 2 ^ 32 }
+        ensures pairs { IfOk result (λ members. members ≡ pairs.items) }
+        ensures memory { IsOkUnless result StoreError.OutOfMemory }
+    {
+        let ends = ends_of(alloc, &pairs)?;
+        Ok(Members { pairs, ends })
+    }
+
+    /// Lends the list.
+    pub fn as_slice(&self) -> &[(MerkleHash, u64)]
+        ensures { result.now ≡ self.now }
+    {
+        &self.pairs
+    }
+
+    /// The number of chunks.
+    pub fn len(&self) -> usize
+        ensures { result ≡ length self.now }
+    {
+        self.pairs.len()
+    }
+
+    /// The bytes of the first `count` chunks.
+    pub fn end(&self, count: usize) -> u64
+        requires { count ≤ length self.now }
+        ensures end { result ≡ total_len (take count self.now) }
+        ensures bound { result < 2 ^ 32 }
+    {
+        self.ends[count]
+    }
+
+    /// The bytes of the first `count` chunks as they are stored, each after its header.
+    pub fn stored_end(&self, count: usize) -> u64
+        requires { count ≤ length self.now }
+        ensures end { result ≡ stored_len (take count self.now) }
+        ensures bound { result < 2 ^ 32 }
+    {
+        self.ends[count] + HEADER_LEN * count as u64
+    }
+
+    /// How many chunks end at or before `place`: all those before the first chunk that has the byte there.
+    pub fn ended_by(&self, place: u64) -> usize
+        requires { place < 2 ^ 63 }
+        ensures within { result ≤ length self.now }
+        ensures before { total_len (take result self.now) ≤ place }
+        ensures next { (k : ℕ) → result < k → k ≤ length self.now → place < total_len (take k self.now) }
+    {
+        ends_below(&self.ends, place + 1) - 1
+    }
+
+    /// How many of the first chunks it takes to have `bytes` bytes.
+    pub fn reaching(&self, bytes: u64) -> usize
+        requires { bytes ≤ total_len self.now }
+        ensures within { result ≤ length self.now }
+        ensures reaches { bytes ≤ total_len (take result self.now) }
+        ensures least { (k : ℕ) → k < result → total_len (take k self.now) < bytes }
+    {
+        ends_below(&self.ends, bytes)
+    }
+}
+
+/// The bytes of the first chunks: of none, of one, and so on up to all.
+fn ends_of(alloc: Global, pairs: &[(MerkleHash, u64)]) -> Result<Vec<u64>, StoreError>
+    requires { stored_len pairs.now < 2 ^ 32 }
+    ensures ends { IfOk result (λ ends. AreEnds (λ m. m.1) pairs.now ends.items) }
+    ensures memory { IsOkUnless result StoreError.OutOfMemory }
+{
+    let mut ends = Vec::with_capacity(alloc, pairs.len() + 1)?;
+    let mut end: u64 = 0;
+    ends.push(end)?;
+    for (_, length) in pairs {
+        end += *length;
+        ends.push(end)?;
+    }
+    Ok(ends)
+}
 
 /// Whether a block lists these digests and lengths.
 pub fn lists_members(block: &MDBXorbInfo, members: &[(MerkleHash, u64)]) -> bool
@@ -32,37 +141,32 @@ fn is_listed(chunk: &XorbChunkSequenceEntry, member: &(MerkleHash, u64)) -> bool
 }
 
 /// Whether a segment lies in a xorb of these chunks.
-pub fn lies_in(segment: &FileDataSequenceEntry, members: &[(MerkleHash, u64)]) -> bool
+pub fn lies_in(segment: &FileDataSequenceEntry, members: &Members) -> bool
     ensures { IsTrue result ↔ LiesIn (λ m. m.1) segment.now members.now }
 {
     let start = segment.chunk_index_start as usize;
     let end = segment.chunk_index_end as usize;
     start < end
         && end <= members.len()
-        && has_bytes(&members[start..end], segment.unpacked_segment_bytes)
+        && has_bytes(members, start, end, segment.unpacked_segment_bytes)
+}
+
+/// Whether the chunks from one index to before another have so many bytes together.
+fn has_bytes(members: &Members, start: usize, end: usize, bytes: u32) -> bool
+    requires order { start < end }
+    requires within { end ≤ length members.now }
+    ensures { IsTrue result ↔ (bytes ≡ sum_by (λ m. m.1) (take (end - start) (drop start members.now))) }
+{
+    let before = members.end(start);
+    let after = members.end(end);
+    before + u64::from(bytes) == after
 }
 
 /// The chunks that a segment names, of a xorb in which it lies.
-pub fn run_of<'a>(
-    segment: &FileDataSequenceEntry,
-    members: &'a [(MerkleHash, u64)],
-) -> &'a [(MerkleHash, u64)]
+pub fn run_of<'a>(segment: &FileDataSequenceEntry, members: &'a Members) -> &'a [(MerkleHash, u64)]
     requires { LiesIn (λ m. m.1) segment.now members.now }
     ensures { result.now ≡ part segment.now members.now }
 {
-    &members[segment.chunk_index_start as usize..segment.chunk_index_end as usize]
-}
-
-/// Whether chunks have so many bytes together.
-fn has_bytes(members: &[(MerkleHash, u64)], bytes: u32) -> bool
-    ensures { IsTrue result ↔ (bytes ≡ sum_by (λ m. m.1) members.now) }
-{
-    let mut left = u64::from(bytes);
-    for (_, length) in members {
-        if *length > left {
-            return false;
-        }
-        left -= *length;
-    }
-    left == 0
+    let chunks = members.as_slice();
+    &chunks[segment.chunk_index_start as usize..segment.chunk_index_end as usize]
 }

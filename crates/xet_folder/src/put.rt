@@ -2,7 +2,7 @@
 
 ghost use Rattle.std.specs.Prelude.{◌≡◌, ◌≢◌, ◌≤◌, ◌⊎◌, ℕ, List, true, OnErr, OnOk, IfErr, Some, option_map};
 ghost use Rattle.std.specs.FinMap.{get};
-ghost use Rattle.xet_io.specs.Disk.{bytes_at, file_at};
+ghost use Rattle.xet_io.specs.Disk.{bytes_at};
 ghost use Rattle.xet_folder.specs.Names.{IsForeign, IsHash, shard_path, temp_name, xorb_path};
 ghost use Rattle.xet_folder.specs.Refusals.{HasDiskReason};
 
@@ -22,10 +22,11 @@ pub fn put_xorb<D: Disk>(
 ) -> Result<(), StoreError>
     ensures there { D.tells disk.old ≡ true → OnOk result (bytes_at (D.files disk.new) (xorb_path folder.now hash.now) ≡ Some text.now) }
     ensures stable { D.tells disk.old ≡ true → OnOk result (option_map (λ e. e.stable) (get (D.files disk.new) (xorb_path folder.now hash.now)) ≡ Some true) }
-    ensures refused { D.tells disk.old ≡ true → OnErr result ((file_at (D.files disk.new) (xorb_path folder.now hash.now) ≡ file_at (D.files disk.old) (xorb_path folder.now hash.now))
+    ensures refused { D.tells disk.old ≡ true → OnErr result ((get (D.files disk.new) (xorb_path folder.now hash.now) ≡ get (D.files disk.old) (xorb_path folder.now hash.now))
         ⊎ (bytes_at (D.files disk.new) (xorb_path folder.now hash.now) ≡ Some text.now)) }
-    ensures xorbs { D.tells disk.old ≡ true → (h : List ℕ) → IsHash h → h ≢ hash.now → file_at (D.files disk.new) (xorb_path folder.now h) ≡ file_at (D.files disk.old) (xorb_path folder.now h) }
-    ensures shards { D.tells disk.old ≡ true → (h : List ℕ) → IsHash h → file_at (D.files disk.new) (shard_path folder.now h) ≡ file_at (D.files disk.old) (shard_path folder.now h) }
+    ensures xorbs { D.tells disk.old ≡ true → (h : List ℕ) → IsHash h → h ≢ hash.now → get (D.files disk.new) (xorb_path folder.now h) ≡ get (D.files disk.old) (xorb_path folder.now h) }
+    ensures shards { D.tells disk.old ≡ true → (h : List ℕ) → IsHash h → get (D.files disk.new) (shard_path folder.now h) ≡ get (D.files disk.old) (shard_path folder.now h) }
+    ensures others { D.tells disk.old ≡ true → (other : List ℕ) → other ≢ xorb_path folder.now hash.now → other ≢ temp_name (xorb_path folder.now hash.now) → get (D.files disk.new) other ≡ get (D.files disk.old) other }
     ensures foreign { D.tells disk.old ≡ true → (name : List ℕ) → IsForeign folder.now name → get (D.files disk.new) name ≡ get (D.files disk.old) name }
     ensures tells { D.tells disk.new ≡ D.tells disk.old }
     ensures later { D.faults disk.old ≤ D.faults disk.new }
@@ -46,10 +47,11 @@ pub fn put_shard<D: Disk>(
 ) -> Result<(), StoreError>
     ensures there { D.tells disk.old ≡ true → OnOk result (bytes_at (D.files disk.new) (shard_path folder.now hash.now) ≡ Some text.now) }
     ensures stable { D.tells disk.old ≡ true → OnOk result (option_map (λ e. e.stable) (get (D.files disk.new) (shard_path folder.now hash.now)) ≡ Some true) }
-    ensures refused { D.tells disk.old ≡ true → OnErr result ((file_at (D.files disk.new) (shard_path folder.now hash.now) ≡ file_at (D.files disk.old) (shard_path folder.now hash.now))
+    ensures refused { D.tells disk.old ≡ true → OnErr result ((get (D.files disk.new) (shard_path folder.now hash.now) ≡ get (D.files disk.old) (shard_path folder.now hash.now))
         ⊎ (bytes_at (D.files disk.new) (shard_path folder.now hash.now) ≡ Some text.now)) }
-    ensures xorbs { D.tells disk.old ≡ true → (h : List ℕ) → IsHash h → file_at (D.files disk.new) (xorb_path folder.now h) ≡ file_at (D.files disk.old) (xorb_path folder.now h) }
-    ensures shards { D.tells disk.old ≡ true → (h : List ℕ) → IsHash h → h ≢ hash.now → file_at (D.files disk.new) (shard_path folder.now h) ≡ file_at (D.files disk.old) (shard_path folder.now h) }
+    ensures xorbs { D.tells disk.old ≡ true → (h : List ℕ) → IsHash h → get (D.files disk.new) (xorb_path folder.now h) ≡ get (D.files disk.old) (xorb_path folder.now h) }
+    ensures shards { D.tells disk.old ≡ true → (h : List ℕ) → IsHash h → h ≢ hash.now → get (D.files disk.new) (shard_path folder.now h) ≡ get (D.files disk.old) (shard_path folder.now h) }
+    ensures others { D.tells disk.old ≡ true → (other : List ℕ) → other ≢ shard_path folder.now hash.now → other ≢ temp_name (shard_path folder.now hash.now) → get (D.files disk.new) other ≡ get (D.files disk.old) other }
     ensures foreign { D.tells disk.old ≡ true → (name : List ℕ) → IsForeign folder.now name → get (D.files disk.new) name ≡ get (D.files disk.old) name }
     ensures tells { D.tells disk.new ≡ D.tells disk.old }
     ensures later { D.faults disk.old ≤ D.faults disk.new }
@@ -64,7 +66,7 @@ pub fn put_shard<D: Disk>(
 fn put_text<D: Disk>(disk: &mut D, alloc: Global, name: &str, text: &[u8]) -> Result<(), StoreError>
     ensures there { D.tells disk.old ≡ true → OnOk result (bytes_at (D.files disk.new) name.now ≡ Some text.now) }
     ensures stable { D.tells disk.old ≡ true → OnOk result (option_map (λ e. e.stable) (get (D.files disk.new) name.now) ≡ Some true) }
-    ensures refused { D.tells disk.old ≡ true → OnErr result ((file_at (D.files disk.new) name.now ≡ file_at (D.files disk.old) name.now) ⊎ (bytes_at (D.files disk.new) name.now ≡ Some text.now)) }
+    ensures refused { D.tells disk.old ≡ true → OnErr result ((get (D.files disk.new) name.now ≡ get (D.files disk.old) name.now) ⊎ (bytes_at (D.files disk.new) name.now ≡ Some text.now)) }
     ensures others { D.tells disk.old ≡ true → (other : List ℕ) → other ≢ name.now → other ≢ temp_name name.now → get (D.files disk.new) other ≡ get (D.files disk.old) other }
     ensures tells { D.tells disk.new ≡ D.tells disk.old }
     ensures later { D.faults disk.old ≤ D.faults disk.new }

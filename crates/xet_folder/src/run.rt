@@ -1,16 +1,16 @@
 //! Parts of stored xorbs, read where they stand.
 
-ghost use Rattle.std.specs.Prelude.{◌≡◌, ◌≤◌, ◌<◌, ◌+◌, ◌-◌, ◌^◌, ◌∷◌, ◌++◌, [], ℕ, List, true, length, map, take, drop, slice_range, IfErr, IfOk, IfSome, IsNone, IsOkUnless, OnOk};
-ghost use Rattle.std.specs.List.{concat, flat_map};
+ghost use Rattle.std.specs.Prelude.{◌≡◌, ◌≤◌, ◌<◌, ◌+◌, ◌-◌, ◌^◌, ◌++◌, [], ℕ, List, true, length, take, drop, slice_range, IfErr, IfOk, IfSome, IsNone, IsOkUnless, OnErr, OnOk};
+ghost use Rattle.std.specs.List.{concat};
 ghost use Rattle.xet_io.specs.Disk.{FillsFrom, bytes_at};
 ghost use Rattle.xet_hash.specs.Merkle.{members_of, total_len};
 ghost use Rattle.xet_folder.specs.Refusals.{IsRefusal};
 ghost use Rattle.xet_chunk.specs.Spelling.{spelling};
 ghost use Rattle.xet_folder.specs.Plan.{LiesIn, part, range};
-ghost use Rattle.xet_folder.specs.Runs.{HasPlace, IsRunRefusal, Spells, Touches, stored_len};
+ghost use Rattle.xet_folder.specs.Runs.{HasPlace, IsRunRefusal, IsTouched, Spells, stored_len};
 ghost use Rattle.xet_folder.specs.Stored.{IsBacked, IsStored};
 
-use crate::members::run_of;
+use crate::members::Members;
 use crate::names::xorb_path;
 use crate::refusal::store_error;
 use std::alloc::Global;
@@ -61,15 +61,15 @@ impl RunReader {
     }
 
     /// Reads, of the chunks that a segment names, joined, the bytes from `from` to before `to`, behind those
-    /// that it has. Of the xorb's file it reads the chunks that these bytes touch, at once. A file that is
-    /// missing or short, or that has another header before a chunk, is refused as
-    /// `MalformedData(XorbText)`.
+    /// that it has. Of the xorb's file it reads the chunks that these bytes touch, at once; it finds them in
+    /// time logarithmic in the number of chunks. A file that is missing or short, or that has another header
+    /// before a chunk, is refused as `MalformedData(XorbText)`. After an error it has the bytes that it had.
     pub fn read_run<D: Disk>(
         &mut self,
         disk: &mut D,
         folder: &str,
         segment: &FileDataSequenceEntry,
-        members: &[(MerkleHash, u64)],
+        members: &Members,
         from: u64,
         to: u64,
     ) -> Result<(), StoreError>
@@ -78,125 +78,62 @@ impl RunReader {
         requires within { to ≤ segment.now.unpacked_segment_bytes }
         ensures run { D.tells disk.old ≡ true → OnOk result ((chunks : List (List ℕ)) → IsStored (D.files disk.old) folder.now segment.now.xorb_hash chunks → members_of chunks ≡ members.now → self.new ≡ self.old ++ range (concat (part segment.now chunks)) from to) }
         ensures len { OnOk result (length self.new ≡ length self.old + (to - from)) }
+        ensures kept { OnErr result (self.new ≡ self.old) }
         ensures refused { IfErr result (IsRunRefusal ((D.tells disk.old ≡ true) × IsBacked (D.files disk.old) folder.now segment.now.xorb_hash members.now) (D.faults disk.old) (D.faults disk.new)) }
         ensures same { D.files disk.new ≡ D.files disk.old }
         ensures tells { D.tells disk.new ≡ D.tells disk.old }
         ensures later { D.faults disk.old ≤ D.faults disk.new }
     {
-        known_len(segment);
-        let run = run_of(segment, members);
-        let touched = touched_part(run, from, to);
-        let before = &members[..segment.chunk_index_start as usize + touched.first];
-        let Some((at, len)) = place_of(before, touched.members) else {
-            return Err(StoreError::MalformedData(Reason::XorbText));
-        };
+        let touched = touched_part(segment, members, from, to);
         let path = xorb_path(self.alloc, folder, &segment.xorb_hash)?;
-        grow(&mut self.stored, len as usize)?;
-        let stored = &mut self.stored[..len as usize];
-        read_stored(disk, path.as_str(), at, stored)?;
+        grow(&mut self.stored, touched.len)?;
+        let stored = &mut self.stored[..touched.len];
+        read_stored(disk, path.as_str(), touched.at, stored)?;
         push_range(
             &mut self.bytes,
             stored,
-            touched.members,
+            touched.chunks,
             from - touched.skipped,
             to - touched.skipped,
         )
     }
 }
 
-/// Does nothing: that a segment has fewer than 2^32 bytes is known after it.
-fn known_len(segment: &FileDataSequenceEntry)
-    ensures { segment.now.unpacked_segment_bytes < 2 ^ 32 }
-{
-    let _len = segment.unpacked_segment_bytes;
-}
-
-/// The chunks that a range touches.
+/// The chunks that a range of a segment touches, and where they are stored.
 #[derive(Clone, Copy)]
 struct Touched<'a> {
-    members: &'a [(MerkleHash, u64)],
-    /// How many chunks stand before them.
-    first: usize,
-    /// The bytes of those.
+    chunks: &'a [(MerkleHash, u64)],
+    /// The bytes of the segment's chunks before them.
     skipped: u64,
+    /// Their offset in the xorb's file.
+    at: u64,
+    /// Their bytes there, each after its header.
+    len: usize,
 }
 
-/// The chunks of which the bytes from `from` to before `to` are.
-fn touched_part(run: &[(MerkleHash, u64)], from: u64, to: u64) -> Touched
-    requires fits { total_len run.now < 2 ^ 64 }
+/// The chunks of which the bytes `from..to` of a segment are, found by binary search.
+fn touched_part<'a>(
+    segment: &FileDataSequenceEntry,
+    members: &'a Members,
+    from: u64,
+    to: u64,
+) -> Touched<'a>
+    requires lies { LiesIn (λ m. m.1) segment.now members.now }
     requires some { from < to }
-    requires within { to ≤ total_len run.now }
-    ensures { Touches run.now from to result.first result.skipped result.members.now }
+    requires within { to ≤ segment.now.unpacked_segment_bytes }
+    ensures { IsTouched segment.now members.now from to result.chunks.now result.skipped result.at result.len }
 {
-    let (first, skipped) = chunks_before(run, from);
-    let rest = &run[first..];
-    let count = chunks_to(rest, to - skipped);
+    let _bytes = segment.unpacked_segment_bytes;
+    let start = members.end(segment.chunk_index_start as usize);
+    let first = members.ended_by(start + from);
+    let last = members.reaching(start + to);
+    let at = members.stored_end(first);
     Touched {
-        members: &rest[..count],
-        first,
-        skipped,
+        chunks: &members.as_slice()[first..last],
+        skipped: members.end(first) - start,
+        at,
+        len: (members.stored_end(last) - at) as usize,
     }
-}
-
-/// How many chunks end at or before the place `from`, at most all, and how many bytes they have.
-fn chunks_before(members: &[(MerkleHash, u64)], from: u64) -> (usize, u64)
-    requires { total_len members.now < 2 ^ 64 }
-    ensures within { result.0 ≤ length members.now }
-    ensures bytes { result.1 ≡ total_len (take result.0 members.now) }
-    ensures before { result.1 ≤ from }
-    ensures next { result.0 < length members.now → from < total_len (take (result.0 + 1) members.now) }
-{
-    let mut before = 0;
-    for (i, (_, length)) in members.iter().enumerate() {
-        if before + *length > from {
-            return (i, before);
-        }
-        before += *length;
-    }
-    (members.len(), before)
-}
-
-/// How many chunks it takes to have `to` bytes.
-fn chunks_to(members: &[(MerkleHash, u64)], to: u64) -> usize
-    requires fits { total_len members.now < 2 ^ 64 }
-    requires within { to ≤ total_len members.now }
-    ensures within { result ≤ length members.now }
-    ensures reaches { to ≤ total_len (take result members.now) }
-    ensures least { (k : ℕ) → k < result → total_len (take k members.now) < to }
-{
-    let mut end = 0;
-    for (i, (_, length)) in members.iter().enumerate() {
-        if end >= to {
-            return i;
-        }
-        end += *length;
-    }
-    members.len()
-}
-
-/// The bytes of chunks as they are stored; none where there are 2^64.
-fn stored_len(members: &[(MerkleHash, u64)]) -> Option<u64>
-    ensures len { IfSome result (λ n. n ≡ stored_len members.now) }
-    ensures none { IsNone result → 2 ^ 64 ≤ stored_len members.now }
-{
-    let mut total: u64 = 0;
-    for (_, length) in members {
-        total = total.checked_add(HEADER_LEN as u64)?.checked_add(*length)?;
-    }
-    Some(total)
-}
-
-/// Where chunks are stored behind other chunks, and in how many bytes; none where that passes 2^64.
-fn place_of(before: &[(MerkleHash, u64)], members: &[(MerkleHash, u64)]) -> Option<(u64, u64)>
-    ensures at { IfSome result (λ p. p.0 ≡ stored_len before.now) }
-    ensures len { IfSome result (λ p. p.1 ≡ stored_len members.now) }
-    ensures fits { IfSome result (λ p. p.0 + p.1 < 2 ^ 64) }
-    ensures none { IsNone result → 2 ^ 64 ≤ stored_len before.now + stored_len members.now }
-{
-    let at = stored_len(before)?;
-    let len = stored_len(members)?;
-    at.checked_add(len)?;
-    Some((at, len))
 }
 
 /// Sees to it that a list has so many bytes or more.
@@ -233,9 +170,36 @@ fn read_stored<D: Disk>(
     }
 }
 
-/// Appends, of chunks that are stored so, joined, the bytes from `from` to before `to`. Where another
-/// header stands before a chunk, they are refused as `MalformedData(XorbText)`.
+/// Appends, of chunks that are stored so, joined, the bytes `from..to`. Where another header stands before
+/// a chunk, they are refused as `MalformedData(XorbText)`. After an error nothing is appended.
 fn push_range(
+    out: &mut Vec<u8>,
+    stored: &[u8],
+    chunks: &[(MerkleHash, u64)],
+    from: u64,
+    to: u64,
+) -> Result<(), StoreError>
+    requires len { length stored.now ≡ stored_len chunks.now }
+    requires fits { total_len chunks.now < 2 ^ 32 }
+    requires order { from ≤ to }
+    requires within { to ≤ total_len chunks.now }
+    ensures range { OnOk result ((bytes : List (List ℕ)) → Spells stored.now chunks.now bytes → out.new.items ≡ out.old.items ++ range (concat bytes) from to) }
+    ensures len { OnOk result (length out.new.items ≡ length out.old.items + (to - from)) }
+    ensures kept { OnErr result (out.new.items ≡ out.old.items) }
+    ensures refused { IfErr result (IsRefusal ((bytes : List (List ℕ)) × Spells stored.now chunks.now bytes)) }
+{
+    let had = out.len();
+    match push_chunks(out, stored, chunks, from, to) {
+        Ok(()) => Ok(()),
+        Err(error) => {
+            out.truncate(had);
+            Err(error)
+        }
+    }
+}
+
+/// The same, but that after an error some of the bytes may be appended.
+fn push_chunks(
     out: &mut Vec<u8>,
     stored: &[u8],
     members: &[(MerkleHash, u64)],
@@ -248,6 +212,7 @@ fn push_range(
     requires within { to ≤ total_len members.now }
     ensures range { OnOk result ((chunks : List (List ℕ)) → Spells stored.now members.now chunks → out.new.items ≡ out.old.items ++ range (concat chunks) from to) }
     ensures len { OnOk result (length out.new.items ≡ length out.old.items + (to - from)) }
+    ensures front { take (length out.old.items) out.new.items ≡ out.old.items }
     ensures refused { IfErr result (IsRefusal ((chunks : List (List ℕ)) × Spells stored.now members.now chunks)) }
 {
     let mut from = from;

@@ -11,11 +11,8 @@ use xet_io::MemoryDisk;
 use xet_shard::FileDataSequenceEntry;
 use xet_xorb::{Chunk, chunk_members};
 
-/// Puts a xorb of three chunks, and gives its hash and the digests and lengths of these.
-fn put_three(
-    alloc: Global,
-    disk: &mut MemoryDisk,
-) -> Result<(MerkleHash, Vec<(MerkleHash, u64)>), StoreError> {
+/// Puts a xorb of three chunks, and returns its hash.
+fn put_three(alloc: Global, disk: &mut MemoryDisk) -> Result<MerkleHash, StoreError> {
     let chunks = [
         Chunk::new(Bytes::from_static(b"abc")),
         Chunk::new(Bytes::from_static(b"defg")),
@@ -25,7 +22,7 @@ fn put_three(
     let hash = xorb_hash(alloc, &members)?;
     let text = xorb_text(alloc, &chunks)?;
     put_xorb(disk, alloc, "store", &hash, &text)?;
-    Ok((hash, members))
+    Ok(hash)
 }
 
 /// Reads a part of a segment, where there is one.
@@ -33,7 +30,7 @@ fn read_part(
     reader: &mut RunReader,
     disk: &mut MemoryDisk,
     segment: &FileDataSequenceEntry,
-    members: &[(MerkleHash, u64)],
+    members: &Members,
     from: u64,
     to: u64,
 ) -> Result<(), StoreError> {
@@ -44,17 +41,32 @@ fn read_part(
     reader.read_run(disk, "store", segment, members, from, to)
 }
 
+/// Parts of the xorb, one after the other.
+fn read_parts(
+    alloc: Global,
+    disk: &mut MemoryDisk,
+    hash: MerkleHash,
+    members: &Members,
+) -> Result<Vec<u8>, StoreError> {
+    let all = FileDataSequenceEntry::new(hash, 9, 0, 3);
+    let last = FileDataSequenceEntry::new(hash, 6, 1, 3);
+    let mut reader = RunReader::with_capacity(alloc, 8)?;
+    read_part(&mut reader, disk, &all, members, 2, 8)?;
+    read_part(&mut reader, disk, &last, members, 4, 6)?;
+    Ok(reader.into_bytes())
+}
+
 #[test]
 fn reads_parts_of_a_xorb(rt: HostRuntime) -> Result<(), Fail> {
     let alloc = rt.alloc();
     let mut disk = MemoryDisk::new(alloc);
-    let (hash, members) = put_three(alloc, &mut disk)?;
-    let all = FileDataSequenceEntry::new(hash, 9, 0, 3);
-    let last = FileDataSequenceEntry::new(hash, 6, 1, 3);
-    let mut reader = RunReader::with_capacity(alloc, 8)?;
-    read_part(&mut reader, &mut disk, &all, &members, 2, 8)?;
-    read_part(&mut reader, &mut disk, &last, &members, 4, 6)?;
-    let read = reader.into_bytes();
-    assert_eq!(rt; read.as_slice(), b"cdefghhi".as_slice());
+    let hash = put_three(alloc, &mut disk)?;
+    match read_xorb(&mut disk, alloc, "store", &hash)? {
+        XorbFile::Stored(members) => {
+            let read = read_parts(alloc, &mut disk, hash, &members)?;
+            assert_eq!(rt; read.as_slice(), b"cdefghhi".as_slice());
+        }
+        _ => assert!(rt; false),
+    }
     Ok(())
 }

@@ -137,11 +137,11 @@ fn admits_a_folder(rt: HostRuntime) -> Result<(), Fail> {
         Ok(contents) => {
             assert_eq!(rt; contents.shards.as_slice(), [newer, older].as_slice());
             assert_eq!(rt; contents.xorbs.len(), 2);
-            let plans = contents.records.into_rows();
-            assert_eq!(rt; plans.len(), 1);
-            match plans.get(&whole) {
-                Some(plan) => assert_eq!(rt;
-                    plan.as_slice(),
+            let records = contents.records.into_rows();
+            assert_eq!(rt; records.len(), 1);
+            match records.get(&whole) {
+                Some(file) => assert_eq!(rt;
+                    file.segments.as_slice(),
                     [FileDataSequenceEntry::new(both, 3, 0, 1)].as_slice()
                 ),
                 None => assert!(rt; false),

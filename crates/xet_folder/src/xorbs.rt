@@ -1,18 +1,18 @@
 //! Xorbs that are read of a store's folder.
 
-ghost use Rattle.std.specs.Prelude.{◌≡◌, ◌≤◌, ◌∷◌, ◌++◌, [], ℕ, List, true, IfOk, IfErr, IsOkUnless, IsSome, OnErr, OnOk, Some, None, length, option_map};
+ghost use Rattle.std.specs.Prelude.{◌≡◌, ◌≢◌, ◌≤◌, AllPairs, ◌∷◌, ◌++◌, [], ℕ, List, true, IfOk, IfErr, IsOkUnless, IsSome, OnErr, OnOk, Some, None, length, option_map};
 ghost use Rattle.std.specs.List.{AllByRecursion};
 ghost use Rattle.xet_io.specs.Disk.{Files, bytes_at};
 ghost use Rattle.xet_folder.specs.Names.{IsHash, xorb_path};
 ghost use Rattle.xet_folder.specs.Refusals.{HasDiskReason};
 ghost use Rattle.xet_folder.specs.Xorbs.{IsXorbFile, found, spans_from};
 
+use crate::members::Members;
 use crate::names::{known_bytes, xorb_path};
 use crate::refusal::store_error;
 use indexmap::IndexMap;
 use std::alloc::Global;
 use std::marker::Model;
-use xet_base::Items;
 use xet_hash::{MerkleHash, StoreError};
 use xet_io::{Disk, SliceReader, read_file};
 use xet_xorb::XorbObject;
@@ -31,7 +31,7 @@ pub enum XorbFile {
     /// A file that is not a xorb of that hash, or has a chunk that is too long to be read.
     Malformed,
     /// A xorb: the digest and the length in bytes of each of its chunks, in order.
-    Stored(Items<(MerkleHash, u64)>),
+    Stored(Members),
 }
 
 /// Reads what stands under a xorb's name.
@@ -65,7 +65,8 @@ fn xorb_of(alloc: Global, bytes: Vec<u8>, hash: &MerkleHash) -> Result<XorbFile,
         Ok(Some(object)) => {
             let hashes = object.info.chunk_hashes.as_slice();
             let ends = object.info.chunk_boundary_offsets.as_slice();
-            Ok(XorbFile::Stored(Items::from_vec(spans_of(alloc, hashes, ends)?)))
+            let spans = spans_of(alloc, hashes, ends)?;
+            Ok(XorbFile::Stored(Members::from_vec(alloc, spans)?))
         }
         Ok(None) => Ok(XorbFile::Malformed),
         Err(_) => Err(StoreError::OutOfMemory),
@@ -96,7 +97,7 @@ fn spans_of(
 /// added: the hash, and the digest and the length in bytes of each chunk.
 #[derive(Drop)]
 pub struct XorbTable {
-    rows: IndexMap<MerkleHash, Items<(MerkleHash, u64)>>,
+    rows: IndexMap<MerkleHash, Members>,
 }
 
 impl Model for XorbTable {
@@ -129,32 +130,25 @@ impl XorbTable {
     }
 
     /// The chunks of a xorb; none where it is not in the table.
-    pub fn get(&self, hash: &MerkleHash) -> Option<&[(MerkleHash, u64)]>
+    pub fn get(&self, hash: &MerkleHash) -> Option<&Members>
         ensures { option_map (λ members. members.now) result ≡ found self.now hash.now }
     {
-        match self.rows.get(hash) {
-            Some(members) => Some(members.as_slice()),
-            None => None,
-        }
+        self.rows.get(hash)
     }
 
     /// The chunks of a xorb that is in the table.
-    pub fn members(&self, hash: &MerkleHash) -> &[(MerkleHash, u64)]
+    pub fn members(&self, hash: &MerkleHash) -> &Members
         requires { IsSome (found self.now hash.now) }
         ensures { found self.now hash.now ≡ Some result.now }
     {
         match self.rows.get(hash) {
-            Some(members) => members.as_slice(),
-            None => &[],
+            Some(members) => members,
+            None => unreachable!(),
         }
     }
 
     /// Adds a xorb that is not in the table.
-    pub fn insert(
-        &mut self,
-        hash: MerkleHash,
-        members: Items<(MerkleHash, u64)>,
-    ) -> Result<(), StoreError>
+    pub fn insert(&mut self, hash: MerkleHash, members: Members) -> Result<(), StoreError>
         requires { found self.old hash ≡ None }
         ensures added { OnOk result (self.new ≡ self.old ++ (hash, members) ∷ []) }
         ensures kept { OnErr result (self.new ≡ self.old) }
@@ -166,10 +160,13 @@ impl XorbTable {
     }
 
     /// The rows themselves.
-    pub fn into_rows(self) -> IndexMap<MerkleHash, Items<(MerkleHash, u64)>>
+    pub fn into_rows(self) -> IndexMap<MerkleHash, Members>
         ensures rows { result.entries ≡ self }
         ensures hashes { AllByRecursion (λ row. IsHash row.0) self }
+        ensures differ { AllPairs (λ a b. a.0 ≢ b.0) self }
     {
-        self.rows
+        let XorbTable { rows } = self;
+        let _count = rows.len();
+        rows
     }
 }

@@ -52,7 +52,7 @@ loop-file-preserved g c =
     record {
       holds = λ k. all_left all index file below is Holds (holds k) (i.holds k);
       fails = λ k e. fails_left all index file below is Holds Fails e (holds k) (i.fails k e);
-      recorded = λ later then. all_left all index file below is (IsFileRecord later) (record_later c.check_file.new.table later (file_hash file, file.segments) then done.recorded)
+      recorded = λ later then. all_left all index file below is (IsFileRecord later) (record_later c.check_file.new.table later (file_hash file, file) then done.recorded)
           (i.recorded later (later_then c.loop-file.table c.check_file.new.table later (later_of (OfFile file) c.loop-file.table c.check_file.new.table done.grows) then));
       there = λ later then. all_left all index file below is (HasFile later) (has_file_later c.check_file.new.table later file then done.there)
           (i.there later (later_then c.loop-file.table c.check_file.new.table later (later_of (OfFile file) c.loop-file.table c.check_file.new.table done.grows) then));

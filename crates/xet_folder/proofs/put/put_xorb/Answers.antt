@@ -12,11 +12,12 @@ returns g c =
       stable = search rules;
       refused = search rules;
       xorbs = λ told h is apart.
-          ap (λ (e : Option Entry). file_of e) (c.put_text.ensures.others told (xorb_path c.args.folder.now h)
-          (λ s. xorbs_apart c.args.folder.now h c.args.hash.now is (c.known_bytes.ensures.length, c.known_bytes.ensures.bytes) apart (s ∙ path)) (λ s. xorb_no_temp c.args.folder.now h c.as_str.result.now s));
+          c.put_text.ensures.others told (xorb_path c.args.folder.now h)
+          (λ s. xorbs_apart c.args.folder.now h c.args.hash.now is (c.known_bytes.ensures.length, c.known_bytes.ensures.bytes) apart (s ∙ path)) (λ s. xorb_no_temp c.args.folder.now h c.as_str.result.now s);
       shards = λ told h is.
-          ap (λ (e : Option Entry). file_of e) (c.put_text.ensures.others told (shard_path c.args.folder.now h)
-          (λ s. xorb_no_shard c.args.folder.now c.args.hash.now h (sym (s ∙ path))) (λ s. shard_no_temp c.args.folder.now h c.as_str.result.now s));
+          c.put_text.ensures.others told (shard_path c.args.folder.now h)
+          (λ s. xorb_no_shard c.args.folder.now c.args.hash.now h (sym (s ∙ path))) (λ s. shard_no_temp c.args.folder.now h c.as_str.result.now s);
+      others = λ told other name temp. c.put_text.ensures.others told other (λ s. name (s ∙ path)) (λ s. temp (s ∙ ap temp_name path));
       foreign = λ told name is.
           let free = is.no_xorb c.args.hash.now (c.known_bytes.ensures.length, c.known_bytes.ensures.bytes) in
           c.put_text.ensures.others told name (λ s. free.0 (s ∙ path)) (λ s. free.1 (s ∙ ap temp_name path));

@@ -1,10 +1,10 @@
-use Rattle.std.proofs.Common.{◌≡◌, ◌+◌, ◌-◌, ◌<◌, ◌≤◌, ◌^◌, ◌++◌, ℕ, List, drop, length}
+use Rattle.std.proofs.Common.{◌≡◌, ◌+◌, ◌-◌, ◌<◌, ◌≤◌, ◌^◌, ◌++◌, ℕ, List, drop, length, take}
 use Rattle.std.specs.List.{concat}
 use Rattle.xet_hash.specs.Merkle.{total_len}
 use Rattle.xet_folder.specs.Plan.{range}
 use Rattle.xet_folder.specs.Runs.{Spells, stored_len}
 use Rattle.xet_folder.proofs.Runs.{Reading}
-use Rattle.xet_folder.proofs.run.push_range.Given as goal
+use Rattle.xet_folder.proofs.run.push_chunks.Given as goal
 
 abbrev pub invariant-loop-length : goal.invariant-loop-length
 invariant-loop-length l = record {
@@ -13,6 +13,8 @@ invariant-loop-length l = record {
   order : l.from ≤ l.to;
   within : l.to ≤ total_len (drop l.length-index l.members);
   len : length l.out.items + (l.to - l.from) ≡ length l.fn.out.items + (l.fn.to - l.fn.from);
+  long : length l.fn.out.items ≤ length l.out.items;
+  front : take (length l.fn.out.items) l.out.items ≡ l.fn.out.items;
   told : (chunks : List (List ℕ)) → Spells l.stored l.members chunks
       → Reading (drop l.place l.stored) (drop l.length-index l.members) l.out.items l.from l.to (l.fn.out.items ++ range (concat chunks) l.fn.from l.fn.to);
 }

@@ -1,5 +1,5 @@
-use Rattle.std.proofs.Common.{◌∙◌, ◌≡◌, ◌+◌, ◌-◌, ◌∷◌, ◌++◌, length-append, inr, refl, ap, subst, drop, length, List, ℕ, arith}
-use Rattle.std.proofs.lemmas.List.{drop_all}
+use Rattle.std.proofs.Common.{◌∙◌, ◌≡◌, ◌+◌, ◌-◌, ◌∷◌, ◌++◌, length-append, inr, refl, ap, subst, drop, take, length, slice_range, List, ℕ, arith}
+use Rattle.std.proofs.lemmas.List.{drop_all, take-append-le}
 use Rattle.std.specs.List.{concat}
 use Rattle.std.proofs.lemmas.List.Sums.{sum_by-cons}
 use Rattle.xet_hash.specs.Merkle.{total_len}
@@ -9,7 +9,7 @@ use Rattle.xet_folder.proofs.Placing.{Member}
 use Rattle.xet_folder.proofs.Ranges.{length-range}
 use Rattle.xet_folder.proofs.Rest.{left}
 use Rattle.xet_folder.proofs.Runs.{Reading, first_of, reading_done, reading_more}
-use Rattle.xet_folder.proofs.run.push_range.Goals as goal
+use Rattle.xet_folder.proofs.run.push_chunks.Goals as goal
 
 pub returns-in_default-clause-refused : goal.returns-in_default-clause-refused
 returns-in_default-clause-refused c = inr (
@@ -41,6 +41,9 @@ loop-length-preserved c =
       order = omega arith;
       within = omega arith;
       len = omega (arith, added);
+      long = omega (arith, ap length c.in_ok-extend_from_slice.ensures.items, length-append c.loop-length.out.items (slice_range bytes c.min-first.result c.min-last.result));
+      front = ap (take (length c.args.out.now.items)) c.in_ok-extend_from_slice.ensures.items
+          ∙ take-append-le (length c.args.out.now.items) c.loop-length.out.items (slice_range bytes c.min-first.result c.min-last.result) i.long ∙ i.front;
       told = λ chunks spells.
           reading_more c.args.stored.now c.in-Some.bytes.now c.loop-length.place m rest c.loop-length.out.items c.extend_from_slice.new.self.items c.loop-length.from c.loop-length.to c.min-first.result c.min-last.result (whole chunks)
           (subst (λ (ms : List Member). Reading (drop c.loop-length.place c.args.stored.now) ms c.loop-length.out.items c.loop-length.from c.loop-length.to (whole chunks)) here (i.told chunks spells))
