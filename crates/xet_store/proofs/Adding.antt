@@ -1,12 +1,13 @@
 -- A xorb more.
-use Rattle.std.proofs.Common.{◌≡◌, ◌⊎◌, inl, inr, ◌∙◌, ℕ, ◌<◌, ◌≤◌, ◌^◌, arith, Bool, true, false, not, ◌&&◌, List, [], ◌∷◌, ◌++◌, length, map, Option, Some, None, IsSome, is_some, if◌then◌else◌, refl, sym, ap, subst, nat_eq}
+use Rattle.std.proofs.Common.{◌≡◌, ◌≢◌, ◌⊎◌, inl, inr, ◌∙◌, ℕ, ◌<◌, ◌≤◌, ◌^◌, arith, Bool, true, false, not, ◌&&◌, List, [], ◌∷◌, ◌++◌, length, map, Option, Some, None, IsSome, is_some, if◌then◌else◌, refl, sym, ap, subst, nat_eq}
 use Rattle.std.specs.List.{AllByRecursion}
 use Rattle.std.specs.Cmp.Lexicographic.{pointwise, bytes_decides}
 use Rattle.std.proofs.lemmas.Bool.{and_parts, eqb-true}
 use Rattle.std.proofs.lemmas.List.{append-nil, length-map}
 use Rattle.std.proofs.lemmas.List.Elements.{All-from_recursion}
+use Rattle.std.proofs.lemmas.List.Sums.{sum_by-cons}
 use Rattle.xet_io.specs.Disk.{Files, bytes_at}
-use Rattle.xet_hash.specs.Merkle.{chunk_hash, members_of, xorb_hash}
+use Rattle.xet_hash.specs.Merkle.{chunk_hash, members_of, total_len, xorb_hash}
 use Rattle.xet_chunk.specs.declared.chunk.Chunk.{Chunk}
 use Rattle.xet_chunk.specs.Chunks.{bytes_of, chunk_member, total}
 use Rattle.xet_xorb.specs.Xorb.{IsXorbText}
@@ -19,20 +20,22 @@ use Rattle.xet_shard.specs.Held.{Held, IsHeld, held as the_held, with_last}
 use Rattle.xet_shard.specs.Records as record_of
 use Rattle.xet_shard.proofs.Holding.{all_last}
 use Rattle.xet_folder.specs.Admission.{block_members}
-use Rattle.xet_folder.specs.Names.{IsHash, xorb_path}
-use Rattle.xet_folder.specs.Stored.{IsBacked}
+use Rattle.xet_folder.specs.Names.{IsForeign, IsHash, shard_path, xorb_path}
+use Rattle.xet_folder.specs.Stored.{IsBacked, IsStored}
+use Rattle.xet_folder.specs.Runs.{stored_len}
 use Rattle.xet_folder.specs.Xorbs.{IsListed, Records, Xorbs, found}
+use Rattle.xet_folder.proofs.Placing.{stored_is}
 use Rattle.xet_folder.proofs.Tables.{found_either, found_here, found_kept}
-use Rattle.xet_store.specs.Cleaning.{Keeps}
+use Rattle.xet_store.specs.Cleaning.{Keeps, SameEntry}
 use Rattle.xet_store.specs.Records.{xorb_record}
-use Rattle.xet_store.specs.Steps.{with_block}
+use Rattle.xet_store.specs.Tables.{Tables, tables, tables_of, with_members, with_xorb as with_xorb_of}
 use Rattle.xet_folder.specs.Contents.{IsRecord}
 use Rattle.xet_store.specs.Store.{State, IsPendingFile, Sound}
 use Rattle.xet_store.proofs.Packing.{all_more}
 use Rattle.xet_store.proofs.Pending.{entries_members}
 use Rattle.xet_store.proofs.Plans.{joins_more}
-use Rattle.xet_store.proofs.Rows.{is_some_either}
-use Rattle.xet_store.proofs.Staying.{Members, Stays, backed_still, changed, keeps_at, keeps_changed, kept_or, same_change}
+use Rattle.xet_store.proofs.Rows.{differ_more, found_more, is_some_either}
+use Rattle.xet_store.proofs.Staying.{Members, Stays, admitted_stays, backed_still, changed, keeps_at, keeps_changed, keeps_refused, kept_or, same_change, sound_refused, stays_xorb}
 
 -- ---- what stands with more xorbs
 
@@ -40,7 +43,7 @@ module _ (old new : Xorbs) (more : (h : List ℕ) (ms : Members) → IsListed ol
   pub records_more : (rs : Records) → AllByRecursion (IsRecord old) rs → AllByRecursion (IsRecord new) rs
   records_more [] all = tt
   records_more (r ∷ rs) all = (
-    record { members = all.0.members; joins = joins_more (IsListed old) (IsListed new) (λ (m : List ℕ × ℕ). m.1) more r.1 all.0.members all.0.joins; hash = all.0.hash; some = all.0.some; bound = all.0.bound },
+    record { named = all.0.named; members = all.0.members; joins = joins_more (IsListed old) (IsListed new) (λ (m : List ℕ × ℕ). m.1) more r.1.segments all.0.members all.0.joins; hash = all.0.hash; some = all.0.some; bound = all.0.bound },
     records_more rs all.1,
   )
 
@@ -73,19 +76,23 @@ module _ (s : State) (h : List ℕ) (members : Members) where
     pub keeps_added : Keeps s (with_xorb tells files faults)
     keeps_added = keeps_changed s tells files faults stays listed_too s.records [] s.shards [] pending_too stays_listed (sym (append-nil s.records)) (sym (append-nil s.shards))
 
-    pub sound_added : Sound s → found s.xorbs h ≡ None → IsHash h → IsHeld pending_too → (s.tells ≡ true → IsBacked files s.folder h members) → Sound (with_xorb tells files faults)
-    sound_added sound none hash held here = record {
+    pub sound_added : Sound s → found s.xorbs h ≡ None → IsHash h → IsHeld pending_too → (s.tells ≡ true → IsBacked files s.folder h members)
+        → (s.tells ≡ true → (k : List ℕ) → IsHash k → SameEntry s.files files (shard_path s.folder k)) → Sound (with_xorb tells files faults)
+    sound_added sound none hash held here shards = record {
       backed = λ told k ms listed. back (sym stays.tells_same ∙ told) k ms (found_either s.xorbs h k members ms listed);
       recorded = records_more s.xorbs listed_too stays_listed s.records sound.recorded;
-      kept = λ k plan e. kept_or s tells files faults stays sound pending_too s.shards (λ x a. a) (λ x p is. record { file = is.file; among = is.among; hash = is.hash; plan_of_it = is.plan_of_it }) k plan (sound.kept k plan e);
+      kept = λ k f e. kept_or s tells files faults stays sound pending_too s.shards (λ x a. a) f (λ p. p) (sound.kept k f e);
       held = held;
       blocks = all_last (λ b. IsListed listed_too (record_of.xorb_hash b) (block_members b)) record_of.xorb_hash s.pending.blocks (xorb_record h members)
           (all_more (λ b. IsListed s.xorbs (record_of.xorb_hash b) (block_members b)) (λ b. IsListed listed_too (record_of.xorb_hash b) (block_members b)) s.pending.blocks
           (λ b l. stays_listed (record_of.xorb_hash b) (block_members b) l) sound.blocks)
           (listed_new none ∙ ap Some (sym (entries_members 0 members)));
       pending_files = files_more s.xorbs listed_too stays_listed s.records s.pending.files sound.pending_files;
+      admitted = λ told. admitted_stays s tells files faults stays sound listed_too (λ k is. found_more s.xorbs ((h, members) ∷ []) k is) shards (sym stays.tells_same ∙ told);
       hashes = λ k is. hashed k (is_some_either s.xorbs h k members is);
       shards_hashes = sound.shards_hashes;
+      xorbs_differ = differ_more s.xorbs h members none sound.xorbs_differ;
+      records_differ = sound.records_differ;
     }
       where
         back : s.tells ≡ true → (k : List ℕ) (ms : Members) → (found s.xorbs k ≡ Some ms) ⊎ ((h ≡ k) × (members ≡ ms)) → IsBacked files s.folder k ms
@@ -105,22 +112,37 @@ module _ (s : State) (h : List ℕ) (members : Members) (tells : Bool) (files : 
   pub keeps_added_at : (t : State) → s ≡ t → Keeps t (changed s tells files faults xorbs s.records s.shards pending)
   keeps_added_at t e = keeps_at s t (changed s tells files faults xorbs s.records s.shards pending) e (subst (λ (n : State). Keeps s n) same_added (keeps_added s h members tells files faults stays))
 
-  pub sound_added_at : found s.xorbs h ≡ None → IsHash h → IsHeld pending → (s.tells ≡ true → IsBacked files s.folder h members) → Sound (changed s tells files faults xorbs s.records s.shards pending)
-  sound_added_at none hash held_form here = subst Sound same_added (sound_added s h members tells files faults stays sound none hash (subst IsHeld held held_form) here)
+  pub sound_added_at : found s.xorbs h ≡ None → IsHash h → IsHeld pending → (s.tells ≡ true → IsBacked files s.folder h members)
+      → (s.tells ≡ true → (k : List ℕ) → IsHash k → SameEntry s.files files (shard_path s.folder k)) → Sound (changed s tells files faults xorbs s.records s.shards pending)
+  sound_added_at none hash held_form here files_same = subst Sound same_added (sound_added s h members tells files faults stays sound none hash (subst IsHeld held held_form) here files_same)
 
 -- what the store's table then lists
 pub listed_at : (old new : Xorbs) (h : List ℕ) (ms : Members) → new ≡ old ++ (h, ms) ∷ [] → found old h ≡ None → IsListed new h ms
 listed_at old new h ms more none = ap (λ (l : Xorbs). found l h) more ∙ found_here old h ms none
 
--- what is then pending
-pub block_listed : (s : State) (h : List ℕ) (ms v : Members) → found s.xorbs h ≡ Some v → s.pending ≡ with_block s.xorbs s.pending h ms
-block_listed s h ms v is = sym (ap (λ (o : Option Members). if is_some o then s.pending else the_held (with_last record_of.xorb_hash s.pending.blocks (xorb_record h ms)) s.pending.files) is)
+-- ---- the tables
 
-pub block_pending : (s t : State) → Sound s → s ≡ t → (h : List ℕ) (ms : Members) (pending : Held) → found s.xorbs h ≡ None
-    → pending ≡ the_held (with_last record_of.xorb_hash s.pending.blocks (xorb_record h ms)) s.pending.files → pending ≡ with_block t.xorbs t.pending h ms
-block_pending s t sound e h ms pending none is =
-    subst (λ (x : State). pending ≡ with_block x.xorbs x.pending h ms) e
-    (is ∙ sym (ap (λ (o : Option Members). if is_some o then s.pending else the_held (with_last record_of.xorb_hash s.pending.blocks (xorb_record h ms)) s.pending.files) none))
+module _ (s : State) (h : List ℕ) (ms : Members) where
+  abbrev added_or : Option Members → Tables
+  added_or o =
+      if is_some o then tables_of s
+      else tables (s.xorbs ++ (h, ms) ∷ []) s.records (the_held (with_last record_of.xorb_hash s.pending.blocks (xorb_record h ms)) s.pending.files)
+
+  -- where the xorb is listed
+  pub tables_listed : (v : Members) → found s.xorbs h ≡ Some v → tables_of s ≡ with_members (tables_of s) h ms
+  tables_listed v is = sym (ap added_or is)
+
+  -- where it is added
+  pub tables_added : found s.xorbs h ≡ None → (xorbs : Xorbs) (pending : Held) → xorbs ≡ s.xorbs ++ (h, ms) ∷ []
+      → pending ≡ the_held (with_last record_of.xorb_hash s.pending.blocks (xorb_record h ms)) s.pending.files → tables xorbs s.records pending ≡ with_members (tables_of s) h ms
+  tables_added none xorbs pending listed is = (λ i. tables (listed i) s.records (is i)) ∙ sym (ap added_or none)
+
+-- by its chunks
+pub tables_by_chunks : (t : Tables) (h : List ℕ) (ms : Members) (chunks : List Chunk) → AllByRecursion (λ c. c.hash ≡ chunk_hash c.bytes) chunks
+    → h ≡ xorb_hash (map chunk_member chunks) → ms ≡ map chunk_member chunks → with_members t h ms ≡ with_xorb_of t (map bytes_of chunks)
+tables_by_chunks t h ms chunks digests hash members =
+    let same : map chunk_member chunks ≡ members_of (map bytes_of chunks) = members_are chunks (All-from_recursion _ chunks digests) in
+    λ i. with_members t ((hash ∙ ap xorb_hash same) i) ((members ∙ same) i)
 
 all_readable : (chunks : List Chunk) → AllByRecursion (λ c. length c.bytes < 2 ^ 23) chunks → AllByRecursion (λ b. length b < 2 ^ 23) (map bytes_of chunks)
 all_readable [] h = tt
@@ -166,6 +188,59 @@ parts_fit chunks small count bytes = record {
     small_parts [] all = tt
     small_parts (c ∷ cs) all = (let here = all.0 in omega arith, small_parts cs all.1)
 
+-- ---- a put of a xorb, in a folder by another name
+
+-- What it shows of the disk, done or not.
+pub record PutsXorb (s : State) (folder h text : List ℕ) (members : Members) (tells : Bool) (files : Files) (faults : ℕ) : Type 0 where
+  pub sound : Sound s
+  pub same : folder ≡ s.folder
+  pub tells_same : tells ≡ s.tells
+  pub later : s.faults ≤ faults
+  pub none : found s.xorbs h ≡ None
+  pub xorbs : s.tells ≡ true → (k : List ℕ) → IsHash k → k ≢ h → SameEntry s.files files (xorb_path folder k)
+  pub shards : s.tells ≡ true → (k : List ℕ) → IsHash k → SameEntry s.files files (shard_path folder k)
+  pub foreign : s.tells ≡ true → (name : List ℕ) → IsForeign folder name → SameEntry s.files files name
+  pub backs : bytes_at files (xorb_path s.folder h) ≡ Some text → IsBacked files s.folder h members
+  pub left : s.tells ≡ true → SameEntry s.files files (xorb_path folder h) ⊎ (bytes_at files (xorb_path folder h) ≡ Some text)
+
+module _ {s : State} {folder h text : List ℕ} {members : Members} {tells : Bool} {files : Files} {faults : ℕ} (p : PutsXorb s folder h text members tells files faults) where
+  shards_here : s.tells ≡ true → (k : List ℕ) → IsHash k → SameEntry s.files files (shard_path s.folder k)
+  shards_here told k is = subst (λ (f : List ℕ). SameEntry s.files files (shard_path f k)) p.same (p.shards told k is)
+
+  left_here : s.tells ≡ true → SameEntry s.files files (xorb_path s.folder h) ⊎ ((chunks : List (List ℕ)) × IsStored files s.folder h chunks)
+  left_here told = go (subst (λ (f : List ℕ). SameEntry s.files files (xorb_path f h) ⊎ (bytes_at files (xorb_path f h) ≡ Some text)) p.same (p.left told))
+    where
+      go : SameEntry s.files files (xorb_path s.folder h) ⊎ (bytes_at files (xorb_path s.folder h) ≡ Some text) → SameEntry s.files files (xorb_path s.folder h) ⊎ ((chunks : List (List ℕ)) × IsStored files s.folder h chunks)
+      go (inl e) = inl e
+      go (inr there) = let b = p.backs there in inr (b.chunks, b.stored)
+
+  xorb_stays : Stays s tells files faults
+  xorb_stays = stays_xorb s folder h tells files faults p.sound p.same p.tells_same p.later p.none p.xorbs p.shards p.foreign left_here
+
+  -- after an error
+  module _ {xorbs : Xorbs} {records : Records} {shards : List (List ℕ)} {pending : Held} (ex : xorbs ≡ s.xorbs) (er : records ≡ s.records) (es : shards ≡ s.shards) (ep : pending ≡ s.pending) where
+    pub unput_sound : Sound (changed s tells files faults xorbs records shards pending)
+    unput_sound = sound_refused s tells files faults xorb_stays p.sound (admitted_stays s tells files faults xorb_stays p.sound s.xorbs (λ k is. is) shards_here) ex er es ep
+
+    pub unput_keeps : (t : State) → s ≡ t → Keeps t (changed s tells files faults xorbs records shards pending)
+    unput_keeps t e = keeps_refused s tells files faults xorb_stays p.sound t e ex er es ep
+
+  -- done
+  module _ {xorbs : Xorbs} {pending : Held} (listed : xorbs ≡ s.xorbs ++ (h, members) ∷ [])
+      (held : pending ≡ record { blocks = with_last record_of.xorb_hash s.pending.blocks (xorb_record h members); files = s.pending.files }) where
+    pub put_sound : IsHash h → IsHeld pending → (s.tells ≡ true → bytes_at files (xorb_path folder h) ≡ Some text) → Sound (changed s tells files faults xorbs s.records s.shards pending)
+    put_sound is form there = sound_added_at s h members tells files faults xorb_stays p.sound listed held p.none is form
+        (λ told. p.backs (subst (λ (f : List ℕ). bytes_at files (xorb_path f h) ≡ Some text) p.same (there told))) shards_here
+
+    pub put_keeps : (t : State) → s ≡ t → Keeps t (changed s tells files faults xorbs s.records s.shards pending)
+    put_keeps t e = keeps_added_at s h members tells files faults xorb_stays p.sound listed held t e
+
+    pub put_tables : (t : State) → s ≡ t → (chunks : List Chunk) → AllByRecursion (λ c. c.hash ≡ chunk_hash c.bytes) chunks → h ≡ xorb_hash (map chunk_member chunks)
+        → members ≡ map chunk_member chunks → tables xorbs s.records pending ≡ with_xorb_of (tables_of t) (map bytes_of chunks)
+    put_tables t e chunks digests is_hash is_members =
+        tables_added s h members p.none xorbs pending listed held ∙ tables_by_chunks (tables_of s) h members chunks digests is_hash is_members
+        ∙ ap (λ (x : State). with_xorb_of (tables_of x) (map bytes_of chunks)) e
+
 -- ---- the comparison with the members that are listed
 
 abbrev is_member : List ℕ × ℕ → List ℕ × ℕ → Bool
@@ -183,6 +258,16 @@ same_members (x ∷ xs) (y ∷ ys) e =
     let lengths : x.1 ≡ y.1 = eqb-true x.1 y.1 one.1 in
     let rest : xs ≡ ys = same_members xs ys both.1 in
     λ i. (hashes i, lengths i) ∷ rest i
+
+total_of : (chunks : List Chunk) → total_len (map chunk_member chunks) ≡ total chunks
+total_of [] = refl
+total_of (c ∷ cs) = omega (arith, sum_by-cons (λ (m : List ℕ × ℕ). m.1) (chunk_member c) (map chunk_member cs), sum_by-cons (λ (d : Chunk). length d.bytes) c cs, total_of cs)
+
+-- a new xorb's chunks are stored in fewer than 2 ^ 32 bytes
+pub members_below : (ms : List (List ℕ × ℕ)) (chunks : List Chunk) → ms ≡ map chunk_member chunks → length chunks ≤ 65536 → total chunks ≤ 2 ^ 30 → stored_len ms < 2 ^ 32
+members_below ms chunks same count bytes =
+    subst (λ (l : List (List ℕ × ℕ)). stored_len l < 2 ^ 32) (sym same)
+    (omega (arith, stored_is (map chunk_member chunks), total_of chunks, length-map chunks chunk_member))
 
 pub true_from : (b : Bool) → false ≡ not b → b ≡ true
 true_from true e = refl

@@ -1,5 +1,5 @@
 -- The cleaned files of a sound store, where digests separate.
-use Rattle.std.proofs.Common.{Result, Ok, Err, OnOk, IfOk, ◌≡◌, ◌≢◌, inl, inr, ◌∙◌, ℕ, zero, suc, ◌-◌, ◌<◌, Bool, true, false, List, [], ◌∷◌, length, Option, Some, None, IsSome, refl, sym, subst, arith, nat_eq}
+use Rattle.std.proofs.Common.{Result, Ok, Err, OnOk, IfOk, ◌≡◌, ◌≢◌, inl, inr, ◌∙◌, ℕ, zero, suc, ◌-◌, ◌<◌, Bool, true, false, List, [], ◌∷◌, length, Option, Some, None, IsSome, option_map, refl, sym, subst, arith, nat_eq}
 use Rattle.std.specs.List.{AllByRecursion}
 use Rattle.std.specs.Cmp.Lexicographic.{pointwise}
 use Rattle.xet_hash.specs.Hash.{zero_hash}
@@ -11,6 +11,9 @@ use Rattle.xet_store.specs.declared.info.XetFileInfo.{XetFileInfo}
 use Rattle.xet_store.specs.declared.info.Cleaned.{Cleaned}
 use Rattle.xet_store.specs.Cut.{cut}
 use Rattle.xet_store.specs.Packing.{packs, pack_len}
+use Rattle.xet_shard.specs.declared.record.FileDataSequenceEntry.{FileDataSequenceEntry as Segment}
+use Rattle.xet_shard.specs.declared.record.MDBFileInfo.{MDBFileInfo}
+use Rattle.xet_folder.specs.Plan.{Joins}
 use Rattle.xet_folder.specs.Stored.{IsStored}
 use Rattle.xet_folder.specs.Xorbs.{IsListed, Records, found}
 use Rattle.xet_store.specs.Store.{State, Sound, plan_of}
@@ -18,14 +21,14 @@ use Rattle.xet_store.specs.Separate.{Among, Apart, MetChunk, Separate}
 use Rattle.xet_store.specs.Cleaning.{HasFile, HasXorbs, EachTold, info_of, cuts}
 use Rattle.xet_store.specs.Steps.{ListsXorbs}
 use Rattle.xet_store.proofs.Plans.{among_take}
-use Rattle.xet_store.proofs.Whole.{has_file, same_key, same_chunks}
+use Rattle.xet_store.proofs.Whole.{has_file, mapped, same_key, same_chunks}
 
 -- no other file than the empty one has a plan that is not recorded
-plan_found : (records : Records) (h : List ℕ) → h ≢ zero_hash → plan_of records h ≡ found records h
+plan_found : (records : Records) (h : List ℕ) → h ≢ zero_hash → plan_of records h ≡ option_map (λ f. f.segments) (found records h)
 unfolding plan_of
 plan_found records h d = by_cases (pointwise nat_eq h zero_hash) refl
   where
-    by_cases : (b : Bool) → pointwise nat_eq h zero_hash ≡ b → plan_of records h ≡ found records h
+    by_cases : (b : Bool) → pointwise nat_eq h zero_hash ≡ b → plan_of records h ≡ option_map (λ f. f.segments) (found records h)
     by_cases true t = absurd (d (same_key h zero_hash t))
     by_cases false t = rw (t, plan_of) refl
 
@@ -34,9 +37,13 @@ pub plan_some : (records : Records) (h : List ℕ) → IsSome (found records h) 
 unfolding plan_of
 plan_some records h is = by_cases (pointwise nat_eq h zero_hash) refl
   where
+    some : (o : Option MDBFileInfo) → IsSome o → IsSome (option_map (λ f. f.segments) o)
+    some None bad = absurd (cc bad)
+    some (Some f) ok = refl
+
     by_cases : (b : Bool) → pointwise nat_eq h zero_hash ≡ b → IsSome (plan_of records h)
     by_cases true t = rw (t, plan_of) refl
-    by_cases false t = rw (t, plan_of) is
+    by_cases false t = rw (t, plan_of) (some (found records h) is)
 
 -- and so has the empty file
 pub plan_empty : (records : Records) → IsSome (plan_of records zero_hash)
@@ -57,7 +64,8 @@ recorded_file s files (b ∷ bs) sound tells apart given there =
     let h = file_hash (members_of (b ∷ bs)) in
     let d : h ≢ zero_hash = apart.lists.not_zero (members_of (b ∷ bs)) (inr (b ∷ bs, given, some, refl)) in
     let p = taken (plan_of s.records h) there in
-    (p.0, p.1, has_file s files (b ∷ bs) p.0 sound tells apart given some (sym (plan_found s.records h d) ∙ p.1))
+    let r = mapped (λ (f : MDBFileInfo). f.segments) (found s.records h) p.0 (sym (plan_found s.records h d) ∙ p.1) in
+    (p.0, p.1, subst (λ (plan : List Segment). Joins (IsStored s.files s.folder) length plan (b ∷ bs)) r.2 (has_file s files (b ∷ bs) r.0 sound tells apart given some r.1))
 
 -- each source's file
 pub files_all : {S : Type 0} (tells : S → Bool) (left : S → List ℕ) (limits : LimitSettings) (s : State) (files : List (List (List ℕ))) → Sound s → s.tells ≡ true → Separate s files

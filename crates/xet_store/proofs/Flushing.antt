@@ -1,31 +1,45 @@
 -- What is pending, in a shard.
-use Rattle.std.proofs.Common.{◌≡◌, ◌⊎◌, inl, inr, ◌∙◌, ℕ, ◌-◌, ◌*◌, ◌^◌, Bool, true, false, nat_eq, nat_lt, ◌||◌, List, [], ◌∷◌, ◌++◌, drop, Option, Some, None, Result, Ok, refl, sym, ap, subst, arith, option_map}
+use Rattle.std.proofs.Common.{◌≡◌, ◌≢◌, ◌⊎◌, inl, inr, ◌∙◌, ℕ, ◌-◌, ◌*◌, ◌^◌, ◌≤◌, Bool, true, false, nat_eq, nat_lt, ◌||◌, List, [], ◌∷◌, ◌++◌, drop, map, Option, Some, None, IsSome, Result, Ok, refl, sym, ap, subst, arith, option_map}
 use Rattle.std.proofs.lemmas.Bool.{le-ltb}
 use Rattle.std.proofs.lemmas.List.{append-nil}
 use Rattle.std.specs.Cmp.Lexicographic.{bytes_decides, pointwise}
-use Rattle.std.specs.List.{list_any}
+use Rattle.std.specs.FinMap.{get}
+use Rattle.std.specs.List.{AllByRecursion, IsAmong, list_any}
+use Rattle.std.specs.Ordering.{is_lt}
+use Rattle.std.specs.declared.cmp.Ordering.{Ordering}
 use Rattle.xet_hash.specs.declared.error.StoreError.{StoreError}
-use Rattle.xet_io.specs.Disk.{Files, File, bytes_at, file_at}
+use Rattle.xet_io.specs.Disk.{Entry, Files, File, bytes_at, file_at}
 use Rattle.xet_shard.specs.declared.info.MDBShardFileFooter.{MDBShardFileFooter}
 use Rattle.xet_shard.specs.declared.record.FileDataSequenceEntry.{FileDataSequenceEntry as Segment}
-use Rattle.xet_shard.specs.Held.{Held, IsHeld, held_shard, nothing}
+use Rattle.xet_shard.specs.declared.record.MDBFileInfo.{MDBFileInfo}
+use Rattle.xet_shard.specs.Held.{Held, IsHeld, by_hash, held_shard, nothing}
 use Rattle.xet_shard.specs.Lookups.{all_lookups, chunk_items, file_items, heads_text, places_text, xorb_items}
 use Rattle.xet_shard.specs.Reading.{◌>>=◌, Parts, all_of, file_at as read_file, file_row_count, footer_at, header_at, lookup_at, parts_of, section_at, totals_at, xorb_at, xorb_row_count}
 use Rattle.xet_shard.specs.Records.{file_hash, xorb_hash}
 use Rattle.xet_shard.specs.Rows.{rows_in}
+use Rattle.xet_shard.specs.Sorted.{put_in, sorted}
 use Rattle.xet_shard.specs.Text.{Fits, IsShard, footer_of, full_text, materialized, stored}
 use Rattle.xet_shard.proofs.RowLaws.{bind_ok}
 use Rattle.xet_shard.proofs.WholeAgain.{all_again}
-use Rattle.xet_folder.specs.Admission.{shard_hash}
-use Rattle.xet_folder.specs.Names.{IsHash, shard_path}
+use Rattle.xet_folder.specs.Admission.{BlockHolds, FileHolds, ShardHolds, block_members, shard_hash}
+use Rattle.xet_folder.specs.Checks.{OfBytes, OfFile, OfShard}
+use Rattle.xet_folder.specs.Contents.{IsRecord}
+use Rattle.xet_folder.specs.Names.{IsForeign, IsHash, shard_path, xorb_path}
+use Rattle.xet_folder.specs.Plan.{Joins}
 use Rattle.xet_folder.specs.Shards.{is_expired, is_past}
+use Rattle.xet_folder.specs.Stored.{IsBacked}
+use Rattle.xet_folder.specs.Xorbs.{AreBacked, IsListed, Records, Xorbs, found}
 use Rattle.xet_shard.proofs.Holding.{all_more as all_push}
-use Rattle.xet_store.specs.Cleaning.{Keeps}
-use Rattle.xet_store.specs.Flushing.{IsFlushed, pending_text}
+use Rattle.xet_store.specs.Cleaning.{HasWholeShard, Keeps, SameEntry}
+use Rattle.xet_store.specs.Flushing.{IsFlushed, IsUnflushed, KeepsOthers, pending_text}
 use Rattle.xet_store.specs.Separate.{Among}
-use Rattle.xet_store.specs.Store.{State, IsKept, IsPending, Sound}
-use Rattle.xet_store.proofs.Rows.{among_last, among_more, among_sorted, from_among, to_among}
-use Rattle.xet_store.proofs.Staying.{Stays, backed_still, changed, keeps_at, keeps_changed, kept_still, same_change}
+use Rattle.xet_store.specs.Store.{State, IsAdmitted, IsKept, IsPendingFile, Sound}
+use Rattle.xet_store.proofs.Admitting.{SameXorb, admitted_still, admitted_with, backed_same, registered_still, this_registered}
+use Rattle.xet_store.proofs.Packing.{all_more}
+use Rattle.xet_store.proofs.Plans.{joins_more}
+use Rattle.xet_store.proofs.Rows.{among_last, among_more, among_sorted, from_among, is_some_found, to_among}
+use Rattle.xet_store.proofs.Staying.{Stays, backed_still, changed, hash_cases, keeps_at, keeps_changed, keeps_refused, kept_still, same_bytes_at, same_change, same_file_at, sound_refused, stays_shard}
+use Rattle.xet_store.proofs.Whole.{found_has}
 
 -- ---- the moment of expiry of a shard that was read
 
@@ -59,7 +73,7 @@ module _ (held : Held) (now : ℕ) (shard : IsShard (held_shard held now None)) 
   pub not_expired : is_expired now (full_text (held_shard held now None)) ≡ false
   not_expired = ap (is_past now) (with_footer (full_text (held_shard held now None)) (parts_of all_lookups (held_shard held now None)) read_again) ∙ never_past
 
--- ---- the shard is registered, and nothing is pending
+-- ---- the shard is whole
 
 file_there : (files : Files) (name bytes : List ℕ) → bytes_at files name ≡ Some bytes → (f : File) × (file_at files name ≡ Some f) × (f.bytes ≡ bytes)
 file_there files name bytes e = go (file_at files name) refl e
@@ -67,6 +81,151 @@ file_there files name bytes e = go (file_at files name) refl e
     go : (o : Option File) → file_at files name ≡ o → option_map (λ (f : File). f.bytes) o ≡ Some bytes → (f : File) × (file_at files name ≡ Some f) × (f.bytes ≡ bytes)
     go None is e = absurd (cc e)
     go (Some f) is e = (f, is, cc)
+
+-- what holds of all holds of the same in another order
+module _ {X : Type 0} (cmp : X → X → Ordering) (P : X → Type 0) where
+  all_put : (y : X) (xs : List X) → P y → AllByRecursion P xs → AllByRecursion P (put_in cmp y xs)
+  unfolding put_in
+  all_put y [] here all = (here, tt)
+  all_put y (z ∷ xs) here all =
+      elim (is_lt (cmp z y)) as (λ (b : Bool). AllByRecursion P (elim b as (λ _. List X) [ true ↦ z ∷ put_in cmp y xs | false ↦ y ∷ z ∷ xs ])) [
+        | true ↦ (all.0, all_put y xs here all.1)
+        | false ↦ (here, (all.0, all.1))
+      ]
+
+  all_sorted : (xs : List X) → AllByRecursion P xs → AllByRecursion P (sorted cmp xs)
+  unfolding sorted
+  all_sorted [] all = tt
+  all_sorted (x ∷ xs) all = all_put x (sorted cmp xs) all.0 (all_sorted xs all.1)
+
+-- what holds of what is made of each
+all_made : {X : Type 0} (f : X → List ℕ) (P : List ℕ → Type 0) (xs : List X) (h : List ℕ) → AllByRecursion (λ x. P (f x)) xs → Among (map f xs) h → P h
+all_made f P [] h all a = absurd a
+all_made f P (x ∷ xs) h all (inl e) = subst P e all.0
+all_made f P (x ∷ xs) h all (inr a) = all_made f P xs h all.1 a
+
+-- each xorb that a plan names is listed
+segments_listed : (xorbs : Xorbs) (plan : List Segment) (out : List (List ℕ × ℕ)) → Joins (IsListed xorbs) (λ m. m.1) plan out → AllByRecursion (λ s. IsSome (found xorbs s.xorb_hash)) plan
+segments_listed xorbs [] out none = tt
+segments_listed xorbs (s ∷ ss) out (xs, rest, has, lies, parts, more) = (is_some_found xorbs s.xorb_hash xs has, segments_listed xorbs ss rest more)
+
+module _ (s : State) (sound : Sound s) (shard : IsShard (held_shard s.pending s.opened None)) (fits : Fits (held_shard s.pending s.opened None)) where
+  abbrev parts : Parts
+  parts = parts_of all_lookups (held_shard s.pending s.opened None)
+
+  -- the record of each pending file
+  pending_records : (fs : List MDBFileInfo) → AllByRecursion (IsPendingFile s.xorbs s.records) fs → AllByRecursion (λ f. IsRecord s.xorbs (file_hash f, f)) fs
+  pending_records [] all = tt
+  pending_records (f ∷ fs) all = (found_has (IsRecord s.xorbs) s.records (file_hash f) f sound.recorded all.0.recorded, pending_records fs all.1)
+
+  files_recorded : AllByRecursion (λ f. IsRecord s.xorbs (file_hash f, f)) (by_hash file_hash s.pending.files)
+  files_recorded = all_sorted _ (λ f. IsRecord s.xorbs (file_hash f, f)) s.pending.files (pending_records s.pending.files sound.pending_files)
+
+  blocks_listed : AllByRecursion (λ b. IsListed s.xorbs (xorb_hash b) (block_members b)) (by_hash xorb_hash s.pending.blocks)
+  blocks_listed = all_sorted _ (λ b. IsListed s.xorbs (xorb_hash b) (block_members b)) s.pending.blocks sound.blocks
+
+  -- each xorb that it names is listed
+  named_listed : (bytes : List ℕ) → bytes ≡ pending_text s → (x : List ℕ) → OfBytes bytes x → IsSome (found s.xorbs x)
+  named_listed bytes is x (p, read, of) = go (subst (λ (q : Parts). OfShard q x) same of)
+    where
+      reads : ◌≡◌ {A = Result Parts StoreError} (Ok p) (Ok parts)
+      reads = sym read ∙ ap all_of is ∙ read_again s.pending s.opened shard fits
+
+      same : p ≡ parts
+      same = cc reads
+
+      of_files : (fs : List MDBFileInfo) (f : MDBFileInfo) → AllByRecursion (λ g. IsRecord s.xorbs (file_hash g, g)) fs → Among fs f → OfFile f x → IsSome (found s.xorbs x)
+      of_files [] f all a of = absurd a
+      of_files (g ∷ fs) f all (inl e) of =
+          let r = all.0 in
+          all_made (λ (t : Segment). t.xorb_hash) (λ h. IsSome (found s.xorbs h)) g.segments x (segments_listed s.xorbs g.segments r.members r.joins)
+          (to_among (map (λ (t : Segment). t.xorb_hash) g.segments) x (subst (λ (y : MDBFileInfo). OfFile y x) (sym e) of))
+      of_files (g ∷ fs) f all (inr a) of = of_files fs f all.1 a of
+
+      go : OfShard parts x → IsSome (found s.xorbs x)
+      go (inl block) =
+          all_made xorb_hash (λ h. IsSome (found s.xorbs h)) (by_hash xorb_hash s.pending.blocks) x
+          (all_more (λ b. IsListed s.xorbs (xorb_hash b) (block_members b)) (λ b. IsSome (found s.xorbs (xorb_hash b))) (by_hash xorb_hash s.pending.blocks) (λ b l. is_some_found s.xorbs (xorb_hash b) (block_members b) l) blocks_listed)
+          (to_among (map xorb_hash (by_hash xorb_hash s.pending.blocks)) x block)
+      go (inr (f, among, of)) = of_files (by_hash file_hash s.pending.files) f files_recorded (to_among (by_hash file_hash s.pending.files) f among) of
+
+  -- where the listed xorbs are stored, it holds
+  text_holds : (files : Files) (h : List ℕ) (file : File) → AreBacked files s.folder s.xorbs → h ≡ shard_hash (pending_text s) → file.bytes ≡ pending_text s
+      → ShardHolds files s.folder (record { hash = h; file = file })
+  unfolding footer_of
+  text_holds files h file backed hash is = record {
+    parts = parts;
+    read = ap all_of is ∙ read_again s.pending s.opened shard fits;
+    named = ap shard_hash is ∙ sym hash;
+    plain = refl;
+    blocks = all_more (λ b. IsListed s.xorbs (xorb_hash b) (block_members b)) (BlockHolds files s.folder h) (by_hash xorb_hash s.pending.blocks) (λ b l. backed (xorb_hash b) (block_members b) l) blocks_listed;
+    files_hold = all_more (λ f. IsRecord s.xorbs (file_hash f, f)) (FileHolds files s.folder h) (by_hash file_hash s.pending.files)
+        (λ f r. record { members = r.members; joins = joins_more (IsListed s.xorbs) (IsBacked files s.folder) (λ (m : List ℕ × ℕ). m.1) backed f.segments r.members r.joins; some = r.some; hash = r.hash }) files_recorded;
+  }
+
+-- what a put leaves of a shard's file: it is as it was, or the whole shard
+module _ (s : State) (h : List ℕ) (tells : Bool) (files : Files) (faults : ℕ) (sound : Sound s) (is_hash : IsHash h) (hash : h ≡ shard_hash (pending_text s)) (shard : IsShard (held_shard s.pending s.opened None))
+    (fits : Fits (held_shard s.pending s.opened None)) (same_xorbs : s.tells ≡ true → (k : List ℕ) → IsHash k → SameEntry s.files files (xorb_path s.folder k)) where
+  backed_after : s.tells ≡ true → AreBacked files s.folder s.xorbs
+  backed_after told k ms listed =
+      backed_same s.files files s.folder k ms (same_bytes_at s.files files (xorb_path s.folder k) (same_xorbs told k (sound.hashes k (is_some_found s.xorbs k ms listed)))) (sound.backed told k ms listed)
+
+  pub whole_there : s.tells ≡ true → bytes_at files (shard_path s.folder h) ≡ Some (pending_text s) → HasWholeShard (changed s tells files faults s.xorbs s.records s.shards s.pending) h
+  whole_there told there =
+      let f = file_there files (shard_path s.folder h) (pending_text s) there in record {
+        file = f.0;
+        there = f.1;
+        holds = text_holds s sound shard fits files h f.0 (backed_after told) hash f.2;
+        listed = named_listed s sound shard fits (f.0).bytes f.2;
+      }
+
+  pub left_there : (s.tells ≡ true → SameEntry s.files files (shard_path s.folder h) ⊎ (bytes_at files (shard_path s.folder h) ≡ Some (pending_text s)))
+      → s.tells ≡ true → SameEntry s.files files (shard_path s.folder h) ⊎ HasWholeShard (changed s tells files faults s.xorbs s.records s.shards s.pending) h
+  left_there left told = go (left told)
+    where
+      go : SameEntry s.files files (shard_path s.folder h) ⊎ (bytes_at files (shard_path s.folder h) ≡ Some (pending_text s))
+          → SameEntry s.files files (shard_path s.folder h) ⊎ HasWholeShard (changed s tells files faults s.xorbs s.records s.shards s.pending) h
+      go (inl same) = inl same
+      go (inr there) = inr (whole_there told there)
+
+  -- the folder is admitted then
+  module _ (others : s.tells ≡ true → (k : List ℕ) → IsHash k → k ≢ h → SameEntry s.files files (shard_path s.folder k)) where
+    xorbs_same : s.tells ≡ true → (k : List ℕ) → IsSome (found s.xorbs k) → SameXorb s.files files s.folder k
+    xorbs_same told k is = same_bytes_at s.files files (xorb_path s.folder k) (same_xorbs told k (sound.hashes k is))
+
+    others_same : s.tells ≡ true → (k : List ℕ) → IsHash k → k ≢ h → file_at files (shard_path s.folder k) ≡ file_at s.files (shard_path s.folder k)
+    others_same told k is apart = same_file_at s.files files (shard_path s.folder k) (others told k is apart)
+
+    valid_text : (file : File) → file.bytes ≡ pending_text s → is_expired s.opened file.bytes ≡ false
+    valid_text file is = ap (is_expired s.opened) is ∙ not_expired s.pending s.opened shard fits
+
+    -- with the shard registered
+    pub admitted_put : s.tells ≡ true → bytes_at files (shard_path s.folder h) ≡ Some (pending_text s) → IsAdmitted files s.folder s.opened s.xorbs (s.shards ++ h ∷ [])
+    unfolding file_there whole_there
+    admitted_put told there =
+        let f = file_there files (shard_path s.folder h) (pending_text s) there in
+        let w = whole_there told there in
+        let still = registered_still s.files files s.folder s.opened s.xorbs s.xorbs s.shards (λ k is. is) (xorbs_same told) (sound.admitted told) h f.0 is_hash f.1 (valid_text f.0 f.2) w.holds w.listed (others_same told) in
+        let this = this_registered s.files files s.folder s.opened s.xorbs s.xorbs s.shards (λ k is. is) (xorbs_same told) (sound.admitted told) h f.0 is_hash f.1 (valid_text f.0 f.2) w.holds w.listed (others_same told) in
+        admitted_with s.files files s.folder s.opened s.xorbs s.xorbs s.shards (λ k is. is) (xorbs_same told) (sound.admitted told) h f.0 is_hash f.1 (valid_text f.0 f.2) w.holds w.listed (others_same told)
+        (s.shards ++ h ∷ []) (all_push _ s.shards h still this)
+
+    -- and where it is not
+    pub admitted_left : (s.tells ≡ true → SameEntry s.files files (shard_path s.folder h) ⊎ (bytes_at files (shard_path s.folder h) ≡ Some (pending_text s)))
+        → s.tells ≡ true → IsAdmitted files s.folder s.opened s.xorbs s.shards
+    unfolding file_there whole_there
+    admitted_left left told = go (left told)
+      where
+        go : SameEntry s.files files (shard_path s.folder h) ⊎ (bytes_at files (shard_path s.folder h) ≡ Some (pending_text s)) → IsAdmitted files s.folder s.opened s.xorbs s.shards
+        go (inl same) = admitted_still s.files files s.folder s.opened s.xorbs s.xorbs s.shards (λ k is. is) (xorbs_same told) (sound.admitted told)
+            (λ k is. hash_cases k h (λ e. subst (λ (x : List ℕ). file_at files (shard_path s.folder x) ≡ file_at s.files (shard_path s.folder x)) (sym e) (same_file_at s.files files (shard_path s.folder h) same)) (λ apart. others_same told k is apart))
+        go (inr there) =
+            let f = file_there files (shard_path s.folder h) (pending_text s) there in
+            let w = whole_there told there in
+            let still = registered_still s.files files s.folder s.opened s.xorbs s.xorbs s.shards (λ k is. is) (xorbs_same told) (sound.admitted told) h f.0 is_hash f.1 (valid_text f.0 f.2) w.holds w.listed (others_same told) in
+            admitted_with s.files files s.folder s.opened s.xorbs s.xorbs s.shards (λ k is. is) (xorbs_same told) (sound.admitted told) h f.0 is_hash f.1 (valid_text f.0 f.2) w.holds w.listed (others_same told) s.shards still
+
+-- ---- the shard is registered, and nothing is pending
 
 pub nothing_held : IsHeld nothing
 nothing_held = record { blocks = tt; files = tt; blocks_differ = tt; files_differ = tt; few_blocks = omega arith; few_files = omega arith }
@@ -79,42 +238,42 @@ module _ (s : State) (h : List ℕ) (tells : Bool) (files : Files) (faults : ℕ
   keeps_flushed = keeps_changed s tells files faults stays s.xorbs s.records [] (s.shards ++ h ∷ []) (h ∷ []) nothing (λ k ms l. l) (sym (append-nil s.records)) refl
 
   module _ (sound : Sound s) (hash : IsHash h) (shard : IsShard (held_shard s.pending s.opened None)) (fits : Fits (held_shard s.pending s.opened None))
-      (there : s.tells ≡ true → bytes_at files (shard_path s.folder h) ≡ Some (pending_text s)) where
+      (there : s.tells ≡ true → bytes_at files (shard_path s.folder h) ≡ Some (pending_text s)) (admitted : s.tells ≡ true → IsAdmitted files s.folder s.opened s.xorbs (s.shards ++ h ∷ [])) where
     -- what was pending is kept by the new shard
-    kept_new : (k : List ℕ) (plan : List Segment) → s.tells ≡ true → IsPending s.pending k plan → IsKept files s.folder s.opened (s.shards ++ h ∷ []) k plan
-    kept_new k plan told is =
-        let f = file_there files (shard_path s.folder h) (pending_text s) (there told) in record {
-          file = is.file;
-          hash = is.hash;
-          plan_of_it = is.plan_of_it;
+    kept_new : (f : MDBFileInfo) → s.tells ≡ true → IsAmong s.pending.files f → IsKept files s.folder s.opened (s.shards ++ h ∷ []) f
+    kept_new f told among =
+        let file = file_there files (shard_path s.folder h) (pending_text s) (there told) in record {
           lists = record {
-            shard = record { hash = h; file = f.0 };
-            there = record { named = hash; there = f.1 };
-            valid = ap (λ (b : List ℕ). is_expired s.opened b) f.2 ∙ not_expired s.pending s.opened shard fits;
+            shard = record { hash = h; file = file.0 };
+            there = record { named = hash; there = file.1 };
+            valid = ap (λ (b : List ℕ). is_expired s.opened b) file.2 ∙ not_expired s.pending s.opened shard fits;
             parts = parts_of all_lookups (held_shard s.pending s.opened None);
-            read = ap all_of f.2 ∙ read_again s.pending s.opened shard fits;
-            among = from_among (held_shard s.pending s.opened None).files is.file (among_sorted _ s.pending.files is.file (to_among s.pending.files is.file is.among));
+            read = ap all_of file.2 ∙ read_again s.pending s.opened shard fits;
+            among = from_among (held_shard s.pending s.opened None).files f (among_sorted _ s.pending.files f (to_among s.pending.files f among));
           };
           registered = from_among (s.shards ++ h ∷ []) h (among_last s.shards h);
         }
 
-    kept_flushed : (k : List ℕ) (plan : List Segment) → IsPending s.pending k plan ⊎ (s.tells ≡ true → IsKept s.files s.folder s.opened s.shards k plan)
-        → IsPending nothing k plan ⊎ (tells ≡ true → IsKept files s.folder s.opened (s.shards ++ h ∷ []) k plan)
-    kept_flushed k plan (inl is) = inr (λ told. kept_new k plan (sym stays.tells_same ∙ told) is)
-    kept_flushed k plan (inr kept) =
+    kept_flushed : (f : MDBFileInfo) → IsAmong s.pending.files f ⊎ (s.tells ≡ true → IsKept s.files s.folder s.opened s.shards f)
+        → IsAmong nothing.files f ⊎ (tells ≡ true → IsKept files s.folder s.opened (s.shards ++ h ∷ []) f)
+    kept_flushed f (inl is) = inr (λ told. kept_new f (sym stays.tells_same ∙ told) is)
+    kept_flushed f (inr kept) =
         inr (λ told. let told_before : s.tells ≡ true = sym stays.tells_same ∙ told in
-        kept_still s tells files faults stays sound (s.shards ++ h ∷ []) (λ x a. among_more s.shards (h ∷ []) x a) k plan told_before (kept told_before))
+        kept_still s tells files faults stays sound (s.shards ++ h ∷ []) (λ x a. among_more s.shards (h ∷ []) x a) f told_before (kept told_before))
 
     pub sound_flushed : Sound with_shard
     sound_flushed = record {
       backed = λ told k ms l. backed_still s tells files faults stays sound (sym stays.tells_same ∙ told) k ms l;
       recorded = sound.recorded;
-      kept = λ k plan e. kept_flushed k plan (sound.kept k plan e);
+      kept = λ k f e. kept_flushed f (sound.kept k f e);
       held = nothing_held;
       blocks = tt;
       pending_files = tt;
+      admitted = λ told. admitted (sym stays.tells_same ∙ told);
       hashes = sound.hashes;
       shards_hashes = all_push IsHash s.shards h sound.shards_hashes hash;
+      xorbs_differ = sound.xorbs_differ;
+      records_differ = sound.records_differ;
     }
 
 -- the same of lists by other names
@@ -127,13 +286,109 @@ module _ (s : State) (h : List ℕ) (tells : Bool) (files : Files) (faults : ℕ
   keeps_flushed_at t e = keeps_at s t (changed s tells files faults s.xorbs s.records shards pending) e (subst (λ (n : State). Keeps s n) same_flushed (keeps_flushed s h tells files faults stays))
 
   pub sound_flushed_at : IsHash h → IsShard (held_shard s.pending s.opened None) → Fits (held_shard s.pending s.opened None)
-      → (s.tells ≡ true → bytes_at files (shard_path s.folder h) ≡ Some (pending_text s)) → Sound (changed s tells files faults s.xorbs s.records shards pending)
-  sound_flushed_at hash shard fits there = subst Sound same_flushed (sound_flushed s h tells files faults stays sound hash shard fits there)
+      → (s.tells ≡ true → bytes_at files (shard_path s.folder h) ≡ Some (pending_text s)) → (s.tells ≡ true → IsAdmitted files s.folder s.opened s.xorbs (s.shards ++ h ∷ []))
+      → Sound (changed s tells files faults s.xorbs s.records shards pending)
+  sound_flushed_at hash shard fits there admitted = subst Sound same_flushed (sound_flushed s h tells files faults stays sound hash shard fits there admitted)
 
   pub is_flushed : (t : State) → s ≡ t → h ≡ shard_hash (pending_text s) → (s.tells ≡ true → bytes_at files (shard_path s.folder h) ≡ Some (pending_text s))
+      → (s.tells ≡ true → option_map (λ (e : Entry). e.stable) (get files (shard_path s.folder h)) ≡ Some true) → (s.tells ≡ true → KeepsOthers s.files files (shard_path s.folder h))
       → IsFlushed t h (changed s tells files faults s.xorbs s.records shards pending)
-  is_flushed t e hash there = subst (λ (o : State). IsFlushed o h (changed s tells files faults s.xorbs s.records shards pending)) e
-      (record { hash = hash; there = there; registered = registered; nothing_pending = none; xorbs = refl; records = refl })
+  is_flushed t e hash there durable others = subst (λ (o : State). IsFlushed o h (changed s tells files faults s.xorbs s.records shards pending)) e
+      (record { hash = hash; there = there; durable = durable; others = others; registered = registered; nothing_pending = none; xorbs = refl; records = refl })
+
+-- ---- after an error
+
+module _ (s : State) (h : List ℕ) (tells : Bool) (files : Files) (faults : ℕ) (hash : h ≡ shard_hash (pending_text s)) (others : s.tells ≡ true → KeepsOthers s.files files (shard_path s.folder h))
+    (whole : s.tells ≡ true → SameEntry s.files files (shard_path s.folder h) ⊎ (bytes_at files (shard_path s.folder h) ≡ Some (pending_text s))) {xorbs : Xorbs} {records : Records} {shards : List (List ℕ)} {pending : Held} where
+  pub unflushed_at : (t : State) → s ≡ t → xorbs ≡ s.xorbs → records ≡ s.records → shards ≡ s.shards → pending ≡ s.pending → IsUnflushed t (changed s tells files faults xorbs records shards pending)
+  unflushed_at t e ex er es ep = subst (λ (o : State). IsUnflushed o (changed s tells files faults xorbs records shards pending)) e
+      (record {
+        pending = ep;
+        registered = es;
+        xorbs = ex;
+        records = er;
+        others = λ told. subst (λ (k : List ℕ). KeepsOthers s.files files (shard_path s.folder k)) hash (others told);
+        whole = λ told. subst (λ (k : List ℕ). SameEntry s.files files (shard_path s.folder k) ⊎ (bytes_at files (shard_path s.folder k) ≡ Some (pending_text s))) hash (whole told);
+      })
+
+-- before anything was put
+pub unput_at : (s : State) {xorbs : Xorbs} {records : Records} {shards : List (List ℕ)} {pending : Held} (t : State) → s ≡ t → xorbs ≡ s.xorbs → records ≡ s.records → shards ≡ s.shards → pending ≡ s.pending
+    → IsUnflushed t (changed s s.tells s.files s.faults xorbs records shards pending)
+unput_at s t e ex er es ep = unflushed_at s (shard_hash (pending_text s)) s.tells s.files s.faults refl (λ told other name temp. refl) (λ told. inl refl) t e ex er es ep
+
+pub nothing_done : (s : State) → IsUnflushed s s
+nothing_done s = unput_at s s refl refl refl refl refl
+
+-- ---- a put of the shard, in a folder by another name
+
+-- What it shows of the disk, done or not.
+pub record PutsShard (s : State) (folder h text : List ℕ) (tells : Bool) (files : Files) (faults : ℕ) : Type 0 where
+  pub sound : Sound s
+  pub same : folder ≡ s.folder
+  pub tells_same : tells ≡ s.tells
+  pub later : s.faults ≤ faults
+  pub new : Among s.shards h → ⊥
+  pub is_hash : IsHash h
+  pub hash : h ≡ shard_hash text
+  pub is : text ≡ pending_text s
+  pub shard : IsShard (held_shard s.pending s.opened None)
+  pub fits : Fits (held_shard s.pending s.opened None)
+  pub xorbs : s.tells ≡ true → (k : List ℕ) → IsHash k → SameEntry s.files files (xorb_path folder k)
+  pub shards : s.tells ≡ true → (k : List ℕ) → IsHash k → k ≢ h → SameEntry s.files files (shard_path folder k)
+  pub others : s.tells ≡ true → KeepsOthers s.files files (shard_path folder h)
+  pub foreign : s.tells ≡ true → (name : List ℕ) → IsForeign folder name → SameEntry s.files files name
+  pub left : s.tells ≡ true → SameEntry s.files files (shard_path folder h) ⊎ (bytes_at files (shard_path folder h) ≡ Some text)
+
+module _ {s : State} {folder h text : List ℕ} {tells : Bool} {files : Files} {faults : ℕ} (p : PutsShard s folder h text tells files faults) where
+  hash_here : h ≡ shard_hash (pending_text s)
+  hash_here = p.hash ∙ ap shard_hash p.is
+
+  xorbs_here : s.tells ≡ true → (k : List ℕ) → IsHash k → SameEntry s.files files (xorb_path s.folder k)
+  xorbs_here told k is = subst (λ (f : List ℕ). SameEntry s.files files (xorb_path f k)) p.same (p.xorbs told k is)
+
+  shards_here : s.tells ≡ true → (k : List ℕ) → IsHash k → k ≢ h → SameEntry s.files files (shard_path s.folder k)
+  shards_here told k is apart = subst (λ (f : List ℕ). SameEntry s.files files (shard_path f k)) p.same (p.shards told k is apart)
+
+  others_here : s.tells ≡ true → KeepsOthers s.files files (shard_path s.folder h)
+  others_here told = subst (λ (f : List ℕ). KeepsOthers s.files files (shard_path f h)) p.same (p.others told)
+
+  left_here : s.tells ≡ true → SameEntry s.files files (shard_path s.folder h) ⊎ (bytes_at files (shard_path s.folder h) ≡ Some (pending_text s))
+  left_here told =
+      subst (λ (t : List ℕ). SameEntry s.files files (shard_path s.folder h) ⊎ (bytes_at files (shard_path s.folder h) ≡ Some t)) p.is
+      (subst (λ (f : List ℕ). SameEntry s.files files (shard_path f h) ⊎ (bytes_at files (shard_path f h) ≡ Some text)) p.same (p.left told))
+
+  put_stays : Stays s tells files faults
+  put_stays =
+      stays_shard s folder h tells files faults p.sound p.same p.tells_same p.later p.new p.xorbs p.shards p.foreign
+      (left_there s h tells files faults p.sound p.is_hash hash_here p.shard p.fits xorbs_here left_here)
+
+  module _ {xorbs : Xorbs} {records : Records} {shards : List (List ℕ)} {pending : Held} (ex : xorbs ≡ s.xorbs) (er : records ≡ s.records) where
+    -- after an error
+    module _ (es : shards ≡ s.shards) (ep : pending ≡ s.pending) where
+      pub unput_sound : Sound (changed s tells files faults xorbs records shards pending)
+      unput_sound = sound_refused s tells files faults put_stays p.sound (admitted_left s h tells files faults p.sound p.is_hash hash_here p.shard p.fits xorbs_here shards_here left_here) ex er es ep
+
+      pub unput_keeps : (t : State) → s ≡ t → Keeps t (changed s tells files faults xorbs records shards pending)
+      unput_keeps t e = keeps_refused s tells files faults put_stays p.sound t e ex er es ep
+
+      pub unput_refused : (t : State) → s ≡ t → IsUnflushed t (changed s tells files faults xorbs records shards pending)
+      unput_refused t e = unflushed_at s h tells files faults hash_here others_here left_here t e ex er es ep
+
+  -- done
+  module _ {shards : List (List ℕ)} {pending : Held} (registered : shards ≡ s.shards ++ h ∷ []) (none : pending ≡ nothing) (there : s.tells ≡ true → bytes_at files (shard_path folder h) ≡ Some text) where
+    there_here : s.tells ≡ true → bytes_at files (shard_path s.folder h) ≡ Some (pending_text s)
+    there_here told = subst (λ (f : List ℕ). bytes_at files (shard_path f h) ≡ Some text) p.same (there told) ∙ ap Some p.is
+
+    pub put_sound : Sound (changed s tells files faults s.xorbs s.records shards pending)
+    put_sound = sound_flushed_at s h tells files faults put_stays p.sound registered none p.is_hash p.shard p.fits there_here
+        (λ told. admitted_put s h tells files faults p.sound p.is_hash hash_here p.shard p.fits xorbs_here shards_here told (there_here told))
+
+    pub put_keeps : (t : State) → s ≡ t → Keeps t (changed s tells files faults s.xorbs s.records shards pending)
+    put_keeps t e = keeps_flushed_at s h tells files faults put_stays p.sound registered none t e
+
+    pub put_flushed : (s.tells ≡ true → option_map (λ (e : Entry). e.stable) (get files (shard_path folder h)) ≡ Some true) → (t : State) → s ≡ t → IsFlushed t h (changed s tells files faults s.xorbs s.records shards pending)
+    put_flushed durable t e = is_flushed s h tells files faults put_stays p.sound registered none t e hash_here there_here
+        (λ told. subst (λ (f : List ℕ). option_map (λ (e : Entry). e.stable) (get files (shard_path f h)) ≡ Some true) p.same (durable told)) others_here
 
 -- ---- a hash that the test does not find is not registered
 

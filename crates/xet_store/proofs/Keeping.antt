@@ -1,18 +1,41 @@
 -- What a store keeps over several calls.
-use Rattle.std.proofs.Common.{◌≡◌, inl, inr, ◌∙◌, ℕ, List, [], ◌∷◌, ◌++◌, Option, Some, None, IsSome, append_assoc, refl, sym, ap, subst, arith}
+use Rattle.std.proofs.Common.{◌≡◌, ◌⊎◌, inl, inr, ◌∙◌, ◌≤◌, ℕ, true, List, [], ◌∷◌, ◌++◌, Option, Some, None, IsSome, append_assoc, refl, sym, ap, subst, arith}
 use Rattle.std.specs.List.{AllByRecursion}
-use Rattle.xet_io.specs.Disk.{bytes_at, file_at}
+use Rattle.xet_io.specs.Disk.{file_at}
+use Rattle.xet_folder.specs.Admission.{ShardHolds}
 use Rattle.xet_folder.specs.Names.{IsForeign, shard_path, xorb_path}
+use Rattle.xet_folder.specs.Stored.{IsStored}
 use Rattle.xet_folder.specs.Xorbs.{Records, found}
-use Rattle.xet_store.specs.Cleaning.{Keeps}
+use Rattle.xet_store.specs.Cleaning.{HasWholeShard, Keeps, SameEntry}
 use Rattle.xet_store.specs.Separate.{Among}
 use Rattle.xet_store.specs.Store.{State}
+use Rattle.xet_store.proofs.Admitting.{holds_same, stored_same}
 use Rattle.xet_store.proofs.Rows.{among_more, is_some_found}
-use Rattle.xet_store.proofs.Staying.{Members, all_among, keeps_stays, stays_same}
+use Rattle.xet_store.proofs.Staying.{Members, all_among, keeps_stays, same_bytes_at, same_file_at, stays_same}
 
 -- no call at all
 pub keeps_nothing : (s : State) → Keeps s s
 keeps_nothing s = keeps_stays s s.tells s.files s.faults (stays_same s)
+
+-- a call after which only its disk has failed more often
+pub keeps_counted : (s : State) (n : ℕ) → s.faults ≤ n → Keeps s (record s { faults = n })
+keeps_counted s n later = keeps_stays s s.tells s.files n (record {
+  tells_same = refl;
+  later = later;
+  xorb_files = λ told h is. refl;
+  shard_files = (stays_same s).shard_files;
+  xorb_names = λ told h is. inl refl;
+  shard_names = λ told h is. inl refl;
+  foreign = λ told name is. refl;
+})
+
+-- a listed xorb is listed still
+pub listed_still : (a b : State) → Keeps a b → (k : List ℕ) → IsSome (found a.xorbs k) → IsSome (found b.xorbs k)
+listed_still a b keeps k is = go (found a.xorbs k) refl is
+  where
+    go : (o : Option Members) → found a.xorbs k ≡ o → IsSome o → IsSome (found b.xorbs k)
+    go None e bad = absurd (cc bad)
+    go (Some m) e ok = is_some_found b.xorbs k m (keeps.xorbs k m e)
 
 -- two calls, one after the other
 pub keeps_then : (a b c : State) → Keeps a b → Keeps b c → Keeps a c
@@ -23,26 +46,47 @@ keeps_then a b c x y = record {
   opened = y.opened ∙ x.opened;
   later = omega (arith, x.later, y.later);
   xorbs = λ k members listed. y.xorbs k members (x.xorbs k members listed);
-  texts = λ told k is.
-      let more : IsSome (found b.xorbs k) = kept k (found a.xorbs k) refl is in
-      let after = subst (λ (f : List ℕ). bytes_at c.files (xorb_path f k) ≡ bytes_at b.files (xorb_path f k)) x.folder (y.texts (x.tells ∙ told) k more) in
-      after ∙ x.texts told k is;
   records = (x.records.0 ++ y.records.0, y.records.1 ∙ ap (λ (l : Records). l ++ y.records.0) x.records.1 ∙ append_assoc a.records x.records.0 y.records.0);
   shards = (x.shards.0 ++ y.shards.0, y.shards.1 ∙ ap (λ (l : List (List ℕ)). l ++ y.shards.0) x.shards.1 ∙ append_assoc a.shards x.shards.0 y.shards.0);
+  xorb_files = λ told k is. moved_xorb k (y.xorb_files (x.tells ∙ told) k (listed_still a b x k is)) ∙ x.xorb_files told k is;
   shard_files = λ told.
       let first = x.shard_files told in
-      let second = subst (λ (f : List ℕ). AllByRecursion (λ h. file_at c.files (shard_path f h) ≡ file_at b.files (shard_path f h)) b.shards) x.folder (y.shard_files (x.tells ∙ told)) in
-      both a.shards first (λ h a. all_among (λ h. file_at c.files (shard_path _ h) ≡ file_at b.files (shard_path _ h)) b.shards h second
+      let second = subst (λ (f : List ℕ). AllByRecursion (λ h. SameEntry b.files c.files (shard_path f h)) b.shards) x.folder (y.shard_files (x.tells ∙ told)) in
+      both a.shards first (λ h a. all_among (λ h. SameEntry b.files c.files (shard_path _ h)) b.shards h second
       (subst (λ (l : List (List ℕ)). Among l h) (sym x.shards.1) (among_more _ x.shards.0 h a)));
+  xorb_names = λ told k is. xorb_name k (x.xorb_names told k is) (y.xorb_names (x.tells ∙ told) k is);
+  shard_names = λ told k is. shard_name k told (x.shard_names told k is) (y.shard_names (x.tells ∙ told) k is);
   foreign = λ told name is. y.foreign (x.tells ∙ told) name (subst (λ (f : List ℕ). IsForeign f name) (sym x.folder) is) ∙ x.foreign told name is;
 }
   where
-    kept : (k : List ℕ) (o : Option Members) → found a.xorbs k ≡ o → IsSome o → IsSome (found b.xorbs k)
-    kept k None e bad = absurd (cc bad)
-    kept k (Some m) e ok = is_some_found b.xorbs k m (x.xorbs k m e)
+    moved_xorb : (k : List ℕ) → SameEntry b.files c.files (xorb_path b.folder k) → SameEntry b.files c.files (xorb_path a.folder k)
+    moved_xorb k same = subst (λ (f : List ℕ). SameEntry b.files c.files (xorb_path f k)) x.folder same
 
-    both : (hs : List (List ℕ)) → AllByRecursion (λ h. file_at b.files (shard_path a.folder h) ≡ file_at a.files (shard_path a.folder h)) hs
-        → ((h : List ℕ) → Among hs h → file_at c.files (shard_path a.folder h) ≡ file_at b.files (shard_path a.folder h))
-        → AllByRecursion (λ h. file_at c.files (shard_path a.folder h) ≡ file_at a.files (shard_path a.folder h)) hs
+    both : (hs : List (List ℕ)) → AllByRecursion (λ h. SameEntry a.files b.files (shard_path a.folder h)) hs
+        → ((h : List ℕ) → Among hs h → SameEntry b.files c.files (shard_path a.folder h))
+        → AllByRecursion (λ h. SameEntry a.files c.files (shard_path a.folder h)) hs
     both [] all next = tt
     both (h ∷ hs) all next = (next h (inl refl) ∙ all.0, both hs all.1 (λ k is. next k (inr is)))
+
+    xorb_name : (k : List ℕ) → SameEntry a.files b.files (xorb_path a.folder k) ⊎ ((chunks : List (List ℕ)) × IsStored b.files b.folder k chunks)
+        → SameEntry b.files c.files (xorb_path b.folder k) ⊎ ((chunks : List (List ℕ)) × IsStored c.files c.folder k chunks)
+        → SameEntry a.files c.files (xorb_path a.folder k) ⊎ ((chunks : List (List ℕ)) × IsStored c.files c.folder k chunks)
+    xorb_name k one (inr stored) = inr stored
+    xorb_name k (inl one) (inl two) = inl (moved_xorb k two ∙ one)
+    xorb_name k (inr (chunks, stored)) (inl two) =
+        inr (chunks, subst (λ (f : List ℕ). IsStored c.files f k chunks) (sym y.folder) (stored_same b.files c.files b.folder k chunks (same_bytes_at b.files c.files (xorb_path b.folder k) two) stored))
+
+    whole : (k : List ℕ) → a.tells ≡ true → SameEntry b.files c.files (shard_path b.folder k) → HasWholeShard b k → HasWholeShard c k
+    whole k told same w = record {
+      file = w.file;
+      there = subst (λ (f : List ℕ). file_at c.files (shard_path f k) ≡ Some w.file) (sym y.folder) (same_file_at b.files c.files (shard_path b.folder k) same ∙ w.there);
+      holds = subst (λ (f : List ℕ). ShardHolds c.files f (record { hash = k; file = w.file })) (sym y.folder)
+          (holds_same b.files c.files b.folder (record { hash = k; file = w.file }) (λ h of. same_bytes_at b.files c.files (xorb_path b.folder h) (y.xorb_files (x.tells ∙ told) h (w.listed h of))) w.holds);
+      listed = λ h of. listed_still b c y h (w.listed h of);
+    }
+
+    shard_name : (k : List ℕ) → a.tells ≡ true → SameEntry a.files b.files (shard_path a.folder k) ⊎ HasWholeShard b k → SameEntry b.files c.files (shard_path b.folder k) ⊎ HasWholeShard c k
+        → SameEntry a.files c.files (shard_path a.folder k) ⊎ HasWholeShard c k
+    shard_name k told one (inr w) = inr w
+    shard_name k told (inl one) (inl two) = inl (subst (λ (f : List ℕ). SameEntry b.files c.files (shard_path f k)) x.folder two ∙ one)
+    shard_name k told (inr w) (inl two) = inr (whole k told two w)

@@ -3,12 +3,15 @@ pub mod GearSum
 pub mod PieceEnds
 pub mod Plans
 pub mod Packing
+pub mod Answering
 pub mod Rows
+pub mod Differing
 pub mod Pending
+pub mod Admitting
 pub mod Staying
 pub mod Adding
 pub mod Recording
-pub mod NewRecords
+pub mod Storing
 pub mod Flushing
 pub mod Whole
 pub mod Files

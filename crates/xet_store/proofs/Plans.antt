@@ -5,6 +5,7 @@ use Rattle.std.proofs.lemmas.List.Sums.{sum_by-append, sum_by-cons}
 use Rattle.std.specs.List.{sum_by}
 use Rattle.xet_hash.specs.Merkle.{total_len}
 use Rattle.xet_shard.specs.declared.record.FileDataSequenceEntry.{FileDataSequenceEntry as Segment}
+use Rattle.xet_shard.specs.declared.record.MDBFileInfo.{MDBFileInfo}
 use Rattle.xet_folder.specs.Plan.{part, plan_bytes, LiesIn, Joins}
 use Rattle.xet_folder.specs.Xorbs.{IsListed, Xorbs}
 use Rattle.xet_store.specs.Separate.{Among}
@@ -99,5 +100,5 @@ joins_bytes P (s ∷ ss) out (xs, rest, has, lies, parts, more) =
     omega (arith, sum_by-cons (λ (t : Segment). t.unpacked_segment_bytes) s ss, lies.bytes, later, parted)
 
 -- so those of a recorded plan fit
-pub record_bytes : (xorbs : Xorbs) (r : List ℕ × List Segment) → IsRecord xorbs r → plan_bytes r.1 < 2 ^ 64
-record_bytes xorbs r is = let same = joins_bytes (IsListed xorbs) r.1 is.members is.joins in omega (arith, same, is.bound)
+pub record_bytes : (xorbs : Xorbs) (r : List ℕ × MDBFileInfo) → IsRecord xorbs r → plan_bytes r.1.segments < 2 ^ 64
+record_bytes xorbs r is = let same = joins_bytes (IsListed xorbs) r.1.segments is.members is.joins in omega (arith, same, is.bound)

@@ -6,6 +6,7 @@ use Rattle.std.specs.List.{concat}
 use Rattle.xet_hash.specs.Hash.{zero_hash}
 use Rattle.xet_hash.specs.Merkle.{member_of, members_of, total_len}
 use Rattle.xet_shard.specs.declared.record.FileDataSequenceEntry.{FileDataSequenceEntry as Segment}
+use Rattle.xet_shard.specs.declared.record.MDBFileInfo.{MDBFileInfo}
 use Rattle.xet_folder.specs.Plan.{Joins, part, plan_bytes, range}
 use Rattle.xet_folder.specs.Stored.{IsStored}
 use Rattle.xet_folder.specs.Xorbs.{IsListed, Records, Xorbs, found}
@@ -16,7 +17,7 @@ use Rattle.xet_store.specs.Ranges.{IsRange}
 use Rattle.xet_store.specs.Store.{Sound, State, plan_of}
 use Rattle.xet_store.specs.Reading.{IsStoredListed, JoinsListed, LiesListed}
 use Rattle.xet_store.proofs.Plans.{joins_map, joins_more, part-map, record_bytes}
-use Rattle.xet_store.proofs.Whole.{found_has}
+use Rattle.xet_store.proofs.Whole.{found_has, mapped}
 
 -- one xorb is listed with one list of members
 pub listed_once : (xorbs : Xorbs) (h : List ℕ) (ms ns : List Member) → IsListed xorbs h ms → IsListed xorbs h ns → ms ≡ ns
@@ -57,28 +58,28 @@ goes_more Has s plan out new from to whole reads g =
 -- ---- plans of a sound store
 
 -- a plan is that of a record, or empty
-planned : (records : Records) (h : List ℕ) (plan : List Segment) → plan_of records h ≡ Some plan → (plan ≡ []) ⊎ (found records h ≡ Some plan)
+planned : (records : Records) (h : List ℕ) (plan : List Segment) → plan_of records h ≡ Some plan → (plan ≡ []) ⊎ ((f : MDBFileInfo) × (found records h ≡ Some f) × (f.segments ≡ plan))
 unfolding plan_of
 planned records h plan e = by_cases (pointwise nat_eq h zero_hash) refl
   where
-    by_cases : (b : Bool) → pointwise nat_eq h zero_hash ≡ b → (plan ≡ []) ⊎ (found records h ≡ Some plan)
+    by_cases : (b : Bool) → pointwise nat_eq h zero_hash ≡ b → (plan ≡ []) ⊎ ((f : MDBFileInfo) × (found records h ≡ Some f) × (f.segments ≡ plan))
     by_cases true t = let none : Some [] ≡ Some plan = rw (t, plan_of) at e in inl (cc)
-    by_cases false t = inr (rw (t, plan_of) at e)
+    by_cases false t = inr (mapped (λ (f : MDBFileInfo). f.segments) (found records h) plan (rw (t, plan_of) at e))
 
 module _ (s : State) (sound : Sound s) (h : List ℕ) (plan : List Segment) (has : plan_of s.records h ≡ Some plan) where
   pub plan_joins : JoinsListed s.xorbs plan
   plan_joins = go (planned s.records h plan has)
     where
-      go : (plan ≡ []) ⊎ (found s.records h ≡ Some plan) → JoinsListed s.xorbs plan
+      go : (plan ≡ []) ⊎ ((f : MDBFileInfo) × (found s.records h ≡ Some f) × (f.segments ≡ plan)) → JoinsListed s.xorbs plan
       go (inl none) = subst (λ (l : List Segment). JoinsListed s.xorbs l) (sym none) ([], refl)
-      go (inr there) = let r = found_has (IsRecord s.xorbs) s.records h plan sound.recorded there in (r.members, r.joins)
+      go (inr (f, there, is)) = let r = found_has (IsRecord s.xorbs) s.records h f sound.recorded there in subst (λ (l : List Segment). JoinsListed s.xorbs l) is (r.members, r.joins)
 
   pub plan_fits : plan_bytes plan < 2 ^ 64
   plan_fits = go (planned s.records h plan has)
     where
-      go : (plan ≡ []) ⊎ (found s.records h ≡ Some plan) → plan_bytes plan < 2 ^ 64
+      go : (plan ≡ []) ⊎ ((f : MDBFileInfo) × (found s.records h ≡ Some f) × (f.segments ≡ plan)) → plan_bytes plan < 2 ^ 64
       go (inl none) = subst (λ (l : List Segment). plan_bytes l < 2 ^ 64) (sym none) (lit< tt)
-      go (inr there) = record_bytes s.xorbs (h, plan) (found_has (IsRecord s.xorbs) s.records h plan sound.recorded there)
+      go (inr (f, there, is)) = subst (λ (l : List Segment). plan_bytes l < 2 ^ 64) is (record_bytes s.xorbs (h, f) (found_has (IsRecord s.xorbs) s.records h f sound.recorded there))
 
   -- what is read of the chunks to which it joins is a range of the file
   pub is_range : (from to : ℕ) (bytes : List ℕ) → s.tells ≡ true → ((chunks : List (List ℕ)) → Joins (IsStoredListed s.files s.folder s.xorbs) length plan chunks → bytes ≡ range (concat chunks) from to)

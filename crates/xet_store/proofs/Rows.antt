@@ -1,15 +1,17 @@
 -- Lists and tables that grow, and what is among their elements.
-use Rattle.std.proofs.Common.{◌≡◌, ◌≢◌, ◌⊎◌, inl, inr, ℕ, zero, suc, Bool, true, false, cond, filter, List, [], ◌∷◌, ◌++◌, Option, Some, None, IsSome, is_some, nat_eq, refl, sym, ap, subst, arith, ◌∙◌}
+use Rattle.std.proofs.Common.{◌≡◌, ◌≢◌, ◌⊎◌, inl, inr, ℕ, zero, suc, ◌<◌, length, get_or, Bool, true, false, cond, filter, List, [], ◌∷◌, ◌++◌, Option, Some, None, IsSome, is_some, nat_eq, refl, sym, ap, subst, arith, ◌∙◌}
 use Rattle.std.specs.List.{AllByRecursion, IsAmong}
-use Rattle.std.specs.Cmp.Lexicographic.{pointwise}
+use Rattle.std.specs.Cmp.Lexicographic.{bytes_decides, pointwise}
+use Rattle.std.proofs.lemmas.List.Quantifiers.{all_pairs_push}
 use Rattle.std.specs.declared.cmp.Ordering.{Ordering}
 use Rattle.std.specs.Ordering.{is_lt}
 use Rattle.indexmap.specs.IndexMap.{IndexMap, get, insert_entry}
 use Rattle.indexmap.proofs.CallerLemmas.{insert_entry-new}
 use Rattle.xet_shard.specs.Sorted.{put_in, sorted}
 use Rattle.xet_folder.specs.Xorbs.{found}
-use Rattle.xet_folder.proofs.Tables.{found_either}
+use Rattle.xet_folder.proofs.Tables.{found_either, found_kept}
 use Rattle.xet_store.specs.Separate.{Among}
+use Rattle.xet_store.specs.Store.{Differ}
 
 -- ---- among the elements of a list
 
@@ -94,6 +96,36 @@ module _ {X : Type 0} where
   -- what is found has another hash than what is not
   pub apart_found : (rows : List (List ℕ × X)) (h k : List ℕ) → found rows h ≡ None → IsSome (found rows k) → k ≢ h
   apart_found rows h k none is same = let e : IsSome {T = X} None = subst (λ (o : Option X). IsSome o) (ap (found rows) same ∙ none) is in absurd (cc e)
+
+-- ---- rows of one hash
+
+module _ {X : Type 0} where
+  apart_at : (rows : List (List ℕ × X)) (h : List ℕ) → found rows h ≡ None → (k : ℕ) (d : List ℕ × X) → k < length rows → (get_or rows k d).0 ≢ h
+  apart_at [] h none k d below same = omega (arith, below)
+  apart_at (r ∷ rows) h none zero d below same = go (pointwise nat_eq h r.0) ((bytes_decides h r.0).1 (sym same)) none
+    where
+      go : (b : Bool) → b ≡ true → cond b (Some r.1) (found rows h) ≡ None → ⊥
+      go true e bad = cc bad
+      go false e bad = cc e
+  apart_at (r ∷ rows) h none (suc k) d below same = go (pointwise nat_eq h r.0) none (λ rest. apart_at rows h rest k d (omega (arith, below)) same)
+    where
+      go : (b : Bool) → cond b (Some r.1) (found rows h) ≡ None → (found rows h ≡ None → ⊥) → ⊥
+      go true bad later = cc bad
+      go false rest later = later rest
+
+  -- one row more under a hash that a table lacks
+  pub differ_more : (rows : List (List ℕ × X)) (h : List ℕ) (v : X) → found rows h ≡ None → Differ rows → Differ (rows ++ (h, v) ∷ [])
+  differ_more rows h v none differ = all_pairs_push (λ a b. a.0 ≢ b.0) rows (h, v) differ (λ k d below. apart_at rows h none k d below)
+
+  pub differ_none : Differ {X = X} []
+  differ_none i j d lt below = absurd (omega (arith, below))
+
+  pub found_more : (rows added : List (List ℕ × X)) (h : List ℕ) → IsSome (found rows h) → IsSome (found (rows ++ added) h)
+  found_more rows added h is = go (found rows h) refl is
+    where
+      go : (o : Option X) → found rows h ≡ o → IsSome o → IsSome (found (rows ++ added) h)
+      go None e bad = absurd (cc bad)
+      go (Some v) e ok = is_some_found (rows ++ added) h v (found_kept rows added h v e)
 
 -- what holds of all holds of one
 pub all_at : {X : Type 0} (P : X → Type 0) (xs : List X) (x : X) (ys : List X) → AllByRecursion P (xs ++ x ∷ ys) → P x

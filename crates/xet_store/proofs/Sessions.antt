@@ -1,13 +1,18 @@
 -- What a session shows of its disk.
-use Rattle.std.proofs.Common.{◌≡◌, ◌≢◌, ◌⊎◌, inl, inr, ◌∙◌, ℕ, Bool, true, false, List, [], ◌∷◌, length, Option, Some, IsSome, refl, sym, ap, subst, nat_eq}
+use Rattle.std.proofs.Common.{◌≡◌, ◌≢◌, ◌⊎◌, inl, inr, ◌∙◌, ℕ, ◌<◌, ◌≤◌, Bool, true, false, List, [], ◌∷◌, length, Option, Some, IsSome, Result, Ok, Err, option_map, refl, sym, ap, subst, nat_eq}
+use Rattle.std.proofs.lemmas.Bool.{le-ltb, ltb-false}
+use Rattle.std.proofs.Math.Nat.{le_trans}
 use Rattle.std.specs.Cmp.Lexicographic.{pointwise}
 use Rattle.std.specs.List.{IsAmong, concat}
 use Rattle.xet_io.specs.Disk.{Files, bytes_at, file_at}
+use Rattle.xet_hash.specs.declared.error.StoreError.{StoreError}
 use Rattle.xet_hash.specs.Hash.{zero_hash}
 use Rattle.xet_hash.specs.Merkle.{chunk_hash, file_hash, members_of, xorb_hash}
+use Rattle.xet_shard.specs.declared.info.MDBShardFileFooter.{MDBShardFileFooter}
 use Rattle.xet_shard.specs.declared.record.FileDataSequenceEntry.{FileDataSequenceEntry as Segment}
 use Rattle.xet_shard.specs.declared.record.MDBFileInfo.{MDBFileInfo}
 use Rattle.xet_shard.specs.Held.{Held, nothing}
+use Rattle.xet_shard.specs.Reading.{◌>>=◌, footer_at, header_at}
 use Rattle.xet_shard.specs.Records as record_of
 use Rattle.xet_folder.proofs.Agreeing.{joins_once, stored_once}
 use Rattle.xet_folder.proofs.Rest.{among_map}
@@ -16,17 +21,17 @@ use Rattle.xet_folder.specs.Contents.{HasContents, IsRecord}
 use Rattle.xet_folder.specs.Listed.{JoinsTo, Lists}
 use Rattle.xet_folder.specs.Names.{shard_path, xorb_path}
 use Rattle.xet_folder.specs.Plan.{Joins, range}
-use Rattle.xet_folder.specs.Shards.{ShardFile}
+use Rattle.xet_folder.specs.Shards.{ShardFile, is_expired, is_past}
 use Rattle.xet_folder.specs.Stored.{IsBacked, IsStored}
 use Rattle.xet_folder.specs.Xorbs.{IsListed, Records, found}
-use Rattle.xet_store.specs.Cleaning.{HasFile, Keeps}
+use Rattle.xet_store.specs.Cleaning.{HasFile, Keeps, SameEntry}
 use Rattle.xet_store.specs.Opening.{contents_of}
 use Rattle.xet_store.specs.Ranges.{IsRange}
 use Rattle.xet_store.specs.Separate.{Among, Apart, MetBacked, MetChunk, MetFile, MetListed, MetStored, MetXorb, Separate, SeparateIn}
-use Rattle.xet_store.specs.Store.{State, IsKept, IsPending, Sound, plan_of}
+use Rattle.xet_store.specs.Store.{State, IsKept, Sound, plan_of}
 use Rattle.xet_store.proofs.Rows.{from_among, is_some_found, to_among}
-use Rattle.xet_store.proofs.Staying.{all_among}
-use Rattle.xet_store.proofs.Whole.{found_has, same_key}
+use Rattle.xet_store.proofs.Staying.{all_among, same_bytes_at, same_file_at}
+use Rattle.xet_store.proofs.Whole.{found_has, mapped, same_key}
 
 -- ---- plans
 
@@ -44,32 +49,44 @@ module _ {X : Type 0} (P : List ℕ → List X → Type 0) (len : X → ℕ) whe
   joins_has (t ∷ ts) out s (xs, rest, has, lies, parts, more) (inl is) = (xs, subst (λ (u : Segment). P u.xorb_hash xs) is has)
   joins_has (t ∷ ts) out s (xs, rest, has, lies, parts, more) (inr a) = joins_has ts rest s more a
 
--- a plan is recorded, or it is the empty file's
-plan_either : (records : Records) (h : List ℕ) (plan : List Segment) → plan_of records h ≡ Some plan → ((h ≡ zero_hash) × (plan ≡ [])) ⊎ (found records h ≡ Some plan)
+-- a plan is that of a record, or the empty file's
+plan_either : (records : Records) (h : List ℕ) (plan : List Segment) → plan_of records h ≡ Some plan → ((h ≡ zero_hash) × (plan ≡ [])) ⊎ ((f : MDBFileInfo) × (found records h ≡ Some f) × (f.segments ≡ plan))
 unfolding plan_of
 plan_either records h plan e = by_cases (pointwise nat_eq h zero_hash) refl
   where
-    by_cases : (b : Bool) → pointwise nat_eq h zero_hash ≡ b → ((h ≡ zero_hash) × (plan ≡ [])) ⊎ (found records h ≡ Some plan)
+    by_cases : (b : Bool) → pointwise nat_eq h zero_hash ≡ b → ((h ≡ zero_hash) × (plan ≡ [])) ⊎ ((f : MDBFileInfo) × (found records h ≡ Some f) × (f.segments ≡ plan))
     by_cases true t =
         let empty : plan_of records h ≡ Some [] = rw (t, plan_of) refl in
         let same : ◌≡◌ {A = Option (List Segment)} (Some plan) (Some []) = sym e ∙ empty in inl (same_key h zero_hash t, cc same)
     by_cases false t =
-        let there : plan_of records h ≡ found records h = rw (t, plan_of) refl in inr (sym there ∙ e)
+        let there : plan_of records h ≡ option_map (λ (f : MDBFileInfo). f.segments) (found records h) = rw (t, plan_of) refl in
+        inr (mapped (λ (f : MDBFileInfo). f.segments) (found records h) plan (sym there ∙ e))
 
 -- Each xorb that a plan of a sound store names is listed.
 module _ (s : State) (sound : Sound s) where
-  record_listed : (h : List ℕ) (plan : List Segment) → found s.records h ≡ Some plan → (t : Segment) → Among plan t → IsSome (found s.xorbs t.xorb_hash)
-  record_listed h plan e t a =
-      let r = found_has (IsRecord s.xorbs) s.records h plan sound.recorded e in
-      let listed = joins_has (IsListed s.xorbs) (λ (m : List ℕ × ℕ). m.1) plan r.members t r.joins a in
+  record_listed : (h : List ℕ) (f : MDBFileInfo) → found s.records h ≡ Some f → (t : Segment) → Among f.segments t → IsSome (found s.xorbs t.xorb_hash)
+  record_listed h f e t a =
+      let r = found_has (IsRecord s.xorbs) s.records h f sound.recorded e in
+      let listed = joins_has (IsListed s.xorbs) (λ (m : List ℕ × ℕ). m.1) f.segments r.members t r.joins a in
       is_some_found s.xorbs t.xorb_hash listed.0 listed.1
+
+  listed_once : (h : List ℕ) (xs ys : List (List ℕ × ℕ)) → IsListed s.xorbs h xs → IsListed s.xorbs h ys → xs ≡ ys
+  listed_once h xs ys a b =
+      let same : ◌≡◌ {A = Option (List (List ℕ × ℕ))} (Some xs) (Some ys) = sym a ∙ b in cc same
+
+  -- and a record's segments join to members, not none
+  record_some : (h : List ℕ) (f : MDBFileInfo) → found s.records h ≡ Some f → (members : List (List ℕ × ℕ)) → Joins (IsListed s.xorbs) (λ m. m.1) f.segments members → 0 < length members
+  record_some h f e members j =
+      let r = found_has (IsRecord s.xorbs) s.records h f sound.recorded e in
+      let same : r.members ≡ members = joins_once (IsListed s.xorbs) (λ (m : List ℕ × ℕ). m.1) listed_once f.segments r.members members r.joins j in
+      subst (λ (ms : List (List ℕ × ℕ)). 0 < length ms) same r.some
 
   plan_listed : (h : List ℕ) (plan : List Segment) → plan_of s.records h ≡ Some plan → (t : Segment) → Among plan t → IsSome (found s.xorbs t.xorb_hash)
   plan_listed h plan e t a = go (plan_either s.records h plan e)
     where
-      go : ((h ≡ zero_hash) × (plan ≡ [])) ⊎ (found s.records h ≡ Some plan) → IsSome (found s.xorbs t.xorb_hash)
+      go : ((h ≡ zero_hash) × (plan ≡ [])) ⊎ ((f : MDBFileInfo) × (found s.records h ≡ Some f) × (f.segments ≡ plan)) → IsSome (found s.xorbs t.xorb_hash)
       go (inl empty) = absurd (subst (λ (l : List Segment). Among l t) empty.1 a)
-      go (inr there) = record_listed h plan there t a
+      go (inr (f, there, is)) = record_listed h f there t (subst (λ (l : List Segment). Among l t) (sym is) a)
 
 -- ---- a disk that has changed
 
@@ -91,11 +108,19 @@ module _ (old new : Files) (folder : List ℕ) where
 
 -- ---- what was there when the folder was opened
 
-module _ (old new : State) (told : old.tells ≡ true) (contents : HasContents old.files old.folder old.opened (contents_of old)) (keeps : Keeps old new) (f : MDBFileInfo)
-    (l : Lists old.files old.folder old.opened f) where
+-- a shard that is valid at a moment was valid at each earlier one
+valid_before : (bytes : List ℕ) (now later : ℕ) → now ≤ later → is_expired later bytes ≡ false → is_expired now bytes ≡ false
+valid_before bytes now later earlier = go (header_at bytes >>= λ _. footer_at bytes)
+  where
+    go : (r : Result MDBShardFileFooter StoreError) → is_past later r ≡ false → is_past now r ≡ false
+    go (Ok footer) valid = le-ltb footer.shard_key_expiry now (le_trans earlier (ltb-false footer.shard_key_expiry later valid))
+    go (Err e) valid = refl
+
+module _ (old new : State) (told : old.tells ≡ true) (contents : HasContents old.files old.folder old.opened (contents_of old)) (keeps : Keeps old new) (later : ℕ) (since : old.opened ≤ later)
+    (f : MDBFileInfo) (l : Lists old.files old.folder later f) where
   -- the shard that lists it
   registered : IsAmong contents.shards l.shard
-  registered = contents.admits.registers.all l.shard l.there l.valid
+  registered = contents.admits.registers.all l.shard l.there (valid_before l.shard.file.bytes old.opened later since l.valid)
 
   shard_among : Among old.shards l.shard.hash
   shard_among =
@@ -103,9 +128,9 @@ module _ (old new : State) (told : old.tells ≡ true) (contents : HasContents o
       to_among old.shards l.shard.hash
       (subst (λ (hs : List (List ℕ)). IsAmong hs l.shard.hash) (sym contents.contents.registered) (among_map contents.shards r.0 l.shard r.1.0 r.1.1 (λ (s : ShardFile). s.hash)))
 
-  -- Each file that was listed when the folder was opened is listed still.
-  pub listed_stay : Lists new.files old.folder old.opened f
-  listed_stay = lists_same old.files new.files old.folder old.opened f l (all_among (λ h. file_at new.files (shard_path old.folder h) ≡ file_at old.files (shard_path old.folder h)) old.shards l.shard.hash (keeps.shard_files told) shard_among)
+  -- Each file that was listed then, at a moment from the opening on, is listed still.
+  pub listed_stay : Lists new.files old.folder later f
+  listed_stay = lists_same old.files new.files old.folder later f l (same_file_at old.files new.files (shard_path old.folder l.shard.hash) (all_among (λ h. SameEntry old.files new.files (shard_path old.folder h)) old.shards l.shard.hash (keeps.shard_files told) shard_among))
 
   -- each xorb that it names was read
   named_listed : (s : Segment) → Among f.segments s → IsSome (found old.xorbs s.xorb_hash)
@@ -118,7 +143,7 @@ module _ (old new : State) (told : old.tells ≡ true) (contents : HasContents o
   -- and it joins to the same chunks
   pub joins_stay : (chunks : List (List ℕ)) → JoinsTo old.files old.folder f chunks → JoinsTo new.files old.folder f chunks
   joins_stay chunks j = joins_named (IsStored old.files old.folder) length (IsStored new.files old.folder) f.segments chunks
-      (λ s a c stored. stored_same old.files new.files old.folder s.xorb_hash c (keeps.texts told s.xorb_hash (named_listed s a)) stored) j
+      (λ s a c stored. stored_same old.files new.files old.folder s.xorb_hash c (same_bytes_at old.files new.files (xorb_path old.folder s.xorb_hash) (keeps.xorb_files told s.xorb_hash (named_listed s a))) stored) j
 
 -- ---- what a session that keeps shows
 
@@ -134,7 +159,7 @@ module _ (before after : State) (told : before.tells ≡ true) where
   -- a listed xorb stays stored
   stored_stays : Keeps before after → (h : List ℕ) (chunks : List (List ℕ)) → IsSome (found before.xorbs h) → IsStored before.files before.folder h chunks → IsStored after.files after.folder h chunks
   stored_stays keeps h chunks listed stored = subst (λ (folder : List ℕ). IsStored after.files folder h chunks) (sym keeps.folder)
-      (stored_same before.files after.files before.folder h chunks (keeps.texts told h listed) stored)
+      (stored_same before.files after.files before.folder h chunks (same_bytes_at before.files after.files (xorb_path before.folder h) (keeps.xorb_files told h listed)) stored)
 
   backed_stays : Sound before → Keeps before after → (h : List ℕ) (members : List (List ℕ × ℕ)) → IsListed before.xorbs h members → IsBacked after.files after.folder h members
   backed_stays sound keeps h members listed =
@@ -153,19 +178,19 @@ module _ (before after : State) (told : before.tells ≡ true) where
       (plan, ap (λ (rs : Records). plan_of rs (file_hash (members_of chunks))) same ∙ planned, plan_stays sound keeps (file_hash (members_of chunks)) plan planned chunks joins)
 
 -- where nothing is pending, a registered shard lists each recorded file
-kept_now : (s : State) → s.tells ≡ true → Sound s → s.pending ≡ nothing → (h : List ℕ) (plan : List Segment) → found s.records h ≡ Some plan → IsKept s.files s.folder s.opened s.shards h plan
-kept_now s told sound none h plan e = go (sound.kept h plan e)
+kept_now : (s : State) → s.tells ≡ true → Sound s → s.pending ≡ nothing → (h : List ℕ) (f : MDBFileInfo) → found s.records h ≡ Some f → IsKept s.files s.folder s.opened s.shards f
+kept_now s told sound none h f e = go (sound.kept h f e)
   where
-    go : IsPending s.pending h plan ⊎ (s.tells ≡ true → IsKept s.files s.folder s.opened s.shards h plan) → IsKept s.files s.folder s.opened s.shards h plan
-    go (inl p) = absurd (subst (λ (held : Held). Among held.files p.file) none (to_among s.pending.files p.file p.among))
+    go : IsAmong s.pending.files f ⊎ (s.tells ≡ true → IsKept s.files s.folder s.opened s.shards f) → IsKept s.files s.folder s.opened s.shards f
+    go (inl p) = absurd (subst (λ (held : Held). Among held.files f) none (to_among s.pending.files f p))
     go (inr kept) = kept told
 
 -- ---- what its folder shows after a flush
 
 module _ (before after : State) (told : before.tells ≡ true) (sound : Sound before) (flushed : Sound after) (keeps : Keeps before after) (same : after.records ≡ before.records)
     (none : after.pending ≡ nothing) where
-  recorded_kept : (h : List ℕ) (plan : List Segment) → found before.records h ≡ Some plan → IsKept after.files after.folder after.opened after.shards h plan
-  recorded_kept h plan e = kept_now after (keeps.tells ∙ told) flushed none h plan (ap (λ (rs : Records). found rs h) same ∙ e)
+  recorded_kept : (h : List ℕ) (f : MDBFileInfo) → found before.records h ≡ Some f → IsKept after.files after.folder after.opened after.shards f
+  recorded_kept h f e = kept_now after (keeps.tells ∙ told) flushed none h f (ap (λ (rs : Records). found rs h) same ∙ e)
 
   -- Where digests separate what the folder shows, they separate what the session showed before its flush.
   pub separate_by_folder : (files : List (List (List ℕ))) → SeparateIn after.files after.folder after.opened files → Separate before files
@@ -180,10 +205,10 @@ module _ (before after : State) (told : before.tells ≡ true) (sound : Sound be
       met_chunk b (inr given) = inr given
 
       met_file : (members : List (List ℕ × ℕ)) → MetFile before files members → MetListed after.files after.folder after.opened files members
-      met_file members (inl (h, plan, recorded, joins)) =
-          let k = recorded_kept h plan recorded in
-          let moved = joins_named (IsListed before.xorbs) (λ (m : List ℕ × ℕ). m.1) (IsBacked after.files after.folder) plan members (λ s a ms listed. backed_stays before after told sound keeps s.xorb_hash ms listed) joins in
-          inl (k.file, k.lists, subst (λ (p : List Segment). Joins (IsBacked after.files after.folder) (λ m. m.1) p members) (sym k.plan_of_it) moved)
+      met_file members (inl (h, f, recorded, joins)) =
+          let k = recorded_kept h f recorded in
+          let moved = joins_named (IsListed before.xorbs) (λ (m : List ℕ × ℕ). m.1) (IsBacked after.files after.folder) f.segments members (λ s a ms listed. backed_stays before after told sound keeps s.xorb_hash ms listed) joins in
+          inl (f, k.lists, moved, record_some before sound h f recorded members joins)
       met_file members (inr given) = inr given
 
   -- A file that the session has is listed by its folder after the flush.
@@ -194,13 +219,13 @@ module _ (before after : State) (told : before.tells ≡ true) (sound : Sound be
       h : List ℕ
       h = file_hash (members_of chunks)
 
-      go : ((h ≡ zero_hash) × (plan ≡ [])) ⊎ (found before.records h ≡ Some plan)
+      go : ((h ≡ zero_hash) × (plan ≡ [])) ⊎ ((f : MDBFileInfo) × (found before.records h ≡ Some f) × (f.segments ≡ plan))
           → (f : MDBFileInfo) × Lists after.files after.folder after.opened f × (record_of.file_hash f ≡ h) × JoinsTo after.files after.folder f chunks
       go (inl empty) = absurd (other empty.0)
-      go (inr recorded) =
-          let k = recorded_kept h plan recorded in
+      go (inr (f, recorded, is)) =
+          let k = recorded_kept h f recorded in
           let moved = plan_stays before after told sound keeps h plan planned chunks joins in
-          (k.file, k.lists, k.hash, subst (λ (p : List Segment). Joins (IsStored after.files after.folder) length p chunks) (sym k.plan_of_it) moved)
+          (f, k.lists, (found_has (IsRecord before.xorbs) before.records h f sound.recorded recorded).named, subst (λ (p : List Segment). Joins (IsStored after.files after.folder) length p chunks) (sym is) moved)
 
 -- ---- ranges
 

@@ -1,17 +1,18 @@
 -- What a put leaves of a store on its disk.
-use Rattle.std.proofs.Common.{◌≡◌, ◌≢◌, ◌⊎◌, inl, inr, ◌∙◌, ℕ, ◌≤◌, Bool, true, List, [], ◌∷◌, ◌++◌, Option, None, IsSome, refl, sym, ap, subst, arith, option_map}
+use Rattle.std.proofs.Common.{◌≡◌, ◌≢◌, ◌⊎◌, inl, inr, ◌∙◌, ℕ, ◌≤◌, Bool, true, false, List, [], ◌∷◌, ◌++◌, Option, Some, None, IsSome, nat_eq, refl, sym, ap, subst, arith, option_map}
 use Rattle.std.proofs.lemmas.List.{append-nil}
-use Rattle.std.specs.FinMap.{get}
-use Rattle.std.specs.List.{AllByRecursion}
-use Rattle.xet_io.specs.Disk.{Files, File, file_at}
-use Rattle.xet_shard.specs.declared.record.FileDataSequenceEntry.{FileDataSequenceEntry as Segment}
+use Rattle.std.specs.Cmp.Lexicographic.{bytes_decides, pointwise}
+use Rattle.std.specs.List.{AllByRecursion, IsAmong}
+use Rattle.xet_io.specs.Disk.{Entry, Files, File, bytes_at, file_at, file_of}
+use Rattle.xet_shard.specs.declared.record.MDBFileInfo.{MDBFileInfo}
 use Rattle.xet_shard.specs.Held.{Held}
 use Rattle.xet_folder.specs.Names.{IsForeign, IsHash, shard_path, xorb_path}
-use Rattle.xet_folder.specs.Stored.{IsBacked}
+use Rattle.xet_folder.specs.Stored.{IsBacked, IsStored}
 use Rattle.xet_folder.specs.Xorbs.{IsListed, Records, Xorbs, found}
-use Rattle.xet_store.specs.Cleaning.{Keeps}
+use Rattle.xet_store.specs.Cleaning.{HasWholeShard, Keeps, SameEntry}
 use Rattle.xet_store.specs.Separate.{Among}
-use Rattle.xet_store.specs.Store.{State, IsKept, IsPending, Sound}
+use Rattle.xet_store.specs.Store.{State, IsAdmitted, IsKept, Sound}
+use Rattle.xet_store.proofs.Admitting.{admitted_still, backed_same}
 use Rattle.xet_store.proofs.Rows.{apart_found, from_among, is_some_found, to_among}
 
 abbrev pub Members : Type 0
@@ -36,20 +37,28 @@ pub same_change : (s : State) (tells : Bool) (files : Files) (faults : ℕ) {x1 
     → x2 ≡ x1 → r2 ≡ r1 → s2 ≡ s1 → p2 ≡ p1 → changed s tells files faults x1 r1 s1 p1 ≡ changed s tells files faults x2 r2 s2 p2
 same_change s tells files faults x r h p = λ i. changed s tells files faults (sym x i) (sym r i) (sym h i) (sym p i)
 
-abbrev shard_stays : State → Files → List ℕ → Type 0
-shard_stays s files h = file_at files (shard_path s.folder h) ≡ file_at s.files (shard_path s.folder h)
+-- what reads give of a name whose entry is the same
+pub same_file_at : (old new : Files) (name : List ℕ) → SameEntry old new name → file_at new name ≡ file_at old name
+same_file_at old new name same = ap file_of same
 
--- A disk has the files of a store's xorbs and shards still, and those that are not a store's.
+pub same_bytes_at : (old new : Files) (name : List ℕ) → SameEntry old new name → bytes_at new name ≡ bytes_at old name
+same_bytes_at old new name same = ap (λ (o : Option Entry). option_map (λ (f : File). f.bytes) (file_of o)) same
+
+-- A disk has what a store has put there still, and other files that are not a store's; under other names of xorbs and
+-- shards it has what it had, or a xorb of that hash, or a whole shard.
 pub record Stays (s : State) (tells : Bool) (files : Files) (faults : ℕ) : Type 0 where
   pub tells_same : tells ≡ s.tells
   pub later : s.faults ≤ faults
-  pub xorbs : s.tells ≡ true → (h : List ℕ) → IsSome (found s.xorbs h) → file_at files (xorb_path s.folder h) ≡ file_at s.files (xorb_path s.folder h)
-  pub shards : s.tells ≡ true → AllByRecursion (shard_stays s files) s.shards
-  pub foreign : s.tells ≡ true → (name : List ℕ) → IsForeign s.folder name → get files name ≡ get s.files name
+  pub xorb_files : s.tells ≡ true → (h : List ℕ) → IsSome (found s.xorbs h) → SameEntry s.files files (xorb_path s.folder h)
+  pub shard_files : s.tells ≡ true → AllByRecursion (λ h. SameEntry s.files files (shard_path s.folder h)) s.shards
+  pub xorb_names : s.tells ≡ true → (h : List ℕ) → IsHash h → SameEntry s.files files (xorb_path s.folder h) ⊎ ((chunks : List (List ℕ)) × IsStored files s.folder h chunks)
+  pub shard_names : s.tells ≡ true → (h : List ℕ) → IsHash h
+      → SameEntry s.files files (shard_path s.folder h) ⊎ HasWholeShard (changed s tells files faults s.xorbs s.records s.shards s.pending) h
+  pub foreign : s.tells ≡ true → (name : List ℕ) → IsForeign s.folder name → SameEntry s.files files name
 
-all_stay : (s : State) (files : Files) (shards : List (List ℕ)) → AllByRecursion IsHash shards → ((h : List ℕ) → IsHash h → Among shards h → shard_stays s files h) → AllByRecursion (shard_stays s files) shards
-all_stay s files [] hashes stay = tt
-all_stay s files (h ∷ hs) hashes stay = (stay h hashes.0 (inl refl), all_stay s files hs hashes.1 (λ k is a. stay k is (inr a)))
+all_stay : (P : List ℕ → Type 0) (shards : List (List ℕ)) → AllByRecursion IsHash shards → ((h : List ℕ) → IsHash h → Among shards h → P h) → AllByRecursion P shards
+all_stay P [] hashes stay = tt
+all_stay P (h ∷ hs) hashes stay = (stay h hashes.0 (inl refl), all_stay P hs hashes.1 (λ k is a. stay k is (inr a)))
 
 pub all_among : {X : Type 0} (P : X → Type 0) (xs : List X) (x : X) → AllByRecursion P xs → Among xs x → P x
 all_among P [] x all a = absurd a
@@ -60,40 +69,59 @@ pub stays_same : (s : State) → Stays s s.tells s.files s.faults
 stays_same s = record {
   tells_same = refl;
   later = omega arith;
-  xorbs = λ told h is. refl;
-  shards = λ told. same s.shards;
+  xorb_files = λ told h is. refl;
+  shard_files = λ told. same s.shards;
+  xorb_names = λ told h is. inl refl;
+  shard_names = λ told h is. inl refl;
   foreign = λ told name is. refl;
 }
   where
-    same : (hs : List (List ℕ)) → AllByRecursion (shard_stays s s.files) hs
+    same : (hs : List (List ℕ)) → AllByRecursion (λ h. SameEntry s.files s.files (shard_path s.folder h)) hs
     same [] = tt
     same (h ∷ hs) = (refl, same hs)
+
+-- by whether two hashes are one
+pub hash_cases : {G : Type 0} (k h : List ℕ) → (k ≡ h → G) → (k ≢ h → G) → G
+hash_cases {G} k h same apart = go (pointwise nat_eq k h) refl
+  where
+    go : (b : Bool) → pointwise nat_eq k h ≡ b → G
+    go true e = same ((bytes_decides k h).0 e)
+    go false e = apart (λ q. let t : pointwise nat_eq k h ≡ true = (bytes_decides k h).1 q in let bad : false ≡ true = sym e ∙ t in absurd (cc bad))
 
 -- in a folder by another name, where the xorb h, or the shard h, is put
 module _ (s : State) (folder h : List ℕ) (tells : Bool) (files : Files) (faults : ℕ) (sound : Sound s) (same : folder ≡ s.folder) (tells_same : tells ≡ s.tells) (later : s.faults ≤ faults) where
   pub stays_xorb : found s.xorbs h ≡ None
-      → (s.tells ≡ true → (k : List ℕ) → IsHash k → k ≢ h → file_at files (xorb_path folder k) ≡ file_at s.files (xorb_path folder k))
-      → (s.tells ≡ true → (k : List ℕ) → IsHash k → file_at files (shard_path folder k) ≡ file_at s.files (shard_path folder k))
-      → (s.tells ≡ true → (name : List ℕ) → IsForeign folder name → get files name ≡ get s.files name) → Stays s tells files faults
-  stays_xorb none xorbs shards foreign = record {
+      → (s.tells ≡ true → (k : List ℕ) → IsHash k → k ≢ h → SameEntry s.files files (xorb_path folder k))
+      → (s.tells ≡ true → (k : List ℕ) → IsHash k → SameEntry s.files files (shard_path folder k))
+      → (s.tells ≡ true → (name : List ℕ) → IsForeign folder name → SameEntry s.files files name)
+      → (s.tells ≡ true → SameEntry s.files files (xorb_path s.folder h) ⊎ ((chunks : List (List ℕ)) × IsStored files s.folder h chunks)) → Stays s tells files faults
+  stays_xorb none xorbs shards foreign here = record {
     tells_same = tells_same;
     later = later;
-    xorbs = λ told k is. subst (λ (f : List ℕ). file_at files (xorb_path f k) ≡ file_at s.files (xorb_path f k)) same (xorbs told k (sound.hashes k is) (apart_found s.xorbs h k none is));
-    shards = λ told. all_stay s files s.shards sound.shards_hashes (λ k is a. subst (λ (f : List ℕ). file_at files (shard_path f k) ≡ file_at s.files (shard_path f k)) same (shards told k is));
+    xorb_files = λ told k is. subst (λ (f : List ℕ). SameEntry s.files files (xorb_path f k)) same (xorbs told k (sound.hashes k is) (apart_found s.xorbs h k none is));
+    shard_files = λ told. all_stay (λ k. SameEntry s.files files (shard_path s.folder k)) s.shards sound.shards_hashes (λ k is a. subst (λ (f : List ℕ). SameEntry s.files files (shard_path f k)) same (shards told k is));
+    xorb_names = λ told k is. hash_cases k h
+        (λ e. subst (λ (x : List ℕ). SameEntry s.files files (xorb_path s.folder x) ⊎ ((chunks : List (List ℕ)) × IsStored files s.folder x chunks)) (sym e) (here told))
+        (λ apart. inl (subst (λ (f : List ℕ). SameEntry s.files files (xorb_path f k)) same (xorbs told k is apart)));
+    shard_names = λ told k is. inl (subst (λ (f : List ℕ). SameEntry s.files files (shard_path f k)) same (shards told k is));
     foreign = λ told name is. foreign told name (subst (λ (f : List ℕ). IsForeign f name) (sym same) is);
   }
 
   pub stays_shard : (Among s.shards h → ⊥)
-      → (s.tells ≡ true → (k : List ℕ) → IsHash k → file_at files (xorb_path folder k) ≡ file_at s.files (xorb_path folder k))
-      → (s.tells ≡ true → (k : List ℕ) → IsHash k → k ≢ h → file_at files (shard_path folder k) ≡ file_at s.files (shard_path folder k))
-      → (s.tells ≡ true → (name : List ℕ) → IsForeign folder name → get files name ≡ get s.files name) → Stays s tells files faults
-  stays_shard new xorbs shards foreign = record {
+      → (s.tells ≡ true → (k : List ℕ) → IsHash k → SameEntry s.files files (xorb_path folder k))
+      → (s.tells ≡ true → (k : List ℕ) → IsHash k → k ≢ h → SameEntry s.files files (shard_path folder k))
+      → (s.tells ≡ true → (name : List ℕ) → IsForeign folder name → SameEntry s.files files name)
+      → (s.tells ≡ true → SameEntry s.files files (shard_path s.folder h) ⊎ HasWholeShard (changed s tells files faults s.xorbs s.records s.shards s.pending) h) → Stays s tells files faults
+  stays_shard new xorbs shards foreign here = record {
     tells_same = tells_same;
     later = later;
-    xorbs = λ told k is. subst (λ (f : List ℕ). file_at files (xorb_path f k) ≡ file_at s.files (xorb_path f k)) same (xorbs told k (sound.hashes k is));
-    shards = λ told.
-        all_stay s files s.shards sound.shards_hashes
-        (λ k is a. subst (λ (f : List ℕ). file_at files (shard_path f k) ≡ file_at s.files (shard_path f k)) same (shards told k is (λ e. new (subst (λ (x : List ℕ). Among s.shards x) e a))));
+    xorb_files = λ told k is. subst (λ (f : List ℕ). SameEntry s.files files (xorb_path f k)) same (xorbs told k (sound.hashes k is));
+    shard_files = λ told. all_stay (λ k. SameEntry s.files files (shard_path s.folder k)) s.shards sound.shards_hashes
+        (λ k is a. subst (λ (f : List ℕ). SameEntry s.files files (shard_path f k)) same (shards told k is (λ e. new (subst (λ (x : List ℕ). Among s.shards x) e a))));
+    xorb_names = λ told k is. inl (subst (λ (f : List ℕ). SameEntry s.files files (xorb_path f k)) same (xorbs told k is));
+    shard_names = λ told k is. hash_cases k h
+        (λ e. subst (λ (x : List ℕ). SameEntry s.files files (shard_path s.folder x) ⊎ HasWholeShard (changed s tells files faults s.xorbs s.records s.shards s.pending) x) (sym e) (here told))
+        (λ apart. inl (subst (λ (f : List ℕ). SameEntry s.files files (shard_path f k)) same (shards told k is apart)));
     foreign = λ told name is. foreign told name (subst (λ (f : List ℕ). IsForeign f name) (sym same) is);
   }
 
@@ -109,39 +137,48 @@ module _ (s : State) (tells : Bool) (files : Files) (faults : ℕ) (stays : Stay
     opened = refl;
     later = stays.later;
     xorbs = listed;
-    texts = λ told h is. ap (λ (o : Option File). option_map (λ (f : File). f.bytes) o) (stays.xorbs told h is);
     records = (added, recorded);
     shards = (more, registered);
-    shard_files = stays.shards;
+    xorb_files = stays.xorb_files;
+    shard_files = stays.shard_files;
+    xorb_names = stays.xorb_names;
+    shard_names = λ told h is. shard_name (stays.shard_names told h is);
     foreign = stays.foreign;
   }
+    where
+      some : (x : List ℕ) (o : Option Members) → found s.xorbs x ≡ o → IsSome o → IsSome (found xorbs x)
+      some x None e bad = absurd (cc bad)
+      some x (Some m) e ok = is_some_found xorbs x m (listed x m e)
+
+      shard_name : {h : List ℕ} → SameEntry s.files files (shard_path s.folder h) ⊎ HasWholeShard (changed s tells files faults s.xorbs s.records s.shards s.pending) h
+          → SameEntry s.files files (shard_path s.folder h) ⊎ HasWholeShard (changed s tells files faults xorbs records shards pending) h
+      shard_name (inl e) = inl e
+      shard_name (inr w) = inr (record { file = w.file; there = w.there; holds = w.holds; listed = λ x of. some x (found s.xorbs x) refl (w.listed x of) })
 
   -- where only the disk has changed
   pub keeps_stays : Keeps s (changed s tells files faults s.xorbs s.records s.shards s.pending)
   keeps_stays = keeps_changed s.xorbs s.records [] s.shards [] s.pending (λ h ms l. l) (sym (append-nil s.records)) (sym (append-nil s.shards))
 
+  -- the bytes of a listed xorb
+  pub xorb_same : s.tells ≡ true → (h : List ℕ) → IsSome (found s.xorbs h) → bytes_at files (xorb_path s.folder h) ≡ bytes_at s.files (xorb_path s.folder h)
+  xorb_same told h is = same_bytes_at s.files files (xorb_path s.folder h) (stays.xorb_files told h is)
+
   module _ (sound : Sound s) where
     pub backed_still : s.tells ≡ true → (h : List ℕ) (ms : Members) → IsListed s.xorbs h ms → IsBacked files s.folder h ms
-    backed_still told h ms listed =
-        let b = sound.backed told h ms listed in
-        let kept = ap (λ (o : Option File). option_map (λ (f : File). f.bytes) o) (stays.xorbs told h (is_some_found s.xorbs h ms listed)) in record {
-          chunks = b.chunks;
-          stored = record { bytes = b.stored.bytes; there = kept ∙ b.stored.there; text = b.stored.text; readable = b.stored.readable; hash = b.stored.hash };
-          same = b.same;
-        }
+    backed_still told h ms listed = backed_same s.files files s.folder h ms (xorb_same told h (is_some_found s.xorbs h ms listed)) (sound.backed told h ms listed)
 
     -- what a registered shard keeps
-    pub kept_still : (shards : List (List ℕ)) → ((h : List ℕ) → Among s.shards h → Among shards h) → (h : List ℕ) (plan : List Segment) → s.tells ≡ true
-        → IsKept s.files s.folder s.opened s.shards h plan → IsKept files s.folder s.opened shards h plan
-    kept_still shards more h plan told k =
+    pub kept_still : (shards : List (List ℕ)) → ((h : List ℕ) → Among s.shards h → Among shards h) → (f : MDBFileInfo) → s.tells ≡ true
+        → IsKept s.files s.folder s.opened s.shards f → IsKept files s.folder s.opened shards f
+    kept_still shards more f told k =
         let l = k.lists in
         let here : Among s.shards l.shard.hash = to_among s.shards l.shard.hash k.registered in record {
-          file = k.file;
-          hash = k.hash;
-          plan_of_it = k.plan_of_it;
           lists = record {
             shard = l.shard;
-            there = record { named = l.there.named; there = all_among (shard_stays s files) s.shards l.shard.hash (stays.shards told) here ∙ l.there.there };
+            there = record {
+              named = l.there.named;
+              there = same_file_at s.files files (shard_path s.folder l.shard.hash) (all_among (λ h. SameEntry s.files files (shard_path s.folder h)) s.shards l.shard.hash (stays.shard_files told) here) ∙ l.there.there;
+            };
             valid = l.valid;
             parts = l.parts;
             read = l.read;
@@ -152,23 +189,33 @@ module _ (s : State) (tells : Bool) (files : Files) (faults : ℕ) (stays : Stay
 
     -- What was kept is, where at least as much is pending.
     pub kept_or : (pending : Held) (shards : List (List ℕ)) → ((h : List ℕ) → Among s.shards h → Among shards h)
-        → ((h : List ℕ) (plan : List Segment) → IsPending s.pending h plan → IsPending pending h plan) → (h : List ℕ) (plan : List Segment)
-        → IsPending s.pending h plan ⊎ (s.tells ≡ true → IsKept s.files s.folder s.opened s.shards h plan)
-        → IsPending pending h plan ⊎ (tells ≡ true → IsKept files s.folder s.opened shards h plan)
-    kept_or pending shards more still h plan (inl p) = inl (still h plan p)
-    kept_or pending shards more still h plan (inr k) =
-        inr (λ told. let told_before : s.tells ≡ true = sym stays.tells_same ∙ told in kept_still shards more h plan told_before (k told_before))
+        → (f : MDBFileInfo) → (IsAmong s.pending.files f → IsAmong pending.files f)
+        → IsAmong s.pending.files f ⊎ (s.tells ≡ true → IsKept s.files s.folder s.opened s.shards f)
+        → IsAmong pending.files f ⊎ (tells ≡ true → IsKept files s.folder s.opened shards f)
+    kept_or pending shards more f still (inl p) = inl (still p)
+    kept_or pending shards more f still (inr k) =
+        inr (λ told. let told_before : s.tells ≡ true = sym stays.tells_same ∙ told in kept_still shards more f told_before (k told_before))
 
-    pub sound_stays : Sound (changed s tells files faults s.xorbs s.records s.shards s.pending)
-    sound_stays = record {
+    -- the folder is admitted, where no shard's file has changed
+    pub admitted_stays : (xorbs : Xorbs) → ((h : List ℕ) → IsSome (found s.xorbs h) → IsSome (found xorbs h))
+        → (s.tells ≡ true → (h : List ℕ) → IsHash h → SameEntry s.files files (shard_path s.folder h)) → s.tells ≡ true → IsAdmitted files s.folder s.opened xorbs s.shards
+    admitted_stays xorbs more shards told =
+        admitted_still s.files files s.folder s.opened s.xorbs xorbs s.shards more (λ h is. xorb_same told h is) (sound.admitted told)
+        (λ h is. same_file_at s.files files (shard_path s.folder h) (shards told h is))
+
+    pub sound_stays : (s.tells ≡ true → IsAdmitted files s.folder s.opened s.xorbs s.shards) → Sound (changed s tells files faults s.xorbs s.records s.shards s.pending)
+    sound_stays admitted = record {
       backed = λ told h ms l. backed_still (sym stays.tells_same ∙ told) h ms l;
       recorded = sound.recorded;
-      kept = λ h plan e. kept_or s.pending s.shards (λ k a. a) (λ k p x. x) h plan (sound.kept h plan e);
+      kept = λ h f e. kept_or s.pending s.shards (λ k a. a) f (λ p. p) (sound.kept h f e);
       held = sound.held;
       blocks = sound.blocks;
       pending_files = sound.pending_files;
+      admitted = λ told. admitted (sym stays.tells_same ∙ told);
       hashes = sound.hashes;
       shards_hashes = sound.shards_hashes;
+      xorbs_differ = sound.xorbs_differ;
+      records_differ = sound.records_differ;
     }
 
 pub keeps_at : (s t n : State) → s ≡ t → Keeps s n → Keeps t n
@@ -177,8 +224,8 @@ keeps_at s t n e k = subst (λ (x : State). Keeps x n) e k
 -- ---- the same of lists by other names
 
 module _ (s : State) (tells : Bool) (files : Files) (faults : ℕ) (stays : Stays s tells files faults) (sound : Sound s) {x : Xorbs} {r : Records} {h : List (List ℕ)} {p : Held} where
-  pub sound_refused : x ≡ s.xorbs → r ≡ s.records → h ≡ s.shards → p ≡ s.pending → Sound (changed s tells files faults x r h p)
-  sound_refused ex er eh ep = subst Sound (same_change s tells files faults ex er eh ep) (sound_stays s tells files faults stays sound)
+  pub sound_refused : (s.tells ≡ true → IsAdmitted files s.folder s.opened s.xorbs s.shards) → x ≡ s.xorbs → r ≡ s.records → h ≡ s.shards → p ≡ s.pending → Sound (changed s tells files faults x r h p)
+  sound_refused admitted ex er eh ep = subst Sound (same_change s tells files faults ex er eh ep) (sound_stays s tells files faults stays sound admitted)
 
   pub keeps_refused : (t : State) → s ≡ t → x ≡ s.xorbs → r ≡ s.records → h ≡ s.shards → p ≡ s.pending → Keeps t (changed s tells files faults x r h p)
   keeps_refused t e ex er eh ep = keeps_at s t (changed s tells files faults x r h p) e (subst (λ (n : State). Keeps s n) (same_change s tells files faults ex er eh ep) (keeps_stays s tells files faults stays))

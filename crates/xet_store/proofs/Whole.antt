@@ -1,9 +1,9 @@
 -- Where digests separate what was met, a recorded file of a sound store joins to its chunks.
-use Rattle.std.proofs.Common.{◌≡◌, inl, inr, ◌∙◌, ℕ, suc, ◌<◌, Bool, true, false, cond, List, [], ◌∷◌, length, Option, Some, IsSome, refl, sym, ap, subst, arith, nat_eq}
+use Rattle.std.proofs.Common.{◌≡◌, inl, inr, ◌∙◌, ℕ, suc, ◌<◌, Bool, true, false, cond, List, [], ◌∷◌, length, Option, Some, None, IsSome, option_map, refl, sym, ap, subst, arith, nat_eq}
 use Rattle.std.specs.List.{AllByRecursion}
 use Rattle.std.specs.Cmp.Lexicographic.{pointwise, bytes_decides}
 use Rattle.xet_hash.specs.Merkle.{chunk_hash, file_hash, member_of, members_of}
-use Rattle.xet_shard.specs.declared.record.FileDataSequenceEntry.{FileDataSequenceEntry as Segment}
+use Rattle.xet_shard.specs.declared.record.MDBFileInfo.{MDBFileInfo}
 use Rattle.xet_folder.specs.Plan.{Joins}
 use Rattle.xet_folder.specs.Stored.{IsStored}
 use Rattle.xet_folder.specs.Xorbs.{IsListed, found}
@@ -43,15 +43,20 @@ found_has {X} P (y ∷ ys) h x all e = go (pointwise nat_eq h y.0) refl e (λ at
         subst P whole all.0
     go false t at later = later at
 
-pub has_file : (s : State) (files : List (List (List ℕ))) (chunks : List (List ℕ)) (plan : List Segment)
+-- what was made of a value that is there
+pub mapped : {X Y : Type 0} (f : X → Y) (o : Option X) (y : Y) → option_map f o ≡ Some y → (x : X) × (o ≡ Some x) × (f x ≡ y)
+mapped f None y e = absurd (cc e)
+mapped f (Some x) y e = (x, refl, cc e)
+
+pub has_file : (s : State) (files : List (List (List ℕ))) (chunks : List (List ℕ)) (f : MDBFileInfo)
     → Sound s → s.tells ≡ true → Separate s files → Among files chunks → 0 < length chunks
-    → found s.records (file_hash (members_of chunks)) ≡ Some plan → Joins (IsStored s.files s.folder) length plan chunks
-has_file s files chunks plan sound tells apart given some there =
-    let r = found_has (IsRecord s.xorbs) s.records (file_hash (members_of chunks)) plan sound.recorded there in
+    → found s.records (file_hash (members_of chunks)) ≡ Some f → Joins (IsStored s.files s.folder) length f.segments chunks
+has_file s files chunks f sound tells apart given some there =
+    let r = found_has (IsRecord s.xorbs) s.records (file_hash (members_of chunks)) f sound.recorded there in
     let ms = r.members in
-    let list : ms ≡ members_of chunks = apart.lists.same ms (members_of chunks) (inl (file_hash (members_of chunks), plan, there, r.joins)) (inr (chunks, given, some, refl)) r.hash in
+    let list : ms ≡ members_of chunks = apart.lists.same ms (members_of chunks) (inl (file_hash (members_of chunks), f, there, r.joins)) (inr (chunks, given, some, refl)) r.hash in
     let whole = joins_map member_of (IsListed s.xorbs) (HasChunks s) (λ (m : List ℕ × ℕ). m.1)
-    (λ h members listed. let b = sound.backed tells h members listed in (b.chunks, (subst (λ (o : Option (List (List ℕ × ℕ))). IsSome o) (sym listed) refl, b.stored), b.same)) plan ms r.joins in
+    (λ h members listed. let b = sound.backed tells h members listed in (b.chunks, (subst (λ (o : Option (List (List ℕ × ℕ))). IsSome o) (sym listed) refl, b.stored), b.same)) f.segments ms r.joins in
     let same : whole.0 ≡ chunks = same_chunks (MetChunk s files) apart.chunks whole.0 chunks
-    (λ b a. let from = joins_among (HasChunks s) length plan whole.0 b whole.1 a in inl (from.0, from.1, from.2, from.3)) (λ b a. inr (chunks, given, a)) (whole.2 ∙ list) in
-    subst (λ (l : List (List ℕ)). Joins (IsStored s.files s.folder) length plan l) same (joins_more (HasChunks s) (IsStored s.files s.folder) length (λ h c x. x.1) plan whole.0 whole.1)
+    (λ b a. let from = joins_among (HasChunks s) length f.segments whole.0 b whole.1 a in inl (from.0, from.1, from.2, from.3)) (λ b a. inr (chunks, given, a)) (whole.2 ∙ list) in
+    subst (λ (l : List (List ℕ)). Joins (IsStored s.files s.folder) length f.segments l) same (joins_more (HasChunks s) (IsStored s.files s.folder) length (λ h c x. x.1) f.segments whole.0 whole.1)

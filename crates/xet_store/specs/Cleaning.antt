@@ -1,9 +1,9 @@
 -- Cleaning: files into a store.
 use Rattle.std.specs.Prelude.{◌≡◌, ◌⊎◌, ℕ, zero, suc, ◌<◌, ◌≤◌, Bool, true, List, [], ◌∷◌, ◌++◌, length, map, Some, None, IsSome}
 use Rattle.std.specs.FinMap.{get}
-use Rattle.std.specs.List.{AllByRecursion, IsAmong}
+use Rattle.std.specs.List.{AllByRecursion}
 use Rattle.sha2.specs.Sha256.{sha256}
-use Rattle.xet_io.specs.Disk.{Files, bytes_at, file_at}
+use Rattle.xet_io.specs.Disk.{File, Files, file_at}
 use Rattle.xet_io.specs.Faults.{Rose}
 use Rattle.xet_hash.specs.declared.error.StoreError.{StoreError}
 use Rattle.xet_hash.specs.declared.error.StoreError.TheVariants.{Io, TooLarge, OutOfMemory}
@@ -12,18 +12,17 @@ use Rattle.xet_hash.specs.declared.error.What.TheVariants as what
 use Rattle.xet_hash.specs.Merkle.{xorb_hash, file_hash, members_of}
 use Rattle.xet_store.specs.declared.limits.LimitSettings.{LimitSettings}
 use Rattle.xet_shard.specs.declared.record.FileDataSequenceEntry.{FileDataSequenceEntry as Segment}
-use Rattle.xet_shard.specs.declared.record.MDBFileInfo.{MDBFileInfo}
-use Rattle.xet_shard.specs.Held.{Held}
 use Rattle.xet_store.specs.declared.info.XetFileInfo.{XetFileInfo}
 use Rattle.xet_store.specs.Cut.{cut}
-use Rattle.xet_folder.specs.Names.{IsForeign, shard_path, xorb_path}
+use Rattle.xet_folder.specs.Admission.{ShardHolds}
+use Rattle.xet_folder.specs.Checks.{OfBytes}
+use Rattle.xet_folder.specs.Names.{IsForeign, IsHash, shard_path, xorb_path}
 use Rattle.xet_store.specs.Packing.{packs}
 use Rattle.xet_folder.specs.Plan.{Joins}
 use Rattle.xet_folder.specs.Stored.{IsStored}
 use Rattle.xet_folder.specs.Xorbs.{IsListed, Records, found}
-use Rattle.xet_store.specs.Records.{file_record}
-use Rattle.xet_store.specs.Separate.{Among}
-use Rattle.xet_store.specs.Store.{State, plan_of}
+use Rattle.xet_store.specs.Store.{Differ, State, plan_of}
+use Rattle.xet_store.specs.Tables.{StoresPart, tables_of, with_files}
 
 -- hash, length and SHA-256 (FIPS 180-4) of a file
 abbrev pub info_of : LimitSettings → List ℕ → XetFileInfo
@@ -35,6 +34,13 @@ EachTold tells left P [] [] = Unit {0}
 EachTold tells left P [] (x ∷ xs) = ⊥
 EachTold tells left P (s ∷ ss) [] = ⊥
 EachTold tells left P (s ∷ ss) (x ∷ xs) = (tells s ≡ true → P (left s) x) × EachTold tells left P ss xs
+
+-- the count of each source has not fallen
+abbrev pub Later : {S : Type 0} → (S → ℕ) → List S → List S → Type 0
+Later faults [] [] = Unit {0}
+Later faults [] (t ∷ ts) = ⊥
+Later faults (s ∷ ss) [] = ⊥
+Later faults (s ∷ ss) (t ∷ ts) = (faults s ≤ faults t) × Later faults ss ts
 
 -- the chunks of each source
 abbrev pub cuts : {S : Type 0} → (S → List ℕ) → LimitSettings → List S → List (List (List ℕ))
@@ -52,8 +58,20 @@ IsPacked files folder s chunks = AllByRecursion (λ pack. IsStored files folder 
 abbrev pub HasXorbs : State → List (List ℕ) → Type 0
 HasXorbs s chunks = IsPacked s.files s.folder s.limits chunks
 
--- What no call takes away: folder, limits and moment, listed xorbs, registered shards and their files,
--- earlier records in their order, and files that are not a store's.
+-- A file under a name is as it was: its bytes, its stamp, and whether a crash keeps it.
+abbrev pub SameEntry : Files → Files → List ℕ → Type 0
+SameEntry old new name = get new name ≡ get old name
+
+-- A whole shard stands in a store's folder under the name of its digest; what it names is stored and listed.
+pub record HasWholeShard (s : State) (h : List ℕ) : Type 0 where
+  pub file : File
+  pub there : file_at s.files (shard_path s.folder h) ≡ Some file
+  pub holds : ShardHolds s.files s.folder (record { hash = h; file = file })
+  pub listed : (x : List ℕ) → OfBytes file.bytes x → IsSome (found s.xorbs x)
+
+-- What no call takes away: folder, limits and time of opening, listed xorbs and registered shards with their
+-- files, earlier records in their order, and files that are not a store's. Under a xorb's name no file has changed but to
+-- a xorb of that hash, under a shard's none but to a whole shard.
 pub record Keeps (old new : State) : Type 0 where
   pub tells : new.tells ≡ old.tells
   pub folder : new.folder ≡ old.folder
@@ -61,26 +79,31 @@ pub record Keeps (old new : State) : Type 0 where
   pub opened : new.opened ≡ old.opened
   pub later : old.faults ≤ new.faults
   pub xorbs : (h : List ℕ) (members : List (List ℕ × ℕ)) → IsListed old.xorbs h members → IsListed new.xorbs h members
-  pub texts : old.tells ≡ true → (h : List ℕ) → IsSome (found old.xorbs h) → bytes_at new.files (xorb_path old.folder h) ≡ bytes_at old.files (xorb_path old.folder h)
   pub records : (added : Records) × (new.records ≡ old.records ++ added)
   pub shards : (added : List (List ℕ)) × (new.shards ≡ old.shards ++ added)
-  pub shard_files : old.tells ≡ true → AllByRecursion (λ h. file_at new.files (shard_path old.folder h) ≡ file_at old.files (shard_path old.folder h)) old.shards
-  pub foreign : old.tells ≡ true → (name : List ℕ) → IsForeign old.folder name → get new.files name ≡ get old.files name
+  pub xorb_files : old.tells ≡ true → (h : List ℕ) → IsSome (found old.xorbs h) → SameEntry old.files new.files (xorb_path old.folder h)
+  pub shard_files : old.tells ≡ true → AllByRecursion (λ h. SameEntry old.files new.files (shard_path old.folder h)) old.shards
+  pub xorb_names : old.tells ≡ true → (h : List ℕ) → IsHash h
+      → SameEntry old.files new.files (xorb_path old.folder h) ⊎ ((chunks : List (List ℕ)) × IsStored new.files new.folder h chunks)
+  pub shard_names : old.tells ≡ true → (h : List ℕ) → IsHash h → SameEntry old.files new.files (shard_path old.folder h) ⊎ HasWholeShard new h
+  pub foreign : old.tells ≡ true → (name : List ℕ) → IsForeign old.folder name → SameEntry old.files new.files name
 
--- New records stand behind the earlier ones, each under one of these hashes, none of which had one.
+-- New records stand after the earlier ones, each under one of these hashes, none of which had one; no two have
+-- one hash.
 abbrev pub Adds : Records → Records → List (List ℕ) → Type 0
 Adds old new hashes =
-    (added : Records) × (new ≡ old ++ added)
+    (added : Records) × (new ≡ old ++ added) × Differ added
     × AllByRecursion (λ r. (found old r.0 ≡ None) × IsSome (found (map (λ h. (h, r.1)) hashes) r.0)) added
 
--- the record of one of these files, by its cut and with its SHA-256
-abbrev pub IsRecordOfOne : LimitSettings → List (List ℕ) → MDBFileInfo → Type 0
-IsRecordOfOne s files f =
-    (bytes : List ℕ) × Among files bytes × (f ≡ file_record (members_of (cut s bytes)) f.segments (Some (sha256 bytes)))
+-- The files that were read are stored: those of the sources that are observable are their bytes.
+abbrev pub Stores : {S : Type 0} → (S → Bool) → (S → List ℕ) → List S → State → State → Type 0
+Stores tells left sources old new =
+    (files : List (List ℕ)) × EachTold tells left (λ bytes file. file ≡ bytes) sources files × (tables_of new ≡ with_files old.limits (tables_of old) files)
 
--- What is pending of files was so before, or is the record of one of these.
-abbrev pub AddsPending : LimitSettings → List (List ℕ) → Held → Held → Type 0
-AddsPending s files old new = AllByRecursion (λ f. IsAmong old.files f ⊎ IsRecordOfOne s files f) new.files
+-- Some of them are.
+abbrev pub StoresSome : {S : Type 0} → (S → Bool) → (S → List ℕ) → List S → State → State → Type 0
+StoresSome tells left sources old new =
+    (files : List (List ℕ)) × EachTold tells left (λ bytes file. file ≡ bytes) sources files × StoresPart old.limits files (tables_of old) (tables_of new)
 
 -- the count of the source of this number rose
 abbrev pub RoseAt : {S : Type 0} → (S → ℕ) → List S → List S → ℕ → Type 0

@@ -84,9 +84,6 @@ bytes_code = coded_list coded_ℕ
 abbrev pub xorbs_code : Coded Xorbs
 xorbs_code = coded_list (coded× bytes_code (coded_list (coded× bytes_code coded_ℕ)))
 
-abbrev pub records_code : Coded Records
-records_code = coded_list (coded× bytes_code (coded_list segment_code))
-
 abbrev pub chunk_code : Coded XorbChunkSequenceEntry
 chunk_code = code_by (Bytes × Pair) (coded× bytes_code pair_code)
     (λ c. (c.chunk_hash, (c.chunk_byte_range_start, c.unpacked_segment_bytes)))
@@ -119,6 +116,9 @@ file_code = code_by ((Bytes × Pair) × (List Segment × (List FileVerificationE
       metadata_ext = p.1.1.1;
     })
     (λ _. refl)
+
+abbrev pub records_code : Coded Records
+records_code = coded_list (coded× bytes_code file_code)
 
 abbrev pub held_code : Coded Held
 held_code = code_by (List MDBXorbInfo × List MDBFileInfo) (coded× (coded_list block_code) (coded_list file_code)) (λ h. (h.blocks, h.files)) (λ p. record { blocks = p.0; files = p.1 }) (λ _. refl)

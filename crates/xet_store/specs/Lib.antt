@@ -10,5 +10,6 @@ pub mod Reading
 pub mod Coding
 pub mod Separate
 pub mod Packing
+pub mod Tables
 pub mod Cleaning
 pub mod Steps

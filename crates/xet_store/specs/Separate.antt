@@ -5,7 +5,6 @@ use Rattle.std.specs.Prelude.{◌≡◌, ◌≢◌, ◌⊎◌, ℕ, ◌<◌, Lis
 use Rattle.xet_io.specs.Disk.{Files}
 use Rattle.xet_hash.specs.Hash.{marker, zero_hash}
 use Rattle.xet_hash.specs.Merkle.{chunk_hash, xorb_hash, file_hash, members_of}
-use Rattle.xet_shard.specs.declared.record.FileDataSequenceEntry.{FileDataSequenceEntry as Segment}
 use Rattle.xet_shard.specs.declared.record.MDBFileInfo.{MDBFileInfo}
 use Rattle.xet_folder.specs.Listed.{Lists}
 use Rattle.xet_folder.specs.Plan.{Joins}
@@ -44,7 +43,7 @@ MetXorb s members = (h : List ℕ) × IsListed s.xorbs h members
 -- the members of a recorded file, or of one of these files that is not empty
 abbrev pub MetFile : State → List (List (List ℕ)) → List (List ℕ × ℕ) → Type 0
 MetFile s files members =
-    ((h : List ℕ) × (plan : List Segment) × (found s.records h ≡ Some plan) × Joins (IsListed s.xorbs) (λ m. m.1) plan members)
+    ((h : List ℕ) × (f : MDBFileInfo) × (found s.records h ≡ Some f) × Joins (IsListed s.xorbs) (λ m. m.1) f.segments members)
     ⊎ ((f : List (List ℕ)) × Among files f × (0 < length f) × (members ≡ members_of f))
 
 -- Digests separate what a store and these files, each as its chunks, show.
@@ -53,10 +52,10 @@ pub record Separate (s : State) (files : List (List (List ℕ))) : Type 0 where
   pub xorbs : Apart xorb_hash (MetXorb s)
   pub lists : Apart file_hash (MetFile s files)
 
--- the members of a file that a folder lists at a moment, or of one of these files that is not empty
+-- the members, not none, of a file that a folder lists at a moment, or of one of these files
 abbrev pub MetListed : Files → List ℕ → ℕ → List (List (List ℕ)) → List (List ℕ × ℕ) → Type 0
 MetListed disk folder now files members =
-    ((f : MDBFileInfo) × Lists disk folder now f × Joins (IsBacked disk folder) (λ m. m.1) f.segments members)
+    ((f : MDBFileInfo) × Lists disk folder now f × Joins (IsBacked disk folder) (λ m. m.1) f.segments members × (0 < length members))
     ⊎ ((f : List (List ℕ)) × Among files f × (0 < length f) × (members ≡ members_of f))
 
 -- the members of a xorb that stands in a folder

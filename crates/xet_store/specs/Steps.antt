@@ -1,5 +1,5 @@
 -- The steps of cleaning one file.
-use Rattle.std.specs.Prelude.{◌≡◌, ℕ, ◌<◌, Bool, true, List, length, is_some, if◌then◌else◌}
+use Rattle.std.specs.Prelude.{◌≡◌, ℕ, ◌<◌, Bool, true, List, length}
 use Rattle.std.specs.List.{AllByRecursion}
 use Rattle.xet_io.specs.Faults.{Rose}
 use Rattle.xet_hash.specs.declared.error.StoreError.{StoreError}
@@ -7,27 +7,13 @@ use Rattle.xet_hash.specs.declared.error.StoreError.TheVariants.{Io, TooLarge, O
 use Rattle.xet_hash.specs.declared.error.Place.TheVariants.{Source, Disk}
 use Rattle.xet_hash.specs.declared.error.What.TheVariants as what
 use Rattle.xet_hash.specs.Merkle.{xorb_hash, members_of}
-use Rattle.xet_shard.specs.declared.record.MDBFileInfo.{MDBFileInfo}
-use Rattle.xet_shard.specs.Held.{Held, held, with_last}
-use Rattle.xet_shard.specs.Records as record_of
-use Rattle.xet_folder.specs.Xorbs.{IsListed, Records, Xorbs, found}
+use Rattle.xet_folder.specs.Xorbs.{IsListed}
 use Rattle.xet_store.specs.Packing.{packs}
-use Rattle.xet_store.specs.Records.{xorb_record}
 use Rattle.xet_store.specs.Store.{State}
 
 -- each xorb into which the file's chunks are packed is listed with its members
 abbrev pub ListsXorbs : State → List (List ℕ) → Type 0
 ListsXorbs s chunks = AllByRecursion (λ pack. IsListed s.xorbs (xorb_hash (members_of pack)) (members_of pack)) (packs s.limits chunks)
-
--- what is pending after a xorb is added: its record too, where it was not listed
-abbrev pub with_block : Xorbs → Held → List ℕ → List (List ℕ × ℕ) → Held
-with_block xorbs pending h members =
-    if is_some (found xorbs h) then pending else held (with_last record_of.xorb_hash pending.blocks (xorb_record h members)) pending.files
-
--- and after a file is: its record too, where it was not recorded
-abbrev pub with_record : Records → Held → MDBFileInfo → Held
-with_record records pending f =
-    if is_some (found records (record_of.file_hash f)) then pending else held pending.blocks (with_last record_of.file_hash pending.files f)
 
 -- why reading the source of number 0 to its end refuses, by what it had left and its count of failures
 abbrev pub HasSourceReason : Bool → List ℕ → ℕ → ℕ → ℕ → StoreError → Type 0

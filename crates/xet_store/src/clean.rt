@@ -1,17 +1,19 @@
 //! Files into a store.
 
-ghost use Rattle.std.specs.Prelude.{◌≡◌, ◌≤◌, ◌<◌, ◌^◌, ◌∷◌, [], ℕ, true, length, map, OnOk, OnErr, IfOk, IfErr, IsSome};
+ghost use Rattle.std.specs.Prelude.{◌≡◌, ◌≤◌, ◌<◌, ◌^◌, ◌∷◌, [], ℕ, List, true, length, map, take, OnOk, OnErr, IfOk, IfErr, IsSome};
 ghost use Rattle.std.specs.List.{AllByRecursion};
 ghost use Rattle.xet_hash.specs.Merkle.{chunk_hash};
 ghost use Rattle.xet_chunk.specs.Chunks.{bytes_of, chunk_member, total};
-ghost use Rattle.xet_store.specs.Cleaning.{Adds, AddsPending, EachTold, HasFile, HasReason, HasXorbs, Keeps, cuts, info_of};
+ghost use Rattle.xet_store.specs.Cleaning.{Adds, EachTold, HasFile, HasReason, HasXorbs, Keeps, Later, Stores, StoresSome, cuts, info_of};
 ghost use Rattle.xet_store.specs.Cut.{cut};
 ghost use Rattle.xet_folder.specs.Plan.{Joins};
 ghost use Rattle.xet_folder.specs.Refusals.{HasDiskReason};
 ghost use Rattle.xet_store.specs.Separate.{Apart, MetChunk, Separate};
 ghost use Rattle.xet_store.specs.Steps.{HasReasonOfOne, HasSourceReason, ListsXorbs};
 ghost use Rattle.xet_folder.specs.Xorbs.{IsListed};
+ghost use Rattle.xet_store.specs.Packing.{packs};
 ghost use Rattle.xet_store.specs.Store.{plan_of};
+ghost use Rattle.xet_store.specs.Tables.{tables_of, whole_segment, with_file, with_xorbs};
 
 use crate::cutting::{chunks_of, pack_len};
 use crate::info::{Cleaned, XetFileInfo};
@@ -50,17 +52,23 @@ pub fn clean_files<D: Disk + Send, S: Source + Send>(
     ensures xorbs { session.tells ≡ true → AllByRecursion (λ s. S.tells s ≡ true) sources.old → Apart chunk_hash (MetChunk result.0 (cuts S.left session.limits sources.old))
         → OnOk result.1 (AllByRecursion (HasXorbs result.0) (cuts S.left session.limits sources.old)) }
 
-    // Where all tell, each of their xorbs is listed.
+    // Each answer's file has a plan; where all tell, each of their xorbs is listed.
+    ensures recorded { IfOk result.1 (λ cleaned. AllByRecursion (λ info. IsSome (plan_of result.0.records info.hash)) cleaned.infos.items) }
     ensures listed { AllByRecursion (λ s. S.tells s ≡ true) sources.old → OnOk result.1 (AllByRecursion (ListsXorbs result.0) (cuts S.left session.limits sources.old)) }
 
-    // Nothing is taken away, whatever the answer; new records stand behind the earlier ones, each of a
-    // source.
+    // Nothing is taken away, whatever the answer; new records stand after the earlier ones, each of a
+    // source. What is listed, recorded and pending is what was, with each source's file in turn; after an
+    // error with some of them.
     ensures keeps { Keeps session result.0 }
     ensures adds { IfOk result.1 (λ cleaned. Adds session.records result.0.records (map (λ info. info.hash) cleaned.infos.items)) }
     ensures err { OnErr result.1 (result.0.records ≡ session.records) }
-    ensures pending { AllByRecursion (λ s. S.tells s ≡ true) sources.old → AddsPending session.limits (map S.left sources.old) session.pending result.0.pending }
+    ensures shards { result.0.shards ≡ session.shards }
+    ensures stores { OnOk result.1 (Stores S.tells S.left sources.old session result.0) }
+    ensures some { OnErr result.1 (StoresSome S.tells S.left sources.old session result.0) }
 
-    // A refusal has a reason.
+    // Each source is observable or not, as before, and its count has not fallen. An error has a reason.
+    ensures sources_tell { map S.tells sources.new ≡ map S.tells sources.old }
+    ensures sources_later { Later S.faults sources.old sources.new }
     ensures reason { IfErr result.1 (HasReason S.tells S.left S.faults sources.old sources.new session result.0) }
 {
     let _ = workers;
@@ -84,7 +92,11 @@ fn clean_all<D: Disk + Send, S: Source + Send>(
     ensures keeps { Keeps session.old session.new }
     ensures adds { IfOk result (λ cleaned. Adds session.old.records session.new.records (map (λ info. info.hash) cleaned.infos.items)) }
     ensures err { OnErr result (session.new.records ≡ session.old.records) }
-    ensures pending { AllByRecursion (λ s. S.tells s ≡ true) sources.old → AddsPending session.old.limits (map S.left sources.old) session.old.pending session.new.pending }
+    ensures shards { session.new.shards ≡ session.old.shards }
+    ensures stores { OnOk result (Stores S.tells S.left sources.old session.old session.new) }
+    ensures some { OnErr result (StoresSome S.tells S.left sources.old session.old session.new) }
+    ensures sources_tell { map S.tells sources.new ≡ map S.tells sources.old }
+    ensures sources_later { Later S.faults sources.old sources.new }
     ensures reason { IfErr result (HasReason S.tells S.left S.faults sources.old sources.new session.old session.new) }
 {
     let mut infos = Vec::with_capacity(alloc, 1)?;
@@ -107,7 +119,11 @@ fn clean_source<D: Disk + Send, S: Source + Send>(
     ensures adds { IfOk result (λ info. Adds session.old.records session.new.records (info.hash ∷ [])) }
     ensures xorbs { S.tells source.old ≡ true → OnOk result (ListsXorbs session.new (cut session.old.limits (S.left source.old))) }
     ensures err { OnErr result (session.new.records ≡ session.old.records) }
-    ensures pending { S.tells source.old ≡ true → AddsPending session.old.limits (S.left source.old ∷ []) session.old.pending session.new.pending }
+    ensures shards { session.new.shards ≡ session.old.shards }
+    ensures stores { OnOk result ((bytes : List ℕ) × (S.tells source.old ≡ true → bytes ≡ S.left source.old) × (tables_of session.new ≡ with_file session.old.limits (tables_of session.old) bytes)) }
+    ensures some { OnErr result ((bytes : List ℕ) × (n : ℕ) × (S.tells source.old ≡ true → bytes ≡ S.left source.old)
+        × (tables_of session.new ≡ with_xorbs (tables_of session.old) (take n (packs session.old.limits (cut session.old.limits bytes))))) }
+    ensures tells { S.tells source.new ≡ S.tells source.old }
     ensures reason { IfErr result (HasReasonOfOne S.tells S.left S.faults source.old source.new session.old session.new) }
     ensures later { S.faults source.old ≤ S.faults source.new }
 {
@@ -142,7 +158,10 @@ fn add_xorbs<D: Disk + Send>(
     ensures listed { OnOk result (ListsXorbs session.new (map bytes_of chunks.now)) }
     ensures keeps { Keeps session.old session.new }
     ensures records { session.new.records ≡ session.old.records }
-    ensures files { session.new.pending.files ≡ session.old.pending.files }
+    ensures shards { session.new.shards ≡ session.old.shards }
+    ensures plan { IfOk result (λ plan. plan.items ≡ map whole_segment (packs session.old.limits (map bytes_of chunks.now))) }
+    ensures stores { OnOk result (tables_of session.new ≡ with_xorbs (tables_of session.old) (packs session.old.limits (map bytes_of chunks.now))) }
+    ensures some { OnErr result ((n : ℕ) × (tables_of session.new ≡ with_xorbs (tables_of session.old) (take n (packs session.old.limits (map bytes_of chunks.now))))) }
     ensures reason { IfErr result (HasDiskReason session.old.faults session.new.faults) }
 {
     let limits = *session.limits();

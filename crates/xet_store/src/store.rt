@@ -3,7 +3,8 @@
 ghost use Rattle.std.specs.Prelude.{◌≡◌, ◌<◌, ◌^◌, length, IfOk, IsOkUnless};
 ghost use Rattle.std.specs.Option.{option_map};
 ghost use Rattle.xet_folder.specs.Plan.{plan_bytes};
-ghost use Rattle.xet_store.specs.Store.{files_of, plan_of};
+ghost use Rattle.xet_folder.specs.Xorbs.{found};
+ghost use Rattle.xet_store.specs.Store.{Differ, files_of, plan_of};
 
 mod adding;
 mod flushing;
@@ -14,10 +15,11 @@ use crate::limits::Limits;
 use indexmap::IndexMap;
 use std::alloc::Global;
 use std::marker::{Model, Send};
-use xet_base::{Items, Text};
+use xet_base::Text;
+use xet_folder::Members;
 use xet_hash::{MerkleHash, StoreError};
 use xet_io::Disk;
-use xet_shard::{FileDataSequenceEntry, MDBInMemoryShard};
+use xet_shard::{FileDataSequenceEntry, MDBFileInfo, MDBInMemoryShard};
 
 /// A store of files in a folder of a disk. Contracts see a `State`.
 #[derive(Drop)]
@@ -29,9 +31,9 @@ pub struct Store<D: Disk + Send> {
     /// The moment of opening, in seconds.
     opened: u64,
     /// The digests and lengths of each listed xorb's chunks.
-    xorbs: IndexMap<MerkleHash, Items<(MerkleHash, u64)>>,
-    /// The plan of each recorded file.
-    records: IndexMap<MerkleHash, Items<FileDataSequenceEntry>>,
+    xorbs: IndexMap<MerkleHash, Members>,
+    /// The record of each recorded file.
+    records: IndexMap<MerkleHash, MDBFileInfo>,
     /// The registered shards.
     shards: Vec<MerkleHash>,
     /// What no shard keeps yet.
@@ -118,15 +120,23 @@ impl<D: Disk + Send> Store<D> {
         }
     }
 
-    /// Hash and length in bytes of each recorded file, in order of recording. The empty file is never
-    /// recorded.
+    /// The record of a file: its plan, the hashes of its ranges and its SHA-256; none where it is not recorded.
+    pub fn record(&self, hash: &MerkleHash) -> Option<&MDBFileInfo>
+        ensures { option_map (λ file. file.now) result ≡ found self.now.records hash.now }
+    {
+        self.records.get(hash)
+    }
+
+    /// Hash and length in bytes of each recorded file, in order of recording and each hash once. The empty file
+    /// is never recorded.
     pub fn files(&self, alloc: Global) -> Result<Vec<(MerkleHash, u64)>, StoreError>
         ensures files { IfOk result (λ files. files.items ≡ files_of self.now.records) }
+        ensures differ { IfOk result (λ files. Differ files.items) }
         ensures memory { IsOkUnless result StoreError.OutOfMemory }
     {
         let mut files = Vec::with_capacity(alloc, self.records.len())?;
-        for (hash, segments) in &self.records {
-            files.push((*hash, plan_bytes(segments.as_slice())))?;
+        for (hash, record) in &self.records {
+            files.push((*hash, plan_bytes(record.segments.as_slice())))?;
         }
         Ok(files)
     }
@@ -154,7 +164,7 @@ impl<D: Disk + Send> Store<D> {
 
 /// The segments of a file's plan; none where it is not recorded. The empty file has the empty plan.
 fn plan_in<'a>(
-    records: &'a IndexMap<MerkleHash, Items<FileDataSequenceEntry>>,
+    records: &'a IndexMap<MerkleHash, MDBFileInfo>,
     hash: &MerkleHash,
 ) -> Option<&'a [FileDataSequenceEntry]>
     ensures { option_map (λ plan. plan.now) result ≡ plan_of records.now.entries hash.now }
@@ -163,7 +173,7 @@ fn plan_in<'a>(
         return Some(&[]);
     }
     match records.get(hash) {
-        Some(segments) => Some(segments.as_slice()),
+        Some(record) => Some(record.segments.as_slice()),
         None => None,
     }
 }

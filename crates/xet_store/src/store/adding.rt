@@ -5,17 +5,16 @@ ghost use Rattle.std.specs.List.{AllByRecursion};
 ghost use Rattle.xet_hash.specs.Merkle.{chunk_hash, xorb_hash};
 ghost use Rattle.xet_shard.specs.Held.{held_size};
 ghost use Rattle.xet_shard.specs.Records.{file_hash};
-ghost use Rattle.xet_chunk.specs.Chunks.{chunk_member, total};
+ghost use Rattle.xet_chunk.specs.Chunks.{bytes_of, chunk_member, total};
 ghost use Rattle.xet_folder.specs.Refusals.{HasDiskReason};
 ghost use Rattle.xet_folder.specs.Xorbs.{IsListed, found};
 ghost use Rattle.xet_store.specs.Cleaning.{Adds, Keeps};
-ghost use Rattle.xet_store.specs.Steps.{with_block, with_record};
 ghost use Rattle.xet_store.specs.Store.{IsNewFile};
+ghost use Rattle.xet_store.specs.Tables.{tables_of, with_record, with_xorb};
 
 use crate::store::Store;
 use std::marker::Send;
-use xet_base::Items;
-use xet_folder::{known_bytes, put_xorb};
+use xet_folder::{Members, known_bytes, put_xorb};
 use xet_hash::{MerkleHash, StoreError};
 use xet_io::Disk;
 use xet_shard::{MDBFileInfo, MDBInMemoryShard};
@@ -33,8 +32,9 @@ impl<D: Disk + Send> Store<D> {
         ensures keeps { Keeps self.old self.new }
         ensures records { self.new.records ≡ self.old.records }
         ensures listed { IfOk result (λ h. (h ≡ xorb_hash (map chunk_member chunks.now)) × IsListed self.new.xorbs h (map chunk_member chunks.now)) }
-        ensures files { self.new.pending.files ≡ self.old.pending.files }
-        ensures pending { IfOk result (λ h. self.new.pending ≡ with_block self.old.xorbs self.old.pending h (map chunk_member chunks.now)) }
+        ensures shards { self.new.shards ≡ self.old.shards }
+        ensures stores { OnOk result (tables_of self.new ≡ with_xorb (tables_of self.old) (map bytes_of chunks.now)) }
+        ensures kept { OnErr result (tables_of self.new ≡ tables_of self.old) }
         ensures reason { IfErr result (HasDiskReason self.old.faults self.new.faults) }
     {
         let members = chunk_members(self.alloc, chunks)?;
@@ -52,6 +52,7 @@ impl<D: Disk + Send> Store<D> {
         known_bytes(&hash);
         let block = raw.xorb_info.copy(self.alloc)?;
         let built = SerializedXorbObject::from_xorb(self.alloc, raw, true)?;
+        let listed = Members::from_vec(self.alloc, members)?;
         self.xorbs.reserve(1)?;
         put_xorb(
             &mut self.disk,
@@ -62,17 +63,18 @@ impl<D: Disk + Send> Store<D> {
         )?;
         self.pending.add_xorb_block(block)?;
         self.pending.known();
-        self.xorbs.insert(hash, Items::from_vec(members))?;
+        self.xorbs.insert(hash, listed)?;
         Ok(hash)
     }
 
-    /// Records a file by its plan, and its record is pending. One that is recorded keeps its plan.
+    /// Records a file, and its record is pending. One that is recorded keeps its record.
     pub(crate) fn add_file(&mut self, file: MDBFileInfo) -> Result<(), StoreError>
         requires { IsNewFile self.old.xorbs file }
         ensures keeps { Keeps self.old self.new }
         ensures there { OnOk result (IsSome (found self.new.records (file_hash file))) }
         ensures adds { OnOk result (Adds self.old.records self.new.records (file_hash file ∷ [])) }
-        ensures pending { OnOk result (self.new.pending ≡ with_record self.old.records self.old.pending file) }
+        ensures shards { self.new.shards ≡ self.old.shards }
+        ensures stores { OnOk result (tables_of self.new ≡ with_record (tables_of self.old) file) }
         ensures err { OnErr result (self.new ≡ self.old) }
         ensures memory { IsOkUnless result StoreError.OutOfMemory }
     {
@@ -84,11 +86,11 @@ impl<D: Disk + Send> Store<D> {
         if hash == MerkleHash::marker() || !has_room(&self.pending, rows) {
             return Err(StoreError::OutOfMemory);
         }
-        let plan = Vec::from_slice(self.alloc, file.segments.as_slice())?;
+        let copy = file.copy(self.alloc)?;
         self.records.reserve(1)?;
-        self.pending.add_file_reconstruction_info(file)?;
+        self.pending.add_file_reconstruction_info(copy)?;
         self.pending.known();
-        self.records.insert(hash, Items::from_vec(plan))?;
+        self.records.insert(hash, file)?;
         Ok(())
     }
 }

@@ -13,8 +13,7 @@ ghost use Rattle.xet_store.specs.Store.{plan_of};
 use crate::store::{Store, plan_bytes, plan_in};
 use indexmap::IndexMap;
 use std::marker::Send;
-use xet_base::Items;
-use xet_folder::RunReader;
+use xet_folder::{Members, RunReader};
 use xet_hash::{MerkleHash, Reason, StoreError};
 use xet_io::Disk;
 use xet_shard::FileDataSequenceEntry;
@@ -63,7 +62,7 @@ impl<D: Disk + Send> Store<D> {
 fn read_plan<D: Disk>(
     disk: &mut D,
     folder: &str,
-    xorbs: &IndexMap<MerkleHash, Items<(MerkleHash, u64)>>,
+    xorbs: &IndexMap<MerkleHash, Members>,
     plan: &[FileDataSequenceEntry],
     from: u64,
     to: u64,
@@ -97,7 +96,7 @@ fn read_plan<D: Disk>(
 fn read_segment<D: Disk>(
     disk: &mut D,
     folder: &str,
-    xorbs: &IndexMap<MerkleHash, Items<(MerkleHash, u64)>>,
+    xorbs: &IndexMap<MerkleHash, Members>,
     segment: &FileDataSequenceEntry,
     from: u64,
     to: u64,
@@ -118,5 +117,5 @@ fn read_segment<D: Disk>(
     let Some(members) = xorbs.get(&segment.xorb_hash) else {
         return Err(StoreError::MalformedData(Reason::XorbText));
     };
-    reader.read_run(disk, folder, segment, members.as_slice(), from, end)
+    reader.read_run(disk, folder, segment, members, from, end)
 }

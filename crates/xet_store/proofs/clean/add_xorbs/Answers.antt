@@ -3,14 +3,16 @@ use Rattle.std.specs.List.{AllByRecursion}
 use Rattle.std.proofs.lemmas.Bool.{eqb-true}
 use Rattle.xet_hash.specs.Merkle.{xorb_hash}
 use Rattle.xet_chunk.specs.declared.chunk.Chunk.{Chunk}
-use Rattle.xet_chunk.specs.Chunks.{bytes_of, chunk_member, total}
+use Rattle.xet_chunk.specs.Chunks.{bytes_of, chunk_member}
 use Rattle.xet_shard.proofs.Holding.{all_more as all_push}
 use Rattle.xet_store.specs.declared.limits.LimitSettings.{LimitSettings}
 use Rattle.xet_shard.specs.declared.record.FileDataSequenceEntry.{FileDataSequenceEntry as Segment}
 use Rattle.xet_store.specs.Packing.{packs}
 use Rattle.xet_folder.specs.Xorbs.{IsListed}
+use Rattle.xet_store.proofs.Answering.{on_err}
 use Rattle.xet_store.proofs.Keeping.{keeps_nothing, keeps_then}
-use Rattle.xet_store.proofs.Packing.{IsPackListed, Packed, all_drop, all_more, all_take, packed_all, packed_more, packed_none}
+use Rattle.xet_store.specs.Tables.{tables_of, whole_segment, with_xorb, with_xorbs}
+use Rattle.xet_store.proofs.Packing.{IsPackListed, Packed, all_drop, all_more, all_take, packed_all, packed_more, packed_none, packed_some, segment_of, some_by}
 use Rattle.xet_store.proofs.clean.add_xorbs.Goals as goal
 
 pub xorbs-init : goal.xorbs-init
@@ -18,11 +20,11 @@ xorbs-init g c =
     let chunks = c.args.chunks.now in
     let s = c.args.session.now in
     record {
-      packed = subst (λ (plan : List Segment). Packed s.xorbs c.limits.result.now plan chunks chunks) (sym c.new-plan.ensures.items) (packed_none s.xorbs c.limits.result.now chunks);
+      packed = subst (λ (plan : List Segment). Packed (tables_of s) (tables_of s) c.limits.result.now plan chunks chunks) (sym c.new-plan.ensures.items) (packed_none (tables_of s) c.limits.result.now chunks);
       keeps = keeps_nothing s;
       plain = subst (AllByRecursion (λ (x : Segment). x.xorb_flags ≡ 0)) (sym c.new-plan.ensures.items) tt;
       records = refl;
-      files = refl;
+      shards = refl;
       digests = c.requires.digests;
       fit = subst (λ (l : LimitSettings). AllByRecursion (λ (x : Chunk). length x.bytes ≤ l.maximum_chunk) chunks) (sym c.limits.ensures) c.requires.fit;
     }
@@ -42,12 +44,23 @@ add_xorb-requires-clause-small g c = λ κs met.
 pub returns-in_err-hash-clause-keeps : goal.returns-in_err-hash-clause-keeps
 returns-in_err-hash-clause-keeps g c = keeps_then c.args.session.now c.xorbs.session c.add_xorb.new.self c.xorbs.invariant.keeps c.add_xorb.ensures.keeps
 
+pub returns-in_err-hash-clause-shards : goal.returns-in_err-hash-clause-shards
+returns-in_err-hash-clause-shards g c = c.add_xorb.ensures.shards ∙ c.xorbs.invariant.shards
+
+pub returns-in_err-hash-clause-some : goal.returns-in_err-hash-clause-some
+returns-in_err-hash-clause-some g c =
+    let done = packed_some (tables_of c.args.session.now) (tables_of c.xorbs.session) c.limits.result.now c.xorbs.plan.items c.xorbs.rest.now c.args.chunks.now c.xorbs.invariant.packed in
+    on_err _ (some_by c.limits.result.now c.args.session.now.limits (map bytes_of c.args.chunks.now) (tables_of c.args.session.now) (tables_of c.add_xorb.new.self) c.limits.ensures
+    (done.0, c.in_err-hash.ensures.kept ∙ done.1))
+
 pub returns-in_err-push-clause-keeps : goal.returns-in_err-push-clause-keeps
 returns-in_err-push-clause-keeps g c = keeps_then c.args.session.now c.xorbs.session c.add_xorb.new.self c.xorbs.invariant.keeps c.add_xorb.ensures.keeps
 
-pub xorbs-preserved : goal.xorbs-preserved
-xorbs-preserved g c =
-    let old = c.xorbs.session.xorbs in
+pub returns-in_err-push-clause-shards : goal.returns-in_err-push-clause-shards
+returns-in_err-push-clause-shards g c = c.add_xorb.ensures.shards ∙ c.xorbs.invariant.shards
+
+pub returns-in_err-push-clause-some : goal.returns-in_err-push-clause-some
+returns-in_err-push-clause-some g c =
     let new = c.add_xorb.new.self.xorbs in
     let l = c.limits.result.now in
     let n = c.pack_len-count.result in
@@ -60,25 +73,61 @@ xorbs-preserved g c =
     let back : drop n rest ≡ tail = sym c.split_at.ensures.back in
     let listed = subst (λ (p : List Chunk). (c.in_ok-hash.hash ≡ xorb_hash (map chunk_member p)) × IsListed new c.in_ok-hash.hash (map chunk_member p)) front c.in_ok-hash.ensures.listed in
     let is_hash : segment.xorb_hash ≡ c.in_ok-hash.hash = ap (λ (s : Segment). s.xorb_hash) c.whole_xorb.ensures in
-    let packed = packed_more old new l c.xorbs.plan.items rest chunks n segment c.add_xorb.ensures.keeps.xorbs before.digests
+    let is : segment ≡ segment_of segment.xorb_hash (take n rest) = c.whole_xorb.ensures ∙ (λ i. segment_of (sym is_hash i) (front i)) in
+    let packed = packed_more (tables_of c.args.session.now) (tables_of c.xorbs.session) (tables_of c.add_xorb.new.self) l c.xorbs.plan.items rest chunks n segment c.add_xorb.ensures.keeps.xorbs before.digests
     c.pack_len-count.ensures.value c.pack_len-count.ensures.some c.pack_len-count.ensures.bound
     (is_hash ∙ listed.0) (subst (λ (h : List ℕ). IsListed new h (map chunk_member (take n rest))) (sym is_hash) listed.1)
-    (ap (λ (s : Segment). s.chunk_index_start) c.whole_xorb.ensures) (ap (λ (s : Segment). s.chunk_index_end) c.whole_xorb.ensures ∙ ap length front)
-    (ap (λ (s : Segment). s.unpacked_segment_bytes) c.whole_xorb.ensures ∙ ap total front) before.packed in
+    is (c.in_ok-hash.ensures.stores ∙ ap (λ (p : List Chunk). with_xorb (tables_of c.xorbs.session) (map bytes_of p)) front) before.packed in
+    let done = packed_some (tables_of c.args.session.now) (tables_of c.add_xorb.new.self) l (c.xorbs.plan.items ++ segment ∷ []) (drop n rest) chunks packed in
+    on_err _ (some_by l c.args.session.now.limits (map bytes_of chunks) (tables_of c.args.session.now) (tables_of c.add_xorb.new.self) c.limits.ensures done)
+
+pub xorbs-preserved : goal.xorbs-preserved
+xorbs-preserved g c =
+    let new = c.add_xorb.new.self.xorbs in
+    let l = c.limits.result.now in
+    let n = c.pack_len-count.result in
+    let rest = c.xorbs.rest.now in
+    let chunks = c.args.chunks.now in
+    let segment = c.whole_xorb.result in
+    let before = c.xorbs.invariant in
+    let front : c.split_at.result.0.now ≡ take n rest = c.split_at.ensures.front in
+    let tail = c.split_at.result.1.now in
+    let back : drop n rest ≡ tail = sym c.split_at.ensures.back in
+    let listed = subst (λ (p : List Chunk). (c.in_ok-hash.hash ≡ xorb_hash (map chunk_member p)) × IsListed new c.in_ok-hash.hash (map chunk_member p)) front c.in_ok-hash.ensures.listed in
+    let is_hash : segment.xorb_hash ≡ c.in_ok-hash.hash = ap (λ (s : Segment). s.xorb_hash) c.whole_xorb.ensures in
+    let is : segment ≡ segment_of segment.xorb_hash (take n rest) = c.whole_xorb.ensures ∙ (λ i. segment_of (sym is_hash i) (front i)) in
+    let packed = packed_more (tables_of c.args.session.now) (tables_of c.xorbs.session) (tables_of c.add_xorb.new.self) l c.xorbs.plan.items rest chunks n segment c.add_xorb.ensures.keeps.xorbs before.digests
+    c.pack_len-count.ensures.value c.pack_len-count.ensures.some c.pack_len-count.ensures.bound
+    (is_hash ∙ listed.0) (subst (λ (h : List ℕ). IsListed new h (map chunk_member (take n rest))) (sym is_hash) listed.1)
+    is (c.in_ok-hash.ensures.stores ∙ ap (λ (p : List Chunk). with_xorb (tables_of c.xorbs.session) (map bytes_of p)) front) before.packed in
     record {
-      packed = subst (λ (r : List Chunk). Packed new l c.push.new.self.items r chunks) {x = drop n rest} {y = tail} back
-          (subst (λ (plan : List Segment). Packed new l plan (drop n rest) chunks) {x = c.xorbs.plan.items ++ segment ∷ []} {y = c.push.new.self.items} (sym {a = c.push.new.self.items} {b = c.xorbs.plan.items ++ segment ∷ []} c.in_ok-push.ensures.items) packed);
+      packed = subst (λ (r : List Chunk). Packed (tables_of c.args.session.now) (tables_of c.add_xorb.new.self) l c.push.new.self.items r chunks) {x = drop n rest} {y = tail} back
+          (subst (λ (plan : List Segment). Packed (tables_of c.args.session.now) (tables_of c.add_xorb.new.self) l plan (drop n rest) chunks) {x = c.xorbs.plan.items ++ segment ∷ []} {y = c.push.new.self.items}
+          (sym {a = c.push.new.self.items} {b = c.xorbs.plan.items ++ segment ∷ []} c.in_ok-push.ensures.items) packed);
       keeps = keeps_then c.args.session.now c.xorbs.session c.add_xorb.new.self before.keeps c.add_xorb.ensures.keeps;
       plain = subst (AllByRecursion (λ (x : Segment). x.xorb_flags ≡ 0)) (sym c.in_ok-push.ensures.items) (all_push (λ (x : Segment). x.xorb_flags ≡ 0) c.xorbs.plan.items segment before.plain (ap (λ (x : Segment). x.xorb_flags) c.whole_xorb.ensures));
       records = c.add_xorb.ensures.records ∙ before.records;
-      files = c.add_xorb.ensures.files ∙ before.files;
+      shards = c.add_xorb.ensures.shards ∙ before.shards;
       digests = subst (AllByRecursion _) back (all_drop _ n rest before.digests);
       fit = subst (AllByRecursion _) back (all_drop _ n rest before.fit);
     }
+
+pub returns-clause-joins : goal.returns-clause-joins
+returns-clause-joins g c = let done = packed_all (tables_of c.args.session.now) (tables_of c.xorbs.session) c.limits.result.now c.xorbs.plan.items c.xorbs.rest.now c.args.chunks.now (eqb-true _ _ (sym c.xorbs-test.ensures)) c.xorbs.invariant.packed in done.joins
+
+pub returns-clause-plan : goal.returns-clause-plan
+returns-clause-plan g c =
+    let done = packed_all (tables_of c.args.session.now) (tables_of c.xorbs.session) c.limits.result.now c.xorbs.plan.items c.xorbs.rest.now c.args.chunks.now (eqb-true _ _ (sym c.xorbs-test.ensures)) c.xorbs.invariant.packed in
+    done.segments ∙ ap (λ (l : LimitSettings). map whole_segment (packs l (map bytes_of c.args.chunks.now))) c.limits.ensures
+
+pub returns-clause-stores : goal.returns-clause-stores
+returns-clause-stores g c =
+    let done = packed_all (tables_of c.args.session.now) (tables_of c.xorbs.session) c.limits.result.now c.xorbs.plan.items c.xorbs.rest.now c.args.chunks.now (eqb-true _ _ (sym c.xorbs-test.ensures)) c.xorbs.invariant.packed in
+    done.tables ∙ ap (λ (l : LimitSettings). with_xorbs (tables_of c.args.session.now) (packs l (map bytes_of c.args.chunks.now))) c.limits.ensures
 
 pub returns-clause-listed : goal.returns-clause-listed
 returns-clause-listed g c =
     let s = c.xorbs.session in
     let chunks = c.args.chunks.now in
-    let done = packed_all s.xorbs c.limits.result.now c.xorbs.plan.items c.xorbs.rest.now chunks (eqb-true _ _ (sym c.xorbs-test.ensures)) c.xorbs.invariant.packed in
-    subst (λ (l : LimitSettings). AllByRecursion (IsPackListed s.xorbs) (packs l (map bytes_of chunks))) (c.limits.ensures ∙ sym c.xorbs.invariant.keeps.limits) done.1
+    let done = packed_all (tables_of c.args.session.now) (tables_of c.xorbs.session) c.limits.result.now c.xorbs.plan.items c.xorbs.rest.now c.args.chunks.now (eqb-true _ _ (sym c.xorbs-test.ensures)) c.xorbs.invariant.packed in
+    subst (λ (l : LimitSettings). AllByRecursion (IsPackListed s.xorbs) (packs l (map bytes_of chunks))) (c.limits.ensures ∙ sym c.xorbs.invariant.keeps.limits) done.listed

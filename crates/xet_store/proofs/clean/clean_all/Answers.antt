@@ -1,25 +1,31 @@
-use Rattle.std.proofs.Common.{List, map, refl, ap, subst, sym}
+use Rattle.std.proofs.Common.{◌≡◌, ◌≤◌, ◌∙◌, ◌∷◌, ◌++◌, [], ℕ, true, List, Vec, length, refl, ap, subst, sym}
+use Rattle.std.specs.Global.{Global}
 use Rattle.std.specs.List.{AllByRecursion}
 use Rattle.std.proofs.lemmas.Bool.{eqb-false, eqb-true}
 use Rattle.std.proofs.lemmas.List.{nil_from_length}
-use Rattle.xet_store.specs.Cleaning.{AddsPending, Keeps, cuts}
+use Rattle.xet_store.specs.Cleaning.{EachTold, Keeps, Later, Stores, cuts, info_of}
+use Rattle.xet_store.specs.declared.info.XetFileInfo.{XetFileInfo}
 use Rattle.xet_store.specs.Steps.{ListsXorbs}
 use Rattle.xet_store.specs.Store.{State}
+use Rattle.xet_store.proofs.Answering.{on_err}
 use Rattle.xet_store.proofs.Keeping.{keeps_nothing}
-use Rattle.xet_store.proofs.NewRecords.{pending_one, same_pending}
 use Rattle.xet_store.proofs.Packing.{listed_one}
+use Rattle.xet_store.proofs.Storing.{all_of_one, all_of_set, later_first, later_same, some_none, some_of, some_one, stores_none, stores_one, told_none, told_one}
 use Rattle.xet_store.proofs.clean.clean_all.Goals as goal
 use Rattle.xet_store.proofs.clean.clean_all.Goals.{then-not-is_empty+in_ok-clean_source, else-not-is_empty}
 
 pub returns-in_err-infos-clause-keeps : goal.returns-in_err-infos-clause-keeps
 returns-in_err-infos-clause-keeps g c = keeps_nothing c.args.session.now
 
-pub returns-in_err-infos-clause-pending : goal.returns-in_err-infos-clause-pending
-returns-in_err-infos-clause-pending g c = λ all. same_pending c.args.session.now.limits (map g.S.Source.left c.args.sources.now) c.args.session.now.pending c.args.session.now.pending refl
+pub returns-in_err-infos-clause-some : goal.returns-in_err-infos-clause-some
+returns-in_err-infos-clause-some g c = on_err _ (some_none g.S.Source.tells g.S.Source.left c.args.sources.now c.args.session.now c.args.session.now refl)
 
-pub returns-in_err-clean_source-clause-pending : goal.returns-in_err-clean_source-clause-pending
-returns-in_err-clean_source-clause-pending g c = λ all.
-    pending_one g.S.Source.tells g.S.Source.left c.args.session.now.limits c.args.session.now.pending c.clean_source.new.session.pending c.args.sources.now c.index-sources-0.result c.requires.one (eqb-false _ _ (sym c.if-not-is_empty.ensures)) all c.clean_source.ensures.pending
+pub returns-in_err-infos-clause-sources_later : goal.returns-in_err-infos-clause-sources_later
+returns-in_err-infos-clause-sources_later g c = later_same g.S.Source.faults c.args.sources.now
+
+pub returns-in_err-clean_source-clause-some : goal.returns-in_err-clean_source-clause-some
+returns-in_err-clean_source-clause-some g c =
+    on_err _ (some_one g.S.Source.tells g.S.Source.left c.args.sources.now c.index-sources-0.result c.args.session.now c.clean_source.new.session c.requires.one (some_of _ (eqb-false _ _ (sym c.if-not-is_empty.ensures))) c.in_err-clean_source.ensures.some)
 
 pub returns-clause-listed : goal.returns-clause-listed
 returns-clause-listed g c = λ all.
@@ -40,14 +46,54 @@ returns-clause-keeps g c = elim c.if-not-is_empty.branch [
   | else-not-is_empty w ↦ subst (Keeps c.args.session.now) (sym w.session-is) (keeps_nothing c.args.session.now)
 ]
 
-pub returns-clause-pending : goal.returns-clause-pending
-returns-clause-pending g c = λ all.
-    let l = c.args.session.now.limits in
-    let old = c.args.session.now.pending in
-    let files = map g.S.Source.left c.args.sources.now in
+pub returns-clause-stores : goal.returns-clause-stores
+returns-clause-stores g c = elim c.if-not-is_empty.branch [
+  | then-not-is_empty+in_ok-clean_source w ↦
+      subst (Stores g.S.Source.tells g.S.Source.left c.args.sources.now c.args.session.now) (sym w.session-is)
+      (stores_one g.S.Source.tells g.S.Source.left c.args.sources.now w.index-sources-0.result c.args.session.now w.clean_source.new.session c.requires.one (some_of _ (eqb-false _ _ (sym w.if-not-is_empty.ensures))) w.in_ok-clean_source.ensures.stores)
+  | else-not-is_empty w ↦
+      subst (Stores g.S.Source.tells g.S.Source.left c.args.sources.now c.args.session.now) (sym w.session-is)
+      (stores_none g.S.Source.tells g.S.Source.left c.args.sources.now c.args.session.now (eqb-true _ _ (sym w.if-not-is_empty.ensures)))
+]
+
+pub returns-in_err-clean_source-clause-sources_later : goal.returns-in_err-clean_source-clause-sources_later
+returns-in_err-clean_source-clause-sources_later g c = later_first g.S.Source.faults c.args.sources.now c.index-sources-0.result c.clean_source.new.source c.clean_source.ensures.later
+
+pub returns-clause-infos : goal.returns-clause-infos
+returns-clause-infos g c =
+    let tells = g.S.Source.tells in
+    let left = g.S.Source.left in
+    let is : List ℕ → XetFileInfo → Type 0 = λ bytes info. info ≡ info_of c.args.session.now.limits bytes in
     elim c.if-not-is_empty.branch [
       | then-not-is_empty+in_ok-clean_source w ↦
-          subst (λ (s : State). AddsPending l files old s.pending) (sym w.session-is)
-          (pending_one g.S.Source.tells g.S.Source.left l old w.clean_source.new.session.pending c.args.sources.now w.index-sources-0.result c.requires.one (eqb-false _ _ (sym w.if-not-is_empty.ensures)) all w.clean_source.ensures.pending)
-      | else-not-is_empty w ↦ same_pending l files old c.if-not-is_empty.session.pending (ap (λ (s : State). s.pending.files) w.session-is)
+          let items : c.if-not-is_empty.infos.items ≡ w.in_ok-clean_source.field-0 ∷ [] =
+          ap (λ (v : Vec XetFileInfo Global). v.items) w.infos-is ∙ w.push_reserved.ensures.items ∙ ap (λ (l : List XetFileInfo). l ++ w.in_ok-clean_source.field-0 ∷ []) c.in_ok-infos.ensures.items in
+          subst (λ (l : List XetFileInfo). EachTold tells left is c.args.sources.now l) (sym items)
+          (told_one tells left is c.args.sources.now w.index-sources-0.result w.in_ok-clean_source.field-0 c.requires.one (some_of _ (eqb-false _ _ (sym w.if-not-is_empty.ensures))) w.in_ok-clean_source.ensures.info)
+      | else-not-is_empty w ↦
+          let items : c.if-not-is_empty.infos.items ≡ [] = ap (λ (v : Vec XetFileInfo Global). v.items) w.infos-is ∙ c.in_ok-infos.ensures.items in
+          subst (λ (l : List XetFileInfo). EachTold tells left is c.args.sources.now l) (sym items) (told_none tells left is c.args.sources.now (eqb-true _ _ (sym w.if-not-is_empty.ensures)))
     ]
+
+pub returns-clause-read : goal.returns-clause-read
+returns-clause-read g c =
+    let read : g.row.S.Denot → Type 0 = λ s. g.S.Source.tells s ≡ true → g.S.Source.left s ≡ [] in
+    elim c.if-not-is_empty.branch [
+      | then-not-is_empty+in_ok-clean_source w ↦ subst (AllByRecursion read) (sym w.sources-is) (all_of_set read c.args.sources.now w.clean_source.new.source c.requires.one w.in_ok-clean_source.ensures.read)
+      | else-not-is_empty w ↦ subst (AllByRecursion read) (sym (w.sources-is ∙ nil_from_length c.args.sources.now (eqb-true _ _ (sym w.if-not-is_empty.ensures)))) tt
+    ]
+
+pub returns-clause-short : goal.returns-clause-short
+returns-clause-short g c =
+    let short : g.row.S.Denot → Type 0 = λ s. g.S.Source.tells s ≡ true → length (g.S.Source.left s) ≤ c.args.session.now.limits.max_source_bytes in
+    elim c.if-not-is_empty.branch [
+      | then-not-is_empty+in_ok-clean_source w ↦ all_of_one short c.args.sources.now w.index-sources-0.result c.requires.one w.in_ok-clean_source.ensures.short
+      | else-not-is_empty w ↦ subst (AllByRecursion short) (sym (nil_from_length c.args.sources.now (eqb-true _ _ (sym w.if-not-is_empty.ensures)))) tt
+    ]
+
+pub returns-clause-sources_later : goal.returns-clause-sources_later
+returns-clause-sources_later g c = elim c.if-not-is_empty.branch [
+  | then-not-is_empty+in_ok-clean_source w ↦
+      subst (Later g.S.Source.faults c.args.sources.now) (sym w.sources-is) (later_first g.S.Source.faults c.args.sources.now w.index-sources-0.result w.clean_source.new.source w.clean_source.ensures.later)
+  | else-not-is_empty w ↦ subst (Later g.S.Source.faults c.args.sources.now) (sym w.sources-is) (later_same g.S.Source.faults c.args.sources.now)
+]

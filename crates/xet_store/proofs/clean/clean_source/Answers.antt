@@ -1,4 +1,4 @@
-use Rattle.std.proofs.Common.{◌≡◌, ◌≢◌, ◌∙◌, [], ◌∷◌, ℕ, zero, suc, ◌<◌, ◌≤◌, Option, List, length, map, Some, Vec, IsSome, refl, ap, subst, sym, arith}
+use Rattle.std.proofs.Common.{◌≡◌, ◌≢◌, ◌∙◌, [], ◌∷◌, ℕ, zero, suc, ◌<◌, ◌≤◌, Option, List, length, map, Some, Vec, IsSome, refl, ap, subst, sym, arith, take}
 use Rattle.std.specs.List.{AllByRecursion}
 use Rattle.xet_hash.specs.Merkle.{chunk_hash, file_hash, members_of, total_len}
 use Rattle.xet_chunk.specs.declared.chunk.Chunk.{Chunk}
@@ -8,14 +8,16 @@ use Rattle.sha2.specs.Sha256.{sha256}
 use Rattle.std.specs.Global.{Global}
 use Rattle.std.specs.Vec.{vec_len}
 use Rattle.std.proofs.lemmas.Bool.{eqb-false, eqb-true}
-use Rattle.std.proofs.lemmas.List.{length-map, nil_from_length}
+use Rattle.std.proofs.lemmas.List.{length-map, nil_from_length, take_all}
 use Rattle.xet_hash.specs.Hash.{zero_hash}
 use Rattle.xet_shard.specs.declared.record.FileDataSequenceEntry.{FileDataSequenceEntry as Segment}
 use Rattle.xet_shard.specs.declared.record.MDBFileInfo.{MDBFileInfo}
 use Rattle.xet_shard.specs.Records as record_of
 use Rattle.xet_folder.specs.Plan.{Joins}
 use Rattle.xet_folder.specs.Xorbs.{IsListed, Records, found}
-use Rattle.xet_store.specs.Cleaning.{Adds, AddsPending, Keeps}
+use Rattle.xet_store.specs.Cleaning.{Adds, Keeps}
+use Rattle.xet_store.specs.Packing.{packs}
+use Rattle.xet_store.specs.Tables.{tables_of, whole_segment, with_record, with_xorbs}
 use Rattle.xet_store.specs.Cut.{cut}
 use Rattle.xet_store.specs.Records.{file_record}
 use Rattle.xet_store.specs.Steps.{ListsXorbs}
@@ -23,7 +25,7 @@ use Rattle.xet_store.specs.Store.{State, plan_of}
 use Rattle.xet_store.proofs.Keeping.{keeps_nothing, keeps_then}
 use Rattle.xet_store.proofs.Packing.{lists_more, lists_none}
 use Rattle.xet_store.proofs.Files.{plan_empty, plan_some}
-use Rattle.xet_store.proofs.NewRecords.{record_of_one, record_pending, same_pending}
+use Rattle.xet_store.proofs.Storing.{cut_none, left_some, made_record, with_none, with_some}
 use Rattle.xet_store.proofs.Recording.{adds_nothing, new_file}
 use Rattle.xet_store.proofs.MadeChunks.{cut_fits, made_told, made_bytes, made_digests, made_members}
 use Rattle.xet_store.proofs.clean.clean_source.Goals as goal
@@ -31,6 +33,9 @@ use Rattle.xet_store.proofs.clean.clean_source.Goals.{then-not-is_empty+in_ok-pl
 
 nil_of : (v : Vec Chunk Global) → vec_len v ≡ 0 → v.items ≡ []
 nil_of v e = nil_from_length v.items (omega (arith, e, v.ok))
+
+some_left : (v : Vec Chunk Global) → vec_len v ≢ 0 → v.items ≡ [] → ⊥
+some_left v some none = let l : length v.items ≡ 0 = ap length none in some (omega (arith, l, v.ok))
 
 pub add_xorbs-requires-clause-digests : goal.add_xorbs-requires-clause-digests
 add_xorbs-requires-clause-digests g c = λ κs met.
@@ -45,35 +50,14 @@ add_xorbs-requires-clause-fit g c = λ κs met.
 pub returns-in_err-bytes-clause-keeps : goal.returns-in_err-bytes-clause-keeps
 returns-in_err-bytes-clause-keeps g c = keeps_nothing c.args.session.now
 
-pub returns-in_err-bytes-clause-pending : goal.returns-in_err-bytes-clause-pending
-returns-in_err-bytes-clause-pending g c = λ told. same_pending c.args.session.now.limits (g.S.Source.left c.args.source.now ∷ []) c.args.session.now.pending c.args.session.now.pending refl
-
 pub returns-in_err-chunks-clause-keeps : goal.returns-in_err-chunks-clause-keeps
 returns-in_err-chunks-clause-keeps g c = keeps_nothing c.args.session.now
-
-pub returns-in_err-chunks-clause-pending : goal.returns-in_err-chunks-clause-pending
-returns-in_err-chunks-clause-pending g c = λ told. same_pending c.args.session.now.limits (g.S.Source.left c.args.source.now ∷ []) c.args.session.now.pending c.args.session.now.pending refl
 
 pub returns-in_err-members-clause-keeps : goal.returns-in_err-members-clause-keeps
 returns-in_err-members-clause-keeps g c = keeps_nothing c.args.session.now
 
-pub returns-in_err-members-clause-pending : goal.returns-in_err-members-clause-pending
-returns-in_err-members-clause-pending g c = λ told. same_pending c.args.session.now.limits (g.S.Source.left c.args.source.now ∷ []) c.args.session.now.pending c.args.session.now.pending refl
-
 pub returns-in_err-hash-clause-keeps : goal.returns-in_err-hash-clause-keeps
 returns-in_err-hash-clause-keeps g c = keeps_nothing c.args.session.now
-
-pub returns-in_err-hash-clause-pending : goal.returns-in_err-hash-clause-pending
-returns-in_err-hash-clause-pending g c = λ told. same_pending c.args.session.now.limits (g.S.Source.left c.args.source.now ∷ []) c.args.session.now.pending c.args.session.now.pending refl
-
-pub returns-in_err-plan-clause-pending : goal.returns-in_err-plan-clause-pending
-returns-in_err-plan-clause-pending g c = λ told. same_pending c.args.session.now.limits (g.S.Source.left c.args.source.now ∷ []) c.args.session.now.pending c.add_xorbs.new.session.pending c.add_xorbs.ensures.files
-
-pub returns-in_err-file_record-clause-pending : goal.returns-in_err-file_record-clause-pending
-returns-in_err-file_record-clause-pending g c = λ told. same_pending c.args.session.now.limits (g.S.Source.left c.args.source.now ∷ []) c.args.session.now.pending c.add_xorbs.new.session.pending c.add_xorbs.ensures.files
-
-pub returns-in_err-add_file-clause-pending : goal.returns-in_err-add_file-clause-pending
-returns-in_err-add_file-clause-pending g c = λ told. same_pending c.args.session.now.limits (g.S.Source.left c.args.source.now ∷ []) c.args.session.now.pending c.add_file.new.self.pending (ap (λ (s : State). s.pending.files) c.in_err-add_file.ensures.err ∙ c.add_xorbs.ensures.files)
 
 some_of : (n m : ℕ) → n ≡ m → m ≢ 0 → 0 < n
 some_of zero m e some = absurd (some (sym e))
@@ -158,20 +142,90 @@ returns-clause-adds g c =
       | else-not-is_empty w ↦ subst (λ (s : State). Adds old s.records (hash ∷ [])) (sym w.session-is) (adds_nothing old hash)
     ]
 
-pub returns-clause-pending : goal.returns-clause-pending
-returns-clause-pending g c = λ told.
-    let l = c.args.session.now.limits in
-    let left = g.S.Source.left c.args.source.now in
-    let bytes : c.in_ok-bytes.bytes.items ≡ left = c.in_ok-bytes.ensures.bytes told in
-    let chunks : c.in_ok-chunks.chunks.items ≡ map chunk_of (cut l left) =
-    made_told l c.limits.result.now left c.in_ok-bytes.bytes.items c.in_ok-chunks.chunks.items c.in_ok-chunks.ensures.chunks c.limits.ensures bytes in
-    let members = c.in_ok-members.ensures.members ∙ ap (map chunk_member) (c.deref.ensures.value ∙ chunks) ∙ made_members (cut l left) in
-    let digest = c.from_bytes-sha256.ensures ∙ c.into.ensures ∙ c.digest.ensures ∙ ap sha256 bytes in
+pub returns-in_err-bytes-clause-some : goal.returns-in_err-bytes-clause-some
+returns-in_err-bytes-clause-some g c =
+    left_some (g.S.Source.tells c.args.source.now) (g.S.Source.left c.args.source.now) c.args.session.now.limits (tables_of c.args.session.now) (tables_of c.args.session.now) (g.S.Source.left c.args.source.now) 0 _ (λ told. refl) refl
+
+pub returns-in_err-chunks-clause-some : goal.returns-in_err-chunks-clause-some
+returns-in_err-chunks-clause-some g c =
+    left_some (g.S.Source.tells c.args.source.now) (g.S.Source.left c.args.source.now) c.args.session.now.limits (tables_of c.args.session.now) (tables_of c.args.session.now) (g.S.Source.left c.args.source.now) 0 _ (λ told. refl) refl
+
+pub returns-in_err-members-clause-some : goal.returns-in_err-members-clause-some
+returns-in_err-members-clause-some g c =
+    left_some (g.S.Source.tells c.args.source.now) (g.S.Source.left c.args.source.now) c.args.session.now.limits (tables_of c.args.session.now) (tables_of c.args.session.now) (g.S.Source.left c.args.source.now) 0 _ (λ told. refl) refl
+
+pub returns-in_err-hash-clause-some : goal.returns-in_err-hash-clause-some
+returns-in_err-hash-clause-some g c =
+    left_some (g.S.Source.tells c.args.source.now) (g.S.Source.left c.args.source.now) c.args.session.now.limits (tables_of c.args.session.now) (tables_of c.args.session.now) (g.S.Source.left c.args.source.now) 0 _ (λ told. refl) refl
+
+pub returns-in_err-plan-clause-shards : goal.returns-in_err-plan-clause-shards
+returns-in_err-plan-clause-shards g c = c.add_xorbs.ensures.shards
+
+pub returns-in_err-file_record-clause-shards : goal.returns-in_err-file_record-clause-shards
+returns-in_err-file_record-clause-shards g c = c.add_xorbs.ensures.shards
+
+pub returns-in_err-add_file-clause-shards : goal.returns-in_err-add_file-clause-shards
+returns-in_err-add_file-clause-shards g c = c.add_file.ensures.shards ∙ c.add_xorbs.ensures.shards
+
+pub returns-in_err-plan-clause-some : goal.returns-in_err-plan-clause-some
+returns-in_err-plan-clause-some g c =
+    let bytes = c.in_ok-bytes.bytes.items in
+    let limits = c.args.session.now.limits in
+    let blocks : map bytes_of c.deref-then-not-is_empty.result.now ≡ cut limits bytes =
+    ap (map bytes_of) (c.deref-then-not-is_empty.ensures.value ∙ c.in_ok-chunks.ensures.chunks ∙ ap (λ (l : LimitSettings). map chunk_of (cut l bytes)) c.limits.ensures) ∙ made_bytes (cut limits bytes) in
+    let some = c.in_err-plan.ensures.some in
+    left_some (g.S.Source.tells c.args.source.now) (g.S.Source.left c.args.source.now) c.args.session.now.limits (tables_of c.args.session.now) (tables_of c.add_xorbs.new.session) bytes some.0 _ c.in_ok-bytes.ensures.bytes
+    (some.1 ∙ ap (λ (b : List (List ℕ)). with_xorbs (tables_of c.args.session.now) (take some.0 (packs limits b))) blocks)
+
+pub returns-in_err-file_record-clause-some : goal.returns-in_err-file_record-clause-some
+returns-in_err-file_record-clause-some g c =
+    let bytes = c.in_ok-bytes.bytes.items in
+    let limits = c.args.session.now.limits in
+    let blocks : map bytes_of c.deref-then-not-is_empty.result.now ≡ cut limits bytes =
+    ap (map bytes_of) (c.deref-then-not-is_empty.ensures.value ∙ c.in_ok-chunks.ensures.chunks ∙ ap (λ (l : LimitSettings). map chunk_of (cut l bytes)) c.limits.ensures) ∙ made_bytes (cut limits bytes) in
+    left_some (g.S.Source.tells c.args.source.now) (g.S.Source.left c.args.source.now) c.args.session.now.limits (tables_of c.args.session.now) (tables_of c.add_xorbs.new.session) bytes (length (packs limits (cut limits bytes))) _ c.in_ok-bytes.ensures.bytes
+    (c.in_ok-plan.ensures.stores ∙ ap (λ (b : List (List ℕ)). with_xorbs (tables_of c.args.session.now) (packs limits b)) blocks ∙ ap (with_xorbs (tables_of c.args.session.now)) (sym (take_all (length (packs limits (cut limits bytes))) (packs limits (cut limits bytes)) (omega arith))))
+
+pub returns-in_err-add_file-clause-some : goal.returns-in_err-add_file-clause-some
+returns-in_err-add_file-clause-some g c =
+    let bytes = c.in_ok-bytes.bytes.items in
+    let limits = c.args.session.now.limits in
+    let blocks : map bytes_of c.deref-then-not-is_empty.result.now ≡ cut limits bytes =
+    ap (map bytes_of) (c.deref-then-not-is_empty.ensures.value ∙ c.in_ok-chunks.ensures.chunks ∙ ap (λ (l : LimitSettings). map chunk_of (cut l bytes)) c.limits.ensures) ∙ made_bytes (cut limits bytes) in
+    left_some (g.S.Source.tells c.args.source.now) (g.S.Source.left c.args.source.now) c.args.session.now.limits (tables_of c.args.session.now) (tables_of c.add_file.new.self) bytes (length (packs limits (cut limits bytes))) _ c.in_ok-bytes.ensures.bytes
+    (ap tables_of c.in_err-add_file.ensures.err ∙ c.in_ok-plan.ensures.stores ∙ ap (λ (b : List (List ℕ)). with_xorbs (tables_of c.args.session.now) (packs limits b)) blocks
+    ∙ ap (with_xorbs (tables_of c.args.session.now)) (sym (take_all (length (packs limits (cut limits bytes))) (packs limits (cut limits bytes)) (omega arith))))
+
+pub returns-clause-shards : goal.returns-clause-shards
+returns-clause-shards g c = elim c.if-not-is_empty.branch [
+  | then-not-is_empty+in_ok-plan+in_ok-file_record+in_ok-add_file w ↦ ap (λ (s : State). s.shards) w.session-is ∙ w.add_file.ensures.shards ∙ w.add_xorbs.ensures.shards
+  | else-not-is_empty w ↦ ap (λ (s : State). s.shards) w.session-is
+]
+
+pub returns-clause-stores : goal.returns-clause-stores
+returns-clause-stores g c =
+    let bytes = c.in_ok-bytes.bytes.items in
+    let limits = c.args.session.now.limits in
+    let before = tables_of c.args.session.now in
+    let chunks : c.in_ok-chunks.chunks.items ≡ map chunk_of (cut limits bytes) = c.in_ok-chunks.ensures.chunks ∙ ap (λ (l : LimitSettings). map chunk_of (cut l bytes)) c.limits.ensures in
+    let members = c.in_ok-members.ensures.members ∙ ap (map chunk_member) (c.deref.ensures.value ∙ chunks) ∙ made_members (cut limits bytes) in
+    let digest = c.from_bytes-sha256.ensures ∙ c.into.ensures ∙ c.digest.ensures in
     elim c.if-not-is_empty.branch [
       | then-not-is_empty+in_ok-plan+in_ok-file_record+in_ok-add_file w ↦
-          let is = record_of_one l left _ _ _ _ w.in_ok-file_record.ensures.exact (w.deref-then-not-is_empty-2.ensures.value ∙ members) digest in
-          let added = record_pending l (left ∷ []) c.args.session.now.pending w.add_xorbs.new.session.records w.add_xorbs.new.session.pending _ w.add_xorbs.ensures.files is in
-          subst (λ (s : State). AddsPending l (left ∷ []) c.args.session.now.pending s.pending) (sym w.session-is)
-          (subst (AddsPending l (left ∷ []) c.args.session.now.pending) (sym w.in_ok-add_file.ensures.pending) added)
-      | else-not-is_empty w ↦ same_pending l (left ∷ []) c.args.session.now.pending c.if-not-is_empty.session.pending (ap (λ (s : State). s.pending.files) w.session-is)
+          let blocks : map bytes_of w.deref-then-not-is_empty.result.now ≡ cut limits bytes = ap (map bytes_of) (w.deref-then-not-is_empty.ensures.value ∙ chunks) ∙ made_bytes (cut limits bytes) in
+          let plan : w.in_ok-plan.plan.items ≡ map whole_segment (packs limits (cut limits bytes)) = w.in_ok-plan.ensures.plan ∙ ap (λ (b : List (List ℕ)). map whole_segment (packs limits b)) blocks in
+          let file = made_record limits bytes w.in_ok-file_record.field-0 w.deref-then-not-is_empty-2.result.now w.in_ok-plan.plan.items c.from_bytes-sha256.result w.in_ok-file_record.ensures.exact
+          (w.deref-then-not-is_empty-2.ensures.value ∙ members) plan digest in
+          let after = w.in_ok-plan.ensures.stores ∙ ap (λ (b : List (List ℕ)). with_xorbs before (packs limits b)) blocks in
+          let some : bytes ≢ [] = λ none.
+          let empty : c.in_ok-chunks.chunks.items ≡ [] = chunks ∙ ap (map chunk_of) (cut_none limits bytes none) in
+          some_left c.in_ok-chunks.chunks (eqb-false _ _ (sym w.if-not-is_empty.ensures)) empty in (
+            bytes,
+            c.in_ok-bytes.ensures.bytes,
+            ap tables_of w.session-is ∙ w.in_ok-add_file.ensures.stores ∙ (λ i. with_record (after i) (file i)) ∙ with_some limits before bytes some,
+          )
+      | else-not-is_empty w ↦
+          let none : c.in_ok-chunks.chunks.items ≡ [] = nil_of c.in_ok-chunks.chunks (eqb-true _ _ (sym w.if-not-is_empty.ensures)) in
+          let empty : length bytes ≡ 0 = sym c.in_ok-chunks.ensures.total ∙ ap total none in
+          (bytes, c.in_ok-bytes.ensures.bytes, ap tables_of w.session-is ∙ with_none limits before bytes (nil_from_length bytes empty))
     ]

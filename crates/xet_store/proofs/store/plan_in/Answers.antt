@@ -1,6 +1,7 @@
-use Rattle.std.proofs.Common.{◌≡◌, ◌∙◌, ℕ, List, true, false, Some, sym, ap, nat_eq, refl}
+use Rattle.std.proofs.Common.{◌≡◌, ◌∙◌, ℕ, List, true, false, Option, Some, option_map, sym, ap, nat_eq, refl}
 use Rattle.std.specs.Cmp.Lexicographic.{pointwise}
 use Rattle.xet_hash.specs.Hash.{zero_hash}
+use Rattle.xet_shard.specs.declared.record.MDBFileInfo.{MDBFileInfo}
 use Rattle.xet_store.specs.Store.{plan_of}
 use Rattle.xet_store.proofs.store.plan_in.Goals as goal
 
@@ -14,10 +15,10 @@ pub returns-in-Some : goal.returns-in-Some
 unfolding plan_of
 returns-in-Some c =
     let test : pointwise nat_eq c.args.hash.now zero_hash ≡ false = ap (λ (d : List ℕ). pointwise nat_eq c.args.hash.now d) (sym c.default.ensures) ∙ sym c.eq.ensures ∙ c.if-eq.false in
-    rw (test, plan_of) (ap Some c.as_slice.ensures ∙ c.in-Some.ensures.value)
+    rw (test, plan_of) (ap Some c.as_slice.ensures ∙ ap (λ (o : Option MDBFileInfo). option_map (λ (f : MDBFileInfo). f.segments) o) c.in-Some.ensures.value)
 
 pub returns-in-None : goal.returns-in-None
 unfolding plan_of
 returns-in-None c =
     let test : pointwise nat_eq c.args.hash.now zero_hash ≡ false = ap (λ (d : List ℕ). pointwise nat_eq c.args.hash.now d) (sym c.default.ensures) ∙ sym c.eq.ensures ∙ c.if-eq.false in
-    rw (test, plan_of) c.in-None.ensures.value
+    rw (test, plan_of) (ap (λ (o : Option MDBFileInfo). option_map (λ (f : MDBFileInfo). f.segments) o) c.in-None.ensures.value)

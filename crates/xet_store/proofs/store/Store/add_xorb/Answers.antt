@@ -1,20 +1,19 @@
-use Rattle.std.proofs.Common.{◌≡◌, ◌∙◌, ℕ, List, length, map, Some, None, true, refl, sym, ap, subst, rules, arith}
-use Rattle.xet_io.specs.Disk.{bytes_at}
+use Rattle.std.proofs.Common.{◌≡◌, ◌∙◌, ℕ, List, length, map, inr, Some, None, true, refl, sym, ap, subst, rules, arith}
 use Rattle.xet_hash.specs.Merkle.{xorb_hash}
 use Rattle.xet_chunk.specs.Chunks.{chunk_member}
 use Rattle.xet_shard.specs.declared.record.MDBXorbInfo.{MDBXorbInfo}
-use Rattle.xet_shard.specs.Held.{held, with_last}
+use Rattle.xet_shard.specs.Held.{Held, held, with_last}
 use Rattle.xet_shard.specs.Records as record_of
-use Rattle.xet_folder.specs.Names.{xorb_path}
 use Rattle.xet_folder.specs.Stored.{IsBacked}
-use Rattle.xet_folder.specs.Xorbs.{found}
-use Rattle.xet_store.specs.Records.{xorb_record}
+use Rattle.xet_folder.specs.Xorbs.{Xorbs, found}
 use Rattle.xet_store.specs.Store.{State}
-use Rattle.xet_store.proofs.Adding.{backed_by_text, block_listed, block_pending, keeps_added_at, listed_at, parts_fit, raw_block, raw_hash, raw_text, same_members, sound_added_at, true_from}
+use Rattle.xet_store.specs.Tables.{tables, tables_of}
+use Rattle.xet_store.proofs.Answering.{on_err}
+use Rattle.xet_store.proofs.Adding.{PutsXorb, backed_by_text, listed_at, members_below, parts_fit, put_keeps, put_sound, put_tables, raw_block, raw_hash, raw_text, same_members, tables_by_chunks, tables_listed, true_from, unput_keeps, unput_sound}
 use Rattle.xet_store.proofs.Keeping.{keeps_nothing}
 use Rattle.xet_store.proofs.Pending.{few_blocks_of, xorb_form_of}
 use Rattle.xet_store.proofs.Rows.{recorded_at}
-use Rattle.xet_store.proofs.Staying.{keeps_refused, keeps_unchanged, sound_refused, stays_xorb}
+use Rattle.xet_store.proofs.Staying.{keeps_unchanged}
 use Rattle.xet_store.proofs.store.Store.add_xorb.Goals as goal
 
 pub returns-in_err-members-clause-keeps : goal.returns-in_err-members-clause-keeps
@@ -38,6 +37,12 @@ returns-then-eq-clause-keeps g c = keeps_nothing c.args.self.now
 pub returns-in_err-block-clause-keeps : goal.returns-in_err-block-clause-keeps
 returns-in_err-block-clause-keeps g c = keeps_nothing c.args.self.now
 
+pub from_vec-requires : goal.from_vec-requires
+from_vec-requires g c = members_below c.in_ok-members.members.items c.args.chunks.now c.in_ok-members.ensures.members c.requires.count c.requires.bytes
+
+pub returns-in_err-listed-clause-keeps : goal.returns-in_err-listed-clause-keeps
+returns-in_err-listed-clause-keeps g c = keeps_nothing c.args.self.now
+
 pub returns-in_err-built-clause-keeps : goal.returns-in_err-built-clause-keeps
 returns-in_err-built-clause-keeps g c = keeps_nothing c.args.self.now
 
@@ -49,33 +54,72 @@ returns-in-Some-clause-listed g c =
     let members = sym c.as_slice.ensures ∙ same ∙ c.as_slice-in-Some.ensures.value ∙ c.in_ok-members.ensures.members in
     (is_hash, ap (λ (s : State). found s.xorbs h) (sym c.self.view_is) ∙ sym c.in-Some.ensures.value ∙ ap Some members)
 
-pub returns-in-Some-clause-pending : goal.returns-in-Some-clause-pending
-returns-in-Some-clause-pending g c =
+pub returns-in-Some-clause-stores : goal.returns-in-Some-clause-stores
+returns-in-Some-clause-stores g c =
     let h = c.hash-hash.result in
-    block_listed c.args.self.now h _ c.in-Some.listed.now (ap (λ (s : State). found s.xorbs h) (sym c.self.view_is) ∙ sym c.in-Some.ensures.value)
+    let chunks = c.args.chunks.now in
+    let is_hash : h ≡ xorb_hash (map chunk_member chunks) = raw_hash c.in_ok-raw.raw chunks _ c.in_ok-raw.ensures.exact h c.hash-hash.ensures in
+    tables_listed c.args.self.now h (map chunk_member chunks) c.in-Some.listed.now (ap (λ (s : State). found s.xorbs h) (sym c.self.view_is) ∙ sym c.in-Some.ensures.value)
+    ∙ tables_by_chunks (tables_of c.args.self.now) h (map chunk_member chunks) chunks c.requires.digests is_hash refl
 
 pub returns-in_err-reserve-clause-keeps : goal.returns-in_err-reserve-clause-keeps
 returns-in_err-reserve-clause-keeps g c = keeps_unchanged _ _ c.self.invariant c.self.view_is c.reserve.ensures.entries refl refl refl
 
+pub returns-in_err-reserve-clause-kept : goal.returns-in_err-reserve-clause-kept
+returns-in_err-reserve-clause-kept g c =
+    on_err _ (ap (λ (x : Xorbs). tables x c.self.inside.records.entries c.self.inside.pending) c.reserve.ensures.entries ∙ ap tables_of c.self.view_is)
+
 pub invariant_of-self-in_err-put_xorb : goal.invariant_of-self-in_err-put_xorb
 invariant_of-self-in_err-put_xorb g c =
     let h = c.hash-hash.result in
+    let chunks = c.args.chunks.now in
     let files = g.D.Disk.files c.put_xorb.new.disk in
-    let faults = g.D.Disk.faults c.put_xorb.new.disk in
-    let none : found c.self.inside.xorbs.entries h ≡ None = sym c.in_default.ensures.value in
-    let stays = stays_xorb _ c.as_str.result.now h _ files faults c.self.invariant c.as_str.ensures c.put_xorb.ensures.tells c.put_xorb.ensures.later none
-    c.put_xorb.ensures.xorbs c.put_xorb.ensures.shards c.put_xorb.ensures.foreign in
-    sound_refused _ _ files faults stays c.self.invariant c.reserve.ensures.entries refl refl refl
+    let is_hash : h ≡ xorb_hash (map chunk_member chunks) = raw_hash c.in_ok-raw.raw chunks _ c.in_ok-raw.ensures.exact h c.hash-hash.ensures in
+    let put : PutsXorb _ c.as_str.result.now h c.as_slice-2.result.now c.in_ok-members.members.items _ files (g.D.Disk.faults c.put_xorb.new.disk) = record {
+      sound = c.self.invariant;
+      same = c.as_str.ensures;
+      tells_same = c.put_xorb.ensures.tells;
+      later = c.put_xorb.ensures.later;
+      none = sym c.in_default.ensures.value;
+      xorbs = c.put_xorb.ensures.xorbs;
+      shards = c.put_xorb.ensures.shards;
+      foreign = c.put_xorb.ensures.foreign;
+      backs = λ there.
+          subst (λ (m : List (List ℕ × ℕ)). IsBacked files c.self.inside.folder h m) (sym c.in_ok-members.ensures.members)
+          (backed_by_text files c.self.inside.folder h c.in_ok-built.built.serialized_data chunks c.requires.digests c.requires.small
+          (raw_text c.in_ok-raw.raw chunks _ c.in_ok-raw.ensures.exact h c.hash-hash.ensures c.in_ok-built.built.serialized_data c.requires.digests c.requires.some c.in_ok-raw.ensures.members (c.in_ok-built.ensures.grammar refl))
+          is_hash (there ∙ ap Some c.as_slice-2.ensures));
+      left = c.in_err-put_xorb.ensures.refused;
+    } in
+    unput_sound put c.reserve.ensures.entries refl refl refl
 
 pub returns-in_err-put_xorb-clause-keeps : goal.returns-in_err-put_xorb-clause-keeps
 returns-in_err-put_xorb-clause-keeps g c =
     let h = c.hash-hash.result in
+    let chunks = c.args.chunks.now in
     let files = g.D.Disk.files c.put_xorb.new.disk in
-    let faults = g.D.Disk.faults c.put_xorb.new.disk in
-    let none : found c.self.inside.xorbs.entries h ≡ None = sym c.in_default.ensures.value in
-    let stays = stays_xorb _ c.as_str.result.now h _ files faults c.self.invariant c.as_str.ensures c.put_xorb.ensures.tells c.put_xorb.ensures.later none
-    c.put_xorb.ensures.xorbs c.put_xorb.ensures.shards c.put_xorb.ensures.foreign in
-    keeps_refused _ _ files faults stays c.self.invariant _ c.self.view_is c.reserve.ensures.entries refl refl refl
+    let is_hash : h ≡ xorb_hash (map chunk_member chunks) = raw_hash c.in_ok-raw.raw chunks _ c.in_ok-raw.ensures.exact h c.hash-hash.ensures in
+    let put : PutsXorb _ c.as_str.result.now h c.as_slice-2.result.now c.in_ok-members.members.items _ files (g.D.Disk.faults c.put_xorb.new.disk) = record {
+      sound = c.self.invariant;
+      same = c.as_str.ensures;
+      tells_same = c.put_xorb.ensures.tells;
+      later = c.put_xorb.ensures.later;
+      none = sym c.in_default.ensures.value;
+      xorbs = c.put_xorb.ensures.xorbs;
+      shards = c.put_xorb.ensures.shards;
+      foreign = c.put_xorb.ensures.foreign;
+      backs = λ there.
+          subst (λ (m : List (List ℕ × ℕ)). IsBacked files c.self.inside.folder h m) (sym c.in_ok-members.ensures.members)
+          (backed_by_text files c.self.inside.folder h c.in_ok-built.built.serialized_data chunks c.requires.digests c.requires.small
+          (raw_text c.in_ok-raw.raw chunks _ c.in_ok-raw.ensures.exact h c.hash-hash.ensures c.in_ok-built.built.serialized_data c.requires.digests c.requires.some c.in_ok-raw.ensures.members (c.in_ok-built.ensures.grammar refl))
+          is_hash (there ∙ ap Some c.as_slice-2.ensures));
+      left = c.in_err-put_xorb.ensures.refused;
+    } in
+    unput_keeps put c.reserve.ensures.entries refl refl refl _ c.self.view_is
+
+pub returns-in_err-put_xorb-clause-kept : goal.returns-in_err-put_xorb-clause-kept
+returns-in_err-put_xorb-clause-kept g c =
+    on_err _ (ap (λ (x : Xorbs). tables x c.self.inside.records.entries c.self.inside.pending) c.reserve.ensures.entries ∙ ap tables_of c.self.view_is)
 
 pub add_xorb_block-requires-clause-form : goal.add_xorb_block-requires-clause-form
 add_xorb_block-requires-clause-form g c =
@@ -92,63 +136,118 @@ add_xorb_block-requires-clause-few g c =
 pub invariant_of-self-in_err-add_xorb_block : goal.invariant_of-self-in_err-add_xorb_block
 invariant_of-self-in_err-add_xorb_block g c =
     let h = c.hash-hash.result in
+    let chunks = c.args.chunks.now in
     let files = g.D.Disk.files c.put_xorb.new.disk in
-    let faults = g.D.Disk.faults c.put_xorb.new.disk in
-    let none : found c.self.inside.xorbs.entries h ≡ None = sym c.in_default.ensures.value in
-    let stays = stays_xorb _ c.as_str.result.now h _ files faults c.self.invariant c.as_str.ensures c.put_xorb.ensures.tells c.put_xorb.ensures.later none
-    c.put_xorb.ensures.xorbs c.put_xorb.ensures.shards c.put_xorb.ensures.foreign in
-    sound_refused _ _ files faults stays c.self.invariant c.reserve.ensures.entries refl refl c.in_err-add_xorb_block.ensures.kept
+    let is_hash : h ≡ xorb_hash (map chunk_member chunks) = raw_hash c.in_ok-raw.raw chunks _ c.in_ok-raw.ensures.exact h c.hash-hash.ensures in
+    let put : PutsXorb _ c.as_str.result.now h c.as_slice-2.result.now c.in_ok-members.members.items _ files (g.D.Disk.faults c.put_xorb.new.disk) = record {
+      sound = c.self.invariant;
+      same = c.as_str.ensures;
+      tells_same = c.put_xorb.ensures.tells;
+      later = c.put_xorb.ensures.later;
+      none = sym c.in_default.ensures.value;
+      xorbs = c.put_xorb.ensures.xorbs;
+      shards = c.put_xorb.ensures.shards;
+      foreign = c.put_xorb.ensures.foreign;
+      backs = λ there.
+          subst (λ (m : List (List ℕ × ℕ)). IsBacked files c.self.inside.folder h m) (sym c.in_ok-members.ensures.members)
+          (backed_by_text files c.self.inside.folder h c.in_ok-built.built.serialized_data chunks c.requires.digests c.requires.small
+          (raw_text c.in_ok-raw.raw chunks _ c.in_ok-raw.ensures.exact h c.hash-hash.ensures c.in_ok-built.built.serialized_data c.requires.digests c.requires.some c.in_ok-raw.ensures.members (c.in_ok-built.ensures.grammar refl))
+          is_hash (there ∙ ap Some c.as_slice-2.ensures));
+      left = λ told. inr (c.in_ok-put_xorb.ensures.there told);
+    } in
+    unput_sound put c.reserve.ensures.entries refl refl c.in_err-add_xorb_block.ensures.kept
 
 pub returns-in_err-add_xorb_block-clause-keeps : goal.returns-in_err-add_xorb_block-clause-keeps
 returns-in_err-add_xorb_block-clause-keeps g c =
     let h = c.hash-hash.result in
+    let chunks = c.args.chunks.now in
     let files = g.D.Disk.files c.put_xorb.new.disk in
-    let faults = g.D.Disk.faults c.put_xorb.new.disk in
-    let none : found c.self.inside.xorbs.entries h ≡ None = sym c.in_default.ensures.value in
-    let stays = stays_xorb _ c.as_str.result.now h _ files faults c.self.invariant c.as_str.ensures c.put_xorb.ensures.tells c.put_xorb.ensures.later none
-    c.put_xorb.ensures.xorbs c.put_xorb.ensures.shards c.put_xorb.ensures.foreign in
-    keeps_refused _ _ files faults stays c.self.invariant _ c.self.view_is c.reserve.ensures.entries refl refl c.in_err-add_xorb_block.ensures.kept
+    let is_hash : h ≡ xorb_hash (map chunk_member chunks) = raw_hash c.in_ok-raw.raw chunks _ c.in_ok-raw.ensures.exact h c.hash-hash.ensures in
+    let put : PutsXorb _ c.as_str.result.now h c.as_slice-2.result.now c.in_ok-members.members.items _ files (g.D.Disk.faults c.put_xorb.new.disk) = record {
+      sound = c.self.invariant;
+      same = c.as_str.ensures;
+      tells_same = c.put_xorb.ensures.tells;
+      later = c.put_xorb.ensures.later;
+      none = sym c.in_default.ensures.value;
+      xorbs = c.put_xorb.ensures.xorbs;
+      shards = c.put_xorb.ensures.shards;
+      foreign = c.put_xorb.ensures.foreign;
+      backs = λ there.
+          subst (λ (m : List (List ℕ × ℕ)). IsBacked files c.self.inside.folder h m) (sym c.in_ok-members.ensures.members)
+          (backed_by_text files c.self.inside.folder h c.in_ok-built.built.serialized_data chunks c.requires.digests c.requires.small
+          (raw_text c.in_ok-raw.raw chunks _ c.in_ok-raw.ensures.exact h c.hash-hash.ensures c.in_ok-built.built.serialized_data c.requires.digests c.requires.some c.in_ok-raw.ensures.members (c.in_ok-built.ensures.grammar refl))
+          is_hash (there ∙ ap Some c.as_slice-2.ensures));
+      left = λ told. inr (c.in_ok-put_xorb.ensures.there told);
+    } in
+    unput_keeps put c.reserve.ensures.entries refl refl c.in_err-add_xorb_block.ensures.kept _ c.self.view_is
+
+pub returns-in_err-add_xorb_block-clause-kept : goal.returns-in_err-add_xorb_block-clause-kept
+returns-in_err-add_xorb_block-clause-kept g c =
+    on_err _ (ap (λ (x : Xorbs). tables x c.self.inside.records.entries c.add_xorb_block.new.self) c.reserve.ensures.entries
+    ∙ ap (λ (p : Held). tables c.self.inside.xorbs.entries c.self.inside.records.entries p) c.in_err-add_xorb_block.ensures.kept ∙ ap tables_of c.self.view_is)
 
 pub invariant_of-self-2 : goal.invariant_of-self-2
 invariant_of-self-2 g c =
     let h = c.hash-hash.result in
+    let chunks = c.args.chunks.now in
     let files = g.D.Disk.files c.put_xorb.new.disk in
-    let faults = g.D.Disk.faults c.put_xorb.new.disk in
-    let none : found c.self.inside.xorbs.entries h ≡ None = sym c.in_default.ensures.value in
-    let stays = stays_xorb _ c.as_str.result.now h _ files faults c.self.invariant c.as_str.ensures c.put_xorb.ensures.tells c.put_xorb.ensures.later none
-    c.put_xorb.ensures.xorbs c.put_xorb.ensures.shards c.put_xorb.ensures.foreign in
+    let is_hash : h ≡ xorb_hash (map chunk_member chunks) = raw_hash c.in_ok-raw.raw chunks _ c.in_ok-raw.ensures.exact h c.hash-hash.ensures in
+    let put : PutsXorb _ c.as_str.result.now h c.as_slice-2.result.now c.in_ok-members.members.items _ files (g.D.Disk.faults c.put_xorb.new.disk) = record {
+      sound = c.self.invariant;
+      same = c.as_str.ensures;
+      tells_same = c.put_xorb.ensures.tells;
+      later = c.put_xorb.ensures.later;
+      none = sym c.in_default.ensures.value;
+      xorbs = c.put_xorb.ensures.xorbs;
+      shards = c.put_xorb.ensures.shards;
+      foreign = c.put_xorb.ensures.foreign;
+      backs = λ there.
+          subst (λ (m : List (List ℕ × ℕ)). IsBacked files c.self.inside.folder h m) (sym c.in_ok-members.ensures.members)
+          (backed_by_text files c.self.inside.folder h c.in_ok-built.built.serialized_data chunks c.requires.digests c.requires.small
+          (raw_text c.in_ok-raw.raw chunks _ c.in_ok-raw.ensures.exact h c.hash-hash.ensures c.in_ok-built.built.serialized_data c.requires.digests c.requires.some c.in_ok-raw.ensures.members (c.in_ok-built.ensures.grammar refl))
+          is_hash (there ∙ ap Some c.as_slice-2.ensures));
+      left = λ told. inr (c.in_ok-put_xorb.ensures.there told);
+    } in
     let members = c.in_ok-members.members.items in
-    let more = recorded_at c.self.inside.xorbs h h c.reserve.new.self.entries _ _ members refl c.from_vec.ensures none c.reserve.ensures.entries c.in_ok-insert.ensures.entries in
+    let none : found c.self.inside.xorbs.entries h ≡ None = sym c.in_default.ensures.value in
+    let more = recorded_at c.self.inside.xorbs h h c.reserve.new.self.entries _ _ members refl c.in_ok-listed.ensures.pairs none c.reserve.ensures.entries c.in_ok-insert.ensures.entries in
     let exact = raw_block c.in_ok-raw.raw c.args.chunks.now _ c.in_ok-raw.ensures.exact h c.hash-hash.ensures c.in_ok-block.block members c.in_ok-members.ensures.members c.in_ok-block.ensures.copy in
     let pending = c.in_ok-add_xorb_block.ensures.added ∙ ap (λ (b : MDBXorbInfo). held (with_last record_of.xorb_hash c.self.inside.pending.blocks b) c.self.inside.pending.files) exact in
-    sound_added_at _ h members _ files faults stays c.self.invariant more pending none (c.known_bytes.ensures.length, c.known_bytes.ensures.bytes) c.known.ensures
-    (λ told.
-    let is_hash : h ≡ xorb_hash (map chunk_member c.args.chunks.now) = raw_hash c.in_ok-raw.raw c.args.chunks.now _ c.in_ok-raw.ensures.exact h c.hash-hash.ensures in
-    let there = subst (λ (f : List ℕ). bytes_at files (xorb_path f h) ≡ Some c.as_slice-2.result.now) c.as_str.ensures (c.in_ok-put_xorb.ensures.there told) in
-    let text = raw_text c.in_ok-raw.raw c.args.chunks.now _ c.in_ok-raw.ensures.exact h c.hash-hash.ensures c.in_ok-built.built.serialized_data c.requires.digests c.requires.some c.in_ok-raw.ensures.members
-    (c.in_ok-built.ensures.grammar refl) in
-    subst (λ (m : List (List ℕ × ℕ)). IsBacked files c.self.inside.folder h m) (sym c.in_ok-members.ensures.members)
-    (backed_by_text _ _ h c.in_ok-built.built.serialized_data c.args.chunks.now c.requires.digests c.requires.small text is_hash (there ∙ ap Some c.as_slice-2.ensures)))
+    put_sound put more pending (c.known_bytes.ensures.length, c.known_bytes.ensures.bytes) c.known.ensures c.in_ok-put_xorb.ensures.there
 
 pub returns : goal.returns
 returns g c =
     let h = c.hash-hash.result in
+    let chunks = c.args.chunks.now in
     let files = g.D.Disk.files c.put_xorb.new.disk in
-    let faults = g.D.Disk.faults c.put_xorb.new.disk in
-    let none : found c.self.inside.xorbs.entries h ≡ None = sym c.in_default.ensures.value in
-    let stays = stays_xorb _ c.as_str.result.now h _ files faults c.self.invariant c.as_str.ensures c.put_xorb.ensures.tells c.put_xorb.ensures.later none
-    c.put_xorb.ensures.xorbs c.put_xorb.ensures.shards c.put_xorb.ensures.foreign in
+    let is_hash : h ≡ xorb_hash (map chunk_member chunks) = raw_hash c.in_ok-raw.raw chunks _ c.in_ok-raw.ensures.exact h c.hash-hash.ensures in
+    let put : PutsXorb _ c.as_str.result.now h c.as_slice-2.result.now c.in_ok-members.members.items _ files (g.D.Disk.faults c.put_xorb.new.disk) = record {
+      sound = c.self.invariant;
+      same = c.as_str.ensures;
+      tells_same = c.put_xorb.ensures.tells;
+      later = c.put_xorb.ensures.later;
+      none = sym c.in_default.ensures.value;
+      xorbs = c.put_xorb.ensures.xorbs;
+      shards = c.put_xorb.ensures.shards;
+      foreign = c.put_xorb.ensures.foreign;
+      backs = λ there.
+          subst (λ (m : List (List ℕ × ℕ)). IsBacked files c.self.inside.folder h m) (sym c.in_ok-members.ensures.members)
+          (backed_by_text files c.self.inside.folder h c.in_ok-built.built.serialized_data chunks c.requires.digests c.requires.small
+          (raw_text c.in_ok-raw.raw chunks _ c.in_ok-raw.ensures.exact h c.hash-hash.ensures c.in_ok-built.built.serialized_data c.requires.digests c.requires.some c.in_ok-raw.ensures.members (c.in_ok-built.ensures.grammar refl))
+          is_hash (there ∙ ap Some c.as_slice-2.ensures));
+      left = λ told. inr (c.in_ok-put_xorb.ensures.there told);
+    } in
     let members = c.in_ok-members.members.items in
-    let more = recorded_at c.self.inside.xorbs h h c.reserve.new.self.entries _ _ members refl c.from_vec.ensures none c.reserve.ensures.entries c.in_ok-insert.ensures.entries in
+    let none : found c.self.inside.xorbs.entries h ≡ None = sym c.in_default.ensures.value in
+    let more = recorded_at c.self.inside.xorbs h h c.reserve.new.self.entries _ _ members refl c.in_ok-listed.ensures.pairs none c.reserve.ensures.entries c.in_ok-insert.ensures.entries in
     let exact = raw_block c.in_ok-raw.raw c.args.chunks.now _ c.in_ok-raw.ensures.exact h c.hash-hash.ensures c.in_ok-block.block members c.in_ok-members.ensures.members c.in_ok-block.ensures.copy in
     let pending = c.in_ok-add_xorb_block.ensures.added ∙ ap (λ (b : MDBXorbInfo). held (with_last record_of.xorb_hash c.self.inside.pending.blocks b) c.self.inside.pending.files) exact in
-    let is_hash : h ≡ xorb_hash (map chunk_member c.args.chunks.now) = raw_hash c.in_ok-raw.raw c.args.chunks.now _ c.in_ok-raw.ensures.exact h c.hash-hash.ensures in
     record {
-      keeps = keeps_added_at _ h members _ files faults stays c.self.invariant more pending _ c.self.view_is;
+      keeps = put_keeps put more pending _ c.self.view_is;
       records = search rules;
-      files = search rules;
+      shards = search rules;
       listed = (is_hash, listed_at c.self.inside.xorbs.entries _ h members more none ∙ ap Some c.in_ok-members.ensures.members);
-      pending = block_pending _ _ c.self.invariant c.self.view_is h (map chunk_member c.args.chunks.now) _ none
-          (pending ∙ ap (λ (ms : List (List ℕ × ℕ)). held (with_last record_of.xorb_hash c.self.inside.pending.blocks (xorb_record h ms)) c.self.inside.pending.files) c.in_ok-members.ensures.members);
+      stores = put_tables put more pending _ c.self.view_is chunks c.requires.digests is_hash c.in_ok-members.ensures.members;
+      kept = tt;
       reason = search rules;
     }

@@ -1,11 +1,14 @@
-use Rattle.std.proofs.Common.{◌∙◌, ◌<◌, ◌^◌, ◌++◌, ℕ, List, map, sym, ap, subst}
+use Rattle.std.proofs.Common.{◌≡◌, ◌∙◌, ◌<◌, ◌^◌, ◌++◌, ℕ, List, map, sym, ap, subst}
 use Rattle.std.specs.List.{AllByRecursion}
 use Rattle.std.specs.Map.Iter.{deref_pair}
-use Rattle.std.proofs.lemmas.Map.Iter.{rest_more, rest_so_far}
+use Rattle.std.proofs.lemmas.Map.Iter.{iter_end, rest_more, rest_so_far}
 use Rattle.xet_shard.specs.declared.record.FileDataSequenceEntry.{FileDataSequenceEntry as Segment}
+use Rattle.xet_shard.specs.declared.record.MDBFileInfo.{MDBFileInfo}
 use Rattle.xet_folder.specs.Plan.{plan_bytes}
 use Rattle.xet_folder.specs.Contents.{IsRecord}
 use Rattle.xet_folder.specs.Xorbs.{Records}
+use Rattle.xet_store.specs.Store.{Differ, files_of}
+use Rattle.xet_store.proofs.Differing.{differ_by}
 use Rattle.xet_store.proofs.Plans.{record_bytes}
 use Rattle.xet_store.proofs.Rows.{all_at}
 use Rattle.xet_store.proofs.store.Store.files.Goals as goal
@@ -14,8 +17,15 @@ pub plan_bytes-requires : goal.plan_bytes-requires
 plan_bytes-requires g c =
     let xorbs = c.self.inside.xorbs.entries in
     let before : Records = map deref_pair c.loop-hash.yielded in
-    let entry : List ℕ × List Segment = (c.in-Some.hash.now, c.in-Some.segments.now) in
+    let entry : List ℕ × MDBFileInfo = (c.in-Some.hash.now, c.in-Some.record.now) in
     let whole = sym c.into_iter-hash-iterator.ensures.into_iter_gives.0 ∙ rest_so_far deref_pair _ _ _ c.loop-hash.yielded_by
     ∙ ap (λ (t : Records). before ++ t) (rest_more deref_pair _ _ _ _ c.in-Some.is c.next.ensures.steps) in
     let rows = subst (λ (es : Records). AllByRecursion (IsRecord xorbs) es) whole c.self.invariant.recorded in
     subst (λ (plan : List Segment). plan_bytes plan < 2 ^ 64) (sym c.as_slice.ensures) (record_bytes xorbs entry (all_at (IsRecord xorbs) before entry _ rows))
+
+pub returns-clause-differ : goal.returns-clause-differ
+returns-clause-differ g c =
+    let all : map deref_pair c.loop-hash.yielded ≡ c.self.inside.records.entries =
+    (iter_end deref_pair _ c.loop-hash.yielded _ _ _ _ c.into_iter-hash-iterator.ensures.into_iter_gives.0 c.loop-hash.yielded_by c.in-None.is c.next.ensures.steps).0 in
+    subst (λ (files : List (List ℕ × ℕ)). Differ files) (sym (c.loop-hash.invariant ∙ ap files_of all))
+    (differ_by (λ (f : MDBFileInfo). plan_bytes f.segments) c.self.inside.records.entries c.self.invariant.records_differ)

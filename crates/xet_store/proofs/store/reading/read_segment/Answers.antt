@@ -23,6 +23,6 @@ returns-clause-range g c = λ told.
     let whole : Some c.in-Some.members.now ≡ Some (members_of chunks) = c.in-Some.ensures.value ∙ has.1 in
     let same : members_of chunks ≡ c.in-Some.members.now = cc in
     let size = part_size c.args.xorbs.now.entries s chunks c.requires has.1 in
-    run chunks has.0 (same ∙ sym c.as_slice.ensures) ∙ ap (λ (k : ℕ). c.args.reader.now ++ range (concat (part s chunks)) c.args.from k) (c.min-end.ensures ∙ ap (min c.args.to) c.from.ensures)
+    run chunks has.0 same ∙ ap (λ (k : ℕ). c.args.reader.now ++ range (concat (part s chunks)) c.args.from k) (c.min-end.ensures ∙ ap (min c.args.to) c.from.ensures)
     ∙ ap (λ (l : List ℕ). c.args.reader.now ++ l) (range_end (concat (part s chunks)) c.args.from c.args.to s.unpacked_segment_bytes size))
     (c.read_run.ensures.run told)

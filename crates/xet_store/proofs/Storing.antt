@@ -1,0 +1,107 @@
+-- What cleaning adds to a store's tables.
+use Rattle.std.proofs.Common.{◌≡◌, ◌≢◌, ◌∙◌, ℕ, zero, suc, ◌≤◌, ◌<◌, length, map, take, get_or, set, Bool, true, Result, Ok, Err, OnErr, List, [], ◌∷◌, Some, refl, sym, ap, arith}
+use Rattle.std.specs.List.{AllByRecursion}
+use Rattle.sha2.specs.Sha256.{sha256}
+use Rattle.xet_base.proofs.PieceLemmas.{pieces_none}
+use Rattle.xet_hash.specs.Merkle.{members_of}
+use Rattle.xet_shard.specs.declared.record.FileDataSequenceEntry.{FileDataSequenceEntry as Segment}
+use Rattle.xet_shard.specs.declared.record.MDBFileInfo.{MDBFileInfo}
+use Rattle.xet_store.specs.declared.limits.LimitSettings.{LimitSettings}
+use Rattle.xet_store.specs.Cleaning.{EachTold, Later, Stores, StoresSome}
+use Rattle.xet_store.specs.Cut.{cut, piece_len}
+use Rattle.xet_store.specs.Packing.{packs}
+use Rattle.xet_store.specs.Records.{file_record}
+use Rattle.xet_store.specs.Store.{State}
+use Rattle.xet_store.specs.Tables.{Tables, record_of_file, tables_of, whole_segment, with_file, with_record, with_xorbs}
+
+-- the file of bytes, of which there are some
+pub with_some : (s : LimitSettings) (t : Tables) (bytes : List ℕ) → bytes ≢ [] → with_record (with_xorbs t (packs s (cut s bytes))) (record_of_file s bytes) ≡ with_file s t bytes
+with_some s t [] some = absurd (some refl)
+with_some s t (b ∷ bs) some = refl
+
+-- and of none
+pub with_none : (s : LimitSettings) (t : Tables) (bytes : List ℕ) → bytes ≡ [] → t ≡ with_file s t bytes
+with_none s t bytes none = sym (ap (with_file s t) none)
+
+-- no bytes have no chunks
+pub cut_none : (s : LimitSettings) (bytes : List ℕ) → bytes ≡ [] → cut s bytes ≡ []
+cut_none s bytes none = ap (cut s) none ∙ pieces_none (piece_len s) [] refl
+
+-- the record that is made of a file's chunks is that of its bytes
+pub made_record : (s : LimitSettings) (bytes : List ℕ) (f : MDBFileInfo) (members : List (List ℕ × ℕ)) (plan : List Segment) (digest : List ℕ) → f ≡ file_record members plan (Some digest)
+    → members ≡ members_of (cut s bytes) → plan ≡ map whole_segment (packs s (cut s bytes)) → digest ≡ sha256 bytes → f ≡ record_of_file s bytes
+made_record s bytes f members plan digest exact is_members is_plan is_digest = exact ∙ (λ i. file_record (is_members i) (is_plan i) (Some (is_digest i)))
+
+pub some_of : (n : ℕ) → n ≢ 0 → 0 < n
+some_of zero some = absurd (some refl)
+some_of (suc n) some = omega arith
+
+-- ---- of the sources
+
+module _ {S : Type 0} (tells : S → Bool) (left : S → List ℕ) where
+  -- each source's own bytes
+  pub each_own : (sources : List S) → EachTold tells left (λ bytes file. file ≡ bytes) sources (map left sources)
+  each_own [] = tt
+  each_own (s ∷ ss) = ((λ told. refl), each_own ss)
+
+  pub stores_none : (sources : List S) (old : State) → length sources ≡ 0 → Stores tells left sources old old
+  stores_none [] old none = ([], tt, refl)
+  stores_none (s ∷ ss) old none = absurd (omega (arith, none))
+
+  pub stores_one : (sources : List S) (d : S) (old new : State) → length sources ≤ 1 → 0 < length sources
+      → (bytes : List ℕ) × (tells (get_or sources 0 d) ≡ true → bytes ≡ left (get_or sources 0 d)) × (tables_of new ≡ with_file old.limits (tables_of old) bytes) → Stores tells left sources old new
+  stores_one [] d old new one some stored = absurd (omega (arith, some))
+  stores_one (s ∷ []) d old new one some (bytes, told, is) = (bytes ∷ [], (told, tt), is)
+  stores_one (s ∷ t ∷ ss) d old new one some stored = absurd (omega (arith, one))
+
+  -- where none is stored
+  pub some_none : (sources : List S) (old new : State) → tables_of new ≡ tables_of old → StoresSome tells left sources old new
+  some_none sources old new same = (map left sources, each_own sources, record { done = 0; xorbs = 0; is = same })
+
+  pub some_one : (sources : List S) (d : S) (old new : State) → length sources ≤ 1 → 0 < length sources
+      → (bytes : List ℕ) × (n : ℕ) × (tells (get_or sources 0 d) ≡ true → bytes ≡ left (get_or sources 0 d)) × (tables_of new ≡ with_xorbs (tables_of old) (take n (packs old.limits (cut old.limits bytes))))
+      → StoresSome tells left sources old new
+  some_one [] d old new one some stored = absurd (omega (arith, some))
+  some_one (s ∷ []) d old new one some (bytes, n, told, is) = (bytes ∷ [], (told, tt), record { done = 0; xorbs = n; is = is })
+  some_one (s ∷ t ∷ ss) d old new one some stored = absurd (omega (arith, one))
+
+-- counts of sources of which the first has changed, or none
+module _ {S : Type 0} (faults : S → ℕ) where
+  pub later_same : (sources : List S) → Later faults sources sources
+  later_same [] = tt
+  later_same (s ∷ ss) = (omega arith, later_same ss)
+
+  pub later_first : (sources : List S) (d s : S) → faults (get_or sources 0 d) ≤ faults s → Later faults sources (set sources 0 s)
+  later_first [] d s le = tt
+  later_first (x ∷ xs) d s le = (le, later_same xs)
+
+-- ---- of one source at most
+
+module _ {S : Type 0} (Q : S → Type 0) where
+  pub all_of_one : (sources : List S) (d : S) → length sources ≤ 1 → Q (get_or sources 0 d) → AllByRecursion Q sources
+  all_of_one [] d one q = tt
+  all_of_one (s ∷ []) d one q = (q, tt)
+  all_of_one (s ∷ t ∷ ss) d one q = absurd (omega (arith, one))
+
+  pub all_of_set : (sources : List S) (s : S) → length sources ≤ 1 → Q s → AllByRecursion Q (set sources 0 s)
+  all_of_set [] s one q = tt
+  all_of_set (x ∷ []) s one q = (q, tt)
+  all_of_set (x ∷ y ∷ xs) s one q = absurd (omega (arith, one))
+
+module _ {S X : Type 0} (tells : S → Bool) (left : S → List ℕ) (P : List ℕ → X → Type 0) where
+  pub told_none : (sources : List S) → length sources ≡ 0 → EachTold tells left P sources []
+  told_none [] none = tt
+  told_none (s ∷ ss) none = absurd (omega (arith, none))
+
+  pub told_one : (sources : List S) (d : S) (x : X) → length sources ≤ 1 → 0 < length sources → (tells (get_or sources 0 d) ≡ true → P (left (get_or sources 0 d)) x) → EachTold tells left P sources (x ∷ [])
+  told_one [] d x one some told = absurd (omega (arith, some))
+  told_one (s ∷ []) d x one some told = (told, tt)
+  told_one (s ∷ t ∷ ss) d x one some told = absurd (omega (arith, one))
+
+-- ---- of a source after an error
+
+-- some first xorbs of the bytes that were read are stored
+pub left_some : {T E : Type 0} (tells : Bool) (left : List ℕ) (s : LimitSettings) (old new : Tables) (bytes : List ℕ) (n : ℕ) (r : Result T E) → (tells ≡ true → bytes ≡ left)
+    → new ≡ with_xorbs old (take n (packs s (cut s bytes))) → OnErr r ((b : List ℕ) × (m : ℕ) × (tells ≡ true → b ≡ left) × (new ≡ with_xorbs old (take m (packs s (cut s b)))))
+left_some tells left s old new bytes n (Ok x) told is = tt
+left_some tells left s old new bytes n (Err e) told is = (bytes, n, told, is)

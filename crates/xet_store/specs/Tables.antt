@@ -1,0 +1,81 @@
+-- What a store lists, has recorded and has pending, and what a file adds to it.
+use Rattle.std.specs.Prelude.{◌≡◌, ℕ, List, [], ◌∷◌, ◌++◌, length, map, take, drop, Some, is_some, if◌then◌else◌}
+use Rattle.sha2.specs.Sha256.{sha256}
+use Rattle.xet_hash.specs.Merkle.{members_of, total_len, xorb_hash}
+use Rattle.xet_shard.specs.declared.record.FileDataSequenceEntry.{FileDataSequenceEntry as Segment}
+use Rattle.xet_shard.specs.declared.record.MDBFileInfo.{MDBFileInfo}
+use Rattle.xet_shard.specs.Held.{Held, held, with_last}
+use Rattle.xet_shard.specs.Records as record_of
+use Rattle.xet_folder.specs.Xorbs.{Records, Xorbs, found}
+use Rattle.xet_store.specs.declared.limits.LimitSettings.{LimitSettings}
+use Rattle.xet_store.specs.Cut.{cut}
+use Rattle.xet_store.specs.Packing.{packs}
+use Rattle.xet_store.specs.Records.{file_record, xorb_record}
+use Rattle.xet_store.specs.Store.{State}
+
+pub record Tables : Type 0 where
+  pub xorbs : Xorbs
+  pub records : Records
+  pub pending : Held
+
+abbrev pub tables : Xorbs → Records → Held → Tables
+tables xorbs records pending = record { xorbs = xorbs; records = records; pending = pending }
+
+abbrev pub tables_of : State → Tables
+tables_of s = tables s.xorbs s.records s.pending
+
+-- with a xorb of these members, unless one of its hash is listed: it is listed, and its block is pending
+abbrev pub with_members : Tables → List ℕ → List (List ℕ × ℕ) → Tables
+with_members t h members =
+    if is_some (found t.xorbs h) then t
+    else tables (t.xorbs ++ (h, members) ∷ []) t.records (held (with_last record_of.xorb_hash t.pending.blocks (xorb_record h members)) t.pending.files)
+
+-- with the xorb of these chunks
+abbrev pub with_xorb : Tables → List (List ℕ) → Tables
+with_xorb t chunks = with_members t (xorb_hash (members_of chunks)) (members_of chunks)
+
+-- with each of these, in turn
+abbrev pub with_xorbs : Tables → List (List (List ℕ)) → Tables
+with_xorbs t [] = t
+with_xorbs t (p ∷ ps) = with_xorbs (with_xorb t p) ps
+
+-- with a record, unless its file is recorded: it is recorded and pending
+abbrev pub with_record : Tables → MDBFileInfo → Tables
+with_record t f =
+    if is_some (found t.records (record_of.file_hash f)) then t
+    else tables t.xorbs (t.records ++ (record_of.file_hash f, f) ∷ []) (held t.pending.blocks (with_last record_of.file_hash t.pending.files f))
+
+-- the segment of all of a xorb's chunks
+abbrev pub whole_segment : List (List ℕ) → Segment
+whole_segment chunks = record {
+  xorb_hash = xorb_hash (members_of chunks);
+  xorb_flags = 0;
+  unpacked_segment_bytes = total_len (members_of chunks);
+  chunk_index_start = 0;
+  chunk_index_end = length chunks;
+}
+
+-- the record of the file of these bytes: its chunks, packed into xorbs, and its SHA-256
+abbrev pub record_of_file : LimitSettings → List ℕ → MDBFileInfo
+record_of_file s bytes = file_record (members_of (cut s bytes)) (map whole_segment (packs s (cut s bytes))) (Some (sha256 bytes))
+
+-- with the file of these bytes: its xorbs, and its record; the empty file has none
+abbrev pub with_file : LimitSettings → Tables → List ℕ → Tables
+with_file s t [] = t
+with_file s t (b ∷ bs) = with_record (with_xorbs t (packs s (cut s (b ∷ bs)))) (record_of_file s (b ∷ bs))
+
+-- with each of these files, in turn
+abbrev pub with_files : LimitSettings → Tables → List (List ℕ) → Tables
+with_files s t [] = t
+with_files s t (f ∷ fs) = with_files s (with_file s t f) fs
+
+-- the xorbs of the first of these files, if there is one
+abbrev pub first_packs : LimitSettings → List (List ℕ) → List (List (List ℕ))
+first_packs s [] = []
+first_packs s (f ∷ fs) = packs s (cut s f)
+
+-- Some first files are stored, and some first xorbs of the next.
+pub record StoresPart (s : LimitSettings) (files : List (List ℕ)) (old new : Tables) : Type 0 where
+  pub done : ℕ
+  pub xorbs : ℕ
+  pub is : new ≡ with_xorbs (with_files s old (take done files)) (take xorbs (first_packs s (drop done files)))
