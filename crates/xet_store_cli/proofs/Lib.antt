@@ -9,3 +9,4 @@ pub mod Cleaned
 pub mod Reading
 pub mod Settled
 pub mod Listing
+pub mod Endings

@@ -14,9 +14,10 @@ use Rattle.xet_store_cli.specs.Stored.{KeepsListed}
 -- by a session
 kept_by : (s t : State) → s.tells ≡ true → s.folder ≡ store_folder → HasContents s.files s.folder s.opened (contents_of s) → Keeps s t → KeepsListed s.opened s.files t.files
 kept_by s t told folder contents keeps = record {
-  listed = λ f l. subst (λ (x : List ℕ). Lists t.files x s.opened f) folder (listed_stay s t told contents keeps f (subst (λ (x : List ℕ). Lists s.files x s.opened f) (sym folder) l));
-  joins = λ f l chunks joins. subst (λ (x : List ℕ). JoinsTo t.files x f chunks) folder
-      (joins_stay s t told contents keeps f (subst (λ (x : List ℕ). Lists s.files x s.opened f) (sym folder) l) chunks (subst (λ (x : List ℕ). JoinsTo s.files x f chunks) (sym folder) joins));
+  listed = λ later since f l.
+      subst (λ (x : List ℕ). Lists t.files x later f) folder (listed_stay s t told contents keeps later since f (subst (λ (x : List ℕ). Lists s.files x later f) (sym folder) l));
+  joins = λ later since f l chunks joins. subst (λ (x : List ℕ). JoinsTo t.files x f chunks) folder
+      (joins_stay s t told contents keeps later since f (subst (λ (x : List ℕ). Lists s.files x later f) (sym folder) l) chunks (subst (λ (x : List ℕ). JoinsTo s.files x f chunks) (sym folder) joins));
 }
 
 -- over the disk that it hands back

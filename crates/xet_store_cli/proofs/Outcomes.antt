@@ -1,5 +1,5 @@
 -- How `pack` ends, by what it has read.
-use Rattle.std.proofs.Common.{◌≡◌, ◌≢◌, ◌⊎◌, ◌∙◌, ℕ, zero, suc, ◌<◌, ◌≤◌, inl, inr, Bool, true, false, cond, List, [], ◌++◌, length, take, subst, Option, Some, None, Result, Ok, Err, IfOk, IfErr, IsErrOf, Vec, Global, unwrap_or, refl, sym, ap, arith}
+use Rattle.std.proofs.Common.{◌≡◌, ◌≢◌, ◌⊎◌, ◌∙◌, ℕ, zero, suc, ◌<◌, ◌≤◌, inl, inr, Bool, true, false, cond, List, [], ◌++◌, length, subst, Option, Some, None, Result, Ok, Err, IfOk, IfErr, IsErrOf, Vec, Global, unwrap_or, refl, sym, ap, arith}
 use Rattle.std.proofs.lemmas.Bool.{cases_lt, false≢true, lt-ltb, le-ltb}
 use Rattle.std.proofs.lemmas.List.{append-nil}
 use Rattle.std.proofs.Math.Nat.{le_trans}
@@ -16,13 +16,13 @@ use Rattle.xet_store_cli.specs.declared.ending.Stop.TheVariants.{OutOfMemory, In
 use Rattle.xet_store_cli.specs.declared.words.Command.{Command}
 use Rattle.xet_store_cli.specs.declared.words.Command.TheVariants.{Pack}
 use Rattle.xet_store_cli.specs.Lines.{Line, first_bad, good_lines}
-use Rattle.xet_store_cli.specs.Outcome.{AreSeparate, Ended, EndedEarly, Ends, EndsEarly, EndsOver, IsDue, IsFaultless, IsStopped, Outcome, bad_line_text, by_lines, lines_said, most_input, outcome, pack_early, store_folder}
+use Rattle.xet_store_cli.specs.Outcome.{AreSeparate, Ended, EndedEarly, EndsEarly, EndsOver, IsCutShort, IsDue, IsFaultless, IsStopped, IsStoppedSilent, Outcome, Prints, PrintsNothing, bad_line_text, by_lines, lines_said, most_input, outcome, pack_early, store_folder}
 use Rattle.xet_store_cli.specs.Outcome.Ended.{as_due, stopped}
 use Rattle.xet_store_cli.specs.Outcome.IsDue.{admitted, early, refused}
 use Rattle.xet_store_cli.specs.Allowed.{are_short}
 use Rattle.xet_store_cli.specs.Parsing.{ForLines, Said, Says, are_good, parted}
 use Rattle.xet_store_cli.specs.Report.{IsReport}
-use Rattle.xet_store_cli.specs.Stops.{Answers, AnswersByInput, AnswersEarly, AnswersLate, IsLateStop, IsSaid, answer_outcome, stop_of_unread}
+use Rattle.xet_store_cli.specs.Stops.{Answers, AnswersByFolder, AnswersByInput, AnswersEarly, AnswersLate, IsEarlyStop, IsLateStop, IsSaid, answer_outcome, stop_of_unread}
 use Rattle.xet_store_cli.specs.Words.{command_of}
 use Rattle.xet_store_cli.proofs.Lengths.{short_said}
 use Rattle.xet_store_cli.proofs.Said.{good_parted}
@@ -144,13 +144,35 @@ by_input_late tells s input said (Err Input) allowed is stop = absurd stop
 by_input_late tells s input said (Err BadRange) allowed is stop = absurd stop
 by_input_late tells s input said (Err (BadLine n)) allowed is stop = absurd stop
 
+-- what an answer shows of the folder
+pub by_folder_early : (now : ℕ) (files : Files) (stop : Stop) → IsEarlyStop stop → AnswersByFolder now files (Err stop)
+by_folder_early now files OutOfMemory h = tt
+by_folder_early now files Input h = tt
+by_folder_early now files Disk h = absurd h
+by_folder_early now files Malformed h = absurd h
+by_folder_early now files (BadShard name) h = absurd h
+by_folder_early now files TooLarge h = tt
+by_folder_early now files BadRange h = tt
+by_folder_early now files (BadLine n) h = tt
+
+pub by_folder_late : (s : LimitSettings) (said : Said) (now : ℕ) (files : Files) (r : Result (Vec ℕ Global) Stop) → AnswersLate s said now files r → AnswersByFolder now files r
+by_folder_late s said now files (Ok t) h = h
+by_folder_late s said now files (Err OutOfMemory) h = tt
+by_folder_late s said now files (Err Disk) h = tt
+by_folder_late s said now files (Err TooLarge) h = tt
+by_folder_late s said now files (Err (BadShard name)) h = h
+by_folder_late s said now files (Err Malformed) h = absurd h
+by_folder_late s said now files (Err Input) h = absurd h
+by_folder_late s said now files (Err BadRange) h = absurd h
+by_folder_late s said now files (Err (BadLine n)) h = absurd h
+
 -- how a command has ended that answers so
 pub ended_with : (Due : Outcome → Type 0) (r : Result (Vec ℕ Global) Stop) (e : Outcome) → Answers Due r → (e ≡ answer_outcome r) ⊎ (e ≡ outcome 1 []) → Ended Due e
 ended_with Due r e answers (inr is) = subst (Ended Due) (sym is) (stopped (inl refl) refl)
 ended_with Due (Ok t) e answers (inl is) = subst (Ended Due) (sym is) (as_due answers)
 ended_with Due (Err OutOfMemory) e answers (inl is) = subst (Ended Due) (sym is) (stopped (inl refl) refl)
 ended_with Due (Err Input) e answers (inl is) = subst (Ended Due) (sym is) (stopped (inr (inl refl)) refl)
-ended_with Due (Err Disk) e answers (inl is) = subst (Ended Due) (sym is) (stopped (inr (inr (inr refl))) refl)
+ended_with Due (Err Disk) e answers (inl is) = subst (Ended Due) (sym is) (stopped (inr (inr refl)) refl)
 ended_with Due (Err Malformed) e answers (inl is) = absurd answers
 ended_with Due (Err TooLarge) e answers (inl is) = subst (Ended Due) (sym is) (as_due answers)
 ended_with Due (Err BadRange) e answers (inl is) = subst (Ended Due) (sym is) (as_due answers)
@@ -188,29 +210,30 @@ ended_early (Some o) r e answers is = ended_with (λ due. due ≡ o) r e (due_th
 ended_early None r e answers (inl is) = subst (EndedEarly None) (sym is) (not_due_then r answers)
 ended_early None r e answers (inr is) = subst (EndedEarly None) (sym is) (λ is. absurd (omega arith), λ is. absurd (omega arith), λ is. absurd (omega arith))
 
-none_taken : (n : ℕ) → take {A = ℕ} n [] ≡ []
-none_taken zero = refl
-none_taken (suc n) = refl
+-- ---- what is printed of how a command ends
 
--- what is printed of how a command ends
-pub ends_over : (words : List (List ℕ)) (input : List ℕ) (now : ℕ) (old new : Files) (e : Outcome) (before after : List ℕ) (status : ℕ) → Ended (IsDue (command_of words) input now old new) e → Ends e before after status
-    → EndsOver words input now old new before after status
-ends_over words input now old new e before after status (as_due due) ends = inl (e, due, ends)
-ends_over words input now old new e before after status (stopped stop silent) (inl (is, wrote)) =
-    inr (subst IsStopped (sym is) stop, wrote ∙ ap (λ (t : List ℕ). before ++ t) silent ∙ append-nil before)
-ends_over words input now old new e before after status (stopped stop silent) (inr (stop', n, wrote)) =
-    inr (stop', wrote ∙ ap (λ (t : List ℕ). before ++ take n t) silent ∙ ap (λ (t : List ℕ). before ++ t) (none_taken n) ∙ append-nil before)
+-- one that is stopped with no text prints nothing
+nothing_printed : (tells : Bool) (e : Outcome) (before after : List ℕ) (status : ℕ) → IsStoppedSilent e.status → e.text ≡ [] → Prints tells e before after status
+    → PrintsNothing tells before after status
+nothing_printed tells e before after status stop silent (inl (is, wrote)) =
+    (subst IsStoppedSilent (sym is) stop, λ told. wrote told ∙ ap (λ (t : List ℕ). before ++ t) silent ∙ append-nil before)
+nothing_printed tells e before after status stop silent (inr (short, some, wrote)) = absurd (some silent)
 
-stopped_otherwise : (status : ℕ) → IsStopped status → (status ≢ 3) × (status ≢ 8) × (status ≢ 9)
-stopped_otherwise status stop = (λ is. grind (arith, stop), λ is. grind (arith, stop), λ is. grind (arith, stop))
+pub ends_over : (words : List (List ℕ)) (input : List ℕ) (now : ℕ) (old new : Files) (tells : Bool) (e : Outcome) (before after : List ℕ) (status : ℕ)
+    → Ended (IsDue (command_of words) input now old new) e → Prints tells e before after status → EndsOver words input now old new tells before after status
+ends_over words input now old new tells e before after status (as_due due) prints = inl (e, due, prints)
+ends_over words input now old new tells e before after status (stopped stop silent) prints = inr (nothing_printed tells e before after status stop silent prints)
 
-pub ends_early : (early : Option Outcome) (e : Outcome) (before after : List ℕ) (status : ℕ) → EndedEarly early e → Ends e before after status → EndsEarly early before after status
-ends_early (Some o) e before after status (as_due is) ends = subst (λ (x : Outcome). Ends x before after status) is ends
-ends_early (Some o) e before after status (stopped stop silent) (inl (is, wrote)) = inr (subst IsStopped (sym is) stop, 0, wrote ∙ ap (λ (t : List ℕ). before ++ t) silent)
-ends_early (Some o) e before after status (stopped stop silent) (inr (stop', n, wrote)) =
-    inr (stop', 0, wrote ∙ ap (λ (t : List ℕ). before ++ take n t) silent ∙ ap (λ (t : List ℕ). before ++ t) (none_taken n))
-ends_early None e before after status others (inl (is, wrote)) = (λ three. others.0 (sym is ∙ three), λ eight. others.1 (sym is ∙ eight), λ nine. others.2 (sym is ∙ nine))
-ends_early None e before after status others (inr (stop, n, wrote)) = stopped_otherwise status stop
+short_otherwise : (status : ℕ) → IsCutShort status → (status ≢ 3) × (status ≢ 8) × (status ≢ 9)
+short_otherwise status (inl one) = (λ is. omega arith, λ is. omega arith, λ is. omega arith)
+short_otherwise status (inr five) = (λ is. omega arith, λ is. omega arith, λ is. omega arith)
+
+pub ends_early : (tells : Bool) (early : Option Outcome) (e : Outcome) (before after : List ℕ) (status : ℕ) → EndedEarly early e → Prints tells e before after status
+    → EndsEarly tells early before after status
+ends_early tells (Some o) e before after status (as_due is) prints = inl (subst (λ (x : Outcome). Prints tells x before after status) is prints)
+ends_early tells (Some o) e before after status (stopped stop silent) prints = inr (nothing_printed tells e before after status stop silent prints)
+ends_early tells None e before after status others (inl (is, wrote)) = (λ three. others.0 (sym is ∙ three), λ eight. others.1 (sym is ∙ eight), λ nine. others.2 (sym is ∙ nine))
+ends_early tells None e before after status others (inr (short, some, wrote)) = short_otherwise status short
 
 -- a run that is stopped as malformed
 pub malformed_of : (r : Result (Vec ℕ Global) Stop) (e : Outcome) → (e ≡ answer_outcome r) ⊎ (e ≡ outcome 1 []) → e.status ≡ 10 → IsErrOf r Malformed
@@ -235,8 +258,17 @@ module _ (words : List (List ℕ)) (input : List ℕ) (now : ℕ) (old new : Fil
   of_due o (refused none e name refuses text) is = absurd (not_both old store_folder now fine.shards e name fine.folder refuses)
   of_due o (admitted none s same shards admits nought report) is = inl (is ∙ nought)
 
-  pub complete_of : (before after : List ℕ) → EndsOver words input now old new before after status → Ended0
-  complete_of before after (inr (stop, wrote)) = inr stop
-  complete_of before after (inl (o, due, inr (stop, n, wrote))) = inr stop
-  complete_of before after (inl (o, due, inl (is, wrote))) =
+  stopped_silent : IsStoppedSilent status → IsStopped status
+  stopped_silent (inl one) = inl one
+  stopped_silent (inr (inl four)) = inr (inl four)
+  stopped_silent (inr (inr six)) = inr (inr (inr six))
+
+  stopped_short : IsCutShort status → IsStopped status
+  stopped_short (inl one) = inl one
+  stopped_short (inr five) = inr (inr (inl five))
+
+  pub complete_of : (tells : Bool) (before after : List ℕ) → EndsOver words input now old new tells before after status → Ended0
+  complete_of tells before after (inr (stop, wrote)) = inr (stopped_silent stop)
+  complete_of tells before after (inl (o, due, inr (short, some, wrote))) = inr (stopped_short short)
+  complete_of tells before after (inl (o, due, inl (is, wrote))) =
       of_due o (subst (λ (c : Option Command). IsDue c input now old new o) fine.command due) is

@@ -5,7 +5,7 @@ use Rattle.xet_store.specs.Cleaning.{Keeps}
 use Rattle.xet_store.specs.Ranges.{IsUnchanged}
 use Rattle.xet_store.specs.Store.{State}
 use Rattle.xet_store.specs.declared.info.XetFileInfo.{XetFileInfo}
-use Rattle.xet_store.proofs.Keeping.{keeps_nothing}
+use Rattle.xet_store.proofs.Keeping.{keeps_counted}
 use Rattle.xet_store_cli.specs.declared.lines.FileRange.{FileRange}
 use Rattle.xet_store_cli.specs.Steps.{AreRead, IsLineRead}
 
@@ -15,22 +15,7 @@ pub unchanged_then : (a b c : State) → IsUnchanged a b → IsUnchanged b c →
 unchanged_then a b c x y = record { is = y.is ∙ ap (λ (s : State). record s { faults = c.faults }) x.is; later = omega (arith, x.later, y.later) }
 
 pub keeps_unchanged : (a b : State) → IsUnchanged a b → Keeps a b
-keeps_unchanged a b x = subst (λ (s : State). Keeps a s) (sym x.is) (with_faults (keeps_nothing a))
-  where
-    with_faults : Keeps a a → Keeps a (record a { faults = b.faults })
-    with_faults k = record {
-      tells = k.tells;
-      folder = k.folder;
-      limits = k.limits;
-      opened = k.opened;
-      later = x.later;
-      xorbs = k.xorbs;
-      texts = k.texts;
-      records = k.records;
-      shards = k.shards;
-      shard_files = k.shard_files;
-      foreign = k.foreign;
-    }
+keeps_unchanged a b x = subst (λ (s : State). Keeps a s) (sym x.is) (keeps_counted a b.faults x.later)
 
 -- ---- what was read
 

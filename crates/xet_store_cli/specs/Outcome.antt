@@ -80,23 +80,39 @@ pub data IsDue (command : Option Command) (input : List ℕ) (now : ℕ) (old ne
 abbrev pub IsStopped : ℕ → Type 0
 IsStopped status = (status ≡ 1) ⊎ (status ≡ 4) ⊎ (status ≡ 5) ⊎ (status ≡ 6)
 
--- A run has ended as it is to, with all of its text written, or it was stopped, and what was written is
--- the front of that text.
-abbrev pub Ends : Outcome → List ℕ → List ℕ → ℕ → Type 0
-Ends o before after status =
-    ((status ≡ o.status) × (after ≡ before ++ o.text))
-    ⊎ (IsStopped status × (n : ℕ) × (after ≡ before ++ take n o.text))
+-- It is stopped before it prints where there is no memory for its text, or where the input or the disk fails.
+abbrev pub IsStoppedSilent : ℕ → Type 0
+IsStoppedSilent status = (status ≡ 1) ⊎ (status ≡ 4) ⊎ (status ≡ 6)
+
+-- It is cut short while it prints where the output fails, or has no memory.
+abbrev pub IsCutShort : ℕ → Type 0
+IsCutShort status = (status ≡ 1) ⊎ (status ≡ 5)
+
+-- A run that is to end so has printed, on an output that tells or not: all of its text; or, where it has some
+-- and was cut short, a prefix of it.
+abbrev pub Prints : Bool → Outcome → List ℕ → List ℕ → ℕ → Type 0
+Prints tells o before after status =
+    ((status ≡ o.status) × (tells ≡ true → after ≡ before ++ o.text))
+    ⊎ (IsCutShort status × (o.text ≢ []) × (tells ≡ true → (n : ℕ) × (after ≡ before ++ take n o.text)))
+
+-- A run was stopped before it printed, and has written nothing.
+abbrev pub PrintsNothing : Bool → List ℕ → List ℕ → ℕ → Type 0
+PrintsNothing tells before after status = IsStoppedSilent status × (tells ≡ true → after ≡ before)
+
+-- A run has ended as it is to, or it was stopped before it printed.
+abbrev pub Ends : Bool → Outcome → List ℕ → List ℕ → ℕ → Type 0
+Ends tells o before after status = Prints tells o before after status ⊎ PrintsNothing tells before after status
 
 -- How a run ends, by what is known before its store is opened: as is due then; else with neither of the
 -- statuses that are due then.
-abbrev pub EndsEarly : Option Outcome → List ℕ → List ℕ → ℕ → Type 0
-EndsEarly (Some o) before after status = Ends o before after status
-EndsEarly None before after status = (status ≢ 3) × (status ≢ 8) × (status ≢ 9)
+abbrev pub EndsEarly : Bool → Option Outcome → List ℕ → List ℕ → ℕ → Type 0
+EndsEarly tells (Some o) before after status = Ends tells o before after status
+EndsEarly tells None before after status = (status ≢ 3) × (status ≢ 8) × (status ≢ 9)
 
 -- How a command ends before its text is printed: as is due, or stopped with nothing to print.
 pub data Ended (Due : Outcome → Type 0) (e : Outcome) : Type 0 where
   as_due : Due e → Ended Due e
-  stopped : IsStopped e.status → e.text ≡ [] → Ended Due e
+  stopped : IsStoppedSilent e.status → e.text ≡ [] → Ended Due e
 
 -- How a command ends before its text is printed, by what is known before its store is opened.
 abbrev pub EndedEarly : Option Outcome → Outcome → Type 0
@@ -105,10 +121,10 @@ EndedEarly None e = (e.status ≢ 3) × (e.status ≢ 8) × (e.status ≢ 9)
 
 -- A run over a disk with these files, which have become those others, has ended as it is to; one that was
 -- stopped before it was known how it is to end has written nothing.
-abbrev pub EndsOver : List (List ℕ) → List ℕ → ℕ → Files → Files → List ℕ → List ℕ → ℕ → Type 0
-EndsOver words input now old new before after status =
-    ((o : Outcome) × IsDue (command_of words) input now old new o × Ends o before after status)
-    ⊎ (IsStopped status × (after ≡ before))
+abbrev pub EndsOver : List (List ℕ) → List ℕ → ℕ → Files → Files → Bool → List ℕ → List ℕ → ℕ → Type 0
+EndsOver words input now old new tells before after status =
+    ((o : Outcome) × IsDue (command_of words) input now old new o × Prints tells o before after status)
+    ⊎ PrintsNothing tells before after status
 
 -- Status 0 of `pack`: the words are that command, all lines are good, and a report of what they say was
 -- written.
@@ -122,14 +138,35 @@ pub record Reports (words : List (List ℕ)) (input : List ℕ) (tells : Bool) (
   pub report : IsReport (AreSeparate tells files now settings said) settings said text
   pub written : after ≡ before ++ text
 
--- The text is a report of what this input says to the command.
-pub record IsReportOf (command : Command) (input : List ℕ) (tells : Bool) (files : Files) (now : ℕ) (text : List ℕ) : Type 0 where
+-- The text is a report of what an input says to the command; it is this input, where that tells.
+pub record IsReportOf (command : Command) (input_tells : Bool) (input : List ℕ) (tells : Bool) (files : Files) (now : ℕ) (text : List ℕ) : Type 0 where
   pub settings : LimitSettings
   pub said : List Line
   pub is_pack : command ≡ Pack settings
-  pub good : good_lines (lines input) ≡ Some said
+  pub good : input_tells ≡ true → good_lines (lines input) ≡ Some said
   pub ranges_good : are_ranges said ≡ true
   pub report : IsReport (AreSeparate tells files now settings said) settings said text
+
+-- how a run ends before its store is opened, whatever its input
+abbrev pub IsEarly : Outcome → Type 0
+IsEarly o = (o ≡ outcome 2 []) ⊎ (o ≡ outcome 8 []) ⊎ (o ≡ outcome 9 []) ⊎ ((n : ℕ) × (o ≡ outcome 3 (bad_line_text n)))
+
+-- How a run with these words at a moment may end, over an input and a disk that tell or not: before its store
+-- is opened, as is due then; at a shard that fails a check; with a report; stopped, with no text; or, over a
+-- disk that does not tell, because a stored xorb was other than when it was checked.
+pub data MayEnd (words : List (List ℕ)) (input_tells : Bool) (input : List ℕ) (now : ℕ) (tells : Bool) (old new : Files) (o : Outcome) : Type 0 where
+  early : (input_tells ≡ true → early_outcome (command_of words) input ≡ Some o) → IsEarly o → MayEnd words input_tells input now tells old new o
+  refused : (input_tells ≡ true → early_outcome (command_of words) input ≡ None) → (name : List ℕ) → (tells ≡ true → (e : StoreError) × Refuses old store_folder now e name)
+      → o ≡ outcome 7 (bad_shard_text name) → MayEnd words input_tells input now tells old new o
+  reported : (input_tells ≡ true → early_outcome (command_of words) input ≡ None) → (tells ≡ true → (shards : List ShardFile) × Admits old store_folder now shards)
+      → (command : Command) → command_of words ≡ Some command → IsReportOf command input_tells input tells new now o.text → o.status ≡ 0
+      → MayEnd words input_tells input now tells old new o
+  stopped : IsStoppedSilent o.status → o.text ≡ [] → MayEnd words input_tells input now tells old new o
+  malformed : (input_tells ≡ true → early_outcome (command_of words) input ≡ None) → tells ≡ false → o ≡ outcome 10 [] → MayEnd words input_tells input now tells old new o
+
+-- the statuses at which nothing is printed
+abbrev pub IsSilent : ℕ → Type 0
+IsSilent status = (status ≡ 2) ⊎ (status ≡ 4) ⊎ (status ≡ 6) ⊎ (status ≡ 8) ⊎ (status ≡ 9) ⊎ (status ≡ 10)
 
 -- Words, input and disk give a run no cause to refuse: the words are `pack`, the input is not too long, its
 -- lines and ranges are good, and the folder is admitted.
@@ -142,4 +179,4 @@ pub record IsFaultless (words : List (List ℕ)) (input : List ℕ) (now : ℕ) 
 
 -- the statuses at which no file of the disk has changed
 abbrev pub IsIdle : ℕ → Type 0
-IsIdle status = (status ≡ 2) ⊎ (status ≡ 3) ⊎ (status ≡ 7) ⊎ (status ≡ 8)
+IsIdle status = (status ≡ 2) ⊎ (status ≡ 3) ⊎ (status ≡ 4) ⊎ (status ≡ 7) ⊎ (status ≡ 8)

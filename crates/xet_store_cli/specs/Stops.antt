@@ -57,6 +57,14 @@ AnswersByInput early (Err Malformed) = early ≡ None
 AnswersByInput early (Err (BadLine n)) = early ≡ Some (outcome 3 (bad_line_text n))
 AnswersByInput early (Err (BadShard name)) = early ≡ None
 
+-- What an answer shows of a folder on a disk with these files at a moment: a report is answered only where it is
+-- admitted, a shard's name only where that is the first with which a check fails, and no xorb changes by itself.
+abbrev pub AnswersByFolder : ℕ → Files → Result (Vec ℕ Global) Stop → Type 0
+AnswersByFolder now files (Ok text) = (shards : List ShardFile) × Admits files store_folder now shards
+AnswersByFolder now files (Err (BadShard name)) = (e : StoreError) × Refuses files store_folder now e name
+AnswersByFolder now files (Err Malformed) = ⊥
+AnswersByFolder now files (Err _) = Unit {0}
+
 -- What an input says whose lines and ranges are good.
 pub record IsSaid (input : List ℕ) (said : Said) : Type 0 where
   pub fine : pack_early input ≡ None
@@ -107,12 +115,15 @@ IsLateStop tells s said stop = IsSessionStop tells s said stop
 
 -- a stop at which no file of the disk has changed
 abbrev pub IsIdleStop : Stop → Type 0
+IsIdleStop Input = Unit {0}
 IsIdleStop (BadLine n) = Unit {0}
 IsIdleStop BadRange = Unit {0}
 IsIdleStop (BadShard name) = Unit {0}
 IsIdleStop _ = ⊥
 
--- a refusal of the store, as a stop
+-- A refusal of the store, as a stop. Opening, cleaning and flushing refuse by no others than these and want of
+-- memory (`IsUnadmitted`, `HasReason`, `HasDiskReason`). A good range of a file that was just cleaned is refused
+-- as `FileNotFound` or `InvalidRange` only where digests collide, and there too a store answers want of memory.
 abbrev pub stop_of_error : StoreError → Stop
 stop_of_error (Io place) = Disk
 stop_of_error (error.TooLarge what) = TooLarge

@@ -1,5 +1,5 @@
 -- What `pack` has stored.
-use Rattle.std.specs.Prelude.{◌≡◌, ◌≢◌, ℕ, List, [], IfSome}
+use Rattle.std.specs.Prelude.{◌≡◌, ◌≢◌, ℕ, ◌≤◌, List, [], IfSome}
 use Rattle.std.specs.List.{AllByRecursion}
 use Rattle.std.specs.Str.Lines.{lines}
 use Rattle.xet_io.specs.Disk.{Files}
@@ -53,7 +53,7 @@ HasRecordedBy (Pack s) input now files = Records s (lines_said (lines input)) no
 abbrev pub HasRecorded : List (List ℕ) → List ℕ → ℕ → Files → Type 0
 HasRecorded words input now files = IfSome (command_of words) (λ command. HasRecordedBy command input now files)
 
--- Each file that was listed at the moment is listed, and joins to the same chunks.
+-- Each file that was listed at a moment from this one on is listed then, and joins to the same chunks.
 pub record KeepsListed (now : ℕ) (old new : Files) : Type 0 where
-  pub listed : (f : MDBFileInfo) → Lists old store_folder now f → Lists new store_folder now f
-  pub joins : (f : MDBFileInfo) → Lists old store_folder now f → (chunks : List (List ℕ)) → JoinsTo old store_folder f chunks → JoinsTo new store_folder f chunks
+  pub listed : (later : ℕ) → now ≤ later → (f : MDBFileInfo) → Lists old store_folder later f → Lists new store_folder later f
+  pub joins : (later : ℕ) → now ≤ later → (f : MDBFileInfo) → Lists old store_folder later f → (chunks : List (List ℕ)) → JoinsTo old store_folder f chunks → JoinsTo new store_folder f chunks

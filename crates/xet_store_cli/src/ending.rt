@@ -2,7 +2,7 @@
 
 ghost use Rattle.std.specs.Prelude.{◌≡◌, ◌⊎◌, [], ◌++◌, true, ℕ, take, IfOk, IsOkUnless, string_bytes};
 ghost use Rattle.xet_io.specs.Faults.{HasCause};
-ghost use Rattle.xet_store_cli.specs.Outcome.{bad_line_text, bad_shard_text, outcome, Ends};
+ghost use Rattle.xet_store_cli.specs.Outcome.{bad_line_text, bad_shard_text, outcome, Prints};
 ghost use Rattle.xet_store_cli.specs.Stops.{answer_outcome};
 
 use std::alloc::{AllocError, AllocFailed, Global};
@@ -58,6 +58,7 @@ impl From<StoreError> for Stop {
             StoreError::Io(_) => Stop::Disk,
             StoreError::TooLarge(_) => Stop::TooLarge,
             StoreError::MalformedData(_) => Stop::Malformed,
+            // No others come, but `InvalidRange` where the digests of two files collide.
             _ => Stop::OutOfMemory,
         }
     }
@@ -136,7 +137,7 @@ impl Model for Ending {
 impl Ending {
     ghost use Rattle.std.specs.Prelude.{◌≡◌, ◌≢◌, ◌⊎◌, [], true, IfOk, OnErr};
     ghost use Rattle.xet_io.specs.Faults.{HasCause};
-    ghost use Rattle.xet_store_cli.specs.Outcome.{outcome, Ends};
+    ghost use Rattle.xet_store_cli.specs.Outcome.{outcome, Prints};
     ghost use Rattle.xet_store_cli.specs.Stops.{answer_outcome};
 
     /// The end of words that are no command.
@@ -191,7 +192,7 @@ impl Ending {
 
     /// Prints the text, and gives the status: that of the ending, unless the output refused.
     pub fn print<O: Sink>(&self, output: &mut O) -> u8
-        ensures told { O.tells output.old ≡ true → Ends self.now (O.written output.old) (O.written output.new) result }
+        ensures prints { Prints (O.tells output.old) self.now (O.written output.old) (O.written output.new) result }
         ensures status { (result ≡ self.now.status) ⊎ (result ≡ 1) ⊎ (result ≡ 5) }
         ensures silent { self.now.text ≡ [] → result ≡ self.now.status }
         ensures tells { O.tells output.new ≡ O.tells output.old }

@@ -8,7 +8,7 @@ ghost use Rattle.xet_store_cli.specs.Outcome.{AreSeparate, IsDue, IsReportOf, ea
 ghost use Rattle.xet_store_cli.specs.Allowed.{AllowsInput};
 ghost use Rattle.xet_store_cli.specs.Parsing.{ForLines, are_good};
 ghost use Rattle.xet_store_cli.specs.Report.{IsReport};
-ghost use Rattle.xet_store_cli.specs.Stops.{Answers, AnswersByInput, AnswersEarly, AnswersLate, IsEarlyStop, IsIdleStop, IsLateStop, stop_of_refusal};
+ghost use Rattle.xet_store_cli.specs.Stops.{Answers, AnswersByFolder, AnswersByInput, AnswersEarly, AnswersLate, IsEarlyStop, IsIdleStop, IsLateStop, stop_of_refusal};
 ghost use Rattle.xet_store_cli.specs.Stored.{HasRecordedBy, HasStoredBy, KeepsListed, Records, Stores};
 
 use crate::ending::Stop;
@@ -43,8 +43,8 @@ pub fn pack<I: Source, D: Disk + Send>(
     ensures answer { I.tells input.old ≡ true → D.tells disk ≡ true
         → Answers (IsDue (Some (Command.Pack limits.now)) (I.left input.old) now (D.files disk) (D.files result.0)) result.1 }
     ensures early { I.tells input.old ≡ true → AnswersByInput (early_outcome (Some (Command.Pack limits.now)) (I.left input.old)) result.1 }
-    ensures report { I.tells input.old ≡ true
-        → IfOk result.1 (λ text. IsReportOf (Command.Pack limits.now) (I.left input.old) (D.tells disk) (D.files result.0) now text.items) }
+    ensures folder { D.tells disk ≡ true → AnswersByFolder now (D.files disk) result.1 }
+    ensures report { IfOk result.1 (λ text. IsReportOf (Command.Pack limits.now) (I.tells input.old) (I.left input.old) (D.tells disk) (D.files result.0) now text.items) }
     ensures read { I.tells input.old ≡ true → OnOk result.1 (I.left input.new ≡ []) }
     ensures stored { I.tells input.old ≡ true → D.tells disk ≡ true
         → OnOk result.1 (HasStoredBy (Command.Pack limits.now) (I.left input.old) (D.files result.0)) }

@@ -1,12 +1,14 @@
 //! The program as one call, over any input, output, disk and inputs.
 
-ghost use Rattle.std.specs.Prelude.{◌≡◌, ◌≢◌, ◌⊎◌, ◌↔◌, true, false, None, Some, [], List, ℕ, map, string_bytes, OnOk, IfErr, IfOk, IsErrOf};
+ghost use Rattle.std.specs.Prelude.{◌≡◌, ◌≢◌, ◌⊎◌, ◌↔◌, ◌≤◌, ◌++◌, true, false, None, Some, [], List, ℕ, map, string_bytes, OnOk, IfErr, IfOk, IsErrOf};
 ghost use Rattle.std.specs.FinMap.{get};
 ghost use Rattle.xet_io.specs.Faults.{HasCause};
+ghost use Rattle.xet_hash.specs.declared.error.StoreError.{StoreError};
+ghost use Rattle.xet_folder.specs.Admission.{Refuses};
 ghost use Rattle.xet_folder.specs.Names.{IsForeign};
-ghost use Rattle.xet_store_cli.specs.Outcome.{Ended, EndedEarly, EndsEarly, EndsOver, IsDue, IsFaultless, IsIdle, IsReportOf, IsStopped, Reports, early_outcome, store_folder};
+ghost use Rattle.xet_store_cli.specs.Outcome.{Ended, EndedEarly, EndsEarly, EndsOver, IsDue, IsFaultless, IsIdle, IsReportOf, IsSilent, IsStopped, MayEnd, Outcome, Prints, Reports, bad_line_text, bad_shard_text, early_outcome, store_folder};
 ghost use Rattle.xet_store_cli.specs.Allowed.{AllowsInput};
-ghost use Rattle.xet_store_cli.specs.Stops.{Answers, AnswersByInput, IsIdleStop};
+ghost use Rattle.xet_store_cli.specs.Stops.{Answers, AnswersByFolder, AnswersByInput, IsIdleStop};
 ghost use Rattle.xet_store_cli.specs.Stored.{HasRecorded, HasRecordedBy, HasStored, HasStoredBy, KeepsListed};
 ghost use Rattle.xet_store_cli.specs.Words.{command_of};
 
@@ -26,7 +28,7 @@ use xet_io::{Disk, Inputs, Sink, Source};
 /// | Status | Comes |
 /// |---|---|
 /// | 0 | the input was read to its end, its files were stored, and the report of its lines was printed |
-/// | 1 | there was no memory |
+/// | 1 | there was no memory; a store answers so too where digests collide |
 /// | 2 | exactly where the words are no command |
 /// | 3 | exactly where the input has a bad line; it prints `bad line n` of the first, counted from 1 |
 /// | 4, 5, 6 | only where the input, the output, the disk failed in this call |
@@ -36,8 +38,10 @@ use xet_io::{Disk, Inputs, Sink, Source};
 /// | 10 | only over a disk that does not tell: a stored xorb was other than when it was checked |
 ///
 /// Of 2, 9, 3, 8 and 7 the first that fits is due, and else 0. A run to which another status than 2 is due may
-/// be stopped by 1, 4, 5 or 6, with no more printed than a front of its text. What is said of an input, an
-/// output and a disk holds where they tell.
+/// be stopped by 1, 4 or 6 before it prints, and has then written nothing: a report is printed once its files
+/// are stored. It is cut short by 5, or by 1 where the output has no memory, after a prefix of its text. No other
+/// status comes, and nothing is printed at 2, 4, 6, 8, 9 and 10, whatever an input and a disk tell. What is said
+/// of the bytes of an input, an output and a disk holds where they tell.
 pub fn run_program<I, O, D, F, R>(
     alloc: Global,
     rt: &R,
@@ -55,11 +59,18 @@ where
     F: Inputs,
     R: Threads + Wait + Sync,
     ensures words { (result.1 ≡ 2) ↔ (command_of (map string_bytes words.now) ≡ None) }
-    ensures outcome { I.tells input.old ≡ true → O.tells output.old ≡ true → D.tells disk ≡ true
-        → EndsOver (map string_bytes words.now) (I.left input.old) now (D.files disk) (D.files result.0) (O.written output.old) (O.written output.new) result.1 }
-    ensures early { I.tells input.old ≡ true → O.tells output.old ≡ true
-        → EndsEarly (early_outcome (command_of (map string_bytes words.now)) (I.left input.old)) (O.written output.old) (O.written output.new) result.1 }
-    ensures complete { I.tells input.old ≡ true → O.tells output.old ≡ true → D.tells disk ≡ true
+    ensures ends { (o : Outcome) × MayEnd (map string_bytes words.now) (I.tells input.old) (I.left input.old) now (D.tells disk) (D.files disk) (D.files result.0) o
+        × Prints (O.tells output.old) o (O.written output.old) (O.written output.new) result.1 }
+    ensures outcome { I.tells input.old ≡ true → D.tells disk ≡ true
+        → EndsOver (map string_bytes words.now) (I.left input.old) now (D.files disk) (D.files result.0) (O.tells output.old) (O.written output.old) (O.written output.new) result.1 }
+    ensures early { I.tells input.old ≡ true
+        → EndsEarly (O.tells output.old) (early_outcome (command_of (map string_bytes words.now)) (I.left input.old)) (O.written output.old) (O.written output.new) result.1 }
+    ensures bounded { result.1 ≤ 10 }
+    ensures silent { O.tells output.old ≡ true → IsSilent result.1 → O.written output.new ≡ O.written output.old }
+    ensures bad_line { O.tells output.old ≡ true → result.1 ≡ 3 → (n : ℕ) × (O.written output.new ≡ O.written output.old ++ bad_line_text n) }
+    ensures bad_shard { result.1 ≡ 7 → (name : List ℕ) × (D.tells disk ≡ true → (e : StoreError) × Refuses (D.files disk) store_folder now e name)
+        × (O.tells output.old ≡ true → O.written output.new ≡ O.written output.old ++ bad_shard_text name) }
+    ensures complete { I.tells input.old ≡ true → D.tells disk ≡ true
         → IsFaultless (map string_bytes words.now) (I.left input.old) now (D.files disk) → (result.1 ≡ 0) ⊎ IsStopped result.1 }
     ensures report { I.tells input.old ≡ true → O.tells output.old ≡ true → result.1 ≡ 0
         → Reports (map string_bytes words.now) (I.left input.old) (D.tells disk) (D.files result.0) now (O.written output.old) (O.written output.new) }
@@ -95,6 +106,7 @@ fn run_command<I: Source, D: Disk + Send>(
 ) -> (D, Ending)
     ensures words { (result.1.status ≡ 2) ↔ (command_of (map string_bytes words.now) ≡ None) }
     ensures silent { result.1.status ≡ 2 → result.1.text ≡ [] }
+    ensures ends { MayEnd (map string_bytes words.now) (I.tells input.old) (I.left input.old) now (D.tells disk) (D.files disk) (D.files result.0) result.1 }
     ensures outcome { I.tells input.old ≡ true → D.tells disk ≡ true
         → Ended (IsDue (command_of (map string_bytes words.now)) (I.left input.old) now (D.files disk) (D.files result.0)) result.1 }
     ensures early { I.tells input.old ≡ true → EndedEarly (early_outcome (command_of (map string_bytes words.now)) (I.left input.old)) result.1 }
@@ -136,8 +148,8 @@ fn answer<I: Source, D: Disk + Send>(
     ensures answer { I.tells input.old ≡ true → D.tells disk ≡ true
         → Answers (IsDue (Some command.now) (I.left input.old) now (D.files disk) (D.files result.0)) result.1 }
     ensures early { I.tells input.old ≡ true → AnswersByInput (early_outcome (Some command.now) (I.left input.old)) result.1 }
-    ensures report { I.tells input.old ≡ true
-        → IfOk result.1 (λ text. IsReportOf command.now (I.left input.old) (D.tells disk) (D.files result.0) now text.items) }
+    ensures folder { D.tells disk ≡ true → AnswersByFolder now (D.files disk) result.1 }
+    ensures report { IfOk result.1 (λ text. IsReportOf command.now (I.tells input.old) (I.left input.old) (D.tells disk) (D.files result.0) now text.items) }
     ensures read { I.tells input.old ≡ true → OnOk result.1 (I.left input.new ≡ []) }
     ensures stored { I.tells input.old ≡ true → D.tells disk ≡ true → OnOk result.1 (HasStoredBy command.now (I.left input.old) (D.files result.0)) }
     ensures recorded { I.tells input.old ≡ true → D.tells disk ≡ true → OnOk result.1 (HasRecordedBy command.now (I.left input.old) now (D.files result.0)) }

@@ -5,7 +5,8 @@ use Rattle.xet_store_cli.specs.Outcome.{AreSeparate, lines_said}
 use Rattle.xet_store_cli.specs.Parsing.{ForLines}
 use Rattle.xet_store_cli.specs.Report.{IsReport}
 use Rattle.xet_store_cli.specs.Stored.{HasRecordedBy, HasStoredBy}
-use Rattle.xet_store_cli.proofs.Outcomes.{by_input_late, due_late}
+use Rattle.xet_store_cli.proofs.Endings.{report_of_lines}
+use Rattle.xet_store_cli.proofs.Outcomes.{by_folder_early, by_folder_late, by_input_late, due_late}
 use Rattle.xet_store_cli.proofs.pack.pack.Goals as goal
 
 pub returns-in-Ok-clause-answer : goal.returns-in-Ok-clause-answer
@@ -27,3 +28,14 @@ returns-in-Ok-clause-recorded g c = λ told disk_told.
 
 pub returns-in-Ok-clause-early : goal.returns-in-Ok-clause-early
 returns-in-Ok-clause-early g c = λ told. by_input_late _ c.args.limits.now _ _ _ c.requires (c.in-Ok.ensures.answer told) c.store_lines.ensures.stop
+
+pub returns-in-Ok-clause-folder : goal.returns-in-Ok-clause-folder
+returns-in-Ok-clause-folder g c = λ disk_told. by_folder_late c.args.limits.now c.in-Ok.lines c.args.now _ c.store_lines.result.1 (c.store_lines.ensures.answer disk_told)
+
+pub returns-in-Err-clause-folder : goal.returns-in-Err-clause-folder
+returns-in-Err-clause-folder g c = λ disk_told. by_folder_early c.args.now _ c.in-Err.stop c.in-Err.ensures.stop
+
+pub returns-in-Ok-clause-report : goal.returns-in-Ok-clause-report
+returns-in-Ok-clause-report g c =
+    report_of_lines c.args.limits.now (g.I.Source.left c.args.input.now) (g.D.Disk.tells c.args.disk) (g.D.Disk.files c.store_lines.result.0) c.args.now c.in-Ok.lines
+    (g.I.Source.tells c.args.input.now) c.store_lines.result.1 c.in-Ok.ensures.answer c.in-Ok.ensures.good c.store_lines.ensures.report

@@ -1,16 +1,32 @@
 use Rattle.std.proofs.Common.{map}
 use Rattle.std.specs.Prelude.{string_bytes}
+use Rattle.xet_store_cli.proofs.Endings.{bad_line_of, bad_shard_of, bounded_of, silent_of}
 use Rattle.xet_store_cli.proofs.Outcomes.{complete_of, ends_early, ends_over}
 use Rattle.xet_store_cli.proofs.run.run_program.Goals as goal
 
+pub returns-clause-ends : goal.returns-clause-ends
+returns-clause-ends g c = (c.run_command-disk.result.1, c.run_command-disk.ensures.ends, c.print-status.ensures.prints)
+
+pub returns-clause-bounded : goal.returns-clause-bounded
+returns-clause-bounded g c = bounded_of _ _ _ _ _ _ _ _ _ _ _ (c.run_command-disk.result.1, c.run_command-disk.ensures.ends, c.print-status.ensures.prints)
+
+pub returns-clause-silent : goal.returns-clause-silent
+returns-clause-silent g c = λ told silent. silent_of _ _ _ _ _ _ _ _ _ _ _ (c.run_command-disk.result.1, c.run_command-disk.ensures.ends, c.print-status.ensures.prints) told silent
+
+pub returns-clause-bad_line : goal.returns-clause-bad_line
+returns-clause-bad_line g c = λ told three. bad_line_of _ _ _ _ _ _ _ _ _ _ _ (c.run_command-disk.result.1, c.run_command-disk.ensures.ends, c.print-status.ensures.prints) told three
+
+pub returns-clause-bad_shard : goal.returns-clause-bad_shard
+returns-clause-bad_shard g c = λ seven. bad_shard_of _ _ _ _ _ _ _ _ _ _ _ (c.run_command-disk.result.1, c.run_command-disk.ensures.ends, c.print-status.ensures.prints) seven
+
 pub returns-clause-outcome : goal.returns-clause-outcome
-returns-clause-outcome g c = λ told output_told disk_told.
-    ends_over (map string_bytes c.args.words.now) _ _ _ _ _ _ _ _ (c.run_command-disk.ensures.outcome told disk_told) (c.print-status.ensures.told output_told)
+returns-clause-outcome g c = λ told disk_told.
+    ends_over (map string_bytes c.args.words.now) _ _ _ _ _ _ _ _ _ (c.run_command-disk.ensures.outcome told disk_told) c.print-status.ensures.prints
 
 pub returns-clause-complete : goal.returns-clause-complete
-returns-clause-complete g c = λ told output_told disk_told fine.
-    complete_of (map string_bytes c.args.words.now) _ _ _ _ c.print-status.result fine _ _
-    (ends_over (map string_bytes c.args.words.now) _ _ _ _ _ _ _ _ (c.run_command-disk.ensures.outcome told disk_told) (c.print-status.ensures.told output_told))
+returns-clause-complete g c = λ told disk_told fine.
+    complete_of (map string_bytes c.args.words.now) _ _ _ _ c.print-status.result fine _ _ _
+    (ends_over (map string_bytes c.args.words.now) _ _ _ _ _ _ _ _ _ (c.run_command-disk.ensures.outcome told disk_told) c.print-status.ensures.prints)
 
 pub returns-clause-early : goal.returns-clause-early
-returns-clause-early g c = λ told output_told. ends_early _ _ _ _ c.print-status.result (c.run_command-disk.ensures.early told) (c.print-status.ensures.told output_told)
+returns-clause-early g c = λ told. ends_early _ _ _ _ _ c.print-status.result (c.run_command-disk.ensures.early told) c.print-status.ensures.prints

@@ -10,3 +10,6 @@ pub returns-clause-text : goal.returns-clause-text
 returns-clause-text g c =
     let lines = c.in_ok-push_ranges.ensures.lines in
     (lines.0, read_after c.args.infos.now _ _ c.args.ranges.now lines.0 c.in_ok-push_ranges.ensures.unchanged lines.1, lines.2 ∙ ap (λ (t : List ℕ). t ++ lines.0) c.in_ok-text.ensures.text)
+
+pub returns-in_err-push_ranges-clause-keeps : goal.returns-in_err-push_ranges-clause-keeps
+returns-in_err-push_ranges-clause-keeps g c = keeps_then _ _ _ c.in_ok-flush.ensures.keeps (keeps_unchanged _ _ c.in_err-push_ranges.ensures.unchanged)
