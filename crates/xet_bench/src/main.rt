@@ -2,16 +2,8 @@
 //! and flushes it; `open MIB` then opens the store again; `range MIB` then reads the file in ranges of
 //! 1 MiB, and prints how many bytes came. Of digests: `generate MIB` generates the file alone; `digest MIB`
 //! then digests it, and `define MIB` does so by the definition; both print the digest's first word.
-//!
-//! Two phases time themselves and print microseconds: `scatter MIB` stores a generated file of so many MiB at
-//! a target of 512 bytes, opens the store again, and times 10,000 ranges of 512 bytes at scattered offsets;
-//! `merkle ROUNDS` times so many xorb hashes of 8,192 chunks, and `leaves ROUNDS` the digests alone that one
-//! of them takes.
 #![tactic(auto)]
 
-mod timed;
-
-use crate::timed::{Timed, run_timed};
 use std::alloc::Global;
 use std::process::ExitCode;
 use std::{env, println};
@@ -22,7 +14,7 @@ use xet_store::{LimitSettings, Limits, Store, clean_files, gear_table, generated
 /// The most MiB of a file.
 const MOST: u64 = 1 << 12;
 
-/// The bytes of a range, which are a MiB.
+/// The bytes of a range.
 const RANGE: u64 = 1 << 20;
 
 /// How far a run goes.
@@ -34,18 +26,13 @@ enum Phase {
     Generate,
     Digest,
     Define,
-    Timed(Timed),
 }
 
 fn main(rt: HostRuntime) -> ExitCode {
-    let Some((phase, number)) = read_words(&rt) else {
+    let Some((phase, mebibytes)) = read_words(&rt) else {
         return ExitCode::from(2);
     };
-    let answer = match phase {
-        Phase::Timed(timed) => run_timed(&rt, rt.alloc(), timed, number),
-        _ => run(rt.alloc(), phase, number),
-    };
-    match answer {
+    match run(rt.alloc(), phase, mebibytes) {
         Ok(number) => {
             let _ = println!(&rt; "{number}");
             ExitCode::from(0)
@@ -54,7 +41,7 @@ fn main(rt: HostRuntime) -> ExitCode {
     }
 }
 
-/// The phase and the number that the words say.
+/// The phase and the MiB that the words say.
 fn read_words(rt: &HostRuntime) -> Option<(Phase, u64)> {
     let mut words = env::args(rt).ok()?.skip(1);
     let phase = match words.next()?.as_str() {
@@ -64,23 +51,20 @@ fn read_words(rt: &HostRuntime) -> Option<(Phase, u64)> {
         "generate" => Phase::Generate,
         "digest" => Phase::Digest,
         "define" => Phase::Define,
-        "scatter" => Phase::Timed(Timed::Scatter),
-        "merkle" => Phase::Timed(Timed::Merkle),
-        "leaves" => Phase::Timed(Timed::Leaves),
         _ => return None,
     };
-    let number = words.next()?.as_str().parse::<u64>().ok()?;
-    if number > MOST {
+    let mebibytes = words.next()?.as_str().parse::<u64>().ok()?;
+    if mebibytes > MOST {
         return None;
     }
-    Some((phase, number))
+    Some((phase, mebibytes))
 }
 
 /// Runs the phases up to this one, and gives the number that is printed.
 fn run(alloc: Global, phase: Phase, mebibytes: u64) -> Result<u64, StoreError> {
     match phase {
         Phase::Write | Phase::Open | Phase::Range => run_store(alloc, phase, mebibytes),
-        _ => run_digest(alloc, phase, mebibytes),
+        Phase::Generate | Phase::Digest | Phase::Define => run_digest(alloc, phase, mebibytes),
     }
 }
 
@@ -110,16 +94,12 @@ fn run_store(alloc: Global, phase: Phase, mebibytes: u64) -> Result<u64, StoreEr
     read(&mut store, &hash, mebibytes.min(MOST))
 }
 
-pub(crate) fn open(
-    alloc: Global,
-    disk: MemoryDisk,
-    limits: Limits,
-) -> Result<Store<MemoryDisk>, StoreError> {
+fn open(alloc: Global, disk: MemoryDisk, limits: Limits) -> Result<Store<MemoryDisk>, StoreError> {
     Store::open(alloc, disk, "store", limits, 0, false).map_err(|refused| refused.error)
 }
 
 /// Stores a generated file, and gives its hash.
-pub(crate) fn write(
+fn write(
     alloc: Global,
     store: Store<MemoryDisk>,
     mebibytes: u64,
