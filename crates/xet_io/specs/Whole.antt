@@ -2,15 +2,14 @@
 use Rattle.std.specs.Prelude.{◌≡◌, ℕ, ◌<◌, ◌≤◌, List, [], ◌++◌, length, take, drop, Vec, Result, Ok, Err}
 use Rattle.std.specs.declared.alloc.Global.{Global}
 use Rattle.xet_io.specs.declared.whole.Unread.{Unread}
-use Rattle.xet_io.specs.declared.whole.Unread.TheVariants.{OutOfMemory, Failed, TooLong}
+use Rattle.xet_io.specs.declared.whole.Unread.TheVariants.{TooLong}
 
 -- A source that is read to its end has given all its bytes, at most so many; one that is too long had
--- more.
+-- more. After an error a front of what was left is taken.
 abbrev pub ReadsAll : ℕ → List ℕ → Result (Vec ℕ Global) Unread → List ℕ → Type 0
 ReadsAll most left (Ok bytes) rest = (bytes.items ≡ left) × (rest ≡ []) × (length left ≤ most)
-ReadsAll most left (Err OutOfMemory) rest = Unit {0}
-ReadsAll most left (Err Failed) rest = Unit {0}
-ReadsAll most left (Err TooLong) rest = most < length left
+ReadsAll most left (Err TooLong) rest = (most < length left) × ((n : ℕ) × (rest ≡ drop n left))
+ReadsAll most left (Err e) rest = (n : ℕ) × (rest ≡ drop n left)
 
 -- The source's next `count` bytes stand at the buffer's front and are no longer left; they are fewer than
 -- the buffer holds only where none is left behind them.

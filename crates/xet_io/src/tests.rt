@@ -53,8 +53,8 @@ fn slice_source_gives_short_reads(rt: HostRuntime) -> Result<(), Fail> {
 }
 
 #[test]
-fn whole_readers_are_read_in_blocks(rt: HostRuntime) -> Result<(), Fail> {
-    let bytes = read_whole(rt.alloc(), &mut SliceReader::new(b"abcde"), 2)?;
+fn a_reader_is_read_whole(rt: HostRuntime) -> Result<(), Fail> {
+    let bytes = read_whole(rt.alloc(), &mut SliceReader::new(b"abcde"))?;
     assert_eq!(rt; bytes.as_slice(), b"abcde".as_slice());
     Ok(())
 }

@@ -1,6 +1,6 @@
 //! Sources read to their ends.
 
-ghost use Rattle.std.specs.Prelude.{◌≡◌, ◌≤◌, ◌<◌, ◌+◌, ◌^◌, true, length, vec_len, drop, take, IfOk, OnOk, IsErr, IsErrOf};
+ghost use Rattle.std.specs.Prelude.{◌≡◌, ◌≢◌, ◌≤◌, ◌<◌, ◌+◌, ◌++◌, ◌^◌, ℕ, [], true, length, vec_len, drop, take, IfErr, IfOk, OnErr, OnOk, IsErr, IsErrOf, IsOkUnless};
 ghost use Rattle.xet_io.specs.Faults.{HasCause};
 ghost use Rattle.xet_io.specs.Streams.{Reads};
 ghost use Rattle.xet_io.specs.Whole.{Fills, ReadsAll};
@@ -34,6 +34,10 @@ impl From<AllocError> for Unread {
 /// The first room that is made, in bytes.
 const FIRST_ROOM: usize = 1 << 16;
 
+/// Where the room is full, so many bytes are read beside it at most, so that a source that has just ended costs no
+/// room.
+const BESIDE: usize = 32;
+
 /// All bytes that are left in a source, read at most `block` bytes at a time, straight into their place.
 /// A source that has more than `most` is too long.
 pub fn read_all<S: Source>(
@@ -52,17 +56,67 @@ pub fn read_all<S: Source>(
     let mut bytes = Vec::new(alloc);
     let mut filled = 0;
     'reads: while filled <= most {
-        make_room(&mut bytes, filled)?;
-        match read_behind(source, &mut bytes, filled, block) {
+        match read_more(source, &mut bytes, filled, block) {
             Ok(0) => {
                 bytes.truncate(filled);
                 return Ok(bytes);
             }
             Ok(count) => filled += count,
-            Err(_) => return Err(Unread::Failed),
+            Err(unread) => return Err(unread),
         }
     }
     Err(Unread::TooLong)
+}
+
+/// Reads once behind the first `filled` bytes, at most `block` bytes, and returns how many: none only at the end.
+/// More room is made only where there are more bytes.
+fn read_more<S: Source>(
+    source: &mut S,
+    bytes: &mut Vec<u8>,
+    filled: usize,
+    block: usize,
+) -> Result<usize, Unread>
+    requires bound { filled ≤ vec_len bytes.old }
+    requires most { filled ≤ 2 ^ 62 }
+    requires block { 0 < block }
+    ensures next { S.tells source.old ≡ true → IfOk result (λ count. S.left source.old ≡ take count (drop filled bytes.new.items) ++ S.left source.new) }
+    ensures ended { S.tells source.old ≡ true → IfOk result (λ count. count ≡ 0 → S.left source.new ≡ []) }
+    ensures taken { S.tells source.old ≡ true → OnErr result ((n : ℕ) × (S.left source.new ≡ drop n (S.left source.old))) }
+    ensures front { OnOk result (take filled bytes.new.items ≡ take filled bytes.old.items) }
+    ensures bound { IfOk result (λ count. filled + count ≤ vec_len bytes.new) }
+    ensures kind { IfErr result (λ e. e ≢ Unread.TooLong) }
+    ensures tells { S.tells source.new ≡ S.tells source.old }
+    ensures cause { HasCause (S.faults source.old) (S.faults source.new) (IsErrOf result Unread.Failed) }
+{
+    if filled < bytes.len() {
+        return match read_behind(source, bytes, filled, block) {
+            Ok(count) => Ok(count),
+            Err(_) => Err(Unread::Failed),
+        };
+    }
+    let mut beside = [0; BESIDE];
+    let end = block.min(BESIDE);
+    match source.read(&mut beside[..end]) {
+        Ok(count) => push_beside(bytes, &beside[..count]),
+        Err(_) => Err(Unread::Failed),
+    }
+}
+
+/// Puts bytes that were read beside behind the others, where there are any, and returns how many.
+fn push_beside(bytes: &mut Vec<u8>, beside: &[u8]) -> Result<usize, Unread>
+    requires most { vec_len bytes.old ≤ 2 ^ 62 }
+    requires few { length beside.now ≤ 32 }
+    ensures put { IfOk result (λ count. (count ≡ length beside.now) × (vec_len bytes.old + count ≤ vec_len bytes.new) × (take count (drop (vec_len bytes.old) bytes.new.items) ≡ beside.now)) }
+    ensures front { OnOk result (take (vec_len bytes.old) bytes.new.items ≡ bytes.old.items) }
+    ensures memory { IsOkUnless result Unread.OutOfMemory }
+{
+    let count = beside.len();
+    if count > 0 {
+        let filled = bytes.len();
+        bytes.resize(FIRST_ROOM.max(2 * filled), 0)?;
+        bytes[filled..filled + count].copy_from_slice(beside);
+    }
+    Ok(count)
 }
 
 /// Reads until `buf` is full or the source has ended, and returns how many bytes it took, which stand at
@@ -83,19 +137,6 @@ pub fn read_full<S: Source>(source: &mut S, buf: &mut [u8]) -> Result<usize, Fai
         filled += count;
     }
     Ok(filled)
-}
-
-/// Makes room behind the first `filled` bytes, twice as much each time.
-pub(crate) fn make_room(bytes: &mut Vec<u8>, filled: usize) -> Result<(), AllocError>
-    requires bound { filled ≤ vec_len bytes.old }
-    requires most { filled ≤ 2 ^ 62 }
-    ensures room { OnOk result (filled < vec_len bytes.new) }
-    ensures front { OnOk result (take filled bytes.new.items ≡ take filled bytes.old.items) }
-{
-    if filled == bytes.len() {
-        bytes.resize(FIRST_ROOM.max(2 * filled), 0)?;
-    }
-    Ok(())
 }
 
 /// Reads once into the room behind the first `filled` bytes, at most `block` bytes.

@@ -1,11 +1,12 @@
-use Rattle.std.proofs.Common.{◌≡◌, ◌≤◌, ◌-◌, true, drop, length, take}
-use Rattle.xet_io.proofs.reader.read_exact_at.Given as goal
+use Rattle.std.proofs.Common.{◌≡◌, ◌≤◌, ◌-◌, true, Some, length}
+use Rattle.xet_io.proofs.Reading.{FillsPart}
+use Rattle.xet_io.proofs.reader.read_front.Given as goal
 
 abbrev pub invariant-reads : goal.invariant-reads
 invariant-reads g l = record {
   room : l.filled ≤ length l.buf;
   len : length l.buf ≡ length l.fn.buf;
-  read : g.R.ReadAt.tells l.fn.reader ≡ true → take l.filled (drop l.at (g.R.ReadAt.bytes l.fn.reader)) ≡ take l.filled l.buf;
+  read : g.R.ReadAt.tells l.fn.reader ≡ true → FillsPart (Some (g.R.ReadAt.bytes l.fn.reader)) l.at l.buf l.filled;
   same : g.R.ReadAt.bytes l.reader ≡ g.R.ReadAt.bytes l.fn.reader;
   tells : g.R.ReadAt.tells l.reader ≡ g.R.ReadAt.tells l.fn.reader;
   later : g.R.ReadAt.faults l.fn.reader ≤ g.R.ReadAt.faults l.reader;

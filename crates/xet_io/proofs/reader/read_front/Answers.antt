@@ -1,8 +1,8 @@
-use Rattle.std.proofs.Common.{◌∙◌, ℕ, ◌+◌, List, ap, drop, rules, subst, sym, take}
-use Rattle.std.proofs.lemmas.List.{drop-drop}
+use Rattle.std.proofs.Common.{◌∙◌, ◌+◌, List, ℕ, Some, drop, rules, subst}
+use Rattle.xet_io.specs.Disk.{file}
 use Rattle.xet_io.specs.Streams.{ReadsPart}
-use Rattle.xet_io.proofs.Reading.{front_more}
-use Rattle.xet_io.proofs.reader.read_exact_at.Goals as goal
+use Rattle.xet_io.proofs.Reading.{fills_more}
+use Rattle.xet_io.proofs.reader.read_front.Goals as goal
 
 pub reads-preserved : goal.reads-preserved
 reads-preserved g c =
@@ -15,7 +15,7 @@ reads-preserved g c =
       len = search rules;
       read = λ told.
           let part = subst (λ (b : List ℕ). ReadsPart b (c.args.at + filled) (drop filled c.read_on.new.buf) count) i.same (c.in-Ok.ensures.told (i.tells ∙ told)) in
-          front_more (drop c.args.at whole) c.reads.buf c.read_on.new.buf filled count (i.read told) c.in-Ok.ensures.front (part.part ∙ ap (take count) (sym (drop-drop filled c.args.at whole)));
+          fills_more (Some (file whole 0)) c.args.at c.reads.buf c.read_on.new.buf filled count c.in-Ok.ensures.front (i.read told) part;
       same = search rules;
       tells = search rules;
       later = search rules;
