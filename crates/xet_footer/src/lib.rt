@@ -13,6 +13,7 @@ mod machine;
 mod reading;
 mod writing;
 
+pub use block::Block;
 pub use decoder::FooterDecoder;
 pub use ends::{last_footer, read_exact, reader_length, told_length};
 pub use info::{XorbObjectIdent, XorbObjectInfoV0, XorbObjectInfoV1};
