@@ -1,10 +1,10 @@
 -- What a shard's text answers is what the shard holds.
-use Rattle.std.proofs.Common.{◌≡◌, ◌≢◌, ℕ, zero, suc, ◌+◌, ◌-◌, ◌*◌, ◌^◌, ◌<◌, ◌≤◌, Bool, true, false, cond, eqb, List, [], ◌∷◌, ◌++◌, drop, length, map, nat_eq, None, Option, Some, Result, Ok, refl, sym, ap, subst, ◌∙◌, arith, inl, inr}
+use Rattle.std.proofs.Common.{◌≡◌, ◌≢◌, ℕ, zero, suc, ◌+◌, ◌-◌, ◌*◌, ◌^◌, ◌<◌, ◌≤◌, Bool, true, false, cond, eqb, List, [], ◌∷◌, ◌++◌, drop, filter, length, map, nat_eq, nat_le, nat_lt, take, None, Option, Some, Result, Ok, refl, sym, ap, subst, ◌∙◌, arith, inl, inr}
 use Rattle.std.specs.Cmp.Lexicographic.{bytes_decides, pointwise}
 use Rattle.std.specs.List.{AllByRecursion, list_any}
 use Rattle.std.specs.Prelude.{◌==◌, if◌then◌else◌}
-use Rattle.std.proofs.lemmas.Bool.{cases_Bool, eq-eqb, eqb-false, eqb-true, le-leb, lt-ltb, ne_eqb}
-use Rattle.std.proofs.lemmas.List.{drop-drop, drop_at, length-append}
+use Rattle.std.proofs.lemmas.Bool.{cases_Bool, cases_lt, eq-eqb, eqb-false, eqb-true, le-leb, le-ltb, lt-ltb, ne_eqb}
+use Rattle.std.proofs.lemmas.List.{drop-drop, drop_at, length-append, length-take, take_all}
 use Rattle.std.proofs.lemmas.Option.{same_Some}
 use Rattle.xet_hash.specs.declared.error.StoreError.{StoreError}
 use Rattle.xet_shard.specs.declared.info.MDBShardFileFooter.{MDBShardFileFooter}
@@ -14,19 +14,23 @@ use Rattle.xet_shard.specs.declared.record.MDBXorbInfo.{MDBXorbInfo}
 use Rattle.xet_shard.specs.declared.record.XorbChunkSequenceEntry.{XorbChunkSequenceEntry}
 use Rattle.xet_shard.specs.declared.row.Row.{Row}
 use Rattle.xet_shard.specs.Held.{record_of}
-use Rattle.xet_shard.specs.Lookups.{Lookups, chunk_items, chunks_from, heads_from, place_cmp, places_from}
-use Rattle.xet_shard.specs.Queries.{block_at, block_in, file_in, first_file, found_file, found_run, kept_hash, last_of, record_in, rows_of, run_in, shard_file, shard_run, shard_run_at, told_run}
+use Rattle.xet_shard.specs.Bisection.{Bisects}
+use Rattle.xet_shard.specs.Lookups.{Lookups, chunk_items, chunks_from, file_items, heads_from, place_cmp, places_from, xorb_items}
+use Rattle.xet_shard.specs.Queries.{block_at, chunk_place, chunk_table, fewer_than_eight, file_after, file_in, file_items_from, file_table, first_file, found_file, found_run, has_head, kept_hash, last_of, place_before, query_word, read_in_row, rows_from, rows_of, run_in, run_of_word, shard_file, shard_run, shard_run_at, tells_row, told_run, xorb_table}
 use Rattle.xet_shard.specs.Reading.{◌>>=◌, file_at, file_row_count, xorb_at, xorb_row_count}
 use Rattle.xet_shard.specs.Records.{AreRecords, IsFile, IsXorb, file_hash, file_head, file_rest, file_rows, first_word, section, xorb_hash, xorb_head, xorb_rest, xorb_rows}
 use Rattle.xet_shard.specs.Rows.{rows_in}
-use Rattle.xet_shard.specs.Runs.{run_at}
+use Rattle.xet_shard.specs.Runs.{run_after, run_at}
 use Rattle.xet_shard.specs.Text.{Fits, IsShard, Shard, footer_of, shard_text}
 use Rattle.xet_shard.proofs.Fitting.{all_both}
 use Rattle.xet_shard.proofs.ItemsAgain.{sorted_all}
-use Rattle.xet_shard.proofs.PartsAgain.{chunks_again, file_lookup_again, text_checked, text_placed, xorbs_again}
-use Rattle.xet_shard.proofs.PartLaws.{count_whole}
-use Rattle.xet_shard.proofs.RowList.{length-rows_in}
-use Rattle.xet_shard.proofs.SectionLaws.{Reading, files_reading, section_cons, section_takes, xorbs_reading}
+use Rattle.xet_shard.proofs.PartsAgain.{chunks_again, text_checked, text_placed, xorbs_again, chunk_table_again, file_table_again, files_again, xorb_table_again}
+use Rattle.xet_shard.proofs.PartLaws.{count_whole, files_made}
+use Rattle.xet_shard.proofs.RowList.{length-rows_in, rows_drop}
+use Rattle.xet_shard.proofs.RunsAgain.{run_taken}
+use Rattle.xet_shard.proofs.SectionLaws.{files_reading, section_cons, section_takes, xorbs_reading}
+use Rattle.xet_shard.proofs.RisingTables.{chunk_words_rise, equal_from, file_words_rise, last_before, row_told, xorb_rows_rise}
+use Rattle.xet_shard.proofs.Tables.{chunks_of_all, files_at_index, head_at_index, heads_of_all, place_at_index}
 
 -- something holds of each record and its row
 abbrev pub Each : {X : Type 0} → (X → List Row) → (ℕ → X → Type 0) → ℕ → List X → Type 0
@@ -35,36 +39,28 @@ Each rows P at (x ∷ xs) = P at x × Each rows P (at + length (rows x)) xs
 
 -- ---- the records are read, each in its row
 
--- the rows from a row on
-rows_drop : (r n : ℕ) (bytes : List ℕ) → r ≤ n → rows_in (n - r) (drop (48 * r) bytes) ≡ drop r (rows_in n bytes)
-unfolding rows_in
-rows_drop zero n bytes le = let e : n - 0 ≡ n = omega arith in let z : 48 * 0 ≡ 0 = omega arith in λ i. rows_in (e i) (drop (z i) bytes)
-rows_drop (suc r) zero bytes le = absurd (omega arith)
-rows_drop (suc r) (suc n) bytes le =
-    let e : suc n - suc r ≡ n - r = omega arith in
-    let d : 48 * suc r ≡ 48 + 48 * r = omega arith in
-    (λ i. rows_in (e i) (drop (d i) bytes)) ∙ ap (rows_in (n - r)) (sym (drop-drop (48 * r) 48 bytes)) ∙ rows_drop r n (drop 48 bytes) (omega arith)
-
-module _ {X : Type 0} (record_at : Row → List Row → Result (X × List Row) StoreError) (hash : X → List ℕ) (head : X → Row) (others : X → List Row) (Form : X → Type 0) (each : Reading record_at hash head others Form)
+module _ {X Y : Type 0} (read : Row → List Row → Result Y StoreError) (head : X → Row) (others : X → List Row) (Form : X → Type 0) (what : X → Y) (each : (x : X) (rest : List Row) → Form x → read (head x) (others x ++ rest) ≡ Ok (what x))
     (at count : ℕ) (bytes : List ℕ) (few : count < 2 ^ 32) (inside : at + 48 * count ≤ length bytes) where
+  -- what is read of the record whose rows are the next of the section
+  row_read : (row : ℕ) (x : X) (rest : List Row) → row < count → drop row (rows_in count (drop at bytes)) ≡ head x ∷ (others x ++ rest) → Form x → read_in_row read at count row bytes ≡ Ok (what x)
+  unfolding read_in_row rows_from
+  row_read row x rest below is form =
+      let there : rows_in (count - row) (drop (at + 48 * row) bytes) ≡ head x ∷ (others x ++ rest) = ap (rows_in (count - row)) (sym (drop-drop (48 * row) at bytes)) ∙ rows_drop row count (drop at bytes) (omega arith) ∙ is in
+      rw (lt-ltb count (2 ^ 32) few, lt-ltb row count below, le-leb (at + 48 * count) (length bytes) inside, there, each x rest form) refl
+
+-- what holds of each record that begins in a row of a section holds of all of them
+module _ {X : Type 0} (hash : X → List ℕ) (head : X → Row) (others : X → List Row) (Form : X → Type 0) (P : ℕ → X → Type 0) (count : ℕ) (all : List Row)
+    (one : (row : ℕ) (x : X) (rest : List Row) → row < count → drop row all ≡ head x ∷ (others x ++ rest) → Form x → P row x) where
   abbrev rows : X → List Row
   rows x = head x ∷ others x
 
-  -- the record whose rows are the next of the section
-  record_there : (row : ℕ) (x : X) (rest : List Row) → row < count → drop row (rows_in count (drop at bytes)) ≡ head x ∷ (others x ++ rest) → Form x → record_in record_at at count row bytes ≡ Ok x
-  unfolding record_in
-  record_there row x rest below is form =
-      let there : rows_in (count - row) (drop (at + 48 * row) bytes) ≡ head x ∷ (others x ++ rest) = ap (rows_in (count - row)) (sym (drop-drop (48 * row) at bytes)) ∙ rows_drop row count (drop at bytes) (omega arith) ∙ is in
-      rw (lt-ltb count (2 ^ 32) few, lt-ltb row count below, le-leb (at + 48 * count) (length bytes) inside, there, each.again x rest form) refl
-
-  pub records_there : (row : ℕ) (last : Option (List ℕ)) (xs : List X) → drop row (rows_in count (drop at bytes)) ≡ section rows xs → row + length (section rows xs) ≡ count → AreRecords hash Form last xs
-      → Each rows (λ r x. record_in record_at at count r bytes ≡ Ok x) row xs
-  records_there row last [] is sum form = tt
-  records_there row last (x ∷ xs) is sum form =
-      let all : drop row (rows_in count (drop at bytes)) ≡ rows x ++ section rows xs = is ∙ section_cons rows x xs in
+  each_there : (row : ℕ) (last : Option (List ℕ)) (xs : List X) → drop row all ≡ section rows xs → row + length (section rows xs) ≡ count → AreRecords hash Form last xs → Each rows P row xs
+  each_there row last [] is sum form = tt
+  each_there row last (x ∷ xs) is sum form =
+      let first : drop row all ≡ rows x ++ section rows xs = is ∙ section_cons rows x xs in
       let long : length (section rows (x ∷ xs)) ≡ length (rows x) + length (section rows xs) = ap length (section_cons rows x xs) ∙ length-append (rows x) (section rows xs) in
-      let next : drop (row + length (rows x)) (rows_in count (drop at bytes)) ≡ section rows xs = sym (drop-drop (length (rows x)) row (rows_in count (drop at bytes))) ∙ ap (drop (length (rows x))) all ∙ drop_at (rows x) (section rows xs) (length (rows x)) refl in
-      (record_there row x (section rows xs) (omega (arith, long, sum)) all form.2, records_there (row + length (rows x)) (Some (hash x)) xs next (omega (arith, long, sum)) form.3)
+      let next : drop (row + length (rows x)) all ≡ section rows xs = sym (drop-drop (length (rows x)) row all) ∙ ap (drop (length (rows x))) first ∙ drop_at (rows x) (section rows xs) (length (rows x)) refl in
+      (one row x (section rows xs) (omega (arith, long, sum)) first form.2, each_there (row + length (rows x)) (Some (hash x)) xs next (omega (arith, long, sum)) form.3)
 
 -- ---- files
 
@@ -87,17 +83,39 @@ module _ (f : MDBShardFileFooter) (h bytes : List ℕ) where
   first_again at (x ∷ xs) there =
       first_step (first_word h) (first_word (file_hash x)) at x (heads_from file_hash file_rows (at + length (file_rows x)) xs) (record_of file_hash h xs) (λ e. ap first_word (sym e)) there.0 (first_again (at + length (file_rows x)) xs there.1)
 
+-- the file among these rows, where they are fewer than eight
+abbrev file_among : MDBShardFileFooter → List ℕ → List ℕ → List ℕ → Result (Option MDBFileInfo) StoreError
+file_among f h bytes rows = fewer_than_eight (length rows) >>= λ _. first_file f h rows bytes
+
+-- eight of the rows are enough
+among_eight : (f : MDBShardFileFooter) (h bytes rows : List ℕ) → file_among f h bytes (take 8 rows) ≡ file_among f h bytes rows
+among_eight f h bytes rows = elim (cases_lt (length rows) 8) [
+  | inl few ↦ ap (file_among f h bytes) (take_all 8 rows (omega (arith, few)))
+  | inr many ↦
+      let eight : 8 ≤ length (take 8 rows) = omega (arith, many, length-take 8 rows) in
+      rw (le-ltb (length (take 8 rows)) 8 eight, le-ltb (length rows) 8 many) refl
+]
+
+map_take : (n : ℕ) (items : List (ℕ × ℕ)) → map (λ i. i.1) (take n items) ≡ take n (map (λ i. i.1) items)
+map_take zero items = refl
+map_take (suc n) [] = refl
+map_take (suc n) (i ∷ items) = ap (λ (rows : List ℕ). i.1 ∷ rows) (map_take n items)
+
 -- ---- the run at a row
 
+-- each run of a xorb is read at its row
+abbrev RunsAt : MDBShardFileFooter → List ℕ → ℕ → MDBXorbInfo → Type 0
+RunsAt f bytes row x = (query : List (List ℕ)) (place : ℕ) → run_in f query row place bytes ≡ Ok (run_at (map (kept_hash f.chunk_hash_hmac_key) query) x place)
+
 module _ (f : MDBShardFileFooter) (query : List (List ℕ)) (row place : ℕ) (bytes : List ℕ) where
-  told_again : (at : ℕ) (xs : List MDBXorbInfo) → Each xorb_rows (λ r x. block_in f r bytes ≡ Ok x) at xs
+  told_again : (at : ℕ) (xs : List MDBXorbInfo) → Each xorb_rows (RunsAt f bytes) at xs
       → (if list_any (λ i. i.1 == row) (heads_from xorb_hash xorb_rows at xs) then run_in f query row place bytes else Ok None) ≡ Ok (elim (block_at row at xs) [ None ↦ None | Some block ↦ run_at (map (kept_hash f.chunk_hash_hmac_key) query) block place ])
-  unfolding heads_from block_at run_in
+  unfolding heads_from block_at
   told_again at [] there = refl
   told_again at (x ∷ xs) there = elim (cases_Bool (eqb row at)) [
     | inl e ↦
         let is : row ≡ at = eqb-true row at e in
-        let read : block_in f row bytes ≡ Ok x = ap (λ (r : ℕ). block_in f r bytes) is ∙ there.0 in
+        let read : run_in f query row place bytes ≡ Ok (run_at (map (kept_hash f.chunk_hash_hmac_key) query) x place) = ap (λ (r : ℕ). run_in f query r place bytes) is ∙ there.0 query place in
         rw (e, eq-eqb at row (sym is), read) refl
     | inr e ↦
         let ne : at ≢ row = λ is. eqb-false row at e (sym is) in
@@ -121,10 +139,10 @@ placed_in blocks at (x ∷ xs) alike =
     )
 
 module _ (f : MDBShardFileFooter) (bytes : List ℕ) (blocks : List MDBXorbInfo) where
-  -- a xorb that stands in a row and is read there
+  -- a xorb that stands in a row, and whose runs are read there
   record Stands (row : ℕ) : Type 0 where
     pub block : MDBXorbInfo
-    pub read : block_in f row bytes ≡ Ok block
+    pub read : RunsAt f bytes row block
     pub placed : block_at row 0 blocks ≡ Some block
 
   places_stand : (at place : ℕ) (cs : List XorbChunkSequenceEntry) → Stands at → AllByRecursion (λ i. Stands (i.1)) (places_from at place cs)
@@ -132,7 +150,7 @@ module _ (f : MDBShardFileFooter) (bytes : List ℕ) (blocks : List MDBXorbInfo)
   places_stand at place [] stands = tt
   places_stand at place (c ∷ cs) stands = (stands, places_stand at (place + 1) cs stands)
 
-  chunks_stand : (at : ℕ) (xs : List MDBXorbInfo) → Each xorb_rows (λ r x. block_in f r bytes ≡ Ok x) at xs → Each xorb_rows (λ r x. block_at r 0 blocks ≡ Some x) at xs → AllByRecursion (λ i. Stands (i.1)) (chunks_from at xs)
+  chunks_stand : (at : ℕ) (xs : List MDBXorbInfo) → Each xorb_rows (RunsAt f bytes) at xs → Each xorb_rows (λ r x. block_at r 0 blocks ≡ Some x) at xs → AllByRecursion (λ i. Stands (i.1)) (chunks_from at xs)
   unfolding chunks_from
   chunks_stand at [] read placed = tt
   chunks_stand at (x ∷ xs) read placed =
@@ -156,13 +174,12 @@ module _ (f : MDBShardFileFooter) (bytes : List ℕ) (blocks : List MDBXorbInfo)
   place_again : (query : List (List ℕ)) (key : List ℕ) (word : ℕ) (items : List (ℕ × ℕ × ℕ)) → f.chunk_hash_hmac_key ≡ key → AllByRecursion (λ i. Stands (i.1)) items
       → elim (last_of word items) as (λ _. Result (Option (ℕ × FileDataSequenceEntry)) StoreError) [ None ↦ Ok None | Some found ↦ run_in f query found.0 found.1 bytes ]
       ≡ Ok (elim (last_of word items) as (λ _. Option (ℕ × FileDataSequenceEntry)) [ None ↦ None | Some found ↦ elim (block_at (found.0) 0 blocks) [ None ↦ None | Some block ↦ run_at (map (kept_hash key) query) block (found.1) ] ])
-  unfolding run_in
   place_again query key word items key_is all = by (last_of word items) (last_stands word items all)
     where
       by : (r : Option (ℕ × ℕ)) → ((p : ℕ × ℕ) → r ≡ Some p → Stands (p.0)) → elim r as (λ _. Result (Option (ℕ × FileDataSequenceEntry)) StoreError) [ None ↦ Ok None | Some found ↦ run_in f query found.0 found.1 bytes ]
           ≡ Ok (elim r as (λ _. Option (ℕ × FileDataSequenceEntry)) [ None ↦ None | Some found ↦ elim (block_at (found.0) 0 blocks) [ None ↦ None | Some block ↦ run_at (map (kept_hash key) query) block (found.1) ] ])
       by None stands = refl
-      by (Some p) stands = let s = stands p refl in rw (s.read, s.placed, key_is) refl
+      by (Some p) stands = let s = stands p refl in rw (s.read query (p.1), s.placed, key_is) refl
 
 -- ---- the questions to a text
 
@@ -177,38 +194,87 @@ module _ (w : Lookups) (s : Shard) (form : IsShard s) (fits : Fits s) where
   files_there =
       let p = text_placed w s form fits in
       let all = section_takes file_at file_hash file_head file_rest IsFile files_reading (file_row_count foot) None (rows_in (file_row_count foot) (drop foot.file_info_offset text)) s.files (text_checked w s form fits).files in
-      subst (λ (r : Result ℕ StoreError). Each file_rows (λ k x. (r >>= λ n. record_in file_at foot.file_info_offset n k text) ≡ Ok x) 0 s.files) (sym (count_whole foot.file_info_offset foot.xorb_info_offset p.xorbs))
-      (records_there file_at file_hash file_head file_rest IsFile files_reading foot.file_info_offset (file_row_count foot) text p.few_files (omega (arith, p.xorbs, p.file_lookup, p.xorb_lookup, p.chunk_lookup, p.footer, p.end)) 0 None s.files all.0
-      (omega (arith, ap length all.0, length-rows_in (file_row_count foot) (drop foot.file_info_offset text))) all.1)
+      let count = file_row_count foot in
+      let one = row_read file_after file_head file_rest IsFile (λ x. x) (λ x rest form. ap (λ (r : Result (MDBFileInfo × List Row) StoreError). r >>= λ y. Ok y.0) (files_reading.again x rest form)) foot.file_info_offset count text p.few_files
+      (omega (arith, p.xorbs, p.file_lookup, p.xorb_lookup, p.chunk_lookup, p.footer, p.end)) in
+      subst (λ (r : Result ℕ StoreError). Each file_rows (λ k x. (r >>= λ n. read_in_row file_after foot.file_info_offset n k text) ≡ Ok x) 0 s.files) (sym (count_whole foot.file_info_offset foot.xorb_info_offset p.xorbs))
+      (each_there file_hash file_head file_rest IsFile (λ k x. read_in_row file_after foot.file_info_offset count k text ≡ Ok x) count (rows_in count (drop foot.file_info_offset text)) one 0 None s.files all.0
+      (omega (arith, ap length all.0, length-rows_in count (drop foot.file_info_offset text))) all.1)
 
-  blocks_there : Each xorb_rows (λ r x. block_in foot r text ≡ Ok x) 0 s.blocks
+  blocks_there : Each xorb_rows (RunsAt foot text) 0 s.blocks
   blocks_there =
       let p = text_placed w s form fits in
       let all = section_takes xorb_at xorb_hash xorb_head xorb_rest IsXorb xorbs_reading (xorb_row_count foot) None (rows_in (xorb_row_count foot) (drop foot.xorb_info_offset text)) s.blocks (text_checked w s form fits).blocks in
-      subst (λ (r : Result ℕ StoreError). Each xorb_rows (λ k x. (r >>= λ n. record_in xorb_at foot.xorb_info_offset n k text) ≡ Ok x) 0 s.blocks) (sym (count_whole foot.xorb_info_offset foot.file_lookup_offset p.file_lookup))
-      (records_there xorb_at xorb_hash xorb_head xorb_rest IsXorb xorbs_reading foot.xorb_info_offset (xorb_row_count foot) text p.few_xorbs (omega (arith, p.file_lookup, p.xorb_lookup, p.chunk_lookup, p.footer, p.end)) 0 None s.blocks all.0
-      (omega (arith, ap length all.0, length-rows_in (xorb_row_count foot) (drop foot.xorb_info_offset text))) all.1)
+      let count = xorb_row_count foot in
+      let counted = count_whole foot.xorb_info_offset foot.file_lookup_offset p.file_lookup in
+      let one : (row : ℕ) (x : MDBXorbInfo) (rest : List Row) → row < count → drop row (rows_in count (drop foot.xorb_info_offset text)) ≡ xorb_head x ∷ (xorb_rest x ++ rest) → IsXorb x → RunsAt foot text row x =
+      λ row x rest below is form query place.
+      let ks : List (List ℕ) = map (kept_hash foot.chunk_hash_hmac_key) query in
+      ap (λ (r : Result ℕ StoreError). r >>= λ n. read_in_row (run_after ks place) foot.xorb_info_offset n row text) counted
+      ∙ row_read (run_after ks place) xorb_head xorb_rest IsXorb (λ x. run_at ks x place) (λ x rest form. run_taken ks place x rest form) foot.xorb_info_offset count text p.few_xorbs
+      (omega (arith, p.file_lookup, p.xorb_lookup, p.chunk_lookup, p.footer, p.end)) row x rest below is form in
+      each_there xorb_hash xorb_head xorb_rest IsXorb (RunsAt foot text) count (rows_in count (drop foot.xorb_info_offset text)) one 0 None s.blocks all.0 (omega (arith, ap length all.0, length-rows_in count (drop foot.xorb_info_offset text))) all.1
 
   key_again : foot.chunk_hash_hmac_key ≡ s.key
   unfolding footer_of
   key_again = refl
 
-  pub file_again : (h : List ℕ) → found_file foot h text ≡ shard_file s h
+  -- the items of the files of a word, by an index that bisects the table
+  files_found : (h : List ℕ) (index : ℕ) → Bisects (λ i. nat_lt i.0 (first_word h)) (file_table foot text) index → found_file foot h index text ≡ file_among foot h text (rows_of (first_word h) (file_items s.files))
   unfolding found_file
-  file_again h = rw (file_lookup_again w s form fits, first_again foot h text 0 s.files files_there) refl
+  files_found h index b = elim (cases_Bool (eqb foot.file_lookup_num_entry 0)) [
+    | inl none ↦
+        let made : file_items_from foot index text ≡ Ok (file_items s.files) = sym (files_made foot index text (eqb-true _ _ none)) ∙ ap (λ (r : Result (List MDBFileInfo) StoreError). r >>= λ files. Ok (file_items files)) (files_again w s form fits) in
+        rw made refl
+    | inr some ↦
+        let p = text_placed w s form fits in
+        let ne : foot.file_lookup_num_entry ≢ 0 = eqb-false _ _ some in
+        let items : List (ℕ × ℕ) = file_items s.files in
+        let word : ℕ = first_word h in
+        let there : file_table foot text ≡ items = file_table_again w s form fits ne in
+        let kept : file_items_from foot index text ≡ Ok (take 8 (drop index items)) = files_at_index foot text index (take 8 (drop index items)) ne (omega (arith, p.xorb_lookup, p.chunk_lookup, p.footer, p.end)) (ap (λ (is : List (ℕ × ℕ)). take 8 (drop index is)) there) in
+        let here : Bisects (λ i. nat_lt i.0 word) items index = subst (λ (is : List (ℕ × ℕ)). Bisects (λ i. nat_lt i.0 word) is index) there b in
+        let rows : rows_of word (take 8 (drop index items)) ≡ take 8 (rows_of word items) = ap (map (λ (i : ℕ × ℕ). i.1)) (equal_from (λ (i : ℕ × ℕ). i.0) word 0 8 index items (file_words_rise s.files fits.files form.files) here) ∙ map_take 8 (filter (λ i. i.0 == word) items) in
+        rw kept (ap (file_among foot h text) rows ∙ among_eight foot h text (rows_of word items))
+  ]
 
-  pub told_run_again : (query : List (List ℕ)) (row place : ℕ) → told_run foot query row place text ≡ Ok (elim query [ [] ↦ None | h ∷ hs ↦ shard_run_at s (h ∷ hs) row place ])
+  pub file_again : (h : List ℕ) (index : ℕ) → Bisects (λ i. nat_lt i.0 (first_word h)) (file_table foot text) index → found_file foot h index text ≡ shard_file s h
+  file_again h index b = files_found h index b ∙ ap (λ (r : Result (Option MDBFileInfo) StoreError). fewer_than_eight (length (rows_of (first_word h) (file_items s.files))) >>= λ _. r) (first_again foot h text 0 s.files files_there)
+
+  head_again : (row index : ℕ) → Bisects (λ i. nat_lt i.1 row) (xorb_table foot text) index → has_head foot row index text ≡ Ok (list_any (λ i. i.1 == row) (xorb_items s.blocks))
+  head_again row index b = elim (cases_Bool (eqb foot.xorb_lookup_num_entry 0)) [
+    | inl none ↦ sym (heads_of_all foot text row index (eqb-true _ _ none)) ∙ ap (λ (r : Result (List (ℕ × ℕ)) StoreError). r >>= λ items. Ok (list_any (λ i. i.1 == row) items)) (xorbs_again w s form fits)
+    | inr some ↦
+        let p = text_placed w s form fits in
+        let ne : foot.xorb_lookup_num_entry ≢ 0 = eqb-false _ _ some in
+        let there = xorb_table_again w s form fits ne in
+        head_at_index foot text row index _ ne (omega (arith, p.chunk_lookup, p.footer, p.end))
+        (ap (tells_row row index) there ∙ row_told row 0 index (xorb_items s.blocks) (xorb_rows_rise s.blocks) (subst (λ (is : List (ℕ × ℕ)). Bisects (λ i. nat_lt i.1 row) is index) there b))
+  ]
+
+  pub told_run_again : (query : List (List ℕ)) (row place index : ℕ) → Bisects (λ i. nat_lt i.1 row) (xorb_table foot text) index → told_run foot query row place index text ≡ Ok (elim query [ [] ↦ None | h ∷ hs ↦ shard_run_at s (h ∷ hs) row place ])
   unfolding told_run
-  told_run_again [] row place = refl
-  told_run_again (h ∷ hs) row place =
+  told_run_again [] row place index b = refl
+  told_run_again (h ∷ hs) row place index b =
       let read = told_again foot (h ∷ hs) row place text 0 s.blocks blocks_there in
-      rw (xorbs_again w s form fits) (read ∙ ap (λ (key : List ℕ). Ok (elim (block_at row 0 s.blocks) [ None ↦ None | Some block ↦ run_at (map (kept_hash key) (h ∷ hs)) block place ])) key_again)
+      rw (head_again row index b) (read ∙ ap (λ (key : List ℕ). Ok (elim (block_at row 0 s.blocks) [ None ↦ None | Some block ↦ run_at (map (kept_hash key) (h ∷ hs)) block place ])) key_again)
 
-  pub run_again : (query : List (List ℕ)) → found_run foot query text ≡ Ok (shard_run s query)
-  unfolding found_run shard_run
-  run_again [] = refl
-  run_again (h ∷ hs) =
+  chunk_again : (word index : ℕ) → Bisects (λ i. nat_le i.0 word) (chunk_table foot text) index → chunk_place foot word index text ≡ Ok (last_of word (chunk_items s.blocks))
+  chunk_again word index b = elim (cases_Bool (eqb foot.chunk_lookup_num_entry 0)) [
+    | inl none ↦ sym (chunks_of_all foot text word index (eqb-true _ _ none)) ∙ ap (λ (r : Result (List (ℕ × ℕ × ℕ)) StoreError). r >>= λ items. Ok (last_of word items)) (chunks_again w s form fits)
+    | inr some ↦
+        let p = text_placed w s form fits in
+        let ne : foot.chunk_lookup_num_entry ≢ 0 = eqb-false _ _ some in
+        let there = chunk_table_again w s form fits ne in
+        place_at_index foot text word index _ ne (omega (arith, p.footer, p.end))
+        (ap (place_before word index) there ∙ last_before word 0 index (chunk_items s.blocks) (chunk_words_rise s.blocks) (subst (λ (is : List (ℕ × ℕ × ℕ)). Bisects (λ i. nat_le i.0 word) is index) there b))
+  ]
+
+  pub run_again : (query : List (List ℕ)) (index : ℕ) → Bisects (λ i. nat_le i.0 (query_word foot query)) (chunk_table foot text) index → found_run foot query index text ≡ Ok (shard_run s query)
+  unfolding found_run run_of_word shard_run
+  run_again [] index b = refl
+  run_again (h ∷ hs) index b =
       let placed = placed_in s.blocks 0 s.blocks (λ r le. refl) in
       let all = sorted_all (λ (i : ℕ × ℕ × ℕ). Stands foot text s.blocks (i.1)) place_cmp (chunks_from 0 s.blocks) (chunks_stand foot text s.blocks 0 s.blocks blocks_there placed) in
-      rw (chunks_again w s form fits) (place_again foot text s.blocks (h ∷ hs) s.key (first_word (kept_hash foot.chunk_hash_hmac_key h)) (chunk_items s.blocks) key_again all
+      rw (chunk_again (query_word foot (h ∷ hs)) index b) (place_again foot text s.blocks (h ∷ hs) s.key (first_word (kept_hash foot.chunk_hash_hmac_key h)) (chunk_items s.blocks) key_again all
       ∙ ap (λ (key : List ℕ). Ok (elim (last_of (first_word (kept_hash key h)) (chunk_items s.blocks)) [ None ↦ None | Some found ↦ shard_run_at s (h ∷ hs) found.0 found.1 ])) key_again)

@@ -1,7 +1,6 @@
 -- Questions to a shard: the look-ups' items, and the records at their rows.
 use Rattle.std.proofs.Common.{◌≡◌, ◌≢◌, ℕ, ◌+◌, ◌<◌, ◌≤◌, Bool, true, false, List, [], ◌∷◌, drop, length, nat_eq, Option, None, Some, Result, Ok, Err, get_or, slice_get, refl, sym, ap, subst, ◌∙◌, filter, map}
 use Rattle.std.specs.Cmp.Lexicographic.{pointwise}
-use Rattle.std.specs.List.{list_any}
 use Rattle.std.specs.Prelude.{◌==◌, if◌then◌else◌}
 use Rattle.std.proofs.lemmas.Bool.{eq-eqb, le-ltb, lt-ltb, ne_eqb}
 use Rattle.std.proofs.lemmas.Option.{same_Some}
@@ -11,13 +10,10 @@ use Rattle.xet_hash.specs.declared.error.StoreError.TheVariants as errors
 use Rattle.xet_shard.specs.declared.info.MDBShardFileFooter.{MDBShardFileFooter}
 use Rattle.xet_shard.specs.declared.record.FileDataSequenceEntry.{FileDataSequenceEntry}
 use Rattle.xet_shard.specs.declared.record.MDBFileInfo.{MDBFileInfo}
-use Rattle.xet_shard.specs.declared.record.MDBXorbInfo.{MDBXorbInfo}
 use Rattle.xet_shard.specs.Lookups.{flat_places}
-use Rattle.xet_shard.specs.Queries.{block_in, file_in, file_lookup_in, first_file, found_file, found_run, kept_hash, last_of, rows_of, run_in, run_of_word, told_run}
+use Rattle.xet_shard.specs.Queries.{file_in, first_file, found_file, found_run, kept_hash, rows_of, run_in, run_of_word, told_run, chunk_place, file_items_from, has_head, query_word, last_of}
 use Rattle.xet_shard.specs.Reading.{◌>>=◌, GivesUnlessFault}
 use Rattle.xet_shard.specs.Records.{file_hash, first_word}
-use Rattle.xet_shard.specs.Runs.{run_at}
-use Rattle.xet_shard.specs.Sections.{chunk_lookup_in, xorb_lookup_in}
 use Rattle.xet_shard.proofs.Faulting.{fault_on}
 
 abbrev Run : Type 0
@@ -131,69 +127,64 @@ last_done word found items n total le so_far = sym (ap (λ (is : List (ℕ × (�
 
 -- ---- questions
 
--- the files of the look-up that was read
-pub found_by : (f : MDBShardFileFooter) (h bytes : List ℕ) (items : List (ℕ × ℕ)) (result : Found) → file_lookup_in f bytes ≡ Ok items → length (rows_of (first_word h) items) < 8
-    → GivesUnlessFault {X = Option MDBFileInfo} (λ x. x) result (first_file f h (rows_of (first_word h) items) bytes) → GivesUnlessFault {X = Option MDBFileInfo} (λ x. x) result (found_file f h bytes)
+-- the files of the items that were read
+pub found_by : (f : MDBShardFileFooter) (h bytes : List ℕ) (index : ℕ) (items : List (ℕ × ℕ)) (result : Found) → file_items_from f index bytes ≡ Ok items → length (rows_of (first_word h) items) < 8
+    → GivesUnlessFault {X = Option MDBFileInfo} (λ x. x) result (first_file f h (rows_of (first_word h) items) bytes) → GivesUnlessFault {X = Option MDBFileInfo} (λ x. x) result (found_file f h index bytes)
 unfolding found_file
-found_by f h bytes items result e few gives =
+found_by f h bytes index items result e few gives =
     subst (λ (r : Found). GivesUnlessFault {X = Option MDBFileInfo} (λ x. x) result r) (sym (rw (e, lt-ltb (length (rows_of (first_word h) items)) 8 few) refl)) gives
 
 -- the items of a word, and their rows
 pub rows_count : (h : List ℕ) (items now : List (ℕ × ℕ)) (word n : ℕ) → now ≡ items → word ≡ first_word h → n ≡ length (filter (λ i. i.0 == word) now) → n ≡ length (rows_of (first_word h) items)
 rows_count h items now word n same w e = e ∙ (λ j. length (filter (λ i. i.0 == w j) (same j))) ∙ sym (length-map (filter (λ i. i.0 == first_word h) items) (λ (i : ℕ × ℕ). i.1))
 
-pub found_many : (f : MDBShardFileFooter) (h bytes : List ℕ) (items : List (ℕ × ℕ)) → file_lookup_in f bytes ≡ Ok items → 8 ≤ length (rows_of (first_word h) items) → found_file f h bytes ≡ Err errors.TruncatedHashCollision
+pub found_many : (f : MDBShardFileFooter) (h bytes : List ℕ) (index : ℕ) (items : List (ℕ × ℕ)) → file_items_from f index bytes ≡ Ok items → 8 ≤ length (rows_of (first_word h) items) → found_file f h index bytes ≡ Err errors.TruncatedHashCollision
 unfolding found_file
-found_many f h bytes items e many = rw (e, le-ltb (length (rows_of (first_word h) items)) 8 many) refl
+found_many f h bytes index items e many = rw (e, le-ltb (length (rows_of (first_word h) items)) 8 many) refl
 
-pub found_fails : {A : Type 0} (view : A → List (ℕ × ℕ)) (f : MDBShardFileFooter) (h bytes : List ℕ) (e : StoreError) → GivesUnlessFault view (Err e) (file_lookup_in f bytes) → GivesUnlessFault {X = Option MDBFileInfo} (λ x. x) (Err e) (found_file f h bytes)
+pub found_fails : {A : Type 0} (view : A → List (ℕ × ℕ)) (f : MDBShardFileFooter) (h bytes : List ℕ) (index : ℕ) (e : StoreError) → GivesUnlessFault view (Err e) (file_items_from f index bytes) → GivesUnlessFault {X = Option MDBFileInfo} (λ x. x) (Err e) (found_file f h index bytes)
 unfolding found_file
-found_fails view f h bytes e gives = fault_on view (λ x. x) e (file_lookup_in f bytes) _ gives
+found_fails view f h bytes index e gives = fault_on view (λ x. x) e (file_items_from f index bytes) _ gives
 
 -- the run at a place that was looked up
 abbrev at_place : MDBShardFileFooter → List (List ℕ) → List ℕ → Option (ℕ × ℕ) → Result Run StoreError
 at_place f query bytes place = elim place [ None ↦ Ok None | Some found ↦ run_in f query found.0 found.1 bytes ]
 
-pub run_by : (f : MDBShardFileFooter) (query : List (List ℕ)) (word : ℕ) (bytes : List ℕ) (items : List (ℕ × ℕ × ℕ)) (place : Option (ℕ × ℕ)) → chunk_lookup_in f bytes ≡ Ok items → place ≡ last_of word items → at_place f query bytes place ≡ run_of_word f query word bytes
+pub run_by : (f : MDBShardFileFooter) (query : List (List ℕ)) (word index : ℕ) (bytes : List ℕ) (place : Option (ℕ × ℕ)) → chunk_place f word index bytes ≡ Ok place → at_place f query bytes place ≡ run_of_word f query word index bytes
 unfolding run_of_word
-run_by f query word bytes items place e is = ap (at_place f query bytes) is ∙ sym (rw e refl)
+run_by f query word index bytes place e = sym (rw e refl)
 
-pub run_by_fails : {A : Type 0} (view : A → List (ℕ × ℕ × ℕ)) (f : MDBShardFileFooter) (query : List (List ℕ)) (word : ℕ) (bytes : List ℕ) (e : StoreError) → GivesUnlessFault view (Err e) (chunk_lookup_in f bytes) → GivesUnlessFault {X = Run} (λ x. x) (Err e) (run_of_word f query word bytes)
+pub run_by_fails : {A : Type 0} (view : A → Option (ℕ × ℕ)) (f : MDBShardFileFooter) (query : List (List ℕ)) (word index : ℕ) (bytes : List ℕ) (e : StoreError) → GivesUnlessFault view (Err e) (chunk_place f word index bytes) → GivesUnlessFault {X = Run} (λ x. x) (Err e) (run_of_word f query word index bytes)
 unfolding run_of_word
-run_by_fails view f query word bytes e gives = fault_on view (λ x. x) e (chunk_lookup_in f bytes) _ gives
+run_by_fails view f query word index bytes e gives = fault_on view (λ x. x) e (chunk_place f word index bytes) _ gives
 
-pub run_of : (f : MDBShardFileFooter) (query : List (List ℕ)) (row place : ℕ) (bytes : List ℕ) (block : MDBXorbInfo) → block_in f row bytes ≡ Ok block → run_in f query row place bytes ≡ Ok (run_at (map (kept_hash f.chunk_hash_hmac_key) query) block place)
-unfolding run_in
-run_of f query row place bytes block e = rw e refl
-
-pub run_of_fails : (f : MDBShardFileFooter) (query : List (List ℕ)) (row place : ℕ) (bytes : List ℕ) (e : StoreError) → GivesUnlessFault {X = MDBXorbInfo} (λ x. x) (Err e) (block_in f row bytes) → GivesUnlessFault {X = Run} (λ x. x) (Err e) (run_in f query row place bytes)
-unfolding run_in
-run_of_fails f query row place bytes e gives = fault_on {A = MDBXorbInfo} (λ x. x) (λ x. x) e (block_in f row bytes) _ gives
-
-pub run_none_first : (f : MDBShardFileFooter) (query : List (List ℕ)) (bytes : List ℕ) → None ≡ slice_get query 0 → found_run f query bytes ≡ Ok None
+pub run_none_first : (f : MDBShardFileFooter) (query : List (List ℕ)) (index : ℕ) (bytes : List ℕ) → None ≡ slice_get query 0 → found_run f query index bytes ≡ Ok None
 unfolding found_run
-run_none_first f [] bytes e = refl
-run_none_first f (h ∷ hs) bytes e = absurd cc
+run_none_first f [] index bytes e = refl
+run_none_first f (h ∷ hs) index bytes e = absurd cc
 
-pub run_first : (f : MDBShardFileFooter) (query : List (List ℕ)) (h : List ℕ) (k : List ℕ) (word : ℕ) (bytes : List ℕ) → Some h ≡ slice_get query 0 → k ≡ kept_hash f.chunk_hash_hmac_key h → word ≡ first_word k → run_of_word f query word bytes ≡ found_run f query bytes
-unfolding found_run run_of_word
-run_first f [] h k word bytes e is w = absurd cc
-run_first f (q ∷ qs) h k word bytes e is w =
-    ap (λ (n : ℕ). run_of_word f (q ∷ qs) n bytes) (w ∙ ap first_word (is ∙ ap (kept_hash f.chunk_hash_hmac_key) (same_Some _ _ e)))
+pub first_is : (f : MDBShardFileFooter) (query : List (List ℕ)) (h : List ℕ) (k : List ℕ) (word : ℕ) → Some h ≡ slice_get query 0 → k ≡ kept_hash f.chunk_hash_hmac_key h → word ≡ first_word k → word ≡ query_word f query
+first_is f [] h k word e is w = absurd cc
+first_is f (q ∷ qs) h k word e is w = w ∙ ap first_word (is ∙ ap (kept_hash f.chunk_hash_hmac_key) (same_Some _ _ e))
 
-pub told_empty : (f : MDBShardFileFooter) (query : List (List ℕ)) (row place : ℕ) (bytes : List ℕ) → length query ≡ 0 → told_run f query row place bytes ≡ Ok None
+pub run_first : (f : MDBShardFileFooter) (query : List (List ℕ)) (h : List ℕ) (index : ℕ) (bytes : List ℕ) → Some h ≡ slice_get query 0 → run_of_word f query (query_word f query) index bytes ≡ found_run f query index bytes
+unfolding found_run
+run_first f [] h index bytes e = absurd cc
+run_first f (q ∷ qs) h index bytes e = refl
+
+pub told_empty : (f : MDBShardFileFooter) (query : List (List ℕ)) (row place index : ℕ) (bytes : List ℕ) → length query ≡ 0 → told_run f query row place index bytes ≡ Ok None
 unfolding told_run
-told_empty f [] row place bytes e = refl
-told_empty f (h ∷ hs) row place bytes e = absurd cc
+told_empty f [] row place index bytes e = refl
+told_empty f (h ∷ hs) row place index bytes e = absurd cc
 
--- the run at a row that is told, by the look-up that was read
-pub told_by : (f : MDBShardFileFooter) (query : List (List ℕ)) (row place : ℕ) (bytes : List ℕ) (items : List (ℕ × ℕ)) (there : Bool) → length query ≢ 0 → xorb_lookup_in f bytes ≡ Ok items → there ≡ list_any (λ i. i.1 == row) items
-    → (if there then run_in f query row place bytes else Ok None) ≡ told_run f query row place bytes
+-- the run at a row that is told, by what the table said of the row
+pub told_by : (f : MDBShardFileFooter) (query : List (List ℕ)) (row place index : ℕ) (bytes : List ℕ) (there : Bool) → length query ≢ 0 → has_head f row index bytes ≡ Ok there
+    → (if there then run_in f query row place bytes else Ok None) ≡ told_run f query row place index bytes
 unfolding told_run
-told_by f [] row place bytes items there some e is = absurd (some refl)
-told_by f (h ∷ hs) row place bytes items there some e is = ap (λ (b : Bool). if b then run_in f (h ∷ hs) row place bytes else Ok None) is ∙ sym (rw e refl)
+told_by f [] row place index bytes there some e = absurd (some refl)
+told_by f (h ∷ hs) row place index bytes there some e = sym (rw e refl)
 
-pub told_fails : {A : Type 0} (view : A → List (ℕ × ℕ)) (f : MDBShardFileFooter) (query : List (List ℕ)) (row place : ℕ) (bytes : List ℕ) (e : StoreError) → length query ≢ 0 → GivesUnlessFault view (Err e) (xorb_lookup_in f bytes) → GivesUnlessFault {X = Run} (λ x. x) (Err e) (told_run f query row place bytes)
+pub told_fails : {A : Type 0} (view : A → Bool) (f : MDBShardFileFooter) (query : List (List ℕ)) (row place index : ℕ) (bytes : List ℕ) (e : StoreError) → length query ≢ 0 → GivesUnlessFault view (Err e) (has_head f row index bytes) → GivesUnlessFault {X = Run} (λ x. x) (Err e) (told_run f query row place index bytes)
 unfolding told_run
-told_fails view f [] row place bytes e some gives = absurd (some refl)
-told_fails view f (h ∷ hs) row place bytes e some gives = fault_on view (λ x. x) e (xorb_lookup_in f bytes) _ gives
+told_fails view f [] row place index bytes e some gives = absurd (some refl)
+told_fails view f (h ∷ hs) row place index bytes e some gives = fault_on view (λ x. x) e (has_head f row index bytes) _ gives

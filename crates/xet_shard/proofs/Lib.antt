@@ -23,18 +23,26 @@ pub mod Refusing
 pub mod Rising
 mod Lengths
 pub mod FirstLast
+mod EndsAlone
 pub mod Faulting
 pub mod ItemLists
 pub mod PartLaws
 mod ItemsAgain
 mod PartsAgain
-mod AskedAgain
 mod Placing
 mod Running
+mod Agreeing
+mod RunsRead
+mod RunsAgain
+mod AskedAgain
 mod OneRecord
+mod Bisecting
+mod Tables
+mod RisingTables
 mod Asking
 pub mod Keying
 pub mod Exporting
+mod RefusalKinds
 pub mod Merging
 pub mod Uniting
 pub mod Alike

@@ -10,22 +10,23 @@ use Rattle.xet_shard.specs.declared.record.FileDataSequenceEntry.{FileDataSequen
 use Rattle.xet_shard.specs.declared.record.FileMetadataExt.{FileMetadataExt}
 use Rattle.xet_shard.specs.declared.record.FileVerificationEntry.{FileVerificationEntry}
 use Rattle.xet_shard.specs.declared.record.MDBFileInfo.{MDBFileInfo}
-use Rattle.xet_shard.specs.declared.record.MDBXorbInfo.{MDBXorbInfo}
-use Rattle.xet_shard.specs.declared.record.XorbChunkSequenceEntry.{XorbChunkSequenceEntry}
 use Rattle.xet_shard.specs.declared.row.Row.{Row}
-use Rattle.xet_shard.specs.Queries.{alone, record_in}
-use Rattle.xet_shard.specs.Reading.{◌>>=◌, Gives, GivesUnlessFault, chunk_in, chunks_at, ext_at, file_at, has_ext, hash_at, has_rows, hash_in, is_verified, row_at, rows_after_file, segment_at, times, verification_at, wants, xorb_at}
+use Rattle.xet_shard.specs.Queries.{file_after, read_in_row, rows_from}
+use Rattle.xet_shard.specs.Reading.{◌>>=◌, Gives, GivesUnlessFault, ext_at, file_at, has_ext, hash_at, has_rows, hash_in, is_verified, row_at, rows_after_file, segment_at, times, verification_at, wants}
 use Rattle.xet_shard.specs.Records.{flags_of}
 use Rattle.xet_shard.specs.Rows.{row_of, rows_in}
-use Rattle.xet_shard.proofs.Chunks.{Read}
 use Rattle.xet_shard.proofs.Faulting.{fault_on}
 use Rattle.xet_shard.proofs.Refusing.{IsAnswer, gives_whole}
 use Rattle.xet_shard.proofs.RowLaws.{done}
-use Rattle.xet_shard.proofs.RowList.{length-rows_in, row_first, rows_first}
+use Rattle.xet_shard.proofs.RowList.{length-rows_in, rows_first, rows_front}
 
 -- what was read, with so many of the rows after it
 abbrev cut : {X : Type 0} → ℕ → Result (X × List Row) StoreError → Result (X × List Row) StoreError
 cut m read = read >>= λ x. Ok (x.0, take m x.1)
+
+-- what was read, without the rows after it
+abbrev alone : {X : Type 0} → Result (X × List Row) StoreError → Result X StoreError
+alone read = read >>= λ x. Ok x.0
 
 -- a reader that looks at one row
 abbrev LooksAtOne : {X : Type 0} → (List Row → Result (X × List Row) StoreError) → Type 0
@@ -125,49 +126,12 @@ file_cut head rows =
     after_cut e 0 (times verification_at b (take (b + e) rest)) (times verification_at b rest) (second ss) (times_cut verification_at verification_cut b e rest) (λ vs others.
     after_cut 0 0 (ext_at (has_ext head.a) (take e others)) (ext_at (has_ext head.a) others) (last ss vs) (ext_cut (has_ext head.a) others) (λ m left. refl)))))))
 
--- the same of chunks, with where they end
-abbrev cut_ends : ℕ → Read → Read
-cut_ends m read = read >>= λ x. Ok (x.0, x.1, take m x.2)
-
-chunk_first : (m : ℕ) (c : Result XorbChunkSequenceEntry StoreError) (cs : Read) → (c >>= λ x. cut_ends m cs >>= λ xs. Ok (x ∷ xs.0, xs.1, xs.2)) ≡ cut_ends m (c >>= λ x. cs >>= λ xs. Ok (x ∷ xs.0, xs.1, xs.2))
-chunk_first m (Ok c) (Ok cs) = refl
-chunk_first m (Ok c) (Err e) = refl
-chunk_first m (Err e) cs = refl
-
-chunks_cut : (n at m : ℕ) (rows : List Row) → chunks_at n at (take (n + m) rows) ≡ cut_ends m (chunks_at n at rows)
-unfolding chunks_at
-chunks_cut zero at m rows =
-    let e : 0 + m ≡ m = omega arith in
-    let made : ℕ → Read = λ j. Ok ([], at, take j rows) in
-    ap made e
-chunks_cut (suc n) at m [] = let e : suc n + m ≡ suc (n + m) = omega arith in ap (λ (j : ℕ). chunks_at (suc n) at (take j [])) e
-chunks_cut (suc n) at m (r ∷ rows) =
-    let e : suc n + m ≡ suc (n + m) = omega arith in
-    let whole : Read → Read = λ cs. chunk_in r at >>= λ x. cs >>= λ xs. Ok (x ∷ xs.0, xs.1, xs.2) in
-    ap (λ (j : ℕ). chunks_at (suc n) at (take j (r ∷ rows))) e ∙ ap whole (chunks_cut n (r.a + r.b) m rows) ∙ chunk_first m (chunk_in r at) (chunks_at n (r.a + r.b) rows)
-
-xorb_ends : (total : ℕ) (made : List XorbChunkSequenceEntry → MDBXorbInfo) (r : Read) → (cut_ends 0 r >>= λ x. wants (eqb x.1 total) SectionEntry >>= λ _. Ok (made x.0, x.2)) ≡ cut 0 (r >>= λ x. wants (eqb x.1 total) SectionEntry >>= λ _. Ok (made x.0, x.2))
-xorb_ends total made (Ok x) = test_cut (eqb x.1 total) SectionEntry (Ok (made x.0, take 0 x.2)) (Ok (made x.0, x.2)) refl
-xorb_ends total made (Err e) = refl
-
-xorb_cut : (head : Row) (rows : List Row) → xorb_at head (take head.b rows) ≡ cut 0 (xorb_at head rows)
-unfolding xorb_at
-xorb_cut head rows =
-    let made : List XorbChunkSequenceEntry → MDBXorbInfo = λ cs. record { metadata = record { xorb_hash = head.hash; xorb_flags = head.a; num_entries = head.b; num_bytes_in_xorb = head.c; num_bytes_on_disk = head.d }; chunks = cs } in
-    let last : Read → Result (MDBXorbInfo × List Row) StoreError = λ r. r >>= λ x. wants (eqb x.1 head.c) SectionEntry >>= λ _. Ok (made x.0, x.2) in
-    let e : head.b ≡ head.b + 0 = omega arith in
-    room_cut head.b rows _ _ (test_cut (eqb head.a 0) SectionEntry _ _ (test_cut (eqb head.d 0) SectionEntry _ _
-    (ap (λ (k : ℕ). last (chunks_at head.b 0 (take k rows))) e ∙ ap last (chunks_cut head.b 0 0 rows) ∙ xorb_ends head.c made (chunks_at head.b 0 rows))))
-
 alone_cut : {X : Type 0} (read : Result (X × List Row) StoreError) → alone (cut 0 read) ≡ alone read
 alone_cut (Ok x) = refl
 alone_cut (Err e) = refl
 
-pub file_alone : (head : Row) (n : ℕ) (rows : List Row) → n ≡ rows_after_file head → alone (file_at head (take n rows)) ≡ alone (file_at head rows)
+pub file_alone : (head : Row) (n : ℕ) (rows : List Row) → n ≡ rows_after_file head → file_after head (take n rows) ≡ file_after head rows
 file_alone head n rows e = ap (λ (k : ℕ). alone (file_at head (take k rows))) e ∙ ap (λ (r : Result (MDBFileInfo × List Row) StoreError). alone r) (file_cut head rows) ∙ alone_cut (file_at head rows)
-
-pub xorb_alone : (head : Row) (n : ℕ) (rows : List Row) → n ≡ head.b → alone (xorb_at head (take n rows)) ≡ alone (xorb_at head rows)
-xorb_alone head n rows e = ap (λ (k : ℕ). alone (xorb_at head (take k rows))) e ∙ ap (λ (r : Result (MDBXorbInfo × List Row) StoreError). alone r) (xorb_cut head rows) ∙ alone_cut (xorb_at head rows)
 
 -- ---- what was read of the rows after the head
 
@@ -181,22 +145,15 @@ stops {A} {B} {X} {Y} first then e x read whole there gives = subst (λ (r : Res
 
 -- ---- the record in a row of a section
 
--- the first rows are the front of more
-rows_front : (n m : ℕ) (bytes : List ℕ) → n ≤ m → rows_in n bytes ≡ take n (rows_in m bytes)
-unfolding rows_in
-rows_front zero m bytes le = refl
-rows_front (suc n) zero bytes le = absurd (omega arith)
-rows_front (suc n) (suc m) bytes le = ap (λ (rs : List Row). row_of bytes ∷ rs) (rows_front n m (drop 48 bytes) (omega arith))
-
 pub rows_wanted : (n m k : ℕ) (piece bytes : List ℕ) → k ≡ min n m → piece ≡ take (48 * k) bytes → rows_in k piece ≡ take n (rows_in m bytes)
 rows_wanted n m k piece bytes e is =
     let some : k ≡ min n (length (rows_in m bytes)) = e ∙ ap (min n) (sym (length-rows_in m bytes)) in
     ap (rows_in k) is ∙ rows_first k bytes ∙ rows_front k m bytes (omega (arith, e)) ∙ ap (λ (j : ℕ). take j (rows_in m bytes)) some ∙ take_min n (rows_in m bytes)
 
-module _ {X : Type 0} (record_at : Row → List Row → Result (X × List Row) StoreError) (bytes : List ℕ) where
+module _ {X : Type 0} (read : Row → List Row → Result X StoreError) (bytes : List ℕ) where
   -- in a section and in what is left of it from the row on
-  pub from_row : (at count row : ℕ) → count < 2 ^ 32 → row < count → at + 48 * count ≤ length bytes → record_in record_at (at + 48 * row) (count - row) 0 bytes ≡ record_in record_at at count row bytes
-  unfolding record_in
+  pub from_row : (at count row : ℕ) → count < 2 ^ 32 → row < count → at + 48 * count ≤ length bytes → read_in_row read (at + 48 * row) (count - row) 0 bytes ≡ read_in_row read at count row bytes
+  unfolding read_in_row rows_from
   from_row at count row few below le =
       let a : count - row < 2 ^ 32 = omega arith in
       let b : 0 < count - row = omega arith in
@@ -204,40 +161,53 @@ module _ {X : Type 0} (record_at : Row → List Row → Result (X × List Row) S
       let d : count - row - 0 ≡ count - row = omega arith in
       let e : at + 48 * row + 48 * 0 ≡ at + 48 * row = omega arith in
       rw (lt-ltb (count - row) (2 ^ 32) a, lt-ltb 0 (count - row) b, le-leb (at + 48 * row + 48 * (count - row)) (length bytes) c, lt-ltb count (2 ^ 32) few, lt-ltb row count below, le-leb (at + 48 * count) (length bytes) le)
-      (λ i. row_at (rows_in (d i) (drop (e i) bytes)) >>= λ r. record_at r.0 r.1 >>= λ x. Ok x.0)
+      (λ i. row_at (rows_in (d i) (drop (e i) bytes)) >>= λ r. read r.0 r.1)
 
   -- the head is the first row
-  pub at_head : (at count : ℕ) → 0 < count → count < 2 ^ 32 → at + 48 * count ≤ length bytes → record_in record_at at count 0 bytes ≡ alone (record_at (row_of (drop at bytes)) (rows_in (count - 1) (drop (at + 48) bytes)))
-  unfolding record_in rows_in
+  pub at_head : (at count : ℕ) → 0 < count → count < 2 ^ 32 → at + 48 * count ≤ length bytes → read_in_row read at count 0 bytes ≡ read (row_of (drop at bytes)) (rows_in (count - 1) (drop (at + 48) bytes))
+  unfolding read_in_row rows_from rows_in
   at_head at count some few le =
       let d : count - 0 ≡ suc (count - 1) = omega arith in
       let e : at + 48 * 0 ≡ at = omega arith in
       rw (lt-ltb count (2 ^ 32) few, lt-ltb 0 count some, le-leb (at + 48 * count) (length bytes) le)
-      ((λ i. row_at (rows_in (d i) (drop (e i) bytes)) >>= λ r. record_at r.0 r.1 >>= λ x. Ok x.0) ∙ ap (λ (b : List ℕ). record_at (row_of (drop at bytes)) (rows_in (count - 1) b) >>= λ x. Ok x.0) (drop-drop 48 at bytes))
+      ((λ i. row_at (rows_in (d i) (drop (e i) bytes)) >>= λ r. read r.0 r.1) ∙ ap (λ (b : List ℕ). read (row_of (drop at bytes)) (rows_in (count - 1) b)) (drop-drop 48 at bytes))
 
-  pub row_past : (at count row : ℕ) → count ≤ row → record_in record_at at count row bytes ≡ Err (errors.MalformedData SectionPlace)
-  unfolding record_in
+-- ---- how many rows there are from a row on
+
+module _ (bytes : List ℕ) where
+  pub row_past : (at count row : ℕ) → count ≤ row → rows_from at count row bytes ≡ Err (errors.MalformedData SectionPlace)
+  unfolding rows_from
   row_past at count row past = rw (le-ltb row count past) (either (ltb count (2 ^ 32)))
     where
-      refused : Result X StoreError
+      refused : Result ℕ StoreError
       refused = Err (errors.MalformedData SectionPlace)
 
       either : (b : Bool) → (wants b SectionPlace >>= λ _. refused) ≡ refused
       either true = refl
       either false = refl
 
-  pub rows_past : (at count row : ℕ) → 2 ^ 32 ≤ count → record_in record_at at count row bytes ≡ Err (errors.MalformedData SectionPlace)
-  unfolding record_in
+  pub rows_past : (at count row : ℕ) → 2 ^ 32 ≤ count → rows_from at count row bytes ≡ Err (errors.MalformedData SectionPlace)
+  unfolding rows_from
   rows_past at count row many = rw (le-ltb count (2 ^ 32) many) refl
 
-  pub end_past : (at count row : ℕ) → count < 2 ^ 32 → row < count → length bytes < at + 48 * count → record_in record_at at count row bytes ≡ Err errors.UnexpectedEof
-  unfolding record_in
+  pub end_past : (at count row : ℕ) → count < 2 ^ 32 → row < count → length bytes < at + 48 * count → rows_from at count row bytes ≡ Err errors.UnexpectedEof
+  unfolding rows_from
   end_past at count row few below past = rw (lt-ltb count (2 ^ 32) few, lt-ltb row count below, lt-leb (at + 48 * count) (length bytes) past) refl
 
-  -- the record by its head and by as many of the rows after it as it has, and as there are
-  pub by_piece : (at count n rest : ℕ) (head : Row) (first piece : List ℕ) → 0 < count → count < 2 ^ 32 → at + 48 * count ≤ length bytes → head ≡ row_of first → first ≡ take 48 (drop at bytes) → rest ≡ min n (count - 1)
-      → piece ≡ take (48 * rest) (drop (at + 48) bytes) → ((rows : List Row) → alone (record_at head (take n rows)) ≡ alone (record_at head rows)) → alone (record_at head (rows_in rest piece)) ≡ record_in record_at at count 0 bytes
-  by_piece at count n rest head first piece some few le is front e piece_is law =
-      let head_is : head ≡ row_of (drop at bytes) = is ∙ ap (λ (b : List ℕ). row_of b) front ∙ row_first 48 (drop at bytes) (omega arith) in
-      ap (λ (rs : List Row). alone (record_at head rs)) (rows_wanted n (count - 1) rest piece (drop (at + 48) bytes) e piece_is) ∙ law (rows_in (count - 1) (drop (at + 48) bytes))
-      ∙ ap (λ (r : Row). alone (record_at r (rows_in (count - 1) (drop (at + 48) bytes)))) head_is ∙ sym (at_head at count some few le)
+  pub rows_left : (at count row : ℕ) → count < 2 ^ 32 → row < count → at + 48 * count ≤ length bytes → rows_from at count row bytes ≡ Ok (count - row)
+  unfolding rows_from
+  rows_left at count row few below le = rw (lt-ltb count (2 ^ 32) few, lt-ltb row count below, le-leb (at + 48 * count) (length bytes) le) refl
+
+-- where there are not as many, nothing is read of the row
+pub in_row_fails : {X B : Type 0} (read : Row → List Row → Result X StoreError) (then : B → X) (at count row : ℕ) (e : StoreError) (bytes : List ℕ) → GivesUnlessFault {X = ℕ} (λ n. n) (Err e) (rows_from at count row bytes)
+    → GivesUnlessFault then (Err e) (read_in_row read at count row bytes)
+unfolding read_in_row
+in_row_fails read then at count row e bytes gives = fault_on {A = ℕ} (λ n. n) then e (rows_from at count row bytes) _ gives
+
+module _ (bytes : List ℕ) where
+  -- the file by its head and by as many of the rows after it as it has, and as there are
+  pub by_piece : (at count n rest : ℕ) (head : Row) (piece : List ℕ) → 0 < count → count < 2 ^ 32 → at + 48 * count ≤ length bytes → head ≡ row_of (drop at bytes) → n ≡ rows_after_file head → rest ≡ min n (count - 1)
+      → piece ≡ take (48 * rest) (drop (at + 48) bytes) → file_after head (rows_in rest piece) ≡ read_in_row file_after at count 0 bytes
+  by_piece at count n rest head piece some few le is own e piece_is =
+      ap (λ (rs : List Row). file_after head rs) (rows_wanted n (count - 1) rest piece (drop (at + 48) bytes) e piece_is) ∙ file_alone head n (rows_in (count - 1) (drop (at + 48) bytes)) own
+      ∙ ap (λ (r : Row). file_after r (rows_in (count - 1) (drop (at + 48) bytes))) is ∙ sym (at_head file_after bytes at count some few le)

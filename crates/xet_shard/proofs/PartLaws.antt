@@ -6,7 +6,8 @@ use Rattle.xet_hash.specs.declared.error.StoreError.{StoreError}
 use Rattle.xet_hash.specs.declared.error.StoreError.TheVariants.{MalformedData}
 use Rattle.xet_shard.specs.declared.info.MDBShardFileFooter.{MDBShardFileFooter}
 use Rattle.xet_shard.specs.declared.row.Row.{Row}
-use Rattle.xet_shard.specs.Queries.{file_lookup_in}
+use Rattle.xet_shard.specs.Bisection.{in_table}
+use Rattle.xet_shard.specs.Queries.{file_items_from}
 use Rattle.xet_shard.specs.Reading.{◌>>=◌, Gives, GivesUnlessFault, reaches, section_at, wants}
 use Rattle.xet_shard.specs.Pieces.{piece_at, rows_at}
 use Rattle.xet_shard.specs.Rows.{rows_in}
@@ -17,6 +18,7 @@ use Rattle.xet_shard.specs.Lookups.{chunk_items, file_items, xorb_items}
 use Rattle.xet_shard.proofs.ItemLists.{heads_first, places_first}
 use Rattle.xet_shard.proofs.Faulting.{fault_on, gives_on}
 use Rattle.xet_shard.proofs.Refusing.{IsAnswer, gives_whole}
+use Rattle.xet_shard.proofs.RowLaws.{ok_is}
 use Rattle.xet_shard.proofs.RowList.{rows_first}
 
 -- two tests, and what follows them
@@ -65,11 +67,19 @@ next : {P Y : Type 0} (b : Bool) (p : P) (f : P → Result Y StoreError) (x : Re
 next false p f x e = refl
 next true p f x e = e
 
-chosen_first : {Y : Type 0} (n : ℕ) (x y : Y) → n ≡ 0 → x ≡ (if n == 0 then x else y)
+pub chosen_first : {Y : Type 0} (n : ℕ) (x y : Y) → n ≡ 0 → x ≡ (if n == 0 then x else y)
 chosen_first n x y e = rw (eq-eqb n 0 e) refl
 
-chosen_second : {Y : Type 0} (n : ℕ) (x y : Y) → n ≢ 0 → y ≡ (if n == 0 then x else y)
+pub chosen_second : {Y : Type 0} (n : ℕ) (x y : Y) → n ≢ 0 → y ≡ (if n == 0 then x else y)
 chosen_second n x y ne = rw (ne_eqb n 0 ne) refl
+
+pub heads_kept : (at n : ℕ) (whole : List ℕ) → (piece_at at (12 * n) whole >>= λ p. Ok (heads_in n p)) ≡ in_table at (12 * n) whole (heads_in n (drop at whole))
+unfolding piece_at
+heads_kept at n whole = next (nat_le (at + 12 * n) (length whole)) (take (12 * n) (drop at whole)) (λ p. Ok (heads_in n p)) _ (ap Ok (heads_first n (drop at whole)))
+
+pub reached_is : {Y : Type 0} (b : Bool) (x y : Y) → (reaches b >>= λ _. Ok x) ≡ Ok y → x ≡ y
+reached_is true x y e = ok_is x y e
+reached_is false x y e = absurd (cc e)
 
 pub xorbs_kept : (f : MDBShardFileFooter) (whole : List ℕ) → f.xorb_lookup_num_entry ≢ 0
     → (piece_at f.xorb_lookup_offset (12 * f.xorb_lookup_num_entry) whole >>= λ p. Ok (heads_in f.xorb_lookup_num_entry p)) ≡ xorb_lookup_in f whole
@@ -77,14 +87,6 @@ unfolding piece_at xorb_lookup_in
 xorbs_kept f whole ne =
     let at = f.xorb_lookup_offset in
     let n = f.xorb_lookup_num_entry in
-    next (nat_le (at + 12 * n) (length whole)) (take (12 * n) (drop at whole)) (λ p. Ok (heads_in n p)) _ (ap Ok (heads_first n (drop at whole))) ∙ chosen_second n _ _ ne
-
-pub files_kept : (f : MDBShardFileFooter) (whole : List ℕ) → f.file_lookup_num_entry ≢ 0
-    → (piece_at f.file_lookup_offset (12 * f.file_lookup_num_entry) whole >>= λ p. Ok (heads_in f.file_lookup_num_entry p)) ≡ file_lookup_in f whole
-unfolding piece_at file_lookup_in
-files_kept f whole ne =
-    let at = f.file_lookup_offset in
-    let n = f.file_lookup_num_entry in
     next (nat_le (at + 12 * n) (length whole)) (take (12 * n) (drop at whole)) (λ p. Ok (heads_in n p)) _ (ap Ok (heads_first n (drop at whole))) ∙ chosen_second n _ _ ne
 
 pub chunks_kept : (f : MDBShardFileFooter) (whole : List ℕ) → f.chunk_lookup_num_entry ≢ 0
@@ -95,9 +97,9 @@ chunks_kept f whole ne =
     let n = f.chunk_lookup_num_entry in
     next (nat_le (at + 16 * n) (length whole)) (take (16 * n) (drop at whole)) (λ p. Ok (places_in n p)) _ (ap Ok (places_first n (drop at whole))) ∙ chosen_second n _ _ ne
 
-pub files_made : (f : MDBShardFileFooter) (whole : List ℕ) → f.file_lookup_num_entry ≡ 0 → (files_in f whole >>= λ files. Ok (file_items files)) ≡ file_lookup_in f whole
-unfolding file_lookup_in
-files_made f whole e = chosen_first f.file_lookup_num_entry _ _ e
+pub files_made : (f : MDBShardFileFooter) (index : ℕ) (whole : List ℕ) → f.file_lookup_num_entry ≡ 0 → (files_in f whole >>= λ files. Ok (file_items files)) ≡ file_items_from f index whole
+unfolding file_items_from
+files_made f index whole e = chosen_first f.file_lookup_num_entry _ _ e
 
 pub xorbs_made : (f : MDBShardFileFooter) (whole : List ℕ) → f.xorb_lookup_num_entry ≡ 0 → (blocks_in f whole >>= λ blocks. Ok (xorb_items blocks)) ≡ xorb_lookup_in f whole
 unfolding xorb_lookup_in

@@ -1,13 +1,13 @@
 -- The parts of a shard's text are read, each for itself.
-use Rattle.std.proofs.Common.{◌≡◌, ◌≢◌, ℕ, ◌+◌, ◌-◌, ◌*◌, ◌^◌, ◌<◌, ◌≤◌, true, false, eqb, List, length, take, drop, replicate, nat_eq, None, Result, Ok, refl, sym, ap, subst, ◌∙◌, arith, inl, inr}
+use Rattle.std.proofs.Common.{◌≡◌, ◌≢◌, ℕ, ◌+◌, ◌-◌, ◌*◌, ◌^◌, ◌<◌, ◌≤◌, true, false, eqb, List, length, take, drop, replicate, nat_eq, nat_le, None, Result, Ok, refl, sym, ap, subst, ◌∙◌, arith, inl, inr}
 use Rattle.std.specs.Cmp.Lexicographic.{pointwise}
 use Rattle.std.specs.List.{flat_map}
 use Rattle.std.proofs.lemmas.Bool.{cases_Bool, eqb-false, eqb-true, le-leb, lt-ltb}
 use Rattle.xet_hash.specs.declared.error.StoreError.{StoreError}
 use Rattle.xet_shard.specs.declared.info.MDBShardFileFooter.{MDBShardFileFooter}
 use Rattle.xet_shard.specs.declared.record.MDBXorbInfo.{MDBXorbInfo}
-use Rattle.xet_shard.specs.declared.record.MDBFileInfo.{MDBFileInfo}
-use Rattle.xet_shard.specs.Queries.{file_lookup_in}
+use Rattle.xet_shard.specs.Bisection.{in_table}
+use Rattle.xet_shard.specs.Queries.{chunk_table, file_table, xorb_table}
 use Rattle.xet_shard.specs.declared.row.Row.{Row}
 use Rattle.xet_shard.specs.Lookups.{Lookups, chunk_items, file_items, head_text, heads_text, left_in, place_text, places_text, xorb_items}
 use Rattle.xet_shard.specs.Pieces.{piece_at}
@@ -19,7 +19,7 @@ use Rattle.xet_shard.specs.Text.{Fits, IsShard, Shard, footer_of, header, materi
 use Rattle.xet_shard.proofs.Faulting.{info_of, piece_there}
 use Rattle.xet_shard.proofs.Footers.{places_take}
 use Rattle.xet_shard.proofs.ItemsAgain.{chunk_items_fit, file_items_fit, heads_again, places_again, xorb_items_fit}
-use Rattle.xet_shard.proofs.PartLaws.{chunks_kept, chunks_made, count_whole, files_kept, files_made, goes_on, xorbs_kept, xorbs_made}
+use Rattle.xet_shard.proofs.PartLaws.{chosen_second, chunks_kept, chunks_made, count_whole, goes_on, heads_kept, reached_is, xorbs_kept, xorbs_made}
 use Rattle.xet_shard.proofs.RowLaws.{bind_ok, ok_is, wants_ok}
 use Rattle.xet_shard.proofs.WholeAgain.{all_again}
 use Rattle.xet_shard.proofs.WholeTaken.{LeftIn, head_len, lookup_takes, place_len}
@@ -81,13 +81,6 @@ heads_there bytes items at n whole made kept le again e = elim (cases_Bool (eqb 
       goes_on (λ (x : List ℕ). x) (λ (x : List (ℕ × ℕ)). x) (take (12 * n) (drop at bytes)) items (piece_at at (12 * n) bytes) (heads_in n) whole (kept ne) (piece_there at (12 * n) bytes le) (sym again ∙ (λ i. heads_in (sym both.0 i) (sym both.1 i)))
 ]
 
-files_there : (bytes : List ℕ) (f : MDBShardFileFooter) (files : List MDBFileInfo) → IsPlaced (length bytes) f → heads_in (length (file_items files)) (heads_text (file_items files)) ≡ file_items files → files_in f bytes ≡ Ok files
-    → lookup_at bytes f.file_lookup_offset (12 * f.file_lookup_num_entry) (heads_text (file_items files)) ≡ Ok tt → file_lookup_in f bytes ≡ Ok (file_items files)
-files_there bytes f files p again whole e =
-    heads_there bytes (file_items files) f.file_lookup_offset f.file_lookup_num_entry (file_lookup_in f bytes)
-    (λ none. goes_on (λ (x : List MDBFileInfo). x) (λ (x : List (ℕ × ℕ)). x) files (file_items files) (files_in f bytes) file_items (file_lookup_in f bytes) (files_made f bytes none) whole refl)
-    (files_kept f bytes) (omega (arith, p.xorb_lookup, p.chunk_lookup, p.footer, p.end)) again e
-
 xorbs_there : (bytes : List ℕ) (f : MDBShardFileFooter) (blocks : List MDBXorbInfo) → IsPlaced (length bytes) f → heads_in (length (xorb_items blocks)) (heads_text (xorb_items blocks)) ≡ xorb_items blocks → blocks_in f bytes ≡ Ok blocks
     → lookup_at bytes f.xorb_lookup_offset (12 * f.xorb_lookup_num_entry) (heads_text (xorb_items blocks)) ≡ Ok tt → xorb_lookup_in f bytes ≡ Ok (xorb_items blocks)
 xorbs_there bytes f blocks p again whole e =
@@ -135,11 +128,26 @@ module _ (w : Lookups) (s : Shard) (form : IsShard s) (fits : Fits s) where
   pub blocks_again : blocks_in foot text ≡ Ok s.blocks
   blocks_again = let p = text_placed in ap (λ (r : Result ℕ StoreError). r >>= λ n. section_in xorb_at xorb_hash foot.xorb_info_offset n text) (count_whole foot.xorb_info_offset foot.file_lookup_offset p.file_lookup) ∙ section_there xorb_at xorb_hash foot.xorb_info_offset (xorb_row_count foot) text s.blocks p.few_xorbs (omega (arith, p.file_lookup, p.xorb_lookup, p.chunk_lookup, p.footer, p.end)) text_checked.blocks
 
-  pub file_lookup_again : file_lookup_in foot text ≡ Ok (file_items s.files)
-  file_lookup_again = files_there text foot s.files text_placed (heads_again (file_items s.files) (file_items_fit s.files fits.files form.few_files)) files_again text_checked.heads
+  -- a table that stands
+  pub file_table_again : foot.file_lookup_num_entry ≢ 0 → file_table foot text ≡ file_items s.files
+  file_table_again ne =
+      let p = text_placed in
+      let at = foot.file_lookup_offset in
+      let n = foot.file_lookup_num_entry in
+      reached_is (nat_le (at + 12 * n) (length text)) (file_table foot text) (file_items s.files)
+      (heads_there text (file_items s.files) at n (in_table at (12 * n) text (file_table foot text)) (λ z. absurd (ne z)) (λ _. heads_kept at n text) (omega (arith, p.xorb_lookup, p.chunk_lookup, p.footer, p.end))
+      (heads_again (file_items s.files) (file_items_fit s.files fits.files form.few_files)) text_checked.heads)
 
   pub xorbs_again : xorb_lookup_in foot text ≡ Ok (xorb_items s.blocks)
   xorbs_again = xorbs_there text foot s.blocks text_placed (heads_again (xorb_items s.blocks) (xorb_items_fit s.blocks fits.blocks form.few_blocks)) blocks_again text_checked.xorbs
 
+  pub xorb_table_again : foot.xorb_lookup_num_entry ≢ 0 → xorb_table foot text ≡ xorb_items s.blocks
+  unfolding xorb_lookup_in
+  xorb_table_again ne = reached_is (nat_le (foot.xorb_lookup_offset + 12 * foot.xorb_lookup_num_entry) (length text)) (xorb_table foot text) (xorb_items s.blocks) (chosen_second foot.xorb_lookup_num_entry _ _ ne ∙ xorbs_again)
+
   pub chunks_again : chunk_lookup_in foot text ≡ Ok (chunk_items s.blocks)
   chunks_again = chunks_there text foot s.blocks text_placed (places_again (chunk_items s.blocks) (chunk_items_fit s.blocks fits.blocks form.few_blocks)) blocks_again text_checked.chunks
+
+  pub chunk_table_again : foot.chunk_lookup_num_entry ≢ 0 → chunk_table foot text ≡ chunk_items s.blocks
+  unfolding chunk_lookup_in
+  chunk_table_again ne = reached_is (nat_le (foot.chunk_lookup_offset + 16 * foot.chunk_lookup_num_entry) (length text)) (chunk_table foot text) (chunk_items s.blocks) (chosen_second foot.chunk_lookup_num_entry _ _ ne ∙ chunks_again)

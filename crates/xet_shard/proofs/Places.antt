@@ -34,7 +34,7 @@ flat_push found p = map-append flat_place found (p ∷ [])
 abbrev pub pair_cmp : ℕ × (ℕ × ℕ) → ℕ × (ℕ × ℕ) → Ordering
 pair_cmp x y = ordering_then (nat_cmp x.0 y.0) (ordering_then (nat_cmp x.1.0 y.1.0) (nat_cmp x.1.1 y.1.1))
 
-then_regroups : (o p q : Ordering) → ordering_then (ordering_then o p) q ≡ ordering_then o (ordering_then p q)
+pub then_regroups : (o p q : Ordering) → ordering_then (ordering_then o p) q ≡ ordering_then o (ordering_then p q)
 then_regroups Less p q = refl
 then_regroups Equal p q = refl
 then_regroups Greater p q = refl

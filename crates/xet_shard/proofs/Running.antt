@@ -25,7 +25,7 @@ pub agreeing-done : (query : List (List ℕ)) (chunks : List XorbChunkSequenceEn
 unfolding agreeing
 agreeing-done query chunks i le = ap (λ (qs : List (List ℕ)). agreeing qs (digests (drop i chunks))) (drop_all i query le)
 
-agreeing-none : (query : List (List ℕ)) → agreeing query [] ≡ 0
+pub agreeing-none : (query : List (List ℕ)) → agreeing query [] ≡ 0
 unfolding agreeing
 agreeing-none [] = refl
 agreeing-none (q ∷ qs) = refl

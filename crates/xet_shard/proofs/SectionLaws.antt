@@ -28,11 +28,11 @@ chunk_takes r at c e =
     let made : XorbChunkSequenceEntry = record { chunk_hash = r.hash; chunk_byte_range_start = r.a; unpacked_segment_bytes = r.b } in
     subst (λ (y : XorbChunkSequenceEntry). (r ≡ chunk_row y) × (y.chunk_byte_range_start ≡ at)) (ok_is made c d.1) (row_is r _ _ 0 0 refl refl (eqb-true _ _ b.0) (eqb-true _ _ d.0), eqb-true _ _ a.0)
 
-chunk_again : (c : XorbChunkSequenceEntry) (at : ℕ) → c.chunk_byte_range_start ≡ at → chunk_in (chunk_row c) at ≡ Ok c
+pub chunk_again : (c : XorbChunkSequenceEntry) (at : ℕ) → c.chunk_byte_range_start ≡ at → chunk_in (chunk_row c) at ≡ Ok c
 unfolding chunk_in
 chunk_again c at e = rw (eq-eqb _ _ e) refl
 
-chunk_total : (c : XorbChunkSequenceEntry) (cs : List XorbChunkSequenceEntry) → chunk_bytes (c ∷ cs) ≡ c.unpacked_segment_bytes + chunk_bytes cs
+pub chunk_total : (c : XorbChunkSequenceEntry) (cs : List XorbChunkSequenceEntry) → chunk_bytes (c ∷ cs) ≡ c.unpacked_segment_bytes + chunk_bytes cs
 chunk_total c cs = sum_by-cons (λ (c : XorbChunkSequenceEntry). c.unpacked_segment_bytes) c cs
 
 chunks_take : (n at : ℕ) (rows : List Row) (cs : List XorbChunkSequenceEntry) (total : ℕ) (rest : List Row) → chunks_at n at rows ≡ Ok (cs, total, rest)

@@ -7,7 +7,6 @@ use Rattle.xet_hash.specs.declared.error.Reason.TheVariants.{SectionPlace}
 use Rattle.xet_hash.specs.declared.error.StoreError.{StoreError}
 use Rattle.xet_hash.specs.declared.error.StoreError.TheVariants.{MalformedData}
 use Rattle.xet_hash.specs.Hash.{marker}
-use Rattle.xet_shard.specs.Records.{is_after}
 use Rattle.xet_shard.specs.Reading.{◌>>=◌, Fails, row_at, end_at, step_at, section_at}
 use Rattle.xet_shard.proofs.Failures.{fails_on}
 

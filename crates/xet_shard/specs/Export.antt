@@ -4,7 +4,7 @@ use Rattle.std.specs.Prelude.{◌≡◌, ℕ, ◌+◌, Bool, true, false, List, 
 use Rattle.xet_hash.specs.Blake3.{keyed_digest}
 use Rattle.xet_hash.specs.declared.error.Place.TheVariants.{Input, Output}
 use Rattle.xet_hash.specs.declared.error.StoreError.{StoreError}
-use Rattle.xet_hash.specs.declared.error.StoreError.TheVariants.{Io, OutOfMemory}
+use Rattle.xet_hash.specs.declared.error.StoreError.TheVariants.{Io, MalformedData, OutOfMemory, UnexpectedEof}
 use Rattle.xet_shard.specs.declared.info.MDBShardFileFooter.{MDBShardFileFooter}
 use Rattle.xet_shard.specs.declared.record.MDBFileInfo.{MDBFileInfo}
 use Rattle.xet_shard.specs.declared.record.MDBXorbInfo.{MDBXorbInfo}
@@ -54,3 +54,12 @@ IsUnwritten read OutOfMemory = Unit {0}
 IsUnwritten read (Io Input) = Unit {0}
 IsUnwritten read (Io Output) = Unit {0}
 IsUnwritten read e = read ≡ Err e
+
+-- the kinds of refusals of an export: those of reading a shard, and a sink that fails
+abbrev pub IsExportRefusal : StoreError → Type 0
+IsExportRefusal OutOfMemory = Unit {0}
+IsExportRefusal UnexpectedEof = Unit {0}
+IsExportRefusal (MalformedData reason) = Unit {0}
+IsExportRefusal (Io Input) = Unit {0}
+IsExportRefusal (Io Output) = Unit {0}
+IsExportRefusal e = ⊥

@@ -4,6 +4,7 @@ pub mod Sorted
 pub mod Lookups
 pub mod Text
 pub mod Reading
+pub mod Bisection
 pub mod Pieces
 pub mod Sections
 pub mod Names

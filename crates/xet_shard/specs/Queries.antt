@@ -1,8 +1,9 @@
--- What a shard's bytes answer: the file of a hash, and the run of a query. A question reads a look-up, and
--- the records at the rows that it tells.
-use Rattle.std.specs.Prelude.{ℕ, ◌+◌, ◌-◌, ◌*◌, ◌^◌, ◌==◌, nat_eq, nat_le, nat_lt, List, [], ◌∷◌, drop, filter, length, map, Option, Some, None, Result, Ok, Err, if◌then◌else◌}
+-- What a shard's bytes answer: the file of a hash, and the run of a query. A query bisects a lookup table, and
+-- reads the records at the rows that a few of its items tell. A table that was left out is made from all records,
+-- and then no index is needed.
+use Rattle.std.specs.Prelude.{ℕ, ◌+◌, ◌-◌, ◌*◌, ◌^◌, ◌==◌, nat_eq, nat_le, nat_lt, Bool, false, List, [], ◌∷◌, drop, filter, length, map, take, Option, Some, None, Result, Ok, Err, if◌then◌else◌}
 use Rattle.std.specs.Cmp.Lexicographic.{pointwise}
-use Rattle.std.specs.List.{list_any}
+use Rattle.std.specs.List.{list_any, slice_get}
 use Rattle.xet_hash.specs.Blake3.{keyed_digest}
 use Rattle.xet_hash.specs.Hash.{zero_hash}
 use Rattle.xet_hash.specs.declared.error.Reason.TheVariants.{SectionPlace}
@@ -13,42 +14,56 @@ use Rattle.xet_shard.specs.declared.record.FileDataSequenceEntry.{FileDataSequen
 use Rattle.xet_shard.specs.declared.record.MDBFileInfo.{MDBFileInfo}
 use Rattle.xet_shard.specs.declared.record.MDBXorbInfo.{MDBXorbInfo}
 use Rattle.xet_shard.specs.declared.row.Row.{Row}
-use Rattle.xet_shard.specs.Lookups.{chunk_items, file_items}
-use Rattle.xet_shard.specs.Reading.{◌>>=◌, IsShardRefusal, file_at, reaches, row_at, wants, xorb_at}
+use Rattle.xet_shard.specs.Lookups.{chunk_items, file_items, xorb_items}
+use Rattle.xet_shard.specs.Reading.{◌>>=◌, IsShardRefusal, file_at, reaches, row_at, wants}
 use Rattle.xet_shard.specs.Records.{file_hash, first_word, xorb_rows}
 use Rattle.xet_shard.specs.Held.{record_of}
 use Rattle.xet_shard.specs.Rows.{rows_in}
-use Rattle.xet_shard.specs.Runs.{run_at}
-use Rattle.xet_shard.specs.Sections.{chunk_lookup_in, files_in, heads_in, row_count, xorb_lookup_in}
+use Rattle.xet_shard.specs.Runs.{run_after, run_at}
+use Rattle.xet_shard.specs.Sections.{files_in, heads_in, row_count, blocks_in, places_in}
+use Rattle.xet_shard.specs.Bisection.{in_table, item_before}
 use Rattle.xet_shard.specs.Text.{Shard}
 
--- what was read, without the rows after it
-abbrev pub alone : {X : Type 0} → Result (X × List Row) StoreError → Result X StoreError
-alone read = read >>= λ x. Ok x.0
-
--- the record whose head is in a row of the section of so many rows from a place on
-unfoldable pub record_in : {X : Type 0} → (Row → List Row → Result (X × List Row) StoreError) → ℕ → ℕ → ℕ → List ℕ → Result X StoreError
-record_in record_at at count row bytes = do
+-- how many rows there are from a row on in the section of so many rows from a place on
+unfoldable pub rows_from : ℕ → ℕ → ℕ → List ℕ → Result ℕ StoreError
+rows_from at count row bytes = do
   _ ← wants (nat_lt count (2 ^ 32)) SectionPlace
   _ ← wants (nat_lt row count) SectionPlace
   _ ← reaches (nat_le (at + 48 * count) (length bytes))
-  r ← row_at (rows_in (count - row) (drop (at + 48 * row) bytes))
-  x ← record_at r.0 r.1
-  Ok x.0
+  Ok (count - row)
+
+-- what is read of the head in a row of that section and of the rows after it
+unfoldable pub read_in_row : {X : Type 0} → (Row → List Row → Result X StoreError) → ℕ → ℕ → ℕ → List ℕ → Result X StoreError
+read_in_row read at count row bytes = do
+  n ← rows_from at count row bytes
+  r ← row_at (rows_in n (drop (at + 48 * row) bytes))
+  read r.0 r.1
+
+-- the file of a head, of its own rows, which are the first after it
+abbrev pub file_after : Row → List Row → Result MDBFileInfo StoreError
+file_after head rows = file_at head rows >>= λ x. Ok x.0
 
 abbrev pub file_in : MDBShardFileFooter → ℕ → List ℕ → Result MDBFileInfo StoreError
-file_in f row bytes = row_count f.file_info_offset f.xorb_info_offset >>= λ count. record_in file_at f.file_info_offset count row bytes
+file_in f row bytes = row_count f.file_info_offset f.xorb_info_offset >>= λ count. read_in_row file_after f.file_info_offset count row bytes
 
-abbrev pub block_in : MDBShardFileFooter → ℕ → List ℕ → Result MDBXorbInfo StoreError
-block_in f row bytes = row_count f.xorb_info_offset f.file_lookup_offset >>= λ count. record_in xorb_at f.xorb_info_offset count row bytes
+-- ---- lookup tables, as the bytes have them
+
+abbrev pub file_table : MDBShardFileFooter → List ℕ → List (ℕ × ℕ)
+file_table f bytes = heads_in f.file_lookup_num_entry (drop f.file_lookup_offset bytes)
+
+abbrev pub xorb_table : MDBShardFileFooter → List ℕ → List (ℕ × ℕ)
+xorb_table f bytes = heads_in f.xorb_lookup_num_entry (drop f.xorb_lookup_offset bytes)
+
+abbrev pub chunk_table : MDBShardFileFooter → List ℕ → List (ℕ × ℕ × ℕ)
+chunk_table f bytes = places_in f.chunk_lookup_num_entry (drop f.chunk_lookup_offset bytes)
 
 -- ---- files
 
--- the look-up of files; one that was left out is made from the files
-unfoldable pub file_lookup_in : MDBShardFileFooter → List ℕ → Result (List (ℕ × ℕ)) StoreError
-file_lookup_in f bytes =
+-- the items of the files' table that are looked at: at most eight from an index on, or all of one that was left out
+unfoldable pub file_items_from : MDBShardFileFooter → ℕ → List ℕ → Result (List (ℕ × ℕ)) StoreError
+file_items_from f index bytes =
     if f.file_lookup_num_entry == 0 then (files_in f bytes >>= λ files. Ok (file_items files))
-    else reaches (nat_le (f.file_lookup_offset + 12 * f.file_lookup_num_entry) (length bytes)) >>= λ _. Ok (heads_in f.file_lookup_num_entry (drop f.file_lookup_offset bytes))
+    else in_table f.file_lookup_offset (12 * f.file_lookup_num_entry) bytes (take 8 (drop index (file_table f bytes)))
 
 -- the rows of the items of a word
 abbrev pub rows_of : ℕ → List (ℕ × ℕ) → List ℕ
@@ -65,10 +80,10 @@ first_file f h (row ∷ rows) bytes = do
 abbrev pub fewer_than_eight : ℕ → Result (Unit {0}) StoreError
 fewer_than_eight count = if nat_lt count 8 then Ok tt else Err TruncatedHashCollision
 
--- the file of a hash, if there is one
-unfoldable pub found_file : MDBShardFileFooter → List ℕ → List ℕ → Result (Option MDBFileInfo) StoreError
-found_file f h bytes = do
-  items ← file_lookup_in f bytes
+-- The file of a hash, if there is one, by an index at which the table is bisected by the hash's first word.
+unfoldable pub found_file : MDBShardFileFooter → List ℕ → ℕ → List ℕ → Result (Option MDBFileInfo) StoreError
+found_file f h index bytes = do
+  items ← file_items_from f index bytes
   _ ← fewer_than_eight (length (rows_of (first_word h) items))
   first_file f h (rows_of (first_word h) items) bytes
 
@@ -79,36 +94,59 @@ unfoldable pub kept_hash : List ℕ → List ℕ → List ℕ
 kept_hash key h = if pointwise nat_eq key zero_hash then h else keyed_digest key h
 
 -- the run of a query at a place of the xorb whose head is in a row
-unfoldable pub run_in : MDBShardFileFooter → List (List ℕ) → ℕ → ℕ → List ℕ → Result (Option (ℕ × FileDataSequenceEntry)) StoreError
-run_in f query row place bytes = do
-  block ← block_in f row bytes
-  Ok (run_at (map (kept_hash f.chunk_hash_hmac_key) query) block place)
+abbrev pub run_in : MDBShardFileFooter → List (List ℕ) → ℕ → ℕ → List ℕ → Result (Option (ℕ × FileDataSequenceEntry)) StoreError
+run_in f query row place bytes =
+    row_count f.xorb_info_offset f.file_lookup_offset >>= λ count. read_in_row (run_after (map (kept_hash f.chunk_hash_hmac_key) query) place) f.xorb_info_offset count row bytes
 
 -- row and place of the last item of a word
 unfoldable pub last_of : ℕ → List (ℕ × ℕ × ℕ) → Option (ℕ × ℕ)
 last_of word [] = None
 last_of word (i ∷ is) = elim (last_of word is) [ Some found ↦ Some found | None ↦ if i.0 == word then Some (i.1, i.2) else None ]
 
+-- row and place of the item before an index, if it has a word
+abbrev pub place_before : ℕ → ℕ → List (ℕ × ℕ × ℕ) → Option (ℕ × ℕ)
+place_before word index items = elim (item_before index items) [ None ↦ None | Some i ↦ if i.0 == word then Some (i.1, i.2) else None ]
+
+-- where the last chunk of a word stands
+unfoldable pub chunk_place : MDBShardFileFooter → ℕ → ℕ → List ℕ → Result (Option (ℕ × ℕ)) StoreError
+chunk_place f word index bytes =
+    if f.chunk_lookup_num_entry == 0 then (blocks_in f bytes >>= λ blocks. Ok (last_of word (chunk_items blocks)))
+    else in_table f.chunk_lookup_offset (16 * f.chunk_lookup_num_entry) bytes (place_before word index (chunk_table f bytes))
+
 -- the run of a query at the last place of a word
-unfoldable pub run_of_word : MDBShardFileFooter → List (List ℕ) → ℕ → List ℕ → Result (Option (ℕ × FileDataSequenceEntry)) StoreError
-run_of_word f query word bytes = do
-  items ← chunk_lookup_in f bytes
-  elim (last_of word items) [ None ↦ Ok None | Some found ↦ run_in f query found.0 found.1 bytes ]
+unfoldable pub run_of_word : MDBShardFileFooter → List (List ℕ) → ℕ → ℕ → List ℕ → Result (Option (ℕ × FileDataSequenceEntry)) StoreError
+run_of_word f query word index bytes = do
+  place ← chunk_place f word index bytes
+  elim place [ None ↦ Ok None | Some found ↦ run_in f query found.0 found.1 bytes ]
 
--- The run of a query at the last place that is looked up by the first word of its first hash; none where
--- there is no such place.
-unfoldable pub found_run : MDBShardFileFooter → List (List ℕ) → List ℕ → Result (Option (ℕ × FileDataSequenceEntry)) StoreError
-found_run f [] bytes = Ok None
-found_run f (h ∷ hs) bytes = do
-  items ← chunk_lookup_in f bytes
-  elim (last_of (first_word (kept_hash f.chunk_hash_hmac_key h)) items) [ None ↦ Ok None | Some found ↦ run_in f (h ∷ hs) found.0 found.1 bytes ]
+-- the first word of the first hash of a query, as a shard keeps it
+abbrev pub query_word : MDBShardFileFooter → List (List ℕ) → ℕ
+query_word f [] = 0
+query_word f (h ∷ hs) = first_word (kept_hash f.chunk_hash_hmac_key h)
 
--- The run of a query at a row and a place that are told; none where no xorb's head is in the row.
-unfoldable pub told_run : MDBShardFileFooter → List (List ℕ) → ℕ → ℕ → List ℕ → Result (Option (ℕ × FileDataSequenceEntry)) StoreError
-told_run f [] row place bytes = Ok None
-told_run f (h ∷ hs) row place bytes = do
-  items ← xorb_lookup_in f bytes
-  if list_any (λ i. i.1 == row) items then run_in f (h ∷ hs) row place bytes else Ok None
+-- The run of a query at the last place of its first hash's first word, by an index at which the table is bisected
+-- by that word; none where there is no such place.
+unfoldable pub found_run : MDBShardFileFooter → List (List ℕ) → ℕ → List ℕ → Result (Option (ℕ × FileDataSequenceEntry)) StoreError
+found_run f [] index bytes = Ok None
+found_run f (h ∷ hs) index bytes = run_of_word f (h ∷ hs) (query_word f (h ∷ hs)) index bytes
+
+-- whether the item at an index tells a row
+abbrev pub tells_row : ℕ → ℕ → List (ℕ × ℕ) → Bool
+tells_row row index items = elim (slice_get items index) [ None ↦ false | Some i ↦ i.1 == row ]
+
+-- whether a xorb's head is in a row
+unfoldable pub has_head : MDBShardFileFooter → ℕ → ℕ → List ℕ → Result Bool StoreError
+has_head f row index bytes =
+    if f.xorb_lookup_num_entry == 0 then (blocks_in f bytes >>= λ blocks. Ok (list_any (λ i. i.1 == row) (xorb_items blocks)))
+    else in_table f.xorb_lookup_offset (12 * f.xorb_lookup_num_entry) bytes (tells_row row index (xorb_table f bytes))
+
+-- The run of a query at a row and a place that are told, by an index at which the table is bisected by the row;
+-- none where no xorb's head is in the row.
+unfoldable pub told_run : MDBShardFileFooter → List (List ℕ) → ℕ → ℕ → ℕ → List ℕ → Result (Option (ℕ × FileDataSequenceEntry)) StoreError
+told_run f [] row place index bytes = Ok None
+told_run f (h ∷ hs) row place index bytes = do
+  there ← has_head f row index bytes
+  if there then run_in f (h ∷ hs) row place bytes else Ok None
 
 -- the refusals of looking up a file
 abbrev pub IsFileRefusal : StoreError → Type 0

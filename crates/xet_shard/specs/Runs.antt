@@ -1,9 +1,13 @@
 -- Runs: chunks that stand in a xorb in the order of a query.
-use Rattle.std.specs.Prelude.{ℕ, suc, ◌+◌, ◌==◌, nat_eq, List, [], ◌∷◌, map, take, drop, Option, Some, None, if◌then◌else◌, option_and_then, option_map}
+use Rattle.std.specs.Prelude.{ℕ, suc, ◌+◌, ◌-◌, ◌==◌, nat_eq, nat_le, List, [], ◌∷◌, map, take, drop, Option, Some, None, Result, Ok, if◌then◌else◌, option_and_then, option_map}
 use Rattle.std.specs.Cmp.Lexicographic.{pointwise}
+use Rattle.xet_hash.specs.declared.error.Reason.TheVariants.{SectionEntry}
+use Rattle.xet_hash.specs.declared.error.StoreError.{StoreError}
 use Rattle.xet_shard.specs.declared.record.FileDataSequenceEntry.{FileDataSequenceEntry}
 use Rattle.xet_shard.specs.declared.record.MDBXorbInfo.{MDBXorbInfo}
 use Rattle.xet_shard.specs.declared.record.XorbChunkSequenceEntry.{XorbChunkSequenceEntry}
+use Rattle.xet_shard.specs.declared.row.Row.{Row}
+use Rattle.xet_shard.specs.Reading.{◌>>=◌, chunk_in, has_rows, wants}
 use Rattle.xet_shard.specs.Records.{chunk_bytes, xorb_hash}
 
 -- how many hashes at the front of two lists agree
@@ -31,6 +35,44 @@ unfoldable pub run_at : List (List ℕ) → MDBXorbInfo → ℕ → Option (ℕ 
 run_at query block place =
     let count = agreeing query (digests (drop place block.chunks)) in
     if count == 0 then None else Some (count, run_segment block place count)
+
+-- where the chunk in a row ends, which begins at a place; no chunk passes the end of its xorb
+unfoldable pub chunk_end : Row → ℕ → ℕ → Result ℕ StoreError
+chunk_end r at end = do
+  _ ← chunk_in r at
+  _ ← wants (nat_le (r.a + r.b) end) SectionEntry
+  Ok (r.a + r.b)
+
+-- How many hashes at the front of a query are those of the chunks in these rows, the first of which begins at a
+-- place, and where the last of these chunks ends. The first row whose hash differs ends them, and nothing else
+-- of it is looked at, nor of the rows after it.
+unfoldable pub agreed : List (List ℕ) → ℕ → ℕ → List Row → Result (ℕ × ℕ) StoreError
+agreed [] end at rows = Ok (0, at)
+agreed (h ∷ hs) end at [] = Ok (0, at)
+agreed (h ∷ hs) end at (r ∷ rows) = if pointwise nat_eq h r.hash then (chunk_end r at end >>= λ to. agreed hs end to rows >>= λ n. Ok (suc n.0, n.1)) else Ok (0, at)
+
+-- the segment of so many chunks of the xorb of a head, from a place on
+abbrev pub head_segment : Row → ℕ → ℕ → ℕ → FileDataSequenceEntry
+head_segment head place count bytes = record {
+  xorb_hash = head.hash;
+  xorb_flags = 0;
+  unpacked_segment_bytes = bytes;
+  chunk_index_start = place;
+  chunk_index_end = place + count;
+}
+
+-- the run of a query at a place of a xorb, of its head and its rows from there on
+unfoldable pub run_of : List (List ℕ) → ℕ → Row → List Row → Result (Option (ℕ × FileDataSequenceEntry)) StoreError
+run_of query place head [] = Ok None
+run_of query place head (r ∷ rows) = agreed query head.c r.a (r ∷ rows) >>= λ n. Ok (if n.0 == 0 then None else Some (n.0, head_segment head place n.0 (n.1 - r.a)))
+
+-- The same of all rows after the head. Of those before the place only the number is looked at.
+unfoldable pub run_after : List (List ℕ) → ℕ → Row → List Row → Result (Option (ℕ × FileDataSequenceEntry)) StoreError
+run_after query place head rows = do
+  _ ← has_rows head.b rows
+  _ ← wants (head.a == 0) SectionEntry
+  _ ← wants (head.d == 0) SectionEntry
+  run_of query place head (take (head.b - place) (drop place rows))
 
 -- the last place of a hash
 unfoldable pub last_place : List ℕ → List (List ℕ) → Option ℕ

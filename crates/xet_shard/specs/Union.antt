@@ -9,6 +9,7 @@ use Rattle.xet_hash.specs.declared.error.StoreError.TheVariants.{InvalidArgument
 use Rattle.xet_shard.specs.declared.info.MDBShardFileFooter.{MDBShardFileFooter}
 use Rattle.xet_shard.specs.declared.record.MDBFileInfo.{MDBFileInfo}
 use Rattle.xet_shard.specs.declared.record.MDBXorbInfo.{MDBXorbInfo}
+use Rattle.xet_shard.specs.Export.{IsExportRefusal}
 use Rattle.xet_shard.specs.Held.{by_hash, never, record_of}
 use Rattle.xet_shard.specs.Reading.{◌>>=◌}
 use Rattle.xet_shard.specs.Records.{file_hash, file_section, xorb_hash, xorb_section}
@@ -82,3 +83,8 @@ IsNoUnion f g read InvalidArguments = IsKeyed f ⊎ IsKeyed g ⊎ ((both : Recor
 IsNoUnion f g read e =
     (read ≡ Err e)
     ⊎ ((e ≡ MalformedData SectionPlace) × (both : Records × Records) × (read ≡ Ok both) × AgreeBoth both × HasTooMany (union_shard both f.shard_creation_timestamp g.shard_creation_timestamp))
+
+-- the kinds of refusals of a union: those of an export, and records that have none
+abbrev pub IsUnionRefusal : StoreError → Type 0
+IsUnionRefusal InvalidArguments = Unit {0}
+IsUnionRefusal e = IsExportRefusal e

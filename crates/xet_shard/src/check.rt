@@ -13,9 +13,6 @@ use std::alloc::Global;
 use xet_hash::{Place, StoreError};
 use xet_io::{ReadAt, Refusal, read_whole};
 
-/// The most bytes that are read at a time.
-const BLOCK: usize = 1 << 20;
-
 impl MDBShardInfo {
     /// The xorbs, the files and the footer of a shard, all of whose bytes are read and checked. Bytes
     /// that are no shard are refused by the first check that fails: the header, the footer, the files,
@@ -36,7 +33,7 @@ impl MDBShardInfo {
         ensures same { R.bytes reader.new ≡ R.bytes reader.old }
         ensures tells { R.tells reader.new ≡ R.tells reader.old }
     {
-        match read_whole(alloc, reader, BLOCK) {
+        match read_whole(alloc, reader) {
             Ok(bytes) => read_shard(alloc, &bytes),
             Err(Refusal::Failed) => Err(StoreError::Io(Place::Input)),
             Err(Refusal::OutOfMemory) => Err(StoreError::OutOfMemory),

@@ -1,6 +1,6 @@
 //! The header and the footer of a shard's bytes.
 
-ghost use Rattle.std.specs.Prelude.{◌≡◌, ◌≤◌, ◌+◌, ◌*◌, ◌==◌, IfOk, OnOk, length, min};
+ghost use Rattle.std.specs.Prelude.{◌≡◌, ◌⊎◌, ◌≤◌, ◌+◌, ◌-◌, ◌*◌, ◌==◌, ℕ, IfErr, IfOk, List, OnOk, drop, length, min, take};
 ghost use Rattle.xet_shard.specs.Pieces.{footer_of_last, header_of_first};
 ghost use Rattle.xet_shard.specs.Reading.{Gives, IsPlaced, ends_of, footer_at, footer_in, header_at, places_at};
 
@@ -25,6 +25,24 @@ pub fn read_footer(bytes: &[u8]) -> Result<MDBShardFileFooter, StoreError>
 {
     header(bytes)?;
     footer(bytes)
+}
+
+/// The footer of a shard of so many bytes, as `read_footer` reads it, by its first 48 bytes and its last 200
+/// alone.
+pub fn read_footer_of_ends(
+    len: u64,
+    first: &[u8],
+    last: &[u8],
+) -> Result<MDBShardFileFooter, StoreError>
+    requires first { min len 48 ≤ length first.now }
+    requires last { length last.now ≡ 200 }
+    ensures exact { (bytes : List ℕ) → len ≡ length bytes → first.now ≡ take 48 bytes → last.now ≡ take 200 (drop (len - 200) bytes) → result ≡ ends_of bytes }
+    ensures error { IfErr result (λ e. (e ≡ StoreError.UnexpectedEof) ⊎ ((reason : Reason) × (e ≡ StoreError.MalformedData reason))) }
+{
+    match header_of_first(len, first) {
+        Ok(()) => footer_of_last(len, last),
+        Err(error) => Err(error),
+    }
 }
 
 /// Checks the header, and that there is room for a footer.

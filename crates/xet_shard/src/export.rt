@@ -3,7 +3,7 @@
 ghost use Rattle.std.specs.Prelude.{◌≡◌, ◌≢◌, ◌<◌, ◌+◌, ◌^◌, ℕ, [], None, true, min, IfErr, IfOk, IsErrOf, OnErr, OnOk, length, map};
 ghost use Rattle.xet_hash.specs.Hash.{zero_hash};
 ghost use Rattle.xet_io.specs.Faults.{HasCause};
-ghost use Rattle.xet_shard.specs.Export.{HasFront, IsExport, IsUnwritten, exported, files_wanted, keyed_block, keyed_chunk};
+ghost use Rattle.xet_shard.specs.Export.{HasFront, IsExport, IsExportRefusal, IsUnwritten, exported, files_wanted, keyed_block, keyed_chunk};
 ghost use Rattle.xet_shard.specs.Held.{never};
 ghost use Rattle.xet_shard.specs.Reading.{GivesUnlessFault, IsShardRefusal};
 ghost use Rattle.xet_shard.specs.Records.{AreRecords, IsFile, IsXorb, file_hash, file_section, xorb_hash, xorb_section};
@@ -41,6 +41,7 @@ impl MDBShardInfo {
         ensures written { R.tells reader.old ≡ true → W.tells sink.old ≡ true → OnOk result (IsExport (record { files = files; xorbs = xorb_lookup; chunks = chunk_lookup }) (exported files key valid_for now self.now.metadata (R.bytes reader.old)) (W.written sink.old) (W.written sink.new)) }
         ensures front { R.tells reader.old ≡ true → W.tells sink.old ≡ true → OnErr result (HasFront (record { files = files; xorbs = xorb_lookup; chunks = chunk_lookup }) (exported files key valid_for now self.now.metadata (R.bytes reader.old)) (W.written sink.old) (W.written sink.new)) }
         ensures refused { R.tells reader.old ≡ true → IfErr result (IsUnwritten (exported files key valid_for now self.now.metadata (R.bytes reader.old))) }
+        ensures refusals { IfErr result IsExportRefusal }
         ensures input { HasCause (R.faults reader.old) (R.faults reader.new) (IsErrOf result (StoreError.Io Place.Input)) }
         ensures output { HasCause (W.faults sink.old) (W.faults sink.new) (IsErrOf result (StoreError.Io Place.Output)) }
         ensures same { R.bytes reader.new ≡ R.bytes reader.old }

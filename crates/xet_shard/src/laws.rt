@@ -1,11 +1,13 @@
 //! Laws over the definitions. Each is the contract of a call without parameters, which does nothing.
 
-ghost use Rattle.std.specs.Prelude.{◌≡◌, [], ◌∷◌, ◌<◌, ℕ, List, None, Ok, Option, length};
+ghost use Rattle.std.specs.Prelude.{◌≡◌, [], ◌∷◌, ◌<◌, ℕ, List, None, Ok, Option, length, nat_le, nat_lt};
 ghost use Rattle.std.specs.List.{All};
+ghost use Rattle.xet_shard.specs.Bisection.{Bisects};
 ghost use Rattle.xet_shard.specs.Lookups.{Lookups, chunk_items, xorb_items};
 ghost use Rattle.xet_shard.specs.Sections.{blocks_in, chunk_lookup_in, files_in, info_at, xorb_lookup_in};
 ghost use Rattle.xet_shard.specs.Held.{Held, held_shard, held_size};
-ghost use Rattle.xet_shard.specs.Queries.{found_file, found_run, shard_file, shard_run, shard_run_at, told_run};
+ghost use Rattle.xet_shard.specs.Queries.{chunk_table, file_table, found_file, found_run, query_word, shard_file, shard_run, shard_run_at, told_run, xorb_table};
+ghost use Rattle.xet_shard.specs.Records.{first_word};
 ghost use Rattle.xet_shard.specs.Text.{Fits, IsShard, Shard, footer_of, full_text, header, shard_text};
 ghost use Rattle.xet_shard.specs.Reading.{IsRead, Parts, all_of, parts_of};
 
@@ -40,9 +42,9 @@ pub fn parts_are_read()
 {}
 
 /// On the text of a shard, under its own footer, the questions are answered by what the shard holds,
-/// whichever look-ups stand.
+/// whichever look-ups stand: at every index that bisects a lookup table the answer is that of all its items.
 pub fn questions_are_answered()
-    ensures file { (w : Lookups) (s : Shard) → IsShard s → Fits s → (h : List ℕ) → found_file (footer_of w s) h (shard_text w s) ≡ shard_file s h }
-    ensures run { (w : Lookups) (s : Shard) → IsShard s → Fits s → (query : List (List ℕ)) → found_run (footer_of w s) query (shard_text w s) ≡ Ok (shard_run s query) }
-    ensures told { (w : Lookups) (s : Shard) → IsShard s → Fits s → (query : List (List ℕ)) (row place : ℕ) → told_run (footer_of w s) query row place (shard_text w s) ≡ Ok (elim query [ [] ↦ None | h ∷ hs ↦ shard_run_at s (h ∷ hs) row place ]) }
+    ensures file { (w : Lookups) (s : Shard) → IsShard s → Fits s → (h : List ℕ) (index : ℕ) → Bisects (λ i. nat_lt i.0 (first_word h)) (file_table (footer_of w s) (shard_text w s)) index → found_file (footer_of w s) h index (shard_text w s) ≡ shard_file s h }
+    ensures run { (w : Lookups) (s : Shard) → IsShard s → Fits s → (query : List (List ℕ)) (index : ℕ) → Bisects (λ i. nat_le i.0 (query_word (footer_of w s) query)) (chunk_table (footer_of w s) (shard_text w s)) index → found_run (footer_of w s) query index (shard_text w s) ≡ Ok (shard_run s query) }
+    ensures told { (w : Lookups) (s : Shard) → IsShard s → Fits s → (query : List (List ℕ)) (row place index : ℕ) → Bisects (λ i. nat_lt i.1 row) (xorb_table (footer_of w s) (shard_text w s)) index → told_run (footer_of w s) query row place index (shard_text w s) ≡ Ok (elim query [ [] ↦ None | h ∷ hs ↦ shard_run_at s (h ∷ hs) row place ]) }
 {}

@@ -1,10 +1,11 @@
 //! Shards: records of files and of the xorbs of which they are made, and the bytes that keep them.
 #![tactic(auto)]
 
-mod alone;
+mod bisection;
 mod check;
 mod ends;
 mod export;
+mod file_reading;
 mod in_memory;
 mod info;
 mod info_reading;
@@ -12,6 +13,7 @@ mod items;
 pub mod laws;
 mod lookup;
 mod lookup_reading;
+mod lookup_search;
 mod names;
 mod piece;
 mod pieces;
@@ -20,6 +22,7 @@ mod reading;
 mod record;
 mod row;
 mod rows;
+mod run_reading;
 mod runs;
 mod section;
 mod sha256;
@@ -27,7 +30,7 @@ mod union;
 mod whole;
 mod writing;
 
-pub use ends::read_footer;
+pub use ends::{read_footer, read_footer_of_ends};
 pub use in_memory::MDBInMemoryShard;
 pub use info::{MDBShardFileFooter, MDBShardFileHeader, MDBShardInfo};
 pub use names::{parse_shard_filename, shard_file_name, truncate_hash};

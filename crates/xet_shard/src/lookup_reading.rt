@@ -3,7 +3,7 @@
 ghost use Rattle.std.specs.Prelude.{◌≡◌, ◌≢◌, true, IfErr, IsErrOf};
 ghost use Rattle.xet_io.specs.Faults.{HasCause};
 ghost use Rattle.xet_shard.specs.Lookups.{flat_places};
-ghost use Rattle.xet_shard.specs.Queries.{file_lookup_in};
+ghost use Rattle.xet_shard.specs.Queries.{file_items_from};
 ghost use Rattle.xet_shard.specs.Reading.{GivesUnlessFault, IsShardRefusal};
 ghost use Rattle.xet_shard.specs.Sections.{chunk_lookup_in, xorb_lookup_in};
 
@@ -58,34 +58,14 @@ impl MDBShardInfo {
     }
 }
 
-/// The look-up of files: of each the first word of its hash, and the row of its head. One that was left out
-/// is made from the files.
-pub fn file_lookup<R: ReadAt>(
-    alloc: Global,
-    reader: &mut R,
-    f: &MDBShardFileFooter,
-) -> Result<Vec<Head>, StoreError>
-    ensures exact { R.tells reader.old ≡ true → GivesUnlessFault (λ v. v.items) result (file_lookup_in f.now (R.bytes reader.old)) }
-    ensures refusals { IfErr result IsShardRefusal }
-    ensures cause { HasCause (R.faults reader.old) (R.faults reader.new) (IsErrOf result (StoreError.Io Place.Input)) }
-    ensures same { R.bytes reader.new ≡ R.bytes reader.old }
-    ensures tells { R.tells reader.new ≡ R.tells reader.old }
-{
-    if f.file_lookup_num_entry == 0 {
-        made_file_lookup(alloc, reader, f)
-    } else {
-        kept_file_lookup(alloc, reader, f)
-    }
-}
-
 /// The look-up of files, where it was left out.
-fn made_file_lookup<R: ReadAt>(
+pub fn made_file_lookup<R: ReadAt>(
     alloc: Global,
     reader: &mut R,
     f: &MDBShardFileFooter,
 ) -> Result<Vec<Head>, StoreError>
     requires { f.now.file_lookup_num_entry ≡ 0 }
-    ensures exact { R.tells reader.old ≡ true → GivesUnlessFault (λ v. v.items) result (file_lookup_in f.now (R.bytes reader.old)) }
+    ensures exact { R.tells reader.old ≡ true → GivesUnlessFault (λ v. v.items) result (file_items_from f.now 0 (R.bytes reader.old)) }
     ensures refusals { IfErr result IsShardRefusal }
     ensures cause { HasCause (R.faults reader.old) (R.faults reader.new) (IsErrOf result (StoreError.Io Place.Input)) }
     ensures same { R.bytes reader.new ≡ R.bytes reader.old }
@@ -96,27 +76,8 @@ fn made_file_lookup<R: ReadAt>(
     Ok(items)
 }
 
-/// The look-up of files, where it stands.
-fn kept_file_lookup<R: ReadAt>(
-    alloc: Global,
-    reader: &mut R,
-    f: &MDBShardFileFooter,
-) -> Result<Vec<Head>, StoreError>
-    requires { f.now.file_lookup_num_entry ≢ 0 }
-    ensures exact { R.tells reader.old ≡ true → GivesUnlessFault (λ v. v.items) result (file_lookup_in f.now (R.bytes reader.old)) }
-    ensures refusals { IfErr result IsShardRefusal }
-    ensures cause { HasCause (R.faults reader.old) (R.faults reader.new) (IsErrOf result (StoreError.Io Place.Input)) }
-    ensures same { R.bytes reader.new ≡ R.bytes reader.old }
-    ensures tells { R.tells reader.new ≡ R.tells reader.old }
-{
-    let count = f.file_lookup_num_entry;
-    let bytes = piece(alloc, reader, f.file_lookup_offset, 12, count)?;
-    let items = heads_in(alloc, &bytes, count)?;
-    Ok(items)
-}
-
 /// The look-up of xorbs, where it was left out.
-fn made_xorb_lookup<R: ReadAt>(
+pub fn made_xorb_lookup<R: ReadAt>(
     alloc: Global,
     reader: &mut R,
     f: &MDBShardFileFooter,
@@ -153,7 +114,7 @@ fn kept_xorb_lookup<R: ReadAt>(
 }
 
 /// The look-up of chunks, where it was left out.
-fn made_chunk_lookup<R: ReadAt>(
+pub fn made_chunk_lookup<R: ReadAt>(
     alloc: Global,
     reader: &mut R,
     f: &MDBShardFileFooter,

@@ -1,10 +1,13 @@
 //! Pieces of a reader's bytes, each read for itself.
 
-ghost use Rattle.std.specs.Prelude.{◌≡◌, ◌≤◌, ◌<◌, ◌+◌, ◌*◌, ◌^◌, true, drop, take, length, IfErr, IfNone, IfOk, IfSome, IsErrOf, IsNone, OnOk};
+ghost use Rattle.std.specs.Prelude.{◌≡◌, ◌≤◌, ◌<◌, ◌+◌, ◌-◌, ◌*◌, ◌^◌, true, drop, take, length, IfErr, IfNone, IfOk, IfSome, IsErrOf, IsNone, OnOk};
 ghost use Rattle.xet_io.specs.Faults.{HasCause};
 ghost use Rattle.xet_shard.specs.Pieces.{piece_at, rows_at};
+ghost use Rattle.xet_shard.specs.Queries.{rows_from};
 ghost use Rattle.xet_shard.specs.Reading.{GivesUnlessFault, IsInputError, IsShardRefusal};
+ghost use Rattle.xet_shard.specs.Rows.{row_of};
 
+use crate::row::{Row, row_of};
 use std::alloc::Global;
 use xet_hash::{Place, Reason, StoreError};
 use xet_io::{ReadAt, read_exact_at};
@@ -116,4 +119,47 @@ pub fn rows_at<R: ReadAt>(
         return Err(StoreError::MalformedData(Reason::SectionPlace));
     }
     piece(alloc, reader, at, 48, count)
+}
+
+/// How many rows there are from a row on in the section of so many rows from place `at` on.
+pub fn rows_from<R: ReadAt>(
+    reader: &mut R,
+    at: u64,
+    count: u64,
+    row: u64,
+) -> Result<u64, StoreError>
+    ensures exact { R.tells reader.old ≡ true → GivesUnlessFault (λ n. n) result (rows_from at count row (R.bytes reader.old)) }
+    ensures left { IfOk result (λ n. n ≡ count - row) }
+    ensures some { OnOk result (row < count) }
+    ensures few { OnOk result (count < 2 ^ 32) }
+    ensures inside { OnOk result (at + 48 * count < 2 ^ 64) }
+    ensures reached { R.tells reader.old ≡ true → OnOk result (at + 48 * count ≤ length (R.bytes reader.old)) }
+    ensures refusals { IfErr result IsShardRefusal }
+    ensures cause { HasCause (R.faults reader.old) (R.faults reader.new) (IsErrOf result (StoreError.Io Place.Input)) }
+    ensures same { R.bytes reader.new ≡ R.bytes reader.old }
+    ensures tells { R.tells reader.new ≡ R.tells reader.old }
+{
+    if count >= 1 << 32 || row >= count {
+        return Err(StoreError::MalformedData(Reason::SectionPlace));
+    }
+    let end = length_of(reader)?;
+    match within(at, 48, count, end) {
+        Some(_) => Ok(count - row),
+        None => Err(StoreError::UnexpectedEof),
+    }
+}
+
+/// The row at place `at`. A reader that tells its bytes has it.
+pub fn row_there<R: ReadAt>(reader: &mut R, at: u64) -> Result<Row, StoreError>
+    requires { at + 48 < 2 ^ 64 }
+    ensures told { R.tells reader.old ≡ true → at + 48 ≤ length (R.bytes reader.old) → IfOk result (λ r. r ≡ row_of (drop at (R.bytes reader.old))) }
+    ensures fault { R.tells reader.old ≡ true → at + 48 ≤ length (R.bytes reader.old) → IfErr result (λ e. e ≡ StoreError.Io Place.Input) }
+    ensures refusals { IfErr result IsShardRefusal }
+    ensures cause { HasCause (R.faults reader.old) (R.faults reader.new) (IsErrOf result (StoreError.Io Place.Input)) }
+    ensures same { R.bytes reader.new ≡ R.bytes reader.old }
+    ensures tells { R.tells reader.new ≡ R.tells reader.old }
+{
+    let mut bytes = [0; 48];
+    fill(reader, at, &mut bytes)?;
+    Ok(row_of(&bytes))
 }

@@ -1,42 +1,42 @@
 //! Questions to a shard that is read from any reader: the file of a hash, and the run of a query.
 
-ghost use Rattle.std.specs.List.{list_any};
-ghost use Rattle.std.specs.Prelude.{◌≡◌, ◌==◌, ◌∷◌, [], true, IfErr, IfOk, IsErrOf, filter, length};
+ghost use Rattle.std.specs.Prelude.{◌≡◌, ◌==◌, ◌∷◌, [], true, IfErr, IsErrOf, filter, length, IfOk, nat_le, nat_lt};
 ghost use Rattle.xet_io.specs.Faults.{HasCause};
-ghost use Rattle.xet_shard.specs.Lookups.{flat_places};
-ghost use Rattle.xet_shard.specs.Queries.{IsFileRefusal, block_in, file_in, first_file, found_file, found_run, last_of, rows_of, run_in, run_of_word, told_run};
+ghost use Rattle.xet_shard.specs.Bisection.{AnswersAt};
+ghost use Rattle.xet_shard.specs.Queries.{IsFileRefusal, file_in, first_file, found_file, found_run, rows_of, run_in, run_of_word, told_run, chunk_table, file_table, query_word, xorb_table};
 ghost use Rattle.xet_shard.specs.Reading.{GivesUnlessFault, IsShardRefusal};
-ghost use Rattle.xet_shard.specs.Records.{IsXorb, first_word};
+ghost use Rattle.xet_shard.specs.Records.{first_word};
 
-use crate::alone::record_in;
+use crate::file_reading::file_in_row;
 use crate::info::{MDBShardFileFooter, MDBShardInfo};
 use crate::info_reading::row_count;
-use crate::lookup::{ChunkPlace, Head};
-use crate::lookup_reading::file_lookup;
-use crate::record::{FileDataSequenceEntry, MDBFileInfo, MDBXorbInfo};
-use crate::runs::{kept_hash, run_at};
+use crate::lookup::Head;
+use crate::lookup_search::{chunk_place, file_items, has_head};
+use crate::record::{FileDataSequenceEntry, MDBFileInfo};
+use crate::run_reading::run_in;
+use crate::runs::kept_hash;
 use std::alloc::Global;
 use xet_hash::{MerkleHash, Place, StoreError};
 use xet_io::ReadAt;
 
 impl MDBShardInfo {
-    /// The file of a hash, if there is one. The look-up of files is read, or the files where it was left
-    /// out, and then the files to which the hash's first word leads. Where eight or more share it, the call
-    /// fails with `StoreError::TruncatedHashCollision`. Bytes that are malformed are refused by the first
-    /// check that fails. A failing reader is `Io(Input)`.
+    /// The file of a hash, if there is one. The files' lookup table is bisected by the hash's first word, or
+    /// all files are read where it was left out, and then the files of that word are read. Where eight or
+    /// more share it, the call fails with `StoreError::TruncatedHashCollision`. Bytes that are malformed are
+    /// refused by the first check that fails. A failing reader is `Io(Input)`.
     pub fn get_file_reconstruction_info<R: ReadAt>(
         &self,
         alloc: Global,
         reader: &mut R,
         hash: &MerkleHash,
     ) -> Result<Option<MDBFileInfo>, StoreError>
-        ensures exact { R.tells reader.old ≡ true → GivesUnlessFault (λ file. file) result (found_file self.now.metadata hash.now (R.bytes reader.old)) }
+        ensures exact { R.tells reader.old ≡ true → AnswersAt (λ i. nat_lt i.0 (first_word hash.now)) (file_table self.now.metadata (R.bytes reader.old)) (λ file. file) result (λ index. found_file self.now.metadata hash.now index (R.bytes reader.old)) }
         ensures refusals { IfErr result IsFileRefusal }
         ensures cause { HasCause (R.faults reader.old) (R.faults reader.new) (IsErrOf result (StoreError.Io Place.Input)) }
         ensures same { R.bytes reader.new ≡ R.bytes reader.old }
         ensures tells { R.tells reader.new ≡ R.tells reader.old }
     {
-        let items = file_lookup(alloc, reader, &self.metadata)?;
+        let items = file_items(alloc, reader, &self.metadata, hash.word(0))?;
         if count_of(hash.word(0), &items) >= 8 {
             return Err(StoreError::TruncatedHashCollision);
         }
@@ -45,16 +45,16 @@ impl MDBShardInfo {
 
     /// How many hashes at the front of the query are those of chunks that stand in a row in a xorb, and the
     /// segment of these chunks. The row begins at the last place to which the look-up of chunks leads from
-    /// the first hash's first word. Where the shard is keyed, hashes are compared under its key. The look-up
-    /// is read, or the xorbs where it was left out, and then that xorb. Malformed bytes are refused by the
-    /// first check that fails. A failing reader is `Io(Input)`.
+    /// the first hash's first word. Where the shard is keyed, hashes are compared under its key. The chunks'
+    /// lookup table is bisected, or all xorbs are read where it was left out, and then that xorb is read.
+    /// Malformed bytes are refused by the first check that fails. A failing reader is `Io(Input)`.
     pub fn chunk_hash_dedup_query<R: ReadAt>(
         &self,
         alloc: Global,
         reader: &mut R,
         query: &[MerkleHash],
     ) -> Result<Option<(usize, FileDataSequenceEntry)>, StoreError>
-        ensures exact { R.tells reader.old ≡ true → GivesUnlessFault (λ run. run) result (found_run self.now.metadata query.now (R.bytes reader.old)) }
+        ensures exact { R.tells reader.old ≡ true → AnswersAt (λ i. nat_le i.0 (query_word self.now.metadata query.now)) (chunk_table self.now.metadata (R.bytes reader.old)) (λ run. run) result (λ index. found_run self.now.metadata query.now index (R.bytes reader.old)) }
         ensures refusals { IfErr result IsShardRefusal }
         ensures cause { HasCause (R.faults reader.old) (R.faults reader.new) (IsErrOf result (StoreError.Io Place.Input)) }
         ensures same { R.bytes reader.new ≡ R.bytes reader.old }
@@ -71,8 +71,9 @@ impl MDBShardInfo {
     }
 
     /// The same of a place that is told: chunk `place` of the xorb whose head is in `row`, counted from the
-    /// front of the section. None where no head is in the row, or the xorb has no such chunk. The look-up
-    /// of xorbs is read, or the xorbs where it was left out, and then that xorb.
+    /// front of the section. None where no head is in the row, or the xorb has no such chunk. The xorbs'
+    /// lookup table is bisected by the row, or all xorbs are read where it was left out, and then that xorb
+    /// is read.
     pub fn chunk_hash_dedup_query_direct<R: ReadAt>(
         &self,
         alloc: Global,
@@ -81,7 +82,7 @@ impl MDBShardInfo {
         row: u32,
         place: u32,
     ) -> Result<Option<(usize, FileDataSequenceEntry)>, StoreError>
-        ensures exact { R.tells reader.old ≡ true → GivesUnlessFault (λ run. run) result (told_run self.now.metadata query.now row place (R.bytes reader.old)) }
+        ensures exact { R.tells reader.old ≡ true → AnswersAt (λ i. nat_lt i.1 row) (xorb_table self.now.metadata (R.bytes reader.old)) (λ run. run) result (λ index. told_run self.now.metadata query.now row place index (R.bytes reader.old)) }
         ensures refusals { IfErr result IsShardRefusal }
         ensures cause { HasCause (R.faults reader.old) (R.faults reader.new) (IsErrOf result (StoreError.Io Place.Input)) }
         ensures same { R.bytes reader.new ≡ R.bytes reader.old }
@@ -90,8 +91,7 @@ impl MDBShardInfo {
         if query.is_empty() {
             return Ok(None);
         }
-        let items = self.read_full_xorb_lookup(alloc, reader)?;
-        if has_row(&items, row) {
+        if has_head(alloc, reader, &self.metadata, row)? {
             run_in(alloc, reader, &self.metadata, query, row, place)
         } else {
             Ok(None)
@@ -104,26 +104,6 @@ fn count_of(word: u64, items: &[Head]) -> usize
     ensures { result ≡ length (filter (λ i. i.0 == word) items.now) }
 {
     items.iter().filter(|item| item.0 == word).count()
-}
-
-/// Whether an item of the look-up tells a row.
-fn has_row(items: &[Head], row: u32) -> bool
-    ensures { result ≡ list_any (λ i. i.1 == row) items.now }
-{
-    items.iter().any(|item| item.1 == row)
-}
-
-/// Row and place of the last item of a word.
-fn last_of(word: u64, items: &[ChunkPlace]) -> Option<(u32, u32)>
-    ensures { result ≡ last_of word (flat_places items.now) }
-{
-    let mut found = None;
-    for item in items {
-        if item.0 == word {
-            found = Some(item.1);
-        }
-    }
-    found
 }
 
 /// The first of the files at the rows of the items of a hash's first word that has the hash.
@@ -182,39 +162,16 @@ fn run_of_word<R: ReadAt>(
     query: &[MerkleHash],
     word: u64,
 ) -> Result<Option<(usize, FileDataSequenceEntry)>, StoreError>
-    ensures exact { R.tells reader.old ≡ true → GivesUnlessFault (λ x. x) result (run_of_word info.now.metadata query.now word (R.bytes reader.old)) }
+    ensures exact { R.tells reader.old ≡ true → AnswersAt (λ i. nat_le i.0 word) (chunk_table info.now.metadata (R.bytes reader.old)) (λ x. x) result (λ index. run_of_word info.now.metadata query.now word index (R.bytes reader.old)) }
     ensures refusals { IfErr result IsShardRefusal }
     ensures cause { HasCause (R.faults reader.old) (R.faults reader.new) (IsErrOf result (StoreError.Io Place.Input)) }
     ensures same { R.bytes reader.new ≡ R.bytes reader.old }
     ensures tells { R.tells reader.new ≡ R.tells reader.old }
 {
-    let items = info.read_all_truncated_hashes(alloc, reader)?;
-    match last_of(word, &items) {
+    match chunk_place(alloc, reader, &info.metadata, word)? {
         Some((row, place)) => run_in(alloc, reader, &info.metadata, query, row, place),
         None => Ok(None),
     }
-}
-
-/// The run of a query at a place of the xorb whose head is in a row.
-fn run_in<R: ReadAt>(
-    alloc: Global,
-    reader: &mut R,
-    f: &MDBShardFileFooter,
-    query: &[MerkleHash],
-    row: u32,
-    place: u32,
-) -> Result<Option<(usize, FileDataSequenceEntry)>, StoreError>
-    ensures exact { R.tells reader.old ≡ true → GivesUnlessFault (λ x. x) result (run_in f.now query.now row place (R.bytes reader.old)) }
-    ensures refusals { IfErr result IsShardRefusal }
-    ensures cause { HasCause (R.faults reader.old) (R.faults reader.new) (IsErrOf result (StoreError.Io Place.Input)) }
-    ensures same { R.bytes reader.new ≡ R.bytes reader.old }
-    ensures tells { R.tells reader.new ≡ R.tells reader.old }
-{
-    let block = block_in(alloc, reader, f, row)?;
-    if place as usize > block.chunks.as_slice().len() {
-        return Ok(None);
-    }
-    Ok(run_at(&f.chunk_hash_hmac_key, query, &block, place))
 }
 
 /// The file whose head is in a row.
@@ -231,23 +188,5 @@ fn file_in<R: ReadAt>(
     ensures tells { R.tells reader.new ≡ R.tells reader.old }
 {
     let count = row_count(f.file_info_offset, f.xorb_info_offset)?;
-    record_in(alloc, reader, f.file_info_offset, count, row)
-}
-
-/// The xorb whose head is in a row.
-fn block_in<R: ReadAt>(
-    alloc: Global,
-    reader: &mut R,
-    f: &MDBShardFileFooter,
-    row: u32,
-) -> Result<MDBXorbInfo, StoreError>
-    ensures exact { R.tells reader.old ≡ true → GivesUnlessFault (λ x. x) result (block_in f.now row (R.bytes reader.old)) }
-    ensures form { IfOk result IsXorb }
-    ensures refusals { IfErr result IsShardRefusal }
-    ensures cause { HasCause (R.faults reader.old) (R.faults reader.new) (IsErrOf result (StoreError.Io Place.Input)) }
-    ensures same { R.bytes reader.new ≡ R.bytes reader.old }
-    ensures tells { R.tells reader.new ≡ R.tells reader.old }
-{
-    let count = row_count(f.xorb_info_offset, f.file_lookup_offset)?;
-    record_in(alloc, reader, f.xorb_info_offset, count, row)
+    file_in_row(alloc, reader, f.file_info_offset, count, row)
 }

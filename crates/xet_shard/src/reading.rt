@@ -119,8 +119,9 @@ fn verifications(
 
 /// The chunk in a row, which starts at a place.
 #[tactic(auto, unfolding(crate::specs::Reading::chunk_in))]
-fn chunk_in(row: &Row, at: u64) -> Result<XorbChunkSequenceEntry, StoreError>
-    ensures { Gives (λ c. c) result (chunk_in row.now at) }
+pub fn chunk_in(row: &Row, at: u64) -> Result<XorbChunkSequenceEntry, StoreError>
+    ensures gives { Gives (λ c. c) result (chunk_in row.now at) }
+    ensures exact { result ≡ chunk_in row.now at }
 {
     if row.a as u64 != at || row.c != 0 || row.d != 0 {
         return Err(StoreError::MalformedData(Reason::SectionEntry));

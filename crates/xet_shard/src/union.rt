@@ -6,7 +6,7 @@ ghost use Rattle.xet_io.specs.Faults.{HasCause, Rose};
 ghost use Rattle.xet_shard.specs.Merging.{AreOfShard, FirstAgrees, IsNoMerge, IsNoText, Rises, behind, below, not_below};
 ghost use Rattle.xet_shard.specs.Reading.{GivesUnlessFault, IsShardRefusal};
 ghost use Rattle.xet_shard.specs.Records.{section};
-ghost use Rattle.xet_shard.specs.Union.{Agree, AgreeBoth, HasUnionFront, IsKeyed, IsNoUnion, IsUnion, both_in, records_in, union};
+ghost use Rattle.xet_shard.specs.Union.{Agree, AgreeBoth, HasUnionFront, IsKeyed, IsNoUnion, IsUnion, IsUnionRefusal, both_in, records_in, union};
 
 use crate::info::{MDBShardFileFooter, MDBShardInfo};
 use crate::info_reading::{blocks, files};
@@ -42,6 +42,7 @@ pub fn shard_set_union<R: ReadAt, Q: ReadAt, W: Sink>(
         → OnErr result (HasUnionFront (both_in first.now.metadata (R.bytes reader.old) second.now.metadata (Q.bytes other.old)) first.now.metadata.shard_creation_timestamp second.now.metadata.shard_creation_timestamp (W.written sink.old) (W.written sink.new)) }
     ensures refused { R.tells reader.old ≡ true → Q.tells other.old ≡ true
         → IfErr result (IsNoUnion first.now.metadata second.now.metadata (both_in first.now.metadata (R.bytes reader.old) second.now.metadata (Q.bytes other.old))) }
+    ensures refusals { IfErr result IsUnionRefusal }
     ensures input { IsErrOf result (StoreError.Io Place.Input) → Rose (R.faults reader.old) (R.faults reader.new) ⊎ Rose (Q.faults other.old) (Q.faults other.new) }
     ensures output { HasCause (W.faults sink.old) (W.faults sink.new) (IsErrOf result (StoreError.Io Place.Output)) }
     ensures later { (R.faults reader.old ≤ R.faults reader.new) × (Q.faults other.old ≤ Q.faults other.new) }

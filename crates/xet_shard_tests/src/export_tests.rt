@@ -111,6 +111,28 @@ fn a_union_has_each_file_once(rt: HostRuntime) -> Result<(), Fail> {
     Ok(())
 }
 
+/// The name of the shard of these bytes.
+fn name_of(alloc: Global, text: &[u8]) -> Result<String, StoreError> {
+    shard_file_name(alloc, &compute_data_hash(text))
+}
+
+/// The names of the empty shard and of the union of those of `abc` and `abd`, as an outside program gives them.
+#[test]
+fn names_of_the_empty_shard_and_of_a_union(rt: HostRuntime) -> Result<(), Fail> {
+    let alloc = rt.alloc();
+    let (empty, _) = write_shard(alloc, &[], &[], HMACKey::default(), 0, u64::MAX)?;
+    assert_eq!(rt;
+        name_of(alloc, &empty)?.as_str(),
+        "2142231af522b2ba9174d0f5046710c39d10dfddbb46106bcfb3df363d420bec.mdb"
+    );
+    let joined = union(alloc, &shard_of_abc(alloc)?, &shard_of(alloc, b"abd")?)?;
+    assert_eq!(rt;
+        name_of(alloc, &joined)?.as_str(),
+        "56f06d697df136b57c2545a98a6c7d65d51728387f88c4200b58f567905b0a03.mdb"
+    );
+    Ok(())
+}
+
 #[test]
 fn there_is_no_union_with_a_keyed_shard(rt: HostRuntime) -> Result<(), Fail> {
     let alloc = rt.alloc();

@@ -2,9 +2,9 @@ use Rattle.std.specs.Prelude.{Vec}
 use Rattle.std.specs.Global.{Global}
 use Rattle.xet_shard.specs.declared.record.MDBFileInfo.{MDBFileInfo}
 use Rattle.std.proofs.lemmas.Result.{err_from_is_err_and}
-use Rattle.std.proofs.Common.{Err, ◌<◌, ◌^◌, ◌∙◌, None, Ok, ap, length, subst, sym, List, ℕ}
+use Rattle.std.proofs.Common.{Err, ◌<◌, ◌^◌, ◌∙◌, None, Ok, ap, length, sym, List, ℕ}
 use Rattle.xet_shard.specs.Records.{AreRecords, IsFile, file_hash, file_head, file_rest, file_section}
-use Rattle.xet_shard.specs.Reading.{GivesUnlessFault, file_at}
+use Rattle.xet_shard.specs.Reading.{file_at}
 use Rattle.xet_shard.specs.Sections.{section_in}
 use Rattle.xet_shard.proofs.Finding.{given_ok, section_few}
 use Rattle.xet_shard.proofs.PartLaws.{count_fails, counted, section_fault, section_gives}
