@@ -1,10 +1,13 @@
 -- Stored chunks that are read one by one, and what they are determined by.
-use Rattle.std.proofs.Common.{◌≡◌, ◌∙◌, ℕ, ◌+◌, ◌-◌, ◌*◌, ◌<◌, ◌≤◌, ◌^◌, ◌/◌, ◌%◌, List, Option, Some, [], ◌∷◌, ◌++◌, length, length-append, drop, slice_range, take, refl, sym, ap, arith, append_assoc}
+use Rattle.std.proofs.Common.{◌≡◌, ◌∙◌, ℕ, ◌+◌, ◌-◌, ◌*◌, ◌<◌, ◌≤◌, ◌^◌, ◌/◌, ◌%◌, List, Option, Some, [], ◌∷◌, ◌++◌, inl, inr, length, length-append, drop, slice_range, take, refl, sym, ap, arith, append_assoc}
 use Rattle.std.proofs.lemmas.Grind.{flat_map-append}
 use Rattle.std.proofs.lemmas.List.{append-nil, drop-drop, drop-take, length-drop, length-take-le, map-append, take-append-drop, take-take, take_at}
 use Rattle.std.proofs.lemmas.List.Sums.{sum_by-append}
 use Rattle.std.specs.List.{AllByRecursion, flat_map}
+use Rattle.xet_hash.specs.declared.error.StoreError.{StoreError}
+use Rattle.xet_hash.specs.declared.error.StoreError.TheVariants.{UnexpectedEof}
 use Rattle.xet_hash.specs.Merkle.{chunk_hash, member_of, members_of, total_len}
+use Rattle.xet_footer.specs.Places.{EndsBefore}
 use Rattle.xet_chunk.specs.Spelling.{spelling}
 use Rattle.xet_xorb.specs.Checking.{AreChunks, HaveMembers, StandsAt, header_of}
 use Rattle.xet_xorb.proofs.Determined.{all_chunks, le24_same, one_chunk}
@@ -55,15 +58,20 @@ header_same n m small tiny e =
     le24_same n m small tiny first second third
 
 -- what was digested is a member
-pub digested : (at size : ℕ) (bytes seen digest : List ℕ) (found : Option (List ℕ)) → seen ≡ bytes → found ≡ Some (chunk_hash (take size (drop (at + 8) seen))) → found ≡ Some digest
+pub digested : (at size : ℕ) (bytes digest : List ℕ) (found : Option (List ℕ)) → found ≡ Some (chunk_hash (take size (drop (at + 8) bytes))) → found ≡ Some digest
     → at + 8 + size ≤ length bytes → (digest, size) ≡ member_of (take size (drop (at + 8) bytes))
-digested at size bytes seen digest found same is some room =
+digested at size bytes digest found is some room =
     let body : List ℕ = take size (drop (at + 8) bytes) in
     let long : length body ≡ size = length-take-le size (drop (at + 8) bytes) (omega (arith, length-drop (at + 8) bytes)) in
-    let here : Some digest ≡ Some (chunk_hash (take size (drop (at + 8) seen))) = sym some ∙ is in
-    let read : digest ≡ chunk_hash (take size (drop (at + 8) seen)) = cc in
-    let hash : digest ≡ chunk_hash body = read ∙ ap (λ (b : List ℕ). chunk_hash (take size (drop (at + 8) b))) same in
+    let here : Some digest ≡ Some (chunk_hash body) = sym some ∙ is in
+    let hash : digest ≡ chunk_hash body = cc in
     λ i. (hash i, sym long i)
+
+-- enough bytes do not end too early
+pub too_few : (bytes : List ℕ) (at n : ℕ) (e : StoreError) → e ≡ UnexpectedEof → at + n ≤ length bytes → EndsBefore bytes at n e → ⊥
+too_few bytes at n e is room (inl few) = omega (arith, few.1, length-drop at bytes)
+too_few bytes at n e is room (inr (inl failed)) = cc
+too_few bytes at n e is room (inr (inr memory)) = cc
 
 -- ---- all chunks
 
@@ -155,19 +163,19 @@ piece_is done size text piece room is =
     (here, ap length here ∙ length-take-le size (drop done text) (omega (arith, length-drop done text)))
 
 -- one more piece is the same
-pub piece_more : (at done size : ℕ) (text bytes seen piece : List ℕ) → done + size ≤ length text → piece ≡ slice_range text done (done + size) → seen ≡ bytes
-    → take done text ≡ take done (drop at bytes) → piece ≡ take (length piece) (drop (at + done) seen) → take (done + size) text ≡ take (done + size) (drop at bytes)
-piece_more at done size text bytes seen piece room is same kept equal =
+pub piece_more : (at done size : ℕ) (text bytes piece : List ℕ) → done + size ≤ length text → piece ≡ slice_range text done (done + size)
+    → take done text ≡ take done (drop at bytes) → piece ≡ take (length piece) (drop (at + done) bytes) → take (done + size) text ≡ take (done + size) (drop at bytes)
+piece_more at done size text bytes piece room is kept equal =
     let p = piece_is done size text piece room is in
     let behind : drop done (drop at bytes) ≡ drop (at + done) bytes = drop-drop done at bytes in
     let next : take size (drop done text) ≡ take size (drop done (drop at bytes)) =
-    sym p.0 ∙ equal ∙ ap (λ (n : ℕ). take n (drop (at + done) seen)) p.1 ∙ ap (λ (b : List ℕ). take size (drop (at + done) b)) same ∙ ap (take size) (sym behind) in
+    sym p.0 ∙ equal ∙ ap (λ (n : ℕ). take n (drop (at + done) bytes)) p.1 ∙ ap (take size) (sym behind) in
     take_two done size text ∙ ap (λ (t : List ℕ). t ++ take size (drop done text)) kept ∙ ap (λ (t : List ℕ). take done (drop at bytes) ++ t) next ∙ sym (take_two done size (drop at bytes))
 
 -- each piece of the same bytes is the same
-pub piece_same : (at done size : ℕ) (text bytes seen piece : List ℕ) → done + size ≤ length text → piece ≡ slice_range text done (done + size) → seen ≡ bytes
-    → text ≡ take (length text) (drop at bytes) → piece ≡ take (length piece) (drop (at + done) seen)
-piece_same at done size text bytes seen piece room is same equal =
+pub piece_same : (at done size : ℕ) (text bytes piece : List ℕ) → done + size ≤ length text → piece ≡ slice_range text done (done + size)
+    → text ≡ take (length text) (drop at bytes) → piece ≡ take (length piece) (drop (at + done) bytes)
+piece_same at done size text bytes piece room is equal =
     let p = piece_is done size text piece room is in
     let more : ℕ = length text - done in
     let all : done + more ≡ length text = omega arith in
@@ -175,4 +183,4 @@ piece_same at done size text bytes seen piece room is same equal =
     let rest : drop done text ≡ take more (drop done (drop at bytes)) =
     ap (drop done) (equal ∙ ap (λ (n : ℕ). take n (drop at bytes)) (sym all)) ∙ drop-take done more (drop at bytes) in
     let here : piece ≡ take size (drop (at + done) bytes) = p.0 ∙ ap (take size) rest ∙ take-take size more (drop done (drop at bytes)) (omega arith) ∙ ap (take size) behind in
-    here ∙ ap (λ (n : ℕ). take n (drop (at + done) bytes)) (sym p.1) ∙ ap (λ (b : List ℕ). take (length piece) (drop (at + done) b)) (sym same)
+    here ∙ ap (λ (n : ℕ). take n (drop (at + done) bytes)) (sym p.1)

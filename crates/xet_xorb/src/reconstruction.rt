@@ -3,7 +3,8 @@
 ghost use Rattle.std.specs.Prelude.{◌≡◌, ◌⊎◌, ◌<◌, ◌≤◌, ◌+◌, ◌*◌, ◌^◌, ◌++◌, ℕ, true, IfErr, IfOk, IfSome, IsErrOf, OnErr, OnOk, length, take};
 ghost use Rattle.std.specs.List.{AllByRecursion};
 ghost use Rattle.xet_hash.specs.declared.error.Place.TheVariants.{Output};
-ghost use Rattle.xet_hash.specs.declared.error.StoreError.TheVariants.{Io, OutOfMemory};
+ghost use Rattle.xet_hash.specs.declared.error.Reason.TheVariants.{ChunkCount};
+ghost use Rattle.xet_hash.specs.declared.error.StoreError.TheVariants.{Io, MalformedData, OutOfMemory};
 ghost use Rattle.xet_hash.specs.Merkle.{total_len};
 ghost use Rattle.xet_io.specs.Faults.{HasCause};
 ghost use Rattle.xet_footer.specs.Spelled.{HasLists, HasShortLists, length_of, most_chunks, number, text_v1};
@@ -70,15 +71,25 @@ fn read_members(
     let mut members = Vec::new(alloc);
     let mut at = 0;
     'chunks: while let Some(length) = next_chunk(&raw[at..], max_chunk)? {
-        if members.len() == MOST_CHUNKS {
-            return Err(StoreError::MalformedData(Reason::ChunkCount));
-        }
+        check_count(members.len())?;
         let start = at + XORB_CHUNK_HEADER_LENGTH;
         let end = start + length;
         members.push((compute_data_hash(&raw[start..end]), length as u64))?;
         at = end;
     }
     Ok((members, at))
+}
+
+/// Refuses one chunk more than so many, where a footer has room for no more, as `MalformedData(ChunkCount)`.
+fn check_count(count: usize) -> Result<(), StoreError>
+    ensures few { OnOk result (count < most_chunks) }
+    ensures full { OnErr result (most_chunks ≤ count) }
+    ensures kind { IfErr result (λ e. e ≡ MalformedData ChunkCount) }
+{
+    if count >= MOST_CHUNKS {
+        return Err(StoreError::MalformedData(Reason::ChunkCount));
+    }
+    Ok(())
 }
 
 /// How many bytes the next chunk has behind its header; none, where the bytes end or a footer begins. Refused by the

@@ -7,6 +7,7 @@ ghost use Rattle.xet_hash.specs.declared.error.StoreError.TheVariants.{Io};
 ghost use Rattle.xet_hash.specs.Merkle.{chunk_hash, member_of, total_len, xorb_hash};
 ghost use Rattle.xet_io.specs.Faults.{HasCause};
 ghost use Rattle.xet_footer.specs.Ends.{last_footer, told_length};
+ghost use Rattle.xet_footer.specs.Places.{Has, IsPart, Sees};
 ghost use Rattle.xet_footer.specs.Spelled.{HasLists, HasShortLists, most_chunks, text_v0, text_v1};
 ghost use Rattle.xet_chunk.specs.Outside.{StopsReading};
 ghost use Rattle.xet_xorb.specs.Checking.{AreChunks, HaveMembers, IsEnding, StandsAt, ending, header_of};
@@ -16,7 +17,9 @@ ghost use Rattle.xet_xorb.specs.Validation.{IsValid, IsXorbOf};
 use crate::footers::{new_footer, new_footer_v0};
 use crate::object::XorbObject;
 use std::alloc::Global;
-use xet_footer::{XorbObjectInfoV0, XorbObjectInfoV1, read_exact, reader_length, told_length};
+use xet_footer::{
+    Block, XorbObjectInfoV0, XorbObjectInfoV1, read_exact, reader_length, told_length,
+};
 use xet_hash::{MerkleHash, StoreError, compute_data_hash, xorb_hash};
 use xet_io::{MemorySink, ReadAt};
 
@@ -39,12 +42,13 @@ const EMPTY_V1: u64 = 92;
 const EACH_V1: u64 = 40;
 
 /// The most bytes that are compared at a time.
-const BLOCK: usize = 4096;
+const PIECE: usize = 4096;
 
 impl XorbObject {
     /// The object of a xorb of this hash, whose chunks have at most `max_chunk` bytes each, which is below 2^23; none,
     /// where the bytes are anything else. Each chunk is digested: what the footer says is only compared with what
-    /// the chunks are. Refused as `Io(Input)`, or as `OutOfMemory`.
+    /// the chunks are. The bytes are read once, in blocks of 64 KiB, or of the longest chunk where that is longer; the
+    /// footer's length and its spare bytes are read twice. Refused as `Io(Input)`, or as `OutOfMemory`.
     pub fn validate_xorb_object<R: ReadAt>(
         alloc: Global,
         reader: &mut R,
@@ -63,13 +67,15 @@ impl XorbObject {
         let Some((start, told)) = footer_place(reader)? else {
             return Ok(None);
         };
-        let Some(members) = stored_members(alloc, reader, start, max_chunk)? else {
+        let len = start + told as u64 + LENGTH_SIZE;
+        let mut block = Block::new(alloc);
+        let Some(members) = stored_members(alloc, reader, &mut block, start, len, max_chunk)? else {
             return Ok(None);
         };
         if !have_hash(alloc, &members, hash)? {
             return Ok(None);
         }
-        checked_object(alloc, reader, start, told, hash, &members)
+        checked_object(alloc, reader, &mut block, start, told, hash, &members)
     }
 }
 
@@ -102,29 +108,32 @@ fn footer_place<R: ReadAt>(reader: &mut R) -> Result<Option<(u64, u32)>, StoreEr
     Ok(Some((length - size, told)))
 }
 
-/// The members of the chunks that are stored before place `end`, of at most `max_chunk` bytes each; none, where
-/// anything else stands there. Refused as `Io(Input)`, or as `OutOfMemory`.
+/// The members of the chunks that are stored before place `end` of `len` bytes, of at most `max_chunk` bytes each;
+/// none, where anything else stands there. Refused as `Io(Input)`, or as `OutOfMemory`.
 fn stored_members<R: ReadAt>(
     alloc: Global,
     reader: &mut R,
+    block: &mut Block,
     end: u64,
+    len: u64,
     max_chunk: u32,
 ) -> Result<Option<Vec<(MerkleHash, u64)>>, StoreError>
     requires most { max_chunk < 2 ^ 23 }
-    requires end { end < 2 ^ 32 }
+    requires end { end ≤ len }
+    requires len { len < 2 ^ 32 }
     ensures size { IfOk result (λ found. IfSome found (λ members. total_len members.items + 8 * length members.items ≡ end)) }
-    ensures found { R.tells reader.old ≡ true → end ≤ length (R.bytes reader.old) → IfOk result (λ found. IfSome found (λ members. HaveMembers max_chunk (take end (R.bytes reader.old)) members.items)) }
-    ensures none { R.tells reader.old ≡ true → end ≤ length (R.bytes reader.old) → IfOk result (λ found. IsNone found → (chunks : List (List ℕ)) → AreChunks max_chunk (take end (R.bytes reader.old)) chunks → ⊥) }
+    ensures found { (bytes : List ℕ) → Sees (R.tells reader.old) (R.bytes reader.old) bytes len block.old → IfOk result (λ found. IfSome found (λ members. HaveMembers max_chunk (take end bytes) members.items)) }
+    ensures none { (bytes : List ℕ) → Sees (R.tells reader.old) (R.bytes reader.old) bytes len block.old → IfOk result (λ found. IsNone found → (chunks : List (List ℕ)) → AreChunks max_chunk (take end bytes) chunks → ⊥) }
+    ensures part { (bytes : List ℕ) → Sees (R.tells reader.old) (R.bytes reader.old) bytes len block.old → IfOk result (λ found. IfSome found (λ _. IsPart block.new bytes)) }
     ensures refusals { IfErr result StopsReading }
     ensures cause { HasCause (R.faults reader.old) (R.faults reader.new) (IsErrOf result (Io Input)) }
     ensures same { R.bytes reader.new ≡ R.bytes reader.old }
     ensures tells { R.tells reader.new ≡ R.tells reader.old }
 {
     let mut members = Vec::new(alloc);
-    let mut body = Vec::new(alloc);
     let mut at: u64 = 0;
     'chunks: while at < end {
-        let Some(member) = member_at(reader, at, end, max_chunk, &mut body)? else {
+        let Some(member) = member_at(reader, block, at, end, len, max_chunk)? else {
             return Ok(None);
         };
         at += HEADER_SIZE + member.1;
@@ -133,22 +142,24 @@ fn stored_members<R: ReadAt>(
     Ok(Some(members))
 }
 
-/// The digest and the length of the chunk that is stored at place `at`; none, where none of at most `max_chunk`
-/// bytes is, which ends at place `end` or before. Its bytes are read into `body`. Refused as `Io(Input)`, or as
-/// `OutOfMemory`.
+/// The digest and the length of the chunk that is stored at place `at` of `len` bytes; none, where none of at most
+/// `max_chunk` bytes is, which ends at place `end` or before. Refused as `Io(Input)`, or as `OutOfMemory`.
 fn member_at<R: ReadAt>(
     reader: &mut R,
+    block: &mut Block,
     at: u64,
     end: u64,
+    len: u64,
     max_chunk: u32,
-    body: &mut Vec<u8>,
 ) -> Result<Option<(MerkleHash, u64)>, StoreError>
     requires most { max_chunk < 2 ^ 23 }
     requires place { at ≤ end }
-    requires end { end < 2 ^ 32 }
+    requires end { end ≤ len }
+    requires len { len < 2 ^ 32 }
     ensures within { IfOk result (λ found. IfSome found (λ member. at + (8 + member.1) ≤ end)) }
-    ensures found { R.tells reader.old ≡ true → end ≤ length (R.bytes reader.old) → IfOk result (λ found. IfSome found (λ member. (chunk : List ℕ) × StandsAt max_chunk (R.bytes reader.old) at end chunk × (member ≡ member_of chunk))) }
-    ensures none { R.tells reader.old ≡ true → end ≤ length (R.bytes reader.old) → IfOk result (λ found. IsNone found → (chunk : List ℕ) → StandsAt max_chunk (R.bytes reader.old) at end chunk → ⊥) }
+    ensures found { (bytes : List ℕ) → Sees (R.tells reader.old) (R.bytes reader.old) bytes len block.old → IfOk result (λ found. IfSome found (λ member. (chunk : List ℕ) × StandsAt max_chunk bytes at end chunk × (member ≡ member_of chunk))) }
+    ensures none { (bytes : List ℕ) → Sees (R.tells reader.old) (R.bytes reader.old) bytes len block.old → IfOk result (λ found. IsNone found → (chunk : List ℕ) → StandsAt max_chunk bytes at end chunk → ⊥) }
+    ensures part { (bytes : List ℕ) → Sees (R.tells reader.old) (R.bytes reader.old) bytes len block.old → IfOk result (λ found. IfSome found (λ _. IsPart block.new bytes)) }
     ensures refusals { IfErr result StopsReading }
     ensures cause { HasCause (R.faults reader.old) (R.faults reader.new) (IsErrOf result (Io Input)) }
     ensures same { R.bytes reader.new ≡ R.bytes reader.old }
@@ -158,20 +169,43 @@ fn member_at<R: ReadAt>(
     if room < HEADER_SIZE {
         return Ok(None);
     }
-    let mut header = [0; 8];
-    if !fill(reader, at, &mut header)? {
+    let Some(header) = header_at(reader, block, at, len)? else {
         return Ok(None);
-    }
+    };
     let Some(size) = chunk_size(header, max_chunk) else {
         return Ok(None);
     };
     if room - HEADER_SIZE < size as u64 {
         return Ok(None);
     }
-    let Some(digest) = digest_at(reader, at + HEADER_SIZE, size as usize, body)? else {
+    let Some(digest) = digest_at(reader, block, at + HEADER_SIZE, len, size as usize)? else {
         return Ok(None);
     };
     Ok(Some((digest, size as u64)))
+}
+
+/// The eight bytes from place `at` of `len` bytes on; none, where there are fewer. Refused as `Io(Input)`, or as
+/// `OutOfMemory`.
+fn header_at<R: ReadAt>(
+    reader: &mut R,
+    block: &mut Block,
+    at: u64,
+    len: u64,
+) -> Result<Option<[u8; 8]>, StoreError>
+    requires { at ≤ len }
+    ensures read { (bytes : List ℕ) → Sees (R.tells reader.old) (R.bytes reader.old) bytes len block.old → at + 8 ≤ len → IfOk result (λ header. header ≡ Some (take 8 (drop at bytes))) }
+    ensures part { (bytes : List ℕ) → Sees (R.tells reader.old) (R.bytes reader.old) bytes len block.old → IfOk result (λ header. IfSome header (λ _. IsPart block.new bytes)) }
+    ensures refusals { IfErr result StopsReading }
+    ensures cause { HasCause (R.faults reader.old) (R.faults reader.new) (IsErrOf result (Io Input)) }
+    ensures same { R.bytes reader.new ≡ R.bytes reader.old }
+    ensures tells { R.tells reader.new ≡ R.tells reader.old }
+{
+    if !load(reader, block, at, len, 8)? {
+        return Ok(None);
+    }
+    let mut header = [0; 8];
+    header.copy_from_slice(block.part(at, 8));
+    Ok(Some(header))
 }
 
 /// How many bytes a stored chunk with this header has; none, where it is not the header of a stored chunk of at most
@@ -191,26 +225,53 @@ fn chunk_size(header: [u8; 8], max_chunk: u32) -> Option<u32>
     Some(plain)
 }
 
-/// The digest of so many bytes from place `at` on, which are read into `body`; none, where there are fewer. Refused as
-/// `Io(Input)`, or as `OutOfMemory`.
+/// The digest of so many bytes from place `at` of `len` bytes on; none, where there are fewer. Refused as `Io(Input)`,
+/// or as `OutOfMemory`.
 fn digest_at<R: ReadAt>(
     reader: &mut R,
+    block: &mut Block,
     at: u64,
+    len: u64,
     size: usize,
-    body: &mut Vec<u8>,
 ) -> Result<Option<MerkleHash>, StoreError>
-    requires { at + size < 2 ^ 64 }
-    ensures read { R.tells reader.old ≡ true → at + size ≤ length (R.bytes reader.old) → IfOk result (λ digest. digest ≡ Some (chunk_hash (take size (drop at (R.bytes reader.old))))) }
+    requires { at ≤ len }
+    ensures read { (bytes : List ℕ) → Sees (R.tells reader.old) (R.bytes reader.old) bytes len block.old → at + size ≤ len → IfOk result (λ digest. digest ≡ Some (chunk_hash (take size (drop at bytes)))) }
+    ensures part { (bytes : List ℕ) → Sees (R.tells reader.old) (R.bytes reader.old) bytes len block.old → IfOk result (λ digest. IfSome digest (λ _. IsPart block.new bytes)) }
     ensures refusals { IfErr result StopsReading }
     ensures cause { HasCause (R.faults reader.old) (R.faults reader.new) (IsErrOf result (Io Input)) }
     ensures same { R.bytes reader.new ≡ R.bytes reader.old }
     ensures tells { R.tells reader.new ≡ R.tells reader.old }
 {
-    body.resize(size, 0)?;
-    if !fill(reader, at, body)? {
+    if !load(reader, block, at, len, size)? {
         return Ok(None);
     }
+    let body = block.part(at, size);
     Ok(Some(compute_data_hash(body)))
+}
+
+/// Sees to it that the block has so many bytes from place `at` of `len` bytes on; false, where there are fewer. Refused
+/// as `Io(Input)`, or as `OutOfMemory`.
+fn load<R: ReadAt>(
+    reader: &mut R,
+    block: &mut Block,
+    at: u64,
+    len: u64,
+    count: usize,
+) -> Result<bool, StoreError>
+    requires { at ≤ len }
+    ensures there { IfOk result (λ there. IsTrue there → Has block.new at count) }
+    ensures part { (bytes : List ℕ) → Sees (R.tells reader.old) (R.bytes reader.old) bytes len block.old → IfOk result (λ there. IsTrue there → IsPart block.new bytes) }
+    ensures whole { (bytes : List ℕ) → Sees (R.tells reader.old) (R.bytes reader.old) bytes len block.old → at + count ≤ len → IfOk result (λ there. there ≡ true) }
+    ensures refusals { IfErr result StopsReading }
+    ensures cause { HasCause (R.faults reader.old) (R.faults reader.new) (IsErrOf result (Io Input)) }
+    ensures same { R.bytes reader.new ≡ R.bytes reader.old }
+    ensures tells { R.tells reader.new ≡ R.tells reader.old }
+{
+    match block.load(reader, at, len, count) {
+        Ok(()) => Ok(true),
+        Err(StoreError::UnexpectedEof) => Ok(false),
+        Err(error) => Err(error),
+    }
 }
 
 /// Whether there is a member, and the xorb of these members has this hash. Refused as `OutOfMemory`.
@@ -232,6 +293,7 @@ fn have_hash(
 fn checked_object<R: ReadAt>(
     alloc: Global,
     reader: &mut R,
+    block: &mut Block,
     start: u64,
     told: u32,
     hash: &MerkleHash,
@@ -240,8 +302,8 @@ fn checked_object<R: ReadAt>(
     requires some { 60 ≤ told }
     requires bound { start + told + 4 < 2 ^ 32 }
     requires size { total_len members.now + 8 * length members.now ≡ start }
-    ensures found { R.tells reader.old ≡ true → start + told + 4 ≡ length (R.bytes reader.old) → AllByRecursion (λ m. length m.0 ≡ 32) members.now → length hash.now ≡ 32 → IfOk result (λ found. IfSome found (IsEnding hash.now members.now (drop start (R.bytes reader.old)))) }
-    ensures none { R.tells reader.old ≡ true → start + told + 4 ≡ length (R.bytes reader.old) → AllByRecursion (λ m. length m.0 ≡ 32) members.now → length hash.now ≡ 32 → IfOk result (λ found. IsNone found → (object : _) → IsEnding hash.now members.now (drop start (R.bytes reader.old)) object → ⊥) }
+    ensures found { (bytes : List ℕ) → Sees (R.tells reader.old) (R.bytes reader.old) bytes (start + told + 4) block.old → AllByRecursion (λ m. length m.0 ≡ 32) members.now → length hash.now ≡ 32 → IfOk result (λ found. IfSome found (IsEnding hash.now members.now (drop start bytes))) }
+    ensures none { (bytes : List ℕ) → Sees (R.tells reader.old) (R.bytes reader.old) bytes (start + told + 4) block.old → AllByRecursion (λ m. length m.0 ≡ 32) members.now → length hash.now ≡ 32 → IfOk result (λ found. IsNone found → (object : _) → IsEnding hash.now members.now (drop start bytes) object → ⊥) }
     ensures refusals { IfErr result StopsReading }
     ensures cause { HasCause (R.faults reader.old) (R.faults reader.new) (IsErrOf result (Io Input)) }
     ensures same { R.bytes reader.new ≡ R.bytes reader.old }
@@ -254,7 +316,8 @@ fn checked_object<R: ReadAt>(
     let Some((info, text)) = ending_of(alloc, hash, members, told, spare)? else {
         return Ok(None);
     };
-    if !stands_at(reader, start, &text)? {
+    let len = start + told as u64 + LENGTH_SIZE;
+    if !stands_at(reader, block, start, len, &text)? {
         return Ok(None);
     }
     Ok(Some(XorbObject {
@@ -320,25 +383,29 @@ fn text_of_v0(alloc: Global, info: &XorbObjectInfoV0) -> Result<Vec<u8>, StoreEr
     }
 }
 
-/// Whether these bytes stand at place `at`. Refused as `Io(Input)`.
-fn stands_at<R: ReadAt>(reader: &mut R, at: u64, text: &[u8]) -> Result<bool, StoreError>
-    requires { at + length text.now < 2 ^ 64 }
-    ensures found { R.tells reader.old ≡ true → at + length text.now ≤ length (R.bytes reader.old) → IfOk result (λ same. IsTrue same ↔ (text.now ≡ take (length text.now) (drop at (R.bytes reader.old)))) }
+/// Whether these bytes stand at place `at` of `len` bytes. Refused as `Io(Input)`, or as `OutOfMemory`.
+fn stands_at<R: ReadAt>(
+    reader: &mut R,
+    block: &mut Block,
+    at: u64,
+    len: u64,
+    text: &[u8],
+) -> Result<bool, StoreError>
+    requires { at ≤ len }
+    ensures found { (bytes : List ℕ) → Sees (R.tells reader.old) (R.bytes reader.old) bytes len block.old → IfOk result (λ same. IsTrue same ↔ (text.now ≡ take (length text.now) (drop at bytes))) }
     ensures refusals { IfErr result StopsReading }
     ensures cause { HasCause (R.faults reader.old) (R.faults reader.new) (IsErrOf result (Io Input)) }
     ensures same { R.bytes reader.new ≡ R.bytes reader.old }
     ensures tells { R.tells reader.new ≡ R.tells reader.old }
 {
-    let mut block = [0; BLOCK];
+    if len - at < text.len() as u64 {
+        return Ok(false);
+    }
     let mut done = 0;
     'pieces: while done < text.len() {
-        let size = BLOCK.min(text.len() - done);
-        if !piece_stands_at(
-            reader,
-            at + done as u64,
-            &text[done..done + size],
-            &mut block,
-        )? {
+        let size = PIECE.min(text.len() - done);
+        let piece = &text[done..done + size];
+        if !piece_stands_at(reader, block, at + done as u64, len, piece)? {
             return Ok(false);
         }
         done += size;
@@ -346,25 +413,24 @@ fn stands_at<R: ReadAt>(reader: &mut R, at: u64, text: &[u8]) -> Result<bool, St
     Ok(true)
 }
 
-/// Whether this piece, of at most as many bytes as the block has, stands at place `at`. Refused as `Io(Input)`.
+/// Whether this piece stands at place `at` of `len` bytes. Refused as `Io(Input)`, or as `OutOfMemory`.
 fn piece_stands_at<R: ReadAt>(
     reader: &mut R,
+    block: &mut Block,
     at: u64,
+    len: u64,
     piece: &[u8],
-    block: &mut [u8],
 ) -> Result<bool, StoreError>
-    requires place { at + length piece.now < 2 ^ 64 }
-    requires room { length piece.now ≤ length block.old }
-    ensures found { R.tells reader.old ≡ true → at + length piece.now ≤ length (R.bytes reader.old) → IfOk result (λ same. IsTrue same ↔ (piece.now ≡ take (length piece.now) (drop at (R.bytes reader.old)))) }
-    ensures len { length block.new ≡ length block.old }
+    requires { at + length piece.now ≤ len }
+    ensures found { (bytes : List ℕ) → Sees (R.tells reader.old) (R.bytes reader.old) bytes len block.old → IfOk result (λ same. IsTrue same ↔ (piece.now ≡ take (length piece.now) (drop at bytes))) }
+    ensures part { (bytes : List ℕ) → Sees (R.tells reader.old) (R.bytes reader.old) bytes len block.old → IfOk result (λ same. IsTrue same → IsPart block.new bytes) }
     ensures refusals { IfErr result StopsReading }
     ensures cause { HasCause (R.faults reader.old) (R.faults reader.new) (IsErrOf result (Io Input)) }
     ensures same { R.bytes reader.new ≡ R.bytes reader.old }
     ensures tells { R.tells reader.new ≡ R.tells reader.old }
 {
-    let (front, _) = block.split_at_mut(piece.len());
-    let filled = fill(reader, at, front)?;
-    Ok(filled && piece == front)
+    let there = load(reader, block, at, len, piece.len())?;
+    Ok(there && piece == block.part(at, piece.len()))
 }
 
 /// Fills `buf` with the bytes from place `at` on; false, where there are fewer. Refused as `Io(Input)`.

@@ -4,6 +4,8 @@
 #[cfg(test)]
 mod abc;
 #[cfg(test)]
+mod block_tests;
+#[cfg(test)]
 mod building_tests;
 #[cfg(test)]
 mod damage_tests;
@@ -13,5 +15,7 @@ mod object_tests;
 mod range_tests;
 #[cfg(test)]
 mod sample_tests;
+#[cfg(test)]
+mod stream_tests;
 #[cfg(test)]
 mod validation_tests;

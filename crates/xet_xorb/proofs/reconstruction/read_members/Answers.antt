@@ -1,4 +1,4 @@
-use Rattle.std.proofs.Common.{◌+◌, ◌≤◌, ◌++◌, ◌∷◌, [], List, ap, arith, drop, length, rules, take, ℕ}
+use Rattle.std.proofs.Common.{◌+◌, ◌≤◌, ◌++◌, ◌∷◌, [], List, ap, arith, drop, length, rules, subst, sym, take, ℕ}
 use Rattle.std.proofs.lemmas.List.{length-map, take_rest}
 use Rattle.xet_hash.specs.Merkle.{member_of}
 use Rattle.xet_footer.specs.Spelled.{most_chunks}
@@ -14,15 +14,17 @@ returns-in_err-length-clause-refused c =
     let few : length f.0 ≤ most_chunks = omega (arith, ap (λ (ms : List (List ℕ × ℕ)). length ms) f.2, length-map f.0 member_of, c.chunks.members.ok.0, c.chunks.invariant.few) in
     exit_with (IsNoCopy c.args.max_chunk raw) _ _ c.from_residual.ensures.1 (no_copy c.args.max_chunk raw f.0 c.chunks.at _ _ f.1 (take_rest raw c.chunks.at) c.in_err-length.ensures.next few)
 
-pub returns-then-len-eq-MOST_CHUNKS-clause-refused : goal.returns-then-len-eq-MOST_CHUNKS-clause-refused
-returns-then-len-eq-MOST_CHUNKS-clause-refused c =
+pub returns-in_err-check_count-clause-refused : goal.returns-in_err-check_count-clause-refused
+returns-in_err-check_count-clause-refused c =
     let f = c.chunks.invariant.front in
     let raw = c.args.raw.now in
     let small : AreBytes raw = search rules in
     let next = rw c.in-Some.is at c.in_ok-length.ensures.next in
     let count = ap (λ (ms : List (List ℕ × ℕ)). length ms) f.2 in
-    too_many c.args.max_chunk raw f.0 c.chunks.at _ _ (next_is c.args.max_chunk raw f.0 c.chunks.at c.in-Some.length _ small c.requires.bound f.1 (take_rest raw c.chunks.at) next)
-    (omega (arith, count, length-map f.0 member_of, c.chunks.members.ok.0))
+    exit_with (IsNoCopy c.args.max_chunk raw) _ _ c.from_residual-in_err-check_count.ensures.1
+    (subst (IsNoCopy c.args.max_chunk raw) (sym c.in_err-check_count.ensures.kind)
+    (too_many c.args.max_chunk raw f.0 c.chunks.at _ _ (next_is c.args.max_chunk raw f.0 c.chunks.at c.in-Some.length _ small c.requires.bound f.1 (take_rest raw c.chunks.at) next)
+    (omega (arith, count, length-map f.0 member_of, c.chunks.members.ok.0, c.chunks.invariant.few, c.in_err-check_count.ensures.full))))
 
 pub chunks-preserved : goal.chunks-preserved
 chunks-preserved c =

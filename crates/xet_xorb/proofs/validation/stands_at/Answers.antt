@@ -1,29 +1,31 @@
-use Rattle.std.proofs.Common.{◌∙◌, ap, arith, length, refl, rules}
+use Rattle.std.proofs.Common.{◌∙◌, arith, refl, rules}
+use Rattle.xet_footer.specs.Places.{Sees}
 use Rattle.xet_xorb.proofs.Checked.{piece_more, piece_same}
 use Rattle.xet_xorb.proofs.validation.stands_at.Goals as goal
 
 pub returns-then-not-branch-clause-found : goal.returns-then-not-branch-clause-found
-returns-then-not-branch-clause-found g c = λ told room.
-    let bytes = g.R.ReadAt.bytes c.args.reader.now in
-    let seen = g.R.ReadAt.bytes c.pieces.reader in
+returns-then-not-branch-clause-found g c = λ bytes sees.
     let inv = c.pieces.invariant in
     let size = c.min-size.result in
-    let found = rw c.if-not-branch.true at (c.in_ok-piece_stands_at.ensures.found (inv.tells ∙ told) (omega (arith, ap length inv.same))) in
-    (search rules, λ equal. found.1 (piece_same c.args.at c.pieces.done size c.args.text.now bytes seen _ (omega arith) refl inv.same equal))
+    let here : Sees _ _ bytes c.args.len c.pieces.block = record { told = inv.tells ∙ sees.told; same = inv.same ∙ sees.same; all = sees.all; part = inv.part bytes sees } in
+    let found = rw c.if-not-branch.true at (c.in_ok-piece_stands_at.ensures.found bytes here) in
+    (search rules, λ equal. found.1 (piece_same c.args.at c.pieces.done size c.args.text.now bytes _ (omega arith) refl equal))
 
 pub pieces-preserved : goal.pieces-preserved
 pieces-preserved g c =
-    let bytes = g.R.ReadAt.bytes c.args.reader.now in
-    let seen = g.R.ReadAt.bytes c.pieces.reader in
     let inv = c.pieces.invariant in
     let size = c.min-size.result in
     let kept = c.in_ok-piece_stands_at.ensures in record {
       within = omega arith;
-      room = kept.len ∙ inv.room;
+      room = inv.room;
       same = kept.same ∙ inv.same;
       tells = kept.tells ∙ inv.tells;
       cause = record { later = omega (arith, inv.cause.later, kept.cause.later); rose = λ x. absurd x };
-      found = λ told room.
-          let found = rw c.if-not-branch.false at (kept.found (inv.tells ∙ told) (omega (arith, ap length inv.same))) in
-          piece_more c.args.at c.pieces.done size c.args.text.now bytes seen _ (omega arith) refl inv.same (inv.found told room) (found.0 refl);
+      part = λ bytes sees.
+          let here : Sees _ _ bytes c.args.len c.pieces.block = record { told = inv.tells ∙ sees.told; same = inv.same ∙ sees.same; all = sees.all; part = inv.part bytes sees } in
+          (rw c.if-not-branch.false at (kept.part bytes here)) refl;
+      found = λ bytes sees.
+          let here : Sees _ _ bytes c.args.len c.pieces.block = record { told = inv.tells ∙ sees.told; same = inv.same ∙ sees.same; all = sees.all; part = inv.part bytes sees } in
+          let found = rw c.if-not-branch.false at (kept.found bytes here) in
+          piece_more c.args.at c.pieces.done size c.args.text.now bytes _ (omega arith) refl (inv.found bytes sees) (found.0 refl);
     }

@@ -1,5 +1,6 @@
-use Rattle.std.proofs.Common.{◌≡◌, ◌+◌, ◌*◌, ◌-◌, ◌≤◌, length, take, true}
+use Rattle.std.proofs.Common.{◌≡◌, ◌+◌, ◌*◌, ◌-◌, ◌≤◌, List, length, take, ℕ}
 use Rattle.xet_io.specs.Faults.{HasCause}
+use Rattle.xet_footer.specs.Places.{IsPart, Sees}
 use Rattle.xet_hash.specs.Merkle.{total_len}
 use Rattle.xet_xorb.specs.Checking.{HaveMembers}
 use Rattle.xet_xorb.proofs.validation.stored_members.Given as goal
@@ -11,7 +12,8 @@ invariant-chunks g l = record {
   same : g.R.ReadAt.bytes l.reader ≡ g.R.ReadAt.bytes l.initial.reader;
   tells : g.R.ReadAt.tells l.reader ≡ g.R.ReadAt.tells l.initial.reader;
   cause : HasCause (g.R.ReadAt.faults l.initial.reader) (g.R.ReadAt.faults l.reader) ⊥;
-  found : g.R.ReadAt.tells l.initial.reader ≡ true → l.end ≤ length (g.R.ReadAt.bytes l.initial.reader) → HaveMembers l.max_chunk (take l.at (g.R.ReadAt.bytes l.initial.reader)) l.members.items;
+  part : (bytes : List ℕ) → Sees (g.R.ReadAt.tells l.initial.reader) (g.R.ReadAt.bytes l.initial.reader) bytes l.len l.initial.block → IsPart l.block bytes;
+  found : (bytes : List ℕ) → Sees (g.R.ReadAt.tells l.initial.reader) (g.R.ReadAt.bytes l.initial.reader) bytes l.len l.initial.block → HaveMembers l.max_chunk (take l.at bytes) l.members.items;
 }
 
 abbrev pub decreases-chunks : goal.decreases-chunks

@@ -1,7 +1,8 @@
-use Rattle.std.proofs.Common.{◌≡◌, ◌∙◌, ◌<◌, ◌^◌, List, Ok, ap, arith, drop, false, length, refl, subst, sym, take, true, ℕ}
+use Rattle.std.proofs.Common.{◌≡◌, ◌∙◌, ◌<◌, ◌^◌, List, Ok, arith, drop, false, length, refl, subst, sym, take, true, ℕ}
 use Rattle.xet_footer.specs.Ends.{last_footer}
+use Rattle.xet_footer.specs.Places.{Sees}
 use Rattle.xet_xorb.specs.declared.object.XorbObject.{XorbObject}
-use Rattle.xet_xorb.specs.Checking.{AreChunks, HaveMembers, IsEnding}
+use Rattle.xet_xorb.specs.Checking.{IsEnding}
 use Rattle.xet_xorb.specs.Validation.{IsValid, IsXorbOf}
 use Rattle.xet_xorb.proofs.Validated.{chunks_at, ending_at, hash_at, hash_size, hashed_of, is_valid, members_at, none_more, parts_of, some_more, valid_is_read}
 use Rattle.xet_xorb.proofs.object.XorbObject.validate_xorb_object.Goals as goal
@@ -13,15 +14,13 @@ returns-in_default-clause-none g c = λ told _ chunks x.
 
 pub returns-in_default-2-clause-none : goal.returns-in_default-2-clause-none
 returns-in_default-2-clause-none g c = λ told _ chunks x.
-    let most = c.args.max_chunk in
     let bytes = g.R.ReadAt.bytes c.args.reader.now in
     let start = c.in-Some.start in
-    let same = c.in_ok-start.ensures.same in
     let whole = rw c.in-Some.is at (c.in_ok-start.ensures.whole told) in
     let tells = rw c.in-Some.is at (c.in_ok-start.ensures.told told) in
-    let are = chunks_at most start c.in-Some.told c.args.hash.now bytes chunks whole tells x in
-    c.in_ok-members.ensures.none (c.in_ok-start.ensures.tells ∙ told) (omega (arith, whole, ap length same)) (rw c.in_default-2.is refl) chunks
-    (subst (λ (b : List ℕ). AreChunks most (take start b) chunks) (sym same) are)
+    let are = chunks_at c.args.max_chunk start c.in-Some.told c.args.hash.now bytes chunks whole tells x in
+    let sees : Sees _ _ bytes _ _ = record { told = c.in_ok-start.ensures.tells ∙ told; same = c.in_ok-start.ensures.same; all = whole; part = c.new-block.ensures bytes } in
+    c.in_ok-members.ensures.none bytes sees (rw c.in_default-2.is refl) chunks are
 
 pub returns-then-not-branch-clause-none : goal.returns-then-not-branch-clause-none
 returns-then-not-branch-clause-none g c = λ told _ chunks x.
@@ -30,11 +29,10 @@ returns-then-not-branch-clause-none g c = λ told _ chunks x.
     let bytes = g.R.ReadAt.bytes c.args.reader.now in
     let start = c.in-Some.start in
     let ms = c.in-Some-2.members.items in
-    let same = c.in_ok-start.ensures.same in
     let whole = rw c.in-Some.is at (c.in_ok-start.ensures.whole told) in
     let tells = rw c.in-Some.is at (c.in_ok-start.ensures.told told) in
-    let found = rw c.in-Some-2.is at (c.in_ok-members.ensures.found (c.in_ok-start.ensures.tells ∙ told) (omega (arith, whole, ap length same))) in
-    let have = subst (λ (b : List ℕ). HaveMembers most (take start b) ms) same found in
+    let sees : Sees _ _ bytes _ _ = record { told = c.in_ok-start.ensures.tells ∙ told; same = c.in_ok-start.ensures.same; all = whole; part = c.new-block.ensures bytes } in
+    let have = rw c.in-Some-2.is at (c.in_ok-members.ensures.found bytes sees) in
     let is = members_at most start c.in-Some.told hash bytes ms chunks c.requires.most whole tells have x in
     let hashes = rw (c.if-not-branch.true, c.deref.ensures.value) at c.in_ok-have_hash.ensures.same in
     let no : false ≡ true = hashes.1 (hash_at most hash bytes ms chunks is x) in
@@ -47,21 +45,19 @@ returns-clause-valid g c = λ told.
     let bytes = g.R.ReadAt.bytes c.args.reader.now in
     let start = c.in-Some.start in
     let ms = c.in-Some-2.members.items in
-    let same = c.in_ok-start.ensures.same in
-    let both = c.in_ok-members.ensures.same ∙ same in
-    let seen = g.R.ReadAt.bytes c.stored_members.new.reader in
     let whole = rw c.in-Some.is at (c.in_ok-start.ensures.whole told) in
     let bound = rw c.in-Some.is at c.in_ok-start.ensures.bound in
-    let found = rw c.in-Some-2.is at (c.in_ok-members.ensures.found (c.in_ok-start.ensures.tells ∙ told) (omega (arith, whole, ap length same))) in
-    let have = subst (λ (b : List ℕ). HaveMembers most (take start b) ms) same found in
+    let sees : Sees _ _ bytes _ _ = record { told = c.in_ok-start.ensures.tells ∙ told; same = c.in_ok-start.ensures.same; all = whole; part = c.new-block.ensures bytes } in
+    let have = rw c.in-Some-2.is at (c.in_ok-members.ensures.found bytes sees) in
+    let part = rw c.in-Some-2.is at (c.in_ok-members.ensures.part bytes sees) in
     let hashes = rw (c.if-not-branch.false, c.deref.ensures.value) at c.in_ok-have_hash.ensures.same in
     let is = hashes.0 refl in
     let hashed = hashed_of most (take start bytes) ms have in
     let ends = rw c.deref-2.ensures.value at c.checked_object.ensures.found in
     let small : length bytes < 2 ^ 32 = omega (arith, whole, bound) in
-    some_more (λ (o : XorbObject). IsEnding hash ms (drop start seen) o) (λ (o : XorbObject). (chunks : List (List ℕ)) × IsValid most hash bytes chunks o) c.checked_object.result
-    (λ o e. is_valid most start hash bytes ms o c.requires.most small have is.0 is.1 (subst (λ (b : List ℕ). IsEnding hash ms (drop start b) o) both e))
-    (ends (c.in_ok-members.ensures.tells ∙ c.in_ok-start.ensures.tells ∙ told) (whole ∙ ap length (sym both)) hashed (hash_size ms hash hashed is.1))
+    let later : Sees _ _ bytes _ _ = record { told = c.in_ok-members.ensures.tells ∙ sees.told; same = c.in_ok-members.ensures.same ∙ sees.same; all = whole; part = part } in
+    some_more (λ (o : XorbObject). IsEnding hash ms (drop start bytes) o) (λ (o : XorbObject). (chunks : List (List ℕ)) × IsValid most hash bytes chunks o) c.checked_object.result
+    (λ o e. is_valid most start hash bytes ms o c.requires.most small have is.0 is.1 e) (ends bytes later hashed (hash_size ms hash hashed is.1))
 
 pub returns-clause-read : goal.returns-clause-read
 returns-clause-read g c = λ told.
@@ -78,20 +74,18 @@ returns-clause-none g c = λ told.
     let bytes = g.R.ReadAt.bytes c.args.reader.now in
     let start = c.in-Some.start in
     let ms = c.in-Some-2.members.items in
-    let same = c.in_ok-start.ensures.same in
-    let both = c.in_ok-members.ensures.same ∙ same in
-    let seen = g.R.ReadAt.bytes c.stored_members.new.reader in
     let whole = rw c.in-Some.is at (c.in_ok-start.ensures.whole told) in
     let tells = rw c.in-Some.is at (c.in_ok-start.ensures.told told) in
-    let found = rw c.in-Some-2.is at (c.in_ok-members.ensures.found (c.in_ok-start.ensures.tells ∙ told) (omega (arith, whole, ap length same))) in
-    let have = subst (λ (b : List ℕ). HaveMembers most (take start b) ms) same found in
+    let sees : Sees _ _ bytes _ _ = record { told = c.in_ok-start.ensures.tells ∙ told; same = c.in_ok-start.ensures.same; all = whole; part = c.new-block.ensures bytes } in
+    let have = rw c.in-Some-2.is at (c.in_ok-members.ensures.found bytes sees) in
+    let part = rw c.in-Some-2.is at (c.in_ok-members.ensures.part bytes sees) in
     let hashes = rw (c.if-not-branch.false, c.deref.ensures.value) at c.in_ok-have_hash.ensures.same in
     let hashed = hashed_of most (take start bytes) ms have in
     let none = rw c.deref-2.ensures.value at c.checked_object.ensures.none in
-    none_more ((o : XorbObject) → IsEnding hash ms (drop start seen) o → ⊥) ((chunks : List (List ℕ)) → IsXorbOf most hash bytes chunks → ⊥) c.checked_object.result
+    let later : Sees _ _ bytes _ _ = record { told = c.in_ok-members.ensures.tells ∙ sees.told; same = c.in_ok-members.ensures.same ∙ sees.same; all = whole; part = part } in
+    none_more ((o : XorbObject) → IsEnding hash ms (drop start bytes) o → ⊥) ((chunks : List (List ℕ)) → IsXorbOf most hash bytes chunks → ⊥) c.checked_object.result
     (λ no chunks x.
     let e = ending_at most start c.in-Some.told hash bytes chunks whole tells x in
     let is = members_at most start c.in-Some.told hash bytes ms chunks c.requires.most whole tells have x in
-    let here = subst (λ (l : List (List ℕ × ℕ)). IsEnding hash l (drop start bytes) e.0) (sym is) e.1 in
-    no e.0 (subst (λ (b : List ℕ). IsEnding hash ms (drop start b) e.0) (sym both) here))
-    (none (c.in_ok-members.ensures.tells ∙ c.in_ok-start.ensures.tells ∙ told) (whole ∙ ap length (sym both)) hashed (hash_size ms hash hashed (hashes.0 refl).1))
+    no e.0 (subst (λ (l : List (List ℕ × ℕ)). IsEnding hash l (drop start bytes) e.0) (sym is) e.1))
+    (none bytes later hashed (hash_size ms hash hashed (hashes.0 refl).1))

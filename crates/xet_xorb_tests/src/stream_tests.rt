@@ -1,0 +1,76 @@
+//! Streams of many chunks, written chunk by chunk and read back.
+
+ghost use Rattle.std.specs.Prelude.{◌≤◌};
+
+use rand_core::{Rng, SeedableRng};
+use rand_pcg::Pcg64;
+use std::alloc::Global;
+use std::test::Fail;
+use xet_hash::StoreError;
+use xet_io::{MemorySink, SliceSource};
+use xet_xorb::*;
+
+/// The most bytes of a chunk: 16 KiB.
+const MOST: u32 = 16_384;
+
+/// How many bytes the next chunk has: so many, or at random 1 to 16 KiB.
+fn next_length(length: Option<u32>, rng: &mut Pcg64) -> u32
+    ensures { result ≤ 16384 }
+{
+    match length {
+        Some(length) => length.min(MOST),
+        None => 1 + rng.next_u32() % MOST,
+    }
+}
+
+/// So many drawn chunks, as they are stored, and their bytes.
+fn written(
+    alloc: Global,
+    count: u32,
+    length: Option<u32>,
+) -> Result<(Vec<u8>, Vec<u8>), StoreError> {
+    let mut rng = Pcg64::seed_from_u64(13);
+    let mut sink = MemorySink::new(alloc);
+    let mut plain = Vec::new(alloc);
+    for _done in 0..count {
+        let size = next_length(length, &mut rng);
+        let chunk = gen_random_bytes(alloc, size, &mut rng)?;
+        serialize_chunk(&chunk, &mut sink, CompressionScheme::None)?;
+        plain.extend_from_slice(&chunk)?;
+    }
+    Ok((sink.into_bytes(), plain))
+}
+
+/// The bytes of the chunks in a stream, which is fed in pieces of so many bytes, and the number of places.
+fn in_pieces(alloc: Global, stored: &[u8], size: usize) -> Result<(Vec<u8>, usize), StoreError> {
+    let mut sink = MemorySink::new(alloc);
+    let mut decoder = ChunkDecoder::new(alloc, MOST);
+    let mut at = 0;
+    'pieces: while at < stored.len() {
+        let end = stored.len().min(at.saturating_add(size.max(1)));
+        decoder.feed(&stored[at..end], &mut sink)?;
+        at = end;
+    }
+    let (_, places) = decoder.finish()?;
+    Ok((sink.into_bytes(), places.len()))
+}
+
+/// Whether a stream is read back, by the reader of a source and in pieces: as many chunks with the same bytes.
+fn is_read_back(alloc: Global, count: u32, length: Option<u32>) -> Result<bool, StoreError> {
+    let (stored, plain) = written(alloc, count, length)?;
+    let (whole, places) = deserialize_chunks(alloc, &mut SliceSource::new(&stored), MOST)?;
+    let (fed, count_fed) = in_pieces(alloc, &stored, 10_000)?;
+    let counted = places.len() == count as usize + 1 && count_fed == places.len();
+    Ok(counted && whole == plain && fed == plain)
+}
+
+#[test]
+fn streams_are_read_back(rt: HostRuntime) -> Result<(), Fail> {
+    let alloc = rt.alloc();
+    for count in [2, 10, 100, 1_000] {
+        for length in [Some(16), Some(16_384), None] {
+            assert!(rt; is_read_back(alloc, count, length)?);
+        }
+    }
+    Ok(())
+}
