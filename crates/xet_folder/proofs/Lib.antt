@@ -20,3 +20,4 @@ pub mod MoreShards
 pub mod Stopping
 pub mod Spans
 pub mod Distinct
+pub mod Expiring

@@ -1,9 +1,11 @@
 -- What a put does to the files.
-use Rattle.std.proofs.Common.{◌≡◌, ◌≢◌, ◌⊎◌, inl, inr, ◌∙◌, ℕ, true, List, codes, Some, Option, option_map, length, ap, arith, length-append}
-use Rattle.std.specs.FinMap.{get, remove}
-use Rattle.xet_io.specs.Disk.{Files, Entry, File, file, entry, file_of, file_at, bytes_at, IsPut, IsPutOrKept}
-use Rattle.xet_io.proofs.Names.{get_here, get_other, get_kept}
+use Rattle.std.proofs.Common.{◌≡◌, ◌≢◌, inl, inr, ◌∙◌, ℕ, true, cond, List, codes, Some, None, Option, option_map, length, sym, ap, arith, length-append}
+use Rattle.std.specs.Cmp.Lexicographic.{nat_list_cmp_total}
+use Rattle.std.specs.FinMap.{get, get-remove, remove}
+use Rattle.xet_io.specs.Disk.{Files, Entry, File, file, entry, file_of, bytes_at, IsPut, IsPutOrKept}
+use Rattle.xet_io.proofs.Names.{get_here, get_other, get_kept, is_name_self}
 use Rattle.xet_folder.specs.Names.{temp_name}
+use Rattle.xet_folder.specs.Puts.{IsKeptOrDone}
 
 -- a temporary name is longer
 pub temp_apart : (name : List ℕ) → temp_name name ≢ name
@@ -27,7 +29,17 @@ module _ (old new : Files) (temp name bytes : List ℕ) where
   pub put_stable : IsPut old temp name bytes new → option_map (λ (e : Entry). e.stable) (get new name) ≡ Some true
   put_stable done = ap (λ (o : Option Entry). option_map (λ (e : Entry). e.stable) o) (at_name done)
 
-  -- refused, it reads as before, or has them
-  pub put_refused : name ≢ temp → IsPutOrKept old temp name bytes new → (get new name ≡ get old name) ⊎ (bytes_at new name ≡ Some bytes)
-  put_refused apart (inl kept) = inl (kept name apart)
-  put_refused apart (inr done) = inr (put_there done)
+  gone : get (remove old temp) temp ≡ None
+  gone = get-remove nat_list_cmp_total old temp temp ∙ ap (λ b. cond b None (get old temp)) (is_name_self temp)
+
+  -- and the temporary name is gone
+  pub put_gone : temp ≡ temp_name name → IsPut old temp name bytes new → get new (temp_name name) ≡ None
+  put_gone is done =
+      ap (λ (m : Files). get m (temp_name name)) done.1
+      ∙ get_other (remove old temp) name (entry (Some (file bytes done.0)) true) (temp_name name) (temp_apart name)
+      ∙ ap (λ (q : List ℕ). get (remove old temp) q) (sym is) ∙ gone
+
+  -- refused, the name is as before, or the put is done
+  pub put_refused : temp ≡ temp_name name → IsPutOrKept old temp name bytes new → IsKeptOrDone old new name bytes
+  put_refused is (inl kept) = inl (kept name (λ same. temp_apart name (sym is ∙ sym same)))
+  put_refused is (inr done) = inr (record { there = put_there done; stable = put_stable done; temp = put_gone is done })

@@ -8,6 +8,7 @@ use Rattle.xet_hash.specs.declared.error.Place.TheVariants as place
 use Rattle.xet_shard.specs.Reading.{Fails, all_of}
 use Rattle.xet_shard.proofs.Refusing.{all_answers}
 use Rattle.xet_folder.specs.Checks.{IsCheckRefusal}
+use Rattle.xet_folder.specs.Refusals.{HasDiskReason, IsShardError}
 
 pub rose_before : (before now earlier : ℕ) → earlier ≤ before → Rose before now → Rose earlier now
 rose_before before now earlier le rose = omega arith
@@ -29,3 +30,16 @@ pub read_refusal : (K : Type 0) (F : StoreError → Type 0) (before now : ℕ) (
 read_refusal K F before now bytes (errors.Io place.Disk) f fails = absurd ((all_answers bytes).refusal (errors.Io place.Disk) fails)
 read_refusal K F before now bytes errors.OutOfMemory f fails = tt
 read_refusal K F before now bytes e f fails = λ k. f k fails
+
+-- a disk's refusal is one of the errors of a shard's check
+pub disk_error : (shard : List ℕ) (before now : ℕ) (e : StoreError) → HasDiskReason before now e → IsShardError shard e
+disk_error shard before now (errors.Io place.Disk) r = tt
+disk_error shard before now errors.OutOfMemory r = tt
+disk_error shard before now e r = absurd r
+
+-- so is that of reading it
+pub read_error : (shard bytes : List ℕ) (e : StoreError) → Fails e (all_of bytes) → IsShardError shard e
+read_error shard bytes errors.OutOfMemory fails = tt
+read_error shard bytes errors.UnexpectedEof fails = tt
+read_error shard bytes (errors.MalformedData reason) fails = tt
+read_error shard bytes e fails = absurd ((all_answers bytes).refusal e fails)

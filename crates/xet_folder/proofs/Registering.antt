@@ -1,15 +1,20 @@
 -- Shards that are listed, read, and registered where they are valid.
-use Rattle.std.proofs.Common.{◌≡◌, ◌∙◌, ℕ, zero, suc, ◌<◌, Bool, true, false, not, cond, List, [], ◌∷◌, length, get_or, map, filter, Option, Some, IsSome, refl, sym, ap, subst, arith}
+use Rattle.std.proofs.Common.{◌≡◌, ◌∙◌, ℕ, zero, suc, ◌<◌, ◌≤◌, Bool, true, false, not, cond, List, [], ◌∷◌, length, get_or, map, filter, Option, Some, IsSome, Result, Ok, Err, refl, sym, ap, subst, arith}
 use Rattle.std.proofs.Math.ListN.{get_or-map}
+use Rattle.std.proofs.lemmas.Bool.{le-ltb, ltb-false}
 use Rattle.std.proofs.lemmas.List.{get_or_default, length-map}
-use Rattle.std.proofs.lemmas.List.Elements.{All-filter, All-from_recursion}
+use Rattle.std.proofs.lemmas.List.Elements.{All-filter, All-from_recursion, recursion_from_All}
 use Rattle.std.proofs.lemmas.List.Kept.{AllPairs-filter}
 use Rattle.std.specs.List.{All, AllByRecursion, AllPairs, IsAmong}
 use Rattle.xet_io.specs.Disk.{File, Files, file_at}
+use Rattle.xet_hash.specs.declared.error.StoreError.{StoreError}
+use Rattle.xet_shard.specs.declared.info.MDBShardFileFooter.{MDBShardFileFooter}
+use Rattle.xet_shard.specs.Reading.{◌>>=◌, footer_at, header_at}
+use Rattle.xet_folder.specs.Admission.{Admits, ShardHolds}
 use Rattle.xet_folder.specs.declared.listing.ShardEntry.{ShardEntry}
 use Rattle.xet_folder.specs.Entries.{IsBefore, ListsShards, entry_of, is_valid}
 use Rattle.xet_folder.specs.Names.{shard_path}
-use Rattle.xet_folder.specs.Shards.{ComesBefore, IsThere, Registers, ShardFile}
+use Rattle.xet_folder.specs.Shards.{ComesBefore, IsThere, Registers, ShardFile, is_past}
 
 not_true : (b : Bool) → not b ≡ true → b ≡ false
 not_true true e = absurd (cc e)
@@ -80,3 +85,23 @@ module _ (files : Files) (folder : List ℕ) (now : ℕ) (entries : List ShardEn
     all = λ s is valid. let among = among_read s is in left_in (is_valid now) read s among.0 among.1.0 among.1.1 (ap not valid);
     order = AllPairs-filter ComesBefore (is_valid now) read in_order;
   }
+
+-- what a shard is later it is before
+past_before : (now later : ℕ) → now ≤ later → (footer : Result MDBShardFileFooter StoreError) → is_past later footer ≡ false → is_past now footer ≡ false
+past_before now later since (Ok footer) e = le-ltb footer.shard_key_expiry now (omega (arith, since, ltb-false footer.shard_key_expiry later e))
+past_before now later since (Err error) e = refl
+
+-- An admitted folder is admitted at each later moment, with its shards that are valid then.
+pub admitted_later : (files : Files) (folder : List ℕ) (now later : ℕ) (shards : List ShardFile) → now ≤ later → Admits files folder now shards → Admits files folder later (filter (is_valid later) shards)
+admitted_later files folder now later shards since admits = record {
+  registers = record {
+    there = All-filter (is_valid later) (IsThere files folder) shards admits.registers.there;
+    valid = λ k d below. not_true _ (All-from_recursion (λ s. is_valid later s ≡ true) (filter (is_valid later) shards) (passing (is_valid later) shards) k d below);
+    all = λ s is valid.
+        let among = admits.registers.all s is (past_before now later since (header_at s.file.bytes >>= λ _. footer_at s.file.bytes) valid) in
+        left_in (is_valid later) shards s among.0 among.1.0 among.1.1 (ap not valid);
+    order = AllPairs-filter ComesBefore (is_valid later) shards admits.registers.order;
+  };
+  hold = recursion_from_All (ShardHolds files folder) (filter (is_valid later) shards)
+      (All-filter (is_valid later) (ShardHolds files folder) shards (All-from_recursion (ShardHolds files folder) shards admits.hold));
+}

@@ -16,6 +16,7 @@ use Rattle.xet_folder.specs.declared.contents.Contents.{Contents}
 use Rattle.xet_folder.specs.Admission.{Admits, Refuses}
 use Rattle.xet_folder.specs.Checks.{OfBytes}
 use Rattle.xet_folder.specs.Plan.{Joins}
+use Rattle.xet_folder.specs.Refusals.{IsBadShard}
 use Rattle.xet_folder.specs.Shards.{ShardFile}
 use Rattle.xet_folder.specs.Xorbs.{IsListed, Records, Xorbs, found}
 
@@ -58,9 +59,10 @@ pub record HasContents (files : Files) (folder : List ℕ) (now : ℕ) (c : Cont
   pub admits : Admits files folder now shards
   pub contents : AreContents shards c
 
--- why a folder is not admitted, with the file name of the shard at which it was refused
+-- Why a folder is not admitted. With a name, a check of the shard of that file name failed: on every disk the error
+-- is one of a check, and on one that tells it is the first check that fails.
 abbrev pub IsUnadmitted : Bool → Files → List ℕ → ℕ → ℕ → ℕ → StoreError → Option (List ℕ) → Type 0
 IsUnadmitted tells files folder now before after (Io Disk) None = Rose before after
 IsUnadmitted tells files folder now before after OutOfMemory None = Unit {0}
-IsUnadmitted tells files folder now before after e (Some name) = tells ≡ true → Refuses files folder now e name
+IsUnadmitted tells files folder now before after e (Some name) = IsBadShard e name × (tells ≡ true → Refuses files folder now e name)
 IsUnadmitted tells files folder now before after e None = ⊥

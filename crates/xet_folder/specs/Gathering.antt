@@ -1,5 +1,5 @@
 -- What is gathered of a folder's shards, one after the other.
-use Rattle.std.specs.Prelude.{◌≡◌, ◌≢◌, ℕ, false, List, [], ◌∷◌, ◌++◌, Option, Some, None, is_some, if◌then◌else◌}
+use Rattle.std.specs.Prelude.{◌≡◌, ◌≢◌, ℕ, false, List, [], ◌∷◌, ◌++◌, Option, Some, None, Err, is_some, if◌then◌else◌}
 use Rattle.std.specs.List.{AllByRecursion}
 use Rattle.xet_io.specs.Disk.{File, Files, file_at}
 use Rattle.xet_io.specs.Faults.{Rose}
@@ -8,11 +8,13 @@ use Rattle.xet_hash.specs.declared.error.StoreError.TheVariants.{Io, OutOfMemory
 use Rattle.xet_hash.specs.declared.error.Place.TheVariants.{Disk}
 use Rattle.xet_shard.specs.declared.record.MDBFileInfo.{MDBFileInfo}
 use Rattle.xet_shard.specs.Names.{shard_name}
+use Rattle.xet_shard.specs.Reading.{ends_of}
 use Rattle.xet_folder.specs.declared.contents.Contents.{Contents}
 use Rattle.xet_folder.specs.declared.gathering.Gathered.{Gathered}
 use Rattle.xet_folder.specs.Admission.{FirstFails, ShardFails, ShardHolds}
 use Rattle.xet_folder.specs.Contents.{AreContents}
 use Rattle.xet_folder.specs.Names.{shard_path}
+use Rattle.xet_folder.specs.Refusals.{IsBadShard}
 use Rattle.xet_folder.specs.Shards.{ShardFile, is_expired}
 use Rattle.xet_folder.specs.Xorbs.{AreBacked, Records, found}
 
@@ -41,6 +43,10 @@ shard_file hash f = record { hash = hash; file = f }
 abbrev pub with_valid : ℕ → List ShardFile → ShardFile → List ShardFile
 with_valid now shards s = if is_expired now s.file.bytes then shards else shards ++ s ∷ []
 
+-- the header or the footer of a file that is there fails so
+abbrev pub EndsFail : Option (List ℕ) → StoreError → Type 0
+EndsFail found e = (bytes : List ℕ) → found ≡ Some bytes → ends_of bytes ≡ Err e
+
 -- the bytes of what is valid
 abbrev pub valid_bytes : ℕ → List ℕ → Option (List ℕ)
 valid_bytes now bytes = if is_expired now bytes then None else Some bytes
@@ -55,7 +61,7 @@ IsNamed hash e given None = (given ≡ Io Disk) × (e ≡ Io Disk)
 abbrev pub IsStopped : Type 0 → (StoreError → List ℕ → Type 0) → ℕ → ℕ → StoreError → Option (List ℕ) → Type 0
 IsStopped Known Fails before after (Io Disk) None = Rose before after
 IsStopped Known Fails before after OutOfMemory None = Unit {0}
-IsStopped Known Fails before after e (Some name) = Known → Fails e name
+IsStopped Known Fails before after e (Some name) = IsBadShard e name × (Known → Fails e name)
 IsStopped Known Fails before after e None = ⊥
 
 -- the shard of this hash, which is there, is valid and fails

@@ -1,5 +1,6 @@
 pub mod Ends
 pub mod Plan
+pub mod Recorded
 pub mod Names
 pub mod Refusals
 pub mod Stored
@@ -13,3 +14,4 @@ pub mod Picking
 pub mod Contents
 pub mod Gathering
 pub mod Runs
+pub mod Puts

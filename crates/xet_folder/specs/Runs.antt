@@ -33,8 +33,8 @@ pub record Touches (run : List (List ℕ × ℕ)) (from to first skipped : ℕ) 
   pub reaches : to - skipped ≤ total_len chunks
   pub least : (k : ℕ) → k < count → total_len (take k (drop first run)) < to - skipped
 
--- What a range of a segment touches: these chunks of its xorb, before which so many of the segment's bytes stand, and which are
--- stored at this offset of the xorb's file in so many bytes.
+-- What a range of a segment touches: these chunks of its xorb, before which so many of the segment's bytes stand, and
+-- which are stored at this offset of the xorb's file in so many bytes.
 pub record IsTouched (s : Segment) (members : List (List ℕ × ℕ)) (from to : ℕ) (chunks : List (List ℕ × ℕ)) (skipped at len : ℕ) : Type 0 where
   pub first : ℕ
   pub touches : Touches (part s members) from to first skipped chunks

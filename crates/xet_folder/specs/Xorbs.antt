@@ -1,5 +1,5 @@
 -- Xorbs that were read of a store's folder.
-use Rattle.std.specs.Prelude.{◌≡◌, ℕ, ◌+◌, ◌-◌, List, [], ◌∷◌, Option, Some, None, IsSome, nat_eq}
+use Rattle.std.specs.Prelude.{◌≡◌, ℕ, ◌+◌, ◌-◌, ◌≤◌, ◌^◌, List, [], ◌∷◌, length, Option, Some, None, IsSome, nat_eq}
 use Rattle.std.specs.Cmp.Lexicographic.{pointwise}
 use Rattle.std.specs.Map.{lookup}
 use Rattle.xet_io.specs.Disk.{Files, bytes_at}
@@ -35,6 +35,11 @@ abbrev pub spans_from : ℕ → List (List ℕ) → List ℕ → List (List ℕ 
 spans_from at [] ends = []
 spans_from at (h ∷ hs) [] = []
 spans_from at (h ∷ hs) (end ∷ ends) = (h, end - (at + 8)) ∷ spans_from end hs ends
+
+-- there is a file, and it is longer than any xorb
+abbrev pub IsOverlong : Option (List ℕ) → Type 0
+IsOverlong None = ⊥
+IsOverlong (Some bytes) = 2 ^ 32 ≤ length bytes
 
 -- What was read of a xorb: there is no file of it; there is one, which is not a xorb of that hash whose
 -- chunks can be read; or its chunks' digests and lengths.

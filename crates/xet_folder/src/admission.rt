@@ -6,6 +6,7 @@ ghost use Rattle.xet_folder.specs.Admission.{BlockFails, BlockHolds, FileFails, 
 ghost use Rattle.xet_folder.specs.Contents.{IsFileRecord, IsRecord, listed_of};
 ghost use Rattle.xet_folder.specs.Checks.{AddsListed, AddsRun, Grows, Has, HasFile, HasShard, IsCheckRefusal, Knows, OfBlocks, OfBytes, OfFile, OfFiles, OfSegments};
 ghost use Rattle.xet_folder.specs.Plan.{Joins};
+ghost use Rattle.xet_folder.specs.Refusals.{IsShardError};
 ghost use Rattle.xet_folder.specs.Stored.{IsBacked};
 ghost use Rattle.xet_folder.specs.Xorbs.{IsListed};
 ghost use Rattle.xet_hash.specs.Merkle.{file_hash as hash_of_file, total_len};
@@ -41,6 +42,7 @@ pub fn admit_shard<D: Disk>(
     ensures grows { Grows (OfBytes bytes.now) table.old table.new }
     ensures knows { Knows (D.tells disk.old) (D.files disk.old) folder.now table.old → Knows (D.tells disk.new) (D.files disk.new) folder.now table.new }
     ensures refused { IfErr result (IsCheckRefusal (Knows (D.tells disk.old) (D.files disk.old) folder.now table.old) (λ e. (stamp : ℕ) → ShardFails (D.files disk.old) folder.now (record { hash = hash.now; file = file bytes.now stamp }) e) (D.faults disk.old) (D.faults disk.new)) }
+    ensures error { IfErr result (IsShardError hash.now) }
     ensures same { D.files disk.new ≡ D.files disk.old }
     ensures tells { D.tells disk.new ≡ D.tells disk.old }
     ensures later { D.faults disk.old ≤ D.faults disk.new }
@@ -71,6 +73,7 @@ fn check_parts<D: Disk>(
     ensures grows { Grows (OfBytes bytes.now) table.old table.new }
     ensures knows { Knows (D.tells disk.old) (D.files disk.old) folder.now table.old → Knows (D.tells disk.new) (D.files disk.new) folder.now table.new }
     ensures refused { IfErr result (IsCheckRefusal (Knows (D.tells disk.old) (D.files disk.old) folder.now table.old) (λ e. (stamp : ℕ) → ShardFails (D.files disk.old) folder.now (record { hash = hash.now; file = file bytes.now stamp }) e) (D.faults disk.old) (D.faults disk.new)) }
+    ensures error { IfErr result (IsShardError hash.now) }
     ensures same { D.files disk.new ≡ D.files disk.old }
     ensures tells { D.tells disk.new ≡ D.tells disk.old }
     ensures later { D.faults disk.old ≤ D.faults disk.new }
@@ -100,6 +103,7 @@ fn check_block<D: Disk>(
     ensures grows { Grows (λ h. h ≡ xorb_hash block.now) table.old table.new }
     ensures knows { Knows (D.tells disk.old) (D.files disk.old) folder.now table.old → Knows (D.tells disk.new) (D.files disk.new) folder.now table.new }
     ensures refused { IfErr result (IsCheckRefusal (Knows (D.tells disk.old) (D.files disk.old) folder.now table.old) (BlockFails (D.files disk.old) folder.now shard.now block.now) (D.faults disk.old) (D.faults disk.new)) }
+    ensures error { IfErr result (IsShardError shard.now) }
     ensures same { D.files disk.new ≡ D.files disk.old }
     ensures tells { D.tells disk.new ≡ D.tells disk.old }
     ensures later { D.faults disk.old ≤ D.faults disk.new }
@@ -128,6 +132,7 @@ fn check_blocks<D: Disk>(
     ensures knows { Knows (D.tells disk.old) (D.files disk.old) folder.now table.old → Knows (D.tells disk.new) (D.files disk.new) folder.now table.new }
     ensures refused { IfErr result (IsCheckRefusal (Knows (D.tells disk.old) (D.files disk.old) folder.now table.old)
         (FirstFails (BlockHolds (D.files disk.old) folder.now shard.now) (BlockFails (D.files disk.old) folder.now shard.now) blocks.now) (D.faults disk.old) (D.faults disk.new)) }
+    ensures error { IfErr result (IsShardError shard.now) }
     ensures same { D.files disk.new ≡ D.files disk.old }
     ensures tells { D.tells disk.new ≡ D.tells disk.old }
     ensures later { D.faults disk.old ≤ D.faults disk.new }
@@ -155,6 +160,7 @@ fn add_segment<D: Disk>(
     ensures grows { Grows (λ h. h ≡ segment.now.xorb_hash) table.old table.new }
     ensures knows { Knows (D.tells disk.old) (D.files disk.old) folder.now table.old → Knows (D.tells disk.new) (D.files disk.new) folder.now table.new }
     ensures refused { IfErr result (IsCheckRefusal (Knows (D.tells disk.old) (D.files disk.old) folder.now table.old) (SegmentFails (D.files disk.old) folder.now shard.now segment.now) (D.faults disk.old) (D.faults disk.new)) }
+    ensures error { IfErr result (IsShardError shard.now) }
     ensures same { D.files disk.new ≡ D.files disk.old }
     ensures tells { D.tells disk.new ≡ D.tells disk.old }
     ensures later { D.faults disk.old ≤ D.faults disk.new }
@@ -185,6 +191,7 @@ fn join_segments<D: Disk>(
     ensures grows { Grows (OfSegments segments.now) table.old table.new }
     ensures knows { Knows (D.tells disk.old) (D.files disk.old) folder.now table.old → Knows (D.tells disk.new) (D.files disk.new) folder.now table.new }
     ensures refused { IfErr result (IsCheckRefusal (Knows (D.tells disk.old) (D.files disk.old) folder.now table.old) (FirstFails (SegmentHolds (D.files disk.old) folder.now shard.now) (SegmentFails (D.files disk.old) folder.now shard.now) segments.now) (D.faults disk.old) (D.faults disk.new)) }
+    ensures error { IfErr result (IsShardError shard.now) }
     ensures same { D.files disk.new ≡ D.files disk.old }
     ensures tells { D.tells disk.new ≡ D.tells disk.old }
     ensures later { D.faults disk.old ≤ D.faults disk.new }
@@ -212,6 +219,7 @@ fn check_file<D: Disk>(
     ensures grows { Grows (OfFile file.now) table.old table.new }
     ensures knows { Knows (D.tells disk.old) (D.files disk.old) folder.now table.old → Knows (D.tells disk.new) (D.files disk.new) folder.now table.new }
     ensures refused { IfErr result (IsCheckRefusal (Knows (D.tells disk.old) (D.files disk.old) folder.now table.old) (FileFails (D.files disk.old) folder.now shard.now file.now) (D.faults disk.old) (D.faults disk.new)) }
+    ensures error { IfErr result (IsShardError shard.now) }
     ensures same { D.files disk.new ≡ D.files disk.old }
     ensures tells { D.tells disk.new ≡ D.tells disk.old }
     ensures later { D.faults disk.old ≤ D.faults disk.new }
@@ -255,6 +263,7 @@ fn check_files<D: Disk>(
     ensures grows { Grows (OfFiles files.now) table.old table.new }
     ensures knows { Knows (D.tells disk.old) (D.files disk.old) folder.now table.old → Knows (D.tells disk.new) (D.files disk.new) folder.now table.new }
     ensures refused { IfErr result (IsCheckRefusal (Knows (D.tells disk.old) (D.files disk.old) folder.now table.old) (FirstFails (FileHolds (D.files disk.old) folder.now shard.now) (FileFails (D.files disk.old) folder.now shard.now) files.now) (D.faults disk.old) (D.faults disk.new)) }
+    ensures error { IfErr result (IsShardError shard.now) }
     ensures same { D.files disk.new ≡ D.files disk.old }
     ensures tells { D.tells disk.new ≡ D.tells disk.old }
     ensures later { D.faults disk.old ≤ D.faults disk.new }

@@ -10,6 +10,7 @@ ghost use Rattle.xet_shard.specs.Records.{file_hash};
 
 use crate::gathering::gather_shards;
 use crate::listing::list_shards;
+use crate::recorded::RecordedFile;
 use crate::xorbs::XorbTable;
 use indexmap::IndexMap;
 use std::alloc::Global;
@@ -23,7 +24,8 @@ use xet_shard::MDBFileInfo;
 /// added.
 #[derive(Drop)]
 pub struct RecordTable {
-    rows: IndexMap<MerkleHash, MDBFileInfo>,
+    alloc: Global,
+    rows: IndexMap<MerkleHash, RecordedFile>,
 }
 
 impl Model for RecordTable {
@@ -40,6 +42,7 @@ impl RecordTable {
         ensures { result ≡ [] }
     {
         RecordTable {
+            alloc,
             rows: IndexMap::new(alloc),
         }
     }
@@ -54,16 +57,18 @@ impl RecordTable {
         if self.rows.contains_key(&hash) {
             return Ok(());
         }
-        self.rows.insert(hash, file)?;
+        let recorded = RecordedFile::new(self.alloc, file)?;
+        self.rows.insert(hash, recorded)?;
         Ok(())
     }
 
     /// The rows themselves.
-    pub fn into_rows(self) -> IndexMap<MerkleHash, MDBFileInfo>
+    pub fn into_rows(self) -> IndexMap<MerkleHash, RecordedFile>
         ensures rows { result.entries ≡ self }
         ensures differ { AllPairs (λ a b. a.0 ≢ b.0) self }
     {
-        let RecordTable { rows } = self;
+        let RecordTable { alloc: _, rows } = self;
+        // That no two keys of a map are one is known after a call of it.
         let _count = rows.len();
         rows
     }

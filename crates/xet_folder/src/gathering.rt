@@ -8,13 +8,14 @@ ghost use Rattle.xet_folder.specs.Admission.{ShardFails};
 ghost use Rattle.xet_folder.specs.Checks.{IsCheckRefusal, Knows};
 ghost use Rattle.xet_folder.specs.Contents.{IsRecord, listed_of};
 ghost use Rattle.xet_folder.specs.Entries.{entry_of, is_valid};
-ghost use Rattle.xet_folder.specs.Gathering.{EntryFails, IsGathered, IsNamed, IsStopped, ShardsFail, gathered as contents, shard_file, valid_bytes, with_firsts, with_valid};
+ghost use Rattle.xet_folder.specs.Gathering.{EndsFail, EntryFails, IsGathered, IsNamed, IsStopped, ShardsFail, gathered as contents, shard_file, valid_bytes, with_firsts, with_valid};
 ghost use Rattle.xet_folder.specs.Names.{IsHash, shard_path};
-ghost use Rattle.xet_folder.specs.Refusals.{HasDiskReason};
+ghost use Rattle.xet_folder.specs.Refusals.{IsShardError};
 ghost use Rattle.xet_folder.specs.Shards.{IsThere, ShardFile, is_expired};
 
 use crate::admission::admit_shard;
 use crate::contents::{RecordTable, Unadmitted};
+use crate::expiry::is_past_expiry;
 use crate::listing::ShardEntry;
 use crate::names::{known_bytes, shard_path};
 use crate::refusal::store_error;
@@ -86,13 +87,14 @@ fn gather_entry<D: Disk>(
     ensures tells { D.tells disk.new ≡ D.tells disk.old }
     ensures later { D.faults disk.old ≤ D.faults disk.new }
 {
+    known_bytes(hash);
     match read_valid(disk, alloc, folder, now, hash) {
         Ok(None) => Ok(()),
         Ok(Some(bytes)) => match gather_shard(disk, alloc, folder, hash, &bytes, gathered) {
             Ok(()) => Ok(()),
             Err(error) => Err(unadmitted(alloc, hash, error)),
         },
-        Err(error) => Err(Unadmitted { error, name: None }),
+        Err(error) => Err(unadmitted(alloc, hash, error)),
     }
 }
 
@@ -111,6 +113,7 @@ fn gather_shard<D: Disk>(
     ensures hashes { OnOk result (AllByRecursion IsHash gathered.old.shards.items → AllByRecursion IsHash gathered.new.shards.items) }
     ensures refused { IfErr result (IsCheckRefusal (Knows (D.tells disk.old) (D.files disk.old) folder.now gathered.old.xorbs)
         (λ e. (stamp : ℕ) → ShardFails (D.files disk.old) folder.now (shard_file hash.now (file bytes.now stamp)) e) (D.faults disk.old) (D.faults disk.new)) }
+    ensures error { IfErr result (IsShardError hash.now) }
     ensures same { D.files disk.new ≡ D.files disk.old }
     ensures tells { D.tells disk.new ≡ D.tells disk.old }
     ensures later { D.faults disk.old ≤ D.faults disk.new }
@@ -133,7 +136,8 @@ fn add_files(files: Vec<MDBFileInfo>, records: &mut RecordTable) -> Result<(), S
     Ok(())
 }
 
-/// The bytes of the shard of this hash; none where it is past its expiry, or not there.
+/// The bytes of the shard of this hash; none where it is past its expiry, or not there. Of one that is past
+/// its expiry, or whose header or footer is malformed, no other byte is read.
 fn read_valid<D: Disk>(
     disk: &mut D,
     alloc: Global,
@@ -145,9 +149,13 @@ fn read_valid<D: Disk>(
     ensures same { D.files disk.new ≡ D.files disk.old }
     ensures tells { D.tells disk.new ≡ D.tells disk.old }
     ensures later { D.faults disk.old ≤ D.faults disk.new }
-    ensures reason { IfErr result (HasDiskReason (D.faults disk.old) (D.faults disk.new)) }
+    ensures refused { IfErr result (IsCheckRefusal (D.tells disk.old ≡ true) (EndsFail (bytes_at (D.files disk.old) (shard_path folder.now hash.now))) (D.faults disk.old) (D.faults disk.new)) }
+    ensures error { IfErr result (IsShardError hash.now) }
 {
     let path = shard_path(alloc, folder, hash)?;
+    if is_past_expiry(disk, path.as_str(), now)? {
+        return Ok(None);
+    }
     match read_file(disk, alloc, path.as_str()) {
         Ok(Some(bytes)) => {
             if is_expired(&bytes, now) {

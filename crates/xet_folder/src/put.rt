@@ -1,9 +1,10 @@
 //! Files that are put into a store's folder.
 
-ghost use Rattle.std.specs.Prelude.{◌≡◌, ◌≢◌, ◌≤◌, ◌⊎◌, ℕ, List, true, OnErr, OnOk, IfErr, Some, option_map};
+ghost use Rattle.std.specs.Prelude.{◌≡◌, ◌≢◌, ◌≤◌, ℕ, List, true, OnErr, OnOk, IfErr, Some, None, option_map};
 ghost use Rattle.std.specs.FinMap.{get};
 ghost use Rattle.xet_io.specs.Disk.{bytes_at};
 ghost use Rattle.xet_folder.specs.Names.{IsForeign, IsHash, shard_path, temp_name, xorb_path};
+ghost use Rattle.xet_folder.specs.Puts.{IsKeptOrDone};
 ghost use Rattle.xet_folder.specs.Refusals.{HasDiskReason};
 
 use crate::names::{known_bytes, shard_path, xorb_path};
@@ -12,7 +13,8 @@ use std::alloc::Global;
 use xet_hash::{MerkleHash, StoreError};
 use xet_io::{Disk, put_file};
 
-/// Puts the text of a xorb under its name, so that a crash keeps it.
+/// Puts the text of a xorb under its name, so that a crash keeps it. Refused, the file of that name is as it was, or
+/// is done; what is left under the temporary name is no xorb's and no shard's.
 pub fn put_xorb<D: Disk>(
     disk: &mut D,
     alloc: Global,
@@ -22,8 +24,8 @@ pub fn put_xorb<D: Disk>(
 ) -> Result<(), StoreError>
     ensures there { D.tells disk.old ≡ true → OnOk result (bytes_at (D.files disk.new) (xorb_path folder.now hash.now) ≡ Some text.now) }
     ensures stable { D.tells disk.old ≡ true → OnOk result (option_map (λ e. e.stable) (get (D.files disk.new) (xorb_path folder.now hash.now)) ≡ Some true) }
-    ensures refused { D.tells disk.old ≡ true → OnErr result ((get (D.files disk.new) (xorb_path folder.now hash.now) ≡ get (D.files disk.old) (xorb_path folder.now hash.now))
-        ⊎ (bytes_at (D.files disk.new) (xorb_path folder.now hash.now) ≡ Some text.now)) }
+    ensures temp { D.tells disk.old ≡ true → OnOk result (get (D.files disk.new) (temp_name (xorb_path folder.now hash.now)) ≡ None) }
+    ensures refused { D.tells disk.old ≡ true → OnErr result (IsKeptOrDone (D.files disk.old) (D.files disk.new) (xorb_path folder.now hash.now) text.now) }
     ensures xorbs { D.tells disk.old ≡ true → (h : List ℕ) → IsHash h → h ≢ hash.now → get (D.files disk.new) (xorb_path folder.now h) ≡ get (D.files disk.old) (xorb_path folder.now h) }
     ensures shards { D.tells disk.old ≡ true → (h : List ℕ) → IsHash h → get (D.files disk.new) (shard_path folder.now h) ≡ get (D.files disk.old) (shard_path folder.now h) }
     ensures others { D.tells disk.old ≡ true → (other : List ℕ) → other ≢ xorb_path folder.now hash.now → other ≢ temp_name (xorb_path folder.now hash.now) → get (D.files disk.new) other ≡ get (D.files disk.old) other }
@@ -37,7 +39,8 @@ pub fn put_xorb<D: Disk>(
     put_text(disk, alloc, path.as_str(), text)
 }
 
-/// Puts the text of a shard under its name, so that a crash keeps it.
+/// Puts the text of a shard under its name, so that a crash keeps it. Refused, the file of that name is as it was, or
+/// is done; what is left under the temporary name is no xorb's and no shard's.
 pub fn put_shard<D: Disk>(
     disk: &mut D,
     alloc: Global,
@@ -47,8 +50,8 @@ pub fn put_shard<D: Disk>(
 ) -> Result<(), StoreError>
     ensures there { D.tells disk.old ≡ true → OnOk result (bytes_at (D.files disk.new) (shard_path folder.now hash.now) ≡ Some text.now) }
     ensures stable { D.tells disk.old ≡ true → OnOk result (option_map (λ e. e.stable) (get (D.files disk.new) (shard_path folder.now hash.now)) ≡ Some true) }
-    ensures refused { D.tells disk.old ≡ true → OnErr result ((get (D.files disk.new) (shard_path folder.now hash.now) ≡ get (D.files disk.old) (shard_path folder.now hash.now))
-        ⊎ (bytes_at (D.files disk.new) (shard_path folder.now hash.now) ≡ Some text.now)) }
+    ensures temp { D.tells disk.old ≡ true → OnOk result (get (D.files disk.new) (temp_name (shard_path folder.now hash.now)) ≡ None) }
+    ensures refused { D.tells disk.old ≡ true → OnErr result (IsKeptOrDone (D.files disk.old) (D.files disk.new) (shard_path folder.now hash.now) text.now) }
     ensures xorbs { D.tells disk.old ≡ true → (h : List ℕ) → IsHash h → get (D.files disk.new) (xorb_path folder.now h) ≡ get (D.files disk.old) (xorb_path folder.now h) }
     ensures shards { D.tells disk.old ≡ true → (h : List ℕ) → IsHash h → h ≢ hash.now → get (D.files disk.new) (shard_path folder.now h) ≡ get (D.files disk.old) (shard_path folder.now h) }
     ensures others { D.tells disk.old ≡ true → (other : List ℕ) → other ≢ shard_path folder.now hash.now → other ≢ temp_name (shard_path folder.now hash.now) → get (D.files disk.new) other ≡ get (D.files disk.old) other }
@@ -66,7 +69,8 @@ pub fn put_shard<D: Disk>(
 fn put_text<D: Disk>(disk: &mut D, alloc: Global, name: &str, text: &[u8]) -> Result<(), StoreError>
     ensures there { D.tells disk.old ≡ true → OnOk result (bytes_at (D.files disk.new) name.now ≡ Some text.now) }
     ensures stable { D.tells disk.old ≡ true → OnOk result (option_map (λ e. e.stable) (get (D.files disk.new) name.now) ≡ Some true) }
-    ensures refused { D.tells disk.old ≡ true → OnErr result ((get (D.files disk.new) name.now ≡ get (D.files disk.old) name.now) ⊎ (bytes_at (D.files disk.new) name.now ≡ Some text.now)) }
+    ensures temp { D.tells disk.old ≡ true → OnOk result (get (D.files disk.new) (temp_name name.now) ≡ None) }
+    ensures refused { D.tells disk.old ≡ true → OnErr result (IsKeptOrDone (D.files disk.old) (D.files disk.new) name.now text.now) }
     ensures others { D.tells disk.old ≡ true → (other : List ℕ) → other ≢ name.now → other ≢ temp_name name.now → get (D.files disk.new) other ≡ get (D.files disk.old) other }
     ensures tells { D.tells disk.new ≡ D.tells disk.old }
     ensures later { D.faults disk.old ≤ D.faults disk.new }

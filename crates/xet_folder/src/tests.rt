@@ -140,8 +140,8 @@ fn admits_a_folder(rt: HostRuntime) -> Result<(), Fail> {
             let records = contents.records.into_rows();
             assert_eq!(rt; records.len(), 1);
             match records.get(&whole) {
-                Some(file) => assert_eq!(rt;
-                    file.segments.as_slice(),
+                Some(record) => assert_eq!(rt;
+                    record.file().segments.as_slice(),
                     [FileDataSequenceEntry::new(both, 3, 0, 1)].as_slice()
                 ),
                 None => assert!(rt; false),

@@ -3,6 +3,7 @@
 ghost use Rattle.std.specs.Prelude.{◌≡◌, ◌≤◌, Some, IfErr, OnOk};
 ghost use Rattle.xet_folder.specs.Admission.{XorbFails};
 ghost use Rattle.xet_folder.specs.Checks.{Grows, Has, IsCheckRefusal, Knows};
+ghost use Rattle.xet_folder.specs.Refusals.{IsShardError};
 ghost use Rattle.xet_folder.specs.Xorbs.{found};
 
 use crate::xorbs::{XorbFile, XorbTable, read_xorb};
@@ -23,6 +24,7 @@ pub fn verify_xorb<D: Disk>(
     ensures grows { Grows (λ h. h ≡ hash.now) table.old table.new }
     ensures knows { Knows (D.tells disk.old) (D.files disk.old) folder.now table.old → Knows (D.tells disk.new) (D.files disk.new) folder.now table.new }
     ensures refused { IfErr result (IsCheckRefusal (Knows (D.tells disk.old) (D.files disk.old) folder.now table.old) (XorbFails (D.files disk.old) folder.now shard.now hash.now) (D.faults disk.old) (D.faults disk.new)) }
+    ensures error { IfErr result (IsShardError shard.now) }
     ensures same { D.files disk.new ≡ D.files disk.old }
     ensures tells { D.tells disk.new ≡ D.tells disk.old }
     ensures later { D.faults disk.old ≤ D.faults disk.new }

@@ -1,11 +1,11 @@
 //! Xorbs that are read of a store's folder.
 
-ghost use Rattle.std.specs.Prelude.{◌≡◌, ◌≢◌, ◌≤◌, AllPairs, ◌∷◌, ◌++◌, [], ℕ, List, true, IfOk, IfErr, IsOkUnless, IsSome, OnErr, OnOk, Some, None, length, option_map};
+ghost use Rattle.std.specs.Prelude.{◌≡◌, ◌≢◌, ◌≤◌, ◌↔◌, IsTrue, AllPairs, ◌∷◌, ◌++◌, [], ℕ, List, true, IfOk, IfErr, IsOkUnless, IsSome, OnErr, OnOk, Some, None, length, option_map};
 ghost use Rattle.std.specs.List.{AllByRecursion};
 ghost use Rattle.xet_io.specs.Disk.{Files, bytes_at};
 ghost use Rattle.xet_folder.specs.Names.{IsHash, xorb_path};
 ghost use Rattle.xet_folder.specs.Refusals.{HasDiskReason};
-ghost use Rattle.xet_folder.specs.Xorbs.{IsXorbFile, found, spans_from};
+ghost use Rattle.xet_folder.specs.Xorbs.{IsOverlong, IsXorbFile, found, spans_from};
 
 use crate::members::Members;
 use crate::names::{known_bytes, xorb_path};
@@ -19,6 +19,9 @@ use xet_xorb::XorbObject;
 
 /// The most bytes of a chunk that can be read.
 const MAX_CHUNK: u32 = (1 << 23) - 1;
+
+/// The bytes of a file that is longer than any xorb.
+const OVERLONG: u64 = 1 << 32;
 
 /// The bytes of a stored chunk's header.
 const HEADER_LEN: u64 = 8;
@@ -34,7 +37,7 @@ pub enum XorbFile {
     Stored(Members),
 }
 
-/// Reads what stands under a xorb's name.
+/// Reads what stands under a xorb's name. Of a file that is longer than any xorb nothing is read.
 pub fn read_xorb<D: Disk>(
     disk: &mut D,
     alloc: Global,
@@ -48,9 +51,27 @@ pub fn read_xorb<D: Disk>(
     ensures reason { IfErr result (HasDiskReason (D.faults disk.old) (D.faults disk.new)) }
 {
     let path = xorb_path(alloc, folder, hash)?;
+    if is_overlong(disk, path.as_str())? {
+        return Ok(XorbFile::Malformed);
+    }
     match read_file(disk, alloc, path.as_str()) {
         Ok(Some(bytes)) => xorb_of(alloc, bytes, hash),
         Ok(None) => Ok(XorbFile::Missing),
+        Err(refusal) => Err(store_error(refusal)),
+    }
+}
+
+/// Whether a file is longer than any xorb.
+fn is_overlong<D: Disk>(disk: &mut D, name: &str) -> Result<bool, StoreError>
+    ensures told { D.tells disk.old ≡ true → IfOk result (λ long. IsTrue long ↔ IsOverlong (bytes_at (D.files disk.old) name.now)) }
+    ensures same { D.files disk.new ≡ D.files disk.old }
+    ensures tells { D.tells disk.new ≡ D.tells disk.old }
+    ensures later { D.faults disk.old ≤ D.faults disk.new }
+    ensures reason { IfErr result (HasDiskReason (D.faults disk.old) (D.faults disk.new)) }
+{
+    match disk.stat(name) {
+        Ok(Some((length, _))) => Ok(length >= OVERLONG),
+        Ok(None) => Ok(false),
         Err(refusal) => Err(store_error(refusal)),
     }
 }
@@ -166,6 +187,7 @@ impl XorbTable {
         ensures differ { AllPairs (λ a b. a.0 ≢ b.0) self }
     {
         let XorbTable { rows } = self;
+        // That no two keys of a map are one is known after a call of it.
         let _count = rows.len();
         rows
     }

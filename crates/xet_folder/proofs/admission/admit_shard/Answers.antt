@@ -4,7 +4,8 @@ use Rattle.xet_hash.specs.declared.error.StoreError.{StoreError}
 use Rattle.xet_shard.proofs.Fitting.{materialized_below}
 use Rattle.xet_folder.specs.Admission.{ShardFails}
 use Rattle.xet_folder.specs.Checks.{IsCheckRefusal, Knows}
-use Rattle.xet_folder.proofs.Refused.{on_exit, read_refusal}
+use Rattle.xet_folder.specs.Refusals.{IsShardError}
+use Rattle.xet_folder.proofs.Refused.{on_exit, read_error, read_refusal}
 use Rattle.xet_folder.proofs.Tables.{all_listed}
 use Rattle.xet_folder.proofs.admission.admit_shard.Goals as goal
 
@@ -23,3 +24,8 @@ check_parts-requires-clause-total g c =
 
 pub returns-clause-recorded : goal.returns-clause-recorded
 returns-clause-recorded g c = all_listed c.check_parts.new.table c.in_ok-parts.parts.1.items c.in_ok-check_parts.ensures.recorded
+
+pub returns-in_err-parts-clause-error : goal.returns-in_err-parts-clause-error
+returns-in_err-parts-clause-error g c =
+    on_exit c.from_residual.result c.in_err-parts.field-0.0 (IsShardError c.args.hash.now) c.from_residual.ensures.1
+    (read_error c.args.hash.now c.args.bytes.now c.in_err-parts.field-0.0 c.in_err-parts.ensures.exact)

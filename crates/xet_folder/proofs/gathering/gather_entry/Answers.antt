@@ -1,12 +1,14 @@
-use Rattle.std.proofs.Common.{◌∙◌, ◌++◌, ◌∷◌, [], ℕ, List, sym, ap, subst}
+use Rattle.std.proofs.Common.{◌≡◌, ◌∙◌, ◌++◌, ◌∷◌, [], ℕ, List, true, sym, ap, subst, arith}
 use Rattle.std.specs.Option.{option_map}
-use Rattle.xet_io.specs.Disk.{File, Files, file}
+use Rattle.xet_io.specs.Disk.{File, Files, bytes_at, file}
 use Rattle.xet_hash.specs.declared.error.StoreError.{StoreError}
 use Rattle.xet_folder.specs.Admission.{ShardFails}
 use Rattle.xet_folder.specs.Checks.{Knows}
-use Rattle.xet_folder.specs.Gathering.{EntryFails, IsGathered, gathered, shard_file}
+use Rattle.xet_folder.specs.Gathering.{EndsFail, EntryFails, IsGathered, gathered, shard_file}
+use Rattle.xet_folder.specs.Names.{shard_path}
 use Rattle.xet_folder.specs.Shards.{ShardFile}
 use Rattle.xet_folder.specs.Stored.{IsBacked}
+use Rattle.xet_folder.proofs.Expiring.{ends_fail, ends_stay}
 use Rattle.xet_folder.proofs.MoreShards.{valid_is, with_valid_is}
 use Rattle.xet_folder.proofs.Refused.{refusal_of}
 use Rattle.xet_folder.proofs.Stopping.{stopped_so}
@@ -46,8 +48,29 @@ returns-in-Ok-Some-clause-refused g c =
     (λ known fails n is f there.
     let valid = valid_is (λ b. b.items) c.args.now f.bytes c.in-Ok-Some.field-0 c.in-Ok-Some.bytes c.in-Ok-Some.field-0-is (read.told known.told f.bytes (ap (option_map (λ (x : File). x.bytes)) there)) in
     (valid.1, subst (λ (b : List ℕ). ShardFails files folder (shard_file hash (file b f.stamp)) e) (c.deref.ensures.value ∙ valid.0) (fails f.stamp), is))
+    (c.known_bytes.ensures.length, c.known_bytes.ensures.bytes) c.in-Err-gather_shard.ensures.error
     (refusal_of K L F G (g.D.Disk.faults c.read_valid.new.disk) now before
     (λ k. record { told = read.tells ∙ k.told; backed = λ h members found. subst (λ (fs : Files). IsBacked fs folder h members) (sym read.same) (k.backed h members found) })
     (λ k e fails stamp. subst (λ (fs : Files). ShardFails fs folder (shard_file hash (file bytes stamp)) e) read.same (fails stamp))
     read.later e c.in-Err-gather_shard.ensures.refused)
     c.unadmitted.ensures
+
+pub returns-clause-refused : goal.returns-clause-refused
+returns-clause-refused g c =
+    let files = g.D.Disk.files c.args.disk.now in
+    let folder = c.args.folder.now in
+    let hash = c.args.hash.now in
+    let path = shard_path folder hash in
+    let K : Type 0 = g.D.Disk.tells c.args.disk.now ≡ true in
+    let L = Knows (g.D.Disk.tells c.args.disk.now) files folder c.args.gathered.now.xorbs in
+    let F : StoreError → Type 0 = EndsFail (bytes_at files path) in
+    let before = g.D.Disk.faults c.args.disk.now in
+    let now = g.D.Disk.faults c.read_valid.new.disk in
+    let e = c.in-Err.error in
+    stopped_so L F (EntryFails files folder c.args.now hash) hash before now e c.unadmitted-in-Err.result.error c.unadmitted-in-Err.result.name
+    (λ known fails n is f there.
+    let bad = fails f.bytes (ap (option_map (λ (x : File). x.bytes)) there) in
+    (ends_stay c.args.now f.bytes e bad, ShardFails.grammar (ends_fail f.bytes e bad), is))
+    (c.known_bytes.ensures.length, c.known_bytes.ensures.bytes) c.in-Err.ensures.error
+    (refusal_of K L F F before now before (λ k. k.told) (λ k d fails. fails) (omega arith) e c.in-Err.ensures.refused)
+    c.unadmitted-in-Err.ensures

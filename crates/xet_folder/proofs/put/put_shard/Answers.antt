@@ -1,5 +1,4 @@
-use Rattle.std.proofs.Common.{◌≡◌, ◌∙◌, ap, rules, Option}
-use Rattle.xet_io.specs.Disk.{Entry, file_of}
+use Rattle.std.proofs.Common.{◌≡◌, ◌∙◌, ap, rules}
 use Rattle.xet_folder.specs.Names.{shard_path, temp_name, xorb_path}
 use Rattle.xet_folder.proofs.Paths.{shard_no_temp, xorb_no_shard, xorb_no_temp, shards_apart}
 use Rattle.xet_folder.proofs.put.put_shard.Goals as goal
@@ -10,6 +9,7 @@ returns g c =
     record {
       there = search rules;
       stable = search rules;
+      temp = search rules;
       refused = search rules;
       xorbs = λ told h is.
           c.put_text.ensures.others told (xorb_path c.args.folder.now h)

@@ -1,6 +1,6 @@
-use Rattle.std.proofs.Common.{◌≡◌, ◌∙◌, inr, ap, sym}
+use Rattle.std.proofs.Common.{◌≡◌, ◌∙◌, inr, ap}
 use Rattle.xet_folder.specs.Names.{temp_name}
-use Rattle.xet_folder.proofs.Putting.{others_kept, put_refused, put_stable, put_there, temp_apart}
+use Rattle.xet_folder.proofs.Putting.{others_kept, put_gone, put_refused, put_stable, put_there}
 use Rattle.xet_folder.proofs.put.put_text.Goals as goal
 
 pub returns-in-Ok-clause-there : goal.returns-in-Ok-clause-there
@@ -11,6 +11,11 @@ pub returns-in-Ok-clause-stable : goal.returns-in-Ok-clause-stable
 returns-in-Ok-clause-stable g c = λ told.
     put_stable (g.D.Disk.files c.args.disk.now) (g.D.Disk.files c.put_file.new.disk) c.as_str.result.now c.args.name.now c.args.text.now (c.in-Ok.ensures.put told)
 
+pub returns-in-Ok-clause-temp : goal.returns-in-Ok-clause-temp
+returns-in-Ok-clause-temp g c = λ told.
+    let temp : c.as_str.result.now ≡ temp_name c.args.name.now = c.as_str.ensures.value ∙ c.in_ok-push_str.ensures.bytes ∙ ap temp_name c.in_ok-temp.ensures.ok in
+    put_gone (g.D.Disk.files c.args.disk.now) (g.D.Disk.files c.put_file.new.disk) c.as_str.result.now c.args.name.now c.args.text.now temp (c.in-Ok.ensures.put told)
+
 pub returns-in-Ok-clause-others : goal.returns-in-Ok-clause-others
 returns-in-Ok-clause-others g c = λ told other not_name not_temp.
     let temp : c.as_str.result.now ≡ temp_name c.args.name.now = c.as_str.ensures.value ∙ c.in_ok-push_str.ensures.bytes ∙ ap temp_name c.in_ok-temp.ensures.ok in
@@ -20,8 +25,7 @@ returns-in-Ok-clause-others g c = λ told other not_name not_temp.
 pub returns-clause-refused : goal.returns-clause-refused
 returns-clause-refused g c = λ told.
     let temp : c.as_str.result.now ≡ temp_name c.args.name.now = c.as_str.ensures.value ∙ c.in_ok-push_str.ensures.bytes ∙ ap temp_name c.in_ok-temp.ensures.ok in
-    put_refused (g.D.Disk.files c.args.disk.now) (g.D.Disk.files c.put_file.new.disk) c.as_str.result.now c.args.name.now c.args.text.now
-    (λ s. temp_apart c.args.name.now (sym temp ∙ sym s)) (c.in-Err.ensures.refused told)
+    put_refused (g.D.Disk.files c.args.disk.now) (g.D.Disk.files c.put_file.new.disk) c.as_str.result.now c.args.name.now c.args.text.now temp (c.in-Err.ensures.refused told)
 
 pub returns-clause-others : goal.returns-clause-others
 returns-clause-others g c = λ told other not_name not_temp.

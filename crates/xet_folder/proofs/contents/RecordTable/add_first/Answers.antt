@@ -20,5 +20,5 @@ returns-clause-added c =
     let key = c.hash-hash.result in
     let same : key ≡ file_hash file = c.hash-hash.ensures in
     let none = not_some (found rows key) (sym c.contains_key.ensures ∙ c.if-contains_key.false) in
-    c.in_ok-insert.ensures.entries ∙ insert_entry-new _ c.self.inside.rows key file none ∙ ap (λ (h : List ℕ). rows ++ (h, file) ∷ []) same
+    c.in_ok-insert.ensures.entries ∙ insert_entry-new _ c.self.inside.rows key c.in_ok-recorded.recorded none ∙ (λ i. rows ++ (same i, c.in_ok-recorded.ensures.file i) ∷ [])
     ∙ first_new rows (file_hash file, file) (ap (found rows) (sym same) ∙ none) ∙ ap (λ (r : Records). with_first r (file_hash file, file)) c.self.view_is
