@@ -21,12 +21,13 @@ use Rattle.xet_shard.specs.Records as record_of
 use Rattle.xet_shard.proofs.Holding.{all_last}
 use Rattle.xet_folder.specs.Admission.{block_members}
 use Rattle.xet_folder.specs.Names.{IsForeign, IsHash, shard_path, xorb_path}
-use Rattle.xet_folder.specs.Stored.{IsBacked, IsStored}
+use Rattle.xet_folder.specs.Puts.{IsKeptOrDone}
+use Rattle.xet_folder.specs.Stored.{IsBacked}
 use Rattle.xet_folder.specs.Runs.{stored_len}
 use Rattle.xet_folder.specs.Xorbs.{IsListed, Records, Xorbs, found}
 use Rattle.xet_folder.proofs.Placing.{stored_is}
 use Rattle.xet_folder.proofs.Tables.{found_either, found_here, found_kept}
-use Rattle.xet_store.specs.Cleaning.{Keeps, SameEntry}
+use Rattle.xet_store.specs.Cleaning.{HasXorb, Keeps, SameEntry}
 use Rattle.xet_store.specs.Records.{xorb_record}
 use Rattle.xet_store.specs.Tables.{Tables, tables, tables_of, with_members, with_xorb as with_xorb_of}
 use Rattle.xet_folder.specs.Contents.{IsRecord}
@@ -201,18 +202,18 @@ pub record PutsXorb (s : State) (folder h text : List ℕ) (members : Members) (
   pub shards : s.tells ≡ true → (k : List ℕ) → IsHash k → SameEntry s.files files (shard_path folder k)
   pub foreign : s.tells ≡ true → (name : List ℕ) → IsForeign folder name → SameEntry s.files files name
   pub backs : bytes_at files (xorb_path s.folder h) ≡ Some text → IsBacked files s.folder h members
-  pub left : s.tells ≡ true → SameEntry s.files files (xorb_path folder h) ⊎ (bytes_at files (xorb_path folder h) ≡ Some text)
+  pub left : s.tells ≡ true → IsKeptOrDone s.files files (xorb_path folder h) text
 
 module _ {s : State} {folder h text : List ℕ} {members : Members} {tells : Bool} {files : Files} {faults : ℕ} (p : PutsXorb s folder h text members tells files faults) where
   shards_here : s.tells ≡ true → (k : List ℕ) → IsHash k → SameEntry s.files files (shard_path s.folder k)
   shards_here told k is = subst (λ (f : List ℕ). SameEntry s.files files (shard_path f k)) p.same (p.shards told k is)
 
-  left_here : s.tells ≡ true → SameEntry s.files files (xorb_path s.folder h) ⊎ ((chunks : List (List ℕ)) × IsStored files s.folder h chunks)
-  left_here told = go (subst (λ (f : List ℕ). SameEntry s.files files (xorb_path f h) ⊎ (bytes_at files (xorb_path f h) ≡ Some text)) p.same (p.left told))
+  left_here : s.tells ≡ true → SameEntry s.files files (xorb_path s.folder h) ⊎ HasXorb files s.folder h
+  left_here told = go (subst (λ (f : List ℕ). IsKeptOrDone s.files files (xorb_path f h) text) p.same (p.left told))
     where
-      go : SameEntry s.files files (xorb_path s.folder h) ⊎ (bytes_at files (xorb_path s.folder h) ≡ Some text) → SameEntry s.files files (xorb_path s.folder h) ⊎ ((chunks : List (List ℕ)) × IsStored files s.folder h chunks)
+      go : IsKeptOrDone s.files files (xorb_path s.folder h) text → SameEntry s.files files (xorb_path s.folder h) ⊎ HasXorb files s.folder h
       go (inl e) = inl e
-      go (inr there) = let b = p.backs there in inr (b.chunks, b.stored)
+      go (inr done) = let b = p.backs done.there in inr (record { chunks = b.chunks; stored = b.stored; stable = done.stable })
 
   xorb_stays : Stays s tells files faults
   xorb_stays = stays_xorb s folder h tells files faults p.sound p.same p.tells_same p.later p.none p.xorbs p.shards p.foreign left_here

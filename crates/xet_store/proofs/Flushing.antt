@@ -1,14 +1,13 @@
 -- What is pending, in a shard.
-use Rattle.std.proofs.Common.{◌≡◌, ◌≢◌, ◌⊎◌, inl, inr, ◌∙◌, ℕ, ◌-◌, ◌*◌, ◌^◌, ◌≤◌, Bool, true, false, nat_eq, nat_lt, ◌||◌, List, [], ◌∷◌, ◌++◌, drop, map, Option, Some, None, IsSome, Result, Ok, refl, sym, ap, subst, arith, option_map}
+use Rattle.std.proofs.Common.{◌≡◌, ◌≢◌, ◌⊎◌, inl, inr, ◌∙◌, ℕ, ◌-◌, ◌*◌, ◌^◌, ◌<◌, ◌≤◌, Bool, true, false, nat_eq, nat_lt, ◌||◌, List, [], ◌∷◌, ◌++◌, drop, map, Option, Some, None, IsSome, Result, Ok, refl, sym, ap, subst, arith, option_map}
 use Rattle.std.proofs.lemmas.Bool.{le-ltb}
 use Rattle.std.proofs.lemmas.List.{append-nil}
 use Rattle.std.specs.Cmp.Lexicographic.{bytes_decides, pointwise}
-use Rattle.std.specs.FinMap.{get}
 use Rattle.std.specs.List.{AllByRecursion, IsAmong, list_any}
 use Rattle.std.specs.Ordering.{is_lt}
 use Rattle.std.specs.declared.cmp.Ordering.{Ordering}
 use Rattle.xet_hash.specs.declared.error.StoreError.{StoreError}
-use Rattle.xet_io.specs.Disk.{Entry, Files, File, bytes_at, file_at}
+use Rattle.xet_io.specs.Disk.{Files, File, bytes_at, file_at}
 use Rattle.xet_shard.specs.declared.info.MDBShardFileFooter.{MDBShardFileFooter}
 use Rattle.xet_shard.specs.declared.record.FileDataSequenceEntry.{FileDataSequenceEntry as Segment}
 use Rattle.xet_shard.specs.declared.record.MDBFileInfo.{MDBFileInfo}
@@ -25,7 +24,9 @@ use Rattle.xet_folder.specs.Admission.{BlockHolds, FileHolds, ShardHolds, block_
 use Rattle.xet_folder.specs.Checks.{OfBytes, OfFile, OfShard}
 use Rattle.xet_folder.specs.Contents.{IsRecord}
 use Rattle.xet_folder.specs.Names.{IsForeign, IsHash, shard_path, xorb_path}
+use Rattle.xet_folder.specs.Listed.{Lists}
 use Rattle.xet_folder.specs.Plan.{Joins}
+use Rattle.xet_folder.specs.Puts.{IsDone, IsKeptOrDone}
 use Rattle.xet_folder.specs.Shards.{is_expired, is_past}
 use Rattle.xet_folder.specs.Stored.{IsBacked}
 use Rattle.xet_folder.specs.Xorbs.{AreBacked, IsListed, Records, Xorbs, found}
@@ -66,12 +67,17 @@ module _ (held : Held) (now : ℕ) (shard : IsShard (held_shard held now None)) 
   pub read_again : all_of (full_text (held_shard held now None)) ≡ Ok (parts_of all_lookups (held_shard held now None))
   read_again = all_again all_lookups (held_shard held now None) shard fits
 
-  never_past : nat_lt (footer_of all_lookups (held_shard held now None)).shard_key_expiry now ≡ false
+  never_past : (moment : ℕ) → moment < 2 ^ 64 → nat_lt (footer_of all_lookups (held_shard held now None)).shard_key_expiry moment ≡ false
   unfolding footer_of
-  never_past = le-ltb (2 ^ 64 - 1) now (omega (arith, fits.creation))
+  never_past moment below = le-ltb (2 ^ 64 - 1) moment (omega (arith, below))
+
+  -- at any moment
+  pub never_expired : (moment : ℕ) → moment < 2 ^ 64 → is_expired moment (full_text (held_shard held now None)) ≡ false
+  never_expired moment below =
+      ap (is_past moment) (with_footer (full_text (held_shard held now None)) (parts_of all_lookups (held_shard held now None)) read_again) ∙ never_past moment below
 
   pub not_expired : is_expired now (full_text (held_shard held now None)) ≡ false
-  not_expired = ap (is_past now) (with_footer (full_text (held_shard held now None)) (parts_of all_lookups (held_shard held now None)) read_again) ∙ never_past
+  not_expired = never_expired now fits.creation
 
 -- ---- the shard is whole
 
@@ -170,23 +176,21 @@ module _ (s : State) (h : List ℕ) (tells : Bool) (files : Files) (faults : ℕ
   backed_after told k ms listed =
       backed_same s.files files s.folder k ms (same_bytes_at s.files files (xorb_path s.folder k) (same_xorbs told k (sound.hashes k (is_some_found s.xorbs k ms listed)))) (sound.backed told k ms listed)
 
-  pub whole_there : s.tells ≡ true → bytes_at files (shard_path s.folder h) ≡ Some (pending_text s) → HasWholeShard (changed s tells files faults s.xorbs s.records s.shards s.pending) h
-  whole_there told there =
-      let f = file_there files (shard_path s.folder h) (pending_text s) there in record {
-        file = f.0;
-        there = f.1;
-        holds = text_holds s sound shard fits files h f.0 (backed_after told) hash f.2;
+  pub whole_there : s.tells ≡ true → IsDone files (shard_path s.folder h) (pending_text s) → HasWholeShard (changed s tells files faults s.xorbs s.records s.shards s.pending) h
+  whole_there told done =
+      let f = file_there files (shard_path s.folder h) (pending_text s) done.there in record {
+        shard = record { file = f.0; there = f.1; stable = done.stable; holds = text_holds s sound shard fits files h f.0 (backed_after told) hash f.2 };
         listed = named_listed s sound shard fits (f.0).bytes f.2;
       }
 
-  pub left_there : (s.tells ≡ true → SameEntry s.files files (shard_path s.folder h) ⊎ (bytes_at files (shard_path s.folder h) ≡ Some (pending_text s)))
+  pub left_there : (s.tells ≡ true → IsKeptOrDone s.files files (shard_path s.folder h) (pending_text s))
       → s.tells ≡ true → SameEntry s.files files (shard_path s.folder h) ⊎ HasWholeShard (changed s tells files faults s.xorbs s.records s.shards s.pending) h
   left_there left told = go (left told)
     where
-      go : SameEntry s.files files (shard_path s.folder h) ⊎ (bytes_at files (shard_path s.folder h) ≡ Some (pending_text s))
+      go : IsKeptOrDone s.files files (shard_path s.folder h) (pending_text s)
           → SameEntry s.files files (shard_path s.folder h) ⊎ HasWholeShard (changed s tells files faults s.xorbs s.records s.shards s.pending) h
       go (inl same) = inl same
-      go (inr there) = inr (whole_there told there)
+      go (inr done) = inr (whole_there told done)
 
   -- the folder is admitted then
   module _ (others : s.tells ≡ true → (k : List ℕ) → IsHash k → k ≢ h → SameEntry s.files files (shard_path s.folder k)) where
@@ -200,32 +204,46 @@ module _ (s : State) (h : List ℕ) (tells : Bool) (files : Files) (faults : ℕ
     valid_text file is = ap (is_expired s.opened) is ∙ not_expired s.pending s.opened shard fits
 
     -- with the shard registered
-    pub admitted_put : s.tells ≡ true → bytes_at files (shard_path s.folder h) ≡ Some (pending_text s) → IsAdmitted files s.folder s.opened s.xorbs (s.shards ++ h ∷ [])
+    pub admitted_put : s.tells ≡ true → IsDone files (shard_path s.folder h) (pending_text s) → IsAdmitted files s.folder s.opened s.xorbs (s.shards ++ h ∷ [])
     unfolding file_there whole_there
-    admitted_put told there =
-        let f = file_there files (shard_path s.folder h) (pending_text s) there in
-        let w = whole_there told there in
-        let still = registered_still s.files files s.folder s.opened s.xorbs s.xorbs s.shards (λ k is. is) (xorbs_same told) (sound.admitted told) h f.0 is_hash f.1 (valid_text f.0 f.2) w.holds w.listed (others_same told) in
-        let this = this_registered s.files files s.folder s.opened s.xorbs s.xorbs s.shards (λ k is. is) (xorbs_same told) (sound.admitted told) h f.0 is_hash f.1 (valid_text f.0 f.2) w.holds w.listed (others_same told) in
-        admitted_with s.files files s.folder s.opened s.xorbs s.xorbs s.shards (λ k is. is) (xorbs_same told) (sound.admitted told) h f.0 is_hash f.1 (valid_text f.0 f.2) w.holds w.listed (others_same told)
+    admitted_put told done =
+        let f = file_there files (shard_path s.folder h) (pending_text s) done.there in
+        let w = whole_there told done in
+        let still = registered_still s.files files s.folder s.opened s.xorbs s.xorbs s.shards (λ k is. is) (xorbs_same told) (sound.admitted told) h f.0 is_hash f.1 (valid_text f.0 f.2) w.shard.holds w.listed (others_same told) in
+        let this = this_registered s.files files s.folder s.opened s.xorbs s.xorbs s.shards (λ k is. is) (xorbs_same told) (sound.admitted told) h f.0 is_hash f.1 (valid_text f.0 f.2) w.shard.holds w.listed (others_same told) in
+        admitted_with s.files files s.folder s.opened s.xorbs s.xorbs s.shards (λ k is. is) (xorbs_same told) (sound.admitted told) h f.0 is_hash f.1 (valid_text f.0 f.2) w.shard.holds w.listed (others_same told)
         (s.shards ++ h ∷ []) (all_push _ s.shards h still this)
 
     -- and where it is not
-    pub admitted_left : (s.tells ≡ true → SameEntry s.files files (shard_path s.folder h) ⊎ (bytes_at files (shard_path s.folder h) ≡ Some (pending_text s)))
+    pub admitted_left : (s.tells ≡ true → IsKeptOrDone s.files files (shard_path s.folder h) (pending_text s))
         → s.tells ≡ true → IsAdmitted files s.folder s.opened s.xorbs s.shards
     unfolding file_there whole_there
     admitted_left left told = go (left told)
       where
-        go : SameEntry s.files files (shard_path s.folder h) ⊎ (bytes_at files (shard_path s.folder h) ≡ Some (pending_text s)) → IsAdmitted files s.folder s.opened s.xorbs s.shards
+        go : IsKeptOrDone s.files files (shard_path s.folder h) (pending_text s) → IsAdmitted files s.folder s.opened s.xorbs s.shards
         go (inl same) = admitted_still s.files files s.folder s.opened s.xorbs s.xorbs s.shards (λ k is. is) (xorbs_same told) (sound.admitted told)
             (λ k is. hash_cases k h (λ e. subst (λ (x : List ℕ). file_at files (shard_path s.folder x) ≡ file_at s.files (shard_path s.folder x)) (sym e) (same_file_at s.files files (shard_path s.folder h) same)) (λ apart. others_same told k is apart))
-        go (inr there) =
-            let f = file_there files (shard_path s.folder h) (pending_text s) there in
-            let w = whole_there told there in
-            let still = registered_still s.files files s.folder s.opened s.xorbs s.xorbs s.shards (λ k is. is) (xorbs_same told) (sound.admitted told) h f.0 is_hash f.1 (valid_text f.0 f.2) w.holds w.listed (others_same told) in
-            admitted_with s.files files s.folder s.opened s.xorbs s.xorbs s.shards (λ k is. is) (xorbs_same told) (sound.admitted told) h f.0 is_hash f.1 (valid_text f.0 f.2) w.holds w.listed (others_same told) s.shards still
+        go (inr done) =
+            let f = file_there files (shard_path s.folder h) (pending_text s) done.there in
+            let w = whole_there told done in
+            let still = registered_still s.files files s.folder s.opened s.xorbs s.xorbs s.shards (λ k is. is) (xorbs_same told) (sound.admitted told) h f.0 is_hash f.1 (valid_text f.0 f.2) w.shard.holds w.listed (others_same told) in
+            admitted_with s.files files s.folder s.opened s.xorbs s.xorbs s.shards (λ k is. is) (xorbs_same told) (sound.admitted told) h f.0 is_hash f.1 (valid_text f.0 f.2) w.shard.holds w.listed (others_same told) s.shards still
 
 -- ---- the shard is registered, and nothing is pending
+
+-- where the shard is there, each file that was pending is listed at any moment
+module _ (s : State) (h : List ℕ) (files : Files) (hash : IsHash h) (shard : IsShard (held_shard s.pending s.opened None)) (fits : Fits (held_shard s.pending s.opened None))
+    (there : bytes_at files (shard_path s.folder h) ≡ Some (pending_text s)) where
+  pub lists_new : (f : MDBFileInfo) → IsAmong s.pending.files f → (moment : ℕ) → moment < 2 ^ 64 → Lists files s.folder moment f
+  lists_new f among moment below =
+      let file = file_there files (shard_path s.folder h) (pending_text s) there in record {
+        shard = record { hash = h; file = file.0 };
+        there = record { named = hash; there = file.1 };
+        valid = ap (λ (b : List ℕ). is_expired moment b) file.2 ∙ never_expired s.pending s.opened shard fits moment below;
+        parts = parts_of all_lookups (held_shard s.pending s.opened None);
+        read = ap all_of file.2 ∙ read_again s.pending s.opened shard fits;
+        among = from_among (held_shard s.pending s.opened None).files f (among_sorted _ s.pending.files f (to_among s.pending.files f among));
+      }
 
 pub nothing_held : IsHeld nothing
 nothing_held = record { blocks = tt; files = tt; blocks_differ = tt; files_differ = tt; few_blocks = omega arith; few_files = omega arith }
@@ -241,18 +259,11 @@ module _ (s : State) (h : List ℕ) (tells : Bool) (files : Files) (faults : ℕ
       (there : s.tells ≡ true → bytes_at files (shard_path s.folder h) ≡ Some (pending_text s)) (admitted : s.tells ≡ true → IsAdmitted files s.folder s.opened s.xorbs (s.shards ++ h ∷ [])) where
     -- what was pending is kept by the new shard
     kept_new : (f : MDBFileInfo) → s.tells ≡ true → IsAmong s.pending.files f → IsKept files s.folder s.opened (s.shards ++ h ∷ []) f
-    kept_new f told among =
-        let file = file_there files (shard_path s.folder h) (pending_text s) (there told) in record {
-          lists = record {
-            shard = record { hash = h; file = file.0 };
-            there = record { named = hash; there = file.1 };
-            valid = ap (λ (b : List ℕ). is_expired s.opened b) file.2 ∙ not_expired s.pending s.opened shard fits;
-            parts = parts_of all_lookups (held_shard s.pending s.opened None);
-            read = ap all_of file.2 ∙ read_again s.pending s.opened shard fits;
-            among = from_among (held_shard s.pending s.opened None).files f (among_sorted _ s.pending.files f (to_among s.pending.files f among));
-          };
-          registered = from_among (s.shards ++ h ∷ []) h (among_last s.shards h);
-        }
+    unfolding lists_new
+    kept_new f told among = record {
+      lists = lists_new s h files hash shard fits (there told) f among s.opened fits.creation;
+      registered = from_among (s.shards ++ h ∷ []) h (among_last s.shards h);
+    }
 
     kept_flushed : (f : MDBFileInfo) → IsAmong s.pending.files f ⊎ (s.tells ≡ true → IsKept s.files s.folder s.opened s.shards f)
         → IsAmong nothing.files f ⊎ (tells ≡ true → IsKept files s.folder s.opened (s.shards ++ h ∷ []) f)
@@ -290,16 +301,27 @@ module _ (s : State) (h : List ℕ) (tells : Bool) (files : Files) (faults : ℕ
       → Sound (changed s tells files faults s.xorbs s.records shards pending)
   sound_flushed_at hash shard fits there admitted = subst Sound same_flushed (sound_flushed s h tells files faults stays sound hash shard fits there admitted)
 
-  pub is_flushed : (t : State) → s ≡ t → h ≡ shard_hash (pending_text s) → (s.tells ≡ true → bytes_at files (shard_path s.folder h) ≡ Some (pending_text s))
-      → (s.tells ≡ true → option_map (λ (e : Entry). e.stable) (get files (shard_path s.folder h)) ≡ Some true) → (s.tells ≡ true → KeepsOthers s.files files (shard_path s.folder h))
+  pub is_flushed : IsHash h → IsShard (held_shard s.pending s.opened None) → Fits (held_shard s.pending s.opened None) → (t : State) → s ≡ t → h ≡ shard_hash (pending_text s)
+      → (s.tells ≡ true → IsDone files (shard_path s.folder h) (pending_text s)) → (s.tells ≡ true → KeepsOthers s.files files (shard_path s.folder h))
       → IsFlushed t h (changed s tells files faults s.xorbs s.records shards pending)
-  is_flushed t e hash there durable others = subst (λ (o : State). IsFlushed o h (changed s tells files faults s.xorbs s.records shards pending)) e
-      (record { hash = hash; there = there; durable = durable; others = others; registered = registered; nothing_pending = none; xorbs = refl; records = refl })
+  is_flushed is_hash shard fits t e hash done others = subst (λ (o : State). IsFlushed o h (changed s tells files faults s.xorbs s.records shards pending)) e
+      (record {
+        hash = hash;
+        there = λ told. (done told).there;
+        durable = λ told. (done told).stable;
+        temp = λ told. (done told).temp;
+        others = others;
+        lasts = λ told f among moment below. lists_new s h files is_hash shard fits (done told).there f among moment below;
+        registered = registered;
+        nothing_pending = none;
+        xorbs = refl;
+        records = refl;
+      })
 
 -- ---- after an error
 
 module _ (s : State) (h : List ℕ) (tells : Bool) (files : Files) (faults : ℕ) (hash : h ≡ shard_hash (pending_text s)) (others : s.tells ≡ true → KeepsOthers s.files files (shard_path s.folder h))
-    (whole : s.tells ≡ true → SameEntry s.files files (shard_path s.folder h) ⊎ (bytes_at files (shard_path s.folder h) ≡ Some (pending_text s))) {xorbs : Xorbs} {records : Records} {shards : List (List ℕ)} {pending : Held} where
+    (whole : s.tells ≡ true → IsKeptOrDone s.files files (shard_path s.folder h) (pending_text s)) {xorbs : Xorbs} {records : Records} {shards : List (List ℕ)} {pending : Held} where
   pub unflushed_at : (t : State) → s ≡ t → xorbs ≡ s.xorbs → records ≡ s.records → shards ≡ s.shards → pending ≡ s.pending → IsUnflushed t (changed s tells files faults xorbs records shards pending)
   unflushed_at t e ex er es ep = subst (λ (o : State). IsUnflushed o (changed s tells files faults xorbs records shards pending)) e
       (record {
@@ -308,7 +330,7 @@ module _ (s : State) (h : List ℕ) (tells : Bool) (files : Files) (faults : ℕ
         xorbs = ex;
         records = er;
         others = λ told. subst (λ (k : List ℕ). KeepsOthers s.files files (shard_path s.folder k)) hash (others told);
-        whole = λ told. subst (λ (k : List ℕ). SameEntry s.files files (shard_path s.folder k) ⊎ (bytes_at files (shard_path s.folder k) ≡ Some (pending_text s))) hash (whole told);
+        whole = λ told. subst (λ (k : List ℕ). IsKeptOrDone s.files files (shard_path s.folder k) (pending_text s)) hash (whole told);
       })
 
 -- before anything was put
@@ -337,7 +359,7 @@ pub record PutsShard (s : State) (folder h text : List ℕ) (tells : Bool) (file
   pub shards : s.tells ≡ true → (k : List ℕ) → IsHash k → k ≢ h → SameEntry s.files files (shard_path folder k)
   pub others : s.tells ≡ true → KeepsOthers s.files files (shard_path folder h)
   pub foreign : s.tells ≡ true → (name : List ℕ) → IsForeign folder name → SameEntry s.files files name
-  pub left : s.tells ≡ true → SameEntry s.files files (shard_path folder h) ⊎ (bytes_at files (shard_path folder h) ≡ Some text)
+  pub left : s.tells ≡ true → IsKeptOrDone s.files files (shard_path folder h) text
 
 module _ {s : State} {folder h text : List ℕ} {tells : Bool} {files : Files} {faults : ℕ} (p : PutsShard s folder h text tells files faults) where
   hash_here : h ≡ shard_hash (pending_text s)
@@ -352,10 +374,9 @@ module _ {s : State} {folder h text : List ℕ} {tells : Bool} {files : Files} {
   others_here : s.tells ≡ true → KeepsOthers s.files files (shard_path s.folder h)
   others_here told = subst (λ (f : List ℕ). KeepsOthers s.files files (shard_path f h)) p.same (p.others told)
 
-  left_here : s.tells ≡ true → SameEntry s.files files (shard_path s.folder h) ⊎ (bytes_at files (shard_path s.folder h) ≡ Some (pending_text s))
+  left_here : s.tells ≡ true → IsKeptOrDone s.files files (shard_path s.folder h) (pending_text s)
   left_here told =
-      subst (λ (t : List ℕ). SameEntry s.files files (shard_path s.folder h) ⊎ (bytes_at files (shard_path s.folder h) ≡ Some t)) p.is
-      (subst (λ (f : List ℕ). SameEntry s.files files (shard_path f h) ⊎ (bytes_at files (shard_path f h) ≡ Some text)) p.same (p.left told))
+      subst (λ (t : List ℕ). IsKeptOrDone s.files files (shard_path s.folder h) t) p.is (subst (λ (f : List ℕ). IsKeptOrDone s.files files (shard_path f h) text) p.same (p.left told))
 
   put_stays : Stays s tells files faults
   put_stays =
@@ -375,20 +396,19 @@ module _ {s : State} {folder h text : List ℕ} {tells : Bool} {files : Files} {
       unput_refused t e = unflushed_at s h tells files faults hash_here others_here left_here t e ex er es ep
 
   -- done
-  module _ {shards : List (List ℕ)} {pending : Held} (registered : shards ≡ s.shards ++ h ∷ []) (none : pending ≡ nothing) (there : s.tells ≡ true → bytes_at files (shard_path folder h) ≡ Some text) where
-    there_here : s.tells ≡ true → bytes_at files (shard_path s.folder h) ≡ Some (pending_text s)
-    there_here told = subst (λ (f : List ℕ). bytes_at files (shard_path f h) ≡ Some text) p.same (there told) ∙ ap Some p.is
+  module _ {shards : List (List ℕ)} {pending : Held} (registered : shards ≡ s.shards ++ h ∷ []) (none : pending ≡ nothing) (done : s.tells ≡ true → IsDone files (shard_path folder h) text) where
+    done_here : s.tells ≡ true → IsDone files (shard_path s.folder h) (pending_text s)
+    done_here told = subst (λ (t : List ℕ). IsDone files (shard_path s.folder h) t) p.is (subst (λ (f : List ℕ). IsDone files (shard_path f h) text) p.same (done told))
 
     pub put_sound : Sound (changed s tells files faults s.xorbs s.records shards pending)
-    put_sound = sound_flushed_at s h tells files faults put_stays p.sound registered none p.is_hash p.shard p.fits there_here
-        (λ told. admitted_put s h tells files faults p.sound p.is_hash hash_here p.shard p.fits xorbs_here shards_here told (there_here told))
+    put_sound = sound_flushed_at s h tells files faults put_stays p.sound registered none p.is_hash p.shard p.fits (λ told. (done_here told).there)
+        (λ told. admitted_put s h tells files faults p.sound p.is_hash hash_here p.shard p.fits xorbs_here shards_here told (done_here told))
 
     pub put_keeps : (t : State) → s ≡ t → Keeps t (changed s tells files faults s.xorbs s.records shards pending)
     put_keeps t e = keeps_flushed_at s h tells files faults put_stays p.sound registered none t e
 
-    pub put_flushed : (s.tells ≡ true → option_map (λ (e : Entry). e.stable) (get files (shard_path folder h)) ≡ Some true) → (t : State) → s ≡ t → IsFlushed t h (changed s tells files faults s.xorbs s.records shards pending)
-    put_flushed durable t e = is_flushed s h tells files faults put_stays p.sound registered none t e hash_here there_here
-        (λ told. subst (λ (f : List ℕ). option_map (λ (e : Entry). e.stable) (get files (shard_path f h)) ≡ Some true) p.same (durable told)) others_here
+    pub put_flushed : (t : State) → s ≡ t → IsFlushed t h (changed s tells files faults s.xorbs s.records shards pending)
+    put_flushed t e = is_flushed s h tells files faults put_stays p.sound registered none p.is_hash p.shard p.fits t e hash_here done_here others_here
 
 -- ---- a hash that the test does not find is not registered
 

@@ -1,12 +1,11 @@
 -- What a store keeps over several calls.
-use Rattle.std.proofs.Common.{◌≡◌, ◌⊎◌, inl, inr, ◌∙◌, ◌≤◌, ℕ, true, List, [], ◌∷◌, ◌++◌, Option, Some, None, IsSome, append_assoc, refl, sym, ap, subst, arith}
+use Rattle.std.proofs.Common.{◌≡◌, ◌⊎◌, inl, inr, ◌∙◌, ◌≤◌, ℕ, Bool, true, List, [], ◌∷◌, ◌++◌, Option, Some, None, IsSome, append_assoc, option_map, refl, sym, ap, subst, arith}
 use Rattle.std.specs.List.{AllByRecursion}
-use Rattle.xet_io.specs.Disk.{file_at}
+use Rattle.xet_io.specs.Disk.{Entry, file_at}
 use Rattle.xet_folder.specs.Admission.{ShardHolds}
 use Rattle.xet_folder.specs.Names.{IsForeign, shard_path, xorb_path}
-use Rattle.xet_folder.specs.Stored.{IsStored}
 use Rattle.xet_folder.specs.Xorbs.{Records, found}
-use Rattle.xet_store.specs.Cleaning.{HasWholeShard, Keeps, SameEntry}
+use Rattle.xet_store.specs.Cleaning.{HasWholeShard, HasXorb, IsStable, Keeps, SameEntry}
 use Rattle.xet_store.specs.Separate.{Among}
 use Rattle.xet_store.specs.Store.{State}
 use Rattle.xet_store.proofs.Admitting.{holds_same, stored_same}
@@ -36,6 +35,9 @@ listed_still a b keeps k is = go (found a.xorbs k) refl is
     go : (o : Option Members) → found a.xorbs k ≡ o → IsSome o → IsSome (found b.xorbs k)
     go None e bad = absurd (cc bad)
     go (Some m) e ok = is_some_found b.xorbs k m (keeps.xorbs k m e)
+
+abbrev stability : Option Entry → Option Bool
+stability e = option_map (λ (x : Entry). x.stable) e
 
 -- two calls, one after the other
 pub keeps_then : (a b c : State) → Keeps a b → Keeps b c → Keeps a c
@@ -68,20 +70,27 @@ keeps_then a b c x y = record {
     both [] all next = tt
     both (h ∷ hs) all next = (next h (inl refl) ∙ all.0, both hs all.1 (λ k is. next k (inr is)))
 
-    xorb_name : (k : List ℕ) → SameEntry a.files b.files (xorb_path a.folder k) ⊎ ((chunks : List (List ℕ)) × IsStored b.files b.folder k chunks)
-        → SameEntry b.files c.files (xorb_path b.folder k) ⊎ ((chunks : List (List ℕ)) × IsStored c.files c.folder k chunks)
-        → SameEntry a.files c.files (xorb_path a.folder k) ⊎ ((chunks : List (List ℕ)) × IsStored c.files c.folder k chunks)
-    xorb_name k one (inr stored) = inr stored
+    xorb_name : (k : List ℕ) → SameEntry a.files b.files (xorb_path a.folder k) ⊎ HasXorb b.files b.folder k
+        → SameEntry b.files c.files (xorb_path b.folder k) ⊎ HasXorb c.files c.folder k
+        → SameEntry a.files c.files (xorb_path a.folder k) ⊎ HasXorb c.files c.folder k
+    xorb_name k one (inr there) = inr there
     xorb_name k (inl one) (inl two) = inl (moved_xorb k two ∙ one)
-    xorb_name k (inr (chunks, stored)) (inl two) =
-        inr (chunks, subst (λ (f : List ℕ). IsStored c.files f k chunks) (sym y.folder) (stored_same b.files c.files b.folder k chunks (same_bytes_at b.files c.files (xorb_path b.folder k) two) stored))
+    xorb_name k (inr there) (inl two) =
+        inr (subst (λ (f : List ℕ). HasXorb c.files f k) (sym y.folder) (record {
+          chunks = there.chunks;
+          stored = stored_same b.files c.files b.folder k there.chunks (same_bytes_at b.files c.files (xorb_path b.folder k) two) there.stored;
+          stable = ap stability two ∙ there.stable;
+        }))
 
     whole : (k : List ℕ) → a.tells ≡ true → SameEntry b.files c.files (shard_path b.folder k) → HasWholeShard b k → HasWholeShard c k
     whole k told same w = record {
-      file = w.file;
-      there = subst (λ (f : List ℕ). file_at c.files (shard_path f k) ≡ Some w.file) (sym y.folder) (same_file_at b.files c.files (shard_path b.folder k) same ∙ w.there);
-      holds = subst (λ (f : List ℕ). ShardHolds c.files f (record { hash = k; file = w.file })) (sym y.folder)
-          (holds_same b.files c.files b.folder (record { hash = k; file = w.file }) (λ h of. same_bytes_at b.files c.files (xorb_path b.folder h) (y.xorb_files (x.tells ∙ told) h (w.listed h of))) w.holds);
+      shard = record {
+        file = w.shard.file;
+        there = subst (λ (f : List ℕ). file_at c.files (shard_path f k) ≡ Some w.shard.file) (sym y.folder) (same_file_at b.files c.files (shard_path b.folder k) same ∙ w.shard.there);
+        stable = subst (λ (f : List ℕ). IsStable c.files (shard_path f k)) (sym y.folder) (ap stability same ∙ w.shard.stable);
+        holds = subst (λ (f : List ℕ). ShardHolds c.files f (record { hash = k; file = w.shard.file })) (sym y.folder)
+            (holds_same b.files c.files b.folder (record { hash = k; file = w.shard.file }) (λ h of. same_bytes_at b.files c.files (xorb_path b.folder h) (y.xorb_files (x.tells ∙ told) h (w.listed h of))) w.shard.holds);
+      };
       listed = λ h of. listed_still b c y h (w.listed h of);
     }
 

@@ -3,7 +3,6 @@ use Rattle.std.proofs.Common.{◌≡◌, ◌⊎◌, inl, inr, ◌∙◌, ℕ, ze
 use Rattle.std.proofs.lemmas.List.{map-append, length-map, append-nil, drop-map, take-map}
 use Rattle.std.proofs.lemmas.List.Sums.{sum_by-append, sum_by-cons}
 use Rattle.std.specs.List.{sum_by}
-use Rattle.xet_hash.specs.Merkle.{total_len}
 use Rattle.xet_shard.specs.declared.record.FileDataSequenceEntry.{FileDataSequenceEntry as Segment}
 use Rattle.xet_shard.specs.declared.record.MDBFileInfo.{MDBFileInfo}
 use Rattle.xet_folder.specs.Plan.{part, plan_bytes, LiesIn, Joins}
@@ -91,14 +90,34 @@ joins_among {X} P len (s ∷ ss) out x (xs, rest, has, lies, parts, more) h =
     either (inl a) later = (s.xorb_hash, xs, has, among_drop s.chunk_index_start xs x (among_take (s.chunk_index_end - s.chunk_index_start) (drop s.chunk_index_start xs) x a))
     either (inr b) later = later b
 
--- The bytes of a plan are those of the members to which it joins.
-pub joins_bytes : (P : List ℕ → List (List ℕ × ℕ) → Type 0) (plan : List Segment) (out : List (List ℕ × ℕ)) → Joins P (λ m. m.1) plan out → plan_bytes plan ≡ total_len out
-joins_bytes P [] out none = sym (ap total_len none)
-joins_bytes P (s ∷ ss) out (xs, rest, has, lies, parts, more) =
-    let later : plan_bytes ss ≡ total_len rest = joins_bytes P ss rest more in
-    let parted : total_len out ≡ total_len (part s xs) + total_len rest = ap total_len parts ∙ sum_by-append (λ (m : List ℕ × ℕ). m.1) (part s xs) rest in
+-- The bytes of a plan are those of the elements to which it joins.
+pub joins_bytes : {X : Type 0} (P : List ℕ → List X → Type 0) (len : X → ℕ) (plan : List Segment) (out : List X) → Joins P len plan out → plan_bytes plan ≡ sum_by len out
+joins_bytes P len [] out none = sym (ap (sum_by len) none)
+joins_bytes P len (s ∷ ss) out (xs, rest, has, lies, parts, more) =
+    let later : plan_bytes ss ≡ sum_by len rest = joins_bytes P len ss rest more in
+    let parted : sum_by len out ≡ sum_by len (part s xs) + sum_by len rest = ap (sum_by len) parts ∙ sum_by-append len (part s xs) rest in
     omega (arith, sum_by-cons (λ (t : Segment). t.unpacked_segment_bytes) s ss, lies.bytes, later, parted)
 
 -- so those of a recorded plan fit
 pub record_bytes : (xorbs : Xorbs) (r : List ℕ × MDBFileInfo) → IsRecord xorbs r → plan_bytes r.1.segments < 2 ^ 64
-record_bytes xorbs r is = let same = joins_bytes (IsListed xorbs) r.1.segments is.members is.joins in omega (arith, same, is.bound)
+record_bytes xorbs r is = let same = joins_bytes (IsListed xorbs) (λ m. m.1) r.1.segments is.members is.joins in omega (arith, same, is.bound)
+
+-- What a plan's first segments and the others join to, which together is what it joins to.
+pub record SplitsAt {X : Type 0} (P : List ℕ → List X → Type 0) (len : X → ℕ) (plan : List Segment) (k : ℕ) (out : List X) : Type 0 where
+  pub front : List X
+  pub rest : List X
+  pub is : out ≡ front ++ rest
+  pub before : Joins P len (take k plan) front
+  pub joins : Joins P len (drop k plan) rest
+
+pub joins_split : {X : Type 0} (P : List ℕ → List X → Type 0) (len : X → ℕ) (plan : List Segment) (k : ℕ) (out : List X) → Joins P len plan out → SplitsAt P len plan k out
+joins_split P len plan zero out j = record { front = []; rest = out; is = refl; before = refl; joins = j }
+joins_split P len [] (suc k) out j = record { front = []; rest = out; is = refl; before = refl; joins = j }
+joins_split P len (s ∷ ss) (suc k) out (xs, rest, has, lies, parts, more) =
+    let later = joins_split P len ss k rest more in record {
+      front = part s xs ++ later.front;
+      rest = later.rest;
+      is = parts ∙ ap (λ (l : List _). part s xs ++ l) later.is ∙ sym (append_assoc (part s xs) later.front later.rest);
+      before = (xs, later.front, has, lies, refl, later.before);
+      joins = later.joins;
+    }

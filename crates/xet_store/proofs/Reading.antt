@@ -1,22 +1,26 @@
 -- What is read of a file.
-use Rattle.std.proofs.Common.{◌≡◌, ◌⊎◌, inl, inr, ◌∙◌, ℕ, ◌-◌, ◌<◌, ◌^◌, lit<, Bool, true, false, nat_eq, List, [], ◌∷◌, ◌++◌, length, Some, refl, sym, ap, subst, append_assoc}
+use Rattle.std.proofs.Common.{◌≡◌, ◌⊎◌, inl, inr, ◌∙◌, ℕ, ◌-◌, ◌<◌, ◌≤◌, ◌^◌, lit<, Bool, true, false, nat_eq, List, [], ◌∷◌, ◌++◌, length, length-append, take, Some, refl, sym, ap, subst, arith, append_assoc}
 use Rattle.std.proofs.lemmas.List.Folds.{concat-append}
+use Rattle.std.proofs.lemmas.List.Sums.{sum_by-cons, sum_by-take-drop}
 use Rattle.std.specs.Cmp.Lexicographic.{pointwise}
-use Rattle.std.specs.List.{concat}
+use Rattle.std.specs.List.{concat, sum_by}
+use Rattle.xet_io.specs.Disk.{Files}
 use Rattle.xet_hash.specs.Hash.{zero_hash}
 use Rattle.xet_hash.specs.Merkle.{member_of, members_of, total_len}
 use Rattle.xet_shard.specs.declared.record.FileDataSequenceEntry.{FileDataSequenceEntry as Segment}
 use Rattle.xet_shard.specs.declared.record.MDBFileInfo.{MDBFileInfo}
 use Rattle.xet_folder.specs.Plan.{Joins, part, plan_bytes, range}
+use Rattle.xet_folder.specs.Recorded.{IsPlanRest}
 use Rattle.xet_folder.specs.Stored.{IsStored}
 use Rattle.xet_folder.specs.Xorbs.{IsListed, Records, Xorbs, found}
 use Rattle.xet_folder.proofs.Placing.{Member, plain_joined}
-use Rattle.xet_folder.proofs.Ranges.{range-append}
+use Rattle.xet_folder.proofs.Ranges.{range-append, range_past}
 use Rattle.xet_folder.specs.Contents.{IsRecord}
 use Rattle.xet_store.specs.Ranges.{IsRange}
 use Rattle.xet_store.specs.Store.{Sound, State, plan_of}
 use Rattle.xet_store.specs.Reading.{IsStoredListed, JoinsListed, LiesListed}
-use Rattle.xet_store.proofs.Plans.{joins_map, joins_more, part-map, record_bytes}
+use Rattle.xet_store.proofs.Plans.{joins_bytes, joins_map, joins_more, joins_split, part-map, record_bytes}
+use Rattle.xet_store.proofs.Staying.{changed}
 use Rattle.xet_store.proofs.Whole.{found_has, mapped}
 
 -- one xorb is listed with one list of members
@@ -54,6 +58,43 @@ goes_more Has s plan out new from to whole reads g =
       is = ap (λ (l : List ℕ). l ++ range tail (from - s.unpacked_segment_bytes) (to - s.unpacked_segment_bytes)) read.0
           ∙ append_assoc out (range here from to) (range tail (from - s.unpacked_segment_bytes) (to - s.unpacked_segment_bytes)) ∙ ap (λ (l : List ℕ). out ++ l) (sym split) ∙ g.is;
     }
+
+-- ---- ranges behind the first segments
+
+joined_bytes : (chunks : List (List ℕ)) → sum_by length chunks ≡ length (concat chunks)
+joined_bytes [] = refl
+joined_bytes (c ∷ cs) = omega (arith, sum_by-cons (λ (x : List ℕ). length x) c cs, joined_bytes cs, length-append c (concat cs))
+
+-- What the segments of a plan's rest join to, of which the range is the same, less the bytes before.
+pub record RestRange (Has : List ℕ → List (List ℕ) → Type 0) (rest : List Segment) (chunks : List (List ℕ)) (before from to : ℕ) : Type 0 where
+  pub left : List (List ℕ)
+  pub joins : Joins Has length rest left
+  pub same : range (concat chunks) from to ≡ range (concat left) (from - before) (to - before)
+
+module _ (plan : List Segment) (from before : ℕ) (rest : List Segment) (is : IsPlanRest plan from before rest) where
+  pub rest_joins : (xorbs : Xorbs) → JoinsListed xorbs plan → JoinsListed xorbs rest
+  rest_joins xorbs (members, joins) =
+      let split = joins_split (IsListed xorbs) (λ (m : Member). m.1) plan is.first members joins in
+      subst (λ (l : List Segment). JoinsListed xorbs l) (sym is.is) (split.rest, split.joins)
+
+  pub rest_within : (to : ℕ) → to ≤ plan_bytes plan → to - before ≤ plan_bytes rest
+  rest_within to within =
+      omega (arith, is.bytes, ap (λ (l : List Segment). plan_bytes l) is.is, sum_by-take-drop (λ (s : Segment). s.unpacked_segment_bytes) plan is.first)
+
+  pub rest_range : (Has : List ℕ → List (List ℕ) → Type 0) (to : ℕ) (chunks : List (List ℕ)) → Joins Has length plan chunks → RestRange Has rest chunks before from to
+  rest_range Has to chunks joins =
+      let split = joins_split Has length plan is.first chunks joins in
+      let here : List ℕ = concat split.front in
+      let tail : List ℕ = concat split.rest in
+      let long : length here ≡ before = sym (joined_bytes split.front) ∙ sym (joins_bytes Has length (take is.first plan) split.front split.before) ∙ sym is.bytes in
+      let joined : concat chunks ≡ here ++ tail = ap (λ (l : List (List ℕ)). concat l) split.is ∙ concat-append split.front split.rest in
+      record {
+        left = split.rest;
+        joins = subst (λ (l : List Segment). Joins Has length l split.rest) (sym is.is) split.joins;
+        same = ap (λ (l : List ℕ). range l from to) joined ∙ range-append here tail from to
+            ∙ ap (λ (l : List ℕ). l ++ range tail (from - length here) (to - length here)) (range_past here from to (omega (arith, long, is.begins)))
+            ∙ ap (λ (n : ℕ). range tail (from - n) (to - n)) long;
+      }
 
 -- ---- plans of a sound store
 
@@ -94,3 +135,22 @@ module _ (s : State) (sound : Sound s) (h : List ℕ) (plan : List Segment) (has
         joins = joins_more (IsStoredListed s.files s.folder s.xorbs) (IsStored s.files s.folder) length (λ k c x. x.0) plan whole.0 whole.1;
         is = read whole.0 whole.1;
       }
+
+-- reading leaves a store sound, however often its disk fails
+pub sound_read : (s : State) (tells : Bool) (files : Files) (faults : ℕ) → Sound s → tells ≡ s.tells → files ≡ s.files → Sound (changed s tells files faults s.xorbs s.records s.shards s.pending)
+sound_read s tells files faults sound same_tells same_files =
+    let counted : Sound (changed s s.tells s.files faults s.xorbs s.records s.shards s.pending) = record {
+      backed = sound.backed;
+      recorded = sound.recorded;
+      kept = sound.kept;
+      held = sound.held;
+      blocks = sound.blocks;
+      pending_files = sound.pending_files;
+      admitted = sound.admitted;
+      hashes = sound.hashes;
+      shards_hashes = sound.shards_hashes;
+      xorbs_differ = sound.xorbs_differ;
+      records_differ = sound.records_differ;
+    } in
+    subst (λ (t : Bool). Sound (changed s t files faults s.xorbs s.records s.shards s.pending)) (sym same_tells)
+    (subst (λ (f : Files). Sound (changed s s.tells f faults s.xorbs s.records s.shards s.pending)) (sym same_files) counted)

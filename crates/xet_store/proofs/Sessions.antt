@@ -21,13 +21,14 @@ use Rattle.xet_folder.specs.Contents.{HasContents, IsRecord}
 use Rattle.xet_folder.specs.Listed.{JoinsTo, Lists}
 use Rattle.xet_folder.specs.Names.{shard_path, xorb_path}
 use Rattle.xet_folder.specs.Plan.{Joins, range}
-use Rattle.xet_folder.specs.Shards.{ShardFile, is_expired, is_past}
+use Rattle.xet_folder.specs.Shards.{IsThere, ShardFile, is_expired, is_past}
 use Rattle.xet_folder.specs.Stored.{IsBacked, IsStored}
 use Rattle.xet_folder.specs.Xorbs.{IsListed, Records, found}
+use Rattle.xet_store.specs.declared.limits.LimitSettings.{LimitSettings}
 use Rattle.xet_store.specs.Cleaning.{HasFile, Keeps, SameEntry}
 use Rattle.xet_store.specs.Opening.{contents_of}
 use Rattle.xet_store.specs.Ranges.{IsRange}
-use Rattle.xet_store.specs.Separate.{Among, Apart, MetBacked, MetChunk, MetFile, MetListed, MetStored, MetXorb, Separate, SeparateIn}
+use Rattle.xet_store.specs.Separate.{Among, Apart, IsMet, IsNamed, MetBacked, MetChunk, MetFile, MetListed, MetStored, MetXorb, Separate, SeparateIn}
 use Rattle.xet_store.specs.Store.{State, IsKept, Sound, plan_of}
 use Rattle.xet_store.proofs.Rows.{from_among, is_some_found, to_among}
 use Rattle.xet_store.proofs.Staying.{all_among, same_bytes_at, same_file_at}
@@ -145,6 +146,20 @@ module _ (old new : State) (told : old.tells ≡ true) (contents : HasContents o
   joins_stay chunks j = joins_named (IsStored old.files old.folder) length (IsStored new.files old.folder) f.segments chunks
       (λ s a c stored. stored_same old.files new.files old.folder s.xorb_hash c (same_bytes_at old.files new.files (xorb_path old.folder s.xorb_hash) (keeps.xorb_files told s.xorb_hash (named_listed s a))) stored) j
 
+-- Each xorb that was listed when a folder was opened is named by a shard that is still there.
+module _ (old new : State) (told : old.tells ≡ true) (contents : HasContents old.files old.folder old.opened (contents_of old)) (keeps : Keeps old new) where
+  pub named_stays : (h : List ℕ) → IsSome (found old.xorbs h) → IsNamed new.files old.folder old.opened h
+  named_stays h is =
+      let any = (contents.contents.named h).0 is in
+      let k = any.0 in
+      let shard : ShardFile = any.1 in
+      let there : IsThere old.files old.folder shard = subst (IsThere old.files old.folder) any.3 (contents.admits.registers.there k shard any.2) in
+      let valid : is_expired old.opened shard.file.bytes ≡ false = subst (λ (s : ShardFile). is_expired old.opened s.file.bytes ≡ false) any.3 (contents.admits.registers.valid k shard any.2) in
+      let among : Among old.shards shard.hash = to_among old.shards shard.hash
+      (subst (λ (hs : List (List ℕ)). IsAmong hs shard.hash) (sym contents.contents.registered) (among_map contents.shards k shard any.2 (sym any.3) (λ (s : ShardFile). s.hash))) in
+      let same = same_file_at old.files new.files (shard_path old.folder shard.hash) (all_among (λ x. SameEntry old.files new.files (shard_path old.folder x)) old.shards shard.hash (keeps.shard_files told) among) in
+      (shard, record { named = there.named; there = same ∙ there.there }, valid, any.4)
+
 -- ---- what a session that keeps shows
 
 -- What is apart is, where less is met.
@@ -192,16 +207,19 @@ module _ (before after : State) (told : before.tells ≡ true) (sound : Sound be
   recorded_kept : (h : List ℕ) (f : MDBFileInfo) → found before.records h ≡ Some f → IsKept after.files after.folder after.opened after.shards f
   recorded_kept h f e = kept_now after (keeps.tells ∙ told) flushed none h f (ap (λ (rs : Records). found rs h) same ∙ e)
 
-  -- Where digests separate what the folder shows, they separate what the session showed before its flush.
-  pub separate_by_folder : (files : List (List (List ℕ))) → SeparateIn after.files after.folder after.opened files → Separate before files
-  separate_by_folder files apart = record {
-    chunks = apart_less chunk_hash (MetStored after.files after.folder files) (MetChunk before files) met_chunk apart.chunks;
-    xorbs = apart_less xorb_hash (MetBacked after.files after.folder) (MetXorb before) (λ members met. (met.0, backed_stays before after told sound keeps met.0 members met.1)) apart.xorbs;
+  -- Where digests separate what is met in the folder, they separate what the session showed before its flush: each
+  -- xorb that it lists is met.
+  pub separate_by_folder : (s : LimitSettings) (files : List (List (List ℕ))) → ((h : List ℕ) → IsSome (found before.xorbs h) → IsMet after.files after.folder after.opened s files h)
+      → SeparateIn after.files after.folder after.opened s files → Separate before files
+  separate_by_folder s files all_met apart = record {
+    chunks = apart_less chunk_hash (MetStored after.files after.folder after.opened s files) (MetChunk before files) met_chunk apart.chunks;
+    xorbs = apart_less xorb_hash (MetBacked after.files after.folder after.opened s files) (MetXorb before)
+        (λ members met. (met.0, all_met met.0 (is_some_found before.xorbs met.0 members met.1), backed_stays before after told sound keeps met.0 members met.1)) apart.xorbs;
     lists = apart_less file_hash (MetListed after.files after.folder after.opened files) (MetFile before files) met_file apart.lists;
   }
     where
-      met_chunk : (b : List ℕ) → MetChunk before files b → MetStored after.files after.folder files b
-      met_chunk b (inl (h, c, has, among)) = inl (h, c, stored_stays before after told keeps h c has.0 has.1, among)
+      met_chunk : (b : List ℕ) → MetChunk before files b → MetStored after.files after.folder after.opened s files b
+      met_chunk b (inl (h, c, has, among)) = inl (h, c, all_met h has.0, stored_stays before after told keeps h c has.0 has.1, among)
       met_chunk b (inr given) = inr given
 
       met_file : (members : List (List ℕ × ℕ)) → MetFile before files members → MetListed after.files after.folder after.opened files members

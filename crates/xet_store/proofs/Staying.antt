@@ -7,9 +7,9 @@ use Rattle.xet_io.specs.Disk.{Entry, Files, File, bytes_at, file_at, file_of}
 use Rattle.xet_shard.specs.declared.record.MDBFileInfo.{MDBFileInfo}
 use Rattle.xet_shard.specs.Held.{Held}
 use Rattle.xet_folder.specs.Names.{IsForeign, IsHash, shard_path, xorb_path}
-use Rattle.xet_folder.specs.Stored.{IsBacked, IsStored}
+use Rattle.xet_folder.specs.Stored.{IsBacked}
 use Rattle.xet_folder.specs.Xorbs.{IsListed, Records, Xorbs, found}
-use Rattle.xet_store.specs.Cleaning.{HasWholeShard, Keeps, SameEntry}
+use Rattle.xet_store.specs.Cleaning.{HasWholeShard, HasXorb, Keeps, SameEntry}
 use Rattle.xet_store.specs.Separate.{Among}
 use Rattle.xet_store.specs.Store.{State, IsAdmitted, IsKept, Sound}
 use Rattle.xet_store.proofs.Admitting.{admitted_still, backed_same}
@@ -45,13 +45,13 @@ pub same_bytes_at : (old new : Files) (name : List ℕ) → SameEntry old new na
 same_bytes_at old new name same = ap (λ (o : Option Entry). option_map (λ (f : File). f.bytes) (file_of o)) same
 
 -- A disk has what a store has put there still, and other files that are not a store's; under other names of xorbs and
--- shards it has what it had, or a xorb of that hash, or a whole shard.
+-- shards it has what it had, or a xorb of that hash, or a whole shard, which a crash keeps.
 pub record Stays (s : State) (tells : Bool) (files : Files) (faults : ℕ) : Type 0 where
   pub tells_same : tells ≡ s.tells
   pub later : s.faults ≤ faults
   pub xorb_files : s.tells ≡ true → (h : List ℕ) → IsSome (found s.xorbs h) → SameEntry s.files files (xorb_path s.folder h)
   pub shard_files : s.tells ≡ true → AllByRecursion (λ h. SameEntry s.files files (shard_path s.folder h)) s.shards
-  pub xorb_names : s.tells ≡ true → (h : List ℕ) → IsHash h → SameEntry s.files files (xorb_path s.folder h) ⊎ ((chunks : List (List ℕ)) × IsStored files s.folder h chunks)
+  pub xorb_names : s.tells ≡ true → (h : List ℕ) → IsHash h → SameEntry s.files files (xorb_path s.folder h) ⊎ HasXorb files s.folder h
   pub shard_names : s.tells ≡ true → (h : List ℕ) → IsHash h
       → SameEntry s.files files (shard_path s.folder h) ⊎ HasWholeShard (changed s tells files faults s.xorbs s.records s.shards s.pending) h
   pub foreign : s.tells ≡ true → (name : List ℕ) → IsForeign s.folder name → SameEntry s.files files name
@@ -94,14 +94,14 @@ module _ (s : State) (folder h : List ℕ) (tells : Bool) (files : Files) (fault
       → (s.tells ≡ true → (k : List ℕ) → IsHash k → k ≢ h → SameEntry s.files files (xorb_path folder k))
       → (s.tells ≡ true → (k : List ℕ) → IsHash k → SameEntry s.files files (shard_path folder k))
       → (s.tells ≡ true → (name : List ℕ) → IsForeign folder name → SameEntry s.files files name)
-      → (s.tells ≡ true → SameEntry s.files files (xorb_path s.folder h) ⊎ ((chunks : List (List ℕ)) × IsStored files s.folder h chunks)) → Stays s tells files faults
+      → (s.tells ≡ true → SameEntry s.files files (xorb_path s.folder h) ⊎ HasXorb files s.folder h) → Stays s tells files faults
   stays_xorb none xorbs shards foreign here = record {
     tells_same = tells_same;
     later = later;
     xorb_files = λ told k is. subst (λ (f : List ℕ). SameEntry s.files files (xorb_path f k)) same (xorbs told k (sound.hashes k is) (apart_found s.xorbs h k none is));
     shard_files = λ told. all_stay (λ k. SameEntry s.files files (shard_path s.folder k)) s.shards sound.shards_hashes (λ k is a. subst (λ (f : List ℕ). SameEntry s.files files (shard_path f k)) same (shards told k is));
     xorb_names = λ told k is. hash_cases k h
-        (λ e. subst (λ (x : List ℕ). SameEntry s.files files (xorb_path s.folder x) ⊎ ((chunks : List (List ℕ)) × IsStored files s.folder x chunks)) (sym e) (here told))
+        (λ e. subst (λ (x : List ℕ). SameEntry s.files files (xorb_path s.folder x) ⊎ HasXorb files s.folder x) (sym e) (here told))
         (λ apart. inl (subst (λ (f : List ℕ). SameEntry s.files files (xorb_path f k)) same (xorbs told k is apart)));
     shard_names = λ told k is. inl (subst (λ (f : List ℕ). SameEntry s.files files (shard_path f k)) same (shards told k is));
     foreign = λ told name is. foreign told name (subst (λ (f : List ℕ). IsForeign f name) (sym same) is);
@@ -153,7 +153,7 @@ module _ (s : State) (tells : Bool) (files : Files) (faults : ℕ) (stays : Stay
       shard_name : {h : List ℕ} → SameEntry s.files files (shard_path s.folder h) ⊎ HasWholeShard (changed s tells files faults s.xorbs s.records s.shards s.pending) h
           → SameEntry s.files files (shard_path s.folder h) ⊎ HasWholeShard (changed s tells files faults xorbs records shards pending) h
       shard_name (inl e) = inl e
-      shard_name (inr w) = inr (record { file = w.file; there = w.there; holds = w.holds; listed = λ x of. some x (found s.xorbs x) refl (w.listed x of) })
+      shard_name (inr w) = inr (record { shard = w.shard; listed = λ x of. some x (found s.xorbs x) refl (w.listed x of) })
 
   -- where only the disk has changed
   pub keeps_stays : Keeps s (changed s tells files faults s.xorbs s.records s.shards s.pending)

@@ -1,13 +1,18 @@
 -- What cleaning adds to a store's tables.
-use Rattle.std.proofs.Common.{◌≡◌, ◌≢◌, ◌∙◌, ℕ, zero, suc, ◌≤◌, ◌<◌, length, map, take, get_or, set, Bool, true, Result, Ok, Err, OnErr, List, [], ◌∷◌, Some, refl, sym, ap, arith}
+use Rattle.std.proofs.Common.{◌≡◌, ◌≢◌, ◌∙◌, ℕ, zero, suc, ◌≤◌, ◌<◌, drop, length, map, take, get_or, set, Vec, Global, Bool, true, Result, Ok, Err, OnErr, List, [], ◌∷◌, Some, refl, sym, ap, arith}
+use Rattle.std.proofs.Math.Seq.{drop-length}
 use Rattle.std.specs.List.{AllByRecursion}
 use Rattle.sha2.specs.Sha256.{sha256}
 use Rattle.xet_base.proofs.PieceLemmas.{pieces_none}
+use Rattle.xet_io.specs.Whole.{ReadsAll}
+use Rattle.xet_io.specs.declared.whole.Unread.{Unread}
+use Rattle.xet_io.specs.declared.whole.Unread.TheVariants.{Failed, OutOfMemory, TooLong}
 use Rattle.xet_hash.specs.Merkle.{members_of}
 use Rattle.xet_shard.specs.declared.record.FileDataSequenceEntry.{FileDataSequenceEntry as Segment}
 use Rattle.xet_shard.specs.declared.record.MDBFileInfo.{MDBFileInfo}
+use Rattle.xet_store.specs.declared.info.XetFileInfo.{XetFileInfo}
 use Rattle.xet_store.specs.declared.limits.LimitSettings.{LimitSettings}
-use Rattle.xet_store.specs.Cleaning.{EachTold, Later, Stores, StoresSome}
+use Rattle.xet_store.specs.Cleaning.{EachTold, Later, Stores, StoresSome, Taken, info_of}
 use Rattle.xet_store.specs.Cut.{cut, piece_len}
 use Rattle.xet_store.specs.Packing.{packs}
 use Rattle.xet_store.specs.Records.{file_record}
@@ -44,15 +49,16 @@ module _ {S : Type 0} (tells : S → Bool) (left : S → List ℕ) where
   each_own [] = tt
   each_own (s ∷ ss) = ((λ told. refl), each_own ss)
 
-  pub stores_none : (sources : List S) (old : State) → length sources ≡ 0 → Stores tells left sources old old
-  stores_none [] old none = ([], tt, refl)
+  pub stores_none : (sources : List S) (old : State) → length sources ≡ 0 → Stores tells left sources old old []
+  stores_none [] old none = ([], tt, refl, refl)
   stores_none (s ∷ ss) old none = absurd (omega (arith, none))
 
-  pub stores_one : (sources : List S) (d : S) (old new : State) → length sources ≤ 1 → 0 < length sources
-      → (bytes : List ℕ) × (tells (get_or sources 0 d) ≡ true → bytes ≡ left (get_or sources 0 d)) × (tables_of new ≡ with_file old.limits (tables_of old) bytes) → Stores tells left sources old new
-  stores_one [] d old new one some stored = absurd (omega (arith, some))
-  stores_one (s ∷ []) d old new one some (bytes, told, is) = (bytes ∷ [], (told, tt), is)
-  stores_one (s ∷ t ∷ ss) d old new one some stored = absurd (omega (arith, one))
+  pub stores_one : (sources : List S) (d : S) (old new : State) (info : XetFileInfo) → length sources ≤ 1 → 0 < length sources
+      → (bytes : List ℕ) × (tells (get_or sources 0 d) ≡ true → bytes ≡ left (get_or sources 0 d)) × (info ≡ info_of old.limits bytes) × (tables_of new ≡ with_file old.limits (tables_of old) bytes)
+      → Stores tells left sources old new (info ∷ [])
+  stores_one [] d old new info one some stored = absurd (omega (arith, some))
+  stores_one (s ∷ []) d old new info one some (bytes, told, answer, is) = (bytes ∷ [], (told, tt), ap (λ (i : XetFileInfo). i ∷ []) answer, is)
+  stores_one (s ∷ t ∷ ss) d old new info one some stored = absurd (omega (arith, one))
 
   -- where none is stored
   pub some_none : (sources : List S) (old new : State) → tables_of new ≡ tables_of old → StoresSome tells left sources old new
@@ -74,6 +80,23 @@ module _ {S : Type 0} (faults : S → ℕ) where
   pub later_first : (sources : List S) (d s : S) → faults (get_or sources 0 d) ≤ faults s → Later faults sources (set sources 0 s)
   later_first [] d s le = tt
   later_first (x ∷ xs) d s le = (le, later_same xs)
+
+-- what is left of sources of which the first has changed, or none
+module _ {S : Type 0} (tells : S → Bool) (left : S → List ℕ) where
+  pub taken_same : (sources : List S) → Taken tells left sources sources
+  taken_same [] = tt
+  taken_same (s ∷ ss) = (λ told. (0, refl), taken_same ss)
+
+  pub taken_first : (sources : List S) (d s : S) → (tells (get_or sources 0 d) ≡ true → (n : ℕ) × (left s ≡ drop n (left (get_or sources 0 d)))) → Taken tells left sources (set sources 0 s)
+  taken_first [] d s front = tt
+  taken_first (x ∷ xs) d s front = (front, taken_same xs)
+
+-- what reading a source leaves is behind a front
+pub taken_by_read : (most : ℕ) (left rest : List ℕ) (r : Result (Vec ℕ Global) Unread) → ReadsAll most left r rest → (n : ℕ) × (rest ≡ drop n left)
+taken_by_read most left rest (Ok bytes) h = (length left, h.1 ∙ sym (drop-length left))
+taken_by_read most left rest (Err TooLong) h = h.1
+taken_by_read most left rest (Err OutOfMemory) h = h
+taken_by_read most left rest (Err Failed) h = h
 
 -- ---- of one source at most
 

@@ -1,7 +1,8 @@
 -- Cleaning: files into a store.
-use Rattle.std.specs.Prelude.{◌≡◌, ◌⊎◌, ℕ, zero, suc, ◌<◌, ◌≤◌, Bool, true, List, [], ◌∷◌, ◌++◌, length, map, Some, None, IsSome}
+use Rattle.std.specs.Prelude.{◌≡◌, ◌⊎◌, ℕ, zero, suc, ◌<◌, ◌≤◌, Bool, true, List, [], ◌∷◌, ◌++◌, drop, length, map, Some, None, IsSome}
 use Rattle.std.specs.FinMap.{get}
 use Rattle.std.specs.List.{AllByRecursion}
+use Rattle.std.specs.Option.{option_map}
 use Rattle.sha2.specs.Sha256.{sha256}
 use Rattle.xet_io.specs.Disk.{File, Files, file_at}
 use Rattle.xet_io.specs.Faults.{Rose}
@@ -42,6 +43,13 @@ Later faults [] (t ∷ ts) = ⊥
 Later faults (s ∷ ss) [] = ⊥
 Later faults (s ∷ ss) (t ∷ ts) = (faults s ≤ faults t) × Later faults ss ts
 
+-- of each source that is observable a front of what it had left was taken
+abbrev pub Taken : {S : Type 0} → (S → Bool) → (S → List ℕ) → List S → List S → Type 0
+Taken tells left [] [] = Unit {0}
+Taken tells left [] (t ∷ ts) = ⊥
+Taken tells left (s ∷ ss) [] = ⊥
+Taken tells left (s ∷ ss) (t ∷ ts) = (tells s ≡ true → (n : ℕ) × (left t ≡ drop n (left s))) × Taken tells left ss ts
+
 -- the chunks of each source
 abbrev pub cuts : {S : Type 0} → (S → List ℕ) → LimitSettings → List S → List (List (List ℕ))
 cuts left s sources = map (λ source. cut s (left source)) sources
@@ -62,16 +70,31 @@ HasXorbs s chunks = IsPacked s.files s.folder s.limits chunks
 abbrev pub SameEntry : Files → Files → List ℕ → Type 0
 SameEntry old new name = get new name ≡ get old name
 
--- A whole shard stands in a store's folder under the name of its digest; what it names is stored and listed.
-pub record HasWholeShard (s : State) (h : List ℕ) : Type 0 where
+-- A crash keeps what stands under a name.
+abbrev pub IsStable : Files → List ℕ → Type 0
+IsStable files name = option_map (λ e. e.stable) (get files name) ≡ Some true
+
+-- The xorb h stands in a folder, and a crash keeps it.
+pub record HasXorb (files : Files) (folder h : List ℕ) : Type 0 where
+  pub chunks : List (List ℕ)
+  pub stored : IsStored files folder h chunks
+  pub stable : IsStable files (xorb_path folder h)
+
+-- A whole shard stands in a folder under the name of its digest, and a crash keeps it; what it names is stored.
+pub record HasShard (files : Files) (folder h : List ℕ) : Type 0 where
   pub file : File
-  pub there : file_at s.files (shard_path s.folder h) ≡ Some file
-  pub holds : ShardHolds s.files s.folder (record { hash = h; file = file })
-  pub listed : (x : List ℕ) → OfBytes file.bytes x → IsSome (found s.xorbs x)
+  pub there : file_at files (shard_path folder h) ≡ Some file
+  pub stable : IsStable files (shard_path folder h)
+  pub holds : ShardHolds files folder (record { hash = h; file = file })
+
+-- The same in a store's folder, and the store lists what it names.
+pub record HasWholeShard (s : State) (h : List ℕ) : Type 0 where
+  pub shard : HasShard s.files s.folder h
+  pub listed : (x : List ℕ) → OfBytes shard.file.bytes x → IsSome (found s.xorbs x)
 
 -- What no call takes away: folder, limits and time of opening, listed xorbs and registered shards with their
 -- files, earlier records in their order, and files that are not a store's. Under a xorb's name no file has changed but to
--- a xorb of that hash, under a shard's none but to a whole shard.
+-- a xorb of that hash, under a shard's none but to a whole shard, and a crash keeps those.
 pub record Keeps (old new : State) : Type 0 where
   pub tells : new.tells ≡ old.tells
   pub folder : new.folder ≡ old.folder
@@ -84,7 +107,7 @@ pub record Keeps (old new : State) : Type 0 where
   pub xorb_files : old.tells ≡ true → (h : List ℕ) → IsSome (found old.xorbs h) → SameEntry old.files new.files (xorb_path old.folder h)
   pub shard_files : old.tells ≡ true → AllByRecursion (λ h. SameEntry old.files new.files (shard_path old.folder h)) old.shards
   pub xorb_names : old.tells ≡ true → (h : List ℕ) → IsHash h
-      → SameEntry old.files new.files (xorb_path old.folder h) ⊎ ((chunks : List (List ℕ)) × IsStored new.files new.folder h chunks)
+      → SameEntry old.files new.files (xorb_path old.folder h) ⊎ HasXorb new.files new.folder h
   pub shard_names : old.tells ≡ true → (h : List ℕ) → IsHash h → SameEntry old.files new.files (shard_path old.folder h) ⊎ HasWholeShard new h
   pub foreign : old.tells ≡ true → (name : List ℕ) → IsForeign old.folder name → SameEntry old.files new.files name
 
@@ -95,10 +118,12 @@ Adds old new hashes =
     (added : Records) × (new ≡ old ++ added) × Differ added
     × AllByRecursion (λ r. (found old r.0 ≡ None) × IsSome (found (map (λ h. (h, r.1)) hashes) r.0)) added
 
--- The files that were read are stored: those of the sources that are observable are their bytes.
-abbrev pub Stores : {S : Type 0} → (S → Bool) → (S → List ℕ) → List S → State → State → Type 0
-Stores tells left sources old new =
-    (files : List (List ℕ)) × EachTold tells left (λ bytes file. file ≡ bytes) sources files × (tables_of new ≡ with_files old.limits (tables_of old) files)
+-- The files that were read are those that are answered and stored: those of the sources that are observable are their
+-- bytes.
+abbrev pub Stores : {S : Type 0} → (S → Bool) → (S → List ℕ) → List S → State → State → List XetFileInfo → Type 0
+Stores tells left sources old new infos =
+    (files : List (List ℕ)) × EachTold tells left (λ bytes file. file ≡ bytes) sources files × (infos ≡ map (info_of old.limits) files)
+    × (tables_of new ≡ with_files old.limits (tables_of old) files)
 
 -- Some of them are.
 abbrev pub StoresSome : {S : Type 0} → (S → Bool) → (S → List ℕ) → List S → State → State → Type 0

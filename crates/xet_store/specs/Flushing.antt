@@ -1,13 +1,16 @@
 -- What a flush does.
-use Rattle.std.specs.Prelude.{◌≡◌, ◌≢◌, ◌⊎◌, ℕ, true, List, [], ◌∷◌, ◌++◌, Some, None}
+use Rattle.std.specs.Prelude.{◌≡◌, ◌≢◌, ℕ, ◌<◌, ◌^◌, true, List, [], ◌∷◌, ◌++◌, Some, None}
 use Rattle.std.specs.FinMap.{get}
-use Rattle.std.specs.Option.{option_map}
+use Rattle.std.specs.List.{IsAmong}
 use Rattle.xet_io.specs.Disk.{Files, bytes_at}
+use Rattle.xet_shard.specs.declared.record.MDBFileInfo.{MDBFileInfo}
 use Rattle.xet_shard.specs.Held.{held_shard, nothing}
 use Rattle.xet_shard.specs.Text.{full_text}
 use Rattle.xet_folder.specs.Admission.{shard_hash}
+use Rattle.xet_folder.specs.Listed.{Lists}
 use Rattle.xet_folder.specs.Names.{shard_path, temp_name}
-use Rattle.xet_store.specs.Cleaning.{SameEntry}
+use Rattle.xet_folder.specs.Puts.{IsKeptOrDone}
+use Rattle.xet_store.specs.Cleaning.{IsStable, SameEntry}
 use Rattle.xet_store.specs.Store.{State}
 
 -- the shard of what is pending, created at the time of opening and without expiry
@@ -18,24 +21,26 @@ pending_text s = full_text (held_shard s.pending s.opened None)
 abbrev pub KeepsOthers : Files → Files → List ℕ → Type 0
 KeepsOthers old new name = (other : List ℕ) → other ≢ name → other ≢ temp_name name → SameEntry old new other
 
--- What was pending is kept by the shard of this hash, which is durable and the last registered one; nothing else
--- changes.
+-- What was pending is kept by the shard of this hash, which is durable and the last registered one, so that each file
+-- that was pending is listed at every moment; nothing else changes.
 pub record IsFlushed (old : State) (h : List ℕ) (new : State) : Type 0 where
   pub hash : h ≡ shard_hash (pending_text old)
   pub there : old.tells ≡ true → bytes_at new.files (shard_path old.folder h) ≡ Some (pending_text old)
-  pub durable : old.tells ≡ true → option_map (λ e. e.stable) (get new.files (shard_path old.folder h)) ≡ Some true
+  pub durable : old.tells ≡ true → IsStable new.files (shard_path old.folder h)
+  pub temp : old.tells ≡ true → get new.files (temp_name (shard_path old.folder h)) ≡ None
   pub others : old.tells ≡ true → KeepsOthers old.files new.files (shard_path old.folder h)
+  pub lasts : old.tells ≡ true → (f : MDBFileInfo) → IsAmong old.pending.files f → (moment : ℕ) → moment < 2 ^ 64 → Lists new.files new.folder moment f
   pub registered : new.shards ≡ old.shards ++ h ∷ []
   pub nothing_pending : new.pending ≡ nothing
   pub xorbs : new.xorbs ≡ old.xorbs
   pub records : new.records ≡ old.records
 
--- After an error all is as it was but the disk: there the shard's file is as it was, or it is the whole shard.
+-- After an error all is as it was but the disk: there the shard's file is as it was, or it is the whole shard, and a
+-- crash keeps it.
 pub record IsUnflushed (old new : State) : Type 0 where
   pub pending : new.pending ≡ old.pending
   pub registered : new.shards ≡ old.shards
   pub xorbs : new.xorbs ≡ old.xorbs
   pub records : new.records ≡ old.records
   pub others : old.tells ≡ true → KeepsOthers old.files new.files (shard_path old.folder (shard_hash (pending_text old)))
-  pub whole : old.tells ≡ true → SameEntry old.files new.files (shard_path old.folder (shard_hash (pending_text old)))
-      ⊎ (bytes_at new.files (shard_path old.folder (shard_hash (pending_text old))) ≡ Some (pending_text old))
+  pub whole : old.tells ≡ true → IsKeptOrDone old.files new.files (shard_path old.folder (shard_hash (pending_text old))) (pending_text old)

@@ -1,15 +1,19 @@
 -- Digests separate what was met: in what a store and some files show, equal digests have equal
 -- contents, and no digest is zero or the marker. BLAKE3 is believed to do so for all that is ever met;
 -- no one can prove it.
-use Rattle.std.specs.Prelude.{◌≡◌, ◌≢◌, ◌⊎◌, ℕ, ◌<◌, List, [], ◌∷◌, length, Some, IsSome}
+use Rattle.std.specs.Prelude.{◌≡◌, ◌≢◌, ◌⊎◌, ℕ, ◌<◌, false, List, [], ◌∷◌, length, Some, IsSome}
 use Rattle.xet_io.specs.Disk.{Files}
 use Rattle.xet_hash.specs.Hash.{marker, zero_hash}
 use Rattle.xet_hash.specs.Merkle.{chunk_hash, xorb_hash, file_hash, members_of}
 use Rattle.xet_shard.specs.declared.record.MDBFileInfo.{MDBFileInfo}
+use Rattle.xet_folder.specs.Checks.{OfBytes}
 use Rattle.xet_folder.specs.Listed.{Lists}
 use Rattle.xet_folder.specs.Plan.{Joins}
+use Rattle.xet_folder.specs.Shards.{IsThere, ShardFile, is_expired}
 use Rattle.xet_folder.specs.Stored.{IsBacked, IsStored}
 use Rattle.xet_folder.specs.Xorbs.{IsListed, found}
+use Rattle.xet_store.specs.declared.limits.LimitSettings.{LimitSettings}
+use Rattle.xet_store.specs.Packing.{packs}
 use Rattle.xet_store.specs.Store.{State}
 
 abbrev pub Among : {X : Type 0} → List X → X → Type 0
@@ -31,10 +35,23 @@ abbrev pub MetChunk : State → List (List (List ℕ)) → List ℕ → Type 0
 MetChunk s files b =
     ((h : List ℕ) × (c : List (List ℕ)) × HasChunks s h c × Among c b) ⊎ ((f : List (List ℕ)) × Among files f × Among f b)
 
--- a chunk of a xorb that stands in a folder, or of one of these files
-abbrev pub MetStored : Files → List ℕ → List (List (List ℕ)) → List ℕ → Type 0
-MetStored disk folder files b =
-    ((h : List ℕ) × (c : List (List ℕ)) × IsStored disk folder h c × Among c b) ⊎ ((f : List (List ℕ)) × Among files f × Among f b)
+-- a shard of a folder that is valid at a moment names the xorb h
+abbrev pub IsNamed : Files → List ℕ → ℕ → List ℕ → Type 0
+IsNamed disk folder now h = (shard : ShardFile) × IsThere disk folder shard × (is_expired now shard.file.bytes ≡ false) × OfBytes shard.file.bytes h
+
+-- chunks of one of these files are packed into the xorb h
+abbrev pub IsPackOf : LimitSettings → List (List (List ℕ)) → List ℕ → Type 0
+IsPackOf s files h = (f : List (List ℕ)) × Among files f × (pack : List (List ℕ)) × Among (packs s f) pack × (xorb_hash (members_of pack) ≡ h)
+
+-- The xorbs that are met in a folder at a moment, with these files: those that a valid shard names, and those into
+-- which the files are packed. What else stands there is not met.
+abbrev pub IsMet : Files → List ℕ → ℕ → LimitSettings → List (List (List ℕ)) → List ℕ → Type 0
+IsMet disk folder now s files h = IsNamed disk folder now h ⊎ IsPackOf s files h
+
+-- a chunk of such a xorb, as it stands there, or of one of these files
+abbrev pub MetStored : Files → List ℕ → ℕ → LimitSettings → List (List (List ℕ)) → List ℕ → Type 0
+MetStored disk folder now s files b =
+    ((h : List ℕ) × (c : List (List ℕ)) × IsMet disk folder now s files h × IsStored disk folder h c × Among c b) ⊎ ((f : List (List ℕ)) × Among files f × Among f b)
 
 -- the members of a listed xorb
 abbrev pub MetXorb : State → List (List ℕ × ℕ) → Type 0
@@ -58,12 +75,12 @@ MetListed disk folder now files members =
     ((f : MDBFileInfo) × Lists disk folder now f × Joins (IsBacked disk folder) (λ m. m.1) f.segments members × (0 < length members))
     ⊎ ((f : List (List ℕ)) × Among files f × (0 < length f) × (members ≡ members_of f))
 
--- the members of a xorb that stands in a folder
-abbrev pub MetBacked : Files → List ℕ → List (List ℕ × ℕ) → Type 0
-MetBacked disk folder members = (h : List ℕ) × IsBacked disk folder h members
+-- the members of a xorb that is met in a folder
+abbrev pub MetBacked : Files → List ℕ → ℕ → LimitSettings → List (List (List ℕ)) → List (List ℕ × ℕ) → Type 0
+MetBacked disk folder now s files members = (h : List ℕ) × IsMet disk folder now s files h × IsBacked disk folder h members
 
--- Digests separate what stands in a folder at a moment, and these files, each as its chunks.
-pub record SeparateIn (disk : Files) (folder : List ℕ) (now : ℕ) (files : List (List (List ℕ))) : Type 0 where
-  pub chunks : Apart chunk_hash (MetStored disk folder files)
-  pub xorbs : Apart xorb_hash (MetBacked disk folder)
+-- Digests separate what is met in a folder at a moment, and these files, each as its chunks.
+pub record SeparateIn (disk : Files) (folder : List ℕ) (now : ℕ) (s : LimitSettings) (files : List (List (List ℕ))) : Type 0 where
+  pub chunks : Apart chunk_hash (MetStored disk folder now s files)
+  pub xorbs : Apart xorb_hash (MetBacked disk folder now s files)
   pub lists : Apart file_hash (MetListed disk folder now files)

@@ -1,10 +1,10 @@
 //! Files into a store.
 
-ghost use Rattle.std.specs.Prelude.{◌≡◌, ◌≤◌, ◌<◌, ◌^◌, ◌∷◌, [], ℕ, List, true, length, map, take, OnOk, OnErr, IfOk, IfErr, IsSome};
+ghost use Rattle.std.specs.Prelude.{◌≡◌, ◌≤◌, ◌<◌, ◌^◌, ◌∷◌, [], ℕ, List, true, drop, length, map, take, OnOk, OnErr, IfOk, IfErr, IsSome};
 ghost use Rattle.std.specs.List.{AllByRecursion};
 ghost use Rattle.xet_hash.specs.Merkle.{chunk_hash};
 ghost use Rattle.xet_chunk.specs.Chunks.{bytes_of, chunk_member, total};
-ghost use Rattle.xet_store.specs.Cleaning.{Adds, EachTold, HasFile, HasReason, HasXorbs, Keeps, Later, Stores, StoresSome, cuts, info_of};
+ghost use Rattle.xet_store.specs.Cleaning.{Adds, EachTold, HasFile, HasReason, HasXorbs, Keeps, Later, Stores, StoresSome, Taken, cuts, info_of};
 ghost use Rattle.xet_store.specs.Cut.{cut};
 ghost use Rattle.xet_folder.specs.Plan.{Joins};
 ghost use Rattle.xet_folder.specs.Refusals.{HasDiskReason};
@@ -57,17 +57,19 @@ pub fn clean_files<D: Disk + Send, S: Source + Send>(
     ensures listed { AllByRecursion (λ s. S.tells s ≡ true) sources.old → OnOk result.1 (AllByRecursion (ListsXorbs result.0) (cuts S.left session.limits sources.old)) }
 
     // Nothing is taken away, whatever the answer; new records stand after the earlier ones, each of a
-    // source. What is listed, recorded and pending is what was, with each source's file in turn; after an
-    // error with some of them.
+    // source. What is listed, recorded and pending is what was, with each source's file in turn, which is the one
+    // that is answered; after an error with some of them.
     ensures keeps { Keeps session result.0 }
     ensures adds { IfOk result.1 (λ cleaned. Adds session.records result.0.records (map (λ info. info.hash) cleaned.infos.items)) }
     ensures err { OnErr result.1 (result.0.records ≡ session.records) }
     ensures shards { result.0.shards ≡ session.shards }
-    ensures stores { OnOk result.1 (Stores S.tells S.left sources.old session result.0) }
+    ensures stores { IfOk result.1 (λ cleaned. Stores S.tells S.left sources.old session result.0 cleaned.infos.items) }
     ensures some { OnErr result.1 (StoresSome S.tells S.left sources.old session result.0) }
 
-    // Each source is observable or not, as before, and its count has not fallen. An error has a reason.
+    // Each source is observable or not, as before, a front of what it had left was taken, whatever the answer, and
+    // its count has not fallen. An error has a reason.
     ensures sources_tell { map S.tells sources.new ≡ map S.tells sources.old }
+    ensures sources_taken { Taken S.tells S.left sources.old sources.new }
     ensures sources_later { Later S.faults sources.old sources.new }
     ensures reason { IfErr result.1 (HasReason S.tells S.left S.faults sources.old sources.new session result.0) }
 {
@@ -93,9 +95,10 @@ fn clean_all<D: Disk + Send, S: Source + Send>(
     ensures adds { IfOk result (λ cleaned. Adds session.old.records session.new.records (map (λ info. info.hash) cleaned.infos.items)) }
     ensures err { OnErr result (session.new.records ≡ session.old.records) }
     ensures shards { session.new.shards ≡ session.old.shards }
-    ensures stores { OnOk result (Stores S.tells S.left sources.old session.old session.new) }
+    ensures stores { IfOk result (λ cleaned. Stores S.tells S.left sources.old session.old session.new cleaned.infos.items) }
     ensures some { OnErr result (StoresSome S.tells S.left sources.old session.old session.new) }
     ensures sources_tell { map S.tells sources.new ≡ map S.tells sources.old }
+    ensures sources_taken { Taken S.tells S.left sources.old sources.new }
     ensures sources_later { Later S.faults sources.old sources.new }
     ensures reason { IfErr result (HasReason S.tells S.left S.faults sources.old sources.new session.old session.new) }
 {
@@ -120,9 +123,11 @@ fn clean_source<D: Disk + Send, S: Source + Send>(
     ensures xorbs { S.tells source.old ≡ true → OnOk result (ListsXorbs session.new (cut session.old.limits (S.left source.old))) }
     ensures err { OnErr result (session.new.records ≡ session.old.records) }
     ensures shards { session.new.shards ≡ session.old.shards }
-    ensures stores { OnOk result ((bytes : List ℕ) × (S.tells source.old ≡ true → bytes ≡ S.left source.old) × (tables_of session.new ≡ with_file session.old.limits (tables_of session.old) bytes)) }
+    ensures stores { IfOk result (λ info. (bytes : List ℕ) × (S.tells source.old ≡ true → bytes ≡ S.left source.old) × (info ≡ info_of session.old.limits bytes)
+        × (tables_of session.new ≡ with_file session.old.limits (tables_of session.old) bytes)) }
     ensures some { OnErr result ((bytes : List ℕ) × (n : ℕ) × (S.tells source.old ≡ true → bytes ≡ S.left source.old)
         × (tables_of session.new ≡ with_xorbs (tables_of session.old) (take n (packs session.old.limits (cut session.old.limits bytes))))) }
+    ensures taken { S.tells source.old ≡ true → (n : ℕ) × (S.left source.new ≡ drop n (S.left source.old)) }
     ensures tells { S.tells source.new ≡ S.tells source.old }
     ensures reason { IfErr result (HasReasonOfOne S.tells S.left S.faults source.old source.new session.old session.new) }
     ensures later { S.faults source.old ≤ S.faults source.new }
@@ -197,6 +202,7 @@ fn read_source<S: Source>(
     ensures bytes { S.tells source.old ≡ true → IfOk result (λ bytes. bytes.items ≡ S.left source.old) }
     ensures read { S.tells source.old ≡ true → OnOk result (S.left source.new ≡ []) }
     ensures short { IfOk result (λ bytes. length bytes.items ≤ limits.now.max_source_bytes) }
+    ensures taken { S.tells source.old ≡ true → (n : ℕ) × (S.left source.new ≡ drop n (S.left source.old)) }
     ensures tells { S.tells source.new ≡ S.tells source.old }
     ensures later { S.faults source.old ≤ S.faults source.new }
     ensures reason { IfErr result (HasSourceReason (S.tells source.old) (S.left source.old) (S.faults source.old) (S.faults source.new) limits.now.max_source_bytes) }

@@ -1,8 +1,7 @@
 //! The store: xorbs and shards in a folder of a disk, and the plans of files over them.
 
-ghost use Rattle.std.specs.Prelude.{◌≡◌, ◌<◌, ◌^◌, length, IfOk, IsOkUnless};
+ghost use Rattle.std.specs.Prelude.{◌≡◌, length, IfOk, IsOkUnless};
 ghost use Rattle.std.specs.Option.{option_map};
-ghost use Rattle.xet_folder.specs.Plan.{plan_bytes};
 ghost use Rattle.xet_folder.specs.Xorbs.{found};
 ghost use Rattle.xet_store.specs.Store.{Differ, files_of, plan_of};
 
@@ -16,7 +15,7 @@ use indexmap::IndexMap;
 use std::alloc::Global;
 use std::marker::{Model, Send};
 use xet_base::Text;
-use xet_folder::Members;
+use xet_folder::{Members, Plan, RecordedFile};
 use xet_hash::{MerkleHash, StoreError};
 use xet_io::Disk;
 use xet_shard::{FileDataSequenceEntry, MDBFileInfo, MDBInMemoryShard};
@@ -33,7 +32,7 @@ pub struct Store<D: Disk + Send> {
     /// The digests and lengths of each listed xorb's chunks.
     xorbs: IndexMap<MerkleHash, Members>,
     /// The record of each recorded file.
-    records: IndexMap<MerkleHash, MDBFileInfo>,
+    records: IndexMap<MerkleHash, RecordedFile>,
     /// The registered shards.
     shards: Vec<MerkleHash>,
     /// What no shard keeps yet.
@@ -115,7 +114,7 @@ impl<D: Disk + Send> Store<D> {
         ensures memory { IsOkUnless result StoreError.OutOfMemory }
     {
         match plan_in(&self.records, hash) {
-            Some(segments) => Ok(Some(Vec::from_slice(alloc, segments)?)),
+            Some(plan) => Ok(Some(Vec::from_slice(alloc, plan.segments())?)),
             None => Ok(None),
         }
     }
@@ -124,7 +123,10 @@ impl<D: Disk + Send> Store<D> {
     pub fn record(&self, hash: &MerkleHash) -> Option<&MDBFileInfo>
         ensures { option_map (λ file. file.now) result ≡ found self.now.records hash.now }
     {
-        self.records.get(hash)
+        match self.records.get(hash) {
+            Some(record) => Some(record.file()),
+            None => None,
+        }
     }
 
     /// Hash and length in bytes of each recorded file, in order of recording and each hash once. The empty file
@@ -136,7 +138,7 @@ impl<D: Disk + Send> Store<D> {
     {
         let mut files = Vec::with_capacity(alloc, self.records.len())?;
         for (hash, record) in &self.records {
-            files.push((*hash, plan_bytes(record.segments.as_slice())))?;
+            files.push((*hash, record.plan().length()))?;
         }
         Ok(files)
     }
@@ -162,29 +164,18 @@ impl<D: Disk + Send> Store<D> {
     }
 }
 
-/// The segments of a file's plan; none where it is not recorded. The empty file has the empty plan.
+/// The plan of a file; none where it is not recorded. The empty file has the empty plan.
 fn plan_in<'a>(
-    records: &'a IndexMap<MerkleHash, MDBFileInfo>,
+    records: &'a IndexMap<MerkleHash, RecordedFile>,
     hash: &MerkleHash,
-) -> Option<&'a [FileDataSequenceEntry]>
-    ensures { option_map (λ plan. plan.now) result ≡ plan_of records.now.entries hash.now }
+) -> Option<Plan<'a>>
+    ensures { result ≡ plan_of records.now.entries hash.now }
 {
     if *hash == MerkleHash::default() {
-        return Some(&[]);
+        return Some(Plan::empty());
     }
     match records.get(hash) {
-        Some(record) => Some(record.segments.as_slice()),
+        Some(record) => Some(record.plan()),
         None => None,
     }
-}
-
-/// The bytes of a plan.
-fn plan_bytes(segments: &[FileDataSequenceEntry]) -> u64
-    requires { plan_bytes segments.now < 2 ^ 64 }
-    ensures { result ≡ plan_bytes segments.now }
-{
-    segments
-        .iter()
-        .map(|segment| u64::from(segment.unpacked_segment_bytes))
-        .sum()
 }

@@ -1,16 +1,25 @@
 //! Files that are cleaned and flushed. What a session shows is gathered first, and then compared at once.
 
-use crate::folders::read_listed;
+use crate::folders::{Listed, hash_of, read_listed, text_of};
 use crate::session::{Session, bytes_of};
 use std::alloc::Global;
 use std::test::Fail;
-use xet_folder::{shard_path, xorb_path};
+use xet_folder::xorb_path;
 use xet_hash::{MerkleHash, StoreError, compute_data_hash};
+use xet_io::MemoryDisk;
 use xet_shard::FileDataSequenceEntry;
 use xet_store::XetFileInfo;
 
 /// The hash of the file `abc`, in hexadecimal.
 const ABC: &str = "8679a9c73b087ee02033e84569cba8c79c2413d79f99a1e9bd1ae79ae88776cf";
+
+/// A new session in which a file of these bytes was cleaned, and the answer.
+fn made(
+    alloc: Global,
+    bytes: &[u8],
+) -> Result<(Session, Result<XetFileInfo, StoreError>), StoreError> {
+    Ok(Session::new(alloc)?.clean(bytes))
+}
 
 /// Whether a pointer record has the hash and the length of `abc`.
 fn is_abc(alloc: Global, info: &XetFileInfo) -> Result<bool, StoreError> {
@@ -37,15 +46,40 @@ fn is_xorb_of_abc(text: &[u8]) -> bool {
         && text.ends_with(&[0x84, 0, 0, 0])
 }
 
+/// Whether the record and the plan of `abc` are as they are to be.
+fn records_abc(
+    alloc: Global,
+    session: &Session,
+    info: &Result<XetFileInfo, StoreError>,
+) -> Result<(bool, bool), StoreError> {
+    match info {
+        Ok(info) => Ok((is_abc(alloc, info)?, plans_abc(session, info)?)),
+        Err(error) => Err(*error),
+    }
+}
+
+/// Whether the xorb of `abc` is as it is to be.
+fn stores_abc(alloc: Global, disk: &MemoryDisk) -> Result<bool, StoreError> {
+    let name = xorb_path(alloc, "store", &compute_data_hash(b"abc"))?;
+    let text = bytes_of(alloc, disk, name.as_str())?;
+    Ok(is_xorb_of_abc(&text))
+}
+
+/// An answer of two things, and one of a third.
+fn all_three(
+    first: Result<(bool, bool), StoreError>,
+    third: Result<bool, StoreError>,
+) -> Result<(bool, bool, bool), StoreError> {
+    let (record, plan) = first?;
+    Ok((record, plan, third?))
+}
+
 /// Cleans `abc`: whether its record, its plan and its xorb are as they are to be.
 fn cleans_abc(alloc: Global) -> Result<(bool, bool, bool), StoreError> {
-    let (session, info) = Session::new(alloc)?.clean(b"abc")?;
-    let record = is_abc(alloc, &info)?;
-    let plan = plans_abc(&session, &info)?;
-    let name = xorb_path(alloc, "store", &compute_data_hash(b"abc"))?;
+    let (session, info) = made(alloc, b"abc")?;
+    let recorded = records_abc(alloc, &session, &info);
     let disk = session.into_disk();
-    let text = bytes_of(alloc, &disk, name.as_str())?;
-    Ok((record, plan, is_xorb_of_abc(&text)))
+    all_three(recorded, stores_abc(alloc, &disk))
 }
 
 #[test]
@@ -54,14 +88,25 @@ fn stores_a_file_of_one_chunk(rt: HostRuntime) -> Result<(), Fail> {
     Ok(())
 }
 
-/// Cleans the empty file and flushes: whether nothing was put, the hash is zero and its plan empty, and how
-/// many xorbs and files there are.
-fn cleans_nothing(alloc: Global) -> Result<(bool, bool, u64, usize), StoreError> {
-    let (mut session, info) = Session::new(alloc)?.clean(b"")?;
-    let idle = session.flush()?.is_none();
+/// Flushes after the empty file: whether nothing was put, the hash is zero and its plan empty, and how many
+/// xorbs and files there are.
+fn shows_nothing(
+    session: &mut Session,
+    hash: Result<MerkleHash, StoreError>,
+) -> Result<(bool, bool, u64, usize), StoreError> {
     let zero = MerkleHash::default();
-    let empty = info.hash == zero && session.plan(&zero)?.is_empty();
+    let zeros = hash? == zero;
+    let idle = session.flush()?.is_none();
+    let empty = zeros && session.plan(&zero)?.is_empty();
     Ok((idle, empty, session.xorb_count(), session.files()?.len()))
+}
+
+/// Cleans the empty file: what the session then shows.
+fn cleans_nothing(alloc: Global) -> Result<(bool, bool, u64, usize), StoreError> {
+    let (mut session, info) = made(alloc, b"")?;
+    let answer = shows_nothing(&mut session, hash_of(&info));
+    session.close();
+    answer
 }
 
 #[test]
@@ -85,17 +130,45 @@ fn is_packed(plan: &[FileDataSequenceEntry]) -> bool {
     }
 }
 
-/// Cleans `abc` and then 200 zeros: whether these have two segments of two chunks each, whether the plan of
-/// `abc` is unchanged, and how many xorbs and files there are.
-fn cleans_two(alloc: Global) -> Result<(bool, bool, u64, usize), StoreError> {
-    let (session, first) = Session::new(alloc)?.clean(b"abc")?;
-    let before = session.plan(&first.hash)?;
-    let (session, second) = session.clean(&[0; 200])?;
-    let plan = session.plan(&second.hash)?;
-    let packed = is_packed(plan.as_slice());
-    let again = session.plan(&first.hash)?;
-    let kept = again.as_slice() == before.as_slice();
+/// The plan of a file that was cleaned.
+fn planned(
+    session: &Session,
+    info: &Result<XetFileInfo, StoreError>,
+) -> Result<Vec<FileDataSequenceEntry>, StoreError> {
+    session.plan(&hash_of(info)?)
+}
+
+/// Whether the plan of a file is as before.
+fn keeps_plan(
+    session: &Session,
+    info: &Result<XetFileInfo, StoreError>,
+    before: Result<Vec<FileDataSequenceEntry>, StoreError>,
+) -> Result<bool, StoreError> {
+    let before = before?;
+    Ok(planned(session, info)?.as_slice() == before.as_slice())
+}
+
+/// Whether the second file has two segments of two chunks each, whether the plan of the first is as before,
+/// and how many xorbs and files there are.
+fn shows_two(
+    session: &Session,
+    first: &Result<XetFileInfo, StoreError>,
+    before: Result<Vec<FileDataSequenceEntry>, StoreError>,
+    second: &Result<XetFileInfo, StoreError>,
+) -> Result<(bool, bool, u64, usize), StoreError> {
+    let packed = is_packed(planned(session, second)?.as_slice());
+    let kept = keeps_plan(session, first, before)?;
     Ok((packed, kept, session.xorb_count(), session.files()?.len()))
+}
+
+/// Cleans `abc` and then 200 zeros: what the session then shows of the two.
+fn cleans_two(alloc: Global) -> Result<(bool, bool, u64, usize), StoreError> {
+    let (session, first) = made(alloc, b"abc")?;
+    let before = planned(&session, &first);
+    let (session, second) = session.clean(&[0; 200]);
+    let answer = shows_two(&session, &first, before, &second);
+    session.close();
+    answer
 }
 
 #[test]
@@ -104,28 +177,51 @@ fn packs_chunks_in_order_and_keeps_earlier_plans(rt: HostRuntime) -> Result<(), 
     Ok(())
 }
 
-/// Cleans `abc` and flushes: the shard's text, whether that is under the name of its digest, and whether
-/// there was nothing to flush afterwards.
-fn flushes_abc(alloc: Global) -> Result<(Vec<u8>, bool, bool), StoreError> {
-    let (mut session, _) = Session::new(alloc)?.clean(b"abc")?;
+/// Flushes twice after a file: the shard, and whether there was nothing to flush the second time.
+fn flushes_twice(
+    session: &mut Session,
+    file: Result<MerkleHash, StoreError>,
+) -> Result<(MerkleHash, bool), StoreError> {
+    let _file = file?;
     let shard = session.flush()?.ok_or(StoreError::FileNotFound)?;
-    let idle = session.flush()?.is_none();
-    let name = shard_path(alloc, "store", &shard)?;
-    let disk = session.into_disk();
-    let text = bytes_of(alloc, &disk, name.as_str())?;
+    Ok((shard, session.flush()?.is_none()))
+}
+
+/// The text of a shard that was flushed, and whether that is under the name of its digest.
+fn flushed_text(
+    alloc: Global,
+    disk: &MemoryDisk,
+    flushed: Result<(MerkleHash, bool), StoreError>,
+) -> Result<(Vec<u8>, bool, bool), StoreError> {
+    let (shard, idle) = flushed?;
+    let text = text_of(alloc, disk, &shard)?;
     let named = compute_data_hash(&text) == shard;
     Ok((text, named, idle))
 }
 
-/// Whether a text is a shard of `abc` alone, and where its footer is.
-fn lists_abc(alloc: Global, text: &[u8]) -> Result<(bool, u64), StoreError> {
-    let listed = read_listed(alloc, text)?;
+/// Cleans `abc` and flushes: the shard's text, whether that is under the name of its digest, and whether
+/// there was nothing to flush afterwards.
+fn flushes_abc(alloc: Global) -> Result<(Vec<u8>, bool, bool), StoreError> {
+    let (mut session, info) = made(alloc, b"abc")?;
+    let flushed = flushes_twice(&mut session, hash_of(&info));
+    let disk = session.into_disk();
+    flushed_text(alloc, &disk, flushed)
+}
+
+/// Whether what is listed is `abc` alone, and where the footer is.
+fn is_only_abc(alloc: Global, listed: &Listed) -> Result<(bool, u64), StoreError> {
     let xorbs = listed.xorbs.as_slice() == [compute_data_hash(b"abc")].as_slice();
     let files = match listed.files.as_slice() {
         [hash] => hash.hex(alloc)?.as_str() == ABC,
         _ => false,
     };
     Ok((xorbs && files && listed.bytes == 3, listed.footer))
+}
+
+/// Whether a text is a shard of `abc` alone, and where its footer is.
+fn lists_abc(alloc: Global, text: &[u8]) -> Result<(bool, u64), StoreError> {
+    let listed = read_listed(alloc, text)?;
+    is_only_abc(alloc, &listed)
 }
 
 #[test]

@@ -23,16 +23,40 @@ pub struct Listed {
     pub footer: u64,
 }
 
-/// The disk of a store in which a file of these bytes was cleaned and flushed, with its pointer record and
-/// its shard.
+/// A file that was cleaned and flushed: its hash, and that of its shard.
+#[derive(Clone, Copy)]
+pub struct Flushed {
+    pub file: MerkleHash,
+    pub shard: MerkleHash,
+}
+
+/// The disk of a store in which a file of these bytes was cleaned and flushed, with the answer.
 pub fn written(
     alloc: Global,
     disk: MemoryDisk,
     bytes: &[u8],
-) -> Result<(MemoryDisk, XetFileInfo, MerkleHash), StoreError> {
-    let (mut session, info) = Session::open(alloc, disk)?.clean(bytes)?;
-    let shard = session.flush()?.ok_or(StoreError::FileNotFound)?;
-    Ok((session.into_disk(), info, shard))
+) -> Result<(MemoryDisk, Result<Flushed, StoreError>), StoreError> {
+    let (mut session, info) = Session::open(alloc, disk)?.clean(bytes);
+    let shard = session.flush();
+    Ok((session.into_disk(), answer_of(hash_of(&info), shard)))
+}
+
+/// The hash of a file that was cleaned.
+pub fn hash_of(info: &Result<XetFileInfo, StoreError>) -> Result<MerkleHash, StoreError> {
+    match info {
+        Ok(info) => Ok(info.hash),
+        Err(error) => Err(*error),
+    }
+}
+
+/// The answer of a file that was cleaned and then flushed.
+fn answer_of(
+    file: Result<MerkleHash, StoreError>,
+    shard: Result<Option<MerkleHash>, StoreError>,
+) -> Result<Flushed, StoreError> {
+    let file = file?;
+    let shard = shard?.ok_or(StoreError::FileNotFound)?;
+    Ok(Flushed { file, shard })
 }
 
 /// Puts a shard that is another but for a number at this place, and gives its hash.
@@ -43,12 +67,26 @@ pub fn put_changed(
     at: usize,
     number: u64,
 ) -> Result<MerkleHash, StoreError> {
-    let name = shard_path(alloc, "store", shard)?;
-    let mut bytes = bytes_of(alloc, disk, name.as_str())?;
+    let mut bytes = text_of(alloc, disk, shard)?;
     change(&mut bytes, at, number);
-    let hash = compute_data_hash(&bytes);
+    put_shard(alloc, disk, &bytes)
+}
+
+/// The text of a shard.
+pub fn text_of(
+    alloc: Global,
+    disk: &MemoryDisk,
+    shard: &MerkleHash,
+) -> Result<Vec<u8>, StoreError> {
+    let name = shard_path(alloc, "store", shard)?;
+    bytes_of(alloc, disk, name.as_str())
+}
+
+/// Puts a shard under the name of its hash, and gives that.
+fn put_shard(alloc: Global, disk: &mut MemoryDisk, bytes: &[u8]) -> Result<MerkleHash, StoreError> {
+    let hash = compute_data_hash(bytes);
     let name = shard_path(alloc, "store", &hash)?;
-    put_bytes(disk, name.as_str(), &bytes)?;
+    put_bytes(disk, name.as_str(), bytes)?;
     Ok(hash)
 }
 

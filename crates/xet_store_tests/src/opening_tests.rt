@@ -1,7 +1,7 @@
 //! Stores that are opened over what another store has written.
 
-use crate::folders::{CREATION, EXPIRY, put_changed, written};
-use crate::session::{NOW, Session, bytes_of, put_bytes, refusal, remove};
+use crate::folders::{CREATION, EXPIRY, Flushed, put_changed, text_of, written};
+use crate::session::{NOW, Session, Unopened, bytes_of, put_bytes, refusal, remove};
 use std::alloc::Global;
 use std::test::Fail;
 use xet_folder::{shard_path, xorb_path};
@@ -9,11 +9,20 @@ use xet_hash::{MerkleHash, Reason, StoreError, compute_data_hash};
 use xet_io::{MemoryDisk, MemorySink};
 use xet_xorb::XorbObjectInfoV0;
 
+/// The hashes of two files that were written.
+fn hashes_of(
+    first: Result<Flushed, StoreError>,
+    second: Result<Flushed, StoreError>,
+) -> Result<[MerkleHash; 2], StoreError> {
+    Ok([first?.file, second?.file])
+}
+
 /// A reopened store of the files `abc` and 200 zeros, and their hashes.
-fn reopened(alloc: Global) -> Result<(Session, MerkleHash, MerkleHash), StoreError> {
-    let (disk, abc, _) = written(alloc, MemoryDisk::new(alloc), b"abc")?;
-    let (disk, zeros, _) = written(alloc, disk, &[0; 200])?;
-    Ok((Session::open(alloc, disk)?, abc.hash, zeros.hash))
+fn reopened(alloc: Global) -> Result<(Session, Result<[MerkleHash; 2], StoreError>), StoreError> {
+    let (disk, abc) = written(alloc, MemoryDisk::new(alloc), b"abc")?;
+    let (disk, zeros) = written(alloc, disk, &[0; 200])?;
+    let session = Session::open(alloc, disk)?;
+    Ok((session, hashes_of(abc, zeros)))
 }
 
 /// Whether a range of a file is these bytes.
@@ -28,8 +37,11 @@ fn reads(
 }
 
 /// How many of six ranges of `abc`, of the zeros and of the empty file are as they are to be.
-fn reads_ranges(alloc: Global) -> Result<u32, StoreError> {
-    let (mut session, abc, zeros) = reopened(alloc)?;
+fn right_ranges(
+    session: &mut Session,
+    hashes: Result<[MerkleHash; 2], StoreError>,
+) -> Result<u32, StoreError> {
+    let [abc, zeros] = hashes?;
     let rows = [
         (abc, 1u64, 3u64, b"bc".as_slice()),
         (abc, 0, 3, b"abc".as_slice()),
@@ -40,11 +52,19 @@ fn reads_ranges(alloc: Global) -> Result<u32, StoreError> {
     ];
     let mut right = 0u32;
     for (hash, from, to, bytes) in rows {
-        if reads(&mut session, &hash, from, to, bytes)? {
+        if reads(session, &hash, from, to, bytes)? {
             right = right.saturating_add(1);
         }
     }
     Ok(right)
+}
+
+/// Reopens the store: how many of its six ranges are right.
+fn reads_ranges(alloc: Global) -> Result<u32, StoreError> {
+    let (mut session, hashes) = reopened(alloc)?;
+    let answer = right_ranges(&mut session, hashes);
+    session.close();
+    answer
 }
 
 #[test]
@@ -60,15 +80,26 @@ fn refused(session: &mut Session, hash: &MerkleHash, from: u64, to: u64) -> Opti
 
 /// The refusals of a reversed range of `abc`, of one past its end, of one of the empty file, and of one of a
 /// file that is not there.
-fn refuses_ranges(alloc: Global) -> Result<[Option<StoreError>; 4], StoreError> {
-    let (mut session, abc, _) = reopened(alloc)?;
+fn refusals(
+    session: &mut Session,
+    hashes: Result<[MerkleHash; 2], StoreError>,
+) -> Result<[Option<StoreError>; 4], StoreError> {
+    let [abc, _] = hashes?;
     let other = compute_data_hash(b"abc");
     Ok([
-        refused(&mut session, &abc, 3, 2),
-        refused(&mut session, &abc, 0, 4),
-        refused(&mut session, &MerkleHash::default(), 0, 1),
-        refused(&mut session, &other, 3, 2),
+        refused(session, &abc, 3, 2),
+        refused(session, &abc, 0, 4),
+        refused(session, &MerkleHash::default(), 0, 1),
+        refused(session, &other, 3, 2),
     ])
+}
+
+/// Reopens the store: how it refuses those four ranges.
+fn refuses_ranges(alloc: Global) -> Result<[Option<StoreError>; 4], StoreError> {
+    let (mut session, hashes) = reopened(alloc)?;
+    let answer = refusals(&mut session, hashes);
+    session.close();
+    answer
 }
 
 #[test]
@@ -81,27 +112,60 @@ fn a_range_that_is_not_there(rt: HostRuntime) -> Result<(), Fail> {
     Ok(())
 }
 
-/// The disk of a store with a shard of `abc`, one that was created later and lists the same, and one of
-/// `abd` that has expired; and the hash of `abc`.
-fn three_shards(alloc: Global) -> Result<(MemoryDisk, MerkleHash), StoreError> {
-    let (disk, abc, older) = written(alloc, MemoryDisk::new(alloc), b"abc")?;
-    let (mut disk, _, expired) = written(alloc, disk, b"abd")?;
-    put_changed(alloc, &mut disk, &older, CREATION, NOW + 1)?;
-    put_changed(alloc, &mut disk, &expired, EXPIRY, NOW - 1)?;
-    let name = shard_path(alloc, "store", &expired)?;
-    remove(&mut disk, name.as_str())?;
-    Ok((disk, abc.hash))
+/// Takes a shard away; whether it was there.
+fn remove_shard(
+    alloc: Global,
+    disk: &mut MemoryDisk,
+    shard: &MerkleHash,
+) -> Result<bool, StoreError> {
+    let name = shard_path(alloc, "store", shard)?;
+    remove(disk, name.as_str())
 }
 
-/// Opens them: whether `abc` alone is listed, whether it is read, whether there is nothing to flush, and how
-/// many xorbs there are.
+/// Puts a shard of `abc` that was created later and lists the same, and has that of `abd` expire; gives the
+/// hash of `abc`.
+fn change_two(
+    alloc: Global,
+    disk: &mut MemoryDisk,
+    abc: Result<Flushed, StoreError>,
+    abd: Result<Flushed, StoreError>,
+) -> Result<MerkleHash, StoreError> {
+    let (older, expired) = (abc?, abd?.shard);
+    put_changed(alloc, disk, &older.shard, CREATION, NOW + 1)?;
+    put_changed(alloc, disk, &expired, EXPIRY, NOW - 1)?;
+    remove_shard(alloc, disk, &expired)?;
+    Ok(older.file)
+}
+
+/// The disk of a store with a shard of `abc`, one that was created later and lists the same, and one of
+/// `abd` that has expired; and the hash of `abc`.
+fn three_shards(alloc: Global) -> Result<(MemoryDisk, Result<MerkleHash, StoreError>), StoreError> {
+    let (disk, abc) = written(alloc, MemoryDisk::new(alloc), b"abc")?;
+    let (mut disk, abd) = written(alloc, disk, b"abd")?;
+    let hash = change_two(alloc, &mut disk, abc, abd);
+    Ok((disk, hash))
+}
+
+/// Whether `abc` alone is listed, whether it is read, whether there is nothing to flush, and how many xorbs
+/// there are.
+fn shows_abc(
+    session: &mut Session,
+    abc: Result<MerkleHash, StoreError>,
+) -> Result<(bool, bool, bool, u64), StoreError> {
+    let abc = abc?;
+    let listed = session.files()?.as_slice() == [(abc, 3)].as_slice();
+    let read = reads(session, &abc, 0, 3, b"abc")?;
+    let idle = session.flush()?.is_none();
+    Ok((listed, read, idle, session.xorb_count()))
+}
+
+/// Opens the three shards: what the store then shows.
 fn opens_three(alloc: Global) -> Result<(bool, bool, bool, u64), StoreError> {
     let (disk, abc) = three_shards(alloc)?;
     let mut session = Session::open(alloc, disk)?;
-    let listed = session.files()?.as_slice() == [(abc, 3)].as_slice();
-    let read = reads(&mut session, &abc, 0, 3, b"abc")?;
-    let idle = session.flush()?.is_none();
-    Ok((listed, read, idle, session.xorb_count()))
+    let answer = shows_abc(&mut session, abc);
+    session.close();
+    answer
 }
 
 #[test]
@@ -110,24 +174,56 @@ fn older_newer_and_expired_shards(rt: HostRuntime) -> Result<(), Fail> {
     Ok(())
 }
 
-/// Opens a folder in which one byte of the xorb of `abc` is another: the refusal, and whether the shard's
-/// name is told.
-fn opens_changed(alloc: Global) -> Result<Option<(StoreError, bool)>, StoreError> {
-    let (mut disk, _, shard) = written(alloc, MemoryDisk::new(alloc), b"abc")?;
-    let path = xorb_path(alloc, "store", &compute_data_hash(b"abc"))?;
-    let mut xorb = bytes_of(alloc, &disk, path.as_str())?;
-    if let Some(byte) = xorb.get_mut(8) {
+/// A file with one byte changed.
+fn changed(alloc: Global, disk: &MemoryDisk, path: &str) -> Result<Vec<u8>, StoreError> {
+    let mut bytes = bytes_of(alloc, disk, path)?;
+    if let Some(byte) = bytes.get_mut(8) {
         *byte = b'b';
     }
-    put_bytes(&mut disk, path.as_str(), &xorb)?;
-    let name = shard_path(alloc, "store", &shard)?;
-    match refusal(alloc, disk)? {
+    Ok(bytes)
+}
+
+/// Changes one byte of the xorb of `abc`; gives the hash of its shard.
+fn change_xorb(
+    alloc: Global,
+    disk: &mut MemoryDisk,
+    abc: Result<Flushed, StoreError>,
+) -> Result<MerkleHash, StoreError> {
+    let shard = abc?.shard;
+    let path = xorb_path(alloc, "store", &compute_data_hash(b"abc"))?;
+    let xorb = changed(alloc, disk, path.as_str())?;
+    put_bytes(disk, path.as_str(), &xorb)?;
+    Ok(shard)
+}
+
+/// Whether a name is that of a shard.
+fn is_name(alloc: Global, shard: &MerkleHash, name: &str) -> Result<bool, StoreError> {
+    let path = shard_path(alloc, "store", shard)?;
+    Ok(path.as_str().strip_prefix("store/") == Some(name))
+}
+
+/// The refusal, and whether it tells the name of the shard.
+fn told(
+    alloc: Global,
+    shard: Result<MerkleHash, StoreError>,
+    refused: Result<Option<Unopened>, StoreError>,
+) -> Result<Option<(StoreError, bool)>, StoreError> {
+    let shard = shard?;
+    match refused? {
         Some(unopened) => {
-            let told = name.as_str().strip_prefix("store/") == Some(unopened.name.as_str());
+            let told = is_name(alloc, &shard, unopened.name.as_str())?;
             Ok(Some((unopened.error, told)))
         }
         None => Ok(None),
     }
+}
+
+/// Opens a folder in which one byte of the xorb of `abc` is another: the refusal, and whether the shard's
+/// name is told.
+fn opens_changed(alloc: Global) -> Result<Option<(StoreError, bool)>, StoreError> {
+    let (mut disk, abc) = written(alloc, MemoryDisk::new(alloc), b"abc")?;
+    let shard = change_xorb(alloc, &mut disk, abc);
+    told(alloc, shard, refusal(alloc, disk))
 }
 
 #[test]
@@ -137,20 +233,47 @@ fn a_changed_byte_of_a_xorb(rt: HostRuntime) -> Result<(), Fail> {
     Ok(())
 }
 
-/// Opens a folder in which the shard of `abc` is under the name of zeros: the refusal, and whether that name
-/// is told.
-fn opens_renamed(alloc: Global) -> Result<Option<(StoreError, bool)>, StoreError> {
-    let (disk, _, shard) = written(alloc, MemoryDisk::new(alloc), b"abc")?;
-    let name = shard_path(alloc, "store", &shard)?;
-    let text = bytes_of(alloc, &disk, name.as_str())?;
-    let mut disk = MemoryDisk::new(alloc);
-    let zeros = "0000000000000000000000000000000000000000000000000000000000000000.mdb";
+/// The text of a shard that was written.
+fn written_text(
+    alloc: Global,
+    disk: &MemoryDisk,
+    abc: Result<Flushed, StoreError>,
+) -> Result<Vec<u8>, StoreError> {
+    text_of(alloc, disk, &abc?.shard)
+}
+
+/// The text of the shard of `abc`.
+fn shard_of_abc(alloc: Global) -> Result<Vec<u8>, StoreError> {
+    let (disk, abc) = written(alloc, MemoryDisk::new(alloc), b"abc")?;
+    written_text(alloc, &disk, abc)
+}
+
+/// Puts a text under the name of a shard of zeros.
+fn put_zeros(alloc: Global, disk: &mut MemoryDisk, text: &[u8]) -> Result<(), StoreError> {
     let name = shard_path(alloc, "store", &MerkleHash::default())?;
-    put_bytes(&mut disk, name.as_str(), &text)?;
-    match refusal(alloc, disk)? {
+    put_bytes(disk, name.as_str(), text)
+}
+
+/// The refusal, and whether it tells the name of zeros.
+fn told_zeros(
+    put: Result<(), StoreError>,
+    refused: Result<Option<Unopened>, StoreError>,
+) -> Result<Option<(StoreError, bool)>, StoreError> {
+    let zeros = "0000000000000000000000000000000000000000000000000000000000000000.mdb";
+    put?;
+    match refused? {
         Some(unopened) => Ok(Some((unopened.error, unopened.name.as_str() == zeros))),
         None => Ok(None),
     }
+}
+
+/// Opens a folder in which the shard of `abc` is under the name of zeros: the refusal, and whether that name
+/// is told.
+fn opens_renamed(alloc: Global) -> Result<Option<(StoreError, bool)>, StoreError> {
+    let text = shard_of_abc(alloc)?;
+    let mut disk = MemoryDisk::new(alloc);
+    let put = put_zeros(alloc, &mut disk, &text);
+    told_zeros(put, refusal(alloc, disk))
 }
 
 #[test]
@@ -160,27 +283,51 @@ fn a_shard_under_another_name(rt: HostRuntime) -> Result<(), Fail> {
     Ok(())
 }
 
-/// Puts a xorb with a footer of version 0 in the place of that of `abc`.
-fn put_older_xorb(alloc: Global, disk: &mut MemoryDisk) -> Result<(), StoreError> {
-    let hash = compute_data_hash(b"abc");
+/// Writes a footer of version 0 of a xorb of one chunk of three bytes.
+fn write_footer(alloc: Global, hash: MerkleHash, sink: &mut MemorySink) -> Result<(), StoreError> {
     let ends = vec![in alloc; 11u32]?;
     let hashes = vec![in alloc; hash]?;
     let footer = XorbObjectInfoV0::from_lists(hash, ends, hashes, [7; 16]);
+    footer.serialize(sink)?;
+    Ok(())
+}
+
+/// The text of a xorb of `abc` with a footer of version 0.
+fn older_xorb(alloc: Global, hash: MerkleHash) -> Result<Vec<u8>, StoreError> {
     let stored = Vec::from_slice(alloc, b"\x00\x03\x00\x00\x00\x03\x00\x00abc")?;
     let mut sink = MemorySink::from_vec(stored);
-    footer.serialize(&mut sink)?;
+    write_footer(alloc, hash, &mut sink)?;
     let mut text = sink.into_bytes();
     text.extend_from_slice(&96u32.to_le_bytes())?;
+    Ok(text)
+}
+
+/// Puts a xorb with a footer of version 0 in the place of that of `abc`.
+fn put_older_xorb(alloc: Global, disk: &mut MemoryDisk) -> Result<(), StoreError> {
+    let hash = compute_data_hash(b"abc");
+    let text = older_xorb(alloc, hash)?;
     let name = xorb_path(alloc, "store", &hash)?;
     put_bytes(disk, name.as_str(), &text)
 }
 
+/// Whether `abc` reads, once such a xorb was put.
+fn reads_abc(
+    session: &mut Session,
+    abc: Result<Flushed, StoreError>,
+    put: Result<(), StoreError>,
+) -> Result<bool, StoreError> {
+    put?;
+    reads(session, &abc?.file, 0, 3, b"abc")
+}
+
 /// Whether a store over such a xorb opens, and its file reads.
 fn reads_older_xorb(alloc: Global) -> Result<bool, StoreError> {
-    let (mut disk, abc, _) = written(alloc, MemoryDisk::new(alloc), b"abc")?;
-    put_older_xorb(alloc, &mut disk)?;
+    let (mut disk, abc) = written(alloc, MemoryDisk::new(alloc), b"abc")?;
+    let put = put_older_xorb(alloc, &mut disk);
     let mut session = Session::open(alloc, disk)?;
-    reads(&mut session, &abc.hash, 0, 3, b"abc")
+    let answer = reads_abc(&mut session, abc, put);
+    session.close();
+    answer
 }
 
 #[test]

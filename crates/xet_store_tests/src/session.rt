@@ -4,7 +4,7 @@ use std::alloc::Global;
 use xet_hash::{MerkleHash, Place, Refused, StoreError};
 use xet_io::{Disk, MemoryDisk, SliceSource};
 use xet_shard::FileDataSequenceEntry;
-use xet_store::{LimitSettings, Limits, Store, XetFileInfo, clean_files};
+use xet_store::{Cleaned, LimitSettings, Limits, Store, XetFileInfo, clean_files};
 
 /// The moment at which stores are opened.
 pub const NOW: u64 = 1_000;
@@ -49,15 +49,11 @@ impl Session {
         Session::open(alloc, MemoryDisk::new(alloc))
     }
 
-    /// Cleans a file of these bytes.
-    pub fn clean(self, bytes: &[u8]) -> Result<(Session, XetFileInfo), StoreError> {
+    /// Cleans a file of these bytes. The session is handed back, whatever the answer.
+    pub fn clean(self, bytes: &[u8]) -> (Session, Result<XetFileInfo, StoreError>) {
         let alloc = self.alloc;
-        let mut sources = [SliceSource::new(bytes)];
-        let (store, answer) = clean_files(alloc, self.store, &mut sources, 1);
-        match answer?.infos.first() {
-            Some(info) => Ok((Session { alloc, store }, *info)),
-            None => Err(StoreError::FileNotFound),
-        }
+        let (store, answer) = clean_one(alloc, self.store, bytes);
+        (Session { alloc, store }, first_of(answer))
     }
 
     /// Puts a shard of what is pending.
@@ -91,12 +87,38 @@ impl Session {
     pub fn into_disk(self) -> MemoryDisk {
         self.store.into_disk()
     }
+
+    /// Drops the session.
+    pub fn close(self) {
+        let _disk = self.store.into_disk();
+    }
+}
+
+/// Cleans one file of these bytes in a store.
+fn clean_one(
+    alloc: Global,
+    store: Store<MemoryDisk>,
+    bytes: &[u8],
+) -> (Store<MemoryDisk>, Result<Cleaned, StoreError>) {
+    let mut sources = [SliceSource::new(bytes)];
+    clean_files(alloc, store, &mut sources, 1)
+}
+
+/// The pointer record of the first file that was cleaned.
+fn first_of(answer: Result<Cleaned, StoreError>) -> Result<XetFileInfo, StoreError> {
+    match answer?.infos.first() {
+        Some(info) => Ok(*info),
+        None => Err(StoreError::FileNotFound),
+    }
 }
 
 /// The refusal of opening the folder of a disk; none where it is opened.
 pub fn refusal(alloc: Global, disk: MemoryDisk) -> Result<Option<Unopened>, StoreError> {
     match Store::open(alloc, disk, "store", limits()?, NOW, false) {
-        Ok(_) => Ok(None),
+        Ok(store) => {
+            let _disk = store.into_disk();
+            Ok(None)
+        }
         Err(refused) => Ok(Some(reason_of(alloc, refused))),
     }
 }

@@ -14,7 +14,7 @@ ghost use Rattle.xet_store.specs.Tables.{tables_of, with_record, with_xorb};
 
 use crate::store::Store;
 use std::marker::Send;
-use xet_folder::{Members, known_bytes, put_xorb};
+use xet_folder::{Members, RecordedFile, known_bytes, put_xorb};
 use xet_hash::{MerkleHash, StoreError};
 use xet_io::Disk;
 use xet_shard::{MDBFileInfo, MDBInMemoryShard};
@@ -87,10 +87,11 @@ impl<D: Disk + Send> Store<D> {
             return Err(StoreError::OutOfMemory);
         }
         let copy = file.copy(self.alloc)?;
+        let recorded = RecordedFile::new(self.alloc, file)?;
         self.records.reserve(1)?;
         self.pending.add_file_reconstruction_info(copy)?;
         self.pending.known();
-        self.records.insert(hash, file)?;
+        self.records.insert(hash, recorded)?;
         Ok(())
     }
 }

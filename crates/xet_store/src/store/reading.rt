@@ -10,7 +10,7 @@ ghost use Rattle.xet_store.specs.Ranges.{IsOutside, IsRange, IsRangeRefusal, IsU
 ghost use Rattle.xet_store.specs.Reading.{IsStoredListed, JoinsListed, LiesListed};
 ghost use Rattle.xet_store.specs.Store.{plan_of};
 
-use crate::store::{Store, plan_bytes, plan_in};
+use crate::store::{Store, plan_in};
 use indexmap::IndexMap;
 use std::marker::Send;
 use xet_folder::{Members, RunReader};
@@ -40,18 +40,19 @@ impl<D: Disk + Send> Store<D> {
         let Some(plan) = plan_in(&self.records, hash) else {
             return Err(StoreError::FileNotFound);
         };
-        if from > to || to > plan_bytes(plan) {
+        if from > to || to > plan.length() {
             return Err(StoreError::InvalidRange);
         }
         let mut reader = RunReader::with_capacity(self.alloc, (to - from) as usize)?;
         let folder = self.folder.as_str();
+        let (before, rest) = plan.rest(from);
         read_plan(
             &mut self.disk,
             folder,
             &self.xorbs,
-            plan,
-            from,
-            to,
+            rest,
+            from - before,
+            to - before,
             &mut reader,
         )?;
         Ok(reader.into_bytes())

@@ -3,14 +3,14 @@ use Rattle.std.specs.Global.{Global}
 use Rattle.std.specs.List.{AllByRecursion}
 use Rattle.std.proofs.lemmas.Bool.{eqb-false, eqb-true}
 use Rattle.std.proofs.lemmas.List.{nil_from_length}
-use Rattle.xet_store.specs.Cleaning.{EachTold, Keeps, Later, Stores, cuts, info_of}
+use Rattle.xet_store.specs.Cleaning.{EachTold, Keeps, Later, Stores, Taken, cuts, info_of}
 use Rattle.xet_store.specs.declared.info.XetFileInfo.{XetFileInfo}
 use Rattle.xet_store.specs.Steps.{ListsXorbs}
 use Rattle.xet_store.specs.Store.{State}
 use Rattle.xet_store.proofs.Answering.{on_err}
 use Rattle.xet_store.proofs.Keeping.{keeps_nothing}
 use Rattle.xet_store.proofs.Packing.{listed_one}
-use Rattle.xet_store.proofs.Storing.{all_of_one, all_of_set, later_first, later_same, some_none, some_of, some_one, stores_none, stores_one, told_none, told_one}
+use Rattle.xet_store.proofs.Storing.{all_of_one, all_of_set, later_first, later_same, some_none, some_of, some_one, stores_none, stores_one, taken_first, taken_same, told_none, told_one}
 use Rattle.xet_store.proofs.clean.clean_all.Goals as goal
 use Rattle.xet_store.proofs.clean.clean_all.Goals.{then-not-is_empty+in_ok-clean_source, else-not-is_empty}
 
@@ -47,13 +47,38 @@ returns-clause-keeps g c = elim c.if-not-is_empty.branch [
 ]
 
 pub returns-clause-stores : goal.returns-clause-stores
-returns-clause-stores g c = elim c.if-not-is_empty.branch [
+returns-clause-stores g c =
+    let tells = g.S.Source.tells in
+    let left = g.S.Source.left in
+    let sources = c.args.sources.now in
+    let first = c.args.session.now in
+    let after = c.if-not-is_empty.session in
+    elim c.if-not-is_empty.branch [
+      | then-not-is_empty+in_ok-clean_source w ↦
+          let info = w.in_ok-clean_source.field-0 in
+          let items : c.if-not-is_empty.infos.items ≡ info ∷ [] =
+          ap (λ (v : Vec XetFileInfo Global). v.items) w.infos-is ∙ w.push_reserved.ensures.items ∙ ap (λ (l : List XetFileInfo). l ++ info ∷ []) c.in_ok-infos.ensures.items in
+          let stored : Stores tells left sources first w.clean_source.new.session (info ∷ []) =
+          stores_one tells left sources w.index-sources-0.result first w.clean_source.new.session info c.requires.one (some_of _ (eqb-false _ _ (sym w.if-not-is_empty.ensures))) w.in_ok-clean_source.ensures.stores in
+          subst (λ (l : List XetFileInfo). Stores tells left sources first after l) (sym items) (subst (λ (s : State). Stores tells left sources first s (info ∷ [])) (sym w.session-is) stored)
+      | else-not-is_empty w ↦
+          let items : c.if-not-is_empty.infos.items ≡ [] = ap (λ (v : Vec XetFileInfo Global). v.items) w.infos-is ∙ c.in_ok-infos.ensures.items in
+          let stored : Stores tells left sources first first [] = stores_none tells left sources first (eqb-true _ _ (sym w.if-not-is_empty.ensures)) in
+          subst (λ (l : List XetFileInfo). Stores tells left sources first after l) (sym items) (subst (λ (s : State). Stores tells left sources first s []) (sym w.session-is) stored)
+    ]
+
+pub returns-in_err-infos-clause-sources_taken : goal.returns-in_err-infos-clause-sources_taken
+returns-in_err-infos-clause-sources_taken g c = taken_same g.S.Source.tells g.S.Source.left c.args.sources.now
+
+pub returns-in_err-clean_source-clause-sources_taken : goal.returns-in_err-clean_source-clause-sources_taken
+returns-in_err-clean_source-clause-sources_taken g c = taken_first g.S.Source.tells g.S.Source.left c.args.sources.now c.index-sources-0.result c.clean_source.new.source c.clean_source.ensures.taken
+
+pub returns-clause-sources_taken : goal.returns-clause-sources_taken
+returns-clause-sources_taken g c = elim c.if-not-is_empty.branch [
   | then-not-is_empty+in_ok-clean_source w ↦
-      subst (Stores g.S.Source.tells g.S.Source.left c.args.sources.now c.args.session.now) (sym w.session-is)
-      (stores_one g.S.Source.tells g.S.Source.left c.args.sources.now w.index-sources-0.result c.args.session.now w.clean_source.new.session c.requires.one (some_of _ (eqb-false _ _ (sym w.if-not-is_empty.ensures))) w.in_ok-clean_source.ensures.stores)
-  | else-not-is_empty w ↦
-      subst (Stores g.S.Source.tells g.S.Source.left c.args.sources.now c.args.session.now) (sym w.session-is)
-      (stores_none g.S.Source.tells g.S.Source.left c.args.sources.now c.args.session.now (eqb-true _ _ (sym w.if-not-is_empty.ensures)))
+      subst (Taken g.S.Source.tells g.S.Source.left c.args.sources.now) (sym w.sources-is)
+      (taken_first g.S.Source.tells g.S.Source.left c.args.sources.now w.index-sources-0.result w.clean_source.new.source w.clean_source.ensures.taken)
+  | else-not-is_empty w ↦ subst (Taken g.S.Source.tells g.S.Source.left c.args.sources.now) (sym w.sources-is) (taken_same g.S.Source.tells g.S.Source.left c.args.sources.now)
 ]
 
 pub returns-in_err-clean_source-clause-sources_later : goal.returns-in_err-clean_source-clause-sources_later

@@ -209,7 +209,9 @@ returns-clause-stores g c =
     let before = tables_of c.args.session.now in
     let chunks : c.in_ok-chunks.chunks.items ≡ map chunk_of (cut limits bytes) = c.in_ok-chunks.ensures.chunks ∙ ap (λ (l : LimitSettings). map chunk_of (cut l bytes)) c.limits.ensures in
     let members = c.in_ok-members.ensures.members ∙ ap (map chunk_member) (c.deref.ensures.value ∙ chunks) ∙ made_members (cut limits bytes) in
-    let digest = c.from_bytes-sha256.ensures ∙ c.into.ensures ∙ c.digest.ensures in
+    let digest : c.from_bytes-sha256.result ≡ sha256 bytes = c.from_bytes-sha256.ensures ∙ c.into.ensures ∙ c.digest.ensures in
+    let hash : c.in_ok-hash.hash ≡ file_hash (members_of (cut limits bytes)) = c.in_ok-hash.ensures.hash ∙ ap file_hash (c.deref-2.ensures.value ∙ members) in
+    let size : c.len-file_size.result ≡ length bytes = omega (arith, c.len-file_size.ensures, c.in_ok-bytes.bytes.ok) in
     elim c.if-not-is_empty.branch [
       | then-not-is_empty+in_ok-plan+in_ok-file_record+in_ok-add_file w ↦
           let blocks : map bytes_of w.deref-then-not-is_empty.result.now ≡ cut limits bytes = ap (map bytes_of) (w.deref-then-not-is_empty.ensures.value ∙ chunks) ∙ made_bytes (cut limits bytes) in
@@ -222,10 +224,11 @@ returns-clause-stores g c =
           some_left c.in_ok-chunks.chunks (eqb-false _ _ (sym w.if-not-is_empty.ensures)) empty in (
             bytes,
             c.in_ok-bytes.ensures.bytes,
+            (λ i. record { hash = hash i; file_size = size i; sha256 = Some (digest i) }),
             ap tables_of w.session-is ∙ w.in_ok-add_file.ensures.stores ∙ (λ i. with_record (after i) (file i)) ∙ with_some limits before bytes some,
           )
       | else-not-is_empty w ↦
           let none : c.in_ok-chunks.chunks.items ≡ [] = nil_of c.in_ok-chunks.chunks (eqb-true _ _ (sym w.if-not-is_empty.ensures)) in
           let empty : length bytes ≡ 0 = sym c.in_ok-chunks.ensures.total ∙ ap total none in
-          (bytes, c.in_ok-bytes.ensures.bytes, ap tables_of w.session-is ∙ with_none limits before bytes (nil_from_length bytes empty))
+          (bytes, c.in_ok-bytes.ensures.bytes, (λ i. record { hash = hash i; file_size = size i; sha256 = Some (digest i) }), ap tables_of w.session-is ∙ with_none limits before bytes (nil_from_length bytes empty))
     ]

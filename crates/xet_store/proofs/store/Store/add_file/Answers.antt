@@ -2,11 +2,13 @@ use Rattle.std.proofs.Common.{◌≡◌, ◌∙◌, ◌<◌, ◌^◌, length, tr
 use Rattle.xet_shard.specs.declared.record.MDBFileInfo.{MDBFileInfo}
 use Rattle.xet_shard.specs.Held.{held, with_last}
 use Rattle.xet_shard.specs.Records.{IsFile, file_hash, file_section}
+use Rattle.xet_folder.specs.Xorbs.{Records, found}
+use Rattle.xet_folder.proofs.Tables.{found_here}
 use Rattle.xet_store.specs.Store.{IsNewFile, State}
 use Rattle.xet_store.proofs.Keeping.{keeps_nothing}
 use Rattle.xet_store.proofs.Pending.{few_files, file_form}
 use Rattle.xet_store.proofs.Recording.{adds_at, keeps_recorded_at, record_kept, recorded_tables, sound_recorded_at}
-use Rattle.xet_store.proofs.Rows.{absent_at, recorded_at}
+use Rattle.xet_store.proofs.Rows.{absent_at, is_some_found, recorded_at}
 use Rattle.xet_store.proofs.Staying.{keeps_unchanged}
 use Rattle.xet_store.proofs.store.Store.add_file.Goals as goal
 
@@ -18,6 +20,9 @@ returns-then-eq-clause-keeps g c = keeps_nothing c.args.self.now
 
 pub returns-in_err-copy-clause-keeps : goal.returns-in_err-copy-clause-keeps
 returns-in_err-copy-clause-keeps g c = keeps_nothing c.args.self.now
+
+pub returns-in_err-recorded-clause-keeps : goal.returns-in_err-recorded-clause-keeps
+returns-in_err-recorded-clause-keeps g c = keeps_nothing c.args.self.now
 
 pub returns-in_err-reserve-clause-keeps : goal.returns-in_err-reserve-clause-keeps
 returns-in_err-reserve-clause-keeps g c = keeps_unchanged _ _ c.self.invariant c.self.view_is refl c.reserve.ensures.entries refl refl
@@ -38,19 +43,25 @@ returns-in_err-add_file_reconstruction_info-clause-keeps g c =
 pub invariant_of-self-2 : goal.invariant_of-self-2
 invariant_of-self-2 g c =
     let none = absent_at c.self.inside.records _ _ c.hash-hash.ensures (sym c.if-contains_key.false ∙ c.contains_key.ensures) in
-    let more = recorded_at c.self.inside.records _ _ c.reserve.new.self.entries _ _ c.args.file c.hash-hash.ensures refl none c.reserve.ensures.entries c.in_ok-insert.ensures.entries in
+    let more = recorded_at c.self.inside.records _ _ c.reserve.new.self.entries _ _ c.args.file c.hash-hash.ensures c.in_ok-recorded.ensures.file none c.reserve.ensures.entries c.in_ok-insert.ensures.entries in
     sound_recorded_at _ c.args.file c.self.invariant none more (c.in_ok-add_file_reconstruction_info.ensures.added ∙ ap (λ (f : MDBFileInfo). held c.self.inside.pending.blocks (with_last file_hash c.self.inside.pending.files f)) c.in_ok-copy.ensures.copy) (subst (λ (s : State). IsNewFile s.xorbs c.args.file) (sym c.self.view_is) c.requires) c.known.ensures
 
 pub returns-clause-keeps : goal.returns-clause-keeps
 returns-clause-keeps g c =
     let none = absent_at c.self.inside.records _ _ c.hash-hash.ensures (sym c.if-contains_key.false ∙ c.contains_key.ensures) in
-    let more = recorded_at c.self.inside.records _ _ c.reserve.new.self.entries _ _ c.args.file c.hash-hash.ensures refl none c.reserve.ensures.entries c.in_ok-insert.ensures.entries in
+    let more = recorded_at c.self.inside.records _ _ c.reserve.new.self.entries _ _ c.args.file c.hash-hash.ensures c.in_ok-recorded.ensures.file none c.reserve.ensures.entries c.in_ok-insert.ensures.entries in
     keeps_recorded_at _ c.args.file c.self.invariant none more (c.in_ok-add_file_reconstruction_info.ensures.added ∙ ap (λ (f : MDBFileInfo). held c.self.inside.pending.blocks (with_last file_hash c.self.inside.pending.files f)) c.in_ok-copy.ensures.copy) _ c.self.view_is
+
+pub returns-clause-there : goal.returns-clause-there
+returns-clause-there g c =
+    let none = absent_at c.self.inside.records _ _ c.hash-hash.ensures (sym c.if-contains_key.false ∙ c.contains_key.ensures) in
+    let more = recorded_at c.self.inside.records _ _ c.reserve.new.self.entries _ _ c.args.file c.hash-hash.ensures c.in_ok-recorded.ensures.file none c.reserve.ensures.entries c.in_ok-insert.ensures.entries in
+    is_some_found c.insert.new.self.entries (file_hash c.args.file) c.args.file (ap (λ (rows : Records). found rows (file_hash c.args.file)) more ∙ found_here c.self.inside.records.entries (file_hash c.args.file) c.args.file none)
 
 pub returns-clause-adds : goal.returns-clause-adds
 returns-clause-adds g c =
     let none = absent_at c.self.inside.records _ _ c.hash-hash.ensures (sym c.if-contains_key.false ∙ c.contains_key.ensures) in
-    let more = recorded_at c.self.inside.records _ _ c.reserve.new.self.entries _ _ c.args.file c.hash-hash.ensures refl none c.reserve.ensures.entries c.in_ok-insert.ensures.entries in
+    let more = recorded_at c.self.inside.records _ _ c.reserve.new.self.entries _ _ c.args.file c.hash-hash.ensures c.in_ok-recorded.ensures.file none c.reserve.ensures.entries c.in_ok-insert.ensures.entries in
     adds_at _ c.args.file c.self.invariant none more (c.in_ok-add_file_reconstruction_info.ensures.added ∙ ap (λ (f : MDBFileInfo). held c.self.inside.pending.blocks (with_last file_hash c.self.inside.pending.files f)) c.in_ok-copy.ensures.copy) _ c.self.view_is
 
 pub returns-then-contains_key-clause-stores : goal.returns-then-contains_key-clause-stores
@@ -60,5 +71,5 @@ returns-then-contains_key-clause-stores g c =
 pub returns-clause-stores : goal.returns-clause-stores
 returns-clause-stores g c =
     let none = absent_at c.self.inside.records _ _ c.hash-hash.ensures (sym c.if-contains_key.false ∙ c.contains_key.ensures) in
-    let more = recorded_at c.self.inside.records _ _ c.reserve.new.self.entries _ _ c.args.file c.hash-hash.ensures refl none c.reserve.ensures.entries c.in_ok-insert.ensures.entries in
+    let more = recorded_at c.self.inside.records _ _ c.reserve.new.self.entries _ _ c.args.file c.hash-hash.ensures c.in_ok-recorded.ensures.file none c.reserve.ensures.entries c.in_ok-insert.ensures.entries in
     recorded_tables _ c.args.file c.self.invariant none more (c.in_ok-add_file_reconstruction_info.ensures.added ∙ ap (λ (f : MDBFileInfo). held c.self.inside.pending.blocks (with_last file_hash c.self.inside.pending.files f)) c.in_ok-copy.ensures.copy) _ c.self.view_is

@@ -153,7 +153,7 @@ invariant_of-self-in_err-add_xorb_block g c =
           (backed_by_text files c.self.inside.folder h c.in_ok-built.built.serialized_data chunks c.requires.digests c.requires.small
           (raw_text c.in_ok-raw.raw chunks _ c.in_ok-raw.ensures.exact h c.hash-hash.ensures c.in_ok-built.built.serialized_data c.requires.digests c.requires.some c.in_ok-raw.ensures.members (c.in_ok-built.ensures.grammar refl))
           is_hash (there ∙ ap Some c.as_slice-2.ensures));
-      left = λ told. inr (c.in_ok-put_xorb.ensures.there told);
+      left = λ told. inr (record { there = c.in_ok-put_xorb.ensures.there told; stable = c.in_ok-put_xorb.ensures.stable told; temp = c.in_ok-put_xorb.ensures.temp told });
     } in
     unput_sound put c.reserve.ensures.entries refl refl c.in_err-add_xorb_block.ensures.kept
 
@@ -177,7 +177,7 @@ returns-in_err-add_xorb_block-clause-keeps g c =
           (backed_by_text files c.self.inside.folder h c.in_ok-built.built.serialized_data chunks c.requires.digests c.requires.small
           (raw_text c.in_ok-raw.raw chunks _ c.in_ok-raw.ensures.exact h c.hash-hash.ensures c.in_ok-built.built.serialized_data c.requires.digests c.requires.some c.in_ok-raw.ensures.members (c.in_ok-built.ensures.grammar refl))
           is_hash (there ∙ ap Some c.as_slice-2.ensures));
-      left = λ told. inr (c.in_ok-put_xorb.ensures.there told);
+      left = λ told. inr (record { there = c.in_ok-put_xorb.ensures.there told; stable = c.in_ok-put_xorb.ensures.stable told; temp = c.in_ok-put_xorb.ensures.temp told });
     } in
     unput_keeps put c.reserve.ensures.entries refl refl c.in_err-add_xorb_block.ensures.kept _ c.self.view_is
 
@@ -206,7 +206,7 @@ invariant_of-self-2 g c =
           (backed_by_text files c.self.inside.folder h c.in_ok-built.built.serialized_data chunks c.requires.digests c.requires.small
           (raw_text c.in_ok-raw.raw chunks _ c.in_ok-raw.ensures.exact h c.hash-hash.ensures c.in_ok-built.built.serialized_data c.requires.digests c.requires.some c.in_ok-raw.ensures.members (c.in_ok-built.ensures.grammar refl))
           is_hash (there ∙ ap Some c.as_slice-2.ensures));
-      left = λ told. inr (c.in_ok-put_xorb.ensures.there told);
+      left = λ told. inr (record { there = c.in_ok-put_xorb.ensures.there told; stable = c.in_ok-put_xorb.ensures.stable told; temp = c.in_ok-put_xorb.ensures.temp told });
     } in
     let members = c.in_ok-members.members.items in
     let none : found c.self.inside.xorbs.entries h ≡ None = sym c.in_default.ensures.value in
@@ -235,7 +235,7 @@ returns g c =
           (backed_by_text files c.self.inside.folder h c.in_ok-built.built.serialized_data chunks c.requires.digests c.requires.small
           (raw_text c.in_ok-raw.raw chunks _ c.in_ok-raw.ensures.exact h c.hash-hash.ensures c.in_ok-built.built.serialized_data c.requires.digests c.requires.some c.in_ok-raw.ensures.members (c.in_ok-built.ensures.grammar refl))
           is_hash (there ∙ ap Some c.as_slice-2.ensures));
-      left = λ told. inr (c.in_ok-put_xorb.ensures.there told);
+      left = λ told. inr (record { there = c.in_ok-put_xorb.ensures.there told; stable = c.in_ok-put_xorb.ensures.stable told; temp = c.in_ok-put_xorb.ensures.temp told });
     } in
     let members = c.in_ok-members.members.items in
     let none : found c.self.inside.xorbs.entries h ≡ None = sym c.in_default.ensures.value in

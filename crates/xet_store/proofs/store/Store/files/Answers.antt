@@ -13,15 +13,15 @@ use Rattle.xet_store.proofs.Plans.{record_bytes}
 use Rattle.xet_store.proofs.Rows.{all_at}
 use Rattle.xet_store.proofs.store.Store.files.Goals as goal
 
-pub plan_bytes-requires : goal.plan_bytes-requires
-plan_bytes-requires g c =
+pub length-requires : goal.length-requires
+length-requires g c =
     let xorbs = c.self.inside.xorbs.entries in
     let before : Records = map deref_pair c.loop-hash.yielded in
     let entry : List ℕ × MDBFileInfo = (c.in-Some.hash.now, c.in-Some.record.now) in
     let whole = sym c.into_iter-hash-iterator.ensures.into_iter_gives.0 ∙ rest_so_far deref_pair _ _ _ c.loop-hash.yielded_by
     ∙ ap (λ (t : Records). before ++ t) (rest_more deref_pair _ _ _ _ c.in-Some.is c.next.ensures.steps) in
     let rows = subst (λ (es : Records). AllByRecursion (IsRecord xorbs) es) whole c.self.invariant.recorded in
-    subst (λ (plan : List Segment). plan_bytes plan < 2 ^ 64) (sym c.as_slice.ensures) (record_bytes xorbs entry (all_at (IsRecord xorbs) before entry _ rows))
+    subst (λ (plan : List Segment). plan_bytes plan < 2 ^ 64) (sym c.plan.ensures) (record_bytes xorbs entry (all_at (IsRecord xorbs) before entry _ rows))
 
 pub returns-clause-differ : goal.returns-clause-differ
 returns-clause-differ g c =

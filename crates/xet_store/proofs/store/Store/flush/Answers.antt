@@ -111,9 +111,9 @@ invariant_of-self-2 g c =
       shards = c.put_shard.ensures.shards;
       others = c.put_shard.ensures.others;
       foreign = c.put_shard.ensures.foreign;
-      left = λ told. inr (c.in_ok-put_shard.ensures.there told);
+      left = λ told. inr (record { there = c.in_ok-put_shard.ensures.there told; stable = c.in_ok-put_shard.ensures.stable told; temp = c.in_ok-put_shard.ensures.temp told });
     } in
-    put_sound put (c.push_reserved.ensures.items ∙ ap (λ (l : List (List ℕ)). l ++ h ∷ []) c.reserve.ensures.items) c.new.ensures c.in_ok-put_shard.ensures.there
+    put_sound put (c.push_reserved.ensures.items ∙ ap (λ (l : List (List ℕ)). l ++ h ∷ []) c.reserve.ensures.items) c.new.ensures (λ told. record { there = c.in_ok-put_shard.ensures.there told; stable = c.in_ok-put_shard.ensures.stable told; temp = c.in_ok-put_shard.ensures.temp told })
 
 pub returns-clause-flushed : goal.returns-clause-flushed
 returns-clause-flushed g c =
@@ -133,9 +133,9 @@ returns-clause-flushed g c =
       shards = c.put_shard.ensures.shards;
       others = c.put_shard.ensures.others;
       foreign = c.put_shard.ensures.foreign;
-      left = λ told. inr (c.in_ok-put_shard.ensures.there told);
+      left = λ told. inr (record { there = c.in_ok-put_shard.ensures.there told; stable = c.in_ok-put_shard.ensures.stable told; temp = c.in_ok-put_shard.ensures.temp told });
     } in
-    put_flushed put (c.push_reserved.ensures.items ∙ ap (λ (l : List (List ℕ)). l ++ h ∷ []) c.reserve.ensures.items) c.new.ensures c.in_ok-put_shard.ensures.there c.in_ok-put_shard.ensures.stable _ c.self.view_is
+    put_flushed put (c.push_reserved.ensures.items ∙ ap (λ (l : List (List ℕ)). l ++ h ∷ []) c.reserve.ensures.items) c.new.ensures (λ told. record { there = c.in_ok-put_shard.ensures.there told; stable = c.in_ok-put_shard.ensures.stable told; temp = c.in_ok-put_shard.ensures.temp told }) _ c.self.view_is
 
 pub returns-clause-keeps : goal.returns-clause-keeps
 returns-clause-keeps g c =
@@ -155,6 +155,6 @@ returns-clause-keeps g c =
       shards = c.put_shard.ensures.shards;
       others = c.put_shard.ensures.others;
       foreign = c.put_shard.ensures.foreign;
-      left = λ told. inr (c.in_ok-put_shard.ensures.there told);
+      left = λ told. inr (record { there = c.in_ok-put_shard.ensures.there told; stable = c.in_ok-put_shard.ensures.stable told; temp = c.in_ok-put_shard.ensures.temp told });
     } in
-    put_keeps put (c.push_reserved.ensures.items ∙ ap (λ (l : List (List ℕ)). l ++ h ∷ []) c.reserve.ensures.items) c.new.ensures c.in_ok-put_shard.ensures.there _ c.self.view_is
+    put_keeps put (c.push_reserved.ensures.items ∙ ap (λ (l : List (List ℕ)). l ++ h ∷ []) c.reserve.ensures.items) c.new.ensures (λ told. record { there = c.in_ok-put_shard.ensures.there told; stable = c.in_ok-put_shard.ensures.stable told; temp = c.in_ok-put_shard.ensures.temp told }) _ c.self.view_is
