@@ -31,6 +31,13 @@ infos_told s (f ∷ fs) [] told = absurd told
 infos_told s (f ∷ fs) (i ∷ is) told =
     ap (λ (x : XetFileInfo). x ∷ is) (told.0 refl) ∙ ap (λ (xs : List XetFileInfo). info_of s f ∷ xs) (infos_told s fs is told.1)
 
+-- the files that were read are those of the sources
+pub files_told : (sources files : List (List ℕ)) → EachTold (λ _. true) (λ f. f) (λ bytes file. file ≡ bytes) sources files → files ≡ sources
+files_told [] [] told = refl
+files_told [] (f ∷ fs) told = absurd told
+files_told (s ∷ ss) [] told = absurd told
+files_told (s ∷ ss) (f ∷ fs) told = ap (λ (x : List ℕ). x ∷ fs) (told.0 refl) ∙ ap (λ (xs : List (List ℕ)). s ∷ xs) (files_told ss fs told.1)
+
 pub all_tell : (sources : List (List ℕ)) → AllByRecursion (λ (f : List ℕ). true ≡ true) sources
 all_tell [] = tt
 all_tell (f ∷ fs) = (refl, all_tell fs)

@@ -1,5 +1,5 @@
 -- How a run may end, by what its command answers, and what it prints then.
-use Rattle.std.proofs.Common.{◌≡◌, ◌≢◌, ◌⊎◌, ◌∙◌, ℕ, ◌≤◌, inl, inr, Bool, true, false, List, [], ◌∷◌, ◌++◌, subst, Option, Some, None, Result, Ok, Err, IfOk, IsErrOf, Vec, Global, refl, sym, ap, arith}
+use Rattle.std.proofs.Common.{◌≡◌, ◌≢◌, ◌⊎◌, ◌∙◌, ℕ, ◌≤◌, inl, inr, Bool, true, false, List, [], ◌∷◌, ◌++◌, subst, Option, Some, None, Result, Ok, Err, IfOk, OnOk, IsErrOf, Vec, Global, refl, sym, ap, arith}
 use Rattle.std.proofs.lemmas.List.{append-nil}
 use Rattle.std.specs.Str.Lines.{lines}
 use Rattle.xet_io.specs.Disk.{Files}
@@ -11,12 +11,14 @@ use Rattle.xet_store_cli.specs.declared.ending.Stop.TheVariants.{OutOfMemory, In
 use Rattle.xet_store_cli.specs.declared.lines.FileRange.{FileRange}
 use Rattle.xet_store_cli.specs.declared.words.Command.{Command}
 use Rattle.xet_store_cli.specs.declared.words.Command.TheVariants.{Pack}
-use Rattle.xet_store_cli.specs.Lines.{Line, files_of, ranges_of}
+use Rattle.xet_store_cli.specs.Lines.{Line, files_of, good_lines, ranges_of}
 use Rattle.xet_store_cli.specs.Lines.Line.{FileLine, RangeLine}
-use Rattle.xet_store_cli.specs.Outcome.{AreSeparate, IsCutShort, IsEarly, IsReportOf, IsSilent, MayEnd, Outcome, Prints, Reports, bad_line_text, bad_shard_text, early_outcome, lines_said, outcome, store_folder}
-use Rattle.xet_store_cli.specs.Outcome.MayEnd.{early, malformed, refused, reported, stopped}
+use Rattle.xet_store_cli.specs.Outcome.{AreSeparate, IsSilent, Outcome, Prints, Reports, bad_line_text, bad_shard_text, early_outcome, lines_said, outcome, store_folder}
+use Rattle.xet_store_cli.specs.Ending.{IsEarly, IsReportOf, MayEnd}
+use Rattle.xet_store_cli.specs.Ending.MayEnd.{early, malformed, refused, reported, stopped}
 use Rattle.xet_store_cli.specs.Parsing.{ForLines, Said, are_good, parted}
 use Rattle.xet_store_cli.specs.Report.{IsReport}
+use Rattle.xet_store_cli.specs.Stored.{Makes, Records, Stores}
 use Rattle.xet_store_cli.specs.Stops.{AnswersByFolder, AnswersByInput, IsSaid, answer_outcome}
 use Rattle.xet_store_cli.specs.Words.{command_of}
 
@@ -57,33 +59,41 @@ parted_for said = λ i. record {
 
 -- ---- reports
 
-module _ (s : LimitSettings) (input : List ℕ) (tells : Bool) (files : Files) (now : ℕ) (said : Said) where
+-- what stands on the disk of the lines that were read
+pub record StandsOfLines (s : LimitSettings) (tells : Bool) (old new : Files) (now : ℕ) (said : Said) : Type 0 where
+  pub stored : tells ≡ true → ForLines said (λ l. Stores s l now new)
+  pub recorded : tells ≡ true → ForLines said (λ l. Records s l now new)
+  pub made : tells ≡ true → ForLines said (λ l. Makes s l now old new)
+
+module _ (s : LimitSettings) (input : List ℕ) (tells : Bool) (old new : Files) (now : ℕ) (said : Said) where
   abbrev IsReportOfLines : List ℕ → Type 0
-  IsReportOfLines text = ForLines said (λ l. IsReport (AreSeparate tells files now s l) s l text)
+  IsReportOfLines text = ForLines said (λ l. IsReport (AreSeparate tells new now s l) s l text)
+
+  of_these : (input_tells : Bool) (text : List ℕ) (l : List Line) → parted l ≡ said → (input_tells ≡ true → good_lines (lines input) ≡ Some l) → are_good said ≡ true → IsReportOfLines text → StandsOfLines s tells old new now said
+      → IsReportOf (Pack s) input_tells input tells old new now text
+  of_these input_tells text l parts is good report stands = record {
+    settings = s;
+    said = l;
+    is_pack = refl;
+    good = is;
+    ranges_good = subst (λ (x : Said). are_good x ≡ true) (sym parts) good;
+    report = report l parts;
+    stored = λ told. stands.stored told l parts;
+    recorded = λ told. stands.recorded told l parts;
+    made = λ told. stands.made told l parts;
+  }
 
   -- A report of what was read is one of what the input says, where that tells.
-  of_lines : (input_tells : Bool) (text : List ℕ) → (input_tells ≡ true → IsSaid input said) → are_good said ≡ true → IsReportOfLines text → IsReportOf (Pack s) input_tells input tells files now text
-  of_lines true text is good report = record {
-    settings = s;
-    said = lines_said (lines input);
-    is_pack = refl;
-    good = λ told. (is told).good;
-    ranges_good = subst (λ (x : Said). are_good x ≡ true) (sym (is refl).parts) good;
-    report = report (lines_said (lines input)) (is refl).parts;
-  }
-  of_lines false text is good report = record {
-    settings = s;
-    said = lines_for said;
-    is_pack = refl;
-    good = λ told. absurd (cc told);
-    ranges_good = subst (λ (x : Said). are_good x ≡ true) (sym (parted_for said)) good;
-    report = report (lines_for said) (parted_for said);
-  }
+  of_lines : (input_tells : Bool) (text : List ℕ) → (input_tells ≡ true → IsSaid input said) → are_good said ≡ true → IsReportOfLines text → StandsOfLines s tells old new now said
+      → IsReportOf (Pack s) input_tells input tells old new now text
+  of_lines true text is good report stands = of_these true text (lines_said (lines input)) (is refl).parts (λ told. (is told).good) good report stands
+  of_lines false text is good report stands = of_these false text (lines_for said) (parted_for said) (λ told. absurd (cc told)) good report stands
 
   pub report_of_lines : (input_tells : Bool) (r : Result (Vec ℕ Global) Stop) → (input_tells ≡ true → IsSaid input said) → are_good said ≡ true → IfOk r (λ text. IsReportOfLines text.items)
-      → IfOk r (λ text. IsReportOf (Pack s) input_tells input tells files now text.items)
-  report_of_lines input_tells (Ok t) is good report = of_lines input_tells t.items is good report
-  report_of_lines input_tells (Err stop) is good report = tt
+      → (tells ≡ true → OnOk r (ForLines said (λ l. Stores s l now new))) → (tells ≡ true → OnOk r (ForLines said (λ l. Records s l now new))) → (tells ≡ true → OnOk r (ForLines said (λ l. Makes s l now old new)))
+      → IfOk r (λ text. IsReportOf (Pack s) input_tells input tells old new now text.items)
+  report_of_lines input_tells (Ok t) is good report stored recorded made = of_lines input_tells t.items is good report (record { stored = stored; recorded = recorded; made = made })
+  report_of_lines input_tells (Err stop) is good report stored recorded made = tt
 
 -- ---- the statuses at which something is printed
 
@@ -116,7 +126,7 @@ module _ (words : List (List ℕ)) (input_tells : Bool) (input : List ℕ) (now 
     early_by o e told = ap (λ (c : Option Command). early_outcome c input) is ∙ e told
 
     may_answer : (r : Result (Vec ℕ Global) Stop) → (input_tells ≡ true → AnswersByInput (early_outcome (Some command) input) r) → (tells ≡ true → AnswersByFolder now old r)
-        → IfOk r (λ text. IsReportOf command input_tells input tells new now text.items) → (IsErrOf r Malformed → tells ≡ false) → May (answer_outcome r)
+        → IfOk r (λ text. IsReportOf command input_tells input tells old new now text.items) → (IsErrOf r Malformed → tells ≡ false) → May (answer_outcome r)
     may_answer (Ok t) e f report never = reported (early_by None e) f command is report refl
     may_answer (Err OutOfMemory) e f report never = stopped (inl refl) refl
     may_answer (Err Input) e f report never = stopped (inr (inl refl)) refl
@@ -128,11 +138,11 @@ module _ (words : List (List ℕ)) (input_tells : Bool) (input : List ℕ) (now 
     may_answer (Err Malformed) e f report never = malformed (early_by None e) (never refl) refl
 
     pub may_end_answer : (r : Result (Vec ℕ Global) Stop) (e : Outcome) → (input_tells ≡ true → AnswersByInput (early_outcome (Some command) input) r) → (tells ≡ true → AnswersByFolder now old r)
-        → IfOk r (λ text. IsReportOf command input_tells input tells new now text.items) → (IsErrOf r Malformed → tells ≡ false) → (e ≡ answer_outcome r) ⊎ (e ≡ outcome 1 []) → May e
+        → IfOk r (λ text. IsReportOf command input_tells input tells old new now text.items) → (IsErrOf r Malformed → tells ≡ false) → (e ≡ answer_outcome r) ⊎ (e ≡ outcome 1 []) → May e
     may_end_answer r e by_input f report never (inl same) = subst May (sym same) (may_answer r by_input f report never)
     may_end_answer r e by_input f report never (inr same) = subst May (sym same) (stopped (inl refl) refl)
 
-    reports : (text : List ℕ) → input_tells ≡ true → IsReportOf command input_tells input tells new now text → Reports words input tells new now [] text
+    reports : (text : List ℕ) → input_tells ≡ true → IsReportOf command input_tells input tells old new now text → Reports words input tells new now [] text
     reports text told r = record {
       settings = r.settings;
       said = r.said;
@@ -144,7 +154,7 @@ module _ (words : List (List ℕ)) (input_tells : Bool) (input : List ℕ) (now 
       written = refl;
     }
 
-    pub reports_answer : (r : Result (Vec ℕ Global) Stop) (e : Outcome) → input_tells ≡ true → IfOk r (λ text. IsReportOf command input_tells input tells new now text.items)
+    pub reports_answer : (r : Result (Vec ℕ Global) Stop) (e : Outcome) → input_tells ≡ true → IfOk r (λ text. IsReportOf command input_tells input tells old new now text.items)
         → (e ≡ answer_outcome r) ⊎ (e ≡ outcome 1 []) → e.status ≡ 0 → Reports words input tells new now [] e.text
     reports_answer r e told report (inr same) nought = absurd (omega (arith, ap (λ (x : Outcome). x.status) same))
     reports_answer (Ok t) e told report (inl same) nought = subst (λ (x : Outcome). Reports words input tells new now [] x.text) (sym same) (reports t.items told report)

@@ -9,4 +9,5 @@ pub mod Cleaned
 pub mod Reading
 pub mod Settled
 pub mod Listing
+pub mod Making
 pub mod Endings

@@ -1,15 +1,17 @@
 -- What was listed when a folder was opened is listed still.
-use Rattle.std.proofs.Common.{◌≡◌, ◌∙◌, ℕ, Bool, true, List, subst, sym}
+use Rattle.std.proofs.Common.{◌≡◌, ◌⊎◌, inl, inr, ◌∙◌, ℕ, Bool, true, List, subst, sym}
 use Rattle.xet_io.specs.Disk.{Files}
+use Rattle.xet_folder.specs.Admission.{Admits}
 use Rattle.xet_folder.specs.Contents.{HasContents}
 use Rattle.xet_folder.specs.Listed.{JoinsTo, Lists}
+use Rattle.xet_folder.specs.Names.{shard_path, xorb_path}
 use Rattle.xet_store.specs.declared.limits.LimitSettings.{LimitSettings}
-use Rattle.xet_store.specs.Cleaning.{Keeps}
+use Rattle.xet_store.specs.Cleaning.{HasShard, HasWholeShard, HasXorb, Keeps, SameEntry}
 use Rattle.xet_store.specs.Opening.{IsOpened, contents_of}
-use Rattle.xet_store.specs.Store.{State}
+use Rattle.xet_store.specs.Store.{Sound, State}
 use Rattle.xet_store.proofs.Sessions.{joins_stay, listed_stay}
 use Rattle.xet_store_cli.specs.Outcome.{store_folder}
-use Rattle.xet_store_cli.specs.Stored.{KeepsListed}
+use Rattle.xet_store_cli.specs.Stored.{KeepsFolder, KeepsListed}
 
 -- by a session
 kept_by : (s t : State) → s.tells ≡ true → s.folder ≡ store_folder → HasContents s.files s.folder s.opened (contents_of s) → Keeps s t → KeepsListed s.opened s.files t.files
@@ -31,3 +33,33 @@ keeps_listed tells old new limits now s t told opened contents keeps is =
     let at : KeepsListed now s.files t.files = subst (λ (x : ℕ). KeepsListed x s.files t.files) opened.moment kept in
     let from : KeepsListed now old t.files = subst (λ (x : Files). KeepsListed now x t.files) opened.same_files at in
     subst (λ (x : Files). KeepsListed now old x) (sym is) from
+
+-- ---- the names of a store's files
+
+-- as a session keeps them
+keeps_names : (s t : State) → s.tells ≡ true → s.folder ≡ store_folder → Keeps s t → Sound t → KeepsFolder s.opened s.files t.files
+keeps_names s t told folder keeps sound =
+    let after : t.folder ≡ store_folder = keeps.folder ∙ folder in record {
+      xorbs = λ h is. xorb h (keeps.xorb_names told h is);
+      shards = λ h is. shard h (keeps.shard_names told h is);
+      admitted = λ was.
+          let a = sound.admitted (keeps.tells ∙ told) in
+          (a.shards, subst (λ (n : ℕ). Admits t.files store_folder n a.shards) keeps.opened (subst (λ (x : List ℕ). Admits t.files x t.opened a.shards) after a.admits));
+    }
+  where
+    xorb : (h : List ℕ) → SameEntry s.files t.files (xorb_path s.folder h) ⊎ HasXorb t.files t.folder h → SameEntry s.files t.files (xorb_path store_folder h) ⊎ HasXorb t.files store_folder h
+    xorb h (inl same) = inl (subst (λ (x : List ℕ). SameEntry s.files t.files (xorb_path x h)) folder same)
+    xorb h (inr has) = inr (subst (λ (x : List ℕ). HasXorb t.files x h) (keeps.folder ∙ folder) has)
+
+    shard : (h : List ℕ) → SameEntry s.files t.files (shard_path s.folder h) ⊎ HasWholeShard t h → SameEntry s.files t.files (shard_path store_folder h) ⊎ HasShard t.files store_folder h
+    shard h (inl same) = inl (subst (λ (x : List ℕ). SameEntry s.files t.files (shard_path x h)) folder same)
+    shard h (inr has) = inr (subst (λ (x : List ℕ). HasShard t.files x h) (keeps.folder ∙ folder) has.shard)
+
+-- over the disk that it hands back
+pub keeps_folder : (tells : Bool) (old new : Files) (limits : LimitSettings) (now : ℕ) (s t : State) → tells ≡ true → IsOpened tells old store_folder limits now s
+    → Keeps s t → Sound t → new ≡ t.files → KeepsFolder now old new
+keeps_folder tells old new limits now s t told opened keeps sound is =
+    let kept : KeepsFolder s.opened s.files t.files = keeps_names s t (opened.same_tells ∙ told) opened.same_folder keeps sound in
+    let at : KeepsFolder now s.files t.files = subst (λ (x : ℕ). KeepsFolder x s.files t.files) opened.moment kept in
+    let from : KeepsFolder now old t.files = subst (λ (x : Files). KeepsFolder now x t.files) opened.same_files at in
+    subst (λ (x : Files). KeepsFolder now old x) (sym is) from

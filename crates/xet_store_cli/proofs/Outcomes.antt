@@ -1,5 +1,5 @@
 -- How `pack` ends, by what it has read.
-use Rattle.std.proofs.Common.{◌≡◌, ◌≢◌, ◌⊎◌, ◌∙◌, ℕ, zero, suc, ◌<◌, ◌≤◌, inl, inr, Bool, true, false, cond, List, [], ◌++◌, length, subst, Option, Some, None, Result, Ok, Err, IfOk, IfErr, IsErrOf, Vec, Global, unwrap_or, refl, sym, ap, arith}
+use Rattle.std.proofs.Common.{◌≡◌, ◌≢◌, ◌⊎◌, ◌∙◌, ℕ, ◌<◌, ◌≤◌, inl, inr, Bool, true, false, cond, List, [], ◌++◌, length, subst, Option, Some, None, Result, Ok, Err, IfOk, IfErr, IsErrOf, Vec, Global, unwrap_or, refl, sym, ap, arith}
 use Rattle.std.proofs.lemmas.Bool.{cases_lt, false≢true, lt-ltb, le-ltb}
 use Rattle.std.proofs.lemmas.List.{append-nil}
 use Rattle.std.proofs.Math.Nat.{le_trans}
@@ -22,7 +22,7 @@ use Rattle.xet_store_cli.specs.Outcome.IsDue.{admitted, early, refused}
 use Rattle.xet_store_cli.specs.Allowed.{are_short}
 use Rattle.xet_store_cli.specs.Parsing.{ForLines, Said, Says, are_good, parted}
 use Rattle.xet_store_cli.specs.Report.{IsReport}
-use Rattle.xet_store_cli.specs.Stops.{Answers, AnswersByFolder, AnswersByInput, AnswersEarly, AnswersLate, IsEarlyStop, IsLateStop, IsSaid, answer_outcome, stop_of_unread}
+use Rattle.xet_store_cli.specs.Stops.{Answers, AnswersByFolder, AnswersByInput, AnswersEarly, AnswersLate, IsEarlyStop, IsIdleStop, IsLateStop, IsSaid, IsSessionStop, answer_outcome, stop_of_unread}
 use Rattle.xet_store_cli.specs.Words.{command_of}
 use Rattle.xet_store_cli.proofs.Lengths.{short_said}
 use Rattle.xet_store_cli.proofs.Said.{good_parted}
@@ -45,7 +45,7 @@ short_input input none = elim (cases_lt most_input (length input)) [
 pub early_unread : (left rest : List ℕ) (u : Unread) → ReadsAll most_input left (Err u) rest → AnswersEarly left (Err (stop_of_unread u))
 early_unread left rest unread.OutOfMemory h = tt
 early_unread left rest unread.Failed h = tt
-early_unread left rest unread.TooLong h = pack_too_long left h
+early_unread left rest unread.TooLong h = pack_too_long left h.0
 
 -- by the ranges of good lines
 abbrev by_outcome : Bool → Option Outcome
@@ -86,11 +86,26 @@ module _ (input read : List ℕ) (same : read ≡ input) (short : length input �
 
 -- ---- how a run is to end
 
--- where an input may be as long as a source, no file of its good lines is too large
+-- where an input may be as long as a source, the files of its good lines are short
+pub short_files : (s : LimitSettings) (input : List ℕ) (said : Said) → most_input ≤ s.max_source_bytes → IsSaid input said → are_short s said.files ≡ true
+short_files s input said allowed is =
+    subst (λ (x : Said). are_short s x.files ≡ true) is.parts (short_said s input (lines_said (lines input)) (le_trans (short_input input is.fine) allowed) is.good)
+
+-- and none is too large
 never_too_large : (s : LimitSettings) (input : List ℕ) (said : Said) → most_input ≤ s.max_source_bytes → IsSaid input said → are_short s said.files ≡ false → ⊥
-never_too_large s input said allowed is long =
-    let short = short_said s input (lines_said (lines input)) (le_trans (short_input input is.fine) allowed) is.good in
-    false≢true (sym long ∙ subst (λ (x : Said). are_short s x.files ≡ true) is.parts short)
+never_too_large s input said allowed is long = false≢true (sym long ∙ short_files s input said allowed is)
+
+-- files that are short stop no session as too large
+pub never_idle : (X : Type 0) (tells : Bool) (s : LimitSettings) (said : Said) (r : Result (Vec ℕ Global) Stop) → are_short s said.files ≡ true → IfErr r (IsSessionStop tells s said) → IfErr r (λ stop. IsIdleStop stop → X)
+never_idle X tells s said (Ok t) short stop = tt
+never_idle X tells s said (Err OutOfMemory) short stop = λ idle. absurd idle
+never_idle X tells s said (Err Disk) short stop = λ idle. absurd idle
+never_idle X tells s said (Err Malformed) short stop = λ idle. absurd idle
+never_idle X tells s said (Err TooLarge) short stop = absurd (false≢true (sym stop ∙ short))
+never_idle X tells s said (Err Input) short stop = absurd stop
+never_idle X tells s said (Err BadRange) short stop = absurd stop
+never_idle X tells s said (Err (BadLine n)) short stop = absurd stop
+never_idle X tells s said (Err (BadShard name)) short stop = absurd stop
 
 module _ (s : LimitSettings) (input : List ℕ) (now : ℕ) (old new : Files) where
   abbrev Due : Outcome → Type 0

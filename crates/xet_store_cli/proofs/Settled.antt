@@ -1,24 +1,28 @@
 -- What is reported, stored and recorded where nothing is pending any more.
-use Rattle.std.proofs.Common.{◌≡◌, ◌≢◌, ◌∙◌, inl, inr, ℕ, zero, suc, ◌&&◌, Bool, true, false, cond, leb, List, [], ◌∷◌, ◌++◌, length, map, Option, Some, None, Result, Ok, Err, OnOk, IfOk, Vec, Global, is_some, unwrap_or, subst, refl, sym, ap}
+use Rattle.std.proofs.Common.{◌≡◌, ◌≢◌, ◌⊎◌, ◌∙◌, inl, inr, ℕ, zero, suc, ◌&&◌, Bool, true, false, cond, leb, List, [], ◌∷◌, ◌++◌, length, map, Option, Some, None, IsSome, Result, Ok, Err, OnOk, IfOk, Vec, Global, is_some, unwrap_or, subst, refl, sym, ap}
 use Rattle.std.proofs.lemmas.Bool.{and_parts, false≢true}
 use Rattle.std.specs.List.{AllByRecursion, flat_map, list_all}
 use Rattle.std.specs.Option.{option_and_then}
 use Rattle.xet_hash.specs.Merkle.{chunk_hash, file_hash, members_of, xorb_hash}
+use Rattle.xet_folder.specs.Contents.{HasContents}
 use Rattle.xet_folder.specs.Listed.{JoinsTo, Lists}
 use Rattle.xet_folder.specs.Plan.{range}
-use Rattle.xet_folder.specs.Xorbs.{IsListed, Xorbs}
+use Rattle.xet_folder.specs.Xorbs.{IsListed, Xorbs, found}
 use Rattle.xet_store.specs.declared.limits.LimitSettings.{LimitSettings}
 use Rattle.xet_store.specs.declared.info.XetFileInfo.{XetFileInfo}
 use Rattle.xet_store.specs.Cleaning.{HasFile, HasXorbs, IsPacked, Keeps, info_of}
 use Rattle.xet_store.specs.Cut.{cut}
 use Rattle.xet_store.specs.Limits.{AreInRange}
+use Rattle.xet_store.specs.Opening.{contents_of}
 use Rattle.xet_store.specs.Packing.{packs}
 use Rattle.xet_store.specs.Ranges.{IsRange}
-use Rattle.xet_store.specs.Separate.{Among, Apart, MetChunk, MetStored, Separate, SeparateIn}
+use Rattle.xet_store.specs.Separate.{Among, Apart, IsMet, IsNamed, IsPackOf, MetChunk, MetStored, Separate, SeparateIn}
 use Rattle.xet_store.specs.Steps.{ListsXorbs}
 use Rattle.xet_store.specs.Store.{State, Sound}
+use Rattle.xet_store.specs.Tables.{Tables, tables_of, with_files}
 use Rattle.xet_store.proofs.Files.{xorbs_all}
-use Rattle.xet_store.proofs.Sessions.{has_file_stays, range_of_file, recorded_by_folder, separate_by_folder}
+use Rattle.xet_store.proofs.Keeping.{keeps_then}
+use Rattle.xet_store.proofs.Sessions.{has_file_stays, named_stays, range_of_file, recorded_by_folder, separate_by_folder}
 use Rattle.xet_store_cli.specs.declared.ending.Stop.{Stop}
 use Rattle.xet_store_cli.specs.declared.lines.FileRange.{FileRange}
 use Rattle.xet_store_cli.specs.Lines.{Line, bytes_in, numbered, range_bytes}
@@ -28,6 +32,7 @@ use Rattle.xet_store_cli.specs.Report.{IsReport, bytes_line, file_line, file_rep
 use Rattle.xet_store_cli.specs.Steps.{AreRead, IsLineRead, IsSettled, hash_at}
 use Rattle.xet_store_cli.specs.Stored.{IsRecorded, Records, Stores}
 use Rattle.xet_store_cli.proofs.Cleaned.{lines_of_infos}
+use Rattle.xet_store_cli.proofs.Making.{listed_of_files}
 use Rattle.xet_store_cli.proofs.Cuts.{concat_cut, cut_some}
 use Rattle.xet_store_cli.proofs.Ranged.{range_none}
 
@@ -85,11 +90,12 @@ apart_less digest More Less all apart = record {
   not_marker = λ x m. apart.not_marker x (all x m);
 }
 
-apart_in_state : (s : State) (files : List (List (List ℕ))) → Apart chunk_hash (MetStored s.files s.folder files) → Apart chunk_hash (MetChunk s files)
-apart_in_state s files apart = apart_less chunk_hash (MetStored s.files s.folder files) (MetChunk s files) more apart
+apart_in_state : (s : State) (now : ℕ) (l : LimitSettings) (files : List (List (List ℕ))) → ((h : List ℕ) → IsSome (found s.xorbs h) → IsMet s.files s.folder now l files h)
+    → Apart chunk_hash (MetStored s.files s.folder now l files) → Apart chunk_hash (MetChunk s files)
+apart_in_state s now l files met apart = apart_less chunk_hash (MetStored s.files s.folder now l files) (MetChunk s files) more apart
   where
-    more : (b : List ℕ) → MetChunk s files b → MetStored s.files s.folder files b
-    more b (inl (h, c, (listed, stored), among)) = inl (h, c, stored, among)
+    more : (b : List ℕ) → MetChunk s files b → MetStored s.files s.folder now l files b
+    more b (inl (h, c, (listed, stored), among)) = inl (h, c, met h listed, stored, among)
     more b (inr given) = inr given
 
 -- each file of a state, as a fact about its bytes
@@ -113,6 +119,8 @@ pub record IsDone (first before after : State) (said : Said) : Type 0 where
   pub fits : AreInRange first.limits
   pub has : first.tells ≡ true → Separate before (map (cut first.limits) said.files) → AllByRecursion (HasFile before) (map (cut first.limits) said.files)
   pub lists : AllByRecursion (ListsXorbs before) (map (cut first.limits) said.files)
+  pub contents : first.tells ≡ true → HasContents first.files first.folder first.opened (contents_of first)
+  pub tables : tables_of before ≡ with_files first.limits (tables_of first) said.files
 
 module _ (first before after : State) (said : Said) (done : IsDone first before after said) where
   abbrev chunked : List (List (List ℕ))
@@ -124,12 +132,23 @@ module _ (first before after : State) (said : Said) (done : IsDone first before 
   opened_after : after.opened ≡ first.opened
   opened_after = done.keeps.opened ∙ done.cleaned.opened
 
+  -- each xorb that is then listed is met in the folder
+  all_met : first.tells ≡ true → (h : List ℕ) → IsSome (found before.xorbs h) → IsMet after.files after.folder after.opened first.limits chunked h
+  all_met told h is = go (listed_of_files first.limits (tables_of first) said.files h (subst (λ (t : Tables). IsSome (found t.xorbs h)) done.tables is))
+    where
+      go : IsSome (found first.xorbs h) ⊎ IsPackOf first.limits chunked h → IsMet after.files after.folder after.opened first.limits chunked h
+      go (inl listed) =
+          let named : IsNamed after.files first.folder first.opened h = named_stays first after told (done.contents told) (keeps_then first before after done.cleaned done.keeps) h listed in
+          let at : IsNamed after.files after.folder first.opened h = subst (λ (f : List ℕ). IsNamed after.files f first.opened h) (sym (done.keeps.folder ∙ done.cleaned.folder)) named in
+          inl (subst (λ (n : ℕ). IsNamed after.files after.folder n h) (sym opened_after) at)
+      go (inr pack) = inr pack
+
   module _ (settled : IsSettled before after) where
-    separates : first.tells ≡ true → SeparateIn after.files store_folder first.opened chunked → Separate before chunked
+    separates : first.tells ≡ true → SeparateIn after.files store_folder first.opened first.limits chunked → Separate before chunked
     separates told apart =
-        let by_folder : SeparateIn after.files after.folder first.opened chunked = subst (λ (f : List ℕ). SeparateIn after.files f first.opened chunked) (sym folder_after) apart in
-        separate_by_folder before after (done.cleaned.tells ∙ told) done.sound done.flushed done.keeps settled.records settled.nothing_pending chunked
-        (subst (λ (n : ℕ). SeparateIn after.files after.folder n chunked) (sym opened_after) by_folder)
+        let by_folder : SeparateIn after.files after.folder first.opened first.limits chunked = subst (λ (f : List ℕ). SeparateIn after.files f first.opened first.limits chunked) (sym folder_after) apart in
+        separate_by_folder before after (done.cleaned.tells ∙ told) done.sound done.flushed done.keeps settled.records settled.nothing_pending first.limits chunked (all_met told)
+        (subst (λ (n : ℕ). SeparateIn after.files after.folder n first.limits chunked) (sym opened_after) by_folder)
 
     each_after : (files : List (List (List ℕ))) → first.tells ≡ true → AllByRecursion (HasFile before) files → AllByRecursion (HasFile after) files
     each_after [] told all = tt
@@ -146,27 +165,33 @@ module _ (first before after : State) (said : Said) (done : IsDone first before 
           is = is ∙ ap (λ (i : List XetFileInfo). flat_map info_line i ++ ranges) told_infos ∙ ap (λ (t : List ℕ). t ++ ranges) (lines_of_infos first.limits said.files)
               ∙ ap (λ (x : Said). flat_map (file_line first.limits) x.files ++ ranges) (sym parts);
           exact = λ given.
-              let apart : SeparateIn after.files store_folder first.opened chunked = subst (λ (x : Said). SeparateIn after.files store_folder first.opened (map (cut first.limits) x.files)) parts given.1 in
+              let apart : SeparateIn after.files store_folder first.opened first.limits chunked = subst (λ (x : Said). SeparateIn after.files store_folder first.opened first.limits (map (cut first.limits) x.files)) parts given.1 in
               lines_exact after first.limits said.files (done.keeps.tells ∙ done.cleaned.tells ∙ given.0) done.fits (each_after chunked given.0 (done.has given.0 (separates given.0 apart))) said.ranges ranges good read_of
               ∙ ap (λ (x : Said). flat_map (λ r. bytes_line (unwrap_or (range_bytes x.files r) [])) x.ranges) (sym parts);
           none = λ none. subst (λ (rs : List FileRange). AreRead after infos rs ranges) (ap (λ (x : Said). x.ranges) (sym parts) ∙ none) read;
         }
 
     -- what is stored
-    stored_of : first.tells ≡ true → (lines : List Line) → parted lines ≡ said → Stores first.limits lines after.files
+    stored_of : first.tells ≡ true → (lines : List Line) → parted lines ≡ said → Stores first.limits lines first.opened after.files
     stored_of told lines parts = λ apart.
-        let of_said : Apart chunk_hash (MetStored after.files store_folder chunked) = subst (λ (x : Said). Apart chunk_hash (MetStored after.files store_folder (map (cut first.limits) x.files))) parts apart in
-        let of_folder : Apart chunk_hash (MetStored after.files after.folder chunked) = subst (λ (f : List ℕ). Apart chunk_hash (MetStored after.files f chunked)) (sym folder_after) of_said in
+        let of_said : Apart chunk_hash (MetStored after.files store_folder first.opened first.limits chunked) =
+        subst (λ (x : Said). Apart chunk_hash (MetStored after.files store_folder first.opened first.limits (map (cut first.limits) x.files))) parts apart in
+        let of_folder : Apart chunk_hash (MetStored after.files after.folder first.opened first.limits chunked) =
+        subst (λ (f : List ℕ). Apart chunk_hash (MetStored after.files f first.opened first.limits chunked)) (sym folder_after) of_said in
+        let of_moment : Apart chunk_hash (MetStored after.files after.folder after.opened first.limits chunked) =
+        subst (λ (n : ℕ). Apart chunk_hash (MetStored after.files after.folder n first.limits chunked)) (sym opened_after) of_folder in
+        let met : (h : List ℕ) → IsSome (found after.xorbs h) → IsMet after.files after.folder after.opened first.limits chunked h =
+        λ h is. all_met told h (subst (λ (x : Xorbs). IsSome (found x h)) settled.xorbs is) in
         let xorbs_same : AllByRecursion (Listing after.xorbs before.limits) chunked = subst (λ (x : Xorbs). AllByRecursion (Listing x before.limits) chunked) (sym settled.xorbs) done.lists in
         let limits_same : AllByRecursion (ListsXorbs after) chunked = subst (λ (l : LimitSettings). AllByRecursion (Listing after.xorbs l) chunked) (sym done.keeps.limits) xorbs_same in
-        let all : AllByRecursion (HasXorbs after) chunked = xorbs_all after chunked done.flushed (done.keeps.tells ∙ done.cleaned.tells ∙ told) (apart_in_state after chunked of_folder) chunked (λ c a. a) limits_same in
+        let all : AllByRecursion (HasXorbs after) chunked = xorbs_all after chunked done.flushed (done.keeps.tells ∙ done.cleaned.tells ∙ told) (apart_in_state after after.opened first.limits chunked met of_moment) chunked (λ c a. a) limits_same in
         let packed = packed_all after first.limits said.files (done.keeps.limits ∙ done.cleaned.limits) all in
         let here : AllByRecursion (λ bytes. IsPacked after.files store_folder first.limits (cut first.limits bytes)) said.files =
         subst (λ (f : List ℕ). AllByRecursion (λ bytes. IsPacked after.files f first.limits (cut first.limits bytes)) said.files) folder_after packed in
         subst (λ (x : Said). AllByRecursion (λ bytes. IsPacked after.files store_folder first.limits (cut first.limits bytes)) x.files) (sym parts) here
 
     -- what is recorded
-    record_one : first.tells ≡ true → SeparateIn after.files store_folder first.opened chunked → (bytes : List ℕ) → Among chunked (cut first.limits bytes) → HasFile before (cut first.limits bytes) → bytes ≢ []
+    record_one : first.tells ≡ true → SeparateIn after.files store_folder first.opened first.limits chunked → (bytes : List ℕ) → Among chunked (cut first.limits bytes) → HasFile before (cut first.limits bytes) → bytes ≢ []
         → IsRecorded first.limits after.files first.opened bytes
     record_one told apart bytes given there some =
         let chunks = cut first.limits bytes in
@@ -180,7 +205,7 @@ module _ (first before after : State) (said : Said) (done : IsDone first before 
           joins = subst (λ (f : List ℕ). JoinsTo after.files f r.0 chunks) folder_after r.3;
         }
 
-    record_all : first.tells ≡ true → SeparateIn after.files store_folder first.opened chunked → (files : List (List ℕ)) → ((c : List (List ℕ)) → Among (map (cut first.limits) files) c → Among chunked c)
+    record_all : first.tells ≡ true → SeparateIn after.files store_folder first.opened first.limits chunked → (files : List (List ℕ)) → ((c : List (List ℕ)) → Among (map (cut first.limits) files) c → Among chunked c)
         → AllByRecursion (HasFile before) (map (cut first.limits) files) → AllByRecursion (λ bytes. bytes ≢ [] → IsRecorded first.limits after.files first.opened bytes) files
     record_all told apart [] given all = tt
     record_all told apart (f ∷ fs) given all =
@@ -188,7 +213,7 @@ module _ (first before after : State) (said : Said) (done : IsDone first before 
 
     recorded_of : first.tells ≡ true → (lines : List Line) → parted lines ≡ said → Records first.limits lines first.opened after.files
     recorded_of told lines parts = λ given.
-        let apart : SeparateIn after.files store_folder first.opened chunked = subst (λ (x : Said). SeparateIn after.files store_folder first.opened (map (cut first.limits) x.files)) parts given in
+        let apart : SeparateIn after.files store_folder first.opened first.limits chunked = subst (λ (x : Said). SeparateIn after.files store_folder first.opened first.limits (map (cut first.limits) x.files)) parts given in
         let all = record_all told apart said.files (λ c a. a) (done.has told (separates told apart)) in
         subst (λ (x : Said). AllByRecursion (λ bytes. bytes ≢ [] → IsRecorded first.limits after.files first.opened bytes) x.files) (sym parts) all
 
@@ -200,7 +225,7 @@ module _ (first before after : State) (said : Said) (done : IsDone first before 
       report_of settled infos t.items text told good (subst (λ (rs : List FileRange). AreRead after infos rs text) same read) is lines parts
   reports infos ranges told same good (Err stop) settled text = tt
 
-  pub stores : first.tells ≡ true → (r : Result (Vec ℕ Global) Stop) → OnOk r (IsSettled before after) → OnOk r (ForLines said (λ lines. Stores first.limits lines after.files))
+  pub stores : first.tells ≡ true → (r : Result (Vec ℕ Global) Stop) → OnOk r (IsSettled before after) → OnOk r (ForLines said (λ lines. Stores first.limits lines first.opened after.files))
   stores told (Ok t) settled = λ lines parts. stored_of settled told lines parts
   stores told (Err stop) settled = tt
 

@@ -6,4 +6,5 @@ pub mod Outcome
 pub mod Allowed
 pub mod Stops
 pub mod Stored
+pub mod Ending
 pub mod Steps

@@ -62,9 +62,9 @@ bad_shard_text name = codes "bad shard " ++ name ++ 10 ∷ []
 abbrev pub cuts_of : LimitSettings → List Line → List (List (List ℕ))
 cuts_of s said = map (cut s) (files_of said)
 
--- A disk tells, and digests separate what stands in its folder and what these lines say.
+-- A disk tells, and digests separate what is met in its folder and what these lines say.
 abbrev pub AreSeparate : Bool → Files → ℕ → LimitSettings → List Line → Type 0
-AreSeparate tells files now s said = (tells ≡ true) × SeparateIn files store_folder now (cuts_of s said)
+AreSeparate tells files now s said = (tells ≡ true) × SeparateIn files store_folder now s (cuts_of s said)
 
 -- How a run with a command at a moment over this input and a disk with these files is to end, where they
 -- have then become those others. Past its input it is a report, where the folder is admitted; else it
@@ -138,32 +138,6 @@ pub record Reports (words : List (List ℕ)) (input : List ℕ) (tells : Bool) (
   pub report : IsReport (AreSeparate tells files now settings said) settings said text
   pub written : after ≡ before ++ text
 
--- The text is a report of what an input says to the command; it is this input, where that tells.
-pub record IsReportOf (command : Command) (input_tells : Bool) (input : List ℕ) (tells : Bool) (files : Files) (now : ℕ) (text : List ℕ) : Type 0 where
-  pub settings : LimitSettings
-  pub said : List Line
-  pub is_pack : command ≡ Pack settings
-  pub good : input_tells ≡ true → good_lines (lines input) ≡ Some said
-  pub ranges_good : are_ranges said ≡ true
-  pub report : IsReport (AreSeparate tells files now settings said) settings said text
-
--- how a run ends before its store is opened, whatever its input
-abbrev pub IsEarly : Outcome → Type 0
-IsEarly o = (o ≡ outcome 2 []) ⊎ (o ≡ outcome 8 []) ⊎ (o ≡ outcome 9 []) ⊎ ((n : ℕ) × (o ≡ outcome 3 (bad_line_text n)))
-
--- How a run with these words at a moment may end, over an input and a disk that tell or not: before its store
--- is opened, as is due then; at a shard that fails a check; with a report; stopped, with no text; or, over a
--- disk that does not tell, because a stored xorb was other than when it was checked.
-pub data MayEnd (words : List (List ℕ)) (input_tells : Bool) (input : List ℕ) (now : ℕ) (tells : Bool) (old new : Files) (o : Outcome) : Type 0 where
-  early : (input_tells ≡ true → early_outcome (command_of words) input ≡ Some o) → IsEarly o → MayEnd words input_tells input now tells old new o
-  refused : (input_tells ≡ true → early_outcome (command_of words) input ≡ None) → (name : List ℕ) → (tells ≡ true → (e : StoreError) × Refuses old store_folder now e name)
-      → o ≡ outcome 7 (bad_shard_text name) → MayEnd words input_tells input now tells old new o
-  reported : (input_tells ≡ true → early_outcome (command_of words) input ≡ None) → (tells ≡ true → (shards : List ShardFile) × Admits old store_folder now shards)
-      → (command : Command) → command_of words ≡ Some command → IsReportOf command input_tells input tells new now o.text → o.status ≡ 0
-      → MayEnd words input_tells input now tells old new o
-  stopped : IsStoppedSilent o.status → o.text ≡ [] → MayEnd words input_tells input now tells old new o
-  malformed : (input_tells ≡ true → early_outcome (command_of words) input ≡ None) → tells ≡ false → o ≡ outcome 10 [] → MayEnd words input_tells input now tells old new o
-
 -- the statuses at which nothing is printed
 abbrev pub IsSilent : ℕ → Type 0
 IsSilent status = (status ≡ 2) ⊎ (status ≡ 4) ⊎ (status ≡ 6) ⊎ (status ≡ 8) ⊎ (status ≡ 9) ⊎ (status ≡ 10)
@@ -179,4 +153,4 @@ pub record IsFaultless (words : List (List ℕ)) (input : List ℕ) (now : ℕ) 
 
 -- the statuses at which no file of the disk has changed
 abbrev pub IsIdle : ℕ → Type 0
-IsIdle status = (status ≡ 2) ⊎ (status ≡ 3) ⊎ (status ≡ 4) ⊎ (status ≡ 7) ⊎ (status ≡ 8)
+IsIdle status = (status ≡ 2) ⊎ (status ≡ 3) ⊎ (status ≡ 4) ⊎ (status ≡ 7) ⊎ (status ≡ 8) ⊎ (status ≡ 9)

@@ -1,19 +1,33 @@
 -- Steps of `pack` over a session.
-use Rattle.std.specs.Prelude.{◌≡◌, ℕ, zero, suc, Bool, true, false, List, [], ◌∷◌, ◌++◌}
+use Rattle.std.specs.Prelude.{◌≡◌, ◌≢◌, ℕ, zero, suc, ◌<◌, ◌^◌, Bool, true, false, List, [], ◌∷◌, ◌++◌, None}
+use Rattle.std.specs.List.{AllByRecursion, IsAmong}
+use Rattle.xet_shard.specs.declared.record.MDBFileInfo.{MDBFileInfo}
 use Rattle.xet_shard.specs.Held.{nothing}
+use Rattle.xet_folder.specs.Listed.{Lists}
+use Rattle.xet_folder.specs.Xorbs.{found}
 use Rattle.xet_store.specs.declared.info.XetFileInfo.{XetFileInfo}
 use Rattle.xet_store.specs.Ranges.{IsRange}
 use Rattle.xet_store.specs.Store.{State}
+use Rattle.xet_store.specs.Tables.{record_of_file}
 use Rattle.xet_store_cli.specs.declared.ending.Stop.{Stop}
 use Rattle.xet_store_cli.specs.declared.ending.Stop.TheVariants.{OutOfMemory, Disk, Malformed}
 use Rattle.xet_store_cli.specs.declared.lines.FileRange.{FileRange}
-use Rattle.xet_store_cli.specs.Report.{bytes_line}
+use Rattle.xet_store_cli.specs.Report.{bytes_line, hash_of_file}
 
--- Nothing is pending any more; xorbs and records are as they were.
+-- Nothing is pending any more, and each file that was is listed at every moment; xorbs and records are as they were.
 pub record IsSettled (old new : State) : Type 0 where
+  pub lasts : old.tells ≡ true → (f : MDBFileInfo) → IsAmong old.pending.files f → (moment : ℕ) → moment < 2 ^ 64 → Lists new.files new.folder moment f
   pub nothing_pending : new.pending ≡ nothing
   pub xorbs : new.xorbs ≡ old.xorbs
   pub records : new.records ≡ old.records
+
+-- Each of these files that is not empty, and of whose hash a session had no record, has one that is listed at every
+-- moment, and that was made of it, or of one of them of the same hash.
+abbrev pub MakesIn : State → List (List ℕ) → State → Type 0
+MakesIn old files new =
+    AllByRecursion (λ bytes. bytes ≢ [] → found old.records (hash_of_file old.limits bytes) ≡ None
+    → (made : List ℕ) × IsAmong files made × (hash_of_file old.limits made ≡ hash_of_file old.limits bytes)
+    × ((moment : ℕ) → moment < 2 ^ 64 → Lists new.files new.folder moment (record_of_file old.limits made))) files
 
 -- the hash of the file of a number, counted from 1
 abbrev pub hash_at : List XetFileInfo → ℕ → List ℕ

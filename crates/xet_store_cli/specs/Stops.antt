@@ -118,6 +118,7 @@ abbrev pub IsIdleStop : Stop → Type 0
 IsIdleStop Input = Unit {0}
 IsIdleStop (BadLine n) = Unit {0}
 IsIdleStop BadRange = Unit {0}
+IsIdleStop TooLarge = Unit {0}
 IsIdleStop (BadShard name) = Unit {0}
 IsIdleStop _ = ⊥
 

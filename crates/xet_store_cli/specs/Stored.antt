@@ -1,14 +1,18 @@
 -- What `pack` has stored.
-use Rattle.std.specs.Prelude.{◌≡◌, ◌≢◌, ℕ, ◌≤◌, List, [], IfSome}
-use Rattle.std.specs.List.{AllByRecursion}
+use Rattle.std.specs.Prelude.{◌≡◌, ◌≢◌, ◌⊎◌, ℕ, ◌<◌, ◌≤◌, ◌^◌, List, [], IfSome}
+use Rattle.std.specs.List.{AllByRecursion, IsAmong}
 use Rattle.std.specs.Str.Lines.{lines}
 use Rattle.xet_io.specs.Disk.{Files}
 use Rattle.xet_hash.specs.Merkle.{chunk_hash}
 use Rattle.xet_store.specs.declared.limits.LimitSettings.{LimitSettings}
 use Rattle.xet_store.specs.Cut.{cut}
-use Rattle.xet_store.specs.Cleaning.{IsPacked}
+use Rattle.xet_store.specs.Cleaning.{HasShard, HasXorb, IsPacked, SameEntry}
 use Rattle.xet_store.specs.Separate.{Apart, MetStored, SeparateIn}
+use Rattle.xet_store.specs.Tables.{record_of_file}
+use Rattle.xet_folder.specs.Admission.{Admits}
 use Rattle.xet_folder.specs.Listed.{JoinsTo, Lists}
+use Rattle.xet_folder.specs.Names.{IsHash, shard_path, xorb_path}
+use Rattle.xet_folder.specs.Shards.{ShardFile}
 use Rattle.xet_shard.specs.declared.record.MDBFileInfo.{MDBFileInfo}
 use Rattle.xet_shard.specs.Records as record_of
 use Rattle.xet_store_cli.specs.declared.words.Command.{Command}
@@ -18,19 +22,19 @@ use Rattle.xet_store_cli.specs.Lines.{Line, files_of}
 use Rattle.xet_store_cli.specs.Outcome.{cuts_of, lines_said, store_folder}
 use Rattle.xet_store_cli.specs.Report.{hash_of_file}
 
--- Where the digests of chunks separate what stands in the folder and what these lines say, each xorb
+-- Where the digests of chunks separate what is met in the folder at a moment and what these lines say, each xorb
 -- into which a file's chunks are packed is stored under its hash.
-abbrev pub Stores : LimitSettings → List Line → Files → Type 0
-Stores s said files =
-    Apart chunk_hash (MetStored files store_folder (cuts_of s said))
+abbrev pub Stores : LimitSettings → List Line → ℕ → Files → Type 0
+Stores s said now files =
+    Apart chunk_hash (MetStored files store_folder now s (cuts_of s said))
     → AllByRecursion (λ bytes. IsPacked files store_folder s (cut s bytes)) (files_of said)
 
-unfoldable pub HasStoredBy : Command → List ℕ → Files → Type 0
-HasStoredBy (Pack s) input files = Stores s (lines_said (lines input)) files
+unfoldable pub HasStoredBy : Command → List ℕ → ℕ → Files → Type 0
+HasStoredBy (Pack s) input now files = Stores s (lines_said (lines input)) now files
 
 -- The files of the lines of this input are stored on a disk with these files.
-abbrev pub HasStored : List (List ℕ) → List ℕ → Files → Type 0
-HasStored words input files = IfSome (command_of words) (λ command. HasStoredBy command input files)
+abbrev pub HasStored : List (List ℕ) → List ℕ → ℕ → Files → Type 0
+HasStored words input now files = IfSome (command_of words) (λ command. HasStoredBy command input now files)
 
 -- The folder lists a record of the file of these bytes, by its hash, which joins to its chunks.
 pub record IsRecorded (s : LimitSettings) (files : Files) (now : ℕ) (bytes : List ℕ) : Type 0 where
@@ -39,11 +43,11 @@ pub record IsRecorded (s : LimitSettings) (files : Files) (now : ℕ) (bytes : L
   pub hash : record_of.file_hash record_of_it ≡ hash_of_file s bytes
   pub joins : JoinsTo files store_folder record_of_it (cut s bytes)
 
--- Where digests separate what stands in the folder and what these lines say, each file that is not empty
--- is recorded.
+-- Where digests separate what is met in the folder and what these lines say, each file that is not empty is
+-- recorded.
 abbrev pub Records : LimitSettings → List Line → ℕ → Files → Type 0
 Records s said now files =
-    SeparateIn files store_folder now (cuts_of s said)
+    SeparateIn files store_folder now s (cuts_of s said)
     → AllByRecursion (λ bytes. bytes ≢ [] → IsRecorded s files now bytes) (files_of said)
 
 unfoldable pub HasRecordedBy : Command → List ℕ → ℕ → Files → Type 0
@@ -57,3 +61,37 @@ HasRecorded words input now files = IfSome (command_of words) (λ command. HasRe
 pub record KeepsListed (now : ℕ) (old new : Files) : Type 0 where
   pub listed : (later : ℕ) → now ≤ later → (f : MDBFileInfo) → Lists old store_folder later f → Lists new store_folder later f
   pub joins : (later : ℕ) → now ≤ later → (f : MDBFileInfo) → Lists old store_folder later f → (chunks : List (List ℕ)) → JoinsTo old store_folder f chunks → JoinsTo new store_folder f chunks
+
+-- At a moment the folder lists a record of this hash.
+abbrev pub ListsHash : Files → ℕ → List ℕ → Type 0
+ListsHash files now h = (f : MDBFileInfo) × Lists files store_folder now f × (record_of.file_hash f ≡ h)
+
+-- At every moment the folder lists the record that is made of the file of these bytes: its plan, the hashes of its
+-- ranges and its SHA-256.
+abbrev pub ListsMade : LimitSettings → Files → List ℕ → Type 0
+ListsMade s files bytes = (moment : ℕ) → moment < 2 ^ 64 → Lists files store_folder moment (record_of_file s bytes)
+
+-- Each file of these lines that is not empty, and of whose hash no record was listed at the moment of the run, has
+-- one that is listed at every moment, and that was made of it, or of a file line of the same hash.
+abbrev pub Makes : LimitSettings → List Line → ℕ → Files → Files → Type 0
+Makes s said now old new =
+    AllByRecursion (λ bytes. bytes ≢ [] → (ListsHash old now (hash_of_file s bytes) → ⊥)
+    → (made : List ℕ) × IsAmong (files_of said) made × (hash_of_file s made ≡ hash_of_file s bytes) × ListsMade s new made) (files_of said)
+
+unfoldable pub HasMadeBy : Command → List ℕ → ℕ → Files → Files → Type 0
+HasMadeBy (Pack s) input now old new = Makes s (lines_said (lines input)) now old new
+
+-- The files of the lines of this input that were new to a folder with the old files are made in one with the new.
+abbrev pub HasMade : List (List ℕ) → List ℕ → ℕ → Files → Files → Type 0
+HasMade words input now old new = IfSome (command_of words) (λ command. HasMadeBy command input now old new)
+
+-- The store's folder on a disk with these files is admitted at a moment.
+abbrev pub IsAdmittedAt : ℕ → Files → Type 0
+IsAdmittedAt now files = (shards : List ShardFile) × Admits files store_folder now shards
+
+-- What stands under the names of a store's files is as it was, or it is a xorb of that hash, or a whole shard under
+-- the name of its digest, and a crash keeps it; a folder that was admitted at a moment is.
+pub record KeepsFolder (now : ℕ) (old new : Files) : Type 0 where
+  pub xorbs : (h : List ℕ) → IsHash h → SameEntry old new (xorb_path store_folder h) ⊎ HasXorb new store_folder h
+  pub shards : (h : List ℕ) → IsHash h → SameEntry old new (shard_path store_folder h) ⊎ HasShard new store_folder h
+  pub admitted : IsAdmittedAt now old → IsAdmittedAt now new

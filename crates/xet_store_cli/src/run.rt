@@ -6,10 +6,11 @@ ghost use Rattle.xet_io.specs.Faults.{HasCause};
 ghost use Rattle.xet_hash.specs.declared.error.StoreError.{StoreError};
 ghost use Rattle.xet_folder.specs.Admission.{Refuses};
 ghost use Rattle.xet_folder.specs.Names.{IsForeign};
-ghost use Rattle.xet_store_cli.specs.Outcome.{Ended, EndedEarly, EndsEarly, EndsOver, IsDue, IsFaultless, IsIdle, IsReportOf, IsSilent, IsStopped, MayEnd, Outcome, Prints, Reports, bad_line_text, bad_shard_text, early_outcome, store_folder};
+ghost use Rattle.xet_store_cli.specs.Outcome.{Ended, EndedEarly, EndsEarly, EndsOver, IsDue, IsFaultless, IsIdle, IsSilent, IsStopped, Outcome, Prints, Reports, bad_line_text, bad_shard_text, early_outcome, store_folder};
+ghost use Rattle.xet_store_cli.specs.Ending.{IsReportOf, MayEnd};
 ghost use Rattle.xet_store_cli.specs.Allowed.{AllowsInput};
 ghost use Rattle.xet_store_cli.specs.Stops.{Answers, AnswersByFolder, AnswersByInput, IsIdleStop};
-ghost use Rattle.xet_store_cli.specs.Stored.{HasRecorded, HasRecordedBy, HasStored, HasStoredBy, KeepsListed};
+ghost use Rattle.xet_store_cli.specs.Stored.{HasMade, HasMadeBy, HasRecorded, HasRecordedBy, HasStored, HasStoredBy, IsAdmittedAt, KeepsFolder, KeepsListed};
 ghost use Rattle.xet_store_cli.specs.Words.{command_of};
 
 use crate::ending::{Ending, Stop};
@@ -19,6 +20,7 @@ use std::alloc::Global;
 use std::marker::{Send, Sync};
 use std::sync::Wait;
 use std::thread::Threads;
+use xet_folder::laws::admitted_later;
 use xet_io::{Disk, Inputs, Sink, Source};
 
 /// Runs the command of these words: it reads `input`, works on the disk, prints to `output`, and hands the
@@ -38,8 +40,8 @@ use xet_io::{Disk, Inputs, Sink, Source};
 /// | 10 | only over a disk that does not tell: a stored xorb was other than when it was checked |
 ///
 /// Of 2, 9, 3, 8 and 7 the first that fits is due, and else 0. A run to which another status than 2 is due may
-/// be stopped by 1, 4 or 6 before it prints, and has then written nothing: a report is printed once its files
-/// are stored. It is cut short by 5, or by 1 where the output has no memory, after a prefix of its text. No other
+/// be stopped by 1, 4 or 6 before it prints, and has then written nothing. A report is printed once its files are
+/// stored, recorded and made; it is cut short by 5, or by 1 where the output has no memory, after a prefix. No other
 /// status comes, and nothing is printed at 2, 4, 6, 8, 9 and 10, whatever an input and a disk tell. What is said
 /// of the bytes of an input, an output and a disk holds where they tell.
 pub fn run_program<I, O, D, F, R>(
@@ -76,10 +78,16 @@ where
         → Reports (map string_bytes words.now) (I.left input.old) (D.tells disk) (D.files result.0) now (O.written output.old) (O.written output.new) }
     ensures read { I.tells input.old ≡ true → result.1 ≡ 0 → I.left input.new ≡ [] }
     ensures stored { I.tells input.old ≡ true → D.tells disk ≡ true → result.1 ≡ 0
-        → HasStored (map string_bytes words.now) (I.left input.old) (D.files result.0) }
+        → HasStored (map string_bytes words.now) (I.left input.old) now (D.files result.0) }
     ensures recorded { I.tells input.old ≡ true → D.tells disk ≡ true → result.1 ≡ 0
         → HasRecorded (map string_bytes words.now) (I.left input.old) now (D.files result.0) }
+    ensures made { I.tells input.old ≡ true → D.tells disk ≡ true → result.1 ≡ 0
+        → HasMade (map string_bytes words.now) (I.left input.old) now (D.files disk) (D.files result.0) }
     ensures listed { D.tells disk ≡ true → KeepsListed now (D.files disk) (D.files result.0) }
+    ensures keeps { D.tells disk ≡ true → KeepsFolder now (D.files disk) (D.files result.0) }
+    ensures admitted { D.tells disk ≡ true → (later : ℕ) → now ≤ later → IsAdmittedAt now (D.files disk) → IsAdmittedAt later (D.files result.0) }
+    ensures untouched { I.tells input.old ≡ true → D.tells disk ≡ true
+        → early_outcome (command_of (map string_bytes words.now)) (I.left input.old) ≢ None → D.files result.0 ≡ D.files disk }
     ensures kept { D.tells disk ≡ true → IsIdle result.1 → D.files result.0 ≡ D.files disk }
     ensures foreign { D.tells disk ≡ true → (name : List ℕ) → IsForeign store_folder name → get (D.files result.0) name ≡ get (D.files disk) name }
     ensures malformed { result.1 ≡ 10 → D.tells disk ≡ false }
@@ -92,6 +100,7 @@ where
     ensures disk_tells { D.tells result.0 ≡ D.tells disk }
 {
     let (disk, ending) = run_command(alloc, words, input, disk, now);
+    admitted_later();
     let status = ending.print(output);
     (disk, status)
 }
@@ -114,10 +123,15 @@ fn run_command<I: Source, D: Disk + Send>(
         → Reports (map string_bytes words.now) (I.left input.old) (D.tells disk) (D.files result.0) now [] result.1.text }
     ensures read { I.tells input.old ≡ true → result.1.status ≡ 0 → I.left input.new ≡ [] }
     ensures stored { I.tells input.old ≡ true → D.tells disk ≡ true → result.1.status ≡ 0
-        → HasStored (map string_bytes words.now) (I.left input.old) (D.files result.0) }
+        → HasStored (map string_bytes words.now) (I.left input.old) now (D.files result.0) }
     ensures recorded { I.tells input.old ≡ true → D.tells disk ≡ true → result.1.status ≡ 0
         → HasRecorded (map string_bytes words.now) (I.left input.old) now (D.files result.0) }
+    ensures made { I.tells input.old ≡ true → D.tells disk ≡ true → result.1.status ≡ 0
+        → HasMade (map string_bytes words.now) (I.left input.old) now (D.files disk) (D.files result.0) }
     ensures listed { D.tells disk ≡ true → KeepsListed now (D.files disk) (D.files result.0) }
+    ensures keeps { D.tells disk ≡ true → KeepsFolder now (D.files disk) (D.files result.0) }
+    ensures untouched { I.tells input.old ≡ true → D.tells disk ≡ true
+        → early_outcome (command_of (map string_bytes words.now)) (I.left input.old) ≢ None → D.files result.0 ≡ D.files disk }
     ensures kept { D.tells disk ≡ true → IsIdle result.1.status → D.files result.0 ≡ D.files disk }
     ensures foreign { D.tells disk ≡ true → (name : List ℕ) → IsForeign store_folder name → get (D.files result.0) name ≡ get (D.files disk) name }
     ensures malformed { result.1.status ≡ 10 → D.tells disk ≡ false }
@@ -149,11 +163,15 @@ fn answer<I: Source, D: Disk + Send>(
         → Answers (IsDue (Some command.now) (I.left input.old) now (D.files disk) (D.files result.0)) result.1 }
     ensures early { I.tells input.old ≡ true → AnswersByInput (early_outcome (Some command.now) (I.left input.old)) result.1 }
     ensures folder { D.tells disk ≡ true → AnswersByFolder now (D.files disk) result.1 }
-    ensures report { IfOk result.1 (λ text. IsReportOf command.now (I.tells input.old) (I.left input.old) (D.tells disk) (D.files result.0) now text.items) }
+    ensures report { IfOk result.1 (λ text. IsReportOf command.now (I.tells input.old) (I.left input.old) (D.tells disk) (D.files disk) (D.files result.0) now text.items) }
     ensures read { I.tells input.old ≡ true → OnOk result.1 (I.left input.new ≡ []) }
-    ensures stored { I.tells input.old ≡ true → D.tells disk ≡ true → OnOk result.1 (HasStoredBy command.now (I.left input.old) (D.files result.0)) }
+    ensures stored { I.tells input.old ≡ true → D.tells disk ≡ true → OnOk result.1 (HasStoredBy command.now (I.left input.old) now (D.files result.0)) }
     ensures recorded { I.tells input.old ≡ true → D.tells disk ≡ true → OnOk result.1 (HasRecordedBy command.now (I.left input.old) now (D.files result.0)) }
+    ensures made { I.tells input.old ≡ true → D.tells disk ≡ true → OnOk result.1 (HasMadeBy command.now (I.left input.old) now (D.files disk) (D.files result.0)) }
     ensures listed { D.tells disk ≡ true → KeepsListed now (D.files disk) (D.files result.0) }
+    ensures keeps { D.tells disk ≡ true → KeepsFolder now (D.files disk) (D.files result.0) }
+    ensures untouched { I.tells input.old ≡ true → D.tells disk ≡ true
+        → early_outcome (Some command.now) (I.left input.old) ≢ None → D.files result.0 ≡ D.files disk }
     ensures kept { D.tells disk ≡ true → IfErr result.1 (λ stop. IsIdleStop stop → D.files result.0 ≡ D.files disk) }
     ensures foreign { D.tells disk ≡ true → (name : List ℕ) → IsForeign store_folder name → get (D.files result.0) name ≡ get (D.files disk) name }
     ensures malformed { IsErrOf result.1 Stop.Malformed → D.tells disk ≡ false }

@@ -3,15 +3,18 @@
 ghost use Rattle.std.specs.Prelude.{◌≡◌, ◌≤◌, ◌<◌, ◌++◌, ℕ, List, true, length, map, All, IfErr, IfOk, OnOk, IsErrOf, IsOkUnless};
 ghost use Rattle.std.specs.List.{AllByRecursion, flat_map};
 ghost use Rattle.xet_io.specs.Faults.{HasCause};
+ghost use Rattle.xet_folder.specs.Contents.{HasContents};
 ghost use Rattle.xet_store.specs.Cleaning.{HasFile, Keeps, info_of};
 ghost use Rattle.xet_store.specs.Cut.{cut};
+ghost use Rattle.xet_store.specs.Opening.{contents_of};
 ghost use Rattle.xet_store.specs.Ranges.{IsUnchanged};
 ghost use Rattle.xet_store.specs.Separate.{Separate};
 ghost use Rattle.xet_store.specs.Steps.{ListsXorbs};
+ghost use Rattle.xet_store.specs.Tables.{tables_of, with_files};
 ghost use Rattle.xet_store_cli.specs.Outcome.{AreSeparate, store_folder};
 ghost use Rattle.xet_store_cli.specs.Parsing.{ForLines, are_good};
 ghost use Rattle.xet_store_cli.specs.Report.{IsReport, info_line};
-ghost use Rattle.xet_store_cli.specs.Steps.{AreRead, IsLineRead, IsReadingStop, IsSettled};
+ghost use Rattle.xet_store_cli.specs.Steps.{AreRead, IsLineRead, IsReadingStop, IsSettled, MakesIn};
 ghost use Rattle.xet_store_cli.specs.Stops.{IsSessionStop};
 ghost use Rattle.xet_store_cli.specs.Stored.{Records, Stores};
 
@@ -32,9 +35,11 @@ pub fn report_lines<D: Disk + Send>(
     requires few { length lines.now.files ≤ 1 }
     requires good { are_good lines.now ≡ true }
     requires folder { session.folder ≡ store_folder }
+    requires contents { session.tells ≡ true → HasContents session.files session.folder session.opened (contents_of session) }
     ensures report { IfOk result.1 (λ text. ForLines lines.now (λ said. IsReport (AreSeparate session.tells result.0.files session.opened session.limits said) session.limits said text.items)) }
-    ensures stored { session.tells ≡ true → OnOk result.1 (ForLines lines.now (λ said. Stores session.limits said result.0.files)) }
+    ensures stored { session.tells ≡ true → OnOk result.1 (ForLines lines.now (λ said. Stores session.limits said session.opened result.0.files)) }
     ensures recorded { session.tells ≡ true → OnOk result.1 (ForLines lines.now (λ said. Records session.limits said session.opened result.0.files)) }
+    ensures made { session.tells ≡ true → OnOk result.1 (MakesIn session lines.now.files result.0) }
     ensures keeps { Keeps session result.0 }
     ensures stop { IfErr result.1 (IsSessionStop session.tells session.limits lines.now) }
     ensures cause { HasCause session.faults result.0.faults (IsErrOf result.1 Stop.Disk) }
@@ -63,6 +68,7 @@ fn clean_lines<D: Disk + Send>(
     ensures files { session.tells ≡ true → Separate result.0 (map (cut session.limits) lines.now.files)
         → OnOk result.1 (AllByRecursion (HasFile result.0) (map (cut session.limits) lines.now.files)) }
     ensures listed { OnOk result.1 (AllByRecursion (ListsXorbs result.0) (map (cut session.limits) lines.now.files)) }
+    ensures stores { OnOk result.1 (tables_of result.0 ≡ with_files session.limits (tables_of session) lines.now.files) }
     ensures keeps { Keeps session result.0 }
     ensures stop { IfErr result.1 (IsSessionStop session.tells session.limits lines.now) }
     ensures cause { HasCause session.faults result.0.faults (IsErrOf result.1 Stop.Disk) }

@@ -4,9 +4,9 @@ use Rattle.std.specs.Str.Lines.{lines}
 use Rattle.xet_store_cli.specs.Outcome.{AreSeparate, lines_said}
 use Rattle.xet_store_cli.specs.Parsing.{ForLines}
 use Rattle.xet_store_cli.specs.Report.{IsReport}
-use Rattle.xet_store_cli.specs.Stored.{HasRecordedBy, HasStoredBy}
+use Rattle.xet_store_cli.specs.Stored.{HasMadeBy, HasRecordedBy, HasStoredBy}
 use Rattle.xet_store_cli.proofs.Endings.{report_of_lines}
-use Rattle.xet_store_cli.proofs.Outcomes.{by_folder_early, by_folder_late, by_input_late, due_late}
+use Rattle.xet_store_cli.proofs.Outcomes.{by_folder_early, by_folder_late, by_input_late, due_late, short_files}
 use Rattle.xet_store_cli.proofs.pack.pack.Goals as goal
 
 pub returns-in-Ok-clause-answer : goal.returns-in-Ok-clause-answer
@@ -26,6 +26,14 @@ unfolding HasRecordedBy
 returns-in-Ok-clause-recorded g c = λ told disk_told.
     on_ok_weaker c.store_lines.result.1 (λ all. all (lines_said (lines (g.I.Source.left c.args.input.now))) (c.in-Ok.ensures.answer told).parts) (c.store_lines.ensures.recorded disk_told)
 
+pub returns-in-Ok-clause-made : goal.returns-in-Ok-clause-made
+unfolding HasMadeBy
+returns-in-Ok-clause-made g c = λ told disk_told.
+    on_ok_weaker c.store_lines.result.1 (λ all. all (lines_said (lines (g.I.Source.left c.args.input.now))) (c.in-Ok.ensures.answer told).parts) (c.store_lines.ensures.made disk_told)
+
+pub returns-in-Ok-clause-untouched : goal.returns-in-Ok-clause-untouched
+returns-in-Ok-clause-untouched g c = λ told disk_told some. absurd (some (c.in-Ok.ensures.answer told).fine)
+
 pub returns-in-Ok-clause-early : goal.returns-in-Ok-clause-early
 returns-in-Ok-clause-early g c = λ told. by_input_late _ c.args.limits.now _ _ _ c.requires (c.in-Ok.ensures.answer told) c.store_lines.ensures.stop
 
@@ -37,5 +45,10 @@ returns-in-Err-clause-folder g c = λ disk_told. by_folder_early c.args.now _ c.
 
 pub returns-in-Ok-clause-report : goal.returns-in-Ok-clause-report
 returns-in-Ok-clause-report g c =
-    report_of_lines c.args.limits.now (g.I.Source.left c.args.input.now) (g.D.Disk.tells c.args.disk) (g.D.Disk.files c.store_lines.result.0) c.args.now c.in-Ok.lines
-    (g.I.Source.tells c.args.input.now) c.store_lines.result.1 c.in-Ok.ensures.answer c.in-Ok.ensures.good c.store_lines.ensures.report
+    report_of_lines c.args.limits.now (g.I.Source.left c.args.input.now) (g.D.Disk.tells c.args.disk) (g.D.Disk.files c.args.disk) (g.D.Disk.files c.store_lines.result.0) c.args.now c.in-Ok.lines
+    (g.I.Source.tells c.args.input.now) c.store_lines.result.1 c.in-Ok.ensures.answer c.in-Ok.ensures.good c.store_lines.ensures.report c.store_lines.ensures.stored c.store_lines.ensures.recorded
+    c.store_lines.ensures.made
+
+pub store_lines-requires-clause-short : goal.store_lines-requires-clause-short
+store_lines-requires-clause-short g c = λ κs met.
+    let said = c.in-Ok.ensures.said in short_files c.args.limits.now said.0 c.in-Ok.lines c.requires said.1

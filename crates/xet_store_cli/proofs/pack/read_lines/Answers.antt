@@ -23,3 +23,8 @@ pub returns-clause-answer : goal.returns-clause-answer
 returns-clause-answer g c = λ told.
     let read = c.in_ok-bytes.ensures.told told in
     early_good _ _ (c.deref.ensures.value ∙ read.0) read.2 c.in_ok-lines.lines c.in_ok-lines.ensures (sym c.are_good.ensures ∙ c.if-not-are_good.false)
+
+pub returns-clause-said : goal.returns-clause-said
+returns-clause-said g c =
+    let bytes = c.in_ok-bytes.bytes.items in
+    (bytes, early_good bytes _ c.deref.ensures.value c.in_ok-bytes.ensures.short c.in_ok-lines.lines c.in_ok-lines.ensures (sym c.are_good.ensures ∙ c.if-not-are_good.false))

@@ -1,5 +1,7 @@
-use Rattle.std.proofs.Common.{map}
+use Rattle.std.proofs.Common.{filter, map}
 use Rattle.std.specs.Prelude.{string_bytes}
+use Rattle.xet_folder.specs.Entries.{is_valid}
+use Rattle.xet_store_cli.specs.Outcome.{store_folder}
 use Rattle.xet_store_cli.proofs.Endings.{bad_line_of, bad_shard_of, bounded_of, silent_of}
 use Rattle.xet_store_cli.proofs.Outcomes.{complete_of, ends_early, ends_over}
 use Rattle.xet_store_cli.proofs.run.run_program.Goals as goal
@@ -30,3 +32,8 @@ returns-clause-complete g c = λ told disk_told fine.
 
 pub returns-clause-early : goal.returns-clause-early
 returns-clause-early g c = λ told. ends_early _ _ _ _ _ c.print-status.result (c.run_command-disk.ensures.early told) c.print-status.ensures.prints
+
+pub returns-clause-admitted : goal.returns-clause-admitted
+returns-clause-admitted g c = λ told later since was.
+    let a = (c.run_command-disk.ensures.keeps told).admitted was in
+    (filter (is_valid later) a.0, c.admitted_later.ensures _ store_folder c.args.now later a.0 since a.1)

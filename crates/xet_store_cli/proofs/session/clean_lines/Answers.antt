@@ -2,13 +2,14 @@ use Rattle.std.proofs.Common.{◌≡◌, ◌∙◌, ℕ, true, List, map, ap, su
 use Rattle.std.proofs.lemmas.Result.{IfErr-at_err, IfOk-at_ok}
 use Rattle.std.specs.List.{AllByRecursion}
 use Rattle.xet_store.specs.declared.info.Cleaned.{Cleaned}
-use Rattle.xet_store.specs.Cleaning.{EachTold, HasFile, info_of}
+use Rattle.xet_store.specs.Cleaning.{EachTold, HasFile, Stores, info_of}
 use Rattle.xet_store.specs.Cut.{cut}
 use Rattle.xet_store.specs.Separate.{Separate}
 use Rattle.xet_store.specs.Steps.{ListsXorbs}
+use Rattle.xet_store.specs.Tables.{tables_of, with_files}
 use Rattle.xet_store.proofs.Keeping.{keeps_nothing}
 use Rattle.xet_store_cli.specs.Stops.{IsSessionStop}
-use Rattle.xet_store_cli.proofs.Cleaned.{Reason, all_tell, infos_told, rose_of_reason, stop_of_reason}
+use Rattle.xet_store_cli.proofs.Cleaned.{Reason, all_tell, files_told, infos_told, rose_of_reason, stop_of_reason}
 use Rattle.xet_store_cli.proofs.session.clean_lines.Goals as goal
 
 pub returns-in-Err-clause-keeps : goal.returns-in-Err-clause-keeps
@@ -40,6 +41,15 @@ returns-in-Ok-cleaned-clause-listed g c =
     let files : sources ≡ c.args.lines.now.files = c.deref_mut.ensures.value ∙ c.in-Ok.ensures.sources in
     subst (λ (fs : List (List ℕ)). AllByRecursion (ListsXorbs s) (map (cut l) fs)) files
     (IfOk-at_ok (λ (x : Cleaned). AllByRecursion (ListsXorbs s) (map (cut l) sources)) c.in-Ok-cleaned.is (c.clean_files-session.ensures.listed (all_tell sources)))
+
+pub returns-in-Ok-cleaned-clause-stores : goal.returns-in-Ok-cleaned-clause-stores
+returns-in-Ok-cleaned-clause-stores g c =
+    let first = c.args.session in
+    let s = c.clean_files-session.result.0 in
+    let sources = c.deref_mut.result.now in
+    let files : sources ≡ c.args.lines.now.files = c.deref_mut.ensures.value ∙ c.in-Ok.ensures.sources in
+    let read = IfOk-at_ok (λ (x : Cleaned). Stores (λ (f : List ℕ). true) (λ (f : List ℕ). f) sources first s x.infos.items) c.in-Ok-cleaned.is c.clean_files-session.ensures.stores in
+    read.3 ∙ ap (with_files first.limits (tables_of first)) (files_told sources read.0 read.1 ∙ files)
 
 pub returns-clause-stop : goal.returns-clause-stop
 returns-clause-stop g c =

@@ -1,5 +1,6 @@
 use Rattle.std.proofs.Common.{◌∙◌, ℕ, List, ◌++◌, ap}
 use Rattle.xet_store.proofs.Keeping.{keeps_then}
+use Rattle.xet_store_cli.proofs.Making.{settled_of}
 use Rattle.xet_store_cli.proofs.Reading.{keeps_unchanged, read_after}
 use Rattle.xet_store_cli.proofs.session.report_cleaned.Goals as goal
 
@@ -13,3 +14,6 @@ returns-clause-text g c =
 
 pub returns-in_err-push_ranges-clause-keeps : goal.returns-in_err-push_ranges-clause-keeps
 returns-in_err-push_ranges-clause-keeps g c = keeps_then _ _ _ c.in_ok-flush.ensures.keeps (keeps_unchanged _ _ c.in_err-push_ranges.ensures.unchanged)
+
+pub returns-clause-settled : goal.returns-clause-settled
+returns-clause-settled g c = settled_of _ _ _ _ c.in_ok-flush.ensures.none c.in_ok-flush.ensures.idle c.in_ok-flush.ensures.flushed c.in_ok-push_ranges.ensures.unchanged

@@ -1,14 +1,16 @@
 use Rattle.std.proofs.Common.{◌≡◌, ◌∙◌, ◌<◌, ◌≤◌, ℕ, All, List, length, map, ap, subst, sym}
 use Rattle.std.proofs.lemmas.List.{length-map}
-use Rattle.std.proofs.lemmas.Result.{IfOk-at_ok}
+use Rattle.std.proofs.lemmas.Result.{IfOk-at_ok, on_ok_weaker}
 use Rattle.std.specs.List.{AllByRecursion}
 use Rattle.xet_store.specs.declared.info.Cleaned.{Cleaned}
 use Rattle.xet_store.specs.Cleaning.{HasFile, info_of}
 use Rattle.xet_store.specs.Cut.{cut}
 use Rattle.xet_store.specs.Steps.{ListsXorbs}
+use Rattle.xet_store.specs.Tables.{tables_of, with_files}
 use Rattle.xet_store.proofs.Keeping.{keeps_then}
 use Rattle.xet_store_cli.specs.declared.lines.FileRange.{FileRange}
 use Rattle.xet_store_cli.proofs.Cleaned.{bounds_of_good}
+use Rattle.xet_store_cli.proofs.Making.{made_in}
 use Rattle.xet_store_cli.proofs.Settled.{IsDone, records, reports, stores}
 use Rattle.xet_store_cli.proofs.session.report_lines.Given.{Over}
 use Rattle.xet_store_cli.proofs.session.report_lines.Goals as goal
@@ -40,6 +42,8 @@ done g c =
       fits = rw c.limits.ensures at c.known.ensures;
       has = λ told apart. IfOk-at_ok (λ (x : Cleaned). AllByRecursion (HasFile before) (map (cut l) files)) c.in-Ok.is (c.clean_lines-session.ensures.files told apart);
       lists = IfOk-at_ok (λ (x : Cleaned). AllByRecursion (ListsXorbs before) (map (cut l) files)) c.in-Ok.is c.clean_lines-session.ensures.listed;
+      contents = c.requires.contents;
+      tables = IfOk-at_ok (λ (x : Cleaned). tables_of before ≡ with_files l (tables_of c.args.session) files) c.in-Ok.is c.clean_lines-session.ensures.stores;
     }
 
 pub returns-in-Ok-clause-report : goal.returns-in-Ok-clause-report
@@ -56,3 +60,13 @@ returns-in-Ok-clause-stored g c = λ told. stores _ _ _ c.args.lines.now (done g
 
 pub returns-in-Ok-clause-recorded : goal.returns-in-Ok-clause-recorded
 returns-in-Ok-clause-recorded g c = λ told. records _ _ _ c.args.lines.now (done g c) told c.report_cleaned-answer.result c.report_cleaned-answer.ensures.settled
+
+pub returns-in-Ok-clause-made : goal.returns-in-Ok-clause-made
+returns-in-Ok-clause-made g c = λ told.
+    let first = c.args.session in
+    let before = c.clean_lines-session.result.0 in
+    let files = c.args.lines.now.files in
+    on_ok_weaker c.report_cleaned-answer.result
+    (λ settled. made_in first before c.report_cleaned-answer.new.session files c.requires.few (c.clean_lines-session.ensures.keeps.tells ∙ told)
+    (IfOk-at_ok (λ (x : Cleaned). tables_of before ≡ with_files first.limits (tables_of first) files) c.in-Ok.is c.clean_lines-session.ensures.stores) settled)
+    c.report_cleaned-answer.ensures.settled
