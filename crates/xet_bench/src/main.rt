@@ -2,19 +2,26 @@
 //! and flushes it; `open MIB` then opens the store again; `range MIB` then reads the file in ranges of
 //! 1 MiB, and prints how many bytes came. Of digests: `generate MIB` generates the file alone; `digest MIB`
 //! then digests it, and `define MIB` does so by the definition; both print the digest's first word.
+//!
+//! Some phases time themselves, and print microseconds: `scatter MIB` stores a generated file of so many MiB at a
+//! target of 512 bytes, opens the store again, and times 10,000 ranges of 512 bytes at scattered places; `merkle
+//! ROUNDS` times so many xorb hashes of 8,192 chunks, and `nodes ROUNDS` the digests alone that they take.
 #![tactic(auto)]
 
+mod timed;
+
+use crate::timed::{Timed, run_timed};
 use std::alloc::Global;
 use std::process::ExitCode;
 use std::{env, println};
 use xet_hash::{MerkleHash, StoreError, VERIFICATION_KEY, compute_data_hash, definition};
 use xet_io::{MemoryDisk, SliceSource};
-use xet_store::{LimitSettings, Limits, Store, clean_files, gear_table, generated};
+use xet_store::{Cleaned, LimitSettings, Limits, Store, clean_files, gear_table, generated};
 
 /// The most MiB of a file.
 const MOST: u64 = 1 << 12;
 
-/// The bytes of a range.
+/// The bytes of a range, which are a MiB.
 const RANGE: u64 = 1 << 20;
 
 /// How far a run goes.
@@ -26,13 +33,18 @@ enum Phase {
     Generate,
     Digest,
     Define,
+    Timed(Timed),
 }
 
 fn main(rt: HostRuntime) -> ExitCode {
-    let Some((phase, mebibytes)) = read_words(&rt) else {
+    let Some((phase, number)) = read_words(&rt) else {
         return ExitCode::from(2);
     };
-    match run(rt.alloc(), phase, mebibytes) {
+    let answer = match phase {
+        Phase::Timed(timed) => run_timed(&rt, rt.alloc(), timed, number),
+        _ => run(rt.alloc(), phase, number),
+    };
+    match answer {
         Ok(number) => {
             let _ = println!(&rt; "{number}");
             ExitCode::from(0)
@@ -41,7 +53,7 @@ fn main(rt: HostRuntime) -> ExitCode {
     }
 }
 
-/// The phase and the MiB that the words say.
+/// The phase and the number that the words say.
 fn read_words(rt: &HostRuntime) -> Option<(Phase, u64)> {
     let mut words = env::args(rt).ok()?.skip(1);
     let phase = match words.next()?.as_str() {
@@ -51,20 +63,23 @@ fn read_words(rt: &HostRuntime) -> Option<(Phase, u64)> {
         "generate" => Phase::Generate,
         "digest" => Phase::Digest,
         "define" => Phase::Define,
+        "scatter" => Phase::Timed(Timed::Scatter),
+        "merkle" => Phase::Timed(Timed::Merkle),
+        "nodes" => Phase::Timed(Timed::Nodes),
         _ => return None,
     };
-    let mebibytes = words.next()?.as_str().parse::<u64>().ok()?;
-    if mebibytes > MOST {
+    let number = words.next()?.as_str().parse::<u64>().ok()?;
+    if number > MOST {
         return None;
     }
-    Some((phase, mebibytes))
+    Some((phase, number))
 }
 
 /// Runs the phases up to this one, and gives the number that is printed.
 fn run(alloc: Global, phase: Phase, mebibytes: u64) -> Result<u64, StoreError> {
     match phase {
         Phase::Write | Phase::Open | Phase::Range => run_store(alloc, phase, mebibytes),
-        Phase::Generate | Phase::Digest | Phase::Define => run_digest(alloc, phase, mebibytes),
+        _ => run_digest(alloc, phase, mebibytes),
     }
 }
 
@@ -82,20 +97,58 @@ fn run_digest(alloc: Global, phase: Phase, mebibytes: u64) -> Result<u64, StoreE
 /// Runs the phases of a store, and gives how many bytes were read in ranges.
 fn run_store(alloc: Global, phase: Phase, mebibytes: u64) -> Result<u64, StoreError> {
     let limits = Limits::new(LimitSettings::shown(gear_table(0)))?;
-    let store = open(alloc, MemoryDisk::new(alloc), limits)?;
-    let (store, hash) = write(alloc, store, mebibytes.min(MOST))?;
+    let mebibytes = mebibytes.min(MOST);
     if phase == Phase::Write {
-        return Ok(0);
+        return stored(alloc, limits, mebibytes).map(|_| 0);
     }
-    let mut store = open(alloc, store.into_disk(), limits)?;
-    if phase == Phase::Open {
-        return Ok(0);
+    match reopened(alloc, limits, mebibytes) {
+        Ok((store, hash)) => ranged(store, &hash, phase, mebibytes),
+        Err(error) => Err(error),
     }
-    read(&mut store, &hash, mebibytes.min(MOST))
+}
+
+/// Reads a file of a store in ranges, where that is the phase, and gives how many bytes came.
+fn ranged(
+    store: Store<MemoryDisk>,
+    hash: &MerkleHash,
+    phase: Phase,
+    mebibytes: u64,
+) -> Result<u64, StoreError> {
+    let mut store = store;
+    let bytes = match phase {
+        Phase::Range => read(&mut store, hash, mebibytes),
+        _ => Ok(0),
+    };
+    let _disk = store.into_disk();
+    bytes
 }
 
 fn open(alloc: Global, disk: MemoryDisk, limits: Limits) -> Result<Store<MemoryDisk>, StoreError> {
     Store::open(alloc, disk, "store", limits, 0, false).map_err(|refused| refused.error)
+}
+
+/// A store of a generated file of so many MiB, and the file's hash.
+fn stored(
+    alloc: Global,
+    limits: Limits,
+    mebibytes: u64,
+) -> Result<(Store<MemoryDisk>, MerkleHash), StoreError> {
+    match open(alloc, MemoryDisk::new(alloc), limits) {
+        Ok(store) => write(alloc, store, mebibytes),
+        Err(error) => Err(error),
+    }
+}
+
+/// The same, opened again.
+fn reopened(
+    alloc: Global,
+    limits: Limits,
+    mebibytes: u64,
+) -> Result<(Store<MemoryDisk>, MerkleHash), StoreError> {
+    match stored(alloc, limits, mebibytes) {
+        Ok((store, hash)) => { open(alloc, store.into_disk(), limits).map(|store| (store, hash)) }
+        Err(error) => Err(error),
+    }
 }
 
 /// Stores a generated file, and gives its hash.
@@ -104,15 +157,34 @@ fn write(
     store: Store<MemoryDisk>,
     mebibytes: u64,
 ) -> Result<(Store<MemoryDisk>, MerkleHash), StoreError> {
-    let file = generated(alloc, 7, (mebibytes.min(MOST) * RANGE) as usize)?;
-    let mut sources = [SliceSource::new(&file)];
-    let (mut store, cleaned) = clean_files(alloc, store, &mut sources, 1);
+    match generated(alloc, 7, (mebibytes.min(MOST) * RANGE) as usize) {
+        Ok(file) => flushed(clean_files(alloc, store, &mut [SliceSource::new(&file)], 1)),
+        Err(error) => Err(StoreError::from(error)),
+    }
+}
+
+/// A session that has cleaned one file, with nothing pending, and the file's hash.
+fn flushed(
+    session: (Store<MemoryDisk>, Result<Cleaned, StoreError>),
+) -> Result<(Store<MemoryDisk>, MerkleHash), StoreError> {
+    let (mut store, cleaned) = session;
+    match flush(&mut store, cleaned) {
+        Ok(hash) => Ok((store, hash)),
+        Err(error) => Err(error),
+    }
+}
+
+/// Keeps what is pending, and gives the hash of the first file that was cleaned.
+fn flush(
+    store: &mut Store<MemoryDisk>,
+    cleaned: Result<Cleaned, StoreError>,
+) -> Result<MerkleHash, StoreError> {
     let hash = match cleaned?.infos.first() {
         Some(info) => info.hash,
         None => MerkleHash::default(),
     };
     store.flush()?;
-    Ok((store, hash))
+    Ok(hash)
 }
 
 /// Reads a file in ranges, and gives how many bytes came.

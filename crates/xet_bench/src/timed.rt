@@ -1,0 +1,148 @@
+//! Phases that time themselves.
+
+ghost use Rattle.std.specs.Prelude.{◌<◌, ◌^◌, IfOk};
+ghost use Rattle.xet_hash.specs.Merkle.{total_len};
+
+use crate::reopened;
+use std::alloc::Global;
+use std::time::{Clock, Instant};
+use xet_hash::{MerkleHash, StoreError, compute_data_hash, compute_internal_node_hash, xorb_hash};
+use xet_io::MemoryDisk;
+use xet_store::{LimitSettings, Limits, Store, gear_table};
+
+/// What is timed.
+#[derive(Clone, Copy, PartialEq, Eq)]
+pub enum Timed {
+    /// Ranges at scattered places.
+    Scatter,
+    /// Xorb hashes.
+    Merkle,
+    /// The digests that a xorb hash takes.
+    Nodes,
+}
+
+/// The number of ranges.
+const RANGES: u64 = 10_000;
+
+/// The bytes of each.
+const SPAN: u64 = 512;
+
+/// The bytes of a MiB.
+const MEBIBYTE: u64 = 1 << 20;
+
+/// The most MiB of a file, and the most rounds.
+const MOST: u64 = 1 << 12;
+
+/// The chunks of a xorb.
+const CHUNKS: u64 = 8_192;
+
+/// The bytes of a node of that xorb on the mean, as an outside program counts them.
+const NODE: usize = 384;
+
+/// The nodes of that xorb, as an outside program counts them.
+const NODES: u64 = 1_866;
+
+/// Times a phase, in microseconds.
+pub(crate) fn run_timed<R: Clock>(
+    clock: &R,
+    alloc: Global,
+    timed: Timed,
+    number: u64,
+) -> Result<u64, StoreError> {
+    match timed {
+        Timed::Scatter => time_scatter(clock, alloc, number.min(MOST)),
+        Timed::Merkle => time_merkle(clock, alloc, number.min(MOST)),
+        Timed::Nodes => Ok(time_nodes(clock, number.min(MOST))),
+    }
+}
+
+/// The microseconds since a start; 0 where the clock fails.
+fn since<R: Clock>(clock: &R, start: Option<Instant>) -> u64 {
+    match start {
+        Some(start) => match start.elapsed(clock) {
+            Ok(time) => u64::try_from(time.as_micros()).unwrap_or(u64::MAX),
+            Err(_) => 0,
+        },
+        None => 0,
+    }
+}
+
+/// The next number of a sequence that scatters.
+fn scattered(number: u64) -> u64 {
+    number
+        .wrapping_mul(6_364_136_223_846_793_005)
+        .wrapping_add(1_442_695_040_888_963_407)
+}
+
+/// Times ranges of a file at scattered places.
+fn time_scatter<R: Clock>(clock: &R, alloc: Global, mebibytes: u64) -> Result<u64, StoreError> {
+    let limits = Limits::new(small_chunks())?;
+    match reopened(alloc, limits, mebibytes) {
+        Ok((mut store, hash)) => {
+            let answer = time_ranges(clock, &mut store, &hash, mebibytes);
+            let _disk = store.into_disk();
+            answer
+        }
+        Err(error) => Err(error),
+    }
+}
+
+/// Settings with a target of 512 bytes.
+fn small_chunks() -> LimitSettings {
+    let mut settings = LimitSettings::shown(gear_table(0));
+    settings.target_chunk = 512;
+    settings.minimum_chunk = 64;
+    settings.maximum_chunk = 1024;
+    settings.max_source_bytes = 1 << 32;
+    settings
+}
+
+fn time_ranges<R: Clock>(
+    clock: &R,
+    store: &mut Store<MemoryDisk>,
+    hash: &MerkleHash,
+    mebibytes: u64,
+) -> Result<u64, StoreError> {
+    let room = (mebibytes.min(MOST) * MEBIBYTE).saturating_sub(SPAN).max(1);
+    let mut number = 7;
+    let start = Instant::now(clock).ok();
+    for _i in 0..RANGES {
+        number = scattered(number);
+        let from = (number >> 11) % room;
+        store.read_range(hash, from, from + SPAN)?;
+    }
+    Ok(since(clock, start))
+}
+
+/// The members of a xorb of chunks of 512 bytes.
+fn members(alloc: Global) -> Result<Vec<(MerkleHash, u64)>, StoreError>
+    ensures total { IfOk result (λ members. total_len members.items < 2 ^ 64) }
+{
+    let mut members = Vec::with_capacity(alloc, CHUNKS as usize)?;
+    for i in 0..CHUNKS {
+        members.push((compute_data_hash(&i.to_le_bytes()), 512))?;
+    }
+    Ok(members)
+}
+
+/// Times xorb hashes.
+fn time_merkle<R: Clock>(clock: &R, alloc: Global, rounds: u64) -> Result<u64, StoreError> {
+    let members = members(alloc)?;
+    let start = Instant::now(clock).ok();
+    for _i in 0..rounds {
+        xorb_hash(alloc, &members)?;
+    }
+    Ok(since(clock, start))
+}
+
+/// Times the digests of nodes.
+fn time_nodes<R: Clock>(clock: &R, rounds: u64) -> u64 {
+    let mut node = [0; NODE];
+    let start = Instant::now(clock).ok();
+    for _i in 0..rounds {
+        for _j in 0..NODES {
+            node[0] = compute_internal_node_hash(&node).as_bytes()[0];
+        }
+    }
+    since(clock, start)
+}
