@@ -27,7 +27,7 @@ use Rattle.xet_folder.specs.Runs.{stored_len}
 use Rattle.xet_folder.specs.Xorbs.{IsListed, Records, Xorbs, found}
 use Rattle.xet_folder.proofs.Placing.{stored_is}
 use Rattle.xet_folder.proofs.Tables.{found_either, found_here, found_kept}
-use Rattle.xet_store.specs.Cleaning.{HasXorb, Keeps, SameEntry}
+use Rattle.xet_store.specs.Cleaning.{HasXorb, IsStable, Keeps, SameEntry}
 use Rattle.xet_store.specs.Records.{xorb_record}
 use Rattle.xet_store.specs.Tables.{Tables, tables, tables_of, with_members, with_xorb as with_xorb_of}
 use Rattle.xet_folder.specs.Contents.{IsRecord}
@@ -36,7 +36,7 @@ use Rattle.xet_store.proofs.Packing.{all_more}
 use Rattle.xet_store.proofs.Pending.{entries_members}
 use Rattle.xet_store.proofs.Plans.{joins_more}
 use Rattle.xet_store.proofs.Rows.{differ_more, found_more, is_some_either}
-use Rattle.xet_store.proofs.Staying.{Members, Stays, admitted_stays, backed_still, changed, keeps_at, keeps_changed, keeps_refused, kept_or, same_change, sound_refused, stays_xorb}
+use Rattle.xet_store.proofs.Staying.{Members, Stays, admitted_stays, backed_still, changed, keeps_at, keeps_changed, keeps_refused, kept_or, found_nowhere, same_change, sound_refused, stays_xorb}
 
 -- ---- what stands with more xorbs
 
@@ -74,8 +74,12 @@ module _ (s : State) (h : List ℕ) (members : Members) where
   listed_new none = found_here s.xorbs h members none
 
   module _ (tells : Bool) (files : Files) (faults : ℕ) (stays : Stays s tells files faults) where
-    pub keeps_added : Keeps s (with_xorb tells files faults)
-    keeps_added = keeps_changed s tells files faults stays listed_too s.records [] s.shards [] pending_too stays_listed (sym (append-nil s.records)) (sym (append-nil s.shards))
+    pub keeps_added : (s.tells ≡ true → IsStable files (xorb_path s.folder h)) → Keeps s (with_xorb tells files faults)
+    keeps_added stable = keeps_changed s tells files faults stays listed_too s.records [] s.shards [] pending_too stays_listed (λ told k none is. this told k none (is_some_either s.xorbs h k members is)) (sym (append-nil s.records)) (sym (append-nil s.shards))
+      where
+        this : s.tells ≡ true → (k : List ℕ) → found s.xorbs k ≡ None → IsSome (found s.xorbs k) ⊎ (h ≡ k) → IsStable files (xorb_path s.folder k)
+        this told k none (inl is) = found_nowhere (found s.xorbs k) none is
+        this told k none (inr e) = subst (λ (x : List ℕ). IsStable files (xorb_path s.folder x)) e (stable told)
 
     pub sound_added : Sound s → found s.xorbs h ≡ None → IsHash h → IsHeld pending_too → (s.tells ≡ true → IsBacked files s.folder h members)
         → (s.tells ≡ true → (k : List ℕ) → IsHash k → SameEntry s.files files (shard_path s.folder k)) → Sound (with_xorb tells files faults)
@@ -110,8 +114,8 @@ module _ (s : State) (h : List ℕ) (members : Members) (tells : Bool) (files : 
   same_added : with_xorb s h members tells files faults ≡ changed s tells files faults xorbs s.records s.shards pending
   same_added = same_change s tells files faults listed refl refl held
 
-  pub keeps_added_at : (t : State) → s ≡ t → Keeps t (changed s tells files faults xorbs s.records s.shards pending)
-  keeps_added_at t e = keeps_at s t (changed s tells files faults xorbs s.records s.shards pending) e (subst (λ (n : State). Keeps s n) same_added (keeps_added s h members tells files faults stays))
+  pub keeps_added_at : (s.tells ≡ true → IsStable files (xorb_path s.folder h)) → (t : State) → s ≡ t → Keeps t (changed s tells files faults xorbs s.records s.shards pending)
+  keeps_added_at stable t e = keeps_at s t (changed s tells files faults xorbs s.records s.shards pending) e (subst (λ (n : State). Keeps s n) same_added (keeps_added s h members tells files faults stays stable))
 
   pub sound_added_at : found s.xorbs h ≡ None → IsHash h → IsHeld pending → (s.tells ≡ true → IsBacked files s.folder h members)
       → (s.tells ≡ true → (k : List ℕ) → IsHash k → SameEntry s.files files (shard_path s.folder k)) → Sound (changed s tells files faults xorbs s.records s.shards pending)
@@ -233,8 +237,8 @@ module _ {s : State} {folder h text : List ℕ} {members : Members} {tells : Boo
     put_sound is form there = sound_added_at s h members tells files faults xorb_stays p.sound listed held p.none is form
         (λ told. p.backs (subst (λ (f : List ℕ). bytes_at files (xorb_path f h) ≡ Some text) p.same (there told))) shards_here
 
-    pub put_keeps : (t : State) → s ≡ t → Keeps t (changed s tells files faults xorbs s.records s.shards pending)
-    put_keeps t e = keeps_added_at s h members tells files faults xorb_stays p.sound listed held t e
+    pub put_keeps : (s.tells ≡ true → IsStable files (xorb_path folder h)) → (t : State) → s ≡ t → Keeps t (changed s tells files faults xorbs s.records s.shards pending)
+    put_keeps stable t e = keeps_added_at s h members tells files faults xorb_stays p.sound listed held (λ told. subst (λ (f : List ℕ). IsStable files (xorb_path f h)) p.same (stable told)) t e
 
     pub put_tables : (t : State) → s ≡ t → (chunks : List Chunk) → AllByRecursion (λ c. c.hash ≡ chunk_hash c.bytes) chunks → h ≡ xorb_hash (map chunk_member chunks)
         → members ≡ map chunk_member chunks → tables xorbs s.records pending ≡ with_xorb_of (tables_of t) (map bytes_of chunks)

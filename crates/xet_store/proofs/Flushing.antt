@@ -39,7 +39,7 @@ use Rattle.xet_store.proofs.Admitting.{SameXorb, admitted_still, admitted_with, 
 use Rattle.xet_store.proofs.Packing.{all_more}
 use Rattle.xet_store.proofs.Plans.{joins_more}
 use Rattle.xet_store.proofs.Rows.{among_last, among_more, among_sorted, from_among, is_some_found, to_among}
-use Rattle.xet_store.proofs.Staying.{Stays, backed_still, changed, hash_cases, keeps_at, keeps_changed, keeps_refused, kept_still, same_bytes_at, same_change, same_file_at, sound_refused, stays_shard}
+use Rattle.xet_store.proofs.Staying.{Stays, backed_still, changed, hash_cases, keeps_at, keeps_changed, keeps_refused, kept_still, found_nowhere, same_bytes_at, same_change, same_file_at, sound_refused, stays_shard}
 use Rattle.xet_store.proofs.Whole.{found_has}
 
 -- ---- the moment of expiry of a shard that was read
@@ -253,7 +253,7 @@ module _ (s : State) (h : List ℕ) (tells : Bool) (files : Files) (faults : ℕ
   with_shard = changed s tells files faults s.xorbs s.records (s.shards ++ h ∷ []) nothing
 
   pub keeps_flushed : Keeps s with_shard
-  keeps_flushed = keeps_changed s tells files faults stays s.xorbs s.records [] (s.shards ++ h ∷ []) (h ∷ []) nothing (λ k ms l. l) (sym (append-nil s.records)) refl
+  keeps_flushed = keeps_changed s tells files faults stays s.xorbs s.records [] (s.shards ++ h ∷ []) (h ∷ []) nothing (λ k ms l. l) (λ told k none is. found_nowhere (found s.xorbs k) none is) (sym (append-nil s.records)) refl
 
   module _ (sound : Sound s) (hash : IsHash h) (shard : IsShard (held_shard s.pending s.opened None)) (fits : Fits (held_shard s.pending s.opened None))
       (there : s.tells ≡ true → bytes_at files (shard_path s.folder h) ≡ Some (pending_text s)) (admitted : s.tells ≡ true → IsAdmitted files s.folder s.opened s.xorbs (s.shards ++ h ∷ [])) where

@@ -56,6 +56,7 @@ keeps_then a b c x y = record {
       let second = subst (λ (f : List ℕ). AllByRecursion (λ h. SameEntry b.files c.files (shard_path f h)) b.shards) x.folder (y.shard_files (x.tells ∙ told)) in
       both a.shards first (λ h a. all_among (λ h. SameEntry b.files c.files (shard_path _ h)) b.shards h second
       (subst (λ (l : List (List ℕ)). Among l h) (sym x.shards.1) (among_more _ x.shards.0 h a)));
+  listed_files = λ told k none is. newly k told none (found b.xorbs k) refl is;
   xorb_names = λ told k is. xorb_name k (x.xorb_names told k is) (y.xorb_names (x.tells ∙ told) k is);
   shard_names = λ told k is. shard_name k told (x.shard_names told k is) (y.shard_names (x.tells ∙ told) k is);
   foreign = λ told name is. y.foreign (x.tells ∙ told) name (subst (λ (f : List ℕ). IsForeign f name) (sym x.folder) is) ∙ x.foreign told name is;
@@ -63,6 +64,12 @@ keeps_then a b c x y = record {
   where
     moved_xorb : (k : List ℕ) → SameEntry b.files c.files (xorb_path b.folder k) → SameEntry b.files c.files (xorb_path a.folder k)
     moved_xorb k same = subst (λ (f : List ℕ). SameEntry b.files c.files (xorb_path f k)) x.folder same
+
+    newly : (k : List ℕ) → a.tells ≡ true → found a.xorbs k ≡ None → (o : Option Members) → found b.xorbs k ≡ o → IsSome (found c.xorbs k) → IsStable c.files (xorb_path a.folder k)
+    newly k told none None e is = subst (λ (f : List ℕ). IsStable c.files (xorb_path f k)) x.folder (y.listed_files (x.tells ∙ told) k e is)
+    newly k told none (Some m) e is =
+        let there : IsSome (found b.xorbs k) = is_some_found b.xorbs k m e in
+        ap stability (moved_xorb k (y.xorb_files (x.tells ∙ told) k there)) ∙ x.listed_files told k none there
 
     both : (hs : List (List ℕ)) → AllByRecursion (λ h. SameEntry a.files b.files (shard_path a.folder h)) hs
         → ((h : List ℕ) → Among hs h → SameEntry b.files c.files (shard_path a.folder h))

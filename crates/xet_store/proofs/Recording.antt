@@ -19,7 +19,7 @@ use Rattle.xet_store.specs.Store.{State, IsKept, IsNewFile, IsPendingFile, Sound
 use Rattle.xet_store.specs.Tables.{tables, tables_of, with_record}
 use Rattle.xet_store.proofs.Packing.{all_more}
 use Rattle.xet_store.proofs.Rows.{among_filter, among_last, among_more, apart_found, differ_more, differ_none, from_among, is_some_found, to_among}
-use Rattle.xet_store.proofs.Staying.{changed, keeps_at, keeps_changed, same_change, stays_same}
+use Rattle.xet_store.proofs.Staying.{changed, keeps_at, keeps_changed, found_nowhere, same_change, stays_same}
 use Rattle.xet_store.proofs.Whole.{found_has}
 
 differ : (a b : List ℕ) → a ≢ b → not (pointwise nat_eq a b) ≡ true
@@ -41,7 +41,7 @@ module _ (s : State) (f : MDBFileInfo) where
 
   pub keeps_recorded : Keeps s with_file
   keeps_recorded =
-      keeps_changed s s.tells s.files s.faults (stays_same s) s.xorbs recorded_too ((file_hash f, f) ∷ []) s.shards [] pending_too (λ h ms l. l) refl (sym (append-nil s.shards))
+      keeps_changed s s.tells s.files s.faults (stays_same s) s.xorbs recorded_too ((file_hash f, f) ∷ []) s.shards [] pending_too (λ h ms l. l) (λ told h none is. found_nowhere (found s.xorbs h) none is) refl (sym (append-nil s.shards))
 
   module _ (none : found s.records (file_hash f) ≡ None) where
     -- a record of another file that is pending stays pending

@@ -1,5 +1,5 @@
 -- What a session shows of its disk.
-use Rattle.std.proofs.Common.{◌≡◌, ◌≢◌, ◌⊎◌, inl, inr, ◌∙◌, ℕ, ◌<◌, ◌≤◌, Bool, true, false, List, [], ◌∷◌, length, Option, Some, IsSome, Result, Ok, Err, option_map, refl, sym, ap, subst, nat_eq}
+use Rattle.std.proofs.Common.{◌≡◌, ◌≢◌, ◌⊎◌, inl, inr, ◌∙◌, ℕ, ◌<◌, ◌≤◌, Bool, true, false, List, [], ◌∷◌, length, Option, Some, None, IsSome, Result, Ok, Err, option_map, refl, sym, ap, subst, nat_eq}
 use Rattle.std.proofs.lemmas.Bool.{le-ltb, ltb-false}
 use Rattle.std.proofs.Math.Nat.{le_trans}
 use Rattle.std.specs.Cmp.Lexicographic.{pointwise}
@@ -16,7 +16,6 @@ use Rattle.xet_shard.specs.Reading.{◌>>=◌, footer_at, header_at}
 use Rattle.xet_shard.specs.Records as record_of
 use Rattle.xet_folder.proofs.Agreeing.{joins_once, stored_once}
 use Rattle.xet_folder.proofs.Rest.{among_map}
-use Rattle.xet_folder.specs.Checks.{OfBytes}
 use Rattle.xet_folder.specs.Contents.{HasContents, IsRecord}
 use Rattle.xet_folder.specs.Listed.{JoinsTo, Lists}
 use Rattle.xet_folder.specs.Names.{shard_path, xorb_path}
@@ -25,11 +24,11 @@ use Rattle.xet_folder.specs.Shards.{IsThere, ShardFile, is_expired, is_past}
 use Rattle.xet_folder.specs.Stored.{IsBacked, IsStored}
 use Rattle.xet_folder.specs.Xorbs.{IsListed, Records, found}
 use Rattle.xet_store.specs.declared.limits.LimitSettings.{LimitSettings}
-use Rattle.xet_store.specs.Cleaning.{HasFile, Keeps, SameEntry}
+use Rattle.xet_store.specs.Cleaning.{HasFile, IsStable, Keeps, SameEntry}
 use Rattle.xet_store.specs.Opening.{contents_of}
 use Rattle.xet_store.specs.Ranges.{IsRange}
 use Rattle.xet_store.specs.Separate.{Among, Apart, IsMet, IsNamed, MetBacked, MetChunk, MetFile, MetListed, MetStored, MetXorb, Separate, SeparateIn}
-use Rattle.xet_store.specs.Store.{State, IsKept, Sound, plan_of}
+use Rattle.xet_store.specs.Store.{State, IsAdmitted, IsKept, Sound, plan_of}
 use Rattle.xet_store.proofs.Rows.{from_among, is_some_found, to_among}
 use Rattle.xet_store.proofs.Staying.{all_among, same_bytes_at, same_file_at}
 use Rattle.xet_store.proofs.Whole.{found_has, mapped, same_key}
@@ -117,48 +116,82 @@ valid_before bytes now later earlier = go (header_at bytes >>= λ _. footer_at b
     go (Ok footer) valid = le-ltb footer.shard_key_expiry now (le_trans earlier (ltb-false footer.shard_key_expiry later valid))
     go (Err e) valid = refl
 
+-- What a valid shard named then is listed.
+module _ (old : State) (contents : HasContents old.files old.folder old.opened (contents_of old)) where
+  pub named_listed : (h : List ℕ) → IsNamed old.files old.folder old.opened h → IsSome (found old.xorbs h)
+  named_listed h (shard, there, valid, names) =
+      let r = contents.admits.registers.all shard there valid in
+      (contents.contents.named h).1 (r.0, shard, r.1.0, sym r.1.1, names)
+
+  pub listed_named : (h : List ℕ) → IsSome (found old.xorbs h) → IsNamed old.files old.folder old.opened h
+  listed_named h is =
+      let any = (contents.contents.named h).0 is in
+      let k = any.0 in
+      let shard : ShardFile = any.1 in (
+        shard,
+        subst (IsThere old.files old.folder) any.3 (contents.admits.registers.there k shard any.2),
+        subst (λ (s : ShardFile). is_expired old.opened s.file.bytes ≡ false) any.3 (contents.admits.registers.valid k shard any.2),
+        any.4,
+      )
+
+  module _ (new : State) (told : old.tells ≡ true) (keeps : Keeps old new) where
+    -- The file of such a shard is as it was, and so is that of each xorb that it names.
+    pub valid_stays : (shard : ShardFile) → IsThere old.files old.folder shard → is_expired old.opened shard.file.bytes ≡ false → SameEntry old.files new.files (shard_path old.folder shard.hash)
+    valid_stays shard there valid =
+        let r = contents.admits.registers.all shard there valid in
+        all_among (λ h. SameEntry old.files new.files (shard_path old.folder h)) old.shards shard.hash (keeps.shard_files told)
+        (to_among old.shards shard.hash
+        (subst (λ (hs : List (List ℕ)). IsAmong hs shard.hash) (sym contents.contents.registered) (among_map contents.shards r.0 shard r.1.0 r.1.1 (λ (s : ShardFile). s.hash))))
+
+    pub named_same : (h : List ℕ) → IsNamed old.files old.folder old.opened h → SameEntry old.files new.files (xorb_path old.folder h)
+    named_same h named = keeps.xorb_files told h (named_listed h named)
+
+    -- Each xorb that was listed when a folder was opened is named by a shard that is still there.
+    pub named_stays : (h : List ℕ) → IsSome (found old.xorbs h) → IsNamed new.files old.folder old.opened h
+    named_stays h is = go (listed_named h is)
+      where
+        go : IsNamed old.files old.folder old.opened h → IsNamed new.files old.folder old.opened h
+        go (shard, there, valid, names) = (
+          shard,
+          record { named = there.named; there = same_file_at old.files new.files (shard_path old.folder shard.hash) (valid_stays shard there valid) ∙ there.there },
+          valid,
+          names,
+        )
+
+    -- A xorb that is named newly is one that a crash keeps.
+    pub named_newly : Sound new → (h : List ℕ) → IsNamed new.files new.folder new.opened h → IsNamed old.files old.folder old.opened h ⊎ IsStable new.files (xorb_path old.folder h)
+    named_newly sound h (shard, there, valid, names) = go (found old.xorbs h) refl
+      where
+        admitted : IsAdmitted new.files new.folder new.opened new.xorbs new.shards
+        admitted = sound.admitted (keeps.tells ∙ told)
+
+        listed : IsSome (found new.xorbs h)
+        listed =
+            let r = admitted.admits.registers.all shard there valid in
+            admitted.named h (r.0, shard, r.1.0, sym r.1.1, names)
+
+        go : (o : Option (List (List ℕ × ℕ))) → found old.xorbs h ≡ o → IsNamed old.files old.folder old.opened h ⊎ IsStable new.files (xorb_path old.folder h)
+        go None e = inr (keeps.listed_files told h e listed)
+        go (Some members) e = inl (listed_named h (is_some_found old.xorbs h members e))
+
 module _ (old new : State) (told : old.tells ≡ true) (contents : HasContents old.files old.folder old.opened (contents_of old)) (keeps : Keeps old new) (later : ℕ) (since : old.opened ≤ later)
     (f : MDBFileInfo) (l : Lists old.files old.folder later f) where
-  -- the shard that lists it
-  registered : IsAmong contents.shards l.shard
-  registered = contents.admits.registers.all l.shard l.there (valid_before l.shard.file.bytes old.opened later since l.valid)
-
-  shard_among : Among old.shards l.shard.hash
-  shard_among =
-      let r = registered in
-      to_among old.shards l.shard.hash
-      (subst (λ (hs : List (List ℕ)). IsAmong hs l.shard.hash) (sym contents.contents.registered) (among_map contents.shards r.0 l.shard r.1.0 r.1.1 (λ (s : ShardFile). s.hash)))
+  valid : is_expired old.opened l.shard.file.bytes ≡ false
+  valid = valid_before l.shard.file.bytes old.opened later since l.valid
 
   -- Each file that was listed then, at a moment from the opening on, is listed still.
   pub listed_stay : Lists new.files old.folder later f
-  listed_stay = lists_same old.files new.files old.folder later f l (same_file_at old.files new.files (shard_path old.folder l.shard.hash) (all_among (λ h. SameEntry old.files new.files (shard_path old.folder h)) old.shards l.shard.hash (keeps.shard_files told) shard_among))
-
-  -- each xorb that it names was read
-  named_listed : (s : Segment) → Among f.segments s → IsSome (found old.xorbs s.xorb_hash)
-  named_listed s a =
-      let r = registered in
-      let i = from_among f.segments s a in
-      let named : OfBytes l.shard.file.bytes s.xorb_hash = (l.parts, l.read, inr (f, l.among, among_map f.segments i.0 s i.1.0 i.1.1 (λ (t : Segment). t.xorb_hash))) in
-      (contents.contents.named s.xorb_hash).1 (r.0, l.shard, r.1.0, sym r.1.1, named)
+  listed_stay = lists_same old.files new.files old.folder later f l (same_file_at old.files new.files (shard_path old.folder l.shard.hash) (valid_stays old contents new told keeps l.shard l.there valid))
 
   -- and it joins to the same chunks
   pub joins_stay : (chunks : List (List ℕ)) → JoinsTo old.files old.folder f chunks → JoinsTo new.files old.folder f chunks
   joins_stay chunks j = joins_named (IsStored old.files old.folder) length (IsStored new.files old.folder) f.segments chunks
-      (λ s a c stored. stored_same old.files new.files old.folder s.xorb_hash c (same_bytes_at old.files new.files (xorb_path old.folder s.xorb_hash) (keeps.xorb_files told s.xorb_hash (named_listed s a))) stored) j
-
--- Each xorb that was listed when a folder was opened is named by a shard that is still there.
-module _ (old new : State) (told : old.tells ≡ true) (contents : HasContents old.files old.folder old.opened (contents_of old)) (keeps : Keeps old new) where
-  pub named_stays : (h : List ℕ) → IsSome (found old.xorbs h) → IsNamed new.files old.folder old.opened h
-  named_stays h is =
-      let any = (contents.contents.named h).0 is in
-      let k = any.0 in
-      let shard : ShardFile = any.1 in
-      let there : IsThere old.files old.folder shard = subst (IsThere old.files old.folder) any.3 (contents.admits.registers.there k shard any.2) in
-      let valid : is_expired old.opened shard.file.bytes ≡ false = subst (λ (s : ShardFile). is_expired old.opened s.file.bytes ≡ false) any.3 (contents.admits.registers.valid k shard any.2) in
-      let among : Among old.shards shard.hash = to_among old.shards shard.hash
-      (subst (λ (hs : List (List ℕ)). IsAmong hs shard.hash) (sym contents.contents.registered) (among_map contents.shards k shard any.2 (sym any.3) (λ (s : ShardFile). s.hash))) in
-      let same = same_file_at old.files new.files (shard_path old.folder shard.hash) (all_among (λ x. SameEntry old.files new.files (shard_path old.folder x)) old.shards shard.hash (keeps.shard_files told) among) in
-      (shard, record { named = there.named; there = same ∙ there.there }, valid, any.4)
+      (λ s a c stored. stored_same old.files new.files old.folder s.xorb_hash c (same_bytes_at old.files new.files (xorb_path old.folder s.xorb_hash) (named_same old contents new told keeps s.xorb_hash (named_by s a))) stored) j
+    where
+      named_by : (s : Segment) → Among f.segments s → IsNamed old.files old.folder old.opened s.xorb_hash
+      named_by s a =
+          let i = from_among f.segments s a in
+          (l.shard, l.there, valid, (l.parts, l.read, inr (f, l.among, among_map f.segments i.0 s i.1.0 i.1.1 (λ (t : Segment). t.xorb_hash))))
 
 -- ---- what a session that keeps shows
 

@@ -9,7 +9,7 @@ use Rattle.xet_shard.specs.Held.{Held}
 use Rattle.xet_folder.specs.Names.{IsForeign, IsHash, shard_path, xorb_path}
 use Rattle.xet_folder.specs.Stored.{IsBacked}
 use Rattle.xet_folder.specs.Xorbs.{IsListed, Records, Xorbs, found}
-use Rattle.xet_store.specs.Cleaning.{HasWholeShard, HasXorb, Keeps, SameEntry}
+use Rattle.xet_store.specs.Cleaning.{HasWholeShard, HasXorb, IsStable, Keeps, SameEntry}
 use Rattle.xet_store.specs.Separate.{Among}
 use Rattle.xet_store.specs.Store.{State, IsAdmitted, IsKept, Sound}
 use Rattle.xet_store.proofs.Admitting.{admitted_still, backed_same}
@@ -125,12 +125,18 @@ module _ (s : State) (folder h : List ℕ) (tells : Bool) (files : Files) (fault
     foreign = λ told name is. foreign told name (subst (λ (f : List ℕ). IsForeign f name) (sym same) is);
   }
 
+-- a xorb is listed or it is not
+pub found_nowhere : {G : Type 0} (xorbs : Option Members) → xorbs ≡ None → IsSome xorbs → G
+found_nowhere None none is = absurd (cc is)
+found_nowhere (Some m) none is = absurd (cc none)
+
 -- ---- what then stands
 
 module _ (s : State) (tells : Bool) (files : Files) (faults : ℕ) (stays : Stays s tells files faults) where
   pub keeps_changed : (xorbs : Xorbs) (records added : Records) (shards more : List (List ℕ)) (pending : Held) → ((h : List ℕ) (ms : Members) → IsListed s.xorbs h ms → IsListed xorbs h ms)
+      → (s.tells ≡ true → (h : List ℕ) → found s.xorbs h ≡ None → IsSome (found xorbs h) → IsStable files (xorb_path s.folder h))
       → records ≡ s.records ++ added → shards ≡ s.shards ++ more → Keeps s (changed s tells files faults xorbs records shards pending)
-  keeps_changed xorbs records added shards more pending listed recorded registered = record {
+  keeps_changed xorbs records added shards more pending listed stable recorded registered = record {
     tells = stays.tells_same;
     folder = refl;
     limits = refl;
@@ -141,6 +147,7 @@ module _ (s : State) (tells : Bool) (files : Files) (faults : ℕ) (stays : Stay
     shards = (more, registered);
     xorb_files = stays.xorb_files;
     shard_files = stays.shard_files;
+    listed_files = stable;
     xorb_names = stays.xorb_names;
     shard_names = λ told h is. shard_name (stays.shard_names told h is);
     foreign = stays.foreign;
@@ -157,7 +164,7 @@ module _ (s : State) (tells : Bool) (files : Files) (faults : ℕ) (stays : Stay
 
   -- where only the disk has changed
   pub keeps_stays : Keeps s (changed s tells files faults s.xorbs s.records s.shards s.pending)
-  keeps_stays = keeps_changed s.xorbs s.records [] s.shards [] s.pending (λ h ms l. l) (sym (append-nil s.records)) (sym (append-nil s.shards))
+  keeps_stays = keeps_changed s.xorbs s.records [] s.shards [] s.pending (λ h ms l. l) (λ told h none is. found_nowhere (found s.xorbs h) none is) (sym (append-nil s.records)) (sym (append-nil s.shards))
 
   -- the bytes of a listed xorb
   pub xorb_same : s.tells ≡ true → (h : List ℕ) → IsSome (found s.xorbs h) → bytes_at files (xorb_path s.folder h) ≡ bytes_at s.files (xorb_path s.folder h)

@@ -94,7 +94,8 @@ pub record HasWholeShard (s : State) (h : List ℕ) : Type 0 where
 
 -- What no call takes away: folder, limits and time of opening, listed xorbs and registered shards with their
 -- files, earlier records in their order, and files that are not a store's. Under a xorb's name no file has changed but to
--- a xorb of that hash, under a shard's none but to a whole shard, and a crash keeps those.
+-- a xorb of that hash, under a shard's none but to a whole shard, and a crash keeps those. It keeps the file of each xorb
+-- that is newly listed, whether it stood there already or not.
 pub record Keeps (old new : State) : Type 0 where
   pub tells : new.tells ≡ old.tells
   pub folder : new.folder ≡ old.folder
@@ -106,6 +107,7 @@ pub record Keeps (old new : State) : Type 0 where
   pub shards : (added : List (List ℕ)) × (new.shards ≡ old.shards ++ added)
   pub xorb_files : old.tells ≡ true → (h : List ℕ) → IsSome (found old.xorbs h) → SameEntry old.files new.files (xorb_path old.folder h)
   pub shard_files : old.tells ≡ true → AllByRecursion (λ h. SameEntry old.files new.files (shard_path old.folder h)) old.shards
+  pub listed_files : old.tells ≡ true → (h : List ℕ) → found old.xorbs h ≡ None → IsSome (found new.xorbs h) → IsStable new.files (xorb_path old.folder h)
   pub xorb_names : old.tells ≡ true → (h : List ℕ) → IsHash h
       → SameEntry old.files new.files (xorb_path old.folder h) ⊎ HasXorb new.files new.folder h
   pub shard_names : old.tells ≡ true → (h : List ℕ) → IsHash h → SameEntry old.files new.files (shard_path old.folder h) ⊎ HasWholeShard new h

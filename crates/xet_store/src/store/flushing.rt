@@ -1,6 +1,6 @@
 //! Shards of what is pending.
 
-ghost use Rattle.std.specs.Prelude.{◌≡◌, ◌↔◌, None, IfErr, IfOk, IfSome, OnErr};
+ghost use Rattle.std.specs.Prelude.{◌≡◌, ◌↔◌, None, Ok, IfErr, IfOk, IfSome, OnErr};
 ghost use Rattle.xet_shard.specs.Held.{nothing};
 ghost use Rattle.xet_folder.specs.Refusals.{HasDiskReason};
 ghost use Rattle.xet_store.specs.Cleaning.{Keeps};
@@ -18,7 +18,7 @@ impl<D: Disk + Send> Store<D> {
     /// is pending. After a refusal all of it is pending still.
     pub fn flush(&mut self) -> Result<Option<MerkleHash>, StoreError>
         ensures none { IfOk result (λ h. (h ≡ None) ↔ (self.old.pending ≡ nothing)) }
-        ensures idle { IfOk result (λ h. h ≡ None → self.new ≡ self.old) }
+        ensures idle { self.old.pending ≡ nothing → (result ≡ Ok None) × (self.new ≡ self.old) }
         ensures flushed { IfOk result (λ h. IfSome h (λ shard. IsFlushed self.old shard self.new)) }
         ensures refused { OnErr result (IsUnflushed self.old self.new) }
         ensures keeps { Keeps self.old self.new }

@@ -243,7 +243,7 @@ returns g c =
     let exact = raw_block c.in_ok-raw.raw c.args.chunks.now _ c.in_ok-raw.ensures.exact h c.hash-hash.ensures c.in_ok-block.block members c.in_ok-members.ensures.members c.in_ok-block.ensures.copy in
     let pending = c.in_ok-add_xorb_block.ensures.added ∙ ap (λ (b : MDBXorbInfo). held (with_last record_of.xorb_hash c.self.inside.pending.blocks b) c.self.inside.pending.files) exact in
     record {
-      keeps = put_keeps put more pending _ c.self.view_is;
+      keeps = put_keeps put more pending c.in_ok-put_xorb.ensures.stable _ c.self.view_is;
       records = search rules;
       shards = search rules;
       listed = (is_hash, listed_at c.self.inside.xorbs.entries _ h members more none ∙ ap Some c.in_ok-members.ensures.members);
