@@ -5,11 +5,13 @@ use Rattle.xet_folder.specs.Admission.{Admits}
 use Rattle.xet_folder.specs.Contents.{HasContents}
 use Rattle.xet_folder.specs.Listed.{JoinsTo, Lists}
 use Rattle.xet_folder.specs.Names.{shard_path, xorb_path}
+use Rattle.xet_folder.specs.Shards.{IsThere}
 use Rattle.xet_store.specs.declared.limits.LimitSettings.{LimitSettings}
-use Rattle.xet_store.specs.Cleaning.{HasShard, HasWholeShard, HasXorb, Keeps, SameEntry}
+use Rattle.xet_store.specs.Cleaning.{HasShard, HasWholeShard, HasXorb, IsStable, Keeps, SameEntry}
 use Rattle.xet_store.specs.Opening.{IsOpened, contents_of}
+use Rattle.xet_store.specs.Separate.{IsNamed}
 use Rattle.xet_store.specs.Store.{Sound, State}
-use Rattle.xet_store.proofs.Sessions.{joins_stay, listed_stay}
+use Rattle.xet_store.proofs.Sessions.{joins_stay, listed_stay, named_newly, named_same, valid_stays}
 use Rattle.xet_store_cli.specs.Outcome.{store_folder}
 use Rattle.xet_store_cli.specs.Stored.{KeepsFolder, KeepsListed}
 
@@ -22,14 +24,19 @@ kept_by s t told folder contents keeps = record {
       (joins_stay s t told contents keeps later since f (subst (λ (x : List ℕ). Lists s.files x later f) (sym folder) l) chunks (subst (λ (x : List ℕ). JoinsTo s.files x f chunks) (sym folder) joins));
 }
 
+-- the contents of a folder by the names of the session that was opened over it
+contents_then : (old : Files) (now : ℕ) (s : State) → s.files ≡ old → s.folder ≡ store_folder → s.opened ≡ now → HasContents old store_folder now (contents_of s) → HasContents s.files s.folder s.opened (contents_of s)
+contents_then old now s files folder moment contents =
+    let of_files : HasContents s.files store_folder now (contents_of s) = subst (λ (x : Files). HasContents x store_folder now (contents_of s)) (sym files) contents in
+    let of_folder : HasContents s.files s.folder now (contents_of s) = subst (λ (x : List ℕ). HasContents s.files x now (contents_of s)) (sym folder) of_files in
+    subst (λ (x : ℕ). HasContents s.files s.folder x (contents_of s)) (sym moment) of_folder
+
 -- over the disk that it hands back
 pub keeps_listed : (tells : Bool) (old new : Files) (limits : LimitSettings) (now : ℕ) (s t : State) → tells ≡ true → IsOpened tells old store_folder limits now s
     → HasContents old store_folder now (contents_of s) → Keeps s t → new ≡ t.files → KeepsListed now old new
 keeps_listed tells old new limits now s t told opened contents keeps is =
-    let of_files : HasContents s.files store_folder now (contents_of s) = subst (λ (x : Files). HasContents x store_folder now (contents_of s)) (sym opened.same_files) contents in
-    let of_folder : HasContents s.files s.folder now (contents_of s) = subst (λ (x : List ℕ). HasContents s.files x now (contents_of s)) (sym opened.same_folder) of_files in
-    let of_moment : HasContents s.files s.folder s.opened (contents_of s) = subst (λ (x : ℕ). HasContents s.files s.folder x (contents_of s)) (sym opened.moment) of_folder in
-    let kept : KeepsListed s.opened s.files t.files = kept_by s t (opened.same_tells ∙ told) opened.same_folder of_moment keeps in
+    let then = contents_then old now s opened.same_files opened.same_folder opened.moment contents in
+    let kept : KeepsListed s.opened s.files t.files = kept_by s t (opened.same_tells ∙ told) opened.same_folder then keeps in
     let at : KeepsListed now s.files t.files = subst (λ (x : ℕ). KeepsListed x s.files t.files) opened.moment kept in
     let from : KeepsListed now old t.files = subst (λ (x : Files). KeepsListed now x t.files) opened.same_files at in
     subst (λ (x : Files). KeepsListed now old x) (sym is) from
@@ -37,11 +44,17 @@ keeps_listed tells old new limits now s t told opened contents keeps is =
 -- ---- the names of a store's files
 
 -- as a session keeps them
-keeps_names : (s t : State) → s.tells ≡ true → s.folder ≡ store_folder → Keeps s t → Sound t → KeepsFolder s.opened s.files t.files
-keeps_names s t told folder keeps sound =
+keeps_names : (s t : State) → s.tells ≡ true → s.folder ≡ store_folder → HasContents s.files s.folder s.opened (contents_of s) → Keeps s t → Sound t → KeepsFolder s.opened s.files t.files
+keeps_names s t told folder contents keeps sound =
     let after : t.folder ≡ store_folder = keeps.folder ∙ folder in record {
       xorbs = λ h is. xorb h (keeps.xorb_names told h is);
       shards = λ h is. shard h (keeps.shard_names told h is);
+      valid = λ shard there v. subst (λ (x : List ℕ). SameEntry s.files t.files (shard_path x shard.hash)) folder
+          (valid_stays s contents t told keeps shard (subst (λ (x : List ℕ). IsThere s.files x shard) (sym folder) there) v);
+      named = λ h is. subst (λ (x : List ℕ). SameEntry s.files t.files (xorb_path x h)) folder
+          (named_same s contents t told keeps h (subst (λ (x : List ℕ). IsNamed s.files x s.opened h) (sym folder) is));
+      newly = λ h is. new h (named_newly s contents t told keeps sound h
+          (subst (λ (n : ℕ). IsNamed t.files t.folder n h) (sym keeps.opened) (subst (λ (x : List ℕ). IsNamed t.files x s.opened h) (sym after) is)));
       admitted = λ was.
           let a = sound.admitted (keeps.tells ∙ told) in
           (a.shards, subst (λ (n : ℕ). Admits t.files store_folder n a.shards) keeps.opened (subst (λ (x : List ℕ). Admits t.files x t.opened a.shards) after a.admits));
@@ -51,15 +64,19 @@ keeps_names s t told folder keeps sound =
     xorb h (inl same) = inl (subst (λ (x : List ℕ). SameEntry s.files t.files (xorb_path x h)) folder same)
     xorb h (inr has) = inr (subst (λ (x : List ℕ). HasXorb t.files x h) (keeps.folder ∙ folder) has)
 
+    new : (h : List ℕ) → IsNamed s.files s.folder s.opened h ⊎ IsStable t.files (xorb_path s.folder h) → IsNamed s.files store_folder s.opened h ⊎ IsStable t.files (xorb_path store_folder h)
+    new h (inl is) = inl (subst (λ (x : List ℕ). IsNamed s.files x s.opened h) folder is)
+    new h (inr is) = inr (subst (λ (x : List ℕ). IsStable t.files (xorb_path x h)) folder is)
+
     shard : (h : List ℕ) → SameEntry s.files t.files (shard_path s.folder h) ⊎ HasWholeShard t h → SameEntry s.files t.files (shard_path store_folder h) ⊎ HasShard t.files store_folder h
     shard h (inl same) = inl (subst (λ (x : List ℕ). SameEntry s.files t.files (shard_path x h)) folder same)
     shard h (inr has) = inr (subst (λ (x : List ℕ). HasShard t.files x h) (keeps.folder ∙ folder) has.shard)
 
 -- over the disk that it hands back
 pub keeps_folder : (tells : Bool) (old new : Files) (limits : LimitSettings) (now : ℕ) (s t : State) → tells ≡ true → IsOpened tells old store_folder limits now s
-    → Keeps s t → Sound t → new ≡ t.files → KeepsFolder now old new
-keeps_folder tells old new limits now s t told opened keeps sound is =
-    let kept : KeepsFolder s.opened s.files t.files = keeps_names s t (opened.same_tells ∙ told) opened.same_folder keeps sound in
+    → HasContents old store_folder now (contents_of s) → Keeps s t → Sound t → new ≡ t.files → KeepsFolder now old new
+keeps_folder tells old new limits now s t told opened contents keeps sound is =
+    let kept : KeepsFolder s.opened s.files t.files = keeps_names s t (opened.same_tells ∙ told) opened.same_folder (contents_then old now s opened.same_files opened.same_folder opened.moment contents) keeps sound in
     let at : KeepsFolder now s.files t.files = subst (λ (x : ℕ). KeepsFolder x s.files t.files) opened.moment kept in
     let from : KeepsFolder now old t.files = subst (λ (x : Files). KeepsFolder now x t.files) opened.same_files at in
     subst (λ (x : Files). KeepsFolder now old x) (sym is) from

@@ -138,7 +138,7 @@ module _ (first before after : State) (said : Said) (done : IsDone first before 
     where
       go : IsSome (found first.xorbs h) ⊎ IsPackOf first.limits chunked h → IsMet after.files after.folder after.opened first.limits chunked h
       go (inl listed) =
-          let named : IsNamed after.files first.folder first.opened h = named_stays first after told (done.contents told) (keeps_then first before after done.cleaned done.keeps) h listed in
+          let named : IsNamed after.files first.folder first.opened h = named_stays first (done.contents told) after told (keeps_then first before after done.cleaned done.keeps) h listed in
           let at : IsNamed after.files after.folder first.opened h = subst (λ (f : List ℕ). IsNamed after.files f first.opened h) (sym (done.keeps.folder ∙ done.cleaned.folder)) named in
           inl (subst (λ (n : ℕ). IsNamed after.files after.folder n h) (sym opened_after) at)
       go (inr pack) = inr pack

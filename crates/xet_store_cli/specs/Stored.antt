@@ -1,18 +1,18 @@
 -- What `pack` has stored.
-use Rattle.std.specs.Prelude.{◌≡◌, ◌≢◌, ◌⊎◌, ℕ, ◌<◌, ◌≤◌, ◌^◌, List, [], IfSome}
+use Rattle.std.specs.Prelude.{◌≡◌, ◌≢◌, ◌⊎◌, ℕ, ◌<◌, ◌≤◌, ◌^◌, false, List, [], IfSome}
 use Rattle.std.specs.List.{AllByRecursion, IsAmong}
 use Rattle.std.specs.Str.Lines.{lines}
 use Rattle.xet_io.specs.Disk.{Files}
 use Rattle.xet_hash.specs.Merkle.{chunk_hash}
 use Rattle.xet_store.specs.declared.limits.LimitSettings.{LimitSettings}
 use Rattle.xet_store.specs.Cut.{cut}
-use Rattle.xet_store.specs.Cleaning.{HasShard, HasXorb, IsPacked, SameEntry}
-use Rattle.xet_store.specs.Separate.{Apart, MetStored, SeparateIn}
+use Rattle.xet_store.specs.Cleaning.{HasShard, HasXorb, IsPacked, IsStable, SameEntry}
+use Rattle.xet_store.specs.Separate.{Apart, IsNamed, MetStored, SeparateIn}
 use Rattle.xet_store.specs.Tables.{record_of_file}
 use Rattle.xet_folder.specs.Admission.{Admits}
 use Rattle.xet_folder.specs.Listed.{JoinsTo, Lists}
 use Rattle.xet_folder.specs.Names.{IsHash, shard_path, xorb_path}
-use Rattle.xet_folder.specs.Shards.{ShardFile}
+use Rattle.xet_folder.specs.Shards.{IsThere, ShardFile, is_expired}
 use Rattle.xet_shard.specs.declared.record.MDBFileInfo.{MDBFileInfo}
 use Rattle.xet_shard.specs.Records as record_of
 use Rattle.xet_store_cli.specs.declared.words.Command.{Command}
@@ -90,8 +90,12 @@ abbrev pub IsAdmittedAt : ℕ → Files → Type 0
 IsAdmittedAt now files = (shards : List ShardFile) × Admits files store_folder now shards
 
 -- What stands under the names of a store's files is as it was, or it is a xorb of that hash, or a whole shard under
--- the name of its digest, and a crash keeps it; a folder that was admitted at a moment is.
+-- the name of its digest, and a crash keeps it. The files of the shards that are valid at a moment, and of the xorbs that
+-- they name, are as they were, and a crash keeps each xorb that is named newly; a folder that was admitted then is.
 pub record KeepsFolder (now : ℕ) (old new : Files) : Type 0 where
   pub xorbs : (h : List ℕ) → IsHash h → SameEntry old new (xorb_path store_folder h) ⊎ HasXorb new store_folder h
   pub shards : (h : List ℕ) → IsHash h → SameEntry old new (shard_path store_folder h) ⊎ HasShard new store_folder h
+  pub valid : (shard : ShardFile) → IsThere old store_folder shard → is_expired now shard.file.bytes ≡ false → SameEntry old new (shard_path store_folder shard.hash)
+  pub named : (h : List ℕ) → IsNamed old store_folder now h → SameEntry old new (xorb_path store_folder h)
+  pub newly : (h : List ℕ) → IsNamed new store_folder now h → IsNamed old store_folder now h ⊎ IsStable new (xorb_path store_folder h)
   pub admitted : IsAdmittedAt now old → IsAdmittedAt now new

@@ -13,7 +13,7 @@ returns-in-Ok-clause-listed g c = λ told.
 
 pub returns-in-Ok-clause-keeps : goal.returns-in-Ok-clause-keeps
 returns-in-Ok-clause-keeps g c = λ told.
-    keeps_folder (g.D.Disk.tells c.args.disk) _ _ _ _ _ _ told c.in-Ok.ensures.opened c.report_lines-session.ensures.keeps c.known-in-Ok.ensures c.into_disk-disk.ensures.files
+    keeps_folder (g.D.Disk.tells c.args.disk) _ _ _ _ _ _ told c.in-Ok.ensures.opened (c.in-Ok.ensures.contents told) c.report_lines-session.ensures.keeps c.known-in-Ok.ensures c.into_disk-disk.ensures.files
 
 pub returns-in-Ok-clause-made : goal.returns-in-Ok-clause-made
 returns-in-Ok-clause-made g c = λ told.

@@ -16,4 +16,4 @@ pub returns-in_err-push_ranges-clause-keeps : goal.returns-in_err-push_ranges-cl
 returns-in_err-push_ranges-clause-keeps g c = keeps_then _ _ _ c.in_ok-flush.ensures.keeps (keeps_unchanged _ _ c.in_err-push_ranges.ensures.unchanged)
 
 pub returns-clause-settled : goal.returns-clause-settled
-returns-clause-settled g c = settled_of _ _ _ _ c.in_ok-flush.ensures.none c.in_ok-flush.ensures.idle c.in_ok-flush.ensures.flushed c.in_ok-push_ranges.ensures.unchanged
+returns-clause-settled g c = settled_of _ _ _ _ c.in_ok-flush.ensures.none (λ none. (c.in_ok-flush.ensures.idle (c.in_ok-flush.ensures.none.0 none)).1) c.in_ok-flush.ensures.flushed c.in_ok-push_ranges.ensures.unchanged
