@@ -9,7 +9,7 @@ use Rattle.xet_hash.specs.declared.error.StoreError.TheVariants.{Io, MalformedDa
 use Rattle.xet_hash.specs.declared.error.Place.TheVariants.{Disk}
 use Rattle.xet_hash.specs.declared.error.Reason.TheVariants.{XorbText}
 use Rattle.xet_folder.specs.Refusals.{IsRefusal}
-use Rattle.xet_chunk.specs.Spelling.{le24, spelling}
+use Rattle.xet_xorb_chunk.specs.Spelling.{le24, spelling}
 use Rattle.xet_folder.specs.Plan.{range}
 use Rattle.xet_folder.specs.Runs.{IsRunRefusal, Spells}
 use Rattle.xet_folder.proofs.Ranges.{range-append, range_cut, range_past}

@@ -5,7 +5,7 @@ ghost use Rattle.std.specs.List.{concat};
 ghost use Rattle.xet_io.specs.Disk.{FillsFrom, bytes_at};
 ghost use Rattle.xet_hash.specs.Merkle.{members_of, total_len};
 ghost use Rattle.xet_folder.specs.Refusals.{IsRefusal};
-ghost use Rattle.xet_chunk.specs.Spelling.{spelling};
+ghost use Rattle.xet_xorb_chunk.specs.Spelling.{spelling};
 ghost use Rattle.xet_folder.specs.Plan.{LiesIn, part, range};
 ghost use Rattle.xet_folder.specs.Runs.{HasPlace, IsRunRefusal, IsTouched, Spells, stored_len};
 ghost use Rattle.xet_folder.specs.Stored.{IsBacked, IsStored};
@@ -18,7 +18,7 @@ use std::marker::Model;
 use xet_hash::{MerkleHash, Reason, StoreError};
 use xet_io::{Disk, read_file_at};
 use xet_shard::FileDataSequenceEntry;
-use xet_xorb::CompressionScheme;
+use xet_xorb_chunk::CompressionScheme;
 
 /// The bytes of a stored chunk's header.
 const HEADER_LEN: usize = 8;

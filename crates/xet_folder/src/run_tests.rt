@@ -9,7 +9,7 @@ use std::test::Fail;
 use xet_hash::{MerkleHash, StoreError, compute_data_hash, xorb_hash};
 use xet_io::MemoryDisk;
 use xet_shard::FileDataSequenceEntry;
-use xet_xorb::{Chunk, chunk_members};
+use xet_xorb_chunk::{Chunk, chunk_members};
 
 /// Puts a xorb of three chunks, and returns its hash.
 fn put_three(alloc: Global, disk: &mut MemoryDisk) -> Result<MerkleHash, StoreError> {

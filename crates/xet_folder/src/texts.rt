@@ -1,12 +1,13 @@
 //! Texts of xorbs, for tests.
 
 ghost use Rattle.std.specs.Prelude.{map};
-ghost use Rattle.xet_chunk.specs.Chunks.{bytes_of};
+ghost use Rattle.xet_xorb_chunk.specs.Chunks.{bytes_of};
 ghost use Rattle.xet_xorb.specs.Raw.{ArePartsOfXorb};
 
 use std::alloc::Global;
 use xet_hash::StoreError;
-use xet_xorb::{Chunk, RawXorbData, SerializedXorbObject};
+use xet_xorb_chunk::Chunk;
+use xet_xorb::{RawXorbData, SerializedXorbObject};
 
 /// The xorb of these chunks.
 pub(crate) fn xorb_text(alloc: Global, chunks: &[Chunk]) -> Result<Vec<u8>, StoreError>

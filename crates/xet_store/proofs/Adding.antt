@@ -8,10 +8,10 @@ use Rattle.std.proofs.lemmas.List.Elements.{All-from_recursion}
 use Rattle.std.proofs.lemmas.List.Sums.{sum_by-cons}
 use Rattle.xet_io.specs.Disk.{Files, bytes_at}
 use Rattle.xet_hash.specs.Merkle.{chunk_hash, members_of, total_len, xorb_hash}
-use Rattle.xet_chunk.specs.declared.chunk.Chunk.{Chunk}
-use Rattle.xet_chunk.specs.Chunks.{bytes_of, chunk_member, total}
+use Rattle.xet_xorb_chunk.specs.declared.chunk.Chunk.{Chunk}
+use Rattle.xet_xorb_chunk.specs.Chunks.{bytes_of, chunk_member, total}
 use Rattle.xet_xorb.specs.Xorb.{IsXorbText}
-use Rattle.xet_chunk.proofs.Grammar.{members_are, total-bytes}
+use Rattle.xet_xorb_chunk.proofs.Grammar.{members_are, total-bytes}
 use Rattle.xet_xorb.specs.declared.raw.RawXorbData.{RawXorbData}
 use Rattle.xet_xorb.specs.Raw.{ArePartsOfXorb, raw_members, raw_of}
 use Rattle.xet_shard.specs.declared.record.MDBFileInfo.{MDBFileInfo}

@@ -4,8 +4,8 @@ use Rattle.std.specs.List.{AllByRecursion}
 use Rattle.std.proofs.lemmas.List.{length-take}
 use Rattle.xet_base.specs.Pieces.{first_of, pieces_after}
 use Rattle.xet_hash.specs.Merkle.{chunk_hash, members_of}
-use Rattle.xet_chunk.specs.Chunks.{bytes_of, chunk_member, chunk_of}
-use Rattle.xet_chunk.specs.declared.chunk.Chunk.{Chunk}
+use Rattle.xet_xorb_chunk.specs.Chunks.{bytes_of, chunk_member, chunk_of}
+use Rattle.xet_xorb_chunk.specs.declared.chunk.Chunk.{Chunk}
 use Rattle.xet_store.specs.declared.limits.LimitSettings.{LimitSettings}
 use Rattle.xet_store.specs.Cut.{cut, may_end, piece_len}
 

@@ -7,9 +7,9 @@ use Rattle.std.proofs.lemmas.List.{append-nil, drop-map, drop_all, drop_more, ta
 use Rattle.std.proofs.lemmas.List.Sums.{sum_by-append, sum_by-cons}
 use Rattle.xet_base.proofs.PieceLemmas.{pieces_none, pieces_step}
 use Rattle.xet_hash.specs.Merkle.{chunk_hash, members_of, total_len, xorb_hash}
-use Rattle.xet_chunk.proofs.Grammar.{members_are}
-use Rattle.xet_chunk.specs.Chunks.{bytes_of, chunk_member, total}
-use Rattle.xet_chunk.specs.declared.chunk.Chunk.{Chunk}
+use Rattle.xet_xorb_chunk.proofs.Grammar.{members_are}
+use Rattle.xet_xorb_chunk.specs.Chunks.{bytes_of, chunk_member, total}
+use Rattle.xet_xorb_chunk.specs.declared.chunk.Chunk.{Chunk}
 use Rattle.xet_shard.proofs.Holding.{all_more as all_push}
 use Rattle.xet_store.specs.declared.limits.LimitSettings.{LimitSettings}
 use Rattle.xet_shard.specs.declared.record.FileDataSequenceEntry.{FileDataSequenceEntry as Segment}

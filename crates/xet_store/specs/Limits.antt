@@ -3,8 +3,8 @@ use Rattle.std.specs.Prelude.{ℕ, ◌/◌, ◌^◌, ◌<◌, ◌≤◌, Bool, I
 use Rattle.std.specs.Int.{is_power_of_two}
 use Rattle.xet_hash.specs.declared.error.Field.{Field}
 use Rattle.xet_hash.specs.declared.error.Field.TheVariants.{TargetChunk, MinimumChunk, MaximumChunk, CutBytes, CutChunks, ShardTarget, GuardWindow, MinRange, LowFactor, BlockBytes, MaxSourceBytes, Scheme}
-use Rattle.xet_chunk.specs.declared.scheme.CompressionScheme.{CompressionScheme}
-use Rattle.xet_chunk.specs.declared.scheme.CompressionScheme.TheVariants as scheme
+use Rattle.xet_xorb_chunk.specs.declared.scheme.CompressionScheme.{CompressionScheme}
+use Rattle.xet_xorb_chunk.specs.declared.scheme.CompressionScheme.TheVariants as scheme
 use Rattle.xet_store.specs.declared.limits.LimitSettings.{LimitSettings}
 
 abbrev pub is_between : ℕ → ℕ → ℕ → Bool

@@ -3,7 +3,7 @@
 ghost use Rattle.std.specs.Prelude.{◌≡◌, ◌≤◌, ◌<◌, ◌^◌, ◌∷◌, [], ℕ, List, true, drop, length, map, take, OnOk, OnErr, IfOk, IfErr, IsSome};
 ghost use Rattle.std.specs.List.{AllByRecursion};
 ghost use Rattle.xet_hash.specs.Merkle.{chunk_hash};
-ghost use Rattle.xet_chunk.specs.Chunks.{bytes_of, chunk_member, total};
+ghost use Rattle.xet_xorb_chunk.specs.Chunks.{bytes_of, chunk_member, total};
 ghost use Rattle.xet_store.specs.Cleaning.{Adds, EachTold, HasFile, HasReason, HasXorbs, Keeps, Later, Stores, StoresSome, Taken, cuts, info_of};
 ghost use Rattle.xet_store.specs.Cut.{cut};
 ghost use Rattle.xet_folder.specs.Plan.{Joins};
@@ -26,7 +26,7 @@ use std::marker::Send;
 use xet_hash::{MerkleHash, Place, StoreError, What, file_hash};
 use xet_io::{Disk, Source, Unread, read_all};
 use xet_shard::{FileDataSequenceEntry, Sha256};
-use xet_xorb::{Chunk, chunk_members};
+use xet_xorb_chunk::{Chunk, chunk_members};
 
 /// Reads each source to its end and stores its file, in order. So far at most one source; all work runs
 /// on the caller. A refusal hands the session back with its earlier files; xorbs that were put already

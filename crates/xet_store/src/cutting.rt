@@ -2,7 +2,7 @@
 
 ghost use Rattle.std.specs.Prelude.{◌≡◌, ◌≤◌, ◌<◌, ℕ, length, map, take, IfOk, IsOkUnless};
 ghost use Rattle.std.specs.List.{AllByRecursion};
-ghost use Rattle.xet_chunk.specs.Chunks.{bytes_of, chunk_of, total};
+ghost use Rattle.xet_xorb_chunk.specs.Chunks.{bytes_of, chunk_of, total};
 ghost use Rattle.xet_store.specs.Cut.{cut};
 ghost use Rattle.xet_store.specs.Packing.{pack_len};
 
@@ -11,7 +11,7 @@ use crate::limits::Limits;
 use bytes::Bytes;
 use std::alloc::Global;
 use xet_hash::StoreError;
-use xet_xorb::Chunk;
+use xet_xorb_chunk::Chunk;
 
 /// The chunks into which a file's bytes are cut. They share the bytes.
 pub fn chunks_of(alloc: Global, limits: &Limits, bytes: Vec<u8>) -> Result<Vec<Chunk>, StoreError>

@@ -4,7 +4,7 @@ ghost use Rattle.std.specs.Prelude.{◌≡◌, ◌≤◌, ◌<◌, ◌^◌, ◌/
 
 use std::marker::Model;
 use xet_hash::{Field, StoreError};
-use xet_xorb::CompressionScheme;
+use xet_xorb_chunk::CompressionScheme;
 
 /// Settings for `Limits::new`, each with its range. Lengths and sizes are in bytes.
 #[derive(Clone, Copy, PartialEq, Eq, Debug)]

@@ -3,7 +3,7 @@
 use crate::{LimitSettings, Limits, chunk_list, cut_lengths, gear_table, generated, piece_len};
 use std::test::Fail;
 use xet_hash::{Field, StoreError, compute_data_hash};
-use xet_xorb::CompressionScheme;
+use xet_xorb_chunk::CompressionScheme;
 
 /// Small pieces: from 64 to 1,024 bytes.
 fn small(gear: [u64; 256]) -> LimitSettings {

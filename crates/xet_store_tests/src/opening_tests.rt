@@ -7,7 +7,7 @@ use std::test::Fail;
 use xet_folder::{shard_path, xorb_path};
 use xet_hash::{MerkleHash, Reason, StoreError, compute_data_hash};
 use xet_io::{MemoryDisk, MemorySink};
-use xet_xorb::XorbObjectInfoV0;
+use xet_xorb_footer::XorbObjectInfoV0;
 
 /// The hashes of two files that were written.
 fn hashes_of(

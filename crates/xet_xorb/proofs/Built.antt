@@ -7,9 +7,9 @@ use Rattle.std.specs.List.{flat_map, sum_by}
 use Rattle.xet_hash.specs.Merkle.{member_of, members_of, total_len, xorb_hash}
 use Rattle.xet_shard.specs.Records.{chunk_bytes}
 use Rattle.xet_shard.specs.declared.record.XorbChunkSequenceEntry.{XorbChunkSequenceEntry}
-use Rattle.xet_footer.specs.Spelled.{length_of, number, text_v1}
-use Rattle.xet_footer.proofs.Readback.{length_is_known}
-use Rattle.xet_chunk.specs.Spelling.{spelling}
+use Rattle.xet_xorb_footer.specs.Spelled.{length_of, number, text_v1}
+use Rattle.xet_xorb_footer.proofs.Readback.{length_is_known}
+use Rattle.xet_xorb_chunk.specs.Spelling.{spelling}
 use Rattle.xet_xorb.specs.declared.building.SerializedXorbObject.{SerializedXorbObject}
 use Rattle.xet_xorb.specs.declared.raw.RawXorbData.{RawXorbData}
 use Rattle.xet_xorb.specs.Building.{built_of, ending, no_spare, start_of_footer}

@@ -8,13 +8,13 @@ use Rattle.std.specs.List.{AllByRecursion, concat, flat_map, sum_by}
 use Rattle.std.specs.Prelude.{slice_range}
 use Rattle.xet_hash.specs.declared.error.StoreError.{StoreError}
 use Rattle.xet_hash.specs.Merkle.{chunk_hash, members_of, total_len, xorb_hash}
-use Rattle.xet_chunk.specs.declared.scheme.CompressionScheme.{CompressionScheme}
-use Rattle.xet_chunk.specs.declared.scheme.CompressionScheme.TheVariants.{Auto, ByteGrouping4LZ4, LZ4, None}
-use Rattle.xet_chunk.specs.Scheme.{compressed}
-use Rattle.xet_chunk.specs.Spelling.{spelling}
-use Rattle.xet_chunk.proofs.Written.{front_of_first, written_both, written_then}
-use Rattle.xet_footer.specs.declared.info.XorbObjectInfoV1.{XorbObjectInfoV1}
-use Rattle.xet_footer.specs.Spelled.{length_of, most_chunks, number, text_v1}
+use Rattle.xet_xorb_chunk.specs.declared.scheme.CompressionScheme.{CompressionScheme}
+use Rattle.xet_xorb_chunk.specs.declared.scheme.CompressionScheme.TheVariants.{Auto, ByteGrouping4LZ4, LZ4, None}
+use Rattle.xet_xorb_chunk.specs.Scheme.{compressed}
+use Rattle.xet_xorb_chunk.specs.Spelling.{spelling}
+use Rattle.xet_xorb_chunk.proofs.Written.{front_of_first, written_both, written_then}
+use Rattle.xet_xorb_footer.specs.declared.info.XorbObjectInfoV1.{XorbObjectInfoV1}
+use Rattle.xet_xorb_footer.specs.Spelled.{length_of, most_chunks, number, text_v1}
 use Rattle.xet_shard.specs.Boundaries.{boundaries_from}
 use Rattle.xet_shard.specs.Records.{chunk_bytes}
 use Rattle.xet_shard.specs.declared.record.XorbChunkSequenceEntry.{XorbChunkSequenceEntry}

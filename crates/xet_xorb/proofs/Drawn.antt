@@ -5,8 +5,8 @@ use Rattle.std.proofs.lemmas.List.{map-append}
 use Rattle.std.proofs.lemmas.List.Sums.{sum_by-cons}
 use Rattle.std.specs.List.{AllByRecursion, concat, sum_by}
 use Rattle.rand_core.specs.Stream.{Stream, fill_bytes}
-use Rattle.xet_chunk.specs.declared.chunk.Chunk.{Chunk}
-use Rattle.xet_chunk.specs.Chunks.{bytes_of, chunk_of}
+use Rattle.xet_xorb_chunk.specs.declared.chunk.Chunk.{Chunk}
+use Rattle.xet_xorb_chunk.specs.Chunks.{bytes_of, chunk_of}
 use Rattle.xet_xorb.specs.declared.samples.ChunkSize.{ChunkSize}
 use Rattle.xet_xorb.specs.declared.samples.ChunkSize.TheVariants.{Fixed, Random}
 use Rattle.xet_xorb.specs.Raw.{ArePartsOfXorb}

@@ -4,8 +4,8 @@ use Rattle.std.proofs.lemmas.List.{append-nil, append_assoc, at_drop_more, at_dr
 use Rattle.std.proofs.lemmas.List.Sums.{sum_by-cons}
 use Rattle.std.specs.List.{AllByRecursion}
 use Rattle.xet_hash.specs.Merkle.{total_len}
-use Rattle.xet_footer.specs.Laws.{IsStandard, IsStandardV0}
-use Rattle.xet_footer.specs.Spelled.{HasLists, HasShortLists, most_chunks}
+use Rattle.xet_xorb_footer.specs.Laws.{IsStandard, IsStandardV0}
+use Rattle.xet_xorb_footer.specs.Spelled.{HasLists, HasShortLists, most_chunks}
 use Rattle.xet_xorb.specs.Footer.{ends_from, footer_v0, footer_v1}
 use Rattle.xet_xorb.proofs.Digests.{AreHashed}
 

@@ -9,12 +9,12 @@ use Rattle.std.specs.List.{AllByRecursion, concat, flat_map, sum_by}
 use Rattle.xet_hash.specs.Hash.{zero_hash}
 use Rattle.xet_hash.specs.Merkle.{member_of, members_of}
 use Rattle.xet_hash.specs.declared.error.StoreError.{StoreError}
-use Rattle.xet_footer.specs.Ends.{reaches}
-use Rattle.xet_footer.specs.Reading.{◌>>=◌}
-use Rattle.xet_chunk.specs.Spelled.{AreSpelled}
-use Rattle.xet_chunk.specs.Spelling.{spelling}
-use Rattle.xet_chunk.specs.Stream.{Decodes, IsStream, end_of}
-use Rattle.xet_chunk.proofs.Readback.{stream_of_spelled}
+use Rattle.xet_xorb_footer.specs.Ends.{reaches}
+use Rattle.xet_xorb_footer.specs.Reading.{◌>>=◌}
+use Rattle.xet_xorb_chunk.specs.Spelled.{AreSpelled}
+use Rattle.xet_xorb_chunk.specs.Spelling.{spelling}
+use Rattle.xet_xorb_chunk.specs.Stream.{Decodes, IsStream, end_of}
+use Rattle.xet_xorb_chunk.proofs.Readback.{stream_of_spelled}
 use Rattle.xet_xorb.specs.Laws.{ContentsAreChunks, RangesAreChunks}
 use Rattle.xet_xorb.specs.Ranges.{IsPlain, ReadsPlain, in_file, listed_contents, listed_range}
 use Rattle.xet_xorb.specs.Validation.{IsValid}

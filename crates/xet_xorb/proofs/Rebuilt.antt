@@ -10,15 +10,15 @@ use Rattle.xet_hash.specs.Merkle.{chunk_hash, member_of, members_of, total_len, 
 use Rattle.xet_hash.specs.declared.error.Reason.TheVariants.{ChunkCount}
 use Rattle.xet_hash.specs.declared.error.StoreError.{StoreError}
 use Rattle.xet_hash.specs.declared.error.StoreError.TheVariants.{ChunkHeaderParse, MalformedData, UnexpectedEof}
-use Rattle.xet_footer.specs.declared.info.XorbObjectInfoV1.{XorbObjectInfoV1}
-use Rattle.xet_footer.specs.Spelled.{length_of, most_chunks, number, text_v1}
-use Rattle.xet_chunk.specs.Header.{Header, header_at}
-use Rattle.xet_chunk.specs.Spelling.{spelling}
-use Rattle.xet_chunk.specs.Stream.{Decodes, Fails, IsStream, Short, Whole, behind, body_of, end_of, front_of}
-use Rattle.xet_chunk.proofs.Fronts.{front_few}
-use Rattle.xet_chunk.proofs.More.{behind_all, behind_few, body_whole, front_at, whole_within}
-use Rattle.xet_chunk.proofs.Passed.{decodes_after, passes_append}
-use Rattle.xet_chunk.proofs.Readback.{spelled_of_stream}
+use Rattle.xet_xorb_footer.specs.declared.info.XorbObjectInfoV1.{XorbObjectInfoV1}
+use Rattle.xet_xorb_footer.specs.Spelled.{length_of, most_chunks, number, text_v1}
+use Rattle.xet_xorb_chunk.specs.Header.{Header, header_at}
+use Rattle.xet_xorb_chunk.specs.Spelling.{spelling}
+use Rattle.xet_xorb_chunk.specs.Stream.{Decodes, Fails, IsStream, Short, Whole, behind, body_of, end_of, front_of}
+use Rattle.xet_xorb_chunk.proofs.Fronts.{front_few}
+use Rattle.xet_xorb_chunk.proofs.More.{behind_all, behind_few, body_whole, front_at, whole_within}
+use Rattle.xet_xorb_chunk.proofs.Passed.{decodes_after, passes_append}
+use Rattle.xet_xorb_chunk.proofs.Readback.{spelled_of_stream}
 use Rattle.xet_xorb.specs.declared.object.XorbObject.{XorbObject}
 use Rattle.xet_xorb.specs.Building.{ending, no_spare, object_for, text_of}
 use Rattle.xet_xorb.specs.Copying.{AreInFront, IsCopied, IsNoCopy, ShowsNext}

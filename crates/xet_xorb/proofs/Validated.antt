@@ -6,15 +6,15 @@ use Rattle.std.proofs.lemmas.List.Sums.{sum_by-cons}
 use Rattle.std.proofs.lemmas.Nat.{from_le_bytes-to_le_bytes_4}
 use Rattle.std.specs.List.{flat_map}
 use Rattle.xet_hash.specs.Merkle.{member_of, members_of, total_len, xorb_hash}
-use Rattle.xet_footer.specs.declared.info.XorbObjectInfoV0.{XorbObjectInfoV0}
-use Rattle.xet_footer.specs.declared.info.XorbObjectInfoV1.{XorbObjectInfoV1}
-use Rattle.xet_footer.specs.Ends.{last_footer, told_length}
-use Rattle.xet_footer.specs.Spelled.{joined, most_chunks, number, numbers, text_v0, text_v1}
-use Rattle.xet_footer.proofs.Endings.{told_is}
-use Rattle.xet_footer.proofs.LastRead.{last_is_read, last_is_read_v0}
-use Rattle.xet_footer.proofs.Readback.{length_joined}
-use Rattle.xet_footer.proofs.Texts.{length_v0, length_v1}
-use Rattle.xet_chunk.specs.Spelling.{spelling}
+use Rattle.xet_xorb_footer.specs.declared.info.XorbObjectInfoV0.{XorbObjectInfoV0}
+use Rattle.xet_xorb_footer.specs.declared.info.XorbObjectInfoV1.{XorbObjectInfoV1}
+use Rattle.xet_xorb_footer.specs.Ends.{last_footer, told_length}
+use Rattle.xet_xorb_footer.specs.Spelled.{joined, most_chunks, number, numbers, text_v0, text_v1}
+use Rattle.xet_xorb_footer.proofs.Endings.{told_is}
+use Rattle.xet_xorb_footer.proofs.LastRead.{last_is_read, last_is_read_v0}
+use Rattle.xet_xorb_footer.proofs.Readback.{length_joined}
+use Rattle.xet_xorb_footer.proofs.Texts.{length_v0, length_v1}
+use Rattle.xet_xorb_chunk.specs.Spelling.{spelling}
 use Rattle.xet_xorb.specs.declared.object.XorbObject.{XorbObject}
 use Rattle.xet_xorb.specs.Checking.{AreChunks, HaveMembers, IsEnding, ending}
 use Rattle.xet_xorb.specs.Footer.{Version, V0, V1, footer_info, footer_len, footer_text, footer_v0, footer_v1}

@@ -5,11 +5,11 @@ use Rattle.xet_hash.specs.Merkle.{members_of, xorb_hash}
 use Rattle.xet_hash.specs.declared.error.Reason.TheVariants.{ChunkCount}
 use Rattle.xet_hash.specs.declared.error.StoreError.{StoreError}
 use Rattle.xet_hash.specs.declared.error.StoreError.TheVariants.{ChunkHeaderParse, MalformedData}
-use Rattle.xet_footer.specs.Spelled.{most_chunks, number}
-use Rattle.xet_chunk.specs.Outside.{IsCheck, StopsWriting}
-use Rattle.xet_chunk.specs.Passing.{Begins}
-use Rattle.xet_chunk.specs.Spelling.{spelling}
-use Rattle.xet_chunk.specs.Stream.{IsStream}
+use Rattle.xet_xorb_footer.specs.Spelled.{most_chunks, number}
+use Rattle.xet_xorb_chunk.specs.Outside.{IsCheck, StopsWriting}
+use Rattle.xet_xorb_chunk.specs.Passing.{Begins}
+use Rattle.xet_xorb_chunk.specs.Spelling.{spelling}
+use Rattle.xet_xorb_chunk.specs.Stream.{IsStream}
 use Rattle.xet_xorb.specs.declared.building.SerializedXorbObject.{SerializedXorbObject}
 use Rattle.xet_xorb.specs.declared.object.XorbObject.{XorbObject}
 use Rattle.xet_xorb.specs.declared.raw.RawXorbData.{RawXorbData}

@@ -5,9 +5,9 @@ use Rattle.xet_hash.specs.Merkle.{members_of}
 use Rattle.xet_hash.specs.declared.error.Reason.TheVariants.{ChunkCount}
 use Rattle.xet_hash.specs.declared.error.StoreError.{StoreError}
 use Rattle.xet_hash.specs.declared.error.StoreError.TheVariants.{ChunkHeaderParse, MalformedData, OutOfMemory, UnexpectedEof}
-use Rattle.xet_chunk.specs.Passing.{Passes}
-use Rattle.xet_chunk.specs.Spelling.{spelling}
-use Rattle.xet_chunk.specs.Stream.{Fails, Short, Whole, front_of}
+use Rattle.xet_xorb_chunk.specs.Passing.{Passes}
+use Rattle.xet_xorb_chunk.specs.Spelling.{spelling}
+use Rattle.xet_xorb_chunk.specs.Stream.{Fails, Short, Whole, front_of}
 use Rattle.xet_xorb.specs.Building.{AreCopied, FailsCheck, HasTooMany}
 
 -- What comes next: a whole chunk of so many bytes, or nothing, where the bytes end or a footer begins; or why it is

@@ -1,8 +1,8 @@
 -- The footer that a xorb has of its members. A member is a chunk's hash and length.
 use Rattle.std.specs.Prelude.{ℕ, ◌+◌, ◌*◌, List, [], ◌∷◌, length, map}
-use Rattle.xet_footer.specs.declared.info.XorbObjectInfoV0.{XorbObjectInfoV0}
-use Rattle.xet_footer.specs.declared.info.XorbObjectInfoV1.{XorbObjectInfoV1}
-use Rattle.xet_footer.specs.Spelled.{empty_v0, empty_v1, of_v0, text_v0, text_v1}
+use Rattle.xet_xorb_footer.specs.declared.info.XorbObjectInfoV0.{XorbObjectInfoV0}
+use Rattle.xet_xorb_footer.specs.declared.info.XorbObjectInfoV1.{XorbObjectInfoV1}
+use Rattle.xet_xorb_footer.specs.Spelled.{empty_v0, empty_v1, of_v0, text_v0, text_v1}
 
 -- where the members end, from a place on, if so many bytes stand before each one's own: 8 for the ends of what
 -- is stored, 0 for the ends of the plain bytes

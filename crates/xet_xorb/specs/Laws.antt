@@ -4,7 +4,7 @@ use Rattle.std.specs.List.{concat}
 use Rattle.xet_hash.specs.declared.error.StoreError.{StoreError}
 use Rattle.xet_hash.specs.Hash.{zero_hash}
 use Rattle.xet_hash.specs.Merkle.{members_of, xorb_hash}
-use Rattle.xet_footer.specs.Ends.{last_footer}
+use Rattle.xet_xorb_footer.specs.Ends.{last_footer}
 use Rattle.xet_xorb.specs.declared.object.XorbObject.{XorbObject}
 use Rattle.xet_xorb.specs.Object.{object_of, range_length}
 use Rattle.xet_xorb.specs.Ranges.{ReadsPlain, in_file, listed_contents, listed_range}

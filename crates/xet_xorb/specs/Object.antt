@@ -6,8 +6,8 @@ use Rattle.xet_hash.specs.Merkle.{range_hash}
 use Rattle.xet_hash.specs.declared.error.Reason.TheVariants.{Incomplete, Offsets}
 use Rattle.xet_hash.specs.declared.error.StoreError.{StoreError}
 use Rattle.xet_hash.specs.declared.error.StoreError.TheVariants.{InvalidArguments}
-use Rattle.xet_footer.specs.declared.info.XorbObjectInfoV1.{XorbObjectInfoV1}
-use Rattle.xet_footer.specs.Reading.{◌>>=◌, wants}
+use Rattle.xet_xorb_footer.specs.declared.info.XorbObjectInfoV1.{XorbObjectInfoV1}
+use Rattle.xet_xorb_footer.specs.Reading.{◌>>=◌, wants}
 use Rattle.xet_xorb.specs.declared.object.XorbObject.{XorbObject}
 use Rattle.xet_xorb.specs.Footer.{Version, footer_info, footer_len}
 

@@ -4,8 +4,8 @@ use Rattle.std.specs.List.{AllByRecursion, sum_by}
 use Rattle.xet_hash.specs.Merkle.{total_len, xorb_hash}
 use Rattle.xet_shard.specs.declared.record.MDBXorbInfo.{MDBXorbInfo}
 use Rattle.xet_shard.specs.declared.record.XorbChunkSequenceEntry.{XorbChunkSequenceEntry}
-use Rattle.xet_chunk.specs.declared.chunk.Chunk.{Chunk}
-use Rattle.xet_chunk.specs.Chunks.{bytes_of, chunk_member}
+use Rattle.xet_xorb_chunk.specs.declared.chunk.Chunk.{Chunk}
+use Rattle.xet_xorb_chunk.specs.Chunks.{bytes_of, chunk_member}
 use Rattle.xet_xorb.specs.declared.raw.RawXorbData.{RawXorbData}
 
 -- the chunks of a xorb as it is recorded: the first starts at a place, and each where the one before ends

@@ -5,9 +5,9 @@ use Rattle.rand.specs.Draw.{Gives}
 use Rattle.rand.specs.Uniform.{DrawsBetween, canon}
 use Rattle.rand_core.specs.Stream.{Stream, fill_bytes, next_u32}
 use Rattle.xet_hash.specs.Merkle.{chunk_hash}
-use Rattle.xet_chunk.specs.declared.chunk.Chunk.{Chunk}
-use Rattle.xet_chunk.specs.Chunks.{chunk_of}
-use Rattle.xet_chunk.specs.Spelling.{spelling}
+use Rattle.xet_xorb_chunk.specs.declared.chunk.Chunk.{Chunk}
+use Rattle.xet_xorb_chunk.specs.Chunks.{chunk_of}
+use Rattle.xet_xorb_chunk.specs.Spelling.{spelling}
 use Rattle.xet_xorb.specs.declared.building.SerializedXorbObject.{SerializedXorbObject}
 use Rattle.xet_xorb.specs.declared.object.XorbObject.{XorbObject}
 use Rattle.xet_xorb.specs.declared.samples.ChunkSize.{ChunkSize}

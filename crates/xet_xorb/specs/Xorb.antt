@@ -2,8 +2,8 @@
 use Rattle.std.specs.Prelude.{◌≡◌, ℕ, ◌<◌, ◌^◌, List, ◌++◌, length}
 use Rattle.std.specs.List.{AllByRecursion, flat_map}
 use Rattle.xet_hash.specs.Merkle.{members_of, xorb_hash}
-use Rattle.xet_footer.specs.Spelled.{number}
-use Rattle.xet_chunk.specs.Spelling.{spelling}
+use Rattle.xet_xorb_footer.specs.Spelled.{number}
+use Rattle.xet_xorb_chunk.specs.Spelling.{spelling}
 use Rattle.xet_xorb.specs.Footer.{Version, footer_len, footer_text}
 
 -- a xorb of this hash: the stored chunks, the footer of the members, and the footer's length

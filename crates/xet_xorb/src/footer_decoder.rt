@@ -2,9 +2,9 @@
 
 ghost use Rattle.std.specs.Prelude.{◌≡◌, ◌↔◌, ◌++◌, [], List, ℕ, Ok, Err, true, IfErr, IfOk, IsOk, IsTrue, OnOk};
 ghost use Rattle.xet_hash.specs.declared.error.StoreError.TheVariants.{UnexpectedEof};
-ghost use Rattle.xet_footer.specs.Decoder.{Holds, Refuses, whole_of};
-ghost use Rattle.xet_footer.specs.Ends.{whole_footer};
-ghost use Rattle.xet_footer.specs.Joining.{IsWholeRefusal};
+ghost use Rattle.xet_xorb_footer.specs.Decoder.{Holds, Refuses, whole_of};
+ghost use Rattle.xet_xorb_footer.specs.Ends.{whole_footer};
+ghost use Rattle.xet_xorb_footer.specs.Joining.{IsWholeRefusal};
 
 use crate::object::XorbObject;
 use std::alloc::Global;
@@ -14,11 +14,11 @@ use xet_hash::StoreError;
 /// A decoder of a footer and its length, which come in pieces.
 #[derive(Drop)]
 pub struct FooterDecoder {
-    decoder: xet_footer::FooterDecoder,
+    decoder: xet_xorb_footer::FooterDecoder,
 }
 
 impl Model for FooterDecoder {
-    ghost use Rattle.xet_footer.specs.declared.decoder.FooterDecoder.{FooterDecoder as Decoder};
+    ghost use Rattle.xet_xorb_footer.specs.declared.decoder.FooterDecoder.{FooterDecoder as Decoder};
 
     ghost Value = { Decoder };
 
@@ -32,7 +32,7 @@ impl FooterDecoder {
         ensures holds { Holds result [] }
     {
         FooterDecoder {
-            decoder: xet_footer::FooterDecoder::new(alloc),
+            decoder: xet_xorb_footer::FooterDecoder::new(alloc),
         }
     }
 

@@ -2,11 +2,11 @@
 
 ghost use Rattle.std.specs.Prelude.{◌≡◌, ◌≤◌, ◌<◌, ◌+◌, ◌*◌, ◌^◌, IfOk, IsOkUnless, length, map};
 ghost use Rattle.xet_hash.specs.Merkle.{total_len};
-ghost use Rattle.xet_footer.specs.Spelled.{HasLists, HasShortLists, most_chunks};
+ghost use Rattle.xet_xorb_footer.specs.Spelled.{HasLists, HasShortLists, most_chunks};
 ghost use Rattle.xet_xorb.specs.Footer.{ends_from, footer_v0, footer_v1};
 
 use std::alloc::Global;
-use xet_footer::{XorbObjectInfoV0, XorbObjectInfoV1};
+use xet_xorb_footer::{XorbObjectInfoV0, XorbObjectInfoV1};
 use xet_hash::{MerkleHash, StoreError};
 
 /// The bytes of a chunk's header.

@@ -5,13 +5,13 @@ ghost use Rattle.xet_hash.specs.declared.error.Place.TheVariants.{Input, Output}
 ghost use Rattle.xet_hash.specs.declared.error.Reason.TheVariants.{InfoLength, ListLength};
 ghost use Rattle.xet_hash.specs.declared.error.StoreError.TheVariants.{Io, MalformedData, OutOfMemory, UnexpectedEof};
 ghost use Rattle.xet_io.specs.Faults.{HasCause};
-ghost use Rattle.xet_footer.specs.Ends.{last_footer, told_length};
-ghost use Rattle.xet_footer.specs.Refusals.{IsFooterRefusal};
-ghost use Rattle.xet_footer.specs.Spelled.{HasLists, HasShortLists, empty_v1, joined, length_of, number, text_v1};
+ghost use Rattle.xet_xorb_footer.specs.Ends.{last_footer, told_length};
+ghost use Rattle.xet_xorb_footer.specs.Refusals.{IsFooterRefusal};
+ghost use Rattle.xet_xorb_footer.specs.Spelled.{HasLists, HasShortLists, empty_v1, joined, length_of, number, text_v1};
 
 use serde::Serialize;
 use std::alloc::Global;
-use xet_footer::{XorbObjectInfoV1, last_footer, told_length};
+use xet_xorb_footer::{XorbObjectInfoV1, last_footer, told_length};
 use xet_hash::{Place, StoreError};
 use xet_io::{ReadAt, Refusal, Sink, write_all};
 

@@ -7,16 +7,16 @@ ghost use Rattle.xet_hash.specs.declared.error.Reason.TheVariants.{Offsets};
 ghost use Rattle.xet_hash.specs.declared.error.StoreError.{StoreError};
 ghost use Rattle.xet_hash.specs.declared.error.StoreError.TheVariants.{Io, UnexpectedEof};
 ghost use Rattle.xet_io.specs.Faults.{HasCause};
-ghost use Rattle.xet_chunk.specs.Decoder.{Holds, fed_len, most_of, whole_of};
-ghost use Rattle.xet_chunk.specs.Outside.{IsCheck, StopsReading, StopsWriting};
-ghost use Rattle.xet_chunk.specs.Stream.{Decodes};
-ghost use Rattle.xet_footer.specs.Reading.{wants};
+ghost use Rattle.xet_xorb_chunk.specs.Decoder.{Holds, fed_len, most_of, whole_of};
+ghost use Rattle.xet_xorb_chunk.specs.Outside.{IsCheck, StopsReading, StopsWriting};
+ghost use Rattle.xet_xorb_chunk.specs.Stream.{Decodes};
+ghost use Rattle.xet_xorb_footer.specs.Reading.{wants};
 ghost use Rattle.xet_xorb.specs.Ranges.{ReadsPlain, in_file, listed_contents, listed_range};
 
 use crate::object::XorbObject;
 use std::alloc::Global;
-use xet_chunk::ChunkDecoder;
-use xet_footer::{read_exact, reader_length};
+use xet_xorb_chunk::ChunkDecoder;
+use xet_xorb_footer::{read_exact, reader_length};
 use xet_hash::{Reason, StoreError};
 use xet_io::{MemorySink, ReadAt, Sink};
 

@@ -4,13 +4,13 @@ ghost use Rattle.std.specs.Prelude.{◌≡◌, ◌<◌, ◌^◌, [], IfOk, IsOkU
 ghost use Rattle.std.specs.List.{concat};
 ghost use Rattle.xet_hash.specs.Merkle.{total_len};
 ghost use Rattle.xet_shard.specs.Records.{chunk_bytes};
-ghost use Rattle.xet_chunk.specs.Chunks.{bytes_of, chunk_member};
+ghost use Rattle.xet_xorb_chunk.specs.Chunks.{bytes_of, chunk_member};
 ghost use Rattle.xet_xorb.specs.Raw.{ArePartsOfXorb, IsRaw, raw_members, raw_of, xorb_record};
 
 use bytes::Bytes;
 use std::alloc::Global;
 use xet_base::Items;
-use xet_chunk::{Chunk, chunk_members};
+use xet_xorb_chunk::{Chunk, chunk_members};
 use xet_hash::{MerkleHash, StoreError, xorb_hash};
 use xet_shard::{MDBXorbInfo, XorbChunkSequenceEntry, XorbChunkSequenceHeader};
 

@@ -7,16 +7,16 @@ ghost use Rattle.xet_hash.specs.declared.error.Reason.TheVariants.{ChunkCount};
 ghost use Rattle.xet_hash.specs.declared.error.StoreError.TheVariants.{Io, MalformedData, OutOfMemory};
 ghost use Rattle.xet_hash.specs.Merkle.{total_len};
 ghost use Rattle.xet_io.specs.Faults.{HasCause};
-ghost use Rattle.xet_footer.specs.Spelled.{HasLists, HasShortLists, length_of, most_chunks, number, text_v1};
-ghost use Rattle.xet_chunk.specs.Outside.{IsCheck, StopsWriting};
+ghost use Rattle.xet_xorb_footer.specs.Spelled.{HasLists, HasShortLists, length_of, most_chunks, number, text_v1};
+ghost use Rattle.xet_xorb_chunk.specs.Outside.{IsCheck, StopsWriting};
 ghost use Rattle.xet_xorb.specs.Building.{IsNoRebuild, IsRebuildCheck, Rebuilds, RebuildsFront};
 ghost use Rattle.xet_xorb.specs.Copying.{IsCopied, IsNoCopy, ShowsNext};
 
 use crate::footers::new_footer;
 use crate::object::XorbObject;
 use std::alloc::Global;
-use xet_chunk::{XORB_CHUNK_HEADER_LENGTH, chunk_len};
-use xet_footer::XorbObjectInfoV1;
+use xet_xorb_chunk::{XORB_CHUNK_HEADER_LENGTH, chunk_len};
+use xet_xorb_footer::XorbObjectInfoV1;
 use xet_hash::{MerkleHash, Place, Reason, StoreError, compute_data_hash, xorb_hash};
 use xet_io::{Refusal, Sink, write_all};
 

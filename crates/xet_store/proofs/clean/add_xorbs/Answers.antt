@@ -2,8 +2,8 @@ use Rattle.std.proofs.Common.{◌≡◌, ◌∙◌, ◌++◌, ◌∷◌, [], ℕ
 use Rattle.std.specs.List.{AllByRecursion}
 use Rattle.std.proofs.lemmas.Bool.{eqb-true}
 use Rattle.xet_hash.specs.Merkle.{xorb_hash}
-use Rattle.xet_chunk.specs.declared.chunk.Chunk.{Chunk}
-use Rattle.xet_chunk.specs.Chunks.{bytes_of, chunk_member}
+use Rattle.xet_xorb_chunk.specs.declared.chunk.Chunk.{Chunk}
+use Rattle.xet_xorb_chunk.specs.Chunks.{bytes_of, chunk_member}
 use Rattle.xet_shard.proofs.Holding.{all_more as all_push}
 use Rattle.xet_store.specs.declared.limits.LimitSettings.{LimitSettings}
 use Rattle.xet_shard.specs.declared.record.FileDataSequenceEntry.{FileDataSequenceEntry as Segment}

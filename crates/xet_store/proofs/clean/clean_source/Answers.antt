@@ -1,8 +1,8 @@
 use Rattle.std.proofs.Common.{◌≡◌, ◌≢◌, ◌∙◌, [], ◌∷◌, ℕ, zero, suc, ◌<◌, ◌≤◌, Option, List, length, map, Some, Vec, IsSome, refl, ap, subst, sym, arith, take}
 use Rattle.std.specs.List.{AllByRecursion}
 use Rattle.xet_hash.specs.Merkle.{chunk_hash, file_hash, members_of, total_len}
-use Rattle.xet_chunk.specs.declared.chunk.Chunk.{Chunk}
-use Rattle.xet_chunk.specs.Chunks.{bytes_of, chunk_member, chunk_of, total}
+use Rattle.xet_xorb_chunk.specs.declared.chunk.Chunk.{Chunk}
+use Rattle.xet_xorb_chunk.specs.Chunks.{bytes_of, chunk_member, chunk_of, total}
 use Rattle.xet_store.specs.declared.limits.LimitSettings.{LimitSettings}
 use Rattle.sha2.specs.Sha256.{sha256}
 use Rattle.std.specs.Global.{Global}

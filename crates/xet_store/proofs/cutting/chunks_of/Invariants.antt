@@ -1,5 +1,5 @@
 use Rattle.std.proofs.Common.{◌≡◌, ◌+◌, ◌++◌, length, map}
-use Rattle.xet_chunk.specs.Chunks.{chunk_of, total}
+use Rattle.xet_xorb_chunk.specs.Chunks.{chunk_of, total}
 use Rattle.xet_store.specs.Cut.{cut}
 use Rattle.xet_store.proofs.cutting.chunks_of.Given as goal
 

@@ -1,5 +1,5 @@
 use Rattle.std.proofs.Common.{map, arith}
-use Rattle.xet_chunk.specs.Chunks.{bytes_of}
+use Rattle.xet_xorb_chunk.specs.Chunks.{bytes_of}
 use Rattle.xet_store.proofs.Packing.{fitting_end, fitting_start, fitting_step, fitting_stop, total_more}
 use Rattle.xet_store.proofs.cutting.pack_len.Goals as goal
 

@@ -1,5 +1,5 @@
 use Rattle.std.proofs.Common.{◌≡◌, ◌+◌, ◌-◌, ◌≤◌, drop, map, take}
-use Rattle.xet_chunk.specs.Chunks.{bytes_of, total}
+use Rattle.xet_xorb_chunk.specs.Chunks.{bytes_of, total}
 use Rattle.xet_store.specs.Packing.{fitting, pack_len}
 use Rattle.xet_store.proofs.cutting.pack_len.Given as goal
 

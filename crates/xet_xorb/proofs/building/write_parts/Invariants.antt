@@ -1,6 +1,6 @@
 use Rattle.std.proofs.Common.{◌≡◌, ◌++◌, take}
 use Rattle.std.specs.List.{flat_map}
-use Rattle.xet_chunk.specs.Spelling.{spelling}
+use Rattle.xet_xorb_chunk.specs.Spelling.{spelling}
 use Rattle.xet_xorb.proofs.building.write_parts.Given as goal
 
 abbrev pub invariant-loop-part : goal.invariant-loop-part

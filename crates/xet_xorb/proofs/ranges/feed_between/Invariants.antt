@@ -1,6 +1,6 @@
 use Rattle.std.proofs.Common.{◌≡◌, ◌≤◌, ◌-◌, ◌+◌, ◌++◌, ℕ, List, true, length, slice_range}
 use Rattle.std.specs.List.{concat}
-use Rattle.xet_chunk.specs.Decoder.{Holds, fed_len, most_of, whole_of}
+use Rattle.xet_xorb_chunk.specs.Decoder.{Holds, fed_len, most_of, whole_of}
 use Rattle.xet_xorb.proofs.ranges.feed_between.Given as goal
 
 abbrev pub invariant-reads : goal.invariant-reads

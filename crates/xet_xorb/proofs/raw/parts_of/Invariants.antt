@@ -1,5 +1,5 @@
 use Rattle.std.proofs.Common.{◌≡◌, map, take}
-use Rattle.xet_chunk.specs.Chunks.{bytes_of}
+use Rattle.xet_xorb_chunk.specs.Chunks.{bytes_of}
 use Rattle.xet_xorb.proofs.raw.parts_of.Given as goal
 
 abbrev pub invariant-loop-chunk : goal.invariant-loop-chunk

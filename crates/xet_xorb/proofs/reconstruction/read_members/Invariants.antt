@@ -1,7 +1,7 @@
 use Rattle.std.proofs.Common.{◌≡◌, ◌<◌, ◌≤◌, ◌^◌, ◌-◌, ℕ, List, length, vec_len}
 use Rattle.std.specs.List.{AllByRecursion}
 use Rattle.xet_hash.specs.Merkle.{members_of}
-use Rattle.xet_footer.specs.Spelled.{most_chunks}
+use Rattle.xet_xorb_footer.specs.Spelled.{most_chunks}
 use Rattle.xet_xorb.specs.Copying.{AreInFront}
 use Rattle.xet_xorb.proofs.reconstruction.read_members.Given as goal
 

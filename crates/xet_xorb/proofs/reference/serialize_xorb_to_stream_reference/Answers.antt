@@ -1,6 +1,6 @@
 use Rattle.std.proofs.Common.{◌≡◌, ◌∙◌, ◌+◌, ◌*◌, ◌<◌, ◌≤◌, ◌^◌, ℕ, List, ap, arith, length, subst, sym}
 use Rattle.xet_hash.specs.Merkle.{total_len}
-use Rattle.xet_footer.specs.Spelled.{most_chunks}
+use Rattle.xet_xorb_footer.specs.Spelled.{most_chunks}
 use Rattle.xet_xorb.specs.Building.{no_spare}
 use Rattle.xet_xorb.specs.Footer.{V1, footer_v1}
 use Rattle.xet_xorb.specs.Samples.{members_from, parts_from}

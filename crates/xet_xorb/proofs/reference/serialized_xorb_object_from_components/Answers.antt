@@ -1,6 +1,6 @@
 use Rattle.std.proofs.Common.{◌≡◌, ◌∙◌, ◌++◌, ℕ, List, [], ap, arith, length, refl}
 use Rattle.std.specs.List.{flat_map}
-use Rattle.xet_chunk.specs.Spelling.{spelling}
+use Rattle.xet_xorb_chunk.specs.Spelling.{spelling}
 use Rattle.xet_xorb.specs.Building.{no_spare}
 use Rattle.xet_xorb.specs.Footer.{V1}
 use Rattle.xet_xorb.specs.Samples.{members_from, parts_from}

@@ -2,9 +2,9 @@ use Rattle.std.proofs.Common.{◌≡◌, ◌∙◌, ◌+◌, ◌≤◌, ◌^◌,
 use Rattle.std.specs.List.{flat_map}
 use Rattle.std.specs.Prelude.{slice_range}
 use Rattle.xet_hash.specs.declared.error.StoreError.{StoreError}
-use Rattle.xet_chunk.specs.Spelling.{spelling}
-use Rattle.xet_chunk.proofs.Checks.{exit_with}
-use Rattle.xet_chunk.proofs.Written.{written_both}
+use Rattle.xet_xorb_chunk.specs.Spelling.{spelling}
+use Rattle.xet_xorb_chunk.proofs.Checks.{exit_with}
+use Rattle.xet_xorb_chunk.proofs.Written.{written_both}
 use Rattle.xet_xorb.specs.Samples.{parts_from}
 use Rattle.xet_xorb.proofs.Cuts.{front_of_next, length-spelling, rise_next, rise_within, small_next, spelled_bound, spelled_next}
 use Rattle.xet_xorb.proofs.reference.write_parts.Goals as goal

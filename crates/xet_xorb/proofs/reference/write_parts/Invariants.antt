@@ -1,6 +1,6 @@
 use Rattle.std.proofs.Common.{◌≡◌, ◌≤◌, ◌<◌, ◌^◌, ◌++◌, ℕ, List, drop, length, true}
 use Rattle.std.specs.List.{AllByRecursion, flat_map}
-use Rattle.xet_chunk.specs.Spelling.{spelling}
+use Rattle.xet_xorb_chunk.specs.Spelling.{spelling}
 use Rattle.xet_xorb.specs.Samples.{Rise, parts_from}
 use Rattle.xet_xorb.proofs.reference.write_parts.Given as goal
 

@@ -1,7 +1,7 @@
 use Rattle.std.proofs.Common.{◌≡◌, ◌∙◌, ◌+◌, ◌++◌, [], ◌∷◌, ℕ, List, ap, arith, length, refl, subst, sym}
 use Rattle.std.specs.List.{concat}
 use Rattle.xet_hash.specs.Merkle.{chunk_hash}
-use Rattle.xet_chunk.specs.Spelling.{spelling}
+use Rattle.xet_xorb_chunk.specs.Spelling.{spelling}
 use Rattle.xet_xorb.specs.Samples.{AreCuts, AreSamples, HasSize, cuts_from}
 use Rattle.xet_xorb.proofs.Cuts.{chunk_cuts, chunk_object, more_cuts, more_plain, more_stored}
 use Rattle.xet_xorb.proofs.Drawn.{drawn_bound, more_samples, one_drawn, sample_parts}

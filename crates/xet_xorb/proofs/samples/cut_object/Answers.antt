@@ -1,6 +1,6 @@
 use Rattle.std.proofs.Common.{◌∙◌, ◌+◌, ◌*◌, ◌<◌, ◌≤◌, ◌^◌, ℕ, List, arith, length, subst, sym}
 use Rattle.xet_hash.specs.Merkle.{total_len}
-use Rattle.xet_footer.specs.Spelled.{most_chunks}
+use Rattle.xet_xorb_footer.specs.Spelled.{most_chunks}
 use Rattle.xet_xorb.proofs.Cuts.{few_members, fit_members}
 use Rattle.xet_xorb.proofs.samples.cut_object.Goals as goal
 

@@ -1,6 +1,6 @@
 use Rattle.std.proofs.Common.{◌≡◌, ◌∙◌, ◌++◌, [], ◌∷◌, ◌+◌, List, ap, length, subst, sym}
-use Rattle.xet_chunk.specs.declared.chunk.Chunk.{Chunk}
-use Rattle.xet_chunk.specs.Chunks.{chunk_of}
+use Rattle.xet_xorb_chunk.specs.declared.chunk.Chunk.{Chunk}
+use Rattle.xet_xorb_chunk.specs.Chunks.{chunk_of}
 use Rattle.xet_xorb.specs.Samples.{AreSampleChunks, HasSize}
 use Rattle.xet_xorb.proofs.Drawn.{more_chunks, one_drawn}
 use Rattle.xet_xorb.proofs.samples.random_chunks.Goals as goal

@@ -1,5 +1,5 @@
 use Rattle.std.proofs.Common.{◌≡◌, ◌≤◌, ◌-◌, length, true}
-use Rattle.xet_chunk.specs.Decoder.{fed_len, whole_of}
+use Rattle.xet_xorb_chunk.specs.Decoder.{fed_len, whole_of}
 use Rattle.xet_xorb_tests.proofs.stream_tests.in_pieces.Given as goal
 
 abbrev pub invariant-pieces : goal.invariant-pieces

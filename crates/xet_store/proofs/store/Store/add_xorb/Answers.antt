@@ -1,6 +1,6 @@
 use Rattle.std.proofs.Common.{◌≡◌, ◌∙◌, ℕ, List, length, map, inr, Some, None, true, refl, sym, ap, subst, rules, arith}
 use Rattle.xet_hash.specs.Merkle.{xorb_hash}
-use Rattle.xet_chunk.specs.Chunks.{chunk_member}
+use Rattle.xet_xorb_chunk.specs.Chunks.{chunk_member}
 use Rattle.xet_shard.specs.declared.record.MDBXorbInfo.{MDBXorbInfo}
 use Rattle.xet_shard.specs.Held.{Held, held, with_last}
 use Rattle.xet_shard.specs.Records as record_of

@@ -1,6 +1,6 @@
 use Rattle.std.proofs.Common.{◌≡◌, ◌∙◌, ◌+◌, ◌*◌, ◌++◌, List, ap, arith, length, ℕ}
 use Rattle.std.specs.List.{flat_map}
-use Rattle.xet_chunk.specs.Spelling.{spelling}
+use Rattle.xet_xorb_chunk.specs.Spelling.{spelling}
 use Rattle.xet_xorb.specs.Building.{ending}
 use Rattle.xet_xorb.specs.Raw.{raw_members}
 use Rattle.xet_xorb.proofs.Built.{built_is, built_text, length_spelled, plain_listed, start_is}

@@ -1,5 +1,0 @@
-use Rattle.xet_chunk.proofs.Readback.{header_read_back}
-use Rattle.xet_chunk.proofs.laws.header_is_read_back.Goals as goal
-
-pub returns : goal.returns
-returns c = λ most h small known version stored plain. header_read_back most h small known version stored plain

@@ -1,5 +1,0 @@
-use Rattle.xet_chunk.proofs.Readback.{header_is_no_ident}
-use Rattle.xet_chunk.proofs.laws.no_header_is_a_footer.Goals as goal
-
-pub returns : goal.returns
-returns c = λ most bytes h e ident. header_is_no_ident most bytes h e ident

@@ -1,5 +1,0 @@
-use Rattle.xet_footer.proofs.LastRead.{last_is_read}
-use Rattle.xet_footer.proofs.laws.last_is_read.Goals as goal
-
-pub returns : goal.returns
-returns c = last_is_read

@@ -1,5 +1,0 @@
-use Rattle.xet_footer.proofs.ReadbackV0.{length_is_known_v0}
-use Rattle.xet_footer.proofs.laws.length_is_known_v0.Goals as goal
-
-pub returns : goal.returns
-returns c = length_is_known_v0

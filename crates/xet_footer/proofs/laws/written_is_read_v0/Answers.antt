@@ -1,5 +1,0 @@
-use Rattle.xet_footer.proofs.ReadbackV0.{written_is_read_v0}
-use Rattle.xet_footer.proofs.laws.written_is_read_v0.Goals as goal
-
-pub returns : goal.returns
-returns c = written_is_read_v0

@@ -1,0 +1,11 @@
+use Rattle.xet_hash.specs.declared.error.StoreError.{StoreError}
+use Rattle.std.proofs.Common.{◌≡◌}
+use Rattle.xet_xorb_chunk.specs.Stream.{Fails, front_of}
+use Rattle.xet_xorb_chunk.proofs.Checks.{exit_with}
+use Rattle.xet_xorb_chunk.proofs.Fronts.{front_refused}
+use Rattle.xet_xorb_chunk.proofs.chunk_front.body_end.Goals as goal
+
+pub returns-in_err-header-clause-refused : goal.returns-in_err-header-clause-refused
+returns-in_err-header-clause-refused c =
+    exit_with (λ (e : StoreError). front_of c.args.most c.args.bytes.now ≡ Fails e) _ _ c.from_residual.ensures.1
+    (front_refused c.args.most c.args.bytes.now _ c.in_err-header.ensures.refused_whole c.in_err-header.ensures.refused)

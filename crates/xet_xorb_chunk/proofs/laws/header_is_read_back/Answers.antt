@@ -1,0 +1,5 @@
+use Rattle.xet_xorb_chunk.proofs.Readback.{header_read_back}
+use Rattle.xet_xorb_chunk.proofs.laws.header_is_read_back.Goals as goal
+
+pub returns : goal.returns
+returns c = λ most h small known version stored plain. header_read_back most h small known version stored plain

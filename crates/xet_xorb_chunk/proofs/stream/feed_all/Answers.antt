@@ -1,0 +1,118 @@
+use Rattle.std.proofs.Common.{◌≡◌, ◌∙◌, ◌⊎◌, ◌++◌, List, ap, arith, inl, inr, length, length-append, refl, subst, sym, take, true, ℕ}
+use Rattle.std.proofs.lemmas.List.{length-take-le}
+use Rattle.xet_hash.specs.declared.error.StoreError.{StoreError}
+use Rattle.xet_hash.specs.declared.error.StoreError.TheVariants.{Io}
+use Rattle.xet_hash.specs.declared.error.Place.TheVariants.{Input}
+use Rattle.xet_xorb_chunk.specs.Passing.{Refuses, RefusesMore, WritesWhole}
+use Rattle.xet_xorb_chunk.proofs.Checks.{exit_with}
+use Rattle.xet_xorb_chunk.proofs.Passed.{written_after}
+use Rattle.xet_xorb_chunk.proofs.Prefixes.{prefix_of}
+use Rattle.xet_xorb_chunk.proofs.Streamed.{block_refused, holds_len, writes_whole}
+use Rattle.xet_xorb_chunk.proofs.Written.{block_fed}
+use Rattle.xet_xorb_chunk.proofs.stream.feed_all.Goals as goal
+
+pub returns-in_err-count-clause-refusals : goal.returns-in_err-count-clause-refusals
+returns-in_err-count-clause-refusals g c = λ told.
+    let most = c.args.decoder.now.most in
+    let left = g.R.Source.left c.args.r.now in
+    let tells = g.W.Sink.tells c.args.w.now ≡ true in
+    let old = g.W.Sink.written c.args.w.now in
+    let now = g.W.Sink.written c.reads.w in
+    let i = c.reads.invariant in
+    let h = i.held in
+    exit_with (λ (e : StoreError). Refuses most 0 left tells old now e ⊎ ((e ≡ Io Input) × (tells → WritesWhole most left old now))) _ _ c.from_residual.ensures.1
+    (inr (c.in_err-count.ensures.refusals, λ t. writes_whole c.reads.decoder most left h.0 _ h.1 old now i.most h.2 (h.3 told) (h.4 t)))
+
+pub returns-then-count-fed_len-clause-refusals : goal.returns-then-count-fed_len-clause-refusals
+returns-then-count-fed_len-clause-refusals g c = λ told.
+    let i = c.reads.invariant in
+    let h = i.held in
+    let next = (c.in_ok-count.ensures.told (i.source_tells ∙ told)).next in
+    let whole = block_fed _ h.0 _ c.read_some.new.buf _ c.in_ok-count.count (h.3 told) next in
+    let fed = holds_len c.reads.decoder h.0 h.1 h.2 in
+    let bound = c.requires.bound told in
+    let size = length-take-le c.in_ok-count.count c.read_some.new.buf c.in_ok-count.ensures.bound in
+    let rest = g.R.Source.left c.read_some.new.source in
+    absurd
+    (omega (
+      arith,
+      fed,
+      bound,
+      size,
+      c.fed_len.ensures,
+      ap length whole,
+      length-append (h.0 ++ take c.in_ok-count.count c.read_some.new.buf) rest,
+      length-append h.0 (take c.in_ok-count.count c.read_some.new.buf),
+    ))
+
+pub reads-preserved : goal.reads-preserved
+reads-preserved g c =
+    let i = c.reads.invariant in
+    let h = i.held in
+    let f = c.in_ok-feed.ensures.fed h.0 h.1 h.2 in
+    let piece : List ℕ = take c.in_ok-count.count c.read_some.new.buf in
+    record {
+      whole = c.in_ok-feed.ensures.whole.1 refl;
+      most = c.in_ok-feed.ensures.most ∙ i.most;
+      room = omega (arith, c.in_ok-feed.ensures.len, length-take-le c.in_ok-count.count c.read_some.new.buf c.in_ok-count.ensures.bound, c.fed_len.ensures, i.room);
+      held = (
+        h.0 ++ piece,
+        h.1 ++ f.0,
+        f.1,
+        λ told. block_fed _ h.0 _ c.read_some.new.buf _ c.in_ok-count.count (h.3 told) (c.in_ok-count.ensures.told (i.source_tells ∙ told)).next,
+        λ told. written_after _ _ _ h.1 f.0 (h.4 told) (f.2 (i.sink_tells ∙ told)),
+      );
+      source_tells = c.in_ok-count.ensures.tells ∙ i.source_tells;
+      sink_tells = c.in_ok-feed.ensures.tells ∙ i.sink_tells;
+      source_later = omega (arith, c.in_ok-count.ensures.cause.later, i.source_later);
+      sink_later = omega (arith, c.in_ok-feed.ensures.cause.later, i.sink_later);
+    }
+
+pub returns-in_err-feed-clause-refusals : goal.returns-in_err-feed-clause-refusals
+returns-in_err-feed-clause-refusals g c = λ told.
+    let most = c.args.decoder.now.most in
+    let left = g.R.Source.left c.args.r.now in
+    let tells = g.W.Sink.tells c.args.w.now ≡ true in
+    let now_tells = g.W.Sink.tells c.reads.w ≡ true in
+    let old = g.W.Sink.written c.args.w.now in
+    let middle = g.W.Sink.written c.reads.w in
+    let now = g.W.Sink.written c.feed.new.w in
+    let i = c.reads.invariant in
+    let h = i.held in
+    let next = (c.in_ok-count.ensures.told (i.source_tells ∙ told)).next in
+    let whole = block_fed _ h.0 _ c.read_some.new.buf _ c.in_ok-count.count (h.3 told) next in
+    exit_with (λ (e : StoreError). Refuses most 0 left tells old now e ⊎ ((e ≡ Io Input) × (tells → WritesWhole most left old now))) _ _ c.from_residual-in_err-feed.ensures.1
+    (inl (block_refused most left (h.0 ++ take c.in_ok-count.count c.read_some.new.buf) _ h.1 tells now_tells old middle now _ whole (λ t. i.sink_tells ∙ t) h.4
+    (subst (λ (m : ℕ). RefusesMore m (h.0 ++ take c.in_ok-count.count c.read_some.new.buf) h.1 now_tells middle now c.in_err-feed.field-0.0) i.most
+    (c.in_err-feed.ensures.refusals h.0 h.1 h.2))))
+
+pub returns-in_err-count-clause-prefix : goal.returns-in_err-count-clause-prefix
+returns-in_err-count-clause-prefix g c = λ told.
+    let i = c.reads.invariant in
+    let h = i.held in
+    prefix_of (g.R.Source.left c.args.r.now) h.0 (g.R.Source.left c.read_some.new.source)
+    (h.3 told ∙ ap (λ (x : List ℕ). h.0 ++ x) (sym (c.in_err-count.ensures.told (i.source_tells ∙ told))))
+
+pub returns-then-count-eq0-clause-prefix : goal.returns-then-count-eq0-clause-prefix
+returns-then-count-eq0-clause-prefix g c = λ told.
+    let i = c.reads.invariant in
+    let h = i.held in
+    let next = (c.in_ok-count.ensures.told (i.source_tells ∙ told)).next in
+    prefix_of (g.R.Source.left c.args.r.now) (h.0 ++ take c.in_ok-count.count c.read_some.new.buf) (g.R.Source.left c.read_some.new.source)
+    (block_fed _ h.0 _ c.read_some.new.buf _ c.in_ok-count.count (h.3 told) next)
+
+pub returns-then-count-fed_len-clause-prefix : goal.returns-then-count-fed_len-clause-prefix
+returns-then-count-fed_len-clause-prefix g c = λ told.
+    let i = c.reads.invariant in
+    let h = i.held in
+    let next = (c.in_ok-count.ensures.told (i.source_tells ∙ told)).next in
+    prefix_of (g.R.Source.left c.args.r.now) (h.0 ++ take c.in_ok-count.count c.read_some.new.buf) (g.R.Source.left c.read_some.new.source)
+    (block_fed _ h.0 _ c.read_some.new.buf _ c.in_ok-count.count (h.3 told) next)
+
+pub returns-in_err-feed-clause-prefix : goal.returns-in_err-feed-clause-prefix
+returns-in_err-feed-clause-prefix g c = λ told.
+    let i = c.reads.invariant in
+    let h = i.held in
+    let next = (c.in_ok-count.ensures.told (i.source_tells ∙ told)).next in
+    prefix_of (g.R.Source.left c.args.r.now) (h.0 ++ take c.in_ok-count.count c.read_some.new.buf) (g.R.Source.left c.read_some.new.source)
+    (block_fed _ h.0 _ c.read_some.new.buf _ c.in_ok-count.count (h.3 told) next)

@@ -1,0 +1,61 @@
+-- Compression schemes: their numbers and names, and what they do to a chunk's bytes.
+use Rattle.std.specs.Prelude.{ℕ, ◌==◌, List, [], codes, Result, Ok, Err, if◌then◌else◌}
+use Rattle.std.specs.Str.{bytes_eq}
+use Rattle.xet_hash.specs.declared.error.StoreError.{StoreError}
+use Rattle.xet_hash.specs.declared.error.StoreError.TheVariants.{CompressionError, MalformedData}
+use Rattle.xet_hash.specs.declared.error.Reason.TheVariants.{AutoScheme, Scheme, SchemeText}
+use Rattle.xet_xorb_chunk.specs.declared.scheme.CompressionScheme.{CompressionScheme}
+use Rattle.xet_xorb_chunk.specs.declared.scheme.CompressionScheme.TheVariants.{Auto, ByteGrouping4LZ4, LZ4, None}
+
+-- the number that a header has for it
+abbrev pub number_of : CompressionScheme → ℕ
+number_of None = 0
+number_of LZ4 = 1
+number_of ByteGrouping4LZ4 = 2
+number_of Auto = 99
+
+-- the scheme of a number
+abbrev pub scheme_of : ℕ → Result CompressionScheme StoreError
+scheme_of n =
+    if n == 0 then Ok None
+    else if n == 1 then Ok LZ4
+    else if n == 2 then Ok ByteGrouping4LZ4
+    else if n == 99 then Ok Auto
+    else Err (MalformedData Scheme)
+
+abbrev pub scheme_name : CompressionScheme → List ℕ
+scheme_name None = codes "none"
+scheme_name LZ4 = codes "lz4"
+scheme_name ByteGrouping4LZ4 = codes "bg4-lz4"
+scheme_name Auto = codes "auto"
+
+-- the scheme of a name in small letters; no name is that of the one to be chosen
+abbrev pub scheme_named : List ℕ → Result CompressionScheme StoreError
+scheme_named name =
+    if bytes_eq name [] then Ok Auto
+    else if bytes_eq name (scheme_name Auto) then Ok Auto
+    else if bytes_eq name (scheme_name None) then Ok None
+    else if bytes_eq name (scheme_name LZ4) then Ok LZ4
+    else if bytes_eq name (scheme_name ByteGrouping4LZ4) then Ok ByteGrouping4LZ4
+    else Err (MalformedData SchemeText)
+
+-- the scheme under which bytes are stored
+abbrev pub resolved : CompressionScheme → CompressionScheme
+resolved None = None
+resolved LZ4 = LZ4
+resolved ByteGrouping4LZ4 = ByteGrouping4LZ4
+resolved Auto = None
+
+-- the bytes as they are stored
+abbrev pub compressed : CompressionScheme → List ℕ → Result (List ℕ) StoreError
+compressed None bytes = Ok bytes
+compressed LZ4 bytes = Err (CompressionError 1)
+compressed ByteGrouping4LZ4 bytes = Err (CompressionError 2)
+compressed Auto bytes = Ok bytes
+
+-- what is stored as the bytes that it stands for
+abbrev pub decompressed : CompressionScheme → List ℕ → Result (List ℕ) StoreError
+decompressed None bytes = Ok bytes
+decompressed LZ4 bytes = Err (CompressionError 1)
+decompressed ByteGrouping4LZ4 bytes = Err (CompressionError 2)
+decompressed Auto bytes = Err (MalformedData AutoScheme)

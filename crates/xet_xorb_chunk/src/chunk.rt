@@ -1,0 +1,65 @@
+//! Pieces of files.
+
+ghost use Rattle.std.specs.Prelude.{◌≡◌, IfOk, IsOkUnless, map};
+ghost use Rattle.xet_hash.specs.Merkle.{total_len};
+ghost use Rattle.xet_xorb_chunk.specs.Chunks.{chunk_member, chunk_of, total};
+
+use bytes::Bytes;
+use std::alloc::Global;
+use std::convert::AsSlice;
+use xet_hash::{MerkleHash, StoreError, compute_data_hash};
+
+/// A piece of a file, with its digest under the data key.
+#[derive(Debug, Drop, PartialEq, Eq)]
+pub struct Chunk {
+    /// The digest of the bytes, if it was made by `new`.
+    pub hash: MerkleHash,
+    /// The bytes.
+    pub bytes: Bytes,
+}
+
+impl Chunk {
+    /// The chunk of these bytes. It takes no memory.
+    pub fn new(bytes: Bytes) -> Chunk
+        ensures { result ≡ chunk_of bytes }
+    {
+        Chunk {
+            hash: compute_data_hash(bytes.as_slice()),
+            bytes,
+        }
+    }
+
+    /// The same chunk again, which shares the bytes.
+    pub fn clone(&self) -> Result<Chunk, StoreError>
+        ensures same { IfOk result (λ copy. copy ≡ self.now) }
+        ensures memory { IsOkUnless result StoreError.OutOfMemory }
+    {
+        Ok(Chunk {
+            hash: self.hash,
+            bytes: self.bytes.clone()?,
+        })
+    }
+}
+
+impl AsSlice<u8> for Chunk {
+    ghost items = { λ c. c.bytes };
+
+    /// Lends the bytes.
+    fn as_slice(&self) -> &[u8] {
+        self.bytes.as_slice()
+    }
+}
+
+/// The hash that each chunk carries, with its length in bytes. Where there is no memory, the call fails
+/// with `StoreError::OutOfMemory`, and for no other reason.
+pub fn chunk_members(alloc: Global, chunks: &[Chunk]) -> Result<Vec<(MerkleHash, u64)>, StoreError>
+    ensures members { IfOk result (λ members. members.items ≡ map chunk_member chunks.now) }
+    ensures total { IfOk result (λ members. total_len members.items ≡ total chunks.now) }
+    ensures memory { IsOkUnless result StoreError.OutOfMemory }
+{
+    let mut members = Vec::with_capacity(alloc, chunks.len())?;
+    for chunk in chunks {
+        members.push((chunk.hash, chunk.bytes.len() as u64))?;
+    }
+    Ok(members)
+}

@@ -1,0 +1,60 @@
+//! The chunk at the front of some bytes.
+
+ghost use Rattle.std.specs.Prelude.{◌≡◌, ◌<◌, ◌≤◌, ◌+◌, ◌^◌, Ok, Err, IfErr, IfOk, IfSome, IsNone, Some, length, take};
+ghost use Rattle.xet_xorb_chunk.specs.Header.{Header};
+ghost use Rattle.xet_xorb_chunk.specs.Outside.{IsCheck};
+ghost use Rattle.xet_xorb_chunk.specs.Passing.{ShowsFront};
+ghost use Rattle.xet_xorb_chunk.specs.Stream.{Fails, front_of};
+ghost use Rattle.xet_xorb_chunk.specs.Taking.{header_in};
+
+use crate::header::{XORB_CHUNK_HEADER_LENGTH, XorbChunkHeader, parse_chunk_header};
+use xet_hash::StoreError;
+
+/// The header at the front; none, where there are fewer than eight bytes.
+fn header_at_front(bytes: &[u8], most: u32) -> Result<Option<XorbChunkHeader>, StoreError>
+    requires { most < 2 ^ 23 }
+    ensures none { IfOk result (λ header. IsNone header → length bytes.now < 8) }
+    ensures some { IfOk result (λ header. IfSome header (λ header. (header_in most bytes.now ≡ Ok header) × (8 ≤ length bytes.now) × (header.stored < 2 ^ 24))) }
+    ensures refused { IfErr result (λ e. header_in most bytes.now ≡ Err e) }
+    ensures refused_whole { IfErr result (λ e. 8 ≤ length bytes.now) }
+    ensures check { IfErr result IsCheck }
+{
+    let &[a, b, c, d, e, f, g, h, ..] = bytes else {
+        return Ok(None);
+    };
+    Ok(Some(parse_chunk_header([a, b, c, d, e, f, g, h], most)?))
+}
+
+/// Where the chunk at the front ends, by its header; none, where there are fewer than eight bytes.
+pub(crate) fn body_end(bytes: &[u8], most: u32) -> Result<Option<usize>, StoreError>
+    requires { most < 2 ^ 23 }
+    ensures none { IfOk result (λ end. IsNone end → length bytes.now < 8) }
+    ensures some { IfOk result (λ end. IfSome end (λ end. (header : Header) × (header_in most bytes.now ≡ Ok header) × (end ≡ 8 + header.stored) × (8 ≤ length bytes.now))) }
+    ensures bound { IfOk result (λ end. IfSome end (λ end. end < 2 ^ 32)) }
+    ensures refused { IfErr result (λ e. front_of most bytes.now ≡ Fails e) }
+    ensures check { IfErr result IsCheck }
+{
+    let Some(header) = header_at_front(bytes, most)? else {
+        return Ok(None);
+    };
+    Ok(Some(XORB_CHUNK_HEADER_LENGTH + header.get_compressed_length() as usize))
+}
+
+/// How many bytes the chunk at the front has behind its header; none, where there is less than a chunk.
+/// Refused by the first check that fails, of chunks of at most `most` bytes, which is below 2^23.
+pub fn chunk_len(bytes: &[u8], most: u32) -> Result<Option<usize>, StoreError>
+    requires { most < 2 ^ 23 }
+    ensures front { ShowsFront most bytes.now result }
+    ensures small { IfOk result (λ len. IfSome len (λ len. len < 2 ^ 24)) }
+    ensures check { IfErr result IsCheck }
+{
+    let Some(header) = header_at_front(bytes, most)? else {
+        return Ok(None);
+    };
+    let stored = header.get_compressed_length() as usize;
+    if bytes.len() - XORB_CHUNK_HEADER_LENGTH < stored {
+        return Ok(None);
+    }
+    header.check_body()?;
+    Ok(Some(stored))
+}

@@ -1,0 +1,109 @@
+//! Streams of chunks, which are read to their end.
+
+ghost use Rattle.std.specs.Prelude.{◌≡◌, ◌<◌, ◌≤◌, ◌^◌, ◌++◌, ◌⊎◌, [], ℕ, List, Ok, Err, true, IfErr, IfOk, IsErrOf, OnOk, length};
+ghost use Rattle.std.specs.List.{concat};
+ghost use Rattle.xet_hash.specs.declared.error.StoreError.TheVariants.{Io};
+ghost use Rattle.xet_hash.specs.declared.error.Place.TheVariants.{Input, Output};
+ghost use Rattle.xet_io.specs.Faults.{HasCause};
+ghost use Rattle.xet_xorb_chunk.specs.Decoder.{Holds, fed_len, most_of, whole_of};
+ghost use Rattle.xet_xorb_chunk.specs.Outside.{IsCheck, PassesLimit, StopsReading, StopsWriting};
+ghost use Rattle.xet_xorb_chunk.specs.Passing.{Refuses, RefusesStream, WritesStream, WritesWhole};
+ghost use Rattle.xet_xorb_chunk.specs.Stream.{IsStream, places_from, stored_bytes};
+ghost use Rattle.xet_xorb_chunk.specs.Taking.{TakesPrefix};
+
+use crate::decoder::ChunkDecoder;
+use crate::outside::{MOST, new_block, read_some};
+use std::alloc::Global;
+use xet_hash::{StoreError, What};
+use xet_io::{MemorySink, Sink, Source};
+
+/// Reads a stream of chunks, of at most `max_chunk` bytes each, which is below 2^23, to its end: gives
+/// all their bytes, and where each chunk begins among them, with their number last. A source that tells
+/// has fewer than 2^63 bytes left.
+///
+/// Refused as the first check that fails says, as `UnexpectedEof` where the stream ends inside a chunk,
+/// as `Io(Input)`, as `OutOfMemory`, or as `TooLarge(Input)` at the first byte behind 2^63, which only a
+/// source that does not tell can have.
+pub fn deserialize_chunks<R: Source>(
+    alloc: Global,
+    r: &mut R,
+    max_chunk: u32,
+) -> Result<(Vec<u8>, Vec<u32>), StoreError>
+    requires most { max_chunk < 2 ^ 23 }
+    requires bound { R.tells r.old ≡ true → length (R.left r.old) < 2 ^ 63 }
+    ensures stream { R.tells r.old ≡ true → IfOk result (λ read. (chunks : List (List ℕ)) × IsStream max_chunk (R.left r.old) chunks (Ok tt) × (read.0.items ≡ concat chunks) × (read.1.items ≡ places_from 0 chunks)) }
+    ensures end { R.tells r.old ≡ true → OnOk result (R.left r.new ≡ []) }
+    ensures prefix { R.tells r.old ≡ true → TakesPrefix (R.left r.old) (R.left r.new) }
+    ensures refusals { R.tells r.old ≡ true → IfErr result (λ e. ((chunks : List (List ℕ)) × IsStream max_chunk (R.left r.old) chunks (Err e)) ⊎ StopsReading e) }
+    ensures kinds { IfErr result (λ e. IsCheck e ⊎ (StopsReading e ⊎ PassesLimit e)) }
+    ensures tells { R.tells r.new ≡ R.tells r.old }
+    ensures cause { HasCause (R.faults r.old) (R.faults r.new) (IsErrOf result (Io Input)) }
+{
+    let mut sink = MemorySink::new(alloc);
+    let (_, places) = deserialize_chunks_to_writer(alloc, r, &mut sink, max_chunk)?;
+    Ok((sink.into_bytes(), places))
+}
+
+/// Reads a stream of chunks, as `deserialize_chunks` does, and writes each as soon as it is whole: gives
+/// how many bytes were taken, headers included, and where each chunk begins among the written bytes, with
+/// their number last. Also refused as `Io(Output)`. After a refusal whole chunks were written, and where
+/// the sink refused, a front of one.
+pub fn deserialize_chunks_to_writer<R: Source, W: Sink>(
+    alloc: Global,
+    r: &mut R,
+    w: &mut W,
+    max_chunk: u32,
+) -> Result<(usize, Vec<u32>), StoreError>
+    requires most { max_chunk < 2 ^ 23 }
+    requires bound { R.tells r.old ≡ true → length (R.left r.old) < 2 ^ 63 }
+    ensures stream { R.tells r.old ≡ true → IfOk result (λ read. WritesStream max_chunk (R.left r.old) (W.tells w.old ≡ true) (W.written w.old) (W.written w.new) (λ chunks. (read.0 ≡ stored_bytes chunks) × (read.1.items ≡ places_from 0 chunks))) }
+    ensures end { R.tells r.old ≡ true → OnOk result (R.left r.new ≡ []) }
+    ensures prefix { R.tells r.old ≡ true → TakesPrefix (R.left r.old) (R.left r.new) }
+    ensures refusals { R.tells r.old ≡ true → IfErr result (RefusesStream max_chunk (R.left r.old) (W.tells w.old ≡ true) (W.written w.old) (W.written w.new)) }
+    ensures kinds { IfErr result (λ e. IsCheck e ⊎ (StopsWriting e ⊎ ((e ≡ Io Input) ⊎ PassesLimit e))) }
+    ensures source_tells { R.tells r.new ≡ R.tells r.old }
+    ensures sink_tells { W.tells w.new ≡ W.tells w.old }
+    ensures source_cause { HasCause (R.faults r.old) (R.faults r.new) (IsErrOf result (Io Input)) }
+    ensures sink_cause { HasCause (W.faults w.old) (W.faults w.new) (IsErrOf result (Io Output)) }
+{
+    let mut block = new_block(alloc)?;
+    let mut decoder = ChunkDecoder::new(alloc, max_chunk);
+    feed_all(&mut decoder, r, w, &mut block)?;
+    decoder.finish()
+}
+
+/// Feeds a new decoder all that is left in a source, block by block.
+fn feed_all<R: Source, W: Sink>(
+    decoder: &mut ChunkDecoder,
+    r: &mut R,
+    w: &mut W,
+    block: &mut [u8],
+) -> Result<(), StoreError>
+    requires whole { whole_of decoder.old ≡ true }
+    requires new { Holds decoder.old [] [] }
+    requires len { fed_len decoder.old ≡ 0 }
+    requires block { 0 < length block.old }
+    requires bound { R.tells r.old ≡ true → length (R.left r.old) < 2 ^ 63 }
+    ensures fed { R.tells r.old ≡ true → OnOk result ((chunks : List (List ℕ)) × Holds decoder.new (R.left r.old) chunks × (W.tells w.old ≡ true → W.written w.new ≡ W.written w.old ++ concat chunks)) }
+    ensures end { R.tells r.old ≡ true → OnOk result (R.left r.new ≡ []) }
+    ensures prefix { R.tells r.old ≡ true → TakesPrefix (R.left r.old) (R.left r.new) }
+    ensures whole { OnOk result (whole_of decoder.new ≡ true) }
+    ensures most { most_of decoder.new ≡ most_of decoder.old }
+    ensures refusals { R.tells r.old ≡ true → IfErr result (λ e. Refuses (most_of decoder.old) 0 (R.left r.old) (W.tells w.old ≡ true) (W.written w.old) (W.written w.new) e ⊎ ((e ≡ Io Input) × (W.tells w.old ≡ true → WritesWhole (most_of decoder.old) (R.left r.old) (W.written w.old) (W.written w.new)))) }
+    ensures kinds { IfErr result (λ e. IsCheck e ⊎ (StopsWriting e ⊎ ((e ≡ Io Input) ⊎ PassesLimit e))) }
+    ensures source_tells { R.tells r.new ≡ R.tells r.old }
+    ensures sink_tells { W.tells w.new ≡ W.tells w.old }
+    ensures source_cause { HasCause (R.faults r.old) (R.faults r.new) (IsErrOf result (Io Input)) }
+    ensures sink_cause { HasCause (W.faults w.old) (W.faults w.new) (IsErrOf result (Io Output)) }
+{
+    'reads: loop {
+        let count = read_some(r, block)?;
+        if count == 0 {
+            return Ok(());
+        }
+        if count > MOST - decoder.fed_len() {
+            return Err(StoreError::TooLarge(What::Input));
+        }
+        decoder.feed(&block[..count], w)?;
+    }
+}

@@ -1,0 +1,13 @@
+use Rattle.std.proofs.Common.{◌≤◌, ◌-◌, drop, length}
+use Rattle.xet_xorb_footer.specs.Joining.{IsReady, Reads}
+use Rattle.xet_xorb_footer.proofs.decoder.Joined.take_whole.Given as goal
+
+abbrev pub invariant-fields : goal.invariant-fields
+invariant-fields l = record {
+  within : l.at ≤ length l.piece;
+  ready : IsReady l.self;
+  read : Reads l.fn.self l.self l.piece (drop l.at l.piece);
+}
+
+abbrev pub decreases-fields : goal.decreases-fields
+decreases-fields l = length l.piece - l.at

@@ -1,0 +1,19 @@
+use Rattle.std.proofs.Common.{◌≡◌, ◌≤◌, drop, length, true}
+use Rattle.xet_xorb_footer.specs.Machine.{IsSettled}
+use Rattle.xet_xorb_footer.specs.Places.{IsPart}
+use Rattle.xet_xorb_footer.specs.Reader.{bytes_left, parts_of, rest_of}
+use Rattle.xet_xorb_footer.proofs.ends.read_fields_at.Given as goal
+
+abbrev pub invariant-fields : goal.invariant-fields
+invariant-fields g l = record {
+  taken : g.R.ReadAt.tells l.fn.reader ≡ true → l.end ≡ length (g.R.ReadAt.bytes l.fn.reader) → rest_of l.fn.footer (drop l.fn.at (g.R.ReadAt.bytes l.fn.reader)) ≡ rest_of l.footer (drop l.to (g.R.ReadAt.bytes l.fn.reader));
+  part : g.R.ReadAt.tells l.fn.reader ≡ true → l.end ≡ length (g.R.ReadAt.bytes l.fn.reader) → IsPart l.block (g.R.ReadAt.bytes l.fn.reader);
+  within : l.to ≤ l.end;
+  settled : IsSettled l.footer.next (parts_of l.footer);
+  same : g.R.ReadAt.bytes l.reader ≡ g.R.ReadAt.bytes l.fn.reader;
+  tells : g.R.ReadAt.tells l.reader ≡ g.R.ReadAt.tells l.fn.reader;
+  later : g.R.ReadAt.faults l.fn.reader ≤ g.R.ReadAt.faults l.reader;
+}
+
+abbrev pub decreases-fields : goal.decreases-fields
+decreases-fields g l = bytes_left l.footer

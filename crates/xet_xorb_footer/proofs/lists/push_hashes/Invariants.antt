@@ -1,0 +1,10 @@
+use Rattle.std.proofs.Common.{◌≡◌, ◌≤◌, ◌*◌, ◌-◌, ◌+◌, ◌++◌, length, vec_len}
+use Rattle.xet_xorb_footer.specs.Items.{hashes_in}
+use Rattle.xet_xorb_footer.proofs.lists.push_hashes.Given as goal
+
+abbrev pub invariant-loop-done : goal.invariant-loop-done
+invariant-loop-done l = record {
+  room : 32 * (l.count - l._done) ≤ length l.rest;
+  bound : vec_len l.list ≤ vec_len l.fn.list + l._done;
+  so_far : l.list.items ++ hashes_in (l.count - l._done) l.rest ≡ l.fn.list.items ++ hashes_in l.count l.field;
+}

@@ -1,0 +1,133 @@
+-- Reading a footer, with the first check that fails, in the order of the bytes.
+use Rattle.std.specs.Prelude.{ℕ, zero, suc, ◌+◌, ◌*◌, ◌==◌, nat_eq, nat_le, Bool, true, false, List, [], ◌∷◌, length, take, drop, Result, Ok, Err, if◌then◌else◌}
+use Rattle.std.specs.Cmp.Lexicographic.{pointwise}
+use Rattle.std.specs.Int.{w32, from_le_bytes}
+use Rattle.xet_hash.specs.declared.error.Reason.{Reason}
+use Rattle.xet_hash.specs.declared.error.Reason.TheVariants.{BoundariesIdent, BoundariesVersion, BoundaryOffset, ChunkCount, CountMismatch, HashesIdent, HashesOffset, HashesVersion, Ident, Version}
+use Rattle.xet_hash.specs.declared.error.StoreError.{StoreError}
+use Rattle.xet_hash.specs.declared.error.StoreError.TheVariants.{MalformedData, UnexpectedEof}
+use Rattle.xet_xorb_footer.specs.declared.info.XorbObjectInfoV0.{XorbObjectInfoV0}
+use Rattle.xet_xorb_footer.specs.declared.info.XorbObjectInfoV1.{XorbObjectInfoV1}
+use Rattle.xet_xorb_footer.specs.Spelled.{boundaries_ident, footer_ident, hashes_ident, most_chunks, of_v0}
+
+infixl 10 ◌>>=◌
+abbrev pub ◌>>=◌ : {A B : Type 0} → Result A StoreError → (A → Result B StoreError) → Result B StoreError
+(Ok x) >>= f = f x
+(Err e) >>= f = Err e
+
+-- what is read at the front of some bytes, and the bytes behind it
+abbrev pub Taken : Type 0 → Type 0
+Taken X = Result (X × List ℕ) StoreError
+
+-- a test that is to hold
+abbrev pub wants : Bool → Reason → Result (Unit {0}) StoreError
+wants true reason = Ok tt
+wants false reason = Err (MalformedData reason)
+
+unfoldable pub bytes_at : ℕ → List ℕ → Taken (List ℕ)
+bytes_at n bytes = if nat_le n (length bytes) then Ok (take n bytes, drop n bytes) else Err UnexpectedEof
+
+unfoldable pub number_at : List ℕ → Taken ℕ
+number_at bytes = bytes_at 4 bytes >>= λ x. Ok (from_le_bytes w32 x.0, x.1)
+
+-- n things, one after the other
+unfoldable pub times : {X : Type 0} → (List ℕ → Taken X) → ℕ → List ℕ → Taken (List X)
+times read zero bytes = Ok ([], bytes)
+times read (suc n) bytes = do
+  x ← read bytes
+  xs ← times read n x.1
+  Ok (x.0 ∷ xs.0, xs.1)
+
+-- with what a footer or a section of it begins: this ident
+unfoldable pub ident_at : List ℕ → Reason → List ℕ → Taken (Unit {0})
+ident_at ident reason bytes = do
+  x ← bytes_at 7 bytes
+  _ ← wants (pointwise nat_eq x.0 ident) reason
+  Ok (tt, x.1)
+
+-- a byte of this value
+unfoldable pub version_at : ℕ → Reason → List ℕ → Taken (Unit {0})
+version_at version reason bytes = do
+  x ← bytes_at 1 bytes
+  _ ← wants (pointwise nat_eq x.0 (version ∷ [])) reason
+  Ok (tt, x.1)
+
+-- a number that is to be this one
+unfoldable pub number_is : ℕ → Reason → List ℕ → Taken (Unit {0})
+number_is n reason bytes = do
+  x ← number_at bytes
+  _ ← wants (x.0 == n) reason
+  Ok (tt, x.1)
+
+-- the number of chunks, of which there are not too many
+unfoldable pub count_at : List ℕ → Taken ℕ
+count_at bytes = do
+  x ← number_at bytes
+  _ ← wants (nat_le x.0 most_chunks) ChunkCount
+  Ok x
+
+-- what stands behind ident and version in a footer of version 0
+unfoldable pub rest_v0 : List ℕ → Taken XorbObjectInfoV0
+rest_v0 bytes = do
+  hash ← bytes_at 32 bytes
+  n ← count_at hash.1
+  ends ← times number_at n.0 n.1
+  hashes ← times (bytes_at 32) n.0 ends.1
+  spare ← bytes_at 16 hashes.1
+  Ok (record { ident = footer_ident; version = 0; xorb_hash = hash.0; num_chunks = n.0; chunk_boundary_offsets = ends.0; chunk_hashes = hashes.0; spare = spare.0 }, spare.1)
+
+-- and in one of version 1
+unfoldable pub rest_v1 : List ℕ → Taken XorbObjectInfoV1
+rest_v1 bytes = do
+  hash ← bytes_at 32 bytes
+  section ← ident_at hashes_ident HashesIdent hash.1
+  version ← version_at 0 HashesVersion section.1
+  n ← count_at version.1
+  hashes ← times (bytes_at 32) n.0 n.1
+  section ← ident_at boundaries_ident BoundariesIdent hashes.1
+  version ← version_at 1 BoundariesVersion section.1
+  again ← number_is n.0 CountMismatch version.1
+  ends ← times number_at n.0 again.1
+  plain ← times number_at n.0 ends.1
+  again ← number_is n.0 CountMismatch plain.1
+  place ← number_is (52 + 40 * n.0) HashesOffset again.1
+  place ← number_is (40 + 8 * n.0) BoundaryOffset place.1
+  spare ← bytes_at 16 place.1
+  Ok (
+    record {
+      ident = footer_ident;
+      version = 1;
+      xorb_hash = hash.0;
+      ident_hash_section = hashes_ident;
+      hashes_version = 0;
+      chunk_hashes = hashes.0;
+      ident_boundary_section = boundaries_ident;
+      boundaries_version = 1;
+      chunk_boundary_offsets = ends.0;
+      unpacked_chunk_offsets = plain.0;
+      num_chunks = n.0;
+      hashes_section_offset_from_end = 52 + 40 * n.0;
+      boundary_section_offset_from_end = 40 + 8 * n.0;
+      spare = spare.0;
+    },
+    spare.1,
+  )
+
+-- ident and version, and what the version is
+unfoldable pub version_of : List ℕ → Taken (List ℕ)
+version_of bytes = do
+  x ← ident_at footer_ident Ident bytes
+  bytes_at 1 x.1
+
+-- a footer of version 0
+unfoldable pub footer_v0 : List ℕ → Taken XorbObjectInfoV0
+footer_v0 bytes = do
+  version ← version_of bytes
+  _ ← wants (pointwise nat_eq version.0 (0 ∷ [])) Version
+  rest_v0 version.1
+
+-- a footer of either version, as one of version 1
+unfoldable pub footer_at : List ℕ → Taken XorbObjectInfoV1
+footer_at bytes = do
+  version ← version_of bytes
+  if pointwise nat_eq version.0 (1 ∷ []) then rest_v1 version.1 else (wants (pointwise nat_eq version.0 (0 ∷ [])) Version >>= λ _. rest_v0 version.1 >>= λ x. Ok (of_v0 x.0, x.1))

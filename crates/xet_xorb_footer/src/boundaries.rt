@@ -1,0 +1,307 @@
+//! The section of boundaries at the end of a xorb's bytes, read for itself.
+
+ghost use Rattle.std.specs.Prelude.{◌≡◌, ◌≤◌, ◌+◌, ◌-◌, ◌*◌, ◌⊎◌, ◌++◌, List, ℕ, Ok, Err, true, IfErr, IfOk, IsErrOf, OnOk, drop, length};
+ghost use Rattle.xet_hash.specs.declared.error.Place.TheVariants.{Input};
+ghost use Rattle.xet_hash.specs.declared.error.StoreError.TheVariants.{Io, OutOfMemory};
+ghost use Rattle.xet_io.specs.Faults.{HasCause};
+ghost use Rattle.xet_xorb_footer.specs.Ends.{boundaries, last_boundaries, number_before};
+ghost use Rattle.xet_xorb_footer.specs.Places.{IsPart, RefusedBy, Sees, Tells, checked_at, head_at, lists_at, tail_at};
+ghost use Rattle.xet_xorb_footer.specs.Reading.{number_at, number_is, times};
+ghost use Rattle.xet_xorb_footer.specs.Refusals.{IsFooterRefusal, is_check};
+ghost use Rattle.xet_xorb_footer.specs.Spelled.{most_chunks};
+
+use crate::block::Block;
+use crate::ends::{read_exact, reader_length};
+use crate::info::{BOUNDARIES_IDENT, XorbObjectInfoV1};
+use crate::lists::{number_of, push_numbers};
+use crate::machine::MOST_CHUNKS;
+use std::alloc::Global;
+use xet_base::Items;
+use xet_hash::{Reason, StoreError};
+use xet_io::ReadAt;
+
+/// The maximum number of numbers that are taken from a block at once.
+const BLOCK: usize = 64;
+
+impl XorbObjectInfoV1 {
+    /// Reads the section of boundaries of the footer before the last four bytes, and what is after it, and
+    /// returns it with their number of bytes. Nothing before them is read: hash and hashes are those of no
+    /// chunks. The section begins where the number tells that begins 24 bytes before the end. From there it is
+    /// read in blocks of 64 KiB, or in one where it is shorter. The error is `UnexpectedEof` where it would
+    /// begin before the bytes do, else that of the first check that fails, `Io(Input)`, or `OutOfMemory`.
+    pub fn deserialize_only_boundaries_section<R: ReadAt>(
+        alloc: Global,
+        reader: &mut R,
+    ) -> Result<(XorbObjectInfoV1, u32), StoreError>
+        ensures read { R.tells reader.old ≡ true → IfOk result (λ x. last_boundaries (R.bytes reader.old) ≡ Ok (x.0, drop (length (R.bytes reader.old) - (number_before 24 (R.bytes reader.old) + 4) + x.1) (R.bytes reader.old))) }
+        ensures within { R.tells reader.old ≡ true → IfOk result (λ x. length (R.bytes reader.old) - (number_before 24 (R.bytes reader.old) + 4) + x.1 ≤ length (R.bytes reader.old)) }
+        ensures count { IfOk result (λ x. x.1 ≡ 40 + 8 * x.0.num_chunks) }
+        ensures refused { R.tells reader.old ≡ true → IfErr result (λ e. (last_boundaries (R.bytes reader.old) ≡ Err e) ⊎ (e ≡ Io Input) ⊎ (e ≡ OutOfMemory)) }
+        ensures kinds { IfErr result IsFooterRefusal }
+        ensures cause { HasCause (R.faults reader.old) (R.faults reader.new) (IsErrOf result (Io Input)) }
+        ensures same { R.bytes reader.new ≡ R.bytes reader.old }
+        ensures tells { R.tells reader.new ≡ R.tells reader.old }
+    {
+        let end = reader_length(reader)?;
+        let at = boundaries_start(reader, end)?;
+        let info = read_boundaries(alloc, reader, at, end)?;
+        let count = 40 + 8 * info.num_chunks;
+        Ok((info, count))
+    }
+}
+
+/// The number at an offset before the end.
+fn read_number<R: ReadAt>(
+    reader: &mut R,
+    block: &mut Block,
+    at: u64,
+    end: u64,
+) -> Result<u32, StoreError>
+    requires { at ≤ end }
+    ensures read { (bytes : List ℕ) → Sees (R.tells reader.old) (R.bytes reader.old) bytes end block.old → IfOk result (λ n. number_at (drop at bytes) ≡ Ok (n, drop (at + 4) bytes)) }
+    ensures part { (bytes : List ℕ) → Sees (R.tells reader.old) (R.bytes reader.old) bytes end block.old → OnOk result (IsPart block.new bytes) }
+    ensures within { OnOk result (at + 4 ≤ end) }
+    ensures refused { (bytes : List ℕ) → Sees (R.tells reader.old) (R.bytes reader.old) bytes end block.old → IfErr result (RefusedBy (number_at (drop at bytes))) }
+    ensures kinds { IfErr result IsFooterRefusal }
+    ensures cause { HasCause (R.faults reader.old) (R.faults reader.new) (IsErrOf result (Io Input)) }
+    ensures same { R.bytes reader.new ≡ R.bytes reader.old }
+    ensures tells { R.tells reader.new ≡ R.tells reader.old }
+{
+    block.load(reader, at, end, 4)?;
+    Ok(number_of(block.part(at, 4)))
+}
+
+/// Checks that this number is at an offset before the end.
+fn expect_number<R: ReadAt>(
+    reader: &mut R,
+    block: &mut Block,
+    at: u64,
+    end: u64,
+    wanted: u32,
+    reason: Reason,
+) -> Result<(), StoreError>
+    requires within { at ≤ end }
+    requires check { is_check reason ≡ true }
+    ensures read { (bytes : List ℕ) → Sees (R.tells reader.old) (R.bytes reader.old) bytes end block.old → OnOk result (number_is wanted reason (drop at bytes) ≡ Ok (tt, drop (at + 4) bytes)) }
+    ensures part { (bytes : List ℕ) → Sees (R.tells reader.old) (R.bytes reader.old) bytes end block.old → OnOk result (IsPart block.new bytes) }
+    ensures within { OnOk result (at + 4 ≤ end) }
+    ensures refused { (bytes : List ℕ) → Sees (R.tells reader.old) (R.bytes reader.old) bytes end block.old → IfErr result (RefusedBy (number_is wanted reason (drop at bytes))) }
+    ensures kinds { IfErr result IsFooterRefusal }
+    ensures cause { HasCause (R.faults reader.old) (R.faults reader.new) (IsErrOf result (Io Input)) }
+    ensures same { R.bytes reader.new ≡ R.bytes reader.old }
+    ensures tells { R.tells reader.new ≡ R.tells reader.old }
+{
+    if read_number(reader, block, at, end)? != wanted {
+        return Err(StoreError::MalformedData(reason));
+    }
+    Ok(())
+}
+
+/// Checks that these bytes, at most seven, are at an offset before the end.
+fn expect_bytes<R: ReadAt>(
+    reader: &mut R,
+    block: &mut Block,
+    at: u64,
+    end: u64,
+    wanted: &[u8],
+    reason: Reason,
+) -> Result<(), StoreError>
+    requires within { at ≤ end }
+    requires few { length wanted.now ≤ 7 }
+    requires check { is_check reason ≡ true }
+    ensures read { (bytes : List ℕ) → Sees (R.tells reader.old) (R.bytes reader.old) bytes end block.old → OnOk result (checked_at (length wanted.now) wanted.now reason (drop at bytes) ≡ Ok (tt, drop (at + length wanted.now) bytes)) }
+    ensures part { (bytes : List ℕ) → Sees (R.tells reader.old) (R.bytes reader.old) bytes end block.old → OnOk result (IsPart block.new bytes) }
+    ensures within { OnOk result (at + length wanted.now ≤ end) }
+    ensures refused { (bytes : List ℕ) → Sees (R.tells reader.old) (R.bytes reader.old) bytes end block.old → IfErr result (RefusedBy (checked_at (length wanted.now) wanted.now reason (drop at bytes))) }
+    ensures kinds { IfErr result IsFooterRefusal }
+    ensures cause { HasCause (R.faults reader.old) (R.faults reader.new) (IsErrOf result (Io Input)) }
+    ensures same { R.bytes reader.new ≡ R.bytes reader.old }
+    ensures tells { R.tells reader.new ≡ R.tells reader.old }
+{
+    block.load(reader, at, end, wanted.len())?;
+    if block.part(at, wanted.len()) != wanted {
+        return Err(StoreError::MalformedData(reason));
+    }
+    Ok(())
+}
+
+/// So many numbers, from an offset on before the end. The list is reserved once the bytes are known to be there.
+fn read_numbers<R: ReadAt>(
+    alloc: Global,
+    reader: &mut R,
+    block: &mut Block,
+    at: u64,
+    end: u64,
+    count: u32,
+) -> Result<Vec<u32>, StoreError>
+    requires { at ≤ end }
+    ensures read { (bytes : List ℕ) → Sees (R.tells reader.old) (R.bytes reader.old) bytes end block.old → IfOk result (λ v. times number_at count (drop at bytes) ≡ Ok (v.items, drop (at + 4 * count) bytes)) }
+    ensures part { (bytes : List ℕ) → Sees (R.tells reader.old) (R.bytes reader.old) bytes end block.old → OnOk result (IsPart block.new bytes) }
+    ensures within { OnOk result (at + 4 * count ≤ end) }
+    ensures refused { (bytes : List ℕ) → Sees (R.tells reader.old) (R.bytes reader.old) bytes end block.old → IfErr result (RefusedBy (times number_at count (drop at bytes))) }
+    ensures kinds { IfErr result IsFooterRefusal }
+    ensures cause { HasCause (R.faults reader.old) (R.faults reader.new) (IsErrOf result (Io Input)) }
+    ensures same { R.bytes reader.new ≡ R.bytes reader.old }
+    ensures tells { R.tells reader.new ≡ R.tells reader.old }
+{
+    if end - at < 4 * count as u64 {
+        return Err(StoreError::UnexpectedEof);
+    }
+    let mut list = Vec::with_capacity(alloc, count as usize)?;
+    let mut to = at;
+    'numbers: while list.len() < count as usize {
+        let wanted = BLOCK.min(count as usize - list.len());
+        block.load(reader, to, end, 4 * wanted)?;
+        push_numbers(&mut list, block.part(to, 4 * wanted), wanted)?;
+        to += 4 * wanted as u64;
+    }
+    Ok(list)
+}
+
+/// The number of chunks, after ident and version, at an offset before the end.
+fn read_head<R: ReadAt>(
+    reader: &mut R,
+    block: &mut Block,
+    at: u64,
+    end: u64,
+) -> Result<u32, StoreError>
+    requires { at ≤ end }
+    ensures read { (bytes : List ℕ) → Sees (R.tells reader.old) (R.bytes reader.old) bytes end block.old → IfOk result (λ n. head_at (drop at bytes) ≡ Ok (n, drop (at + 12) bytes)) }
+    ensures part { (bytes : List ℕ) → Sees (R.tells reader.old) (R.bytes reader.old) bytes end block.old → OnOk result (IsPart block.new bytes) }
+    ensures within { OnOk result (at + 12 ≤ end) }
+    ensures few { IfOk result (λ n. n ≤ most_chunks) }
+    ensures refused { (bytes : List ℕ) → Sees (R.tells reader.old) (R.bytes reader.old) bytes end block.old → IfErr result (RefusedBy (head_at (drop at bytes))) }
+    ensures kinds { IfErr result IsFooterRefusal }
+    ensures cause { HasCause (R.faults reader.old) (R.faults reader.new) (IsErrOf result (Io Input)) }
+    ensures same { R.bytes reader.new ≡ R.bytes reader.old }
+    ensures tells { R.tells reader.new ≡ R.tells reader.old }
+{
+    expect_bytes(
+        reader,
+        block,
+        at,
+        end,
+        &BOUNDARIES_IDENT,
+        Reason::BoundariesIdent,
+    )?;
+    expect_bytes(reader, block, at + 7, end, &[1], Reason::BoundariesVersion)?;
+    let count = read_number(reader, block, at + 8, end)?;
+    if count > MOST_CHUNKS {
+        return Err(StoreError::MalformedData(Reason::ChunkCount));
+    }
+    Ok(count)
+}
+
+/// The stored ends and the plain ends of so many chunks, from an offset on before the end.
+fn read_lists<R: ReadAt>(
+    alloc: Global,
+    reader: &mut R,
+    block: &mut Block,
+    at: u64,
+    end: u64,
+    count: u32,
+) -> Result<(Vec<u32>, Vec<u32>), StoreError>
+    requires { at ≤ end }
+    ensures read { (bytes : List ℕ) → Sees (R.tells reader.old) (R.bytes reader.old) bytes end block.old → IfOk result (λ v. lists_at count (drop at bytes) ≡ Ok ((v.0.items, v.1.items), drop (at + 8 * count) bytes)) }
+    ensures part { (bytes : List ℕ) → Sees (R.tells reader.old) (R.bytes reader.old) bytes end block.old → OnOk result (IsPart block.new bytes) }
+    ensures within { OnOk result (at + 8 * count ≤ end) }
+    ensures refused { (bytes : List ℕ) → Sees (R.tells reader.old) (R.bytes reader.old) bytes end block.old → IfErr result (RefusedBy (lists_at count (drop at bytes))) }
+    ensures kinds { IfErr result IsFooterRefusal }
+    ensures cause { HasCause (R.faults reader.old) (R.faults reader.new) (IsErrOf result (Io Input)) }
+    ensures same { R.bytes reader.new ≡ R.bytes reader.old }
+    ensures tells { R.tells reader.new ≡ R.tells reader.old }
+{
+    let ends = read_numbers(alloc, reader, block, at, end, count)?;
+    let plain = read_numbers(alloc, reader, block, at + 4 * count as u64, end, count)?;
+    Ok((ends, plain))
+}
+
+/// Where the section of hashes begins, and the spare bytes, after the section of so many chunks.
+fn read_tail<R: ReadAt>(
+    reader: &mut R,
+    block: &mut Block,
+    at: u64,
+    end: u64,
+    count: u32,
+) -> Result<(u32, [u8; 16]), StoreError>
+    requires within { at ≤ end }
+    requires few { count ≤ most_chunks }
+    ensures read { (bytes : List ℕ) → Sees (R.tells reader.old) (R.bytes reader.old) bytes end block.old → IfOk result (λ x. tail_at count (drop at bytes) ≡ Ok ((x.0, x.1), drop (at + 28) bytes)) }
+    ensures part { (bytes : List ℕ) → Sees (R.tells reader.old) (R.bytes reader.old) bytes end block.old → OnOk result (IsPart block.new bytes) }
+    ensures within { OnOk result (at + 28 ≤ end) }
+    ensures refused { (bytes : List ℕ) → Sees (R.tells reader.old) (R.bytes reader.old) bytes end block.old → IfErr result (RefusedBy (tail_at count (drop at bytes))) }
+    ensures kinds { IfErr result IsFooterRefusal }
+    ensures cause { HasCause (R.faults reader.old) (R.faults reader.new) (IsErrOf result (Io Input)) }
+    ensures same { R.bytes reader.new ≡ R.bytes reader.old }
+    ensures tells { R.tells reader.new ≡ R.tells reader.old }
+{
+    expect_number(reader, block, at, end, count, Reason::CountMismatch)?;
+    let hashes = read_number(reader, block, at + 4, end)?;
+    expect_number(
+        reader,
+        block,
+        at + 8,
+        end,
+        40 + 8 * count,
+        Reason::BoundaryOffset,
+    )?;
+    block.load(reader, at + 12, end, 16)?;
+    let mut spare = [0; 16];
+    spare.copy_from_slice(block.part(at + 12, 16));
+    Ok((hashes, spare))
+}
+
+/// The section that begins at an offset, and what is after it, before the end.
+fn read_boundaries<R: ReadAt>(
+    alloc: Global,
+    reader: &mut R,
+    at: u64,
+    end: u64,
+) -> Result<XorbObjectInfoV1, StoreError>
+    requires { at ≤ end }
+    ensures read { (bytes : List ℕ) → Tells (R.tells reader.old) (R.bytes reader.old) bytes end → IfOk result (λ i. boundaries (drop at bytes) ≡ Ok (i, drop (at + (40 + 8 * i.num_chunks)) bytes)) }
+    ensures within { IfOk result (λ i. at + (40 + 8 * i.num_chunks) ≤ end) }
+    ensures few { IfOk result (λ i. i.num_chunks ≤ most_chunks) }
+    ensures refused { (bytes : List ℕ) → Tells (R.tells reader.old) (R.bytes reader.old) bytes end → IfErr result (RefusedBy (boundaries (drop at bytes))) }
+    ensures kinds { IfErr result IsFooterRefusal }
+    ensures cause { HasCause (R.faults reader.old) (R.faults reader.new) (IsErrOf result (Io Input)) }
+    ensures same { R.bytes reader.new ≡ R.bytes reader.old }
+    ensures tells { R.tells reader.new ≡ R.tells reader.old }
+{
+    let mut block = Block::new(alloc);
+    let count = read_head(reader, &mut block, at, end)?;
+    let (ends, plain) = read_lists(alloc, reader, &mut block, at + 12, end, count)?;
+    let tail = at + 12 + 8 * count as u64;
+    let (hashes, spare) = read_tail(reader, &mut block, tail, end, count)?;
+    let mut info = XorbObjectInfoV1::default(alloc);
+    info.chunk_boundary_offsets = Items::from_vec(ends);
+    info.unpacked_chunk_offsets = Items::from_vec(plain);
+    info.num_chunks = count;
+    info.hashes_section_offset_from_end = hashes;
+    info.boundary_section_offset_from_end = 40 + 8 * count;
+    info.spare = spare;
+    Ok(info)
+}
+
+/// Where the section begins, as the number tells that begins 24 bytes before the end.
+fn boundaries_start<R: ReadAt>(reader: &mut R, end: u64) -> Result<u64, StoreError>
+    ensures read { (bytes : List ℕ) → Tells (R.tells reader.old) (R.bytes reader.old) bytes end → IfOk result (λ at. last_boundaries bytes ≡ boundaries (drop at bytes)) }
+    ensures place { (bytes : List ℕ) → Tells (R.tells reader.old) (R.bytes reader.old) bytes end → IfOk result (λ at. at ≡ length bytes - (number_before 24 bytes + 4)) }
+    ensures within { IfOk result (λ at. at ≤ end) }
+    ensures refused { (bytes : List ℕ) → Tells (R.tells reader.old) (R.bytes reader.old) bytes end → IfErr result (RefusedBy (last_boundaries bytes)) }
+    ensures kinds { IfErr result IsFooterRefusal }
+    ensures cause { HasCause (R.faults reader.old) (R.faults reader.new) (IsErrOf result (Io Input)) }
+    ensures same { R.bytes reader.new ≡ R.bytes reader.old }
+    ensures tells { R.tells reader.new ≡ R.tells reader.old }
+{
+    if end < 24 {
+        return Err(StoreError::UnexpectedEof);
+    }
+    let mut told = [0; 4];
+    read_exact(reader, end - 24, &mut told)?;
+    let size = u32::from_le_bytes(told) as u64 + 4;
+    if end < size {
+        return Err(StoreError::UnexpectedEof);
+    }
+    Ok(end - size)
+}

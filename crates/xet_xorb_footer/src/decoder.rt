@@ -1,0 +1,250 @@
+//! Footers that come in pieces, each with its length behind it.
+
+ghost use Rattle.std.specs.Prelude.{◌≡◌, ◌≤◌, ◌<◌, ◌+◌, ◌⊎◌, ◌++◌, true, IfErr, IfOk, OnOk, drop, length, take};
+ghost use Rattle.xet_xorb_footer.specs.Joining.{IsReady, joined_wanted};
+
+use crate::info::XorbObjectInfoV1;
+use crate::lists::number_of;
+use crate::machine::FooterReader;
+use std::alloc::Global;
+use xet_hash::{Reason, StoreError};
+
+/// The bytes of a footer's length.
+const LENGTH_SIZE: usize = 4;
+
+/// What was read of a footer and of its length.
+#[derive(Drop)]
+pub(crate) struct Joined {
+    /// The footer.
+    footer: FooterReader,
+    /// How many of its bytes were read.
+    count: u32,
+    /// Its length has come.
+    ended: bool,
+}
+
+impl Joined {
+    ghost use Rattle.std.specs.Prelude.{◌≡◌, ◌≤◌, ◌<◌, ◌+◌, ◌++◌, [], List, ℕ, false, IfErr, IfOk, OnOk, drop, length};
+    ghost use Rattle.std.specs.Int.{w32, from_le_bytes};
+    ghost use Rattle.xet_xorb_footer.specs.Ends.{whole_footer};
+    ghost use Rattle.xet_xorb_footer.specs.Joining.{IsReady, IsWholeRefusal, Reads, Stops, joined_wanted, rest_whole};
+    ghost use Rattle.xet_xorb_footer.specs.Reader.{bytes_wanted};
+
+    /// Nothing was read. It takes no memory.
+    fn new(alloc: Global) -> Joined
+        ensures rest { (bytes : List ℕ) → whole_footer bytes ≡ rest_whole result (length bytes) bytes }
+        ensures ready { IsReady result }
+        ensures count { result.count ≡ 0 }
+        ensures ended { result.ended ≡ false }
+    {
+        Joined {
+            footer: FooterReader::of_either(alloc, 0),
+            count: 0,
+            ended: false,
+        }
+    }
+
+    /// The bytes of what comes next. Behind the length this is any byte, which is refused.
+    fn wanted(&self) -> usize
+        ensures { result ≡ joined_wanted self.now }
+    {
+        if self.ended {
+            return 1;
+        }
+        match self.footer.wanted() {
+            0 => LENGTH_SIZE,
+            wanted => wanted,
+        }
+    }
+
+    /// Takes what comes next, whole.
+    fn take(&mut self, field: &[u8]) -> Result<(), StoreError>
+        requires ready { IsReady self.old }
+        requires len { length field.now ≡ joined_wanted self.old }
+        ensures read { OnOk result (Reads self.old self.new field.now []) }
+        ensures ready { OnOk result (IsReady self.new) }
+        ensures refused { IfErr result (Stops self.old field.now) }
+        ensures kinds { IfErr result IsWholeRefusal }
+    {
+        if self.ended {
+            return Err(StoreError::MalformedData(Reason::TrailingBytes));
+        }
+        if self.footer.wanted() == 0 {
+            return self.take_length(field);
+        }
+        self.footer.take(field)?;
+        self.count += field.len() as u32;
+        Ok(())
+    }
+
+    /// Takes the length of the footer, which is whole.
+    fn take_length(&mut self, field: &[u8]) -> Result<(), StoreError>
+        requires ready { IsReady self.old }
+        requires ended { self.old.ended ≡ false }
+        requires whole { bytes_wanted self.old.footer ≡ 0 }
+        requires len { length field.now ≡ 4 }
+        ensures read { OnOk result (Reads self.old self.new field.now []) }
+        ensures ready { OnOk result (IsReady self.new) }
+        ensures refused { IfErr result (Stops self.old field.now) }
+        ensures kinds { IfErr result IsWholeRefusal }
+    {
+        if number_of(field) != self.count {
+            return Err(StoreError::MalformedData(Reason::InfoLength));
+        }
+        self.ended = true;
+        Ok(())
+    }
+
+    /// Takes what is whole at the front of a piece, straight from it, and returns how many bytes that has.
+    fn take_whole(&mut self, piece: &[u8]) -> Result<usize, StoreError>
+        requires { IsReady self.old }
+        ensures within { IfOk result (λ n. n ≤ length piece.now) }
+        ensures read { IfOk result (λ n. Reads self.old self.new piece.now (drop n piece.now)) }
+        ensures short { IfOk result (λ n. length (drop n piece.now) < joined_wanted self.new) }
+        ensures ready { OnOk result (IsReady self.new) }
+        ensures refused { IfErr result (Stops self.old piece.now) }
+        ensures kinds { IfErr result IsWholeRefusal }
+    {
+        let mut at = 0;
+        'fields: while piece.len() - at >= self.wanted() {
+            let to = at + self.wanted();
+            self.take(&piece[at..to])?;
+            at = to;
+        }
+        Ok(at)
+    }
+
+    /// Fills up what is at hand from the front of a piece, takes it if it is whole then, and returns how many
+    /// bytes it added: all, if it is not.
+    fn complete(&mut self, held: &mut Vec<u8>, piece: &[u8]) -> Result<usize, StoreError>
+        requires ready { IsReady self.old }
+        requires short { length held.old.items < joined_wanted self.old }
+        ensures within { IfOk result (λ n. n ≤ length piece.now) }
+        ensures read { IfOk result (λ n. Reads self.old self.new (held.old.items ++ piece.now) (held.new.items ++ drop n piece.now)) }
+        ensures short { OnOk result (length held.new.items < joined_wanted self.new) }
+        ensures rest { IfOk result (λ n. n < length piece.now → held.new.items ≡ []) }
+        ensures ready { OnOk result (IsReady self.new) }
+        ensures refused { IfErr result (Stops self.old (held.old.items ++ piece.now)) }
+        ensures kinds { IfErr result IsWholeRefusal }
+    {
+        let wanted = self.wanted();
+        let added = piece.len().min(wanted - held.len());
+        held.extend_from_slice(&piece[..added])?;
+        if held.len() < wanted {
+            return Ok(added);
+        }
+        self.take(held)?;
+        held.clear();
+        Ok(added)
+    }
+}
+
+/// A footer and its length, in four bytes behind it, that come in pieces.
+#[derive(Drop)]
+pub struct FooterDecoder {
+    joined: Joined,
+    /// What has come of the field at hand.
+    held: Vec<u8>,
+    /// Nothing was refused.
+    whole: bool,
+    ghost ready: { whole ≡ true → IsReady joined },
+    ghost short: { whole ≡ true → length held.items < joined_wanted joined },
+}
+
+impl FooterDecoder {
+    ghost use Rattle.std.specs.Prelude.{◌≡◌, ◌<◌, ◌⊎◌, ◌↔◌, ◌++◌, [], List, ℕ, Err, Ok, true, false, IfErr, IfOk, IsOk, IsTrue, OnOk};
+    ghost use Rattle.xet_hash.specs.declared.error.StoreError.TheVariants.{UnexpectedEof};
+    ghost use Rattle.xet_xorb_footer.specs.Decoder.{Holds, Refuses, whole_of};
+    ghost use Rattle.xet_xorb_footer.specs.Ends.{whole_footer};
+    ghost use Rattle.xet_xorb_footer.specs.Joining.{IsReady, IsWholeRefusal, Reads, Stops, joined_wanted};
+
+    /// A decoder to which nothing was fed. It takes no memory.
+    pub fn new(alloc: Global) -> FooterDecoder
+        ensures whole { whole_of result ≡ true }
+        ensures holds { Holds result [] }
+    {
+        FooterDecoder {
+            joined: Joined::new(alloc),
+            held: Vec::new(alloc),
+            whole: true,
+        }
+    }
+
+    /// Whether nothing was refused so far.
+    pub fn is_whole(&self) -> bool
+        ensures { result ≡ whole_of self.now }
+    {
+        self.whole
+    }
+
+    /// Takes the next piece. Refused as the first check that fails says, as soon as it is decided: as
+    /// `InfoLength` with the fourth byte of a wrong length, as `TrailingBytes` with the first byte behind
+    /// it; or as `OutOfMemory`. Nothing may be fed after a refusal.
+    pub fn feed(&mut self, piece: &[u8]) -> Result<(), StoreError>
+        requires { whole_of self.old ≡ true }
+        ensures fed { OnOk result ((bytes : List ℕ) → Holds self.old bytes → Holds self.new (bytes ++ piece.now)) }
+        ensures refused { IfErr result (Refuses self.old piece.now) }
+        ensures kinds { IfErr result IsWholeRefusal }
+        ensures whole { IsTrue (whole_of self.new) ↔ IsOk result }
+    {
+        self.whole = false;
+        self.absorb(piece)?;
+        self.whole = true;
+        Ok(())
+    }
+
+    /// Takes the next piece.
+    fn absorb(&mut self, piece: &[u8]) -> Result<(), StoreError>
+        requires refused { self.old.whole ≡ false }
+        requires ready { IsReady self.old.joined }
+        requires short { length self.old.held.items < joined_wanted self.old.joined }
+        ensures read { OnOk result (Reads self.old.joined self.new.joined (self.old.held.items ++ piece.now) self.new.held.items) }
+        ensures ready { OnOk result (IsReady self.new.joined) }
+        ensures short { OnOk result (length self.new.held.items < joined_wanted self.new.joined) }
+        ensures stopped { IfErr result (Stops self.old.joined (self.old.held.items ++ piece.now)) }
+        ensures kinds { IfErr result IsWholeRefusal }
+        ensures whole { self.new.whole ≡ false }
+    {
+        if self.held.is_empty() {
+            return self.take_whole(piece);
+        }
+        let added = self.joined.complete(&mut self.held, piece)?;
+        if added == piece.len() {
+            return Ok(());
+        }
+        self.take_whole(&piece[added..])
+    }
+
+    /// Takes the next piece where nothing is at hand: what is whole, and keeps the rest.
+    fn take_whole(&mut self, piece: &[u8]) -> Result<(), StoreError>
+        requires refused { self.old.whole ≡ false }
+        requires ready { IsReady self.old.joined }
+        requires empty { self.old.held.items ≡ [] }
+        ensures read { OnOk result (Reads self.old.joined self.new.joined piece.now self.new.held.items) }
+        ensures ready { OnOk result (IsReady self.new.joined) }
+        ensures short { OnOk result (length self.new.held.items < joined_wanted self.new.joined) }
+        ensures stopped { IfErr result (Stops self.old.joined piece.now) }
+        ensures kinds { IfErr result IsWholeRefusal }
+        ensures whole { self.new.whole ≡ false }
+    {
+        let taken = self.joined.take_whole(piece)?;
+        self.held.extend_from_slice(&piece[taken..])?;
+        Ok(())
+    }
+
+    /// Ends the pieces: gives the footer, and how many bytes it has. Refused as `UnexpectedEof` where they end
+    /// before the length does.
+    pub fn finish(self) -> Result<(XorbObjectInfoV1, u32), StoreError>
+        requires { whole_of self ≡ true }
+        ensures read { IfOk result (λ x. (bytes : List ℕ) → Holds self bytes → whole_footer bytes ≡ Ok (x.0, x.1)) }
+        ensures refused { IfErr result (λ e. (bytes : List ℕ) → Holds self bytes → whole_footer bytes ≡ Err e) }
+        ensures kinds { IfErr result (λ e. e ≡ UnexpectedEof) }
+    {
+        if !self.joined.ended {
+            return Err(StoreError::UnexpectedEof);
+        }
+        let FooterDecoder { joined, .. } = self;
+        let Joined { footer, count, .. } = joined;
+        Ok((footer.into_v1(), count))
+    }
+}

@@ -1,0 +1,494 @@
+//! A footer that is read field by field.
+
+ghost use Rattle.std.specs.Prelude.{◌≤◌, vec_len};
+
+use crate::info::{BOUNDARIES_IDENT, FOOTER_IDENT, HASHES_IDENT, XorbObjectInfoV0, XorbObjectInfoV1};
+use crate::lists::{hash_of, number_of, push_hashes, push_numbers};
+use std::alloc::{AllocError, Global};
+use xet_base::Items;
+use xet_hash::{MerkleHash, Reason, StoreError};
+
+/// The most items of a list that are read at once.
+const BLOCK: usize = 64;
+
+/// The most chunks of a footer.
+pub(crate) const MOST_CHUNKS: u32 = 107374180;
+
+/// A field of a footer.
+#[derive(Clone, Copy, PartialEq, Eq, Debug)]
+pub(crate) enum Field {
+    /// The ident.
+    Ident,
+    /// The version.
+    Version,
+    /// The hash of the xorb.
+    Hash,
+    /// The ident of the section of hashes.
+    HashesIdent,
+    /// The version of the section of hashes.
+    HashesVersion,
+    /// The number of chunks.
+    Count,
+    /// Some hashes.
+    Hashes,
+    /// The ident of the section of boundaries.
+    BoundariesIdent,
+    /// The version of the section of boundaries.
+    BoundariesVersion,
+    /// The number of chunks in the section of boundaries.
+    CountAgain,
+    /// Some stored ends.
+    Ends,
+    /// Some plain ends.
+    PlainEnds,
+    /// The number of chunks behind the sections.
+    CountLast,
+    /// Where the section of hashes begins.
+    HashesOffset,
+    /// Where the section of boundaries begins.
+    BoundaryOffset,
+    /// The spare bytes.
+    Spare,
+    /// Nothing.
+    Done,
+}
+
+/// What was read of a footer so far, and which field comes next.
+#[derive(Drop)]
+pub(crate) struct FooterReader {
+    /// The next field.
+    next: Field,
+    /// Whether version 1 is allowed.
+    either: bool,
+    /// Whether it is of version 1.
+    is_v1: bool,
+    /// The hash of the xorb.
+    hash: MerkleHash,
+    /// The number of chunks.
+    count: u32,
+    /// The hashes.
+    hashes: Vec<MerkleHash>,
+    /// The stored ends.
+    ends: Vec<u32>,
+    /// The plain ends.
+    plain: Vec<u32>,
+    /// The spare bytes.
+    spare: [u8; 16],
+    /// How many bytes are there, of the footer and after it, as far as that is known.
+    available: u64,
+    ghost few: { count ≤ 107374180 },
+    ghost few_hashes: { vec_len hashes ≤ 107374180 },
+    ghost few_ends: { vec_len ends ≤ 107374180 },
+    ghost few_plain: { vec_len plain ≤ 107374180 },
+}
+
+impl FooterReader {
+    ghost use Rattle.std.specs.Prelude.{◌≡◌, ◌≤◌, ◌⊎◌, ℕ, ◌+◌, ◌-◌, ◌*◌, List, ◌++◌, Err, IfErr, IsErrOf, OnOk, length, min, nat_lt};
+    ghost use Rattle.xet_hash.specs.declared.error.StoreError.TheVariants.{OutOfMemory, UnexpectedEof};
+    ghost use Rattle.xet_xorb_footer.specs.Machine.{IsSettled, as_value, behind_ends, block_of, ends_v0, ends_v1, expects, expects_number, hashes_v0, hashes_v1, info_of, info_v0, next_count, next_ends, next_hash, next_hashes, next_plain, next_spare, next_version, plain_v1, started, step};
+    ghost use Rattle.xet_xorb_footer.specs.Reader.{bytes_left, bytes_wanted, parts_of, rest_of};
+    ghost use Rattle.xet_xorb_footer.specs.Reading.{footer_at, footer_v0, rest_v0};
+    ghost use Rattle.xet_xorb_footer.specs.Refusals.{Gives, IsRefusal};
+    ghost use Rattle.xet_xorb_footer.specs.Spelled.{most_chunks};
+
+    /// A reader of a footer of either version, for which so many bytes are available: lists that fit into them are
+    /// reserved once, as soon as their length is read, and others grow.
+    pub(crate) fn of_either(alloc: Global, available: u64) -> FooterReader
+        ensures rest { (bytes : List ℕ) → as_value info_of (rest_of result bytes) ≡ footer_at bytes }
+        ensures settled { IsSettled result.next (parts_of result) }
+        ensures left { bytes_left result ≤ 92 + 40 * most_chunks }
+    {
+        FooterReader::started(alloc, true, Field::Ident, available)
+    }
+
+    /// A reader of a footer of version 0.
+    pub(crate) fn of_v0(alloc: Global) -> FooterReader
+        ensures rest { (bytes : List ℕ) → as_value info_v0 (rest_of result bytes) ≡ footer_v0 bytes }
+        ensures settled { IsSettled result.next (parts_of result) }
+        ensures left { bytes_left result ≤ 92 + 40 * most_chunks }
+    {
+        FooterReader::started(alloc, false, Field::Ident, 0)
+    }
+
+    /// A reader of what stands behind ident and version of a footer of version 0.
+    pub(crate) fn of_rest_v0(alloc: Global) -> FooterReader
+        ensures rest { (bytes : List ℕ) → as_value info_v0 (rest_of result bytes) ≡ rest_v0 bytes }
+        ensures settled { IsSettled result.next (parts_of result) }
+        ensures left { bytes_left result ≤ 92 + 40 * most_chunks }
+    {
+        FooterReader::started(alloc, false, Field::Hash, 0)
+    }
+
+    /// A reader that has read nothing.
+    fn started(alloc: Global, either: bool, next: Field, available: u64) -> FooterReader
+        ensures next { result.next ≡ next }
+        ensures parts { parts_of result ≡ started either }
+    {
+        FooterReader {
+            next,
+            either,
+            is_v1: false,
+            hash: MerkleHash::default(),
+            count: 0,
+            hashes: Vec::new(alloc),
+            ends: Vec::new(alloc),
+            plain: Vec::new(alloc),
+            spare: [0; 16],
+            available,
+        }
+    }
+
+    /// The footer, where it is whole.
+    pub(crate) fn into_v0(self) -> XorbObjectInfoV0
+        ensures { result ≡ info_v0 (parts_of self) }
+    {
+        let spare = self.spare;
+        XorbObjectInfoV0 {
+            ident: FOOTER_IDENT,
+            version: 0,
+            xorb_hash: self.hash,
+            num_chunks: self.count,
+            chunk_boundary_offsets: Items::from_vec(self.ends),
+            chunk_hashes: Items::from_vec(self.hashes),
+            spare,
+        }
+    }
+
+    /// The footer of either version, as one of version 1, where it is whole.
+    pub(crate) fn into_v1(self) -> XorbObjectInfoV1
+        ensures { result ≡ info_of (parts_of self) }
+    {
+        if !self.is_v1 {
+            return XorbObjectInfoV1::from_v0(self.into_v0());
+        }
+        let spare = self.spare;
+        XorbObjectInfoV1 {
+            ident: FOOTER_IDENT,
+            version: 1,
+            xorb_hash: self.hash,
+            ident_hash_section: HASHES_IDENT,
+            hashes_version: 0,
+            chunk_hashes: Items::from_vec(self.hashes),
+            ident_boundary_section: BOUNDARIES_IDENT,
+            boundaries_version: 1,
+            chunk_boundary_offsets: Items::from_vec(self.ends),
+            unpacked_chunk_offsets: Items::from_vec(self.plain),
+            num_chunks: self.count,
+            hashes_section_offset_from_end: 52 + 40 * self.count,
+            boundary_section_offset_from_end: 40 + 8 * self.count,
+            spare,
+        }
+    }
+
+    /// The bytes of the next field; none where the footer is whole.
+    pub(crate) fn wanted(&self) -> usize
+        ensures { result ≡ bytes_wanted self.now }
+    {
+        match self.next {
+            Field::Ident | Field::HashesIdent | Field::BoundariesIdent => 7,
+            Field::Version | Field::HashesVersion | Field::BoundariesVersion => 1,
+            Field::Hash => 32,
+            Field::Hashes => 32 * self.block(self.hashes.len()),
+            Field::Ends => 4 * self.block(self.ends.len()),
+            Field::PlainEnds => 4 * self.block(self.plain.len()),
+            Field::Count | Field::CountAgain | Field::CountLast => 4,
+            Field::HashesOffset | Field::BoundaryOffset => 4,
+            Field::Spare => 16,
+            Field::Done => 0,
+        }
+    }
+
+    /// How many items are read next of a list of which so many are there.
+    fn block(&self, len: usize) -> usize
+        ensures { result ≡ min 64 (self.now.count - len) }
+    {
+        BLOCK.min((self.count as usize).saturating_sub(len))
+    }
+    /// Takes the next field, whole.
+    pub(crate) fn take(&mut self, field: &[u8]) -> Result<(), StoreError>
+        requires { length field.now ≡ bytes_wanted self.old }
+        ensures taken { OnOk result ((more : List ℕ) → rest_of self.old (field.now ++ more) ≡ rest_of self.new more) }
+        ensures refused { IfErr result (λ e. (e ≡ OutOfMemory) ⊎ ((more : List ℕ) → rest_of self.old (field.now ++ more) ≡ Err e)) }
+        ensures kinds { IfErr result IsRefusal }
+        ensures whole { IsErrOf result UnexpectedEof → ⊥ }
+        ensures settled { OnOk result (IsSettled self.new.next (parts_of self.new)) }
+        ensures left { OnOk result (length field.now + bytes_left self.new ≤ bytes_left self.old) }
+    {
+        self.step(field)
+    }
+
+    /// The same.
+    #[tactic(auto, unfolding(crate::specs::Machine::step))]
+    fn step(&mut self, field: &[u8]) -> Result<(), StoreError>
+        requires { length field.now ≡ bytes_wanted self.old }
+        ensures { Gives (λ _. (self.new.next, parts_of self.new)) result (step self.old.next (parts_of self.old) field.now) }
+    {
+        let count = self.count as u64;
+        match self.next {
+            Field::Ident => self.expect(field, &FOOTER_IDENT, Reason::Ident, Field::Version),
+            Field::Version => self.take_version(field),
+            Field::Hash => self.take_hash(field),
+            Field::HashesIdent => {
+                self.expect(
+                    field,
+                    &HASHES_IDENT,
+                    Reason::HashesIdent,
+                    Field::HashesVersion,
+                )
+            }
+            Field::HashesVersion => {
+                self.expect(field, &[0], Reason::HashesVersion, Field::Count)
+            }
+            Field::Count => self.take_count(field),
+            Field::Hashes => self.take_hashes(field),
+            Field::BoundariesIdent => self.expect(
+                field,
+                &BOUNDARIES_IDENT,
+                Reason::BoundariesIdent,
+                Field::BoundariesVersion,
+            ),
+            Field::BoundariesVersion => {
+                self.expect(field, &[1], Reason::BoundariesVersion, Field::CountAgain)
+            }
+            Field::CountAgain => {
+                self.expect_number(field, count, Reason::CountMismatch, self.behind_ends())
+            }
+            Field::Ends => self.take_ends(field),
+            Field::PlainEnds => self.take_plain(field),
+            Field::CountLast => {
+                self.expect_number(field, count, Reason::CountMismatch, Field::HashesOffset)
+            }
+            Field::HashesOffset => self.expect_number(
+                field,
+                52 + 40 * count,
+                Reason::HashesOffset,
+                Field::BoundaryOffset,
+            ),
+            Field::BoundaryOffset => {
+                self.expect_number(field, 40 + 8 * count, Reason::BoundaryOffset, Field::Spare)
+            }
+            Field::Spare => self.take_spare(field),
+            Field::Done => Ok(()),
+        }
+    }
+
+    /// Checks that the field is this one.
+    fn expect(
+        &mut self,
+        field: &[u8],
+        wanted: &[u8],
+        reason: Reason,
+        next: Field,
+    ) -> Result<(), StoreError>
+        ensures { Gives (λ _. (self.new.next, parts_of self.new)) result (expects field.now wanted.now reason next (parts_of self.old)) }
+    {
+        if field != wanted {
+            return Err(StoreError::MalformedData(reason));
+        }
+        self.next = next;
+        Ok(())
+    }
+
+    /// Checks that the field is this number.
+    fn expect_number(
+        &mut self,
+        field: &[u8],
+        wanted: u64,
+        reason: Reason,
+        next: Field,
+    ) -> Result<(), StoreError>
+        requires { length field.now ≡ 4 }
+        ensures { Gives (λ _. (self.new.next, parts_of self.new)) result (expects_number field.now wanted reason next (parts_of self.old)) }
+    {
+        if number_of(field) as u64 != wanted {
+            return Err(StoreError::MalformedData(reason));
+        }
+        self.next = next;
+        Ok(())
+    }
+
+    /// Takes the version.
+    fn take_version(&mut self, field: &[u8]) -> Result<(), StoreError>
+        ensures { Gives (λ _. (self.new.next, parts_of self.new)) result (next_version (parts_of self.old) field.now) }
+    {
+        if self.either && field == [1].as_slice() {
+            self.is_v1 = true;
+            self.next = Field::Hash;
+            return Ok(());
+        }
+        self.is_v1 = false;
+        self.expect(field, &[0], Reason::Version, Field::Hash)
+    }
+
+    /// Takes the hash of the xorb.
+    fn take_hash(&mut self, field: &[u8]) -> Result<(), StoreError>
+        requires { length field.now ≡ 32 }
+        ensures { Gives (λ _. (self.new.next, parts_of self.new)) result (next_hash (parts_of self.old) field.now) }
+    {
+        self.hash = hash_of(field);
+        self.next = if self.is_v1 {
+            Field::HashesIdent
+        } else {
+            Field::Count
+        };
+        Ok(())
+    }
+
+    /// Takes the number of chunks.
+    fn take_count(&mut self, field: &[u8]) -> Result<(), StoreError>
+        requires { length field.now ≡ 4 }
+        ensures { Gives (λ _. (self.new.next, parts_of self.new)) result (next_count (parts_of self.old) field.now) }
+    {
+        let count = number_of(field);
+        if count > MOST_CHUNKS {
+            return Err(StoreError::MalformedData(Reason::ChunkCount));
+        }
+        self.count = count;
+        self.reserve()?;
+        self.next = if self.is_v1 {
+            self.hashes_v1()
+        } else {
+            self.ends_v0()
+        };
+        Ok(())
+    }
+
+    /// Reserves the lists, if they fit into the bytes that are available: a chunk has 40 bytes there in version 1,
+    /// and 36 in version 0.
+    fn reserve(&mut self) -> Result<(), AllocError>
+        ensures next { self.new.next ≡ self.old.next }
+        ensures parts { parts_of self.new ≡ parts_of self.old }
+    {
+        let count = self.count as usize;
+        let each = if self.is_v1 { 40 } else { 36 };
+        if self.available < each * count as u64 {
+            return Ok(());
+        }
+        self.hashes.reserve(count)?;
+        self.ends.reserve(count)?;
+        if self.is_v1 {
+            self.plain.reserve(count)?;
+        }
+        Ok(())
+    }
+
+    /// Takes some hashes.
+    fn take_hashes(&mut self, field: &[u8]) -> Result<(), StoreError>
+        requires { length field.now ≡ 32 * block_of (parts_of self.old) self.old.hashes.items }
+        ensures { Gives (λ _. (self.new.next, parts_of self.new)) result (next_hashes (parts_of self.old) field.now) }
+    {
+        let count = self.block(self.hashes.len());
+        push_hashes(&mut self.hashes, field, count)?;
+        self.next = if self.is_v1 {
+            self.hashes_v1()
+        } else {
+            self.hashes_v0()
+        };
+        Ok(())
+    }
+
+    /// Takes some stored ends.
+    fn take_ends(&mut self, field: &[u8]) -> Result<(), StoreError>
+        requires { length field.now ≡ 4 * block_of (parts_of self.old) self.old.ends.items }
+        ensures { Gives (λ _. (self.new.next, parts_of self.new)) result (next_ends (parts_of self.old) field.now) }
+    {
+        let count = self.block(self.ends.len());
+        push_numbers(&mut self.ends, field, count)?;
+        self.next = self.behind_ends();
+        Ok(())
+    }
+
+    /// Takes some plain ends.
+    fn take_plain(&mut self, field: &[u8]) -> Result<(), StoreError>
+        requires { length field.now ≡ 4 * block_of (parts_of self.old) self.old.plain.items }
+        ensures { Gives (λ _. (self.new.next, parts_of self.new)) result (next_plain (parts_of self.old) field.now) }
+    {
+        let count = self.block(self.plain.len());
+        push_numbers(&mut self.plain, field, count)?;
+        self.next = self.plain_v1();
+        Ok(())
+    }
+
+    /// Takes the spare bytes.
+    fn take_spare(&mut self, field: &[u8]) -> Result<(), StoreError>
+        requires { length field.now ≡ 16 }
+        ensures { Gives (λ _. (self.new.next, parts_of self.new)) result (next_spare (parts_of self.old) field.now) }
+    {
+        self.spare.copy_from_slice(field);
+        self.next = Field::Done;
+        Ok(())
+    }
+
+    /// Whether a list of which so many items are there is not whole.
+    fn lacks(&self, len: usize) -> bool
+        ensures { result ≡ nat_lt len self.now.count }
+    {
+        len < self.count as usize
+    }
+
+    /// What comes next where the plain ends do.
+    fn plain_v1(&self) -> Field
+        ensures { result ≡ plain_v1 (parts_of self.now) }
+    {
+        if self.lacks(self.plain.len()) {
+            Field::PlainEnds
+        } else {
+            Field::CountLast
+        }
+    }
+
+    /// What comes next where the stored ends of version 1 do.
+    fn ends_v1(&self) -> Field
+        ensures { result ≡ ends_v1 (parts_of self.now) }
+    {
+        if self.lacks(self.ends.len()) {
+            Field::Ends
+        } else {
+            self.plain_v1()
+        }
+    }
+
+    /// What comes next where the stored ends do.
+    fn behind_ends(&self) -> Field
+        ensures { result ≡ behind_ends (parts_of self.now) }
+    {
+        if self.is_v1 {
+            self.ends_v1()
+        } else {
+            self.ends_v0()
+        }
+    }
+
+    /// What comes next where the hashes of version 1 do.
+    fn hashes_v1(&self) -> Field
+        ensures { result ≡ hashes_v1 (parts_of self.now) }
+    {
+        if self.lacks(self.hashes.len()) {
+            Field::Hashes
+        } else {
+            Field::BoundariesIdent
+        }
+    }
+
+    /// What comes next where the hashes of version 0 do.
+    fn hashes_v0(&self) -> Field
+        ensures { result ≡ hashes_v0 (parts_of self.now) }
+    {
+        if self.lacks(self.hashes.len()) {
+            Field::Hashes
+        } else {
+            Field::Spare
+        }
+    }
+
+    /// What comes next where the stored ends of version 0 do.
+    fn ends_v0(&self) -> Field
+        ensures { result ≡ ends_v0 (parts_of self.now) }
+    {
+        if self.lacks(self.ends.len()) {
+            Field::Ends
+        } else {
+            self.hashes_v0()
+        }
+    }
+}

@@ -1,0 +1,152 @@
+//! Footers that are read from sources.
+
+ghost use Rattle.std.specs.Prelude.{◌≡◌, ◌≤◌, ◌+◌, ◌*◌, ◌⊎◌, ℕ, [], Ok, Err, true, IfErr, IfOk, IsErrOf, OnOk, drop, length};
+ghost use Rattle.xet_hash.specs.declared.error.Place.TheVariants.{Input};
+ghost use Rattle.xet_hash.specs.declared.error.StoreError.TheVariants.{Io, OutOfMemory, UnexpectedEof};
+ghost use Rattle.xet_io.specs.Faults.{HasCause};
+ghost use Rattle.xet_io.specs.Whole.{Fills};
+ghost use Rattle.xet_xorb_footer.specs.Machine.{IsSettled};
+ghost use Rattle.xet_xorb_footer.specs.Reader.{bytes_left, bytes_wanted, parts_of, rest_of};
+ghost use Rattle.xet_xorb_footer.specs.Reading.{footer_at, footer_v0, rest_v0};
+ghost use Rattle.xet_xorb_footer.specs.Refusals.{IsFooterRefusal};
+ghost use Rattle.xet_xorb_footer.specs.Spelled.{most_chunks};
+
+use crate::info::{XorbObjectInfoV0, XorbObjectInfoV1};
+use crate::machine::FooterReader;
+use std::alloc::Global;
+use xet_hash::{Place, StoreError};
+use xet_io::{Source, read_full};
+
+/// The most bytes of a field.
+const BLOCK: usize = 2048;
+
+impl XorbObjectInfoV1 {
+    /// Reads a footer of either version from a source, as one of version 1, and returns it with its number of
+    /// bytes. The error is that of the first check that fails, `UnexpectedEof` where the bytes end inside the
+    /// footer, `Io(Input)`, or `OutOfMemory`. Whatever comes, a prefix of the source is taken: with a footer
+    /// just its bytes, with `UnexpectedEof` all bytes. A source is read field by field, and not in larger
+    /// blocks: what it has after the footer stays there.
+    pub fn deserialize<R: Source>(
+        alloc: Global,
+        source: &mut R,
+    ) -> Result<(XorbObjectInfoV1, u32), StoreError>
+        ensures read { R.tells source.old ≡ true → IfOk result (λ x. footer_at (R.left source.old) ≡ Ok (x.0, R.left source.new)) }
+        ensures count { R.tells source.old ≡ true → IfOk result (λ x. length (R.left source.old) ≡ x.1 + length (R.left source.new)) }
+        ensures refused { R.tells source.old ≡ true → IfErr result (λ e. (footer_at (R.left source.old) ≡ Err e) ⊎ (e ≡ Io Input) ⊎ (e ≡ OutOfMemory)) }
+        ensures prefix { R.tells source.old ≡ true → (n : ℕ) × (R.left source.new ≡ drop n (R.left source.old)) }
+        ensures ended { R.tells source.old ≡ true → IsErrOf result UnexpectedEof → R.left source.new ≡ [] }
+        ensures kinds { IfErr result IsFooterRefusal }
+        ensures cause { HasCause (R.faults source.old) (R.faults source.new) (IsErrOf result (Io Input)) }
+        ensures tells { R.tells source.new ≡ R.tells source.old }
+    {
+        let mut reader = FooterReader::of_either(alloc, 0);
+        let count = read_fields(&mut reader, source)?;
+        Ok((reader.into_v1(), count))
+    }
+}
+
+impl XorbObjectInfoV0 {
+    /// Reads a footer of version 0 from a source, and returns it with its number of bytes. Errors, and what is
+    /// taken of the source, are as for a footer of either version.
+    pub fn deserialize<R: Source>(
+        alloc: Global,
+        source: &mut R,
+    ) -> Result<(XorbObjectInfoV0, u32), StoreError>
+        ensures read { R.tells source.old ≡ true → IfOk result (λ x. footer_v0 (R.left source.old) ≡ Ok (x.0, R.left source.new)) }
+        ensures count { R.tells source.old ≡ true → IfOk result (λ x. length (R.left source.old) ≡ x.1 + length (R.left source.new)) }
+        ensures refused { R.tells source.old ≡ true → IfErr result (λ e. (footer_v0 (R.left source.old) ≡ Err e) ⊎ (e ≡ Io Input) ⊎ (e ≡ OutOfMemory)) }
+        ensures prefix { R.tells source.old ≡ true → (n : ℕ) × (R.left source.new ≡ drop n (R.left source.old)) }
+        ensures ended { R.tells source.old ≡ true → IsErrOf result UnexpectedEof → R.left source.new ≡ [] }
+        ensures kinds { IfErr result IsFooterRefusal }
+        ensures cause { HasCause (R.faults source.old) (R.faults source.new) (IsErrOf result (Io Input)) }
+        ensures tells { R.tells source.new ≡ R.tells source.old }
+    {
+        let mut reader = FooterReader::of_v0(alloc);
+        let count = read_fields(&mut reader, source)?;
+        Ok((reader.into_v0(), count))
+    }
+
+    /// Reads what stands after ident and version of such a footer, and returns it with its number of bytes.
+    pub fn deserialize_v0<R: Source>(
+        alloc: Global,
+        source: &mut R,
+    ) -> Result<(XorbObjectInfoV0, u32), StoreError>
+        ensures read { R.tells source.old ≡ true → IfOk result (λ x. rest_v0 (R.left source.old) ≡ Ok (x.0, R.left source.new)) }
+        ensures count { R.tells source.old ≡ true → IfOk result (λ x. length (R.left source.old) ≡ x.1 + length (R.left source.new)) }
+        ensures refused { R.tells source.old ≡ true → IfErr result (λ e. (rest_v0 (R.left source.old) ≡ Err e) ⊎ (e ≡ Io Input) ⊎ (e ≡ OutOfMemory)) }
+        ensures prefix { R.tells source.old ≡ true → (n : ℕ) × (R.left source.new ≡ drop n (R.left source.old)) }
+        ensures ended { R.tells source.old ≡ true → IsErrOf result UnexpectedEof → R.left source.new ≡ [] }
+        ensures kinds { IfErr result IsFooterRefusal }
+        ensures cause { HasCause (R.faults source.old) (R.faults source.new) (IsErrOf result (Io Input)) }
+        ensures tells { R.tells source.new ≡ R.tells source.old }
+    {
+        let mut reader = FooterReader::of_rest_v0(alloc);
+        let count = read_fields(&mut reader, source)?;
+        Ok((reader.into_v0(), count))
+    }
+}
+
+/// Reads all fields that are wanted, and returns how many bytes they have.
+fn read_fields<R: Source>(reader: &mut FooterReader, source: &mut R) -> Result<u32, StoreError>
+    requires settled { IsSettled reader.old.next (parts_of reader.old) }
+    requires left { bytes_left reader.old ≤ 92 + 40 * most_chunks }
+    ensures read { R.tells source.old ≡ true → OnOk result (rest_of reader.old (R.left source.old) ≡ Ok (parts_of reader.new, R.left source.new)) }
+    ensures count { R.tells source.old ≡ true → IfOk result (λ n. length (R.left source.old) ≡ n + length (R.left source.new)) }
+    ensures refused { R.tells source.old ≡ true → IfErr result (λ e. (rest_of reader.old (R.left source.old) ≡ Err e) ⊎ (e ≡ Io Input) ⊎ (e ≡ OutOfMemory)) }
+    ensures prefix { R.tells source.old ≡ true → (n : ℕ) × (R.left source.new ≡ drop n (R.left source.old)) }
+    ensures ended { R.tells source.old ≡ true → IsErrOf result UnexpectedEof → R.left source.new ≡ [] }
+    ensures kinds { IfErr result IsFooterRefusal }
+    ensures cause { HasCause (R.faults source.old) (R.faults source.new) (IsErrOf result (Io Input)) }
+    ensures tells { R.tells source.new ≡ R.tells source.old }
+{
+    let mut block = [0; BLOCK];
+    let mut count: u32 = 0;
+    'fields: while reader.wanted() > 0 {
+        let taken = read_field(reader, source, &mut block)?;
+        count += taken;
+    }
+    Ok(count)
+}
+
+/// Reads the next field, and returns how many bytes it has.
+fn read_field<R: Source>(
+    reader: &mut FooterReader,
+    source: &mut R,
+    block: &mut [u8],
+) -> Result<u32, StoreError>
+    requires { 2048 ≤ length block.old }
+    ensures taken { R.tells source.old ≡ true → OnOk result (rest_of reader.old (R.left source.old) ≡ rest_of reader.new (R.left source.new)) }
+    ensures count { R.tells source.old ≡ true → IfOk result (λ n. length (R.left source.old) ≡ n + length (R.left source.new)) }
+    ensures wanted { IfOk result (λ n. n ≡ bytes_wanted reader.old) }
+    ensures settled { OnOk result (IsSettled reader.new.next (parts_of reader.new)) }
+    ensures left { IfOk result (λ n. n + bytes_left reader.new ≤ bytes_left reader.old) }
+    ensures refused { R.tells source.old ≡ true → IfErr result (λ e. (rest_of reader.old (R.left source.old) ≡ Err e) ⊎ (e ≡ Io Input) ⊎ (e ≡ OutOfMemory)) }
+    ensures prefix { R.tells source.old ≡ true → (n : ℕ) × (R.left source.new ≡ drop n (R.left source.old)) }
+    ensures ended { R.tells source.old ≡ true → IsErrOf result UnexpectedEof → R.left source.new ≡ [] }
+    ensures kinds { IfErr result IsFooterRefusal }
+    ensures cause { HasCause (R.faults source.old) (R.faults source.new) (IsErrOf result (Io Input)) }
+    ensures tells { R.tells source.new ≡ R.tells source.old }
+{
+    let wanted = reader.wanted();
+    let (field, _) = block.split_at_mut(wanted);
+    let count = read_front(source, field)?;
+    if count < wanted {
+        return Err(StoreError::UnexpectedEof);
+    }
+    reader.take(field)?;
+    Ok(wanted as u32)
+}
+
+/// Reads until `buf` is full or the source has ended, and returns how many bytes it took.
+fn read_front<R: Source>(source: &mut R, buf: &mut [u8]) -> Result<usize, StoreError>
+    ensures told { R.tells source.old ≡ true → Fills (R.left source.old) buf.new result (R.left source.new) }
+    ensures bound { IfOk result (λ count. count ≤ length buf.new) }
+    ensures refusals { IfErr result (λ e. e ≡ Io Input) }
+    ensures tells { R.tells source.new ≡ R.tells source.old }
+    ensures cause { HasCause (R.faults source.old) (R.faults source.new) (IsErrOf result (Io Input)) }
+{
+    match read_full(source, buf) {
+        Ok(count) => Ok(count),
+        Err(_) => Err(StoreError::Io(Place::Input)),
+    }
+}
