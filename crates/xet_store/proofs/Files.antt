@@ -6,10 +6,10 @@ use Rattle.xet_hash.specs.Hash.{zero_hash}
 use Rattle.xet_hash.specs.Merkle.{chunk_hash, file_hash, members_of, xorb_hash}
 use Rattle.xet_hash.specs.declared.error.StoreError.{StoreError}
 use Rattle.xet_base.specs.Pieces.{pieces_after}
-use Rattle.xet_store.specs.declared.limits.LimitSettings.{LimitSettings}
+use Rattle.xet_cut.specs.declared.limits.LimitSettings.{LimitSettings}
 use Rattle.xet_store.specs.declared.info.XetFileInfo.{XetFileInfo}
 use Rattle.xet_store.specs.declared.info.Cleaned.{Cleaned}
-use Rattle.xet_store.specs.Cut.{cut}
+use Rattle.xet_cut.specs.Cut.{cut}
 use Rattle.xet_store.specs.Packing.{packs, pack_len}
 use Rattle.xet_shard.specs.declared.record.FileDataSequenceEntry.{FileDataSequenceEntry as Segment}
 use Rattle.xet_shard.specs.declared.record.MDBFileInfo.{MDBFileInfo}

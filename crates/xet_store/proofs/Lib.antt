@@ -1,23 +1,19 @@
-pub mod Outputs
-pub mod GearSum
-pub mod PieceEnds
-pub mod Plans
-pub mod Packing
-pub mod Answering
-pub mod Rows
-pub mod Differing
-pub mod Pending
-pub mod Admitting
-pub mod Staying
-pub mod Adding
-pub mod Recording
-pub mod Storing
-pub mod Flushing
-pub mod Whole
-pub mod Files
-pub mod Keeping
-pub mod MadeChunks
-pub mod Ranges
-pub mod Sessions
-pub mod Opened
-pub mod Reading
+mod Plans
+mod Packing
+mod Answering
+mod Rows
+mod Differing
+mod Pending
+mod Admitting
+mod Staying
+mod Adding
+mod Recording
+mod Storing
+mod Flushing
+mod Whole
+mod Files
+mod Keeping
+mod MadeChunks
+mod Sessions
+mod Opened
+mod Reading

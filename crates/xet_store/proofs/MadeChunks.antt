@@ -6,8 +6,8 @@ use Rattle.xet_base.specs.Pieces.{first_of, pieces_after}
 use Rattle.xet_hash.specs.Merkle.{chunk_hash, members_of}
 use Rattle.xet_xorb_chunk.specs.Chunks.{bytes_of, chunk_member, chunk_of}
 use Rattle.xet_xorb_chunk.specs.declared.chunk.Chunk.{Chunk}
-use Rattle.xet_store.specs.declared.limits.LimitSettings.{LimitSettings}
-use Rattle.xet_store.specs.Cut.{cut, may_end, piece_len}
+use Rattle.xet_cut.specs.declared.limits.LimitSettings.{LimitSettings}
+use Rattle.xet_cut.specs.Cut.{cut, may_end, piece_len}
 
 -- They carry their digests.
 pub made_digests : (bs : List (List ℕ)) → AllByRecursion (λ c. c.hash ≡ chunk_hash c.bytes) (map chunk_of bs)

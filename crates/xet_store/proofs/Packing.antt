@@ -11,10 +11,10 @@ use Rattle.xet_xorb_chunk.proofs.Grammar.{members_are}
 use Rattle.xet_xorb_chunk.specs.Chunks.{bytes_of, chunk_member, total}
 use Rattle.xet_xorb_chunk.specs.declared.chunk.Chunk.{Chunk}
 use Rattle.xet_shard.proofs.Holding.{all_more as all_push}
-use Rattle.xet_store.specs.declared.limits.LimitSettings.{LimitSettings}
+use Rattle.xet_cut.specs.declared.limits.LimitSettings.{LimitSettings}
 use Rattle.xet_shard.specs.declared.record.FileDataSequenceEntry.{FileDataSequenceEntry as Segment}
 use Rattle.xet_store.specs.Cleaning.{Keeps, cuts}
-use Rattle.xet_store.specs.Cut.{cut}
+use Rattle.xet_cut.specs.Cut.{cut}
 use Rattle.xet_store.specs.Packing.{fitting, pack_len, packs}
 use Rattle.xet_folder.specs.Plan.{Joins, LiesIn, part}
 use Rattle.xet_folder.specs.Xorbs.{IsListed, Xorbs}

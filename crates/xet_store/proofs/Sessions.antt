@@ -23,7 +23,7 @@ use Rattle.xet_folder.specs.Plan.{Joins, range}
 use Rattle.xet_folder.specs.Shards.{IsThere, ShardFile, is_expired, is_past}
 use Rattle.xet_folder.specs.Stored.{IsBacked, IsStored}
 use Rattle.xet_folder.specs.Xorbs.{IsListed, Records, found}
-use Rattle.xet_store.specs.declared.limits.LimitSettings.{LimitSettings}
+use Rattle.xet_cut.specs.declared.limits.LimitSettings.{LimitSettings}
 use Rattle.xet_store.specs.Cleaning.{HasFile, IsStable, Keeps, SameEntry}
 use Rattle.xet_store.specs.Opening.{contents_of}
 use Rattle.xet_store.specs.Ranges.{IsRange}

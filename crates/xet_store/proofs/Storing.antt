@@ -11,9 +11,9 @@ use Rattle.xet_hash.specs.Merkle.{members_of}
 use Rattle.xet_shard.specs.declared.record.FileDataSequenceEntry.{FileDataSequenceEntry as Segment}
 use Rattle.xet_shard.specs.declared.record.MDBFileInfo.{MDBFileInfo}
 use Rattle.xet_store.specs.declared.info.XetFileInfo.{XetFileInfo}
-use Rattle.xet_store.specs.declared.limits.LimitSettings.{LimitSettings}
+use Rattle.xet_cut.specs.declared.limits.LimitSettings.{LimitSettings}
 use Rattle.xet_store.specs.Cleaning.{EachTold, Later, Stores, StoresSome, Taken, info_of}
-use Rattle.xet_store.specs.Cut.{cut, piece_len}
+use Rattle.xet_cut.specs.Cut.{cut, piece_len}
 use Rattle.xet_store.specs.Packing.{packs}
 use Rattle.xet_store.specs.Records.{file_record}
 use Rattle.xet_store.specs.Store.{State}

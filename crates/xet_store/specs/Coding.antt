@@ -6,7 +6,7 @@ use Rattle.xet_io.specs.Disk.{Files}
 use Rattle.xet_io.specs.Memory.{entry_code}
 use Rattle.xet_xorb_chunk.specs.declared.scheme.CompressionScheme.{CompressionScheme}
 use Rattle.xet_xorb_chunk.specs.declared.scheme.CompressionScheme.TheVariants as scheme
-use Rattle.xet_store.specs.declared.limits.LimitSettings.{LimitSettings}
+use Rattle.xet_cut.specs.declared.limits.LimitSettings.{LimitSettings}
 use Rattle.xet_shard.specs.declared.record.FileDataSequenceEntry.{FileDataSequenceEntry as Segment}
 use Rattle.xet_shard.specs.declared.record.FileMetadataExt.{FileMetadataExt}
 use Rattle.xet_shard.specs.declared.record.FileVerificationEntry.{FileVerificationEntry}

@@ -1,6 +1,3 @@
-pub mod Limits
-pub mod Generator
-pub mod Cut
 pub mod Records
 pub mod Store
 pub mod Opening

@@ -3,7 +3,7 @@ use Rattle.std.specs.Prelude.{◌≡◌, ℕ, Bool, List}
 use Rattle.xet_io.specs.Disk.{Files}
 use Rattle.xet_shard.specs.Held.{nothing}
 use Rattle.xet_folder.specs.declared.contents.Contents.{Contents}
-use Rattle.xet_store.specs.declared.limits.LimitSettings.{LimitSettings}
+use Rattle.xet_cut.specs.declared.limits.LimitSettings.{LimitSettings}
 use Rattle.xet_store.specs.Store.{State}
 
 -- what a store has of its folder's contents

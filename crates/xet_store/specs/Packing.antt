@@ -1,7 +1,7 @@
 -- How the chunks of a file are packed into xorbs.
 use Rattle.std.specs.Prelude.{ℕ, zero, suc, ◌-◌, nat_le, true, false, List, [], ◌∷◌, length}
 use Rattle.xet_base.specs.Pieces.{pieces}
-use Rattle.xet_store.specs.declared.limits.LimitSettings.{LimitSettings}
+use Rattle.xet_cut.specs.declared.limits.LimitSettings.{LimitSettings}
 
 -- How many of the chunks at the front go into a xorb that has room for so many bytes and chunks: it
 -- ends before the first that passes either.

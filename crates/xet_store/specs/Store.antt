@@ -18,7 +18,7 @@ use Rattle.xet_folder.specs.Plan.{Joins, plan_bytes}
 use Rattle.xet_folder.specs.Contents.{IsRecord}
 use Rattle.xet_folder.specs.Shards.{ShardFile}
 use Rattle.xet_folder.specs.Xorbs.{AreBacked, IsListed, Records, Xorbs, found}
-use Rattle.xet_store.specs.declared.limits.LimitSettings.{LimitSettings}
+use Rattle.xet_cut.specs.declared.limits.LimitSettings.{LimitSettings}
 use Rattle.xet_store.specs.Records.{IsRecordOf}
 
 -- What contracts see of a store: of its disk whether it is observable, its files and its failures; its folder and

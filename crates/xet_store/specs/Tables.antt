@@ -7,8 +7,8 @@ use Rattle.xet_shard.specs.declared.record.MDBFileInfo.{MDBFileInfo}
 use Rattle.xet_shard.specs.Held.{Held, held, with_last}
 use Rattle.xet_shard.specs.Records as record_of
 use Rattle.xet_folder.specs.Xorbs.{Records, Xorbs, found}
-use Rattle.xet_store.specs.declared.limits.LimitSettings.{LimitSettings}
-use Rattle.xet_store.specs.Cut.{cut}
+use Rattle.xet_cut.specs.declared.limits.LimitSettings.{LimitSettings}
+use Rattle.xet_cut.specs.Cut.{cut}
 use Rattle.xet_store.specs.Packing.{packs}
 use Rattle.xet_store.specs.Records.{file_record, xorb_record}
 use Rattle.xet_store.specs.Store.{State}

@@ -5,7 +5,7 @@ ghost use Rattle.std.specs.List.{AllByRecursion};
 ghost use Rattle.xet_hash.specs.Merkle.{chunk_hash};
 ghost use Rattle.xet_xorb_chunk.specs.Chunks.{bytes_of, chunk_member, total};
 ghost use Rattle.xet_store.specs.Cleaning.{Adds, EachTold, HasFile, HasReason, HasXorbs, Keeps, Later, Stores, StoresSome, Taken, cuts, info_of};
-ghost use Rattle.xet_store.specs.Cut.{cut};
+ghost use Rattle.xet_cut.specs.Cut.{cut};
 ghost use Rattle.xet_folder.specs.Plan.{Joins};
 ghost use Rattle.xet_folder.specs.Refusals.{HasDiskReason};
 ghost use Rattle.xet_store.specs.Separate.{Apart, MetChunk, Separate};
@@ -17,7 +17,7 @@ ghost use Rattle.xet_store.specs.Tables.{tables_of, whole_segment, with_file, wi
 
 use crate::cutting::{chunks_of, pack_len};
 use crate::info::{Cleaned, XetFileInfo};
-use crate::limits::Limits;
+use xet_cut::Limits;
 use crate::records::file_record;
 use crate::store::Store;
 use sha2::Digest;

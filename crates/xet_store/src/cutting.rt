@@ -3,11 +3,11 @@
 ghost use Rattle.std.specs.Prelude.{◌≡◌, ◌≤◌, ◌<◌, ℕ, length, map, take, IfOk, IsOkUnless};
 ghost use Rattle.std.specs.List.{AllByRecursion};
 ghost use Rattle.xet_xorb_chunk.specs.Chunks.{bytes_of, chunk_of, total};
-ghost use Rattle.xet_store.specs.Cut.{cut};
+ghost use Rattle.xet_cut.specs.Cut.{cut};
 ghost use Rattle.xet_store.specs.Packing.{pack_len};
 
-use crate::cut::piece_len;
-use crate::limits::Limits;
+use xet_cut::piece_len;
+use xet_cut::Limits;
 use bytes::Bytes;
 use std::alloc::Global;
 use xet_hash::StoreError;

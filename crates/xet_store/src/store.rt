@@ -10,7 +10,7 @@ mod flushing;
 mod opening;
 mod reading;
 
-use crate::limits::Limits;
+use xet_cut::Limits;
 use indexmap::IndexMap;
 use std::alloc::Global;
 use std::marker::{Model, Send};

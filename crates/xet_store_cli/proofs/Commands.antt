@@ -14,9 +14,9 @@ use Rattle.std.specs.Result.{OkIff, result_ok}
 use Rattle.std.specs.Str.{IsAscii, IsUtf8, bytes_eq}
 use Rattle.std.specs.Str.Parse.{ParsesUnsigned, digits_value}
 use Rattle.std.specs.Cmp.Lexicographic.{bytes_decides}
-use Rattle.xet_store.specs.Limits.{bad_field, is_between}
-use Rattle.xet_store.specs.Generator.{gear_table}
-use Rattle.xet_store.proofs.Ranges.{none_bad}
+use Rattle.xet_cut.specs.Limits.{bad_field, is_between}
+use Rattle.xet_cut.specs.Generator.{gear_table}
+use Rattle.xet_cut.specs.theorems.Ranges.{none_bad}
 use Rattle.xet_store_cli.specs.declared.words.Command.{Command}
 use Rattle.xet_store_cli.specs.Allowed.{AllowsInput}
 use Rattle.xet_store_cli.specs.Outcome.{most_input}

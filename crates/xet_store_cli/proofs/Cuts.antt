@@ -2,9 +2,9 @@
 use Rattle.std.proofs.Common.{◌≡◌, ◌≢◌, ◌∙◌, ℕ, zero, suc, ◌+◌, ◌-◌, ◌<◌, ◌≤◌, Bool, true, false, min, List, [], ◌∷◌, ◌++◌, length, take, drop, Option, Some, None, unwrap_or, refl, sym, ap, arith}
 use Rattle.std.specs.List.{concat}
 use Rattle.xet_base.specs.Pieces.{first_of, pieces_after}
-use Rattle.xet_store.specs.declared.limits.LimitSettings.{LimitSettings}
-use Rattle.xet_store.specs.Cut.{cut, may_end, piece_len}
-use Rattle.xet_store.specs.Limits.{AreInRange}
+use Rattle.xet_cut.specs.declared.limits.LimitSettings.{LimitSettings}
+use Rattle.xet_cut.specs.Cut.{cut, may_end, piece_len}
+use Rattle.xet_cut.specs.Limits.{AreInRange}
 
 -- what passes a test first is not below where the search began
 first_from : (test : ℕ → Bool) (k n m : ℕ) → first_of test k n ≡ Some m → k ≤ m

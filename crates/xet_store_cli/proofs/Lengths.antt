@@ -10,7 +10,7 @@ use Rattle.std.specs.Str.Lines.{lines, lines_of_parts, strip_carriage_return}
 use Rattle.hex.specs.Hex.{decode_of}
 use Rattle.hex.specs.declared.error.FromHexError.{FromHexError}
 use Rattle.hex.proofs.HexLemmas.{decode_of-ok}
-use Rattle.xet_store.specs.declared.limits.LimitSettings.{LimitSettings}
+use Rattle.xet_cut.specs.declared.limits.LimitSettings.{LimitSettings}
 use Rattle.xet_store_cli.specs.Allowed.{are_short}
 use Rattle.xet_store_cli.specs.declared.lines.FileRange.{FileRange}
 use Rattle.xet_store_cli.specs.Lines.{Line, decoded, file_bytes, files_of, good_lines, line_of, range_of, said, words_of}

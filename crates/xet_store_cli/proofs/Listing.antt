@@ -6,7 +6,7 @@ use Rattle.xet_folder.specs.Contents.{HasContents}
 use Rattle.xet_folder.specs.Listed.{JoinsTo, Lists}
 use Rattle.xet_folder.specs.Names.{shard_path, xorb_path}
 use Rattle.xet_folder.specs.Shards.{IsThere}
-use Rattle.xet_store.specs.declared.limits.LimitSettings.{LimitSettings}
+use Rattle.xet_cut.specs.declared.limits.LimitSettings.{LimitSettings}
 use Rattle.xet_store.specs.Cleaning.{HasShard, HasWholeShard, HasXorb, IsStable, Keeps, SameEntry}
 use Rattle.xet_store.specs.Opening.{IsOpened, contents_of}
 use Rattle.xet_store.specs.Separate.{IsNamed}

@@ -10,9 +10,9 @@ use Rattle.xet_shard.specs.Records as record_of
 use Rattle.xet_folder.specs.Contents.{IsRecord}
 use Rattle.xet_folder.specs.Listed.{Lists}
 use Rattle.xet_folder.specs.Xorbs.{Xorbs, found}
-use Rattle.xet_store.specs.declared.limits.LimitSettings.{LimitSettings}
+use Rattle.xet_cut.specs.declared.limits.LimitSettings.{LimitSettings}
 use Rattle.xet_store.specs.Cleaning.{Keeps}
-use Rattle.xet_store.specs.Cut.{cut}
+use Rattle.xet_cut.specs.Cut.{cut}
 use Rattle.xet_store.specs.Flushing.{IsFlushed}
 use Rattle.xet_store.specs.Opening.{IsOpened}
 use Rattle.xet_store.specs.Packing.{packs}

@@ -6,7 +6,7 @@ use Rattle.std.specs.Char.{is_ascii_digit}
 use Rattle.std.specs.List.{list_all}
 use Rattle.std.specs.Option.{option_and_then}
 use Rattle.std.specs.Str.{bytes_eq}
-use Rattle.xet_store.specs.Limits.{is_between}
+use Rattle.xet_cut.specs.Limits.{is_between}
 use Rattle.xet_store_cli.specs.declared.lines.FileRange.{FileRange}
 use Rattle.xet_store_cli.specs.Lines.{and_byte, bytes_in, numbered, range_by, range_bytes, range_of, words_of}
 use Rattle.xet_store_cli.specs.Words.{is_digits, number_of}

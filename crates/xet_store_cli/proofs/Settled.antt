@@ -8,11 +8,11 @@ use Rattle.xet_folder.specs.Contents.{HasContents}
 use Rattle.xet_folder.specs.Listed.{JoinsTo, Lists}
 use Rattle.xet_folder.specs.Plan.{range}
 use Rattle.xet_folder.specs.Xorbs.{IsListed, Xorbs, found}
-use Rattle.xet_store.specs.declared.limits.LimitSettings.{LimitSettings}
+use Rattle.xet_cut.specs.declared.limits.LimitSettings.{LimitSettings}
 use Rattle.xet_store.specs.declared.info.XetFileInfo.{XetFileInfo}
 use Rattle.xet_store.specs.Cleaning.{HasFile, HasXorbs, IsPacked, Keeps, info_of}
-use Rattle.xet_store.specs.Cut.{cut}
-use Rattle.xet_store.specs.Limits.{AreInRange}
+use Rattle.xet_cut.specs.Cut.{cut}
+use Rattle.xet_cut.specs.Limits.{AreInRange}
 use Rattle.xet_store.specs.Opening.{contents_of}
 use Rattle.xet_store.specs.Packing.{packs}
 use Rattle.xet_store.specs.Ranges.{IsRange}

@@ -1,7 +1,7 @@
 -- How long the files of a command may be.
 use Rattle.std.specs.Prelude.{ℕ, ◌≤◌, nat_le, Bool, List, length}
 use Rattle.std.specs.List.{list_all}
-use Rattle.xet_store.specs.declared.limits.LimitSettings.{LimitSettings}
+use Rattle.xet_cut.specs.declared.limits.LimitSettings.{LimitSettings}
 use Rattle.xet_store_cli.specs.declared.words.Command.{Command}
 use Rattle.xet_store_cli.specs.declared.words.Command.TheVariants.{Pack}
 use Rattle.xet_store_cli.specs.Outcome.{most_input}

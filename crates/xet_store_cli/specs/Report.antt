@@ -6,9 +6,9 @@ use Rattle.hex.specs.Hex.{encode_lower}
 use Rattle.sha2.specs.Sha256.{sha256}
 use Rattle.xet_hash.specs.Hash.{hash_text}
 use Rattle.xet_hash.specs.Merkle.{file_hash, members_of}
-use Rattle.xet_store.specs.declared.limits.LimitSettings.{LimitSettings}
+use Rattle.xet_cut.specs.declared.limits.LimitSettings.{LimitSettings}
 use Rattle.xet_store.specs.declared.info.XetFileInfo.{XetFileInfo}
-use Rattle.xet_store.specs.Cut.{cut}
+use Rattle.xet_cut.specs.Cut.{cut}
 use Rattle.xet_store_cli.specs.Lines.{Line, files_of, range_bytes, ranges_of}
 
 -- a file's hash: that of the chunks into which its bytes are cut

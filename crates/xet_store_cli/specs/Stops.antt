@@ -10,7 +10,7 @@ use Rattle.xet_hash.specs.declared.error.StoreError.TheVariants.{Io, MalformedDa
 use Rattle.xet_hash.specs.declared.error.StoreError.TheVariants as error
 use Rattle.xet_folder.specs.Admission.{Admits, Refuses}
 use Rattle.xet_folder.specs.Shards.{ShardFile}
-use Rattle.xet_store.specs.declared.limits.LimitSettings.{LimitSettings}
+use Rattle.xet_cut.specs.declared.limits.LimitSettings.{LimitSettings}
 use Rattle.xet_store_cli.specs.declared.ending.Stop.{Stop}
 use Rattle.xet_store_cli.specs.declared.ending.Stop.TheVariants.{OutOfMemory, Input, TooLarge, BadLine, BadRange, Disk, BadShard, Malformed}
 use Rattle.xet_store_cli.specs.Lines.{good_lines}

@@ -4,8 +4,8 @@ use Rattle.std.specs.List.{AllByRecursion, IsAmong}
 use Rattle.std.specs.Str.Lines.{lines}
 use Rattle.xet_io.specs.Disk.{Files}
 use Rattle.xet_hash.specs.Merkle.{chunk_hash}
-use Rattle.xet_store.specs.declared.limits.LimitSettings.{LimitSettings}
-use Rattle.xet_store.specs.Cut.{cut}
+use Rattle.xet_cut.specs.declared.limits.LimitSettings.{LimitSettings}
+use Rattle.xet_cut.specs.Cut.{cut}
 use Rattle.xet_store.specs.Cleaning.{HasShard, HasXorb, IsPacked, IsStable, SameEntry}
 use Rattle.xet_store.specs.Separate.{Apart, IsNamed, MetStored, SeparateIn}
 use Rattle.xet_store.specs.Tables.{record_of_file}

@@ -20,7 +20,8 @@ use std::alloc::Global;
 use std::marker::Send;
 use xet_hash::Refused;
 use xet_io::{Disk, Source, read_all};
-use xet_store::{Limits, Store};
+use xet_cut::Limits;
+use xet_store::Store;
 
 /// The folder of the store.
 const FOLDER: &str = "store";

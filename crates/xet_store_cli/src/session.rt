@@ -5,7 +5,7 @@ ghost use Rattle.std.specs.List.{AllByRecursion, flat_map};
 ghost use Rattle.xet_io.specs.Faults.{HasCause};
 ghost use Rattle.xet_folder.specs.Contents.{HasContents};
 ghost use Rattle.xet_store.specs.Cleaning.{HasFile, Keeps, info_of};
-ghost use Rattle.xet_store.specs.Cut.{cut};
+ghost use Rattle.xet_cut.specs.Cut.{cut};
 ghost use Rattle.xet_store.specs.Opening.{contents_of};
 ghost use Rattle.xet_store.specs.Ranges.{IsUnchanged};
 ghost use Rattle.xet_store.specs.Separate.{Separate};

@@ -6,7 +6,7 @@ ghost use Rattle.std.specs.List.{list_all};
 ghost use Rattle.xet_store_cli.specs.Allowed.{AllowsInput};
 ghost use Rattle.xet_store_cli.specs.Words.{command_of, gear_of, is_digits, is_target, number_of, pack_settings, target_of, three_words};
 
-use xet_store::{LimitSettings, Limits, gear_table};
+use xet_cut::{LimitSettings, Limits, gear_table};
 
 /// A command of the program.
 #[derive(Clone, Copy, PartialEq, Eq, Debug)]

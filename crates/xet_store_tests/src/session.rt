@@ -4,7 +4,8 @@ use std::alloc::Global;
 use xet_hash::{MerkleHash, Place, Refused, StoreError};
 use xet_io::{Disk, MemoryDisk, SliceSource};
 use xet_shard::FileDataSequenceEntry;
-use xet_store::{Cleaned, LimitSettings, Limits, Store, XetFileInfo, clean_files};
+use xet_store::{Cleaned, Store, XetFileInfo, clean_files};
+use xet_cut::{LimitSettings, Limits};
 
 /// The moment at which stores are opened.
 pub const NOW: u64 = 1_000;

@@ -16,8 +16,8 @@ use Rattle.xet_xorb.specs.Building.{built_of, ending, no_spare, start_of_footer}
 use Rattle.xet_xorb.specs.Footer.{V1, footer_len, footer_v1}
 use Rattle.xet_xorb.specs.Raw.{ArePartsOfXorb, IsRaw, raw_members}
 use Rattle.xet_xorb.specs.Xorb.{IsXorbText, xorb_text}
-use Rattle.xet_xorb.proofs.Digests.{length-xorb_hash, members_hashed}
-use Rattle.xet_xorb.proofs.OfMembers.{length-ends, length-hashes, standard_v1}
+use Rattle.xet_xorb.specs.theorems.Digests.{length-xorb_hash, members_hashed}
+use Rattle.xet_xorb.specs.theorems.OfMembers.{length-ends, length-hashes, standard_v1}
 
 -- ---- what is listed
 

@@ -1,13 +1,9 @@
-pub mod Digests
-pub mod OfMembers
-pub mod Determined
-pub mod Checked
-pub mod Validated
-pub mod Ranged
-pub mod Listed
-pub mod Plain
-pub mod RawXorbs
-pub mod Built
-pub mod Rebuilt
-pub mod Drawn
-pub mod Cuts
+mod Determined
+mod Checked
+mod Validated
+mod Ranged
+mod Listed
+mod Plain
+mod RawXorbs
+mod Built
+mod Rebuilt

@@ -22,8 +22,8 @@ use Rattle.xet_xorb.specs.Object.{object_of}
 use Rattle.xet_xorb.specs.Validation.{IsValid, IsXorbOf}
 use Rattle.xet_xorb.specs.Xorb.{IsXorbText, xorb_text}
 use Rattle.xet_xorb.proofs.Checked.{all_small, same_chunks}
-use Rattle.xet_xorb.proofs.Digests.{AreHashed, length-xorb_hash, members_hashed}
-use Rattle.xet_xorb.proofs.OfMembers.{length-ends, length-hashes, standard_v0, standard_v1, whole_hashes}
+use Rattle.xet_xorb.specs.theorems.Digests.{AreHashed, length-xorb_hash, members_hashed}
+use Rattle.xet_xorb.specs.theorems.OfMembers.{length-ends, length-hashes, standard_v0, standard_v1, whole_hashes}
 
 -- ---- how long the parts are
 

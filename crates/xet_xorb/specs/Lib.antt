@@ -7,5 +7,5 @@ pub mod Raw
 pub mod Building
 pub mod Copying
 pub mod Laws
-pub mod Samples
 pub mod Checking
+pub mod theorems

@@ -6,8 +6,8 @@ ghost use Rattle.xet_xorb_footer.specs.Spelled.{HasLists, HasShortLists, most_ch
 ghost use Rattle.xet_xorb.specs.Footer.{ends_from, footer_v0, footer_v1};
 
 use std::alloc::Global;
-use xet_xorb_footer::{XorbObjectInfoV0, XorbObjectInfoV1};
 use xet_hash::{MerkleHash, StoreError};
+use xet_xorb_footer::{XorbObjectInfoV0, XorbObjectInfoV1};
 
 /// The bytes of a chunk's header.
 const HEADER_LENGTH: u64 = 8;
@@ -72,7 +72,7 @@ pub(crate) fn hashes_of(
 
 /// The footer of version 1 of a xorb of this hash with these members, and with these spare bytes. Refused as
 /// `OutOfMemory`.
-pub(crate) fn new_footer(
+pub fn new_footer(
     alloc: Global,
     hash: &MerkleHash,
     members: &[(MerkleHash, u64)],

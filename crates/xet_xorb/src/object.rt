@@ -11,9 +11,9 @@ ghost use Rattle.xet_xorb_footer.specs.Spelled.{HasLists, HasShortLists, empty_v
 
 use serde::Serialize;
 use std::alloc::Global;
-use xet_xorb_footer::{XorbObjectInfoV1, last_footer, told_length};
 use xet_hash::{Place, StoreError};
 use xet_io::{ReadAt, Refusal, Sink, write_all};
+use xet_xorb_footer::{XorbObjectInfoV1, last_footer, told_length};
 
 /// A xorb's footer, and how many bytes it has there.
 #[derive(PartialEq, Eq, Debug, Drop, Serialize)]

@@ -4,8 +4,8 @@ ghost use Rattle.std.specs.Prelude.{◌≡◌, ◌+◌, ◌≤◌, Ok, Err, IsTr
 ghost use Rattle.xet_xorb.specs.Object.{byte_offset, chunk_length, chunk_range_hash, complete, contents_length, end_of, between, is_complete, range_length, some_chunks};
 
 use crate::object::XorbObject;
-use xet_xorb_footer::XorbObjectInfoV1;
 use xet_hash::{DataHash, MerkleHash, Reason, StoreError, range_hash_from_chunks};
+use xet_xorb_footer::XorbObjectInfoV1;
 
 impl XorbObject {
     /// The hash of the listed hashes of the chunks from `start` to before `end`. It takes no memory. A footer that

@@ -15,10 +15,10 @@ ghost use Rattle.xet_xorb.specs.Ranges.{ReadsPlain, in_file, listed_contents, li
 
 use crate::object::XorbObject;
 use std::alloc::Global;
-use xet_xorb_chunk::ChunkDecoder;
-use xet_xorb_footer::{read_exact, reader_length};
 use xet_hash::{Reason, StoreError};
 use xet_io::{MemorySink, ReadAt, Sink};
+use xet_xorb_chunk::ChunkDecoder;
+use xet_xorb_footer::{read_exact, reader_length};
 
 /// The most bytes that are read at once.
 const BLOCK: usize = 1 << 17;

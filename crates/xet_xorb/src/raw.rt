@@ -10,9 +10,9 @@ ghost use Rattle.xet_xorb.specs.Raw.{ArePartsOfXorb, IsRaw, raw_members, raw_of,
 use bytes::Bytes;
 use std::alloc::Global;
 use xet_base::Items;
-use xet_xorb_chunk::{Chunk, chunk_members};
 use xet_hash::{MerkleHash, StoreError, xorb_hash};
 use xet_shard::{MDBXorbInfo, XorbChunkSequenceEntry, XorbChunkSequenceHeader};
+use xet_xorb_chunk::{Chunk, chunk_members};
 
 /// A xorb that is to be stored.
 #[derive(Debug, Drop)]

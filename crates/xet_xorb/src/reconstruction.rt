@@ -15,10 +15,10 @@ ghost use Rattle.xet_xorb.specs.Copying.{IsCopied, IsNoCopy, ShowsNext};
 use crate::footers::new_footer;
 use crate::object::XorbObject;
 use std::alloc::Global;
-use xet_xorb_chunk::{XORB_CHUNK_HEADER_LENGTH, chunk_len};
-use xet_xorb_footer::XorbObjectInfoV1;
 use xet_hash::{MerkleHash, Place, Reason, StoreError, compute_data_hash, xorb_hash};
 use xet_io::{Refusal, Sink, write_all};
+use xet_xorb_chunk::{XORB_CHUNK_HEADER_LENGTH, chunk_len};
+use xet_xorb_footer::XorbObjectInfoV1;
 
 /// The most chunks of a footer: one of so many has fewer than 2^32 bytes.
 const MOST_CHUNKS: usize = 107_374_180;

@@ -9,6 +9,7 @@ use std::test::Fail;
 use xet_hash::{MerkleHash, StoreError};
 use xet_io::{Failed, MemorySink, ReadAt, SliceReader};
 use xet_xorb::*;
+use xet_xorb_samples::*;
 
 /// The most bytes of a chunk.
 const MOST: u32 = 200_000;

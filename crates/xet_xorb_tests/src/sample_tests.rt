@@ -2,7 +2,7 @@
 
 ghost use Rattle.std.specs.Prelude.{IfOk};
 ghost use Rattle.xet_xorb.specs.Raw.{IsRaw};
-ghost use Rattle.xet_xorb.specs.Samples.{AreCuts};
+ghost use Rattle.xet_xorb_samples.specs.Samples.{AreCuts};
 
 use rand_core::SeedableRng;
 use rand_pcg::Pcg64;
@@ -12,6 +12,7 @@ use xet_base::Items;
 use xet_hash::{MerkleHash, Place, StoreError};
 use xet_io::{FailingSink, MemorySink};
 use xet_xorb::*;
+use xet_xorb_samples::*;
 
 const SCHEME: CompressionScheme = CompressionScheme::Auto;
 

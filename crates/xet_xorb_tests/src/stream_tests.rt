@@ -9,6 +9,7 @@ use std::test::Fail;
 use xet_hash::StoreError;
 use xet_io::{MemorySink, SliceSource};
 use xet_xorb::*;
+use xet_xorb_samples::*;
 
 /// The most bytes of a chunk: 16 KiB.
 const MOST: u32 = 16_384;

@@ -7,7 +7,7 @@ ghost use Rattle.xet_folder.specs.Names.{IsHash};
 ghost use Rattle.xet_folder.specs.Xorbs.{AreBacked};
 ghost use Rattle.xet_store.specs.Opening.{IsOpened, contents_of};
 
-use crate::limits::Limits;
+use xet_cut::Limits;
 use crate::store::Store;
 use std::alloc::Global;
 use std::marker::Send;

@@ -3,7 +3,7 @@ use Rattle.std.specs.List.{AllByRecursion}
 use Rattle.xet_hash.specs.Merkle.{chunk_hash, file_hash, members_of, total_len}
 use Rattle.xet_xorb_chunk.specs.declared.chunk.Chunk.{Chunk}
 use Rattle.xet_xorb_chunk.specs.Chunks.{bytes_of, chunk_member, chunk_of, total}
-use Rattle.xet_store.specs.declared.limits.LimitSettings.{LimitSettings}
+use Rattle.xet_cut.specs.declared.limits.LimitSettings.{LimitSettings}
 use Rattle.sha2.specs.Sha256.{sha256}
 use Rattle.std.specs.Global.{Global}
 use Rattle.std.specs.Vec.{vec_len}
@@ -18,7 +18,7 @@ use Rattle.xet_folder.specs.Xorbs.{IsListed, Records, found}
 use Rattle.xet_store.specs.Cleaning.{Adds, Keeps}
 use Rattle.xet_store.specs.Packing.{packs}
 use Rattle.xet_store.specs.Tables.{tables_of, whole_segment, with_record, with_xorbs}
-use Rattle.xet_store.specs.Cut.{cut}
+use Rattle.xet_cut.specs.Cut.{cut}
 use Rattle.xet_store.specs.Records.{file_record}
 use Rattle.xet_store.specs.Steps.{ListsXorbs}
 use Rattle.xet_store.specs.Store.{State, plan_of}

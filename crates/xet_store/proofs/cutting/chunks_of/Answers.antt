@@ -3,8 +3,8 @@ use Rattle.std.proofs.lemmas.List.{length-drop, length-take-le}
 use Rattle.std.proofs.lemmas.List.Sums.{sum_by-append}
 use Rattle.xet_xorb_chunk.specs.Chunks.{chunk_of, total}
 use Rattle.xet_xorb_chunk.specs.declared.chunk.Chunk.{Chunk}
-use Rattle.xet_store.specs.Cut.{piece_len}
-use Rattle.xet_store.proofs.PieceEnds.{cut_end, cut_step}
+use Rattle.xet_cut.specs.Cut.{piece_len}
+use Rattle.xet_cut.specs.theorems.PieceEnds.{cut_end, cut_step}
 use Rattle.xet_store.proofs.cutting.chunks_of.Goals as goal
 
 pub pieces-preserved : goal.pieces-preserved

@@ -1,6 +1,6 @@
 use Rattle.std.proofs.Common.{◌∙◌, IfErr, subst}
 use Rattle.std.proofs.lemmas.Result.{on_ok_weaker}
-use Rattle.xet_store.specs.declared.limits.LimitSettings.{LimitSettings}
+use Rattle.xet_cut.specs.declared.limits.LimitSettings.{LimitSettings}
 use Rattle.xet_store_cli.specs.Stops.{IsSessionStop}
 use Rattle.xet_store_cli.proofs.Listing.{keeps_folder, keeps_listed}
 use Rattle.xet_store_cli.proofs.Making.{makes}

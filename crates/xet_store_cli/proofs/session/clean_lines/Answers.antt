@@ -3,7 +3,7 @@ use Rattle.std.proofs.lemmas.Result.{IfErr-at_err, IfOk-at_ok}
 use Rattle.std.specs.List.{AllByRecursion}
 use Rattle.xet_store.specs.declared.info.Cleaned.{Cleaned}
 use Rattle.xet_store.specs.Cleaning.{EachTold, HasFile, Stores, info_of}
-use Rattle.xet_store.specs.Cut.{cut}
+use Rattle.xet_cut.specs.Cut.{cut}
 use Rattle.xet_store.specs.Separate.{Separate}
 use Rattle.xet_store.specs.Steps.{ListsXorbs}
 use Rattle.xet_store.specs.Tables.{tables_of, with_files}

@@ -1,6 +1,6 @@
 use Rattle.std.proofs.Common.{◌∙◌, ap, sym, Some}
 use Rattle.std.specs.Option.{option_map}
-use Rattle.xet_store.specs.Generator.{gear_table}
+use Rattle.xet_cut.specs.Generator.{gear_table}
 use Rattle.xet_store_cli.proofs.Commands.{gear_one, gear_seed, gear_zero}
 use Rattle.xet_store_cli.proofs.words.gear_of.Goals as goal
 

@@ -1,5 +1,5 @@
 use Rattle.std.proofs.Common.{◌^◌, arith}
-use Rattle.xet_xorb.proofs.OfMembers.{end_below, no_more, one_more, total_step}
+use Rattle.xet_xorb.specs.theorems.OfMembers.{end_below, no_more, one_more, total_step}
 use Rattle.xet_xorb.proofs.footers.ends_with.Goals as goal
 
 pub loop-member-preserved : goal.loop-member-preserved

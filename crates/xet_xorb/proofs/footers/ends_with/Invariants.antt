@@ -1,6 +1,6 @@
 use Rattle.std.proofs.Common.{◌≡◌, ◌++◌, ◌+◌, drop}
 use Rattle.xet_xorb.specs.Footer.{ends_from}
-use Rattle.xet_xorb.proofs.OfMembers.{total_with}
+use Rattle.xet_xorb.specs.theorems.OfMembers.{total_with}
 use Rattle.xet_xorb.proofs.footers.ends_with.Given as goal
 
 abbrev pub invariant-loop-member : goal.invariant-loop-member

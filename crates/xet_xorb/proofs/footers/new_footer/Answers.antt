@@ -1,5 +1,5 @@
 use Rattle.std.proofs.Common.{ap, arith, length}
-use Rattle.xet_xorb.proofs.OfMembers.{length-ends, length-hashes}
+use Rattle.xet_xorb.specs.theorems.OfMembers.{length-ends, length-hashes}
 use Rattle.xet_xorb.proofs.footers.new_footer.Goals as goal
 
 pub returns-clause-lists : goal.returns-clause-lists

@@ -1,5 +1,5 @@
 use Rattle.std.proofs.Common.{ap, arith, length}
-use Rattle.xet_xorb.proofs.OfMembers.{length-ends}
+use Rattle.xet_xorb.specs.theorems.OfMembers.{length-ends}
 use Rattle.xet_xorb.proofs.footers.new_footer_v0.Goals as goal
 
 pub returns-clause-stored : goal.returns-clause-stored

@@ -1,0 +1,23 @@
+use Rattle.std.proofs.Common.{◌∙◌, ℕ, List, ap, sym, arith}
+use Rattle.std.proofs.lemmas.Bool.{eqb-false, eqb-true}
+use Rattle.std.proofs.lemmas.List.Sums.{sum_by-append}
+use Rattle.xet_hash.specs.Merkle.{member_of, total_len}
+use Rattle.xet_cut.specs.theorems.PieceEnds.{cut_end, cut_step}
+use Rattle.xet_cut.proofs.cut.chunk_list.Goals as goal
+
+pub pieces-preserved : goal.pieces-preserved
+pieces-preserved c =
+    let step = cut_step member_of c.args.limits.now c.pieces.members.items c.pieces.rest.now c.piece_len.result (eqb-false _ _ (sym c.pieces-test.ensures))
+    c.piece_len.ensures.value c.piece_len.ensures.some in
+    let push = c.in_ok-push.ensures.items in
+    record {
+      members = rw (push, c.compute_data_hash.ensures, c.split_at.ensures.front, c.split_at.ensures.back) (step ∙ c.pieces.invariant.members);
+      total = omega (arith, ap total_len push ∙ sum_by-append (λ (m : List ℕ × ℕ). m.1) c.pieces.members.items _, c.pieces.invariant.total);
+    }
+
+pub returns-clause-members : goal.returns-clause-members
+returns-clause-members c =
+    cut_end member_of c.args.limits.now c.pieces.members.items c.pieces.rest.now (eqb-true _ _ (sym c.pieces-test.ensures)) ∙ c.pieces.invariant.members
+
+pub returns-clause-total : goal.returns-clause-total
+returns-clause-total c = omega (arith, c.pieces.invariant.total, eqb-true _ _ (sym c.pieces-test.ensures))

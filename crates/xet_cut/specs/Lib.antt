@@ -1,0 +1,4 @@
+pub mod Cut
+pub mod Generator
+pub mod Limits
+pub mod theorems

@@ -1,0 +1,3 @@
+pub mod GearSum
+pub mod PieceEnds
+pub mod Ranges

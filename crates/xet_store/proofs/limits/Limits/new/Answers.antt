@@ -1,5 +1,0 @@
-use Rattle.xet_store.proofs.Ranges.{are_in_range}
-use Rattle.xet_store.proofs.limits.Limits.new.Goals as goal
-
-pub invariant_of-result : goal.invariant_of-result
-invariant_of-result c = are_in_range c.args.settings cc

@@ -1,0 +1,342 @@
+-- Bytes that are cut into parts at places.
+use Rattle.std.proofs.Common.{◌≡◌, ◌∙◌, ℕ, ◌+◌, ◌-◌, ◌*◌, ◌<◌, ◌≤◌, ◌^◌, List, [], ◌∷◌, ◌++◌, length, map, take, drop, get_or, min, true, Some, Err, refl, sym, ap, subst, arith, append_assoc, length-append, length-drop}
+use Rattle.std.proofs.Math.Seq.{drop-append_seam, take-append-add, take-append_seam, take-length}
+use Rattle.std.proofs.lemmas.List.{append-nil, at_drop_all, at_drop_more, flat_map_more, length-take-le, take-append-le, take_min}
+use Rattle.std.proofs.lemmas.List.Folds.{concat-append}
+use Rattle.std.proofs.lemmas.List.Sums.{sum_by-cons}
+use Rattle.std.specs.List.{AllByRecursion, concat, flat_map, sum_by}
+use Rattle.std.specs.Prelude.{slice_range}
+use Rattle.xet_hash.specs.declared.error.StoreError.{StoreError}
+use Rattle.xet_hash.specs.Merkle.{chunk_hash, members_of, total_len, xorb_hash}
+use Rattle.xet_xorb_chunk.specs.declared.scheme.CompressionScheme.{CompressionScheme}
+use Rattle.xet_xorb_chunk.specs.declared.scheme.CompressionScheme.TheVariants.{Auto, ByteGrouping4LZ4, LZ4, None}
+use Rattle.xet_xorb_chunk.specs.Scheme.{compressed}
+use Rattle.xet_xorb_chunk.specs.Spelling.{spelling}
+use Rattle.xet_xorb_chunk.proofs.Written.{front_of_first, written_both, written_then}
+use Rattle.xet_xorb_footer.specs.declared.info.XorbObjectInfoV1.{XorbObjectInfoV1}
+use Rattle.xet_xorb_footer.specs.Spelled.{length_of, most_chunks, number, text_v1}
+use Rattle.xet_shard.specs.Boundaries.{boundaries_from}
+use Rattle.xet_shard.specs.Records.{chunk_bytes}
+use Rattle.xet_shard.specs.declared.record.XorbChunkSequenceEntry.{XorbChunkSequenceEntry}
+use Rattle.xet_xorb.specs.Building.{built, built_of, no_spare, object_for}
+use Rattle.xet_xorb.specs.declared.object.XorbObject.{XorbObject}
+use Rattle.xet_xorb.specs.Footer.{V1, Version, footer_len, footer_text, footer_v1}
+use Rattle.xet_xorb.specs.Object.{object_of}
+use Rattle.xet_xorb.specs.declared.raw.RawXorbData.{RawXorbData}
+use Rattle.xet_xorb.specs.Raw.{ArePartsOfXorb, IsRaw, raw_members}
+use Rattle.xet_xorb_samples.specs.Samples.{AreCuts, Rise, cuts_from, members_from, parts_from}
+use Rattle.xet_xorb.specs.Xorb.{xorb_text}
+use Rattle.xet_xorb.specs.theorems.OfMembers.{length-ends, length-hashes}
+
+-- ---- one place after another
+
+pub next_place : (cs : List (List ℕ × ℕ)) (i : ℕ) (c : List ℕ × ℕ) → i < length cs → c ≡ get_or cs i c → drop i cs ≡ c ∷ drop (i + 1) cs
+next_place cs i c here e = at_drop_more (λ (x : List (List ℕ × ℕ)). x) cs i c here ∙ ap (λ (x : List ℕ × ℕ). x ∷ drop (i + 1) cs) (sym e)
+
+pub rise_next : (at len : ℕ) (cs : List (List ℕ × ℕ)) (i : ℕ) (c : List ℕ × ℕ) → i < length cs → c ≡ get_or cs i c → Rise at (drop i cs) len
+    → (at ≤ c.1) × Rise c.1 (drop (i + 1) cs) len
+rise_next at len cs i c here e rise = subst (λ (x : List (List ℕ × ℕ)). Rise at x len) (next_place cs i c here e) rise
+
+-- the place that comes next is within
+pub rise_within : (at len : ℕ) (cs : List (List ℕ × ℕ)) → Rise at cs len → at ≤ len
+rise_within at len [] rise = rise
+rise_within at len (c ∷ cs) rise = omega (arith, rise.0, rise_within c.1 len cs rise.1)
+
+-- one more member was pushed
+pub one_member : (at : ℕ) (cs : List (List ℕ × ℕ)) (i : ℕ) (c : List ℕ × ℕ) (before now whole : List (List ℕ × ℕ)) → i < length cs → c ≡ get_or cs i c
+    → now ≡ before ++ (c.0, c.1 - at) ∷ [] → before ++ members_from at (drop i cs) ≡ whole → now ++ members_from c.1 (drop (i + 1) cs) ≡ whole
+one_member at cs i c before now whole here e pushed kept =
+    let rest : List (List ℕ × ℕ) = members_from c.1 (drop (i + 1) cs) in
+    ap (λ (x : List (List ℕ × ℕ)). x ++ rest) pushed ∙ append_assoc before ((c.0, c.1 - at) ∷ []) rest
+    ∙ ap (λ (x : List (List ℕ × ℕ)). before ++ members_from at x) (sym (next_place cs i c here e)) ∙ kept
+
+-- none is left
+pub no_member : (at : ℕ) (cs : List (List ℕ × ℕ)) (i : ℕ) (before whole : List (List ℕ × ℕ)) → length cs ≤ i → before ++ members_from at (drop i cs) ≡ whole → before ≡ whole
+no_member at cs i before whole past kept =
+    sym (append-nil before) ∙ ap (λ (x : List (List ℕ × ℕ)). before ++ x) (sym (at_drop_all (members_from at) cs i past)) ∙ kept
+
+-- ---- how much the parts are
+
+pub length-parts : (at : ℕ) (cs : List (List ℕ × ℕ)) (bytes : List ℕ) → length (parts_from at cs bytes) ≡ length cs
+length-parts at [] bytes = refl
+length-parts at (c ∷ cs) bytes = omega (arith, length-parts c.1 cs bytes)
+
+pub length-members : (at : ℕ) (cs : List (List ℕ × ℕ)) → length (members_from at cs) ≡ length cs
+length-members at [] = refl
+length-members at (c ∷ cs) = omega (arith, length-members c.1 cs)
+
+pub length-spelling : (bytes : List ℕ) → length (spelling bytes) ≡ 8 + length bytes
+unfolding spelling
+length-spelling bytes = omega arith
+
+pub length-spelled : (parts : List (List ℕ)) → length (flat_map spelling parts) ≡ sum_by length parts + 8 * length parts
+length-spelled [] = refl
+length-spelled (p ∷ ps) =
+    omega (arith, length-append (spelling p) (flat_map spelling ps), length-spelling p, length-spelled ps, sum_by-cons length p ps)
+
+-- what the parts have together is what the members say
+part_length : (at to : ℕ) (bytes : List ℕ) → at ≤ to → to ≤ length bytes → length (slice_range bytes at to) ≡ to - at
+part_length at to bytes up within = length-take-le (to - at) (drop at bytes) (omega (arith, length-drop at bytes))
+
+pub members_total : (at : ℕ) (cs : List (List ℕ × ℕ)) (bytes : List ℕ) → Rise at cs (length bytes) → total_len (members_from at cs) ≡ sum_by length (parts_from at cs bytes)
+members_total at [] bytes rise = refl
+members_total at (c ∷ cs) bytes rise =
+    let within : c.1 ≤ length bytes = rise_within c.1 (length bytes) cs rise.1 in
+    omega (
+      arith,
+      sum_by-cons (λ (m : List ℕ × ℕ). m.1) (c.0, c.1 - at) (members_from c.1 cs),
+      sum_by-cons length (slice_range bytes at c.1) (parts_from c.1 cs bytes),
+      part_length at c.1 bytes rise.0 within,
+      members_total c.1 cs bytes rise.1,
+    )
+
+-- ---- parts that are written one after another
+
+-- all parts have fewer bytes than an address can count
+pub spelled_bound : (at : ℕ) (cs : List (List ℕ × ℕ)) (bytes : List ℕ) → ArePartsOfXorb (parts_from at cs bytes) → length (flat_map spelling (parts_from at cs bytes)) < 2 ^ 31
+spelled_bound at cs bytes are = omega (arith, length-spelled (parts_from at cs bytes), are.total, are.count)
+
+-- what stands before a part, the part, and the rest
+pub part_next : (at : ℕ) (cs : List (List ℕ × ℕ)) (i : ℕ) (c : List ℕ × ℕ) (bytes : List ℕ) → i < length cs → c ≡ get_or cs i c
+    → parts_from at (drop i cs) bytes ≡ slice_range bytes at c.1 ∷ parts_from c.1 (drop (i + 1) cs) bytes
+part_next at cs i c bytes here e = ap (λ (x : List (List ℕ × ℕ)). parts_from at x bytes) (next_place cs i c here e)
+
+pub spelled_next : (at : ℕ) (cs : List (List ℕ × ℕ)) (i : ℕ) (c : List ℕ × ℕ) (bytes done whole : List ℕ) → i < length cs → c ≡ get_or cs i c
+    → done ++ flat_map spelling (parts_from at (drop i cs) bytes) ≡ whole
+    → (done ++ spelling (slice_range bytes at c.1)) ++ flat_map spelling (parts_from c.1 (drop (i + 1) cs) bytes) ≡ whole
+spelled_next at cs i c bytes done whole here e kept =
+    append_assoc done (spelling (slice_range bytes at c.1)) (flat_map spelling (parts_from c.1 (drop (i + 1) cs) bytes))
+    ∙ ap (λ (x : List (List ℕ)). done ++ flat_map spelling x) (sym (part_next at cs i c bytes here e)) ∙ kept
+
+pub spelled_none : (at : ℕ) (cs : List (List ℕ × ℕ)) (i : ℕ) (bytes done whole : List ℕ) → length cs ≤ i
+    → done ++ flat_map spelling (parts_from at (drop i cs) bytes) ≡ whole → done ≡ whole
+spelled_none at cs i bytes done whole past kept =
+    sym (append-nil done) ∙ ap (λ (x : List (List ℕ)). done ++ flat_map spelling x) (sym (at_drop_all (λ (x : List (List ℕ × ℕ)). parts_from at x bytes) cs i past)) ∙ kept
+
+pub small_next : (at : ℕ) (cs : List (List ℕ × ℕ)) (i : ℕ) (c : List ℕ × ℕ) (bytes : List ℕ) (bound : ℕ) → i < length cs → c ≡ get_or cs i c
+    → AllByRecursion (λ p. length p < bound) (parts_from at (drop i cs) bytes)
+    → (length (slice_range bytes at c.1) < bound) × AllByRecursion (λ p. length p < bound) (parts_from c.1 (drop (i + 1) cs) bytes)
+small_next at cs i c bytes bound here e small = subst (AllByRecursion (λ p. length p < bound)) (part_next at cs i c bytes here e) small
+
+-- a front of the next part, behind what is written, is a front of all
+pub front_of_next : (done part rest whole before middle now : List ℕ) (n : ℕ) → (done ++ part) ++ rest ≡ whole → middle ≡ before ++ done → now ≡ middle ++ take n part
+    → (m : ℕ) × (now ≡ before ++ take m whole)
+front_of_next done part rest whole before middle now n split first next =
+    let k : ℕ = min n (length part) in
+    let head : take (length done + k) whole ≡ done ++ take k part =
+    ap (take (length done + k)) (sym split ∙ append_assoc done part rest) ∙ take-append-add done (part ++ rest) k
+    ∙ ap (λ (x : List ℕ). done ++ x) (take-append-le k part rest (omega arith)) in (
+      length done + k,
+      next ∙ ap (λ (x : List ℕ). middle ++ x) (sym (take_min n part)) ∙ ap (λ (x : List ℕ). x ++ take k part) first ∙ append_assoc before done (take k part)
+          ∙ ap (λ (x : List ℕ). before ++ x) (sym head),
+    )
+
+-- a scheme that refuses some bytes refuses all
+pub same_refusal : (scheme : CompressionScheme) (bytes : List ℕ) (e : StoreError) → compressed scheme bytes ≡ Err e → compressed scheme [] ≡ Err e
+same_refusal None bytes e h = absurd (cc h)
+same_refusal LZ4 bytes e h = h
+same_refusal ByteGrouping4LZ4 bytes e h = h
+same_refusal Auto bytes e h = absurd (cc h)
+
+-- ---- the xorb that is written
+
+-- a front of the chunks, or the chunks and a front of what stands behind them, is a front of the whole
+pub front_of_chunks : (version : Version) (hash : List ℕ) (ms : List (List ℕ × ℕ)) (parts : List (List ℕ)) (spare before now : List ℕ) (n : ℕ)
+    → now ≡ before ++ take n (flat_map spelling parts) → (m : ℕ) × (now ≡ before ++ take m (xorb_text version hash ms parts spare))
+unfolding xorb_text
+front_of_chunks version hash ms parts spare before now n is =
+    let f = front_of_first (flat_map spelling parts) (footer_text version hash ms spare ++ number (footer_len version (length ms))) n in
+    (f.0, is ∙ ap (λ (x : List ℕ). before ++ x) f.1)
+
+pub front_of_footer : (version : Version) (hash : List ℕ) (ms : List (List ℕ × ℕ)) (parts : List (List ℕ)) (spare before middle now footer : List ℕ) (n : ℕ)
+    → middle ≡ before ++ flat_map spelling parts → now ≡ middle ++ take n footer → footer ≡ footer_text version hash ms spare ++ number (footer_len version (length ms))
+    → (m : ℕ) × (now ≡ before ++ take m (xorb_text version hash ms parts spare))
+unfolding xorb_text
+front_of_footer version hash ms parts spare before middle now footer n first next is = (
+  length (flat_map spelling parts) + n,
+  written_then before middle now (flat_map spelling parts) footer n first next
+      ∙ ap (λ (x : List ℕ). before ++ take (length (flat_map spelling parts) + n) (flat_map spelling parts ++ x)) is,
+)
+
+pub whole_text : (version : Version) (hash : List ℕ) (ms : List (List ℕ × ℕ)) (parts : List (List ℕ)) (spare before middle now footer : List ℕ)
+    → middle ≡ before ++ flat_map spelling parts → now ≡ middle ++ footer → footer ≡ footer_text version hash ms spare ++ number (footer_len version (length ms))
+    → now ≡ before ++ xorb_text version hash ms parts spare
+unfolding xorb_text
+whole_text version hash ms parts spare before middle now footer first next is =
+    written_both before middle now (flat_map spelling parts) footer first next ∙ ap (λ (x : List ℕ). before ++ (flat_map spelling parts ++ x)) is
+
+-- how long it is
+pub length-text : (hash : List ℕ) (ms : List (List ℕ × ℕ)) (parts : List (List ℕ)) (spare : List ℕ)
+    → length (xorb_text V1 hash ms parts spare) ≡ length (flat_map spelling parts) + (length (text_v1 (footer_v1 hash ms spare)) + 4)
+unfolding xorb_text
+length-text hash ms parts spare =
+    omega (
+      arith,
+      length-append (flat_map spelling parts) (text_v1 (footer_v1 hash ms spare) ++ number (footer_len V1 (length ms))),
+      length-append (text_v1 (footer_v1 hash ms spare)) (number (footer_len V1 (length ms))),
+    )
+
+-- a new footer is as long as it says
+pub length_of-new : (hash : List ℕ) (ms : List (List ℕ × ℕ)) (spare : List ℕ) → length_of (footer_v1 hash ms spare) ≡ footer_len V1 (length ms)
+length_of-new hash ms spare = omega (arith, length-hashes ms, length-ends 8 0 ms, length-ends 0 0 ms)
+
+-- what stands behind the chunks
+pub footer_is : (info : XorbObjectInfoV1) (hash : List ℕ) (ms : List (List ℕ × ℕ)) (spare : List ℕ) → info ≡ footer_v1 hash ms spare
+    → text_v1 info ++ number (length_of info) ≡ footer_text V1 hash ms spare ++ number (footer_len V1 (length ms))
+footer_is info hash ms spare is =
+    ap (λ (x : XorbObjectInfoV1). text_v1 x ++ number (length_of x)) is ∙ ap (λ (n : ℕ). text_v1 (footer_v1 hash ms spare) ++ number n) (length_of-new hash ms spare)
+
+pub object_is : (info : XorbObjectInfoV1) (hash : List ℕ) (ms : List (List ℕ × ℕ)) (spare : List ℕ) (object : XorbObject) → info ≡ footer_v1 hash ms spare
+    → object ≡ record { info = info; info_length = length_of info } → object ≡ object_of V1 hash ms spare
+object_is info hash ms spare object is made =
+    made ∙ ap (λ (x : XorbObjectInfoV1). record { info = x; info_length = length_of x }) is
+    ∙ ap (λ (n : ℕ). record { info = footer_v1 hash ms spare; info_length = n }) (length_of-new hash ms spare)
+
+pub text_count : (info : XorbObjectInfoV1) (hash : List ℕ) (ms : List (List ℕ × ℕ)) (parts : List (List ℕ)) (spare : List ℕ) (start footer : ℕ) → info ≡ footer_v1 hash ms spare
+    → start ≡ length (flat_map spelling parts) → footer ≡ length_of info + 4 → length_of info ≡ length (text_v1 info) → start + footer ≡ length (xorb_text V1 hash ms parts spare)
+text_count info hash ms parts spare start footer is before behind whole =
+    let same : length (text_v1 info) ≡ length (text_v1 (footer_v1 hash ms spare)) = ap (λ (x : XorbObjectInfoV1). length (text_v1 x)) is in
+    omega (arith, before, behind, whole, same, length-text hash ms parts spare)
+
+-- the whole is a front of itself
+pub whole_front : (before text now : List ℕ) → now ≡ before ++ text → (n : ℕ) × (now ≡ before ++ take n text)
+whole_front before text now is = (length text, is ∙ ap (λ (x : List ℕ). before ++ x) (sym (take-length text)))
+
+-- the members of cuts are few, and so are their bytes
+pub few_members : (bytes : List ℕ) (cs : List (List ℕ × ℕ)) → AreCuts bytes cs → length (members_from 0 cs) ≤ most_chunks
+few_members bytes cs are = omega (arith, are.parts.count, length-parts 0 cs bytes, length-members 0 cs)
+
+pub fit_members : (bytes : List ℕ) (cs : List (List ℕ × ℕ)) → AreCuts bytes cs → total_len (members_from 0 cs) + 8 * length (members_from 0 cs) < 2 ^ 32
+fit_members bytes cs are =
+    omega (arith, are.parts.count, are.parts.total, length-parts 0 cs bytes, length-members 0 cs, members_total 0 cs bytes are.rise)
+
+-- ---- a raw xorb, cut where its record says
+
+cut_out : (before part rest : List ℕ) (end : ℕ) → end ≡ length (before ++ part) → slice_range (before ++ (part ++ rest)) (length before) end ≡ part
+cut_out before part rest end is =
+    let count : end - length before ≡ length part = omega (arith, length-append before part) in
+    ap (λ (n : ℕ). take n (drop (length before) (before ++ (part ++ rest)))) count ∙ ap (take (length part)) (drop-append_seam before (part ++ rest)) ∙ take-append_seam part rest
+
+pub raw_parts : (before : List ℕ) (parts : List (List ℕ)) (cs : List XorbChunkSequenceEntry) → map length parts ≡ map (λ c. c.unpacked_segment_bytes) cs
+    → parts_from (length before) (boundaries_from (length before) cs) (before ++ concat parts) ≡ parts
+raw_parts before [] [] listed = refl
+raw_parts before [] (c ∷ cs) listed = absurd (cc listed)
+raw_parts before (p ∷ ps) [] listed = absurd (cc listed)
+raw_parts before (p ∷ ps) (c ∷ cs) listed =
+    let size : length p ≡ c.unpacked_segment_bytes = cc listed in
+    let rest : map length ps ≡ map (λ (x : XorbChunkSequenceEntry). x.unpacked_segment_bytes) cs = cc listed in
+    let end : length (before ++ p) ≡ length before + c.unpacked_segment_bytes = omega (arith, length-append before p) in
+    let whole : (before ++ p) ++ concat ps ≡ before ++ (p ++ concat ps) = append_assoc before p (concat ps) in
+    let part : slice_range (before ++ (p ++ concat ps)) (length before) (length before + c.unpacked_segment_bytes) ≡ p = cut_out before p (concat ps) (length before + c.unpacked_segment_bytes) (sym end) in
+    let others : parts_from (length before + c.unpacked_segment_bytes) (boundaries_from (length before + c.unpacked_segment_bytes) cs) (before ++ (p ++ concat ps)) ≡ ps =
+    ap (λ (n : ℕ). parts_from n (boundaries_from n cs) (before ++ (p ++ concat ps))) (sym end)
+    ∙ ap (parts_from (length (before ++ p)) (boundaries_from (length (before ++ p)) cs)) (sym whole) ∙ raw_parts (before ++ p) ps cs rest in
+    λ i. part i ∷ others i
+
+pub raw_cut_members : (at : ℕ) (cs : List XorbChunkSequenceEntry) → members_from at (boundaries_from at cs) ≡ map (λ c. (c.chunk_hash, c.unpacked_segment_bytes)) cs
+raw_cut_members at [] = refl
+raw_cut_members at (c ∷ cs) =
+    let size : at + c.unpacked_segment_bytes - at ≡ c.unpacked_segment_bytes = omega arith in
+    let rest = raw_cut_members (at + c.unpacked_segment_bytes) cs in
+    λ i. (c.chunk_hash, size i) ∷ rest i
+
+pub raw_rise : (at : ℕ) (parts : List (List ℕ)) (cs : List XorbChunkSequenceEntry) → map length parts ≡ map (λ c. c.unpacked_segment_bytes) cs
+    → Rise at (boundaries_from at cs) (at + length (concat parts))
+raw_rise at [] [] listed = omega arith
+raw_rise at [] (c ∷ cs) listed = absurd (cc listed)
+raw_rise at (p ∷ ps) [] listed = absurd (cc listed)
+raw_rise at (p ∷ ps) (c ∷ cs) listed =
+    let size : length p ≡ c.unpacked_segment_bytes = cc listed in
+    let rest : map length ps ≡ map (λ (x : XorbChunkSequenceEntry). x.unpacked_segment_bytes) cs = cc listed in
+    let end : (at + c.unpacked_segment_bytes) + length (concat ps) ≡ at + length (p ++ concat ps) = omega (arith, length-append p (concat ps)) in
+    (omega arith, subst (Rise (at + c.unpacked_segment_bytes) (boundaries_from (at + c.unpacked_segment_bytes) cs)) end (raw_rise (at + c.unpacked_segment_bytes) ps cs rest))
+
+-- the same in memory
+pub components_are : (hash : List ℕ) (ms : List (List ℕ × ℕ)) (parts : List (List ℕ)) (bytes : List ℕ) (plain count start : ℕ) → bytes ≡ xorb_text V1 hash ms parts no_spare
+    → plain ≡ sum_by length parts → count ≡ length parts → start ≡ length (flat_map spelling parts)
+    → record { serialized_data = bytes; hash = hash; raw_num_bytes = plain; num_chunks = count; footer_start = Some start } ≡ built hash ms parts true
+unfolding xorb_text
+components_are hash ms parts bytes plain count start text plain_is count_is start_is =
+    λ i. record { serialized_data = text i; hash = hash; raw_num_bytes = plain_is i; num_chunks = count_is i; footer_start = Some (start_is i) }
+
+raw_total : (parts : List (List ℕ)) (cs : List XorbChunkSequenceEntry) → map length parts ≡ map (λ c. c.unpacked_segment_bytes) cs → sum_by length parts ≡ chunk_bytes cs
+raw_total [] [] listed = refl
+raw_total [] (c ∷ cs) listed = absurd (cc listed)
+raw_total (p ∷ ps) [] listed = absurd (cc listed)
+raw_total (p ∷ ps) (c ∷ cs) listed =
+    let size : length p ≡ c.unpacked_segment_bytes = cc listed in
+    let rest : map length ps ≡ map (λ (x : XorbChunkSequenceEntry). x.unpacked_segment_bytes) cs = cc listed in
+    omega (arith, size, sum_by-cons length p ps, sum_by-cons (λ (x : XorbChunkSequenceEntry). x.unpacked_segment_bytes) c cs, raw_total ps cs rest)
+
+pub raw_fits : (x : RawXorbData) → IsRaw x → chunk_bytes x.xorb_info.chunks < 2 ^ 32
+raw_fits x raw = omega (arith, raw_total x.parts x.xorb_info.chunks raw.listed, raw.parts.total)
+
+pub raw_cuts : (x : RawXorbData) → IsRaw x → AreCuts (concat x.parts) (boundaries_from 0 x.xorb_info.chunks)
+raw_cuts x raw = record {
+  rise = subst (Rise 0 (boundaries_from 0 x.xorb_info.chunks)) (omega arith) (raw_rise 0 x.parts x.xorb_info.chunks raw.listed);
+  parts = subst ArePartsOfXorb (sym (raw_parts [] x.parts x.xorb_info.chunks raw.listed)) raw.parts;
+}
+
+-- what is written of its parts is what is built of it
+pub raw_built : (x : RawXorbData) → IsRaw x
+    → built x.xorb_info.metadata.xorb_hash (members_from 0 (boundaries_from 0 x.xorb_info.chunks)) (parts_from 0 (boundaries_from 0 x.xorb_info.chunks) (concat x.parts)) true ≡ built_of x true
+raw_built x raw =
+    ap (λ (ms : List (List ℕ × ℕ)). built x.xorb_info.metadata.xorb_hash ms (parts_from 0 (boundaries_from 0 x.xorb_info.chunks) (concat x.parts)) true) (raw_cut_members 0 x.xorb_info.chunks)
+    ∙ ap (λ (ps : List (List ℕ)). built x.xorb_info.metadata.xorb_hash (raw_members x) ps true) (raw_parts [] x.parts x.xorb_info.chunks raw.listed)
+
+-- ---- the cuts of chunks
+
+-- a chunk as a record lists it
+entry_of : List ℕ → XorbChunkSequenceEntry
+entry_of c = record { chunk_hash = chunk_hash c; chunk_byte_range_start = 0; unpacked_segment_bytes = length c }
+
+cuts_listed : (chunks : List (List ℕ)) → map length chunks ≡ map (λ (c : XorbChunkSequenceEntry). c.unpacked_segment_bytes) (map entry_of chunks)
+unfolding entry_of
+cuts_listed [] = refl
+cuts_listed (c ∷ cs) = ap (λ (x : List ℕ). length c ∷ x) (cuts_listed cs)
+
+cuts_are : (at : ℕ) (chunks : List (List ℕ)) → boundaries_from at (map entry_of chunks) ≡ cuts_from at chunks
+unfolding entry_of
+cuts_are at [] = refl
+cuts_are at (c ∷ cs) = ap (λ (x : List (List ℕ × ℕ)). (chunk_hash c, at + length c) ∷ x) (cuts_are (at + length c) cs)
+
+members_are : (chunks : List (List ℕ)) → map (λ (c : XorbChunkSequenceEntry). (c.chunk_hash, c.unpacked_segment_bytes)) (map entry_of chunks) ≡ members_of chunks
+unfolding entry_of
+members_are [] = refl
+members_are (c ∷ cs) = ap (λ (x : List (List ℕ × ℕ)). (chunk_hash c, length c) ∷ x) (members_are cs)
+
+pub cut_members_are : (chunks : List (List ℕ)) → members_from 0 (cuts_from 0 chunks) ≡ members_of chunks
+cut_members_are chunks = ap (members_from 0) (sym (cuts_are 0 chunks)) ∙ raw_cut_members 0 (map entry_of chunks) ∙ members_are chunks
+
+pub chunk_cuts : (chunks : List (List ℕ)) → ArePartsOfXorb chunks → AreCuts (concat chunks) (cuts_from 0 chunks)
+chunk_cuts chunks parts =
+    subst (AreCuts (concat chunks)) (cuts_are 0 chunks) (record {
+      rise = subst (Rise 0 (boundaries_from 0 (map entry_of chunks))) (omega arith) (raw_rise 0 chunks (map entry_of chunks) (cuts_listed chunks));
+      parts = subst ArePartsOfXorb (sym (raw_parts [] chunks (map entry_of chunks) (cuts_listed chunks))) parts;
+    })
+
+-- the object of their members is theirs
+pub chunk_object : (chunks : List (List ℕ)) (cuts : List (List ℕ × ℕ)) (object : XorbObject) → cuts ≡ cuts_from 0 chunks
+    → object ≡ object_of V1 (xorb_hash (members_from 0 cuts)) (members_from 0 cuts) no_spare → object ≡ object_for chunks
+chunk_object chunks cuts object are is =
+    is ∙ ap (λ (ms : List (List ℕ × ℕ)). object_of V1 (xorb_hash ms) ms no_spare) (ap (members_from 0) are ∙ cut_members_are chunks)
+
+-- one more chunk
+pub more_cuts : (at : ℕ) (chunks : List (List ℕ)) (next : List ℕ) → cuts_from at (chunks ++ next ∷ []) ≡ cuts_from at chunks ++ (chunk_hash next, at + length (concat (chunks ++ next ∷ []))) ∷ []
+more_cuts at [] next =
+    let size : length next ≡ length (next ++ []) = sym (ap length (append-nil next)) in ap (λ (n : ℕ). (chunk_hash next, at + n) ∷ []) size
+more_cuts at (c ∷ cs) next =
+    let end : at + length c + length (concat (cs ++ next ∷ [])) ≡ at + length (c ++ concat (cs ++ next ∷ [])) = omega (arith, length-append c (concat (cs ++ next ∷ []))) in
+    ap (λ (x : List (List ℕ × ℕ)). (chunk_hash c, at + length c) ∷ x) (more_cuts (at + length c) cs next)
+    ∙ ap (λ (n : ℕ). (chunk_hash c, at + length c) ∷ (cuts_from (at + length c) cs ++ (chunk_hash next, n) ∷ [])) end
+
+pub more_stored : (chunks : List (List ℕ)) (next stored now : List ℕ) → stored ≡ flat_map spelling chunks → now ≡ stored ++ spelling next → now ≡ flat_map spelling (chunks ++ next ∷ [])
+more_stored chunks next stored now are is = is ∙ ap (λ (x : List ℕ). x ++ spelling next) are ∙ flat_map_more spelling [] chunks next
+
+pub more_plain : (chunks : List (List ℕ)) (next plain now : List ℕ) → plain ≡ concat chunks → now ≡ plain ++ next → now ≡ concat (chunks ++ next ∷ [])
+more_plain chunks next plain now are is =
+    is ∙ ap (λ (x : List ℕ). x ++ next) are ∙ ap (λ (x : List ℕ). concat chunks ++ x) (sym (append-nil next)) ∙ sym (concat-append chunks (next ∷ []))
+
+pub length-concat : (chunks : List (List ℕ)) → length (concat chunks) ≡ sum_by length chunks
+length-concat [] = refl
+length-concat (c ∷ cs) = omega (arith, length-append c (concat cs), length-concat cs, sum_by-cons length c cs)

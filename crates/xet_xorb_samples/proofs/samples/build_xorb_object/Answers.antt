@@ -1,0 +1,80 @@
+use Rattle.std.proofs.Common.{◌≡◌, ◌∙◌, ◌+◌, ◌++◌, [], ◌∷◌, ℕ, List, ap, arith, length, refl, subst, sym}
+use Rattle.std.specs.List.{concat}
+use Rattle.xet_hash.specs.Merkle.{chunk_hash}
+use Rattle.xet_xorb_chunk.specs.Spelling.{spelling}
+use Rattle.xet_xorb_samples.specs.Samples.{AreCuts, AreSamples, HasSize, cuts_from}
+use Rattle.xet_xorb_samples.proofs.Cuts.{chunk_cuts, chunk_object, more_cuts, more_plain, more_stored}
+use Rattle.xet_xorb_samples.proofs.Drawn.{drawn_bound, more_samples, one_drawn, sample_parts}
+use Rattle.xet_xorb_samples.proofs.samples.build_xorb_object.Goals as goal
+
+pub overflow_cast-len : goal.overflow_cast-len
+overflow_cast-len g c =
+    let held = c.draws.invariant in
+    let bytes = c.in_ok-bytes.bytes.items in
+    let size = c.args.size in
+    let sized : HasSize size (length bytes) = subst (HasSize size) (sym c.in_ok-bytes.ensures.size) c.draw.ensures.size in
+    let start = g.G.Rng.stream c.args.rng.now in
+    let before = g.G.Rng.stream c.draws.rng in
+    let after = g.G.Rng.stream c.gen_random_bytes.new.rng in
+    let one = one_drawn size before _ after c.draw.result bytes c.in_ok-bytes.ensures.size c.draw.ensures.drawn c.in_ok-bytes.ensures.drawn in
+    let plain : c.extend_from_slice.new.self.items ≡ c.draws.plain.items ++ bytes =
+    c.in_ok-extend_from_slice.ensures.items ∙ ap (λ (x : List ℕ). c.draws.plain.items ++ x) c.deref-in-draws.ensures.value in
+    let whole = more_plain held.0 bytes _ _ held.3 plain in
+    let bound = drawn_bound c.args.num_chunks (c.draws.counter + 1) size start after (held.0 ++ bytes ∷ []) _ c.requires (omega arith) (more_samples c.draws.counter size start before after held.0 bytes held.1 sized one) whole in
+    omega (arith, bound, c.len.ensures, c.extend_from_slice.new.self.ok.0)
+
+pub draws-preserved : goal.draws-preserved
+draws-preserved g c =
+    let held = c.draws.invariant in
+    let bytes = c.in_ok-bytes.bytes.items in
+    let size = c.args.size in
+    let sized : HasSize size (length bytes) = subst (HasSize size) (sym c.in_ok-bytes.ensures.size) c.draw.ensures.size in
+    let start = g.G.Rng.stream c.args.rng.now in
+    let before = g.G.Rng.stream c.draws.rng in
+    let after = g.G.Rng.stream c.gen_random_bytes.new.rng in
+    let one = one_drawn size before _ after c.draw.result bytes c.in_ok-bytes.ensures.size c.draw.ensures.drawn c.in_ok-bytes.ensures.drawn in
+    let stored : c.serialize_chunk.new.w ≡ c.draws.stored ++ spelling bytes =
+    c.in_ok-serialize_chunk.ensures.whole refl ∙ ap (λ (x : List ℕ). c.draws.stored ++ spelling x) c.deref.ensures.value in
+    let plain : c.extend_from_slice.new.self.items ≡ c.draws.plain.items ++ bytes =
+    c.in_ok-extend_from_slice.ensures.items ∙ ap (λ (x : List ℕ). c.draws.plain.items ++ x) c.deref-in-draws.ensures.value in
+    let whole : c.extend_from_slice.new.self.items ≡ concat (held.0 ++ bytes ∷ []) = more_plain held.0 bytes _ _ held.3 plain in
+    let hash : c.compute_data_hash.result ≡ chunk_hash bytes = c.compute_data_hash.ensures ∙ ap chunk_hash c.deref-in-draws-2.ensures.value in
+    let end : c.len.result ≡ 0 + length (concat (held.0 ++ bytes ∷ [])) = omega (arith, ap length whole, c.len.ensures, c.extend_from_slice.new.self.ok.0) in
+    let cuts : c.push.new.self.items ≡ cuts_from 0 (held.0 ++ bytes ∷ []) =
+    c.in_ok-push.ensures.items ∙ ap (λ (h : List ℕ). c.draws.cuts.items ++ (h, c.len.result) ∷ []) hash
+    ∙ ap (λ (n : ℕ). c.draws.cuts.items ++ (chunk_hash bytes, n) ∷ []) end
+    ∙ ap (λ (x : List (List ℕ × ℕ)). x ++ (chunk_hash bytes, 0 + length (concat (held.0 ++ bytes ∷ []))) ∷ []) held.4 ∙ sym (more_cuts 0 held.0 bytes) in
+    (held.0 ++ bytes ∷ [], more_samples c.draws.counter size start before after held.0 bytes held.1 sized one, more_stored held.0 bytes _ _ held.2 stored, whole, cuts)
+
+pub cut_object-requires : goal.cut_object-requires
+cut_object-requires g c =
+    let held = c.draws.invariant in
+    let start = g.G.Rng.stream c.args.rng.now in
+    let last = g.G.Rng.stream c.draws.rng in
+    let samples : AreSamples c.args.num_chunks c.args.size start held.0 last = subst (λ (n : ℕ). AreSamples n c.args.size start held.0 last) (omega arith) held.1 in
+    let cuts = chunk_cuts held.0 (sample_parts c.args.num_chunks c.args.size start last held.0 c.requires samples) in
+    (concat held.0, subst (AreCuts (concat held.0)) (sym (c.deref-2.ensures.value ∙ held.4)) cuts)
+
+pub returns-clause-made : goal.returns-clause-made
+returns-clause-made g c =
+    let held = c.draws.invariant in
+    let start = g.G.Rng.stream c.args.rng.now in
+    let last = g.G.Rng.stream c.draws.rng in
+    let samples : AreSamples c.args.num_chunks c.args.size start held.0 last = subst (λ (n : ℕ). AreSamples n c.args.size start held.0 last) (omega arith) held.1 in
+    record {
+      chunks = held.0;
+      samples = samples;
+      of_chunks = chunk_object held.0 c.deref-2.result.now c.in_ok-object.object (c.deref-2.ensures.value ∙ held.4) c.in_ok-object.ensures.object;
+      spelled = c.into_bytes.ensures ∙ held.2;
+      joined = held.3;
+      cut = held.4;
+    }
+
+pub returns-clause-cuts : goal.returns-clause-cuts
+returns-clause-cuts g c =
+    let held = c.draws.invariant in
+    let start = g.G.Rng.stream c.args.rng.now in
+    let last = g.G.Rng.stream c.draws.rng in
+    let samples : AreSamples c.args.num_chunks c.args.size start held.0 last = subst (λ (n : ℕ). AreSamples n c.args.size start held.0 last) (omega arith) held.1 in
+    let cuts = chunk_cuts held.0 (sample_parts c.args.num_chunks c.args.size start last held.0 c.requires samples) in
+    subst (λ (x : List ℕ). AreCuts x c.draws.cuts.items) (sym held.3) (subst (AreCuts (concat held.0)) (sym held.4) cuts)

@@ -1,0 +1,201 @@
+//! Xorbs that are written from their parts, by which built ones are compared. For tests of what stands above.
+
+ghost use Rattle.std.specs.Prelude.{◌≡◌, ◌↔◌, ◌⊎◌, ◌+◌, ◌*◌, ◌≤◌, ◌++◌, [], ℕ, Err, true, IfErr, IfOk, IsErrOf, IsOkUnless, IsTrue, OnErr, OnOk, length, take};
+ghost use Rattle.std.specs.List.{flat_map};
+ghost use Rattle.xet_hash.specs.declared.error.Place.TheVariants.{Output};
+ghost use Rattle.xet_hash.specs.declared.error.StoreError.{StoreError};
+ghost use Rattle.xet_hash.specs.declared.error.StoreError.TheVariants.{Io, OutOfMemory};
+ghost use Rattle.xet_io.specs.Faults.{HasCause};
+ghost use Rattle.xet_xorb_chunk.specs.Outside.{StopsWriting};
+ghost use Rattle.xet_xorb_chunk.specs.Scheme.{compressed};
+ghost use Rattle.xet_xorb_chunk.specs.Spelling.{spelling};
+ghost use Rattle.xet_xorb.specs.Building.{built, built_of, no_spare};
+ghost use Rattle.xet_xorb.specs.Footer.{V1};
+ghost use Rattle.xet_xorb.specs.Object.{object_of};
+ghost use Rattle.xet_xorb.specs.Raw.{IsRaw};
+ghost use Rattle.xet_xorb_samples.specs.Samples.{AreAlike, AreCuts, DoRise, members_from, parts_from};
+ghost use Rattle.xet_xorb.specs.Xorb.{xorb_text};
+
+use std::alloc::Global;
+use xet_base::Items;
+use xet_hash::{MerkleHash, StoreError};
+use xet_io::{MemorySink, Sink};
+use xet_xorb::{RawXorbData, SerializedXorbObject, XorbObject, new_footer, raw_xorb_to_vec};
+use xet_xorb_chunk::{CompressionScheme, XORB_CHUNK_HEADER_LENGTH, serialize_chunk};
+
+/// The bytes that a chunk adds to a xorb beside its own: its header, its hash, and where it ends, twice.
+const MOST_PER_CHUNK: usize = 48;
+
+/// The bytes of a footer of no chunks, with its length.
+const EMPTY_FOOTER: usize = 96;
+
+/// The hash of each chunk, and the length of the part that ends where it ends. Where there is no memory, the call
+/// fails with `StoreError::OutOfMemory`, and for no other reason.
+pub(crate) fn cut_members(
+    alloc: Global,
+    chunks: &[(MerkleHash, u32)],
+) -> Result<Vec<(MerkleHash, u64)>, StoreError>
+    requires { DoRise chunks.now }
+    ensures members { IfOk result (λ members. members.items ≡ members_from 0 chunks.now) }
+    ensures memory { IsOkUnless result StoreError.OutOfMemory }
+{
+    let mut members = Vec::with_capacity(alloc, chunks.len())?;
+    let mut start: u32 = 0;
+    for chunk in chunks {
+        members.push((chunk.0, (chunk.1 - start) as u64))?;
+        start = chunk.1;
+    }
+    Ok(members)
+}
+
+/// Writes the parts of the bytes that end at these places, each as it is stored. Gives how many bytes were written.
+/// The schemes that compress are refused as `CompressionError` of their number; also refused as `Io(Output)`, or as
+/// `OutOfMemory`, with a front of the bytes written.
+fn write_parts<W: Sink>(
+    sink: &mut W,
+    bytes: &[u8],
+    chunks: &[(MerkleHash, u32)],
+    scheme: CompressionScheme,
+) -> Result<usize, StoreError>
+    requires { AreCuts bytes.now chunks.now }
+    ensures count { IfOk result (λ count. count ≡ length (flat_map spelling (parts_from 0 chunks.now bytes.now))) }
+    ensures written { W.tells sink.old ≡ true → OnOk result (W.written sink.new ≡ W.written sink.old ++ flat_map spelling (parts_from 0 chunks.now bytes.now)) }
+    ensures front { W.tells sink.old ≡ true → OnErr result ((n : ℕ) × (W.written sink.new ≡ W.written sink.old ++ take n (flat_map spelling (parts_from 0 chunks.now bytes.now)))) }
+    ensures refusals { IfErr result (λ e. (compressed scheme [] ≡ Err e) ⊎ StopsWriting e) }
+    ensures cause { HasCause (W.faults sink.old) (W.faults sink.new) (IsErrOf result (Io Output)) }
+    ensures tells { W.tells sink.new ≡ W.tells sink.old }
+{
+    let mut count = 0;
+    let mut start = 0;
+    for chunk in chunks {
+        let end = chunk.1 as usize;
+        count += serialize_chunk(&bytes[start..end], sink, scheme)?;
+        start = end;
+    }
+    Ok(count)
+}
+
+/// Writes the xorb of this hash from its plain bytes, with the hash of each chunk and where it ends: the chunks as
+/// they are stored, the footer of version 1 and its length. Gives its object, how many bytes these are, and how many
+/// stand before the footer. The places rise and end in the bytes, and cut them into parts that a xorb may have.
+///
+/// The schemes that compress are refused as `CompressionError` of their number, before anything is written; also
+/// refused as `Io(Output)`, or as `OutOfMemory`, with a front of the bytes written.
+pub fn serialize_xorb_to_stream_reference<W: Sink>(
+    alloc: Global,
+    sink: &mut W,
+    hash: &MerkleHash,
+    bytes: &[u8],
+    chunks: &[(MerkleHash, u32)],
+    scheme: CompressionScheme,
+) -> Result<(XorbObject, usize, u64), StoreError>
+    requires { AreCuts bytes.now chunks.now }
+    ensures object { IfOk result (λ made. made.0 ≡ object_of V1 hash.now (members_from 0 chunks.now) no_spare) }
+    ensures count { IfOk result (λ made. made.1 ≡ length (xorb_text V1 hash.now (members_from 0 chunks.now) (parts_from 0 chunks.now bytes.now) no_spare)) }
+    ensures start { IfOk result (λ made. made.2 ≡ length (flat_map spelling (parts_from 0 chunks.now bytes.now))) }
+    ensures written { W.tells sink.old ≡ true → OnOk result (W.written sink.new ≡ W.written sink.old ++ xorb_text V1 hash.now (members_from 0 chunks.now) (parts_from 0 chunks.now bytes.now) no_spare) }
+    ensures front { W.tells sink.old ≡ true → (n : ℕ) × (W.written sink.new ≡ W.written sink.old ++ take n (xorb_text V1 hash.now (members_from 0 chunks.now) (parts_from 0 chunks.now bytes.now) no_spare)) }
+    ensures nothing { W.tells sink.old ≡ true → (e : StoreError) → compressed scheme [] ≡ Err e → W.written sink.new ≡ W.written sink.old }
+    ensures scheme { (e : StoreError) → compressed scheme [] ≡ Err e → result ≡ Err e }
+    ensures refusals { IfErr result (λ e. (compressed scheme [] ≡ Err e) ⊎ StopsWriting e) }
+    ensures cause { HasCause (W.faults sink.old) (W.faults sink.new) (IsErrOf result (Io Output)) }
+    ensures tells { W.tells sink.new ≡ W.tells sink.old }
+{
+    scheme.compress_from_slice(&[])?;
+    let members = cut_members(alloc, chunks)?;
+    let info = new_footer(alloc, hash, &members, [0; 16])?;
+    let start = write_parts(sink, bytes, chunks, scheme)?;
+    let (object, footer) = XorbObject::serialize_given_info(sink, info)?;
+    Ok((object, start + footer, start as u64))
+}
+
+/// How long a xorb of these bytes is, in so many chunks, with its footer.
+fn xorb_length(bytes: &[u8], chunks: &[(MerkleHash, u32)]) -> usize
+    requires { length chunks.now ≤ 65536 }
+    ensures { result ≡ length bytes.now + 48 * length chunks.now + 96 }
+{
+    bytes.len() + MOST_PER_CHUNK * chunks.len() + EMPTY_FOOTER
+}
+
+/// The xorb that `serialize_xorb_to_stream_reference` writes, in memory. The schemes that compress are refused as
+/// `CompressionError` of their number.
+pub fn serialized_xorb_object_from_components(
+    alloc: Global,
+    hash: &MerkleHash,
+    bytes: Vec<u8>,
+    chunks: Vec<(MerkleHash, u32)>,
+    scheme: CompressionScheme,
+) -> Result<SerializedXorbObject, StoreError>
+    requires { AreCuts bytes.items chunks.items }
+    ensures built { IfOk result (λ made. made ≡ built hash.now (members_from 0 chunks.items) (parts_from 0 chunks.items bytes.items) true) }
+    ensures scheme { (e : StoreError) → compressed scheme [] ≡ Err e → result ≡ Err e }
+    ensures refusals { IfErr result (λ e. (compressed scheme [] ≡ Err e) ⊎ (e ≡ OutOfMemory)) }
+{
+    scheme.compress_from_slice(&[])?;
+    let room = Vec::with_capacity(alloc, xorb_length(&bytes, &chunks))?;
+    let mut sink = MemorySink::from_vec(room);
+    let (_, _, start) = serialize_xorb_to_stream_reference(
+        alloc, &mut sink, hash, &bytes, &chunks, scheme,
+    )?;
+    Ok(SerializedXorbObject {
+        serialized_data: Items::from_vec(sink.into_bytes()),
+        hash: *hash,
+        raw_num_bytes: start - (XORB_CHUNK_HEADER_LENGTH * chunks.len()) as u64,
+        num_chunks: chunks.len(),
+        footer_start: Some(start),
+    })
+}
+
+/// Whether both have the same bytes, plain length and number of chunks.
+fn are_alike(one: &SerializedXorbObject, other: &SerializedXorbObject) -> bool
+    ensures { IsTrue result ↔ AreAlike one.now other.now }
+{
+    one.serialized_data == other.serialized_data
+        && one.raw_num_bytes == other.raw_num_bytes
+        && one.num_chunks == other.num_chunks
+}
+
+/// Whether a built xorb has the bytes, the plain length and the number of chunks of the one that is written of this
+/// raw xorb from its parts. The schemes that compress are refused as `CompressionError` of their number.
+pub fn verify_serialized_xorb_object(
+    alloc: Global,
+    xorb: &RawXorbData,
+    scheme: CompressionScheme,
+    serialized: &SerializedXorbObject,
+) -> Result<bool, StoreError>
+    requires { IsRaw xorb.now }
+    ensures verified { IfOk result (λ same. IsTrue same ↔ AreAlike serialized.now (built_of xorb.now true)) }
+    ensures scheme { (e : StoreError) → compressed scheme [] ≡ Err e → result ≡ Err e }
+    ensures refusals { IfErr result (λ e. (compressed scheme [] ≡ Err e) ⊎ (e ≡ OutOfMemory)) }
+{
+    scheme.compress_from_slice(&[])?;
+    let chunks = xorb.xorb_info.chunks_and_boundaries(alloc)?;
+    let bytes = raw_xorb_to_vec(alloc, xorb)?;
+    let reference = serialized_xorb_object_from_components(
+        alloc,
+        &xorb.hash(),
+        bytes,
+        chunks,
+        scheme,
+    )?;
+    Ok(are_alike(serialized, &reference))
+}
+
+/// A raw xorb as it is stored, with a footer, after it was compared with the one that is written from its parts, of
+/// which it never differs. The schemes that compress are refused as `CompressionError` of their number.
+pub fn build_and_verify_xorb_object(
+    alloc: Global,
+    xorb: RawXorbData,
+    scheme: CompressionScheme,
+) -> Result<SerializedXorbObject, StoreError>
+    requires { IsRaw xorb }
+    ensures built { IfOk result (λ made. made ≡ built_of xorb true) }
+    ensures scheme { (e : StoreError) → compressed scheme [] ≡ Err e → result ≡ Err e }
+    ensures refusals { IfErr result (λ e. (compressed scheme [] ≡ Err e) ⊎ (e ≡ OutOfMemory)) }
+{
+    scheme.compress_from_slice(&[])?;
+    let serialized = SerializedXorbObject::from_xorb(alloc, xorb.clone(alloc)?, true)?;
+    let same = verify_serialized_xorb_object(alloc, &xorb, scheme, &serialized)?;
+    prove!(same);
+    Ok(serialized)
+}

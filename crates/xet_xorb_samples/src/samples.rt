@@ -1,0 +1,168 @@
+//! Xorbs of random chunks. For tests of what stands above.
+
+ghost use Rattle.std.specs.Prelude.{◌≡◌, ◌⊎◌, [], ◌∷◌, ℕ, List, Err, IfErr, IfOk, IsOkUnless, Some, length, map};
+ghost use Rattle.xet_hash.specs.Merkle.{xorb_hash};
+ghost use Rattle.rand_core.specs.Stream.{fill_bytes};
+ghost use Rattle.xet_hash.specs.declared.error.StoreError.{StoreError};
+ghost use Rattle.xet_hash.specs.declared.error.StoreError.TheVariants.{OutOfMemory};
+ghost use Rattle.xet_xorb_chunk.specs.Chunks.{chunk_of};
+ghost use Rattle.xet_xorb_chunk.specs.Scheme.{compressed};
+ghost use Rattle.xet_xorb.specs.Building.{no_spare};
+ghost use Rattle.xet_xorb.specs.Footer.{V1};
+ghost use Rattle.xet_xorb.specs.Object.{object_of};
+ghost use Rattle.xet_xorb.specs.Raw.{IsRaw, raw_of};
+ghost use Rattle.xet_xorb_samples.specs.Samples.{AreCuts, AreSampleChunks, AreSamples, DrawsSize, FitXorb, HasSize, IsOrdered, IsSampleOf, members_from, most_of, size_text};
+
+use crate::reference::cut_members;
+use bytes::Bytes;
+use rand::{Rng, RngExt};
+use std::alloc::Global;
+use std::fmt;
+use xet_hash::{MerkleHash, StoreError, compute_data_hash, xorb_hash};
+use xet_io::MemorySink;
+use xet_xorb::{RawXorbData, XorbObject, new_footer};
+use xet_xorb_chunk::{Chunk, CompressionScheme, XORB_CHUNK_HEADER_LENGTH, serialize_chunk};
+
+/// How many bytes each of some random chunks has.
+#[derive(Clone, Copy, PartialEq, Eq, Debug)]
+pub enum ChunkSize {
+    /// From the first number to the second.
+    Random(u32, u32),
+    /// This number.
+    Fixed(u32),
+}
+
+impl ChunkSize {
+    /// The largest size that is drawn. It takes no memory.
+    fn most(self) -> u32
+        ensures { result ≡ most_of self }
+    {
+        match self {
+            ChunkSize::Random(_, most) => most,
+            ChunkSize::Fixed(size) => size,
+        }
+    }
+
+    /// The size of one chunk. It takes no memory.
+    fn draw<G: Rng>(self, rng: &mut G) -> u32
+        requires { IsOrdered self }
+        ensures size { HasSize self result }
+        ensures drawn { DrawsSize self (G.stream rng.old) result (G.stream rng.new) }
+    {
+        match self {
+            ChunkSize::Random(least, most) => rng.random_range(least..=most),
+            ChunkSize::Fixed(size) => size,
+        }
+    }
+}
+
+impl fmt::Display for ChunkSize {
+    ghost output = { λ size. Some (size_text size) };
+
+    fn fmt<W: fmt::Write>(&self, f: &mut fmt::Formatter<W>) -> fmt::Result {
+        match self {
+            ChunkSize::Random(least, most) => write!(f, "[{least}, {most}]"),
+            ChunkSize::Fixed(size) => write!(f, "{size}"),
+        }
+    }
+}
+
+/// So many random bytes, the next of the generator. Where there is no memory, the call fails with
+/// `StoreError::OutOfMemory`, and for no other reason.
+pub fn gen_random_bytes<G: Rng>(
+    alloc: Global,
+    size: u32,
+    rng: &mut G,
+) -> Result<Vec<u8>, StoreError>
+    ensures size { IfOk result (λ bytes. length bytes.items ≡ size) }
+    ensures drawn { IfOk result (λ bytes. (bytes.items, G.stream rng.new) ≡ fill_bytes size (G.stream rng.old)) }
+    ensures memory { IsOkUnless result StoreError.OutOfMemory }
+{
+    let mut bytes = vec![in alloc; 0; size as usize]?;
+    rng.fill_bytes(&mut bytes);
+    Ok(bytes)
+}
+
+/// So many random chunks. Where there is no memory, the call fails with `StoreError::OutOfMemory`, and for no other
+/// reason.
+fn random_chunks<G: Rng>(
+    alloc: Global,
+    num_chunks: u32,
+    size: ChunkSize,
+    rng: &mut G,
+) -> Result<Vec<Chunk>, StoreError>
+    requires { FitXorb num_chunks size }
+    ensures made { IfOk result (λ chunks. AreSampleChunks num_chunks size (G.stream rng.old) chunks.items (G.stream rng.new)) }
+    ensures memory { IsOkUnless result StoreError.OutOfMemory }
+{
+    let mut chunks = Vec::with_capacity(alloc, num_chunks as usize)?;
+    'draws: for _ in 0..num_chunks {
+        let bytes = gen_random_bytes(alloc, size.draw(rng), rng)?;
+        chunks.push(Chunk::new(Bytes::from_vec(bytes)?))?;
+    }
+    Ok(chunks)
+}
+
+/// The raw xorb of so many random chunks, whose first file begins at its first chunk. Of each chunk in turn the length
+/// and then the bytes are drawn, so that equal generators give equal xorbs. Where there is no memory, the call fails
+/// with `StoreError::OutOfMemory`, and for no other reason.
+pub fn build_raw_xorb<G: Rng>(
+    alloc: Global,
+    num_chunks: u32,
+    size: ChunkSize,
+    rng: &mut G,
+) -> Result<RawXorbData, StoreError>
+    requires { FitXorb num_chunks size }
+    ensures made { IfOk result (λ raw. (chunks : List (List ℕ)) × AreSamples num_chunks size (G.stream rng.old) chunks (G.stream rng.new) × (raw ≡ raw_of (map chunk_of chunks) (0 ∷ []))) }
+    ensures raw { IfOk result IsRaw }
+    ensures memory { IsOkUnless result StoreError.OutOfMemory }
+{
+    let chunks = random_chunks(alloc, num_chunks, size, rng)?;
+    let boundaries = vec![in alloc; 0]?;
+    RawXorbData::from_chunks(alloc, &chunks, boundaries)
+}
+
+/// A xorb of so many random chunks, drawn as `build_raw_xorb` draws them: its object, the chunks as they are stored,
+/// their plain bytes, and of each chunk its digest and where it ends among these. The schemes that compress are refused
+/// as `CompressionError` of their number.
+pub fn build_xorb_object<G: Rng>(
+    alloc: Global,
+    num_chunks: u32,
+    size: ChunkSize,
+    scheme: CompressionScheme,
+    rng: &mut G,
+) -> Result<(XorbObject, Vec<u8>, Vec<u8>, Vec<(MerkleHash, u32)>), StoreError>
+    requires { FitXorb num_chunks size }
+    ensures made { IfOk result (λ made. IsSampleOf num_chunks size (G.stream rng.old) (G.stream rng.new) made.0 made.1.items made.2.items made.3.items) }
+    ensures cuts { IfOk result (λ made. AreCuts made.2.items made.3.items) }
+    ensures scheme { (e : StoreError) → compressed scheme [] ≡ Err e → result ≡ Err e }
+    ensures refusals { IfErr result (λ e. (compressed scheme [] ≡ Err e) ⊎ (e ≡ OutOfMemory)) }
+{
+    scheme.compress_from_slice(&[])?;
+    let room = num_chunks as usize * size.most() as usize;
+    let header_bytes = num_chunks as usize * XORB_CHUNK_HEADER_LENGTH;
+    let mut stored = MemorySink::from_vec(Vec::with_capacity(alloc, room + header_bytes)?);
+    let mut plain = Vec::with_capacity(alloc, room)?;
+    let mut cuts = Vec::with_capacity(alloc, num_chunks as usize)?;
+    'draws: for _ in 0..num_chunks {
+        let bytes = gen_random_bytes(alloc, size.draw(rng), rng)?;
+        serialize_chunk(&bytes, &mut stored, scheme)?;
+        plain.extend_from_slice(&bytes)?;
+        cuts.push((compute_data_hash(&bytes), plain.len() as u32))?;
+    }
+    let object = cut_object(alloc, &cuts)?;
+    Ok((object, stored.into_bytes(), plain, cuts))
+}
+
+/// The object of the xorb of the chunks that are cut at these places, with the hash that it has by their hashes.
+/// Where there is no memory, the call fails with `StoreError::OutOfMemory`, and for no other reason.
+fn cut_object(alloc: Global, cuts: &[(MerkleHash, u32)]) -> Result<XorbObject, StoreError>
+    requires { (bytes : List ℕ) × AreCuts bytes cuts.now }
+    ensures object { IfOk result (λ object. object ≡ object_of V1 (xorb_hash (members_from 0 cuts.now)) (members_from 0 cuts.now) no_spare) }
+    ensures memory { IsOkUnless result StoreError.OutOfMemory }
+{
+    let members = cut_members(alloc, cuts)?;
+    let hash = xorb_hash(alloc, &members)?;
+    let info = new_footer(alloc, &hash, &members, [0; 16])?;
+    Ok(XorbObject::from_info(info))
+}
