@@ -28,7 +28,7 @@ use Rattle.xet_folder.specs.Xorbs.{IsListed, Records, Xorbs, found}
 use Rattle.xet_folder.proofs.Placing.{stored_is}
 use Rattle.xet_folder.proofs.Tables.{found_either, found_here, found_kept}
 use Rattle.xet_store.specs.Cleaning.{HasXorb, IsStable, Keeps, SameEntry}
-use Rattle.xet_store.specs.Records.{xorb_record}
+use Rattle.xet_dedup.specs.Records.{xorb_record}
 use Rattle.xet_store.specs.Tables.{Tables, tables, tables_of, with_members, with_xorb as with_xorb_of}
 use Rattle.xet_folder.specs.Contents.{IsRecord}
 use Rattle.xet_store.specs.Store.{State, IsPendingFile, Sound}

@@ -10,7 +10,7 @@ use Rattle.xet_cut.specs.declared.limits.LimitSettings.{LimitSettings}
 use Rattle.xet_store.specs.declared.info.XetFileInfo.{XetFileInfo}
 use Rattle.xet_store.specs.declared.info.Cleaned.{Cleaned}
 use Rattle.xet_cut.specs.Cut.{cut}
-use Rattle.xet_store.specs.Packing.{packs, pack_len}
+use Rattle.xet_dedup.specs.Packing.{packs, pack_len}
 use Rattle.xet_shard.specs.declared.record.FileDataSequenceEntry.{FileDataSequenceEntry as Segment}
 use Rattle.xet_shard.specs.declared.record.MDBFileInfo.{MDBFileInfo}
 use Rattle.xet_folder.specs.Plan.{Joins}

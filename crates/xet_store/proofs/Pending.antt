@@ -15,7 +15,7 @@ use Rattle.xet_shard.specs.declared.row.Row.{Row}
 use Rattle.xet_shard.specs.Held.{Held, held_size, file_record_size, with_last, xorb_record_size}
 use Rattle.xet_shard.specs.Records.{IsFile, IsXorb, StartAt, chunk_bytes, chunk_row, end_row, ext_rows, file_hash, file_rows, file_section, flags_of, section, segment_row, verification_row, xorb_hash, xorb_rows, xorb_section}
 use Rattle.xet_folder.specs.Admission.{entry_member}
-use Rattle.xet_store.specs.Records.{IsRecordOf, entries_from, range_hashes, run_len, xorb_record}
+use Rattle.xet_dedup.specs.Records.{IsRecordOf, entries_from, range_hashes, run_len, xorb_record}
 
 -- ---- the record of a xorb
 

@@ -14,7 +14,7 @@ use Rattle.xet_folder.specs.Plan.{Joins}
 use Rattle.xet_folder.specs.Xorbs.{IsListed, Records, Xorbs, found}
 use Rattle.xet_folder.proofs.Tables.{found_either, found_here, found_kept}
 use Rattle.xet_store.specs.Cleaning.{Adds, Keeps}
-use Rattle.xet_store.specs.Records.{file_record}
+use Rattle.xet_dedup.specs.Records.{file_record}
 use Rattle.xet_store.specs.Store.{State, IsKept, IsNewFile, IsPendingFile, Sound}
 use Rattle.xet_store.specs.Tables.{tables, tables_of, with_record}
 use Rattle.xet_store.proofs.Packing.{all_more}

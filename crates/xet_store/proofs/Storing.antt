@@ -14,8 +14,8 @@ use Rattle.xet_store.specs.declared.info.XetFileInfo.{XetFileInfo}
 use Rattle.xet_cut.specs.declared.limits.LimitSettings.{LimitSettings}
 use Rattle.xet_store.specs.Cleaning.{EachTold, Later, Stores, StoresSome, Taken, info_of}
 use Rattle.xet_cut.specs.Cut.{cut, piece_len}
-use Rattle.xet_store.specs.Packing.{packs}
-use Rattle.xet_store.specs.Records.{file_record}
+use Rattle.xet_dedup.specs.Packing.{packs}
+use Rattle.xet_dedup.specs.Records.{file_record}
 use Rattle.xet_store.specs.Store.{State}
 use Rattle.xet_store.specs.Tables.{Tables, record_of_file, tables_of, whole_segment, with_file, with_record, with_xorbs}
 

@@ -1,4 +1,3 @@
-pub mod Records
 pub mod Store
 pub mod Opening
 pub mod Flushing
@@ -6,7 +5,6 @@ pub mod Ranges
 pub mod Reading
 pub mod Coding
 pub mod Separate
-pub mod Packing
 pub mod Tables
 pub mod Cleaning
 pub mod Steps

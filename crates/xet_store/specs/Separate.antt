@@ -13,7 +13,7 @@ use Rattle.xet_folder.specs.Shards.{IsThere, ShardFile, is_expired}
 use Rattle.xet_folder.specs.Stored.{IsBacked, IsStored}
 use Rattle.xet_folder.specs.Xorbs.{IsListed, found}
 use Rattle.xet_cut.specs.declared.limits.LimitSettings.{LimitSettings}
-use Rattle.xet_store.specs.Packing.{packs}
+use Rattle.xet_dedup.specs.Packing.{packs}
 use Rattle.xet_store.specs.Store.{State}
 
 abbrev pub Among : {X : Type 0} → List X → X → Type 0

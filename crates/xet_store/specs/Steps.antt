@@ -8,7 +8,7 @@ use Rattle.xet_hash.specs.declared.error.Place.TheVariants.{Source, Disk}
 use Rattle.xet_hash.specs.declared.error.What.TheVariants as what
 use Rattle.xet_hash.specs.Merkle.{xorb_hash, members_of}
 use Rattle.xet_folder.specs.Xorbs.{IsListed}
-use Rattle.xet_store.specs.Packing.{packs}
+use Rattle.xet_dedup.specs.Packing.{packs}
 use Rattle.xet_store.specs.Store.{State}
 
 -- each xorb into which the file's chunks are packed is listed with its members

@@ -19,7 +19,7 @@ use Rattle.xet_folder.specs.Contents.{IsRecord}
 use Rattle.xet_folder.specs.Shards.{ShardFile}
 use Rattle.xet_folder.specs.Xorbs.{AreBacked, IsListed, Records, Xorbs, found}
 use Rattle.xet_cut.specs.declared.limits.LimitSettings.{LimitSettings}
-use Rattle.xet_store.specs.Records.{IsRecordOf}
+use Rattle.xet_dedup.specs.Records.{IsRecordOf}
 
 -- What contracts see of a store: of its disk whether it is observable, its files and its failures; its folder and
 -- limits; the time of opening; its listed xorbs, recorded files and registered shards; and what is

@@ -9,8 +9,8 @@ use Rattle.xet_shard.specs.Records as record_of
 use Rattle.xet_folder.specs.Xorbs.{Records, Xorbs, found}
 use Rattle.xet_cut.specs.declared.limits.LimitSettings.{LimitSettings}
 use Rattle.xet_cut.specs.Cut.{cut}
-use Rattle.xet_store.specs.Packing.{packs}
-use Rattle.xet_store.specs.Records.{file_record, xorb_record}
+use Rattle.xet_dedup.specs.Packing.{packs}
+use Rattle.xet_dedup.specs.Records.{file_record, xorb_record}
 use Rattle.xet_store.specs.Store.{State}
 
 pub record Tables : Type 0 where

@@ -11,14 +11,14 @@ ghost use Rattle.xet_folder.specs.Refusals.{HasDiskReason};
 ghost use Rattle.xet_store.specs.Separate.{Apart, MetChunk, Separate};
 ghost use Rattle.xet_store.specs.Steps.{HasReasonOfOne, HasSourceReason, ListsXorbs};
 ghost use Rattle.xet_folder.specs.Xorbs.{IsListed};
-ghost use Rattle.xet_store.specs.Packing.{packs};
+ghost use Rattle.xet_dedup.specs.Packing.{packs};
 ghost use Rattle.xet_store.specs.Store.{plan_of};
 ghost use Rattle.xet_store.specs.Tables.{tables_of, whole_segment, with_file, with_xorbs};
 
-use crate::cutting::{chunks_of, pack_len};
+use xet_dedup::{chunks_of, pack_len};
 use crate::info::{Cleaned, XetFileInfo};
 use xet_cut::Limits;
-use crate::records::file_record;
+use xet_dedup::file_record;
 use crate::store::Store;
 use sha2::Digest;
 use std::alloc::Global;

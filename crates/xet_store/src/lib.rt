@@ -2,9 +2,7 @@
 #![tactic(auto)]
 
 mod clean;
-mod cutting;
 mod info;
-mod records;
 mod store;
 
 pub use clean::clean_files;

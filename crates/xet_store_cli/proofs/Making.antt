@@ -15,11 +15,11 @@ use Rattle.xet_store.specs.Cleaning.{Keeps}
 use Rattle.xet_cut.specs.Cut.{cut}
 use Rattle.xet_store.specs.Flushing.{IsFlushed}
 use Rattle.xet_store.specs.Opening.{IsOpened}
-use Rattle.xet_store.specs.Packing.{packs}
+use Rattle.xet_dedup.specs.Packing.{packs}
 use Rattle.xet_store.specs.Ranges.{IsUnchanged}
 use Rattle.xet_store.specs.Store.{IsKept, Sound, State}
 use Rattle.xet_store.specs.Tables.{Tables, record_of_file, tables, tables_of, with_file, with_files, with_members, with_record, with_xorb, with_xorbs}
-use Rattle.xet_store.specs.Records.{xorb_record}
+use Rattle.xet_dedup.specs.Records.{xorb_record}
 use Rattle.xet_store.specs.Separate.{Among, IsPackOf}
 use Rattle.xet_store.proofs.Rows.{among_last, from_among, is_some_either}
 use Rattle.xet_store.proofs.Whole.{found_has}

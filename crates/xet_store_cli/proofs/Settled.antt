@@ -14,7 +14,7 @@ use Rattle.xet_store.specs.Cleaning.{HasFile, HasXorbs, IsPacked, Keeps, info_of
 use Rattle.xet_cut.specs.Cut.{cut}
 use Rattle.xet_cut.specs.Limits.{AreInRange}
 use Rattle.xet_store.specs.Opening.{contents_of}
-use Rattle.xet_store.specs.Packing.{packs}
+use Rattle.xet_dedup.specs.Packing.{packs}
 use Rattle.xet_store.specs.Ranges.{IsRange}
 use Rattle.xet_store.specs.Separate.{Among, Apart, IsMet, IsNamed, IsPackOf, MetChunk, MetStored, Separate, SeparateIn}
 use Rattle.xet_store.specs.Steps.{ListsXorbs}

@@ -7,7 +7,7 @@ use Rattle.xet_xorb_chunk.specs.Chunks.{bytes_of, chunk_member}
 use Rattle.xet_shard.proofs.Holding.{all_more as all_push}
 use Rattle.xet_cut.specs.declared.limits.LimitSettings.{LimitSettings}
 use Rattle.xet_shard.specs.declared.record.FileDataSequenceEntry.{FileDataSequenceEntry as Segment}
-use Rattle.xet_store.specs.Packing.{packs}
+use Rattle.xet_dedup.specs.Packing.{packs}
 use Rattle.xet_folder.specs.Xorbs.{IsListed}
 use Rattle.xet_store.proofs.Answering.{on_err}
 use Rattle.xet_store.proofs.Keeping.{keeps_nothing, keeps_then}

@@ -16,10 +16,10 @@ use Rattle.xet_shard.specs.Records as record_of
 use Rattle.xet_folder.specs.Plan.{Joins}
 use Rattle.xet_folder.specs.Xorbs.{IsListed, Records, found}
 use Rattle.xet_store.specs.Cleaning.{Adds, Keeps}
-use Rattle.xet_store.specs.Packing.{packs}
+use Rattle.xet_dedup.specs.Packing.{packs}
 use Rattle.xet_store.specs.Tables.{tables_of, whole_segment, with_record, with_xorbs}
 use Rattle.xet_cut.specs.Cut.{cut}
-use Rattle.xet_store.specs.Records.{file_record}
+use Rattle.xet_dedup.specs.Records.{file_record}
 use Rattle.xet_store.specs.Steps.{ListsXorbs}
 use Rattle.xet_store.specs.Store.{State, plan_of}
 use Rattle.xet_store.proofs.Keeping.{keeps_nothing, keeps_then}

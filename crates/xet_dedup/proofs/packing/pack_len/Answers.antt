@@ -1,7 +1,7 @@
 use Rattle.std.proofs.Common.{map, arith}
 use Rattle.xet_xorb_chunk.specs.Chunks.{bytes_of}
-use Rattle.xet_store.proofs.Packing.{fitting_end, fitting_start, fitting_step, fitting_stop, total_more}
-use Rattle.xet_store.proofs.cutting.pack_len.Goals as goal
+use Rattle.xet_dedup.proofs.Fitting.{fitting_end, fitting_start, fitting_step, fitting_stop, total_more}
+use Rattle.xet_dedup.proofs.packing.pack_len.Goals as goal
 
 pub chunks-init : goal.chunks-init
 chunks-init c = record {

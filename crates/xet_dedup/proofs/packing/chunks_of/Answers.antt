@@ -5,7 +5,7 @@ use Rattle.xet_xorb_chunk.specs.Chunks.{chunk_of, total}
 use Rattle.xet_xorb_chunk.specs.declared.chunk.Chunk.{Chunk}
 use Rattle.xet_cut.specs.Cut.{piece_len}
 use Rattle.xet_cut.specs.theorems.PieceEnds.{cut_end, cut_step}
-use Rattle.xet_store.proofs.cutting.chunks_of.Goals as goal
+use Rattle.xet_dedup.proofs.packing.chunks_of.Goals as goal
 
 pub pieces-preserved : goal.pieces-preserved
 pieces-preserved c =

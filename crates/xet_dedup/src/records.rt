@@ -2,7 +2,7 @@
 
 ghost use Rattle.std.specs.Prelude.{◌≡◌, ◌<◌, ◌^◌, IfOk, IsOkUnless, Some, length, map};
 ghost use Rattle.xet_hash.specs.Merkle.{file_hash, total_len};
-ghost use Rattle.xet_store.specs.Records.{file_record, range_hashes, run_len};
+ghost use Rattle.xet_dedup.specs.Records.{file_record, range_hashes, run_len};
 
 use std::alloc::Global;
 use xet_base::Items;

@@ -4,7 +4,7 @@ ghost use Rattle.std.specs.Prelude.{◌≡◌, ◌≤◌, ◌<◌, ℕ, length, 
 ghost use Rattle.std.specs.List.{AllByRecursion};
 ghost use Rattle.xet_xorb_chunk.specs.Chunks.{bytes_of, chunk_of, total};
 ghost use Rattle.xet_cut.specs.Cut.{cut};
-ghost use Rattle.xet_store.specs.Packing.{pack_len};
+ghost use Rattle.xet_dedup.specs.Packing.{pack_len};
 
 use xet_cut::piece_len;
 use xet_cut::Limits;

@@ -1,7 +1,7 @@
 use Rattle.std.proofs.Common.{◌≡◌, ◌+◌, ◌++◌, length, map}
 use Rattle.xet_xorb_chunk.specs.Chunks.{chunk_of, total}
 use Rattle.xet_cut.specs.Cut.{cut}
-use Rattle.xet_store.proofs.cutting.chunks_of.Given as goal
+use Rattle.xet_dedup.proofs.packing.chunks_of.Given as goal
 
 abbrev pub invariant-pieces : goal.invariant-pieces
 invariant-pieces l = record {

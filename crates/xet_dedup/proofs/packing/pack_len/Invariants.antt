@@ -1,7 +1,7 @@
 use Rattle.std.proofs.Common.{◌≡◌, ◌+◌, ◌-◌, ◌≤◌, drop, map, take}
 use Rattle.xet_xorb_chunk.specs.Chunks.{bytes_of, total}
-use Rattle.xet_store.specs.Packing.{fitting, pack_len}
-use Rattle.xet_store.proofs.cutting.pack_len.Given as goal
+use Rattle.xet_dedup.specs.Packing.{fitting, pack_len}
+use Rattle.xet_dedup.proofs.packing.pack_len.Given as goal
 
 abbrev pub invariant-chunks : goal.invariant-chunks
 invariant-chunks l = record {
