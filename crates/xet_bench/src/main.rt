@@ -11,13 +11,13 @@
 mod timed;
 
 use crate::timed::{Timed, run_timed};
+use std::{env, println};
 use std::alloc::Global;
 use std::process::ExitCode;
-use std::{env, println};
+use xet_cut::{LimitSettings, Limits, gear_table, generated};
 use xet_hash::{MerkleHash, StoreError, VERIFICATION_KEY, compute_data_hash, definition};
 use xet_io::{MemoryDisk, SliceSource};
 use xet_store::{Cleaned, Store, clean_files};
-use xet_cut::{LimitSettings, Limits, gear_table, generated};
 
 /// The most MiB of a file.
 const MOST: u64 = 1 << 12;

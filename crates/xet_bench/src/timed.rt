@@ -6,9 +6,9 @@ ghost use Rattle.xet_hash.specs.Merkle.{total_len};
 use crate::reopened;
 use std::alloc::Global;
 use std::time::{Clock, Instant};
+use xet_cut::{LimitSettings, Limits, gear_table};
 use xet_hash::{MerkleHash, StoreError, compute_data_hash, compute_internal_node_hash, xorb_hash};
 use xet_io::MemoryDisk;
-use xet_cut::{LimitSettings, Limits, gear_table};
 use xet_store::Store;
 
 /// What is timed.

@@ -5,12 +5,10 @@ use Rattle.std.specs.List.{AllByRecursion, sum_by}
 use Rattle.std.proofs.lemmas.Bool.{cases_lt, le-leb, leb-true}
 use Rattle.std.proofs.lemmas.List.{append-nil, drop-map, drop_all, drop_more, take_all, take_more, length-map, length-take-le, map-append, take-append-drop, take-map}
 use Rattle.std.proofs.lemmas.List.Sums.{sum_by-append, sum_by-cons}
-use Rattle.xet_hash.specs.Merkle.{chunk_hash, members_of, total_len, xorb_hash}
-use Rattle.xet_xorb_chunk.specs.Chunks.{bytes_of, chunk_member, total}
+use Rattle.xet_xorb_chunk.specs.Chunks.{bytes_of, total}
 use Rattle.xet_xorb_chunk.specs.declared.chunk.Chunk.{Chunk}
 use Rattle.xet_cut.specs.declared.limits.LimitSettings.{LimitSettings}
-use Rattle.xet_cut.specs.Cut.{cut}
-use Rattle.xet_dedup.specs.Packing.{fitting, pack_len, packs}
+use Rattle.xet_dedup.specs.Packing.{fitting, pack_len}
 
 -- one chunk more fits
 fitting_more : (bytes count : ℕ) (chunks rest : List (List ℕ)) (c : List ℕ) → chunks ≡ c ∷ rest → 0 < count → length c ≤ bytes

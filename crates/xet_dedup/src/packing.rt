@@ -6,10 +6,9 @@ ghost use Rattle.xet_xorb_chunk.specs.Chunks.{bytes_of, chunk_of, total};
 ghost use Rattle.xet_cut.specs.Cut.{cut};
 ghost use Rattle.xet_dedup.specs.Packing.{pack_len};
 
-use xet_cut::piece_len;
-use xet_cut::Limits;
 use bytes::Bytes;
 use std::alloc::Global;
+use xet_cut::{Limits, piece_len};
 use xet_hash::StoreError;
 use xet_xorb_chunk::Chunk;
 

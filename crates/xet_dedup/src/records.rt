@@ -1,7 +1,7 @@
 //! Records of xorbs and files, as shards keep them.
 
 ghost use Rattle.std.specs.Prelude.{◌≡◌, ◌<◌, ◌^◌, IfOk, IsOkUnless, Some, length, map};
-ghost use Rattle.xet_hash.specs.Merkle.{file_hash, total_len};
+ghost use Rattle.xet_hash.specs.Merkle.{file_hash};
 ghost use Rattle.xet_dedup.specs.Records.{file_record, range_hashes, run_len};
 
 use std::alloc::Global;

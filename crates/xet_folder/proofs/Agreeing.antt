@@ -16,7 +16,7 @@ use Rattle.xet_xorb.proofs.Determined.{text_determines}
 use Rattle.xet_xorb.specs.Xorb.{IsXorbText}
 use Rattle.xet_folder.specs.Admission.{Admits, BlockFails, BlockHolds, FileFails, FileHolds, FirstFails, Refuses, SegmentFails, SegmentHolds, ShardFails, ShardHolds, XorbFails, block_members}
 use Rattle.xet_folder.specs.Plan.{Joins, LiesIn, part}
-use Rattle.xet_folder.specs.Shards.{ShardFile}
+use Rattle.xet_shard_file.specs.Shards.{ShardFile}
 use Rattle.xet_folder.specs.Stored.{IsBacked, IsStored}
 
 -- what holds of all is not what fails first

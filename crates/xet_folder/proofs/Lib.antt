@@ -1,23 +1,20 @@
-pub mod Paths
-pub mod Putting
-pub mod Backing
-pub mod Tables
-pub mod Ranges
-pub mod Placing
-pub mod Sums
-pub mod ChunkEnds
-pub mod Touching
-pub mod Runs
-pub mod Comparing
-pub mod Rest
-pub mod Joining
-pub mod Refused
-pub mod Agreeing
-pub mod Registering
-pub mod ListedShards
-pub mod Firsts
-pub mod MoreShards
-pub mod Stopping
-pub mod Spans
-pub mod Distinct
-pub mod Expiring
+mod Paths
+mod Backing
+mod Tables
+mod Ranges
+mod Placing
+mod Sums
+mod ChunkEnds
+mod Touching
+mod Runs
+mod Comparing
+mod Rest
+mod Joining
+mod Refused
+mod Agreeing
+mod Registering
+mod Firsts
+mod MoreShards
+mod Stopping
+mod Spans
+mod Distinct

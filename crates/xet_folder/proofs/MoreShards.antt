@@ -16,14 +16,14 @@ use Rattle.xet_shard.specs.Names.{shard_name}
 use Rattle.xet_shard.specs.Reading.{Parts, all_of}
 use Rattle.xet_shard.specs.Records.{xorb_hash}
 use Rattle.xet_folder.specs.declared.contents.Contents.{Contents}
-use Rattle.xet_folder.specs.declared.listing.ShardEntry.{ShardEntry}
+use Rattle.xet_shard_file.specs.declared.listing.ShardEntry.{ShardEntry}
 use Rattle.xet_folder.specs.Admission.{FirstFails, Refuses, ShardFails, ShardHolds}
 use Rattle.xet_folder.specs.Checks.{Grows, Has, HasFile, HasShard, OfBytes, OfShard}
 use Rattle.xet_folder.specs.Contents.{AreContents, HasContents, firsts, listed_in, listed_of}
-use Rattle.xet_folder.specs.Entries.{IsEntry, ListsShards, entry_of, is_valid}
+use Rattle.xet_shard_file.specs.Entries.{IsEntry, ListsShards, entry_of, is_valid}
 use Rattle.xet_folder.specs.Gathering.{EntryFails, IsGathered, ShardsFail, shard_file, valid_bytes, with_firsts, with_valid}
-use Rattle.xet_folder.specs.Names.{shard_path}
-use Rattle.xet_folder.specs.Shards.{IsThere, Registers, ShardFile, is_expired}
+use Rattle.xet_shard_file.specs.Names.{shard_path}
+use Rattle.xet_shard_file.specs.Shards.{IsThere, Registers, ShardFile, is_expired}
 use Rattle.xet_folder.specs.Xorbs.{Records, Xorbs, found}
 use Rattle.xet_folder.proofs.Firsts.{firsts_more}
 use Rattle.xet_folder.proofs.Registering.{registered}

@@ -1,17 +1,13 @@
 -- Why checks refuse.
 use Rattle.std.proofs.Common.{◌≡◌, ◌≤◌, ℕ, List, Result, Ok, Err, IfErr, sym, subst, arith}
 use Rattle.std.specs.Result.{IsErrAnd}
-use Rattle.xet_io.specs.Faults.{Rose}
 use Rattle.xet_hash.specs.declared.error.StoreError.{StoreError}
 use Rattle.xet_hash.specs.declared.error.StoreError.TheVariants as errors
 use Rattle.xet_hash.specs.declared.error.Place.TheVariants as place
 use Rattle.xet_shard.specs.Reading.{Fails, all_of}
 use Rattle.xet_shard.proofs.Refusing.{all_answers}
-use Rattle.xet_folder.specs.Checks.{IsCheckRefusal}
-use Rattle.xet_folder.specs.Refusals.{HasDiskReason, IsShardError}
-
-pub rose_before : (before now earlier : ℕ) → earlier ≤ before → Rose before now → Rose earlier now
-rose_before before now earlier le rose = omega arith
+use Rattle.xet_shard_file.specs.Refusals.{IsCheckRefusal, HasDiskReason, IsShardError}
+use Rattle.xet_shard_file.specs.theorems.Exits.{rose_before}
 
 -- what a check refuses for, the call around it does
 pub refusal_of : (K L : Type 0) (F G : StoreError → Type 0) (before now earlier : ℕ) → (L → K) → (L → (e : StoreError) → F e → G e) → earlier ≤ before → (e : StoreError)
@@ -19,11 +15,6 @@ pub refusal_of : (K L : Type 0) (F G : StoreError → Type 0) (before now earlie
 refusal_of K L F G before now earlier known fails le (errors.Io place.Disk) r = rose_before before now earlier le r
 refusal_of K L F G before now earlier known fails le errors.OutOfMemory r = tt
 refusal_of K L F G before now earlier known fails le e r = λ l. fails l e (r (known l))
-
--- what holds of an error holds of the exit with it
-pub on_exit : {T E : Type 0} (r : Result T E) (e : E) (P : E → Type 0) → IsErrAnd r (λ y. y ≡ e) → P e → IfErr r P
-on_exit (Ok x) e P exit p = tt
-on_exit (Err y) e P exit p = subst P (sym exit) p
 
 -- what reading a shard refuses for, its check does
 pub read_refusal : (K : Type 0) (F : StoreError → Type 0) (before now : ℕ) (bytes : List ℕ) (e : StoreError) → (K → all_of bytes ≡ Err e → F e) → Fails e (all_of bytes) → IsCheckRefusal K F before now e

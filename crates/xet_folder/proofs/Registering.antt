@@ -11,10 +11,10 @@ use Rattle.xet_hash.specs.declared.error.StoreError.{StoreError}
 use Rattle.xet_shard.specs.declared.info.MDBShardFileFooter.{MDBShardFileFooter}
 use Rattle.xet_shard.specs.Reading.{◌>>=◌, footer_at, header_at}
 use Rattle.xet_folder.specs.Admission.{Admits, ShardHolds}
-use Rattle.xet_folder.specs.declared.listing.ShardEntry.{ShardEntry}
-use Rattle.xet_folder.specs.Entries.{IsBefore, ListsShards, entry_of, is_valid}
-use Rattle.xet_folder.specs.Names.{shard_path}
-use Rattle.xet_folder.specs.Shards.{ComesBefore, IsThere, Registers, ShardFile, is_past}
+use Rattle.xet_shard_file.specs.declared.listing.ShardEntry.{ShardEntry}
+use Rattle.xet_shard_file.specs.Entries.{IsBefore, ListsShards, entry_of, is_valid}
+use Rattle.xet_shard_file.specs.Names.{shard_path}
+use Rattle.xet_shard_file.specs.Shards.{ComesBefore, IsThere, Registers, ShardFile, is_past}
 
 not_true : (b : Bool) → not b ≡ true → b ≡ false
 not_true true e = absurd (cc e)

@@ -6,12 +6,11 @@ use Rattle.xet_hash.specs.declared.error.StoreError.TheVariants as errors
 use Rattle.xet_hash.specs.declared.error.Place.TheVariants as place
 use Rattle.xet_shard.specs.Names.{shard_name}
 use Rattle.xet_folder.specs.Admission.{Refuses}
-use Rattle.xet_folder.specs.Checks.{IsCheckRefusal}
+use Rattle.xet_shard_file.specs.Refusals.{IsCheckRefusal, HasDiskReason, IsBadShard, IsCheckError, IsShardError}
 use Rattle.xet_folder.specs.Contents.{IsUnadmitted}
 use Rattle.xet_folder.specs.Gathering.{IsNamed, IsStopped}
-use Rattle.xet_folder.specs.Names.{IsHash}
-use Rattle.xet_folder.specs.Refusals.{HasDiskReason, IsBadShard, IsCheckError, IsShardError}
-use Rattle.xet_folder.proofs.Refused.{rose_before}
+use Rattle.xet_shard_file.specs.Names.{IsHash}
+use Rattle.xet_shard_file.specs.theorems.Exits.{rose_before}
 
 -- a check's refusal that is neither of the disk nor of memory says what fails
 failed : (K : Type 0) (F : StoreError → Type 0) (before after : ℕ) (e : StoreError) → e ≢ errors.Io place.Disk → e ≢ errors.OutOfMemory → IsCheckRefusal K F before after e → K → F e

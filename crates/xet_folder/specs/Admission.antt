@@ -16,7 +16,7 @@ use Rattle.xet_shard.specs.Reading.{Parts, all_of}
 use Rattle.xet_shard.specs.Records as record_of
 use Rattle.xet_folder.specs.Names.{xorb_path}
 use Rattle.xet_folder.specs.Plan.{Joins, LiesIn}
-use Rattle.xet_folder.specs.Shards.{Registers, ShardFile}
+use Rattle.xet_shard_file.specs.Shards.{Registers, ShardFile}
 use Rattle.xet_folder.specs.Stored.{IsBacked, IsStored}
 
 -- One of a list fails so, and those before it hold.

@@ -2,10 +2,6 @@
 use Rattle.std.specs.Prelude.{◌≡◌, ◌⊎◌, ℕ, Bool, true, List, ◌++◌, map, IsSome, Ok}
 use Rattle.std.specs.List.{AllByRecursion, IsAmong}
 use Rattle.xet_io.specs.Disk.{Files}
-use Rattle.xet_io.specs.Faults.{Rose}
-use Rattle.xet_hash.specs.declared.error.StoreError.{StoreError}
-use Rattle.xet_hash.specs.declared.error.StoreError.TheVariants.{Io, OutOfMemory}
-use Rattle.xet_hash.specs.declared.error.Place.TheVariants.{Disk}
 use Rattle.xet_shard.specs.declared.record.FileDataSequenceEntry.{FileDataSequenceEntry as Segment}
 use Rattle.xet_shard.specs.declared.record.MDBFileInfo.{MDBFileInfo}
 use Rattle.xet_shard.specs.declared.record.MDBXorbInfo.{MDBXorbInfo}
@@ -57,12 +53,6 @@ HasFile xorbs f = AllByRecursion (λ s. Has xorbs s.xorb_hash) f.segments
 pub record HasShard (xorbs : Xorbs) (p : Parts) : Type 0 where
   pub blocks : AllByRecursion (λ b. Has xorbs (record_of.xorb_hash b)) p.0
   pub files : AllByRecursion (HasFile xorbs) p.1
-
--- A check refuses where the disk has failed, or memory is wanting, or, where enough is known, by what fails.
-abbrev pub IsCheckRefusal : Type 0 → (StoreError → Type 0) → ℕ → ℕ → StoreError → Type 0
-IsCheckRefusal Known Fails before now (Io Disk) = Rose before now
-IsCheckRefusal Known Fails before now OutOfMemory = Unit {0}
-IsCheckRefusal Known Fails before now e = Known → Fails e
 
 -- A segment's run of its stored xorb was added to the chunks of a file.
 pub record AddsRun (files : Files) (folder : List ℕ) (s : Segment) (old new : List (List ℕ × ℕ)) : Type 0 where

@@ -16,8 +16,8 @@ use Rattle.xet_folder.specs.declared.contents.Contents.{Contents}
 use Rattle.xet_folder.specs.Admission.{Admits, Refuses}
 use Rattle.xet_folder.specs.Checks.{OfBytes}
 use Rattle.xet_folder.specs.Plan.{Joins}
-use Rattle.xet_folder.specs.Refusals.{IsBadShard}
-use Rattle.xet_folder.specs.Shards.{ShardFile}
+use Rattle.xet_shard_file.specs.Refusals.{IsBadShard}
+use Rattle.xet_shard_file.specs.Shards.{ShardFile}
 use Rattle.xet_folder.specs.Xorbs.{IsListed, Records, Xorbs, found}
 
 -- the files that a shard's bytes list: the record of each under its hash

@@ -8,14 +8,13 @@ use Rattle.xet_hash.specs.declared.error.StoreError.TheVariants.{Io, OutOfMemory
 use Rattle.xet_hash.specs.declared.error.Place.TheVariants.{Disk}
 use Rattle.xet_shard.specs.declared.record.MDBFileInfo.{MDBFileInfo}
 use Rattle.xet_shard.specs.Names.{shard_name}
-use Rattle.xet_shard.specs.Reading.{ends_of}
 use Rattle.xet_folder.specs.declared.contents.Contents.{Contents}
 use Rattle.xet_folder.specs.declared.gathering.Gathered.{Gathered}
 use Rattle.xet_folder.specs.Admission.{FirstFails, ShardFails, ShardHolds}
 use Rattle.xet_folder.specs.Contents.{AreContents}
-use Rattle.xet_folder.specs.Names.{shard_path}
-use Rattle.xet_folder.specs.Refusals.{IsBadShard}
-use Rattle.xet_folder.specs.Shards.{ShardFile, is_expired}
+use Rattle.xet_shard_file.specs.Names.{shard_path}
+use Rattle.xet_shard_file.specs.Refusals.{IsBadShard}
+use Rattle.xet_shard_file.specs.Shards.{ShardFile, is_expired}
 use Rattle.xet_folder.specs.Xorbs.{AreBacked, Records, found}
 
 -- a row more, unless there is one of its hash
@@ -42,10 +41,6 @@ shard_file hash f = record { hash = hash; file = f }
 -- a shard more, where it is valid
 abbrev pub with_valid : ℕ → List ShardFile → ShardFile → List ShardFile
 with_valid now shards s = if is_expired now s.file.bytes then shards else shards ++ s ∷ []
-
--- the header or the footer of a file that is there fails so
-abbrev pub EndsFail : Option (List ℕ) → StoreError → Type 0
-EndsFail found e = (bytes : List ℕ) → found ≡ Some bytes → ends_of bytes ≡ Err e
 
 -- the bytes of what is valid
 abbrev pub valid_bytes : ℕ → List ℕ → Option (List ℕ)

@@ -4,14 +4,10 @@ pub mod Recorded
 pub mod Names
 pub mod Refusals
 pub mod Stored
-pub mod Shards
 pub mod Admission
 pub mod Listed
 pub mod Xorbs
 pub mod Checks
-pub mod Entries
-pub mod Picking
 pub mod Contents
 pub mod Gathering
 pub mod Runs
-pub mod Puts

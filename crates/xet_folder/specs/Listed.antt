@@ -5,7 +5,7 @@ use Rattle.xet_io.specs.Disk.{Files}
 use Rattle.xet_shard.specs.declared.record.MDBFileInfo.{MDBFileInfo}
 use Rattle.xet_shard.specs.Reading.{Parts, all_of}
 use Rattle.xet_folder.specs.Plan.{Joins}
-use Rattle.xet_folder.specs.Shards.{IsThere, ShardFile, is_expired}
+use Rattle.xet_shard_file.specs.Shards.{IsThere, ShardFile, is_expired}
 use Rattle.xet_folder.specs.Stored.{IsStored}
 
 -- a record of a shard that is valid at the moment

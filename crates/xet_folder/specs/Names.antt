@@ -3,22 +3,11 @@ use Rattle.std.specs.Prelude.{◌≡◌, ◌≢◌, ℕ, List, length, ◌++◌,
 use Rattle.hex.specs.Hex.{IsBytes}
 use Rattle.xet_io.specs.Named.{in_folder}
 use Rattle.xet_hash.specs.Hash.{hash_text}
-use Rattle.xet_shard.specs.Names.{shard_name}
-
--- a hash is 32 bytes
-abbrev pub IsHash : List ℕ → Type 0
-IsHash h = (length h ≡ 32) × IsBytes h
+use Rattle.xet_shard_file.specs.Names.{IsHash, shard_path, temp_name}
 
 -- the name of a xorb's file, and that of a shard's
 abbrev pub xorb_path : List ℕ → List ℕ → List ℕ
 xorb_path folder h = in_folder folder (hash_text h ++ codes ".xorb")
-
-abbrev pub shard_path : List ℕ → List ℕ → List ℕ
-shard_path folder h = in_folder folder (shard_name h)
-
--- the name under which a file is written before it has its own
-abbrev pub temp_name : List ℕ → List ℕ
-temp_name name = name ++ codes "_temp"
 
 -- a name that no file of a store has, nor one that is being written
 pub record IsForeign (folder name : List ℕ) : Type 0 where

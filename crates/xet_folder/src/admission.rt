@@ -4,9 +4,9 @@ ghost use Rattle.std.specs.Prelude.{◌≡◌, ◌≤◌, ◌<◌, ◌+◌, ◌^
 ghost use Rattle.std.specs.List.{AllByRecursion};
 ghost use Rattle.xet_folder.specs.Admission.{BlockFails, BlockHolds, FileFails, FileHolds, FirstFails, SegmentFails, SegmentHolds, ShardFails, ShardHolds};
 ghost use Rattle.xet_folder.specs.Contents.{IsFileRecord, IsRecord, listed_of};
-ghost use Rattle.xet_folder.specs.Checks.{AddsListed, AddsRun, Grows, Has, HasFile, HasShard, IsCheckRefusal, Knows, OfBlocks, OfBytes, OfFile, OfFiles, OfSegments};
+ghost use Rattle.xet_folder.specs.Checks.{AddsListed, AddsRun, Grows, Has, HasFile, HasShard, Knows, OfBlocks, OfBytes, OfFile, OfFiles, OfSegments};
+ghost use Rattle.xet_shard_file.specs.Refusals.{IsCheckRefusal, IsShardError};
 ghost use Rattle.xet_folder.specs.Plan.{Joins};
-ghost use Rattle.xet_folder.specs.Refusals.{IsShardError};
 ghost use Rattle.xet_folder.specs.Stored.{IsBacked};
 ghost use Rattle.xet_folder.specs.Xorbs.{IsListed};
 ghost use Rattle.xet_hash.specs.Merkle.{file_hash as hash_of_file, total_len};

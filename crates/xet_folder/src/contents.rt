@@ -4,12 +4,11 @@ ghost use Rattle.std.specs.Prelude.{◌≡◌, ◌≢◌, ◌≤◌, [], true, A
 ghost use Rattle.std.specs.List.{AllByRecursion};
 ghost use Rattle.xet_folder.specs.Contents.{HasContents, IsRecord, IsUnadmitted};
 ghost use Rattle.xet_folder.specs.Gathering.{with_first};
-ghost use Rattle.xet_folder.specs.Names.{IsHash};
+ghost use Rattle.xet_shard_file.specs.Names.{IsHash};
 ghost use Rattle.xet_folder.specs.Xorbs.{AreBacked};
 ghost use Rattle.xet_shard.specs.Records.{file_hash};
 
 use crate::gathering::gather_shards;
-use crate::listing::list_shards;
 use crate::recorded::RecordedFile;
 use crate::xorbs::XorbTable;
 use indexmap::IndexMap;
@@ -19,6 +18,7 @@ use xet_base::{Items, Text};
 use xet_hash::{MerkleHash, StoreError};
 use xet_io::Disk;
 use xet_shard::MDBFileInfo;
+use xet_shard_file::list_shards;
 
 /// Records of files, each under the file's hash. Contracts see the rows in the order in which they were
 /// added.

@@ -5,26 +5,23 @@ ghost use Rattle.std.specs.List.{AllByRecursion};
 ghost use Rattle.std.specs.Option.{option_map};
 ghost use Rattle.xet_io.specs.Disk.{File, bytes_at, file, file_at};
 ghost use Rattle.xet_folder.specs.Admission.{ShardFails};
-ghost use Rattle.xet_folder.specs.Checks.{IsCheckRefusal, Knows};
+ghost use Rattle.xet_shard_file.specs.Refusals.{IsCheckRefusal, EndsFail, IsShardError};
+ghost use Rattle.xet_folder.specs.Checks.{Knows};
 ghost use Rattle.xet_folder.specs.Contents.{IsRecord, listed_of};
-ghost use Rattle.xet_folder.specs.Entries.{entry_of, is_valid};
-ghost use Rattle.xet_folder.specs.Gathering.{EndsFail, EntryFails, IsGathered, IsNamed, IsStopped, ShardsFail, gathered as contents, shard_file, valid_bytes, with_firsts, with_valid};
-ghost use Rattle.xet_folder.specs.Names.{IsHash, shard_path};
-ghost use Rattle.xet_folder.specs.Refusals.{IsShardError};
-ghost use Rattle.xet_folder.specs.Shards.{IsThere, ShardFile, is_expired};
+ghost use Rattle.xet_shard_file.specs.Entries.{entry_of, is_valid};
+ghost use Rattle.xet_folder.specs.Gathering.{EntryFails, IsGathered, IsNamed, IsStopped, ShardsFail, gathered as contents, shard_file, valid_bytes, with_firsts, with_valid};
+ghost use Rattle.xet_shard_file.specs.Names.{IsHash, shard_path};
+ghost use Rattle.xet_shard_file.specs.Shards.{IsThere, ShardFile, is_expired};
 
 use crate::admission::admit_shard;
 use crate::contents::{RecordTable, Unadmitted};
-use crate::expiry::is_past_expiry;
-use crate::listing::ShardEntry;
-use crate::names::{known_bytes, shard_path};
-use crate::refusal::store_error;
 use crate::xorbs::XorbTable;
 use std::alloc::Global;
 use xet_base::Text;
 use xet_hash::{MerkleHash, Place, StoreError};
 use xet_io::{Disk, read_file};
 use xet_shard::{MDBFileInfo, read_footer, shard_file_name};
+use xet_shard_file::{ShardEntry, is_past_expiry, known_bytes, shard_path, store_error};
 
 /// What was gathered of shards.
 #[derive(Drop)]

@@ -4,9 +4,9 @@ ghost use Rattle.std.specs.Prelude.{◌≡◌, ◌≤◌, ℕ, All, List, filter
 ghost use Rattle.xet_io.specs.Disk.{Files};
 ghost use Rattle.xet_hash.specs.declared.error.StoreError.{StoreError};
 ghost use Rattle.xet_folder.specs.Admission.{Admits, Refuses};
-ghost use Rattle.xet_folder.specs.Entries.{ListsShards, entry_of, is_valid};
-ghost use Rattle.xet_folder.specs.Shards.{IsThere, Registers, ShardFile};
-ghost use Rattle.xet_folder.specs.declared.listing.ShardEntry.{ShardEntry};
+ghost use Rattle.xet_shard_file.specs.Entries.{ListsShards, entry_of, is_valid};
+ghost use Rattle.xet_shard_file.specs.Shards.{IsThere, Registers, ShardFile};
+ghost use Rattle.xet_shard_file.specs.declared.listing.ShardEntry.{ShardEntry};
 
 /// A folder that is admitted, whichever its shards, is not refused.
 pub fn refused_is_not_admitted()

@@ -1,8 +1,8 @@
-//! The names of a store's files in its folder.
+//! The names of xorbs' files in a store's folder.
 
 ghost use Rattle.std.specs.Prelude.{◌≡◌, IfOk, IsOkUnless, length, string_bytes};
 ghost use Rattle.hex.specs.Hex.{IsBytes};
-ghost use Rattle.xet_folder.specs.Names.{shard_path, xorb_path};
+ghost use Rattle.xet_folder.specs.Names.{xorb_path};
 
 use std::alloc::Global;
 use xet_hash::{MerkleHash, StoreError};
@@ -15,36 +15,4 @@ pub fn xorb_path(alloc: Global, folder: &str, hash: &MerkleHash) -> Result<Strin
 {
     let text = hash.hex(alloc)?;
     Ok(format!(in alloc; "{folder}/{text}.xorb")?)
-}
-
-/// The name of a shard's file in a folder.
-pub fn shard_path(alloc: Global, folder: &str, hash: &MerkleHash) -> Result<String, StoreError>
-    ensures path { IfOk result (λ path. string_bytes path ≡ shard_path folder.now hash.now) }
-    ensures memory { IsOkUnless result StoreError.OutOfMemory }
-{
-    let name = shard_file_name(alloc, hash)?;
-    Ok(format!(in alloc; "{folder}/{name}")?)
-}
-
-/// Does nothing: that a hash is 32 bytes is known after it.
-pub fn known_bytes(hash: &MerkleHash)
-    ensures length { length hash.now ≡ 32 }
-    ensures bytes { IsBytes hash.now }
-{
-    known_array(hash.as_bytes());
-}
-
-/// The same, of an array.
-fn known_array(bytes: &[u8; 32])
-    ensures length { length bytes.now ≡ 32 }
-    ensures bytes { IsBytes bytes.now }
-{
-    known_slice(bytes.as_slice());
-}
-
-/// The same, of a slice, but for its length.
-fn known_slice(bytes: &[u8])
-    ensures { IsBytes bytes.now }
-{
-    let _ = bytes;
 }

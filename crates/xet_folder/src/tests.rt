@@ -1,7 +1,7 @@
 //! A folder of a disk in memory.
 
-use crate::texts::xorb_text;
 use crate::*;
+use crate::texts::xorb_text;
 use bytes::Bytes;
 use std::alloc::Global;
 use std::test::Fail;

@@ -6,8 +6,8 @@ ghost use Rattle.xet_xorb.specs.Raw.{ArePartsOfXorb};
 
 use std::alloc::Global;
 use xet_hash::StoreError;
-use xet_xorb_chunk::Chunk;
 use xet_xorb::{RawXorbData, SerializedXorbObject};
+use xet_xorb_chunk::Chunk;
 
 /// The xorb of these chunks.
 pub(crate) fn xorb_text(alloc: Global, chunks: &[Chunk]) -> Result<Vec<u8>, StoreError>

@@ -2,9 +2,8 @@
 
 ghost use Rattle.std.specs.Prelude.{◌≡◌, ◌≤◌, Some, IfErr, OnOk};
 ghost use Rattle.xet_folder.specs.Admission.{XorbFails};
-ghost use Rattle.xet_folder.specs.Checks.{Grows, Has, IsCheckRefusal, Knows};
-ghost use Rattle.xet_folder.specs.Refusals.{IsShardError};
-ghost use Rattle.xet_folder.specs.Xorbs.{found};
+ghost use Rattle.xet_folder.specs.Checks.{Grows, Has, Knows};
+ghost use Rattle.xet_shard_file.specs.Refusals.{IsCheckRefusal, IsShardError};
 
 use crate::xorbs::{XorbFile, XorbTable, read_xorb};
 use std::alloc::Global;

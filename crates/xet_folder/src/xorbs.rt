@@ -3,18 +3,19 @@
 ghost use Rattle.std.specs.Prelude.{◌≡◌, ◌≢◌, ◌≤◌, ◌↔◌, IsTrue, AllPairs, ◌∷◌, ◌++◌, [], ℕ, List, true, IfOk, IfErr, IsOkUnless, IsSome, OnErr, OnOk, Some, None, length, option_map};
 ghost use Rattle.std.specs.List.{AllByRecursion};
 ghost use Rattle.xet_io.specs.Disk.{Files, bytes_at};
-ghost use Rattle.xet_folder.specs.Names.{IsHash, xorb_path};
-ghost use Rattle.xet_folder.specs.Refusals.{HasDiskReason};
+ghost use Rattle.xet_shard_file.specs.Names.{IsHash};
+ghost use Rattle.xet_folder.specs.Names.{xorb_path};
+ghost use Rattle.xet_shard_file.specs.Refusals.{HasDiskReason};
 ghost use Rattle.xet_folder.specs.Xorbs.{IsOverlong, IsXorbFile, found, spans_from};
 
 use crate::members::Members;
-use crate::names::{known_bytes, xorb_path};
-use crate::refusal::store_error;
+use crate::names::xorb_path;
 use indexmap::IndexMap;
 use std::alloc::Global;
 use std::marker::Model;
 use xet_hash::{MerkleHash, StoreError};
 use xet_io::{Disk, SliceReader, read_file};
+use xet_shard_file::{known_bytes, store_error};
 use xet_xorb::XorbObject;
 
 /// The most bytes of a chunk that can be read.
@@ -123,7 +124,7 @@ pub struct XorbTable {
 
 impl Model for XorbTable {
     ghost use Rattle.std.specs.List.{AllByRecursion};
-    ghost use Rattle.xet_folder.specs.Names.{IsHash};
+    ghost use Rattle.xet_shard_file.specs.Names.{IsHash};
     ghost use Rattle.xet_folder.specs.Xorbs.{Xorbs};
 
     ghost Value = { Xorbs };

@@ -11,7 +11,6 @@ use Rattle.xet_shard.specs.declared.record.MDBXorbInfo.{MDBXorbInfo}
 use Rattle.xet_shard.specs.declared.record.XorbChunkSequenceEntry.{XorbChunkSequenceEntry}
 use Rattle.xet_shard.specs.Held.{never}
 use Rattle.xet_shard.specs.Lookups.{Lookups}
-use Rattle.xet_shard.specs.Reading.{◌>>=◌}
 use Rattle.xet_shard.specs.Sections.{blocks_in, files_in}
 use Rattle.xet_shard.specs.Text.{Fits, IsShard, Shard, shard, shard_text}
 

@@ -4,7 +4,7 @@ use Rattle.std.specs.Cmp.Lexicographic.{pointwise}
 use Rattle.xet_hash.specs.declared.error.Reason.TheVariants.{FooterSize, SectionPlace, ShardVersion, Tag}
 use Rattle.xet_hash.specs.declared.error.StoreError.{StoreError}
 use Rattle.xet_shard.specs.declared.info.MDBShardFileFooter.{MDBShardFileFooter}
-use Rattle.xet_shard.specs.Reading.{◌>>=◌, footer_in, places_at, reaches, wants}
+use Rattle.xet_shard.specs.Reading.{footer_in, places_at, reaches, wants}
 use Rattle.xet_shard.specs.Rows.{word}
 use Rattle.xet_shard.specs.Text.{tag}
 

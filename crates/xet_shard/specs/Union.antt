@@ -11,7 +11,6 @@ use Rattle.xet_shard.specs.declared.record.MDBFileInfo.{MDBFileInfo}
 use Rattle.xet_shard.specs.declared.record.MDBXorbInfo.{MDBXorbInfo}
 use Rattle.xet_shard.specs.Export.{IsExportRefusal}
 use Rattle.xet_shard.specs.Held.{by_hash, never, record_of}
-use Rattle.xet_shard.specs.Reading.{◌>>=◌}
 use Rattle.xet_shard.specs.Records.{file_hash, file_section, xorb_hash, xorb_section}
 use Rattle.xet_shard.specs.Sections.{blocks_in, files_in}
 use Rattle.xet_shard.specs.declared.info.MDBShardInfo.{MDBShardInfo}

@@ -34,10 +34,7 @@ pub use ends::{read_footer, read_footer_of_ends};
 pub use in_memory::MDBInMemoryShard;
 pub use info::{MDBShardFileFooter, MDBShardFileHeader, MDBShardInfo};
 pub use names::{parse_shard_filename, shard_file_name, truncate_hash};
-pub use record::{
-    FileDataSequenceEntry, FileDataSequenceHeader, FileMetadataExt, FileVerificationEntry,
-    MDBFileInfo, MDBXorbInfo, XorbChunkSequenceEntry, XorbChunkSequenceHeader,
-};
+pub use record::{FileDataSequenceEntry, FileDataSequenceHeader, FileMetadataExt, FileVerificationEntry, MDBFileInfo, MDBXorbInfo, XorbChunkSequenceEntry, XorbChunkSequenceHeader};
 pub use sha256::Sha256;
 pub use union::shard_set_union;
 pub use whole::read_shard;

@@ -3,7 +3,7 @@
 ghost use Rattle.std.specs.Prelude.{◌≡◌, ◌<◌, ◌^◌, ◌++◌, OnOk, length, map};
 ghost use Rattle.std.specs.List.{All, AllByRecursion};
 ghost use Rattle.xet_shard.specs.Rows.{RowFits, row_text, rows_text};
-ghost use Rattle.xet_shard.specs.Records.{end_row, ext_rows, file_rows, section, xorb_rows};
+ghost use Rattle.xet_shard.specs.Records.{ext_rows, file_rows, section, xorb_rows};
 ghost use Rattle.xet_shard.specs.Text.{footer_text, header_text};
 
 use crate::info::{MDBShardFileFooter, MDBShardFileHeader};

@@ -6,7 +6,7 @@ ghost use Rattle.xet_io.specs.Faults.{HasCause, Rose};
 ghost use Rattle.xet_shard.specs.Merging.{AreOfShard, FirstAgrees, IsNoMerge, IsNoText, Rises, behind, below, not_below};
 ghost use Rattle.xet_shard.specs.Reading.{GivesUnlessFault, IsShardRefusal};
 ghost use Rattle.xet_shard.specs.Records.{section};
-ghost use Rattle.xet_shard.specs.Union.{Agree, AgreeBoth, HasUnionFront, IsKeyed, IsNoUnion, IsUnion, IsUnionRefusal, both_in, records_in, union};
+ghost use Rattle.xet_shard.specs.Union.{Agree, HasUnionFront, IsKeyed, IsNoUnion, IsUnion, IsUnionRefusal, both_in, records_in, union};
 
 use crate::info::{MDBShardFileFooter, MDBShardInfo};
 use crate::info_reading::{blocks, files};

@@ -20,8 +20,9 @@ use Rattle.xet_shard.specs.Held.{Held, IsHeld, held as the_held, with_last}
 use Rattle.xet_shard.specs.Records as record_of
 use Rattle.xet_shard.proofs.Holding.{all_last}
 use Rattle.xet_folder.specs.Admission.{block_members}
-use Rattle.xet_folder.specs.Names.{IsForeign, IsHash, shard_path, xorb_path}
-use Rattle.xet_folder.specs.Puts.{IsKeptOrDone}
+use Rattle.xet_folder.specs.Names.{IsForeign, xorb_path}
+use Rattle.xet_shard_file.specs.Names.{IsHash, shard_path}
+use Rattle.xet_shard_file.specs.Puts.{IsKeptOrDone}
 use Rattle.xet_folder.specs.Stored.{IsBacked}
 use Rattle.xet_folder.specs.Runs.{stored_len}
 use Rattle.xet_folder.specs.Xorbs.{IsListed, Records, Xorbs, found}

@@ -18,12 +18,13 @@ use Rattle.xet_shard.specs.Names.{shard_name}
 use Rattle.xet_shard.specs.Records.{xorb_hash}
 use Rattle.xet_folder.specs.Admission.{BlockHolds, FileHolds, ShardHolds}
 use Rattle.xet_folder.specs.Checks.{OfBlocks, OfBytes, OfFiles, OfSegments}
-use Rattle.xet_folder.specs.Names.{IsHash, shard_path, xorb_path}
+use Rattle.xet_shard_file.specs.Names.{IsHash, shard_path}
+use Rattle.xet_folder.specs.Names.{xorb_path}
 use Rattle.xet_folder.specs.Plan.{Joins}
-use Rattle.xet_folder.specs.Shards.{ComesBefore, IsThere, ShardFile, is_expired}
+use Rattle.xet_shard_file.specs.Shards.{ComesBefore, IsThere, ShardFile, is_expired}
 use Rattle.xet_folder.specs.Stored.{IsBacked, IsStored}
 use Rattle.xet_folder.specs.Xorbs.{Xorbs, found}
-use Rattle.xet_folder.proofs.ListedShards.{name_determines}
+use Rattle.xet_shard_file.specs.theorems.Names.{name_determines}
 use Rattle.xet_store.specs.Separate.{Among}
 use Rattle.xet_store.specs.Store.{IsAdmitted}
 use Rattle.xet_store.proofs.Rows.{among_filter, from_among, to_among}

@@ -23,11 +23,12 @@ use Rattle.xet_shard.proofs.WholeAgain.{all_again}
 use Rattle.xet_folder.specs.Admission.{BlockHolds, FileHolds, ShardHolds, block_members, shard_hash}
 use Rattle.xet_folder.specs.Checks.{OfBytes, OfFile, OfShard}
 use Rattle.xet_folder.specs.Contents.{IsRecord}
-use Rattle.xet_folder.specs.Names.{IsForeign, IsHash, shard_path, xorb_path}
+use Rattle.xet_folder.specs.Names.{IsForeign, xorb_path}
+use Rattle.xet_shard_file.specs.Names.{IsHash, shard_path}
 use Rattle.xet_folder.specs.Listed.{Lists}
 use Rattle.xet_folder.specs.Plan.{Joins}
-use Rattle.xet_folder.specs.Puts.{IsDone, IsKeptOrDone}
-use Rattle.xet_folder.specs.Shards.{is_expired, is_past}
+use Rattle.xet_shard_file.specs.Puts.{IsDone, IsKeptOrDone}
+use Rattle.xet_shard_file.specs.Shards.{is_expired, is_past}
 use Rattle.xet_folder.specs.Stored.{IsBacked}
 use Rattle.xet_folder.specs.Xorbs.{AreBacked, IsListed, Records, Xorbs, found}
 use Rattle.xet_shard.proofs.Holding.{all_more as all_push}

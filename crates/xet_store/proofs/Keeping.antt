@@ -3,7 +3,8 @@ use Rattle.std.proofs.Common.{◌≡◌, ◌⊎◌, inl, inr, ◌∙◌, ◌≤�
 use Rattle.std.specs.List.{AllByRecursion}
 use Rattle.xet_io.specs.Disk.{Entry, file_at}
 use Rattle.xet_folder.specs.Admission.{ShardHolds}
-use Rattle.xet_folder.specs.Names.{IsForeign, shard_path, xorb_path}
+use Rattle.xet_folder.specs.Names.{IsForeign, xorb_path}
+use Rattle.xet_shard_file.specs.Names.{shard_path}
 use Rattle.xet_folder.specs.Xorbs.{Records, found}
 use Rattle.xet_store.specs.Cleaning.{HasWholeShard, HasXorb, IsStable, Keeps, SameEntry}
 use Rattle.xet_store.specs.Separate.{Among}

@@ -13,8 +13,8 @@ use Rattle.xet_shard.specs.Records as record_of
 use Rattle.xet_folder.specs.declared.contents.Contents.{Contents}
 use Rattle.xet_folder.specs.Admission.{block_members}
 use Rattle.xet_folder.specs.Contents.{HasContents, IsRecord, listed_in, listed_of}
-use Rattle.xet_folder.specs.Names.{IsHash}
-use Rattle.xet_folder.specs.Shards.{IsThere, ShardFile, is_expired}
+use Rattle.xet_shard_file.specs.Names.{IsHash}
+use Rattle.xet_shard_file.specs.Shards.{IsThere, ShardFile, is_expired}
 use Rattle.xet_folder.specs.Xorbs.{AreBacked, IsListed, Records, Xorbs, found}
 use Rattle.xet_folder.proofs.Firsts.{found_firsts}
 use Rattle.xet_store.specs.Opening.{contents_of}

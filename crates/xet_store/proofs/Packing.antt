@@ -15,7 +15,7 @@ use Rattle.xet_cut.specs.declared.limits.LimitSettings.{LimitSettings}
 use Rattle.xet_shard.specs.declared.record.FileDataSequenceEntry.{FileDataSequenceEntry as Segment}
 use Rattle.xet_store.specs.Cleaning.{Keeps, cuts}
 use Rattle.xet_cut.specs.Cut.{cut}
-use Rattle.xet_dedup.specs.Packing.{fitting, pack_len, packs}
+use Rattle.xet_dedup.specs.Packing.{pack_len, packs}
 use Rattle.xet_folder.specs.Plan.{Joins, LiesIn, part}
 use Rattle.xet_folder.specs.Xorbs.{IsListed, Xorbs}
 use Rattle.xet_store.specs.Steps.{ListsXorbs}

@@ -18,9 +18,10 @@ use Rattle.xet_folder.proofs.Agreeing.{joins_once, stored_once}
 use Rattle.xet_folder.proofs.Rest.{among_map}
 use Rattle.xet_folder.specs.Contents.{HasContents, IsRecord}
 use Rattle.xet_folder.specs.Listed.{JoinsTo, Lists}
-use Rattle.xet_folder.specs.Names.{shard_path, xorb_path}
+use Rattle.xet_shard_file.specs.Names.{shard_path}
+use Rattle.xet_folder.specs.Names.{xorb_path}
 use Rattle.xet_folder.specs.Plan.{Joins, range}
-use Rattle.xet_folder.specs.Shards.{IsThere, ShardFile, is_expired, is_past}
+use Rattle.xet_shard_file.specs.Shards.{IsThere, ShardFile, is_expired, is_past}
 use Rattle.xet_folder.specs.Stored.{IsBacked, IsStored}
 use Rattle.xet_folder.specs.Xorbs.{IsListed, Records, found}
 use Rattle.xet_cut.specs.declared.limits.LimitSettings.{LimitSettings}

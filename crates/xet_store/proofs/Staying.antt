@@ -6,7 +6,8 @@ use Rattle.std.specs.List.{AllByRecursion, IsAmong}
 use Rattle.xet_io.specs.Disk.{Entry, Files, File, bytes_at, file_at, file_of}
 use Rattle.xet_shard.specs.declared.record.MDBFileInfo.{MDBFileInfo}
 use Rattle.xet_shard.specs.Held.{Held}
-use Rattle.xet_folder.specs.Names.{IsForeign, IsHash, shard_path, xorb_path}
+use Rattle.xet_folder.specs.Names.{IsForeign, xorb_path}
+use Rattle.xet_shard_file.specs.Names.{IsHash, shard_path}
 use Rattle.xet_folder.specs.Stored.{IsBacked}
 use Rattle.xet_folder.specs.Xorbs.{IsListed, Records, Xorbs, found}
 use Rattle.xet_store.specs.Cleaning.{HasWholeShard, HasXorb, IsStable, Keeps, SameEntry}

@@ -17,7 +17,8 @@ use Rattle.xet_store.specs.declared.info.XetFileInfo.{XetFileInfo}
 use Rattle.xet_cut.specs.Cut.{cut}
 use Rattle.xet_folder.specs.Admission.{ShardHolds}
 use Rattle.xet_folder.specs.Checks.{OfBytes}
-use Rattle.xet_folder.specs.Names.{IsForeign, IsHash, shard_path, xorb_path}
+use Rattle.xet_folder.specs.Names.{IsForeign, xorb_path}
+use Rattle.xet_shard_file.specs.Names.{IsHash, shard_path}
 use Rattle.xet_dedup.specs.Packing.{packs}
 use Rattle.xet_folder.specs.Plan.{Joins}
 use Rattle.xet_folder.specs.Stored.{IsStored}

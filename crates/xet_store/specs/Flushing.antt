@@ -8,8 +8,8 @@ use Rattle.xet_shard.specs.Held.{held_shard, nothing}
 use Rattle.xet_shard.specs.Text.{full_text}
 use Rattle.xet_folder.specs.Admission.{shard_hash}
 use Rattle.xet_folder.specs.Listed.{Lists}
-use Rattle.xet_folder.specs.Names.{shard_path, temp_name}
-use Rattle.xet_folder.specs.Puts.{IsKeptOrDone}
+use Rattle.xet_shard_file.specs.Names.{shard_path, temp_name}
+use Rattle.xet_shard_file.specs.Puts.{IsKeptOrDone}
 use Rattle.xet_store.specs.Cleaning.{IsStable, SameEntry}
 use Rattle.xet_store.specs.Store.{State}
 

@@ -9,7 +9,7 @@ use Rattle.xet_shard.specs.declared.record.MDBFileInfo.{MDBFileInfo}
 use Rattle.xet_folder.specs.Checks.{OfBytes}
 use Rattle.xet_folder.specs.Listed.{Lists}
 use Rattle.xet_folder.specs.Plan.{Joins}
-use Rattle.xet_folder.specs.Shards.{IsThere, ShardFile, is_expired}
+use Rattle.xet_shard_file.specs.Shards.{IsThere, ShardFile, is_expired}
 use Rattle.xet_folder.specs.Stored.{IsBacked, IsStored}
 use Rattle.xet_folder.specs.Xorbs.{IsListed, found}
 use Rattle.xet_cut.specs.declared.limits.LimitSettings.{LimitSettings}

@@ -13,10 +13,10 @@ use Rattle.xet_shard.specs.Records as record_of
 use Rattle.xet_folder.specs.Admission.{Admits, block_members}
 use Rattle.xet_folder.specs.Checks.{OfBytes}
 use Rattle.xet_folder.specs.Listed.{Lists}
-use Rattle.xet_folder.specs.Names.{IsHash}
+use Rattle.xet_shard_file.specs.Names.{IsHash}
 use Rattle.xet_folder.specs.Plan.{Joins, plan_bytes}
 use Rattle.xet_folder.specs.Contents.{IsRecord}
-use Rattle.xet_folder.specs.Shards.{ShardFile}
+use Rattle.xet_shard_file.specs.Shards.{ShardFile}
 use Rattle.xet_folder.specs.Xorbs.{AreBacked, IsListed, Records, Xorbs, found}
 use Rattle.xet_cut.specs.declared.limits.LimitSettings.{LimitSettings}
 use Rattle.xet_dedup.specs.Records.{IsRecordOf}

@@ -10,11 +10,11 @@ mod flushing;
 mod opening;
 mod reading;
 
-use xet_cut::Limits;
 use indexmap::IndexMap;
 use std::alloc::Global;
 use std::marker::{Model, Send};
 use xet_base::Text;
+use xet_cut::Limits;
 use xet_folder::{Members, Plan, RecordedFile};
 use xet_hash::{MerkleHash, StoreError};
 use xet_io::Disk;

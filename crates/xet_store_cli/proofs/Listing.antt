@@ -4,8 +4,9 @@ use Rattle.xet_io.specs.Disk.{Files}
 use Rattle.xet_folder.specs.Admission.{Admits}
 use Rattle.xet_folder.specs.Contents.{HasContents}
 use Rattle.xet_folder.specs.Listed.{JoinsTo, Lists}
-use Rattle.xet_folder.specs.Names.{shard_path, xorb_path}
-use Rattle.xet_folder.specs.Shards.{IsThere}
+use Rattle.xet_shard_file.specs.Names.{shard_path}
+use Rattle.xet_folder.specs.Names.{xorb_path}
+use Rattle.xet_shard_file.specs.Shards.{IsThere}
 use Rattle.xet_cut.specs.declared.limits.LimitSettings.{LimitSettings}
 use Rattle.xet_store.specs.Cleaning.{HasShard, HasWholeShard, HasXorb, IsStable, Keeps, SameEntry}
 use Rattle.xet_store.specs.Opening.{IsOpened, contents_of}

@@ -6,7 +6,7 @@ use Rattle.xet_io.specs.Disk.{Files}
 use Rattle.xet_cut.specs.declared.limits.LimitSettings.{LimitSettings}
 use Rattle.xet_hash.specs.declared.error.StoreError.{StoreError}
 use Rattle.xet_folder.specs.Admission.{Admits, Refuses}
-use Rattle.xet_folder.specs.Shards.{ShardFile}
+use Rattle.xet_shard_file.specs.Shards.{ShardFile}
 use Rattle.xet_cut.specs.Cut.{cut}
 use Rattle.xet_store.specs.Separate.{SeparateIn}
 use Rattle.xet_store_cli.specs.declared.words.Command.{Command}

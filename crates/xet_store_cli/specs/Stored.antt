@@ -11,8 +11,9 @@ use Rattle.xet_store.specs.Separate.{Apart, IsNamed, MetStored, SeparateIn}
 use Rattle.xet_store.specs.Tables.{record_of_file}
 use Rattle.xet_folder.specs.Admission.{Admits}
 use Rattle.xet_folder.specs.Listed.{JoinsTo, Lists}
-use Rattle.xet_folder.specs.Names.{IsHash, shard_path, xorb_path}
-use Rattle.xet_folder.specs.Shards.{IsThere, ShardFile, is_expired}
+use Rattle.xet_shard_file.specs.Names.{IsHash, shard_path}
+use Rattle.xet_folder.specs.Names.{xorb_path}
+use Rattle.xet_shard_file.specs.Shards.{IsThere, ShardFile, is_expired}
 use Rattle.xet_shard.specs.declared.record.MDBFileInfo.{MDBFileInfo}
 use Rattle.xet_shard.specs.Records as record_of
 use Rattle.xet_store_cli.specs.declared.words.Command.{Command}

@@ -18,9 +18,9 @@ use crate::session::report_lines;
 use crate::words::Command;
 use std::alloc::Global;
 use std::marker::Send;
+use xet_cut::Limits;
 use xet_hash::Refused;
 use xet_io::{Disk, Source, read_all};
-use xet_cut::Limits;
 use xet_store::Store;
 
 /// The folder of the store.

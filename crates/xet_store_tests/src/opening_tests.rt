@@ -4,9 +4,10 @@ use crate::folders::{CREATION, EXPIRY, Flushed, put_changed, text_of, written};
 use crate::session::{NOW, Session, Unopened, bytes_of, put_bytes, refusal, remove};
 use std::alloc::Global;
 use std::test::Fail;
-use xet_folder::{shard_path, xorb_path};
+use xet_folder::xorb_path;
 use xet_hash::{MerkleHash, Reason, StoreError, compute_data_hash};
 use xet_io::{MemoryDisk, MemorySink};
+use xet_shard_file::shard_path;
 use xet_xorb_footer::XorbObjectInfoV0;
 
 /// The hashes of two files that were written.

@@ -1,11 +1,11 @@
 //! A store, by calls that say nothing of what they do.
 
 use std::alloc::Global;
+use xet_cut::{LimitSettings, Limits};
 use xet_hash::{MerkleHash, Place, Refused, StoreError};
 use xet_io::{Disk, MemoryDisk, SliceSource};
 use xet_shard::FileDataSequenceEntry;
 use xet_store::{Cleaned, Store, XetFileInfo, clean_files};
-use xet_cut::{LimitSettings, Limits};
 
 /// The moment at which stores are opened.
 pub const NOW: u64 = 1_000;

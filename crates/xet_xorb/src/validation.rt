@@ -8,10 +8,10 @@ ghost use Rattle.xet_hash.specs.Merkle.{chunk_hash, member_of, total_len, xorb_h
 ghost use Rattle.xet_io.specs.Faults.{HasCause};
 ghost use Rattle.xet_xorb_footer.specs.Ends.{last_footer, told_length};
 ghost use Rattle.xet_xorb_footer.specs.Places.{Has, IsPart, Sees};
-ghost use Rattle.xet_xorb_footer.specs.Spelled.{HasLists, HasShortLists, most_chunks, text_v0, text_v1};
+ghost use Rattle.xet_xorb_footer.specs.Spelled.{HasShortLists, most_chunks, text_v0, text_v1};
 ghost use Rattle.xet_xorb_chunk.specs.Outside.{StopsReading};
 ghost use Rattle.xet_xorb.specs.Checking.{AreChunks, HaveMembers, IsEnding, StandsAt, ending, header_of};
-ghost use Rattle.xet_xorb.specs.Footer.{Version, footer_info, footer_len, footer_text};
+ghost use Rattle.xet_xorb.specs.Footer.{Version, footer_info, footer_len};
 ghost use Rattle.xet_xorb.specs.Validation.{IsValid, IsXorbOf};
 
 use crate::footers::{new_footer, new_footer_v0};

@@ -3,8 +3,8 @@ use Rattle.std.proofs.Common.{◌≡◌, ◌∙◌, ◌⊎◌, ℕ, ◌+◌, ◌
 use Rattle.std.proofs.lemmas.Bool.{cases_lt}
 use Rattle.std.proofs.lemmas.List.{drop-drop, drop_all, drop_at, length-take-le}
 use Rattle.xet_hash.specs.declared.error.StoreError.{StoreError}
-use Rattle.xet_hash.specs.declared.error.StoreError.TheVariants.{Io, OutOfMemory}
-use Rattle.xet_hash.specs.declared.error.Place.TheVariants.{Input, Output}
+use Rattle.xet_hash.specs.declared.error.StoreError.TheVariants.{Io}
+use Rattle.xet_hash.specs.declared.error.Place.TheVariants.{Input}
 use Rattle.xet_io.specs.Whole.{Fills, FillsWith}
 use Rattle.xet_xorb_chunk.specs.Header.{Header}
 use Rattle.xet_xorb_chunk.specs.Outside.{IsCheck, StopsReading, StopsWriting}

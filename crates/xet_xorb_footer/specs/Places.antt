@@ -7,7 +7,7 @@ use Rattle.xet_hash.specs.declared.error.Reason.TheVariants.{BoundariesIdent, Bo
 use Rattle.xet_hash.specs.declared.error.StoreError.{StoreError}
 use Rattle.xet_hash.specs.declared.error.StoreError.TheVariants.{Io, OutOfMemory, UnexpectedEof}
 use Rattle.xet_xorb_footer.specs.declared.block.Block.{Block}
-use Rattle.xet_xorb_footer.specs.Reading.{◌>>=◌, Taken, bytes_at, count_at, ident_at, number_at, number_is, times, version_at, wants}
+use Rattle.xet_xorb_footer.specs.Reading.{Taken, bytes_at, count_at, ident_at, number_at, number_is, times, version_at, wants}
 use Rattle.xet_xorb_footer.specs.Spelled.{boundaries_ident}
 
 -- the reader tells its bytes, which are these and so many

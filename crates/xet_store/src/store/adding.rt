@@ -6,7 +6,7 @@ ghost use Rattle.xet_hash.specs.Merkle.{chunk_hash, xorb_hash};
 ghost use Rattle.xet_shard.specs.Held.{held_size};
 ghost use Rattle.xet_shard.specs.Records.{file_hash};
 ghost use Rattle.xet_xorb_chunk.specs.Chunks.{bytes_of, chunk_member, total};
-ghost use Rattle.xet_folder.specs.Refusals.{HasDiskReason};
+ghost use Rattle.xet_shard_file.specs.Refusals.{HasDiskReason};
 ghost use Rattle.xet_folder.specs.Xorbs.{IsListed, found};
 ghost use Rattle.xet_store.specs.Cleaning.{Adds, Keeps};
 ghost use Rattle.xet_store.specs.Store.{IsNewFile};
@@ -14,12 +14,13 @@ ghost use Rattle.xet_store.specs.Tables.{tables_of, with_record, with_xorb};
 
 use crate::store::Store;
 use std::marker::Send;
-use xet_folder::{Members, RecordedFile, known_bytes, put_xorb};
+use xet_folder::{Members, RecordedFile, put_xorb};
 use xet_hash::{MerkleHash, StoreError};
 use xet_io::Disk;
 use xet_shard::{MDBFileInfo, MDBInMemoryShard};
-use xet_xorb_chunk::{Chunk, chunk_members};
+use xet_shard_file::known_bytes;
 use xet_xorb::{RawXorbData, SerializedXorbObject};
+use xet_xorb_chunk::{Chunk, chunk_members};
 
 impl<D: Disk + Send> Store<D> {
     /// Stores these chunks as a xorb and lists it, where it is not listed yet, and gives its hash. Where

@@ -2,16 +2,17 @@
 
 ghost use Rattle.std.specs.Prelude.{◌≡◌, ◌↔◌, None, Ok, IfErr, IfOk, IfSome, OnErr};
 ghost use Rattle.xet_shard.specs.Held.{nothing};
-ghost use Rattle.xet_folder.specs.Refusals.{HasDiskReason};
+ghost use Rattle.xet_shard_file.specs.Refusals.{HasDiskReason};
 ghost use Rattle.xet_store.specs.Cleaning.{Keeps};
 ghost use Rattle.xet_store.specs.Flushing.{IsFlushed, IsUnflushed};
 
 use crate::store::Store;
 use std::marker::Send;
-use xet_folder::{known_bytes, put_shard};
+use xet_folder::put_shard;
 use xet_hash::{MerkleHash, StoreError, compute_data_hash};
 use xet_io::Disk;
 use xet_shard::MDBInMemoryShard;
+use xet_shard_file::known_bytes;
 
 impl<D: Disk + Send> Store<D> {
     /// Puts a shard of what is pending, so that a crash keeps it, and gives its hash; none where nothing

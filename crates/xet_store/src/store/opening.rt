@@ -3,15 +3,15 @@
 ghost use Rattle.std.specs.Prelude.{◌≡◌, ◌≤◌, true, false, IfErr, IfOk};
 ghost use Rattle.std.specs.List.{AllByRecursion};
 ghost use Rattle.xet_folder.specs.Contents.{HasContents, IsRecord, IsUnadmitted};
-ghost use Rattle.xet_folder.specs.Names.{IsHash};
+ghost use Rattle.xet_shard_file.specs.Names.{IsHash};
 ghost use Rattle.xet_folder.specs.Xorbs.{AreBacked};
 ghost use Rattle.xet_store.specs.Opening.{IsOpened, contents_of};
 
-use xet_cut::Limits;
 use crate::store::Store;
 use std::alloc::Global;
 use std::marker::Send;
 use xet_base::Text;
+use xet_cut::Limits;
 use xet_folder::{Contents, admit_folder};
 use xet_hash::{Refused, StoreError};
 use xet_io::Disk;

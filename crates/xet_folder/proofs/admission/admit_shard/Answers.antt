@@ -3,9 +3,10 @@ use Rattle.xet_io.specs.Disk.{file}
 use Rattle.xet_hash.specs.declared.error.StoreError.{StoreError}
 use Rattle.xet_shard.proofs.Fitting.{materialized_below}
 use Rattle.xet_folder.specs.Admission.{ShardFails}
-use Rattle.xet_folder.specs.Checks.{IsCheckRefusal, Knows}
-use Rattle.xet_folder.specs.Refusals.{IsShardError}
-use Rattle.xet_folder.proofs.Refused.{on_exit, read_error, read_refusal}
+use Rattle.xet_shard_file.specs.Refusals.{IsCheckRefusal, IsShardError}
+use Rattle.xet_folder.specs.Checks.{Knows}
+use Rattle.xet_shard_file.specs.theorems.Exits.{on_exit}
+use Rattle.xet_folder.proofs.Refused.{read_error, read_refusal}
 use Rattle.xet_folder.proofs.Tables.{all_listed}
 use Rattle.xet_folder.proofs.admission.admit_shard.Goals as goal
 

@@ -2,9 +2,11 @@ use Rattle.std.proofs.Common.{◌≡◌, ◌∙◌, Bool, IsTrue, ℕ, List, ref
 use Rattle.xet_io.specs.Disk.{Files}
 use Rattle.xet_shard.specs.Records.{xorb_hash}
 use Rattle.xet_folder.specs.Admission.{BlockFails, XorbFails}
-use Rattle.xet_folder.specs.Checks.{IsCheckRefusal, Knows}
+use Rattle.xet_shard_file.specs.Refusals.{IsCheckRefusal}
+use Rattle.xet_folder.specs.Checks.{Knows}
 use Rattle.xet_folder.specs.Stored.{IsBacked}
-use Rattle.xet_folder.proofs.Refused.{on_exit, refusal_of}
+use Rattle.xet_shard_file.specs.theorems.Exits.{on_exit}
+use Rattle.xet_folder.proofs.Refused.{refusal_of}
 use Rattle.xet_folder.proofs.Tables.{grows_more}
 use Rattle.xet_folder.proofs.admission.check_block.Goals as goal
 

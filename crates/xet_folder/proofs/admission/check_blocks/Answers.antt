@@ -2,8 +2,10 @@ use Rattle.std.proofs.Common.{◌≡◌, ◌∙◌, ℕ, List, sym, subst, arith
 use Rattle.xet_io.specs.Disk.{Files}
 use Rattle.xet_shard.specs.Records.{xorb_hash}
 use Rattle.xet_folder.specs.Admission.{BlockFails, BlockHolds, FirstFails}
-use Rattle.xet_folder.specs.Checks.{Has, IsCheckRefusal, Knows, OfBlocks}
-use Rattle.xet_folder.proofs.Refused.{on_exit, refusal_of}
+use Rattle.xet_folder.specs.Checks.{Has, Knows, OfBlocks}
+use Rattle.xet_shard_file.specs.Refusals.{IsCheckRefusal}
+use Rattle.xet_shard_file.specs.theorems.Exits.{on_exit}
+use Rattle.xet_folder.proofs.Refused.{refusal_of}
 use Rattle.xet_folder.proofs.Rest.{all_done, all_left, among_map, fails_here, fails_left}
 use Rattle.xet_folder.proofs.Tables.{grows_then, has_later, later_none, later_of, later_then}
 use Rattle.xet_folder.proofs.admission.check_blocks.Goals as goal

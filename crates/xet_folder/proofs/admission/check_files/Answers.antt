@@ -3,8 +3,10 @@ use Rattle.xet_io.specs.Disk.{Files}
 use Rattle.xet_shard.specs.Records.{file_hash}
 use Rattle.xet_folder.specs.Admission.{FileFails, FileHolds, FirstFails}
 use Rattle.xet_folder.specs.Contents.{IsFileRecord}
-use Rattle.xet_folder.specs.Checks.{HasFile, IsCheckRefusal, Knows, OfFile, OfFiles}
-use Rattle.xet_folder.proofs.Refused.{on_exit, refusal_of}
+use Rattle.xet_folder.specs.Checks.{HasFile, Knows, OfFile, OfFiles}
+use Rattle.xet_shard_file.specs.Refusals.{IsCheckRefusal}
+use Rattle.xet_shard_file.specs.theorems.Exits.{on_exit}
+use Rattle.xet_folder.proofs.Refused.{refusal_of}
 use Rattle.xet_folder.proofs.Rest.{all_left, among_all, fails_here, fails_left}
 use Rattle.xet_folder.proofs.Tables.{grows_then, has_file_later, later_of, later_then, record_later}
 use Rattle.xet_folder.proofs.admission.check_files.Goals as goal

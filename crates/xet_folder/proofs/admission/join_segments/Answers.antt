@@ -1,11 +1,13 @@
 use Rattle.std.proofs.Common.{◌≡◌, ◌∙◌, ℕ, List, sym, subst, arith}
 use Rattle.xet_io.specs.Disk.{Files}
 use Rattle.xet_folder.specs.Admission.{FirstFails, SegmentFails, SegmentHolds}
-use Rattle.xet_folder.specs.Checks.{AddsRun, Has, IsCheckRefusal, Knows, OfSegments}
+use Rattle.xet_folder.specs.Checks.{AddsRun, Has, Knows, OfSegments}
+use Rattle.xet_shard_file.specs.Refusals.{IsCheckRefusal}
 use Rattle.xet_folder.specs.Stored.{IsBacked}
 use Rattle.xet_folder.specs.Xorbs.{IsListed}
 use Rattle.xet_folder.proofs.Joining.{bytes_left, joins_done, joins_left}
-use Rattle.xet_folder.proofs.Refused.{on_exit, refusal_of}
+use Rattle.xet_shard_file.specs.theorems.Exits.{on_exit}
+use Rattle.xet_folder.proofs.Refused.{refusal_of}
 use Rattle.xet_folder.proofs.Rest.{all_done, all_left, among_map, fails_here, fails_left}
 use Rattle.xet_folder.proofs.Tables.{grows_then, has_later, later_none, listed_later, later_of, later_then}
 use Rattle.xet_folder.proofs.admission.join_segments.Goals as goal

@@ -5,11 +5,11 @@ use Rattle.xet_folder.specs.declared.contents.Contents.{Contents}
 use Rattle.xet_folder.specs.declared.contents.Unadmitted.{Unadmitted}
 use Rattle.xet_folder.specs.Admission.{Refuses}
 use Rattle.xet_folder.specs.Contents.{HasContents, IsUnadmitted}
-use Rattle.xet_folder.specs.Entries.{entry_of, is_valid}
+use Rattle.xet_shard_file.specs.Entries.{entry_of, is_valid}
 use Rattle.xet_folder.specs.Gathering.{ShardsFail, gathered}
-use Rattle.xet_folder.specs.Shards.{IsThere, ShardFile}
+use Rattle.xet_shard_file.specs.Shards.{IsThere, ShardFile}
 use Rattle.xet_folder.proofs.MoreShards.{has_contents, listed_read, read_gathered, read_refused}
-use Rattle.xet_folder.proofs.Refused.{on_exit}
+use Rattle.xet_shard_file.specs.theorems.Exits.{on_exit}
 use Rattle.xet_folder.proofs.Stopping.{stopped_earlier, unadmitted_so}
 use Rattle.xet_folder.proofs.contents.admit_folder.Goals as goal
 

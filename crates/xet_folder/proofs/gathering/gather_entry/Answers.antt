@@ -4,11 +4,12 @@ use Rattle.xet_io.specs.Disk.{File, Files, bytes_at, file}
 use Rattle.xet_hash.specs.declared.error.StoreError.{StoreError}
 use Rattle.xet_folder.specs.Admission.{ShardFails}
 use Rattle.xet_folder.specs.Checks.{Knows}
-use Rattle.xet_folder.specs.Gathering.{EndsFail, EntryFails, IsGathered, gathered, shard_file}
-use Rattle.xet_folder.specs.Names.{shard_path}
-use Rattle.xet_folder.specs.Shards.{ShardFile}
+use Rattle.xet_shard_file.specs.Refusals.{EndsFail}
+use Rattle.xet_folder.specs.Gathering.{EntryFails, IsGathered, gathered, shard_file}
+use Rattle.xet_shard_file.specs.Names.{shard_path}
+use Rattle.xet_shard_file.specs.Shards.{ShardFile}
 use Rattle.xet_folder.specs.Stored.{IsBacked}
-use Rattle.xet_folder.proofs.Expiring.{ends_fail, ends_stay}
+use Rattle.xet_shard_file.specs.theorems.EndsFirst.{ends_fail, ends_stay}
 use Rattle.xet_folder.proofs.MoreShards.{valid_is, with_valid_is}
 use Rattle.xet_folder.proofs.Refused.{refusal_of}
 use Rattle.xet_folder.proofs.Stopping.{stopped_so}

@@ -6,13 +6,13 @@ use Rattle.xet_folder.specs.declared.contents.Contents.{Contents}
 use Rattle.xet_folder.specs.declared.contents.Unadmitted.{Unadmitted}
 use Rattle.xet_folder.specs.Checks.{Knows}
 use Rattle.xet_folder.specs.Contents.{IsRecord}
-use Rattle.xet_folder.specs.Entries.{entry_of, is_valid}
+use Rattle.xet_shard_file.specs.Entries.{entry_of, is_valid}
 use Rattle.xet_folder.specs.Gathering.{EntryFails, IsGathered, IsStopped, ShardsFail, gathered, shard_file, with_valid}
-use Rattle.xet_folder.specs.Names.{IsHash, shard_path}
-use Rattle.xet_folder.specs.Shards.{IsThere, ShardFile}
+use Rattle.xet_shard_file.specs.Names.{IsHash, shard_path}
+use Rattle.xet_shard_file.specs.Shards.{IsThere, ShardFile}
 use Rattle.xet_folder.specs.Xorbs.{AreBacked, Records}
 use Rattle.xet_folder.proofs.MoreShards.{gathered_all, gathered_more, gathered_none, shards_fail}
-use Rattle.xet_folder.proofs.Refused.{on_exit}
+use Rattle.xet_shard_file.specs.theorems.Exits.{on_exit}
 use Rattle.xet_folder.proofs.Stopping.{stopped_earlier}
 use Rattle.xet_folder.proofs.gathering.gather_shards.Goals as goal
 

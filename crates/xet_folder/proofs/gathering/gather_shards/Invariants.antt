@@ -1,10 +1,10 @@
 use Rattle.std.proofs.Common.{◌≡◌, ◌≤◌, List, filter, map, take, true}
 use Rattle.std.specs.List.{All, AllByRecursion}
 use Rattle.xet_folder.specs.Contents.{IsRecord}
-use Rattle.xet_folder.specs.Entries.{entry_of, is_valid}
+use Rattle.xet_shard_file.specs.Entries.{entry_of, is_valid}
 use Rattle.xet_folder.specs.Gathering.{IsGathered, gathered}
-use Rattle.xet_folder.specs.Names.{IsHash}
-use Rattle.xet_folder.specs.Shards.{IsThere, ShardFile}
+use Rattle.xet_shard_file.specs.Names.{IsHash}
+use Rattle.xet_shard_file.specs.Shards.{IsThere, ShardFile}
 use Rattle.xet_folder.proofs.gathering.gather_shards.Given as goal
 
 abbrev pub invariant-loop-entry : goal.invariant-loop-entry

@@ -1,27 +1,14 @@
-use Rattle.std.proofs.Common.{◌≡◌, ◌∙◌, ap, rules}
-use Rattle.xet_folder.specs.Names.{shard_path, temp_name, xorb_path}
-use Rattle.xet_folder.proofs.Paths.{shard_no_temp, xorb_no_shard, xorb_no_temp, shards_apart}
+use Rattle.std.proofs.Common.{◌≡◌, ◌∙◌, rules}
+use Rattle.xet_shard_file.specs.Names.{shard_path}
+use Rattle.xet_folder.specs.Names.{xorb_path}
+use Rattle.xet_folder.proofs.Paths.{xorb_no_shard, xorb_no_temp}
 use Rattle.xet_folder.proofs.put.put_shard.Goals as goal
 
-pub returns : goal.returns
-returns g c =
-    let path : c.as_str.result.now ≡ shard_path c.args.folder.now c.args.hash.now = c.as_str.ensures.value ∙ c.in_ok-path.ensures.path in
-    record {
-      there = search rules;
-      stable = search rules;
-      temp = search rules;
-      refused = search rules;
-      xorbs = λ told h is.
-          c.put_text.ensures.others told (xorb_path c.args.folder.now h)
-          (λ s. xorb_no_shard c.args.folder.now h c.args.hash.now (s ∙ path)) (λ s. xorb_no_temp c.args.folder.now h c.as_str.result.now s);
-      shards = λ told h is apart.
-          c.put_text.ensures.others told (shard_path c.args.folder.now h)
-          (λ s. shards_apart c.args.folder.now h c.args.hash.now is (c.known_bytes.ensures.length, c.known_bytes.ensures.bytes) apart (s ∙ path)) (λ s. shard_no_temp c.args.folder.now h c.as_str.result.now s);
-      others = λ told other name temp. c.put_text.ensures.others told other (λ s. name (s ∙ path)) (λ s. temp (s ∙ ap temp_name path));
-      foreign = λ told name is.
-          let free = is.no_shard c.args.hash.now (c.known_bytes.ensures.length, c.known_bytes.ensures.bytes) in
-          c.put_text.ensures.others told name (λ s. free.0 (s ∙ path)) (λ s. free.1 (s ∙ ap temp_name path));
-      tells = search rules;
-      later = search rules;
-      reason = search rules;
-    }
+pub returns-clause-xorbs : goal.returns-clause-xorbs
+returns-clause-xorbs g c = λ told h is.
+    c.put_shard_file.ensures.others told (xorb_path c.args.folder.now h) (λ s. xorb_no_shard c.args.folder.now h c.args.hash.now s) (λ s. xorb_no_temp c.args.folder.now h (shard_path c.args.folder.now c.args.hash.now) s)
+
+pub returns-clause-foreign : goal.returns-clause-foreign
+returns-clause-foreign g c = λ told name is.
+    let free = is.no_shard c.args.hash.now (c.known_bytes.ensures.length, c.known_bytes.ensures.bytes) in
+    c.put_shard_file.ensures.others told name free.0 free.1

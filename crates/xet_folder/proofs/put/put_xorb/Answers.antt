@@ -1,6 +1,8 @@
 use Rattle.std.proofs.Common.{◌≡◌, ◌∙◌, ap, sym, rules}
-use Rattle.xet_folder.specs.Names.{shard_path, temp_name, xorb_path}
-use Rattle.xet_folder.proofs.Paths.{shard_no_temp, xorb_no_shard, xorb_no_temp, xorbs_apart}
+use Rattle.xet_shard_file.specs.Names.{shard_path, temp_name}
+use Rattle.xet_folder.specs.Names.{xorb_path}
+use Rattle.xet_shard_file.specs.theorems.Paths.{shard_no_temp}
+use Rattle.xet_folder.proofs.Paths.{xorb_no_shard, xorb_no_temp, xorbs_apart}
 use Rattle.xet_folder.proofs.put.put_xorb.Goals as goal
 
 pub returns : goal.returns

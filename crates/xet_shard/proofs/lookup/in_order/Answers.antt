@@ -1,6 +1,5 @@
-use Rattle.xet_shard.specs.Lookups.{flat_places, place_cmp}
+use Rattle.xet_shard.specs.Lookups.{flat_places, place_cmp, flat_place}
 use Rattle.std.proofs.lemmas.List.Sorted.{IsPermutation-map}
-use Rattle.xet_shard.specs.Lookups.{flat_place}
 use Rattle.xet_shard.proofs.Places.{flat_sorted, place_exact, place_total}
 use Rattle.xet_shard.proofs.Sorting.{sorted_exact}
 use Rattle.xet_shard.proofs.lookup.in_order.Goals as goal

@@ -1,7 +1,6 @@
 use Rattle.std.specs.Prelude.{Vec}
 use Rattle.std.specs.Global.{Global}
-use Rattle.std.proofs.Common.{ℕ}
-use Rattle.std.proofs.Common.{◌*◌, ◌∙◌, ap}
+use Rattle.std.proofs.Common.{ℕ, ◌*◌, ◌∙◌, ap}
 use Rattle.std.proofs.lemmas.Result.{err_from_is_err_and}
 use Rattle.xet_shard.specs.Pieces.{piece_at}
 use Rattle.xet_shard.specs.Sections.{heads_in}

@@ -1,6 +1,6 @@
 use Rattle.std.proofs.Common.{filter, map}
 use Rattle.std.specs.Prelude.{string_bytes}
-use Rattle.xet_folder.specs.Entries.{is_valid}
+use Rattle.xet_shard_file.specs.Entries.{is_valid}
 use Rattle.xet_store_cli.specs.Outcome.{store_folder}
 use Rattle.xet_store_cli.proofs.Endings.{bad_line_of, bad_shard_of, bounded_of, silent_of}
 use Rattle.xet_store_cli.proofs.Outcomes.{complete_of, ends_early, ends_over}

@@ -1,7 +1,6 @@
 use Rattle.std.proofs.Common.{◌∙◌, arith, inl, rules, sym}
 use Rattle.xet_hash.specs.declared.error.Place.TheVariants.{Input}
 use Rattle.xet_xorb_chunk.specs.Outside.{StopsReading}
-use Rattle.xet_hash.specs.declared.error.StoreError.{StoreError}
 use Rattle.xet_xorb_chunk.specs.Taking.{TakesFailedHeader}
 use Rattle.xet_xorb_chunk.proofs.Checks.{exit_with, header_in_checks, no_failure, refused_as}
 use Rattle.xet_xorb_chunk.proofs.Prefixes.{header_left, no_reading, prefix_of}

@@ -2,8 +2,7 @@ use Rattle.std.specs.Prelude.{Vec}
 use Rattle.std.specs.Global.{Global}
 use Rattle.xet_shard.specs.declared.record.MDBXorbInfo.{MDBXorbInfo}
 use Rattle.xet_shard.specs.declared.record.XorbChunkSequenceHeader.{XorbChunkSequenceHeader}
-use Rattle.std.proofs.Common.{ℕ}
-use Rattle.std.proofs.Common.{◌∙◌, ap}
+use Rattle.std.proofs.Common.{ℕ, ◌∙◌, ap}
 use Rattle.std.proofs.lemmas.Result.{err_from_is_err_and}
 use Rattle.xet_shard.specs.Sections.{blocks_in, heads_of}
 use Rattle.xet_shard.proofs.PartLaws.{fails_on_whole, goes_on, heads_made}

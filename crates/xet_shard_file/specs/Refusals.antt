@@ -1,0 +1,53 @@
+-- Why a call over a disk refuses, and why a check of what stands there does.
+use Rattle.std.specs.Prelude.{Option, Some, Err, ◌≡◌, ◌⊎◌, ℕ, List}
+use Rattle.xet_io.specs.Faults.{Rose}
+use Rattle.xet_io.specs.declared.fault.Refusal.{Refusal}
+use Rattle.xet_io.specs.declared.fault.Refusal.TheVariants as refusal
+use Rattle.xet_hash.specs.declared.error.StoreError.{StoreError}
+use Rattle.xet_hash.specs.declared.error.StoreError.TheVariants.{Io, InvalidShard, MalformedData, OutOfMemory, UnexpectedEof}
+use Rattle.xet_hash.specs.declared.error.Place.TheVariants.{Disk}
+use Rattle.xet_shard.specs.Names.{shard_name}
+use Rattle.xet_shard.specs.Reading.{ends_of}
+use Rattle.xet_shard_file.specs.Names.{IsHash}
+
+-- a disk's refusal as a store's
+abbrev pub from_refusal : Refusal → StoreError
+from_refusal refusal.Failed = Io Disk
+from_refusal refusal.OutOfMemory = OutOfMemory
+
+-- a call over a disk, by its count of failures before and after
+abbrev pub HasDiskReason : ℕ → ℕ → StoreError → Type 0
+HasDiskReason before now (Io Disk) = Rose before now
+HasDiskReason before now OutOfMemory = Unit {0}
+HasDiskReason before now _ = ⊥
+
+-- The errors of a check of the shard of a hash: its bytes are not of their form, or it does not agree with what is
+-- stored.
+abbrev pub IsCheckError : List ℕ → StoreError → Type 0
+IsCheckError shard UnexpectedEof = Unit {0}
+IsCheckError shard (MalformedData reason) = Unit {0}
+IsCheckError shard (InvalidShard hash reason) = hash ≡ shard
+IsCheckError shard e = ⊥
+
+-- the errors of a call that reads and checks it
+abbrev pub IsShardError : List ℕ → StoreError → Type 0
+IsShardError shard (Io Disk) = Unit {0}
+IsShardError shard OutOfMemory = Unit {0}
+IsShardError shard e = IsCheckError shard e
+
+-- The error is a check's, of the shard that has this file name.
+pub record IsBadShard (e : StoreError) (name : List ℕ) : Type 0 where
+  pub hash : List ℕ
+  pub is_hash : IsHash hash
+  pub named : name ≡ shard_name hash
+  pub check : IsCheckError hash e
+
+-- A check refuses where the disk has failed, or memory is wanting, or, where enough is known, by what fails.
+abbrev pub IsCheckRefusal : Type 0 → (StoreError → Type 0) → ℕ → ℕ → StoreError → Type 0
+IsCheckRefusal Known Fails before now (Io Disk) = Rose before now
+IsCheckRefusal Known Fails before now OutOfMemory = Unit {0}
+IsCheckRefusal Known Fails before now e = Known → Fails e
+
+-- the header or the footer of a file that is there fails so
+abbrev pub EndsFail : Option (List ℕ) → StoreError → Type 0
+EndsFail found e = (bytes : List ℕ) → found ≡ Some bytes → ends_of bytes ≡ Err e

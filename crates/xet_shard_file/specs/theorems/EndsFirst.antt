@@ -1,0 +1,18 @@
+-- An error of the ends is one of the whole.
+use Rattle.std.proofs.Common.{◌≡◌, ◌⊎◌, inl, inr, ◌≤◌, ℕ, Bool, true, false, List, length, take, drop, Option, Some, Result, Ok, Err, sym, ap, subst}
+use Rattle.xet_hash.specs.declared.error.StoreError.{StoreError}
+use Rattle.xet_shard.specs.Reading.{◌>>=◌, all_of, ends_of, footer_at, header_at}
+use Rattle.xet_shard_file.specs.Shards.{is_expired, is_past}
+
+-- an error of the ends is the whole's, and what has it does not expire
+first_error : {A B : Type 0} (e : StoreError) (h : Result (Unit {0}) StoreError) (f : Result A StoreError) (rest : A → Result B StoreError) → (h >>= λ _. f) ≡ Err e → (h >>= λ _. f >>= rest) ≡ Err e
+first_error e (Ok u) (Ok x) rest is = absurd (cc is)
+first_error e (Ok u) (Err d) rest is = let same : d ≡ e = cc is in ap Err same
+first_error e (Err d) f rest is = let same : d ≡ e = cc is in ap Err same
+
+pub ends_fail : (bytes : List ℕ) (e : StoreError) → ends_of bytes ≡ Err e → all_of bytes ≡ Err e
+unfolding all_of
+ends_fail bytes e is = first_error e (header_at bytes) (footer_at bytes) _ is
+
+pub ends_stay : (now : ℕ) (bytes : List ℕ) (e : StoreError) → ends_of bytes ≡ Err e → is_expired now bytes ≡ false
+ends_stay now bytes e is = ap (is_past now) is

@@ -1,0 +1,80 @@
+//! The expiry of a shard, by the ends of its file alone.
+
+ghost use Rattle.std.specs.Prelude.{◌≡◌, ◌<◌, ◌≤◌, ◌+◌, ◌^◌, ℕ, IfErr, IfOk, IsTrue, List, Some, Err, length, true};
+ghost use Rattle.xet_io.specs.Disk.{FillsFrom, bytes_at};
+ghost use Rattle.xet_shard.specs.Reading.{ends_of};
+ghost use Rattle.xet_shard_file.specs.Refusals.{IsCheckRefusal, EndsFail, HasDiskReason, IsShardError};
+ghost use Rattle.xet_shard_file.specs.Shards.{is_expired};
+
+use crate::refusal::store_error;
+use xet_hash::StoreError;
+use xet_io::{Disk, read_file_at};
+use xet_shard::read_footer_of_ends;
+
+/// The bytes of a shard's footer.
+const FOOTER_LEN: u64 = 200;
+
+/// The bytes of a shard's header and footer.
+const ENDS_LEN: u64 = 248;
+
+/// Whether a moment is past the expiry of the shard of a name. Only its header and its footer are read;
+/// where they are malformed, their first check that fails is the error. False where there is no file, or
+/// one that is shorter than a header and a footer.
+pub fn is_past_expiry<D: Disk>(disk: &mut D, name: &str, now: u64) -> Result<bool, StoreError>
+    ensures told { D.tells disk.old ≡ true → IfOk result (λ past. IsTrue past → (bytes : List ℕ) → bytes_at (D.files disk.old) name.now ≡ Some bytes → is_expired now bytes ≡ true) }
+    ensures refused { IfErr result (IsCheckRefusal (D.tells disk.old ≡ true) (EndsFail (bytes_at (D.files disk.old) name.now)) (D.faults disk.old) (D.faults disk.new)) }
+    ensures error { (shard : List ℕ) → IfErr result (IsShardError shard) }
+    ensures same { D.files disk.new ≡ D.files disk.old }
+    ensures tells { D.tells disk.new ≡ D.tells disk.old }
+    ensures later { D.faults disk.old ≤ D.faults disk.new }
+{
+    match disk.stat(name) {
+        Ok(Some((len, _))) => {
+            if len < ENDS_LEN {
+                return Ok(false);
+            }
+            is_past_in(disk, name, len, now)
+        }
+        Ok(None) => Ok(false),
+        Err(refusal) => Err(store_error(refusal)),
+    }
+}
+
+/// The same of a file of so many bytes.
+fn is_past_in<D: Disk>(disk: &mut D, name: &str, len: u64, now: u64) -> Result<bool, StoreError>
+    requires { 248 ≤ len }
+    ensures told { D.tells disk.old ≡ true → IfOk result (λ past. IsTrue past → (bytes : List ℕ) → bytes_at (D.files disk.old) name.now ≡ Some bytes → len ≡ length bytes → is_expired now bytes ≡ true) }
+    ensures refused { IfErr result (IsCheckRefusal (D.tells disk.old ≡ true) (λ e. (bytes : List ℕ) → bytes_at (D.files disk.old) name.now ≡ Some bytes → len ≡ length bytes → ends_of bytes ≡ Err e) (D.faults disk.old) (D.faults disk.new)) }
+    ensures error { (shard : List ℕ) → IfErr result (IsShardError shard) }
+    ensures same { D.files disk.new ≡ D.files disk.old }
+    ensures tells { D.tells disk.new ≡ D.tells disk.old }
+    ensures later { D.faults disk.old ≤ D.faults disk.new }
+{
+    let mut first = [0; 48];
+    let mut last = [0; 200];
+    if !fill(disk, name, 0, &mut first)? {
+        return Ok(false);
+    }
+    if !fill(disk, name, len - FOOTER_LEN, &mut last)? {
+        return Ok(false);
+    }
+    let footer = read_footer_of_ends(len, &first, &last)?;
+    Ok(footer.shard_key_expiry < now)
+}
+
+/// Fills `buf` with a file's bytes from place `at` on. False where there is no file, or it ends before.
+fn fill<D: Disk>(disk: &mut D, name: &str, at: u64, buf: &mut [u8]) -> Result<bool, StoreError>
+    requires some { 0 < length buf.old }
+    requires fits { at + length buf.old < 2 ^ 64 }
+    ensures told { D.tells disk.old ≡ true → IfOk result (FillsFrom (bytes_at (D.files disk.old) name.now) at buf.new) }
+    ensures len { length buf.new ≡ length buf.old }
+    ensures same { D.files disk.new ≡ D.files disk.old }
+    ensures tells { D.tells disk.new ≡ D.tells disk.old }
+    ensures later { D.faults disk.old ≤ D.faults disk.new }
+    ensures reason { IfErr result (HasDiskReason (D.faults disk.old) (D.faults disk.new)) }
+{
+    match read_file_at(disk, name, at, buf) {
+        Ok(filled) => Ok(filled),
+        Err(refusal) => Err(store_error(refusal)),
+    }
+}
