@@ -2,10 +2,10 @@
 use Rattle.std.specs.Prelude.{◌≡◌, ℕ, ◌-◌, true, List, [], ◌∷◌, length, map, take, drop, Option, is_some}
 use Rattle.std.specs.Option.{option_map}
 use Rattle.xet_hash.specs.Merkle.{file_hash, range_hash}
-use Rattle.xet_shard.specs.declared.record.FileDataSequenceEntry.{FileDataSequenceEntry as Segment}
-use Rattle.xet_shard.specs.declared.record.FileVerificationEntry.{FileVerificationEntry}
-use Rattle.xet_shard.specs.declared.record.MDBFileInfo.{MDBFileInfo}
-use Rattle.xet_shard.specs.Records.{flags_of}
+use Rattle.xet_shard_format.specs.declared.record.FileDataSequenceEntry.{FileDataSequenceEntry as Segment}
+use Rattle.xet_shard_format.specs.declared.record.FileVerificationEntry.{FileVerificationEntry}
+use Rattle.xet_shard_format.specs.declared.record.MDBFileInfo.{MDBFileInfo}
+use Rattle.xet_shard_format.specs.Records.{flags_of}
 pub use Rattle.xet_xorb.specs.Raw.{entries_from, xorb_record}
 
 -- how many chunks a segment names

@@ -6,12 +6,12 @@ use Rattle.xet_io.specs.Disk.{Files}
 use Rattle.xet_hash.specs.Hash.{zero_hash}
 use Rattle.xet_hash.specs.Merkle.{file_hash, members_of}
 use Rattle.xet_hash.specs.declared.error.StoreError.{StoreError}
-use Rattle.xet_shard.specs.declared.record.FileDataSequenceEntry.{FileDataSequenceEntry as Segment}
-use Rattle.xet_shard.specs.declared.record.MDBFileInfo.{MDBFileInfo}
-use Rattle.xet_shard.specs.declared.record.MDBXorbInfo.{MDBXorbInfo}
-use Rattle.xet_shard.specs.Names.{shard_name}
-use Rattle.xet_shard.specs.Reading.{Parts}
-use Rattle.xet_shard.specs.Records as record_of
+use Rattle.xet_shard_format.specs.declared.record.FileDataSequenceEntry.{FileDataSequenceEntry as Segment}
+use Rattle.xet_shard_format.specs.declared.record.MDBFileInfo.{MDBFileInfo}
+use Rattle.xet_shard_format.specs.declared.record.MDBXorbInfo.{MDBXorbInfo}
+use Rattle.xet_shard_format.specs.Names.{shard_name}
+use Rattle.xet_shard_format.specs.Reading.{Parts}
+use Rattle.xet_shard_format.specs.Records as record_of
 use Rattle.xet_xorb.proofs.Determined.{text_determines}
 use Rattle.xet_xorb.specs.Xorb.{IsXorbText}
 use Rattle.xet_folder.specs.Admission.{Admits, BlockFails, BlockHolds, FileFails, FileHolds, FirstFails, Refuses, SegmentFails, SegmentHolds, ShardFails, ShardHolds, XorbFails, block_members}

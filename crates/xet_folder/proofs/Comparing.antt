@@ -1,7 +1,7 @@
 -- Members compared with what a block lists.
 use Rattle.std.proofs.Common.{◌≡◌, ◌∙◌, ℕ, ◌+◌, ◌<◌, List, map, take, length, get_or, sym, ap, arith}
 use Rattle.std.proofs.lemmas.List.{get_or-map, length-map, take_more_same}
-use Rattle.xet_shard.specs.declared.record.XorbChunkSequenceEntry.{XorbChunkSequenceEntry}
+use Rattle.xet_shard_format.specs.declared.record.XorbChunkSequenceEntry.{XorbChunkSequenceEntry}
 use Rattle.xet_folder.specs.Admission.{entry_member}
 
 module _ (cs : List XorbChunkSequenceEntry) (ms : List (List ℕ × ℕ)) (i : ℕ) (c : XorbChunkSequenceEntry) (m : List ℕ × ℕ) (below : i < length cs) (is_c : c ≡ get_or cs i c) where

@@ -10,11 +10,11 @@ use Rattle.std.specs.List.{All, AllByRecursion, Any, IsAmong, flat_map}
 use Rattle.std.specs.Option.{option_map}
 use Rattle.xet_io.specs.Disk.{File, Files, file, file_at}
 use Rattle.xet_hash.specs.declared.error.StoreError.{StoreError}
-use Rattle.xet_shard.specs.declared.record.MDBFileInfo.{MDBFileInfo}
-use Rattle.xet_shard.specs.declared.record.FileDataSequenceEntry.{FileDataSequenceEntry as Segment}
-use Rattle.xet_shard.specs.Names.{shard_name}
-use Rattle.xet_shard.specs.Reading.{Parts, all_of}
-use Rattle.xet_shard.specs.Records.{xorb_hash}
+use Rattle.xet_shard_format.specs.declared.record.MDBFileInfo.{MDBFileInfo}
+use Rattle.xet_shard_format.specs.declared.record.FileDataSequenceEntry.{FileDataSequenceEntry as Segment}
+use Rattle.xet_shard_format.specs.Names.{shard_name}
+use Rattle.xet_shard_format.specs.Reading.{Parts, all_of}
+use Rattle.xet_shard_format.specs.Records.{xorb_hash}
 use Rattle.xet_folder.specs.declared.contents.Contents.{Contents}
 use Rattle.xet_shard_file.specs.declared.listing.ShardEntry.{ShardEntry}
 use Rattle.xet_folder.specs.Admission.{FirstFails, Refuses, ShardFails, ShardHolds}

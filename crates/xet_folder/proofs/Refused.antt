@@ -4,8 +4,8 @@ use Rattle.std.specs.Result.{IsErrAnd}
 use Rattle.xet_hash.specs.declared.error.StoreError.{StoreError}
 use Rattle.xet_hash.specs.declared.error.StoreError.TheVariants as errors
 use Rattle.xet_hash.specs.declared.error.Place.TheVariants as place
-use Rattle.xet_shard.specs.Reading.{Fails, all_of}
-use Rattle.xet_shard.proofs.Refusing.{all_answers}
+use Rattle.xet_shard_format.specs.Reading.{Fails, all_of}
+use Rattle.xet_shard_format.specs.theorems.Refusing.{all_answers}
 use Rattle.xet_shard_file.specs.Refusals.{IsCheckRefusal, HasDiskReason, IsShardError}
 use Rattle.xet_shard_file.specs.theorems.Exits.{rose_before}
 

@@ -4,7 +4,7 @@ use Rattle.xet_io.specs.Disk.{Files}
 use Rattle.xet_hash.specs.declared.error.StoreError.{StoreError}
 use Rattle.xet_hash.specs.declared.error.StoreError.TheVariants as errors
 use Rattle.xet_hash.specs.declared.error.Place.TheVariants as place
-use Rattle.xet_shard.specs.Names.{shard_name}
+use Rattle.xet_shard_format.specs.Names.{shard_name}
 use Rattle.xet_folder.specs.Admission.{Refuses}
 use Rattle.xet_shard_file.specs.Refusals.{IsCheckRefusal, HasDiskReason, IsBadShard, IsCheckError, IsShardError}
 use Rattle.xet_folder.specs.Contents.{IsUnadmitted}

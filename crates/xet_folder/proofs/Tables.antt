@@ -5,11 +5,11 @@ use Rattle.std.specs.Cmp.Lexicographic.{bytes_decides, pointwise}
 use Rattle.std.specs.List.{AllByRecursion}
 use Rattle.std.specs.Option.{is_some, option_map}
 use Rattle.xet_io.specs.Disk.{Files}
-use Rattle.xet_shard.specs.declared.record.FileDataSequenceEntry.{FileDataSequenceEntry as Segment}
-use Rattle.xet_shard.specs.declared.record.MDBFileInfo.{MDBFileInfo}
-use Rattle.xet_shard.specs.declared.record.MDBXorbInfo.{MDBXorbInfo}
-use Rattle.xet_shard.specs.Records.{xorb_hash}
-use Rattle.xet_shard.proofs.Fitting.{all_both}
+use Rattle.xet_shard_format.specs.declared.record.FileDataSequenceEntry.{FileDataSequenceEntry as Segment}
+use Rattle.xet_shard_format.specs.declared.record.MDBFileInfo.{MDBFileInfo}
+use Rattle.xet_shard_format.specs.declared.record.MDBXorbInfo.{MDBXorbInfo}
+use Rattle.xet_shard_format.specs.Records.{xorb_hash}
+use Rattle.xet_shard_format.specs.theorems.Fitting.{all_both}
 use Rattle.xet_folder.specs.Checks.{Grows, Has, HasFile, Knows}
 use Rattle.xet_folder.specs.Contents.{IsFileRecord, IsRecord, listed_of}
 use Rattle.xet_folder.specs.Plan.{Joins}

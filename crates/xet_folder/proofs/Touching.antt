@@ -3,7 +3,7 @@ use Rattle.std.proofs.Common.{◌≡◌, ◌⊎◌, inl, inr, ◌∙◌, ℕ, �
 use Rattle.std.proofs.lemmas.Bool.{cases_lt}
 use Rattle.std.proofs.lemmas.List.{length-drop, length-take-le, take-take, take_all}
 use Rattle.xet_hash.specs.Merkle.{total_len}
-use Rattle.xet_shard.specs.declared.record.FileDataSequenceEntry.{FileDataSequenceEntry as Segment}
+use Rattle.xet_shard_format.specs.declared.record.FileDataSequenceEntry.{FileDataSequenceEntry as Segment}
 use Rattle.xet_folder.specs.Plan.{LiesIn, part}
 use Rattle.xet_folder.specs.Runs.{IsTouched, Touches, stored_len}
 use Rattle.xet_folder.proofs.Placing.{Member, piece, piece-piece}

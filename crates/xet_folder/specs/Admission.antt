@@ -7,13 +7,13 @@ use Rattle.xet_hash.specs.declared.error.StoreError.TheVariants.{InvalidShard, M
 use Rattle.xet_hash.specs.declared.error.Reason.TheVariants.{MissingRun, MissingXorb, OtherChunks, OtherFileHash, ShardHash, XorbText}
 use Rattle.xet_hash.specs.Hash.{zero_hash}
 use Rattle.xet_hash.specs.Merkle.{chunk_hash, file_hash}
-use Rattle.xet_shard.specs.declared.record.FileDataSequenceEntry.{FileDataSequenceEntry as Segment}
-use Rattle.xet_shard.specs.declared.record.MDBFileInfo.{MDBFileInfo}
-use Rattle.xet_shard.specs.declared.record.MDBXorbInfo.{MDBXorbInfo}
-use Rattle.xet_shard.specs.declared.record.XorbChunkSequenceEntry.{XorbChunkSequenceEntry}
-use Rattle.xet_shard.specs.Names.{shard_name}
-use Rattle.xet_shard.specs.Reading.{Parts, all_of}
-use Rattle.xet_shard.specs.Records as record_of
+use Rattle.xet_shard_format.specs.declared.record.FileDataSequenceEntry.{FileDataSequenceEntry as Segment}
+use Rattle.xet_shard_format.specs.declared.record.MDBFileInfo.{MDBFileInfo}
+use Rattle.xet_shard_format.specs.declared.record.MDBXorbInfo.{MDBXorbInfo}
+use Rattle.xet_shard_format.specs.declared.record.XorbChunkSequenceEntry.{XorbChunkSequenceEntry}
+use Rattle.xet_shard_format.specs.Names.{shard_name}
+use Rattle.xet_shard_format.specs.Reading.{Parts, all_of}
+use Rattle.xet_shard_format.specs.Records as record_of
 use Rattle.xet_folder.specs.Names.{xorb_path}
 use Rattle.xet_folder.specs.Plan.{Joins, LiesIn}
 use Rattle.xet_shard_file.specs.Shards.{Registers, ShardFile}

@@ -2,11 +2,11 @@
 use Rattle.std.specs.Prelude.{◌≡◌, ◌⊎◌, ℕ, Bool, true, List, ◌++◌, map, IsSome, Ok}
 use Rattle.std.specs.List.{AllByRecursion, IsAmong}
 use Rattle.xet_io.specs.Disk.{Files}
-use Rattle.xet_shard.specs.declared.record.FileDataSequenceEntry.{FileDataSequenceEntry as Segment}
-use Rattle.xet_shard.specs.declared.record.MDBFileInfo.{MDBFileInfo}
-use Rattle.xet_shard.specs.declared.record.MDBXorbInfo.{MDBXorbInfo}
-use Rattle.xet_shard.specs.Reading.{Parts, all_of}
-use Rattle.xet_shard.specs.Records as record_of
+use Rattle.xet_shard_format.specs.declared.record.FileDataSequenceEntry.{FileDataSequenceEntry as Segment}
+use Rattle.xet_shard_format.specs.declared.record.MDBFileInfo.{MDBFileInfo}
+use Rattle.xet_shard_format.specs.declared.record.MDBXorbInfo.{MDBXorbInfo}
+use Rattle.xet_shard_format.specs.Reading.{Parts, all_of}
+use Rattle.xet_shard_format.specs.Records as record_of
 use Rattle.xet_folder.specs.Plan.{LiesIn, part}
 use Rattle.xet_folder.specs.Stored.{IsBacked}
 use Rattle.xet_folder.specs.Xorbs.{AreBacked, IsListed, Xorbs, found}

@@ -9,9 +9,9 @@ use Rattle.xet_hash.specs.declared.error.StoreError.{StoreError}
 use Rattle.xet_hash.specs.declared.error.StoreError.TheVariants.{Io, OutOfMemory}
 use Rattle.xet_hash.specs.declared.error.Place.TheVariants.{Disk}
 use Rattle.xet_hash.specs.Merkle.{file_hash, total_len}
-use Rattle.xet_shard.specs.declared.record.MDBFileInfo.{MDBFileInfo}
-use Rattle.xet_shard.specs.Reading.{all_of}
-use Rattle.xet_shard.specs.Records as record_of
+use Rattle.xet_shard_format.specs.declared.record.MDBFileInfo.{MDBFileInfo}
+use Rattle.xet_shard_format.specs.Reading.{all_of}
+use Rattle.xet_shard_format.specs.Records as record_of
 use Rattle.xet_folder.specs.declared.contents.Contents.{Contents}
 use Rattle.xet_folder.specs.Admission.{Admits, Refuses}
 use Rattle.xet_folder.specs.Checks.{OfBytes}

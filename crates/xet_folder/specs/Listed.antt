@@ -2,8 +2,8 @@
 use Rattle.std.specs.Prelude.{◌≡◌, ℕ, false, List, length, Ok}
 use Rattle.std.specs.List.{IsAmong}
 use Rattle.xet_io.specs.Disk.{Files}
-use Rattle.xet_shard.specs.declared.record.MDBFileInfo.{MDBFileInfo}
-use Rattle.xet_shard.specs.Reading.{Parts, all_of}
+use Rattle.xet_shard_format.specs.declared.record.MDBFileInfo.{MDBFileInfo}
+use Rattle.xet_shard_format.specs.Reading.{Parts, all_of}
 use Rattle.xet_folder.specs.Plan.{Joins}
 use Rattle.xet_shard_file.specs.Shards.{IsThere, ShardFile, is_expired}
 use Rattle.xet_folder.specs.Stored.{IsStored}

@@ -1,7 +1,7 @@
 -- Plans: where the parts of a file lie. A segment names a run of a xorb's chunks.
 use Rattle.std.specs.Prelude.{◌≡◌, ℕ, ◌-◌, ◌<◌, ◌≤◌, List, [], ◌∷◌, ◌++◌, length, take, drop}
 use Rattle.std.specs.List.{sum_by}
-use Rattle.xet_shard.specs.declared.record.FileDataSequenceEntry.{FileDataSequenceEntry as Segment}
+use Rattle.xet_shard_format.specs.declared.record.FileDataSequenceEntry.{FileDataSequenceEntry as Segment}
 
 -- the run of a xorb's elements that a segment names
 abbrev pub part : {X : Type 0} → Segment → List X → List X

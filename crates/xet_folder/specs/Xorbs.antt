@@ -3,7 +3,7 @@ use Rattle.std.specs.Prelude.{◌≡◌, ℕ, ◌+◌, ◌-◌, ◌≤◌, ◌^�
 use Rattle.std.specs.Cmp.Lexicographic.{pointwise}
 use Rattle.std.specs.Map.{lookup}
 use Rattle.xet_io.specs.Disk.{Files, bytes_at}
-use Rattle.xet_shard.specs.declared.record.MDBFileInfo.{MDBFileInfo}
+use Rattle.xet_shard_format.specs.declared.record.MDBFileInfo.{MDBFileInfo}
 use Rattle.xet_folder.specs.declared.xorbs.XorbFile.{XorbFile}
 use Rattle.xet_folder.specs.declared.xorbs.XorbFile.TheVariants.{Missing, Malformed, Stored}
 use Rattle.xet_folder.specs.Names.{xorb_path}

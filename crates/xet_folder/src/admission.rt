@@ -10,9 +10,9 @@ ghost use Rattle.xet_folder.specs.Plan.{Joins};
 ghost use Rattle.xet_folder.specs.Stored.{IsBacked};
 ghost use Rattle.xet_folder.specs.Xorbs.{IsListed};
 ghost use Rattle.xet_hash.specs.Merkle.{file_hash as hash_of_file, total_len};
-ghost use Rattle.xet_shard.specs.Records.{segment_bytes, xorb_hash};
-ghost use Rattle.xet_shard.specs.Reading.{Parts, all_of};
-ghost use Rattle.xet_shard.specs.Text.{materialized};
+ghost use Rattle.xet_shard_format.specs.Records.{segment_bytes, xorb_hash};
+ghost use Rattle.xet_shard_format.specs.Reading.{Parts, all_of};
+ghost use Rattle.xet_shard_format.specs.Text.{materialized};
 ghost use Rattle.xet_io.specs.Disk.{file};
 
 use crate::members::{lies_in, lists_members, run_of};
@@ -21,7 +21,7 @@ use crate::xorbs::XorbTable;
 use std::alloc::Global;
 use xet_hash::{MerkleHash, Reason, StoreError, compute_data_hash, file_hash};
 use xet_io::Disk;
-use xet_shard::{FileDataSequenceEntry, MDBFileInfo, MDBShardFileFooter, MDBXorbInfo, read_shard};
+use xet_shard_format::{FileDataSequenceEntry, MDBFileInfo, MDBShardFileFooter, MDBXorbInfo, read_shard};
 
 /// The files of a shard's bytes, which stand under the name of this hash: reads them, and checks that
 /// the shard is whole, has this digest and no key, and that what it names is stored. Each xorb that it

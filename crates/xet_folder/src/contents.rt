@@ -6,7 +6,7 @@ ghost use Rattle.xet_folder.specs.Contents.{HasContents, IsRecord, IsUnadmitted}
 ghost use Rattle.xet_folder.specs.Gathering.{with_first};
 ghost use Rattle.xet_shard_file.specs.Names.{IsHash};
 ghost use Rattle.xet_folder.specs.Xorbs.{AreBacked};
-ghost use Rattle.xet_shard.specs.Records.{file_hash};
+ghost use Rattle.xet_shard_format.specs.Records.{file_hash};
 
 use crate::gathering::gather_shards;
 use crate::recorded::RecordedFile;
@@ -17,8 +17,8 @@ use std::marker::Model;
 use xet_base::{Items, Text};
 use xet_hash::{MerkleHash, StoreError};
 use xet_io::Disk;
-use xet_shard::MDBFileInfo;
 use xet_shard_file::list_shards;
+use xet_shard_format::MDBFileInfo;
 
 /// Records of files, each under the file's hash. Contracts see the rows in the order in which they were
 /// added.

@@ -12,7 +12,7 @@ use crate::ends::ends_below;
 use std::alloc::Global;
 use std::marker::Model;
 use xet_hash::{MerkleHash, StoreError};
-use xet_shard::{FileDataSequenceEntry, MDBXorbInfo, XorbChunkSequenceEntry};
+use xet_shard_format::{FileDataSequenceEntry, MDBXorbInfo, XorbChunkSequenceEntry};
 
 /// The bytes of a stored chunk's header.
 const HEADER_LEN: u64 = 8;

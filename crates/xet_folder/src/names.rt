@@ -6,7 +6,7 @@ ghost use Rattle.xet_folder.specs.Names.{xorb_path};
 
 use std::alloc::Global;
 use xet_hash::{MerkleHash, StoreError};
-use xet_shard::shard_file_name;
+use xet_shard_format::shard_file_name;
 
 /// The name of a xorb's file in a folder.
 pub fn xorb_path(alloc: Global, folder: &str, hash: &MerkleHash) -> Result<String, StoreError>

@@ -8,7 +8,7 @@ use crate::ends::ends_below;
 use std::alloc::Global;
 use std::marker::Model;
 use xet_hash::StoreError;
-use xet_shard::{FileDataSequenceEntry, MDBFileInfo};
+use xet_shard_format::{FileDataSequenceEntry, MDBFileInfo};
 
 /// The record of a file, with the running ends of its segments. Contracts see the record.
 #[derive(Drop)]
@@ -19,7 +19,7 @@ pub struct RecordedFile {
 }
 
 impl Model for RecordedFile {
-    ghost use Rattle.xet_shard.specs.declared.record.MDBFileInfo.{MDBFileInfo};
+    ghost use Rattle.xet_shard_format.specs.declared.record.MDBFileInfo.{MDBFileInfo};
     ghost use Rattle.xet_folder.specs.Recorded.{HasPlanEnds};
 
     ghost Value = { MDBFileInfo };
@@ -66,7 +66,7 @@ pub struct Plan<'a> {
 
 impl<'a> Model for Plan<'a> {
     ghost use Rattle.std.specs.Prelude.{List};
-    ghost use Rattle.xet_shard.specs.declared.record.FileDataSequenceEntry.{FileDataSequenceEntry};
+    ghost use Rattle.xet_shard_format.specs.declared.record.FileDataSequenceEntry.{FileDataSequenceEntry};
     ghost use Rattle.xet_folder.specs.Recorded.{HasPlanEnds};
 
     ghost Value = { List FileDataSequenceEntry };

@@ -16,8 +16,8 @@ use std::alloc::Global;
 use std::marker::Model;
 use xet_hash::{MerkleHash, Reason, StoreError};
 use xet_io::{Disk, read_file_at};
-use xet_shard::FileDataSequenceEntry;
 use xet_shard_file::store_error;
+use xet_shard_format::FileDataSequenceEntry;
 use xet_xorb_chunk::CompressionScheme;
 
 /// The bytes of a stored chunk's header.

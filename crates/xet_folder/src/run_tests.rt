@@ -8,7 +8,7 @@ use std::alloc::Global;
 use std::test::Fail;
 use xet_hash::{MerkleHash, StoreError, compute_data_hash, xorb_hash};
 use xet_io::MemoryDisk;
-use xet_shard::FileDataSequenceEntry;
+use xet_shard_format::FileDataSequenceEntry;
 use xet_xorb_chunk::{Chunk, chunk_members};
 
 /// Puts a xorb of three chunks, and returns its hash.

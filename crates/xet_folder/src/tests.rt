@@ -8,7 +8,8 @@ use std::test::Fail;
 use xet_base::Items;
 use xet_hash::{MerkleHash, Reason, StoreError, compute_data_hash, file_hash, xorb_hash};
 use xet_io::MemoryDisk;
-use xet_shard::{FileDataSequenceEntry, FileDataSequenceHeader, MDBFileInfo, MDBXorbInfo, XorbChunkSequenceEntry, XorbChunkSequenceHeader, shard_file_name, write_shard};
+use xet_shard::write_shard;
+use xet_shard_format::{FileDataSequenceEntry, FileDataSequenceHeader, MDBFileInfo, MDBXorbInfo, XorbChunkSequenceEntry, XorbChunkSequenceHeader, shard_file_name};
 use xet_xorb_chunk::Chunk;
 
 /// A disk on which the xorb of `abc` is stored.

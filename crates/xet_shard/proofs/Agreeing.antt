@@ -6,14 +6,14 @@ use Rattle.std.specs.Cmp.Lexicographic.{pointwise}
 use Rattle.xet_hash.specs.declared.error.Reason.TheVariants.{SectionEntry}
 use Rattle.xet_hash.specs.declared.error.StoreError.{StoreError}
 use Rattle.xet_hash.specs.declared.error.StoreError.TheVariants as errors
-use Rattle.xet_shard.specs.declared.row.Row.{Row}
-use Rattle.xet_shard.specs.Reading.{◌>>=◌, GivesUnlessFault}
-use Rattle.xet_shard.specs.Rows.{row_of, rows_in}
+use Rattle.xet_shard_format.specs.declared.row.Row.{Row}
+use Rattle.xet_shard_format.specs.Reading.{◌>>=◌, GivesUnlessFault}
+use Rattle.xet_shard_format.specs.Rows.{row_of, rows_in}
 use Rattle.xet_shard.specs.Runs.{agreed, chunk_end}
 use Rattle.xet_shard.proofs.Faulting.{fault_on}
-use Rattle.xet_shard.proofs.RowList.{row_first, row_left, rows_drop, rows_front}
+use Rattle.xet_shard_format.specs.theorems.RowList.{row_first, row_left, rows_drop, rows_front}
 use Rattle.xet_shard.proofs.Running.{rest_all}
-use Rattle.xet_shard.proofs.Steps.{left, lent_at}
+use Rattle.xet_shard_format.specs.theorems.Steps.{left, lent_at}
 
 abbrev pub Agreed : Type 0
 Agreed = Result (ℕ × ℕ) StoreError

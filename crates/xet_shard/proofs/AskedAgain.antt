@@ -7,28 +7,28 @@ use Rattle.std.proofs.lemmas.Bool.{cases_Bool, cases_lt, eq-eqb, eqb-false, eqb-
 use Rattle.std.proofs.lemmas.List.{drop-drop, drop_at, length-append, length-take, take_all}
 use Rattle.std.proofs.lemmas.Option.{same_Some}
 use Rattle.xet_hash.specs.declared.error.StoreError.{StoreError}
-use Rattle.xet_shard.specs.declared.info.MDBShardFileFooter.{MDBShardFileFooter}
-use Rattle.xet_shard.specs.declared.record.FileDataSequenceEntry.{FileDataSequenceEntry}
-use Rattle.xet_shard.specs.declared.record.MDBFileInfo.{MDBFileInfo}
-use Rattle.xet_shard.specs.declared.record.MDBXorbInfo.{MDBXorbInfo}
-use Rattle.xet_shard.specs.declared.record.XorbChunkSequenceEntry.{XorbChunkSequenceEntry}
-use Rattle.xet_shard.specs.declared.row.Row.{Row}
+use Rattle.xet_shard_format.specs.declared.header_footer.MDBShardFileFooter.{MDBShardFileFooter}
+use Rattle.xet_shard_format.specs.declared.record.FileDataSequenceEntry.{FileDataSequenceEntry}
+use Rattle.xet_shard_format.specs.declared.record.MDBFileInfo.{MDBFileInfo}
+use Rattle.xet_shard_format.specs.declared.record.MDBXorbInfo.{MDBXorbInfo}
+use Rattle.xet_shard_format.specs.declared.record.XorbChunkSequenceEntry.{XorbChunkSequenceEntry}
+use Rattle.xet_shard_format.specs.declared.row.Row.{Row}
 use Rattle.xet_shard.specs.Held.{record_of}
 use Rattle.xet_shard.specs.Bisection.{Bisects}
-use Rattle.xet_shard.specs.Lookups.{Lookups, chunk_items, chunks_from, file_items, heads_from, place_cmp, places_from, xorb_items}
+use Rattle.xet_shard_format.specs.Lookups.{Lookups, chunk_items, chunks_from, file_items, heads_from, place_cmp, places_from, xorb_items}
 use Rattle.xet_shard.specs.Queries.{block_at, chunk_place, chunk_table, fewer_than_eight, file_after, file_in, file_items_from, file_table, first_file, found_file, found_run, has_head, kept_hash, last_of, place_before, query_word, read_in_row, rows_from, rows_of, run_in, run_of_word, shard_file, shard_run, shard_run_at, tells_row, told_run, xorb_table}
-use Rattle.xet_shard.specs.Reading.{◌>>=◌, file_at, file_row_count, xorb_at, xorb_row_count}
-use Rattle.xet_shard.specs.Records.{AreRecords, IsFile, IsXorb, file_hash, file_head, file_rest, file_rows, first_word, section, xorb_hash, xorb_head, xorb_rest, xorb_rows}
-use Rattle.xet_shard.specs.Rows.{rows_in}
+use Rattle.xet_shard_format.specs.Reading.{◌>>=◌, file_at, file_row_count, xorb_at, xorb_row_count}
+use Rattle.xet_shard_format.specs.Records.{AreRecords, IsFile, IsXorb, file_hash, file_head, file_rest, file_rows, first_word, section, xorb_hash, xorb_head, xorb_rest, xorb_rows}
+use Rattle.xet_shard_format.specs.Rows.{rows_in}
 use Rattle.xet_shard.specs.Runs.{run_after, run_at}
-use Rattle.xet_shard.specs.Text.{Fits, IsShard, Shard, footer_of, shard_text}
-use Rattle.xet_shard.proofs.Fitting.{all_both}
+use Rattle.xet_shard_format.specs.Text.{Fits, IsShard, Shard, footer_of, shard_text}
+use Rattle.xet_shard_format.specs.theorems.Fitting.{all_both}
 use Rattle.xet_shard.proofs.ItemsAgain.{sorted_all}
 use Rattle.xet_shard.proofs.PartsAgain.{chunks_again, text_checked, text_placed, xorbs_again, chunk_table_again, file_table_again, files_again, xorb_table_again}
 use Rattle.xet_shard.proofs.PartLaws.{count_whole, files_made}
-use Rattle.xet_shard.proofs.RowList.{length-rows_in, rows_drop}
+use Rattle.xet_shard_format.specs.theorems.RowList.{length-rows_in, rows_drop}
 use Rattle.xet_shard.proofs.RunsAgain.{run_taken}
-use Rattle.xet_shard.proofs.SectionLaws.{files_reading, section_cons, section_takes, xorbs_reading}
+use Rattle.xet_shard_format.specs.theorems.SectionLaws.{files_reading, section_cons, section_takes, xorbs_reading}
 use Rattle.xet_shard.proofs.RisingTables.{chunk_words_rise, equal_from, file_words_rise, last_before, row_told, xorb_rows_rise}
 use Rattle.xet_shard.proofs.Tables.{chunks_of_all, files_at_index, head_at_index, heads_of_all, place_at_index}
 

@@ -7,13 +7,13 @@ use Rattle.std.proofs.lemmas.Option.{same_Some}
 use Rattle.std.proofs.lemmas.List.{drop_all, drop_more, length-map}
 use Rattle.xet_hash.specs.declared.error.StoreError.{StoreError}
 use Rattle.xet_hash.specs.declared.error.StoreError.TheVariants as errors
-use Rattle.xet_shard.specs.declared.info.MDBShardFileFooter.{MDBShardFileFooter}
-use Rattle.xet_shard.specs.declared.record.FileDataSequenceEntry.{FileDataSequenceEntry}
-use Rattle.xet_shard.specs.declared.record.MDBFileInfo.{MDBFileInfo}
-use Rattle.xet_shard.specs.Lookups.{flat_places}
+use Rattle.xet_shard_format.specs.declared.header_footer.MDBShardFileFooter.{MDBShardFileFooter}
+use Rattle.xet_shard_format.specs.declared.record.FileDataSequenceEntry.{FileDataSequenceEntry}
+use Rattle.xet_shard_format.specs.declared.record.MDBFileInfo.{MDBFileInfo}
+use Rattle.xet_shard_format.specs.Lookups.{flat_places}
 use Rattle.xet_shard.specs.Queries.{file_in, first_file, found_file, found_run, kept_hash, rows_of, run_in, run_of_word, told_run, chunk_place, file_items_from, has_head, query_word, last_of}
-use Rattle.xet_shard.specs.Reading.{◌>>=◌, GivesUnlessFault}
-use Rattle.xet_shard.specs.Records.{file_hash, first_word}
+use Rattle.xet_shard_format.specs.Reading.{◌>>=◌, GivesUnlessFault}
+use Rattle.xet_shard_format.specs.Records.{file_hash, first_word}
 use Rattle.xet_shard.proofs.Faulting.{fault_on}
 
 abbrev Run : Type 0

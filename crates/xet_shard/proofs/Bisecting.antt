@@ -9,11 +9,11 @@ use Rattle.std.proofs.lemmas.Option.{slice_get-get_or, slice_get-map, slice_get_
 use Rattle.xet_hash.specs.declared.error.Place.TheVariants.{Input}
 use Rattle.xet_hash.specs.declared.error.StoreError.{StoreError}
 use Rattle.xet_hash.specs.declared.error.StoreError.TheVariants as errors
-use Rattle.xet_shard.specs.declared.bisection.Probe.{Probe}
-use Rattle.xet_shard.specs.declared.bisection.Probe.TheVariants.{RowBelow, WordAtMost, WordBelow}
+use Rattle.xet_shard.specs.declared.query.bisection.Probe.{Probe}
+use Rattle.xet_shard.specs.declared.query.bisection.Probe.TheVariants.{RowBelow, WordAtMost, WordBelow}
 use Rattle.xet_shard.specs.Bisection.{AnswersAt, Bisects, in_table, passes, slots}
-use Rattle.xet_shard.specs.Reading.{GivesUnlessFault}
-use Rattle.xet_shard.proofs.FirstLast.{half_word_first, word_first}
+use Rattle.xet_shard_format.specs.Reading.{GivesUnlessFault}
+use Rattle.xet_shard_format.specs.theorems.FirstLast.{half_word_first, word_first}
 
 module _ {X : Type 0} (p : X → Bool) where
   -- one item more before the others, which passes

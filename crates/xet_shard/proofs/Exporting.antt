@@ -1,14 +1,14 @@
 -- The shard that is exported, by what was read of it.
 use Rattle.std.proofs.Common.{◌≡◌, ℕ, ◌+◌, Bool, List, map, min, Ok, Err, sym, ap}
 use Rattle.xet_hash.specs.declared.error.StoreError.{StoreError}
-use Rattle.xet_shard.specs.declared.info.MDBShardFileFooter.{MDBShardFileFooter}
-use Rattle.xet_shard.specs.declared.record.MDBFileInfo.{MDBFileInfo}
-use Rattle.xet_shard.specs.declared.record.MDBXorbInfo.{MDBXorbInfo}
+use Rattle.xet_shard_format.specs.declared.header_footer.MDBShardFileFooter.{MDBShardFileFooter}
+use Rattle.xet_shard_format.specs.declared.record.MDBFileInfo.{MDBFileInfo}
+use Rattle.xet_shard_format.specs.declared.record.MDBXorbInfo.{MDBXorbInfo}
 use Rattle.xet_shard.specs.Export.{exported, files_wanted, keyed_block}
 use Rattle.xet_shard.specs.Held.{never}
-use Rattle.xet_shard.specs.Reading.{GivesUnlessFault}
+use Rattle.xet_shard_format.specs.Reading.{GivesUnlessFault}
 use Rattle.xet_shard.specs.Sections.{blocks_in}
-use Rattle.xet_shard.specs.Text.{Shard, shard}
+use Rattle.xet_shard_format.specs.Text.{Shard, shard}
 use Rattle.xet_shard.proofs.Faulting.{fault_on, gives_on}
 
 module _ (wanted : Bool) (key : List ℕ) (valid now : ℕ) (f : MDBShardFileFooter) (bytes : List ℕ) where

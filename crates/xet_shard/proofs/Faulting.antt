@@ -4,12 +4,12 @@ use Rattle.std.proofs.lemmas.Bool.{le-leb, le-ltb, lt-leb, lt-ltb}
 use Rattle.xet_hash.specs.declared.error.Reason.TheVariants.{SectionPlace}
 use Rattle.xet_hash.specs.declared.error.StoreError.{StoreError}
 use Rattle.xet_hash.specs.declared.error.StoreError.TheVariants as errors
-use Rattle.xet_shard.specs.Reading.{◌>>=◌, GivesUnlessFault, footer_at, header_at}
-use Rattle.xet_shard.specs.declared.info.MDBShardFileFooter.{MDBShardFileFooter}
+use Rattle.xet_shard_format.specs.Reading.{◌>>=◌, GivesUnlessFault, footer_at, header_at}
+use Rattle.xet_shard_format.specs.declared.header_footer.MDBShardFileFooter.{MDBShardFileFooter}
 use Rattle.xet_shard.specs.declared.info.MDBShardInfo.{MDBShardInfo}
-use Rattle.xet_shard.specs.Pieces.{piece_at, rows_at}
+use Rattle.xet_shard.specs.ReaderBytes.{piece_at, rows_at}
 use Rattle.xet_shard.specs.Sections.{info_at}
-use Rattle.xet_shard.specs.Text.{header}
+use Rattle.xet_shard_format.specs.Text.{header}
 
 -- what was read goes on
 pub gives_on : {A X B Y : Type 0} (first : A → X) (then : B → Y) (a : A) (read : Result X StoreError) (f : X → Result Y StoreError) (result : Result B StoreError) → read ≡ Ok (first a) → GivesUnlessFault then result (f (first a))

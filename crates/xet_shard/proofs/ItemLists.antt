@@ -1,12 +1,12 @@
 -- The items of look-ups, one after the other.
 use Rattle.std.proofs.Common.{zero, ◌*◌, take, ◌≡◌, ℕ, suc, ◌+◌, ◌-◌, ◌≤◌, ◌<◌, List, [], ◌∷◌, ◌++◌, length, drop, sym, ap, ◌∙◌, arith, get_or}
 use Rattle.std.proofs.lemmas.List.{append-nil, drop-take, drop_all}
-use Rattle.xet_shard.proofs.FirstLast.{half_word_first, word_first}
-use Rattle.xet_shard.specs.declared.record.MDBXorbInfo.{MDBXorbInfo}
-use Rattle.xet_shard.specs.Records.{xorb_rows}
-use Rattle.xet_shard.specs.Rows.{half_word, word}
+use Rattle.xet_shard_format.specs.theorems.FirstLast.{half_word_first, word_first}
+use Rattle.xet_shard_format.specs.declared.record.MDBXorbInfo.{MDBXorbInfo}
+use Rattle.xet_shard_format.specs.Records.{xorb_rows}
+use Rattle.xet_shard_format.specs.Rows.{half_word, word}
 use Rattle.xet_shard.specs.Sections.{heads_in, heads_of, places_in}
-use Rattle.xet_shard.proofs.Steps.{left, onto}
+use Rattle.xet_shard_format.specs.theorems.Steps.{left, onto}
 
 -- one item more, and none
 pub one_more : {I : Type 0} (found found1 : List I) (x : I) (rest total whole : List I) → found1 ≡ found ++ x ∷ [] → whole ≡ x ∷ rest → found ++ whole ≡ total → found1 ++ rest ≡ total

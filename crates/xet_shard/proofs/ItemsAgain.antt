@@ -6,19 +6,19 @@ use Rattle.std.specs.declared.cmp.Ordering.{Ordering}
 use Rattle.std.proofs.lemmas.List.{length-map}
 use Rattle.std.proofs.lemmas.List.Concat.{flat_map-cons}
 use Rattle.std.proofs.lemmas.Nat.{from_le_bytes-to_le_bytes_4, from_le_bytes-to_le_bytes_8}
-use Rattle.xet_shard.specs.declared.record.MDBFileInfo.{MDBFileInfo}
-use Rattle.xet_shard.specs.declared.row.Row.{Row}
-use Rattle.xet_shard.specs.declared.record.MDBXorbInfo.{MDBXorbInfo}
-use Rattle.xet_shard.specs.declared.record.XorbChunkSequenceEntry.{XorbChunkSequenceEntry}
-use Rattle.xet_shard.specs.Lookups.{chunk_items, chunks_from, file_items, head_text, heads_from, heads_text, place_cmp, place_text, places_from, places_text, xorb_items}
-use Rattle.xet_shard.specs.Records.{chunk_row, file_hash, file_head, file_rest, file_section, first_word, section, xorb_hash, xorb_head, xorb_rest, xorb_rows, xorb_section}
-use Rattle.xet_shard.specs.Rows.{RowFits}
+use Rattle.xet_shard_format.specs.declared.record.MDBFileInfo.{MDBFileInfo}
+use Rattle.xet_shard_format.specs.declared.row.Row.{Row}
+use Rattle.xet_shard_format.specs.declared.record.MDBXorbInfo.{MDBXorbInfo}
+use Rattle.xet_shard_format.specs.declared.record.XorbChunkSequenceEntry.{XorbChunkSequenceEntry}
+use Rattle.xet_shard_format.specs.Lookups.{chunk_items, chunks_from, file_items, head_text, heads_from, heads_text, place_cmp, place_text, places_from, places_text, xorb_items}
+use Rattle.xet_shard_format.specs.Records.{chunk_row, file_hash, file_head, file_rest, file_section, first_word, section, xorb_hash, xorb_head, xorb_rest, xorb_rows, xorb_section}
+use Rattle.xet_shard_format.specs.Rows.{RowFits}
 use Rattle.xet_shard.specs.Sections.{heads_in, places_in}
-use Rattle.xet_shard.specs.Sorted.{put_in, sorted}
-use Rattle.xet_shard.proofs.Bytes.{IsBytes, known_bytes}
-use Rattle.xet_shard.proofs.Counts.{length-section}
-use Rattle.xet_shard.proofs.Fitting.{all_back, all_both, all_front}
-use Rattle.xet_shard.proofs.SectionLaws.{section_cons}
+use Rattle.xet_shard_format.specs.Sorted.{put_in, sorted}
+use Rattle.xet_shard_format.specs.theorems.Bytes.{IsBytes, known_bytes}
+use Rattle.xet_shard_format.specs.theorems.Counts.{length-section}
+use Rattle.xet_shard_format.specs.theorems.Fitting.{all_back, all_both, all_front}
+use Rattle.xet_shard_format.specs.theorems.SectionLaws.{section_cons}
 
 -- what fits into the bytes of an item
 abbrev pub HeadFits : ℕ × ℕ → Type 0

@@ -3,11 +3,11 @@ use Rattle.std.proofs.Common.{◌≡◌, ◌∙◌, ℕ, zero, suc, ◌+◌, ◌
 use Rattle.std.proofs.lemmas.List.{length-map}
 use Rattle.std.proofs.Math.Seq.{take-append_seam}
 use Rattle.std.proofs.lemmas.List.Sums.{sum_by-cons}
-use Rattle.xet_shard.specs.declared.record.MDBXorbInfo.{MDBXorbInfo}
-use Rattle.xet_shard.specs.declared.record.XorbChunkSequenceEntry.{XorbChunkSequenceEntry}
+use Rattle.xet_shard_format.specs.declared.record.MDBXorbInfo.{MDBXorbInfo}
+use Rattle.xet_shard_format.specs.declared.record.XorbChunkSequenceEntry.{XorbChunkSequenceEntry}
 use Rattle.xet_shard.specs.Export.{keyed_block, keyed_chunk}
-use Rattle.xet_shard.specs.Records.{AreRecords, IsXorb, StartAt, chunk_bytes, chunk_row, xorb_hash, xorb_rows, xorb_section}
-use Rattle.xet_shard.proofs.Counts.{length-section}
+use Rattle.xet_shard_format.specs.Records.{AreRecords, IsXorb, StartAt, chunk_bytes, chunk_row, xorb_hash, xorb_rows, xorb_section}
+use Rattle.xet_shard_format.specs.theorems.Counts.{length-section}
 
 -- ---- one after the other
 

@@ -3,20 +3,21 @@ use Rattle.std.proofs.Common.{◌≡◌, ℕ, ◌+◌, ◌*◌, List, [], ◌∷
 use Rattle.std.specs.List.{sum_by}
 use Rattle.std.proofs.lemmas.List.{length-map}
 use Rattle.std.proofs.lemmas.List.Sums.{sum_by-cons}
-use Rattle.xet_shard.specs.declared.record.MDBFileInfo.{MDBFileInfo}
-use Rattle.xet_shard.specs.declared.record.MDBXorbInfo.{MDBXorbInfo}
-use Rattle.xet_shard.specs.Held.{Held, by_hash, file_record_size, held_shard, held_size, xorb_record_size}
-use Rattle.xet_shard.specs.Lookups.{all_lookups, chunk_items, chunks_from, file_items, head_text, heads_text, place_text, places_text, xorb_items}
-use Rattle.xet_shard.specs.Records.{chunk_row, file_hash, file_rows, file_section, xorb_hash, xorb_rows, xorb_section}
-use Rattle.xet_shard.specs.Rows.{rows_text}
-use Rattle.xet_shard.specs.Text.{Fits, Shard, footer_of, footer_text, full_text, shard_text}
+use Rattle.xet_shard_format.specs.declared.record.MDBFileInfo.{MDBFileInfo}
+use Rattle.xet_shard_format.specs.declared.record.MDBXorbInfo.{MDBXorbInfo}
+use Rattle.xet_shard.specs.Held.{Held, by_hash, held_shard, held_size}
+use Rattle.xet_shard_format.specs.RecordSizes.{file_record_size, xorb_record_size}
+use Rattle.xet_shard_format.specs.Lookups.{all_lookups, chunk_items, chunks_from, file_items, head_text, heads_text, place_text, places_text, xorb_items}
+use Rattle.xet_shard_format.specs.Records.{chunk_row, file_hash, file_rows, file_section, xorb_hash, xorb_rows, xorb_section}
+use Rattle.xet_shard_format.specs.Rows.{rows_text}
+use Rattle.xet_shard_format.specs.Text.{Fits, Shard, footer_of, footer_text, full_text, shard_text}
 use Rattle.xet_hash.specs.Order.{hash_cmp}
-use Rattle.xet_shard.proofs.Bytes.{length-rows_text}
-use Rattle.xet_shard.proofs.Counts.{chunk_count, chunks_in, length-heads_from, length-section}
-use Rattle.xet_shard.proofs.Footers.{length-footer_text}
+use Rattle.xet_shard_format.specs.theorems.Bytes.{length-rows_text}
+use Rattle.xet_shard_format.specs.theorems.Counts.{chunk_count, chunks_in, length-heads_from, length-section}
+use Rattle.xet_shard_format.specs.theorems.Footers.{length-footer_text}
 use Rattle.xet_shard.proofs.Rising.{rows_sorted}
-use Rattle.xet_shard.proofs.Sorting.{length-sorted}
-use Rattle.xet_shard.proofs.WholeTaken.{head_len, length-items_text, place_len}
+use Rattle.xet_shard_format.specs.theorems.Sorting.{length-sorted}
+use Rattle.xet_shard_format.specs.theorems.WholeTaken.{head_len, length-items_text, place_len}
 
 -- header and footer, 48 bytes a row, and 12 or 16 an item
 length-full_text : (s : Shard) → Fits s

@@ -12,8 +12,8 @@ use Rattle.xet_hash.proofs.Ties.{hash_tied}
 use Rattle.xet_hash.specs.Order.{hash_cmp}
 use Rattle.xet_shard.specs.Held.{record_of}
 use Rattle.xet_shard.specs.Merging.{FirstAgrees, Rises, behind, below, not_below}
-use Rattle.xet_shard.specs.Records.{AreRecords}
-use Rattle.xet_shard.specs.Sorted.{put_in, sorted}
+use Rattle.xet_shard_format.specs.Records.{AreRecords}
+use Rattle.xet_shard_format.specs.Sorted.{put_in, sorted}
 use Rattle.xet_shard.specs.Union.{Agree, union}
 use Rattle.xet_shard.proofs.Holding.{all_filtered}
 use Rattle.xet_shard.proofs.Rising.{all_sorted, hash_total, other_less}

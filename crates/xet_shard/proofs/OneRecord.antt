@@ -6,19 +6,19 @@ use Rattle.xet_hash.specs.declared.error.Reason.TheVariants.{SectionEntry, Secti
 use Rattle.xet_hash.specs.declared.error.Reason.{Reason}
 use Rattle.xet_hash.specs.declared.error.StoreError.{StoreError}
 use Rattle.xet_hash.specs.declared.error.StoreError.TheVariants as errors
-use Rattle.xet_shard.specs.declared.record.FileDataSequenceEntry.{FileDataSequenceEntry}
-use Rattle.xet_shard.specs.declared.record.FileMetadataExt.{FileMetadataExt}
-use Rattle.xet_shard.specs.declared.record.FileVerificationEntry.{FileVerificationEntry}
-use Rattle.xet_shard.specs.declared.record.MDBFileInfo.{MDBFileInfo}
-use Rattle.xet_shard.specs.declared.row.Row.{Row}
+use Rattle.xet_shard_format.specs.declared.record.FileDataSequenceEntry.{FileDataSequenceEntry}
+use Rattle.xet_shard_format.specs.declared.record.FileMetadataExt.{FileMetadataExt}
+use Rattle.xet_shard_format.specs.declared.record.FileVerificationEntry.{FileVerificationEntry}
+use Rattle.xet_shard_format.specs.declared.record.MDBFileInfo.{MDBFileInfo}
+use Rattle.xet_shard_format.specs.declared.row.Row.{Row}
 use Rattle.xet_shard.specs.Queries.{file_after, read_in_row, rows_from}
-use Rattle.xet_shard.specs.Reading.{◌>>=◌, Gives, GivesUnlessFault, ext_at, file_at, has_ext, hash_at, has_rows, hash_in, is_verified, row_at, rows_after_file, segment_at, times, verification_at, wants}
-use Rattle.xet_shard.specs.Records.{flags_of}
-use Rattle.xet_shard.specs.Rows.{row_of, rows_in}
+use Rattle.xet_shard_format.specs.Reading.{◌>>=◌, Gives, GivesUnlessFault, ext_at, file_at, has_ext, hash_at, has_rows, hash_in, is_verified, row_at, rows_after_file, segment_at, times, verification_at, wants}
+use Rattle.xet_shard_format.specs.Records.{flags_of}
+use Rattle.xet_shard_format.specs.Rows.{row_of, rows_in}
 use Rattle.xet_shard.proofs.Faulting.{fault_on}
-use Rattle.xet_shard.proofs.Refusing.{IsAnswer, gives_whole}
-use Rattle.xet_shard.proofs.RowLaws.{done}
-use Rattle.xet_shard.proofs.RowList.{length-rows_in, rows_first, rows_front}
+use Rattle.xet_shard_format.specs.theorems.Refusing.{IsAnswer, gives_whole}
+use Rattle.xet_shard_format.specs.theorems.RowLaws.{done}
+use Rattle.xet_shard_format.specs.theorems.RowList.{length-rows_in, rows_first, rows_front}
 
 -- what was read, with so many of the rows after it
 abbrev cut : {X : Type 0} → ℕ → Result (X × List Row) StoreError → Result (X × List Row) StoreError

@@ -4,22 +4,22 @@ use Rattle.xet_hash.specs.declared.error.Reason.{Reason}
 use Rattle.xet_hash.specs.declared.error.Reason.TheVariants.{SectionPlace}
 use Rattle.xet_hash.specs.declared.error.StoreError.{StoreError}
 use Rattle.xet_hash.specs.declared.error.StoreError.TheVariants.{MalformedData}
-use Rattle.xet_shard.specs.declared.info.MDBShardFileFooter.{MDBShardFileFooter}
-use Rattle.xet_shard.specs.declared.row.Row.{Row}
+use Rattle.xet_shard_format.specs.declared.header_footer.MDBShardFileFooter.{MDBShardFileFooter}
+use Rattle.xet_shard_format.specs.declared.row.Row.{Row}
 use Rattle.xet_shard.specs.Bisection.{in_table}
 use Rattle.xet_shard.specs.Queries.{file_items_from}
-use Rattle.xet_shard.specs.Reading.{◌>>=◌, Gives, GivesUnlessFault, reaches, section_at, wants}
-use Rattle.xet_shard.specs.Pieces.{piece_at, rows_at}
-use Rattle.xet_shard.specs.Rows.{rows_in}
+use Rattle.xet_shard_format.specs.Reading.{◌>>=◌, Gives, GivesUnlessFault, reaches, section_at, wants}
+use Rattle.xet_shard.specs.ReaderBytes.{piece_at, rows_at}
+use Rattle.xet_shard_format.specs.Rows.{rows_in}
 use Rattle.xet_shard.specs.Sections.{block_heads_in, blocks_in, chunk_lookup_in, files_in, heads_in, heads_of, places_in, row_count, section_in, xorb_lookup_in}
 use Rattle.std.specs.Prelude.{◌==◌}
 use Rattle.std.proofs.lemmas.Bool.{eq-eqb, ne_eqb}
-use Rattle.xet_shard.specs.Lookups.{chunk_items, file_items, xorb_items}
+use Rattle.xet_shard_format.specs.Lookups.{chunk_items, file_items, xorb_items}
 use Rattle.xet_shard.proofs.ItemLists.{heads_first, places_first}
 use Rattle.xet_shard.proofs.Faulting.{fault_on, gives_on}
-use Rattle.xet_shard.proofs.Refusing.{IsAnswer, gives_whole}
-use Rattle.xet_shard.proofs.RowLaws.{ok_is}
-use Rattle.xet_shard.proofs.RowList.{rows_first}
+use Rattle.xet_shard_format.specs.theorems.Refusing.{IsAnswer, gives_whole}
+use Rattle.xet_shard_format.specs.theorems.RowLaws.{ok_is}
+use Rattle.xet_shard_format.specs.theorems.RowList.{rows_first}
 
 -- two tests, and what follows them
 regroup : {P Y : Type 0} (a b : Bool) (reason : Reason) (p : P) (f : P → Result Y StoreError) (x : Result Y StoreError) → f p ≡ x

@@ -4,25 +4,25 @@ use Rattle.std.specs.Cmp.Lexicographic.{pointwise}
 use Rattle.std.specs.List.{flat_map}
 use Rattle.std.proofs.lemmas.Bool.{cases_Bool, eqb-false, eqb-true, le-leb, lt-ltb}
 use Rattle.xet_hash.specs.declared.error.StoreError.{StoreError}
-use Rattle.xet_shard.specs.declared.info.MDBShardFileFooter.{MDBShardFileFooter}
-use Rattle.xet_shard.specs.declared.record.MDBXorbInfo.{MDBXorbInfo}
+use Rattle.xet_shard_format.specs.declared.header_footer.MDBShardFileFooter.{MDBShardFileFooter}
+use Rattle.xet_shard_format.specs.declared.record.MDBXorbInfo.{MDBXorbInfo}
 use Rattle.xet_shard.specs.Bisection.{in_table}
 use Rattle.xet_shard.specs.Queries.{chunk_table, file_table, xorb_table}
-use Rattle.xet_shard.specs.declared.row.Row.{Row}
-use Rattle.xet_shard.specs.Lookups.{Lookups, chunk_items, file_items, head_text, heads_text, left_in, place_text, places_text, xorb_items}
-use Rattle.xet_shard.specs.Pieces.{piece_at}
-use Rattle.xet_shard.specs.Reading.{◌>>=◌, IsPlaced, Parts, all_of, file_at, file_row_count, footer_at, footer_in, header_at, lookup_at, places_at, section_at, totals_at, xorb_at, xorb_row_count}
-use Rattle.xet_shard.specs.Records.{file_hash, xorb_hash}
-use Rattle.xet_shard.specs.Rows.{rows_in, word}
+use Rattle.xet_shard_format.specs.declared.row.Row.{Row}
+use Rattle.xet_shard_format.specs.Lookups.{Lookups, chunk_items, file_items, head_text, heads_text, left_in, place_text, places_text, xorb_items}
+use Rattle.xet_shard.specs.ReaderBytes.{piece_at}
+use Rattle.xet_shard_format.specs.Reading.{◌>>=◌, IsPlaced, Parts, all_of, file_at, file_row_count, footer_at, footer_in, header_at, lookup_at, places_at, section_at, totals_at, xorb_at, xorb_row_count}
+use Rattle.xet_shard_format.specs.Records.{file_hash, xorb_hash}
+use Rattle.xet_shard_format.specs.Rows.{rows_in, word}
 use Rattle.xet_shard.specs.Sections.{blocks_in, chunk_lookup_in, files_in, heads_in, info_at, places_in, section_in, xorb_lookup_in}
-use Rattle.xet_shard.specs.Text.{Fits, IsShard, Shard, footer_of, header, materialized, shard_text, stored}
+use Rattle.xet_shard_format.specs.Text.{Fits, IsShard, Shard, footer_of, header, materialized, shard_text, stored}
 use Rattle.xet_shard.proofs.Faulting.{info_of, piece_there}
-use Rattle.xet_shard.proofs.Footers.{places_take}
+use Rattle.xet_shard_format.specs.theorems.Footers.{places_take}
 use Rattle.xet_shard.proofs.ItemsAgain.{chunk_items_fit, file_items_fit, heads_again, places_again, xorb_items_fit}
 use Rattle.xet_shard.proofs.PartLaws.{chosen_second, chunks_kept, chunks_made, count_whole, goes_on, heads_kept, reached_is, xorbs_kept, xorbs_made}
-use Rattle.xet_shard.proofs.RowLaws.{bind_ok, ok_is, wants_ok}
-use Rattle.xet_shard.proofs.WholeAgain.{all_again}
-use Rattle.xet_shard.proofs.WholeTaken.{LeftIn, head_len, lookup_takes, place_len}
+use Rattle.xet_shard_format.specs.theorems.RowLaws.{bind_ok, ok_is, wants_ok}
+use Rattle.xet_shard_format.specs.theorems.WholeAgain.{all_again}
+use Rattle.xet_shard_format.specs.theorems.WholeTaken.{LeftIn, head_len, lookup_takes, place_len}
 
 -- what reading the whole has checked of each part
 pub record Checked (bytes : List ℕ) (p : Parts) : Type 0 where

@@ -4,12 +4,12 @@ use Rattle.std.proofs.lemmas.List.Elements.{filter-append}
 use Rattle.std.proofs.lemmas.List.{length-map, length-take-le, map-append, take_all, take_more}
 use Rattle.std.specs.Cmp.Lexicographic.{pointwise}
 use Rattle.std.specs.Map.{lookup}
-use Rattle.xet_shard.specs.declared.record.MDBXorbInfo.{MDBXorbInfo}
-use Rattle.xet_shard.specs.declared.record.XorbChunkSequenceEntry.{XorbChunkSequenceEntry}
+use Rattle.xet_shard_format.specs.declared.record.MDBXorbInfo.{MDBXorbInfo}
+use Rattle.xet_shard_format.specs.declared.record.XorbChunkSequenceEntry.{XorbChunkSequenceEntry}
 use Rattle.xet_shard.specs.LastPlaces.{last_at, noted}
-use Rattle.xet_shard.specs.Records.{xorb_rows, xorb_section}
+use Rattle.xet_shard_format.specs.Records.{xorb_rows, xorb_section}
 use Rattle.xet_shard.specs.Runs.{digests, last_place}
-use Rattle.xet_shard.proofs.Counts.{length-section}
+use Rattle.xet_shard_format.specs.theorems.Counts.{length-section}
 
 -- one more hash at the end
 last_place-more : (h : List ℕ) (xs : List (List ℕ)) (x : List ℕ) → last_place h (xs ++ x ∷ []) ≡ cond (pointwise nat_eq x h) (Some (length xs)) (last_place h xs)

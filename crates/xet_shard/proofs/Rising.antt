@@ -13,15 +13,15 @@ use Rattle.std.specs.declared.cmp.Ordering.{Ordering}
 use Rattle.std.specs.declared.cmp.Ordering.TheVariants.{Less, Equal, Greater}
 use Rattle.xet_hash.proofs.Ties.{hash_equal}
 use Rattle.xet_hash.specs.Order.{flipped, hash_cmp}
-use Rattle.xet_shard.specs.declared.record.MDBFileInfo.{MDBFileInfo}
-use Rattle.xet_shard.specs.declared.record.MDBXorbInfo.{MDBXorbInfo}
-use Rattle.xet_shard.specs.declared.row.Row.{Row}
+use Rattle.xet_shard_format.specs.declared.record.MDBFileInfo.{MDBFileInfo}
+use Rattle.xet_shard_format.specs.declared.record.MDBXorbInfo.{MDBXorbInfo}
+use Rattle.xet_shard_format.specs.declared.row.Row.{Row}
 use Rattle.xet_shard.specs.Held.{DifferBy, Held, IsHeld, by_hash, held_shard}
 use Rattle.xet_hash.specs.Hash.{marker}
-use Rattle.xet_shard.specs.Records.{AreRecords, IsFile, IsXorb, end_row, file_hash, file_rows, file_section, is_after, section, xorb_hash, xorb_rows, xorb_section}
-use Rattle.xet_shard.specs.Sorted.{put_in, sorted}
-use Rattle.xet_shard.specs.Text.{IsShard}
-use Rattle.xet_shard.proofs.Sorting.{sorted_apart}
+use Rattle.xet_shard_format.specs.Records.{AreRecords, IsFile, IsXorb, end_row, file_hash, file_rows, file_section, is_after, section, xorb_hash, xorb_rows, xorb_section}
+use Rattle.xet_shard_format.specs.Sorted.{put_in, sorted}
+use Rattle.xet_shard_format.specs.Text.{IsShard}
+use Rattle.xet_shard_format.specs.theorems.Sorting.{sorted_apart}
 
 pub hash_total : IsTotalOrder hash_cmp
 hash_total = on_texts flipped

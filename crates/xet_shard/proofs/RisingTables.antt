@@ -9,18 +9,18 @@ use Rattle.std.proofs.lemmas.Bool.{cases_Bool, eq-eqb, eqb-false, eqb-true, leb-
 use Rattle.std.proofs.lemmas.Cmp.{ranked}
 use Rattle.std.proofs.lemmas.List.{drop_more}
 use Rattle.xet_hash.specs.Order.{hash_cmp}
-use Rattle.xet_shard.specs.declared.record.MDBFileInfo.{MDBFileInfo}
-use Rattle.xet_shard.specs.declared.record.MDBXorbInfo.{MDBXorbInfo}
-use Rattle.xet_shard.specs.declared.row.Row.{Row}
+use Rattle.xet_shard_format.specs.declared.record.MDBFileInfo.{MDBFileInfo}
+use Rattle.xet_shard_format.specs.declared.record.MDBXorbInfo.{MDBXorbInfo}
+use Rattle.xet_shard_format.specs.declared.row.Row.{Row}
 use Rattle.xet_shard.specs.Bisection.{Bisects}
-use Rattle.xet_shard.specs.Lookups.{chunk_items, chunks_from, file_items, heads_from, place_cmp, xorb_items}
-use Rattle.xet_shard.specs.Records.{AreRecords, IsFile, file_hash, file_head, file_rest, file_section, first_word, section, xorb_hash, xorb_rows}
-use Rattle.xet_shard.specs.Rows.{IsHash, RowFits}
-use Rattle.xet_shard.specs.Sorted.{put_in, sorted}
-use Rattle.xet_shard.proofs.Bytes.{IsBytes, known_bytes}
-use Rattle.xet_shard.proofs.Fitting.{all_back}
-use Rattle.xet_shard.proofs.Places.{then_regroups}
-use Rattle.xet_shard.proofs.SectionLaws.{section_cons}
+use Rattle.xet_shard_format.specs.Lookups.{chunk_items, chunks_from, file_items, heads_from, place_cmp, xorb_items}
+use Rattle.xet_shard_format.specs.Records.{AreRecords, IsFile, file_hash, file_head, file_rest, file_section, first_word, section, xorb_hash, xorb_rows}
+use Rattle.xet_shard_format.specs.Rows.{IsHash, RowFits}
+use Rattle.xet_shard_format.specs.Sorted.{put_in, sorted}
+use Rattle.xet_shard_format.specs.theorems.Bytes.{IsBytes, known_bytes}
+use Rattle.xet_shard_format.specs.theorems.Fitting.{all_back}
+use Rattle.xet_shard_format.specs.theorems.Places.{then_regroups}
+use Rattle.xet_shard_format.specs.theorems.SectionLaws.{section_cons}
 use Rattle.xet_shard.specs.Queries.{last_of, place_before, tells_row}
 use Rattle.xet_shard.proofs.Bisecting.{bisects_rest}
 

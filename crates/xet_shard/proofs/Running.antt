@@ -6,14 +6,14 @@ use Rattle.std.proofs.lemmas.Option.{same_Some}
 use Rattle.std.specs.Option.{option_and_then}
 use Rattle.std.specs.Cmp.Lexicographic.{pointwise}
 use Rattle.std.specs.List.{AllByRecursion}
-use Rattle.xet_shard.specs.declared.record.FileDataSequenceEntry.{FileDataSequenceEntry}
-use Rattle.xet_shard.specs.declared.record.MDBXorbInfo.{MDBXorbInfo}
-use Rattle.xet_shard.specs.declared.record.XorbChunkSequenceEntry.{XorbChunkSequenceEntry}
+use Rattle.xet_shard_format.specs.declared.record.FileDataSequenceEntry.{FileDataSequenceEntry}
+use Rattle.xet_shard_format.specs.declared.record.MDBXorbInfo.{MDBXorbInfo}
+use Rattle.xet_shard_format.specs.declared.record.XorbChunkSequenceEntry.{XorbChunkSequenceEntry}
 use Rattle.xet_hash.specs.Hash.{zero_hash}
 use Rattle.xet_shard.specs.Queries.{kept_hash}
 use Rattle.xet_shard.specs.LastPlaces.{last_at}
 use Rattle.xet_shard.specs.Runs.{agreeing, digests, held_run, last_chunk, last_place, run_at, run_segment}
-use Rattle.xet_shard.proofs.Steps.{left}
+use Rattle.xet_shard_format.specs.theorems.Steps.{left}
 
 -- the hashes that agree from a place on, by the first of them
 pub agreeing-step : (query : List (List ℕ)) (chunks : List XorbChunkSequenceEntry) (i : ℕ) (q : List ℕ) (c : XorbChunkSequenceEntry) → i < length query → q ≡ get_or query i q → i < length chunks → c ≡ get_or chunks i c

@@ -5,16 +5,16 @@ use Rattle.std.proofs.lemmas.List.{length-append, length-map, take_at}
 use Rattle.std.proofs.lemmas.List.Sums.{sum_by-take-drop}
 use Rattle.std.specs.Cmp.Lexicographic.{pointwise}
 use Rattle.std.specs.Prelude.{if◌then◌else◌}
-use Rattle.xet_shard.specs.declared.record.FileDataSequenceEntry.{FileDataSequenceEntry}
-use Rattle.xet_shard.specs.declared.record.MDBXorbInfo.{MDBXorbInfo}
-use Rattle.xet_shard.specs.declared.record.XorbChunkSequenceEntry.{XorbChunkSequenceEntry}
-use Rattle.xet_shard.specs.declared.row.Row.{Row}
-use Rattle.xet_shard.specs.Reading.{◌>>=◌}
-use Rattle.xet_shard.specs.Records.{IsXorb, StartAt, chunk_bytes, chunk_row, xorb_head, xorb_rest}
+use Rattle.xet_shard_format.specs.declared.record.FileDataSequenceEntry.{FileDataSequenceEntry}
+use Rattle.xet_shard_format.specs.declared.record.MDBXorbInfo.{MDBXorbInfo}
+use Rattle.xet_shard_format.specs.declared.record.XorbChunkSequenceEntry.{XorbChunkSequenceEntry}
+use Rattle.xet_shard_format.specs.declared.row.Row.{Row}
+use Rattle.xet_shard_format.specs.Reading.{◌>>=◌}
+use Rattle.xet_shard_format.specs.Records.{IsXorb, StartAt, chunk_bytes, chunk_row, xorb_head, xorb_rest}
 use Rattle.xet_shard.specs.Runs.{agreed, agreeing, chunk_end, digests, head_segment, run_after, run_at, run_of, run_segment}
 use Rattle.xet_shard.proofs.Agreeing.{Agreed}
 use Rattle.xet_shard.proofs.Running.{agreeing-none}
-use Rattle.xet_shard.proofs.SectionLaws.{chunk_again, chunk_total}
+use Rattle.xet_shard_format.specs.theorems.SectionLaws.{chunk_again, chunk_total}
 
 abbrev Chunks : Type 0
 Chunks = List XorbChunkSequenceEntry

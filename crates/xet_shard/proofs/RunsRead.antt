@@ -7,16 +7,16 @@ use Rattle.std.specs.Prelude.{if◌then◌else◌}
 use Rattle.xet_hash.specs.declared.error.Reason.TheVariants.{SectionEntry, SectionPlace}
 use Rattle.xet_hash.specs.declared.error.StoreError.{StoreError}
 use Rattle.xet_hash.specs.declared.error.StoreError.TheVariants as errors
-use Rattle.xet_shard.specs.declared.record.FileDataSequenceEntry.{FileDataSequenceEntry}
-use Rattle.xet_shard.specs.declared.row.Row.{Row}
+use Rattle.xet_shard_format.specs.declared.record.FileDataSequenceEntry.{FileDataSequenceEntry}
+use Rattle.xet_shard_format.specs.declared.row.Row.{Row}
 use Rattle.xet_shard.specs.Queries.{read_in_row}
-use Rattle.xet_shard.specs.Reading.{◌>>=◌, GivesUnlessFault}
-use Rattle.xet_shard.specs.Rows.{row_of, rows_in}
+use Rattle.xet_shard_format.specs.Reading.{◌>>=◌, GivesUnlessFault}
+use Rattle.xet_shard_format.specs.Rows.{row_of, rows_in}
 use Rattle.xet_shard.specs.Runs.{agreed, chunk_end, head_segment, run_after, run_of}
 use Rattle.xet_shard.proofs.Agreeing.{Agreed}
 use Rattle.xet_shard.proofs.Faulting.{fault_on}
 use Rattle.xet_shard.proofs.OneRecord.{at_head}
-use Rattle.xet_shard.proofs.RowList.{rows_drop, rows_front, rows_next}
+use Rattle.xet_shard_format.specs.theorems.RowList.{rows_drop, rows_front, rows_next}
 
 abbrev Run : Type 0
 Run = Option (ℕ × FileDataSequenceEntry)

@@ -7,11 +7,12 @@ use Rattle.std.proofs.lemmas.Map.Entries.{sum_by-remove_entry}
 use Rattle.std.specs.Cmp.Lexicographic.{pointwise}
 use Rattle.std.specs.Map.{lookup, remove_entry, values_of}
 use Rattle.std.specs.List.{flat_map, sum_by}
-use Rattle.xet_shard.specs.declared.record.MDBFileInfo.{MDBFileInfo}
-use Rattle.xet_shard.specs.declared.record.MDBXorbInfo.{MDBXorbInfo}
-use Rattle.xet_shard.specs.declared.row.Row.{Row}
-use Rattle.xet_shard.specs.Held.{DifferBy, Keyed, file_record_size, with_last, xorb_record_size}
-use Rattle.xet_shard.specs.Records.{chunk_row, file_rows, file_section, section, xorb_rows, xorb_section}
+use Rattle.xet_shard_format.specs.declared.record.MDBFileInfo.{MDBFileInfo}
+use Rattle.xet_shard_format.specs.declared.record.MDBXorbInfo.{MDBXorbInfo}
+use Rattle.xet_shard_format.specs.declared.row.Row.{Row}
+use Rattle.xet_shard.specs.Held.{DifferBy, Keyed, with_last}
+use Rattle.xet_shard_format.specs.RecordSizes.{file_record_size, xorb_record_size}
+use Rattle.xet_shard_format.specs.Records.{chunk_row, file_rows, file_section, section, xorb_rows, xorb_section}
 use Rattle.xet_shard.proofs.Holding.{is_other, values_removed}
 
 -- a number times a sum

@@ -8,21 +8,21 @@ use Rattle.std.proofs.lemmas.Option.{slice_get-get_or, slice_get-map, slice_get_
 use Rattle.xet_hash.specs.declared.error.Place.TheVariants.{Input}
 use Rattle.xet_hash.specs.declared.error.StoreError.{StoreError}
 use Rattle.xet_hash.specs.declared.error.StoreError.TheVariants as errors
-use Rattle.xet_shard.specs.declared.bisection.Probe.TheVariants.{RowBelow, WordAtMost, WordBelow}
-use Rattle.xet_shard.specs.declared.info.MDBShardFileFooter.{MDBShardFileFooter}
-use Rattle.xet_shard.specs.declared.record.MDBXorbInfo.{MDBXorbInfo}
+use Rattle.xet_shard.specs.declared.query.bisection.Probe.TheVariants.{RowBelow, WordAtMost, WordBelow}
+use Rattle.xet_shard_format.specs.declared.header_footer.MDBShardFileFooter.{MDBShardFileFooter}
+use Rattle.xet_shard_format.specs.declared.record.MDBXorbInfo.{MDBXorbInfo}
 use Rattle.xet_shard.specs.Bisection.{AnswersAt, Bisects, in_table, passes, slots}
-use Rattle.xet_shard.specs.Lookups.{chunk_items, xorb_items}
+use Rattle.xet_shard_format.specs.Lookups.{chunk_items, xorb_items}
 use Rattle.xet_shard.specs.Queries.{chunk_place, chunk_table, file_items_from, file_table, has_head, last_of, place_before, tells_row, xorb_table}
-use Rattle.xet_shard.specs.Reading.{◌>>=◌, GivesUnlessFault, reaches}
-use Rattle.xet_shard.specs.Rows.{half_word, word}
+use Rattle.xet_shard_format.specs.Reading.{◌>>=◌, GivesUnlessFault, reaches}
+use Rattle.xet_shard_format.specs.Rows.{half_word, word}
 use Rattle.xet_shard.specs.Sections.{blocks_in, chunk_lookup_in, heads_in, places_in, xorb_lookup_in}
 use Rattle.xet_shard.proofs.Bisecting.{bisects_map, get_or-slots, length-slots}
 use Rattle.xet_shard.proofs.Faulting.{fault_on}
-use Rattle.xet_shard.proofs.FirstLast.{half_word_first, word_first}
+use Rattle.xet_shard_format.specs.theorems.FirstLast.{half_word_first, word_first}
 use Rattle.xet_shard.proofs.ItemLists.{heads_first}
 use Rattle.xet_shard.proofs.PartLaws.{chosen_second}
-use Rattle.xet_shard.proofs.RowLaws.{ok_is}
+use Rattle.xet_shard_format.specs.theorems.RowLaws.{ok_is}
 
 -- ---- items by their bytes
 

@@ -5,20 +5,20 @@ use Rattle.std.proofs.lemmas.List.{map-append}
 use Rattle.xet_hash.specs.declared.error.StoreError.{StoreError}
 use Rattle.xet_hash.specs.declared.error.StoreError.TheVariants as errors
 use Rattle.xet_shard.specs.declared.info.MDBShardInfo.{MDBShardInfo}
-use Rattle.xet_shard.specs.declared.info.MDBShardFileFooter.{MDBShardFileFooter}
-use Rattle.xet_shard.specs.declared.record.MDBFileInfo.{MDBFileInfo}
-use Rattle.xet_shard.specs.declared.record.MDBXorbInfo.{MDBXorbInfo}
-use Rattle.xet_shard.specs.declared.row.Row.{Row}
+use Rattle.xet_shard_format.specs.declared.header_footer.MDBShardFileFooter.{MDBShardFileFooter}
+use Rattle.xet_shard_format.specs.declared.record.MDBFileInfo.{MDBFileInfo}
+use Rattle.xet_shard_format.specs.declared.record.MDBXorbInfo.{MDBXorbInfo}
+use Rattle.xet_shard_format.specs.declared.row.Row.{Row}
 use Rattle.xet_shard.specs.Merging.{AreOfShard, IsNoText, behind, below, not_below}
-use Rattle.xet_shard.specs.Reading.{GivesUnlessFault}
-use Rattle.xet_shard.specs.Records.{AreRecords, IsFile, IsXorb, file_hash, file_section, section, xorb_hash, xorb_section}
+use Rattle.xet_shard_format.specs.Reading.{GivesUnlessFault}
+use Rattle.xet_shard_format.specs.Records.{AreRecords, IsFile, IsXorb, file_hash, file_section, section, xorb_hash, xorb_section}
 use Rattle.xet_shard.specs.Sections.{blocks_in, files_in}
-use Rattle.xet_shard.specs.Text.{IsShard}
+use Rattle.xet_shard_format.specs.Text.{IsShard}
 use Rattle.xet_shard.specs.Union.{HasUnionFront, IsNoUnion, IsUnion, Records, both_in, records_in, union, union_shard}
-use Rattle.xet_shard.proofs.Counts.{length-section}
+use Rattle.xet_shard_format.specs.theorems.Counts.{length-section}
 use Rattle.xet_shard.proofs.Faulting.{fault_on, gives_on}
 use Rattle.xet_shard.proofs.Merging.{all_union, merged, merged_is, merged_one, records_merged, records_rise}
-use Rattle.xet_shard.proofs.Steps.{onto}
+use Rattle.xet_shard_format.specs.theorems.Steps.{onto}
 
 -- ---- reading
 

@@ -3,10 +3,10 @@
 use Rattle.std.specs.Prelude.{◌≡◌, ◌≤◌, ℕ, zero, suc, ◌+◌, Bool, true, false, List, [], ◌∷◌, drop, length, nat_le, nat_lt, IfSome, Option, None, Result, Ok}
 use Rattle.std.specs.List.{slice_get}
 use Rattle.xet_hash.specs.declared.error.StoreError.{StoreError}
-use Rattle.xet_shard.specs.declared.bisection.Probe.{Probe}
-use Rattle.xet_shard.specs.declared.bisection.Probe.TheVariants.{RowBelow, WordAtMost, WordBelow}
-use Rattle.xet_shard.specs.Reading.{◌>>=◌, GivesUnlessFault, reaches}
-use Rattle.xet_shard.specs.Rows.{half_word, word}
+use Rattle.xet_shard.specs.declared.query.bisection.Probe.{Probe}
+use Rattle.xet_shard.specs.declared.query.bisection.Probe.TheVariants.{RowBelow, WordAtMost, WordBelow}
+use Rattle.xet_shard_format.specs.Reading.{◌>>=◌, GivesUnlessFault, reaches}
+use Rattle.xet_shard_format.specs.Rows.{half_word, word}
 
 -- the item before an index, if there is one
 abbrev pub item_before : {X : Type 0} → ℕ → List X → Option X

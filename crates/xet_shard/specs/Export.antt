@@ -5,14 +5,14 @@ use Rattle.xet_hash.specs.Blake3.{keyed_digest}
 use Rattle.xet_hash.specs.declared.error.Place.TheVariants.{Input, Output}
 use Rattle.xet_hash.specs.declared.error.StoreError.{StoreError}
 use Rattle.xet_hash.specs.declared.error.StoreError.TheVariants.{Io, MalformedData, OutOfMemory, UnexpectedEof}
-use Rattle.xet_shard.specs.declared.info.MDBShardFileFooter.{MDBShardFileFooter}
-use Rattle.xet_shard.specs.declared.record.MDBFileInfo.{MDBFileInfo}
-use Rattle.xet_shard.specs.declared.record.MDBXorbInfo.{MDBXorbInfo}
-use Rattle.xet_shard.specs.declared.record.XorbChunkSequenceEntry.{XorbChunkSequenceEntry}
+use Rattle.xet_shard_format.specs.declared.header_footer.MDBShardFileFooter.{MDBShardFileFooter}
+use Rattle.xet_shard_format.specs.declared.record.MDBFileInfo.{MDBFileInfo}
+use Rattle.xet_shard_format.specs.declared.record.MDBXorbInfo.{MDBXorbInfo}
+use Rattle.xet_shard_format.specs.declared.record.XorbChunkSequenceEntry.{XorbChunkSequenceEntry}
 use Rattle.xet_shard.specs.Held.{never}
-use Rattle.xet_shard.specs.Lookups.{Lookups}
+use Rattle.xet_shard_format.specs.Lookups.{Lookups}
 use Rattle.xet_shard.specs.Sections.{blocks_in, files_in}
-use Rattle.xet_shard.specs.Text.{Fits, IsShard, Shard, shard, shard_text}
+use Rattle.xet_shard_format.specs.Text.{Fits, IsShard, Shard, shard, shard_text}
 
 abbrev pub keyed_chunk : List ℕ → XorbChunkSequenceEntry → XorbChunkSequenceEntry
 keyed_chunk key c = record { chunk_hash = keyed_digest key c.chunk_hash; chunk_byte_range_start = c.chunk_byte_range_start; unpacked_segment_bytes = c.unpacked_segment_bytes }

@@ -2,16 +2,14 @@
 use Rattle.std.specs.Prelude.{◌≡◌, ◌≢◌, ◌<◌, ℕ, ◌+◌, ◌-◌, ◌*◌, ◌^◌, List, [], ◌∷◌, ◌++◌, filter, length, not, nat_eq, Option, Some, None, if◌then◌else◌, unwrap_or}
 use Rattle.std.specs.Cmp.Lexicographic.{pointwise}
 use Rattle.std.specs.List.{AllByRecursion, sum_by}
-use Rattle.xet_hash.specs.declared.error.Place.TheVariants.{Output}
-use Rattle.xet_hash.specs.declared.error.StoreError.{StoreError}
-use Rattle.xet_hash.specs.declared.error.StoreError.TheVariants.{Io, OutOfMemory}
 use Rattle.xet_hash.specs.Hash.{marker, zero_hash}
 use Rattle.xet_hash.specs.Order.{hash_cmp}
-use Rattle.xet_shard.specs.declared.record.MDBFileInfo.{MDBFileInfo}
-use Rattle.xet_shard.specs.declared.record.MDBXorbInfo.{MDBXorbInfo}
-use Rattle.xet_shard.specs.Records.{IsFile, IsXorb, file_hash, file_rows, file_section, xorb_hash, xorb_rows, xorb_section}
-use Rattle.xet_shard.specs.Sorted.{sorted}
-use Rattle.xet_shard.specs.Text.{Shard, shard}
+use Rattle.xet_shard_format.specs.declared.record.MDBFileInfo.{MDBFileInfo}
+use Rattle.xet_shard_format.specs.declared.record.MDBXorbInfo.{MDBXorbInfo}
+use Rattle.xet_shard_format.specs.Records.{IsFile, IsXorb, file_hash, file_section, xorb_hash, xorb_section}
+use Rattle.xet_shard_format.specs.Sorted.{sorted}
+use Rattle.xet_shard_format.specs.Text.{Shard, shard}
+use Rattle.xet_shard_format.specs.RecordSizes.{file_record_size, xorb_record_size}
 
 -- xorbs and files in the order in which they were added, each hash once
 pub record Held : Type 0 where
@@ -63,19 +61,6 @@ never = 2 ^ 64 - 1
 abbrev pub held_shard : Held → ℕ → Option ℕ → Shard
 held_shard h creation expiry = shard (by_hash xorb_hash h.blocks) (by_hash file_hash h.files) zero_hash creation (unwrap_or expiry never)
 
--- how many bytes a record adds to a shard: its rows and its items in the look-ups
-abbrev pub file_record_size : MDBFileInfo → ℕ
-file_record_size f = 48 * length (file_rows f) + 12
-
-abbrev pub xorb_record_size : MDBXorbInfo → ℕ
-xorb_record_size x = 48 * length (xorb_rows x) + 12 + 16 * length x.chunks
-
 -- the bytes of an empty shard, and of each record
 abbrev pub held_size : Held → ℕ
 held_size h = 344 + sum_by xorb_record_size h.blocks + sum_by file_record_size h.files
-
--- the refusals of writing a shard
-abbrev pub IsWriteRefusal : StoreError → Type 0
-IsWriteRefusal OutOfMemory = Unit {0}
-IsWriteRefusal (Io place) = place ≡ Output
-IsWriteRefusal e = ⊥

@@ -7,7 +7,7 @@ use Rattle.xet_hash.specs.Order.{hash_cmp}
 use Rattle.xet_hash.specs.declared.error.StoreError.{StoreError}
 use Rattle.xet_hash.specs.declared.error.StoreError.TheVariants.{InvalidArguments, MalformedData, OutOfMemory}
 use Rattle.xet_hash.specs.declared.error.Reason.TheVariants.{SectionPlace}
-use Rattle.xet_shard.specs.Records.{AreRecords, IsFile, IsXorb, file_hash, file_section, xorb_hash, xorb_section}
+use Rattle.xet_shard_format.specs.Records.{AreRecords, IsFile, IsXorb, file_hash, file_section, xorb_hash, xorb_section}
 use Rattle.xet_shard.specs.Union.{AgreeBoth, HasTooMany, Records, union_shard}
 
 -- each hash is greater than those before

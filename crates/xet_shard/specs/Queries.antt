@@ -9,20 +9,20 @@ use Rattle.xet_hash.specs.Hash.{zero_hash}
 use Rattle.xet_hash.specs.declared.error.Reason.TheVariants.{SectionPlace}
 use Rattle.xet_hash.specs.declared.error.StoreError.{StoreError}
 use Rattle.xet_hash.specs.declared.error.StoreError.TheVariants.{TruncatedHashCollision}
-use Rattle.xet_shard.specs.declared.info.MDBShardFileFooter.{MDBShardFileFooter}
-use Rattle.xet_shard.specs.declared.record.FileDataSequenceEntry.{FileDataSequenceEntry}
-use Rattle.xet_shard.specs.declared.record.MDBFileInfo.{MDBFileInfo}
-use Rattle.xet_shard.specs.declared.record.MDBXorbInfo.{MDBXorbInfo}
-use Rattle.xet_shard.specs.declared.row.Row.{Row}
-use Rattle.xet_shard.specs.Lookups.{chunk_items, file_items, xorb_items}
-use Rattle.xet_shard.specs.Reading.{◌>>=◌, IsShardRefusal, file_at, reaches, row_at, wants}
-use Rattle.xet_shard.specs.Records.{file_hash, first_word, xorb_rows}
+use Rattle.xet_shard_format.specs.declared.header_footer.MDBShardFileFooter.{MDBShardFileFooter}
+use Rattle.xet_shard_format.specs.declared.record.FileDataSequenceEntry.{FileDataSequenceEntry}
+use Rattle.xet_shard_format.specs.declared.record.MDBFileInfo.{MDBFileInfo}
+use Rattle.xet_shard_format.specs.declared.record.MDBXorbInfo.{MDBXorbInfo}
+use Rattle.xet_shard_format.specs.declared.row.Row.{Row}
+use Rattle.xet_shard_format.specs.Lookups.{chunk_items, file_items, xorb_items}
+use Rattle.xet_shard_format.specs.Reading.{◌>>=◌, IsShardRefusal, file_at, reaches, row_at, wants}
+use Rattle.xet_shard_format.specs.Records.{file_hash, first_word, xorb_rows}
 use Rattle.xet_shard.specs.Held.{record_of}
-use Rattle.xet_shard.specs.Rows.{rows_in}
+use Rattle.xet_shard_format.specs.Rows.{rows_in}
 use Rattle.xet_shard.specs.Runs.{run_after, run_at}
 use Rattle.xet_shard.specs.Sections.{files_in, heads_in, row_count, blocks_in, places_in}
 use Rattle.xet_shard.specs.Bisection.{in_table, item_before}
-use Rattle.xet_shard.specs.Text.{Shard}
+use Rattle.xet_shard_format.specs.Text.{Shard}
 
 -- how many rows there are from a row on in the section of so many rows from a place on
 unfoldable pub rows_from : ℕ → ℕ → ℕ → List ℕ → Result ℕ StoreError

@@ -3,12 +3,12 @@ use Rattle.std.specs.Prelude.{ℕ, suc, ◌+◌, ◌-◌, ◌==◌, nat_eq, nat_
 use Rattle.std.specs.Cmp.Lexicographic.{pointwise}
 use Rattle.xet_hash.specs.declared.error.Reason.TheVariants.{SectionEntry}
 use Rattle.xet_hash.specs.declared.error.StoreError.{StoreError}
-use Rattle.xet_shard.specs.declared.record.FileDataSequenceEntry.{FileDataSequenceEntry}
-use Rattle.xet_shard.specs.declared.record.MDBXorbInfo.{MDBXorbInfo}
-use Rattle.xet_shard.specs.declared.record.XorbChunkSequenceEntry.{XorbChunkSequenceEntry}
-use Rattle.xet_shard.specs.declared.row.Row.{Row}
-use Rattle.xet_shard.specs.Reading.{◌>>=◌, chunk_in, has_rows, wants}
-use Rattle.xet_shard.specs.Records.{chunk_bytes, xorb_hash}
+use Rattle.xet_shard_format.specs.declared.record.FileDataSequenceEntry.{FileDataSequenceEntry}
+use Rattle.xet_shard_format.specs.declared.record.MDBXorbInfo.{MDBXorbInfo}
+use Rattle.xet_shard_format.specs.declared.record.XorbChunkSequenceEntry.{XorbChunkSequenceEntry}
+use Rattle.xet_shard_format.specs.declared.row.Row.{Row}
+use Rattle.xet_shard_format.specs.Reading.{◌>>=◌, chunk_in, has_rows, wants}
+use Rattle.xet_shard_format.specs.Records.{chunk_bytes, xorb_hash}
 
 -- how many hashes at the front of two lists agree
 unfoldable pub agreeing : List (List ℕ) → List (List ℕ) → ℕ

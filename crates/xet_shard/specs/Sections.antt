@@ -4,17 +4,17 @@ use Rattle.std.specs.Prelude.{◌≡◌, ℕ, zero, suc, ◌+◌, ◌-◌, ◌*�
 use Rattle.xet_hash.specs.declared.error.Reason.TheVariants.{SectionPlace}
 use Rattle.xet_hash.specs.declared.error.StoreError.{StoreError}
 use Rattle.xet_hash.specs.Hash.{zero_hash}
-use Rattle.xet_shard.specs.declared.info.MDBShardFileFooter.{MDBShardFileFooter}
+use Rattle.xet_shard_format.specs.declared.header_footer.MDBShardFileFooter.{MDBShardFileFooter}
 use Rattle.xet_shard.specs.declared.info.MDBShardInfo.{MDBShardInfo}
-use Rattle.xet_shard.specs.declared.record.MDBFileInfo.{MDBFileInfo}
-use Rattle.xet_shard.specs.declared.record.MDBXorbInfo.{MDBXorbInfo}
-use Rattle.xet_shard.specs.declared.record.XorbChunkSequenceHeader.{XorbChunkSequenceHeader}
-use Rattle.xet_shard.specs.declared.row.Row.{Row}
-use Rattle.xet_shard.specs.Lookups.{chunk_items, xorb_items}
-use Rattle.xet_shard.specs.Reading.{◌>>=◌, file_at, footer_at, header_at, reaches, section_at, wants, xorb_at}
-use Rattle.xet_shard.specs.Records.{file_hash, xorb_hash, xorb_rows}
-use Rattle.xet_shard.specs.Rows.{half_word, rows_in, word}
-use Rattle.xet_shard.specs.Text.{header}
+use Rattle.xet_shard_format.specs.declared.record.MDBFileInfo.{MDBFileInfo}
+use Rattle.xet_shard_format.specs.declared.record.MDBXorbInfo.{MDBXorbInfo}
+use Rattle.xet_shard_format.specs.declared.record.XorbChunkSequenceHeader.{XorbChunkSequenceHeader}
+use Rattle.xet_shard_format.specs.declared.row.Row.{Row}
+use Rattle.xet_shard_format.specs.Lookups.{chunk_items, xorb_items}
+use Rattle.xet_shard_format.specs.Reading.{◌>>=◌, file_at, footer_at, header_at, reaches, section_at, wants, xorb_at}
+use Rattle.xet_shard_format.specs.Records.{file_hash, xorb_hash, xorb_rows}
+use Rattle.xet_shard_format.specs.Rows.{half_word, rows_in, word}
+use Rattle.xet_shard_format.specs.Text.{header}
 
 -- header and footer
 unfoldable pub info_at : List ℕ → Result MDBShardInfo StoreError

@@ -6,16 +6,16 @@ use Rattle.xet_hash.specs.declared.error.Place.TheVariants.{Input, Output}
 use Rattle.xet_hash.specs.declared.error.StoreError.{StoreError}
 use Rattle.xet_hash.specs.declared.error.Reason.TheVariants.{SectionPlace}
 use Rattle.xet_hash.specs.declared.error.StoreError.TheVariants.{InvalidArguments, Io, OutOfMemory, MalformedData}
-use Rattle.xet_shard.specs.declared.info.MDBShardFileFooter.{MDBShardFileFooter}
-use Rattle.xet_shard.specs.declared.record.MDBFileInfo.{MDBFileInfo}
-use Rattle.xet_shard.specs.declared.record.MDBXorbInfo.{MDBXorbInfo}
+use Rattle.xet_shard_format.specs.declared.header_footer.MDBShardFileFooter.{MDBShardFileFooter}
+use Rattle.xet_shard_format.specs.declared.record.MDBFileInfo.{MDBFileInfo}
+use Rattle.xet_shard_format.specs.declared.record.MDBXorbInfo.{MDBXorbInfo}
 use Rattle.xet_shard.specs.Export.{IsExportRefusal}
 use Rattle.xet_shard.specs.Held.{by_hash, never, record_of}
-use Rattle.xet_shard.specs.Records.{file_hash, file_section, xorb_hash, xorb_section}
+use Rattle.xet_shard_format.specs.Records.{file_hash, file_section, xorb_hash, xorb_section}
 use Rattle.xet_shard.specs.Sections.{blocks_in, files_in}
 use Rattle.xet_shard.specs.declared.info.MDBShardInfo.{MDBShardInfo}
-use Rattle.xet_shard.specs.Lookups.{all_lookups}
-use Rattle.xet_shard.specs.Text.{Fits, IsShard, Shard, footer_of, full_text, header, shard}
+use Rattle.xet_shard_format.specs.Lookups.{all_lookups}
+use Rattle.xet_shard_format.specs.Text.{Fits, IsShard, Shard, footer_of, full_text, header, shard}
 
 -- the records of the first list, and those of the second whose hash none of the first has, in rising order
 abbrev pub union : {X : Type 0} → (X → List ℕ) → List X → List X → List X

@@ -5,19 +5,20 @@ ghost use Rattle.xet_hash.specs.Hash.{zero_hash};
 ghost use Rattle.xet_io.specs.Faults.{HasCause};
 ghost use Rattle.xet_shard.specs.Export.{HasFront, IsExport, IsExportRefusal, IsUnwritten, exported, files_wanted, keyed_block, keyed_chunk};
 ghost use Rattle.xet_shard.specs.Held.{never};
-ghost use Rattle.xet_shard.specs.Reading.{GivesUnlessFault, IsShardRefusal};
-ghost use Rattle.xet_shard.specs.Records.{AreRecords, IsFile, IsXorb, file_hash, file_section, xorb_hash, xorb_section};
-ghost use Rattle.xet_shard.specs.Text.{shard};
+ghost use Rattle.xet_shard_format.specs.Reading.{GivesUnlessFault, IsShardRefusal};
+ghost use Rattle.xet_shard_format.specs.Records.{AreRecords, IsFile, IsXorb, file_hash, file_section, xorb_hash, xorb_section};
+ghost use Rattle.xet_shard_format.specs.Text.{shard};
 
-use crate::info::{MDBShardFileFooter, MDBShardInfo};
-use crate::info_reading::{blocks, files};
-use crate::record::{MDBFileInfo, MDBXorbInfo, XorbChunkSequenceEntry};
-use crate::writing::{Lookups, write_text, write_with_lookups};
+use crate::info::MDBShardInfo;
+use crate::reader::sections::{blocks, files};
+use crate::write::write_text;
 use std::alloc::Global;
 use std::mem;
 use xet_base::Items;
 use xet_hash::{HMACKey, Place, StoreError};
 use xet_io::{ReadAt, Sink};
+use xet_shard_format::{MDBFileInfo, MDBShardFileFooter, MDBXorbInfo, XorbChunkSequenceEntry};
+use xet_shard_format::shard_encoding::{Lookups, write_with_lookups};
 
 impl MDBShardInfo {
     /// Writes the shard again, with its chunks' hashes hashed under a key, created now and valid for so many

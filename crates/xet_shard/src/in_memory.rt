@@ -5,25 +5,27 @@ ghost use Rattle.std.specs.List.{sum_by};
 ghost use Rattle.std.specs.Cmp.Lexicographic.{pointwise};
 ghost use Rattle.indexmap.specs.IndexMap.{get, values};
 ghost use Rattle.xet_io.specs.Faults.{HasCause};
-ghost use Rattle.xet_shard.specs.Held.{DifferBy, Held, IsHeld, IsWriteRefusal, Keyed, by_hash, held_shard, file_record_size, held_size, nothing, with_last, xorb_record_size};
-ghost use Rattle.xet_shard.specs.Lookups.{all_lookups};
-ghost use Rattle.xet_shard.specs.Text.{Fits, IsShard, footer_of, full_text, header};
+ghost use Rattle.xet_shard.specs.Held.{DifferBy, Held, IsHeld, Keyed, by_hash, held_shard, held_size, nothing, with_last};
+ghost use Rattle.xet_shard.specs.WriteRefusals.{IsWriteRefusal};
+ghost use Rattle.xet_shard_format.specs.RecordSizes.{file_record_size, xorb_record_size};
+ghost use Rattle.xet_shard_format.specs.Lookups.{all_lookups};
+ghost use Rattle.xet_shard_format.specs.Text.{Fits, IsShard, footer_of, full_text, header};
 ghost use Rattle.xet_hash.specs.Hash.{marker};
-ghost use Rattle.xet_shard.specs.Records.{IsFile, IsXorb, file_hash, file_section, xorb_hash, xorb_section};
+ghost use Rattle.xet_shard_format.specs.Records.{IsFile, IsXorb, file_hash, file_section, xorb_hash, xorb_section};
 
 mod places;
 mod queries;
 
 use crate::info::MDBShardInfo;
-use crate::record::{MDBFileInfo, MDBXorbInfo};
-use crate::section::Record;
-use crate::writing::{write_shard, write_text};
+use crate::write::{write_shard, write_text};
 use indexmap::IndexMap;
 use places::{LastPlaces, put_block};
 use std::alloc::{AllocError, Global};
 use std::marker::Model;
 use xet_hash::{HMACKey, MerkleHash, Place, StoreError};
 use xet_io::Sink;
+use xet_shard_format::{MDBFileInfo, MDBXorbInfo};
+use xet_shard_format::section::Record;
 
 /// The bytes of a shard of nothing.
 const EMPTY_SIZE: u64 = 344;
@@ -47,7 +49,7 @@ impl Model for MDBInMemoryShard {
     ghost use Rattle.std.specs.Prelude.{◌≡◌};
     ghost use Rattle.xet_shard.specs.Held.{Held, IsHeld, Keyed, held_size};
     ghost use Rattle.xet_shard.specs.LastPlaces.{HasPlaces};
-    ghost use Rattle.xet_shard.specs.Records.{file_hash, xorb_hash};
+    ghost use Rattle.xet_shard_format.specs.Records.{file_hash, xorb_hash};
 
     ghost Value = { Held };
 

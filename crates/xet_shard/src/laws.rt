@@ -3,28 +3,14 @@
 ghost use Rattle.std.specs.Prelude.{◌≡◌, [], ◌∷◌, ◌<◌, ℕ, List, None, Ok, Option, length, nat_le, nat_lt};
 ghost use Rattle.std.specs.List.{All};
 ghost use Rattle.xet_shard.specs.Bisection.{Bisects};
-ghost use Rattle.xet_shard.specs.Lookups.{Lookups, chunk_items, xorb_items};
+ghost use Rattle.xet_shard_format.specs.Lookups.{Lookups, chunk_items, xorb_items};
 ghost use Rattle.xet_shard.specs.Sections.{blocks_in, chunk_lookup_in, files_in, info_at, xorb_lookup_in};
 ghost use Rattle.xet_shard.specs.Held.{Held, held_shard, held_size};
 ghost use Rattle.xet_shard.specs.Queries.{chunk_table, file_table, found_file, found_run, query_word, shard_file, shard_run, shard_run_at, told_run, xorb_table};
-ghost use Rattle.xet_shard.specs.Records.{first_word};
-ghost use Rattle.xet_shard.specs.Text.{Fits, IsShard, Shard, footer_of, full_text, header, shard_text};
-ghost use Rattle.xet_shard.specs.Reading.{IsRead, Parts, all_of, parts_of};
+ghost use Rattle.xet_shard_format.specs.Records.{first_word};
+ghost use Rattle.xet_shard_format.specs.Text.{Fits, IsShard, Shard, footer_of, full_text, header, shard_text};
 
-/// What is written of a shard, with whichever look-ups, is read as that shard.
-pub fn written_is_read()
-    ensures { (w : Lookups) (s : Shard) → IsShard s → Fits s → all_of (shard_text w s) ≡ Ok (parts_of w s) }
-{}
-
-/// The bytes of a shard determine it.
-pub fn bytes_determine_shard()
-    ensures { (w v : Lookups) (s t : Shard) → IsShard s → Fits s → IsShard t → Fits t → shard_text w s ≡ shard_text v t → s ≡ t }
-{}
-
-/// What is read of bytes is a shard, whose text they are.
-pub fn what_is_read_is_a_shard()
-    ensures { (bytes : List ℕ) (p : Parts) → All (λ b. b < 256) bytes → all_of bytes ≡ Ok p → IsRead bytes p }
-{}
+pub use xet_shard_format::laws::{bytes_determine_shard, what_is_read_is_a_shard, written_is_read};
 
 /// The length that is told of a shard in memory is that of its text.
 pub fn size_is_length()

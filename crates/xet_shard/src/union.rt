@@ -4,18 +4,18 @@ ghost use Rattle.std.specs.Prelude.{◌≡◌, ◌≢◌, ◌⊎◌, ◌≤◌, 
 ghost use Rattle.std.specs.List.{AllByRecursion};
 ghost use Rattle.xet_io.specs.Faults.{HasCause, Rose};
 ghost use Rattle.xet_shard.specs.Merging.{AreOfShard, FirstAgrees, IsNoMerge, IsNoText, Rises, behind, below, not_below};
-ghost use Rattle.xet_shard.specs.Reading.{GivesUnlessFault, IsShardRefusal};
-ghost use Rattle.xet_shard.specs.Records.{section};
+ghost use Rattle.xet_shard_format.specs.Reading.{GivesUnlessFault, IsShardRefusal};
+ghost use Rattle.xet_shard_format.specs.Records.{section};
 ghost use Rattle.xet_shard.specs.Union.{Agree, HasUnionFront, IsKeyed, IsNoUnion, IsUnion, IsUnionRefusal, both_in, records_in, union};
 
-use crate::info::{MDBShardFileFooter, MDBShardInfo};
-use crate::info_reading::{blocks, files};
-use crate::record::{MDBFileInfo, MDBXorbInfo};
-use crate::section::{Lends, Record};
-use crate::writing::{write_shard, write_text};
+use crate::info::MDBShardInfo;
+use crate::reader::sections::{blocks, files};
+use crate::write::{write_shard, write_text};
 use std::alloc::{AllocError, Global};
 use xet_hash::{HMACKey, MerkleHash, Place, Reason, StoreError};
 use xet_io::{ReadAt, Sink};
+use xet_shard_format::{MDBFileInfo, MDBShardFileFooter, MDBXorbInfo};
+use xet_shard_format::section::{Lends, Record};
 
 /// The xorbs and the files of a shard.
 type Records = (Vec<MDBXorbInfo>, Vec<MDBFileInfo>);

@@ -22,7 +22,7 @@ use Rattle.xet_hash.specs.Hash.{shown_words}
 use Rattle.xet_io.specs.declared.disk.DiskEntry.{DiskEntry}
 use Rattle.xet_io.specs.Disk.{File, Files, IsListed, Lists, file_at, stat_of}
 use Rattle.xet_io.specs.Named.{in_folder, is_plain}
-use Rattle.xet_shard.specs.Names.{shard_name}
+use Rattle.xet_shard_format.specs.Names.{shard_name}
 use Rattle.xet_shard_file.specs.declared.listing.NamedShard.{NamedShard}
 use Rattle.xet_shard_file.specs.declared.listing.ShardEntry.{ShardEntry}
 use Rattle.xet_shard_file.specs.Entries.{IsBefore, IsEntry, ListsShards}

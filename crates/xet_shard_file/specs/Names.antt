@@ -2,7 +2,7 @@
 use Rattle.std.specs.Prelude.{◌≡◌, ◌≢◌, ℕ, List, length, ◌++◌, codes}
 use Rattle.hex.specs.Hex.{IsBytes}
 use Rattle.xet_io.specs.Named.{in_folder}
-use Rattle.xet_shard.specs.Names.{shard_name}
+use Rattle.xet_shard_format.specs.Names.{shard_name}
 
 -- a hash is 32 bytes
 abbrev pub IsHash : List ℕ → Type 0

@@ -6,8 +6,8 @@ use Rattle.xet_io.specs.declared.fault.Refusal.TheVariants as refusal
 use Rattle.xet_hash.specs.declared.error.StoreError.{StoreError}
 use Rattle.xet_hash.specs.declared.error.StoreError.TheVariants.{Io, InvalidShard, MalformedData, OutOfMemory, UnexpectedEof}
 use Rattle.xet_hash.specs.declared.error.Place.TheVariants.{Disk}
-use Rattle.xet_shard.specs.Names.{shard_name}
-use Rattle.xet_shard.specs.Reading.{ends_of}
+use Rattle.xet_shard_format.specs.Names.{shard_name}
+use Rattle.xet_shard_format.specs.Reading.{ends_of}
 use Rattle.xet_shard_file.specs.Names.{IsHash}
 
 -- a disk's refusal as a store's

@@ -5,9 +5,9 @@ use Rattle.std.specs.List.{IsAmong}
 use Rattle.std.specs.Ordering.{is_lt, nat_cmp}
 use Rattle.xet_io.specs.Disk.{Files, File, file_at}
 use Rattle.xet_hash.specs.declared.error.StoreError.{StoreError}
-use Rattle.xet_shard.specs.declared.info.MDBShardFileFooter.{MDBShardFileFooter}
-use Rattle.xet_shard.specs.Names.{shard_name}
-use Rattle.xet_shard.specs.Reading.{◌>>=◌, footer_at, header_at}
+use Rattle.xet_shard_format.specs.declared.header_footer.MDBShardFileFooter.{MDBShardFileFooter}
+use Rattle.xet_shard_format.specs.Names.{shard_name}
+use Rattle.xet_shard_format.specs.Reading.{◌>>=◌, footer_at, header_at}
 use Rattle.xet_shard_file.specs.Names.{IsHash, shard_path}
 
 -- a file under a shard's name: the hash that the name tells, and what stands there

@@ -13,7 +13,7 @@ use std::cmp::Ordering;
 use xet_base::Text;
 use xet_hash::{MerkleHash, StoreError};
 use xet_io::{Disk, DiskEntry};
-use xet_shard::parse_shard_filename;
+use xet_shard_format::parse_shard_filename;
 
 /// A file of the folder under a shard's name.
 #[derive(Clone, Copy, PartialEq, Eq, Debug)]

@@ -3,7 +3,7 @@
 ghost use Rattle.std.specs.Prelude.{◌≡◌, ◌≢◌, IfOk, length};
 ghost use Rattle.xet_hash.specs.Hash.{marker};
 ghost use Rattle.xet_shard.specs.Held.{nothing};
-ghost use Rattle.xet_shard.specs.Records.{IsFile, IsXorb, file_hash, file_rows, xorb_hash, xorb_rows};
+ghost use Rattle.xet_shard_format.specs.Records.{IsFile, IsXorb, file_hash, file_rows, xorb_hash, xorb_rows};
 
 use std::alloc::Global;
 use std::test::Fail;

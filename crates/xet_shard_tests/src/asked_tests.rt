@@ -1,7 +1,7 @@
 //! What a shard is asked over a reader.
 
 ghost use Rattle.std.specs.Prelude.{◌≡◌, length};
-ghost use Rattle.xet_shard.specs.Records.{file_rows};
+ghost use Rattle.xet_shard_format.specs.Records.{file_rows};
 
 use crate::abc_tests::shard_of_abc;
 use crate::part_tests::without_lookups;

@@ -1,7 +1,7 @@
 //! What a shard in memory is asked.
 
 ghost use Rattle.std.specs.Prelude.{◌≡◌, IfOk, length};
-ghost use Rattle.xet_shard.specs.Records.{IsXorb, xorb_hash, xorb_rows};
+ghost use Rattle.xet_shard_format.specs.Records.{IsXorb, xorb_hash, xorb_rows};
 
 use crate::abc_tests::file_of_abc;
 use std::alloc::Global;

@@ -14,10 +14,10 @@ use Rattle.xet_xorb.specs.Xorb.{IsXorbText}
 use Rattle.xet_xorb_chunk.proofs.Grammar.{members_are, total-bytes}
 use Rattle.xet_xorb.specs.declared.raw.RawXorbData.{RawXorbData}
 use Rattle.xet_xorb.specs.Raw.{ArePartsOfXorb, raw_members, raw_of}
-use Rattle.xet_shard.specs.declared.record.MDBFileInfo.{MDBFileInfo}
-use Rattle.xet_shard.specs.declared.record.MDBXorbInfo.{MDBXorbInfo}
+use Rattle.xet_shard_format.specs.declared.record.MDBFileInfo.{MDBFileInfo}
+use Rattle.xet_shard_format.specs.declared.record.MDBXorbInfo.{MDBXorbInfo}
 use Rattle.xet_shard.specs.Held.{Held, IsHeld, held as the_held, with_last}
-use Rattle.xet_shard.specs.Records as record_of
+use Rattle.xet_shard_format.specs.Records as record_of
 use Rattle.xet_shard.proofs.Holding.{all_last}
 use Rattle.xet_folder.specs.Admission.{block_members}
 use Rattle.xet_folder.specs.Names.{IsForeign, xorb_path}

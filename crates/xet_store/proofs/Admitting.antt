@@ -11,11 +11,11 @@ use Rattle.std.specs.Ordering.{is_lt, nat_cmp, ordering_reverse, ordering_then}
 use Rattle.std.specs.declared.cmp.Ordering.{Ordering}
 use Rattle.std.specs.declared.cmp.Ordering.TheVariants.{Less, Equal, Greater}
 use Rattle.xet_io.specs.Disk.{File, Files, bytes_at, file_at}
-use Rattle.xet_shard.specs.declared.record.FileDataSequenceEntry.{FileDataSequenceEntry as Segment}
-use Rattle.xet_shard.specs.declared.record.MDBFileInfo.{MDBFileInfo}
-use Rattle.xet_shard.specs.declared.record.MDBXorbInfo.{MDBXorbInfo}
-use Rattle.xet_shard.specs.Names.{shard_name}
-use Rattle.xet_shard.specs.Records.{xorb_hash}
+use Rattle.xet_shard_format.specs.declared.record.FileDataSequenceEntry.{FileDataSequenceEntry as Segment}
+use Rattle.xet_shard_format.specs.declared.record.MDBFileInfo.{MDBFileInfo}
+use Rattle.xet_shard_format.specs.declared.record.MDBXorbInfo.{MDBXorbInfo}
+use Rattle.xet_shard_format.specs.Names.{shard_name}
+use Rattle.xet_shard_format.specs.Records.{xorb_hash}
 use Rattle.xet_folder.specs.Admission.{BlockHolds, FileHolds, ShardHolds}
 use Rattle.xet_folder.specs.Checks.{OfBlocks, OfBytes, OfFiles, OfSegments}
 use Rattle.xet_shard_file.specs.Names.{IsHash, shard_path}

@@ -8,18 +8,18 @@ use Rattle.std.specs.Ordering.{is_lt}
 use Rattle.std.specs.declared.cmp.Ordering.{Ordering}
 use Rattle.xet_hash.specs.declared.error.StoreError.{StoreError}
 use Rattle.xet_io.specs.Disk.{Files, File, bytes_at, file_at}
-use Rattle.xet_shard.specs.declared.info.MDBShardFileFooter.{MDBShardFileFooter}
-use Rattle.xet_shard.specs.declared.record.FileDataSequenceEntry.{FileDataSequenceEntry as Segment}
-use Rattle.xet_shard.specs.declared.record.MDBFileInfo.{MDBFileInfo}
+use Rattle.xet_shard_format.specs.declared.header_footer.MDBShardFileFooter.{MDBShardFileFooter}
+use Rattle.xet_shard_format.specs.declared.record.FileDataSequenceEntry.{FileDataSequenceEntry as Segment}
+use Rattle.xet_shard_format.specs.declared.record.MDBFileInfo.{MDBFileInfo}
 use Rattle.xet_shard.specs.Held.{Held, IsHeld, by_hash, held_shard, nothing}
-use Rattle.xet_shard.specs.Lookups.{all_lookups, chunk_items, file_items, heads_text, places_text, xorb_items}
-use Rattle.xet_shard.specs.Reading.{◌>>=◌, Parts, all_of, file_at as read_file, file_row_count, footer_at, header_at, lookup_at, parts_of, section_at, totals_at, xorb_at, xorb_row_count}
-use Rattle.xet_shard.specs.Records.{file_hash, xorb_hash}
-use Rattle.xet_shard.specs.Rows.{rows_in}
-use Rattle.xet_shard.specs.Sorted.{put_in, sorted}
-use Rattle.xet_shard.specs.Text.{Fits, IsShard, footer_of, full_text, materialized, stored}
-use Rattle.xet_shard.proofs.RowLaws.{bind_ok}
-use Rattle.xet_shard.proofs.WholeAgain.{all_again}
+use Rattle.xet_shard_format.specs.Lookups.{all_lookups, chunk_items, file_items, heads_text, places_text, xorb_items}
+use Rattle.xet_shard_format.specs.Reading.{◌>>=◌, Parts, all_of, file_at as read_file, file_row_count, footer_at, header_at, lookup_at, parts_of, section_at, totals_at, xorb_at, xorb_row_count}
+use Rattle.xet_shard_format.specs.Records.{file_hash, xorb_hash}
+use Rattle.xet_shard_format.specs.Rows.{rows_in}
+use Rattle.xet_shard_format.specs.Sorted.{put_in, sorted}
+use Rattle.xet_shard_format.specs.Text.{Fits, IsShard, footer_of, full_text, materialized, stored}
+use Rattle.xet_shard_format.specs.theorems.RowLaws.{bind_ok}
+use Rattle.xet_shard_format.specs.theorems.WholeAgain.{all_again}
 use Rattle.xet_folder.specs.Admission.{BlockHolds, FileHolds, ShardHolds, block_members, shard_hash}
 use Rattle.xet_folder.specs.Checks.{OfBytes, OfFile, OfShard}
 use Rattle.xet_folder.specs.Contents.{IsRecord}

@@ -6,10 +6,10 @@ use Rattle.std.specs.Cmp.Lexicographic.{bytes_decides, pointwise}
 use Rattle.std.specs.List.{AllByRecursion, Any, IsAmong, flat_map}
 use Rattle.xet_io.specs.Disk.{Files}
 use Rattle.xet_hash.specs.declared.error.StoreError.{StoreError}
-use Rattle.xet_shard.specs.declared.record.MDBFileInfo.{MDBFileInfo}
+use Rattle.xet_shard_format.specs.declared.record.MDBFileInfo.{MDBFileInfo}
 use Rattle.xet_shard.specs.Held.{Held, IsHeld, nothing}
-use Rattle.xet_shard.specs.Reading.{Parts, all_of}
-use Rattle.xet_shard.specs.Records as record_of
+use Rattle.xet_shard_format.specs.Reading.{Parts, all_of}
+use Rattle.xet_shard_format.specs.Records as record_of
 use Rattle.xet_folder.specs.declared.contents.Contents.{Contents}
 use Rattle.xet_folder.specs.Admission.{block_members}
 use Rattle.xet_folder.specs.Contents.{HasContents, IsRecord, listed_in, listed_of}

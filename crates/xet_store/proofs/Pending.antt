@@ -6,14 +6,15 @@ use Rattle.std.proofs.lemmas.List.Sums.{sum_by-append, sum_by-cons}
 use Rattle.std.specs.Cmp.Lexicographic.{pointwise}
 use Rattle.std.specs.List.{AllByRecursion, flat_map, sum_by}
 use Rattle.xet_hash.specs.Merkle.{total_len}
-use Rattle.xet_shard.specs.declared.record.FileDataSequenceEntry.{FileDataSequenceEntry as Segment}
-use Rattle.xet_shard.specs.declared.record.FileMetadataExt.{FileMetadataExt}
-use Rattle.xet_shard.specs.declared.record.MDBFileInfo.{MDBFileInfo}
-use Rattle.xet_shard.specs.declared.record.MDBXorbInfo.{MDBXorbInfo}
-use Rattle.xet_shard.specs.declared.record.XorbChunkSequenceEntry.{XorbChunkSequenceEntry}
-use Rattle.xet_shard.specs.declared.row.Row.{Row}
-use Rattle.xet_shard.specs.Held.{Held, held_size, file_record_size, with_last, xorb_record_size}
-use Rattle.xet_shard.specs.Records.{IsFile, IsXorb, StartAt, chunk_bytes, chunk_row, end_row, ext_rows, file_hash, file_rows, file_section, flags_of, section, segment_row, verification_row, xorb_hash, xorb_rows, xorb_section}
+use Rattle.xet_shard_format.specs.declared.record.FileDataSequenceEntry.{FileDataSequenceEntry as Segment}
+use Rattle.xet_shard_format.specs.declared.record.FileMetadataExt.{FileMetadataExt}
+use Rattle.xet_shard_format.specs.declared.record.MDBFileInfo.{MDBFileInfo}
+use Rattle.xet_shard_format.specs.declared.record.MDBXorbInfo.{MDBXorbInfo}
+use Rattle.xet_shard_format.specs.declared.record.XorbChunkSequenceEntry.{XorbChunkSequenceEntry}
+use Rattle.xet_shard_format.specs.declared.row.Row.{Row}
+use Rattle.xet_shard.specs.Held.{Held, held_size, with_last}
+use Rattle.xet_shard_format.specs.RecordSizes.{file_record_size, xorb_record_size}
+use Rattle.xet_shard_format.specs.Records.{IsFile, IsXorb, StartAt, chunk_bytes, chunk_row, end_row, ext_rows, file_hash, file_rows, file_section, flags_of, section, segment_row, verification_row, xorb_hash, xorb_rows, xorb_section}
 use Rattle.xet_folder.specs.Admission.{entry_member}
 use Rattle.xet_dedup.specs.Records.{IsRecordOf, entries_from, range_hashes, run_len, xorb_record}
 

@@ -3,10 +3,10 @@ use Rattle.std.proofs.Common.{◌≡◌, ◌≢◌, ◌⊎◌, inl, inr, ◌∙�
 use Rattle.std.specs.Cmp.Lexicographic.{bytes_decides, pointwise}
 use Rattle.std.specs.List.{AllByRecursion, IsAmong}
 use Rattle.std.proofs.lemmas.List.{append-nil}
-use Rattle.xet_shard.specs.declared.record.FileDataSequenceEntry.{FileDataSequenceEntry as Segment}
-use Rattle.xet_shard.specs.declared.record.MDBFileInfo.{MDBFileInfo}
+use Rattle.xet_shard_format.specs.declared.record.FileDataSequenceEntry.{FileDataSequenceEntry as Segment}
+use Rattle.xet_shard_format.specs.declared.record.MDBFileInfo.{MDBFileInfo}
 use Rattle.xet_shard.specs.Held.{Held, IsHeld, held as the_held, with_last}
-use Rattle.xet_shard.specs.Records.{file_hash}
+use Rattle.xet_shard_format.specs.Records.{file_hash}
 use Rattle.xet_shard.proofs.Holding.{all_last, all_more as all_push}
 use Rattle.xet_hash.specs.Merkle.{total_len}
 use Rattle.xet_folder.specs.Contents.{IsRecord}

@@ -7,7 +7,7 @@ use Rattle.std.specs.declared.cmp.Ordering.{Ordering}
 use Rattle.std.specs.Ordering.{is_lt}
 use Rattle.indexmap.specs.IndexMap.{IndexMap, get, insert_entry}
 use Rattle.indexmap.proofs.CallerLemmas.{insert_entry-new}
-use Rattle.xet_shard.specs.Sorted.{put_in, sorted}
+use Rattle.xet_shard_format.specs.Sorted.{put_in, sorted}
 use Rattle.xet_folder.specs.Xorbs.{found}
 use Rattle.xet_folder.proofs.Tables.{found_either, found_kept}
 use Rattle.xet_store.specs.Separate.{Among}

@@ -8,12 +8,12 @@ use Rattle.xet_io.specs.Disk.{Files, bytes_at, file_at}
 use Rattle.xet_hash.specs.declared.error.StoreError.{StoreError}
 use Rattle.xet_hash.specs.Hash.{zero_hash}
 use Rattle.xet_hash.specs.Merkle.{chunk_hash, file_hash, members_of, xorb_hash}
-use Rattle.xet_shard.specs.declared.info.MDBShardFileFooter.{MDBShardFileFooter}
-use Rattle.xet_shard.specs.declared.record.FileDataSequenceEntry.{FileDataSequenceEntry as Segment}
-use Rattle.xet_shard.specs.declared.record.MDBFileInfo.{MDBFileInfo}
+use Rattle.xet_shard_format.specs.declared.header_footer.MDBShardFileFooter.{MDBShardFileFooter}
+use Rattle.xet_shard_format.specs.declared.record.FileDataSequenceEntry.{FileDataSequenceEntry as Segment}
+use Rattle.xet_shard_format.specs.declared.record.MDBFileInfo.{MDBFileInfo}
 use Rattle.xet_shard.specs.Held.{Held, nothing}
-use Rattle.xet_shard.specs.Reading.{◌>>=◌, footer_at, header_at}
-use Rattle.xet_shard.specs.Records as record_of
+use Rattle.xet_shard_format.specs.Reading.{◌>>=◌, footer_at, header_at}
+use Rattle.xet_shard_format.specs.Records as record_of
 use Rattle.xet_folder.proofs.Agreeing.{joins_once, stored_once}
 use Rattle.xet_folder.proofs.Rest.{among_map}
 use Rattle.xet_folder.specs.Contents.{HasContents, IsRecord}

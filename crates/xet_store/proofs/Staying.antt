@@ -4,7 +4,7 @@ use Rattle.std.proofs.lemmas.List.{append-nil}
 use Rattle.std.specs.Cmp.Lexicographic.{bytes_decides, pointwise}
 use Rattle.std.specs.List.{AllByRecursion, IsAmong}
 use Rattle.xet_io.specs.Disk.{Entry, Files, File, bytes_at, file_at, file_of}
-use Rattle.xet_shard.specs.declared.record.MDBFileInfo.{MDBFileInfo}
+use Rattle.xet_shard_format.specs.declared.record.MDBFileInfo.{MDBFileInfo}
 use Rattle.xet_shard.specs.Held.{Held}
 use Rattle.xet_folder.specs.Names.{IsForeign, xorb_path}
 use Rattle.xet_shard_file.specs.Names.{IsHash, shard_path}

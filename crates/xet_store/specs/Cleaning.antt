@@ -12,7 +12,7 @@ use Rattle.xet_hash.specs.declared.error.Place.TheVariants.{Source, Disk}
 use Rattle.xet_hash.specs.declared.error.What.TheVariants as what
 use Rattle.xet_hash.specs.Merkle.{xorb_hash, file_hash, members_of}
 use Rattle.xet_cut.specs.declared.limits.LimitSettings.{LimitSettings}
-use Rattle.xet_shard.specs.declared.record.FileDataSequenceEntry.{FileDataSequenceEntry as Segment}
+use Rattle.xet_shard_format.specs.declared.record.FileDataSequenceEntry.{FileDataSequenceEntry as Segment}
 use Rattle.xet_store.specs.declared.info.XetFileInfo.{XetFileInfo}
 use Rattle.xet_cut.specs.Cut.{cut}
 use Rattle.xet_folder.specs.Admission.{ShardHolds}

@@ -3,9 +3,9 @@ use Rattle.std.specs.Prelude.{◌≡◌, ◌≢◌, ℕ, ◌<◌, ◌^◌, true,
 use Rattle.std.specs.FinMap.{get}
 use Rattle.std.specs.List.{IsAmong}
 use Rattle.xet_io.specs.Disk.{Files, bytes_at}
-use Rattle.xet_shard.specs.declared.record.MDBFileInfo.{MDBFileInfo}
+use Rattle.xet_shard_format.specs.declared.record.MDBFileInfo.{MDBFileInfo}
 use Rattle.xet_shard.specs.Held.{held_shard, nothing}
-use Rattle.xet_shard.specs.Text.{full_text}
+use Rattle.xet_shard_format.specs.Text.{full_text}
 use Rattle.xet_folder.specs.Admission.{shard_hash}
 use Rattle.xet_folder.specs.Listed.{Lists}
 use Rattle.xet_shard_file.specs.Names.{shard_path, temp_name}

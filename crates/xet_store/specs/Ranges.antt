@@ -6,7 +6,7 @@ use Rattle.xet_hash.specs.declared.error.StoreError.{StoreError}
 use Rattle.xet_hash.specs.declared.error.StoreError.TheVariants.{FileNotFound, InvalidRange, Io, MalformedData, OutOfMemory}
 use Rattle.xet_hash.specs.declared.error.Place.TheVariants.{Disk}
 use Rattle.xet_hash.specs.declared.error.Reason.TheVariants.{XorbText}
-use Rattle.xet_shard.specs.declared.record.FileDataSequenceEntry.{FileDataSequenceEntry as Segment}
+use Rattle.xet_shard_format.specs.declared.record.FileDataSequenceEntry.{FileDataSequenceEntry as Segment}
 use Rattle.xet_folder.specs.Plan.{Joins, plan_bytes, range}
 use Rattle.xet_folder.specs.Stored.{IsStored}
 use Rattle.xet_store.specs.Store.{State, plan_of}

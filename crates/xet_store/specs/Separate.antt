@@ -5,7 +5,7 @@ use Rattle.std.specs.Prelude.{◌≡◌, ◌≢◌, ◌⊎◌, ℕ, ◌<◌, fal
 use Rattle.xet_io.specs.Disk.{Files}
 use Rattle.xet_hash.specs.Hash.{marker, zero_hash}
 use Rattle.xet_hash.specs.Merkle.{chunk_hash, xorb_hash, file_hash, members_of}
-use Rattle.xet_shard.specs.declared.record.MDBFileInfo.{MDBFileInfo}
+use Rattle.xet_shard_format.specs.declared.record.MDBFileInfo.{MDBFileInfo}
 use Rattle.xet_folder.specs.Checks.{OfBytes}
 use Rattle.xet_folder.specs.Listed.{Lists}
 use Rattle.xet_folder.specs.Plan.{Joins}

@@ -2,10 +2,10 @@
 use Rattle.std.specs.Prelude.{◌≡◌, ℕ, List, [], ◌∷◌, ◌++◌, length, map, take, drop, Some, is_some, if◌then◌else◌}
 use Rattle.sha2.specs.Sha256.{sha256}
 use Rattle.xet_hash.specs.Merkle.{members_of, total_len, xorb_hash}
-use Rattle.xet_shard.specs.declared.record.FileDataSequenceEntry.{FileDataSequenceEntry as Segment}
-use Rattle.xet_shard.specs.declared.record.MDBFileInfo.{MDBFileInfo}
+use Rattle.xet_shard_format.specs.declared.record.FileDataSequenceEntry.{FileDataSequenceEntry as Segment}
+use Rattle.xet_shard_format.specs.declared.record.MDBFileInfo.{MDBFileInfo}
 use Rattle.xet_shard.specs.Held.{Held, held, with_last}
-use Rattle.xet_shard.specs.Records as record_of
+use Rattle.xet_shard_format.specs.Records as record_of
 use Rattle.xet_folder.specs.Xorbs.{Records, Xorbs, found}
 use Rattle.xet_cut.specs.declared.limits.LimitSettings.{LimitSettings}
 use Rattle.xet_cut.specs.Cut.{cut}

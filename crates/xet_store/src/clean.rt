@@ -24,7 +24,7 @@ use xet_cut::Limits;
 use xet_dedup::{chunks_of, file_record, pack_len};
 use xet_hash::{MerkleHash, Place, StoreError, What, file_hash};
 use xet_io::{Disk, Source, Unread, read_all};
-use xet_shard::{FileDataSequenceEntry, Sha256};
+use xet_shard_format::{FileDataSequenceEntry, Sha256};
 use xet_xorb_chunk::{Chunk, chunk_members};
 
 /// Reads each source to its end and stores its file, in order. So far at most one source; all work runs

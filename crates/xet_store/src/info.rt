@@ -1,7 +1,7 @@
 //! What cleaning tells of files.
 
 use xet_hash::MerkleHash;
-use xet_shard::Sha256;
+use xet_shard_format::Sha256;
 
 /// The pointer record of a file: its hash, its length in bytes and its SHA-256.
 #[derive(Clone, Copy, PartialEq, Eq, Debug)]

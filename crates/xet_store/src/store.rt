@@ -18,7 +18,8 @@ use xet_cut::Limits;
 use xet_folder::{Members, Plan, RecordedFile};
 use xet_hash::{MerkleHash, StoreError};
 use xet_io::Disk;
-use xet_shard::{FileDataSequenceEntry, MDBFileInfo, MDBInMemoryShard};
+use xet_shard::MDBInMemoryShard;
+use xet_shard_format::{FileDataSequenceEntry, MDBFileInfo};
 
 /// A store of files in a folder of a disk. Contracts see a `State`.
 #[derive(Drop)]

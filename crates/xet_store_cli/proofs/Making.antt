@@ -4,9 +4,9 @@ use Rattle.std.specs.Cmp.Lexicographic.{pointwise}
 use Rattle.std.specs.List.{AllByRecursion, IsAmong}
 use Rattle.xet_hash.specs.Merkle.{members_of, xorb_hash}
 use Rattle.xet_io.specs.Disk.{Files}
-use Rattle.xet_shard.specs.declared.record.MDBFileInfo.{MDBFileInfo}
+use Rattle.xet_shard_format.specs.declared.record.MDBFileInfo.{MDBFileInfo}
 use Rattle.xet_shard.specs.Held.{Held, held, nothing, with_last}
-use Rattle.xet_shard.specs.Records as record_of
+use Rattle.xet_shard_format.specs.Records as record_of
 use Rattle.xet_folder.specs.Contents.{IsRecord}
 use Rattle.xet_folder.specs.Listed.{Lists}
 use Rattle.xet_folder.specs.Xorbs.{Xorbs, found}

@@ -14,8 +14,8 @@ use Rattle.xet_folder.specs.Listed.{JoinsTo, Lists}
 use Rattle.xet_shard_file.specs.Names.{IsHash, shard_path}
 use Rattle.xet_folder.specs.Names.{xorb_path}
 use Rattle.xet_shard_file.specs.Shards.{IsThere, ShardFile, is_expired}
-use Rattle.xet_shard.specs.declared.record.MDBFileInfo.{MDBFileInfo}
-use Rattle.xet_shard.specs.Records as record_of
+use Rattle.xet_shard_format.specs.declared.record.MDBFileInfo.{MDBFileInfo}
+use Rattle.xet_shard_format.specs.Records as record_of
 use Rattle.xet_store_cli.specs.declared.words.Command.{Command}
 use Rattle.xet_store_cli.specs.declared.words.Command.TheVariants.{Pack}
 use Rattle.xet_store_cli.specs.Words.{command_of}

@@ -7,7 +7,7 @@ use std::test::Fail;
 use xet_folder::xorb_path;
 use xet_hash::{MerkleHash, StoreError, compute_data_hash};
 use xet_io::MemoryDisk;
-use xet_shard::FileDataSequenceEntry;
+use xet_shard_format::FileDataSequenceEntry;
 use xet_store::XetFileInfo;
 
 /// The hash of the file `abc`, in hexadecimal.

@@ -4,8 +4,8 @@ use crate::session::{Session, bytes_of, put_bytes};
 use std::alloc::Global;
 use xet_hash::{MerkleHash, StoreError, compute_data_hash};
 use xet_io::MemoryDisk;
-use xet_shard::read_shard;
 use xet_shard_file::shard_path;
+use xet_shard_format::read_shard;
 use xet_store::XetFileInfo;
 
 /// The place of the moment of creation in a shard of 672 bytes.

@@ -4,7 +4,7 @@ use std::alloc::Global;
 use xet_cut::{LimitSettings, Limits};
 use xet_hash::{MerkleHash, Place, Refused, StoreError};
 use xet_io::{Disk, MemoryDisk, SliceSource};
-use xet_shard::FileDataSequenceEntry;
+use xet_shard_format::FileDataSequenceEntry;
 use xet_store::{Cleaned, Store, XetFileInfo, clean_files};
 
 /// The moment at which stores are opened.

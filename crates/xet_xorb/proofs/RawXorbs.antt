@@ -1,6 +1,6 @@
 -- Raw xorbs: their parts have the lengths that are listed.
 use Rattle.std.proofs.Common.{◌≡◌, ◌∙◌, ◌∷◌, [], ap, length, List, map, ℕ, ◌+◌, refl, sym, subst}
-use Rattle.xet_shard.specs.declared.record.XorbChunkSequenceEntry.{XorbChunkSequenceEntry}
+use Rattle.xet_shard_format.specs.declared.record.XorbChunkSequenceEntry.{XorbChunkSequenceEntry}
 use Rattle.xet_xorb_chunk.specs.declared.chunk.Chunk.{Chunk}
 use Rattle.xet_xorb_chunk.specs.Chunks.{bytes_of, chunk_member}
 use Rattle.xet_xorb.specs.declared.raw.RawXorbData.{RawXorbData}

@@ -2,8 +2,8 @@
 use Rattle.std.specs.Prelude.{◌≡◌, ℕ, ◌+◌, ◌<◌, ◌≤◌, ◌^◌, List, [], ◌∷◌, length, map}
 use Rattle.std.specs.List.{AllByRecursion, sum_by}
 use Rattle.xet_hash.specs.Merkle.{total_len, xorb_hash}
-use Rattle.xet_shard.specs.declared.record.MDBXorbInfo.{MDBXorbInfo}
-use Rattle.xet_shard.specs.declared.record.XorbChunkSequenceEntry.{XorbChunkSequenceEntry}
+use Rattle.xet_shard_format.specs.declared.record.MDBXorbInfo.{MDBXorbInfo}
+use Rattle.xet_shard_format.specs.declared.record.XorbChunkSequenceEntry.{XorbChunkSequenceEntry}
 use Rattle.xet_xorb_chunk.specs.declared.chunk.Chunk.{Chunk}
 use Rattle.xet_xorb_chunk.specs.Chunks.{bytes_of, chunk_member}
 use Rattle.xet_xorb.specs.declared.raw.RawXorbData.{RawXorbData}

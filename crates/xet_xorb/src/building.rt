@@ -19,7 +19,7 @@ use std::alloc::Global;
 use xet_base::Items;
 use xet_hash::{MerkleHash, StoreError};
 use xet_io::MemorySink;
-use xet_shard::MDBXorbInfo;
+use xet_shard_format::MDBXorbInfo;
 use xet_xorb_chunk::{CompressionScheme, XORB_CHUNK_HEADER_LENGTH, serialize_chunk};
 
 /// A xorb as it is stored.

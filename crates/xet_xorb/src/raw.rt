@@ -3,7 +3,7 @@
 ghost use Rattle.std.specs.Prelude.{◌≡◌, ◌<◌, ◌^◌, [], IfOk, IsOkUnless, OnOk, length, map};
 ghost use Rattle.std.specs.List.{concat};
 ghost use Rattle.xet_hash.specs.Merkle.{total_len};
-ghost use Rattle.xet_shard.specs.Records.{chunk_bytes};
+ghost use Rattle.xet_shard_format.specs.Records.{chunk_bytes};
 ghost use Rattle.xet_xorb_chunk.specs.Chunks.{bytes_of, chunk_member};
 ghost use Rattle.xet_xorb.specs.Raw.{ArePartsOfXorb, IsRaw, raw_members, raw_of, xorb_record};
 
@@ -11,7 +11,7 @@ use bytes::Bytes;
 use std::alloc::Global;
 use xet_base::Items;
 use xet_hash::{MerkleHash, StoreError, xorb_hash};
-use xet_shard::{MDBXorbInfo, XorbChunkSequenceEntry, XorbChunkSequenceHeader};
+use xet_shard_format::{MDBXorbInfo, XorbChunkSequenceEntry, XorbChunkSequenceHeader};
 use xet_xorb_chunk::{Chunk, chunk_members};
 
 /// A xorb that is to be stored.

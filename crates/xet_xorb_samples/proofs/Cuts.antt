@@ -15,9 +15,9 @@ use Rattle.xet_xorb_chunk.specs.Spelling.{spelling}
 use Rattle.xet_xorb_chunk.proofs.Written.{front_of_first, written_both, written_then}
 use Rattle.xet_xorb_footer.specs.declared.info.XorbObjectInfoV1.{XorbObjectInfoV1}
 use Rattle.xet_xorb_footer.specs.Spelled.{length_of, most_chunks, number, text_v1}
-use Rattle.xet_shard.specs.Boundaries.{boundaries_from}
-use Rattle.xet_shard.specs.Records.{chunk_bytes}
-use Rattle.xet_shard.specs.declared.record.XorbChunkSequenceEntry.{XorbChunkSequenceEntry}
+use Rattle.xet_shard_format.specs.Boundaries.{boundaries_from}
+use Rattle.xet_shard_format.specs.Records.{chunk_bytes}
+use Rattle.xet_shard_format.specs.declared.record.XorbChunkSequenceEntry.{XorbChunkSequenceEntry}
 use Rattle.xet_xorb.specs.Building.{built, built_of, no_spare, object_for}
 use Rattle.xet_xorb.specs.declared.object.XorbObject.{XorbObject}
 use Rattle.xet_xorb.specs.Footer.{V1, Version, footer_len, footer_text, footer_v1}

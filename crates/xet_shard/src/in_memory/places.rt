@@ -5,13 +5,13 @@ ghost use Rattle.std.specs.Cmp.Lexicographic.{pointwise};
 ghost use Rattle.indexmap.specs.IndexMap.{get, spare, values};
 ghost use Rattle.xet_shard.specs.Held.{DifferBy, Keyed, with_last};
 ghost use Rattle.xet_shard.specs.LastPlaces.{HasPlaces, noted};
-ghost use Rattle.xet_shard.specs.Records.{xorb_hash, xorb_section};
+ghost use Rattle.xet_shard_format.specs.Records.{xorb_hash, xorb_section};
 
 use super::put_last;
-use crate::record::{MDBXorbInfo, XorbChunkSequenceEntry};
 use indexmap::IndexMap;
 use std::alloc::AllocError;
 use xet_hash::MerkleHash;
+use xet_shard_format::{MDBXorbInfo, XorbChunkSequenceEntry};
 
 /// For the hash of each chunk the index of the last xorb that has it, and its last place there.
 pub(super) type LastPlaces = IndexMap<MerkleHash, (u32, u32)>;

@@ -2,15 +2,15 @@
 
 ghost use Rattle.std.specs.Prelude.{◌≡◌, IfOk, IsOkUnless, length};
 ghost use Rattle.xet_shard.specs.Held.{record_of};
-ghost use Rattle.xet_shard.specs.Records.{file_hash};
+ghost use Rattle.xet_shard_format.specs.Records.{file_hash};
 ghost use Rattle.xet_shard.specs.Runs.{held_run};
-ghost use Rattle.xet_shard.specs.Text.{materialized, stored};
+ghost use Rattle.xet_shard_format.specs.Text.{materialized, stored};
 
 use super::MDBInMemoryShard;
-use crate::record::{FileDataSequenceEntry, MDBFileInfo};
-use crate::runs::run_at;
+use crate::query::run::run_at;
 use std::alloc::Global;
 use xet_hash::{HMACKey, MerkleHash, StoreError};
+use xet_shard_format::{FileDataSequenceEntry, MDBFileInfo};
 
 impl MDBInMemoryShard {
     /// A copy of the held file of a hash, if there is one.

@@ -20,7 +20,7 @@ use Rattle.std.specs.declared.cmp.Ordering.TheVariants.{Less, Equal, Greater}
 use Rattle.hex.specs.Hex.{encode_lower, encode_with, lower_digits}
 use Rattle.xet_hash.proofs.Texts.{hash_text_determines}
 use Rattle.xet_hash.specs.Hash.{hash_text}
-use Rattle.xet_shard.specs.Names.{shard_name}
+use Rattle.xet_shard_format.specs.Names.{shard_name}
 use Rattle.xet_shard_file.specs.Names.{IsHash}
 
 pub name_determines : (a b : List ℕ) → IsHash a → IsHash b → shard_name a ≡ shard_name b → a ≡ b

@@ -4,7 +4,7 @@ ghost use Rattle.std.specs.Prelude.{◌≡◌, ◌↔◌, ◌≤◌, ◌<◌, �
 ghost use Rattle.std.specs.List.{AllByRecursion};
 ghost use Rattle.xet_hash.specs.Merkle.{chunk_hash, xorb_hash};
 ghost use Rattle.xet_shard.specs.Held.{held_size};
-ghost use Rattle.xet_shard.specs.Records.{file_hash};
+ghost use Rattle.xet_shard_format.specs.Records.{file_hash};
 ghost use Rattle.xet_xorb_chunk.specs.Chunks.{bytes_of, chunk_member, total};
 ghost use Rattle.xet_shard_file.specs.Refusals.{HasDiskReason};
 ghost use Rattle.xet_folder.specs.Xorbs.{IsListed, found};
@@ -17,8 +17,9 @@ use std::marker::Send;
 use xet_folder::{Members, RecordedFile, put_xorb};
 use xet_hash::{MerkleHash, StoreError};
 use xet_io::Disk;
-use xet_shard::{MDBFileInfo, MDBInMemoryShard};
+use xet_shard::MDBInMemoryShard;
 use xet_shard_file::known_bytes;
+use xet_shard_format::MDBFileInfo;
 use xet_xorb::{RawXorbData, SerializedXorbObject};
 use xet_xorb_chunk::{Chunk, chunk_members};
 

@@ -16,7 +16,7 @@ use std::marker::Send;
 use xet_folder::{Members, RunReader};
 use xet_hash::{MerkleHash, Reason, StoreError};
 use xet_io::Disk;
-use xet_shard::FileDataSequenceEntry;
+use xet_shard_format::FileDataSequenceEntry;
 
 impl<D: Disk + Send> Store<D> {
     /// Reads the bytes of a file from one place to before another. Only the chunks that the range touches

@@ -1,7 +1,7 @@
 use Rattle.std.proofs.Common.{ℕ}
 use Rattle.xet_io.specs.Disk.{file}
 use Rattle.xet_hash.specs.declared.error.StoreError.{StoreError}
-use Rattle.xet_shard.proofs.Fitting.{materialized_below}
+use Rattle.xet_shard_format.specs.theorems.Fitting.{materialized_below}
 use Rattle.xet_folder.specs.Admission.{ShardFails}
 use Rattle.xet_shard_file.specs.Refusals.{IsCheckRefusal, IsShardError}
 use Rattle.xet_folder.specs.Checks.{Knows}

@@ -1,6 +1,6 @@
 use Rattle.std.proofs.Common.{◌≡◌, ◌∙◌, Bool, IsTrue, ℕ, List, refl, subst, arith}
 use Rattle.xet_io.specs.Disk.{Files}
-use Rattle.xet_shard.specs.Records.{xorb_hash}
+use Rattle.xet_shard_format.specs.Records.{xorb_hash}
 use Rattle.xet_folder.specs.Admission.{BlockFails, XorbFails}
 use Rattle.xet_shard_file.specs.Refusals.{IsCheckRefusal}
 use Rattle.xet_folder.specs.Checks.{Knows}

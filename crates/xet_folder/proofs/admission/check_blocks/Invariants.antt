@@ -1,7 +1,7 @@
 use Rattle.std.proofs.Common.{◌≡◌, ◌≤◌, drop}
 use Rattle.std.specs.List.{AllByRecursion}
 use Rattle.xet_hash.specs.declared.error.StoreError.{StoreError}
-use Rattle.xet_shard.specs.Records.{xorb_hash}
+use Rattle.xet_shard_format.specs.Records.{xorb_hash}
 use Rattle.xet_folder.specs.Admission.{BlockFails, BlockHolds, FirstFails}
 use Rattle.xet_folder.specs.Checks.{Grows, Has, Knows, OfBlocks}
 use Rattle.xet_folder.specs.Xorbs.{Xorbs}

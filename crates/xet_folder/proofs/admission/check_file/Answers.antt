@@ -1,7 +1,7 @@
 use Rattle.std.proofs.Common.{◌≡◌, ◌∙◌, ◌<◌, ℕ, List, Bool, IsTrue, length, refl, sym, subst}
 use Rattle.xet_hash.specs.Merkle.{file_hash as hash_of_file}
-use Rattle.xet_shard.specs.declared.record.FileDataSequenceEntry.{FileDataSequenceEntry as Segment}
-use Rattle.xet_shard.specs.Records.{file_hash}
+use Rattle.xet_shard_format.specs.declared.record.FileDataSequenceEntry.{FileDataSequenceEntry as Segment}
+use Rattle.xet_shard_format.specs.Records.{file_hash}
 use Rattle.xet_folder.specs.Admission.{FileFails}
 use Rattle.xet_folder.specs.Checks.{Grows, OfSegments}
 use Rattle.xet_folder.specs.Plan.{Joins}

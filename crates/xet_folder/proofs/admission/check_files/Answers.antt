@@ -1,6 +1,6 @@
 use Rattle.std.proofs.Common.{◌∙◌, subst, arith}
 use Rattle.xet_io.specs.Disk.{Files}
-use Rattle.xet_shard.specs.Records.{file_hash}
+use Rattle.xet_shard_format.specs.Records.{file_hash}
 use Rattle.xet_folder.specs.Admission.{FileFails, FileHolds, FirstFails}
 use Rattle.xet_folder.specs.Contents.{IsFileRecord}
 use Rattle.xet_folder.specs.Checks.{HasFile, Knows, OfFile, OfFiles}

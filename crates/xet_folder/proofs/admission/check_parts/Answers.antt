@@ -2,10 +2,10 @@ use Rattle.std.proofs.Common.{◌≡◌, ◌∙◌, inl, inr, ℕ, List, refl, s
 use Rattle.std.specs.List.{AllByRecursion}
 use Rattle.xet_io.specs.Disk.{Files, file}
 use Rattle.xet_hash.specs.declared.error.StoreError.{StoreError}
-use Rattle.xet_shard.specs.declared.record.MDBFileInfo.{MDBFileInfo}
-use Rattle.xet_shard.specs.declared.record.MDBXorbInfo.{MDBXorbInfo}
-use Rattle.xet_shard.specs.Reading.{Parts}
-use Rattle.xet_shard.specs.Records.{xorb_hash}
+use Rattle.xet_shard_format.specs.declared.record.MDBFileInfo.{MDBFileInfo}
+use Rattle.xet_shard_format.specs.declared.record.MDBXorbInfo.{MDBXorbInfo}
+use Rattle.xet_shard_format.specs.Reading.{Parts}
+use Rattle.xet_shard_format.specs.Records.{xorb_hash}
 use Rattle.xet_folder.specs.Admission.{BlockFails, BlockHolds, FileFails, FileHolds, FirstFails, ShardFails}
 use Rattle.xet_folder.specs.Checks.{Has, HasFile, HasShard, Knows, OfBlocks, OfBytes, OfFiles}
 use Rattle.xet_shard_file.specs.Refusals.{IsCheckRefusal}

@@ -2,7 +2,7 @@ use Rattle.std.proofs.Common.{◌≡◌, ◌≤◌, ◌+◌, ◌++◌, ℕ, List
 use Rattle.std.specs.List.{AllByRecursion}
 use Rattle.xet_hash.specs.Merkle.{total_len}
 use Rattle.xet_hash.specs.declared.error.StoreError.{StoreError}
-use Rattle.xet_shard.specs.Records.{segment_bytes}
+use Rattle.xet_shard_format.specs.Records.{segment_bytes}
 use Rattle.xet_folder.specs.Admission.{FirstFails, SegmentFails, SegmentHolds}
 use Rattle.xet_folder.specs.Checks.{Grows, Has, Knows, OfSegments}
 use Rattle.xet_folder.specs.Plan.{Joins}

@@ -1,5 +1,5 @@
 use Rattle.std.proofs.Common.{◌∙◌, Bool, IsTrue, List, map, sym, ap, subst, arith}
-use Rattle.xet_shard.specs.declared.record.XorbChunkSequenceEntry.{XorbChunkSequenceEntry}
+use Rattle.xet_shard_format.specs.declared.record.XorbChunkSequenceEntry.{XorbChunkSequenceEntry}
 use Rattle.xet_folder.specs.Admission.{entry_member}
 use Rattle.xet_folder.proofs.Comparing.{no_match, one_more}
 use Rattle.xet_folder.proofs.members.lists_members.Goals as goal

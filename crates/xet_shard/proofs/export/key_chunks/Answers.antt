@@ -1,5 +1,5 @@
 use Rattle.std.proofs.Common.{◌≡◌, ◌∙◌, get_or}
-use Rattle.xet_shard.specs.declared.record.XorbChunkSequenceEntry.{XorbChunkSequenceEntry}
+use Rattle.xet_shard_format.specs.declared.record.XorbChunkSequenceEntry.{XorbChunkSequenceEntry}
 use Rattle.xet_shard.specs.Export.{keyed_chunk}
 use Rattle.xet_shard.proofs.Keying.{changed_all, changed_more, changed_none}
 use Rattle.xet_shard.proofs.export.key_chunks.Goals as goal

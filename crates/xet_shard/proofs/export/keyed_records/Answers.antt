@@ -3,14 +3,14 @@ use Rattle.std.specs.Global.{Global}
 use Rattle.std.proofs.Common.{◌∙◌, ◌+◌, Err, arith, ap, length, map, min, subst, sym, List, None, ℕ}
 use Rattle.std.proofs.lemmas.List.{length-map}
 use Rattle.std.proofs.lemmas.Result.{err_from_is_err_and}
-use Rattle.xet_shard.specs.declared.record.MDBFileInfo.{MDBFileInfo}
-use Rattle.xet_shard.specs.declared.record.MDBXorbInfo.{MDBXorbInfo}
+use Rattle.xet_shard_format.specs.declared.record.MDBFileInfo.{MDBFileInfo}
+use Rattle.xet_shard_format.specs.declared.record.MDBXorbInfo.{MDBXorbInfo}
 use Rattle.xet_shard.specs.Export.{keyed_block}
 use Rattle.xet_shard.specs.Held.{never}
-use Rattle.xet_shard.specs.Reading.{GivesUnlessFault}
-use Rattle.xet_shard.specs.Records.{AreRecords, IsXorb, xorb_hash}
+use Rattle.xet_shard_format.specs.Reading.{GivesUnlessFault}
+use Rattle.xet_shard_format.specs.Records.{AreRecords, IsXorb, xorb_hash}
 use Rattle.xet_shard.specs.Sections.{blocks_in}
-use Rattle.xet_shard.specs.Text.{Shard, shard}
+use Rattle.xet_shard_format.specs.Text.{Shard, shard}
 use Rattle.xet_shard.proofs.Exporting.{export_ends, export_fails, export_is}
 use Rattle.xet_shard.proofs.Keying.{few_keyed, records_keyed, written_back}
 use Rattle.xet_shard.proofs.export.keyed_records.Goals as goal

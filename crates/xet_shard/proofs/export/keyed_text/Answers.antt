@@ -1,8 +1,8 @@
 use Rattle.std.proofs.Common.{◌≡◌, ◌∙◌, ap, map, min, ◌+◌, subst}
 use Rattle.std.proofs.lemmas.List.{map-id}
 use Rattle.xet_shard.specs.Held.{never}
-use Rattle.xet_shard.specs.Lookups.{Lookups}
-use Rattle.xet_shard.specs.Text.{Fits, Shard, shard, shard_text}
+use Rattle.xet_shard_format.specs.Lookups.{Lookups}
+use Rattle.xet_shard_format.specs.Text.{Fits, Shard, shard, shard_text}
 use Rattle.xet_shard.proofs.export.keyed_text.Goals as goal
 
 pub returns-clause-text : goal.returns-clause-text

@@ -1,6 +1,6 @@
 use Rattle.std.proofs.Common.{◌<◌, ◌+◌, ◌^◌, arith, drop, length, map}
-use Rattle.xet_shard.proofs.Counts.{section_some}
-use Rattle.xet_shard.proofs.Steps.{lent_at, rows_step}
+use Rattle.xet_shard_format.specs.theorems.Counts.{section_some}
+use Rattle.xet_shard_format.specs.theorems.Steps.{lent_at, rows_step}
 use Rattle.xet_shard.proofs.Uniting.{all_at}
 use Rattle.xet_shard.proofs.union.is_few.Goals as goal
 

@@ -1,5 +1,5 @@
 use Rattle.std.proofs.Common.{◌≡◌, ◌+◌, ◌<◌, ◌^◌, drop, length, map}
-use Rattle.xet_shard.specs.Records.{section}
+use Rattle.xet_shard_format.specs.Records.{section}
 use Rattle.xet_shard.proofs.union.is_few.Given as goal
 
 abbrev pub invariant-loop-item : goal.invariant-loop-item

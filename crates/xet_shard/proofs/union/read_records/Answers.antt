@@ -2,9 +2,9 @@ use Rattle.std.specs.Prelude.{Vec}
 use Rattle.std.specs.Global.{Global}
 use Rattle.std.proofs.Common.{◌∙◌, Err, ap, subst, sym, List, ℕ}
 use Rattle.std.proofs.lemmas.Result.{err_from_is_err_and}
-use Rattle.xet_shard.specs.declared.record.MDBFileInfo.{MDBFileInfo}
-use Rattle.xet_shard.specs.declared.record.MDBXorbInfo.{MDBXorbInfo}
-use Rattle.xet_shard.specs.Reading.{GivesUnlessFault}
+use Rattle.xet_shard_format.specs.declared.record.MDBFileInfo.{MDBFileInfo}
+use Rattle.xet_shard_format.specs.declared.record.MDBXorbInfo.{MDBXorbInfo}
+use Rattle.xet_shard_format.specs.Reading.{GivesUnlessFault}
 use Rattle.xet_shard.specs.Sections.{blocks_in}
 use Rattle.xet_shard.specs.Union.{Records}
 use Rattle.xet_shard.proofs.Uniting.{records_are, records_end, records_fail}

@@ -1,11 +1,11 @@
 use Rattle.std.proofs.Common.{◌≡◌, ◌∙◌, ◌<◌, ◌^◌, Bor, List, None, ap, length, map, refl, subst, sym}
-use Rattle.xet_shard.specs.declared.record.MDBFileInfo.{MDBFileInfo}
-use Rattle.xet_shard.specs.declared.record.MDBXorbInfo.{MDBXorbInfo}
+use Rattle.xet_shard_format.specs.declared.record.MDBFileInfo.{MDBFileInfo}
+use Rattle.xet_shard_format.specs.declared.record.MDBXorbInfo.{MDBXorbInfo}
 use Rattle.xet_shard.specs.Held.{never}
-use Rattle.xet_shard.specs.Lookups.{all_lookups}
+use Rattle.xet_shard_format.specs.Lookups.{all_lookups}
 use Rattle.xet_shard.specs.Merging.{Rises}
-use Rattle.xet_shard.specs.Records.{IsFile, IsXorb, file_hash, file_rows, file_section, xorb_hash, xorb_rows, xorb_section}
-use Rattle.xet_shard.specs.Text.{Fits, Shard, footer_of, full_text, header, shard}
+use Rattle.xet_shard_format.specs.Records.{IsFile, IsXorb, file_hash, file_rows, file_section, xorb_hash, xorb_rows, xorb_section}
+use Rattle.xet_shard_format.specs.Text.{Fits, Shard, footer_of, full_text, header, shard}
 use Rattle.xet_shard.specs.Union.{Agree, Records, union, union_shard}
 use Rattle.xet_shard.proofs.Merging.{records_rise}
 use Rattle.xet_shard.proofs.Uniting.{union_few, union_is_shard}

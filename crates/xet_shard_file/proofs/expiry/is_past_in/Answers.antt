@@ -1,7 +1,7 @@
 use Rattle.std.proofs.Common.{◌≡◌, ◌∙◌, ◌-◌, ℕ, List, Some, Err, true, length, take, drop, sym, ap, subst}
 use Rattle.xet_io.specs.Disk.{Files, FillsFrom, bytes_at}
 use Rattle.xet_hash.specs.declared.error.StoreError.{StoreError}
-use Rattle.xet_shard.specs.Reading.{ends_of}
+use Rattle.xet_shard_format.specs.Reading.{ends_of}
 use Rattle.xet_shard_file.specs.Refusals.{IsCheckRefusal}
 use Rattle.xet_shard_file.proofs.Expiring.{ends_refusal, filled_is}
 use Rattle.xet_shard_file.specs.theorems.Exits.{on_exit}

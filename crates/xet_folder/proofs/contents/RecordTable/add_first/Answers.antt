@@ -1,6 +1,6 @@
 use Rattle.std.proofs.Common.{◌≡◌, ◌∙◌, ◌∷◌, ◌++◌, [], ℕ, List, is_some, ap, sym}
 use Rattle.indexmap.proofs.CallerLemmas.{insert_entry-new}
-use Rattle.xet_shard.specs.Records.{file_hash}
+use Rattle.xet_shard_format.specs.Records.{file_hash}
 use Rattle.xet_folder.specs.Gathering.{with_first}
 use Rattle.xet_folder.specs.Xorbs.{Records, found}
 use Rattle.xet_folder.proofs.Firsts.{first_new, first_there, not_some}

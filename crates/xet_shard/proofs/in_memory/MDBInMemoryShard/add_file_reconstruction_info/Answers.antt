@@ -1,9 +1,10 @@
 use Rattle.std.proofs.Common.{◌<◌, ◌^◌, List, arith, length, nat_eq, sym, subst}
 use Rattle.std.specs.Cmp.Lexicographic.{pointwise}
 use Rattle.indexmap.specs.IndexMap.{values}
-use Rattle.xet_shard.specs.declared.record.MDBFileInfo.{MDBFileInfo}
-use Rattle.xet_shard.specs.Held.{Held, IsHeld, file_record_size, held, with_last}
-use Rattle.xet_shard.specs.Records.{file_hash, file_section}
+use Rattle.xet_shard_format.specs.declared.record.MDBFileInfo.{MDBFileInfo}
+use Rattle.xet_shard.specs.Held.{Held, IsHeld, held, with_last}
+use Rattle.xet_shard_format.specs.RecordSizes.{file_record_size}
+use Rattle.xet_shard_format.specs.Records.{file_hash, file_section}
 use Rattle.xet_shard.proofs.Holding.{held_with_file}
 use Rattle.xet_shard.proofs.Sizes.{few_file_bytes, few_xorb_bytes, part_le, sum_last}
 use Rattle.xet_shard.proofs.in_memory.MDBInMemoryShard.add_file_reconstruction_info.Goals as goal

@@ -1,9 +1,10 @@
 use Rattle.std.proofs.Common.{◌<◌, ◌^◌, List, arith, length, nat_eq, sym, subst}
 use Rattle.std.specs.Cmp.Lexicographic.{pointwise}
 use Rattle.indexmap.specs.IndexMap.{values}
-use Rattle.xet_shard.specs.declared.record.MDBXorbInfo.{MDBXorbInfo}
-use Rattle.xet_shard.specs.Held.{Held, IsHeld, xorb_record_size, held, with_last}
-use Rattle.xet_shard.specs.Records.{xorb_hash, xorb_section}
+use Rattle.xet_shard_format.specs.declared.record.MDBXorbInfo.{MDBXorbInfo}
+use Rattle.xet_shard.specs.Held.{Held, IsHeld, held, with_last}
+use Rattle.xet_shard_format.specs.RecordSizes.{xorb_record_size}
+use Rattle.xet_shard_format.specs.Records.{xorb_hash, xorb_section}
 use Rattle.xet_shard.proofs.Holding.{held_with_block}
 use Rattle.xet_shard.proofs.Sizes.{few_file_bytes, few_xorb_bytes, part_le, sum_last}
 use Rattle.xet_shard.proofs.in_memory.MDBInMemoryShard.add_xorb_block.Goals as goal

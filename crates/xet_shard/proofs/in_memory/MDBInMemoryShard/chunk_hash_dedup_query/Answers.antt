@@ -2,10 +2,10 @@ use Rattle.std.proofs.Common.{◌≡◌, ◌≢◌, ◌∙◌, ℕ, List, None, 
 use Rattle.std.proofs.lemmas.Option.{none-some, slice_get-map}
 use Rattle.indexmap.specs.IndexMap.{values}
 use Rattle.xet_hash.specs.Hash.{marker}
-use Rattle.xet_shard.specs.declared.record.MDBXorbInfo.{MDBXorbInfo}
+use Rattle.xet_shard_format.specs.declared.record.MDBXorbInfo.{MDBXorbInfo}
 use Rattle.xet_shard.specs.Held.{Held}
 use Rattle.xet_shard.specs.LastPlaces.{last_at}
-use Rattle.xet_shard.specs.Records.{IsXorb, xorb_hash}
+use Rattle.xet_shard_format.specs.Records.{IsXorb, xorb_hash}
 use Rattle.xet_shard.specs.Runs.{held_run, run_at}
 use Rattle.xet_shard.proofs.Running.{all_at, placed_at, query_as_is, query_empty, query_found, query_missed}
 use Rattle.xet_shard.proofs.in_memory.MDBInMemoryShard.chunk_hash_dedup_query.Goals as goal

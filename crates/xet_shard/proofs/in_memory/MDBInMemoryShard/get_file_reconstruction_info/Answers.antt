@@ -1,7 +1,7 @@
 use Rattle.std.proofs.Common.{◌≡◌, ◌∙◌, None, Some, ap, subst}
-use Rattle.xet_shard.specs.declared.record.MDBFileInfo.{MDBFileInfo}
+use Rattle.xet_shard_format.specs.declared.record.MDBFileInfo.{MDBFileInfo}
 use Rattle.xet_shard.specs.Held.{Held, record_of}
-use Rattle.xet_shard.specs.Records.{file_hash}
+use Rattle.xet_shard_format.specs.Records.{file_hash}
 use Rattle.xet_shard.proofs.Holding.{record_found}
 use Rattle.xet_shard.proofs.in_memory.MDBInMemoryShard.get_file_reconstruction_info.Goals as goal
 

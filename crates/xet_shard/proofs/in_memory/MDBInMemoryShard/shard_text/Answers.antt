@@ -1,9 +1,9 @@
 use Rattle.std.proofs.Common.{◌∙◌, Bor, map, ap, subst}
 use Rattle.indexmap.specs.IndexMap.{values}
-use Rattle.xet_shard.specs.declared.record.MDBFileInfo.{MDBFileInfo}
-use Rattle.xet_shard.specs.declared.record.MDBXorbInfo.{MDBXorbInfo}
+use Rattle.xet_shard_format.specs.declared.record.MDBFileInfo.{MDBFileInfo}
+use Rattle.xet_shard_format.specs.declared.record.MDBXorbInfo.{MDBXorbInfo}
 use Rattle.xet_shard.specs.Held.{Held, held, held_shard}
-use Rattle.xet_shard.specs.Text.{IsShard}
+use Rattle.xet_shard_format.specs.Text.{IsShard}
 use Rattle.xet_shard.proofs.Rising.{few_files_sorted, few_blocks_sorted, is_shard, on_ok}
 use Rattle.xet_shard.proofs.in_memory.MDBInMemoryShard.shard_text.Goals as goal
 

@@ -3,9 +3,9 @@ use Rattle.std.proofs.lemmas.List.{length-map}
 use Rattle.std.specs.Cmp.Lexicographic.{pointwise}
 use Rattle.indexmap.specs.IndexMap.{get, values}
 use Rattle.indexmap.proofs.CallerLemmas.{insert_entry-new}
-use Rattle.xet_shard.specs.Records.{xorb_hash, xorb_head, xorb_rest, xorb_section}
-use Rattle.xet_shard.specs.declared.record.MDBXorbInfo.{MDBXorbInfo}
-use Rattle.xet_shard.proofs.Counts.{before_last}
+use Rattle.xet_shard_format.specs.Records.{xorb_hash, xorb_head, xorb_rest, xorb_section}
+use Rattle.xet_shard_format.specs.declared.record.MDBXorbInfo.{MDBXorbInfo}
+use Rattle.xet_shard_format.specs.theorems.Counts.{before_last}
 use Rattle.xet_shard.proofs.Holding.{keyed_put, last_new, removed_none, values_put}
 use Rattle.xet_shard.proofs.Placing.{placed_last}
 use Rattle.xet_shard.proofs.in_memory.places.put_new.Goals as goal

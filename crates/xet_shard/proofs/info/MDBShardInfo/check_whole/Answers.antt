@@ -1,6 +1,6 @@
 use Rattle.std.proofs.Common.{◌∙◌}
-use Rattle.xet_shard.specs.Reading.{all_of}
-use Rattle.xet_shard.proofs.Refusing.{all_answers, cause_before, gives_all, refuses}
+use Rattle.xet_shard_format.specs.Reading.{all_of}
+use Rattle.xet_shard_format.specs.theorems.Refusing.{all_answers, cause_before, gives_all, refuses}
 use Rattle.xet_shard.proofs.info.MDBShardInfo.check_whole.Goals as goal
 
 pub returns-in-Ok-clause-exact : goal.returns-in-Ok-clause-exact

@@ -1,6 +1,6 @@
 use Rattle.std.proofs.lemmas.Result.{IfErr-weaker, err_from_is_err_and}
 use Rattle.xet_shard.specs.Export.{IsExportRefusal}
-use Rattle.xet_shard.specs.Held.{IsWriteRefusal}
+use Rattle.xet_shard.specs.WriteRefusals.{IsWriteRefusal}
 use Rattle.xet_shard.proofs.RefusalKinds.{reading_export, writing_export}
 use Rattle.xet_shard.proofs.info.MDBShardInfo.export_as_keyed_shard.Goals as goal
 

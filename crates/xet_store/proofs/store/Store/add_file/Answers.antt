@@ -1,7 +1,7 @@
 use Rattle.std.proofs.Common.{◌≡◌, ◌∙◌, ◌<◌, ◌^◌, length, true, refl, sym, ap, subst, rules, arith}
-use Rattle.xet_shard.specs.declared.record.MDBFileInfo.{MDBFileInfo}
+use Rattle.xet_shard_format.specs.declared.record.MDBFileInfo.{MDBFileInfo}
 use Rattle.xet_shard.specs.Held.{held, with_last}
-use Rattle.xet_shard.specs.Records.{IsFile, file_hash, file_section}
+use Rattle.xet_shard_format.specs.Records.{IsFile, file_hash, file_section}
 use Rattle.xet_folder.specs.Xorbs.{Records, found}
 use Rattle.xet_folder.proofs.Tables.{found_here}
 use Rattle.xet_store.specs.Store.{IsNewFile, State}

@@ -1,9 +1,9 @@
 use Rattle.std.proofs.Common.{◌≡◌, ◌∙◌, ℕ, List, length, map, inr, Some, None, true, refl, sym, ap, subst, rules, arith}
 use Rattle.xet_hash.specs.Merkle.{xorb_hash}
 use Rattle.xet_xorb_chunk.specs.Chunks.{chunk_member}
-use Rattle.xet_shard.specs.declared.record.MDBXorbInfo.{MDBXorbInfo}
+use Rattle.xet_shard_format.specs.declared.record.MDBXorbInfo.{MDBXorbInfo}
 use Rattle.xet_shard.specs.Held.{Held, held, with_last}
-use Rattle.xet_shard.specs.Records as record_of
+use Rattle.xet_shard_format.specs.Records as record_of
 use Rattle.xet_folder.specs.Stored.{IsBacked}
 use Rattle.xet_folder.specs.Xorbs.{Xorbs, found}
 use Rattle.xet_store.specs.Store.{State}

@@ -1,8 +1,0 @@
-use Rattle.std.proofs.Common.{◌∙◌, sym, ap}
-use Rattle.xet_shard.specs.Reading.{all_of, parts_of}
-use Rattle.xet_shard.proofs.WholeAgain.{all_again, same_shard}
-use Rattle.xet_shard.proofs.RowLaws.{ok_is}
-use Rattle.xet_shard.proofs.laws.bytes_determine_shard.Goals as goal
-
-pub returns : goal.returns
-returns c = λ w v s t s_is s_fits t_is t_fits same. same_shard w v s t (ok_is (parts_of w s) (parts_of v t) (sym (all_again w s s_is s_fits) ∙ ap all_of same ∙ all_again v t t_is t_fits))

@@ -1,8 +1,0 @@
-use Rattle.std.proofs.Common.{map, rules}
-use Rattle.xet_shard.specs.Records.{chunk_row, xorb_head}
-use Rattle.xet_shard.proofs.Bytes.{head_and_one}
-use Rattle.xet_shard.proofs.pieces.push_xorb.Goals as goal
-
-pub returns-clause-text : goal.returns-clause-text
-returns-clause-text c =
-    head_and_one c.args.text.now.items c.push_row.new.text.items c.push_entries.new.text.items (xorb_head c.args.block.now) (map chunk_row c.args.block.now.chunks) (search rules) (search rules)

@@ -1,0 +1,17 @@
+use Rattle.std.proofs.Common.{arith}
+use Rattle.xet_shard_format.specs.Ends.{footer_of_last}
+use Rattle.xet_shard_format.specs.theorems.FirstLast.{footer_from}
+use Rattle.xet_shard_format.specs.theorems.Refusing.{a_last, cause_before, gives_whole, gives_input_error}
+use Rattle.xet_shard.proofs.reader.sections.read_footer.Goals as goal
+
+pub returns-clause-exact : goal.returns-clause-exact
+returns-clause-exact g c = λ told len.
+    let bytes = g.R.ReadAt.bytes c.args.reader.now in
+    gives_whole (λ f. f) c.footer_of_last.result (footer_of_last c.args.len c.fill.new.buf) _ (a_last c.args.len c.fill.new.buf)
+    (footer_from c.args.len bytes c.fill.new.buf len (c.in_ok-fill.ensures.told told (omega (arith, len, c.requires)))) c.footer_of_last.ensures.gives
+
+pub returns-clause-refusals : goal.returns-clause-refusals
+returns-clause-refusals g c = gives_input_error c.footer_of_last.result _ (a_last c.args.len c.fill.new.buf) c.footer_of_last.ensures.exact
+
+pub returns-clause-cause : goal.returns-clause-cause
+returns-clause-cause g c = cause_before (λ f. f) c.footer_of_last.result _ _ _ (a_last c.args.len c.fill.new.buf) c.footer_of_last.ensures.gives c.in_ok-fill.ensures.cause.later

@@ -1,6 +1,0 @@
-use Rattle.std.proofs.Common.{◌≡◌, ◌+◌, drop, length, map}
-use Rattle.xet_shard.specs.Records.{section}
-use Rattle.xet_shard.proofs.writing.section_rows.Given as goal
-
-abbrev pub invariant-loop-item : goal.invariant-loop-item
-invariant-loop-item g l = l.rows + length (section g.R.Record.rows_of (drop l.item-index (map g.T.Lends.lent l.records))) ≡ length (section g.R.Record.rows_of (map g.T.Lends.lent l.records)) + 1

@@ -1,0 +1,18 @@
+-- The pieces of a shard's bytes that its parts are read from, each with the checks that it needs.
+use Rattle.std.specs.Prelude.{ℕ, ◌+◌, ◌*◌, ◌^◌, ◌==◌, nat_eq, nat_le, nat_lt, List, length, take, drop, replicate, Result, Ok}
+use Rattle.std.specs.Cmp.Lexicographic.{pointwise}
+use Rattle.xet_hash.specs.declared.error.Reason.TheVariants.{SectionPlace}
+use Rattle.xet_hash.specs.declared.error.StoreError.{StoreError}
+use Rattle.xet_shard_format.specs.Reading.{reaches, wants}
+
+-- so many bytes from a place on
+unfoldable pub piece_at : ℕ → ℕ → List ℕ → Result (List ℕ) StoreError
+piece_at at len bytes = do
+  _ ← reaches (nat_le (at + len) (length bytes))
+  Ok (take len (drop at bytes))
+
+-- the rows of a section of so many
+unfoldable pub rows_at : ℕ → ℕ → List ℕ → Result (List ℕ) StoreError
+rows_at at count bytes = do
+  _ ← wants (nat_lt count (2 ^ 32)) SectionPlace
+  piece_at at (48 * count) bytes

@@ -1,0 +1,108 @@
+//! Bisection of a lookup table over a reader: each step reads one item, and nothing is allocated.
+
+ghost use Rattle.std.specs.Prelude.{◌≡◌, ◌≤◌, ◌<◌, ◌+◌, ◌*◌, ◌^◌, true, drop, length, IfErr, IfOk, IsErrOf};
+ghost use Rattle.xet_io.specs.Faults.{HasCause};
+ghost use Rattle.xet_shard.specs.Bisection.{AnswersAt, Bisects, in_table, passes, slots};
+ghost use Rattle.xet_shard_format.specs.Reading.{IsShardRefusal};
+
+use crate::reader::bytes::{fill, length_of, within};
+use xet_hash::{Place, StoreError};
+use xet_io::ReadAt;
+use xet_shard_format::row::{half_word, word};
+
+/// A test of an item of a lookup table. An item begins with a word and a row: 12 bytes.
+#[derive(Clone, Copy, PartialEq, Eq, Debug)]
+pub enum Probe {
+    /// The word is below a number.
+    WordBelow(u64),
+    /// The word is at most a number.
+    WordAtMost(u64),
+    /// The row is below a number.
+    RowBelow(u32),
+}
+
+impl Probe {
+    /// Whether an item passes.
+    #[tactic(auto, unfolding(crate::specs::Bisection::passes))]
+    fn passes(&self, item: &[u8]) -> bool
+        requires { 12 ≤ length item.now }
+        ensures { result ≡ passes self.now item.now }
+    {
+        match *self {
+            Probe::WordBelow(bound) => word(item, 0) < bound,
+            Probe::WordAtMost(bound) => word(item, 0) <= bound,
+            Probe::RowBelow(bound) => half_word(item, 8) < bound,
+        }
+    }
+}
+
+/// An index that bisects the table of `count` items of a size from offset `at` on. `UnexpectedEof` where the
+/// bytes end before the table does.
+pub fn bisecting_index<R: ReadAt>(
+    reader: &mut R,
+    at: u64,
+    size: u64,
+    count: u64,
+    probe: Probe,
+) -> Result<u64, StoreError>
+    requires { 12 ≤ size }
+    ensures exact { R.tells reader.old ≡ true → AnswersAt (passes probe) (slots size count (drop at (R.bytes reader.old))) (λ index. index) result (λ index. in_table at (size * count) (R.bytes reader.old) index) }
+    ensures within { IfOk result (λ index. index ≤ count) }
+    ensures inside { IfOk result (λ index. at + size * count < 2 ^ 64) }
+    ensures refusals { IfErr result IsShardRefusal }
+    ensures cause { HasCause (R.faults reader.old) (R.faults reader.new) (IsErrOf result (StoreError.Io Place.Input)) }
+    ensures same { R.bytes reader.new ≡ R.bytes reader.old }
+    ensures tells { R.tells reader.new ≡ R.tells reader.old }
+{
+    let end = length_of(reader)?;
+    match within(at, size, count, end) {
+        Some(_) => bisect(reader, at, size, count, probe),
+        None => Err(StoreError::UnexpectedEof),
+    }
+}
+
+/// The same, where a reader that tells its bytes has the table.
+fn bisect<R: ReadAt>(
+    reader: &mut R,
+    at: u64,
+    size: u64,
+    count: u64,
+    probe: Probe,
+) -> Result<u64, StoreError>
+    requires item { 12 ≤ size }
+    requires inside { at + size * count < 2 ^ 64 }
+    ensures found { R.tells reader.old ≡ true → at + size * count ≤ length (R.bytes reader.old) → IfOk result (λ index. Bisects (passes probe) (slots size count (drop at (R.bytes reader.old))) index) }
+    ensures fault { R.tells reader.old ≡ true → at + size * count ≤ length (R.bytes reader.old) → IfErr result (λ e. e ≡ StoreError.Io Place.Input) }
+    ensures within { IfOk result (λ index. index ≤ count) }
+    ensures refusals { IfErr result IsShardRefusal }
+    ensures cause { HasCause (R.faults reader.old) (R.faults reader.new) (IsErrOf result (StoreError.Io Place.Input)) }
+    ensures same { R.bytes reader.new ≡ R.bytes reader.old }
+    ensures tells { R.tells reader.new ≡ R.tells reader.old }
+{
+    let mut low = 0;
+    let mut high = count;
+    'halves: while low < high {
+        let middle = low + (high - low) / 2;
+        if passes_at(reader, at + size * middle, probe)? {
+            low = middle + 1;
+        } else {
+            high = middle;
+        }
+    }
+    Ok(low)
+}
+
+/// Whether the item at an offset passes. A reader that tells its bytes has the item.
+fn passes_at<R: ReadAt>(reader: &mut R, at: u64, probe: Probe) -> Result<bool, StoreError>
+    requires { at + 12 < 2 ^ 64 }
+    ensures told { R.tells reader.old ≡ true → at + 12 ≤ length (R.bytes reader.old) → IfOk result (λ passed. passed ≡ passes probe (drop at (R.bytes reader.old))) }
+    ensures fault { R.tells reader.old ≡ true → at + 12 ≤ length (R.bytes reader.old) → IfErr result (λ e. e ≡ StoreError.Io Place.Input) }
+    ensures refusals { IfErr result IsShardRefusal }
+    ensures cause { HasCause (R.faults reader.old) (R.faults reader.new) (IsErrOf result (StoreError.Io Place.Input)) }
+    ensures same { R.bytes reader.new ≡ R.bytes reader.old }
+    ensures tells { R.tells reader.new ≡ R.tells reader.old }
+{
+    let mut item = [0; 12];
+    fill(reader, at, &mut item)?;
+    Ok(probe.passes(&item))
+}

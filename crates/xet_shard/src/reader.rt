@@ -1,0 +1,7 @@
+//! Shards that are read from any reader, part by part.
+
+pub mod bytes;
+pub mod lookup_items;
+pub mod lookups;
+pub mod sections;
+mod whole;

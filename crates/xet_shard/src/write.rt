@@ -1,0 +1,66 @@
+//! Shards that are written: with all look-ups, and to a sink.
+
+ghost use Rattle.std.specs.Prelude.{◌≡◌, ◌<◌, ◌+◌, ◌*◌, ◌^◌, ◌++◌, ℕ, IfErr, IfOk, IsErrOf, IsOkUnless, OnOk, None, cond, length, map, take, true};
+ghost use Rattle.xet_io.specs.Faults.{HasCause};
+ghost use Rattle.xet_shard.specs.WriteRefusals.{IsWriteRefusal};
+ghost use Rattle.xet_shard_format.specs.Records.{AreRecords, IsFile, IsXorb, file_hash, file_section, xorb_hash, xorb_section};
+ghost use Rattle.xet_shard_format.specs.Lookups.{all_lookups};
+ghost use Rattle.xet_shard_format.specs.Text.{Fits, IsShardText, footer_of, full_text, header, shard};
+
+use crate::info::MDBShardInfo;
+use std::alloc::Global;
+use xet_hash::{HMACKey, Place, StoreError};
+use xet_io::{Refusal, Sink, write_all};
+use xet_shard_format::{MDBFileInfo, MDBXorbInfo};
+use xet_shard_format::header_footer::HEADER;
+use xet_shard_format::shard_encoding::{ALL_LOOKUPS, write_with_lookups};
+
+/// The full text of a shard with these xorbs and files, in the order in which they are given, with its
+/// header and footer. It is a shard where the records have the form and their hashes rise. The memory of
+/// the text is taken once, for its exact length. Where there is none, the call fails with
+/// `StoreError::OutOfMemory`, and for no other reason.
+pub fn write_shard(
+    alloc: Global,
+    blocks: &[&MDBXorbInfo],
+    files: &[&MDBFileInfo],
+    key: HMACKey,
+    creation: u64,
+    expiry: u64,
+) -> Result<(Vec<u8>, MDBShardInfo), StoreError>
+    requires few_files { length (file_section (map (λ f. f.now) files.now)) < 2 ^ 32 }
+    requires few_blocks { length (xorb_section (map (λ x. x.now) blocks.now)) < 2 ^ 32 }
+    ensures text { IfOk result (λ x. x.0.items ≡ full_text (shard (map (λ x. x.now) blocks.now) (map (λ f. f.now) files.now) key creation expiry)) }
+    ensures info { IfOk result (λ x. x.1 ≡ record { header = header; metadata = footer_of all_lookups (shard (map (λ x. x.now) blocks.now) (map (λ f. f.now) files.now) key creation expiry) }) }
+    ensures fits { OnOk result (Fits (shard (map (λ x. x.now) blocks.now) (map (λ f. f.now) files.now) key creation expiry)) }
+    // Where the records have the form and rise, what is written is a shard.
+    ensures shard { AreRecords xorb_hash IsXorb None (map (λ x. x.now) blocks.now) → AreRecords file_hash IsFile None (map (λ f. f.now) files.now)
+        → IfOk result (λ x. IsShardText x.0.items (shard (map (λ x. x.now) blocks.now) (map (λ f. f.now) files.now) key creation expiry)) }
+    ensures memory { IsOkUnless result StoreError.OutOfMemory }
+{
+    let (text, metadata) = write_with_lookups::<&MDBXorbInfo, &MDBFileInfo>(
+        alloc,
+        ALL_LOOKUPS,
+        blocks,
+        files,
+        key,
+        creation,
+        expiry,
+    )?;
+    let header = HEADER;
+    Ok((text, MDBShardInfo { header, metadata }))
+}
+
+/// Gives the text of a shard to a sink.
+pub(crate) fn write_text<W: Sink>(sink: &mut W, text: &[u8]) -> Result<(), StoreError>
+    ensures whole { W.tells sink.old ≡ true → OnOk result (W.written sink.new ≡ W.written sink.old ++ text.now) }
+    ensures front { W.tells sink.old ≡ true → (n : ℕ) × (W.written sink.new ≡ W.written sink.old ++ take n text.now) }
+    ensures refusals { IfErr result IsWriteRefusal }
+    ensures cause { HasCause (W.faults sink.old) (W.faults sink.new) (IsErrOf result (StoreError.Io Place.Output)) }
+    ensures tells { W.tells sink.new ≡ W.tells sink.old }
+{
+    match write_all(sink, text) {
+        Ok(()) => Ok(()),
+        Err(Refusal::Failed) => Err(StoreError::Io(Place::Output)),
+        Err(Refusal::OutOfMemory) => Err(StoreError::OutOfMemory),
+    }
+}

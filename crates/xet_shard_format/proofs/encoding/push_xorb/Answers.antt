@@ -1,0 +1,8 @@
+use Rattle.std.proofs.Common.{map, rules}
+use Rattle.xet_shard_format.specs.Records.{chunk_row, xorb_head}
+use Rattle.xet_shard_format.specs.theorems.Bytes.{head_and_one}
+use Rattle.xet_shard_format.proofs.encoding.push_xorb.Goals as goal
+
+pub returns-clause-text : goal.returns-clause-text
+returns-clause-text c =
+    head_and_one c.args.text.now.items c.push_row.new.text.items c.push_entries.new.text.items (xorb_head c.args.block.now) (map chunk_row c.args.block.now.chunks) (search rules) (search rules)

@@ -1,0 +1,28 @@
+-- The header and the footer of a shard's first and last bytes.
+use Rattle.std.specs.Prelude.{ℕ, ◌+◌, ◌*◌, ◌^◌, ◌==◌, nat_eq, nat_le, nat_lt, List, length, take, drop, replicate, Result, Ok}
+use Rattle.std.specs.Cmp.Lexicographic.{pointwise}
+use Rattle.xet_hash.specs.declared.error.Reason.TheVariants.{FooterSize, SectionPlace, ShardVersion, Tag}
+use Rattle.xet_hash.specs.declared.error.StoreError.{StoreError}
+use Rattle.xet_shard_format.specs.declared.header_footer.MDBShardFileFooter.{MDBShardFileFooter}
+use Rattle.xet_shard_format.specs.Reading.{footer_in, places_at, reaches, wants}
+use Rattle.xet_shard_format.specs.Rows.{word}
+use Rattle.xet_shard_format.specs.Text.{tag}
+
+-- the header of a shard of so many bytes, whose first 48 are these
+unfoldable pub header_of_first : ℕ → List ℕ → Result (Unit {0}) StoreError
+header_of_first len first = do
+  _ ← reaches (nat_le 32 len)
+  _ ← wants (pointwise nat_eq (take 32 first) tag) Tag
+  _ ← reaches (nat_le 40 len)
+  _ ← wants (word first 32 == 2) ShardVersion
+  _ ← reaches (nat_le 48 len)
+  _ ← wants (word first 40 == 200) FooterSize
+  reaches (nat_le 248 len)
+
+-- the footer of a shard of so many bytes, whose last 200 are these
+unfoldable pub footer_of_last : ℕ → List ℕ → Result MDBShardFileFooter StoreError
+footer_of_last len last = do
+  _ ← wants (word last 0 == 1) ShardVersion
+  _ ← wants (pointwise nat_eq (take 48 (drop 120 last)) (replicate 48 0)) SectionPlace
+  _ ← places_at len (footer_in last)
+  Ok (footer_in last)

@@ -1,0 +1,11 @@
+pub mod Boundaries
+pub mod Ends
+pub mod Lookups
+pub mod Names
+pub mod Reading
+pub mod RecordSizes
+pub mod Records
+pub mod Rows
+pub mod Sorted
+pub mod Text
+pub mod theorems

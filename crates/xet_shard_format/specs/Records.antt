@@ -1,0 +1,119 @@
+-- The rows of a file and of a xorb, and the form that they have.
+use Rattle.std.specs.Prelude.{◌≡◌, ◌≢◌, ℕ, ◌+◌, ◌^◌, Bool, true, false, List, [], ◌∷◌, ◌++◌, length, map, Option, Some, None, is_some, if◌then◌else◌}
+use Rattle.std.specs.List.{flat_map, AllByRecursion, sum_by}
+use Rattle.std.specs.Ordering.{is_lt}
+use Rattle.xet_hash.specs.Hash.{hash_word, marker}
+use Rattle.xet_hash.specs.Order.{hash_cmp}
+use Rattle.xet_shard_format.specs.declared.row.Row.{Row}
+use Rattle.xet_shard_format.specs.declared.record.FileDataSequenceEntry.{FileDataSequenceEntry}
+use Rattle.xet_shard_format.specs.declared.record.FileVerificationEntry.{FileVerificationEntry}
+use Rattle.xet_shard_format.specs.declared.record.FileMetadataExt.{FileMetadataExt}
+use Rattle.xet_shard_format.specs.declared.record.XorbChunkSequenceEntry.{XorbChunkSequenceEntry}
+use Rattle.xet_shard_format.specs.declared.record.MDBFileInfo.{MDBFileInfo}
+use Rattle.xet_shard_format.specs.declared.record.MDBXorbInfo.{MDBXorbInfo}
+use Rattle.xet_shard_format.specs.Rows.{row}
+
+-- ---- files
+
+abbrev pub file_hash : MDBFileInfo → List ℕ
+file_hash f = f.metadata.file_hash
+
+abbrev pub file_head : MDBFileInfo → Row
+file_head f = row f.metadata.file_hash f.metadata.file_flags f.metadata.num_entries 0 0
+
+abbrev pub segment_row : FileDataSequenceEntry → Row
+segment_row s = row s.xorb_hash s.xorb_flags s.unpacked_segment_bytes s.chunk_index_start s.chunk_index_end
+
+abbrev pub verification_row : FileVerificationEntry → Row
+verification_row v = row v.range_hash 0 0 0 0
+
+abbrev pub ext_rows : Option FileMetadataExt → List Row
+ext_rows None = []
+ext_rows (Some m) = row m.sha256 0 0 0 0 ∷ []
+
+-- the rows after the head
+abbrev pub file_rest : MDBFileInfo → List Row
+file_rest f = map segment_row f.segments ++ (map verification_row f.verification ++ ext_rows f.metadata_ext)
+
+abbrev pub file_rows : MDBFileInfo → List Row
+file_rows f = file_head f ∷ file_rest f
+
+-- Flag 31 says that a file has a verification row for each segment, flag 30 that it has a metadata row.
+abbrev pub flags_of : Bool → Bool → ℕ
+flags_of false false = 0
+flags_of false true = 2 ^ 30
+flags_of true false = 2 ^ 31
+flags_of true true = 2 ^ 31 + 2 ^ 30
+
+-- The form of a file: its numbers and flags are those of its rows.
+pub record IsFile (f : MDBFileInfo) : Type 0 where
+  pub counted : f.metadata.num_entries ≡ length f.segments
+  pub plain : AllByRecursion (λ s. s.xorb_flags ≡ 0) f.segments
+  pub verified : Bool
+  pub verifications : length f.verification ≡ (if verified then length f.segments else 0)
+  pub flags : f.metadata.file_flags ≡ flags_of verified (is_some f.metadata_ext)
+
+abbrev pub segment_bytes : List FileDataSequenceEntry → ℕ
+segment_bytes segments = sum_by (λ s. s.unpacked_segment_bytes) segments
+
+-- ---- xorbs
+
+abbrev pub xorb_hash : MDBXorbInfo → List ℕ
+xorb_hash x = x.metadata.xorb_hash
+
+abbrev pub xorb_head : MDBXorbInfo → Row
+xorb_head x = row x.metadata.xorb_hash x.metadata.xorb_flags x.metadata.num_entries x.metadata.num_bytes_in_xorb x.metadata.num_bytes_on_disk
+
+abbrev pub chunk_row : XorbChunkSequenceEntry → Row
+chunk_row c = row c.chunk_hash c.chunk_byte_range_start c.unpacked_segment_bytes 0 0
+
+abbrev pub xorb_rest : MDBXorbInfo → List Row
+xorb_rest x = map chunk_row x.chunks
+
+abbrev pub xorb_rows : MDBXorbInfo → List Row
+xorb_rows x = xorb_head x ∷ xorb_rest x
+
+-- each chunk starts where the one before ends
+abbrev pub StartAt : ℕ → List XorbChunkSequenceEntry → Type 0
+StartAt at [] = Unit {0}
+StartAt at (c ∷ cs) = (c.chunk_byte_range_start ≡ at) × StartAt (at + c.unpacked_segment_bytes) cs
+
+abbrev pub chunk_bytes : List XorbChunkSequenceEntry → ℕ
+chunk_bytes chunks = sum_by (λ c. c.unpacked_segment_bytes) chunks
+
+-- The form of a xorb: the numbers are those of its rows.
+pub record IsXorb (x : MDBXorbInfo) : Type 0 where
+  pub counted : x.metadata.num_entries ≡ length x.chunks
+  pub plain : x.metadata.xorb_flags ≡ 0
+  pub starts : StartAt 0 x.chunks
+  pub total : x.metadata.num_bytes_in_xorb ≡ chunk_bytes x.chunks
+  pub on_disk : x.metadata.num_bytes_on_disk ≡ 0
+
+-- ---- sections
+
+-- the last row of a section; no file and no xorb has the hash of all ones
+abbrev pub end_row : Row
+end_row = row marker 0 0 0 0
+
+abbrev pub section : {X : Type 0} → (X → List Row) → List X → List Row
+section rows xs = flat_map rows xs ++ end_row ∷ []
+
+abbrev pub file_section : List MDBFileInfo → List Row
+file_section files = section file_rows files
+
+abbrev pub xorb_section : List MDBXorbInfo → List Row
+xorb_section blocks = section xorb_rows blocks
+
+-- a hash is greater than the one before, where there is one
+abbrev pub is_after : Option (List ℕ) → List ℕ → Bool
+is_after None hash = true
+is_after (Some last) hash = is_lt (hash_cmp last hash)
+
+-- The hashes rise, none of them is the marker, and each of the records has the form.
+abbrev pub AreRecords : {X : Type 0} → (X → List ℕ) → (X → Type 0) → Option (List ℕ) → List X → Type 0
+AreRecords hash Form last [] = Unit {0}
+AreRecords hash Form last (x ∷ xs) = (is_after last (hash x) ≡ true) × (hash x ≢ marker) × Form x × AreRecords hash Form (Some (hash x)) xs
+
+-- the first word of a hash, by which look-ups go
+abbrev pub first_word : List ℕ → ℕ
+first_word h = hash_word h 0

@@ -1,0 +1,43 @@
+-- A section of a shard is a list of rows. A row is a hash and four numbers below 2 ^ 32, the low byte
+-- of each first: 48 bytes.
+use Rattle.std.specs.Prelude.{◌≡◌, ℕ, zero, suc, ◌^◌, ◌<◌, List, [], ◌∷◌, ◌++◌, length, take, drop}
+use Rattle.std.specs.List.{flat_map, All}
+use Rattle.std.specs.Int.{w32, w64, from_le_bytes, to_le_bytes}
+use Rattle.xet_shard_format.specs.declared.row.Row.{Row}
+
+abbrev pub row : List ℕ → ℕ → ℕ → ℕ → ℕ → Row
+row hash a b c d = record { hash = hash; a = a; b = b; c = c; d = d }
+
+unfoldable pub row_text : Row → List ℕ
+row_text r = r.hash ++ (to_le_bytes w32 r.a ++ (to_le_bytes w32 r.b ++ (to_le_bytes w32 r.c ++ to_le_bytes w32 r.d)))
+
+abbrev pub rows_text : List Row → List ℕ
+rows_text rs = flat_map row_text rs
+
+-- the number in the four, or in the eight, bytes at a place
+abbrev pub half_word : List ℕ → ℕ → ℕ
+half_word bytes at = from_le_bytes w32 (take 4 (drop at bytes))
+
+abbrev pub word : List ℕ → ℕ → ℕ
+word bytes at = from_le_bytes w64 (take 8 (drop at bytes))
+
+-- the row at the front
+unfoldable pub row_of : List ℕ → Row
+row_of bytes = row (take 32 bytes) (half_word bytes 32) (half_word bytes 36) (half_word bytes 40) (half_word bytes 44)
+
+-- the first n rows
+unfoldable pub rows_in : ℕ → List ℕ → List Row
+rows_in zero bytes = []
+rows_in (suc n) bytes = row_of bytes ∷ rows_in n (drop 48 bytes)
+
+-- a hash is 32 bytes
+abbrev pub IsHash : List ℕ → Type 0
+IsHash h = (length h ≡ 32) × All (λ b. b < 256) h
+
+-- What a row holds fits into its bytes.
+pub record RowFits (r : Row) : Type 0 where
+  pub hash : IsHash r.hash
+  pub a : r.a < 2 ^ 32
+  pub b : r.b < 2 ^ 32
+  pub c : r.c < 2 ^ 32
+  pub d : r.d < 2 ^ 32

@@ -1,0 +1,15 @@
+pub mod Bytes
+pub mod Counts
+pub mod Finding
+pub mod FirstLast
+pub mod Fitting
+pub mod Footers
+pub mod Places
+pub mod Refusing
+pub mod RowLaws
+pub mod RowList
+pub mod SectionLaws
+pub mod Sorting
+pub mod Steps
+pub mod WholeAgain
+pub mod WholeTaken

@@ -1,0 +1,183 @@
+//! The look-ups of a shard, and its totals.
+
+ghost use Rattle.std.specs.Prelude.{◌≡◌, ◌<◌, ◌^◌, ◌++◌, IfOk, OnOk, length, map};
+ghost use Rattle.xet_shard_format.specs.Records.{section, segment_bytes, xorb_section};
+ghost use Rattle.xet_shard_format.specs.Sorted.{sorted};
+ghost use Rattle.xet_shard_format.specs.Lookups.{chunk_items, chunks_from, flat_place, flat_places, heads_from, heads_text, left_in, place_cmp, place_text, places_from, places_text};
+ghost use Rattle.xet_shard_format.specs.Text.{materialized, stored};
+
+use crate::record::{MDBFileInfo, MDBXorbInfo, XorbChunkSequenceEntry};
+use crate::section::{Lends, Record};
+use std::alloc::{AllocError, Global};
+
+/// The first word of a hash, and the row of its record's head.
+pub type Head = (u64, u32);
+
+/// The first word of a chunk's hash, the row of its xorb's head, and its place in the xorb.
+pub type ChunkPlace = (u64, (u32, u32));
+
+/// Adds the look-up of these records: of each the first word of its hash, and the row of its head.
+pub fn push_heads<R: Record, T: Lends<R>>(
+    text: &mut Vec<u8>,
+    records: &[T],
+) -> Result<(), AllocError>
+    requires { length (section R.rows_of (map T.lent records.now)) < 2 ^ 32 }
+    ensures { OnOk result (text.new.items ≡ text.old.items ++ heads_text (heads_from R.hash_of R.rows_of 0 (map T.lent records.now))) }
+{
+    let mut row: u32 = 0;
+    for item in records {
+        let record = item.lend();
+        text.extend_from_slice(&record.hash().word(0).to_le_bytes())?;
+        text.extend_from_slice(&row.to_le_bytes())?;
+        row += record.num_rows();
+    }
+    Ok(())
+}
+
+/// Adds the look-up of these records where it stands, and nothing where it is left out.
+pub fn push_standing_heads<R: Record, T: Lends<R>>(
+    text: &mut Vec<u8>,
+    stands: bool,
+    records: &[T],
+) -> Result<(), AllocError>
+    requires { length (section R.rows_of (map T.lent records.now)) < 2 ^ 32 }
+    ensures { OnOk result (text.new.items ≡ text.old.items ++ heads_text (left_in stands (heads_from R.hash_of R.rows_of 0 (map T.lent records.now)))) }
+{
+    if stands {
+        push_heads::<R, T>(text, records)
+    } else {
+        Ok(())
+    }
+}
+
+/// The same of the chunks of these xorbs.
+pub fn push_standing_places<T: Lends<MDBXorbInfo>>(
+    alloc: Global,
+    text: &mut Vec<u8>,
+    stands: bool,
+    blocks: &[T],
+) -> Result<(), AllocError>
+    requires { length (xorb_section (map T.lent blocks.now)) < 2 ^ 32 }
+    ensures { OnOk result (text.new.items ≡ text.old.items ++ places_text (left_in stands (chunk_items (map T.lent blocks.now)))) }
+{
+    if stands {
+        push_places::<T>(alloc, text, blocks)
+    } else {
+        Ok(())
+    }
+}
+
+/// Adds the look-up of the chunks of these xorbs, in the order of words, rows and places.
+pub fn push_places<T: Lends<MDBXorbInfo>>(
+    alloc: Global,
+    text: &mut Vec<u8>,
+    blocks: &[T],
+) -> Result<(), AllocError>
+    requires { length (xorb_section (map T.lent blocks.now)) < 2 ^ 32 }
+    ensures { OnOk result (text.new.items ≡ text.old.items ++ places_text (chunk_items (map T.lent blocks.now))) }
+{
+    let places = chunk_places(alloc, blocks)?;
+    for place in &places {
+        push_place(text, place)?;
+    }
+    Ok(())
+}
+
+/// The look-up of the chunks of these xorbs, in the order of words, rows and places.
+pub fn chunk_places<T: Lends<MDBXorbInfo>>(
+    alloc: Global,
+    blocks: &[T],
+) -> Result<Vec<ChunkPlace>, AllocError>
+    requires { length (xorb_section (map T.lent blocks.now)) < 2 ^ 32 }
+    ensures { IfOk result (λ places. flat_places places.items ≡ chunk_items (map T.lent blocks.now)) }
+{
+    let found = places(alloc, blocks)?;
+    in_order(found)
+}
+
+/// The places of all chunks, as they come.
+fn places<T: Lends<MDBXorbInfo>>(alloc: Global, blocks: &[T]) -> Result<Vec<ChunkPlace>, AllocError>
+    requires { length (xorb_section (map T.lent blocks.now)) < 2 ^ 32 }
+    ensures { IfOk result (λ places. flat_places places.items ≡ chunks_from 0 (map T.lent blocks.now)) }
+{
+    let mut found = Vec::new(alloc);
+    let mut row: u32 = 0;
+    for item in blocks {
+        let block = item.lend();
+        push_chunks(&mut found, block.chunks.as_slice(), row)?;
+        row += block.num_rows();
+    }
+    Ok(found)
+}
+
+/// Adds the places of the chunks of a xorb, whose head is this row.
+fn push_chunks(
+    found: &mut Vec<ChunkPlace>,
+    chunks: &[XorbChunkSequenceEntry],
+    row: u32,
+) -> Result<(), AllocError>
+    requires { length chunks.now < 2 ^ 32 }
+    ensures { OnOk result (flat_places found.new.items ≡ flat_places found.old.items ++ places_from row 0 chunks.now) }
+{
+    let mut place: u32 = 0;
+    for chunk in chunks {
+        found.push((chunk.chunk_hash.word(0), (row, place)))?;
+        place += 1;
+    }
+    Ok(())
+}
+
+/// The places in their order.
+fn in_order(mut places: Vec<ChunkPlace>) -> Result<Vec<ChunkPlace>, AllocError>
+    ensures { IfOk result (λ ordered. flat_places ordered.items ≡ sorted place_cmp (flat_places places.items)) }
+{
+    places.sort()?;
+    Ok(places)
+}
+
+/// Adds the bytes of a place.
+fn push_place(text: &mut Vec<u8>, place: &ChunkPlace) -> Result<(), AllocError>
+    ensures { OnOk result (text.new.items ≡ text.old.items ++ place_text (flat_place place.now)) }
+{
+    text.extend_from_slice(&place.0.to_le_bytes())?;
+    text.extend_from_slice(&place.1.0.to_le_bytes())?;
+    text.extend_from_slice(&place.1.1.to_le_bytes())?;
+    Ok(())
+}
+
+/// The bytes of the files together.
+pub fn materialized<T: Lends<MDBFileInfo>>(files: &[T]) -> u64
+    requires { materialized (map T.lent files.now) < 2 ^ 64 }
+    ensures { result ≡ materialized (map T.lent files.now) }
+{
+    let mut total: u64 = 0;
+    for item in files {
+        total += file_bytes(item.lend());
+    }
+    total
+}
+
+/// The bytes of a file.
+#[tactic(auto, using(crate::specs::theorems::Steps::sum_step))]
+fn file_bytes(file: &MDBFileInfo) -> u64
+    requires { segment_bytes file.now.segments < 2 ^ 64 }
+    ensures { result ≡ segment_bytes file.now.segments }
+{
+    let mut total: u64 = 0;
+    for segment in file.segments.as_slice() {
+        total += segment.unpacked_segment_bytes as u64;
+    }
+    total
+}
+
+/// The bytes of the xorbs together.
+pub fn stored<T: Lends<MDBXorbInfo>>(blocks: &[T]) -> u64
+    requires { stored (map T.lent blocks.now) < 2 ^ 64 }
+    ensures { result ≡ stored (map T.lent blocks.now) }
+{
+    let mut total: u64 = 0;
+    for item in blocks {
+        total += item.lend().metadata.num_bytes_in_xorb as u64;
+    }
+    total
+}

@@ -1,0 +1,318 @@
+//! The files and xorbs of a shard, row by row.
+
+ghost use Rattle.std.specs.Prelude.{◌≡◌, ◌++◌, ◌∷◌, [], None, IfErr, OnOk};
+ghost use Rattle.xet_hash.specs.declared.error.StoreError.TheVariants.{OutOfMemory};
+ghost use Rattle.xet_shard_format.specs.Records.{file_hash, flags_of, is_after, xorb_hash};
+ghost use Rattle.xet_shard_format.specs.Reading.{Gives, chunk_in, chunks_at, end_at, ext_at, file_at, has_ext, hash_at, hash_in, is_verified, rows_after_file, section_at, segment_at, step_at, times, verification_at, xorb_at};
+
+use crate::record::{FileDataSequenceEntry, FileDataSequenceHeader, FileMetadataExt, FileVerificationEntry, MDBFileInfo, MDBXorbInfo, XorbChunkSequenceEntry, XorbChunkSequenceHeader};
+use crate::row::Row;
+use crate::row_cursor::Rows;
+use crate::section::Record;
+use crate::sha256::Sha256;
+use std::alloc::Global;
+use xet_base::Items;
+use xet_hash::{DataHash, Reason, StoreError};
+
+/// The flag of a file with verification rows.
+const VERIFIED: u32 = 1 << 31;
+
+/// The flag of a file with a metadata row.
+const WITH_EXT: u32 = 1 << 30;
+
+/// A segment.
+#[tactic(auto, unfolding(crate::specs::Reading::segment_at))]
+fn segment(rows: &mut Rows) -> Result<FileDataSequenceEntry, StoreError>
+    ensures { Gives (λ s. (s, rows.new)) result (segment_at rows.old) }
+{
+    let row = rows.next()?;
+    if row.a != 0 {
+        return Err(StoreError::MalformedData(Reason::SectionEntry));
+    }
+    Ok(FileDataSequenceEntry {
+        xorb_hash: row.hash,
+        xorb_flags: row.a,
+        unpacked_segment_bytes: row.b,
+        chunk_index_start: row.c,
+        chunk_index_end: row.d,
+    })
+}
+
+/// The hash of a row that holds a hash alone.
+#[tactic(auto, unfolding(crate::specs::Reading::hash_in))]
+fn hash_in(row: &Row) -> Result<DataHash, StoreError>
+    ensures { Gives (λ h. h) result (hash_in row.now) }
+{
+    if row.a != 0 || row.b != 0 || row.c != 0 || row.d != 0 {
+        return Err(StoreError::MalformedData(Reason::SectionEntry));
+    }
+    Ok(row.hash)
+}
+
+/// The hash of the next row, which holds a hash alone.
+#[tactic(auto, unfolding(crate::specs::Reading::hash_at))]
+fn hash_at(rows: &mut Rows) -> Result<DataHash, StoreError>
+    ensures { Gives (λ h. (h, rows.new)) result (hash_at rows.old) }
+{
+    let row = rows.next()?;
+    let hash = hash_in(&row)?;
+    Ok(hash)
+}
+
+/// What verifies a segment.
+#[tactic(auto, unfolding(crate::specs::Reading::verification_at))]
+fn verification(rows: &mut Rows) -> Result<FileVerificationEntry, StoreError>
+    ensures { Gives (λ v. (v, rows.new)) result (verification_at rows.old) }
+{
+    let range_hash = hash_at(rows)?;
+    Ok(FileVerificationEntry { range_hash })
+}
+
+/// What else is told of a file, where its flag stands.
+#[tactic(auto, unfolding(crate::specs::Reading::ext_at))]
+fn ext(rows: &mut Rows, wanted: bool) -> Result<Option<FileMetadataExt>, StoreError>
+    ensures { Gives (λ v. (v, rows.new)) result (ext_at wanted rows.old) }
+{
+    if !wanted {
+        return Ok(None);
+    }
+    let hash = hash_at(rows)?;
+    Ok(Some(FileMetadataExt {
+        sha256: Sha256::from_bytes(*hash.as_bytes()),
+    }))
+}
+
+/// So many segments.
+fn segments(
+    alloc: Global,
+    rows: &mut Rows,
+    count: u32,
+) -> Result<Vec<FileDataSequenceEntry>, StoreError>
+    ensures { Gives (λ v. (v.items, rows.new)) result (times segment_at count rows.old) }
+{
+    let mut found = Vec::with_capacity(alloc, count as usize)?;
+    for _done in 0..count {
+        let next = segment(rows)?;
+        found.push(next)?;
+    }
+    Ok(found)
+}
+
+/// So many verification rows.
+fn verifications(
+    alloc: Global,
+    rows: &mut Rows,
+    count: u32,
+) -> Result<Vec<FileVerificationEntry>, StoreError>
+    ensures { Gives (λ v. (v.items, rows.new)) result (times verification_at count rows.old) }
+{
+    let mut found = Vec::with_capacity(alloc, count as usize)?;
+    for _done in 0..count {
+        let next = verification(rows)?;
+        found.push(next)?;
+    }
+    Ok(found)
+}
+
+/// The chunk in a row, which starts at a place.
+#[tactic(auto, unfolding(crate::specs::Reading::chunk_in))]
+pub fn chunk_in(row: &Row, at: u64) -> Result<XorbChunkSequenceEntry, StoreError>
+    ensures gives { Gives (λ c. c) result (chunk_in row.now at) }
+    ensures exact { result ≡ chunk_in row.now at }
+{
+    if row.a as u64 != at || row.c != 0 || row.d != 0 {
+        return Err(StoreError::MalformedData(Reason::SectionEntry));
+    }
+    Ok(XorbChunkSequenceEntry {
+        chunk_hash: row.hash,
+        chunk_byte_range_start: row.a,
+        unpacked_segment_bytes: row.b,
+    })
+}
+
+/// The chunks, and where the last one ends.
+fn chunks(
+    alloc: Global,
+    rows: &mut Rows,
+    count: u32,
+) -> Result<(Vec<XorbChunkSequenceEntry>, u64), StoreError>
+    ensures { Gives (λ x. (x.0.items, x.1, rows.new)) result (chunks_at count 0 rows.old) }
+{
+    let mut found = Vec::with_capacity(alloc, count as usize)?;
+    let mut at: u64 = 0;
+    for _done in 0..count {
+        let row = rows.next()?;
+        let chunk = chunk_in(&row, at)?;
+        at = row.a as u64 + row.b as u64;
+        found.push(chunk)?;
+    }
+    Ok((found, at))
+}
+
+/// The flags of a file.
+fn flags_of(verified: bool, with_ext: bool) -> u32
+    ensures { result ≡ flags_of verified with_ext }
+{
+    match (verified, with_ext) {
+        (false, false) => 0,
+        (false, true) => WITH_EXT,
+        (true, false) => VERIFIED,
+        (true, true) => VERIFIED + WITH_EXT,
+    }
+}
+
+/// Whether these flags tell of verification rows.
+pub fn is_verified(flags: u32) -> bool
+    ensures { result ≡ is_verified flags }
+{
+    flags >= VERIFIED
+}
+
+/// Whether these flags tell of a metadata row.
+pub fn has_ext(flags: u32) -> bool
+    ensures { result ≡ has_ext flags }
+{
+    flags % VERIFIED >= WITH_EXT
+}
+
+/// The number of rows of a file after its header.
+pub fn rows_after_file(head: &Row) -> u64
+    ensures { result ≡ rows_after_file head.now }
+{
+    let entries = u64::from(head.b);
+    let checks = if is_verified(head.a) { entries } else { 0 };
+    let ext = if has_ext(head.a) { 1 } else { 0 };
+    entries + (checks + ext)
+}
+
+/// The file whose header was read. Memory is reserved only for rows that are there.
+#[tactic(auto, unfolding(crate::specs::Reading::file_at))]
+pub fn file(alloc: Global, head: &Row, rows: &mut Rows) -> Result<MDBFileInfo, StoreError>
+    ensures { Gives (λ f. (f, rows.new)) result (file_at head.now rows.old) }
+{
+    if !rows.has(rows_after_file(head)) {
+        return Err(StoreError::MalformedData(Reason::SectionPlace));
+    }
+    let verified = is_verified(head.a);
+    let with_ext = has_ext(head.a);
+    if head.a != flags_of(verified, with_ext) {
+        return Err(StoreError::MalformedData(Reason::SectionEntry));
+    }
+    if head.c != 0 || head.d != 0 {
+        return Err(StoreError::MalformedData(Reason::SectionEntry));
+    }
+    let segments = segments(alloc, rows, head.b)?;
+    let verification = verifications(alloc, rows, if verified { head.b } else { 0 })?;
+    let metadata_ext = ext(rows, with_ext)?;
+    Ok(MDBFileInfo {
+        metadata: FileDataSequenceHeader {
+            file_hash: head.hash,
+            file_flags: head.a,
+            num_entries: head.b,
+        },
+        segments: Items::from_vec(segments),
+        verification: Items::from_vec(verification),
+        metadata_ext,
+    })
+}
+
+/// The xorb whose header was read. Memory is reserved only for rows that are there.
+#[tactic(auto, unfolding(crate::specs::Reading::xorb_at))]
+pub fn xorb(alloc: Global, head: &Row, rows: &mut Rows) -> Result<MDBXorbInfo, StoreError>
+    ensures { Gives (λ x. (x, rows.new)) result (xorb_at head.now rows.old) }
+{
+    if !rows.has(u64::from(head.b)) {
+        return Err(StoreError::MalformedData(Reason::SectionPlace));
+    }
+    if head.a != 0 || head.d != 0 {
+        return Err(StoreError::MalformedData(Reason::SectionEntry));
+    }
+    let (chunks, total) = chunks(alloc, rows, head.b)?;
+    if total != head.c as u64 {
+        return Err(StoreError::MalformedData(Reason::SectionEntry));
+    }
+    Ok(MDBXorbInfo {
+        metadata: XorbChunkSequenceHeader {
+            xorb_hash: head.hash,
+            xorb_flags: head.a,
+            num_entries: head.b,
+            num_bytes_in_xorb: head.c,
+            num_bytes_on_disk: head.d,
+        },
+        chunks: Items::from_vec(chunks),
+    })
+}
+
+/// Whether a hash is greater than the one before, where there is one.
+fn is_after(last: Option<DataHash>, hash: DataHash) -> bool
+    ensures { result ≡ is_after last hash }
+{
+    match last {
+        None => true,
+        Some(before) => before.cmp(&hash).is_lt(),
+    }
+}
+
+/// The end of a section.
+#[tactic(auto, unfolding(crate::specs::Reading::end_at))]
+fn end(row: &Row, rows: &Rows) -> Result<(), StoreError>
+    ensures { Gives (λ _. tt) result (end_at row.now rows.now) }
+{
+    hash_in(row)?;
+    if !rows.is_done() {
+        return Err(StoreError::MalformedData(Reason::SectionPlace));
+    }
+    Ok(())
+}
+
+/// The next record, or none at the end of the section. Its hash is compared with the last one after the record
+/// was read.
+#[tactic(auto, unfolding(crate::specs::Reading::step_at))]
+fn record_or_end<R: Record>(
+    alloc: Global,
+    last: Option<DataHash>,
+    rows: &mut Rows,
+) -> Result<Option<R>, StoreError>
+    ensures { Gives (λ x. (x, rows.new)) result (step_at R.record_at last rows.old) }
+{
+    let row = rows.next()?;
+    if row.hash == DataHash::marker() {
+        end(&row, rows)?;
+        return Ok(None);
+    }
+    let found = R::read(alloc, &row, rows)?;
+    if is_after(last, row.hash) {
+        Ok(Some(found))
+    } else {
+        Err(StoreError::MalformedData(Reason::SectionOrder))
+    }
+}
+
+/// Adds an item at the end.
+fn push<T: Drop>(found: &mut Vec<T>, item: T) -> Result<(), StoreError>
+    ensures ok { OnOk result (found.new.items ≡ found.old.items ++ item ∷ []) }
+    ensures err { IfErr result (λ e. e ≡ OutOfMemory) }
+{
+    found.push(item)?;
+    Ok(())
+}
+
+/// The records of a section of so many rows.
+pub fn records<R: Record>(alloc: Global, rows: &mut Rows, count: u32) -> Result<Vec<R>, StoreError>
+    ensures { Gives (λ v. v.items) result (section_at R.record_at R.hash_of count None rows.old) }
+{
+    let mut found = Vec::new(alloc);
+    let mut last = None;
+    for _done in 0..count {
+        let next: Option<R> = record_or_end(alloc, last, rows)?;
+        match next {
+            None => return Ok(found),
+            Some(record) => {
+                let hash = record.hash();
+                push(&mut found, record)?;
+                last = Some(hash);
+            }
+        }
+    }
+    Err(StoreError::MalformedData(Reason::SectionPlace))
+}

@@ -1,0 +1,192 @@
+//! A shard, written as a whole.
+
+ghost use Rattle.std.specs.Prelude.{◌≡◌, ◌<◌, ◌+◌, ◌*◌, ◌^◌, ◌++◌, ℕ, IfErr, IfOk, IsErrOf, IsOkUnless, OnOk, None, cond, length, map, take, true};
+ghost use Rattle.xet_shard_format.specs.Records.{file_section, section, xorb_section};
+ghost use Rattle.xet_shard_format.specs.Lookups.{chunk_items, file_items, xorb_items};
+ghost use Rattle.xet_shard_format.specs.Text.{Fits, footer_of, footer_with, shard, shard_text};
+
+use crate::encoding::{known_hash, push_footer, push_header, push_section};
+use crate::header_footer::{HEADER, MDBShardFileFooter};
+use crate::lookup::{materialized, push_standing_heads, push_standing_places, stored};
+use crate::record::{MDBFileInfo, MDBXorbInfo};
+use crate::section::{Lends, Record};
+use std::alloc::Global;
+use xet_hash::{HMACKey, Place, StoreError};
+
+/// How much there is in a shard.
+#[derive(Clone, Copy)]
+struct Counts {
+    /// The rows of the files.
+    file_rows: u32,
+    /// The rows of the xorbs.
+    xorb_rows: u32,
+    /// The items of the look-up of files.
+    files: u32,
+    /// Those of the look-up of xorbs.
+    xorbs: u32,
+    /// Those of the look-up of chunks.
+    chunks: u32,
+}
+
+/// Which of the look-ups stand in a shard. The others are left out.
+#[derive(Clone, Copy)]
+pub struct Lookups {
+    /// The files'.
+    pub files: bool,
+    /// The xorbs'.
+    pub xorbs: bool,
+    /// The chunks'.
+    pub chunks: bool,
+}
+
+/// All look-ups.
+pub const ALL_LOOKUPS: Lookups = Lookups {
+    files: true,
+    xorbs: true,
+    chunks: true,
+};
+
+/// The text of a shard with these xorbs, files and look-ups, and its footer. The memory of the text is taken
+/// once, for its exact length. Where there is none, the call fails with `StoreError::OutOfMemory`, and for no
+/// other reason.
+pub fn write_with_lookups<B: Lends<MDBXorbInfo>, F: Lends<MDBFileInfo>>(
+    alloc: Global,
+    lookups: Lookups,
+    blocks: &[B],
+    files: &[F],
+    key: HMACKey,
+    creation: u64,
+    expiry: u64,
+) -> Result<(Vec<u8>, MDBShardFileFooter), StoreError>
+    requires few_files { length (file_section (map F.lent files.now)) < 2 ^ 32 }
+    requires few_blocks { length (xorb_section (map B.lent blocks.now)) < 2 ^ 32 }
+    ensures text { IfOk result (λ x. x.0.items ≡ shard_text (record { files = lookups.files; xorbs = lookups.xorbs; chunks = lookups.chunks }) (shard (map B.lent blocks.now) (map F.lent files.now) key creation expiry)) }
+    ensures footer { IfOk result (λ x. x.1 ≡ footer_of (record { files = lookups.files; xorbs = lookups.xorbs; chunks = lookups.chunks }) (shard (map B.lent blocks.now) (map F.lent files.now) key creation expiry)) }
+    ensures fits { OnOk result (Fits (shard (map B.lent blocks.now) (map F.lent files.now) key creation expiry)) }
+    ensures memory { IsOkUnless result StoreError.OutOfMemory }
+{
+    known_hash(&key);
+    let all = count::<B, F>(blocks, files);
+    let counts = all.standing(lookups);
+    let mut text = Vec::with_capacity(alloc, counts.footer_offset() as usize + 200)?;
+    push_header(&mut text, &HEADER)?;
+    push_section::<MDBFileInfo, F>(&mut text, files)?;
+    push_section::<MDBXorbInfo, B>(&mut text, blocks)?;
+    push_standing_heads::<MDBFileInfo, F>(&mut text, lookups.files, files)?;
+    push_standing_heads::<MDBXorbInfo, B>(&mut text, lookups.xorbs, blocks)?;
+    push_standing_places::<B>(alloc, &mut text, lookups.chunks, blocks)?;
+    let footer = counts.footer(
+        key,
+        creation,
+        expiry,
+        materialized::<F>(files),
+        stored::<B>(blocks),
+    );
+    push_footer(&mut text, &footer)?;
+    Ok((text, footer))
+}
+
+/// How much there is in the shard of these records.
+fn count<B: Lends<MDBXorbInfo>, F: Lends<MDBFileInfo>>(blocks: &[B], files: &[F]) -> Counts
+    requires few_files { length (file_section (map F.lent files.now)) < 2 ^ 32 }
+    requires few_blocks { length (xorb_section (map B.lent blocks.now)) < 2 ^ 32 }
+    ensures file_rows { result.file_rows ≡ length (file_section (map F.lent files.now)) }
+    ensures xorb_rows { result.xorb_rows ≡ length (xorb_section (map B.lent blocks.now)) }
+    ensures files { result.files ≡ length (file_items (map F.lent files.now)) }
+    ensures xorbs { result.xorbs ≡ length (xorb_items (map B.lent blocks.now)) }
+    ensures chunks { result.chunks ≡ length (chunk_items (map B.lent blocks.now)) }
+{
+    let xorb_rows = section_rows::<MDBXorbInfo, B>(blocks);
+    let xorbs = blocks.len() as u32;
+    Counts {
+        file_rows: section_rows::<MDBFileInfo, F>(files),
+        xorb_rows,
+        files: files.len() as u32,
+        xorbs,
+        // A row that is neither a head nor the last one is a chunk's.
+        chunks: xorb_rows - 1 - xorbs,
+    }
+}
+
+/// How many rows the section of these records has.
+fn section_rows<R: Record, T: Lends<R>>(records: &[T]) -> u32
+    requires { length (section R.rows_of (map T.lent records.now)) < 2 ^ 32 }
+    ensures { result ≡ length (section R.rows_of (map T.lent records.now)) }
+{
+    let mut rows: u32 = 1;
+    for item in records {
+        rows += item.lend().num_rows();
+    }
+    rows
+}
+
+/// So many items of a look-up, or none where it is left out.
+fn count_standing(stands: bool, count: u32) -> u32
+    ensures { result ≡ cond stands count 0 }
+{
+    if stands { count } else { 0 }
+}
+
+impl Counts {
+    /// The same, with the items of these look-ups alone.
+    fn standing(&self, lookups: Lookups) -> Counts
+        ensures file_rows { result.file_rows ≡ self.now.file_rows }
+        ensures xorb_rows { result.xorb_rows ≡ self.now.xorb_rows }
+        ensures files { result.files ≡ cond lookups.files self.now.files 0 }
+        ensures xorbs { result.xorbs ≡ cond lookups.xorbs self.now.xorbs 0 }
+        ensures chunks { result.chunks ≡ cond lookups.chunks self.now.chunks 0 }
+    {
+        Counts {
+            file_rows: self.file_rows,
+            xorb_rows: self.xorb_rows,
+            files: count_standing(lookups.files, self.files),
+            xorbs: count_standing(lookups.xorbs, self.xorbs),
+            chunks: count_standing(lookups.chunks, self.chunks),
+        }
+    }
+
+    /// Where the footer begins.
+    fn footer_offset(&self) -> u64
+        ensures { result ≡ 48 + 48 * self.now.file_rows + 48 * self.now.xorb_rows + 12 * self.now.files + 12 * self.now.xorbs + 16 * self.now.chunks }
+    {
+        48 + 48 * self.file_rows as u64
+            + 48 * self.xorb_rows as u64
+            + 12 * self.files as u64
+            + 12 * self.xorbs as u64
+            + 16 * self.chunks as u64
+    }
+
+    /// The footer of a shard with so much in it, these moments and these totals.
+    fn footer(
+        &self,
+        key: HMACKey,
+        creation: u64,
+        expiry: u64,
+        materialized_bytes: u64,
+        stored_bytes: u64,
+    ) -> MDBShardFileFooter
+        ensures { result ≡ footer_with self.now.file_rows self.now.xorb_rows self.now.files self.now.xorbs self.now.chunks key creation expiry materialized_bytes stored_bytes }
+    {
+        let xorb_info_offset = 48 + 48 * self.file_rows as u64;
+        let file_lookup_offset = xorb_info_offset + 48 * self.xorb_rows as u64;
+        let xorb_lookup_offset = file_lookup_offset + 12 * self.files as u64;
+        MDBShardFileFooter {
+            version: 1,
+            file_info_offset: 48,
+            xorb_info_offset,
+            file_lookup_offset,
+            file_lookup_num_entry: self.files as u64,
+            xorb_lookup_offset,
+            xorb_lookup_num_entry: self.xorbs as u64,
+            chunk_lookup_offset: xorb_lookup_offset + 12 * self.xorbs as u64,
+            chunk_lookup_num_entry: self.chunks as u64,
+            chunk_hash_hmac_key: key,
+            shard_creation_timestamp: creation,
+            shard_key_expiry: expiry,
+            stored_bytes_on_disk: 0,
+            materialized_bytes,
+            stored_bytes,
+            footer_offset: self.footer_offset(),
+        }
+    }
+}
