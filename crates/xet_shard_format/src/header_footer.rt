@@ -105,7 +105,7 @@ pub fn header(bytes: &[u8]) -> Result<(), StoreError>
 
 /// Checks the header of a shard of so many bytes, whose first 48 are these, and that there is room for a
 /// footer.
-#[tactic(auto, unfolding(xet_shard::specs::ReaderBytes::header_of_first))]
+#[tactic(auto, unfolding(crate::specs::Ends::header_of_first))]
 pub fn header_of_first(len: u64, first: &[u8]) -> Result<(), StoreError>
     requires { min len 48 ≤ length first.now }
     ensures gives { Gives (λ _. tt) result (header_of_first len first.now) }
@@ -151,7 +151,7 @@ pub fn footer(bytes: &[u8]) -> Result<MDBShardFileFooter, StoreError>
 }
 
 /// The footer of a shard of so many bytes, whose last 200 are these.
-#[tactic(auto, unfolding(xet_shard::specs::ReaderBytes::footer_of_last))]
+#[tactic(auto, unfolding(crate::specs::Ends::footer_of_last))]
 pub fn footer_of_last(len: u64, last: &[u8]) -> Result<MDBShardFileFooter, StoreError>
     requires { length last.now ≡ 200 }
     ensures gives { Gives (λ f. f) result (footer_of_last len last.now) }
