@@ -4,7 +4,7 @@ use Rattle.std.proofs.lemmas.List.{get_or_read, length-take-le}
 use Rattle.std.proofs.lemmas.List.Sums.{sum_by-take-le}
 use Rattle.xet_hash.specs.Merkle.{total_len}
 use Rattle.xet_folder.specs.Runs.{HasEnds, stored_len}
-use Rattle.xet_folder.proofs.Placing.{Member, stored_is}
+use Rattle.xet_folder.specs.theorems.Placing.{Member, stored_is}
 
 -- the end of the first chunks, without headers and with them
 pub record EndAt (ms : List Member) (count end : ℕ) : Type 0 where

@@ -4,30 +4,12 @@ use Rattle.std.proofs.lemmas.List.{append-nil}
 use Rattle.std.proofs.lemmas.List.Elements.{filter-append}
 use Rattle.std.specs.Cmp.Lexicographic.{bytes_decides, pointwise}
 use Rattle.std.specs.List.{AllByRecursion}
-use Rattle.xet_shard_format.specs.theorems.Fitting.{all_both}
+use Rattle.xet_base.specs.theorems.Elements.{all_both}
 use Rattle.xet_shard_format.specs.declared.record.MDBFileInfo.{MDBFileInfo}
 use Rattle.xet_folder.specs.Contents.{firsts}
 use Rattle.xet_folder.specs.Gathering.{with_first, with_firsts}
 use Rattle.xet_folder.specs.Xorbs.{Records, found}
-
-abbrev Row : Type 0
-Row = List ℕ × MDBFileInfo
-
--- the test that leaves out the rows of a hash
-abbrev apart : List ℕ → Row → Bool
-apart h q = not (pointwise nat_eq q.0 h)
-
--- rows of other hashes may be left out
-found_apart : (x h : List ℕ) → pointwise nat_eq h x ≡ false → (rows : Records) → found (filter (apart x) rows) h ≡ found rows h
-found_apart x h differ [] = refl
-found_apart x h differ (q ∷ rows) = go (pointwise nat_eq q.0 x) refl (found_apart x h differ rows)
-  where
-    go : (b : Bool) → pointwise nat_eq q.0 x ≡ b → found (filter (apart x) rows) h ≡ found rows h
-        → found (cond (not b) (q ∷ filter (apart x) rows) (filter (apart x) rows)) h ≡ cond (pointwise nat_eq h q.0) (Some q.1) (found rows h)
-    go true same rest =
-        let other : pointwise nat_eq h q.0 ≡ false = ap (λ (k : List ℕ). pointwise nat_eq h k) ((bytes_decides q.0 x).0 same) ∙ differ in
-        rest ∙ ap (λ (c : Bool). cond c (Some q.1) (found rows h)) (sym other)
-    go false same rest = ap (λ (o : Option MDBFileInfo). cond (pointwise nat_eq h q.0) (Some q.1) o) rest
+use Rattle.xet_folder.specs.theorems.Firsts.{Row, apart, found_apart}
 
 -- a row more after a row, and the others without its hash
 module _ (x r : Row) (rest : Records) where
@@ -94,13 +76,3 @@ firsts_hold P rows (r ∷ more) all also = firsts_hold P (with_first rows r) mor
 pub not_some : (o : Option MDBFileInfo) → is_some o ≡ false → o ≡ None
 not_some None e = refl
 not_some (Some v) e = absurd (cc e)
-
--- what is found among the first ones is what is found among all
-pub found_firsts : (rows : Records) (h : List ℕ) → found (firsts rows) h ≡ found rows h
-unfolding firsts
-found_firsts [] h = refl
-found_firsts (r ∷ rows) h = go (pointwise nat_eq h r.0) refl (found_firsts rows h)
-  where
-    go : (b : Bool) → pointwise nat_eq h r.0 ≡ b → found (firsts rows) h ≡ found rows h → cond b (Some r.1) (found (filter (apart r.0) (firsts rows)) h) ≡ cond b (Some r.1) (found rows h)
-    go true same rest = refl
-    go false differ rest = found_apart r.0 h differ (firsts rows) ∙ rest

@@ -6,7 +6,7 @@ use Rattle.xet_hash.specs.Merkle.{file_hash}
 use Rattle.xet_shard_format.specs.declared.record.FileDataSequenceEntry.{FileDataSequenceEntry as Segment}
 use Rattle.xet_shard_format.specs.Records.{segment_bytes}
 use Rattle.xet_folder.specs.Plan.{Joins, LiesIn, part}
-use Rattle.xet_folder.proofs.Rest.{left}
+use Rattle.xet_folder.specs.theorems.Rest.{left}
 
 module _ (segments : List Segment) (i : ℕ) (s : Segment) (below : i < length segments) (is : s ≡ get_or segments i s) where
   pub bytes_left : segment_bytes (drop i segments) ≡ s.unpacked_segment_bytes + segment_bytes (drop (i + 1) segments)

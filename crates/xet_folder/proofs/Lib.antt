@@ -11,7 +11,6 @@ mod Comparing
 mod Rest
 mod Joining
 mod Refused
-mod Agreeing
 mod Registering
 mod Firsts
 mod MoreShards

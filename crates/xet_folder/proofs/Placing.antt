@@ -16,28 +16,18 @@ use Rattle.xet_folder.specs.Plan.{LiesIn, part, range}
 use Rattle.xet_folder.specs.Runs.{HasPlace, Spells, Touches, stored_len}
 use Rattle.xet_folder.specs.Stored.{IsStored}
 use Rattle.xet_folder.proofs.Ranges.{range_within}
-
-abbrev pub Member : Type 0
-Member = List ℕ × ℕ
+use Rattle.xet_folder.specs.theorems.Placing.{Member, plain_joined}
 
 pub rest_is : {X : Type 0} (xs : List X) (n : ℕ) → take (length xs - n) (drop n xs) ≡ drop n xs
 rest_is xs n = take_all (length xs - n) (drop n xs) (omega (arith, length-drop n xs))
 
 -- ---- lengths
 
-pub plain_joined : (chunks : List (List ℕ)) → total_len (members_of chunks) ≡ length (concat chunks)
-plain_joined [] = refl
-plain_joined (c ∷ cs) = omega (arith, sum_by-cons (λ (m : Member). m.1) (chunk_hash c, length c) (members_of cs), plain_joined cs, length-append c (concat cs))
-
 pub stored_joined : (chunks : List (List ℕ)) → stored_len (members_of chunks) ≡ length (flat_map spelling chunks)
 unfolding spelling
 stored_joined [] = refl
 stored_joined (c ∷ cs) =
     omega (arith, sum_by-cons (λ (m : Member). 8 + m.1) (chunk_hash c, length c) (members_of cs), stored_joined cs, length-append (spelling c) (flat_map spelling cs))
-
-pub stored_is : (ms : List Member) → stored_len ms ≡ total_len ms + 8 * length ms
-stored_is [] = refl
-stored_is (m ∷ ms) = omega (arith, sum_by-cons (λ (n : Member). n.1) m ms, sum_by-cons (λ (n : Member). 8 + n.1) m ms, stored_is ms)
 
 -- ---- parts of parts
 

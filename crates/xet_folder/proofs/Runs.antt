@@ -12,8 +12,8 @@ use Rattle.xet_folder.specs.Refusals.{IsRefusal}
 use Rattle.xet_xorb_chunk.specs.Spelling.{le24, spelling}
 use Rattle.xet_folder.specs.Plan.{range}
 use Rattle.xet_folder.specs.Runs.{IsRunRefusal, Spells}
-use Rattle.xet_folder.proofs.Ranges.{range-append, range_cut, range_past}
-use Rattle.xet_folder.proofs.Placing.{Member}
+use Rattle.xet_folder.specs.theorems.Ranges.{range-append, range_cut, range_past}
+use Rattle.xet_folder.specs.theorems.Placing.{Member}
 
 -- the header of a stored chunk, from the bytes of its length
 pub header_is : (bytes rest ds : List ℕ) (n : ℕ) → length bytes ≡ n → ds ≡ to_le_bytes w32 n

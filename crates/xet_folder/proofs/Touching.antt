@@ -6,7 +6,8 @@ use Rattle.xet_hash.specs.Merkle.{total_len}
 use Rattle.xet_shard_format.specs.declared.record.FileDataSequenceEntry.{FileDataSequenceEntry as Segment}
 use Rattle.xet_folder.specs.Plan.{LiesIn, part}
 use Rattle.xet_folder.specs.Runs.{IsTouched, Touches, stored_len}
-use Rattle.xet_folder.proofs.Placing.{Member, piece, piece-piece}
+use Rattle.xet_folder.specs.theorems.Placing.{Member}
+use Rattle.xet_folder.proofs.Placing.{piece, piece-piece}
 use Rattle.xet_folder.proofs.Sums.{sum_of_part, sum_rises}
 
 -- the bytes of the first chunks

@@ -11,3 +11,4 @@ pub mod Checks
 pub mod Contents
 pub mod Gathering
 pub mod Runs
+pub mod theorems

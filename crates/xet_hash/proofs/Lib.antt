@@ -1,10 +1,9 @@
-pub mod Words
-pub mod Tree
-pub mod Facts
-pub mod Nodes
-pub mod Texts
-pub mod Ties
-pub mod Counter
-pub mod Tail
-pub mod Blocks
-pub mod Hashing
+mod Words
+mod Tree
+mod Facts
+mod Nodes
+mod Texts
+mod Counter
+mod Tail
+mod Blocks
+mod Hashing

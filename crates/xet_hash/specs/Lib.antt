@@ -5,3 +5,4 @@ pub mod Order
 pub mod Merkle
 pub mod Chunks
 pub mod Hasher
+pub mod theorems

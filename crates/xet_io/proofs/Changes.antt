@@ -3,7 +3,7 @@ use Rattle.std.proofs.Common.{◌≡◌, ◌≢◌, ⊎_elim, ℕ, true, false, 
 use Rattle.std.specs.Cmp.Lexicographic.{nat_list_cmp_total}
 use Rattle.std.specs.FinMap.{get, insert, remove, get-remove}
 use Rattle.xet_io.specs.Disk.{Files, Entry, File, entry, file_of, file_at, stable_if, synced, gone_if, moved_if, renamed, removed}
-use Rattle.xet_io.proofs.Names.{is_name, either_name, same, get_here, get_other, get_kept}
+use Rattle.xet_io.specs.theorems.Names.{is_name, either_name, same, get_here, get_other, get_kept}
 
 pub none_of : {A : Type 0} (o : Option A) → is_some o ≡ false → o ≡ None
 none_of None is = refl

@@ -18,7 +18,7 @@ use Rattle.std.proofs.lemmas.Map.Text.{is_eq-slice_cmp, btree_map_updates_text}
 use Rattle.xet_io.specs.declared.held.Held.{Held}
 use Rattle.xet_io.specs.Disk.{Entry}
 use Rattle.xet_io.specs.MemoryFiles.{file_of_held, entry_of, files_in, files_of}
-use Rattle.xet_io.proofs.Names.{is_name, same}
+use Rattle.xet_io.specs.theorems.Names.{is_name, same}
 
 abbrev pub Names : Type 0
 Names = BTreeMap (String Global) Held

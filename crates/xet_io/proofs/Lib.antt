@@ -1,10 +1,9 @@
-pub mod Names
-pub mod Put
-pub mod Lookup
-pub mod HeldNames
-pub mod Changes
-pub mod Caused
-pub mod Listing
-pub mod Reading
-pub mod Retained
-pub mod Streaming
+mod Put
+mod Lookup
+mod HeldNames
+mod Changes
+mod Caused
+mod Listing
+mod Reading
+mod Retained
+mod Streaming

@@ -10,7 +10,7 @@ use Rattle.std.proofs.lemmas.List.Quantifiers.{Any-push, all_pairs_push}
 use Rattle.xet_io.specs.declared.disk.DiskEntry.{DiskEntry}
 use Rattle.xet_io.specs.Named.{in_folder, is_plain}
 use Rattle.xet_io.specs.Disk.{Files, Entry, File, file_of, file_at, stat_of, IsListed, Lists}
-use Rattle.xet_io.proofs.Names.{either_name, get_here, get_other}
+use Rattle.xet_io.specs.theorems.Names.{either_name, get_here, get_other}
 
 any_longer : {X : Type 0} (P : X → Type 0) (xs ys : List X) → Any P xs → Any P (xs ++ ys)
 any_longer P xs ys any = (any.0, any.1, omega (arith, length-append xs ys, any.2), get_or_append_left xs ys any.1 any.0 any.2 ∙ any.3, any.4)

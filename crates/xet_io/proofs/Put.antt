@@ -3,7 +3,7 @@ use Rattle.std.proofs.Common.{◌≡◌, inl, ℕ, true, false, List, Some, Resu
 use Rattle.std.specs.FinMap.{get, insert, remove}
 use Rattle.xet_io.specs.Disk.{Files, Entry, File, file, entry, file_of, written, synced, renamed, IsPutOrKept}
 use Rattle.xet_io.proofs.Changes.{synced_there, renamed_there}
-use Rattle.xet_io.proofs.Names.{get_here, get_other, remove-insert, insert-insert}
+use Rattle.xet_io.specs.theorems.Names.{get_here, get_other, remove-insert, insert-insert}
 
 pub on_err : {T E : Type 0} (r : Result T E) (P : Type 0) → P → OnErr r P
 on_err (Ok x) P p = tt

@@ -7,3 +7,4 @@ pub mod FailingCalls
 pub mod Memory
 pub mod MemoryFiles
 pub mod Whole
+pub mod theorems

@@ -22,7 +22,7 @@ use Rattle.xet_shard_format.specs.Records.{AreRecords, IsFile, IsXorb, file_hash
 use Rattle.xet_shard_format.specs.Rows.{rows_in}
 use Rattle.xet_shard.specs.Runs.{run_after, run_at}
 use Rattle.xet_shard_format.specs.Text.{Fits, IsShard, Shard, footer_of, shard_text}
-use Rattle.xet_shard_format.specs.theorems.Fitting.{all_both}
+use Rattle.xet_base.specs.theorems.Elements.{all_both}
 use Rattle.xet_shard.proofs.ItemsAgain.{sorted_all}
 use Rattle.xet_shard.proofs.PartsAgain.{chunks_again, text_checked, text_placed, xorbs_again, chunk_table_again, file_table_again, files_again, xorb_table_again}
 use Rattle.xet_shard.proofs.PartLaws.{count_whole, files_made}

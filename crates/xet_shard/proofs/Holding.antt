@@ -10,10 +10,8 @@ use Rattle.xet_shard_format.specs.declared.record.MDBXorbInfo.{MDBXorbInfo}
 use Rattle.xet_shard.specs.Held.{DifferBy, Held, IsHeld, Keyed, held, nothing, record_of, with_last}
 use Rattle.xet_hash.specs.Hash.{marker}
 use Rattle.xet_shard_format.specs.Records.{IsFile, IsXorb, file_hash, file_section, xorb_hash, xorb_section}
-
--- whether a record has another hash
-abbrev pub is_other : {X : Type 0} → (X → List ℕ) → List ℕ → X → Bool
-is_other hash h y = not (pointwise nat_eq (hash y) h)
+use Rattle.xet_base.specs.theorems.Elements.{all_filtered, all_push}
+use Rattle.xet_shard.specs.theorems.Holding.{all_last, is_other}
 
 same : (a b : List ℕ) → pointwise nat_eq a b ≡ true → a ≡ b
 same a b = (bytes_decides a b).0
@@ -28,22 +26,6 @@ differs a b unequal = by (pointwise nat_eq a b) refl
 other_differs : {X : Type 0} (hash : X → List ℕ) (x y : X) → is_other hash (hash x) y ≡ true → hash y ≢ hash x
 other_differs hash x y test e = absurd (true≢false (sym test ∙ ap not ((bytes_decides (hash y) (hash x)).1 e)))
 
--- what holds of each holds of each that stays, and of each with one more
-pub all_filtered : {X : Type 0} (P : X → Type 0) (test : X → Bool) (xs : List X) → AllByRecursion P xs → AllByRecursion P (filter test xs)
-all_filtered P test [] all = tt
-all_filtered P test (x ∷ xs) all =
-    elim (test x) as (λ b. AllByRecursion P (cond b (x ∷ filter test xs) (filter test xs))) [
-      | true ↦ (all.0, all_filtered P test xs all.1)
-      | false ↦ all_filtered P test xs all.1
-    ]
-
-pub all_more : {X : Type 0} (P : X → Type 0) (xs : List X) (x : X) → AllByRecursion P xs → P x → AllByRecursion P (xs ++ x ∷ [])
-all_more P [] x all here = (here, tt)
-all_more P (y ∷ xs) x all here = (all.0, all_more P xs x all.1 here)
-
-pub all_last : {X : Type 0} (P : X → Type 0) (hash : X → List ℕ) (xs : List X) (x : X) → AllByRecursion P xs → P x → AllByRecursion P (with_last hash xs x)
-all_last P hash xs x all here = all_more P (filter (is_other hash (hash x)) xs) x (all_filtered P (is_other hash (hash x)) xs all) here
-
 pub differ_last : {X : Type 0} (hash : X → List ℕ) (xs : List X) (x : X) → DifferBy hash xs → DifferBy hash (with_last hash xs x)
 differ_last hash [] x differ = (tt, tt)
 differ_last {X} hash (y ∷ ys) x differ = by (test y) refl (differ_last hash ys x differ.1)
@@ -53,7 +35,7 @@ differ_last {X} hash (y ∷ ys) x differ = by (test y) refl (differ_last hash ys
 
     by : (b : Bool) → test y ≡ b → DifferBy hash (filter test ys ++ x ∷ []) → DifferBy hash (cond b (y ∷ filter test ys) (filter test ys) ++ x ∷ [])
     by true e later = (
-      all_more (λ z. hash y ≢ hash z) (filter test ys) x (all_filtered (λ z. hash y ≢ hash z) test ys differ.0) (other_differs hash x y e),
+      all_push (λ z. hash y ≢ hash z) (filter test ys) x (all_filtered (λ z. hash y ≢ hash z) test ys differ.0) (other_differs hash x y e),
       later,
     )
     by false e later = later
@@ -97,7 +79,7 @@ module _ {X : Type 0} (hash : X → List ℕ) (old kept new : List (List ℕ × 
   pub keyed_put : Keyed hash new
   keyed_put =
       subst (Keyed hash) (sym (put ∙ ap (λ es. es ++ (h, v) ∷ []) removed))
-      (all_more (λ e. e.0 ≡ hash e.1) (remove_entry (pointwise nat_eq h) old) (h, v) (keyed_removed hash (pointwise nat_eq h) old keyed) own)
+      (all_push (λ e. e.0 ≡ hash e.1) (remove_entry (pointwise nat_eq h) old) (h, v) (keyed_removed hash (pointwise nat_eq h) old keyed) own)
 
   pub values_put : DifferBy hash (values_of old) → values_of new ≡ with_last hash (values_of old) v
   values_put differ =

@@ -17,7 +17,7 @@ use Rattle.xet_shard.specs.Sections.{heads_in, places_in}
 use Rattle.xet_shard_format.specs.Sorted.{put_in, sorted}
 use Rattle.xet_shard_format.specs.theorems.Bytes.{IsBytes, known_bytes}
 use Rattle.xet_shard_format.specs.theorems.Counts.{length-section}
-use Rattle.xet_shard_format.specs.theorems.Fitting.{all_back, all_both, all_front}
+use Rattle.xet_base.specs.theorems.Elements.{all_back, all_both, all_front}
 use Rattle.xet_shard_format.specs.theorems.SectionLaws.{section_cons}
 
 -- what fits into the bytes of an item

@@ -8,14 +8,14 @@ use Rattle.std.specs.declared.cmp.Ordering.{Ordering}
 use Rattle.std.proofs.lemmas.Bool.{cases_Bool, false_from_ne_true, true≢false}
 use Rattle.std.proofs.lemmas.List.{nil_from_length}
 use Rattle.std.proofs.lemmas.List.MinMax.{ranks_by}
-use Rattle.xet_hash.proofs.Ties.{hash_tied}
+use Rattle.xet_hash.specs.theorems.Ties.{hash_tied}
 use Rattle.xet_hash.specs.Order.{hash_cmp}
 use Rattle.xet_shard.specs.Held.{record_of}
 use Rattle.xet_shard.specs.Merging.{FirstAgrees, Rises, behind, below, not_below}
 use Rattle.xet_shard_format.specs.Records.{AreRecords}
 use Rattle.xet_shard_format.specs.Sorted.{put_in, sorted}
 use Rattle.xet_shard.specs.Union.{Agree, union}
-use Rattle.xet_shard.proofs.Holding.{all_filtered}
+use Rattle.xet_base.specs.theorems.Elements.{all_filtered}
 use Rattle.xet_shard.proofs.Rising.{all_sorted, hash_total, other_less}
 
 -- ---- hashes

@@ -18,7 +18,7 @@ use Rattle.xet_shard_format.specs.Records.{AreRecords, IsFile, file_hash, file_h
 use Rattle.xet_shard_format.specs.Rows.{IsHash, RowFits}
 use Rattle.xet_shard_format.specs.Sorted.{put_in, sorted}
 use Rattle.xet_shard_format.specs.theorems.Bytes.{IsBytes, known_bytes}
-use Rattle.xet_shard_format.specs.theorems.Fitting.{all_back}
+use Rattle.xet_base.specs.theorems.Elements.{all_back}
 use Rattle.xet_shard_format.specs.theorems.Places.{then_regroups}
 use Rattle.xet_shard_format.specs.theorems.SectionLaws.{section_cons}
 use Rattle.xet_shard.specs.Queries.{last_of, place_before, tells_row}

@@ -13,7 +13,8 @@ use Rattle.xet_shard_format.specs.declared.row.Row.{Row}
 use Rattle.xet_shard.specs.Held.{DifferBy, Keyed, with_last}
 use Rattle.xet_shard_format.specs.RecordSizes.{file_record_size, xorb_record_size}
 use Rattle.xet_shard_format.specs.Records.{chunk_row, file_rows, file_section, section, xorb_rows, xorb_section}
-use Rattle.xet_shard.proofs.Holding.{is_other, values_removed}
+use Rattle.xet_shard.specs.theorems.Holding.{is_other}
+use Rattle.xet_shard.proofs.Holding.{values_removed}
 
 -- a number times a sum
 times_sum : {X : Type 0} (f : X → ℕ) (xs : List X) → sum_by (λ x. 64 * f x) xs ≡ 64 * sum_by f xs

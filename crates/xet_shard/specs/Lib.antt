@@ -9,3 +9,4 @@ pub mod Union
 pub mod Merging
 pub mod ReaderBytes
 pub mod WriteRefusals
+pub mod theorems

@@ -3,7 +3,7 @@ use Rattle.std.proofs.Common.{◌≡◌, ◌≢◌, inl, inr, ◌∙◌, ℕ, tr
 use Rattle.std.specs.Cmp.Lexicographic.{nat_list_cmp_total}
 use Rattle.std.specs.FinMap.{get, get-remove, remove}
 use Rattle.xet_io.specs.Disk.{Files, Entry, File, file, entry, file_of, bytes_at, IsPut, IsPutOrKept}
-use Rattle.xet_io.proofs.Names.{get_here, get_other, get_kept, is_name_self}
+use Rattle.xet_io.specs.theorems.Names.{get_here, get_other, get_kept, is_name_self}
 use Rattle.xet_shard_file.specs.Names.{temp_name}
 use Rattle.xet_shard_file.specs.Puts.{IsKeptOrDone}
 

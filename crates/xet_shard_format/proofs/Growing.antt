@@ -7,7 +7,7 @@ use Rattle.xet_shard_format.specs.declared.row.Row.{Row}
 use Rattle.xet_shard_format.specs.Rows.{RowFits, row_text, rows_text}
 use Rattle.xet_shard_format.specs.Records.{end_row, section}
 use Rattle.xet_shard_format.specs.theorems.Bytes.{rows_text-append}
-use Rattle.xet_shard_format.specs.theorems.Fitting.{all_both}
+use Rattle.xet_base.specs.theorems.Elements.{all_both}
 use Rattle.xet_shard_format.specs.theorems.Steps.{section_left}
 
 pub rows_grow : {X : Type 0} (rows : X → List Row) (text text1 total : List ℕ) (xs : List X) (i : ℕ) (x : X) → i < length xs → x ≡ get_or xs i x → text1 ≡ text ++ rows_text (rows x)

@@ -11,14 +11,14 @@ use Rattle.xet_hash.specs.Merkle.{chunk_hash, members_of, total_len, xorb_hash}
 use Rattle.xet_xorb_chunk.specs.declared.chunk.Chunk.{Chunk}
 use Rattle.xet_xorb_chunk.specs.Chunks.{bytes_of, chunk_member, total}
 use Rattle.xet_xorb.specs.Xorb.{IsXorbText}
-use Rattle.xet_xorb_chunk.proofs.Grammar.{members_are, total-bytes}
+use Rattle.xet_xorb_chunk.specs.theorems.Grammar.{members_are, total-bytes}
 use Rattle.xet_xorb.specs.declared.raw.RawXorbData.{RawXorbData}
 use Rattle.xet_xorb.specs.Raw.{ArePartsOfXorb, raw_members, raw_of}
 use Rattle.xet_shard_format.specs.declared.record.MDBFileInfo.{MDBFileInfo}
 use Rattle.xet_shard_format.specs.declared.record.MDBXorbInfo.{MDBXorbInfo}
 use Rattle.xet_shard.specs.Held.{Held, IsHeld, held as the_held, with_last}
 use Rattle.xet_shard_format.specs.Records as record_of
-use Rattle.xet_shard.proofs.Holding.{all_last}
+use Rattle.xet_shard.specs.theorems.Holding.{all_last}
 use Rattle.xet_folder.specs.Admission.{block_members}
 use Rattle.xet_folder.specs.Names.{IsForeign, xorb_path}
 use Rattle.xet_shard_file.specs.Names.{IsHash, shard_path}
@@ -26,18 +26,19 @@ use Rattle.xet_shard_file.specs.Puts.{IsKeptOrDone}
 use Rattle.xet_folder.specs.Stored.{IsBacked}
 use Rattle.xet_folder.specs.Runs.{stored_len}
 use Rattle.xet_folder.specs.Xorbs.{IsListed, Records, Xorbs, found}
-use Rattle.xet_folder.proofs.Placing.{stored_is}
-use Rattle.xet_folder.proofs.Tables.{found_either, found_here, found_kept}
+use Rattle.xet_folder.specs.theorems.Placing.{stored_is}
+use Rattle.xet_folder.specs.theorems.Tables.{found_either, found_here, found_kept}
 use Rattle.xet_store.specs.Cleaning.{HasXorb, IsStable, Keeps, SameEntry}
 use Rattle.xet_dedup.specs.Records.{xorb_record}
 use Rattle.xet_store.specs.Tables.{Tables, tables, tables_of, with_members, with_xorb as with_xorb_of}
 use Rattle.xet_folder.specs.Contents.{IsRecord}
 use Rattle.xet_store.specs.Store.{State, IsPendingFile, Sound}
-use Rattle.xet_store.proofs.Packing.{all_more}
+use Rattle.xet_base.specs.theorems.Elements.{all_more}
 use Rattle.xet_store.proofs.Pending.{entries_members}
-use Rattle.xet_store.proofs.Plans.{joins_more}
-use Rattle.xet_store.proofs.Rows.{differ_more, found_more, is_some_either}
-use Rattle.xet_store.proofs.Staying.{Members, Stays, admitted_stays, backed_still, changed, keeps_at, keeps_changed, keeps_refused, kept_or, found_nowhere, same_change, sound_refused, stays_xorb}
+use Rattle.xet_store.specs.theorems.Plans.{joins_more}
+use Rattle.xet_store.proofs.Rows.{differ_more, found_more}
+use Rattle.xet_store.specs.theorems.Rows.{is_some_either}
+use Rattle.xet_store.specs.theorems.Staying.{Members, Stays, admitted_stays, backed_still, changed, keeps_at, keeps_changed, keeps_refused, kept_or, found_nowhere, same_change, sound_refused, stays_xorb}
 
 -- ---- what stands with more xorbs
 

@@ -31,17 +31,17 @@ use Rattle.xet_shard_file.specs.Puts.{IsDone, IsKeptOrDone}
 use Rattle.xet_shard_file.specs.Shards.{is_expired, is_past}
 use Rattle.xet_folder.specs.Stored.{IsBacked}
 use Rattle.xet_folder.specs.Xorbs.{AreBacked, IsListed, Records, Xorbs, found}
-use Rattle.xet_shard.proofs.Holding.{all_more as all_push}
+use Rattle.xet_base.specs.theorems.Elements.{all_push, all_more}
 use Rattle.xet_store.specs.Cleaning.{HasWholeShard, Keeps, SameEntry}
 use Rattle.xet_store.specs.Flushing.{IsFlushed, IsUnflushed, KeepsOthers, pending_text}
 use Rattle.xet_store.specs.Separate.{Among}
 use Rattle.xet_store.specs.Store.{State, IsAdmitted, IsKept, IsPendingFile, Sound}
-use Rattle.xet_store.proofs.Admitting.{SameXorb, admitted_still, admitted_with, backed_same, registered_still, this_registered}
-use Rattle.xet_store.proofs.Packing.{all_more}
-use Rattle.xet_store.proofs.Plans.{joins_more}
-use Rattle.xet_store.proofs.Rows.{among_last, among_more, among_sorted, from_among, is_some_found, to_among}
-use Rattle.xet_store.proofs.Staying.{Stays, backed_still, changed, hash_cases, keeps_at, keeps_changed, keeps_refused, kept_still, found_nowhere, same_bytes_at, same_change, same_file_at, sound_refused, stays_shard}
-use Rattle.xet_store.proofs.Whole.{found_has}
+use Rattle.xet_store.specs.theorems.Admitting.{SameXorb, admitted_still, admitted_with, backed_same, registered_still, this_registered}
+use Rattle.xet_store.specs.theorems.Plans.{joins_more}
+use Rattle.xet_store.specs.theorems.Rows.{among_last, among_more, from_among, is_some_found, to_among}
+use Rattle.xet_store.proofs.Rows.{among_sorted}
+use Rattle.xet_store.specs.theorems.Staying.{Stays, backed_still, changed, hash_cases, keeps_at, keeps_changed, keeps_refused, kept_still, found_nowhere, same_bytes_at, same_change, same_file_at, sound_refused, stays_shard}
+use Rattle.xet_store.specs.theorems.Whole.{found_has}
 
 -- ---- the moment of expiry of a shard that was read
 

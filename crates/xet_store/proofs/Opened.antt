@@ -16,11 +16,11 @@ use Rattle.xet_folder.specs.Contents.{HasContents, IsRecord, listed_in, listed_o
 use Rattle.xet_shard_file.specs.Names.{IsHash}
 use Rattle.xet_shard_file.specs.Shards.{IsThere, ShardFile, is_expired}
 use Rattle.xet_folder.specs.Xorbs.{AreBacked, IsListed, Records, Xorbs, found}
-use Rattle.xet_folder.proofs.Firsts.{found_firsts}
+use Rattle.xet_folder.specs.theorems.Firsts.{found_firsts}
 use Rattle.xet_store.specs.Opening.{contents_of}
 use Rattle.xet_store.specs.Separate.{Among}
 use Rattle.xet_store.specs.Store.{Differ, IsAdmitted, IsKept, IsPendingFile, Sound, State}
-use Rattle.xet_store.proofs.Admitting.{any_of}
+use Rattle.xet_store.specs.theorems.Admitting.{any_of}
 use Rattle.xet_store.proofs.Flushing.{nothing_held}
 
 -- what is found in two tables is found in one

@@ -5,12 +5,12 @@ use Rattle.std.specs.List.{AllByRecursion, sum_by}
 use Rattle.std.proofs.lemmas.Bool.{cases_lt, le-leb, leb-true}
 use Rattle.std.proofs.lemmas.List.{append-nil, drop-map, drop_all, drop_more, take_all, take_more, length-map, length-take-le, map-append, take-append-drop, take-map}
 use Rattle.std.proofs.lemmas.List.Sums.{sum_by-append, sum_by-cons}
-use Rattle.xet_base.proofs.PieceLemmas.{pieces_none, pieces_step}
+use Rattle.xet_base.specs.theorems.Pieces.{pieces_none, pieces_step}
 use Rattle.xet_hash.specs.Merkle.{chunk_hash, members_of, total_len, xorb_hash}
-use Rattle.xet_xorb_chunk.proofs.Grammar.{members_are}
+use Rattle.xet_xorb_chunk.specs.theorems.Grammar.{members_are}
 use Rattle.xet_xorb_chunk.specs.Chunks.{bytes_of, chunk_member, total}
 use Rattle.xet_xorb_chunk.specs.declared.chunk.Chunk.{Chunk}
-use Rattle.xet_shard.proofs.Holding.{all_more as all_push}
+use Rattle.xet_base.specs.theorems.Elements.{all_push, all_more, all_take}
 use Rattle.xet_cut.specs.declared.limits.LimitSettings.{LimitSettings}
 use Rattle.xet_shard_format.specs.declared.record.FileDataSequenceEntry.{FileDataSequenceEntry as Segment}
 use Rattle.xet_store.specs.Cleaning.{Keeps, cuts}
@@ -21,24 +21,7 @@ use Rattle.xet_folder.specs.Xorbs.{IsListed, Xorbs}
 use Rattle.xet_store.specs.Steps.{ListsXorbs}
 use Rattle.xet_store.specs.Store.{State}
 use Rattle.xet_store.specs.Tables.{Tables, whole_segment, with_xorb, with_xorbs}
-use Rattle.xet_store.proofs.Plans.{joins_more, joins_push, sum_by-map}
-
--- what holds of all holds of those at the front
-pub all_take : {X : Type 0} (P : X → Type 0) (n : ℕ) (xs : List X) → AllByRecursion P xs → AllByRecursion P (take n xs)
-all_take P zero xs h = tt
-all_take P (suc n) [] h = tt
-all_take P (suc n) (x ∷ xs) h = (h.0, all_take P n xs h.1)
-
--- and of the rest
-pub all_drop : {X : Type 0} (P : X → Type 0) (n : ℕ) (xs : List X) → AllByRecursion P xs → AllByRecursion P (drop n xs)
-all_drop P zero xs h = h
-all_drop P (suc n) [] h = tt
-all_drop P (suc n) (x ∷ xs) h = all_drop P n xs h.1
-
--- and what follows from it
-pub all_more : {X : Type 0} (P Q : X → Type 0) (xs : List X) → ((x : X) → P x → Q x) → AllByRecursion P xs → AllByRecursion Q xs
-all_more P Q [] more h = tt
-all_more P Q (x ∷ xs) more h = (more x h.0, all_more P Q xs more h.1)
+use Rattle.xet_store.specs.theorems.Plans.{joins_more, joins_push, sum_by-map}
 
 -- a xorb of these chunks is listed
 abbrev pub IsPackListed : Xorbs → List (List ℕ) → Type 0

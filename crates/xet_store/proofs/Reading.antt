@@ -13,15 +13,15 @@ use Rattle.xet_folder.specs.Plan.{Joins, part, plan_bytes, range}
 use Rattle.xet_folder.specs.Recorded.{IsPlanRest}
 use Rattle.xet_folder.specs.Stored.{IsStored}
 use Rattle.xet_folder.specs.Xorbs.{IsListed, Records, Xorbs, found}
-use Rattle.xet_folder.proofs.Placing.{Member, plain_joined}
-use Rattle.xet_folder.proofs.Ranges.{range-append, range_past}
+use Rattle.xet_folder.specs.theorems.Placing.{Member, plain_joined}
+use Rattle.xet_folder.specs.theorems.Ranges.{range-append, range_past}
 use Rattle.xet_folder.specs.Contents.{IsRecord}
 use Rattle.xet_store.specs.Ranges.{IsRange}
 use Rattle.xet_store.specs.Store.{Sound, State, plan_of}
 use Rattle.xet_store.specs.Reading.{IsStoredListed, JoinsListed, LiesListed}
-use Rattle.xet_store.proofs.Plans.{joins_bytes, joins_map, joins_more, joins_split, part-map, record_bytes}
-use Rattle.xet_store.proofs.Staying.{changed}
-use Rattle.xet_store.proofs.Whole.{found_has, mapped}
+use Rattle.xet_store.specs.theorems.Plans.{joins_bytes, joins_map, joins_more, joins_split, part-map, record_bytes}
+use Rattle.xet_store.specs.theorems.Staying.{changed}
+use Rattle.xet_store.specs.theorems.Whole.{found_has, mapped}
 
 -- one xorb is listed with one list of members
 pub listed_once : (xorbs : Xorbs) (h : List ℕ) (ms ns : List Member) → IsListed xorbs h ms → IsListed xorbs h ns → ms ≡ ns

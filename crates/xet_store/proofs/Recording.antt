@@ -7,20 +7,21 @@ use Rattle.xet_shard_format.specs.declared.record.FileDataSequenceEntry.{FileDat
 use Rattle.xet_shard_format.specs.declared.record.MDBFileInfo.{MDBFileInfo}
 use Rattle.xet_shard.specs.Held.{Held, IsHeld, held as the_held, with_last}
 use Rattle.xet_shard_format.specs.Records.{file_hash}
-use Rattle.xet_shard.proofs.Holding.{all_last, all_more as all_push}
+use Rattle.xet_shard.specs.theorems.Holding.{all_last}
+use Rattle.xet_base.specs.theorems.Elements.{all_push, all_more}
 use Rattle.xet_hash.specs.Merkle.{total_len}
 use Rattle.xet_folder.specs.Contents.{IsRecord}
 use Rattle.xet_folder.specs.Plan.{Joins}
 use Rattle.xet_folder.specs.Xorbs.{IsListed, Records, Xorbs, found}
-use Rattle.xet_folder.proofs.Tables.{found_either, found_here, found_kept}
+use Rattle.xet_folder.specs.theorems.Tables.{found_either, found_here, found_kept}
 use Rattle.xet_store.specs.Cleaning.{Adds, Keeps}
 use Rattle.xet_dedup.specs.Records.{file_record}
 use Rattle.xet_store.specs.Store.{State, IsKept, IsNewFile, IsPendingFile, Sound}
 use Rattle.xet_store.specs.Tables.{tables, tables_of, with_record}
-use Rattle.xet_store.proofs.Packing.{all_more}
-use Rattle.xet_store.proofs.Rows.{among_filter, among_last, among_more, apart_found, differ_more, differ_none, from_among, is_some_found, to_among}
-use Rattle.xet_store.proofs.Staying.{changed, keeps_at, keeps_changed, found_nowhere, same_change, stays_same}
-use Rattle.xet_store.proofs.Whole.{found_has}
+use Rattle.xet_store.specs.theorems.Rows.{among_filter, among_last, among_more, apart_found, from_among, is_some_found, to_among}
+use Rattle.xet_store.proofs.Rows.{differ_more, differ_none}
+use Rattle.xet_store.specs.theorems.Staying.{changed, keeps_at, keeps_changed, found_nowhere, same_change, stays_same}
+use Rattle.xet_store.specs.theorems.Whole.{found_has}
 
 differ : (a b : List ℕ) → a ≢ b → not (pointwise nat_eq a b) ≡ true
 differ a b unequal = go (pointwise nat_eq a b) refl

@@ -8,3 +8,4 @@ pub mod Separate
 pub mod Tables
 pub mod Cleaning
 pub mod Steps
+pub mod theorems

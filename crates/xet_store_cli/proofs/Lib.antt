@@ -1,13 +1,13 @@
-pub mod LinesOf
-pub mod Ranged
-pub mod Said
-pub mod Commands
-pub mod Lengths
-pub mod Outcomes
-pub mod Cuts
-pub mod Cleaned
-pub mod Reading
-pub mod Settled
-pub mod Listing
-pub mod Making
-pub mod Endings
+mod LinesOf
+mod Ranged
+mod Said
+mod Commands
+mod Lengths
+mod Outcomes
+mod Cuts
+mod Cleaned
+mod Reading
+mod Settled
+mod Listing
+mod Making
+mod Endings

@@ -21,8 +21,8 @@ use Rattle.xet_store.specs.Store.{IsKept, Sound, State}
 use Rattle.xet_store.specs.Tables.{Tables, record_of_file, tables, tables_of, with_file, with_files, with_members, with_record, with_xorb, with_xorbs}
 use Rattle.xet_dedup.specs.Records.{xorb_record}
 use Rattle.xet_store.specs.Separate.{Among, IsPackOf}
-use Rattle.xet_store.proofs.Rows.{among_last, from_among, is_some_either}
-use Rattle.xet_store.proofs.Whole.{found_has}
+use Rattle.xet_store.specs.theorems.Rows.{among_last, from_among, is_some_either}
+use Rattle.xet_store.specs.theorems.Whole.{found_has}
 use Rattle.xet_store_cli.specs.Outcome.{store_folder}
 use Rattle.xet_store_cli.specs.Parsing.{ForLines, Said}
 use Rattle.xet_store_cli.specs.Report.{hash_of_file}

@@ -9,7 +9,7 @@ use Rattle.xet_io.specs.Disk.{Files}
 use Rattle.xet_io.specs.Whole.{ReadsAll}
 use Rattle.xet_io.specs.declared.whole.Unread.{Unread}
 use Rattle.xet_io.specs.declared.whole.Unread.TheVariants as unread
-use Rattle.xet_folder.proofs.Agreeing.{not_both}
+use Rattle.xet_folder.specs.theorems.Agreeing.{not_both}
 use Rattle.xet_cut.specs.declared.limits.LimitSettings.{LimitSettings}
 use Rattle.xet_store_cli.specs.declared.ending.Stop.{Stop}
 use Rattle.xet_store_cli.specs.declared.ending.Stop.TheVariants.{OutOfMemory, Input, TooLarge, BadLine, BadRange, Disk, BadShard, Malformed}

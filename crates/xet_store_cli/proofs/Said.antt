@@ -7,7 +7,7 @@ use Rattle.std.specs.Option.{option_map, option_and_then}
 use Rattle.std.specs.Cmp.Lexicographic.{pointwise}
 use Rattle.hex.specs.Hex.{decode_of}
 use Rattle.hex.specs.declared.error.FromHexError.{FromHexError}
-use Rattle.xet_base.proofs.FirstOf.{first_of_here, first_of_none}
+use Rattle.xet_base.specs.theorems.FirstOf.{first_of_here, first_of_none}
 use Rattle.xet_store_cli.specs.declared.lines.FileRange.{FileRange}
 use Rattle.xet_store_cli.specs.Lines.{Line, decoded, file_bytes, files_of, first_bad, good_lines, is_bad_at, limited, line_of, ranges_of, said, with_line}
 use Rattle.xet_store_cli.specs.Lines.Line.{FileLine, RangeLine}

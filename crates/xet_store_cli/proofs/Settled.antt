@@ -20,9 +20,9 @@ use Rattle.xet_store.specs.Separate.{Among, Apart, IsMet, IsNamed, IsPackOf, Met
 use Rattle.xet_store.specs.Steps.{ListsXorbs}
 use Rattle.xet_store.specs.Store.{State, Sound}
 use Rattle.xet_store.specs.Tables.{Tables, tables_of, with_files}
-use Rattle.xet_store.proofs.Files.{xorbs_all}
-use Rattle.xet_store.proofs.Keeping.{keeps_then}
-use Rattle.xet_store.proofs.Sessions.{has_file_stays, named_stays, range_of_file, recorded_by_folder, separate_by_folder}
+use Rattle.xet_store.specs.theorems.Files.{xorbs_all}
+use Rattle.xet_store.specs.theorems.Keeping.{keeps_then}
+use Rattle.xet_store.specs.theorems.Sessions.{has_file_stays, named_stays, range_of_file, recorded_by_folder, separate_by_folder}
 use Rattle.xet_store_cli.specs.declared.ending.Stop.{Stop}
 use Rattle.xet_store_cli.specs.declared.lines.FileRange.{FileRange}
 use Rattle.xet_store_cli.specs.Lines.{Line, bytes_in, numbered, range_bytes}

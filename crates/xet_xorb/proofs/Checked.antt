@@ -10,7 +10,7 @@ use Rattle.xet_hash.specs.Merkle.{chunk_hash, member_of, members_of, total_len}
 use Rattle.xet_xorb_footer.specs.Places.{EndsBefore}
 use Rattle.xet_xorb_chunk.specs.Spelling.{spelling}
 use Rattle.xet_xorb.specs.Checking.{AreChunks, HaveMembers, StandsAt, header_of}
-use Rattle.xet_xorb.proofs.Determined.{all_chunks, le24_same, one_chunk}
+use Rattle.xet_xorb.specs.theorems.Determined.{all_chunks, le24_same, one_chunk}
 
 -- ---- one chunk
 

@@ -1,4 +1,3 @@
-mod Determined
 mod Checked
 mod Validated
 mod Ranged

@@ -14,7 +14,7 @@ use Rattle.xet_xorb_footer.specs.Reading.{◌>>=◌}
 use Rattle.xet_xorb_chunk.specs.Spelled.{AreSpelled}
 use Rattle.xet_xorb_chunk.specs.Spelling.{spelling}
 use Rattle.xet_xorb_chunk.specs.Stream.{Decodes, IsStream, end_of}
-use Rattle.xet_xorb_chunk.proofs.Readback.{stream_of_spelled}
+use Rattle.xet_xorb_chunk.specs.theorems.Readback.{stream_of_spelled}
 use Rattle.xet_xorb.specs.Laws.{ContentsAreChunks, RangesAreChunks}
 use Rattle.xet_xorb.specs.Ranges.{IsPlain, ReadsPlain, in_file, listed_contents, listed_range}
 use Rattle.xet_xorb.specs.Validation.{IsValid}

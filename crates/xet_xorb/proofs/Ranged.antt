@@ -8,7 +8,7 @@ use Rattle.xet_hash.specs.declared.error.StoreError.TheVariants.{Io}
 use Rattle.xet_xorb_chunk.specs.Outside.{StopsWriting}
 use Rattle.xet_xorb_chunk.specs.Passing.{RefusesMore}
 use Rattle.xet_xorb_chunk.specs.Stream.{Decodes}
-use Rattle.xet_xorb_chunk.proofs.Streamed.{decodes_longer}
+use Rattle.xet_xorb_chunk.specs.theorems.Streamed.{decodes_longer}
 
 -- a range of a list is that to a place in it and that from there
 pub range_split : {X : Type 0} (xs : List X) (from at to : ℕ) → from ≤ at → at ≤ to → slice_range xs from to ≡ slice_range xs from at ++ slice_range xs at to

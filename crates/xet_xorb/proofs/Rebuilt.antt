@@ -15,10 +15,10 @@ use Rattle.xet_xorb_footer.specs.Spelled.{length_of, most_chunks, number, text_v
 use Rattle.xet_xorb_chunk.specs.Header.{Header, header_at}
 use Rattle.xet_xorb_chunk.specs.Spelling.{spelling}
 use Rattle.xet_xorb_chunk.specs.Stream.{Decodes, Fails, IsStream, Short, Whole, behind, body_of, end_of, front_of}
-use Rattle.xet_xorb_chunk.proofs.Fronts.{front_few}
-use Rattle.xet_xorb_chunk.proofs.More.{behind_all, behind_few, body_whole, front_at, whole_within}
-use Rattle.xet_xorb_chunk.proofs.Passed.{decodes_after, passes_append}
-use Rattle.xet_xorb_chunk.proofs.Readback.{spelled_of_stream}
+use Rattle.xet_xorb_chunk.specs.theorems.Fronts.{front_few}
+use Rattle.xet_xorb_chunk.specs.theorems.More.{behind_all, behind_few, body_whole, front_at, whole_within}
+use Rattle.xet_xorb_chunk.specs.theorems.Passed.{decodes_after, passes_append}
+use Rattle.xet_xorb_chunk.specs.theorems.Readback.{spelled_of_stream}
 use Rattle.xet_xorb.specs.declared.object.XorbObject.{XorbObject}
 use Rattle.xet_xorb.specs.Building.{ending, no_spare, object_for, text_of}
 use Rattle.xet_xorb.specs.Copying.{AreInFront, IsCopied, IsNoCopy, ShowsNext}

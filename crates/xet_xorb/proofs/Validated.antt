@@ -10,10 +10,10 @@ use Rattle.xet_xorb_footer.specs.declared.info.XorbObjectInfoV0.{XorbObjectInfoV
 use Rattle.xet_xorb_footer.specs.declared.info.XorbObjectInfoV1.{XorbObjectInfoV1}
 use Rattle.xet_xorb_footer.specs.Ends.{last_footer, told_length}
 use Rattle.xet_xorb_footer.specs.Spelled.{joined, most_chunks, number, numbers, text_v0, text_v1}
-use Rattle.xet_xorb_footer.proofs.Endings.{told_is}
-use Rattle.xet_xorb_footer.proofs.LastRead.{last_is_read, last_is_read_v0}
-use Rattle.xet_xorb_footer.proofs.Readback.{length_joined}
-use Rattle.xet_xorb_footer.proofs.Texts.{length_v0, length_v1}
+use Rattle.xet_xorb_footer.specs.theorems.Endings.{told_is}
+use Rattle.xet_xorb_footer.specs.theorems.LastRead.{last_is_read, last_is_read_v0}
+use Rattle.xet_xorb_footer.specs.theorems.Readback.{length_joined}
+use Rattle.xet_xorb_footer.specs.theorems.Texts.{length_v0, length_v1}
 use Rattle.xet_xorb_chunk.specs.Spelling.{spelling}
 use Rattle.xet_xorb.specs.declared.object.XorbObject.{XorbObject}
 use Rattle.xet_xorb.specs.Checking.{AreChunks, HaveMembers, IsEnding, ending}

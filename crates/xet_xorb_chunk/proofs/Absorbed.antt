@@ -7,8 +7,8 @@ use Rattle.xet_xorb_chunk.specs.declared.decoder.Tally.{Tally}
 use Rattle.xet_xorb_chunk.specs.Decoder.{Holds, Moves}
 use Rattle.xet_xorb_chunk.specs.Passing.{Passes, Refuses, RefusesMore}
 use Rattle.xet_xorb_chunk.specs.Stream.{Decodes, Short, front_of}
-use Rattle.xet_xorb_chunk.proofs.More.{passes_more}
-use Rattle.xet_xorb_chunk.proofs.Passed.{decodes_after, moves_append, passes_append, refuses_after, written_after}
+use Rattle.xet_xorb_chunk.specs.theorems.More.{passes_more}
+use Rattle.xet_xorb_chunk.specs.theorems.Passed.{decodes_after, moves_append, passes_append, refuses_after, written_after}
 
 -- chunks were passed on and written
 abbrev pub PassedOn : ℕ → Tally → Tally → List ℕ → List ℕ → Type 0 → List ℕ → List ℕ → Type 0

@@ -52,11 +52,6 @@ pub no_failure : {X : Type 0} (r : Result X StoreError) (place : Place) → IfEr
 no_failure (Ok x) place check e = cc e
 no_failure (Err error) place check e = let same : error ≡ Io place = cc e in false≢true (subst IsCheck same check)
 
--- what the exit of a `?` returns
-pub exit_with : {T : Type 0} (P : StoreError → Type 0) (r : Result T StoreError) (e : StoreError) → IsErrAnd r (λ y. y ≡ e) → P e → IfErr r P
-exit_with P (Ok x) e exit h = tt
-exit_with P (Err y) e exit h = subst P (sym exit) h
-
 -- one cause of two is another
 pub left_of : {P Q S : Type 0} → (P → Q) → P ⊎ S → Q ⊎ S
 left_of f (inl p) = inl (f p)

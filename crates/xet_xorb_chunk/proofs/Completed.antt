@@ -9,8 +9,8 @@ use Rattle.xet_xorb_chunk.specs.Outside.{StopsWriting}
 use Rattle.xet_xorb_chunk.specs.Passing.{Gathers, Refuses, ShowsFront}
 use Rattle.xet_xorb_chunk.specs.Stream.{Fails, Whole, front_of}
 use Rattle.xet_xorb_chunk.proofs.Gathered.{added}
-use Rattle.xet_xorb_chunk.proofs.More.{whole_more}
-use Rattle.xet_xorb_chunk.proofs.Passed.{moves_none, refuses_front}
+use Rattle.xet_xorb_chunk.specs.theorems.More.{whole_more}
+use Rattle.xet_xorb_chunk.specs.theorems.Passed.{moves_none, refuses_front}
 
 -- it stays less than a chunk
 pub completes_none : (most : ℕ) (t : Tally) (old held piece : List ℕ) (n : ℕ) → held ≡ old ++ take n piece → Moves most t t (old ++ piece) (held ++ drop n piece) []

@@ -8,8 +8,8 @@ use Rattle.xet_xorb_chunk.specs.Header.{Header}
 use Rattle.xet_xorb_chunk.specs.Passing.{Gathers}
 use Rattle.xet_xorb_chunk.specs.Stream.{Fails, Short, Whole, front_of}
 use Rattle.xet_xorb_chunk.specs.Taking.{header_in}
-use Rattle.xet_xorb_chunk.proofs.Fronts.{front_body, front_few, front_short}
-use Rattle.xet_xorb_chunk.proofs.More.{body_decided, body_whole, fails_more}
+use Rattle.xet_xorb_chunk.specs.theorems.Fronts.{front_body, front_few, front_short}
+use Rattle.xet_xorb_chunk.specs.theorems.More.{body_decided, body_whole, fails_more}
 
 -- what was added and what is left of the piece
 pub added : (old piece held : List ℕ) (n : ℕ) → held ≡ old ++ take n piece → held ++ drop n piece ≡ old ++ piece

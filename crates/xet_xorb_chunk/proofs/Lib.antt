@@ -1,16 +1,8 @@
-pub mod Grammar
-pub mod Front
-pub mod Headers
-pub mod Written
-pub mod Prefixes
-pub mod Checks
-pub mod Fronts
-pub mod Blocks
-pub mod Tallies
-pub mod Passed
-pub mod More
-pub mod Gathered
-pub mod Completed
-pub mod Absorbed
-pub mod Streamed
-pub mod Readback
+mod Grammar
+mod Prefixes
+mod Checks
+mod Blocks
+mod Tallies
+mod Gathered
+mod Completed
+mod Absorbed

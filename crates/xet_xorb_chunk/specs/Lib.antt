@@ -9,3 +9,4 @@ pub mod Passing
 pub mod Decoder
 pub mod Segment
 pub mod Spelled
+pub mod theorems

@@ -18,13 +18,6 @@ pub told_short : (bytes : List ℕ) → length bytes < 4 → told_length bytes �
 unfolding told_length
 told_short bytes lt = rw (lt-leb 4 (length bytes) lt) refl
 
-pub told_is : (len : ℕ) (bytes last : List ℕ) → len ≡ length bytes → 4 ≤ len → last ≡ take 4 (drop (len - 4) bytes) → told_length bytes ≡ Ok (from_le_bytes w32 last)
-unfolding told_length
-told_is len bytes last e le is =
-    let enough : nat_le 4 (length bytes) ≡ true = le-leb 4 (length bytes) (omega arith) in
-    let front : take 4 (drop (length bytes - 4) bytes) ≡ last = ap (λ (n : ℕ). take 4 (drop (n - 4) bytes)) (sym e) ∙ sym is in
-    rw (enough, front) refl
-
 pub last_untold : (bytes : List ℕ) (e : StoreError) → told_length bytes ≡ Err e → last_footer bytes ≡ Err e
 unfolding last_footer
 last_untold bytes e untold = rw untold refl

@@ -15,7 +15,7 @@ use Rattle.xet_xorb_footer.specs.Joining.{IsReady, IsTotal, Reads, Stops, ends_w
 use Rattle.xet_xorb_footer.specs.Machine.{IsSettled, Parts, as_value, info_of, wanted_of}
 use Rattle.xet_xorb_footer.specs.Reader.{bytes_wanted, parts_of, rest_of}
 use Rattle.xet_xorb_footer.specs.Reading.{◌>>=◌, Taken, footer_at, wants}
-use Rattle.xet_xorb_footer.proofs.Fronts.{bind_bind, number_short, number_whole, pick_false, pick_true}
+use Rattle.xet_xorb_footer.specs.theorems.Fronts.{bind_bind, number_short, number_whole, pick_false, pick_true}
 use Rattle.xet_xorb_footer.proofs.Known.{nothing_wanted}
 use Rattle.xet_xorb_footer.proofs.Shorts.{rest_short, whole}
 

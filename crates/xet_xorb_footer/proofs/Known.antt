@@ -13,7 +13,7 @@ use Rattle.xet_xorb_footer.specs.Machine.{IsSettled, Parts, behind_ends, behind_
 use Rattle.xet_xorb_footer.specs.Reading.{◌>>=◌, wants}
 use Rattle.xet_xorb_footer.specs.Refusals.{IsFailedCheck, is_check}
 use Rattle.xet_xorb_footer.specs.Spelled.{most_chunks}
-use Rattle.xet_xorb_footer.proofs.Fronts.{length_items}
+use Rattle.xet_xorb_footer.specs.theorems.Fronts.{length_items}
 
 -- behind a test
 tested : (P : Field → Parts → Type 0) (b : Bool) (reason : Reason) (next : Field) (p : Parts) → P next p → IfOk {T = Field × Parts} (wants b reason >>= λ _. Ok (next, p)) (λ x. P x.0 x.1)

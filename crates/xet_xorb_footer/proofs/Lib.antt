@@ -1,20 +1,15 @@
-pub mod Moving
-pub mod Pieces
-pub mod Texts
-pub mod Listing
-pub mod Fronts
-pub mod Steps
-pub mod Shorts
-pub mod Known
-pub mod Starts
-pub mod Taking
-pub mod Readback
-pub mod ReadbackV0
-pub mod Endings
-pub mod LastRead
-pub mod Exits
-pub mod Joining
-pub mod Decoding
-pub mod Placing
-pub mod Blocks
-pub mod Sections
+mod Moving
+mod Pieces
+mod Texts
+mod Listing
+mod Steps
+mod Shorts
+mod Known
+mod Starts
+mod Taking
+mod Endings
+mod Joining
+mod Decoding
+mod Placing
+mod Blocks
+mod Sections

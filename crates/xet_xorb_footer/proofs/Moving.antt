@@ -52,11 +52,6 @@ then_front {w0} {w1} {w2} {h1} h0 p q a b =
           ∙ ap (λ (t : List ℕ). w0 ++ t) (take_twice a.count b.count x q ∙ ap (take (min a.count (length x) + b.count)) (append_assoc h0 p q));
     }
 
--- what a front that was written says at the exit of a `?`
-pub exit_on : {T : Type 0} {P : Type 0} (Q : StoreError → Type 0) (r : Result T StoreError) → IsErrAnd r Q → P → OnErr r P
-exit_on Q (Ok x) exit p = tt
-exit_on Q (Err e) exit p = p
-
 -- all that was held was written, and then a piece
 pub direct : {w0 w1 w2 h0 h1 : List ℕ} (p : List ℕ) → Moves w0 w1 h1 h0 → h1 ≡ [] → w2 ≡ w1 ++ p → Moves w0 w2 h1 (h0 ++ p)
 direct {w0} {w1} {w2} {h0} {h1} p a none e =

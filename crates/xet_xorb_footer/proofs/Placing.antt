@@ -10,7 +10,7 @@ use Rattle.xet_xorb_footer.specs.Items.{numbers_in}
 use Rattle.xet_xorb_footer.specs.declared.block.Block.{Block}
 use Rattle.xet_xorb_footer.specs.Places.{EndsBefore, IsPart, RefusedBy, Sees, Tells, checked_at}
 use Rattle.xet_xorb_footer.specs.Reading.{◌>>=◌, Taken, bytes_at, number_at, number_is, times, wants}
-use Rattle.xet_xorb_footer.proofs.Fronts.{a_number, bytes_short, bytes_whole, length_items, list_block, list_full, list_short, number_whole}
+use Rattle.xet_xorb_footer.specs.theorems.Fronts.{a_number, bytes_short, bytes_whole, length_items, list_block, list_full, list_short, number_whole}
 
 pub sees_on : {b c : Bool} {seen now bytes : List ℕ} {end : ℕ} {old new : Block} → Sees b seen bytes end old → c ≡ b → now ≡ seen → IsPart new bytes → Sees c now bytes end new
 sees_on t tells same part = record { told = tells ∙ t.told; same = same ∙ t.same; all = t.all; part = part }

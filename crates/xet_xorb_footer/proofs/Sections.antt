@@ -10,7 +10,7 @@ use Rattle.xet_xorb_footer.specs.Ends.{boundaries, last_boundaries, number_befor
 use Rattle.xet_xorb_footer.specs.Places.{RefusedBy, checked_at, head_at, lists_at, tail_at}
 use Rattle.xet_xorb_footer.specs.Reading.{◌>>=◌, Taken, bytes_at, count_at, ident_at, number_at, number_is, times, version_at, wants}
 use Rattle.xet_xorb_footer.specs.Spelled.{boundaries_ident, empty_v1, most_chunks}
-use Rattle.xet_xorb_footer.proofs.Fronts.{bind_bind, bytes_whole, onward}
+use Rattle.xet_xorb_footer.specs.theorems.Fronts.{bind_bind, bytes_whole, onward}
 use Rattle.xet_xorb_footer.proofs.Placing.{refused_after, then_refused}
 
 -- refused as what is the same is

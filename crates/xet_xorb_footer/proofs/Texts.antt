@@ -3,11 +3,7 @@ use Rattle.std.proofs.Common.{◌≡◌, ◌∙◌, ℕ, ◌*◌, List, [], ◌�
 use Rattle.std.proofs.lemmas.List.{append-nil}
 use Rattle.xet_xorb_footer.specs.declared.info.XorbObjectInfoV0.{XorbObjectInfoV0}
 use Rattle.xet_xorb_footer.specs.declared.info.XorbObjectInfoV1.{XorbObjectInfoV1}
-use Rattle.xet_xorb_footer.specs.Spelled.{joined, length_of, length_of_v0, number, numbers, text_v0, text_v1}
-
-pub length_numbers : (ns : List ℕ) → length (numbers ns) ≡ 4 * length ns
-length_numbers [] = refl
-length_numbers (n ∷ ns) = omega (arith, length_numbers ns)
+use Rattle.xet_xorb_footer.specs.Spelled.{joined, number, numbers, text_v0, text_v1}
 
 -- ---- version 0
 
@@ -22,10 +18,6 @@ parts_v0 i hash count ends hashes is_hash is_count is_ends is_hashes =
     ∙ ap (λ (x : _). head_v0 i i.xorb_hash (number i.num_chunks) ++ (numbers x ++ (joined hashes ++ i.spare))) is_ends
     ∙ ap (λ (x : _). head_v0 i i.xorb_hash (number i.num_chunks) ++ (numbers i.chunk_boundary_offsets ++ (joined x ++ i.spare))) is_hashes
     ∙ simp (append_assoc, append-nil)
-
-pub length_v0 : (i : XorbObjectInfoV0) → length i.ident ≡ 7 → length i.xorb_hash ≡ 32 → length (joined i.chunk_hashes) ≡ 32 * length i.chunk_hashes → length i.spare ≡ 16 → length (text_v0 i) ≡ length_of_v0 i
-unfolding text_v0
-length_v0 i ident hash hashes spare = simp length-append (omega (arith, length_numbers i.chunk_boundary_offsets))
 
 -- ---- version 1
 
@@ -50,8 +42,3 @@ parts_v1 i hash count hashes ends plain hashes_at boundaries_at is_hash is_count
     let same : all_v1 i hash count hashes ends plain hashes_at boundaries_at
     ≡ all_v1 i i.xorb_hash (number i.num_chunks) i.chunk_hashes i.chunk_boundary_offsets i.unpacked_chunk_offsets (number i.hashes_section_offset_from_end) (number i.boundary_section_offset_from_end) = cc in
     same ∙ simp (append_assoc, append-nil)
-
-pub length_v1 : (i : XorbObjectInfoV1) → length i.ident ≡ 7 → length i.xorb_hash ≡ 32 → length i.ident_hash_section ≡ 7 → length (joined i.chunk_hashes) ≡ 32 * length i.chunk_hashes → length i.ident_boundary_section ≡ 7
-    → length i.spare ≡ 16 → length (text_v1 i) ≡ length_of i
-unfolding text_v1
-length_v1 i ident hash hashes_ident hashes boundaries_ident spare = simp length-append (omega (arith, length_numbers i.chunk_boundary_offsets, length_numbers i.unpacked_chunk_offsets))

@@ -11,3 +11,4 @@ pub mod Ends
 pub mod Joining
 pub mod Decoder
 pub mod Places
+pub mod theorems

@@ -12,7 +12,7 @@ use Rattle.xet_xorb_chunk.specs.declared.scheme.CompressionScheme.{CompressionSc
 use Rattle.xet_xorb_chunk.specs.declared.scheme.CompressionScheme.TheVariants.{Auto, ByteGrouping4LZ4, LZ4, None}
 use Rattle.xet_xorb_chunk.specs.Scheme.{compressed}
 use Rattle.xet_xorb_chunk.specs.Spelling.{spelling}
-use Rattle.xet_xorb_chunk.proofs.Written.{front_of_first, written_both, written_then}
+use Rattle.xet_base.specs.theorems.Written.{front_of_first, written_both, written_then}
 use Rattle.xet_xorb_footer.specs.declared.info.XorbObjectInfoV1.{XorbObjectInfoV1}
 use Rattle.xet_xorb_footer.specs.Spelled.{length_of, most_chunks, number, text_v1}
 use Rattle.xet_shard_format.specs.Boundaries.{boundaries_from}

@@ -12,10 +12,7 @@ use Rattle.xet_xorb_samples.specs.declared.samples.ChunkSize.TheVariants.{Fixed,
 use Rattle.xet_xorb.specs.Raw.{ArePartsOfXorb}
 use Rattle.xet_xorb_samples.specs.Samples.{AreSampleChunks, AreSamples, DrawsChunk, DrawsChunks, DrawsSize, FitXorb, HasSize, most_of}
 use Rattle.xet_xorb_samples.proofs.Cuts.{length-concat}
-
-pub all_push : {X : Type 0} (P : X → Type 0) (xs : List X) (x : X) → AllByRecursion P xs → P x → AllByRecursion P (xs ++ x ∷ [])
-all_push P [] x h p = (p, tt)
-all_push P (y ∷ ys) x h p = (h.0, all_push P ys x h.1 p)
+use Rattle.xet_base.specs.theorems.Elements.{all_push}
 
 pub bytes_back : (bytes : List (List ℕ)) → map bytes_of (map chunk_of bytes) ≡ bytes
 bytes_back [] = refl

@@ -1,8 +1,8 @@
 -- Where a piece ends, and the pieces of a cut one at a time.
 use Rattle.std.proofs.Common.{◌≡◌, ◌≢◌, ◌∙◌, ℕ, ◌+◌, ◌-◌, ◌<◌, ◌≤◌, true, false, List, [], ◌∷◌, ◌++◌, append_assoc, length, take, drop, Option, unwrap_or, min, map, eqb, bit_and, sym, ap, arith}
 use Rattle.std.proofs.lemmas.List.{append-nil, length-take-le}
-use Rattle.xet_base.proofs.FirstOf.{first_of_here, first_of_none}
-use Rattle.xet_base.proofs.PieceLemmas.{pieces_none, pieces_step}
+use Rattle.xet_base.specs.theorems.FirstOf.{first_of_here, first_of_none}
+use Rattle.xet_base.specs.theorems.Pieces.{pieces_none, pieces_step}
 use Rattle.xet_cut.specs.declared.limits.LimitSettings.{LimitSettings}
 use Rattle.xet_cut.specs.Cut.{cut, gear_sum, mask, may_end, piece_len}
 use Rattle.xet_cut.specs.theorems.GearSum.{gear_sum_window}

@@ -18,7 +18,7 @@ use Rattle.std.specs.Prelude.{slice_index}
 use Rattle.std.specs.declared.cmp.Ordering.{Ordering}
 use Rattle.std.specs.declared.cmp.Ordering.TheVariants.{Less, Equal, Greater}
 use Rattle.hex.specs.Hex.{encode_lower, encode_with, lower_digits}
-use Rattle.xet_hash.proofs.Texts.{hash_text_determines}
+use Rattle.xet_hash.specs.theorems.Texts.{hash_text_determines}
 use Rattle.xet_hash.specs.Hash.{hash_text}
 use Rattle.xet_shard_format.specs.Names.{shard_name}
 use Rattle.xet_shard_file.specs.Names.{IsHash}

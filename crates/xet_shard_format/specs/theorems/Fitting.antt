@@ -14,18 +14,7 @@ use Rattle.xet_shard_format.specs.Records.{ext_rows, file_rows, file_section, se
 use Rattle.xet_shard_format.specs.Lookups.{all_lookups}
 use Rattle.xet_shard_format.specs.Text.{Fits, IsShard, IsShardText, Shard, full_text, materialized, stored}
 use Rattle.xet_shard_format.specs.theorems.SectionLaws.{section_cons}
-
-pub all_front : {X : Type 0} (P : X → Type 0) (xs ys : List X) → AllByRecursion P (xs ++ ys) → AllByRecursion P xs
-all_front P [] ys all = tt
-all_front P (x ∷ xs) ys all = (all.0, all_front P xs ys all.1)
-
-pub all_back : {X : Type 0} (P : X → Type 0) (xs ys : List X) → AllByRecursion P (xs ++ ys) → AllByRecursion P ys
-all_back P [] ys all = all
-all_back P (x ∷ xs) ys all = all_back P xs ys all.1
-
-pub all_both : {X : Type 0} (P : X → Type 0) (xs ys : List X) → AllByRecursion P xs → AllByRecursion P ys → AllByRecursion P (xs ++ ys)
-all_both P [] ys front back = back
-all_both P (x ∷ xs) ys front back = (front.0, all_both P xs ys front.1 back)
+use Rattle.xet_base.specs.theorems.Elements.{all_back, all_front}
 
 segment_bytes_below : (segments : List FileDataSequenceEntry) → AllByRecursion RowFits (map segment_row segments) → segment_bytes segments ≤ 2 ^ 32 * length segments
 segment_bytes_below [] fits = omega arith

@@ -5,7 +5,7 @@ use Rattle.xet_shard_format.specs.theorems.Fitting.{materialized_below}
 use Rattle.xet_folder.specs.Admission.{ShardFails}
 use Rattle.xet_shard_file.specs.Refusals.{IsCheckRefusal, IsShardError}
 use Rattle.xet_folder.specs.Checks.{Knows}
-use Rattle.xet_shard_file.specs.theorems.Exits.{on_exit}
+use Rattle.xet_base.specs.theorems.Exits.{on_exit}
 use Rattle.xet_folder.proofs.Refused.{read_error, read_refusal}
 use Rattle.xet_folder.proofs.Tables.{all_listed}
 use Rattle.xet_folder.proofs.admission.admit_shard.Goals as goal

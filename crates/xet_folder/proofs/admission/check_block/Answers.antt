@@ -5,7 +5,7 @@ use Rattle.xet_folder.specs.Admission.{BlockFails, XorbFails}
 use Rattle.xet_shard_file.specs.Refusals.{IsCheckRefusal}
 use Rattle.xet_folder.specs.Checks.{Knows}
 use Rattle.xet_folder.specs.Stored.{IsBacked}
-use Rattle.xet_shard_file.specs.theorems.Exits.{on_exit}
+use Rattle.xet_base.specs.theorems.Exits.{on_exit}
 use Rattle.xet_folder.proofs.Refused.{refusal_of}
 use Rattle.xet_folder.proofs.Tables.{grows_more}
 use Rattle.xet_folder.proofs.admission.check_block.Goals as goal

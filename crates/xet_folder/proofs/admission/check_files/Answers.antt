@@ -5,9 +5,9 @@ use Rattle.xet_folder.specs.Admission.{FileFails, FileHolds, FirstFails}
 use Rattle.xet_folder.specs.Contents.{IsFileRecord}
 use Rattle.xet_folder.specs.Checks.{HasFile, Knows, OfFile, OfFiles}
 use Rattle.xet_shard_file.specs.Refusals.{IsCheckRefusal}
-use Rattle.xet_shard_file.specs.theorems.Exits.{on_exit}
+use Rattle.xet_base.specs.theorems.Exits.{on_exit}
 use Rattle.xet_folder.proofs.Refused.{refusal_of}
-use Rattle.xet_folder.proofs.Rest.{all_left, among_all, fails_here, fails_left}
+use Rattle.xet_folder.specs.theorems.Rest.{all_left, among_all, fails_here, fails_left}
 use Rattle.xet_folder.proofs.Tables.{grows_then, has_file_later, later_of, later_then, record_later}
 use Rattle.xet_folder.proofs.admission.check_files.Goals as goal
 

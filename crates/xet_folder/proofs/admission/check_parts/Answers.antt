@@ -10,7 +10,7 @@ use Rattle.xet_folder.specs.Admission.{BlockFails, BlockHolds, FileFails, FileHo
 use Rattle.xet_folder.specs.Checks.{Has, HasFile, HasShard, Knows, OfBlocks, OfBytes, OfFiles}
 use Rattle.xet_shard_file.specs.Refusals.{IsCheckRefusal}
 use Rattle.xet_folder.proofs.Backing.{differ, same_hash}
-use Rattle.xet_shard_file.specs.theorems.Exits.{on_exit}
+use Rattle.xet_base.specs.theorems.Exits.{on_exit}
 use Rattle.xet_folder.proofs.Refused.{refusal_of}
 use Rattle.xet_folder.proofs.Tables.{blocks_later, grows_more, grows_then, later_of}
 use Rattle.xet_folder.proofs.admission.check_parts.Goals as goal

@@ -6,9 +6,10 @@ use Rattle.xet_shard_file.specs.Refusals.{IsCheckRefusal}
 use Rattle.xet_folder.specs.Stored.{IsBacked}
 use Rattle.xet_folder.specs.Xorbs.{IsListed}
 use Rattle.xet_folder.proofs.Joining.{bytes_left, joins_done, joins_left}
-use Rattle.xet_shard_file.specs.theorems.Exits.{on_exit}
+use Rattle.xet_base.specs.theorems.Exits.{on_exit}
 use Rattle.xet_folder.proofs.Refused.{refusal_of}
-use Rattle.xet_folder.proofs.Rest.{all_done, all_left, among_map, fails_here, fails_left}
+use Rattle.xet_folder.proofs.Rest.{all_done}
+use Rattle.xet_folder.specs.theorems.Rest.{all_left, among_map, fails_here, fails_left}
 use Rattle.xet_folder.proofs.Tables.{grows_then, has_later, later_none, listed_later, later_of, later_then}
 use Rattle.xet_folder.proofs.admission.join_segments.Goals as goal
 

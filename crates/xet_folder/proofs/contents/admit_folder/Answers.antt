@@ -9,7 +9,7 @@ use Rattle.xet_shard_file.specs.Entries.{entry_of, is_valid}
 use Rattle.xet_folder.specs.Gathering.{ShardsFail, gathered}
 use Rattle.xet_shard_file.specs.Shards.{IsThere, ShardFile}
 use Rattle.xet_folder.proofs.MoreShards.{has_contents, listed_read, read_gathered, read_refused}
-use Rattle.xet_shard_file.specs.theorems.Exits.{on_exit}
+use Rattle.xet_base.specs.theorems.Exits.{on_exit}
 use Rattle.xet_folder.proofs.Stopping.{stopped_earlier, unadmitted_so}
 use Rattle.xet_folder.proofs.contents.admit_folder.Goals as goal
 

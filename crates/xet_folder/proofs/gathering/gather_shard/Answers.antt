@@ -1,7 +1,7 @@
 use Rattle.std.proofs.Common.{◌∷◌, [], sym, subst}
 use Rattle.std.specs.List.{AllByRecursion}
 use Rattle.xet_io.specs.Disk.{Files, file}
-use Rattle.xet_shard_format.specs.theorems.Fitting.{all_both}
+use Rattle.xet_base.specs.theorems.Elements.{all_both}
 use Rattle.xet_folder.specs.Admission.{ShardHolds}
 use Rattle.xet_folder.specs.Checks.{Knows, OfBytes}
 use Rattle.xet_folder.specs.Contents.{IsRecord, listed_of}

@@ -12,7 +12,7 @@ use Rattle.xet_shard_file.specs.Names.{IsHash, shard_path}
 use Rattle.xet_shard_file.specs.Shards.{IsThere, ShardFile}
 use Rattle.xet_folder.specs.Xorbs.{AreBacked, Records}
 use Rattle.xet_folder.proofs.MoreShards.{gathered_all, gathered_more, gathered_none, shards_fail}
-use Rattle.xet_shard_file.specs.theorems.Exits.{on_exit}
+use Rattle.xet_base.specs.theorems.Exits.{on_exit}
 use Rattle.xet_folder.proofs.Stopping.{stopped_earlier}
 use Rattle.xet_folder.proofs.gathering.gather_shards.Goals as goal
 

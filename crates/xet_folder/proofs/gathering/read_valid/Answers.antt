@@ -1,5 +1,5 @@
 use Rattle.xet_shard_file.specs.Refusals.{IsShardError}
-use Rattle.xet_shard_file.specs.theorems.Exits.{on_exit}
+use Rattle.xet_base.specs.theorems.Exits.{on_exit}
 use Rattle.xet_folder.proofs.gathering.read_valid.Goals as goal
 
 pub returns-in_err-is_past_expiry-clause-error : goal.returns-in_err-is_past_expiry-clause-error

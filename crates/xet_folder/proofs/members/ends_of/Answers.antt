@@ -1,7 +1,7 @@
 use Rattle.std.proofs.Common.{◌≡◌, ◌∙◌, ◌+◌, ◌++◌, ◌∷◌, [], ℕ, ap, sym, take, arith}
 use Rattle.std.proofs.lemmas.List.Sums.{sum_by_more, sum_by_more_le}
 use Rattle.xet_hash.specs.Merkle.{total_len}
-use Rattle.xet_folder.proofs.Placing.{Member, stored_is}
+use Rattle.xet_folder.specs.theorems.Placing.{Member, stored_is}
 use Rattle.xet_folder.proofs.Sums.{ends_more}
 use Rattle.xet_folder.proofs.members.ends_of.Goals as goal
 

@@ -1,7 +1,7 @@
 use Rattle.std.proofs.Common.{◌≡◌, ◌+◌, ◌-◌, ℕ, IsTrue, nat_eq, take, drop, ap, arith}
 use Rattle.std.proofs.lemmas.Bool.{eq-eqb, eqb-true}
 use Rattle.xet_hash.specs.Merkle.{total_len}
-use Rattle.xet_folder.proofs.Placing.{Member}
+use Rattle.xet_folder.specs.theorems.Placing.{Member}
 use Rattle.xet_folder.proofs.Sums.{sum_of_part}
 use Rattle.xet_folder.proofs.members.has_bytes.Goals as goal
 

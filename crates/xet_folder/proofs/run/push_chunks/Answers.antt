@@ -5,9 +5,9 @@ use Rattle.std.proofs.lemmas.List.Sums.{sum_by-cons}
 use Rattle.xet_hash.specs.Merkle.{total_len}
 use Rattle.xet_folder.specs.Runs.{Spells, stored_len}
 use Rattle.xet_folder.specs.Plan.{range}
-use Rattle.xet_folder.proofs.Placing.{Member}
+use Rattle.xet_folder.specs.theorems.Placing.{Member}
 use Rattle.xet_folder.proofs.Ranges.{length-range}
-use Rattle.xet_folder.proofs.Rest.{left}
+use Rattle.xet_folder.specs.theorems.Rest.{left}
 use Rattle.xet_folder.proofs.Runs.{Reading, first_of, reading_done, reading_more}
 use Rattle.xet_folder.proofs.run.push_chunks.Goals as goal
 

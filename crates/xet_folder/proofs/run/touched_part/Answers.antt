@@ -1,5 +1,5 @@
 use Rattle.std.proofs.Common.{◌-◌, List, ap, take, drop, arith}
-use Rattle.xet_folder.proofs.Placing.{Member}
+use Rattle.xet_folder.specs.theorems.Placing.{Member}
 use Rattle.xet_folder.proofs.Touching.{Searched, in_order, lies_within, starts_before, stored_rises, touched_is}
 use Rattle.xet_folder.proofs.run.touched_part.Goals as goal
 

@@ -1,7 +1,8 @@
 use Rattle.std.proofs.Common.{◌∙◌, sym, ap, subst}
 use Rattle.xet_folder.specs.declared.xorbs.XorbFile.{XorbFile}
 use Rattle.xet_folder.specs.Xorbs.{IsXorbFile, Xorbs, found}
-use Rattle.xet_folder.proofs.Tables.{found_here, found_some, knows_more, none_of}
+use Rattle.xet_folder.specs.theorems.Tables.{found_here}
+use Rattle.xet_folder.proofs.Tables.{found_some, knows_more, none_of}
 use Rattle.xet_folder.proofs.verifying.verify_xorb.Goals as goal
 
 pub returns-in_ok-insert-in-Stored-clause-there : goal.returns-in_ok-insert-in-Stored-clause-there

@@ -2,7 +2,7 @@ use Rattle.std.proofs.Common.{◌≡◌, ◌≢◌, sym, ◌∙◌, ap, subst, O
 use Rattle.std.specs.FinMap.{get, insert, remove}
 use Rattle.xet_io.specs.Disk.{Files, Entry}
 use Rattle.xet_io.specs.MemoryFiles.{files_of, entry_of}
-use Rattle.xet_io.proofs.Names.{get_kept}
+use Rattle.xet_io.specs.theorems.Names.{get_kept}
 use Rattle.xet_io.proofs.HeldNames.{no_entry, held_entry, there, drop_held, write_held}
 use Rattle.xet_io.proofs.held.move_held.Goals as goal
 

@@ -4,7 +4,7 @@ use Rattle.xet_hash.specs.declared.error.StoreError.{StoreError}
 use Rattle.xet_shard_format.specs.Reading.{ends_of}
 use Rattle.xet_shard_file.specs.Refusals.{IsCheckRefusal}
 use Rattle.xet_shard_file.proofs.Expiring.{ends_refusal, filled_is}
-use Rattle.xet_shard_file.specs.theorems.Exits.{on_exit}
+use Rattle.xet_base.specs.theorems.Exits.{on_exit}
 use Rattle.xet_shard_file.proofs.expiry.is_past_in.Goals as goal
 
 pub returns-in_err-footer-clause-refused : goal.returns-in_err-footer-clause-refused

@@ -2,7 +2,7 @@ use Rattle.std.proofs.Common.{◌++◌, map, rules}
 use Rattle.xet_shard_format.specs.Rows.{RowFits}
 use Rattle.xet_shard_format.specs.Records.{ext_rows, file_head, segment_row, verification_row}
 use Rattle.xet_shard_format.specs.theorems.Bytes.{head_and_three}
-use Rattle.xet_shard_format.specs.theorems.Fitting.{all_both}
+use Rattle.xet_base.specs.theorems.Elements.{all_both}
 use Rattle.xet_shard_format.proofs.encoding.push_file.Goals as goal
 
 pub returns-clause-text : goal.returns-clause-text

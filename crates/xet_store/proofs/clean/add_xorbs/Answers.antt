@@ -4,15 +4,15 @@ use Rattle.std.proofs.lemmas.Bool.{eqb-true}
 use Rattle.xet_hash.specs.Merkle.{xorb_hash}
 use Rattle.xet_xorb_chunk.specs.declared.chunk.Chunk.{Chunk}
 use Rattle.xet_xorb_chunk.specs.Chunks.{bytes_of, chunk_member}
-use Rattle.xet_shard.proofs.Holding.{all_more as all_push}
+use Rattle.xet_base.specs.theorems.Elements.{all_push, all_drop, all_more, all_take}
 use Rattle.xet_cut.specs.declared.limits.LimitSettings.{LimitSettings}
 use Rattle.xet_shard_format.specs.declared.record.FileDataSequenceEntry.{FileDataSequenceEntry as Segment}
 use Rattle.xet_dedup.specs.Packing.{packs}
 use Rattle.xet_folder.specs.Xorbs.{IsListed}
 use Rattle.xet_store.proofs.Answering.{on_err}
-use Rattle.xet_store.proofs.Keeping.{keeps_nothing, keeps_then}
+use Rattle.xet_store.specs.theorems.Keeping.{keeps_nothing, keeps_then}
 use Rattle.xet_store.specs.Tables.{tables_of, whole_segment, with_xorb, with_xorbs}
-use Rattle.xet_store.proofs.Packing.{IsPackListed, Packed, all_drop, all_more, all_take, packed_all, packed_more, packed_none, packed_some, segment_of, some_by}
+use Rattle.xet_store.proofs.Packing.{IsPackListed, Packed, packed_all, packed_more, packed_none, packed_some, segment_of, some_by}
 use Rattle.xet_store.proofs.clean.add_xorbs.Goals as goal
 
 pub xorbs-init : goal.xorbs-init

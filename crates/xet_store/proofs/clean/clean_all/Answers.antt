@@ -8,7 +8,7 @@ use Rattle.xet_store.specs.declared.info.XetFileInfo.{XetFileInfo}
 use Rattle.xet_store.specs.Steps.{ListsXorbs}
 use Rattle.xet_store.specs.Store.{State}
 use Rattle.xet_store.proofs.Answering.{on_err}
-use Rattle.xet_store.proofs.Keeping.{keeps_nothing}
+use Rattle.xet_store.specs.theorems.Keeping.{keeps_nothing}
 use Rattle.xet_store.proofs.Packing.{listed_one}
 use Rattle.xet_store.proofs.Storing.{all_of_one, all_of_set, later_first, later_same, some_none, some_of, some_one, stores_none, stores_one, taken_first, taken_same, told_none, told_one}
 use Rattle.xet_store.proofs.clean.clean_all.Goals as goal

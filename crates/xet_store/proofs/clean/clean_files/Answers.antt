@@ -1,6 +1,6 @@
 use Rattle.std.proofs.Common.{◌∙◌}
 use Rattle.xet_store.specs.Cleaning.{cuts}
-use Rattle.xet_store.proofs.Files.{files_on_ok, xorbs_on_ok}
+use Rattle.xet_store.specs.theorems.Files.{files_on_ok, xorbs_on_ok}
 use Rattle.xet_store.proofs.clean.clean_files.Goals as goal
 
 pub returns-clause-files : goal.returns-clause-files

@@ -22,9 +22,9 @@ use Rattle.xet_cut.specs.Cut.{cut}
 use Rattle.xet_dedup.specs.Records.{file_record}
 use Rattle.xet_store.specs.Steps.{ListsXorbs}
 use Rattle.xet_store.specs.Store.{State, plan_of}
-use Rattle.xet_store.proofs.Keeping.{keeps_nothing, keeps_then}
+use Rattle.xet_store.specs.theorems.Keeping.{keeps_nothing, keeps_then}
 use Rattle.xet_store.proofs.Packing.{lists_more, lists_none}
-use Rattle.xet_store.proofs.Files.{plan_empty, plan_some}
+use Rattle.xet_store.specs.theorems.Files.{plan_empty, plan_some}
 use Rattle.xet_store.proofs.Storing.{cut_none, left_some, made_record, with_none, with_some}
 use Rattle.xet_store.proofs.Recording.{adds_nothing, new_file}
 use Rattle.xet_store.proofs.MadeChunks.{cut_fits, made_told, made_bytes, made_digests, made_members}

@@ -7,7 +7,7 @@ use Rattle.xet_cut.specs.Cut.{cut}
 use Rattle.xet_store.specs.Separate.{Separate}
 use Rattle.xet_store.specs.Steps.{ListsXorbs}
 use Rattle.xet_store.specs.Tables.{tables_of, with_files}
-use Rattle.xet_store.proofs.Keeping.{keeps_nothing}
+use Rattle.xet_store.specs.theorems.Keeping.{keeps_nothing}
 use Rattle.xet_store_cli.specs.Stops.{IsSessionStop}
 use Rattle.xet_store_cli.proofs.Cleaned.{Reason, all_tell, files_told, infos_told, rose_of_reason, stop_of_reason}
 use Rattle.xet_store_cli.proofs.session.clean_lines.Goals as goal

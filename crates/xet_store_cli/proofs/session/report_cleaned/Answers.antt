@@ -1,5 +1,5 @@
 use Rattle.std.proofs.Common.{◌∙◌, ℕ, List, ◌++◌, ap}
-use Rattle.xet_store.proofs.Keeping.{keeps_then}
+use Rattle.xet_store.specs.theorems.Keeping.{keeps_then}
 use Rattle.xet_store_cli.proofs.Making.{settled_of}
 use Rattle.xet_store_cli.proofs.Reading.{keeps_unchanged, read_after}
 use Rattle.xet_store_cli.proofs.session.report_cleaned.Goals as goal

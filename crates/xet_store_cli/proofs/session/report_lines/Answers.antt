@@ -7,7 +7,7 @@ use Rattle.xet_store.specs.Cleaning.{HasFile, info_of}
 use Rattle.xet_cut.specs.Cut.{cut}
 use Rattle.xet_store.specs.Steps.{ListsXorbs}
 use Rattle.xet_store.specs.Tables.{tables_of, with_files}
-use Rattle.xet_store.proofs.Keeping.{keeps_then}
+use Rattle.xet_store.specs.theorems.Keeping.{keeps_then}
 use Rattle.xet_store_cli.specs.declared.lines.FileRange.{FileRange}
 use Rattle.xet_store_cli.proofs.Cleaned.{bounds_of_good}
 use Rattle.xet_store_cli.proofs.Making.{made_in}

@@ -1,4 +1,4 @@
-use Rattle.xet_xorb.proofs.Determined.{text_determines}
+use Rattle.xet_xorb.specs.theorems.Determined.{text_determines}
 use Rattle.xet_xorb.proofs.laws.text_determines_chunks.Goals as goal
 
 pub returns : goal.returns

@@ -5,8 +5,8 @@ use Rattle.xet_hash.specs.declared.error.Place.TheVariants.{Input}
 use Rattle.xet_xorb_chunk.specs.Outside.{StopsWriting}
 use Rattle.xet_xorb_chunk.specs.Passing.{RefusesMore}
 use Rattle.xet_xorb_chunk.specs.Stream.{Decodes}
-use Rattle.xet_xorb_chunk.proofs.Checks.{exit_with}
-use Rattle.xet_xorb_chunk.proofs.Passed.{written_after}
+use Rattle.xet_base.specs.theorems.Exits.{exit_with}
+use Rattle.xet_xorb_chunk.specs.theorems.Passed.{written_after}
 use Rattle.xet_xorb.proofs.Ranged.{block_added, refused_between}
 use Rattle.xet_xorb.proofs.ranges.feed_between.Goals as goal
 

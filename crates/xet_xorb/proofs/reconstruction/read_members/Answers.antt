@@ -2,7 +2,7 @@ use Rattle.std.proofs.Common.{◌+◌, ◌≤◌, ◌++◌, ◌∷◌, [], List,
 use Rattle.std.proofs.lemmas.List.{length-map, take_rest}
 use Rattle.xet_hash.specs.Merkle.{member_of}
 use Rattle.xet_xorb_footer.specs.Spelled.{most_chunks}
-use Rattle.xet_xorb_chunk.proofs.Checks.{exit_with}
+use Rattle.xet_base.specs.theorems.Exits.{exit_with}
 use Rattle.xet_xorb.specs.Copying.{IsNoCopy}
 use Rattle.xet_xorb.proofs.Rebuilt.{AreBytes, all_copied, copied_small, each_more, next_is, next_member, no_copy, too_many}
 use Rattle.xet_xorb.proofs.reconstruction.read_members.Goals as goal

@@ -1,6 +1,6 @@
 use Rattle.std.proofs.Common.{◌∙◌, ◌++◌, List, ap, inr, take, ℕ}
 use Rattle.xet_hash.specs.Merkle.{xorb_hash}
-use Rattle.xet_xorb_footer.proofs.Moving.{exit_on}
+use Rattle.xet_base.specs.theorems.Exits.{exit_on}
 use Rattle.xet_xorb.specs.Building.{no_spare}
 use Rattle.xet_xorb.specs.Footer.{footer_v1}
 use Rattle.xet_xorb.proofs.Rebuilt.{object_is, rebuilt_is_xorb, text_is}

@@ -1,6 +1,6 @@
 use Rattle.std.proofs.Common.{◌∙◌, ◌+◌, ◌++◌, List, ap, length, ℕ}
 use Rattle.xet_xorb_footer.specs.Spelled.{length_of, number, text_v1}
-use Rattle.xet_xorb_chunk.proofs.Written.{front_of_first, written_then}
+use Rattle.xet_base.specs.theorems.Written.{front_of_first, written_then}
 use Rattle.xet_xorb.proofs.reconstruction.write_with_footer.Goals as goal
 
 pub returns-in_err-write_stored-clause-front : goal.returns-in_err-write_stored-clause-front

@@ -1,8 +1,8 @@
 use Rattle.xet_hash.specs.declared.error.StoreError.{StoreError}
 use Rattle.std.proofs.Common.{◌≡◌}
 use Rattle.xet_xorb_chunk.specs.Stream.{Fails, front_of}
-use Rattle.xet_xorb_chunk.proofs.Checks.{exit_with}
-use Rattle.xet_xorb_chunk.proofs.Fronts.{front_refused}
+use Rattle.xet_base.specs.theorems.Exits.{exit_with}
+use Rattle.xet_xorb_chunk.specs.theorems.Fronts.{front_refused}
 use Rattle.xet_xorb_chunk.proofs.chunk_front.body_end.Goals as goal
 
 pub returns-in_err-header-clause-refused : goal.returns-in_err-header-clause-refused

@@ -1,7 +1,7 @@
 use Rattle.std.proofs.Common.{◌∙◌, ap, arith, drop, length-drop, refl, sym, take, ℕ}
 use Rattle.xet_xorb_chunk.specs.Stream.{Whole}
 use Rattle.xet_xorb_chunk.proofs.Checks.{shown_with}
-use Rattle.xet_xorb_chunk.proofs.Fronts.{front_body, front_few, front_refused, front_short}
+use Rattle.xet_xorb_chunk.specs.theorems.Fronts.{front_body, front_few, front_refused, front_short}
 use Rattle.xet_xorb_chunk.proofs.chunk_front.chunk_len.Goals as goal
 
 pub returns-in_err-header-clause-front : goal.returns-in_err-header-clause-front

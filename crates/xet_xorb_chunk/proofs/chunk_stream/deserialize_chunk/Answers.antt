@@ -2,8 +2,9 @@ use Rattle.std.proofs.Common.{◌≡◌, ◌∙◌, ◌⊎◌, Err, ap, arith, i
 use Rattle.xet_hash.specs.declared.error.StoreError.{StoreError}
 use Rattle.xet_xorb_chunk.specs.Outside.{StopsReading}
 use Rattle.xet_xorb_chunk.specs.Stream.{chunk_at, chunk_in}
-use Rattle.xet_xorb_chunk.proofs.Checks.{exit_with, left_of}
-use Rattle.xet_xorb_chunk.proofs.Fronts.{chunk_refused, chunk_short, front_whole}
+use Rattle.xet_base.specs.theorems.Exits.{exit_with}
+use Rattle.xet_xorb_chunk.proofs.Checks.{left_of}
+use Rattle.xet_xorb_chunk.specs.theorems.Fronts.{chunk_refused, chunk_short, front_whole}
 use Rattle.xet_xorb_chunk.specs.Taking.{TakesFailedChunk}
 use Rattle.xet_xorb_chunk.proofs.Prefixes.{body_left, body_short, by_check_alone, chunk_of_body, chunk_of_header}
 use Rattle.xet_xorb_chunk.proofs.chunk_stream.deserialize_chunk.Goals as goal

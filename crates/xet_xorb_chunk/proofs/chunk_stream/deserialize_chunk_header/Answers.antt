@@ -2,9 +2,10 @@ use Rattle.std.proofs.Common.{◌∙◌, arith, inl, rules, sym}
 use Rattle.xet_hash.specs.declared.error.Place.TheVariants.{Input}
 use Rattle.xet_xorb_chunk.specs.Outside.{StopsReading}
 use Rattle.xet_xorb_chunk.specs.Taking.{TakesFailedHeader}
-use Rattle.xet_xorb_chunk.proofs.Checks.{exit_with, header_in_checks, no_failure, refused_as}
+use Rattle.xet_base.specs.theorems.Exits.{exit_with}
+use Rattle.xet_xorb_chunk.proofs.Checks.{header_in_checks, no_failure, refused_as}
 use Rattle.xet_xorb_chunk.proofs.Prefixes.{header_left, no_reading, prefix_of}
-use Rattle.xet_xorb_chunk.proofs.Fronts.{header_told}
+use Rattle.xet_xorb_chunk.specs.theorems.Fronts.{header_told}
 use Rattle.xet_xorb_chunk.proofs.chunk_stream.deserialize_chunk_header.Goals as goal
 
 pub returns-clause-cause : goal.returns-clause-cause

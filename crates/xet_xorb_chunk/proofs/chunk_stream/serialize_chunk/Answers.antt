@@ -2,8 +2,9 @@ use Rattle.std.proofs.Common.{◌≡◌, ◌∙◌, ◌+◌, ◌++◌, List, ap,
 use Rattle.xet_hash.specs.declared.error.StoreError.{StoreError}
 use Rattle.xet_xorb_chunk.specs.Header.{header_bytes}
 use Rattle.xet_xorb_chunk.specs.Spelling.{spelling}
-use Rattle.xet_xorb_chunk.proofs.Checks.{exit_with}
-use Rattle.xet_xorb_chunk.proofs.Written.{front_of_first, spelled_by, written_both, written_then}
+use Rattle.xet_base.specs.theorems.Exits.{exit_with}
+use Rattle.xet_base.specs.theorems.Written.{front_of_first, written_both, written_then}
+use Rattle.xet_xorb_chunk.specs.theorems.Encoded.{spelled_by}
 use Rattle.xet_xorb_chunk.proofs.chunk_stream.serialize_chunk.Goals as goal
 
 pub returns-in_err-write_chunk_header-clause-front : goal.returns-in_err-write_chunk_header-clause-front

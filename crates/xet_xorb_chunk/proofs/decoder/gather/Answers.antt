@@ -5,7 +5,7 @@ use Rattle.xet_xorb_chunk.specs.Taking.{header_in}
 use Rattle.xet_hash.specs.declared.error.StoreError.{StoreError}
 use Rattle.xet_hash.specs.declared.error.StoreError.TheVariants.{OutOfMemory}
 use Rattle.xet_xorb_chunk.specs.Stream.{Fails, front_of}
-use Rattle.xet_xorb_chunk.proofs.Checks.{exit_with}
+use Rattle.xet_base.specs.theorems.Exits.{exit_with}
 use Rattle.xet_xorb_chunk.proofs.Gathered.{added_twice, fails_ahead, gathers_more}
 use Rattle.xet_xorb_chunk.proofs.decoder.gather.Goals as goal
 

@@ -1,7 +1,7 @@
 use Rattle.std.proofs.Common.{◌∙◌, ap, arith, refl, sym}
 use Rattle.std.proofs.lemmas.Result.{err_from_is_err_and}
 use Rattle.xet_xorb_chunk.specs.Header.{Header}
-use Rattle.xet_xorb_chunk.proofs.Headers.{accepted, known, refused_ident, refused_plain, refused_scheme, refused_stored, refused_version, unknown}
+use Rattle.xet_xorb_chunk.specs.theorems.Headers.{accepted, known, refused_ident, refused_plain, refused_scheme, refused_stored, refused_version, unknown}
 use Rattle.xet_xorb_chunk.proofs.header.parse_chunk_header.Goals as goal
 
 pub returns-then-is_ident-clause-header : goal.returns-then-is_ident-clause-header

@@ -1,4 +1,4 @@
-use Rattle.xet_xorb_chunk.proofs.Readback.{header_read_back}
+use Rattle.xet_xorb_chunk.specs.theorems.Readback.{header_read_back}
 use Rattle.xet_xorb_chunk.proofs.laws.header_is_read_back.Goals as goal
 
 pub returns : goal.returns

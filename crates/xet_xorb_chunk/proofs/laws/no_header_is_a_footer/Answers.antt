@@ -1,4 +1,4 @@
-use Rattle.xet_xorb_chunk.proofs.Readback.{header_is_no_ident}
+use Rattle.xet_xorb_chunk.specs.theorems.Readback.{header_is_no_ident}
 use Rattle.xet_xorb_chunk.proofs.laws.no_header_is_a_footer.Goals as goal
 
 pub returns : goal.returns

@@ -1,4 +1,4 @@
-use Rattle.xet_xorb_chunk.proofs.Readback.{spelled_of_stream, stream_of_spelled}
+use Rattle.xet_xorb_chunk.specs.theorems.Readback.{spelled_of_stream, stream_of_spelled}
 use Rattle.xet_xorb_chunk.proofs.laws.stream_is_its_chunks.Goals as goal
 
 pub returns : goal.returns

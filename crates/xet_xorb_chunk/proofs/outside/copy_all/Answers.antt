@@ -1,6 +1,6 @@
 use Rattle.std.proofs.Common.{◌∙◌, ◌+◌, ◌++◌, List, ap, arith, length, length-append, sym, take, ℕ}
 use Rattle.std.proofs.lemmas.List.{length-take-le}
-use Rattle.xet_xorb_chunk.proofs.Written.{block_fed, front_of_first, written_both, written_then}
+use Rattle.xet_base.specs.theorems.Written.{block_fed, front_of_first, written_both, written_then}
 use Rattle.xet_xorb_chunk.proofs.outside.copy_all.Goals as goal
 
 pub returns-in_err-write_piece-clause-front : goal.returns-in_err-write_piece-clause-front

@@ -1,8 +1,8 @@
 use Rattle.std.proofs.Common.{◌≡◌, ◌∙◌, inr, subst, true, ℕ}
 use Rattle.xet_xorb_chunk.specs.Decoder.{Ends}
 use Rattle.xet_xorb_chunk.specs.Passing.{RefusesStream}
-use Rattle.xet_xorb_chunk.proofs.Checks.{exit_with}
-use Rattle.xet_xorb_chunk.proofs.Streamed.{end_refused, stream_memory}
+use Rattle.xet_base.specs.theorems.Exits.{exit_with}
+use Rattle.xet_xorb_chunk.specs.theorems.Streamed.{end_refused, stream_memory}
 use Rattle.xet_xorb_chunk.proofs.stream.deserialize_chunks_to_writer.Goals as goal
 
 pub returns-in_err-block-clause-refusals : goal.returns-in_err-block-clause-refusals

@@ -4,11 +4,11 @@ use Rattle.xet_hash.specs.declared.error.StoreError.{StoreError}
 use Rattle.xet_hash.specs.declared.error.StoreError.TheVariants.{Io}
 use Rattle.xet_hash.specs.declared.error.Place.TheVariants.{Input}
 use Rattle.xet_xorb_chunk.specs.Passing.{Refuses, RefusesMore, WritesWhole}
-use Rattle.xet_xorb_chunk.proofs.Checks.{exit_with}
-use Rattle.xet_xorb_chunk.proofs.Passed.{written_after}
+use Rattle.xet_base.specs.theorems.Exits.{exit_with}
+use Rattle.xet_xorb_chunk.specs.theorems.Passed.{written_after}
 use Rattle.xet_xorb_chunk.proofs.Prefixes.{prefix_of}
-use Rattle.xet_xorb_chunk.proofs.Streamed.{block_refused, holds_len, writes_whole}
-use Rattle.xet_xorb_chunk.proofs.Written.{block_fed}
+use Rattle.xet_xorb_chunk.specs.theorems.Streamed.{block_refused, holds_len, writes_whole}
+use Rattle.xet_base.specs.theorems.Written.{block_fed}
 use Rattle.xet_xorb_chunk.proofs.stream.feed_all.Goals as goal
 
 pub returns-in_err-count-clause-refusals : goal.returns-in_err-count-clause-refusals

@@ -2,8 +2,8 @@ use Rattle.std.proofs.Common.{◌+◌, drop}
 use Rattle.xet_xorb_footer.specs.Places.{RefusedBy}
 use Rattle.xet_xorb_footer.specs.Reading.{number_at}
 use Rattle.xet_xorb_footer.proofs.Endings.{field_then}
-use Rattle.xet_xorb_footer.proofs.Exits.{exit_with}
-use Rattle.xet_xorb_footer.proofs.Fronts.{number_short}
+use Rattle.xet_base.specs.theorems.Exits.{exit_with}
+use Rattle.xet_xorb_footer.specs.theorems.Fronts.{number_short}
 use Rattle.xet_xorb_footer.proofs.Placing.{number_there, short_refused}
 use Rattle.xet_xorb_footer.proofs.boundaries.read_number.Goals as goal
 

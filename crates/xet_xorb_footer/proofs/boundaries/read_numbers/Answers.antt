@@ -3,8 +3,8 @@ use Rattle.std.specs.Int.{w32, from_le_bytes}
 use Rattle.xet_xorb_footer.specs.Places.{RefusedBy}
 use Rattle.xet_xorb_footer.specs.Reading.{number_at, times}
 use Rattle.xet_xorb_footer.proofs.Endings.{field_then}
-use Rattle.xet_xorb_footer.proofs.Exits.{exit_with}
-use Rattle.xet_xorb_footer.proofs.Fronts.{a_number, times_short}
+use Rattle.xet_base.specs.theorems.Exits.{exit_with}
+use Rattle.xet_xorb_footer.specs.theorems.Fronts.{a_number, times_short}
 use Rattle.xet_xorb_footer.proofs.Placing.{behind_all, behind_more, behind_refused, pushed, sees_on}
 use Rattle.xet_xorb_footer.proofs.boundaries.read_numbers.Goals as goal
 

@@ -2,8 +2,8 @@ use Rattle.std.proofs.Common.{◌≡◌, ◌∙◌, ◌+◌, List, Ok, ap, arith
 use Rattle.xet_xorb_footer.specs.Places.{RefusedBy, tail_at}
 use Rattle.xet_xorb_footer.specs.Reading.{bytes_at}
 use Rattle.xet_xorb_footer.proofs.Endings.{field_then}
-use Rattle.xet_xorb_footer.proofs.Exits.{exit_with}
-use Rattle.xet_xorb_footer.proofs.Fronts.{bytes_short}
+use Rattle.xet_base.specs.theorems.Exits.{exit_with}
+use Rattle.xet_xorb_footer.specs.theorems.Fronts.{bytes_short}
 use Rattle.xet_xorb_footer.proofs.Placing.{short_refused, sees_on}
 use Rattle.xet_xorb_footer.proofs.Sections.{at_place, tail_count, tail_hashes, tail_is, tail_offset, tail_short}
 use Rattle.xet_xorb_footer.proofs.boundaries.read_tail.Goals as goal

@@ -7,7 +7,7 @@ use Rattle.xet_xorb_footer.specs.declared.info.XorbObjectInfoV1.{XorbObjectInfoV
 use Rattle.xet_xorb_footer.specs.Ends.{last_footer}
 use Rattle.xet_xorb_footer.specs.Reader.{parts_of, rest_of}
 use Rattle.xet_xorb_footer.proofs.Endings.{last_beyond, last_is, last_wrong, seen_at, unread, untold}
-use Rattle.xet_xorb_footer.proofs.Exits.{exit_with}
+use Rattle.xet_base.specs.theorems.Exits.{exit_with}
 use Rattle.xet_xorb_footer.proofs.ends.footer_before.Goals as goal
 
 pub returns-in_err-told-clause-refused : goal.returns-in_err-told-clause-refused

@@ -1,5 +1,6 @@
 use Rattle.std.proofs.Common.{◌∙◌, Ok, ap, arith, inl, sym}
-use Rattle.xet_xorb_footer.proofs.Endings.{told_is, told_short}
+use Rattle.xet_xorb_footer.specs.theorems.Endings.{told_is}
+use Rattle.xet_xorb_footer.proofs.Endings.{told_short}
 use Rattle.xet_xorb_footer.proofs.ends.number_at_end.Goals as goal
 
 pub returns-then-len-lt-LENGTH_SIZE-clause-refused : goal.returns-then-len-lt-LENGTH_SIZE-clause-refused

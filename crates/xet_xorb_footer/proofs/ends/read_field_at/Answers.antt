@@ -2,7 +2,7 @@ use Rattle.std.proofs.Common.{◌∙◌, ◌+◌, List, ap, drop, ℕ}
 use Rattle.xet_xorb_footer.specs.Places.{RefusedBy}
 use Rattle.xet_xorb_footer.specs.Reader.{parts_of, rest_of}
 use Rattle.xet_xorb_footer.proofs.Endings.{field_refused, field_then}
-use Rattle.xet_xorb_footer.proofs.Exits.{exit_with}
+use Rattle.xet_base.specs.theorems.Exits.{exit_with}
 use Rattle.xet_xorb_footer.proofs.Placing.{part_refused}
 use Rattle.xet_xorb_footer.proofs.Shorts.{rest_short}
 use Rattle.xet_xorb_footer.proofs.ends.read_field_at.Goals as goal

@@ -1,4 +1,4 @@
-use Rattle.xet_xorb_footer.proofs.LastRead.{last_is_read}
+use Rattle.xet_xorb_footer.specs.theorems.LastRead.{last_is_read}
 use Rattle.xet_xorb_footer.proofs.laws.last_is_read.Goals as goal
 
 pub returns : goal.returns

@@ -1,4 +1,4 @@
-use Rattle.xet_xorb_footer.proofs.Readback.{length_is_known}
+use Rattle.xet_xorb_footer.specs.theorems.Readback.{length_is_known}
 use Rattle.xet_xorb_footer.proofs.laws.length_is_known.Goals as goal
 
 pub returns : goal.returns

@@ -3,8 +3,10 @@ use Rattle.std.proofs.lemmas.Result.{on_err_weaker, on_ok_weaker}
 use Rattle.xet_xorb_footer.specs.Held.{held_in}
 use Rattle.xet_xorb_footer.specs.Spelled.{joined, numbers}
 use Rattle.xet_xorb_footer.specs.Written.{Front, Moves}
-use Rattle.xet_xorb_footer.proofs.Moving.{exit_on, on_ok, pad_behind, then, then_front}
-use Rattle.xet_xorb_footer.proofs.Texts.{head_v0, length_v0, parts_v0}
+use Rattle.xet_base.specs.theorems.Exits.{exit_on}
+use Rattle.xet_xorb_footer.proofs.Moving.{on_ok, pad_behind, then, then_front}
+use Rattle.xet_xorb_footer.proofs.Texts.{head_v0, parts_v0}
+use Rattle.xet_xorb_footer.specs.theorems.Texts.{length_v0}
 use Rattle.xet_xorb_footer.proofs.writing.put_v0.Goals as goal
 
 pub returns-in_err-put_all-clause-front : goal.returns-in_err-put_all-clause-front

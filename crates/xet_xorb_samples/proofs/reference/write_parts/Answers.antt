@@ -3,8 +3,8 @@ use Rattle.std.specs.List.{flat_map}
 use Rattle.std.specs.Prelude.{slice_range}
 use Rattle.xet_hash.specs.declared.error.StoreError.{StoreError}
 use Rattle.xet_xorb_chunk.specs.Spelling.{spelling}
-use Rattle.xet_xorb_chunk.proofs.Checks.{exit_with}
-use Rattle.xet_xorb_chunk.proofs.Written.{written_both}
+use Rattle.xet_base.specs.theorems.Exits.{exit_with}
+use Rattle.xet_base.specs.theorems.Written.{written_both}
 use Rattle.xet_xorb_samples.specs.Samples.{parts_from}
 use Rattle.xet_xorb_samples.proofs.Cuts.{front_of_next, length-spelling, rise_next, rise_within, small_next, spelled_bound, spelled_next}
 use Rattle.xet_xorb_samples.proofs.reference.write_parts.Goals as goal

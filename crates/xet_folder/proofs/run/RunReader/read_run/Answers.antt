@@ -8,8 +8,9 @@ use Rattle.xet_folder.specs.Names.{xorb_path}
 use Rattle.xet_folder.specs.Plan.{part, range}
 use Rattle.xet_folder.specs.Runs.{HasPlace, IsRunRefusal, Spells}
 use Rattle.xet_folder.specs.Stored.{IsBacked}
-use Rattle.xet_folder.proofs.Placing.{has_touched, stored_is, touched_range, touched_spelled}
-use Rattle.xet_shard_file.specs.theorems.Exits.{on_exit}
+use Rattle.xet_folder.proofs.Placing.{has_touched, touched_range, touched_spelled}
+use Rattle.xet_folder.specs.theorems.Placing.{stored_is}
+use Rattle.xet_base.specs.theorems.Exits.{on_exit}
 use Rattle.xet_folder.proofs.Runs.{read_refusal, refusal_more}
 use Rattle.xet_folder.proofs.run.RunReader.read_run.Goals as goal
 

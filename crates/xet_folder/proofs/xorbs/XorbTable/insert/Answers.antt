@@ -1,7 +1,7 @@
 use Rattle.std.proofs.Common.{◌∙◌, ◌∷◌, [], ◌++◌, ap, subst, sym}
 use Rattle.std.specs.List.{AllByRecursion}
 use Rattle.indexmap.proofs.CallerLemmas.{insert_entry-new}
-use Rattle.xet_shard_format.specs.theorems.Fitting.{all_both}
+use Rattle.xet_base.specs.theorems.Elements.{all_both}
 use Rattle.xet_shard_file.specs.Names.{IsHash}
 use Rattle.xet_folder.specs.Xorbs.{Xorbs, found}
 use Rattle.xet_folder.proofs.xorbs.XorbTable.insert.Goals as goal

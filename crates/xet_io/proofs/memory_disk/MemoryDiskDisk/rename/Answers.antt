@@ -2,7 +2,7 @@ use Rattle.std.proofs.Common.{◌≡◌, sym, ◌∙◌, ap}
 use Rattle.xet_io.specs.Disk.{Files, renamed}
 use Rattle.xet_io.specs.Memory.{Memory}
 use Rattle.xet_io.specs.MemoryFiles.{files_of}
-use Rattle.xet_io.proofs.Names.{bytes_apart, same_bytes}
+use Rattle.xet_io.specs.theorems.Names.{bytes_apart, same_bytes}
 use Rattle.xet_io.proofs.Changes.{renamed_over, renamed_itself, there_in}
 use Rattle.xet_io.proofs.memory_disk.MemoryDiskDisk.rename.Goals as goal
 

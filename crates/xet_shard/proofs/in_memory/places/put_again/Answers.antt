@@ -6,7 +6,7 @@ use Rattle.indexmap.specs.IndexMap.{values}
 use Rattle.xet_shard_format.specs.declared.record.MDBXorbInfo.{MDBXorbInfo}
 use Rattle.xet_shard_format.specs.Records.{xorb_hash, xorb_rows, xorb_section}
 use Rattle.xet_shard_format.specs.theorems.Counts.{fewer_rows}
-use Rattle.xet_shard.proofs.Holding.{is_other}
+use Rattle.xet_shard.specs.theorems.Holding.{is_other}
 use Rattle.xet_shard.proofs.Placing.{none_placed, placed_last, rows_left, stays_next}
 use Rattle.xet_shard.proofs.in_memory.places.put_again.Goals as goal
 

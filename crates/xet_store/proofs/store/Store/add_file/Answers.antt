@@ -3,13 +3,14 @@ use Rattle.xet_shard_format.specs.declared.record.MDBFileInfo.{MDBFileInfo}
 use Rattle.xet_shard.specs.Held.{held, with_last}
 use Rattle.xet_shard_format.specs.Records.{IsFile, file_hash, file_section}
 use Rattle.xet_folder.specs.Xorbs.{Records, found}
-use Rattle.xet_folder.proofs.Tables.{found_here}
+use Rattle.xet_folder.specs.theorems.Tables.{found_here}
 use Rattle.xet_store.specs.Store.{IsNewFile, State}
-use Rattle.xet_store.proofs.Keeping.{keeps_nothing}
+use Rattle.xet_store.specs.theorems.Keeping.{keeps_nothing}
 use Rattle.xet_store.proofs.Pending.{few_files, file_form}
 use Rattle.xet_store.proofs.Recording.{adds_at, keeps_recorded_at, record_kept, recorded_tables, sound_recorded_at}
-use Rattle.xet_store.proofs.Rows.{absent_at, is_some_found, recorded_at}
-use Rattle.xet_store.proofs.Staying.{keeps_unchanged}
+use Rattle.xet_store.proofs.Rows.{absent_at, recorded_at}
+use Rattle.xet_store.specs.theorems.Rows.{is_some_found}
+use Rattle.xet_store.specs.theorems.Staying.{keeps_unchanged}
 use Rattle.xet_store.proofs.store.Store.add_file.Goals as goal
 
 pub returns-then-contains_key-clause-keeps : goal.returns-then-contains_key-clause-keeps

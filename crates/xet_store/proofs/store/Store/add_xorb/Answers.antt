@@ -10,10 +10,10 @@ use Rattle.xet_store.specs.Store.{State}
 use Rattle.xet_store.specs.Tables.{tables, tables_of}
 use Rattle.xet_store.proofs.Answering.{on_err}
 use Rattle.xet_store.proofs.Adding.{PutsXorb, backed_by_text, listed_at, members_below, parts_fit, put_keeps, put_sound, put_tables, raw_block, raw_hash, raw_text, same_members, tables_by_chunks, tables_listed, true_from, unput_keeps, unput_sound}
-use Rattle.xet_store.proofs.Keeping.{keeps_nothing}
+use Rattle.xet_store.specs.theorems.Keeping.{keeps_nothing}
 use Rattle.xet_store.proofs.Pending.{few_blocks_of, xorb_form_of}
 use Rattle.xet_store.proofs.Rows.{recorded_at}
-use Rattle.xet_store.proofs.Staying.{keeps_unchanged}
+use Rattle.xet_store.specs.theorems.Staying.{keeps_unchanged}
 use Rattle.xet_store.proofs.store.Store.add_xorb.Goals as goal
 
 pub returns-in_err-members-clause-keeps : goal.returns-in_err-members-clause-keeps

@@ -9,7 +9,7 @@ use Rattle.xet_folder.specs.Contents.{IsRecord}
 use Rattle.xet_folder.specs.Xorbs.{Records}
 use Rattle.xet_store.specs.Store.{Differ, files_of}
 use Rattle.xet_store.proofs.Differing.{differ_by}
-use Rattle.xet_store.proofs.Plans.{record_bytes}
+use Rattle.xet_store.specs.theorems.Plans.{record_bytes}
 use Rattle.xet_store.proofs.Rows.{all_at}
 use Rattle.xet_store.proofs.store.Store.files.Goals as goal
 

@@ -2,8 +2,8 @@ use Rattle.std.proofs.Common.{◌∙◌, ◌∷◌, [], ◌++◌, ℕ, List, inr
 use Rattle.xet_folder.specs.Admission.{shard_hash}
 use Rattle.xet_store.proofs.Answering.{on_err}
 use Rattle.xet_store.proofs.Flushing.{PutsShard, not_listed, nothing_done, put_flushed, put_keeps, put_sound, unput_at, unput_keeps, unput_refused, unput_sound}
-use Rattle.xet_store.proofs.Keeping.{keeps_nothing}
-use Rattle.xet_store.proofs.Staying.{keeps_unchanged}
+use Rattle.xet_store.specs.theorems.Keeping.{keeps_nothing}
+use Rattle.xet_store.specs.theorems.Staying.{keeps_unchanged}
 use Rattle.xet_store.proofs.store.Store.flush.Goals as goal
 
 pub returns-then-is_empty-clause-keeps : goal.returns-then-is_empty-clause-keeps

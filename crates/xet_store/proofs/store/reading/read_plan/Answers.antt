@@ -4,7 +4,7 @@ use Rattle.std.specs.List.{concat}
 use Rattle.xet_io.specs.Disk.{Files}
 use Rattle.xet_shard_format.specs.declared.record.FileDataSequenceEntry.{FileDataSequenceEntry as Segment}
 use Rattle.xet_folder.specs.Plan.{plan_bytes, range}
-use Rattle.xet_folder.proofs.Rest.{left}
+use Rattle.xet_folder.specs.theorems.Rest.{left}
 use Rattle.xet_store.specs.Reading.{IsStoredListed, JoinsListed, LiesListed}
 use Rattle.xet_store.proofs.Reading.{Goes, goes_more, part_size}
 use Rattle.xet_store.proofs.store.reading.read_plan.Goals as goal

@@ -4,7 +4,7 @@ use Rattle.std.proofs.lemmas.Result.{on_ok_weaker}
 use Rattle.std.specs.List.{concat}
 use Rattle.xet_hash.specs.Merkle.{members_of}
 use Rattle.xet_folder.specs.Plan.{part, range}
-use Rattle.xet_folder.proofs.Ranges.{range_end, range_out}
+use Rattle.xet_folder.specs.theorems.Ranges.{range_end, range_out}
 use Rattle.xet_store.proofs.Reading.{part_size}
 use Rattle.xet_store.proofs.store.reading.read_segment.Goals as goal
 

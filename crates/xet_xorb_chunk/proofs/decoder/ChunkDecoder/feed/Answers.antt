@@ -3,7 +3,7 @@ use Rattle.xet_hash.specs.declared.error.StoreError.{StoreError}
 use Rattle.xet_xorb_chunk.specs.Decoder.{Holds}
 use Rattle.xet_xorb_chunk.specs.Passing.{RefusesMore}
 use Rattle.xet_xorb_chunk.proofs.Absorbed.{fed_more, refused_more}
-use Rattle.xet_xorb_chunk.proofs.Checks.{exit_with}
+use Rattle.xet_base.specs.theorems.Exits.{exit_with}
 use Rattle.xet_xorb_chunk.proofs.decoder.ChunkDecoder.feed.Goals as goal
 
 pub returns-in_err-absorb-clause-refusals : goal.returns-in_err-absorb-clause-refusals

@@ -1,5 +1,5 @@
 use Rattle.std.proofs.Common.{arith, rules}
-use Rattle.xet_xorb_chunk.proofs.Fronts.{front_few}
+use Rattle.xet_xorb_chunk.specs.theorems.Fronts.{front_few}
 use Rattle.xet_xorb_chunk.proofs.decoder.ChunkDecoder.new.Goals as goal
 
 pub invariant_of-result : goal.invariant_of-result

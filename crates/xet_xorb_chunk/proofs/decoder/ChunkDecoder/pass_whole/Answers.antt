@@ -2,7 +2,7 @@ use Rattle.std.proofs.Common.{◌≡◌, inr, true}
 use Rattle.xet_xorb_chunk.specs.Passing.{Refuses}
 use Rattle.xet_xorb_chunk.proofs.Checks.{memory_with}
 use Rattle.xet_xorb_chunk.proofs.Completed.{refuses_memory}
-use Rattle.xet_xorb_chunk.proofs.Passed.{refuses_after}
+use Rattle.xet_xorb_chunk.specs.theorems.Passed.{refuses_after}
 use Rattle.xet_xorb_chunk.proofs.decoder.ChunkDecoder.pass_whole.Goals as goal
 
 pub returns-in_err-extend_from_slice-clause-refusals : goal.returns-in_err-extend_from_slice-clause-refusals

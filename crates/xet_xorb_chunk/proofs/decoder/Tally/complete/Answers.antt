@@ -2,11 +2,11 @@ use Rattle.std.proofs.Common.{◌≡◌, ◌∙◌, ◌++◌, ◌∷◌, [], Lis
 use Rattle.std.proofs.lemmas.List.{append-nil}
 use Rattle.xet_xorb_chunk.specs.Passing.{Gathers, Refuses, ShowsFront}
 use Rattle.xet_xorb_chunk.specs.Stream.{Fails, front_of}
-use Rattle.xet_xorb_chunk.proofs.Checks.{exit_with}
+use Rattle.xet_base.specs.theorems.Exits.{exit_with}
 use Rattle.xet_xorb_chunk.proofs.Completed.{completes_none, completes_one, gather_refuses}
-use Rattle.xet_xorb_chunk.proofs.Fronts.{front_few}
+use Rattle.xet_xorb_chunk.specs.theorems.Fronts.{front_few}
 use Rattle.xet_xorb_chunk.proofs.Gathered.{fails_ahead}
-use Rattle.xet_xorb_chunk.proofs.Passed.{moves_one, refuses_front, refuses_pass}
+use Rattle.xet_xorb_chunk.specs.theorems.Passed.{moves_one, refuses_front, refuses_pass}
 use Rattle.xet_xorb_chunk.proofs.decoder.Tally.complete.Goals as goal
 
 pub returns-in_err-taken-clause-refusals : goal.returns-in_err-taken-clause-refusals

@@ -2,8 +2,8 @@ use Rattle.std.proofs.Common.{◌≡◌, ◌∙◌, ◌++◌, ◌∷◌, [], ap,
 use Rattle.std.proofs.lemmas.List.{append-nil, take_rest}
 use Rattle.xet_xorb_chunk.specs.Passing.{Refuses}
 use Rattle.xet_xorb_chunk.specs.Stream.{Fails, front_of}
-use Rattle.xet_xorb_chunk.proofs.Checks.{exit_with}
-use Rattle.xet_xorb_chunk.proofs.Passed.{moves_append, moves_one, refuses_after, refuses_front, refuses_one_told, refuses_pass, stands_at, written_after}
+use Rattle.xet_base.specs.theorems.Exits.{exit_with}
+use Rattle.xet_xorb_chunk.specs.theorems.Passed.{moves_append, moves_one, refuses_after, refuses_front, refuses_one_told, refuses_pass, stands_at, written_after}
 use Rattle.xet_xorb_chunk.proofs.decoder.Tally.pass_whole.Goals as goal
 
 pub returns-in_err-len-clause-refusals : goal.returns-in_err-len-clause-refusals

@@ -1,5 +1,5 @@
 use Rattle.std.proofs.Common.{◌≡◌, ◌∙◌, List, arith, length, rules, ℕ}
-use Rattle.xet_xorb_footer.proofs.Moving.{exit_on}
+use Rattle.xet_base.specs.theorems.Exits.{exit_on}
 use Rattle.xet_xorb_footer.proofs.Pieces.{ends, length_more, more}
 use Rattle.xet_xorb_footer.proofs.buffer.Buffer.put_hashes.Goals as goal
 

@@ -1,6 +1,6 @@
 use Rattle.std.proofs.Common.{◌∙◌, arith}
 use Rattle.xet_xorb_footer.specs.Spelled.{number}
-use Rattle.xet_xorb_footer.proofs.Moving.{exit_on}
+use Rattle.xet_base.specs.theorems.Exits.{exit_on}
 use Rattle.xet_xorb_footer.proofs.Pieces.{ends, more}
 use Rattle.xet_xorb_footer.proofs.buffer.Buffer.put_numbers.Goals as goal
 

@@ -1,7 +1,7 @@
 use Rattle.std.proofs.Common.{◌∙◌, Bool, ap, refl}
 use Rattle.xet_xorb_footer.specs.Joining.{Stops, wanted_next}
 use Rattle.xet_xorb_footer.specs.Reader.{bytes_wanted}
-use Rattle.xet_xorb_footer.proofs.Exits.{exit_with}
+use Rattle.xet_base.specs.theorems.Exits.{exit_with}
 use Rattle.xet_xorb_footer.proofs.Joining.{behind_stops, field_read, field_stops}
 use Rattle.xet_xorb_footer.proofs.decoder.Joined.take.Goals as goal
 

@@ -9,9 +9,9 @@ use Rattle.xet_xorb_footer.specs.Ends.{last_footer, told_length}
 use Rattle.xet_xorb_footer.specs.Laws.{IsStandard, IsStandardV0}
 use Rattle.xet_xorb_footer.specs.Reading.{footer_at}
 use Rattle.xet_xorb_footer.specs.Spelled.{number, of_v0, text_v0, text_v1}
-use Rattle.xet_xorb_footer.proofs.Endings.{told_is}
-use Rattle.xet_xorb_footer.proofs.Readback.{length_is_known, written_is_read}
-use Rattle.xet_xorb_footer.proofs.ReadbackV0.{length_is_known_v0, written_is_read_v0}
+use Rattle.xet_xorb_footer.specs.theorems.Endings.{told_is}
+use Rattle.xet_xorb_footer.specs.theorems.Readback.{length_is_known, written_is_read}
+use Rattle.xet_xorb_footer.specs.theorems.ReadbackV0.{length_is_known_v0, written_is_read_v0}
 
 -- what is behind so many bytes
 behind : (front back : List ℕ) (n : ℕ) → n ≡ length front → drop n (front ++ back) ≡ back

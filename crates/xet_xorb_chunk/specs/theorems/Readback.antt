@@ -14,11 +14,11 @@ use Rattle.xet_xorb_chunk.specs.Spelling.{le24, spelling}
 use Rattle.xet_xorb_chunk.specs.Stream.{Decodes, Whole, Fails, IsStream, behind, body_of, end_of, front_of}
 use Rattle.xet_xorb_chunk.specs.Taking.{header_in}
 use Rattle.xet_xorb_chunk.specs.Spelled.{AreSpelled}
-use Rattle.xet_xorb_chunk.proofs.Front.{eight, front_is}
-use Rattle.xet_xorb_chunk.proofs.Fronts.{front_few, front_whole}
-use Rattle.xet_xorb_chunk.proofs.Headers.{accepted, refused_ident}
-use Rattle.xet_xorb_chunk.proofs.More.{behind_all, behind_few, body_whole, front_at, whole_within}
-use Rattle.xet_xorb_chunk.proofs.Written.{spelled_by}
+use Rattle.xet_xorb_chunk.specs.theorems.Front.{eight, front_is}
+use Rattle.xet_xorb_chunk.specs.theorems.Fronts.{front_few, front_whole}
+use Rattle.xet_xorb_chunk.specs.theorems.Headers.{accepted, refused_ident}
+use Rattle.xet_xorb_chunk.specs.theorems.More.{behind_all, behind_few, body_whole, front_at, whole_within}
+use Rattle.xet_xorb_chunk.specs.theorems.Encoded.{spelled_by}
 
 -- a number below 2 ^ 24 is that of its three bytes
 number_back : (n : ℕ) → n < 2 ^ 24 → from_le_bytes w32 (le24 n ++ 0 ∷ []) ≡ n

@@ -9,9 +9,9 @@ use Rattle.xet_folder.specs.Xorbs.{Records, found}
 use Rattle.xet_store.specs.Cleaning.{HasWholeShard, HasXorb, IsStable, Keeps, SameEntry}
 use Rattle.xet_store.specs.Separate.{Among}
 use Rattle.xet_store.specs.Store.{State}
-use Rattle.xet_store.proofs.Admitting.{holds_same, stored_same}
-use Rattle.xet_store.proofs.Rows.{among_more, is_some_found}
-use Rattle.xet_store.proofs.Staying.{Members, all_among, keeps_stays, same_bytes_at, same_file_at, stays_same}
+use Rattle.xet_store.specs.theorems.Admitting.{holds_same, stored_same}
+use Rattle.xet_store.specs.theorems.Rows.{among_more, is_some_found}
+use Rattle.xet_store.specs.theorems.Staying.{Members, all_among, keeps_stays, same_bytes_at, same_file_at, stays_same}
 
 -- no call at all
 pub keeps_nothing : (s : State) → Keeps s s

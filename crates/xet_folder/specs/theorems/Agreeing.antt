@@ -1,4 +1,4 @@
--- What holds does not fail.
+-- What is stored agrees with itself.
 use Rattle.std.proofs.Common.{◌≡◌, inl, inr, ◌∙◌, ℕ, ◌<◌, List, [], ◌∷◌, ◌++◌, length, get_or, sym, ap, subst, arith}
 use Rattle.std.proofs.lemmas.List.Elements.{All-from_recursion, recursion_from_All}
 use Rattle.std.specs.List.{All, AllByRecursion}
@@ -12,7 +12,7 @@ use Rattle.xet_shard_format.specs.declared.record.MDBXorbInfo.{MDBXorbInfo}
 use Rattle.xet_shard_format.specs.Names.{shard_name}
 use Rattle.xet_shard_format.specs.Reading.{Parts}
 use Rattle.xet_shard_format.specs.Records as record_of
-use Rattle.xet_xorb.proofs.Determined.{text_determines}
+use Rattle.xet_xorb.specs.theorems.Determined.{text_determines}
 use Rattle.xet_xorb.specs.Xorb.{IsXorbText}
 use Rattle.xet_folder.specs.Admission.{Admits, BlockFails, BlockHolds, FileFails, FileHolds, FirstFails, Refuses, SegmentFails, SegmentHolds, ShardFails, ShardHolds, XorbFails, block_members}
 use Rattle.xet_folder.specs.Plan.{Joins, LiesIn, part}

@@ -10,22 +10,7 @@ use Rattle.xet_folder.specs.Xorbs.{IsListed, found}
 use Rattle.xet_folder.specs.Contents.{IsRecord}
 use Rattle.xet_store.specs.Store.{State, Sound}
 use Rattle.xet_store.specs.Separate.{Among, Apart, HasChunks, MetChunk, Separate}
-use Rattle.xet_store.proofs.Plans.{joins_more, joins_map, joins_among}
-
--- equal members of met chunks are those of equal chunks
-pub same_chunks : (Met : List ℕ → Type 0) → Apart chunk_hash Met → (xs ys : List (List ℕ)) → ((b : List ℕ) → Among xs b → Met b) → ((b : List ℕ) → Among ys b → Met b)
-    → members_of xs ≡ members_of ys → xs ≡ ys
-same_chunks Met apart [] [] mx my e = refl
-same_chunks Met apart [] (y ∷ ys) mx my e = let l : 0 ≡ suc (length (members_of ys)) = ap length e in absurd (omega arith)
-same_chunks Met apart (x ∷ xs) [] mx my e = let l : suc (length (members_of xs)) ≡ 0 = ap length e in absurd (omega arith)
-same_chunks Met apart (x ∷ xs) (y ∷ ys) mx my e =
-    let whole : (chunk_hash x, length x) ∷ members_of xs ≡ (chunk_hash y, length y) ∷ members_of ys = e in
-    let tails : members_of xs ≡ members_of ys = cc in
-    let pair : (chunk_hash x, length x) ≡ (chunk_hash y, length y) = cc in
-    let heads : chunk_hash x ≡ chunk_hash y = ap (λ (p : List ℕ × ℕ). p.0) pair in
-    let here : x ≡ y = apart.same x y (mx x (inl refl)) (my y (inl refl)) heads in
-    let rest : xs ≡ ys = same_chunks Met apart xs ys (λ b a. mx b (inr a)) (λ b a. my b (inr a)) tails in
-    ap (λ (b : List ℕ). b ∷ xs) here ∙ ap (λ (l : List (List ℕ)). y ∷ l) rest
+use Rattle.xet_store.specs.theorems.Plans.{joins_more, joins_map, joins_among}
 
 pub same_key : (a b : List ℕ) → pointwise nat_eq a b ≡ true → a ≡ b
 same_key a b e = (bytes_decides a b).0 e
@@ -42,6 +27,21 @@ found_has {X} P (y ∷ ys) h x all e = go (pointwise nat_eq h y.0) refl e (λ at
         let whole : y ≡ (h, x) = λ i. (key i, value i) in
         subst P whole all.0
     go false t at later = later at
+
+-- equal members of met chunks are those of equal chunks
+pub same_chunks : (Met : List ℕ → Type 0) → Apart chunk_hash Met → (xs ys : List (List ℕ)) → ((b : List ℕ) → Among xs b → Met b) → ((b : List ℕ) → Among ys b → Met b)
+    → members_of xs ≡ members_of ys → xs ≡ ys
+same_chunks Met apart [] [] mx my e = refl
+same_chunks Met apart [] (y ∷ ys) mx my e = let l : 0 ≡ suc (length (members_of ys)) = ap length e in absurd (omega arith)
+same_chunks Met apart (x ∷ xs) [] mx my e = let l : suc (length (members_of xs)) ≡ 0 = ap length e in absurd (omega arith)
+same_chunks Met apart (x ∷ xs) (y ∷ ys) mx my e =
+    let whole : (chunk_hash x, length x) ∷ members_of xs ≡ (chunk_hash y, length y) ∷ members_of ys = e in
+    let tails : members_of xs ≡ members_of ys = cc in
+    let pair : (chunk_hash x, length x) ≡ (chunk_hash y, length y) = cc in
+    let heads : chunk_hash x ≡ chunk_hash y = ap (λ (p : List ℕ × ℕ). p.0) pair in
+    let here : x ≡ y = apart.same x y (mx x (inl refl)) (my y (inl refl)) heads in
+    let rest : xs ≡ ys = same_chunks Met apart xs ys (λ b a. mx b (inr a)) (λ b a. my b (inr a)) tails in
+    ap (λ (b : List ℕ). b ∷ xs) here ∙ ap (λ (l : List (List ℕ)). y ∷ l) rest
 
 -- what was made of a value that is there
 pub mapped : {X Y : Type 0} (f : X → Y) (o : Option X) (y : Y) → option_map f o ≡ Some y → (x : X) × (o ≡ Some x) × (f x ≡ y)

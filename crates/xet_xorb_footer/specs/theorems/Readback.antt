@@ -10,8 +10,8 @@ use Rattle.xet_xorb_footer.specs.declared.info.XorbObjectInfoV1.{XorbObjectInfoV
 use Rattle.xet_xorb_footer.specs.Laws.{IsStandard}
 use Rattle.xet_xorb_footer.specs.Reading.{◌>>=◌, bytes_at, count_at, footer_at, number_at, number_is, rest_v1, times, version_of, wants}
 use Rattle.xet_xorb_footer.specs.Spelled.{boundaries_ident, footer_ident, hashes_ident, joined, most_chunks, number, numbers, text_v1}
-use Rattle.xet_xorb_footer.proofs.Fronts.{bytes_whole, ident_whole, number_is_whole, number_whole, version_whole}
-use Rattle.xet_xorb_footer.proofs.Texts.{length_v1}
+use Rattle.xet_xorb_footer.specs.theorems.Fronts.{bytes_whole, ident_whole, number_is_whole, number_whole, version_whole}
+use Rattle.xet_xorb_footer.specs.theorems.Texts.{length_v1}
 
 number_back : (n : ℕ) (more : List ℕ) → n < 2 ^ 32 → number_at (number n ++ more) ≡ Ok (n, more)
 number_back n more small = number_whole (number n) more refl ∙ ap (λ (k : ℕ). Ok (k, more)) (from_le_bytes-to_le_bytes_4 n small)

@@ -10,7 +10,7 @@ use Rattle.xet_hash.specs.declared.error.Reason.TheVariants.{AutoScheme, BodyLen
 use Rattle.xet_xorb_chunk.specs.Header.{Header, header_at}
 use Rattle.xet_xorb_chunk.specs.Passing.{Passes}
 use Rattle.xet_xorb_chunk.specs.Stream.{Decodes, Front, Short, Whole, Fails, behind, body_of, front_of}
-use Rattle.xet_xorb_chunk.proofs.Fronts.{front_few}
+use Rattle.xet_xorb_chunk.specs.theorems.Fronts.{front_few}
 
 -- there are eight bytes
 pub front_at : (most : ℕ) (bytes : List ℕ) → 8 ≤ length bytes → front_of most bytes ≡ behind (header_at most (take 8 bytes)) (drop 8 bytes)

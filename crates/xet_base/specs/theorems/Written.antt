@@ -1,19 +1,12 @@
--- What was written of two pieces, one behind the other.
+-- What was written of two pieces, one after the other.
 use Rattle.std.proofs.Common.{◌≡◌, ◌∙◌, ◌+◌, ℕ, List, ◌++◌, ap, append_assoc, arith, length, min, sym, take}
 use Rattle.std.proofs.Math.Seq.{take-append-add}
 use Rattle.std.proofs.lemmas.List.{take-append-le, take_min}
-use Rattle.xet_xorb_chunk.specs.Header.{Header, header_bytes}
-use Rattle.xet_xorb_chunk.specs.Spelling.{spelling}
 
 -- a front of the first is one of both
 pub front_of_first : (xs ys : List ℕ) (n : ℕ) → (m : ℕ) × (take n xs ≡ take m (xs ++ ys))
 front_of_first xs ys n =
     (min n (length xs), sym (take_min n xs) ∙ sym (take-append-le (min n (length xs)) xs ys (omega arith)))
-
--- a chunk is spelled by its header and its bytes
-pub spelled_by : (h : Header) (chunk : List ℕ) → h ≡ record { version = 0; stored = length chunk; scheme = 0; plain = length chunk } → header_bytes h ++ chunk ≡ spelling chunk
-unfolding spelling
-spelled_by h chunk e = ap (λ (x : Header). header_bytes x ++ chunk) e
 
 -- a piece was written, and then a front of another
 pub written_then : (before middle now xs ys : List ℕ) (n : ℕ) → middle ≡ before ++ xs → now ≡ middle ++ take n ys → now ≡ before ++ take (length xs + n) (xs ++ ys)

@@ -20,8 +20,8 @@ use Rattle.xet_store.specs.Store.{State, Sound, plan_of}
 use Rattle.xet_store.specs.Separate.{Among, Apart, MetChunk, Separate}
 use Rattle.xet_store.specs.Cleaning.{HasFile, HasXorbs, EachTold, info_of, cuts}
 use Rattle.xet_store.specs.Steps.{ListsXorbs}
-use Rattle.xet_store.proofs.Plans.{among_take}
-use Rattle.xet_store.proofs.Whole.{has_file, mapped, same_key, same_chunks}
+use Rattle.xet_store.specs.theorems.Plans.{among_take}
+use Rattle.xet_store.specs.theorems.Whole.{has_file, mapped, same_chunks, same_key}
 
 -- no other file than the empty one has a plan that is not recorded
 plan_found : (records : Records) (h : List ℕ) → h ≢ zero_hash → plan_of records h ≡ option_map (λ f. f.segments) (found records h)

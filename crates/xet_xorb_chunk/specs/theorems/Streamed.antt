@@ -9,8 +9,8 @@ use Rattle.xet_xorb_chunk.specs.Decoder.{Ends, Holds, fed_len}
 use Rattle.xet_xorb_chunk.specs.Outside.{StopsWriting}
 use Rattle.xet_xorb_chunk.specs.Passing.{Begins, Passes, Refuses, RefusesMore, RefusesStream, WritesWhole}
 use Rattle.xet_xorb_chunk.specs.Stream.{Decodes, stored_bytes}
-use Rattle.xet_xorb_chunk.proofs.More.{fails_more, passes_more, whole_more, whole_within}
-use Rattle.xet_xorb_chunk.proofs.Passed.{some_after, written_after}
+use Rattle.xet_xorb_chunk.specs.theorems.More.{fails_more, passes_more, whole_more, whole_within}
+use Rattle.xet_xorb_chunk.specs.theorems.Passed.{some_after, written_after}
 
 -- what was refused is refused with more bytes behind it
 pub decodes_longer : (most total : ℕ) (bytes more : List ℕ) (chunks : List (List ℕ)) (e : StoreError) → Decodes most total bytes chunks (Err e) → Decodes most total (bytes ++ more) chunks (Err e)

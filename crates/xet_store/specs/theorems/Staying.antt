@@ -13,8 +13,8 @@ use Rattle.xet_folder.specs.Xorbs.{IsListed, Records, Xorbs, found}
 use Rattle.xet_store.specs.Cleaning.{HasWholeShard, HasXorb, IsStable, Keeps, SameEntry}
 use Rattle.xet_store.specs.Separate.{Among}
 use Rattle.xet_store.specs.Store.{State, IsAdmitted, IsKept, Sound}
-use Rattle.xet_store.proofs.Admitting.{admitted_still, backed_same}
-use Rattle.xet_store.proofs.Rows.{apart_found, from_among, is_some_found, to_among}
+use Rattle.xet_store.specs.theorems.Admitting.{admitted_still, backed_same}
+use Rattle.xet_store.specs.theorems.Rows.{apart_found, from_among, is_some_found, to_among}
 
 abbrev pub Members : Type 0
 Members = List (List ℕ × ℕ)

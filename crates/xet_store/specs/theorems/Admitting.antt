@@ -27,7 +27,7 @@ use Rattle.xet_folder.specs.Xorbs.{Xorbs, found}
 use Rattle.xet_shard_file.specs.theorems.Names.{name_determines}
 use Rattle.xet_store.specs.Separate.{Among}
 use Rattle.xet_store.specs.Store.{IsAdmitted}
-use Rattle.xet_store.proofs.Rows.{among_filter, from_among, to_among}
+use Rattle.xet_store.specs.theorems.Rows.{among_filter, from_among, to_among}
 
 -- ---- lists
 

@@ -6,9 +6,9 @@ use Rattle.xet_xorb_footer.specs.declared.info.XorbObjectInfoV0.{XorbObjectInfoV
 use Rattle.xet_xorb_footer.specs.Laws.{IsStandardV0}
 use Rattle.xet_xorb_footer.specs.Reading.{◌>>=◌, bytes_at, footer_at, number_at, rest_v0, times, version_of}
 use Rattle.xet_xorb_footer.specs.Spelled.{footer_ident, joined, most_chunks, number, numbers, of_v0, text_v0}
-use Rattle.xet_xorb_footer.proofs.Fronts.{bytes_whole, ident_whole}
-use Rattle.xet_xorb_footer.proofs.Readback.{count_back, hashes_back, length_joined, numbers_back}
-use Rattle.xet_xorb_footer.proofs.Texts.{length_v0}
+use Rattle.xet_xorb_footer.specs.theorems.Fronts.{bytes_whole, ident_whole}
+use Rattle.xet_xorb_footer.specs.theorems.Readback.{count_back, hashes_back, length_joined, numbers_back}
+use Rattle.xet_xorb_footer.specs.theorems.Texts.{length_v0}
 
 -- the footer with these fields
 abbrev pub standard_v0 : List ℕ → ℕ → List (List ℕ) → List ℕ → List ℕ → XorbObjectInfoV0

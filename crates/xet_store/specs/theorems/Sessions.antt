@@ -14,8 +14,8 @@ use Rattle.xet_shard_format.specs.declared.record.MDBFileInfo.{MDBFileInfo}
 use Rattle.xet_shard.specs.Held.{Held, nothing}
 use Rattle.xet_shard_format.specs.Reading.{◌>>=◌, footer_at, header_at}
 use Rattle.xet_shard_format.specs.Records as record_of
-use Rattle.xet_folder.proofs.Agreeing.{joins_once, stored_once}
-use Rattle.xet_folder.proofs.Rest.{among_map}
+use Rattle.xet_folder.specs.theorems.Agreeing.{joins_once, stored_once}
+use Rattle.xet_folder.specs.theorems.Rest.{among_map}
 use Rattle.xet_folder.specs.Contents.{HasContents, IsRecord}
 use Rattle.xet_folder.specs.Listed.{JoinsTo, Lists}
 use Rattle.xet_shard_file.specs.Names.{shard_path}
@@ -30,9 +30,9 @@ use Rattle.xet_store.specs.Opening.{contents_of}
 use Rattle.xet_store.specs.Ranges.{IsRange}
 use Rattle.xet_store.specs.Separate.{Among, Apart, IsMet, IsNamed, MetBacked, MetChunk, MetFile, MetListed, MetStored, MetXorb, Separate, SeparateIn}
 use Rattle.xet_store.specs.Store.{State, IsAdmitted, IsKept, Sound, plan_of}
-use Rattle.xet_store.proofs.Rows.{from_among, is_some_found, to_among}
-use Rattle.xet_store.proofs.Staying.{all_among, same_bytes_at, same_file_at}
-use Rattle.xet_store.proofs.Whole.{found_has, mapped, same_key}
+use Rattle.xet_store.specs.theorems.Rows.{from_among, is_some_found, to_among}
+use Rattle.xet_store.specs.theorems.Staying.{all_among, same_bytes_at, same_file_at}
+use Rattle.xet_store.specs.theorems.Whole.{found_has, same_key, mapped}
 
 -- ---- plans
 

@@ -1,0 +1,6 @@
+pub mod Agreeing
+pub mod Firsts
+pub mod Placing
+pub mod Ranges
+pub mod Rest
+pub mod Tables

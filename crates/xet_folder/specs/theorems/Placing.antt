@@ -1,0 +1,19 @@
+-- Where chunks lie.
+use Rattle.std.proofs.Common.{◌≡◌, ◌∙◌, ℕ, ◌+◌, ◌-◌, ◌*◌, ◌<◌, ◌≤◌, ◌^◌, true, List, [], ◌∷◌, ◌++◌, length, length-append, map, take, drop, Option, Some, None, refl, sym, ap, subst, arith, append_assoc}
+use Rattle.std.proofs.lemmas.Grind.{flat_map-append}
+use Rattle.std.proofs.lemmas.List.{drop-drop, drop-map, drop-take, drop_at, length-drop, length-take-le, take-append-drop, take-map, take-take, take_all, take_at}
+use Rattle.std.proofs.lemmas.List.Sums.{sum_by-cons}
+use Rattle.std.specs.List.{concat, flat_map}
+use Rattle.xet_hash.specs.Merkle.{chunk_hash, members_of, total_len}
+use Rattle.xet_folder.specs.Runs.{stored_len}
+
+abbrev pub Member : Type 0
+Member = List ℕ × ℕ
+
+pub plain_joined : (chunks : List (List ℕ)) → total_len (members_of chunks) ≡ length (concat chunks)
+plain_joined [] = refl
+plain_joined (c ∷ cs) = omega (arith, sum_by-cons (λ (m : Member). m.1) (chunk_hash c, length c) (members_of cs), plain_joined cs, length-append c (concat cs))
+
+pub stored_is : (ms : List Member) → stored_len ms ≡ total_len ms + 8 * length ms
+stored_is [] = refl
+stored_is (m ∷ ms) = omega (arith, sum_by-cons (λ (n : Member). n.1) m ms, sum_by-cons (λ (n : Member). 8 + n.1) m ms, stored_is ms)

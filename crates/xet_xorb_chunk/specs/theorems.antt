@@ -1,0 +1,9 @@
+pub mod Front
+pub mod Fronts
+pub mod Grammar
+pub mod Headers
+pub mod More
+pub mod Passed
+pub mod Readback
+pub mod Streamed
+pub mod Encoded
