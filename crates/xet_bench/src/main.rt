@@ -11,9 +11,9 @@
 mod timed;
 
 use crate::timed::{Timed, run_timed};
-use std::{env, println};
 use std::alloc::Global;
 use std::process::ExitCode;
+use std::{env, println};
 use xet_cut::{LimitSettings, Limits, gear_table, generated};
 use xet_hash::{MerkleHash, StoreError, VERIFICATION_KEY, compute_data_hash, definition};
 use xet_io::{MemoryDisk, SliceSource};

@@ -6,4 +6,6 @@ mod records;
 
 pub use packing::{chunks_of, pack_len};
 pub use records::file_record;
-pub use xet_cut::{LimitSettings, Limits, chunk_list, cut_lengths, gear_table, generated, piece_len};
+pub use xet_cut::{
+    LimitSettings, Limits, chunk_list, cut_lengths, gear_table, generated, piece_len,
+};

@@ -7,7 +7,10 @@ ghost use Rattle.xet_dedup.specs.Records.{file_record, range_hashes, run_len};
 use std::alloc::Global;
 use xet_base::Items;
 use xet_hash::{MerkleHash, StoreError, range_hash_from_chunks};
-use xet_shard_format::{FileDataSequenceEntry, FileDataSequenceHeader, FileMetadataExt, FileVerificationEntry, MDBFileInfo, Sha256};
+use xet_shard_format::{
+    FileDataSequenceEntry, FileDataSequenceHeader, FileMetadataExt, FileVerificationEntry,
+    MDBFileInfo, Sha256,
+};
 
 /// The record of the file of these members, of which this is the hash, with this plan and this SHA-256.
 pub fn file_record(

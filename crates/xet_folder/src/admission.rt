@@ -21,7 +21,9 @@ use crate::xorbs::XorbTable;
 use std::alloc::Global;
 use xet_hash::{MerkleHash, Reason, StoreError, compute_data_hash, file_hash};
 use xet_io::Disk;
-use xet_shard_format::{FileDataSequenceEntry, MDBFileInfo, MDBShardFileFooter, MDBXorbInfo, read_shard};
+use xet_shard_format::{
+    FileDataSequenceEntry, MDBFileInfo, MDBShardFileFooter, MDBXorbInfo, read_shard,
+};
 
 /// The files of a shard's bytes, which stand under the name of this hash: reads them, and checks that
 /// the shard is whole, has this digest and no key, and that what it names is stored. Each xorb that it

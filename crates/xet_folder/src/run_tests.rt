@@ -1,8 +1,8 @@
 //! Parts of xorbs on a disk in memory.
 
-use crate::*;
 use crate::members::lies_in;
 use crate::texts::xorb_text;
+use crate::*;
 use bytes::Bytes;
 use std::alloc::Global;
 use std::test::Fail;

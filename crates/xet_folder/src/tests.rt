@@ -1,7 +1,7 @@
 //! A folder of a disk in memory.
 
-use crate::*;
 use crate::texts::xorb_text;
+use crate::*;
 use bytes::Bytes;
 use std::alloc::Global;
 use std::test::Fail;
@@ -9,7 +9,10 @@ use xet_base::Items;
 use xet_hash::{MerkleHash, Reason, StoreError, compute_data_hash, file_hash, xorb_hash};
 use xet_io::MemoryDisk;
 use xet_shard::write_shard;
-use xet_shard_format::{FileDataSequenceEntry, FileDataSequenceHeader, MDBFileInfo, MDBXorbInfo, XorbChunkSequenceEntry, XorbChunkSequenceHeader, shard_file_name};
+use xet_shard_format::{
+    FileDataSequenceEntry, FileDataSequenceHeader, MDBFileInfo, MDBXorbInfo,
+    XorbChunkSequenceEntry, XorbChunkSequenceHeader, shard_file_name,
+};
 use xet_xorb_chunk::Chunk;
 
 /// A disk on which the xorb of `abc` is stored.

@@ -7,7 +7,10 @@ mod regroup;
 mod split;
 
 pub use predictor::BG4Predictor;
-pub use regroup::{bg4_regroup, bg4_regroup_separate, bg4_regroup_together, bg4_regroup_together_combined_write_4, bg4_regroup_together_combined_write_8, groups_fit};
+pub use regroup::{
+    bg4_regroup, bg4_regroup_separate, bg4_regroup_together, bg4_regroup_together_combined_write_4,
+    bg4_regroup_together_combined_write_8, groups_fit,
+};
 pub use split::{bg4_split, bg4_split_separate, bg4_split_together};
 
 #[cfg(test)]

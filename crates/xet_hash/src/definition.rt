@@ -4,7 +4,9 @@
 ghost use Rattle.std.specs.Prelude.{◌≡◌, ◌+◌, ◌*◌, ◌^◌, ◌<◌, ◌≤◌, length};
 ghost use Rattle.xet_hash.specs.Blake3.{keyed_digest, plain_digest, subtree, subtree_len};
 
-use crate::blake3::{CHUNK_LEN, INITIAL_WORDS, KEYED_HASH, ROOT, bytes_of, chunk, key_words, parent};
+use crate::blake3::{
+    CHUNK_LEN, INITIAL_WORDS, KEYED_HASH, ROOT, bytes_of, chunk, key_words, parent,
+};
 use crate::data_hash::DataHash;
 
 /// The number of levels that any message fits in.

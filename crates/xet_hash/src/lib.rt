@@ -14,7 +14,10 @@ mod open_chunk;
 mod range;
 mod slots;
 
-pub use data_hash::{DataHash, HMACKey, MDB_SHARD_GLOBAL_DEDUP_CHUNK_MODULUS, MerkleHash, hash_is_global_dedup_eligible};
+pub use data_hash::{
+    DataHash, HMACKey, MDB_SHARD_GLOBAL_DEDUP_CHUNK_MODULUS, MerkleHash,
+    hash_is_global_dedup_eligible,
+};
 pub use digest::{VERIFICATION_KEY, compute_data_hash, compute_internal_node_hash, plain_hash};
 pub use error::{Field, Place, Reason, Refused, StoreError, What};
 pub use hasher::DataHasher;

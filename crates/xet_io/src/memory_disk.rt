@@ -12,7 +12,10 @@ ghost use Rattle.xet_io.specs.declared.count.Op.TheVariants as op;
 use crate::count::{Count, Op, Plan};
 use crate::disk::{Disk, DiskEntry};
 use crate::fault::Refusal;
-use crate::held::{Held, HeldFile, Names, held_file, hold_name, is_there, list_folder, make_stable, make_unstable, move_held};
+use crate::held::{
+    Held, HeldFile, Names, held_file, hold_name, is_there, list_folder, make_stable, make_unstable,
+    move_held,
+};
 use crate::slices::copy_part;
 use std::alloc::Global;
 use std::collections::BTreeMap;

@@ -1,6 +1,6 @@
 use super::*;
 use std::alloc::{AllocError, Global};
-use std::io::{ErrorKind, Read, Write, self};
+use std::io::{self, ErrorKind, Read, Write};
 use std::test::Fail;
 
 /// Takes or gives one byte, and then none: a write takes nothing, and a read fails.

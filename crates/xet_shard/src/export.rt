@@ -17,8 +17,8 @@ use std::mem;
 use xet_base::Items;
 use xet_hash::{HMACKey, Place, StoreError};
 use xet_io::{ReadAt, Sink};
-use xet_shard_format::{MDBFileInfo, MDBShardFileFooter, MDBXorbInfo, XorbChunkSequenceEntry};
 use xet_shard_format::shard_encoding::{Lookups, write_with_lookups};
+use xet_shard_format::{MDBFileInfo, MDBShardFileFooter, MDBXorbInfo, XorbChunkSequenceEntry};
 
 impl MDBShardInfo {
     /// Writes the shard again, with its chunks' hashes hashed under a key, created now and valid for so many

@@ -24,8 +24,8 @@ use std::alloc::{AllocError, Global};
 use std::marker::Model;
 use xet_hash::{HMACKey, MerkleHash, Place, StoreError};
 use xet_io::Sink;
-use xet_shard_format::{MDBFileInfo, MDBXorbInfo};
 use xet_shard_format::section::Record;
+use xet_shard_format::{MDBFileInfo, MDBXorbInfo};
 
 /// The bytes of a shard of nothing.
 const EMPTY_SIZE: u64 = 344;

@@ -15,4 +15,9 @@ pub use in_memory::MDBInMemoryShard;
 pub use info::MDBShardInfo;
 pub use union::shard_set_union;
 pub use write::write_shard;
-pub use xet_shard_format::{FileDataSequenceEntry, FileDataSequenceHeader, FileMetadataExt, FileVerificationEntry, MDBFileInfo, MDBShardFileFooter, MDBShardFileHeader, MDBXorbInfo, Sha256, XorbChunkSequenceEntry, XorbChunkSequenceHeader, parse_shard_filename, read_footer, read_footer_of_ends, read_shard, shard_file_name, truncate_hash};
+pub use xet_shard_format::{
+    FileDataSequenceEntry, FileDataSequenceHeader, FileMetadataExt, FileVerificationEntry,
+    MDBFileInfo, MDBShardFileFooter, MDBShardFileHeader, MDBXorbInfo, Sha256,
+    XorbChunkSequenceEntry, XorbChunkSequenceHeader, parse_shard_filename, read_footer,
+    read_footer_of_ends, read_shard, shard_file_name, truncate_hash,
+};

@@ -14,8 +14,8 @@ use crate::write::{write_shard, write_text};
 use std::alloc::{AllocError, Global};
 use xet_hash::{HMACKey, MerkleHash, Place, Reason, StoreError};
 use xet_io::{ReadAt, Sink};
-use xet_shard_format::{MDBFileInfo, MDBShardFileFooter, MDBXorbInfo};
 use xet_shard_format::section::{Lends, Record};
+use xet_shard_format::{MDBFileInfo, MDBShardFileFooter, MDBXorbInfo};
 
 /// The xorbs and the files of a shard.
 type Records = (Vec<MDBXorbInfo>, Vec<MDBFileInfo>);

@@ -11,9 +11,9 @@ use crate::info::MDBShardInfo;
 use std::alloc::Global;
 use xet_hash::{HMACKey, Place, StoreError};
 use xet_io::{Refusal, Sink, write_all};
-use xet_shard_format::{MDBFileInfo, MDBXorbInfo};
 use xet_shard_format::header_footer::HEADER;
 use xet_shard_format::shard_encoding::{ALL_LOOKUPS, write_with_lookups};
+use xet_shard_format::{MDBFileInfo, MDBXorbInfo};
 
 /// The full text of a shard with these xorbs and files, in the order in which they are given, with its
 /// header and footer. It is a shard where the records have the form and their hashes rise. The memory of

@@ -38,7 +38,12 @@ pub fn put_shard_file<D: Disk>(
 }
 
 /// Puts bytes under a name, so that a crash keeps them. Refused, the file of that name is as it was, or is done.
-pub fn put_text<D: Disk>(disk: &mut D, alloc: Global, name: &str, text: &[u8]) -> Result<(), StoreError>
+pub fn put_text<D: Disk>(
+    disk: &mut D,
+    alloc: Global,
+    name: &str,
+    text: &[u8],
+) -> Result<(), StoreError>
     ensures there { D.tells disk.old ≡ true → OnOk result (bytes_at (D.files disk.new) name.now ≡ Some text.now) }
     ensures stable { D.tells disk.old ≡ true → OnOk result (option_map (λ e. e.stable) (get (D.files disk.new) name.now) ≡ Some true) }
     ensures temp { D.tells disk.old ≡ true → OnOk result (get (D.files disk.new) (temp_name name.now) ≡ None) }

@@ -18,6 +18,9 @@ pub mod shard_encoding;
 
 pub use header_footer::{MDBShardFileFooter, MDBShardFileHeader, read_footer, read_footer_of_ends};
 pub use names::{parse_shard_filename, shard_file_name, truncate_hash};
-pub use record::{FileDataSequenceEntry, FileDataSequenceHeader, FileMetadataExt, FileVerificationEntry, MDBFileInfo, MDBXorbInfo, XorbChunkSequenceEntry, XorbChunkSequenceHeader};
+pub use record::{
+    FileDataSequenceEntry, FileDataSequenceHeader, FileMetadataExt, FileVerificationEntry,
+    MDBFileInfo, MDBXorbInfo, XorbChunkSequenceEntry, XorbChunkSequenceHeader,
+};
 pub use sha256::Sha256;
 pub use shard_decoding::read_shard;

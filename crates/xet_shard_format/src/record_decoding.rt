@@ -5,7 +5,10 @@ ghost use Rattle.xet_hash.specs.declared.error.StoreError.TheVariants.{OutOfMemo
 ghost use Rattle.xet_shard_format.specs.Records.{file_hash, flags_of, is_after, xorb_hash};
 ghost use Rattle.xet_shard_format.specs.Reading.{Gives, chunk_in, chunks_at, end_at, ext_at, file_at, has_ext, hash_at, hash_in, is_verified, rows_after_file, section_at, segment_at, step_at, times, verification_at, xorb_at};
 
-use crate::record::{FileDataSequenceEntry, FileDataSequenceHeader, FileMetadataExt, FileVerificationEntry, MDBFileInfo, MDBXorbInfo, XorbChunkSequenceEntry, XorbChunkSequenceHeader};
+use crate::record::{
+    FileDataSequenceEntry, FileDataSequenceHeader, FileMetadataExt, FileVerificationEntry,
+    MDBFileInfo, MDBXorbInfo, XorbChunkSequenceEntry, XorbChunkSequenceHeader,
+};
 use crate::row::Row;
 use crate::row_cursor::Rows;
 use crate::section::Record;

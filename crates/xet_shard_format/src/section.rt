@@ -8,10 +8,13 @@ ghost use Rattle.xet_shard_format.specs.Rows.{RowFits, rows_text};
 ghost use Rattle.xet_shard_format.specs.Records.{chunk_row, file_hash, file_rows, segment_row, verification_row, xorb_hash, xorb_rows};
 ghost use Rattle.xet_shard_format.specs.Reading.{Gives, file_at, xorb_at};
 
-use crate::{pieces, reading};
-use crate::record::{FileDataSequenceEntry, FileMetadataExt, FileVerificationEntry, MDBFileInfo, MDBXorbInfo, XorbChunkSequenceEntry};
+use crate::record::{
+    FileDataSequenceEntry, FileMetadataExt, FileVerificationEntry, MDBFileInfo, MDBXorbInfo,
+    XorbChunkSequenceEntry,
+};
 use crate::row::Row;
 use crate::row_cursor::Rows;
+use crate::{pieces, reading};
 use std::alloc::{AllocError, Global};
 use xet_hash::{MerkleHash, StoreError};
 

@@ -8,7 +8,9 @@ ghost use Rattle.xet_shard_format.specs.Records.{IsFile, IsXorb, file_hash, file
 use std::alloc::Global;
 use std::test::Fail;
 use xet_base::Items;
-use xet_hash::{MerkleHash, Reason, StoreError, compute_data_hash, file_hash, range_hash_from_chunks};
+use xet_hash::{
+    MerkleHash, Reason, StoreError, compute_data_hash, file_hash, range_hash_from_chunks,
+};
 use xet_io::{MemorySink, SliceReader};
 use xet_shard::*;
 

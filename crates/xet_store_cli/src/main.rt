@@ -12,9 +12,9 @@ mod session;
 mod words;
 
 use run::run_program;
-use std::{env, io};
 use std::process::ExitCode;
 use std::time::SystemTime;
+use std::{env, io};
 use xet_io::{MemoryDisk, MemoryInputs, StdSink, StdSource};
 
 #[cfg(test)]

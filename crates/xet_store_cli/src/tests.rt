@@ -7,7 +7,10 @@ use std::sync::Wait;
 use std::test::Fail;
 use std::thread::Threads;
 use xet_hash::compute_data_hash;
-use xet_io::{Disk, FailingSink, FailingSource, MemoryDisk, MemoryInputs, MemorySink, Op, Sink, SliceSource, Source};
+use xet_io::{
+    Disk, FailingSink, FailingSource, MemoryDisk, MemoryInputs, MemorySink, Op, Sink, SliceSource,
+    Source,
+};
 
 const ABC: &str =
     "8679a9c73b087ee02033e84569cba8c79c2413d79f99a1e9bd1ae79ae88776cf 3 ba7816bf8f01cfea414140de5dae2223b00361a396177a9cb410ff61f20015ad\n";

@@ -19,7 +19,9 @@ use crate::object::XorbObject;
 use std::alloc::Global;
 use xet_hash::{MerkleHash, StoreError, compute_data_hash, xorb_hash};
 use xet_io::{MemorySink, ReadAt};
-use xet_xorb_footer::{Block, XorbObjectInfoV0, XorbObjectInfoV1, read_exact, reader_length, told_length};
+use xet_xorb_footer::{
+    Block, XorbObjectInfoV0, XorbObjectInfoV1, read_exact, reader_length, told_length,
+};
 
 /// The bytes of a chunk's header.
 const HEADER_SIZE: u64 = 8;

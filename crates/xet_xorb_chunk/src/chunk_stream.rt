@@ -12,7 +12,9 @@ ghost use Rattle.xet_xorb_chunk.specs.Spelling.{spelling};
 ghost use Rattle.xet_xorb_chunk.specs.Stream.{chunk_at};
 ghost use Rattle.xet_xorb_chunk.specs.Taking.{TakesFailedChunk, TakesFailedHeader, TakesPrefix, WritesChunk, WritesFront, header_in};
 
-use crate::header::{XORB_CHUNK_HEADER_LENGTH, XorbChunkHeader, parse_chunk_header, write_chunk_header};
+use crate::header::{
+    XORB_CHUNK_HEADER_LENGTH, XorbChunkHeader, parse_chunk_header, write_chunk_header,
+};
 use crate::outside::{read_front, write_piece};
 use crate::scheme::CompressionScheme;
 use std::alloc::Global;

@@ -15,10 +15,18 @@ mod stream;
 
 pub use chunk::{Chunk, chunk_members};
 pub use chunk_front::chunk_len;
-pub use chunk_stream::{deserialize_chunk, deserialize_chunk_header, deserialize_chunk_to_writer, serialize_chunk};
-pub use constants::{MAXIMUM_CHUNK_MULTIPLIER, MAX_CHUNK_SIZE, MAX_XORB_BYTES, MAX_XORB_CHUNKS, MINIMUM_CHUNK_DIVISOR, TARGET_CHUNK_SIZE, XORB_BLOCK_SIZE, XORB_CUT_THRESHOLD_BYTES, XORB_CUT_THRESHOLD_CHUNKS};
+pub use chunk_stream::{
+    deserialize_chunk, deserialize_chunk_header, deserialize_chunk_to_writer, serialize_chunk,
+};
+pub use constants::{
+    MAX_CHUNK_SIZE, MAX_XORB_BYTES, MAX_XORB_CHUNKS, MAXIMUM_CHUNK_MULTIPLIER,
+    MINIMUM_CHUNK_DIVISOR, TARGET_CHUNK_SIZE, XORB_BLOCK_SIZE, XORB_CUT_THRESHOLD_BYTES,
+    XORB_CUT_THRESHOLD_CHUNKS,
+};
 pub use decoder::ChunkDecoder;
-pub use header::{XORB_CHUNK_HEADER_LENGTH, XorbChunkHeader, parse_chunk_header, write_chunk_header};
+pub use header::{
+    XORB_CHUNK_HEADER_LENGTH, XorbChunkHeader, parse_chunk_header, write_chunk_header,
+};
 pub use scheme::CompressionScheme;
 pub use segment::append_chunk_segment;
 pub use stream::{deserialize_chunks, deserialize_chunks_to_writer};

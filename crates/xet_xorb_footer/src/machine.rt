@@ -2,7 +2,9 @@
 
 ghost use Rattle.std.specs.Prelude.{◌≤◌, vec_len};
 
-use crate::info::{BOUNDARIES_IDENT, FOOTER_IDENT, HASHES_IDENT, XorbObjectInfoV0, XorbObjectInfoV1};
+use crate::info::{
+    BOUNDARIES_IDENT, FOOTER_IDENT, HASHES_IDENT, XorbObjectInfoV0, XorbObjectInfoV1,
+};
 use crate::lists::{hash_of, number_of, push_hashes, push_numbers};
 use std::alloc::{AllocError, Global};
 use xet_base::Items;

@@ -16,8 +16,8 @@ use crate::reader::sections::row_count;
 use std::alloc::Global;
 use xet_hash::{MerkleHash, Place, StoreError};
 use xet_io::ReadAt;
-use xet_shard_format::{FileDataSequenceEntry, MDBFileInfo, MDBShardFileFooter};
 use xet_shard_format::lookup::Head;
+use xet_shard_format::{FileDataSequenceEntry, MDBFileInfo, MDBShardFileFooter};
 
 impl MDBShardInfo {
     /// The file of a hash, if there is one. The files' lookup table is bisected by the hash's first word, or

@@ -13,9 +13,9 @@ use crate::reader::sections::row_count;
 use std::alloc::Global;
 use xet_hash::{HMACKey, MerkleHash, Place, Reason, StoreError};
 use xet_io::ReadAt;
-use xet_shard_format::{FileDataSequenceEntry, MDBShardFileFooter};
 use xet_shard_format::record_decoding::chunk_in;
 use xet_shard_format::row::{Row, row_of};
+use xet_shard_format::{FileDataSequenceEntry, MDBShardFileFooter};
 
 /// At most so many rows are read at once: 4 KiB.
 const AT_ONCE: u32 = 85;

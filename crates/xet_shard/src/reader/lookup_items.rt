@@ -6,10 +6,10 @@ ghost use Rattle.xet_shard_format.specs.Records.{section, xorb_section};
 ghost use Rattle.xet_shard.specs.Sections.{heads_in, heads_of, places_in};
 
 use std::alloc::{AllocError, Global};
-use xet_shard_format::{MDBXorbInfo, XorbChunkSequenceHeader};
 use xet_shard_format::lookup::{ChunkPlace, Head};
 use xet_shard_format::row::{half_word, word};
 use xet_shard_format::section::Record;
+use xet_shard_format::{MDBXorbInfo, XorbChunkSequenceHeader};
 
 /// So many items of 12 bytes.
 pub fn heads_in(alloc: Global, bytes: &[u8], count: u64) -> Result<Vec<Head>, AllocError>

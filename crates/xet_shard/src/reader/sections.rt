@@ -12,9 +12,11 @@ use crate::reader::lookup_items::heads_of;
 use std::alloc::Global;
 use xet_hash::{HMACKey, Place, Reason, StoreError};
 use xet_io::ReadAt;
-use xet_shard_format::{MDBFileInfo, MDBXorbInfo, XorbChunkSequenceHeader};
-use xet_shard_format::header_footer::{HEADER, MDBShardFileFooter, follows, footer_of_last, header_of_first};
+use xet_shard_format::header_footer::{
+    HEADER, MDBShardFileFooter, follows, footer_of_last, header_of_first,
+};
 use xet_shard_format::shard_decoding::records_at;
+use xet_shard_format::{MDBFileInfo, MDBXorbInfo, XorbChunkSequenceHeader};
 
 /// The bytes of a footer.
 const FOOTER_SIZE: u64 = 200;
