@@ -10,7 +10,7 @@ use Rattle.indexmap.proofs.CallerLemmas.{insert_entry-new}
 use Rattle.xet_folder.specs.Xorbs.{found}
 use Rattle.xet_folder.specs.theorems.Tables.{found_kept}
 use Rattle.xet_store.specs.Store.{Differ}
-use Rattle.xet_store.specs.theorems.Rows.{is_some_found, module}
+use Rattle.xet_store.specs.theorems.Rows.{is_some_found}
 
 -- ---- among the elements of a list
 
