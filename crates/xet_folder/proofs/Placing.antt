@@ -7,7 +7,7 @@ use Rattle.std.specs.List.{concat, flat_map}
 use Rattle.xet_io.specs.Disk.{Files, FillsFrom, bytes_at}
 use Rattle.xet_hash.specs.Merkle.{chunk_hash, member_of, members_of, total_len, xorb_hash}
 use Rattle.xet_shard_format.specs.declared.record.FileDataSequenceEntry.{FileDataSequenceEntry as Segment}
-use Rattle.xet_xorb_footer.specs.Spelled.{number}
+use Rattle.xet_codec.specs.Numbers.{number}
 use Rattle.xet_xorb_chunk.specs.Spelling.{spelling}
 use Rattle.xet_xorb.specs.Xorb.{IsXorbText, xorb_text}
 use Rattle.xet_xorb.specs.Footer.{footer_len, footer_text}

@@ -4,9 +4,11 @@ use Rattle.std.specs.Result.{IsErrAnd}
 use Rattle.xet_hash.specs.declared.error.StoreError.{StoreError}
 use Rattle.xet_hash.specs.declared.error.StoreError.TheVariants as errors
 use Rattle.xet_hash.specs.declared.error.Place.TheVariants as place
-use Rattle.xet_shard_format.specs.Reading.{Fails, all_of}
+use Rattle.xet_codec.specs.Parsing.{Fails}
+use Rattle.xet_shard_format.specs.Reading.{all_of}
 use Rattle.xet_shard_format.specs.theorems.Refusing.{all_answers}
-use Rattle.xet_shard_file.specs.Refusals.{IsCheckRefusal, HasDiskReason, IsShardError}
+use Rattle.xet_shard_file.specs.Refusals.{IsCheckRefusal, IsShardError}
+use Rattle.xet_codec.specs.Stops.{HasDiskReason}
 use Rattle.xet_shard_file.specs.theorems.Exits.{rose_before}
 
 -- what a check refuses for, the call around it does

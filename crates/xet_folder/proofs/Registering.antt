@@ -9,7 +9,8 @@ use Rattle.std.specs.List.{All, AllByRecursion, AllPairs, IsAmong}
 use Rattle.xet_io.specs.Disk.{File, Files, file_at}
 use Rattle.xet_hash.specs.declared.error.StoreError.{StoreError}
 use Rattle.xet_shard_format.specs.declared.header_footer.MDBShardFileFooter.{MDBShardFileFooter}
-use Rattle.xet_shard_format.specs.Reading.{◌>>=◌, footer_at, header_at}
+use Rattle.xet_codec.specs.Parsing.{◌>>=◌}
+use Rattle.xet_shard_format.specs.Reading.{footer_at, header_at}
 use Rattle.xet_folder.specs.Admission.{Admits, ShardHolds}
 use Rattle.xet_shard_file.specs.declared.listing.ShardEntry.{ShardEntry}
 use Rattle.xet_shard_file.specs.Entries.{IsBefore, ListsShards, entry_of, is_valid}

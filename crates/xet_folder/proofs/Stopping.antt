@@ -6,7 +6,8 @@ use Rattle.xet_hash.specs.declared.error.StoreError.TheVariants as errors
 use Rattle.xet_hash.specs.declared.error.Place.TheVariants as place
 use Rattle.xet_shard_format.specs.Names.{shard_name}
 use Rattle.xet_folder.specs.Admission.{Refuses}
-use Rattle.xet_shard_file.specs.Refusals.{IsCheckRefusal, HasDiskReason, IsBadShard, IsCheckError, IsShardError}
+use Rattle.xet_shard_file.specs.Refusals.{IsCheckRefusal, IsBadShard, IsCheckError, IsShardError}
+use Rattle.xet_codec.specs.Stops.{HasDiskReason}
 use Rattle.xet_folder.specs.Contents.{IsUnadmitted}
 use Rattle.xet_folder.specs.Gathering.{IsNamed, IsStopped}
 use Rattle.xet_shard_file.specs.Names.{IsHash}

@@ -18,9 +18,10 @@ use crate::contents::{RecordTable, Unadmitted};
 use crate::xorbs::XorbTable;
 use std::alloc::Global;
 use xet_base::Text;
+use xet_codec::store_error;
 use xet_hash::{MerkleHash, Place, StoreError};
 use xet_io::{Disk, read_file};
-use xet_shard_file::{ShardEntry, is_past_expiry, known_bytes, shard_path, store_error};
+use xet_shard_file::{ShardEntry, is_past_expiry, known_bytes, shard_path};
 use xet_shard_format::{MDBFileInfo, read_footer, shard_file_name};
 
 /// What was gathered of shards.

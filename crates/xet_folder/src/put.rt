@@ -6,7 +6,7 @@ ghost use Rattle.xet_io.specs.Disk.{bytes_at};
 ghost use Rattle.xet_folder.specs.Names.{IsForeign, xorb_path};
 ghost use Rattle.xet_shard_file.specs.Names.{IsHash, shard_path, temp_name};
 ghost use Rattle.xet_shard_file.specs.Puts.{IsKeptOrDone};
-ghost use Rattle.xet_shard_file.specs.Refusals.{HasDiskReason};
+ghost use Rattle.xet_codec.specs.Stops.{HasDiskReason};
 
 use crate::names::xorb_path;
 use std::alloc::Global;

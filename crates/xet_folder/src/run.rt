@@ -14,9 +14,9 @@ use crate::members::Members;
 use crate::names::xorb_path;
 use std::alloc::Global;
 use std::marker::Model;
+use xet_codec::store_error;
 use xet_hash::{MerkleHash, Reason, StoreError};
 use xet_io::{Disk, read_file_at};
-use xet_shard_file::store_error;
 use xet_shard_format::FileDataSequenceEntry;
 use xet_xorb_chunk::CompressionScheme;
 

@@ -5,7 +5,7 @@ ghost use Rattle.std.specs.List.{AllByRecursion};
 ghost use Rattle.xet_io.specs.Disk.{Files, bytes_at};
 ghost use Rattle.xet_shard_file.specs.Names.{IsHash};
 ghost use Rattle.xet_folder.specs.Names.{xorb_path};
-ghost use Rattle.xet_shard_file.specs.Refusals.{HasDiskReason};
+ghost use Rattle.xet_codec.specs.Stops.{HasDiskReason};
 ghost use Rattle.xet_folder.specs.Xorbs.{IsOverlong, IsXorbFile, found, spans_from};
 
 use crate::members::Members;
@@ -13,9 +13,10 @@ use crate::names::xorb_path;
 use indexmap::IndexMap;
 use std::alloc::Global;
 use std::marker::Model;
+use xet_codec::store_error;
 use xet_hash::{MerkleHash, StoreError};
 use xet_io::{Disk, SliceReader, read_file};
-use xet_shard_file::{known_bytes, store_error};
+use xet_shard_file::known_bytes;
 use xet_xorb::XorbObject;
 
 /// The most bytes of a chunk that can be read.

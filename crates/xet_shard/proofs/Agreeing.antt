@@ -7,7 +7,7 @@ use Rattle.xet_hash.specs.declared.error.Reason.TheVariants.{SectionEntry}
 use Rattle.xet_hash.specs.declared.error.StoreError.{StoreError}
 use Rattle.xet_hash.specs.declared.error.StoreError.TheVariants as errors
 use Rattle.xet_shard_format.specs.declared.row.Row.{Row}
-use Rattle.xet_shard_format.specs.Reading.{◌>>=◌, GivesUnlessFault}
+use Rattle.xet_codec.specs.Parsing.{◌>>=◌, GivesUnlessFault}
 use Rattle.xet_shard_format.specs.Rows.{row_of, rows_in}
 use Rattle.xet_shard.specs.Runs.{agreed, chunk_end}
 use Rattle.xet_shard.proofs.Faulting.{fault_on}

@@ -17,7 +17,8 @@ use Rattle.xet_shard.specs.Held.{record_of}
 use Rattle.xet_shard.specs.Bisection.{Bisects}
 use Rattle.xet_shard_format.specs.Lookups.{Lookups, chunk_items, chunks_from, file_items, heads_from, place_cmp, places_from, xorb_items}
 use Rattle.xet_shard.specs.Queries.{block_at, chunk_place, chunk_table, fewer_than_eight, file_after, file_in, file_items_from, file_table, first_file, found_file, found_run, has_head, kept_hash, last_of, place_before, query_word, read_in_row, rows_from, rows_of, run_in, run_of_word, shard_file, shard_run, shard_run_at, tells_row, told_run, xorb_table}
-use Rattle.xet_shard_format.specs.Reading.{◌>>=◌, file_at, file_row_count, xorb_at, xorb_row_count}
+use Rattle.xet_codec.specs.Parsing.{◌>>=◌}
+use Rattle.xet_shard_format.specs.Reading.{file_at, file_row_count, xorb_at, xorb_row_count}
 use Rattle.xet_shard_format.specs.Records.{AreRecords, IsFile, IsXorb, file_hash, file_head, file_rest, file_rows, first_word, section, xorb_hash, xorb_head, xorb_rest, xorb_rows}
 use Rattle.xet_shard_format.specs.Rows.{rows_in}
 use Rattle.xet_shard.specs.Runs.{run_after, run_at}

@@ -12,7 +12,7 @@ use Rattle.xet_shard_format.specs.declared.record.FileDataSequenceEntry.{FileDat
 use Rattle.xet_shard_format.specs.declared.record.MDBFileInfo.{MDBFileInfo}
 use Rattle.xet_shard_format.specs.Lookups.{flat_places}
 use Rattle.xet_shard.specs.Queries.{file_in, first_file, found_file, found_run, kept_hash, rows_of, run_in, run_of_word, told_run, chunk_place, file_items_from, has_head, query_word, last_of}
-use Rattle.xet_shard_format.specs.Reading.{◌>>=◌, GivesUnlessFault}
+use Rattle.xet_codec.specs.Parsing.{◌>>=◌, GivesUnlessFault}
 use Rattle.xet_shard_format.specs.Records.{file_hash, first_word}
 use Rattle.xet_shard.proofs.Faulting.{fault_on}
 

@@ -4,7 +4,8 @@ use Rattle.std.proofs.lemmas.Bool.{le-leb, le-ltb, lt-leb, lt-ltb}
 use Rattle.xet_hash.specs.declared.error.Reason.TheVariants.{SectionPlace}
 use Rattle.xet_hash.specs.declared.error.StoreError.{StoreError}
 use Rattle.xet_hash.specs.declared.error.StoreError.TheVariants as errors
-use Rattle.xet_shard_format.specs.Reading.{◌>>=◌, GivesUnlessFault, footer_at, header_at}
+use Rattle.xet_codec.specs.Parsing.{◌>>=◌, GivesUnlessFault}
+use Rattle.xet_shard_format.specs.Reading.{footer_at, header_at}
 use Rattle.xet_shard_format.specs.declared.header_footer.MDBShardFileFooter.{MDBShardFileFooter}
 use Rattle.xet_shard.specs.declared.info.MDBShardInfo.{MDBShardInfo}
 use Rattle.xet_shard.specs.ReaderBytes.{piece_at, rows_at}

@@ -4,7 +4,7 @@ use Rattle.std.proofs.lemmas.List.{append-nil, drop-take, drop_all}
 use Rattle.xet_shard_format.specs.theorems.FirstLast.{half_word_first, word_first}
 use Rattle.xet_shard_format.specs.declared.record.MDBXorbInfo.{MDBXorbInfo}
 use Rattle.xet_shard_format.specs.Records.{xorb_rows}
-use Rattle.xet_shard_format.specs.Rows.{half_word, word}
+use Rattle.xet_codec.specs.Numbers.{half_word, word}
 use Rattle.xet_shard.specs.Sections.{heads_in, heads_of, places_in}
 use Rattle.xet_shard_format.specs.theorems.Steps.{left, onto}
 

@@ -12,7 +12,8 @@ use Rattle.xet_shard_format.specs.declared.record.FileVerificationEntry.{FileVer
 use Rattle.xet_shard_format.specs.declared.record.MDBFileInfo.{MDBFileInfo}
 use Rattle.xet_shard_format.specs.declared.row.Row.{Row}
 use Rattle.xet_shard.specs.Queries.{file_after, read_in_row, rows_from}
-use Rattle.xet_shard_format.specs.Reading.{◌>>=◌, Gives, GivesUnlessFault, ext_at, file_at, has_ext, hash_at, has_rows, hash_in, is_verified, row_at, rows_after_file, segment_at, times, verification_at, wants}
+use Rattle.xet_codec.specs.Parsing.{◌>>=◌, Gives, GivesUnlessFault, wants}
+use Rattle.xet_shard_format.specs.Reading.{ext_at, file_at, has_ext, hash_at, has_rows, hash_in, is_verified, row_at, rows_after_file, segment_at, times, verification_at}
 use Rattle.xet_shard_format.specs.Records.{flags_of}
 use Rattle.xet_shard_format.specs.Rows.{row_of, rows_in}
 use Rattle.xet_shard.proofs.Faulting.{fault_on}

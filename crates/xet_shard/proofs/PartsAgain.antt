@@ -11,9 +11,11 @@ use Rattle.xet_shard.specs.Queries.{chunk_table, file_table, xorb_table}
 use Rattle.xet_shard_format.specs.declared.row.Row.{Row}
 use Rattle.xet_shard_format.specs.Lookups.{Lookups, chunk_items, file_items, head_text, heads_text, left_in, place_text, places_text, xorb_items}
 use Rattle.xet_shard.specs.ReaderBytes.{piece_at}
-use Rattle.xet_shard_format.specs.Reading.{◌>>=◌, IsPlaced, Parts, all_of, file_at, file_row_count, footer_at, footer_in, header_at, lookup_at, places_at, section_at, totals_at, xorb_at, xorb_row_count}
+use Rattle.xet_codec.specs.Parsing.{◌>>=◌}
+use Rattle.xet_shard_format.specs.Reading.{IsPlaced, Parts, all_of, file_at, file_row_count, footer_at, footer_in, header_at, lookup_at, places_at, section_at, totals_at, xorb_at, xorb_row_count}
 use Rattle.xet_shard_format.specs.Records.{file_hash, xorb_hash}
-use Rattle.xet_shard_format.specs.Rows.{rows_in, word}
+use Rattle.xet_shard_format.specs.Rows.{rows_in}
+use Rattle.xet_codec.specs.Numbers.{word}
 use Rattle.xet_shard.specs.Sections.{blocks_in, chunk_lookup_in, files_in, heads_in, info_at, places_in, section_in, xorb_lookup_in}
 use Rattle.xet_shard_format.specs.Text.{Fits, IsShard, Shard, footer_of, header, materialized, shard_text, stored}
 use Rattle.xet_shard.proofs.Faulting.{info_of, piece_there}

@@ -9,7 +9,7 @@ use Rattle.xet_shard_format.specs.declared.record.FileDataSequenceEntry.{FileDat
 use Rattle.xet_shard_format.specs.declared.record.MDBXorbInfo.{MDBXorbInfo}
 use Rattle.xet_shard_format.specs.declared.record.XorbChunkSequenceEntry.{XorbChunkSequenceEntry}
 use Rattle.xet_shard_format.specs.declared.row.Row.{Row}
-use Rattle.xet_shard_format.specs.Reading.{◌>>=◌}
+use Rattle.xet_codec.specs.Parsing.{◌>>=◌}
 use Rattle.xet_shard_format.specs.Records.{IsXorb, StartAt, chunk_bytes, chunk_row, xorb_head, xorb_rest}
 use Rattle.xet_shard.specs.Runs.{agreed, agreeing, chunk_end, digests, head_segment, run_after, run_at, run_of, run_segment}
 use Rattle.xet_shard.proofs.Agreeing.{Agreed}

@@ -14,8 +14,8 @@ use Rattle.xet_shard_format.specs.declared.record.MDBXorbInfo.{MDBXorbInfo}
 use Rattle.xet_shard.specs.Bisection.{AnswersAt, Bisects, in_table, passes, slots}
 use Rattle.xet_shard_format.specs.Lookups.{chunk_items, xorb_items}
 use Rattle.xet_shard.specs.Queries.{chunk_place, chunk_table, file_items_from, file_table, has_head, last_of, place_before, tells_row, xorb_table}
-use Rattle.xet_shard_format.specs.Reading.{◌>>=◌, GivesUnlessFault, reaches}
-use Rattle.xet_shard_format.specs.Rows.{half_word, word}
+use Rattle.xet_codec.specs.Parsing.{◌>>=◌, GivesUnlessFault, reaches}
+use Rattle.xet_codec.specs.Numbers.{half_word, word}
 use Rattle.xet_shard.specs.Sections.{blocks_in, chunk_lookup_in, heads_in, places_in, xorb_lookup_in}
 use Rattle.xet_shard.proofs.Bisecting.{bisects_map, get_or-slots, length-slots}
 use Rattle.xet_shard.proofs.Faulting.{fault_on}

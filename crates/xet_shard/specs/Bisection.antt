@@ -5,8 +5,8 @@ use Rattle.std.specs.List.{slice_get}
 use Rattle.xet_hash.specs.declared.error.StoreError.{StoreError}
 use Rattle.xet_shard.specs.declared.query.bisection.Probe.{Probe}
 use Rattle.xet_shard.specs.declared.query.bisection.Probe.TheVariants.{RowBelow, WordAtMost, WordBelow}
-use Rattle.xet_shard_format.specs.Reading.{◌>>=◌, GivesUnlessFault, reaches}
-use Rattle.xet_shard_format.specs.Rows.{half_word, word}
+use Rattle.xet_codec.specs.Parsing.{◌>>=◌, GivesUnlessFault, reaches}
+use Rattle.xet_codec.specs.Numbers.{half_word, word}
 
 -- the item before an index, if there is one
 abbrev pub item_before : {X : Type 0} → ℕ → List X → Option X

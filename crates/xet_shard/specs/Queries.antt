@@ -15,7 +15,8 @@ use Rattle.xet_shard_format.specs.declared.record.MDBFileInfo.{MDBFileInfo}
 use Rattle.xet_shard_format.specs.declared.record.MDBXorbInfo.{MDBXorbInfo}
 use Rattle.xet_shard_format.specs.declared.row.Row.{Row}
 use Rattle.xet_shard_format.specs.Lookups.{chunk_items, file_items, xorb_items}
-use Rattle.xet_shard_format.specs.Reading.{◌>>=◌, IsShardRefusal, file_at, reaches, row_at, wants}
+use Rattle.xet_codec.specs.Parsing.{◌>>=◌, reaches, wants}
+use Rattle.xet_shard_format.specs.Reading.{IsShardRefusal, file_at, row_at}
 use Rattle.xet_shard_format.specs.Records.{file_hash, first_word, xorb_rows}
 use Rattle.xet_shard.specs.Held.{record_of}
 use Rattle.xet_shard_format.specs.Rows.{rows_in}

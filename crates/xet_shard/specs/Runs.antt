@@ -7,7 +7,8 @@ use Rattle.xet_shard_format.specs.declared.record.FileDataSequenceEntry.{FileDat
 use Rattle.xet_shard_format.specs.declared.record.MDBXorbInfo.{MDBXorbInfo}
 use Rattle.xet_shard_format.specs.declared.record.XorbChunkSequenceEntry.{XorbChunkSequenceEntry}
 use Rattle.xet_shard_format.specs.declared.row.Row.{Row}
-use Rattle.xet_shard_format.specs.Reading.{◌>>=◌, chunk_in, has_rows, wants}
+use Rattle.xet_codec.specs.Parsing.{◌>>=◌, wants}
+use Rattle.xet_shard_format.specs.Reading.{chunk_in, has_rows}
 use Rattle.xet_shard_format.specs.Records.{chunk_bytes, xorb_hash}
 
 -- how many hashes at the front of two lists agree

@@ -11,9 +11,11 @@ use Rattle.xet_shard_format.specs.declared.record.MDBXorbInfo.{MDBXorbInfo}
 use Rattle.xet_shard_format.specs.declared.record.XorbChunkSequenceHeader.{XorbChunkSequenceHeader}
 use Rattle.xet_shard_format.specs.declared.row.Row.{Row}
 use Rattle.xet_shard_format.specs.Lookups.{chunk_items, xorb_items}
-use Rattle.xet_shard_format.specs.Reading.{◌>>=◌, file_at, footer_at, header_at, reaches, section_at, wants, xorb_at}
+use Rattle.xet_codec.specs.Parsing.{◌>>=◌, reaches, wants}
+use Rattle.xet_shard_format.specs.Reading.{file_at, footer_at, header_at, section_at, xorb_at}
 use Rattle.xet_shard_format.specs.Records.{file_hash, xorb_hash, xorb_rows}
-use Rattle.xet_shard_format.specs.Rows.{half_word, rows_in, word}
+use Rattle.xet_codec.specs.Numbers.{half_word, word}
+use Rattle.xet_shard_format.specs.Rows.{rows_in}
 use Rattle.xet_shard_format.specs.Text.{header}
 
 -- header and footer

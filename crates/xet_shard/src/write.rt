@@ -9,8 +9,9 @@ ghost use Rattle.xet_shard_format.specs.Text.{Fits, IsShardText, footer_of, full
 
 use crate::info::MDBShardInfo;
 use std::alloc::Global;
+use xet_codec::write_piece;
 use xet_hash::{HMACKey, Place, StoreError};
-use xet_io::{Refusal, Sink, write_all};
+use xet_io::Sink;
 use xet_shard_format::header_footer::HEADER;
 use xet_shard_format::shard_encoding::{ALL_LOOKUPS, write_with_lookups};
 use xet_shard_format::{MDBFileInfo, MDBXorbInfo};
@@ -58,9 +59,8 @@ pub(crate) fn write_text<W: Sink>(sink: &mut W, text: &[u8]) -> Result<(), Store
     ensures cause { HasCause (W.faults sink.old) (W.faults sink.new) (IsErrOf result (StoreError.Io Place.Output)) }
     ensures tells { W.tells sink.new ≡ W.tells sink.old }
 {
-    match write_all(sink, text) {
+    match write_piece(sink, text) {
         Ok(()) => Ok(()),
-        Err(Refusal::Failed) => Err(StoreError::Io(Place::Output)),
-        Err(Refusal::OutOfMemory) => Err(StoreError::OutOfMemory),
+        Err(error) => Err(error),
     }
 }

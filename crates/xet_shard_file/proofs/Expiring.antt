@@ -5,7 +5,8 @@ use Rattle.xet_hash.specs.declared.error.Reason.{Reason}
 use Rattle.xet_hash.specs.declared.error.StoreError.{StoreError}
 use Rattle.xet_hash.specs.declared.error.StoreError.TheVariants as errors
 use Rattle.xet_hash.specs.declared.error.Place.TheVariants as place
-use Rattle.xet_shard_file.specs.Refusals.{IsCheckRefusal, HasDiskReason, IsShardError}
+use Rattle.xet_shard_file.specs.Refusals.{IsCheckRefusal, IsShardError}
+use Rattle.xet_codec.specs.Stops.{HasDiskReason}
 use Rattle.xet_shard_file.specs.theorems.Exits.{rose_before}
 
 -- what a filled buffer has

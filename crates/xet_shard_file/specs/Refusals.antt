@@ -1,25 +1,12 @@
 -- Why a call over a disk refuses, and why a check of what stands there does.
 use Rattle.std.specs.Prelude.{Option, Some, Err, ◌≡◌, ◌⊎◌, ℕ, List}
 use Rattle.xet_io.specs.Faults.{Rose}
-use Rattle.xet_io.specs.declared.fault.Refusal.{Refusal}
-use Rattle.xet_io.specs.declared.fault.Refusal.TheVariants as refusal
 use Rattle.xet_hash.specs.declared.error.StoreError.{StoreError}
 use Rattle.xet_hash.specs.declared.error.StoreError.TheVariants.{Io, InvalidShard, MalformedData, OutOfMemory, UnexpectedEof}
 use Rattle.xet_hash.specs.declared.error.Place.TheVariants.{Disk}
 use Rattle.xet_shard_format.specs.Names.{shard_name}
 use Rattle.xet_shard_format.specs.Reading.{ends_of}
 use Rattle.xet_shard_file.specs.Names.{IsHash}
-
--- a disk's refusal as a store's
-abbrev pub from_refusal : Refusal → StoreError
-from_refusal refusal.Failed = Io Disk
-from_refusal refusal.OutOfMemory = OutOfMemory
-
--- a call over a disk, by its count of failures before and after
-abbrev pub HasDiskReason : ℕ → ℕ → StoreError → Type 0
-HasDiskReason before now (Io Disk) = Rose before now
-HasDiskReason before now OutOfMemory = Unit {0}
-HasDiskReason before now _ = ⊥
 
 -- The errors of a check of the shard of a hash: its bytes are not of their form, or it does not agree with what is
 -- stored.

@@ -7,7 +7,8 @@ use Rattle.xet_io.specs.Disk.{Files, File, file_at}
 use Rattle.xet_hash.specs.declared.error.StoreError.{StoreError}
 use Rattle.xet_shard_format.specs.declared.header_footer.MDBShardFileFooter.{MDBShardFileFooter}
 use Rattle.xet_shard_format.specs.Names.{shard_name}
-use Rattle.xet_shard_format.specs.Reading.{◌>>=◌, footer_at, header_at}
+use Rattle.xet_codec.specs.Parsing.{◌>>=◌}
+use Rattle.xet_shard_format.specs.Reading.{footer_at, header_at}
 use Rattle.xet_shard_file.specs.Names.{IsHash, shard_path}
 
 -- a file under a shard's name: the hash that the name tells, and what stands there

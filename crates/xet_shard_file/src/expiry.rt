@@ -3,10 +3,11 @@
 ghost use Rattle.std.specs.Prelude.{◌≡◌, ◌<◌, ◌≤◌, ◌+◌, ◌^◌, ℕ, IfErr, IfOk, IsTrue, List, Some, Err, length, true};
 ghost use Rattle.xet_io.specs.Disk.{FillsFrom, bytes_at};
 ghost use Rattle.xet_shard_format.specs.Reading.{ends_of};
-ghost use Rattle.xet_shard_file.specs.Refusals.{IsCheckRefusal, EndsFail, HasDiskReason, IsShardError};
+ghost use Rattle.xet_shard_file.specs.Refusals.{IsCheckRefusal, EndsFail, IsShardError};
+ghost use Rattle.xet_codec.specs.Stops.{HasDiskReason};
 ghost use Rattle.xet_shard_file.specs.Shards.{is_expired};
 
-use crate::refusal::store_error;
+use xet_codec::store_error;
 use xet_hash::StoreError;
 use xet_io::{Disk, read_file_at};
 use xet_shard_format::read_footer_of_ends;

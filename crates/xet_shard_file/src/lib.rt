@@ -5,10 +5,8 @@ mod expiry;
 mod listing;
 mod names;
 mod put;
-mod refusal;
 
 pub use expiry::is_past_expiry;
 pub use listing::{ShardEntry, list_shards};
 pub use names::{known_bytes, shard_path};
 pub use put::{put_shard_file, put_text};
-pub use refusal::store_error;

@@ -4,13 +4,13 @@ ghost use Rattle.std.specs.Prelude.{◌≡◌, ◌≤◌, true, IfErr, IfOk, map
 ghost use Rattle.std.specs.List.Sorted.{IsPermutation, IsSorted};
 ghost use Rattle.xet_shard_file.specs.Entries.{ListsShards};
 ghost use Rattle.xet_shard_file.specs.Picking.{Picks, name_order};
-ghost use Rattle.xet_shard_file.specs.Refusals.{HasDiskReason};
+ghost use Rattle.xet_codec.specs.Stops.{HasDiskReason};
 
 use crate::names::known_bytes;
-use crate::refusal::store_error;
 use std::alloc::{AllocError, Global};
 use std::cmp::Ordering;
 use xet_base::Text;
+use xet_codec::store_error;
 use xet_hash::{MerkleHash, StoreError};
 use xet_io::{Disk, DiskEntry};
 use xet_shard_format::parse_shard_filename;

@@ -5,11 +5,11 @@ ghost use Rattle.std.specs.FinMap.{get};
 ghost use Rattle.xet_io.specs.Disk.{bytes_at};
 ghost use Rattle.xet_shard_file.specs.Names.{IsHash, shard_path, temp_name};
 ghost use Rattle.xet_shard_file.specs.Puts.{IsKeptOrDone};
-ghost use Rattle.xet_shard_file.specs.Refusals.{HasDiskReason};
+ghost use Rattle.xet_codec.specs.Stops.{HasDiskReason};
 
 use crate::names::{known_bytes, shard_path};
-use crate::refusal::store_error;
 use std::alloc::Global;
+use xet_codec::store_error;
 use xet_hash::{MerkleHash, StoreError};
 use xet_io::{Disk, put_file};
 

@@ -4,7 +4,8 @@ use Rattle.std.proofs.lemmas.List.{append-nil}
 use Rattle.xet_shard_format.specs.declared.row.Row.{Row}
 use Rattle.xet_hash.specs.declared.error.StoreError.{StoreError}
 use Rattle.xet_shard_format.specs.declared.record.XorbChunkSequenceEntry.{XorbChunkSequenceEntry}
-use Rattle.xet_shard_format.specs.Reading.{◌>>=◌, Fails, row_at, chunk_in, chunks_at}
+use Rattle.xet_codec.specs.Parsing.{◌>>=◌, Fails}
+use Rattle.xet_shard_format.specs.Reading.{row_at, chunk_in, chunks_at}
 use Rattle.xet_shard_format.proofs.Failures.{fails_on}
 
 abbrev pub Read : Type 0

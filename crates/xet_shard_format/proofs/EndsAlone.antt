@@ -4,7 +4,8 @@ use Rattle.xet_hash.specs.declared.error.Reason.{Reason}
 use Rattle.xet_hash.specs.declared.error.StoreError.{StoreError}
 use Rattle.xet_hash.specs.declared.error.StoreError.TheVariants as errors
 use Rattle.xet_shard_format.specs.Ends.{footer_of_last, header_of_first}
-use Rattle.xet_shard_format.specs.Reading.{◌>>=◌, ends_of, footer_at, header_at}
+use Rattle.xet_codec.specs.Parsing.{◌>>=◌}
+use Rattle.xet_shard_format.specs.Reading.{ends_of, footer_at, header_at}
 use Rattle.xet_shard_format.specs.theorems.FirstLast.{footer_from, header_first, header_is}
 use Rattle.xet_shard_format.specs.theorems.Refusing.{IsAnswer, IsOfBytes}
 

@@ -2,7 +2,7 @@
 use Rattle.std.proofs.Common.{◌≡◌, Result, Err}
 use Rattle.xet_hash.specs.declared.error.StoreError.{StoreError}
 use Rattle.xet_hash.specs.declared.error.StoreError.TheVariants as errors
-use Rattle.xet_shard_format.specs.Reading.{Fails}
+use Rattle.xet_codec.specs.Parsing.{Fails}
 
 -- where one reading fails as another does, the other's refusal is its own
 pub fails_on : {Y Z : Type 0} (e : StoreError) (read : Result Y StoreError) (total : Result Z StoreError) → (read ≡ Err e → total ≡ Err e) → Fails e read → Fails e total

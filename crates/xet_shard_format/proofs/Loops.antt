@@ -3,7 +3,8 @@ use Rattle.std.proofs.Common.{◌≡◌, ℕ, suc, ◌-◌, ◌+◌, ◌≤◌, 
 use Rattle.std.proofs.lemmas.List.{append-nil}
 use Rattle.xet_shard_format.specs.declared.row.Row.{Row}
 use Rattle.xet_hash.specs.declared.error.StoreError.{StoreError}
-use Rattle.xet_shard_format.specs.Reading.{◌>>=◌, Fails, times}
+use Rattle.xet_codec.specs.Parsing.{◌>>=◌, Fails}
+use Rattle.xet_shard_format.specs.Reading.{times}
 use Rattle.xet_shard_format.proofs.Failures.{fails_on}
 
 -- what was read before, and what is still read

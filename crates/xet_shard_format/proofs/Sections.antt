@@ -7,7 +7,8 @@ use Rattle.xet_hash.specs.declared.error.Reason.TheVariants.{SectionPlace}
 use Rattle.xet_hash.specs.declared.error.StoreError.{StoreError}
 use Rattle.xet_hash.specs.declared.error.StoreError.TheVariants.{MalformedData}
 use Rattle.xet_hash.specs.Hash.{marker}
-use Rattle.xet_shard_format.specs.Reading.{◌>>=◌, Fails, row_at, end_at, step_at, section_at}
+use Rattle.xet_codec.specs.Parsing.{◌>>=◌, Fails}
+use Rattle.xet_shard_format.specs.Reading.{row_at, end_at, step_at, section_at}
 use Rattle.xet_shard_format.proofs.Failures.{fails_on}
 
 pub end_fails : {X : Type 0} (record_at : Row → List Row → Result (X × List Row) StoreError) (last : Option (List ℕ)) (rows : List Row) (r : Row) (after : List Row) (e : StoreError)

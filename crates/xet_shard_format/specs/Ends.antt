@@ -4,8 +4,9 @@ use Rattle.std.specs.Cmp.Lexicographic.{pointwise}
 use Rattle.xet_hash.specs.declared.error.Reason.TheVariants.{FooterSize, SectionPlace, ShardVersion, Tag}
 use Rattle.xet_hash.specs.declared.error.StoreError.{StoreError}
 use Rattle.xet_shard_format.specs.declared.header_footer.MDBShardFileFooter.{MDBShardFileFooter}
-use Rattle.xet_shard_format.specs.Reading.{footer_in, places_at, reaches, wants}
-use Rattle.xet_shard_format.specs.Rows.{word}
+use Rattle.xet_shard_format.specs.Reading.{footer_in, places_at}
+use Rattle.xet_codec.specs.Parsing.{reaches, wants}
+use Rattle.xet_codec.specs.Numbers.{word}
 use Rattle.xet_shard_format.specs.Text.{tag}
 
 -- the header of a shard of so many bytes, whose first 48 are these

@@ -2,7 +2,6 @@
 use Rattle.std.specs.Prelude.{◌≡◌, ℕ, zero, suc, ◌+◌, ◌-◌, ◌*◌, ◌/◌, ◌%◌, ◌^◌, ◌<◌, Bool, true, false, List, [], ◌∷◌, length, take, drop, replicate, Option, Some, None, Result, Ok, Err, nat_lt, nat_le, nat_eq, ◌==◌, if◌then◌else◌}
 use Rattle.std.specs.Cmp.Lexicographic.{pointwise}
 use Rattle.xet_hash.specs.declared.error.Place.TheVariants.{Input}
-use Rattle.xet_hash.specs.declared.error.Reason.{Reason}
 use Rattle.xet_hash.specs.declared.error.Reason.TheVariants.{Tag, ShardVersion, FooterSize, SectionPlace, SectionEntry, SectionOrder, Lookup, Totals}
 use Rattle.xet_hash.specs.declared.error.StoreError.{StoreError}
 use Rattle.xet_hash.specs.declared.error.StoreError.TheVariants.{Io, UnexpectedEof, OutOfMemory, MalformedData}
@@ -14,42 +13,13 @@ use Rattle.xet_shard_format.specs.declared.record.XorbChunkSequenceEntry.{XorbCh
 use Rattle.xet_shard_format.specs.declared.record.MDBFileInfo.{MDBFileInfo}
 use Rattle.xet_shard_format.specs.declared.record.MDBXorbInfo.{MDBXorbInfo}
 use Rattle.xet_shard_format.specs.declared.header_footer.MDBShardFileFooter.{MDBShardFileFooter}
-use Rattle.xet_shard_format.specs.Rows.{rows_in, word}
+use Rattle.xet_shard_format.specs.Rows.{rows_in}
+use Rattle.xet_codec.specs.Numbers.{word}
 use Rattle.xet_hash.specs.Hash.{marker}
 use Rattle.xet_shard_format.specs.Records.{file_hash, flags_of, is_after, xorb_hash}
 use Rattle.xet_shard_format.specs.Lookups.{Lookups, chunk_items, file_items, heads_text, places_text, xorb_items}
 use Rattle.xet_shard_format.specs.Text.{Fits, IsShard, Shard, footer_of, materialized, shard_text, stored, tag}
-
-infixl 10 ◌>>=◌
-abbrev pub ◌>>=◌ : {A B : Type 0} → Result A StoreError → (A → Result B StoreError) → Result B StoreError
-(Ok x) >>= f = f x
-(Err e) >>= f = Err e
-
--- What a function returned, seen by view, is what reading gives, unless memory was wanting.
-abbrev pub Fails : {Y : Type 0} → StoreError → Result Y StoreError → Type 0
-Fails OutOfMemory read = Unit {0}
-Fails e read = read ≡ Err e
-
-abbrev pub Gives : {X Y : Type 0} → (X → Y) → Result X StoreError → Result Y StoreError → Type 0
-Gives view (Ok x) read = read ≡ Ok (view x)
-Gives view (Err e) read = Fails e read
-
--- The same of a reader, which may have failed.
-abbrev pub GivesUnlessFault : {X Y : Type 0} → (X → Y) → Result X StoreError → Result Y StoreError → Type 0
-GivesUnlessFault view (Err (Io place)) read = place ≡ Input
-GivesUnlessFault view r read = Gives view r read
-
--- A call that allocates nothing returned what reading gives, unless the reader failed.
-abbrev pub IsUnlessFault : {X : Type 0} → Result X StoreError → Result X StoreError → Type 0
-IsUnlessFault (Err (Io place)) read = place ≡ Input
-IsUnlessFault r read = r ≡ read
-
--- the errors of such a call
-abbrev pub IsInputError : StoreError → Type 0
-IsInputError UnexpectedEof = Unit {0}
-IsInputError (MalformedData reason) = Unit {0}
-IsInputError (Io place) = place ≡ Input
-IsInputError e = ⊥
+use Rattle.xet_codec.specs.Parsing.{reaches, wants, ◌>>=◌}
 
 -- the refusals of reading a shard
 abbrev pub IsShardRefusal : StoreError → Type 0
@@ -58,16 +28,6 @@ IsShardRefusal UnexpectedEof = Unit {0}
 IsShardRefusal (MalformedData reason) = Unit {0}
 IsShardRefusal (Io place) = place ≡ Input
 IsShardRefusal e = ⊥
-
--- a test that is to hold
-abbrev pub wants : Bool → Reason → Result (Unit {0}) StoreError
-wants true reason = Ok tt
-wants false reason = Err (MalformedData reason)
-
--- the bytes are to be so many
-abbrev pub reaches : Bool → Result (Unit {0}) StoreError
-reaches true = Ok tt
-reaches false = Err UnexpectedEof
 
 -- ---- rows
 

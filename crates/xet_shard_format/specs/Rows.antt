@@ -4,6 +4,7 @@ use Rattle.std.specs.Prelude.{◌≡◌, ℕ, zero, suc, ◌^◌, ◌<◌, List,
 use Rattle.std.specs.List.{flat_map, All}
 use Rattle.std.specs.Int.{w32, w64, from_le_bytes, to_le_bytes}
 use Rattle.xet_shard_format.specs.declared.row.Row.{Row}
+use Rattle.xet_codec.specs.Numbers.{half_word}
 
 abbrev pub row : List ℕ → ℕ → ℕ → ℕ → ℕ → Row
 row hash a b c d = record { hash = hash; a = a; b = b; c = c; d = d }
@@ -13,13 +14,6 @@ row_text r = r.hash ++ (to_le_bytes w32 r.a ++ (to_le_bytes w32 r.b ++ (to_le_by
 
 abbrev pub rows_text : List Row → List ℕ
 rows_text rs = flat_map row_text rs
-
--- the number in the four, or in the eight, bytes at a place
-abbrev pub half_word : List ℕ → ℕ → ℕ
-half_word bytes at = from_le_bytes w32 (take 4 (drop at bytes))
-
-abbrev pub word : List ℕ → ℕ → ℕ
-word bytes at = from_le_bytes w64 (take 8 (drop at bytes))
 
 -- the row at the front
 unfoldable pub row_of : List ℕ → Row

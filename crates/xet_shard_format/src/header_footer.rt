@@ -2,9 +2,10 @@
 
 ghost use Rattle.std.specs.Prelude.{◌≡◌, ◌⊎◌, ◌≤◌, ◌+◌, ◌-◌, ◌*◌, ◌==◌, ℕ, IfErr, IfOk, List, OnOk, drop, length, min, take};
 ghost use Rattle.xet_shard_format.specs.Ends.{footer_of_last, header_of_first};
-ghost use Rattle.xet_shard_format.specs.Reading.{Gives, IsPlaced, ends_of, footer_at, footer_in, header_at, places_at};
+ghost use Rattle.xet_codec.specs.Parsing.{Gives};
+ghost use Rattle.xet_shard_format.specs.Reading.{IsPlaced, ends_of, footer_at, footer_in, header_at, places_at};
 
-use crate::row::{hash, word};
+use xet_codec::{hash_at, word};
 use xet_hash::{HMACKey, Reason, StoreError};
 
 /// The first 48 bytes of a shard.
@@ -187,7 +188,7 @@ fn footer_in(bytes: &[u8]) -> MDBShardFileFooter
         xorb_lookup_num_entry: word(bytes, 48),
         chunk_lookup_offset: word(bytes, 56),
         chunk_lookup_num_entry: word(bytes, 64),
-        chunk_hash_hmac_key: hash(bytes, 72),
+        chunk_hash_hmac_key: hash_at(bytes, 72),
         shard_creation_timestamp: word(bytes, 104),
         shard_key_expiry: word(bytes, 112),
         stored_bytes_on_disk: word(bytes, 168),

@@ -3,7 +3,8 @@
 ghost use Rattle.std.specs.Prelude.{◌≡◌, ◌++◌, ◌∷◌, [], None, IfErr, OnOk};
 ghost use Rattle.xet_hash.specs.declared.error.StoreError.TheVariants.{OutOfMemory};
 ghost use Rattle.xet_shard_format.specs.Records.{file_hash, flags_of, is_after, xorb_hash};
-ghost use Rattle.xet_shard_format.specs.Reading.{Gives, chunk_in, chunks_at, end_at, ext_at, file_at, has_ext, hash_at, hash_in, is_verified, rows_after_file, section_at, segment_at, step_at, times, verification_at, xorb_at};
+ghost use Rattle.xet_codec.specs.Parsing.{Gives};
+ghost use Rattle.xet_shard_format.specs.Reading.{chunk_in, chunks_at, end_at, ext_at, file_at, has_ext, hash_at, hash_in, is_verified, rows_after_file, section_at, segment_at, step_at, times, verification_at, xorb_at};
 
 use crate::record::{
     FileDataSequenceEntry, FileDataSequenceHeader, FileMetadataExt, FileVerificationEntry,

@@ -2,7 +2,8 @@
 
 ghost use Rattle.std.specs.Prelude.{◌≡◌, ◌≤◌, ◌*◌, ◌==◌, length, nat_le};
 ghost use Rattle.xet_shard_format.specs.Rows.{rows_in};
-ghost use Rattle.xet_shard_format.specs.Reading.{Gives, row_at};
+ghost use Rattle.xet_codec.specs.Parsing.{Gives};
+ghost use Rattle.xet_shard_format.specs.Reading.{row_at};
 
 use crate::row::{Row, row_of};
 use std::marker::Model;

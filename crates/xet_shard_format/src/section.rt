@@ -6,7 +6,8 @@ ghost use Rattle.xet_hash.specs.declared.error.StoreError.{StoreError};
 ghost use Rattle.xet_shard_format.specs.declared.row.Row.{Row};
 ghost use Rattle.xet_shard_format.specs.Rows.{RowFits, rows_text};
 ghost use Rattle.xet_shard_format.specs.Records.{chunk_row, file_hash, file_rows, segment_row, verification_row, xorb_hash, xorb_rows};
-ghost use Rattle.xet_shard_format.specs.Reading.{Gives, file_at, xorb_at};
+ghost use Rattle.xet_codec.specs.Parsing.{Gives};
+ghost use Rattle.xet_shard_format.specs.Reading.{file_at, xorb_at};
 
 use crate::record::{
     FileDataSequenceEntry, FileMetadataExt, FileVerificationEntry, MDBFileInfo, MDBXorbInfo,

@@ -5,7 +5,8 @@ ghost use Rattle.xet_shard_format.specs.Rows.{rows_in};
 ghost use Rattle.xet_shard_format.specs.Records.{file_hash, file_section, section, xorb_hash, xorb_section};
 ghost use Rattle.xet_shard_format.specs.Lookups.{Lookups, chunk_items, heads_from, heads_text, places_text};
 ghost use Rattle.xet_shard_format.specs.Text.{Fits, IsShard, Shard, materialized, shard_text, stored};
-ghost use Rattle.xet_shard_format.specs.Reading.{Gives, IsPlaced, IsRead, all_of, file_at, file_row_count, lookup_at, parts_of, section_at, totals_at, xorb_at, xorb_row_count};
+ghost use Rattle.xet_codec.specs.Parsing.{Gives};
+ghost use Rattle.xet_shard_format.specs.Reading.{IsPlaced, IsRead, all_of, file_at, file_row_count, lookup_at, parts_of, section_at, totals_at, xorb_at, xorb_row_count};
 
 use crate::header_footer::{MDBShardFileFooter, footer, header};
 use crate::lookup::{materialized, push_heads, push_places, stored};

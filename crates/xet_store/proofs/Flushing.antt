@@ -13,7 +13,8 @@ use Rattle.xet_shard_format.specs.declared.record.FileDataSequenceEntry.{FileDat
 use Rattle.xet_shard_format.specs.declared.record.MDBFileInfo.{MDBFileInfo}
 use Rattle.xet_shard.specs.Held.{Held, IsHeld, by_hash, held_shard, nothing}
 use Rattle.xet_shard_format.specs.Lookups.{all_lookups, chunk_items, file_items, heads_text, places_text, xorb_items}
-use Rattle.xet_shard_format.specs.Reading.{◌>>=◌, Parts, all_of, file_at as read_file, file_row_count, footer_at, header_at, lookup_at, parts_of, section_at, totals_at, xorb_at, xorb_row_count}
+use Rattle.xet_codec.specs.Parsing.{◌>>=◌}
+use Rattle.xet_shard_format.specs.Reading.{Parts, all_of, file_at as read_file, file_row_count, footer_at, header_at, lookup_at, parts_of, section_at, totals_at, xorb_at, xorb_row_count}
 use Rattle.xet_shard_format.specs.Records.{file_hash, xorb_hash}
 use Rattle.xet_shard_format.specs.Rows.{rows_in}
 use Rattle.xet_shard_format.specs.Sorted.{put_in, sorted}

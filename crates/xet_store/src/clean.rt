@@ -7,7 +7,7 @@ ghost use Rattle.xet_xorb_chunk.specs.Chunks.{bytes_of, chunk_member, total};
 ghost use Rattle.xet_store.specs.Cleaning.{Adds, EachTold, HasFile, HasReason, HasXorbs, Keeps, Later, Stores, StoresSome, Taken, cuts, info_of};
 ghost use Rattle.xet_cut.specs.Cut.{cut};
 ghost use Rattle.xet_folder.specs.Plan.{Joins};
-ghost use Rattle.xet_shard_file.specs.Refusals.{HasDiskReason};
+ghost use Rattle.xet_codec.specs.Stops.{HasDiskReason};
 ghost use Rattle.xet_store.specs.Separate.{Apart, MetChunk, Separate};
 ghost use Rattle.xet_store.specs.Steps.{HasReasonOfOne, HasSourceReason, ListsXorbs};
 ghost use Rattle.xet_folder.specs.Xorbs.{IsListed};

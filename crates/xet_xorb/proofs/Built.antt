@@ -7,7 +7,8 @@ use Rattle.std.specs.List.{flat_map, sum_by}
 use Rattle.xet_hash.specs.Merkle.{member_of, members_of, total_len, xorb_hash}
 use Rattle.xet_shard_format.specs.Records.{chunk_bytes}
 use Rattle.xet_shard_format.specs.declared.record.XorbChunkSequenceEntry.{XorbChunkSequenceEntry}
-use Rattle.xet_xorb_footer.specs.Spelled.{length_of, number, text_v1}
+use Rattle.xet_xorb_footer.specs.Spelled.{length_of, text_v1}
+use Rattle.xet_codec.specs.Numbers.{number}
 use Rattle.xet_xorb_footer.specs.theorems.Readback.{length_is_known}
 use Rattle.xet_xorb_chunk.specs.Spelling.{spelling}
 use Rattle.xet_xorb.specs.declared.building.SerializedXorbObject.{SerializedXorbObject}

@@ -7,7 +7,7 @@ use Rattle.std.specs.List.{AllByRecursion, flat_map}
 use Rattle.xet_hash.specs.declared.error.StoreError.{StoreError}
 use Rattle.xet_hash.specs.declared.error.StoreError.TheVariants.{UnexpectedEof}
 use Rattle.xet_hash.specs.Merkle.{chunk_hash, member_of, members_of, total_len}
-use Rattle.xet_xorb_footer.specs.Places.{EndsBefore}
+use Rattle.xet_codec.specs.Blocks.{EndsBefore}
 use Rattle.xet_xorb_chunk.specs.Spelling.{spelling}
 use Rattle.xet_xorb.specs.Checking.{AreChunks, HaveMembers, StandsAt, header_of}
 use Rattle.xet_xorb.specs.theorems.Determined.{all_chunks, le24_same, one_chunk}

@@ -8,7 +8,7 @@ use Rattle.xet_hash.specs.Merkle.{member_of, members_of}
 use Rattle.xet_hash.specs.declared.error.Reason.TheVariants.{Incomplete, Offsets}
 use Rattle.xet_hash.specs.declared.error.StoreError.{StoreError}
 use Rattle.xet_xorb_footer.specs.declared.info.XorbObjectInfoV1.{XorbObjectInfoV1}
-use Rattle.xet_xorb_footer.specs.Reading.{◌>>=◌, wants}
+use Rattle.xet_codec.specs.Parsing.{◌>>=◌, wants}
 use Rattle.xet_xorb.specs.Footer.{V0, V1, Version, ends_from, footer_info}
 use Rattle.xet_xorb.specs.Object.{between, byte_offset, complete, contents_length, end_of, fits, object_of, range_length, some_chunks}
 use Rattle.xet_xorb.specs.declared.object.XorbObject.{XorbObject}

@@ -9,8 +9,7 @@ use Rattle.std.specs.List.{AllByRecursion, concat, flat_map, sum_by}
 use Rattle.xet_hash.specs.Hash.{zero_hash}
 use Rattle.xet_hash.specs.Merkle.{member_of, members_of}
 use Rattle.xet_hash.specs.declared.error.StoreError.{StoreError}
-use Rattle.xet_xorb_footer.specs.Ends.{reaches}
-use Rattle.xet_xorb_footer.specs.Reading.{◌>>=◌}
+use Rattle.xet_codec.specs.Parsing.{reaches, ◌>>=◌}
 use Rattle.xet_xorb_chunk.specs.Spelled.{AreSpelled}
 use Rattle.xet_xorb_chunk.specs.Spelling.{spelling}
 use Rattle.xet_xorb_chunk.specs.Stream.{Decodes, IsStream, end_of}

@@ -5,7 +5,7 @@ use Rattle.std.proofs.lemmas.List.{drop-drop}
 use Rattle.xet_hash.specs.declared.error.Place.TheVariants.{Input}
 use Rattle.xet_hash.specs.declared.error.StoreError.{StoreError}
 use Rattle.xet_hash.specs.declared.error.StoreError.TheVariants.{Io}
-use Rattle.xet_xorb_chunk.specs.Outside.{StopsWriting}
+use Rattle.xet_codec.specs.Stops.{StopsWriting}
 use Rattle.xet_xorb_chunk.specs.Passing.{RefusesMore}
 use Rattle.xet_xorb_chunk.specs.Stream.{Decodes}
 use Rattle.xet_xorb_chunk.specs.theorems.Streamed.{decodes_longer}

@@ -11,7 +11,8 @@ use Rattle.xet_hash.specs.declared.error.Reason.TheVariants.{ChunkCount}
 use Rattle.xet_hash.specs.declared.error.StoreError.{StoreError}
 use Rattle.xet_hash.specs.declared.error.StoreError.TheVariants.{ChunkHeaderParse, MalformedData, UnexpectedEof}
 use Rattle.xet_xorb_footer.specs.declared.info.XorbObjectInfoV1.{XorbObjectInfoV1}
-use Rattle.xet_xorb_footer.specs.Spelled.{length_of, most_chunks, number, text_v1}
+use Rattle.xet_xorb_footer.specs.Spelled.{length_of, most_chunks, text_v1}
+use Rattle.xet_codec.specs.Numbers.{number}
 use Rattle.xet_xorb_chunk.specs.Header.{Header, header_at}
 use Rattle.xet_xorb_chunk.specs.Spelling.{spelling}
 use Rattle.xet_xorb_chunk.specs.Stream.{Decodes, Fails, IsStream, Short, Whole, behind, body_of, end_of, front_of}

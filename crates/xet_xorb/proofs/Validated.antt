@@ -9,7 +9,8 @@ use Rattle.xet_hash.specs.Merkle.{member_of, members_of, total_len, xorb_hash}
 use Rattle.xet_xorb_footer.specs.declared.info.XorbObjectInfoV0.{XorbObjectInfoV0}
 use Rattle.xet_xorb_footer.specs.declared.info.XorbObjectInfoV1.{XorbObjectInfoV1}
 use Rattle.xet_xorb_footer.specs.Ends.{last_footer, told_length}
-use Rattle.xet_xorb_footer.specs.Spelled.{joined, most_chunks, number, numbers, text_v0, text_v1}
+use Rattle.xet_codec.specs.Numbers.{joined, number, numbers}
+use Rattle.xet_xorb_footer.specs.Spelled.{most_chunks, text_v0, text_v1}
 use Rattle.xet_xorb_footer.specs.theorems.Endings.{told_is}
 use Rattle.xet_xorb_footer.specs.theorems.LastRead.{last_is_read, last_is_read_v0}
 use Rattle.xet_xorb_footer.specs.theorems.Readback.{length_joined}

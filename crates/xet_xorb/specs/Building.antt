@@ -5,8 +5,10 @@ use Rattle.xet_hash.specs.Merkle.{members_of, xorb_hash}
 use Rattle.xet_hash.specs.declared.error.Reason.TheVariants.{ChunkCount}
 use Rattle.xet_hash.specs.declared.error.StoreError.{StoreError}
 use Rattle.xet_hash.specs.declared.error.StoreError.TheVariants.{ChunkHeaderParse, MalformedData}
-use Rattle.xet_xorb_footer.specs.Spelled.{most_chunks, number}
-use Rattle.xet_xorb_chunk.specs.Outside.{IsCheck, StopsWriting}
+use Rattle.xet_xorb_footer.specs.Spelled.{most_chunks}
+use Rattle.xet_codec.specs.Numbers.{number}
+use Rattle.xet_xorb_chunk.specs.Checks.{IsCheck}
+use Rattle.xet_codec.specs.Stops.{StopsWriting}
 use Rattle.xet_xorb_chunk.specs.Passing.{Begins}
 use Rattle.xet_xorb_chunk.specs.Spelling.{spelling}
 use Rattle.xet_xorb_chunk.specs.Stream.{IsStream}

@@ -7,7 +7,7 @@ use Rattle.xet_hash.specs.declared.error.Reason.TheVariants.{Incomplete, Offsets
 use Rattle.xet_hash.specs.declared.error.StoreError.{StoreError}
 use Rattle.xet_hash.specs.declared.error.StoreError.TheVariants.{InvalidArguments}
 use Rattle.xet_xorb_footer.specs.declared.info.XorbObjectInfoV1.{XorbObjectInfoV1}
-use Rattle.xet_xorb_footer.specs.Reading.{◌>>=◌, wants}
+use Rattle.xet_codec.specs.Parsing.{◌>>=◌, wants}
 use Rattle.xet_xorb.specs.declared.object.XorbObject.{XorbObject}
 use Rattle.xet_xorb.specs.Footer.{Version, footer_info, footer_len}
 

@@ -3,8 +3,7 @@ use Rattle.std.specs.Prelude.{◌≡◌, ℕ, nat_le, List, slice_range, Result,
 use Rattle.std.specs.List.{concat}
 use Rattle.xet_hash.specs.declared.error.StoreError.{StoreError}
 use Rattle.xet_xorb_footer.specs.declared.info.XorbObjectInfoV1.{XorbObjectInfoV1}
-use Rattle.xet_xorb_footer.specs.Ends.{reaches}
-use Rattle.xet_xorb_footer.specs.Reading.{◌>>=◌}
+use Rattle.xet_codec.specs.Parsing.{reaches, ◌>>=◌}
 use Rattle.xet_xorb_chunk.specs.Stream.{IsStream}
 use Rattle.xet_xorb.specs.Object.{between, byte_offset, contents_length}
 

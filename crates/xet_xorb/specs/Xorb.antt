@@ -2,7 +2,7 @@
 use Rattle.std.specs.Prelude.{◌≡◌, ℕ, ◌<◌, ◌^◌, List, ◌++◌, length}
 use Rattle.std.specs.List.{AllByRecursion, flat_map}
 use Rattle.xet_hash.specs.Merkle.{members_of, xorb_hash}
-use Rattle.xet_xorb_footer.specs.Spelled.{number}
+use Rattle.xet_codec.specs.Numbers.{number}
 use Rattle.xet_xorb_chunk.specs.Spelling.{spelling}
 use Rattle.xet_xorb.specs.Footer.{Version, footer_len, footer_text}
 

@@ -7,7 +7,8 @@ ghost use Rattle.xet_hash.specs.declared.error.StoreError.TheVariants.{Io, Malfo
 ghost use Rattle.xet_io.specs.Faults.{HasCause};
 ghost use Rattle.xet_xorb_footer.specs.Ends.{last_footer, told_length};
 ghost use Rattle.xet_xorb_footer.specs.Refusals.{IsFooterRefusal};
-ghost use Rattle.xet_xorb_footer.specs.Spelled.{HasLists, HasShortLists, empty_v1, length_of, number, text_v1};
+ghost use Rattle.xet_xorb_footer.specs.Spelled.{HasLists, HasShortLists, empty_v1, length_of, text_v1};
+ghost use Rattle.xet_codec.specs.Numbers.{number};
 
 use serde::Serialize;
 use std::alloc::Global;

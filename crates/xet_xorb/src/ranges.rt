@@ -8,17 +8,18 @@ ghost use Rattle.xet_hash.specs.declared.error.StoreError.{StoreError};
 ghost use Rattle.xet_hash.specs.declared.error.StoreError.TheVariants.{Io, UnexpectedEof};
 ghost use Rattle.xet_io.specs.Faults.{HasCause};
 ghost use Rattle.xet_xorb_chunk.specs.Decoder.{Holds, fed_len, most_of, whole_of};
-ghost use Rattle.xet_xorb_chunk.specs.Outside.{IsCheck, StopsReading, StopsWriting};
+ghost use Rattle.xet_xorb_chunk.specs.Checks.{IsCheck};
+ghost use Rattle.xet_codec.specs.Stops.{StopsReading, StopsWriting};
 ghost use Rattle.xet_xorb_chunk.specs.Stream.{Decodes};
-ghost use Rattle.xet_xorb_footer.specs.Reading.{wants};
+ghost use Rattle.xet_codec.specs.Parsing.{wants};
 ghost use Rattle.xet_xorb.specs.Ranges.{ReadsPlain, in_file, listed_contents, listed_range};
 
 use crate::object::XorbObject;
 use std::alloc::Global;
+use xet_codec::{read_exact, reader_length};
 use xet_hash::{Reason, StoreError};
 use xet_io::{MemorySink, ReadAt, Sink};
 use xet_xorb_chunk::ChunkDecoder;
-use xet_xorb_footer::{read_exact, reader_length};
 
 /// The most bytes that are read at once.
 const BLOCK: usize = 1 << 17;

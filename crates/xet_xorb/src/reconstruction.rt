@@ -7,8 +7,10 @@ ghost use Rattle.xet_hash.specs.declared.error.Reason.TheVariants.{ChunkCount};
 ghost use Rattle.xet_hash.specs.declared.error.StoreError.TheVariants.{Io, MalformedData, OutOfMemory};
 ghost use Rattle.xet_hash.specs.Merkle.{total_len};
 ghost use Rattle.xet_io.specs.Faults.{HasCause};
-ghost use Rattle.xet_xorb_footer.specs.Spelled.{HasLists, HasShortLists, length_of, most_chunks, number, text_v1};
-ghost use Rattle.xet_xorb_chunk.specs.Outside.{IsCheck, StopsWriting};
+ghost use Rattle.xet_xorb_footer.specs.Spelled.{HasLists, HasShortLists, length_of, most_chunks, text_v1};
+ghost use Rattle.xet_codec.specs.Numbers.{number};
+ghost use Rattle.xet_xorb_chunk.specs.Checks.{IsCheck};
+ghost use Rattle.xet_codec.specs.Stops.{StopsWriting};
 ghost use Rattle.xet_xorb.specs.Building.{IsNoRebuild, IsRebuildCheck, Rebuilds, RebuildsFront};
 ghost use Rattle.xet_xorb.specs.Copying.{IsCopied, IsNoCopy, ShowsNext};
 

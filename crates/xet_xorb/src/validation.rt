@@ -7,9 +7,9 @@ ghost use Rattle.xet_hash.specs.declared.error.StoreError.TheVariants.{Io};
 ghost use Rattle.xet_hash.specs.Merkle.{chunk_hash, member_of, total_len, xorb_hash};
 ghost use Rattle.xet_io.specs.Faults.{HasCause};
 ghost use Rattle.xet_xorb_footer.specs.Ends.{last_footer, told_length};
-ghost use Rattle.xet_xorb_footer.specs.Places.{Has, IsPart, Sees};
+ghost use Rattle.xet_codec.specs.Blocks.{Has, IsPart, Sees};
 ghost use Rattle.xet_xorb_footer.specs.Spelled.{HasShortLists, most_chunks, text_v0, text_v1};
-ghost use Rattle.xet_xorb_chunk.specs.Outside.{StopsReading};
+ghost use Rattle.xet_codec.specs.Stops.{StopsReading};
 ghost use Rattle.xet_xorb.specs.Checking.{AreChunks, HaveMembers, IsEnding, StandsAt, ending, header_of};
 ghost use Rattle.xet_xorb.specs.Footer.{Version, footer_info, footer_len};
 ghost use Rattle.xet_xorb.specs.Validation.{IsValid, IsXorbOf};
@@ -17,11 +17,10 @@ ghost use Rattle.xet_xorb.specs.Validation.{IsValid, IsXorbOf};
 use crate::footers::{new_footer, new_footer_v0};
 use crate::object::XorbObject;
 use std::alloc::Global;
+use xet_codec::{Block, read_exact, reader_length};
 use xet_hash::{MerkleHash, StoreError, compute_data_hash, xorb_hash};
 use xet_io::{MemorySink, ReadAt};
-use xet_xorb_footer::{
-    Block, XorbObjectInfoV0, XorbObjectInfoV1, read_exact, reader_length, told_length,
-};
+use xet_xorb_footer::{XorbObjectInfoV0, XorbObjectInfoV1, told_length};
 
 /// The bytes of a chunk's header.
 const HEADER_SIZE: u64 = 8;

@@ -7,7 +7,7 @@ use Rattle.xet_hash.specs.declared.error.StoreError.{StoreError}
 use Rattle.xet_hash.specs.declared.error.StoreError.TheVariants.{ChunkHeaderParse, Io, MalformedData, OutOfMemory, UnexpectedEof}
 use Rattle.xet_hash.specs.declared.error.Reason.TheVariants.{HeaderVersion, PlainLength, Scheme, StoredLength}
 use Rattle.xet_xorb_chunk.specs.Header.{Header, header_at, header_of, is_ident, is_scheme, wants}
-use Rattle.xet_xorb_chunk.specs.Outside.{IsCheck}
+use Rattle.xet_xorb_chunk.specs.Checks.{IsCheck}
 use Rattle.xet_xorb_chunk.specs.Passing.{ShowsFront}
 use Rattle.xet_xorb_chunk.specs.Stream.{Fails, front_of}
 use Rattle.xet_xorb_chunk.specs.Taking.{header_in}

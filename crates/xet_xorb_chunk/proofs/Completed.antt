@@ -5,7 +5,7 @@ use Rattle.xet_hash.specs.declared.error.StoreError.{StoreError}
 use Rattle.xet_hash.specs.declared.error.StoreError.TheVariants.{OutOfMemory}
 use Rattle.xet_xorb_chunk.specs.declared.decoder.Tally.{Tally}
 use Rattle.xet_xorb_chunk.specs.Decoder.{Moves}
-use Rattle.xet_xorb_chunk.specs.Outside.{StopsWriting}
+use Rattle.xet_codec.specs.Stops.{StopsWriting}
 use Rattle.xet_xorb_chunk.specs.Passing.{Gathers, Refuses, ShowsFront}
 use Rattle.xet_xorb_chunk.specs.Stream.{Fails, Whole, front_of}
 use Rattle.xet_xorb_chunk.proofs.Gathered.{added}

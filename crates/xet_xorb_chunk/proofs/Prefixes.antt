@@ -7,7 +7,8 @@ use Rattle.xet_hash.specs.declared.error.StoreError.TheVariants.{Io}
 use Rattle.xet_hash.specs.declared.error.Place.TheVariants.{Input}
 use Rattle.xet_io.specs.Whole.{Fills, FillsWith}
 use Rattle.xet_xorb_chunk.specs.Header.{Header}
-use Rattle.xet_xorb_chunk.specs.Outside.{IsCheck, StopsReading, StopsWriting}
+use Rattle.xet_xorb_chunk.specs.Checks.{IsCheck}
+use Rattle.xet_codec.specs.Stops.{StopsReading, StopsWriting}
 use Rattle.xet_xorb_chunk.specs.Taking.{TakesFailedChunk, TakesFailedHeader, TakesPrefix, header_in}
 
 pub prefix_of : (left front rest : List ℕ) → left ≡ front ++ rest → TakesPrefix left rest

@@ -3,10 +3,10 @@ pub mod Chunks
 pub mod Header
 pub mod Stream
 pub mod Scheme
-pub mod Outside
 pub mod Taking
 pub mod Passing
 pub mod Decoder
 pub mod Segment
 pub mod Spelled
 pub mod theorems
+pub mod Checks

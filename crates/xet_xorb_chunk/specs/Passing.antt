@@ -5,7 +5,7 @@ use Rattle.xet_hash.specs.declared.error.StoreError.{StoreError}
 use Rattle.xet_hash.specs.declared.error.StoreError.TheVariants.{Io, MalformedData}
 use Rattle.xet_hash.specs.declared.error.Place.TheVariants.{Input}
 use Rattle.xet_hash.specs.declared.error.Reason.TheVariants.{TotalLength}
-use Rattle.xet_xorb_chunk.specs.Outside.{StopsWriting}
+use Rattle.xet_codec.specs.Stops.{StopsWriting}
 use Rattle.xet_xorb_chunk.specs.Stream.{Decodes, IsStream, Short, Whole, Fails, front_of}
 
 -- What stands at the front: less than a chunk, a whole chunk of so many bytes, or what fails a check.

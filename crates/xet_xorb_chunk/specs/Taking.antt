@@ -3,7 +3,7 @@ use Rattle.std.specs.Prelude.{◌≡◌, ◌⊎◌, ℕ, ◌+◌, nat_lt, List, 
 use Rattle.xet_hash.specs.declared.error.StoreError.{StoreError}
 use Rattle.xet_hash.specs.declared.error.StoreError.TheVariants.{UnexpectedEof}
 use Rattle.xet_xorb_chunk.specs.Header.{Header, header_at}
-use Rattle.xet_xorb_chunk.specs.Outside.{IsCheck}
+use Rattle.xet_xorb_chunk.specs.Checks.{IsCheck}
 use Rattle.xet_xorb_chunk.specs.Stream.{chunk_at}
 
 -- the header at the front

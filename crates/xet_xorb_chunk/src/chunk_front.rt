@@ -2,7 +2,7 @@
 
 ghost use Rattle.std.specs.Prelude.{◌≡◌, ◌<◌, ◌≤◌, ◌+◌, ◌^◌, Ok, Err, IfErr, IfOk, IfSome, IsNone, Some, length, take};
 ghost use Rattle.xet_xorb_chunk.specs.Header.{Header};
-ghost use Rattle.xet_xorb_chunk.specs.Outside.{IsCheck};
+ghost use Rattle.xet_xorb_chunk.specs.Checks.{IsCheck};
 ghost use Rattle.xet_xorb_chunk.specs.Passing.{ShowsFront};
 ghost use Rattle.xet_xorb_chunk.specs.Stream.{Fails, front_of};
 ghost use Rattle.xet_xorb_chunk.specs.Taking.{header_in};

@@ -6,7 +6,8 @@ ghost use Rattle.xet_hash.specs.declared.error.StoreError.TheVariants.{Io, Unexp
 ghost use Rattle.xet_hash.specs.declared.error.Place.TheVariants.{Input, Output};
 ghost use Rattle.xet_io.specs.Faults.{HasCause};
 ghost use Rattle.xet_io.specs.Whole.{Fills};
-ghost use Rattle.xet_xorb_chunk.specs.Outside.{IsCheck, StopsReading, StopsWriting};
+ghost use Rattle.xet_xorb_chunk.specs.Checks.{IsCheck};
+ghost use Rattle.xet_codec.specs.Stops.{StopsReading, StopsWriting};
 ghost use Rattle.xet_xorb_chunk.specs.Scheme.{compressed};
 ghost use Rattle.xet_xorb_chunk.specs.Spelling.{spelling};
 ghost use Rattle.xet_xorb_chunk.specs.Stream.{chunk_at};
@@ -15,9 +16,9 @@ ghost use Rattle.xet_xorb_chunk.specs.Taking.{TakesFailedChunk, TakesFailedHeade
 use crate::header::{
     XORB_CHUNK_HEADER_LENGTH, XorbChunkHeader, parse_chunk_header, write_chunk_header,
 };
-use crate::outside::{read_front, write_piece};
 use crate::scheme::CompressionScheme;
 use std::alloc::Global;
+use xet_codec::{read_front, write_piece};
 use xet_hash::StoreError;
 use xet_io::{Sink, Source};
 

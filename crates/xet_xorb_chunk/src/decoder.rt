@@ -2,14 +2,14 @@
 
 ghost use Rattle.std.specs.Prelude.{◌≡◌, ◌≤◌, ◌<◌, ◌+◌, ◌^◌, ◌⊎◌, ◌++◌, true, IfErr, IfOk, length, take, vec_len};
 ghost use Rattle.xet_hash.specs.declared.error.StoreError.TheVariants.{OutOfMemory};
-ghost use Rattle.xet_xorb_chunk.specs.Outside.{IsCheck};
+ghost use Rattle.xet_xorb_chunk.specs.Checks.{IsCheck};
 ghost use Rattle.xet_xorb_chunk.specs.Passing.{Gathers};
 ghost use Rattle.xet_xorb_chunk.specs.Stream.{Fails, Short, front_of};
 
 use crate::chunk_front::{body_end, chunk_len};
 use crate::header::XORB_CHUNK_HEADER_LENGTH;
-use crate::outside::write_piece;
 use std::alloc::{AllocError, Global};
+use xet_codec::write_piece;
 use xet_hash::{Reason, StoreError};
 use xet_io::Sink;
 
@@ -29,7 +29,8 @@ impl Tally {
     ghost use Rattle.xet_hash.specs.declared.error.Reason.TheVariants.{TotalLength};
     ghost use Rattle.xet_io.specs.Faults.{HasCause};
     ghost use Rattle.xet_xorb_chunk.specs.Decoder.{Counts, Moves};
-    ghost use Rattle.xet_xorb_chunk.specs.Outside.{IsCheck, StopsWriting};
+    ghost use Rattle.xet_xorb_chunk.specs.Checks.{IsCheck};
+    ghost use Rattle.xet_codec.specs.Stops.{StopsWriting};
     ghost use Rattle.xet_xorb_chunk.specs.Passing.{Refuses, RefusesOne};
     ghost use Rattle.xet_xorb_chunk.specs.Stream.{Short, front_of};
 
@@ -178,7 +179,8 @@ impl ChunkDecoder {
     ghost use Rattle.xet_hash.specs.declared.error.Place.TheVariants.{Output};
     ghost use Rattle.xet_io.specs.Faults.{HasCause};
     ghost use Rattle.xet_xorb_chunk.specs.Decoder.{Ends, Holds, Moves, fed_len, most_of, whole_of};
-    ghost use Rattle.xet_xorb_chunk.specs.Outside.{IsCheck, StopsWriting};
+    ghost use Rattle.xet_xorb_chunk.specs.Checks.{IsCheck};
+    ghost use Rattle.xet_codec.specs.Stops.{StopsWriting};
     ghost use Rattle.xet_xorb_chunk.specs.Passing.{Refuses, RefusesMore};
     ghost use Rattle.xet_xorb_chunk.specs.Stream.{Short, front_of};
 

@@ -5,13 +5,14 @@ ghost use Rattle.xet_hash.specs.declared.error.StoreError.TheVariants.{Io};
 ghost use Rattle.xet_hash.specs.declared.error.Place.TheVariants.{Output};
 ghost use Rattle.xet_io.specs.Faults.{HasCause};
 ghost use Rattle.xet_xorb_chunk.specs.Header.{header_at, header_bytes, header_of, is_ident};
-ghost use Rattle.xet_xorb_chunk.specs.Outside.{IsCheck, StopsWriting};
+ghost use Rattle.xet_xorb_chunk.specs.Checks.{IsCheck};
+ghost use Rattle.xet_codec.specs.Stops.{StopsWriting};
 ghost use Rattle.xet_xorb_chunk.specs.Scheme.{number_of, scheme_of};
 ghost use Rattle.xet_xorb_chunk.specs.Stream.{Fails, Whole, body_of};
 
-use crate::outside::write_piece;
 use crate::scheme::CompressionScheme;
 use std::marker::Model;
+use xet_codec::write_piece;
 use xet_hash::{Reason, StoreError};
 use xet_io::Sink;
 

@@ -8,7 +8,6 @@ mod constants;
 mod decoder;
 mod header;
 pub mod laws;
-mod outside;
 mod scheme;
 mod segment;
 mod stream;

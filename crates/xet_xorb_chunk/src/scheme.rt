@@ -7,14 +7,14 @@ ghost use Rattle.xet_hash.specs.declared.error.StoreError.{StoreError};
 ghost use Rattle.xet_hash.specs.declared.error.StoreError.TheVariants.{Io};
 ghost use Rattle.xet_hash.specs.declared.error.Place.TheVariants.{Input, Output};
 ghost use Rattle.xet_io.specs.Faults.{HasCause};
-ghost use Rattle.xet_xorb_chunk.specs.Outside.{PassesLimit, StopsWriting};
+ghost use Rattle.xet_codec.specs.Stops.{PassesLimit, StopsWriting};
 ghost use Rattle.xet_xorb_chunk.specs.Scheme.{compressed, decompressed, number_of, resolved, scheme_name, scheme_named, scheme_of};
 
-use crate::outside::{copy_all, new_block};
 use std::alloc::Global;
 use std::borrow::CowSlice;
 use std::fmt;
 use std::str::FromStr;
+use xet_codec::{copy_all, new_block};
 use xet_hash::{Reason, StoreError};
 use xet_io::{Sink, Source};
 

@@ -6,14 +6,15 @@ ghost use Rattle.xet_hash.specs.declared.error.StoreError.TheVariants.{Io};
 ghost use Rattle.xet_hash.specs.declared.error.Place.TheVariants.{Input, Output};
 ghost use Rattle.xet_io.specs.Faults.{HasCause};
 ghost use Rattle.xet_xorb_chunk.specs.Decoder.{Holds, fed_len, most_of, whole_of};
-ghost use Rattle.xet_xorb_chunk.specs.Outside.{IsCheck, PassesLimit, StopsReading, StopsWriting};
+ghost use Rattle.xet_xorb_chunk.specs.Checks.{IsCheck};
+ghost use Rattle.xet_codec.specs.Stops.{PassesLimit, StopsReading, StopsWriting};
 ghost use Rattle.xet_xorb_chunk.specs.Passing.{Refuses, RefusesStream, WritesStream, WritesWhole};
 ghost use Rattle.xet_xorb_chunk.specs.Stream.{IsStream, places_from, stored_bytes};
 ghost use Rattle.xet_xorb_chunk.specs.Taking.{TakesPrefix};
 
 use crate::decoder::ChunkDecoder;
-use crate::outside::{MOST, new_block, read_some};
 use std::alloc::Global;
+use xet_codec::{MOST, new_block, read_some};
 use xet_hash::{StoreError, What};
 use xet_io::{MemorySink, Sink, Source};
 

@@ -12,7 +12,8 @@ use Rattle.xet_xorb_footer.specs.declared.info.XorbObjectInfoV1.{XorbObjectInfoV
 use Rattle.xet_xorb_footer.specs.Ends.{last_footer, told_length}
 use Rattle.xet_xorb_footer.specs.declared.machine.Field.{Field}
 use Rattle.xet_xorb_footer.specs.Machine.{Parts, as_value, info_of, rest}
-use Rattle.xet_xorb_footer.specs.Reading.{◌>>=◌, Taken, footer_at, wants}
+use Rattle.xet_codec.specs.Parsing.{◌>>=◌, Taken, wants}
+use Rattle.xet_xorb_footer.specs.Reading.{footer_at}
 
 pub told_short : (bytes : List ℕ) → length bytes < 4 → told_length bytes ≡ Err UnexpectedEof
 unfolding told_length

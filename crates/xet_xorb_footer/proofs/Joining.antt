@@ -14,7 +14,8 @@ use Rattle.xet_xorb_footer.specs.Ends.{whole_footer}
 use Rattle.xet_xorb_footer.specs.Joining.{IsReady, IsTotal, Reads, Stops, ends_with, is_done, rest_whole, wanted_next}
 use Rattle.xet_xorb_footer.specs.Machine.{IsSettled, Parts, as_value, info_of, wanted_of}
 use Rattle.xet_xorb_footer.specs.Reader.{bytes_wanted, parts_of, rest_of}
-use Rattle.xet_xorb_footer.specs.Reading.{◌>>=◌, Taken, footer_at, wants}
+use Rattle.xet_codec.specs.Parsing.{◌>>=◌, Taken, wants}
+use Rattle.xet_xorb_footer.specs.Reading.{footer_at}
 use Rattle.xet_xorb_footer.specs.theorems.Fronts.{bind_bind, number_short, number_whole, pick_false, pick_true}
 use Rattle.xet_xorb_footer.proofs.Known.{nothing_wanted}
 use Rattle.xet_xorb_footer.proofs.Shorts.{rest_short, whole}

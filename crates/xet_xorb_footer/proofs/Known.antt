@@ -10,7 +10,7 @@ use Rattle.xet_xorb_footer.specs.declared.machine.Field.{Field}
 use Rattle.xet_xorb_footer.specs.declared.machine.Field.TheVariants as fields
 use Rattle.xet_xorb_footer.specs.Items.{hashes_in, numbers_in}
 use Rattle.xet_xorb_footer.specs.Machine.{IsSettled, Parts, behind_ends, behind_hashes, block_of, ends_v0, ends_v1, hashes_v0, hashes_v1, lacks, more_ends, more_hashes, more_plain, plain_v1, room_behind_ends, room_of, step, wanted_of}
-use Rattle.xet_xorb_footer.specs.Reading.{◌>>=◌, wants}
+use Rattle.xet_codec.specs.Parsing.{◌>>=◌, wants}
 use Rattle.xet_xorb_footer.specs.Refusals.{IsFailedCheck, is_check}
 use Rattle.xet_xorb_footer.specs.Spelled.{most_chunks}
 use Rattle.xet_xorb_footer.specs.theorems.Fronts.{length_items}

@@ -1,5 +1,3 @@
-mod Moving
-mod Pieces
 mod Texts
 mod Listing
 mod Steps
@@ -11,5 +9,4 @@ mod Endings
 mod Joining
 mod Decoding
 mod Placing
-mod Blocks
 mod Sections

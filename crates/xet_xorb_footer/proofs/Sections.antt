@@ -6,9 +6,11 @@ use Rattle.xet_hash.specs.declared.error.Reason.TheVariants.{BoundariesIdent, Bo
 use Rattle.xet_hash.specs.declared.error.StoreError.{StoreError}
 use Rattle.xet_hash.specs.declared.error.StoreError.TheVariants.{MalformedData, UnexpectedEof}
 use Rattle.xet_xorb_footer.specs.declared.info.XorbObjectInfoV1.{XorbObjectInfoV1}
-use Rattle.xet_xorb_footer.specs.Ends.{boundaries, last_boundaries, number_before, reaches}
-use Rattle.xet_xorb_footer.specs.Places.{RefusedBy, checked_at, head_at, lists_at, tail_at}
-use Rattle.xet_xorb_footer.specs.Reading.{◌>>=◌, Taken, bytes_at, count_at, ident_at, number_at, number_is, times, version_at, wants}
+use Rattle.xet_xorb_footer.specs.Ends.{boundaries, last_boundaries, number_before}
+use Rattle.xet_codec.specs.Parsing.{reaches, ◌>>=◌, Taken, bytes_at, number_at, times, wants}
+use Rattle.xet_codec.specs.Blocks.{RefusedBy}
+use Rattle.xet_xorb_footer.specs.Places.{checked_at, head_at, lists_at, tail_at}
+use Rattle.xet_xorb_footer.specs.Reading.{count_at, ident_at, number_is, version_at}
 use Rattle.xet_xorb_footer.specs.Spelled.{boundaries_ident, empty_v1, most_chunks}
 use Rattle.xet_xorb_footer.specs.theorems.Fronts.{bind_bind, bytes_whole, onward}
 use Rattle.xet_xorb_footer.proofs.Placing.{refused_after, then_refused}

@@ -8,7 +8,8 @@ use Rattle.std.specs.Int.{w32, from_le_bytes}
 use Rattle.xet_xorb_footer.specs.declared.machine.Field.{Field}
 use Rattle.xet_xorb_footer.specs.declared.machine.Field.TheVariants as fields
 use Rattle.xet_xorb_footer.specs.Machine.{Parts, rest, rest_boundaries_ident, rest_boundaries_version, rest_boundary_offset, rest_count, rest_count_again, rest_count_last, rest_ends_v0, rest_ends_v1, rest_hash, rest_hashes_ident, rest_hashes_offset, rest_hashes_v0, rest_hashes_v1, rest_hashes_version, rest_ident, rest_plain, rest_spare, rest_version, wanted_of}
-use Rattle.xet_xorb_footer.specs.Reading.{bytes_at, count_at, ident_at, number_at, number_is, version_at}
+use Rattle.xet_codec.specs.Parsing.{bytes_at, number_at}
+use Rattle.xet_xorb_footer.specs.Reading.{count_at, ident_at, number_is, version_at}
 use Rattle.xet_xorb_footer.specs.theorems.Fronts.{a_hash, a_number, bytes_short, list_short, number_short}
 
 ident_short : (ident : List ℕ) (reason : Reason) (bytes : List ℕ) → length bytes < 7 → ident_at ident reason bytes ≡ Err UnexpectedEof

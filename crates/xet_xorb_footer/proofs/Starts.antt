@@ -5,7 +5,8 @@ use Rattle.xet_hash.specs.declared.error.Reason.TheVariants as reasons
 use Rattle.xet_hash.specs.declared.error.StoreError.{StoreError}
 use Rattle.xet_xorb_footer.specs.declared.machine.Field.TheVariants as fields
 use Rattle.xet_xorb_footer.specs.Machine.{Parts, as_value, info_of, info_v0, rest, rest_behind_version, rest_boundaries_ident, rest_boundaries_version, rest_boundary_offset, rest_count, rest_count_again, rest_count_last, rest_ends_v0, rest_ends_v1, rest_hash, rest_hashes_ident, rest_hashes_offset, rest_hashes_v0, rest_hashes_v1, rest_hashes_version, rest_ident, rest_plain, rest_spare, rest_version, started}
-use Rattle.xet_xorb_footer.specs.Reading.{◌>>=◌, Taken, bytes_at, count_at, footer_at, footer_v0, ident_at, number_at, number_is, rest_v0, rest_v1, times, version_at, version_of, wants}
+use Rattle.xet_codec.specs.Parsing.{◌>>=◌, Taken, bytes_at, number_at, times, wants}
+use Rattle.xet_xorb_footer.specs.Reading.{count_at, footer_at, footer_v0, ident_at, number_is, rest_v0, rest_v1, version_at, version_of}
 use Rattle.xet_xorb_footer.specs.Spelled.{boundaries_ident, footer_ident, hashes_ident, of_v0}
 use Rattle.xet_xorb_footer.specs.theorems.Fronts.{bind_bind, onward}
 

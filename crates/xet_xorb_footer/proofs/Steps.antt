@@ -9,7 +9,8 @@ use Rattle.xet_hash.specs.declared.error.Reason.TheVariants as reasons
 use Rattle.xet_xorb_footer.specs.declared.machine.Field.{Field}
 use Rattle.xet_xorb_footer.specs.declared.machine.Field.TheVariants as fields
 use Rattle.xet_xorb_footer.specs.Machine.{Next, Parts, behind_ends, behind_hashes, block_of, ends_v0, ends_v1, expects, expects_number, hashes_v0, hashes_v1, lacks, more_ends, more_hashes, more_plain, next_count, next_version, plain_v1, rest, rest_boundaries_ident, rest_boundaries_version, rest_boundary_offset, rest_count, rest_count_again, rest_count_last, rest_ends, rest_ends_v0, rest_ends_v1, rest_hash, rest_hashes, rest_hashes_ident, rest_hashes_offset, rest_hashes_v0, rest_hashes_v1, rest_hashes_version, rest_ident, rest_lists, rest_plain, rest_spare, rest_version, step, wanted_of}
-use Rattle.xet_xorb_footer.specs.Reading.{◌>>=◌, Taken, bytes_at, count_at, ident_at, number_at, number_is, version_at, wants}
+use Rattle.xet_codec.specs.Parsing.{◌>>=◌, Taken, bytes_at, number_at, wants}
+use Rattle.xet_xorb_footer.specs.Reading.{count_at, ident_at, number_is, version_at}
 use Rattle.xet_xorb_footer.specs.Spelled.{boundaries_ident, footer_ident, hashes_ident, most_chunks}
 use Rattle.xet_xorb_footer.specs.theorems.Fronts.{a_hash, a_number, bytes_whole, checked, checked_on, ident_whole, list_block, list_full, number_is_whole, number_whole, pick_false, pick_true, version_whole}
 

@@ -3,7 +3,8 @@ use Rattle.std.proofs.Common.{◌≡◌, ◌∙◌, ℕ, ◌*◌, List, [], ◌�
 use Rattle.std.proofs.lemmas.List.{append-nil}
 use Rattle.xet_xorb_footer.specs.declared.info.XorbObjectInfoV0.{XorbObjectInfoV0}
 use Rattle.xet_xorb_footer.specs.declared.info.XorbObjectInfoV1.{XorbObjectInfoV1}
-use Rattle.xet_xorb_footer.specs.Spelled.{joined, number, numbers, text_v0, text_v1}
+use Rattle.xet_codec.specs.Numbers.{joined, number, numbers}
+use Rattle.xet_xorb_footer.specs.Spelled.{text_v0, text_v1}
 
 -- ---- version 0
 

@@ -3,15 +3,10 @@ use Rattle.std.specs.Prelude.{ℕ, ◌+◌, ◌-◌, ◌*◌, ◌==◌, nat_le, 
 use Rattle.std.specs.Int.{w32, from_le_bytes}
 use Rattle.xet_hash.specs.declared.error.Reason.TheVariants.{BoundariesIdent, BoundariesVersion, BoundaryOffset, CountMismatch, InfoLength, TrailingBytes}
 use Rattle.xet_hash.specs.declared.error.StoreError.{StoreError}
-use Rattle.xet_hash.specs.declared.error.StoreError.TheVariants.{UnexpectedEof}
 use Rattle.xet_xorb_footer.specs.declared.info.XorbObjectInfoV1.{XorbObjectInfoV1}
-use Rattle.xet_xorb_footer.specs.Reading.{◌>>=◌, Taken, bytes_at, count_at, footer_at, ident_at, number_at, number_is, times, version_at, wants}
+use Rattle.xet_codec.specs.Parsing.{◌>>=◌, Taken, bytes_at, number_at, times, wants, reaches}
+use Rattle.xet_xorb_footer.specs.Reading.{count_at, footer_at, ident_at, number_is, version_at}
 use Rattle.xet_xorb_footer.specs.Spelled.{boundaries_ident, empty_v1}
-
--- the bytes are to be so many
-abbrev pub reaches : Bool → Result (Unit {0}) StoreError
-reaches true = Ok tt
-reaches false = Err UnexpectedEof
 
 -- the number in the four bytes that begin so many before the end
 abbrev pub number_before : ℕ → List ℕ → ℕ

@@ -9,7 +9,7 @@ use Rattle.xet_xorb_footer.specs.declared.machine.Field.{Field}
 use Rattle.xet_xorb_footer.specs.declared.machine.Field.TheVariants as fields
 use Rattle.xet_xorb_footer.specs.Machine.{info_of}
 use Rattle.xet_xorb_footer.specs.Reader.{bytes_left, bytes_wanted, parts_of, rest_of}
-use Rattle.xet_xorb_footer.specs.Reading.{◌>>=◌, number_at, wants}
+use Rattle.xet_codec.specs.Parsing.{◌>>=◌, number_at, wants}
 use Rattle.xet_xorb_footer.specs.Refusals.{IsRefusal}
 use Rattle.xet_xorb_footer.specs.Spelled.{most_chunks}
 

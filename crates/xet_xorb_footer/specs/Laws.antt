@@ -5,7 +5,8 @@ use Rattle.xet_xorb_footer.specs.declared.info.XorbObjectInfoV0.{XorbObjectInfoV
 use Rattle.xet_xorb_footer.specs.declared.info.XorbObjectInfoV1.{XorbObjectInfoV1}
 use Rattle.xet_xorb_footer.specs.Ends.{last_footer}
 use Rattle.xet_xorb_footer.specs.Reading.{footer_at}
-use Rattle.xet_xorb_footer.specs.Spelled.{HasLists, boundaries_ident, footer_ident, hashes_ident, most_chunks, number, of_v0, text_v0, text_v1}
+use Rattle.xet_xorb_footer.specs.Spelled.{HasLists, boundaries_ident, footer_ident, hashes_ident, most_chunks, of_v0, text_v0, text_v1}
+use Rattle.xet_codec.specs.Numbers.{number}
 
 -- a footer of version 1 as it is to be
 pub record IsStandard (i : XorbObjectInfoV1) : Type 0 where

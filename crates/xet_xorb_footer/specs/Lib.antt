@@ -1,7 +1,5 @@
 pub mod Spelled
 pub mod Reading
-pub mod Written
-pub mod Held
 pub mod Items
 pub mod Machine
 pub mod Reader

@@ -12,7 +12,8 @@ use Rattle.xet_xorb_footer.specs.declared.info.XorbObjectInfoV1.{XorbObjectInfoV
 use Rattle.xet_xorb_footer.specs.declared.machine.Field.{Field}
 use Rattle.xet_xorb_footer.specs.declared.machine.Field.TheVariants as fields
 use Rattle.xet_xorb_footer.specs.Items.{hashes_in, numbers_in}
-use Rattle.xet_xorb_footer.specs.Reading.{◌>>=◌, Taken, bytes_at, count_at, ident_at, number_at, number_is, times, version_at, wants}
+use Rattle.xet_codec.specs.Parsing.{◌>>=◌, Taken, bytes_at, number_at, times, wants}
+use Rattle.xet_xorb_footer.specs.Reading.{count_at, ident_at, number_is, version_at}
 use Rattle.xet_xorb_footer.specs.Spelled.{boundaries_ident, footer_ident, hashes_ident, most_chunks, of_v0}
 
 -- what was read so far, and whether version 1 is allowed

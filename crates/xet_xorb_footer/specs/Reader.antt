@@ -2,7 +2,7 @@
 use Rattle.std.specs.Prelude.{ℕ, List}
 use Rattle.xet_xorb_footer.specs.declared.machine.FooterReader.{FooterReader}
 use Rattle.xet_xorb_footer.specs.Machine.{Parts, rest, room_of, wanted_of}
-use Rattle.xet_xorb_footer.specs.Reading.{Taken}
+use Rattle.xet_codec.specs.Parsing.{Taken}
 
 abbrev pub parts_of : FooterReader → Parts
 parts_of r = record { either = r.either; is_v1 = r.is_v1; hash = r.hash; count = r.count; hashes = r.hashes.items; ends = r.ends.items; plain = r.plain.items; spare = r.spare }

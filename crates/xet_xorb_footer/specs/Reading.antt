@@ -4,39 +4,10 @@ use Rattle.std.specs.Cmp.Lexicographic.{pointwise}
 use Rattle.std.specs.Int.{w32, from_le_bytes}
 use Rattle.xet_hash.specs.declared.error.Reason.{Reason}
 use Rattle.xet_hash.specs.declared.error.Reason.TheVariants.{BoundariesIdent, BoundariesVersion, BoundaryOffset, ChunkCount, CountMismatch, HashesIdent, HashesOffset, HashesVersion, Ident, Version}
-use Rattle.xet_hash.specs.declared.error.StoreError.{StoreError}
-use Rattle.xet_hash.specs.declared.error.StoreError.TheVariants.{MalformedData, UnexpectedEof}
 use Rattle.xet_xorb_footer.specs.declared.info.XorbObjectInfoV0.{XorbObjectInfoV0}
 use Rattle.xet_xorb_footer.specs.declared.info.XorbObjectInfoV1.{XorbObjectInfoV1}
 use Rattle.xet_xorb_footer.specs.Spelled.{boundaries_ident, footer_ident, hashes_ident, most_chunks, of_v0}
-
-infixl 10 ◌>>=◌
-abbrev pub ◌>>=◌ : {A B : Type 0} → Result A StoreError → (A → Result B StoreError) → Result B StoreError
-(Ok x) >>= f = f x
-(Err e) >>= f = Err e
-
--- what is read at the front of some bytes, and the bytes behind it
-abbrev pub Taken : Type 0 → Type 0
-Taken X = Result (X × List ℕ) StoreError
-
--- a test that is to hold
-abbrev pub wants : Bool → Reason → Result (Unit {0}) StoreError
-wants true reason = Ok tt
-wants false reason = Err (MalformedData reason)
-
-unfoldable pub bytes_at : ℕ → List ℕ → Taken (List ℕ)
-bytes_at n bytes = if nat_le n (length bytes) then Ok (take n bytes, drop n bytes) else Err UnexpectedEof
-
-unfoldable pub number_at : List ℕ → Taken ℕ
-number_at bytes = bytes_at 4 bytes >>= λ x. Ok (from_le_bytes w32 x.0, x.1)
-
--- n things, one after the other
-unfoldable pub times : {X : Type 0} → (List ℕ → Taken X) → ℕ → List ℕ → Taken (List X)
-times read zero bytes = Ok ([], bytes)
-times read (suc n) bytes = do
-  x ← read bytes
-  xs ← times read n x.1
-  Ok (x.0 ∷ xs.0, xs.1)
+use Rattle.xet_codec.specs.Parsing.{Taken, bytes_at, number_at, times, wants, ◌>>=◌}
 
 -- with what a footer or a section of it begins: this ident
 unfoldable pub ident_at : List ℕ → Reason → List ℕ → Taken (Unit {0})

@@ -36,12 +36,3 @@ IsRefusal e = ⊥
 abbrev pub IsFooterRefusal : StoreError → Type 0
 IsFooterRefusal (errors.Io place) = place ≡ Input
 IsFooterRefusal e = IsRefusal e
-
--- what a function returned, seen by view, is this, unless memory was wanting
-abbrev pub Fails : {Y : Type 0} → StoreError → Result Y StoreError → Type 0
-Fails errors.OutOfMemory read = Unit {0}
-Fails e read = read ≡ Err e
-
-abbrev pub Gives : {X Y : Type 0} → (X → Y) → Result X StoreError → Result Y StoreError → Type 0
-Gives view (Ok x) read = read ≡ Ok (view x)
-Gives view (Err e) read = Fails e read

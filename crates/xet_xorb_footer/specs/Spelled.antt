@@ -5,6 +5,7 @@ use Rattle.std.specs.List.{flat_map}
 use Rattle.xet_hash.specs.Hash.{zero_hash}
 use Rattle.xet_xorb_footer.specs.declared.info.XorbObjectInfoV0.{XorbObjectInfoV0}
 use Rattle.xet_xorb_footer.specs.declared.info.XorbObjectInfoV1.{XorbObjectInfoV1}
+use Rattle.xet_codec.specs.Numbers.{joined, number, numbers}
 
 -- with what a footer begins, and its sections of hashes and of boundaries
 abbrev pub footer_ident : List ℕ
@@ -19,15 +20,6 @@ boundaries_ident = codes "XBLBBND"
 -- the most chunks of a footer: one of so many has fewer than 2 ^ 32 bytes
 abbrev pub most_chunks : ℕ
 most_chunks = 107374180
-
-abbrev pub number : ℕ → List ℕ
-number n = to_le_bytes w32 n
-
-abbrev pub numbers : List ℕ → List ℕ
-numbers ns = flat_map number ns
-
-abbrev pub joined : List (List ℕ) → List ℕ
-joined hashes = flat_map (λ h. h) hashes
 
 -- version 0: the hash, the number of chunks, their stored ends, their hashes, the spare bytes
 unfoldable pub text_v0 : XorbObjectInfoV0 → List ℕ

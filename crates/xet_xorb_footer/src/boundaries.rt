@@ -5,18 +5,19 @@ ghost use Rattle.xet_hash.specs.declared.error.Place.TheVariants.{Input};
 ghost use Rattle.xet_hash.specs.declared.error.StoreError.TheVariants.{Io, OutOfMemory};
 ghost use Rattle.xet_io.specs.Faults.{HasCause};
 ghost use Rattle.xet_xorb_footer.specs.Ends.{boundaries, last_boundaries, number_before};
-ghost use Rattle.xet_xorb_footer.specs.Places.{IsPart, RefusedBy, Sees, Tells, checked_at, head_at, lists_at, tail_at};
-ghost use Rattle.xet_xorb_footer.specs.Reading.{number_at, number_is, times};
+ghost use Rattle.xet_codec.specs.Blocks.{IsPart, RefusedBy, Sees, Tells};
+ghost use Rattle.xet_xorb_footer.specs.Places.{checked_at, head_at, lists_at, tail_at};
+ghost use Rattle.xet_codec.specs.Parsing.{number_at, times};
+ghost use Rattle.xet_xorb_footer.specs.Reading.{number_is};
 ghost use Rattle.xet_xorb_footer.specs.Refusals.{IsFooterRefusal, is_check};
 ghost use Rattle.xet_xorb_footer.specs.Spelled.{most_chunks};
 
-use crate::block::Block;
-use crate::ends::{read_exact, reader_length};
 use crate::info::{BOUNDARIES_IDENT, XorbObjectInfoV1};
 use crate::lists::{number_of, push_numbers};
 use crate::machine::MOST_CHUNKS;
 use std::alloc::Global;
 use xet_base::Items;
+use xet_codec::{Block, read_exact, reader_length};
 use xet_hash::{Reason, StoreError};
 use xet_io::ReadAt;
 

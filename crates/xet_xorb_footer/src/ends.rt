@@ -7,16 +7,16 @@ ghost use Rattle.xet_hash.specs.declared.error.StoreError.TheVariants.{Io, Malfo
 ghost use Rattle.xet_io.specs.Faults.{HasCause};
 ghost use Rattle.xet_xorb_footer.specs.Ends.{last_footer, told_length};
 ghost use Rattle.xet_xorb_footer.specs.Machine.{IsSettled};
-ghost use Rattle.xet_xorb_footer.specs.Places.{IsPart, RefusedBy, Sees};
+ghost use Rattle.xet_codec.specs.Blocks.{IsPart, RefusedBy, Sees};
 ghost use Rattle.xet_xorb_footer.specs.Reader.{bytes_left, bytes_wanted, parts_of, rest_of};
 ghost use Rattle.xet_xorb_footer.specs.Refusals.{IsFooterRefusal};
 
-use crate::block::Block;
 use crate::info::XorbObjectInfoV1;
 use crate::machine::FooterReader;
 use std::alloc::Global;
-use xet_hash::{Place, Reason, StoreError};
-use xet_io::{ReadAt, read_exact_at};
+use xet_codec::{Block, read_exact, reader_length};
+use xet_hash::{Reason, StoreError};
+use xet_io::ReadAt;
 
 /// The bytes of a footer's length.
 const LENGTH_SIZE: u64 = 4;
@@ -52,41 +52,6 @@ pub fn last_footer<R: ReadAt>(
 {
     let len = reader_length(reader)?;
     footer_before(alloc, reader, len)
-}
-
-/// How many bytes a reader has. It takes no memory. Refused as `Io(Input)`.
-pub fn reader_length<R: ReadAt>(reader: &mut R) -> Result<u64, StoreError>
-    ensures told { R.tells reader.old ≡ true → IfOk result (λ len. len ≡ length (R.bytes reader.old)) }
-    ensures fault { IfErr result (λ e. e ≡ Io Input) }
-    ensures cause { HasCause (R.faults reader.old) (R.faults reader.new) (IsErrOf result (Io Input)) }
-    ensures same { R.bytes reader.new ≡ R.bytes reader.old }
-    ensures tells { R.tells reader.new ≡ R.tells reader.old }
-{
-    match reader.length() {
-        Ok(len) => Ok(len),
-        Err(_) => Err(StoreError::Io(Place::Input)),
-    }
-}
-
-/// Fills `buf` with a reader's bytes from offset `at` on. It takes no memory. The error is `UnexpectedEof` only
-/// where the bytes end before `buf` is full, which is never `Ok`, and `Io(Input)` only where the reader failed;
-/// `buf` may then hold anything.
-pub fn read_exact<R: ReadAt>(reader: &mut R, at: u64, buf: &mut [u8]) -> Result<(), StoreError>
-    requires { at + length buf.old < 2 ^ 64 }
-    ensures told { R.tells reader.old ≡ true → at + length buf.old ≤ length (R.bytes reader.old) → OnOk result (buf.new ≡ take (length buf.old) (drop at (R.bytes reader.old))) }
-    ensures reached { R.tells reader.old ≡ true → OnOk result (length buf.old ≤ length (R.bytes reader.old) - at) }
-    ensures fault { R.tells reader.old ≡ true → at + length buf.old ≤ length (R.bytes reader.old) → IfErr result (λ e. e ≡ Io Input) }
-    ensures len { length buf.new ≡ length buf.old }
-    ensures kinds { IfErr result (λ e. (e ≡ UnexpectedEof) ⊎ (e ≡ Io Input)) }
-    ensures cause { HasCause (R.faults reader.old) (R.faults reader.new) (IsErrOf result (Io Input)) }
-    ensures same { R.bytes reader.new ≡ R.bytes reader.old }
-    ensures tells { R.tells reader.new ≡ R.tells reader.old }
-{
-    match read_exact_at(reader, at, buf) {
-        Ok(true) => Ok(()),
-        Ok(false) => Err(StoreError::UnexpectedEof),
-        Err(_) => Err(StoreError::Io(Place::Input)),
-    }
 }
 
 /// The number in the last four of so many bytes.

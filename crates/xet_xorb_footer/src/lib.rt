@@ -1,9 +1,7 @@
 //! Footers of xorbs, as values: written to sinks, and read from sources, at the end of a reader and in pieces.
 #![tactic(auto)]
 
-mod block;
 mod boundaries;
-mod buffer;
 mod decoder;
 mod ends;
 mod info;
@@ -13,9 +11,8 @@ mod machine;
 mod reading;
 mod writing;
 
-pub use block::Block;
 pub use decoder::FooterDecoder;
-pub use ends::{last_footer, read_exact, reader_length, told_length};
+pub use ends::{last_footer, told_length};
 pub use info::{XorbObjectIdent, XorbObjectInfoV0, XorbObjectInfoV1};
 
 #[cfg(test)]

@@ -90,7 +90,8 @@ impl FooterReader {
     ghost use Rattle.xet_xorb_footer.specs.Machine.{IsSettled, as_value, behind_ends, block_of, ends_v0, ends_v1, expects, expects_number, hashes_v0, hashes_v1, info_of, info_v0, next_count, next_ends, next_hash, next_hashes, next_plain, next_spare, next_version, plain_v1, started, step};
     ghost use Rattle.xet_xorb_footer.specs.Reader.{bytes_left, bytes_wanted, parts_of, rest_of};
     ghost use Rattle.xet_xorb_footer.specs.Reading.{footer_at, footer_v0, rest_v0};
-    ghost use Rattle.xet_xorb_footer.specs.Refusals.{Gives, IsRefusal};
+    ghost use Rattle.xet_codec.specs.Parsing.{Gives};
+    ghost use Rattle.xet_xorb_footer.specs.Refusals.{IsRefusal};
     ghost use Rattle.xet_xorb_footer.specs.Spelled.{most_chunks};
 
     /// A reader of a footer of either version, for which so many bytes are available: lists that fit into them are

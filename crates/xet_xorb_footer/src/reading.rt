@@ -4,7 +4,6 @@ ghost use Rattle.std.specs.Prelude.{◌≡◌, ◌≤◌, ◌+◌, ◌*◌, ◌�
 ghost use Rattle.xet_hash.specs.declared.error.Place.TheVariants.{Input};
 ghost use Rattle.xet_hash.specs.declared.error.StoreError.TheVariants.{Io, OutOfMemory, UnexpectedEof};
 ghost use Rattle.xet_io.specs.Faults.{HasCause};
-ghost use Rattle.xet_io.specs.Whole.{Fills};
 ghost use Rattle.xet_xorb_footer.specs.Machine.{IsSettled};
 ghost use Rattle.xet_xorb_footer.specs.Reader.{bytes_left, bytes_wanted, parts_of, rest_of};
 ghost use Rattle.xet_xorb_footer.specs.Reading.{footer_at, footer_v0, rest_v0};
@@ -14,8 +13,9 @@ ghost use Rattle.xet_xorb_footer.specs.Spelled.{most_chunks};
 use crate::info::{XorbObjectInfoV0, XorbObjectInfoV1};
 use crate::machine::FooterReader;
 use std::alloc::Global;
-use xet_hash::{Place, StoreError};
-use xet_io::{Source, read_full};
+use xet_codec::read_front;
+use xet_hash::StoreError;
+use xet_io::Source;
 
 /// The most bytes of a field.
 const BLOCK: usize = 2048;
@@ -135,18 +135,4 @@ fn read_field<R: Source>(
     }
     reader.take(field)?;
     Ok(wanted as u32)
-}
-
-/// Reads until `buf` is full or the source has ended, and returns how many bytes it took.
-fn read_front<R: Source>(source: &mut R, buf: &mut [u8]) -> Result<usize, StoreError>
-    ensures told { R.tells source.old ≡ true → Fills (R.left source.old) buf.new result (R.left source.new) }
-    ensures bound { IfOk result (λ count. count ≤ length buf.new) }
-    ensures refusals { IfErr result (λ e. e ≡ Io Input) }
-    ensures tells { R.tells source.new ≡ R.tells source.old }
-    ensures cause { HasCause (R.faults source.old) (R.faults source.new) (IsErrOf result (Io Input)) }
-{
-    match read_full(source, buf) {
-        Ok(count) => Ok(count),
-        Err(_) => Err(StoreError::Io(Place::Input)),
-    }
 }

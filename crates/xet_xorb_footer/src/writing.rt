@@ -5,12 +5,13 @@ ghost use Rattle.xet_hash.specs.declared.error.Place.TheVariants.{Output};
 ghost use Rattle.xet_hash.specs.declared.error.Reason.TheVariants.{ListLength};
 ghost use Rattle.xet_hash.specs.declared.error.StoreError.TheVariants.{Io, MalformedData, OutOfMemory};
 ghost use Rattle.xet_io.specs.Faults.{HasCause};
-ghost use Rattle.xet_xorb_footer.specs.Held.{held_in};
+ghost use Rattle.xet_codec.specs.Held.{held_in};
 ghost use Rattle.xet_xorb_footer.specs.Spelled.{HasLists, HasShortLists, length_of, length_of_v0, text_v0, text_v1};
-ghost use Rattle.xet_xorb_footer.specs.Written.{Front, Moves, StopsWriting};
+ghost use Rattle.xet_codec.specs.Written.{WritesPrefix, Moves};
+ghost use Rattle.xet_codec.specs.Stops.{StopsWriting};
 
-use crate::buffer::Buffer;
 use crate::info::{XorbObjectInfoV0, XorbObjectInfoV1};
+use xet_codec::Buffer;
 use xet_hash::{Reason, StoreError};
 use xet_io::Sink;
 
@@ -45,7 +46,7 @@ fn put_v0<W: Sink>(
 ) -> Result<(), StoreError>
     ensures moved { W.tells sink.old ≡ true → OnOk result (Moves (W.written sink.old) (W.written sink.new) (held_in buffer.new) (held_in buffer.old ++ text_v0 info.now)) }
     ensures bytes { OnOk result (length (text_v0 info.now) ≡ length_of_v0 info.now) }
-    ensures front { W.tells sink.old ≡ true → OnErr result (Front (W.written sink.old) (W.written sink.new) (held_in buffer.old ++ text_v0 info.now)) }
+    ensures front { W.tells sink.old ≡ true → OnErr result (WritesPrefix (W.written sink.old) (W.written sink.new) (held_in buffer.old ++ text_v0 info.now)) }
     ensures refusals { IfErr result StopsWriting }
     ensures tells { W.tells sink.new ≡ W.tells sink.old }
     ensures cause { HasCause (W.faults sink.old) (W.faults sink.new) (IsErrOf result (Io Output)) }
@@ -122,7 +123,7 @@ fn put_v1<W: Sink>(
 ) -> Result<(), StoreError>
     ensures moved { W.tells sink.old ≡ true → OnOk result (Moves (W.written sink.old) (W.written sink.new) (held_in buffer.new) (held_in buffer.old ++ text_v1 info.now)) }
     ensures bytes { OnOk result (length (text_v1 info.now) ≡ length_of info.now) }
-    ensures front { W.tells sink.old ≡ true → OnErr result (Front (W.written sink.old) (W.written sink.new) (held_in buffer.old ++ text_v1 info.now)) }
+    ensures front { W.tells sink.old ≡ true → OnErr result (WritesPrefix (W.written sink.old) (W.written sink.new) (held_in buffer.old ++ text_v1 info.now)) }
     ensures refusals { IfErr result StopsWriting }
     ensures tells { W.tells sink.new ≡ W.tells sink.old }
     ensures cause { HasCause (W.faults sink.old) (W.faults sink.new) (IsErrOf result (Io Output)) }

@@ -14,7 +14,8 @@ use Rattle.xet_xorb_chunk.specs.Scheme.{compressed}
 use Rattle.xet_xorb_chunk.specs.Spelling.{spelling}
 use Rattle.xet_base.specs.theorems.Written.{front_of_first, written_both, written_then}
 use Rattle.xet_xorb_footer.specs.declared.info.XorbObjectInfoV1.{XorbObjectInfoV1}
-use Rattle.xet_xorb_footer.specs.Spelled.{length_of, most_chunks, number, text_v1}
+use Rattle.xet_xorb_footer.specs.Spelled.{length_of, most_chunks, text_v1}
+use Rattle.xet_codec.specs.Numbers.{number}
 use Rattle.xet_shard_format.specs.Boundaries.{boundaries_from}
 use Rattle.xet_shard_format.specs.Records.{chunk_bytes}
 use Rattle.xet_shard_format.specs.declared.record.XorbChunkSequenceEntry.{XorbChunkSequenceEntry}

@@ -6,7 +6,7 @@ ghost use Rattle.xet_hash.specs.declared.error.Place.TheVariants.{Output};
 ghost use Rattle.xet_hash.specs.declared.error.StoreError.{StoreError};
 ghost use Rattle.xet_hash.specs.declared.error.StoreError.TheVariants.{Io, OutOfMemory};
 ghost use Rattle.xet_io.specs.Faults.{HasCause};
-ghost use Rattle.xet_xorb_chunk.specs.Outside.{StopsWriting};
+ghost use Rattle.xet_codec.specs.Stops.{StopsWriting};
 ghost use Rattle.xet_xorb_chunk.specs.Scheme.{compressed};
 ghost use Rattle.xet_xorb_chunk.specs.Spelling.{spelling};
 ghost use Rattle.xet_xorb.specs.Building.{built, built_of, no_spare};

@@ -5,10 +5,10 @@ ghost use Rattle.xet_io.specs.Faults.{HasCause};
 ghost use Rattle.xet_shard.specs.Bisection.{AnswersAt, Bisects, in_table, passes, slots};
 ghost use Rattle.xet_shard_format.specs.Reading.{IsShardRefusal};
 
-use crate::reader::bytes::{fill, length_of, within};
+use crate::reader::bytes::{fill, within};
+use xet_codec::{half_word, reader_length, word};
 use xet_hash::{Place, StoreError};
 use xet_io::ReadAt;
-use xet_shard_format::row::{half_word, word};
 
 /// A test of an item of a lookup table. An item begins with a word and a row: 12 bytes.
 #[derive(Clone, Copy, PartialEq, Eq, Debug)]
@@ -54,7 +54,7 @@ pub fn bisecting_index<R: ReadAt>(
     ensures same { R.bytes reader.new ≡ R.bytes reader.old }
     ensures tells { R.tells reader.new ≡ R.tells reader.old }
 {
-    let end = length_of(reader)?;
+    let end = reader_length(reader)?;
     match within(at, size, count, end) {
         Some(_) => bisect(reader, at, size, count, probe),
         None => Err(StoreError::UnexpectedEof),

@@ -6,18 +6,19 @@ ghost use Rattle.xet_io.specs.Faults.{HasCause};
 ghost use Rattle.xet_shard.specs.Bisection.{AnswersAt};
 ghost use Rattle.xet_shard_format.specs.Lookups.{flat_places};
 ghost use Rattle.xet_shard.specs.Queries.{chunk_place, chunk_table, file_items_from, file_table, has_head, last_of, xorb_table};
-ghost use Rattle.xet_shard_format.specs.Reading.{GivesUnlessFault, IsShardRefusal};
+ghost use Rattle.xet_codec.specs.Parsing.{GivesUnlessFault};
+ghost use Rattle.xet_shard_format.specs.Reading.{IsShardRefusal};
 
 use crate::query::bisection::{Probe, bisecting_index};
 use crate::reader::bytes::{bytes_at, fill};
 use crate::reader::lookup_items::heads_in;
 use crate::reader::lookups::{made_chunk_lookup, made_file_lookup, made_xorb_lookup};
 use std::alloc::Global;
+use xet_codec::{half_word, word};
 use xet_hash::{Place, StoreError};
 use xet_io::ReadAt;
 use xet_shard_format::MDBShardFileFooter;
 use xet_shard_format::lookup::{ChunkPlace, Head};
-use xet_shard_format::row::{half_word, word};
 
 /// The items of the files' table among which are those of a word: at most eight, or all of a table that was
 /// left out.

@@ -4,7 +4,8 @@ ghost use Rattle.std.specs.Prelude.{◌≡◌, ◌==◌, ◌∷◌, [], true, If
 ghost use Rattle.xet_io.specs.Faults.{HasCause};
 ghost use Rattle.xet_shard.specs.Bisection.{AnswersAt};
 ghost use Rattle.xet_shard.specs.Queries.{IsFileRefusal, file_in, first_file, found_file, found_run, rows_of, run_in, run_of_word, told_run, chunk_table, file_table, query_word, xorb_table};
-ghost use Rattle.xet_shard_format.specs.Reading.{GivesUnlessFault, IsShardRefusal};
+ghost use Rattle.xet_codec.specs.Parsing.{GivesUnlessFault};
+ghost use Rattle.xet_shard_format.specs.Reading.{IsShardRefusal};
 ghost use Rattle.xet_shard_format.specs.Records.{first_word};
 
 use crate::info::MDBShardInfo;

@@ -3,7 +3,8 @@
 ghost use Rattle.std.specs.Prelude.{◌≡◌, ◌≤◌, ◌<◌, ◌+◌, ◌-◌, ◌*◌, ◌^◌, true, drop, length, map, IfErr, IfOk, IsErrOf};
 ghost use Rattle.xet_io.specs.Faults.{HasCause};
 ghost use Rattle.xet_shard.specs.Queries.{kept_hash, read_in_row, run_in};
-ghost use Rattle.xet_shard_format.specs.Reading.{GivesUnlessFault, IsShardRefusal};
+ghost use Rattle.xet_codec.specs.Parsing.{GivesUnlessFault};
+ghost use Rattle.xet_shard_format.specs.Reading.{IsShardRefusal};
 ghost use Rattle.xet_shard_format.specs.Rows.{row_of, rows_in};
 ghost use Rattle.xet_shard.specs.Runs.{agreed, chunk_end, run_after, run_of};
 

@@ -4,27 +4,15 @@ ghost use Rattle.std.specs.Prelude.{◌≡◌, ◌≤◌, ◌<◌, ◌+◌, ◌-
 ghost use Rattle.xet_io.specs.Faults.{HasCause};
 ghost use Rattle.xet_shard.specs.ReaderBytes.{piece_at, rows_at};
 ghost use Rattle.xet_shard.specs.Queries.{rows_from};
-ghost use Rattle.xet_shard_format.specs.Reading.{GivesUnlessFault, IsInputError, IsShardRefusal};
+ghost use Rattle.xet_codec.specs.Parsing.{GivesUnlessFault, IsInputError};
+ghost use Rattle.xet_shard_format.specs.Reading.{IsShardRefusal};
 ghost use Rattle.xet_shard_format.specs.Rows.{row_of};
 
 use std::alloc::Global;
+use xet_codec::{read_exact, reader_length};
 use xet_hash::{Place, Reason, StoreError};
-use xet_io::{ReadAt, read_exact_at};
+use xet_io::ReadAt;
 use xet_shard_format::row::{Row, row_of};
-
-/// The number of a reader's bytes.
-pub fn length_of<R: ReadAt>(reader: &mut R) -> Result<u64, StoreError>
-    ensures told { R.tells reader.old ≡ true → IfOk result (λ len. len ≡ length (R.bytes reader.old)) }
-    ensures fault { IfErr result (λ e. e ≡ StoreError.Io Place.Input) }
-    ensures cause { HasCause (R.faults reader.old) (R.faults reader.new) (IsErrOf result (StoreError.Io Place.Input)) }
-    ensures same { R.bytes reader.new ≡ R.bytes reader.old }
-    ensures tells { R.tells reader.new ≡ R.tells reader.old }
-{
-    match reader.length() {
-        Ok(len) => Ok(len),
-        Err(_) => Err(StoreError::Io(Place::Input)),
-    }
-}
 
 /// Fills `buf` with the bytes from place `at` on. A reader that tells its bytes has as many.
 pub fn fill<R: ReadAt>(reader: &mut R, at: u64, buf: &mut [u8]) -> Result<(), StoreError>
@@ -38,10 +26,9 @@ pub fn fill<R: ReadAt>(reader: &mut R, at: u64, buf: &mut [u8]) -> Result<(), St
     ensures same { R.bytes reader.new ≡ R.bytes reader.old }
     ensures tells { R.tells reader.new ≡ R.tells reader.old }
 {
-    match read_exact_at(reader, at, buf) {
-        Ok(true) => Ok(()),
-        Ok(false) => Err(StoreError::UnexpectedEof),
-        Err(_) => Err(StoreError::Io(Place::Input)),
+    match read_exact(reader, at, buf) {
+        Ok(()) => Ok(()),
+        Err(error) => Err(error),
     }
 }
 
@@ -60,7 +47,7 @@ pub fn piece<R: ReadAt>(
     ensures same { R.bytes reader.new ≡ R.bytes reader.old }
     ensures tells { R.tells reader.new ≡ R.tells reader.old }
 {
-    let end = length_of(reader)?;
+    let end = reader_length(reader)?;
     match within(at, size, count, end) {
         Some(len) => bytes_at(alloc, reader, at, len),
         None => Err(StoreError::UnexpectedEof),
@@ -142,7 +129,7 @@ pub fn rows_from<R: ReadAt>(
     if count >= 1 << 32 || row >= count {
         return Err(StoreError::MalformedData(Reason::SectionPlace));
     }
-    let end = length_of(reader)?;
+    let end = reader_length(reader)?;
     match within(at, 48, count, end) {
         Some(_) => Ok(count - row),
         None => Err(StoreError::UnexpectedEof),

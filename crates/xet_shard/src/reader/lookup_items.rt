@@ -6,8 +6,8 @@ ghost use Rattle.xet_shard_format.specs.Records.{section, xorb_section};
 ghost use Rattle.xet_shard.specs.Sections.{heads_in, heads_of, places_in};
 
 use std::alloc::{AllocError, Global};
+use xet_codec::{half_word, word};
 use xet_shard_format::lookup::{ChunkPlace, Head};
-use xet_shard_format::row::{half_word, word};
 use xet_shard_format::section::Record;
 use xet_shard_format::{MDBXorbInfo, XorbChunkSequenceHeader};
 

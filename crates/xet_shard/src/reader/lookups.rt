@@ -4,7 +4,8 @@ ghost use Rattle.std.specs.Prelude.{◌≡◌, ◌≢◌, true, IfErr, IsErrOf};
 ghost use Rattle.xet_io.specs.Faults.{HasCause};
 ghost use Rattle.xet_shard_format.specs.Lookups.{flat_places};
 ghost use Rattle.xet_shard.specs.Queries.{file_items_from};
-ghost use Rattle.xet_shard_format.specs.Reading.{GivesUnlessFault, IsShardRefusal};
+ghost use Rattle.xet_codec.specs.Parsing.{GivesUnlessFault};
+ghost use Rattle.xet_shard_format.specs.Reading.{IsShardRefusal};
 ghost use Rattle.xet_shard.specs.Sections.{chunk_lookup_in, xorb_lookup_in};
 
 use crate::info::MDBShardInfo;

@@ -2,14 +2,16 @@
 
 ghost use Rattle.std.specs.Prelude.{◌≡◌, ◌≤◌, ◌<◌, ◌+◌, ◌-◌, ◌*◌, ◌^◌, min, None, true, length, IfErr, IfOk, IsErrOf, OnOk};
 ghost use Rattle.xet_io.specs.Faults.{HasCause};
-ghost use Rattle.xet_shard_format.specs.Reading.{GivesUnlessFault, IsInputError, IsShardRefusal, IsUnlessFault, footer_at, header_at};
+ghost use Rattle.xet_codec.specs.Parsing.{GivesUnlessFault, IsInputError, IsUnlessFault};
+ghost use Rattle.xet_shard_format.specs.Reading.{IsShardRefusal, footer_at, header_at};
 ghost use Rattle.xet_shard_format.specs.Records.{AreRecords, IsFile, IsXorb, file_hash, file_section, xorb_hash, xorb_section};
 ghost use Rattle.xet_shard.specs.Sections.{block_heads_in, blocks_in, files_in, info_at, key_of, row_count};
 
 use crate::info::MDBShardInfo;
-use crate::reader::bytes::{fill, length_of, rows_at};
+use crate::reader::bytes::{fill, rows_at};
 use crate::reader::lookup_items::heads_of;
 use std::alloc::Global;
+use xet_codec::reader_length;
 use xet_hash::{HMACKey, Place, Reason, StoreError};
 use xet_io::ReadAt;
 use xet_shard_format::header_footer::{
@@ -31,7 +33,7 @@ impl MDBShardInfo {
         ensures same { R.bytes reader.new ≡ R.bytes reader.old }
         ensures tells { R.tells reader.new ≡ R.tells reader.old }
     {
-        let len = length_of(reader)?;
+        let len = reader_length(reader)?;
         load(reader, len)
     }
 

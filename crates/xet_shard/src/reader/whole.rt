@@ -3,7 +3,8 @@
 ghost use Rattle.std.specs.Prelude.{◌≡◌, IfErr, IfOk, IsErrOf, Ok, true};
 ghost use Rattle.xet_io.specs.Faults.{HasCause};
 ghost use Rattle.xet_shard_format.specs.Lookups.{Lookups};
-ghost use Rattle.xet_shard_format.specs.Reading.{GivesUnlessFault, IsRead, IsShardRefusal, all_of, parts_of};
+ghost use Rattle.xet_codec.specs.Parsing.{GivesUnlessFault};
+ghost use Rattle.xet_shard_format.specs.Reading.{IsRead, IsShardRefusal, all_of, parts_of};
 ghost use Rattle.xet_shard_format.specs.Text.{Fits, IsShard, Shard, shard_text};
 
 use crate::info::MDBShardInfo;

@@ -1,7 +1,8 @@
 -- An error of the ends is one of the whole.
 use Rattle.std.proofs.Common.{◌≡◌, ◌⊎◌, inl, inr, ◌≤◌, ℕ, Bool, true, false, List, length, take, drop, Option, Some, Result, Ok, Err, sym, ap, subst}
 use Rattle.xet_hash.specs.declared.error.StoreError.{StoreError}
-use Rattle.xet_shard_format.specs.Reading.{◌>>=◌, all_of, ends_of, footer_at, header_at}
+use Rattle.xet_codec.specs.Parsing.{◌>>=◌}
+use Rattle.xet_shard_format.specs.Reading.{all_of, ends_of, footer_at, header_at}
 use Rattle.xet_shard_file.specs.Shards.{is_expired, is_past}
 
 -- an error of the ends is the whole's, and what has it does not expire

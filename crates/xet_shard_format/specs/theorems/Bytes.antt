@@ -8,7 +8,8 @@ use Rattle.std.proofs.lemmas.List.Concat.{flat_map-cons}
 use Rattle.std.proofs.lemmas.List.Elements.{All-get_or}
 use Rattle.std.proofs.lemmas.Nat.{le_bytes_4, le_bytes_8, from_le_bytes-to_le_bytes_4}
 use Rattle.xet_shard_format.specs.declared.row.Row.{Row}
-use Rattle.xet_shard_format.specs.Rows.{RowFits, half_word, row, row_of, row_text, rows_in, rows_text, word}
+use Rattle.xet_shard_format.specs.Rows.{RowFits, row, row_of, row_text, rows_in, rows_text}
+use Rattle.xet_codec.specs.Numbers.{half_word, word}
 
 abbrev pub IsBytes : List ℕ → Type 0
 IsBytes bytes = (i : ℕ) → get_or bytes i 0 < 256

@@ -6,7 +6,8 @@ use Rattle.xet_hash.specs.declared.error.StoreError.{StoreError}
 use Rattle.xet_shard_format.specs.declared.row.Row.{Row}
 use Rattle.xet_shard_format.specs.Rows.{RowFits, rows_in}
 use Rattle.xet_shard_format.specs.Records.{section}
-use Rattle.xet_shard_format.specs.Reading.{Gives, section_at}
+use Rattle.xet_codec.specs.Parsing.{Gives}
+use Rattle.xet_shard_format.specs.Reading.{section_at}
 use Rattle.xet_shard_format.specs.theorems.Bytes.{IsBytes, rows_fit}
 use Rattle.xet_shard_format.specs.theorems.RowList.{length-rows_in}
 use Rattle.xet_shard_format.specs.theorems.SectionLaws.{Reading, section_takes}

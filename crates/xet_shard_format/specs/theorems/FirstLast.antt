@@ -3,7 +3,7 @@ use Rattle.std.proofs.Common.{inl, inr, ◌≤◌, ◌<◌, leb, min, ◌≡◌,
 use Rattle.std.proofs.lemmas.Bool.{cases_Bool, leb-false, leb-true}
 use Rattle.std.proofs.lemmas.List.{drop-take, length-drop, take-take, take_all}
 use Rattle.std.specs.Int.{w32, w64, from_le_bytes}
-use Rattle.xet_shard_format.specs.Rows.{half_word, word}
+use Rattle.xet_codec.specs.Numbers.{half_word, word}
 use Rattle.xet_shard_format.specs.Reading.{footer_at, header_at}
 use Rattle.xet_shard_format.specs.Ends.{footer_of_last, header_of_first}
 

@@ -7,7 +7,7 @@ use Rattle.std.proofs.lemmas.Bool.{eqb-true, eq-eqb, leb-true, le-leb, ltb-true,
 use Rattle.std.proofs.lemmas.List.{take_at, drop_at, take-append-drop, length-append, length-drop, drop-drop, take_all}
 use Rattle.std.proofs.lemmas.Nat.{from_le_bytes-to_le_bytes_8}
 use Rattle.xet_shard_format.specs.declared.header_footer.MDBShardFileFooter.{MDBShardFileFooter}
-use Rattle.xet_shard_format.specs.Rows.{word}
+use Rattle.xet_codec.specs.Numbers.{word}
 use Rattle.xet_shard_format.specs.Text.{footer_text, header, header_text, tag}
 use Rattle.xet_shard_format.specs.Reading.{IsPlaced, file_row_count, footer_in, header_at, places_at, xorb_row_count}
 use Rattle.xet_shard_format.specs.theorems.RowLaws.{wants_ok, wants_last, reaches_ok, reaches_last}

@@ -13,11 +13,12 @@ use Rattle.xet_shard_format.specs.declared.row.Row.{Row}
 use Rattle.xet_shard_format.specs.declared.header_footer.MDBShardFileFooter.{MDBShardFileFooter}
 use Rattle.xet_hash.specs.Hash.{marker}
 use Rattle.xet_shard_format.specs.Records.{file_hash, flags_of, is_after, xorb_hash}
-use Rattle.xet_shard_format.specs.Rows.{word}
+use Rattle.xet_codec.specs.Numbers.{word}
 use Rattle.xet_shard_format.specs.Text.{tag}
 use Rattle.xet_shard_format.specs.Ends.{footer_of_last, header_of_first}
 use Rattle.xet_shard_format.specs.theorems.FirstLast.{footer_is, header_is}
-use Rattle.xet_shard_format.specs.Reading.{Fails, Gives, GivesUnlessFault, IsInputError, IsShardRefusal, IsUnlessFault, Parts, all_of, chunk_in, chunks_at, end_at, ext_at, file_at, file_row_count, footer_at, footer_in, has_ext, is_verified, xorb_row_count, hash_at, hash_in, header_at, lookup_at, places_at, reaches, row_at, rows_after_file, section_at, segment_at, step_at, times, totals_at, verification_at, wants, xorb_at, ◌>>=◌}
+use Rattle.xet_codec.specs.Parsing.{Fails, Gives, GivesUnlessFault, IsInputError, IsUnlessFault, reaches, wants, ◌>>=◌}
+use Rattle.xet_shard_format.specs.Reading.{IsShardRefusal, Parts, all_of, chunk_in, chunks_at, end_at, ext_at, file_at, file_row_count, footer_at, footer_in, has_ext, is_verified, xorb_row_count, hash_at, hash_in, header_at, lookup_at, places_at, row_at, rows_after_file, section_at, segment_at, step_at, times, totals_at, verification_at, xorb_at}
 
 abbrev pub IsOfBytes : StoreError → Type 0
 IsOfBytes errors.UnexpectedEof = Unit {0}

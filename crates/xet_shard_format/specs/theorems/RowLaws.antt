@@ -13,7 +13,8 @@ use Rattle.xet_hash.specs.declared.error.StoreError.{StoreError}
 use Rattle.xet_hash.specs.declared.error.Reason.{Reason}
 use Rattle.xet_shard_format.specs.Rows.{row}
 use Rattle.xet_shard_format.specs.Records.{IsFile, ext_rows, file_head, file_rest, flags_of, segment_row, verification_row}
-use Rattle.xet_shard_format.specs.Reading.{ext_at, file_at, has_ext, hash_at, hash_in, is_verified, reaches, row_at, rows_after_file, segment_at, times, verification_at, wants, ◌>>=◌}
+use Rattle.xet_shard_format.specs.Reading.{ext_at, file_at, has_ext, hash_at, hash_in, is_verified, row_at, rows_after_file, segment_at, times, verification_at}
+use Rattle.xet_codec.specs.Parsing.{reaches, wants, ◌>>=◌}
 
 -- ---- tools
 

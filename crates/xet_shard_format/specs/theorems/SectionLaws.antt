@@ -14,7 +14,8 @@ use Rattle.xet_hash.specs.declared.error.StoreError.{StoreError}
 use Rattle.xet_shard_format.specs.Rows.{row}
 use Rattle.xet_hash.specs.Hash.{marker}
 use Rattle.xet_shard_format.specs.Records.{AreRecords, IsFile, IsXorb, StartAt, chunk_bytes, chunk_row, end_row, file_hash, file_head, file_rest, is_after, section, xorb_hash, xorb_head, xorb_rest}
-use Rattle.xet_shard_format.specs.Reading.{chunk_in, chunks_at, end_at, file_at, hash_in, row_at, section_at, step_at, xorb_at, ◌>>=◌}
+use Rattle.xet_shard_format.specs.Reading.{chunk_in, chunks_at, end_at, file_at, hash_in, row_at, section_at, step_at, xorb_at}
+use Rattle.xet_codec.specs.Parsing.{◌>>=◌}
 use Rattle.xet_shard_format.specs.theorems.RowLaws.{chosen, bind_ok, wants_ok, wants_last, done, ok_is, row_ok, row_is, hash_takes, file_takes, file_again}
 
 -- ---- xorbs

@@ -8,7 +8,8 @@ use Rattle.std.specs.Int.{w32, w64, to_le_bytes}
 use Rattle.xet_shard_format.specs.declared.record.MDBXorbInfo.{MDBXorbInfo}
 use Rattle.xet_shard_format.specs.declared.row.Row.{Row}
 use Rattle.xet_shard_format.specs.declared.record.XorbChunkSequenceEntry.{XorbChunkSequenceEntry}
-use Rattle.xet_shard_format.specs.Rows.{row, word}
+use Rattle.xet_shard_format.specs.Rows.{row}
+use Rattle.xet_codec.specs.Numbers.{word}
 use Rattle.xet_shard_format.specs.Records.{first_word, section, xorb_rows}
 use Rattle.xet_shard_format.specs.Lookups.{chunks_from, head_text, heads_from, heads_text, places_from}
 use Rattle.xet_shard_format.specs.theorems.SectionLaws.{section_cons}

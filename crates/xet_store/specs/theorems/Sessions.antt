@@ -12,7 +12,8 @@ use Rattle.xet_shard_format.specs.declared.header_footer.MDBShardFileFooter.{MDB
 use Rattle.xet_shard_format.specs.declared.record.FileDataSequenceEntry.{FileDataSequenceEntry as Segment}
 use Rattle.xet_shard_format.specs.declared.record.MDBFileInfo.{MDBFileInfo}
 use Rattle.xet_shard.specs.Held.{Held, nothing}
-use Rattle.xet_shard_format.specs.Reading.{◌>>=◌, footer_at, header_at}
+use Rattle.xet_codec.specs.Parsing.{◌>>=◌}
+use Rattle.xet_shard_format.specs.Reading.{footer_at, header_at}
 use Rattle.xet_shard_format.specs.Records as record_of
 use Rattle.xet_folder.specs.theorems.Agreeing.{joins_once, stored_once}
 use Rattle.xet_folder.specs.theorems.Rest.{among_map}

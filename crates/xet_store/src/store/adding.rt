@@ -6,7 +6,7 @@ ghost use Rattle.xet_hash.specs.Merkle.{chunk_hash, xorb_hash};
 ghost use Rattle.xet_shard.specs.Held.{held_size};
 ghost use Rattle.xet_shard_format.specs.Records.{file_hash};
 ghost use Rattle.xet_xorb_chunk.specs.Chunks.{bytes_of, chunk_member, total};
-ghost use Rattle.xet_shard_file.specs.Refusals.{HasDiskReason};
+ghost use Rattle.xet_codec.specs.Stops.{HasDiskReason};
 ghost use Rattle.xet_folder.specs.Xorbs.{IsListed, found};
 ghost use Rattle.xet_store.specs.Cleaning.{Adds, Keeps};
 ghost use Rattle.xet_store.specs.Store.{IsNewFile};

@@ -2,7 +2,7 @@
 
 ghost use Rattle.std.specs.Prelude.{◌≡◌, ◌↔◌, None, Ok, IfErr, IfOk, IfSome, OnErr};
 ghost use Rattle.xet_shard.specs.Held.{nothing};
-ghost use Rattle.xet_shard_file.specs.Refusals.{HasDiskReason};
+ghost use Rattle.xet_codec.specs.Stops.{HasDiskReason};
 ghost use Rattle.xet_store.specs.Cleaning.{Keeps};
 ghost use Rattle.xet_store.specs.Flushing.{IsFlushed, IsUnflushed};
 

@@ -2,7 +2,8 @@
 use Rattle.std.proofs.Common.{◌≡◌, ◌∙◌, ℕ, ◌<◌, ◌^◌, ◌/◌, ◌%◌, List, [], ◌∷◌, ◌++◌, length, drop, take, refl, sym, ap, arith, append_assoc}
 use Rattle.std.proofs.lemmas.List.{take_at, drop_at}
 use Rattle.std.specs.List.{flat_map, AllByRecursion}
-use Rattle.xet_xorb_footer.specs.Spelled.{number, text_v0, text_v1}
+use Rattle.xet_codec.specs.Numbers.{number}
+use Rattle.xet_xorb_footer.specs.Spelled.{text_v0, text_v1}
 use Rattle.xet_xorb_chunk.specs.Spelling.{spelling}
 use Rattle.xet_xorb.specs.Footer.{Version, V0, V1, footer_len, footer_text}
 use Rattle.xet_xorb.specs.Xorb.{IsXorbText, xorb_text}

@@ -6,7 +6,7 @@ use Rattle.std.specs.declared.alloc.Global.{Global}
 use Rattle.xet_hash.specs.declared.error.StoreError.{StoreError}
 use Rattle.xet_xorb_chunk.specs.declared.decoder.ChunkDecoder.{ChunkDecoder}
 use Rattle.xet_xorb_chunk.specs.Decoder.{Ends, Holds, fed_len}
-use Rattle.xet_xorb_chunk.specs.Outside.{StopsWriting}
+use Rattle.xet_codec.specs.Stops.{StopsWriting}
 use Rattle.xet_xorb_chunk.specs.Passing.{Begins, Passes, Refuses, RefusesMore, RefusesStream, WritesWhole}
 use Rattle.xet_xorb_chunk.specs.Stream.{Decodes, stored_bytes}
 use Rattle.xet_xorb_chunk.specs.theorems.More.{fails_more, passes_more, whole_more, whole_within}

@@ -10,7 +10,8 @@ use Rattle.xet_hash.specs.declared.error.Reason.{Reason}
 use Rattle.xet_hash.specs.declared.error.StoreError.{StoreError}
 use Rattle.xet_hash.specs.declared.error.StoreError.TheVariants.{UnexpectedEof}
 use Rattle.xet_xorb_footer.specs.Items.{items_in}
-use Rattle.xet_xorb_footer.specs.Reading.{◌>>=◌, Taken, bytes_at, ident_at, number_at, number_is, times, version_at, wants}
+use Rattle.xet_codec.specs.Parsing.{◌>>=◌, Taken, bytes_at, number_at, times, wants}
+use Rattle.xet_xorb_footer.specs.Reading.{ident_at, number_is, version_at}
 
 -- ---- whole fields
 

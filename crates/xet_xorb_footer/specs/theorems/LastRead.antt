@@ -8,7 +8,8 @@ use Rattle.xet_xorb_footer.specs.declared.info.XorbObjectInfoV1.{XorbObjectInfoV
 use Rattle.xet_xorb_footer.specs.Ends.{last_footer, told_length}
 use Rattle.xet_xorb_footer.specs.Laws.{IsStandard, IsStandardV0}
 use Rattle.xet_xorb_footer.specs.Reading.{footer_at}
-use Rattle.xet_xorb_footer.specs.Spelled.{number, of_v0, text_v0, text_v1}
+use Rattle.xet_codec.specs.Numbers.{number}
+use Rattle.xet_xorb_footer.specs.Spelled.{of_v0, text_v0, text_v1}
 use Rattle.xet_xorb_footer.specs.theorems.Endings.{told_is}
 use Rattle.xet_xorb_footer.specs.theorems.Readback.{length_is_known, written_is_read}
 use Rattle.xet_xorb_footer.specs.theorems.ReadbackV0.{length_is_known_v0, written_is_read_v0}

@@ -8,8 +8,10 @@ use Rattle.xet_hash.specs.declared.error.Reason.{Reason}
 use Rattle.xet_hash.specs.declared.error.Reason.TheVariants as reasons
 use Rattle.xet_xorb_footer.specs.declared.info.XorbObjectInfoV1.{XorbObjectInfoV1}
 use Rattle.xet_xorb_footer.specs.Laws.{IsStandard}
-use Rattle.xet_xorb_footer.specs.Reading.{◌>>=◌, bytes_at, count_at, footer_at, number_at, number_is, rest_v1, times, version_of, wants}
-use Rattle.xet_xorb_footer.specs.Spelled.{boundaries_ident, footer_ident, hashes_ident, joined, most_chunks, number, numbers, text_v1}
+use Rattle.xet_codec.specs.Parsing.{◌>>=◌, bytes_at, number_at, times, wants}
+use Rattle.xet_xorb_footer.specs.Reading.{count_at, footer_at, number_is, rest_v1, version_of}
+use Rattle.xet_xorb_footer.specs.Spelled.{boundaries_ident, footer_ident, hashes_ident, most_chunks, text_v1}
+use Rattle.xet_codec.specs.Numbers.{joined, number, numbers}
 use Rattle.xet_xorb_footer.specs.theorems.Fronts.{bytes_whole, ident_whole, number_is_whole, number_whole, version_whole}
 use Rattle.xet_xorb_footer.specs.theorems.Texts.{length_v1}
 

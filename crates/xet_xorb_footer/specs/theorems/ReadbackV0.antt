@@ -4,8 +4,10 @@ use Rattle.std.specs.List.{AllByRecursion}
 use Rattle.xet_hash.specs.declared.error.Reason.TheVariants as reasons
 use Rattle.xet_xorb_footer.specs.declared.info.XorbObjectInfoV0.{XorbObjectInfoV0}
 use Rattle.xet_xorb_footer.specs.Laws.{IsStandardV0}
-use Rattle.xet_xorb_footer.specs.Reading.{◌>>=◌, bytes_at, footer_at, number_at, rest_v0, times, version_of}
-use Rattle.xet_xorb_footer.specs.Spelled.{footer_ident, joined, most_chunks, number, numbers, of_v0, text_v0}
+use Rattle.xet_codec.specs.Parsing.{◌>>=◌, bytes_at, number_at, times}
+use Rattle.xet_xorb_footer.specs.Reading.{footer_at, rest_v0, version_of}
+use Rattle.xet_xorb_footer.specs.Spelled.{footer_ident, most_chunks, of_v0, text_v0}
+use Rattle.xet_codec.specs.Numbers.{joined, number, numbers}
 use Rattle.xet_xorb_footer.specs.theorems.Fronts.{bytes_whole, ident_whole}
 use Rattle.xet_xorb_footer.specs.theorems.Readback.{count_back, hashes_back, length_joined, numbers_back}
 use Rattle.xet_xorb_footer.specs.theorems.Texts.{length_v0}

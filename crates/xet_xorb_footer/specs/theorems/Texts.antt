@@ -3,7 +3,8 @@ use Rattle.std.proofs.Common.{◌≡◌, ◌∙◌, ℕ, ◌*◌, List, [], ◌�
 use Rattle.std.proofs.lemmas.List.{append-nil}
 use Rattle.xet_xorb_footer.specs.declared.info.XorbObjectInfoV0.{XorbObjectInfoV0}
 use Rattle.xet_xorb_footer.specs.declared.info.XorbObjectInfoV1.{XorbObjectInfoV1}
-use Rattle.xet_xorb_footer.specs.Spelled.{joined, length_of, length_of_v0, numbers, text_v0, text_v1}
+use Rattle.xet_codec.specs.Numbers.{joined, numbers}
+use Rattle.xet_xorb_footer.specs.Spelled.{length_of, length_of_v0, text_v0, text_v1}
 
 pub length_numbers : (ns : List ℕ) → length (numbers ns) ≡ 4 * length ns
 length_numbers [] = refl

@@ -7,7 +7,7 @@ use Rattle.xet_shard_format.specs.declared.record.MDBFileInfo.{MDBFileInfo}
 use Rattle.xet_shard_format.specs.declared.record.MDBXorbInfo.{MDBXorbInfo}
 use Rattle.xet_shard.specs.Export.{keyed_block}
 use Rattle.xet_shard.specs.Held.{never}
-use Rattle.xet_shard_format.specs.Reading.{GivesUnlessFault}
+use Rattle.xet_codec.specs.Parsing.{GivesUnlessFault}
 use Rattle.xet_shard_format.specs.Records.{AreRecords, IsXorb, xorb_hash}
 use Rattle.xet_shard.specs.Sections.{blocks_in}
 use Rattle.xet_shard_format.specs.Text.{Shard, shard}

@@ -4,7 +4,7 @@ use Rattle.std.proofs.Common.{◌∙◌, Err, ap, subst, sym, List, ℕ}
 use Rattle.std.proofs.lemmas.Result.{err_from_is_err_and}
 use Rattle.xet_shard_format.specs.declared.record.MDBFileInfo.{MDBFileInfo}
 use Rattle.xet_shard_format.specs.declared.record.MDBXorbInfo.{MDBXorbInfo}
-use Rattle.xet_shard_format.specs.Reading.{GivesUnlessFault}
+use Rattle.xet_codec.specs.Parsing.{GivesUnlessFault}
 use Rattle.xet_shard.specs.Sections.{blocks_in}
 use Rattle.xet_shard.specs.Union.{Records}
 use Rattle.xet_shard.proofs.Uniting.{records_are, records_end, records_fail}

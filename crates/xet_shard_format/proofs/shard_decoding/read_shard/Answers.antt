@@ -1,5 +1,6 @@
 use Rattle.std.proofs.Common.{ap, subst, ◌∙◌, arith}
-use Rattle.xet_shard_format.specs.Reading.{Gives, IsRead, all_of}
+use Rattle.xet_codec.specs.Parsing.{Gives}
+use Rattle.xet_shard_format.specs.Reading.{IsRead, all_of}
 use Rattle.xet_shard_format.specs.theorems.WholeAgain.{all_again}
 use Rattle.xet_shard_format.specs.theorems.WholeTaken.{all_takes}
 use Rattle.xet_shard_format.specs.theorems.Finding.{given_ok}

@@ -2,7 +2,7 @@ use Rattle.std.proofs.Common.{◌≡◌, ◌∙◌, ◌++◌, ◌+◌, ◌⊎◌
 use Rattle.xet_hash.specs.declared.error.StoreError.{StoreError}
 use Rattle.xet_hash.specs.declared.error.StoreError.TheVariants.{Io}
 use Rattle.xet_hash.specs.declared.error.Place.TheVariants.{Input}
-use Rattle.xet_xorb_chunk.specs.Outside.{StopsWriting}
+use Rattle.xet_codec.specs.Stops.{StopsWriting}
 use Rattle.xet_xorb_chunk.specs.Passing.{RefusesMore}
 use Rattle.xet_xorb_chunk.specs.Stream.{Decodes}
 use Rattle.xet_base.specs.theorems.Exits.{exit_with}

@@ -1,5 +1,5 @@
 use Rattle.std.proofs.Common.{◌≡◌, ◌∙◌, ◌+◌, ◌-◌, List, ap, arith, drop, false, length, refl, take, true, ℕ}
-use Rattle.xet_xorb_footer.specs.Places.{Sees}
+use Rattle.xet_codec.specs.Blocks.{Sees}
 use Rattle.xet_xorb.proofs.Validated.{ending_found, ending_stands, told_of}
 use Rattle.xet_xorb.proofs.validation.checked_object.Goals as goal
 

@@ -1,5 +1,5 @@
 use Rattle.std.proofs.Common.{◌≡◌, ◌≤◌, ◌∙◌, ◌+◌, arith, drop, length, refl, sym, take}
-use Rattle.xet_xorb_footer.specs.Places.{Sees}
+use Rattle.xet_codec.specs.Blocks.{Sees}
 use Rattle.xet_xorb.proofs.Checked.{digested, header_same, header_shown, stands}
 use Rattle.xet_xorb.proofs.validation.member_at.Goals as goal
 

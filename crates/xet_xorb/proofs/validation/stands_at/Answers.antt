@@ -1,5 +1,5 @@
 use Rattle.std.proofs.Common.{◌∙◌, arith, refl, rules}
-use Rattle.xet_xorb_footer.specs.Places.{Sees}
+use Rattle.xet_codec.specs.Blocks.{Sees}
 use Rattle.xet_xorb.proofs.Checked.{piece_more, piece_same}
 use Rattle.xet_xorb.proofs.validation.stands_at.Goals as goal
 

@@ -1,6 +1,6 @@
 use Rattle.std.proofs.Common.{◌≡◌, ◌+◌, ◌-◌, ◌≤◌, List, drop, length, take, ℕ}
 use Rattle.xet_io.specs.Faults.{HasCause}
-use Rattle.xet_xorb_footer.specs.Places.{IsPart, Sees}
+use Rattle.xet_codec.specs.Blocks.{IsPart, Sees}
 use Rattle.xet_xorb.proofs.validation.stands_at.Given as goal
 
 abbrev pub invariant-pieces : goal.invariant-pieces

@@ -1,5 +1,5 @@
 use Rattle.std.proofs.Common.{◌∙◌, arith, refl}
-use Rattle.xet_xorb_footer.specs.Places.{Sees}
+use Rattle.xet_codec.specs.Blocks.{Sees}
 use Rattle.xet_xorb.proofs.Checked.{next_stands, one_more, total_more}
 use Rattle.xet_xorb.proofs.validation.stored_members.Goals as goal
 

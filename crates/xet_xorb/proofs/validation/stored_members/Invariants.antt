@@ -1,6 +1,6 @@
 use Rattle.std.proofs.Common.{◌≡◌, ◌+◌, ◌*◌, ◌-◌, ◌≤◌, List, length, take, ℕ}
 use Rattle.xet_io.specs.Faults.{HasCause}
-use Rattle.xet_xorb_footer.specs.Places.{IsPart, Sees}
+use Rattle.xet_codec.specs.Blocks.{IsPart, Sees}
 use Rattle.xet_hash.specs.Merkle.{total_len}
 use Rattle.xet_xorb.specs.Checking.{HaveMembers}
 use Rattle.xet_xorb.proofs.validation.stored_members.Given as goal

@@ -1,6 +1,6 @@
 use Rattle.std.proofs.Common.{◌≡◌, ◌∙◌, ◌⊎◌, Err, ap, arith, inl, length, sym}
 use Rattle.xet_hash.specs.declared.error.StoreError.{StoreError}
-use Rattle.xet_xorb_chunk.specs.Outside.{StopsReading}
+use Rattle.xet_codec.specs.Stops.{StopsReading}
 use Rattle.xet_xorb_chunk.specs.Stream.{chunk_at, chunk_in}
 use Rattle.xet_base.specs.theorems.Exits.{exit_with}
 use Rattle.xet_xorb_chunk.proofs.Checks.{left_of}

@@ -1,6 +1,6 @@
 use Rattle.std.proofs.Common.{◌∙◌, arith, inl, rules, sym}
 use Rattle.xet_hash.specs.declared.error.Place.TheVariants.{Input}
-use Rattle.xet_xorb_chunk.specs.Outside.{StopsReading}
+use Rattle.xet_codec.specs.Stops.{StopsReading}
 use Rattle.xet_xorb_chunk.specs.Taking.{TakesFailedHeader}
 use Rattle.xet_base.specs.theorems.Exits.{exit_with}
 use Rattle.xet_xorb_chunk.proofs.Checks.{header_in_checks, no_failure, refused_as}

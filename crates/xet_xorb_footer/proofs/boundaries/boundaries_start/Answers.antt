@@ -1,6 +1,6 @@
 use Rattle.std.proofs.Common.{◌∙◌, ◌+◌, ◌-◌, ◌≤◌, List, ap, arith, drop, inl, inr, length, take, ℕ}
 use Rattle.xet_xorb_footer.specs.Ends.{last_boundaries}
-use Rattle.xet_xorb_footer.specs.Places.{RefusedBy}
+use Rattle.xet_codec.specs.Blocks.{RefusedBy}
 use Rattle.xet_base.specs.theorems.Exits.{exit_with}
 use Rattle.xet_xorb_footer.proofs.Sections.{begins_at, begins_before, last_few, start_is, told_is}
 use Rattle.xet_xorb_footer.proofs.boundaries.boundaries_start.Goals as goal

@@ -1,5 +1,5 @@
 use Rattle.std.proofs.Common.{drop, inl}
-use Rattle.xet_xorb_footer.specs.Places.{RefusedBy}
+use Rattle.xet_codec.specs.Blocks.{RefusedBy}
 use Rattle.xet_xorb_footer.specs.Reading.{number_is}
 use Rattle.xet_base.specs.theorems.Exits.{exit_with}
 use Rattle.xet_xorb_footer.proofs.Placing.{number_differs, number_fits, number_unread}

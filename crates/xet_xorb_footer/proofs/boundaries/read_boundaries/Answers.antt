@@ -1,7 +1,7 @@
 use Rattle.std.proofs.Common.{◌≡◌, ◌∙◌, ◌+◌, ◌*◌, Ok, ap, arith, drop}
 use Rattle.xet_xorb_footer.specs.declared.info.XorbObjectInfoV1.{XorbObjectInfoV1}
 use Rattle.xet_xorb_footer.specs.Ends.{boundaries}
-use Rattle.xet_xorb_footer.specs.Places.{RefusedBy}
+use Rattle.xet_codec.specs.Blocks.{RefusedBy}
 use Rattle.xet_base.specs.theorems.Exits.{exit_with}
 use Rattle.xet_xorb_footer.proofs.Placing.{sees_first, sees_on}
 use Rattle.xet_xorb_footer.proofs.Sections.{all_parts, at_place, filled_info, unread_head, unread_lists, unread_tail, whole_info}

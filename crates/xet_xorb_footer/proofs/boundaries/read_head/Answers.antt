@@ -1,5 +1,6 @@
 use Rattle.std.proofs.Common.{◌≡◌, ◌∙◌, ◌+◌, arith, drop, inl}
-use Rattle.xet_xorb_footer.specs.Places.{RefusedBy, head_at}
+use Rattle.xet_codec.specs.Blocks.{RefusedBy}
+use Rattle.xet_xorb_footer.specs.Places.{head_at}
 use Rattle.xet_base.specs.theorems.Exits.{exit_with}
 use Rattle.xet_xorb_footer.proofs.Placing.{sees_on}
 use Rattle.xet_xorb_footer.proofs.Sections.{at_place, count_few, count_many, count_unread, head_from, head_ident, head_version, refused_as}

@@ -1,5 +1,6 @@
 use Rattle.std.proofs.Common.{◌≡◌, ◌+◌, ◌*◌, arith, drop}
-use Rattle.xet_xorb_footer.specs.Places.{RefusedBy, lists_at}
+use Rattle.xet_codec.specs.Blocks.{RefusedBy}
+use Rattle.xet_xorb_footer.specs.Places.{lists_at}
 use Rattle.xet_base.specs.theorems.Exits.{exit_with}
 use Rattle.xet_xorb_footer.proofs.Placing.{sees_on}
 use Rattle.xet_xorb_footer.proofs.Sections.{at_place, ends_unread, lists_are, plain_unread}

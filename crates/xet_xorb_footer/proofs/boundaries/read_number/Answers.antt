@@ -1,6 +1,6 @@
 use Rattle.std.proofs.Common.{◌+◌, drop}
-use Rattle.xet_xorb_footer.specs.Places.{RefusedBy}
-use Rattle.xet_xorb_footer.specs.Reading.{number_at}
+use Rattle.xet_codec.specs.Blocks.{RefusedBy}
+use Rattle.xet_codec.specs.Parsing.{number_at}
 use Rattle.xet_xorb_footer.proofs.Endings.{field_then}
 use Rattle.xet_base.specs.theorems.Exits.{exit_with}
 use Rattle.xet_xorb_footer.specs.theorems.Fronts.{number_short}

@@ -1,7 +1,7 @@
 use Rattle.std.proofs.Common.{◌≡◌, ◌∙◌, ◌+◌, ◌-◌, ◌*◌, ◌<◌, ◌≤◌, Ok, ap, arith, drop, inl, length, length-drop, min, refl, sym, ℕ}
 use Rattle.std.specs.Int.{w32, from_le_bytes}
-use Rattle.xet_xorb_footer.specs.Places.{RefusedBy}
-use Rattle.xet_xorb_footer.specs.Reading.{number_at, times}
+use Rattle.xet_codec.specs.Blocks.{RefusedBy}
+use Rattle.xet_codec.specs.Parsing.{number_at, times}
 use Rattle.xet_xorb_footer.proofs.Endings.{field_then}
 use Rattle.xet_base.specs.theorems.Exits.{exit_with}
 use Rattle.xet_xorb_footer.specs.theorems.Fronts.{a_number, times_short}

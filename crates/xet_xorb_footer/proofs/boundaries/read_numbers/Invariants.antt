@@ -1,6 +1,6 @@
 use Rattle.std.proofs.Common.{◌≡◌, ◌≤◌, ◌+◌, ◌-◌, ◌*◌, ◌++◌, List, Ok, drop, length, ℕ}
-use Rattle.xet_xorb_footer.specs.Places.{IsPart, Sees}
-use Rattle.xet_xorb_footer.specs.Reading.{◌>>=◌, number_at, times}
+use Rattle.xet_codec.specs.Blocks.{IsPart, Sees}
+use Rattle.xet_codec.specs.Parsing.{◌>>=◌, number_at, times}
 use Rattle.xet_xorb_footer.proofs.boundaries.read_numbers.Given as goal
 
 abbrev pub invariant-numbers : goal.invariant-numbers

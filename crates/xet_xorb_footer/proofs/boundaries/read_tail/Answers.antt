@@ -1,6 +1,7 @@
 use Rattle.std.proofs.Common.{◌≡◌, ◌∙◌, ◌+◌, List, Ok, ap, arith, drop, sym, ℕ}
-use Rattle.xet_xorb_footer.specs.Places.{RefusedBy, tail_at}
-use Rattle.xet_xorb_footer.specs.Reading.{bytes_at}
+use Rattle.xet_codec.specs.Blocks.{RefusedBy}
+use Rattle.xet_xorb_footer.specs.Places.{tail_at}
+use Rattle.xet_codec.specs.Parsing.{bytes_at}
 use Rattle.xet_xorb_footer.proofs.Endings.{field_then}
 use Rattle.xet_base.specs.theorems.Exits.{exit_with}
 use Rattle.xet_xorb_footer.specs.theorems.Fronts.{bytes_short}

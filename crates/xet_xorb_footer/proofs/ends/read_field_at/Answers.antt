@@ -1,5 +1,5 @@
 use Rattle.std.proofs.Common.{◌∙◌, ◌+◌, List, ap, drop, ℕ}
-use Rattle.xet_xorb_footer.specs.Places.{RefusedBy}
+use Rattle.xet_codec.specs.Blocks.{RefusedBy}
 use Rattle.xet_xorb_footer.specs.Reader.{parts_of, rest_of}
 use Rattle.xet_xorb_footer.proofs.Endings.{field_refused, field_then}
 use Rattle.xet_base.specs.theorems.Exits.{exit_with}

@@ -1,6 +1,6 @@
 use Rattle.std.proofs.Common.{◌≡◌, ◌≤◌, drop, length, true}
 use Rattle.xet_xorb_footer.specs.Machine.{IsSettled}
-use Rattle.xet_xorb_footer.specs.Places.{IsPart}
+use Rattle.xet_codec.specs.Blocks.{IsPart}
 use Rattle.xet_xorb_footer.specs.Reader.{bytes_left, parts_of, rest_of}
 use Rattle.xet_xorb_footer.proofs.ends.read_fields_at.Given as goal
 

@@ -1,10 +1,10 @@
 use Rattle.std.proofs.Common.{◌≡◌, ◌∙◌, ◌*◌, ◌++◌, List, ap, length, refl, rules, subst, sym, ℕ}
 use Rattle.std.proofs.lemmas.Result.{on_err_weaker, on_ok_weaker}
-use Rattle.xet_xorb_footer.specs.Held.{held_in}
-use Rattle.xet_xorb_footer.specs.Spelled.{joined, numbers}
-use Rattle.xet_xorb_footer.specs.Written.{Front, Moves}
+use Rattle.xet_codec.specs.Held.{held_in}
+use Rattle.xet_codec.specs.Numbers.{joined, numbers}
+use Rattle.xet_codec.specs.Written.{WritesPrefix, Moves}
 use Rattle.xet_base.specs.theorems.Exits.{exit_on}
-use Rattle.xet_xorb_footer.proofs.Moving.{on_ok, pad_behind, then, then_front}
+use Rattle.xet_codec.specs.theorems.Buffering.{on_ok, pad_behind, then, then_front}
 use Rattle.xet_xorb_footer.proofs.Texts.{head_v0, parts_v0}
 use Rattle.xet_xorb_footer.specs.theorems.Texts.{length_v0}
 use Rattle.xet_xorb_footer.proofs.writing.put_v0.Goals as goal
@@ -16,7 +16,7 @@ returns-in_err-put_all-clause-front g c = λ told.
     let head : List ℕ = head_v0 i c.as_bytes.result.now c.to_le_bytes-count.result in
     let text = parts_v0 i c.as_bytes.result.now c.to_le_bytes-count.result i.chunk_boundary_offsets i.chunk_hashes c.as_bytes.ensures c.to_le_bytes-count.ensures refl refl in
     exit_on _ _ c.from_residual.ensures.1
-    (subst (λ (t : List ℕ). Front (g.W.Sink.written c.args.sink.now) (g.W.Sink.written c.put_all.new.sink) (h0 ++ t)) text
+    (subst (λ (t : List ℕ). WritesPrefix (g.W.Sink.written c.args.sink.now) (g.W.Sink.written c.put_all.new.sink) (h0 ++ t)) text
     (pad_behind h0 head (numbers i.chunk_boundary_offsets ++ (joined i.chunk_hashes ++ i.spare)) (c.in_err-put_all.ensures.front told)))
 
 pub returns-in_err-put_numbers-clause-front : goal.returns-in_err-put_numbers-clause-front
@@ -27,7 +27,7 @@ returns-in_err-put_numbers-clause-front g c = λ told.
     let text = parts_v0 i c.as_bytes.result.now c.to_le_bytes-count.result c.as_slice.result.now i.chunk_hashes c.as_bytes.ensures c.to_le_bytes-count.ensures c.as_slice.ensures refl in
     let s1 = c.in_ok-put_all.ensures in
     exit_on _ _ c.from_residual-in_err-put_numbers.ensures.1
-    (subst (λ (t : List ℕ). Front (g.W.Sink.written c.args.sink.now) (g.W.Sink.written c.put_numbers.new.sink) (h0 ++ t)) text
+    (subst (λ (t : List ℕ). WritesPrefix (g.W.Sink.written c.args.sink.now) (g.W.Sink.written c.put_numbers.new.sink) (h0 ++ t)) text
     (then_front h0 head _ (s1.moved told) (pad_behind _ (numbers c.as_slice.result.now) (joined i.chunk_hashes ++ i.spare) (c.in_err-put_numbers.ensures.front (s1.tells ∙ told)))))
 
 pub returns-in_err-put_hashes-clause-front : goal.returns-in_err-put_hashes-clause-front
@@ -39,7 +39,7 @@ returns-in_err-put_hashes-clause-front g c = λ told.
     let s1 = c.in_ok-put_all.ensures in
     let s2 = c.in_ok-put_numbers.ensures in
     exit_on _ _ c.from_residual-in_err-put_hashes.ensures.1
-    (subst (λ (t : List ℕ). Front (g.W.Sink.written c.args.sink.now) (g.W.Sink.written c.put_hashes.new.sink) (h0 ++ t)) text
+    (subst (λ (t : List ℕ). WritesPrefix (g.W.Sink.written c.args.sink.now) (g.W.Sink.written c.put_hashes.new.sink) (h0 ++ t)) text
     (then_front h0 head _ (s1.moved told)
     (then_front _ (numbers c.as_slice.result.now) _ (s2.moved (s1.tells ∙ told)) (pad_behind _ (joined c.as_slice-2.result.now) i.spare (c.in_err-put_hashes.ensures.front (s2.tells ∙ s1.tells ∙ told))))))
 
@@ -67,7 +67,7 @@ returns-clause-front g c = λ told.
     let s2 = c.in_ok-put_numbers.ensures in
     let s3 = c.in_ok-put_hashes.ensures in
     on_err_weaker c.put.result
-    (λ m. subst (λ (t : List ℕ). Front (g.W.Sink.written c.args.sink.now) (g.W.Sink.written c.put.new.sink) (h0 ++ t)) text
+    (λ m. subst (λ (t : List ℕ). WritesPrefix (g.W.Sink.written c.args.sink.now) (g.W.Sink.written c.put.new.sink) (h0 ++ t)) text
     (then_front h0 head _ (s1.moved told) (then_front _ (numbers c.as_slice.result.now) _ (s2.moved (s1.tells ∙ told)) (then_front _ (joined c.as_slice-2.result.now) i.spare (s3.moved (s2.tells ∙ s1.tells ∙ told)) m))))
     (c.put.ensures.front (s3.tells ∙ s2.tells ∙ s1.tells ∙ told))
 

@@ -1,10 +1,10 @@
 use Rattle.std.proofs.Common.{◌≡◌, ◌∙◌, ◌*◌, ◌++◌, List, ap, length, refl, rules, subst, sym, ℕ}
 use Rattle.std.proofs.lemmas.Result.{on_err_weaker, on_ok_weaker}
-use Rattle.xet_xorb_footer.specs.Held.{held_in}
-use Rattle.xet_xorb_footer.specs.Spelled.{joined, numbers}
-use Rattle.xet_xorb_footer.specs.Written.{Front, Moves}
+use Rattle.xet_codec.specs.Held.{held_in}
+use Rattle.xet_codec.specs.Numbers.{joined, numbers}
+use Rattle.xet_codec.specs.Written.{WritesPrefix, Moves}
 use Rattle.xet_base.specs.theorems.Exits.{exit_on}
-use Rattle.xet_xorb_footer.proofs.Moving.{on_ok, pad_behind, then, then_front}
+use Rattle.xet_codec.specs.theorems.Buffering.{on_ok, pad_behind, then, then_front}
 use Rattle.xet_xorb_footer.proofs.Texts.{end_v1, head_v1, middle_v1, parts_v1}
 use Rattle.xet_xorb_footer.specs.theorems.Texts.{length_v1}
 use Rattle.xet_xorb_footer.proofs.writing.put_v1.Goals as goal
@@ -16,7 +16,7 @@ returns-in_err-put_all-clause-front g c = λ told.
     let count : List ℕ = c.to_le_bytes-count.result in
     let text = parts_v1 i c.as_bytes-hash.result.now count i.chunk_hashes i.chunk_boundary_offsets i.unpacked_chunk_offsets c.to_le_bytes-hashes_at.result c.to_le_bytes-boundaries_at.result c.as_bytes-hash.ensures c.to_le_bytes-count.ensures refl refl refl c.to_le_bytes-hashes_at.ensures c.to_le_bytes-boundaries_at.ensures in
     exit_on _ _ c.from_residual.ensures.1
-    (subst (λ (t : List ℕ). Front (g.W.Sink.written c.args.sink.now) (g.W.Sink.written c.put_all.new.sink) (h0 ++ t)) text
+    (subst (λ (t : List ℕ). WritesPrefix (g.W.Sink.written c.args.sink.now) (g.W.Sink.written c.put_all.new.sink) (h0 ++ t)) text
     (pad_behind h0 (head_v1 i c.as_bytes-hash.result.now count) (joined i.chunk_hashes ++ (middle_v1 i count ++ (numbers i.chunk_boundary_offsets ++ (numbers i.unpacked_chunk_offsets ++ (end_v1 i count c.to_le_bytes-hashes_at.result c.to_le_bytes-boundaries_at.result))))) (c.in_err-put_all.ensures.front told)))
 
 pub returns-in_err-put_hashes-clause-front : goal.returns-in_err-put_hashes-clause-front
@@ -28,7 +28,7 @@ returns-in_err-put_hashes-clause-front g c = λ told.
     let s1 = c.in_ok-put_all.ensures in
     let t1 = s1.tells ∙ told in
     exit_on _ _ c.from_residual-in_err-put_hashes.ensures.1
-    (subst (λ (t : List ℕ). Front (g.W.Sink.written c.args.sink.now) (g.W.Sink.written c.put_hashes.new.sink) (h0 ++ t)) text
+    (subst (λ (t : List ℕ). WritesPrefix (g.W.Sink.written c.args.sink.now) (g.W.Sink.written c.put_hashes.new.sink) (h0 ++ t)) text
     (then_front h0 (head_v1 i c.as_bytes-hash.result.now count) _ (s1.moved told) (pad_behind _ (joined c.as_slice.result.now) (middle_v1 i count ++ (numbers i.chunk_boundary_offsets ++ (numbers i.unpacked_chunk_offsets ++ (end_v1 i count c.to_le_bytes-hashes_at.result c.to_le_bytes-boundaries_at.result)))) (c.in_err-put_hashes.ensures.front t1))))
 
 pub returns-in_err-put_all-2-clause-front : goal.returns-in_err-put_all-2-clause-front
@@ -42,7 +42,7 @@ returns-in_err-put_all-2-clause-front g c = λ told.
     let s2 = c.in_ok-put_hashes.ensures in
     let t2 = s2.tells ∙ t1 in
     exit_on _ _ c.from_residual-in_err-put_all-2.ensures.1
-    (subst (λ (t : List ℕ). Front (g.W.Sink.written c.args.sink.now) (g.W.Sink.written c.put_all-2.new.sink) (h0 ++ t)) text
+    (subst (λ (t : List ℕ). WritesPrefix (g.W.Sink.written c.args.sink.now) (g.W.Sink.written c.put_all-2.new.sink) (h0 ++ t)) text
     (then_front h0 (head_v1 i c.as_bytes-hash.result.now count) _ (s1.moved told) (then_front _ (joined c.as_slice.result.now) _ (s2.moved t1) (pad_behind _ (middle_v1 i count) (numbers i.chunk_boundary_offsets ++ (numbers i.unpacked_chunk_offsets ++ (end_v1 i count c.to_le_bytes-hashes_at.result c.to_le_bytes-boundaries_at.result))) (c.in_err-put_all-2.ensures.front t2)))))
 
 pub returns-in_err-put_numbers-clause-front : goal.returns-in_err-put_numbers-clause-front
@@ -58,7 +58,7 @@ returns-in_err-put_numbers-clause-front g c = λ told.
     let s3 = c.in_ok-put_all-2.ensures in
     let t3 = s3.tells ∙ t2 in
     exit_on _ _ c.from_residual-in_err-put_numbers.ensures.1
-    (subst (λ (t : List ℕ). Front (g.W.Sink.written c.args.sink.now) (g.W.Sink.written c.put_numbers.new.sink) (h0 ++ t)) text
+    (subst (λ (t : List ℕ). WritesPrefix (g.W.Sink.written c.args.sink.now) (g.W.Sink.written c.put_numbers.new.sink) (h0 ++ t)) text
     (then_front h0 (head_v1 i c.as_bytes-hash.result.now count) _ (s1.moved told) (then_front _ (joined c.as_slice.result.now) _ (s2.moved t1) (then_front _ (middle_v1 i count) _ (s3.moved t2) (pad_behind _ (numbers c.as_slice-2.result.now) (numbers i.unpacked_chunk_offsets ++ (end_v1 i count c.to_le_bytes-hashes_at.result c.to_le_bytes-boundaries_at.result)) (c.in_err-put_numbers.ensures.front t3))))))
 
 pub returns-in_err-put_numbers-2-clause-front : goal.returns-in_err-put_numbers-2-clause-front
@@ -76,7 +76,7 @@ returns-in_err-put_numbers-2-clause-front g c = λ told.
     let s4 = c.in_ok-put_numbers.ensures in
     let t4 = s4.tells ∙ t3 in
     exit_on _ _ c.from_residual-in_err-put_numbers-2.ensures.1
-    (subst (λ (t : List ℕ). Front (g.W.Sink.written c.args.sink.now) (g.W.Sink.written c.put_numbers-2.new.sink) (h0 ++ t)) text
+    (subst (λ (t : List ℕ). WritesPrefix (g.W.Sink.written c.args.sink.now) (g.W.Sink.written c.put_numbers-2.new.sink) (h0 ++ t)) text
     (then_front h0 (head_v1 i c.as_bytes-hash.result.now count) _ (s1.moved told) (then_front _ (joined c.as_slice.result.now) _ (s2.moved t1) (then_front _ (middle_v1 i count) _ (s3.moved t2) (then_front _ (numbers c.as_slice-2.result.now) _ (s4.moved t3) (pad_behind _ (numbers c.as_slice-3.result.now) (end_v1 i count c.to_le_bytes-hashes_at.result c.to_le_bytes-boundaries_at.result) (c.in_err-put_numbers-2.ensures.front t4)))))))
 
 pub returns-clause-moved : goal.returns-clause-moved
@@ -117,7 +117,7 @@ returns-clause-front g c = λ told.
     let s5 = c.in_ok-put_numbers-2.ensures in
     let t5 = s5.tells ∙ t4 in
     on_err_weaker c.put_all-3.result
-    (λ m. subst (λ (t : List ℕ). Front (g.W.Sink.written c.args.sink.now) (g.W.Sink.written c.put_all-3.new.sink) (h0 ++ t)) text
+    (λ m. subst (λ (t : List ℕ). WritesPrefix (g.W.Sink.written c.args.sink.now) (g.W.Sink.written c.put_all-3.new.sink) (h0 ++ t)) text
     (then_front h0 (head_v1 i c.as_bytes-hash.result.now count) _ (s1.moved told) (then_front _ (joined c.as_slice.result.now) _ (s2.moved t1) (then_front _ (middle_v1 i count) _ (s3.moved t2) (then_front _ (numbers c.as_slice-2.result.now) _ (s4.moved t3) (then_front _ (numbers c.as_slice-3.result.now) (end_v1 i count c.to_le_bytes-hashes_at.result c.to_le_bytes-boundaries_at.result) (s5.moved t4) m))))))
     (c.put_all-3.ensures.front t5)
 

@@ -1,5 +1,5 @@
 use Rattle.std.proofs.Common.{◌∙◌}
-use Rattle.xet_xorb_footer.proofs.Moving.{flushed, flushed_front}
+use Rattle.xet_codec.specs.theorems.Buffering.{flushed, flushed_front}
 use Rattle.xet_xorb_footer.proofs.writing.write_v1.Goals as goal
 
 pub returns-in_err-flush-clause-front : goal.returns-in_err-flush-clause-front

@@ -3,7 +3,7 @@ use Rattle.xet_hash.specs.declared.error.StoreError.{StoreError}
 use Rattle.xet_shard_format.specs.declared.record.FileDataSequenceEntry.{FileDataSequenceEntry}
 use Rattle.xet_shard.specs.Bisection.{AnswersAt}
 use Rattle.xet_shard.specs.Queries.{chunk_table, query_word, run_of_word}
-use Rattle.xet_shard_format.specs.Reading.{GivesUnlessFault}
+use Rattle.xet_codec.specs.Parsing.{GivesUnlessFault}
 use Rattle.xet_shard.proofs.Asking.{first_is, run_first, run_none_first}
 use Rattle.xet_shard.proofs.Bisecting.{some_index}
 use Rattle.xet_shard.proofs.info.MDBShardInfo.chunk_hash_dedup_query.Goals as goal

@@ -3,7 +3,7 @@ use Rattle.std.proofs.lemmas.Result.{err_from_is_err_and}
 use Rattle.xet_hash.specs.declared.error.StoreError.{StoreError}
 use Rattle.xet_shard_format.specs.declared.record.FileDataSequenceEntry.{FileDataSequenceEntry}
 use Rattle.xet_shard.specs.Queries.{run_in, xorb_table}
-use Rattle.xet_shard_format.specs.Reading.{GivesUnlessFault}
+use Rattle.xet_codec.specs.Parsing.{GivesUnlessFault}
 use Rattle.xet_shard.proofs.Asking.{told_by, told_empty, told_fails}
 use Rattle.xet_shard.proofs.Bisecting.{some_index}
 use Rattle.xet_shard.proofs.info.MDBShardInfo.chunk_hash_dedup_query_direct.Goals as goal

@@ -5,7 +5,7 @@ use Rattle.std.proofs.lemmas.Result.{err_from_is_err_and}
 use Rattle.xet_shard_format.specs.declared.record.MDBFileInfo.{MDBFileInfo}
 use Rattle.xet_shard.specs.Bisection.{Bisects}
 use Rattle.xet_shard.specs.Queries.{file_table, first_file, rows_of}
-use Rattle.xet_shard_format.specs.Reading.{GivesUnlessFault}
+use Rattle.xet_codec.specs.Parsing.{GivesUnlessFault}
 use Rattle.xet_shard_format.specs.Records.{first_word}
 use Rattle.xet_shard.proofs.Asking.{found_by, found_fails, found_many, rows_count}
 use Rattle.xet_shard.proofs.info.MDBShardInfo.get_file_reconstruction_info.Goals as goal

@@ -1,5 +1,5 @@
 use Rattle.std.proofs.Common.{◌∙◌, List, ap, length, subst, sym, ℕ}
-use Rattle.xet_shard_format.specs.Reading.{IsUnlessFault}
+use Rattle.xet_codec.specs.Parsing.{IsUnlessFault}
 use Rattle.xet_shard.specs.Sections.{info_at}
 use Rattle.xet_shard_format.specs.theorems.Refusing.{is_unless_fault}
 use Rattle.xet_shard.proofs.info.MDBShardInfo.load_from_reader.Goals as goal

@@ -5,7 +5,7 @@ use Rattle.std.proofs.lemmas.Result.{err_from_is_err_and}
 use Rattle.xet_hash.specs.declared.error.StoreError.{StoreError}
 use Rattle.xet_shard_format.specs.declared.record.MDBFileInfo.{MDBFileInfo}
 use Rattle.xet_shard.specs.ReaderBytes.{piece_at}
-use Rattle.xet_shard_format.specs.Reading.{GivesUnlessFault}
+use Rattle.xet_codec.specs.Parsing.{GivesUnlessFault}
 use Rattle.xet_shard.proofs.Faulting.{piece_there}
 use Rattle.xet_shard.proofs.OneRecord.{by_piece, stops}
 use Rattle.xet_shard_format.specs.theorems.RowLaws.{ok_is}

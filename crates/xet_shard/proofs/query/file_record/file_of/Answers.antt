@@ -2,7 +2,8 @@ use Rattle.std.proofs.Common.{subst, List}
 use Rattle.xet_hash.specs.declared.error.Place.TheVariants.{Input}
 use Rattle.xet_shard_format.specs.declared.row.Row.{Row}
 use Rattle.xet_shard.specs.Queries.{file_after}
-use Rattle.xet_shard_format.specs.Reading.{GivesUnlessFault, file_at}
+use Rattle.xet_codec.specs.Parsing.{GivesUnlessFault}
+use Rattle.xet_shard_format.specs.Reading.{file_at}
 use Rattle.xet_shard_format.specs.Records.{IsFile}
 use Rattle.xet_shard_format.specs.theorems.Finding.{given_ok}
 use Rattle.xet_shard.proofs.OneRecord.{alone_gives}

@@ -2,7 +2,7 @@ use Rattle.std.proofs.Common.{◌∙◌, [], ◌∷◌, ℕ, List, Option, Ok, E
 use Rattle.std.proofs.lemmas.Result.{err_from_is_err_and}
 use Rattle.xet_shard_format.specs.declared.record.MDBFileInfo.{MDBFileInfo}
 use Rattle.xet_shard.specs.Queries.{first_file, rows_of}
-use Rattle.xet_shard_format.specs.Reading.{GivesUnlessFault}
+use Rattle.xet_codec.specs.Parsing.{GivesUnlessFault}
 use Rattle.xet_shard_format.specs.Records.{first_word}
 use Rattle.xet_shard.proofs.Asking.{item_fails, item_none, item_some, items_done}
 use Rattle.xet_shard.proofs.query.reader.first_file.Goals as goal

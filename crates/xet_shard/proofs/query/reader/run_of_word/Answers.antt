@@ -3,7 +3,7 @@ use Rattle.std.proofs.lemmas.Result.{err_from_is_err_and}
 use Rattle.xet_hash.specs.declared.error.StoreError.{StoreError}
 use Rattle.xet_shard_format.specs.declared.record.FileDataSequenceEntry.{FileDataSequenceEntry}
 use Rattle.xet_shard.specs.Queries.{run_in}
-use Rattle.xet_shard_format.specs.Reading.{GivesUnlessFault}
+use Rattle.xet_codec.specs.Parsing.{GivesUnlessFault}
 use Rattle.xet_shard.proofs.Asking.{run_by, run_by_fails}
 use Rattle.xet_shard.proofs.query.reader.run_of_word.Goals as goal
 

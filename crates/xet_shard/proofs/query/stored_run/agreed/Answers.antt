@@ -1,7 +1,7 @@
 use Rattle.std.proofs.Common.{◌∙◌, Err, List, ap, arith, drop, length, map, subst, sym, ℕ}
 use Rattle.std.proofs.lemmas.Result.{err_from_is_err_and}
 use Rattle.xet_shard.specs.Queries.{kept_hash}
-use Rattle.xet_shard_format.specs.Reading.{GivesUnlessFault}
+use Rattle.xet_codec.specs.Parsing.{GivesUnlessFault}
 use Rattle.xet_shard_format.specs.Rows.{rows_in}
 use Rattle.xet_shard.proofs.Agreeing.{Agreed, block_agrees, block_differs, block_fails, block_is, query_ends, rows_end}
 use Rattle.xet_shard_format.specs.theorems.RowList.{length-rows_in}

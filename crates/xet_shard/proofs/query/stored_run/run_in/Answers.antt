@@ -3,7 +3,7 @@ use Rattle.std.proofs.lemmas.Result.{err_from_is_err_and}
 use Rattle.xet_hash.specs.declared.error.StoreError.{StoreError}
 use Rattle.xet_shard_format.specs.declared.record.FileDataSequenceEntry.{FileDataSequenceEntry}
 use Rattle.xet_shard.specs.Queries.{kept_hash, read_in_row, rows_from}
-use Rattle.xet_shard_format.specs.Reading.{GivesUnlessFault}
+use Rattle.xet_codec.specs.Parsing.{GivesUnlessFault}
 use Rattle.xet_shard.specs.Runs.{run_after}
 use Rattle.xet_shard.proofs.OneRecord.{from_row, in_row_fails}
 use Rattle.xet_shard.proofs.PartLaws.{count_fails, counted}

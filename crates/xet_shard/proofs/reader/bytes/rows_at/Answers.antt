@@ -1,5 +1,5 @@
 use Rattle.std.proofs.Common.{subst, arith}
-use Rattle.xet_shard_format.specs.Reading.{GivesUnlessFault}
+use Rattle.xet_codec.specs.Parsing.{GivesUnlessFault}
 use Rattle.xet_shard.proofs.Faulting.{rows_few, rows_many}
 use Rattle.xet_shard.proofs.reader.bytes.rows_at.Goals as goal
 

@@ -1,7 +1,8 @@
 use Rattle.std.proofs.Common.{Err, ◌∙◌, List, ap, length, subst, sym, ℕ}
 use Rattle.std.proofs.lemmas.Result.{err_from_is_err_and}
 use Rattle.xet_shard_format.specs.declared.header_footer.MDBShardFileFooter.{MDBShardFileFooter}
-use Rattle.xet_shard_format.specs.Reading.{GivesUnlessFault, footer_at}
+use Rattle.xet_codec.specs.Parsing.{GivesUnlessFault}
+use Rattle.xet_shard_format.specs.Reading.{footer_at}
 use Rattle.xet_shard.proofs.Faulting.{info_ends, info_fails, info_of}
 use Rattle.xet_shard.proofs.reader.sections.load.Goals as goal
 

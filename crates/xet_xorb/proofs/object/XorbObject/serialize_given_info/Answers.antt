@@ -1,5 +1,6 @@
 use Rattle.std.proofs.Common.{◌∙◌, ◌+◌, ◌++◌, List, ap, length, take, ℕ}
-use Rattle.xet_xorb_footer.specs.Spelled.{length_of, number, text_v1}
+use Rattle.xet_xorb_footer.specs.Spelled.{length_of, text_v1}
+use Rattle.xet_codec.specs.Numbers.{number}
 use Rattle.xet_base.specs.theorems.Written.{front_of_first, written_then}
 use Rattle.xet_xorb.proofs.object.XorbObject.serialize_given_info.Goals as goal
 

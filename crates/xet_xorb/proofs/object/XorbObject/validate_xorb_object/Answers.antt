@@ -1,6 +1,6 @@
 use Rattle.std.proofs.Common.{◌≡◌, ◌∙◌, ◌<◌, ◌^◌, List, Ok, arith, drop, false, length, refl, subst, sym, take, true, ℕ}
 use Rattle.xet_xorb_footer.specs.Ends.{last_footer}
-use Rattle.xet_xorb_footer.specs.Places.{Sees}
+use Rattle.xet_codec.specs.Blocks.{Sees}
 use Rattle.xet_xorb.specs.declared.object.XorbObject.{XorbObject}
 use Rattle.xet_xorb.specs.Checking.{IsEnding}
 use Rattle.xet_xorb.specs.Validation.{IsValid, IsXorbOf}

@@ -1,0 +1,6 @@
+-- What a buffer holds back.
+use Rattle.std.specs.Prelude.{ℕ, List, take}
+use Rattle.xet_codec.specs.declared.buffer.Buffer.{Buffer}
+
+abbrev pub held_in : Buffer → List ℕ
+held_in b = take b.used b.bytes

@@ -1,0 +1,7 @@
+pub mod Blocks
+pub mod Held
+pub mod Numbers
+pub mod Parsing
+pub mod Stops
+pub mod Written
+pub mod theorems

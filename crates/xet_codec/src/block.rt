@@ -1,0 +1,144 @@
+//! Bytes of a reader that are read at once, and then taken field by field.
+
+ghost use Rattle.std.specs.Prelude.{◌≡◌, ◌≤◌, ◌<◌, ◌+◌, ◌^◌, ◌⊎◌, ◌↔◌, List, ℕ, true, IfErr, IsErrOf, IsTrue, OnOk, drop, length, take};
+ghost use Rattle.xet_hash.specs.declared.error.Place.TheVariants.{Input};
+ghost use Rattle.xet_hash.specs.declared.error.StoreError.TheVariants.{Io, OutOfMemory, UnexpectedEof};
+ghost use Rattle.xet_io.specs.Faults.{HasCause};
+ghost use Rattle.xet_codec.specs.Blocks.{EndsBefore, Has, IsPart, Sees};
+
+use crate::read_exact;
+use std::alloc::Global;
+use xet_hash::StoreError;
+use xet_io::ReadAt;
+
+/// The least number of bytes that are read at once, where the reader has as many: 64 KiB.
+const LEAST: usize = 65536;
+
+/// Some bytes of a reader, and where they begin: 64 KiB, or more where more were wanted at once.
+#[derive(Drop)]
+pub struct Block {
+    /// The bytes.
+    bytes: Vec<u8>,
+    /// Their offset in the reader.
+    from: u64,
+}
+
+impl Block {
+    /// No bytes. It takes no memory.
+    pub fn new(alloc: Global) -> Block
+        ensures { (bytes : List ℕ) → IsPart result bytes }
+    {
+        Block {
+            bytes: Vec::new(alloc),
+            from: 0,
+        }
+    }
+
+    /// Sees to it that the block has the `count` bytes from offset `at` on. Where it lacks some, those that it has
+    /// are moved to its front, and what is behind them is read: as many bytes as it has room for, which is 64 KiB
+    /// at first and grows to the greatest `count`, or all before offset `end`. So where offsets only rise, no byte
+    /// is read twice. After a reader's failure the block has no bytes.
+    pub fn load<R: ReadAt>(
+        &mut self,
+        reader: &mut R,
+        at: u64,
+        end: u64,
+        count: usize,
+    ) -> Result<(), StoreError>
+        requires { at ≤ end }
+        ensures there { OnOk result (Has self.new at count) }
+        ensures part { (bytes : List ℕ) → Sees (R.tells reader.old) (R.bytes reader.old) bytes end self.old → IsPart self.new bytes }
+        ensures within { OnOk result (at + count ≤ end) }
+        ensures refused { (bytes : List ℕ) → Sees (R.tells reader.old) (R.bytes reader.old) bytes end self.old → IfErr result (EndsBefore bytes at count) }
+        ensures kinds { IfErr result (λ e. (e ≡ UnexpectedEof) ⊎ (e ≡ Io Input) ⊎ (e ≡ OutOfMemory)) }
+        ensures cause { HasCause (R.faults reader.old) (R.faults reader.new) (IsErrOf result (Io Input)) }
+        ensures same { R.bytes reader.new ≡ R.bytes reader.old }
+        ensures tells { R.tells reader.new ≡ R.tells reader.old }
+    {
+        if end - at < count as u64 {
+            return Err(StoreError::UnexpectedEof);
+        }
+        if self.has(at, count) {
+            return Ok(());
+        }
+        let room = LEAST.max(count).max(self.bytes.len());
+        let size = (end - at).min(room as u64) as usize;
+        self.read(reader, at, size)
+    }
+
+    /// Whether the block has the `count` bytes from offset `at` on.
+    fn has(&self, at: u64, count: usize) -> bool
+        ensures { IsTrue result ↔ Has self.now at count }
+    {
+        if at < self.from {
+            return false;
+        }
+        let len = self.bytes.len() as u64;
+        at - self.from <= len && count as u64 <= len - (at - self.from)
+    }
+
+    /// Makes the block the `size` bytes from offset `at` on, of which those are read that it lacks; or, after an error,
+    /// no bytes.
+    fn read<R: ReadAt>(&mut self, reader: &mut R, at: u64, size: usize) -> Result<(), StoreError>
+        requires { at + size < 2 ^ 64 }
+        ensures from { OnOk result (self.new.from ≡ at) }
+        ensures len { OnOk result (length self.new.bytes.items ≡ size) }
+        ensures part { R.tells reader.old ≡ true → at + size ≤ length (R.bytes reader.old) → IsPart self.old (R.bytes reader.old) → IsPart self.new (R.bytes reader.old) }
+        ensures refused { R.tells reader.old ≡ true → at + size ≤ length (R.bytes reader.old) → IfErr result (λ e. (e ≡ Io Input) ⊎ (e ≡ OutOfMemory)) }
+        ensures kinds { IfErr result (λ e. (e ≡ UnexpectedEof) ⊎ (e ≡ Io Input) ⊎ (e ≡ OutOfMemory)) }
+        ensures cause { HasCause (R.faults reader.old) (R.faults reader.new) (IsErrOf result (Io Input)) }
+        ensures same { R.bytes reader.new ≡ R.bytes reader.old }
+        ensures tells { R.tells reader.new ≡ R.tells reader.old }
+    {
+        match self.refill(reader, at, size) {
+            Ok(()) => Ok(()),
+            Err(error) => {
+                self.bytes.clear();
+                Err(error)
+            }
+        }
+    }
+
+    /// The same, with any bytes after an error.
+    fn refill<R: ReadAt>(&mut self, reader: &mut R, at: u64, size: usize) -> Result<(), StoreError>
+        requires { at + size < 2 ^ 64 }
+        ensures from { OnOk result (self.new.from ≡ at) }
+        ensures len { OnOk result (length self.new.bytes.items ≡ size) }
+        ensures part { R.tells reader.old ≡ true → at + size ≤ length (R.bytes reader.old) → IsPart self.old (R.bytes reader.old) → OnOk result (IsPart self.new (R.bytes reader.old)) }
+        ensures refused { R.tells reader.old ≡ true → at + size ≤ length (R.bytes reader.old) → IfErr result (λ e. (e ≡ Io Input) ⊎ (e ≡ OutOfMemory)) }
+        ensures kinds { IfErr result (λ e. (e ≡ UnexpectedEof) ⊎ (e ≡ Io Input) ⊎ (e ≡ OutOfMemory)) }
+        ensures cause { HasCause (R.faults reader.old) (R.faults reader.new) (IsErrOf result (Io Input)) }
+        ensures same { R.bytes reader.new ≡ R.bytes reader.old }
+        ensures tells { R.tells reader.new ≡ R.tells reader.old }
+    {
+        let kept = self.keep(at).min(size);
+        self.from = at;
+        self.bytes.resize(size, 0)?;
+        read_exact(reader, at + kept as u64, &mut self.bytes[kept..])?;
+        Ok(())
+    }
+
+    /// Moves the bytes that the block has from offset `at` on to its front, and returns how many these are.
+    fn keep(&mut self, at: u64) -> usize
+        ensures kept { (bytes : List ℕ) → IsPart self.old bytes → take result self.new.bytes.items ≡ take result (drop at bytes) }
+        ensures few { result ≤ length self.new.bytes.items }
+    {
+        let len = self.bytes.len();
+        if at < self.from || at - self.from >= len as u64 {
+            return 0;
+        }
+        let start = (at - self.from) as usize;
+        self.bytes.copy_within(start.., 0);
+        len - start
+    }
+
+    /// The `count` bytes from offset `at` on, which the block has.
+    pub fn part(&self, at: u64, count: usize) -> &[u8]
+        requires { Has self.now at count }
+        ensures value { (bytes : List ℕ) → IsPart self.now bytes → result.now ≡ take count (drop at bytes) }
+        ensures len { length result.now ≡ count }
+    {
+        let start = (at - self.from) as usize;
+        &self.bytes[start..start + count]
+    }
+}

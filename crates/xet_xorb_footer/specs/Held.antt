@@ -1,6 +1,0 @@
--- What a buffer holds back.
-use Rattle.std.specs.Prelude.{ℕ, List, take}
-use Rattle.xet_xorb_footer.specs.declared.buffer.Buffer.{Buffer}
-
-abbrev pub held_in : Buffer → List ℕ
-held_in b = take b.used b.bytes
