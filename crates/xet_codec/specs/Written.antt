@@ -2,8 +2,9 @@
 use Rattle.std.specs.Prelude.{◌≡◌, ℕ, List, ◌++◌, drop, take}
 
 -- a prefix of these bytes was written
-abbrev pub WritesPrefix : List ℕ → List ℕ → List ℕ → Type 0
-WritesPrefix before now bytes = (count : ℕ) × (now ≡ before ++ take count bytes)
+pub record WritesPrefix (before now bytes : List ℕ) : Type 0 where
+  pub count : ℕ
+  pub written : now ≡ before ++ take count bytes
 
 -- a prefix of these bytes was written, and the others are held back
 pub record Moves (before now behind bytes : List ℕ) : Type 0 where

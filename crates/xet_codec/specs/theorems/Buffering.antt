@@ -8,10 +8,11 @@ use Rattle.xet_codec.specs.Written.{WritesPrefix, Moves}
 
 -- a prefix of some bytes is one of these and others
 pub pad : {before now x : List ℕ} (y : List ℕ) → WritesPrefix before now x → WritesPrefix before now (x ++ y)
-pad {before} {now} {x} y f = (
-  min f.0 (length x),
-  f.1 ∙ ap (λ (t : List ℕ). before ++ t) (sym (take_min f.0 x) ∙ sym (take-append-le (min f.0 (length x)) x y (omega arith))),
-)
+pad {before} {now} {x} y f =
+    record {
+      count = min f.count (length x);
+      written = f.written ∙ ap (λ (t : List ℕ). before ++ t) (sym (take_min f.count x) ∙ sym (take-append-le (min f.count (length x)) x y (omega arith)));
+    }
 
 -- a front of what was left behind a front, and of others
 take_twice : (n m : ℕ) (x y : List ℕ) → take n x ++ take m (drop n x ++ y) ≡ take (min n (length x) + m) (x ++ y)
@@ -43,12 +44,13 @@ then {w0} {w1} {w2} {h1} {h2} h0 p q a b =
 pub then_front : {w0 w1 w2 h1 : List ℕ} (h0 p q : List ℕ) → Moves w0 w1 h1 (h0 ++ p) → WritesPrefix w1 w2 (h1 ++ q) → WritesPrefix w0 w2 (h0 ++ (p ++ q))
 then_front {w0} {w1} {w2} {h1} h0 p q a b =
     let x : List ℕ = h0 ++ p in
-    let held : h1 ++ q ≡ drop a.count x ++ q = ap (λ (t : List ℕ). t ++ q) a.held in (
-      min a.count (length x) + b.0,
-      b.1 ∙ ap (λ (t : List ℕ). w1 ++ take b.0 t) held ∙ ap (λ (t : List ℕ). t ++ take b.0 (drop a.count x ++ q)) a.written
-          ∙ append_assoc w0 (take a.count x) (take b.0 (drop a.count x ++ q))
-          ∙ ap (λ (t : List ℕ). w0 ++ t) (take_twice a.count b.0 x q ∙ ap (take (min a.count (length x) + b.0)) (append_assoc h0 p q)),
-    )
+    let held : h1 ++ q ≡ drop a.count x ++ q = ap (λ (t : List ℕ). t ++ q) a.held in
+    record {
+      count = min a.count (length x) + b.count;
+      written = b.written ∙ ap (λ (t : List ℕ). w1 ++ take b.count t) held ∙ ap (λ (t : List ℕ). t ++ take b.count (drop a.count x ++ q)) a.written
+          ∙ append_assoc w0 (take a.count x) (take b.count (drop a.count x ++ q))
+          ∙ ap (λ (t : List ℕ). w0 ++ t) (take_twice a.count b.count x q ∙ ap (take (min a.count (length x) + b.count)) (append_assoc h0 p q));
+    }
 
 -- all that was held was written, and then a piece
 pub direct : {w0 w1 w2 h0 h1 : List ℕ} (p : List ℕ) → Moves w0 w1 h1 h0 → h1 ≡ [] → w2 ≡ w1 ++ p → Moves w0 w2 h1 (h0 ++ p)
@@ -62,11 +64,12 @@ direct {w0} {w1} {w2} {h0} {h1} p a none e =
 
 pub direct_front : {w0 w1 w2 h0 h1 p : List ℕ} → Moves w0 w1 h1 h0 → h1 ≡ [] → WritesPrefix w1 w2 p → WritesPrefix w0 w2 (h0 ++ p)
 direct_front {w0} {w1} {w2} {h0} {h1} {p} a none f =
-    let all : take a.count h0 ≡ h0 = sym (append-nil (take a.count h0)) ∙ ap (λ (t : List ℕ). take a.count h0 ++ t) (sym none ∙ a.held) ∙ take-append-drop a.count h0 in (
-      length h0 + f.0,
-      f.1 ∙ ap (λ (t : List ℕ). t ++ take f.0 p) (a.written ∙ ap (λ (t : List ℕ). w0 ++ t) all) ∙ append_assoc w0 h0 (take f.0 p)
-          ∙ ap (λ (t : List ℕ). w0 ++ t) (sym (take-append-add h0 p f.0)),
-    )
+    let all : take a.count h0 ≡ h0 = sym (append-nil (take a.count h0)) ∙ ap (λ (t : List ℕ). take a.count h0 ++ t) (sym none ∙ a.held) ∙ take-append-drop a.count h0 in
+    record {
+      count = length h0 + f.count;
+      written = f.written ∙ ap (λ (t : List ℕ). t ++ take f.count p) (a.written ∙ ap (λ (t : List ℕ). w0 ++ t) all) ∙ append_assoc w0 h0 (take f.count p)
+          ∙ ap (λ (t : List ℕ). w0 ++ t) (sym (take-append-add h0 p f.count));
+    }
 
 pub pad_behind : {w0 w1 : List ℕ} (h0 p q : List ℕ) → WritesPrefix w0 w1 (h0 ++ p) → WritesPrefix w0 w1 (h0 ++ (p ++ q))
 pad_behind {w0} {w1} h0 p q f = subst (λ (t : List ℕ). WritesPrefix w0 w1 t) (append_assoc h0 p q) (pad q f)
@@ -84,8 +87,12 @@ pub flushed_front : {w0 w1 w2 h1 : List ℕ} (h0 t : List ℕ) → h0 ≡ [] →
 flushed_front {w0} {w1} {w2} {h1} h0 t none a f =
     let all = then_front h0 t [] a (subst (λ (h : List ℕ). WritesPrefix w1 w2 h) (sym (append-nil h1)) f) in
     let x : h0 ++ (t ++ []) ≡ t = ap (λ (h : List ℕ). h ++ (t ++ [])) none ∙ append-nil t in
-    (all.0, all.1 ∙ ap (λ (y : List ℕ). w0 ++ take all.0 y) x)
+    (all.count, all.written ∙ ap (λ (y : List ℕ). w0 ++ take all.count y) x)
 
 pub on_ok : {T : Type 0} {P : Type 0} (r : Result T StoreError) → P → OnOk r P
 on_ok (Ok x) p = p
 on_ok (Err e) p = tt
+
+pub on_err : {T : Type 0} {P : Type 0} (r : Result T StoreError) → P → OnErr r P
+on_err (Ok x) p = tt
+on_err (Err e) p = p
