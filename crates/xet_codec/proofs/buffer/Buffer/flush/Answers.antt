@@ -5,4 +5,4 @@ use Rattle.xet_codec.proofs.buffer.Buffer.flush.Goals as goal
 pub returns-in_err-write_piece-clause-front : goal.returns-in_err-write_piece-clause-front
 returns-in_err-write_piece-clause-front g c = λ told.
     let f = c.in_err-write_piece.ensures.front told in
-    exit_on _ c.from_residual-in_err-write_piece.result c.from_residual-in_err-write_piece.ensures.1 (record { count = f.0; written = search rules })
+    exit_on _ c.from_residual.result c.from_residual.ensures.1 (record { count = f.0; written = search rules })
