@@ -13,6 +13,7 @@ use Rattle.xet_shard.specs.Held.{never}
 use Rattle.xet_shard_format.specs.Lookups.{Lookups}
 use Rattle.xet_shard.specs.Sections.{blocks_in, files_in}
 use Rattle.xet_shard_format.specs.Text.{Fits, IsShard, Shard, shard, shard_text}
+use Rattle.xet_codec.specs.Parsing.{◌>>=◌}
 
 abbrev pub keyed_chunk : List ℕ → XorbChunkSequenceEntry → XorbChunkSequenceEntry
 keyed_chunk key c = record { chunk_hash = keyed_digest key c.chunk_hash; chunk_byte_range_start = c.chunk_byte_range_start; unpacked_segment_bytes = c.unpacked_segment_bytes }

@@ -3,7 +3,7 @@ use Rattle.std.specs.Prelude.{ℕ, ◌+◌, ◌*◌, ◌^◌, ◌==◌, nat_eq, 
 use Rattle.std.specs.Cmp.Lexicographic.{pointwise}
 use Rattle.xet_hash.specs.declared.error.Reason.TheVariants.{SectionPlace}
 use Rattle.xet_hash.specs.declared.error.StoreError.{StoreError}
-use Rattle.xet_codec.specs.Parsing.{reaches, wants}
+use Rattle.xet_codec.specs.Parsing.{◌>>=◌, reaches, wants}
 
 -- so many bytes from a place on
 unfoldable pub piece_at : ℕ → ℕ → List ℕ → Result (List ℕ) StoreError

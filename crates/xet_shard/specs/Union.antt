@@ -16,6 +16,7 @@ use Rattle.xet_shard.specs.Sections.{blocks_in, files_in}
 use Rattle.xet_shard.specs.declared.info.MDBShardInfo.{MDBShardInfo}
 use Rattle.xet_shard_format.specs.Lookups.{all_lookups}
 use Rattle.xet_shard_format.specs.Text.{Fits, IsShard, Shard, footer_of, full_text, header, shard}
+use Rattle.xet_codec.specs.Parsing.{◌>>=◌}
 
 -- the records of the first list, and those of the second whose hash none of the first has, in rising order
 abbrev pub union : {X : Type 0} → (X → List ℕ) → List X → List X → List X

@@ -3,7 +3,7 @@ use Rattle.std.specs.Prelude.{◌≡◌, ◌⊎◌, ◌≤◌, ◌<◌, ℕ, ◌
 use Rattle.std.specs.Cmp.Lexicographic.{pointwise}
 use Rattle.xet_hash.specs.declared.error.Reason.{Reason}
 use Rattle.xet_hash.specs.declared.error.Reason.TheVariants.{BoundariesIdent, BoundariesVersion, BoundaryOffset, CountMismatch}
-use Rattle.xet_codec.specs.Parsing.{Taken, bytes_at, number_at, times, wants}
+use Rattle.xet_codec.specs.Parsing.{◌>>=◌, Taken, bytes_at, number_at, times, wants}
 use Rattle.xet_xorb_footer.specs.Reading.{count_at, ident_at, number_is, version_at}
 use Rattle.xet_xorb_footer.specs.Spelled.{boundaries_ident}
 
