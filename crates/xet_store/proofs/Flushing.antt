@@ -39,8 +39,7 @@ use Rattle.xet_store.specs.Separate.{Among}
 use Rattle.xet_store.specs.Store.{State, IsAdmitted, IsKept, IsPendingFile, Sound}
 use Rattle.xet_store.specs.theorems.Admitting.{SameXorb, admitted_still, admitted_with, backed_same, registered_still, this_registered}
 use Rattle.xet_store.specs.theorems.Plans.{joins_more}
-use Rattle.xet_store.specs.theorems.Rows.{among_last, among_more, from_among, is_some_found, to_among}
-use Rattle.xet_store.proofs.Rows.{among_sorted}
+use Rattle.xet_store.specs.theorems.Rows.{among_last, among_more, among_sorted, from_among, is_some_found, to_among}
 use Rattle.xet_store.specs.theorems.Staying.{Stays, backed_still, changed, hash_cases, keeps_at, keeps_changed, keeps_refused, kept_still, found_nowhere, same_bytes_at, same_change, same_file_at, sound_refused, stays_shard}
 use Rattle.xet_store.specs.theorems.Whole.{found_has}
 
