@@ -15,7 +15,7 @@ use crate::record::{
 };
 use crate::row::Row;
 use crate::row_cursor::Rows;
-use crate::{pieces, reading};
+use crate::{encoding, record_decoding};
 use std::alloc::{AllocError, Global};
 use xet_hash::{MerkleHash, StoreError};
 
@@ -83,11 +83,11 @@ impl Record for MDBFileInfo {
     }
 
     fn read(alloc: Global, head: &Row, rows: &mut Rows) -> Result<MDBFileInfo, StoreError> {
-        reading::file(alloc, head, rows)
+        record_decoding::file(alloc, head, rows)
     }
 
     fn push(&self, text: &mut Vec<u8>) -> Result<(), AllocError> {
-        pieces::push_file(text, self)
+        encoding::push_file(text, self)
     }
 }
 
@@ -114,11 +114,11 @@ impl Record for MDBXorbInfo {
     }
 
     fn read(alloc: Global, head: &Row, rows: &mut Rows) -> Result<MDBXorbInfo, StoreError> {
-        reading::xorb(alloc, head, rows)
+        record_decoding::xorb(alloc, head, rows)
     }
 
     fn push(&self, text: &mut Vec<u8>) -> Result<(), AllocError> {
-        pieces::push_xorb(text, self)
+        encoding::push_xorb(text, self)
     }
 }
 

@@ -24,7 +24,7 @@ returns-clause-text g c =
     let n = c.count-all.ensures in
     let m = c.standing-counts.ensures in
     let f = footer_counted w s (m.file_rows ∙ n.file_rows) (m.xorb_rows ∙ n.xorb_rows) m.files m.xorbs m.chunks n.files n.xorbs n.chunks c.materialized.ensures c.stored.ensures in
-    let e7 = c.in_ok-push_footer.ensures ∙ ap (λ f. c.push_standing_places.new.text.items ++ footer_text f) (c.footer.ensures ∙ f) in
+    let e7 = c.in_ok-push_footer.ensures ∙ ap (λ f. c.push_standing_places.new.text.items ++ footer_text f) (c.footer-footer.ensures ∙ f) in
     let e6 = piece_before c.push_standing_heads-2.new.text.items c.push_standing_places.new.text.items _ (places_text (left_in w.chunks (chunk_items blocks))) _ c.in_ok-push_standing_places.ensures e7 in
     let e5 = piece_before c.push_standing_heads.new.text.items c.push_standing_heads-2.new.text.items _ (heads_text (left_in w.xorbs (xorb_items blocks))) _ c.in_ok-push_standing_heads-2.ensures e6 in
     let e4 = piece_before c.push_section-2.new.text.items c.push_standing_heads.new.text.items _ (heads_text (left_in w.files (file_items files))) _ c.in_ok-push_standing_heads.ensures e5 in
@@ -39,4 +39,4 @@ returns-clause-footer g c =
     let s = shard (map g.B.Lends.lent c.args.blocks.now) (map g.F.Lends.lent c.args.files.now) c.args.key c.args.creation c.args.expiry in
     let n = c.count-all.ensures in
     let m = c.standing-counts.ensures in
-    c.footer.ensures ∙ footer_counted w s (m.file_rows ∙ n.file_rows) (m.xorb_rows ∙ n.xorb_rows) m.files m.xorbs m.chunks n.files n.xorbs n.chunks c.materialized.ensures c.stored.ensures
+    c.footer-footer.ensures ∙ footer_counted w s (m.file_rows ∙ n.file_rows) (m.xorb_rows ∙ n.xorb_rows) m.files m.xorbs m.chunks n.files n.xorbs n.chunks c.materialized.ensures c.stored.ensures
