@@ -200,7 +200,7 @@ impl MDBFileInfo {
     }
 
     /// The bytes of its segments together, of which there are not too many for their sum.
-    pub(crate) fn known_size(&self) -> u64
+    pub fn known_size(&self) -> u64
         requires { length self.now.segments < 2 ^ 32 }
         ensures size { result ≡ segment_bytes self.now.segments }
         ensures small { result ≤ 2 ^ 32 * length self.now.segments }
@@ -352,7 +352,7 @@ impl MDBXorbInfo {
     }
 
     /// The bytes of its chunks together, as its head tells them.
-    pub(crate) fn told_size(&self) -> u64
+    pub fn told_size(&self) -> u64
         ensures size { result ≡ self.now.metadata.num_bytes_in_xorb }
         ensures small { result < 2 ^ 32 }
     {
