@@ -14,4 +14,6 @@ mod part_tests;
 #[cfg(test)]
 mod query_tests;
 #[cfg(test)]
+mod section_tests;
+#[cfg(test)]
 mod tests;

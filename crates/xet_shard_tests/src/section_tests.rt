@@ -1,10 +1,10 @@
 //! Which check of a damaged section fails first.
 
-use crate::*;
 use std::alloc::Global;
 use std::test::Fail;
 use xet_hash::{Reason, StoreError};
 use xet_io::SliceReader;
+use xet_shard::MDBShardInfo;
 
 /// Sets bytes of some rows, each by its offset.
 fn set(rows: &mut [u8; 192], bytes: &[(usize, u8)]) {

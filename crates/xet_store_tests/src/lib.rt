@@ -5,6 +5,8 @@
 #[cfg(test)]
 mod cleaning_tests;
 #[cfg(test)]
+mod cut_tests;
+#[cfg(test)]
 mod folders;
 #[cfg(test)]
 mod opening_tests;
