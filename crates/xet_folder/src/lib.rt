@@ -17,17 +17,10 @@ mod xorbs;
 pub use admission::admit_shard;
 pub use contents::{Contents, RecordTable, Unadmitted, admit_folder};
 pub use ends::ends_below;
-pub use members::Members;
+pub use members::{Members, lies_in};
 pub use names::xorb_path;
 pub use put::{put_shard, put_xorb};
 pub use recorded::{Plan, RecordedFile};
 pub use run::RunReader;
 pub use verifying::verify_xorb;
 pub use xorbs::{XorbFile, XorbTable, read_xorb};
-
-#[cfg(test)]
-mod run_tests;
-#[cfg(test)]
-mod tests;
-#[cfg(test)]
-mod texts;

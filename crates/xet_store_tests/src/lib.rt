@@ -7,8 +7,14 @@ mod cleaning_tests;
 #[cfg(test)]
 mod cut_tests;
 #[cfg(test)]
+mod folder_tests;
+#[cfg(test)]
 mod folders;
 #[cfg(test)]
 mod opening_tests;
 #[cfg(test)]
+mod run_tests;
+#[cfg(test)]
 mod session;
+#[cfg(test)]
+mod xorbs;

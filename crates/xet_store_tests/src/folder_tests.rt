@@ -1,11 +1,11 @@
 //! A folder of a disk in memory.
 
-use crate::texts::xorb_text;
-use crate::*;
+use crate::xorbs::xorb_bytes;
 use bytes::Bytes;
 use std::alloc::Global;
 use std::test::Fail;
 use xet_base::Items;
+use xet_folder::{XorbFile, XorbTable, admit_folder, admit_shard, put_shard, put_xorb, read_xorb};
 use xet_hash::{MerkleHash, Reason, StoreError, compute_data_hash, file_hash, xorb_hash};
 use xet_io::MemoryDisk;
 use xet_shard::write_shard;
@@ -18,7 +18,7 @@ use xet_xorb_chunk::Chunk;
 /// A disk on which the xorb of `abc` is stored.
 fn stored(alloc: Global) -> Result<MemoryDisk, StoreError> {
     let chunks = [Chunk::new(Bytes::from_static(b"abc"))];
-    let text = xorb_text(alloc, &chunks)?;
+    let text = xorb_bytes(alloc, &chunks)?;
     let mut disk = MemoryDisk::new(alloc);
     put_xorb(&mut disk, alloc, "store", &compute_data_hash(b"abc"), &text)?;
     Ok(disk)
@@ -101,7 +101,7 @@ fn store_both(disk: &mut MemoryDisk, alloc: Global) -> Result<MerkleHash, StoreE
         (compute_data_hash(b"def"), 3),
     ];
     let hash = xorb_hash(alloc, &members)?;
-    put_xorb(disk, alloc, "store", &hash, &xorb_text(alloc, &chunks)?)?;
+    put_xorb(disk, alloc, "store", &hash, &xorb_bytes(alloc, &chunks)?)?;
     Ok(hash)
 }
 

@@ -1,4 +1,4 @@
-//! Texts of xorbs, for tests.
+//! The bytes of xorbs.
 
 ghost use Rattle.std.specs.Prelude.{map};
 ghost use Rattle.xet_xorb_chunk.specs.Chunks.{bytes_of};
@@ -10,7 +10,7 @@ use xet_xorb::{RawXorbData, SerializedXorbObject};
 use xet_xorb_chunk::Chunk;
 
 /// The xorb of these chunks.
-pub(crate) fn xorb_text(alloc: Global, chunks: &[Chunk]) -> Result<Vec<u8>, StoreError>
+pub(crate) fn xorb_bytes(alloc: Global, chunks: &[Chunk]) -> Result<Vec<u8>, StoreError>
     requires { ArePartsOfXorb (map bytes_of chunks.now) }
 {
     let raw = RawXorbData::from_chunks(alloc, chunks, Vec::new(alloc))?;

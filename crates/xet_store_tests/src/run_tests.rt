@@ -1,11 +1,10 @@
 //! Parts of xorbs on a disk in memory.
 
-use crate::members::lies_in;
-use crate::texts::xorb_text;
-use crate::*;
+use crate::xorbs::xorb_bytes;
 use bytes::Bytes;
 use std::alloc::Global;
 use std::test::Fail;
+use xet_folder::{Members, RunReader, XorbFile, lies_in, put_xorb, read_xorb};
 use xet_hash::{MerkleHash, StoreError, compute_data_hash, xorb_hash};
 use xet_io::MemoryDisk;
 use xet_shard_format::FileDataSequenceEntry;
@@ -20,7 +19,7 @@ fn put_three(alloc: Global, disk: &mut MemoryDisk) -> Result<MerkleHash, StoreEr
     ];
     let members = chunk_members(alloc, &chunks)?;
     let hash = xorb_hash(alloc, &members)?;
-    let text = xorb_text(alloc, &chunks)?;
+    let text = xorb_bytes(alloc, &chunks)?;
     put_xorb(disk, alloc, "store", &hash, &text)?;
     Ok(hash)
 }
