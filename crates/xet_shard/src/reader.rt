@@ -1,6 +1,6 @@
 //! Shards that are read from any reader, part by part.
 
-pub mod bytes;
+pub mod byte_ranges;
 pub mod lookup_items;
 pub mod lookups;
 pub mod sections;

@@ -5,7 +5,7 @@ ghost use Rattle.xet_io.specs.Faults.{HasCause};
 ghost use Rattle.xet_shard.specs.Bisection.{AnswersAt, Bisects, in_table, passes, slots};
 ghost use Rattle.xet_shard_format.specs.Reading.{IsShardRefusal};
 
-use crate::reader::bytes::{fill, within};
+use crate::reader::byte_ranges::{fill, within};
 use xet_codec::{half_word, reader_length, word};
 use xet_hash::{Place, StoreError};
 use xet_io::ReadAt;

@@ -8,7 +8,7 @@ ghost use Rattle.xet_shard_format.specs.Reading.{IsShardRefusal};
 ghost use Rattle.xet_shard_format.specs.Records.{IsFile};
 ghost use Rattle.xet_shard_format.specs.Rows.{rows_in};
 
-use crate::reader::bytes::{bytes_at, row_there, rows_from};
+use crate::reader::byte_ranges::{bytes_at, row_there, rows_from};
 use std::alloc::Global;
 use xet_hash::{Place, StoreError};
 use xet_io::ReadAt;

@@ -10,7 +10,7 @@ ghost use Rattle.xet_codec.specs.Parsing.{GivesUnlessFault};
 ghost use Rattle.xet_shard_format.specs.Reading.{IsShardRefusal};
 
 use crate::query::bisection::{Probe, bisecting_index};
-use crate::reader::bytes::{bytes_at, fill};
+use crate::reader::byte_ranges::{bytes_at, fill};
 use crate::reader::lookup_items::heads_in;
 use crate::reader::lookups::{made_chunk_lookup, made_file_lookup, made_xorb_lookup};
 use std::alloc::Global;

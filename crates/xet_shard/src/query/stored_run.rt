@@ -9,7 +9,7 @@ ghost use Rattle.xet_shard_format.specs.Rows.{row_of, rows_in};
 ghost use Rattle.xet_shard.specs.Runs.{agreed, chunk_end, run_after, run_of};
 
 use crate::query::run::kept_hash;
-use crate::reader::bytes::{bytes_at, row_there, rows_from};
+use crate::reader::byte_ranges::{bytes_at, row_there, rows_from};
 use crate::reader::sections::row_count;
 use std::alloc::Global;
 use xet_hash::{HMACKey, MerkleHash, Place, Reason, StoreError};

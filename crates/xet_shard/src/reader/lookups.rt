@@ -9,7 +9,7 @@ ghost use Rattle.xet_shard_format.specs.Reading.{IsShardRefusal};
 ghost use Rattle.xet_shard.specs.Sections.{chunk_lookup_in, xorb_lookup_in};
 
 use crate::info::MDBShardInfo;
-use crate::reader::bytes::piece;
+use crate::reader::byte_ranges::piece;
 use crate::reader::lookup_items::{heads_in, places_in, record_items};
 use crate::reader::sections::{blocks, files};
 use std::alloc::Global;

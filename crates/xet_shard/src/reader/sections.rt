@@ -8,7 +8,7 @@ ghost use Rattle.xet_shard_format.specs.Records.{AreRecords, IsFile, IsXorb, fil
 ghost use Rattle.xet_shard.specs.Sections.{block_heads_in, blocks_in, files_in, info_at, key_of, row_count};
 
 use crate::info::MDBShardInfo;
-use crate::reader::bytes::{fill, rows_at};
+use crate::reader::byte_ranges::{fill, rows_at};
 use crate::reader::lookup_items::heads_of;
 use std::alloc::Global;
 use xet_codec::reader_length;

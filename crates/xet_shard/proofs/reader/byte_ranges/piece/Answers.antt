@@ -1,6 +1,6 @@
 use Rattle.std.proofs.Common.{arith, rules}
 use Rattle.xet_shard.proofs.Faulting.{piece_short}
-use Rattle.xet_shard.proofs.reader.bytes.piece.Goals as goal
+use Rattle.xet_shard.proofs.reader.byte_ranges.piece.Goals as goal
 
 pub returns-in-None-clause-told : goal.returns-in-None-clause-told
 returns-in-None-clause-told g c = λ told.

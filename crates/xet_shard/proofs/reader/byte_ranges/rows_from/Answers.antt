@@ -1,7 +1,7 @@
 use Rattle.std.proofs.Common.{arith, rules}
 use Rattle.xet_shard.proofs.OneRecord.{end_past, row_past, rows_left, rows_past}
-use Rattle.xet_shard.proofs.reader.bytes.rows_from.Goals as goal
-use Rattle.xet_shard.proofs.reader.bytes.rows_from.Goals.{then-count-via-then-count, then-count-via-else-count+then-row-count}
+use Rattle.xet_shard.proofs.reader.byte_ranges.rows_from.Goals as goal
+use Rattle.xet_shard.proofs.reader.byte_ranges.rows_from.Goals.{then-count-via-then-count, then-count-via-else-count+then-row-count}
 
 pub returns-then-count-clause-exact : goal.returns-then-count-clause-exact
 returns-then-count-clause-exact g c = λ told.

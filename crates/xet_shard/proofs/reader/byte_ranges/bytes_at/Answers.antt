@@ -1,7 +1,7 @@
 use Rattle.std.proofs.Common.{arith, ◌∙◌, ◌++◌, Ok, ap, drop, length, sym, take, ℕ}
 use Rattle.std.proofs.Math.Seq.{take-append_seam}
 use Rattle.xet_shard.proofs.Faulting.{piece_there}
-use Rattle.xet_shard.proofs.reader.bytes.bytes_at.Goals as goal
+use Rattle.xet_shard.proofs.reader.byte_ranges.bytes_at.Goals as goal
 
 pub returns-clause-told : goal.returns-clause-told
 returns-clause-told g c = λ told le.

@@ -1,7 +1,7 @@
 use Rattle.std.proofs.Common.{◌∙◌, ap, arith, drop, List, ℕ}
 use Rattle.xet_shard_format.specs.Rows.{row_of}
 use Rattle.xet_shard_format.specs.theorems.RowList.{row_first}
-use Rattle.xet_shard.proofs.reader.bytes.row_there.Goals as goal
+use Rattle.xet_shard.proofs.reader.byte_ranges.row_there.Goals as goal
 
 pub returns-clause-told : goal.returns-clause-told
 returns-clause-told g c = λ told le.
