@@ -20,7 +20,7 @@ use std::alloc::Global;
 use std::marker::{Send, Sync};
 use std::sync::Wait;
 use std::thread::Threads;
-use xet_folder::admitted_later;
+use xet_folder::laws::admitted_later;
 use xet_io::{Disk, Inputs, Sink, Source};
 
 /// Runs the command of these words: it reads `input`, works on the disk, prints to `output`, and hands the
