@@ -1,11 +1,16 @@
-//! Phases to be timed. Of a store on a disk in memory: `write MIB` stores a generated file of so many MiB
-//! and flushes it; `open MIB` then opens the store again; `range MIB` then reads the file in ranges of
-//! 1 MiB, and prints how many bytes came. Of digests: `generate MIB` generates the file alone; `digest MIB`
-//! then digests it, and `define MIB` does so by the definition; both print the digest's first word.
+//! Phases of a store and of hashing, to be timed.
 //!
-//! Some phases time themselves, and print microseconds: `scatter MIB` stores a generated file of so many MiB at a
-//! target of 512 bytes, opens the store again, and times 10,000 ranges of 512 bytes at scattered places; `merkle
-//! ROUNDS` times so many xorb hashes of 8,192 chunks, and `nodes ROUNDS` the digests alone that they take.
+//! A store on a disk in memory: `write MIB` stores a generated file of MIB mebibytes and flushes it; `open
+//! MIB` then opens the store again; `range MIB` then reads the file in ranges of 1 MiB, and prints the number
+//! of bytes read.
+//!
+//! Digests: `generate MIB` only generates the file; `digest MIB` then computes its data hash, and `define
+//! MIB` its digest under the verification key, by the definition. Both print the digest's first word.
+//!
+//! Phases that time themselves and print microseconds: `scatter MIB` stores a generated file with a target
+//! chunk size of 512 bytes, opens the store again, and times 10,000 ranges of 512 bytes at scattered offsets;
+//! `merkle ROUNDS` times ROUNDS xorb hashes of 8,192 chunks, and `nodes ROUNDS` only the digests that they
+//! need.
 #![tactic(auto)]
 
 mod timed;
@@ -19,13 +24,13 @@ use xet_hash::{MerkleHash, StoreError, VERIFICATION_KEY, compute_data_hash, defi
 use xet_io::{MemoryDisk, SliceSource};
 use xet_store::{Cleaned, Store, clean_files};
 
-/// The most MiB of a file.
+/// The maximum number of mebibytes of a file.
 const MOST: u64 = 1 << 12;
 
-/// The bytes of a range, which are a MiB.
+/// The length of a range, in bytes: 1 MiB.
 const RANGE: u64 = 1 << 20;
 
-/// How far a run goes.
+/// The last phase of a run.
 #[derive(Clone, Copy, PartialEq, Eq)]
 enum Phase {
     Write,
@@ -54,7 +59,7 @@ fn main(rt: HostRuntime) -> ExitCode {
     }
 }
 
-/// The phase and the number that the words say.
+/// The phase and the number that the arguments give.
 fn read_words(rt: &HostRuntime) -> Option<(Phase, u64)> {
     let mut words = env::args(rt).ok()?.skip(1);
     let phase = match words.next()?.as_str() {
@@ -76,7 +81,7 @@ fn read_words(rt: &HostRuntime) -> Option<(Phase, u64)> {
     Some((phase, number))
 }
 
-/// Runs the phases up to this one, and gives the number that is printed.
+/// Runs the phases up to this one, and returns the number that is printed.
 fn run(alloc: Global, phase: Phase, mebibytes: u64) -> Result<u64, StoreError> {
     match phase {
         Phase::Write | Phase::Open | Phase::Range => run_store(alloc, phase, mebibytes),
@@ -84,7 +89,7 @@ fn run(alloc: Global, phase: Phase, mebibytes: u64) -> Result<u64, StoreError> {
     }
 }
 
-/// Generates a file and digests it, and gives the digest's first word.
+/// Generates a file, digests it if the phase says so, and returns the first word of the digest.
 fn run_digest(alloc: Global, phase: Phase, mebibytes: u64) -> Result<u64, StoreError> {
     let file = generated(alloc, 7, (mebibytes.min(MOST) * RANGE) as usize)?;
     let hash = match phase {
@@ -95,7 +100,7 @@ fn run_digest(alloc: Global, phase: Phase, mebibytes: u64) -> Result<u64, StoreE
     Ok(hash.word(0))
 }
 
-/// Runs the phases of a store, and gives how many bytes were read in ranges.
+/// Runs the phases of a store, and returns the number of bytes that were read in ranges.
 fn run_store(alloc: Global, phase: Phase, mebibytes: u64) -> Result<u64, StoreError> {
     let limits = Limits::new(LimitSettings::shown(gear_table(0)))?;
     let mebibytes = mebibytes.min(MOST);
@@ -108,7 +113,7 @@ fn run_store(alloc: Global, phase: Phase, mebibytes: u64) -> Result<u64, StoreEr
     }
 }
 
-/// Reads a file of a store in ranges, where that is the phase, and gives how many bytes came.
+/// Reads a file of a store in ranges, if that is the phase, and returns the number of bytes read.
 fn ranged(
     store: Store<MemoryDisk>,
     hash: &MerkleHash,
@@ -128,7 +133,7 @@ fn open(alloc: Global, disk: MemoryDisk, limits: Limits) -> Result<Store<MemoryD
     Store::open(alloc, disk, "store", limits, 0, false).map_err(|refused| refused.error)
 }
 
-/// A store of a generated file of so many MiB, and the file's hash.
+/// A store with a generated file of this many mebibytes, and the file's hash.
 fn stored(
     alloc: Global,
     limits: Limits,
@@ -152,7 +157,7 @@ fn reopened(
     }
 }
 
-/// Stores a generated file, and gives its hash.
+/// Stores a generated file. Returns the store and the file's hash.
 fn write(
     alloc: Global,
     store: Store<MemoryDisk>,
@@ -175,7 +180,7 @@ fn flushed(
     }
 }
 
-/// Keeps what is pending, and gives the hash of the first file that was cleaned.
+/// Flushes what is pending, and returns the hash of the first file that was cleaned.
 fn flush(
     store: &mut Store<MemoryDisk>,
     cleaned: Result<Cleaned, StoreError>,
@@ -188,7 +193,7 @@ fn flush(
     Ok(hash)
 }
 
-/// Reads a file in ranges, and gives how many bytes came.
+/// Reads a file in ranges of 1 MiB, and returns the number of bytes read.
 fn read(
     store: &mut Store<MemoryDisk>,
     hash: &MerkleHash,

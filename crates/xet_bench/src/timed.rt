@@ -14,33 +14,33 @@ use xet_store::Store;
 /// What is timed.
 #[derive(Clone, Copy, PartialEq, Eq)]
 pub enum Timed {
-    /// Ranges at scattered places.
+    /// Ranges at scattered offsets.
     Scatter,
     /// Xorb hashes.
     Merkle,
-    /// The digests that a xorb hash takes.
+    /// The digests that a xorb hash needs.
     Nodes,
 }
 
 /// The number of ranges.
 const RANGES: u64 = 10_000;
 
-/// The bytes of each.
+/// The length of each range, in bytes.
 const SPAN: u64 = 512;
 
-/// The bytes of a MiB.
+/// The number of bytes of a mebibyte.
 const MEBIBYTE: u64 = 1 << 20;
 
-/// The most MiB of a file, and the most rounds.
+/// The maximum number of mebibytes of a file, and of rounds.
 const MOST: u64 = 1 << 12;
 
-/// The chunks of a xorb.
+/// The number of chunks of a xorb.
 const CHUNKS: u64 = 8_192;
 
-/// The bytes of a node of that xorb on the mean, as an outside program counts them.
+/// The mean number of bytes in a Merkle node of that xorb, as a separate program counts them.
 const NODE: usize = 384;
 
-/// The nodes of that xorb, as an outside program counts them.
+/// The number of Merkle nodes of that xorb, as a separate program counts them.
 const NODES: u64 = 1_866;
 
 /// Times a phase, in microseconds.
@@ -57,7 +57,7 @@ pub(crate) fn run_timed<R: Clock>(
     }
 }
 
-/// The microseconds since a start; 0 where the clock fails.
+/// The microseconds since `start`; 0 if the clock fails.
 fn since<R: Clock>(clock: &R, start: Option<Instant>) -> u64 {
     match start {
         Some(start) => match start.elapsed(clock) {
@@ -68,14 +68,14 @@ fn since<R: Clock>(clock: &R, start: Option<Instant>) -> u64 {
     }
 }
 
-/// The next number of a sequence that scatters.
+/// The next number of a pseudo-random sequence.
 fn scattered(number: u64) -> u64 {
     number
         .wrapping_mul(6_364_136_223_846_793_005)
         .wrapping_add(1_442_695_040_888_963_407)
 }
 
-/// Times ranges of a file at scattered places.
+/// Times ranges of a file at scattered offsets.
 fn time_scatter<R: Clock>(clock: &R, alloc: Global, mebibytes: u64) -> Result<u64, StoreError> {
     let limits = Limits::new(small_chunks())?;
     match reopened(alloc, limits, mebibytes) {
@@ -88,7 +88,7 @@ fn time_scatter<R: Clock>(clock: &R, alloc: Global, mebibytes: u64) -> Result<u6
     }
 }
 
-/// Settings with a target of 512 bytes.
+/// Settings with a target chunk size of 512 bytes.
 fn small_chunks() -> LimitSettings {
     let mut settings = LimitSettings::shown(gear_table(0));
     settings.target_chunk = 512;
@@ -115,7 +115,7 @@ fn time_ranges<R: Clock>(
     Ok(since(clock, start))
 }
 
-/// The members of a xorb of chunks of 512 bytes.
+/// The (hash, length) pairs of a xorb with chunks of 512 bytes.
 fn members(alloc: Global) -> Result<Vec<(MerkleHash, u64)>, StoreError>
     ensures total { IfOk result (λ members. total_len members.items < 2 ^ 64) }
 {
@@ -136,7 +136,7 @@ fn time_merkle<R: Clock>(clock: &R, alloc: Global, rounds: u64) -> Result<u64, S
     Ok(since(clock, start))
 }
 
-/// Times the digests of nodes.
+/// Times the digests of Merkle nodes.
 fn time_nodes<R: Clock>(clock: &R, rounds: u64) -> u64 {
     let mut node = [0; NODE];
     let start = Instant::now(clock).ok();

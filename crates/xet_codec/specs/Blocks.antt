@@ -1,4 +1,4 @@
--- What a block of a reader has, and why reading from it fails.
+-- The bytes of a block of a reader, and why reading from it fails.
 use Rattle.std.specs.Prelude.{◌≡◌, ◌⊎◌, ◌≤◌, ◌<◌, ℕ, ◌+◌, ◌*◌, nat_eq, Bool, true, List, drop, length, take, Err, Ok}
 use Rattle.std.specs.Cmp.Lexicographic.{pointwise}
 use Rattle.xet_hash.specs.declared.error.Place.TheVariants.{Input}
@@ -7,32 +7,32 @@ use Rattle.xet_hash.specs.declared.error.StoreError.TheVariants.{Io, OutOfMemory
 use Rattle.xet_codec.specs.declared.block.Block.{Block}
 use Rattle.xet_codec.specs.Parsing.{Taken}
 
--- the reader tells its bytes, which are these and so many
+-- the reader is observable, and its bytes are these, `end` in number
 pub record Tells (tells : Bool) (seen bytes : List ℕ) (end : ℕ) : Type 0 where
   pub told : tells ≡ true
   pub same : seen ≡ bytes
   pub all : end ≡ length bytes
 
--- the block's bytes are those of the reader from its offset on
+-- the block's bytes are those of the reader from the block's offset on
 pub record IsPart (b : Block) (bytes : List ℕ) : Type 0 where
   pub is : b.bytes.items ≡ take (length b.bytes.items) (drop b.from bytes)
 
--- the block has so many bytes from an offset on
+-- the block has the n bytes from offset `at`
 pub record Has (b : Block) (at n : ℕ) : Type 0 where
   pub from : b.from ≤ at
   pub to : at + n ≤ b.from + length b.bytes.items
 
--- the reader tells its bytes, which are these and so many, and the block is a part of them
+-- the reader is observable, its bytes are these, `end` in number, and the block is a part of them
 pub record Sees (tells : Bool) (seen bytes : List ℕ) (end : ℕ) (block : Block) : Type 0 where
   pub told : tells ≡ true
   pub same : seen ≡ bytes
   pub all : end ≡ length bytes
   pub part : IsPart block bytes
 
--- there are too few bytes after an offset, the reader failed, or there was no memory
+-- the error: there are fewer than n bytes from offset `at`, the reader failed, or out of memory
 abbrev pub EndsBefore : List ℕ → ℕ → ℕ → StoreError → Type 0
 EndsBefore bytes at n e = ((e ≡ UnexpectedEof) × (length (drop at bytes) < n)) ⊎ (e ≡ Io Input) ⊎ (e ≡ OutOfMemory)
 
--- reading is refused with this, the reader failed, or there was no memory
+-- the error: parsing fails with it, the reader failed, or out of memory
 abbrev pub RefusedBy : {X : Type 0} → Taken X → StoreError → Type 0
 RefusedBy read e = (read ≡ Err e) ⊎ (e ≡ Io Input) ⊎ (e ≡ OutOfMemory)

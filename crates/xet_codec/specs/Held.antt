@@ -1,4 +1,4 @@
--- What a buffer holds back.
+-- The bytes in a buffer that are not written yet.
 use Rattle.std.specs.Prelude.{ℕ, List, take}
 use Rattle.xet_codec.specs.declared.buffer.Buffer.{Buffer}
 

@@ -1,4 +1,4 @@
--- Numbers and hashes in bytes. The low byte of a number stands first.
+-- Numbers and hashes as bytes. Numbers are little-endian.
 use Rattle.std.specs.Prelude.{◌≡◌, ℕ, ◌+◌, ◌*◌, ◌≤◌, List, [], ◌∷◌, ◌++◌, codes, length, replicate, zero, suc, ◌^◌, ◌<◌, take, drop}
 use Rattle.std.specs.Int.{w32, to_le_bytes, w64, from_le_bytes}
 use Rattle.std.specs.List.{flat_map, All}
@@ -12,7 +12,7 @@ numbers ns = flat_map number ns
 abbrev pub joined : List (List ℕ) → List ℕ
 joined hashes = flat_map (λ h. h) hashes
 
--- the number in the four, or in the eight, bytes at a place
+-- the number in the four, or in the eight, bytes at an offset
 abbrev pub half_word : List ℕ → ℕ → ℕ
 half_word bytes at = from_le_bytes w32 (take 4 (drop at bytes))
 

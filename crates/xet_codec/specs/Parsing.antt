@@ -1,4 +1,4 @@
--- How bytes are parsed, with the first check that fails.
+-- Parsing bytes, with the error of the first check that fails.
 use Rattle.std.specs.Prelude.{ℕ, zero, suc, ◌+◌, ◌*◌, ◌==◌, nat_eq, nat_le, Bool, true, false, List, [], ◌∷◌, length, take, drop, Result, Ok, Err, if◌then◌else◌, ◌-◌, ◌≡◌, ◌/◌, ◌%◌, ◌^◌, ◌<◌, replicate, Option, Some, None, nat_lt}
 use Rattle.std.specs.Cmp.Lexicographic.{pointwise}
 use Rattle.std.specs.Int.{w32, from_le_bytes}
@@ -12,11 +12,11 @@ abbrev pub ◌>>=◌ : {A B : Type 0} → Result A StoreError → (A → Result 
 (Ok x) >>= f = f x
 (Err e) >>= f = Err e
 
--- what is read at the front of some bytes, and the bytes behind it
+-- what is parsed at the start of some bytes, and the bytes after it
 abbrev pub Taken : Type 0 → Type 0
 Taken X = Result (X × List ℕ) StoreError
 
--- a test that is to hold
+-- a check: if the test fails, the error has this reason
 abbrev pub wants : Bool → Reason → Result (Unit {0}) StoreError
 wants true reason = Ok tt
 wants false reason = Err (MalformedData reason)
@@ -27,7 +27,7 @@ bytes_at n bytes = if nat_le n (length bytes) then Ok (take n bytes, drop n byte
 unfoldable pub number_at : List ℕ → Taken ℕ
 number_at bytes = bytes_at 4 bytes >>= λ x. Ok (from_le_bytes w32 x.0, x.1)
 
--- n things, one after the other
+-- n items, one after the other
 unfoldable pub times : {X : Type 0} → (List ℕ → Taken X) → ℕ → List ℕ → Taken (List X)
 times read zero bytes = Ok ([], bytes)
 times read (suc n) bytes = do
@@ -35,26 +35,27 @@ times read (suc n) bytes = do
   xs ← times read n x.1
   Ok (x.0 ∷ xs.0, xs.1)
 
--- the bytes are to be so many
+-- a check that there are enough bytes
 abbrev pub reaches : Bool → Result (Unit {0}) StoreError
 reaches true = Ok tt
 reaches false = Err UnexpectedEof
 
--- What a function returned, seen by view, is what reading gives, unless memory was wanting.
+-- The error of a function is that of parsing, or out of memory.
 abbrev pub Fails : {Y : Type 0} → StoreError → Result Y StoreError → Type 0
 Fails OutOfMemory read = Unit {0}
 Fails e read = read ≡ Err e
 
+-- The result of a function, seen by `view`, is that of parsing, unless it ran out of memory.
 abbrev pub Gives : {X Y : Type 0} → (X → Y) → Result X StoreError → Result Y StoreError → Type 0
 Gives view (Ok x) read = read ≡ Ok (view x)
 Gives view (Err e) read = Fails e read
 
--- The same of a reader, which may have failed.
+-- The same for a function that reads from a reader, which may fail.
 abbrev pub GivesUnlessFault : {X Y : Type 0} → (X → Y) → Result X StoreError → Result Y StoreError → Type 0
 GivesUnlessFault view (Err (Io place)) read = place ≡ Input
 GivesUnlessFault view r read = Gives view r read
 
--- A call that allocates nothing returned what reading gives, unless the reader failed.
+-- A call that does not allocate returned the result of parsing, unless the reader failed.
 abbrev pub IsUnlessFault : {X : Type 0} → Result X StoreError → Result X StoreError → Type 0
 IsUnlessFault (Err (Io place)) read = place ≡ Input
 IsUnlessFault r read = r ≡ read

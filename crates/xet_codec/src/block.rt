@@ -1,30 +1,29 @@
-//! Bytes of a reader that are read at once, and then taken field by field.
+//! `Block`: bytes of a reader that are read at once, and then taken field by field.
 
 ghost use Rattle.std.specs.Prelude.{◌≡◌, ◌≤◌, ◌<◌, ◌+◌, ◌^◌, ◌⊎◌, ◌↔◌, List, ℕ, true, IfErr, IsErrOf, IsTrue, OnOk, drop, length, take};
 ghost use Rattle.xet_hash.specs.declared.error.Place.TheVariants.{Input};
 ghost use Rattle.xet_hash.specs.declared.error.StoreError.TheVariants.{Io, OutOfMemory, UnexpectedEof};
-ghost use Rattle.xet_io.specs.Faults.{HasCause};
 ghost use Rattle.xet_codec.specs.Blocks.{EndsBefore, Has, IsPart, Sees};
+ghost use Rattle.xet_io.specs.Frame.{ReadFrom};
 
 use crate::read_exact;
 use std::alloc::Global;
 use xet_hash::StoreError;
 use xet_io::ReadAt;
 
-/// The least number of bytes that are read at once, where the reader has as many: 64 KiB.
+/// The minimum number of bytes that are read at once, if the reader has as many: 64 KiB.
 const LEAST: usize = 65536;
 
-/// Some bytes of a reader, and where they begin: 64 KiB, or more where more were wanted at once.
+/// Consecutive bytes of a reader, with their offset: 64 KiB, or more if one load needed more.
 #[derive(Drop)]
 pub struct Block {
-    /// The bytes.
     bytes: Vec<u8>,
-    /// Their offset in the reader.
+    /// The offset of the bytes in the reader.
     from: u64,
 }
 
 impl Block {
-    /// No bytes. It takes no memory.
+    /// An empty block. Does not allocate.
     pub fn new(alloc: Global) -> Block
         ensures { (bytes : List ℕ) → IsPart result bytes }
     {
@@ -34,10 +33,12 @@ impl Block {
         }
     }
 
-    /// Sees to it that the block has the `count` bytes from offset `at` on. Where it lacks some, those that it has
-    /// are moved to its front, and what is behind them is read: as many bytes as it has room for, which is 64 KiB
-    /// at first and grows to the greatest `count`, or all before offset `end`. So where offsets only rise, no byte
-    /// is read twice. After a reader's failure the block has no bytes.
+    /// Makes sure that the block has the `count` bytes from offset `at`. If it lacks some, the bytes that it
+    /// has from `at` on are moved to its start, and the bytes after them are read: as many as the block has
+    /// room for, or all before offset `end`. The room is 64 KiB at first, and grows to the largest `count`.
+    /// So no byte is read twice if the offsets only increase.
+    /// The error is `UnexpectedEof` if fewer than `count` bytes are between `at` and `end`. If the reader
+    /// fails, the block is empty afterwards.
     pub fn load<R: ReadAt>(
         &mut self,
         reader: &mut R,
@@ -51,9 +52,7 @@ impl Block {
         ensures within { OnOk result (at + count ≤ end) }
         ensures refused { (bytes : List ℕ) → Sees (R.tells reader.old) (R.bytes reader.old) bytes end self.old → IfErr result (EndsBefore bytes at count) }
         ensures kinds { IfErr result (λ e. (e ≡ UnexpectedEof) ⊎ (e ≡ Io Input) ⊎ (e ≡ OutOfMemory)) }
-        ensures cause { HasCause (R.faults reader.old) (R.faults reader.new) (IsErrOf result (Io Input)) }
-        ensures same { R.bytes reader.new ≡ R.bytes reader.old }
-        ensures tells { R.tells reader.new ≡ R.tells reader.old }
+        ensures frame { ReadFrom R.bytes R.tells R.faults R.lent reader.old reader.new (IsErrOf result (Io Input)) }
     {
         if end - at < count as u64 {
             return Err(StoreError::UnexpectedEof);
@@ -66,7 +65,7 @@ impl Block {
         self.read(reader, at, size)
     }
 
-    /// Whether the block has the `count` bytes from offset `at` on.
+    /// Whether the block has the `count` bytes from offset `at`.
     fn has(&self, at: u64, count: usize) -> bool
         ensures { IsTrue result ↔ Has self.now at count }
     {
@@ -77,8 +76,8 @@ impl Block {
         at - self.from <= len && count as u64 <= len - (at - self.from)
     }
 
-    /// Makes the block the `size` bytes from offset `at` on, of which those are read that it lacks; or, after an error,
-    /// no bytes.
+    /// Makes the block the `size` bytes from offset `at`. Only the bytes that it lacks are read. After an
+    /// error it is empty.
     fn read<R: ReadAt>(&mut self, reader: &mut R, at: u64, size: usize) -> Result<(), StoreError>
         requires { at + size < 2 ^ 64 }
         ensures from { OnOk result (self.new.from ≡ at) }
@@ -86,9 +85,7 @@ impl Block {
         ensures part { R.tells reader.old ≡ true → at + size ≤ length (R.bytes reader.old) → IsPart self.old (R.bytes reader.old) → IsPart self.new (R.bytes reader.old) }
         ensures refused { R.tells reader.old ≡ true → at + size ≤ length (R.bytes reader.old) → IfErr result (λ e. (e ≡ Io Input) ⊎ (e ≡ OutOfMemory)) }
         ensures kinds { IfErr result (λ e. (e ≡ UnexpectedEof) ⊎ (e ≡ Io Input) ⊎ (e ≡ OutOfMemory)) }
-        ensures cause { HasCause (R.faults reader.old) (R.faults reader.new) (IsErrOf result (Io Input)) }
-        ensures same { R.bytes reader.new ≡ R.bytes reader.old }
-        ensures tells { R.tells reader.new ≡ R.tells reader.old }
+        ensures frame { ReadFrom R.bytes R.tells R.faults R.lent reader.old reader.new (IsErrOf result (Io Input)) }
     {
         match self.refill(reader, at, size) {
             Ok(()) => Ok(()),
@@ -99,7 +96,7 @@ impl Block {
         }
     }
 
-    /// The same, with any bytes after an error.
+    /// The same, but after an error the block may have any bytes.
     fn refill<R: ReadAt>(&mut self, reader: &mut R, at: u64, size: usize) -> Result<(), StoreError>
         requires { at + size < 2 ^ 64 }
         ensures from { OnOk result (self.new.from ≡ at) }
@@ -107,9 +104,7 @@ impl Block {
         ensures part { R.tells reader.old ≡ true → at + size ≤ length (R.bytes reader.old) → IsPart self.old (R.bytes reader.old) → OnOk result (IsPart self.new (R.bytes reader.old)) }
         ensures refused { R.tells reader.old ≡ true → at + size ≤ length (R.bytes reader.old) → IfErr result (λ e. (e ≡ Io Input) ⊎ (e ≡ OutOfMemory)) }
         ensures kinds { IfErr result (λ e. (e ≡ UnexpectedEof) ⊎ (e ≡ Io Input) ⊎ (e ≡ OutOfMemory)) }
-        ensures cause { HasCause (R.faults reader.old) (R.faults reader.new) (IsErrOf result (Io Input)) }
-        ensures same { R.bytes reader.new ≡ R.bytes reader.old }
-        ensures tells { R.tells reader.new ≡ R.tells reader.old }
+        ensures frame { ReadFrom R.bytes R.tells R.faults R.lent reader.old reader.new (IsErrOf result (Io Input)) }
     {
         let kept = self.keep(at).min(size);
         self.from = at;
@@ -118,7 +113,7 @@ impl Block {
         Ok(())
     }
 
-    /// Moves the bytes that the block has from offset `at` on to its front, and returns how many these are.
+    /// Moves the bytes that the block has from offset `at` on to its start, and returns how many these are.
     fn keep(&mut self, at: u64) -> usize
         ensures kept { (bytes : List ℕ) → IsPart self.old bytes → take result self.new.bytes.items ≡ take result (drop at bytes) }
         ensures few { result ≤ length self.new.bytes.items }
@@ -132,7 +127,7 @@ impl Block {
         len - start
     }
 
-    /// The `count` bytes from offset `at` on, which the block has.
+    /// The `count` bytes from offset `at`, which the block must have.
     pub fn part(&self, at: u64, count: usize) -> &[u8]
         requires { Has self.now at count }
         ensures value { (bytes : List ℕ) → IsPart self.now bytes → result.now ≡ take count (drop at bytes) }

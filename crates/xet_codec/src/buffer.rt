@@ -1,25 +1,25 @@
-//! Small pieces, which are gathered before they go to a sink.
+//! `Buffer`: collects short writes before they go to a sink.
 
 ghost use Rattle.std.specs.Prelude.{◌≡◌, ◌≤◌, true, ◌++◌, IfErr, IsErrOf, OnErr, OnOk};
 ghost use Rattle.xet_hash.specs.declared.error.Place.TheVariants.{Output};
 ghost use Rattle.xet_hash.specs.declared.error.StoreError.TheVariants.{Io};
-ghost use Rattle.xet_io.specs.Faults.{HasCause};
 ghost use Rattle.xet_codec.specs.Written.{WritesPrefix};
 ghost use Rattle.xet_codec.specs.Stops.{StopsWriting};
+ghost use Rattle.xet_io.specs.Frame.{Called};
 
 use crate::write_piece;
 use xet_hash::{MerkleHash, StoreError};
 use xet_io::Sink;
 
-/// The most bytes that are held back.
+/// The maximum number of buffered bytes.
 const ROOM: usize = 2048;
 
-/// Bytes that are held back, at most 2,048, until they go to a sink together.
+/// At most 2,048 bytes, which are buffered until they are written to a sink together.
 #[derive(Drop)]
 pub struct Buffer {
-    /// The bytes, at the front.
+    /// The buffered bytes are at the start.
     bytes: [u8; ROOM],
-    /// How many there are.
+    /// The number of buffered bytes.
     used: usize,
     ghost within: { used ≤ 2048 },
 }
@@ -28,14 +28,14 @@ impl Buffer {
     ghost use Rattle.std.specs.Prelude.{◌≡◌, ◌+◌, ◌*◌, ◌<◌, ◌≤◌, true, ◌++◌, IfErr, IsErrOf, OnErr, OnOk, [], length};
     ghost use Rattle.xet_hash.specs.declared.error.Place.TheVariants.{Output};
     ghost use Rattle.xet_hash.specs.declared.error.StoreError.TheVariants.{Io};
-    ghost use Rattle.xet_io.specs.Faults.{HasCause};
     ghost use Rattle.std.specs.List.{flat_map};
     ghost use Rattle.xet_codec.specs.Held.{held_in};
     ghost use Rattle.xet_codec.specs.Numbers.{joined, numbers};
     ghost use Rattle.xet_codec.specs.Written.{WritesPrefix, Moves};
     ghost use Rattle.xet_codec.specs.Stops.{StopsWriting};
+    ghost use Rattle.xet_io.specs.Frame.{Called};
 
-    /// No bytes.
+    /// An empty buffer.
     pub fn new() -> Buffer
         ensures { held_in result ≡ [] }
     {
@@ -45,13 +45,13 @@ impl Buffer {
         }
     }
 
-    /// Puts a piece behind what is held back. Where there is no room, that is written first.
+    /// Appends a slice to the buffered bytes. If there is no room, these are written first. A slice that is
+    /// longer than the buffer is then written directly.
     pub fn put<W: Sink>(&mut self, sink: &mut W, piece: &[u8]) -> Result<(), StoreError>
         ensures moved { W.tells sink.old ≡ true → OnOk result (Moves (W.written sink.old) (W.written sink.new) (held_in self.new) (held_in self.old ++ piece.now)) }
         ensures front { W.tells sink.old ≡ true → OnErr result (WritesPrefix (W.written sink.old) (W.written sink.new) (held_in self.old ++ piece.now)) }
         ensures refusals { IfErr result StopsWriting }
-        ensures tells { W.tells sink.new ≡ W.tells sink.old }
-        ensures cause { HasCause (W.faults sink.old) (W.faults sink.new) (IsErrOf result (Io Output)) }
+        ensures frame { Called W.tells W.faults sink.old sink.new (IsErrOf result (Io Output)) }
     {
         self.make_room(sink, piece.len())?;
         if piece.len() > ROOM {
@@ -62,13 +62,12 @@ impl Buffer {
         }
     }
 
-    /// Puts these pieces, one after the other.
+    /// Appends these slices, in order.
     pub fn put_all<W: Sink>(&mut self, sink: &mut W, pieces: &[&[u8]]) -> Result<(), StoreError>
         ensures moved { W.tells sink.old ≡ true → OnOk result (Moves (W.written sink.old) (W.written sink.new) (held_in self.new) (held_in self.old ++ flat_map (λ p. p.now) pieces.now)) }
         ensures front { W.tells sink.old ≡ true → OnErr result (WritesPrefix (W.written sink.old) (W.written sink.new) (held_in self.old ++ flat_map (λ p. p.now) pieces.now)) }
         ensures refusals { IfErr result StopsWriting }
-        ensures tells { W.tells sink.new ≡ W.tells sink.old }
-        ensures cause { HasCause (W.faults sink.old) (W.faults sink.new) (IsErrOf result (Io Output)) }
+        ensures frame { Called W.tells W.faults sink.old sink.new (IsErrOf result (Io Output)) }
     {
         for piece in pieces {
             self.put(sink, piece)?;
@@ -76,13 +75,12 @@ impl Buffer {
         Ok(())
     }
 
-    /// Puts these numbers, four bytes each, the low one first.
+    /// Appends these numbers, four bytes each, little-endian.
     pub fn put_numbers<W: Sink>(&mut self, sink: &mut W, list: &[u32]) -> Result<(), StoreError>
         ensures moved { W.tells sink.old ≡ true → OnOk result (Moves (W.written sink.old) (W.written sink.new) (held_in self.new) (held_in self.old ++ numbers list.now)) }
         ensures front { W.tells sink.old ≡ true → OnErr result (WritesPrefix (W.written sink.old) (W.written sink.new) (held_in self.old ++ numbers list.now)) }
         ensures refusals { IfErr result StopsWriting }
-        ensures tells { W.tells sink.new ≡ W.tells sink.old }
-        ensures cause { HasCause (W.faults sink.old) (W.faults sink.new) (IsErrOf result (Io Output)) }
+        ensures frame { Called W.tells W.faults sink.old sink.new (IsErrOf result (Io Output)) }
     {
         for number in list {
             self.put(sink, &number.to_le_bytes())?;
@@ -90,7 +88,7 @@ impl Buffer {
         Ok(())
     }
 
-    /// Puts these hashes.
+    /// Appends these hashes, 32 bytes each.
     pub fn put_hashes<W: Sink>(
         &mut self,
         sink: &mut W,
@@ -100,8 +98,7 @@ impl Buffer {
         ensures length { OnOk result (length (joined hashes.now) ≡ 32 * length hashes.now) }
         ensures front { W.tells sink.old ≡ true → OnErr result (WritesPrefix (W.written sink.old) (W.written sink.new) (held_in self.old ++ joined hashes.now)) }
         ensures refusals { IfErr result StopsWriting }
-        ensures tells { W.tells sink.new ≡ W.tells sink.old }
-        ensures cause { HasCause (W.faults sink.old) (W.faults sink.new) (IsErrOf result (Io Output)) }
+        ensures frame { Called W.tells W.faults sink.old sink.new (IsErrOf result (Io Output)) }
     {
         for hash in hashes {
             self.put(sink, hash.as_bytes())?;
@@ -109,29 +106,27 @@ impl Buffer {
         Ok(())
     }
 
-    /// Writes what is held back.
+    /// Writes the buffered bytes.
     pub fn flush<W: Sink>(&mut self, sink: &mut W) -> Result<(), StoreError>
         ensures moved { W.tells sink.old ≡ true → OnOk result (W.written sink.new ≡ W.written sink.old ++ held_in self.old) }
         ensures empty { OnOk result (self.new.used ≡ 0) }
         ensures front { W.tells sink.old ≡ true → OnErr result (WritesPrefix (W.written sink.old) (W.written sink.new) (held_in self.old)) }
         ensures refusals { IfErr result StopsWriting }
-        ensures tells { W.tells sink.new ≡ W.tells sink.old }
-        ensures cause { HasCause (W.faults sink.old) (W.faults sink.new) (IsErrOf result (Io Output)) }
+        ensures frame { Called W.tells W.faults sink.old sink.new (IsErrOf result (Io Output)) }
     {
         write_piece(sink, &self.bytes[..self.used])?;
         self.used = 0;
         Ok(())
     }
 
-    /// Makes room for so many bytes, or as much room as there is.
+    /// Makes room for `len` bytes. If the buffer is shorter than that, empties it.
     fn make_room<W: Sink>(&mut self, sink: &mut W, len: usize) -> Result<(), StoreError>
         ensures moved { W.tells sink.old ≡ true → OnOk result (Moves (W.written sink.old) (W.written sink.new) (held_in self.new) (held_in self.old)) }
         ensures room { OnOk result (len ≤ 2048 → self.new.used + len ≤ 2048) }
         ensures empty { OnOk result (2048 < len → self.new.used ≡ 0) }
         ensures front { W.tells sink.old ≡ true → OnErr result (WritesPrefix (W.written sink.old) (W.written sink.new) (held_in self.old)) }
         ensures refusals { IfErr result StopsWriting }
-        ensures tells { W.tells sink.new ≡ W.tells sink.old }
-        ensures cause { HasCause (W.faults sink.old) (W.faults sink.new) (IsErrOf result (Io Output)) }
+        ensures frame { Called W.tells W.faults sink.old sink.new (IsErrOf result (Io Output)) }
     {
         if len > ROOM - self.used {
             self.flush(sink)
@@ -140,7 +135,7 @@ impl Buffer {
         }
     }
 
-    /// Holds a piece back for which there is room.
+    /// Appends a slice for which there is room.
     fn keep(&mut self, piece: &[u8])
         requires { self.old.used + length piece.now ≤ 2048 }
         ensures { held_in self.new ≡ held_in self.old ++ piece.now }

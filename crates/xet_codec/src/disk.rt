@@ -1,4 +1,4 @@
-//! Refusals of a disk as those of a store.
+//! Converts the errors of a disk to `StoreError`.
 
 ghost use Rattle.std.specs.Prelude.{◌≡◌};
 ghost use Rattle.xet_codec.specs.Stops.{from_refusal};
@@ -6,7 +6,7 @@ ghost use Rattle.xet_codec.specs.Stops.{from_refusal};
 use xet_hash::{Place, StoreError};
 use xet_io::Refusal;
 
-/// A disk's refusal as a store's.
+/// The `StoreError` for the error of a disk: `Io(Disk)` or `OutOfMemory`.
 pub fn store_error(refusal: Refusal) -> StoreError
     ensures { result ≡ from_refusal refusal }
 {

@@ -1,24 +1,24 @@
-//! Sources and sinks, with the refusals of this crate.
+//! Sources and sinks, with `StoreError`.
 
 ghost use Rattle.std.specs.Prelude.{◌≡◌, ◌<◌, ◌≤◌, ◌^◌, ◌⊎◌, ℕ, [], true, ◌++◌, IfErr, IfOk, IsErrOf, IsOkUnless, OnOk, length, take, vec_len};
 ghost use Rattle.xet_hash.specs.declared.error.StoreError.TheVariants.{Io};
 ghost use Rattle.xet_hash.specs.declared.error.Place.TheVariants.{Input, Output};
-ghost use Rattle.xet_io.specs.Faults.{HasCause};
 ghost use Rattle.xet_io.specs.Streams.{Reads};
 ghost use Rattle.xet_io.specs.Whole.{Fills};
 ghost use Rattle.xet_codec.specs.Stops.{PassesLimit, StopsWriting};
+ghost use Rattle.xet_io.specs.Frame.{Called};
 
 use std::alloc::Global;
 use xet_hash::{Place, StoreError, What};
 use xet_io::{Refusal, Sink, Source, read_full, write_all};
 
-/// The most bytes that are taken from a source that is read to its end.
+/// The maximum length of a source that is read to its end, in bytes.
 pub const MOST: usize = 1 << 63;
 
-/// The bytes that are taken at once from such a source.
+/// The maximum number of bytes of one read from such a source.
 const BLOCK: usize = 1 << 17;
 
-/// Room for a block of bytes.
+/// A buffer for one block of bytes. The only error is out of memory.
 pub fn new_block(alloc: Global) -> Result<Vec<u8>, StoreError>
     ensures some { IfOk result (λ block. 0 < vec_len block) }
     ensures memory { IsOkUnless result StoreError.OutOfMemory }
@@ -28,13 +28,12 @@ pub fn new_block(alloc: Global) -> Result<Vec<u8>, StoreError>
     Ok(block)
 }
 
-/// Writes all bytes of a piece. After a refusal a front of it was written.
+/// Writes all bytes of a slice. After an error a prefix of it was written.
 pub fn write_piece<W: Sink>(sink: &mut W, piece: &[u8]) -> Result<(), StoreError>
     ensures whole { W.tells sink.old ≡ true → OnOk result (W.written sink.new ≡ W.written sink.old ++ piece.now) }
     ensures front { W.tells sink.old ≡ true → (n : ℕ) × (W.written sink.new ≡ W.written sink.old ++ take n piece.now) }
     ensures refusals { IfErr result StopsWriting }
-    ensures tells { W.tells sink.new ≡ W.tells sink.old }
-    ensures cause { HasCause (W.faults sink.old) (W.faults sink.new) (IsErrOf result (Io Output)) }
+    ensures frame { Called W.tells W.faults sink.old sink.new (IsErrOf result (Io Output)) }
 {
     match write_all(sink, piece) {
         Ok(()) => Ok(()),
@@ -43,13 +42,12 @@ pub fn write_piece<W: Sink>(sink: &mut W, piece: &[u8]) -> Result<(), StoreError
     }
 }
 
-/// Reads the next bytes into the front of `buf`, and returns how many.
+/// Reads the next bytes into the start of `buf`, and returns how many. The only error is `Io(Input)`.
 pub fn read_some<R: Source>(source: &mut R, buf: &mut [u8]) -> Result<usize, StoreError>
     ensures told { R.tells source.old ≡ true → Reads (R.left source.old) buf.new result (R.left source.new) }
     ensures bound { IfOk result (λ count. count ≤ length buf.new) }
     ensures refusals { IfErr result (λ e. e ≡ Io Input) }
-    ensures tells { R.tells source.new ≡ R.tells source.old }
-    ensures cause { HasCause (R.faults source.old) (R.faults source.new) (IsErrOf result (Io Input)) }
+    ensures frame { Called R.tells R.faults source.old source.new (IsErrOf result (Io Input)) }
 {
     match source.read(buf) {
         Ok(count) => Ok(count),
@@ -57,13 +55,13 @@ pub fn read_some<R: Source>(source: &mut R, buf: &mut [u8]) -> Result<usize, Sto
     }
 }
 
-/// Reads until `buf` is full or the source has ended, and returns how many bytes it took.
+/// Reads until `buf` is full or the source ends, and returns how many bytes it took. The only error is
+/// `Io(Input)`.
 pub fn read_front<R: Source>(source: &mut R, buf: &mut [u8]) -> Result<usize, StoreError>
     ensures told { R.tells source.old ≡ true → Fills (R.left source.old) buf.new result (R.left source.new) }
     ensures bound { IfOk result (λ count. count ≤ length buf.new) }
     ensures refusals { IfErr result (λ e. e ≡ Io Input) }
-    ensures tells { R.tells source.new ≡ R.tells source.old }
-    ensures cause { HasCause (R.faults source.old) (R.faults source.new) (IsErrOf result (Io Input)) }
+    ensures frame { Called R.tells R.faults source.old source.new (IsErrOf result (Io Input)) }
 {
     match read_full(source, buf) {
         Ok(count) => Ok(count),
@@ -71,7 +69,8 @@ pub fn read_front<R: Source>(source: &mut R, buf: &mut [u8]) -> Result<usize, St
     }
 }
 
-/// Writes all that is left in a source, block by block, and returns how many bytes these are.
+/// Writes all that is left in a source, block by block, and returns how many bytes these are. After an error
+/// a prefix of them was written. The error is `TooLarge(Input)` if the source has more than 2^63 bytes.
 pub fn copy_all<R: Source, W: Sink>(
     r: &mut R,
     w: &mut W,
@@ -85,10 +84,8 @@ pub fn copy_all<R: Source, W: Sink>(
     ensures front { R.tells r.old ≡ true → W.tells w.old ≡ true → (n : ℕ) × (W.written w.new ≡ W.written w.old ++ take n (R.left r.old)) }
     ensures refusals { R.tells r.old ≡ true → IfErr result (λ e. (e ≡ Io Input) ⊎ StopsWriting e) }
     ensures kinds { IfErr result (λ e. (e ≡ Io Input) ⊎ (StopsWriting e ⊎ PassesLimit e)) }
-    ensures source_tells { R.tells r.new ≡ R.tells r.old }
-    ensures sink_tells { W.tells w.new ≡ W.tells w.old }
-    ensures source_cause { HasCause (R.faults r.old) (R.faults r.new) (IsErrOf result (Io Input)) }
-    ensures sink_cause { HasCause (W.faults w.old) (W.faults w.new) (IsErrOf result (Io Output)) }
+    ensures source { Called R.tells R.faults r.old r.new (IsErrOf result (Io Input)) }
+    ensures sink { Called W.tells W.faults w.old w.new (IsErrOf result (Io Output)) }
 {
     let mut total = 0;
     'reads: loop {

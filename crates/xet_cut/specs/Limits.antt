@@ -1,4 +1,4 @@
--- The limits of a store, each within its range.
+-- The limits of a store and their ranges.
 use Rattle.std.specs.Prelude.{ℕ, ◌/◌, ◌^◌, ◌<◌, ◌≤◌, Bool, IsTrue, true, false, not, ◌&&◌, nat_le, nat_lt, List, [], ◌∷◌, Option, find}
 use Rattle.std.specs.Int.{is_power_of_two}
 use Rattle.xet_hash.specs.declared.error.Field.{Field}
@@ -10,7 +10,7 @@ use Rattle.xet_cut.specs.declared.limits.LimitSettings.{LimitSettings}
 abbrev pub is_between : ℕ → ℕ → ℕ → Bool
 is_between low high n = nat_le low n && nat_le n high
 
--- a scheme that stores a chunk's bytes as they are
+-- a scheme that stores a chunk's bytes uncompressed
 abbrev pub is_plain_scheme : CompressionScheme → Bool
 is_plain_scheme scheme.None = true
 is_plain_scheme scheme.LZ4 = false
@@ -32,7 +32,7 @@ in_range s BlockBytes = is_between 1 (2 ^ 30) s.block_bytes
 in_range s MaxSourceBytes = is_between 1 (2 ^ 42) s.max_source_bytes && nat_lt (s.max_source_bytes / s.minimum_chunk) (2 ^ 30)
 in_range s Scheme = is_plain_scheme s.scheme
 
--- the limits that have a range, in the order in which they are tested
+-- the limits that have a range, in the order in which they are checked
 abbrev pub fields : List Field
 fields =
     TargetChunk ∷ MinimumChunk ∷ MaximumChunk ∷ CutBytes ∷ CutChunks ∷ ShardTarget ∷ GuardWindow ∷ MinRange ∷ LowFactor
@@ -42,7 +42,7 @@ fields =
 unfoldable pub bad_field : LimitSettings → Option Field
 bad_field s = find (λ field. not (in_range s field)) fields
 
--- that no limit is out of its range, fact by fact
+-- all limits are in their ranges, bound by bound
 pub record AreInRange (s : LimitSettings) : Type 0 where
   pub target_power : IsTrue (is_power_of_two s.target_chunk)
   pub target_least : 128 ≤ s.target_chunk
@@ -66,7 +66,7 @@ pub record AreInRange (s : LimitSettings) : Type 0 where
   pub source_chunks : s.max_source_bytes / s.minimum_chunk < 2 ^ 30
   pub scheme_plain : IsTrue (is_plain_scheme s.scheme)
 
--- the settings that are taken where nothing else is said
+-- the default settings
 abbrev pub shown_settings : List ℕ → LimitSettings
 shown_settings gear = record {
   target_chunk = 65536;

@@ -1,3 +1,3 @@
-pub mod GearSum
+pub mod GearHash
 pub mod PieceEnds
 pub mod Ranges

@@ -1,16 +1,16 @@
-//! Content-defined chunking of bytes that are all there.
+//! Content-defined chunking of bytes that are all in memory.
 
 ghost use Rattle.std.specs.Prelude.{◌≡◌, ◌<◌, ◌≤◌, IfOk, IsOkUnless, length, map};
 ghost use Rattle.xet_hash.specs.Merkle.{members_of, total_len};
-ghost use Rattle.xet_cut.specs.Cut.{cut, mask, piece_len};
+ghost use Rattle.xet_cut.specs.Cut.{cut, mask, first_chunk_len};
 
 use crate::limits::Limits;
 use std::alloc::Global;
 use xet_hash::{MerkleHash, StoreError, compute_data_hash};
 
-/// The length of the first chunk of these bytes, 0 where there are none.
-pub fn piece_len(limits: &Limits, bytes: &[u8]) -> usize
-    ensures value { result ≡ piece_len limits.now bytes.now }
+/// The length of the first chunk of these bytes, or 0 if there are none.
+pub fn first_chunk_len(limits: &Limits, bytes: &[u8]) -> usize
+    ensures value { result ≡ first_chunk_len limits.now bytes.now }
     ensures some { 0 < length bytes.now → 0 < result }
     ensures bound { result ≤ length bytes.now }
 {
@@ -29,7 +29,7 @@ pub fn piece_len(limits: &Limits, bytes: &[u8]) -> usize
     end
 }
 
-/// `target - 1` shifted left until its top bit is bit 63, where `target` is a power of two.
+/// The mask for a power of two `target`: `target - 1` shifted left until its top bit is bit 63.
 fn mask(target: u32) -> u64
     requires { 2 ≤ target }
     ensures { result ≡ mask target }
@@ -38,22 +38,22 @@ fn mask(target: u32) -> u64
     u64::from(target - 1) * (shift as u64)
 }
 
-/// The lengths of the chunks of these bytes.
-pub fn cut_lengths(alloc: Global, limits: &Limits, bytes: &[u8]) -> Result<Vec<usize>, StoreError>
+/// The lengths of the chunks of these bytes. The only error is out of memory.
+pub fn chunk_lengths(alloc: Global, limits: &Limits, bytes: &[u8]) -> Result<Vec<usize>, StoreError>
     ensures lengths { IfOk result (λ lengths. lengths.items ≡ map length (cut limits.now bytes.now)) }
     ensures memory { IsOkUnless result StoreError.OutOfMemory }
 {
     let mut lengths = Vec::new(alloc);
     let mut rest = bytes;
     'pieces: while !rest.is_empty() {
-        let (piece, tail) = rest.split_at(piece_len(limits, rest));
+        let (piece, tail) = rest.split_at(first_chunk_len(limits, rest));
         lengths.push(piece.len())?;
         rest = tail;
     }
     Ok(lengths)
 }
 
-/// The chunk list of these bytes: each chunk's digest and length.
+/// The chunk list of these bytes: the hash and the length of each chunk. The only error is out of memory.
 pub fn chunk_list(
     alloc: Global,
     limits: &Limits,
@@ -66,7 +66,7 @@ pub fn chunk_list(
     let mut members = Vec::new(alloc);
     let mut rest = bytes;
     'pieces: while !rest.is_empty() {
-        let (piece, tail) = rest.split_at(piece_len(limits, rest));
+        let (piece, tail) = rest.split_at(first_chunk_len(limits, rest));
         members.push((compute_data_hash(piece), piece.len() as u64))?;
         rest = tail;
     }

@@ -1,4 +1,4 @@
-//! SplitMix64, which makes gear tables and files for tests.
+//! SplitMix64, which generates Gear tables and files for tests.
 
 ghost use Rattle.std.specs.Prelude.{◌≡◌, IfOk, IsOkUnless};
 ghost use Rattle.xet_cut.specs.Generator.{gear_table, generated, mixed};
@@ -6,10 +6,10 @@ ghost use Rattle.xet_cut.specs.Generator.{gear_table, generated, mixed};
 use std::alloc::Global;
 use xet_hash::StoreError;
 
-/// By how much the state grows from output to output.
+/// What each output adds to the state.
 const STEP: u64 = 0x9E37_79B9_7F4A_7C15;
 
-/// The output that a state gives.
+/// The output for a state.
 #[tactic(auto, unfolding(crate::specs::Generator::mixed))]
 fn mixed(state: u64) -> u64
     ensures { result ≡ mixed state }
@@ -19,7 +19,7 @@ fn mixed(state: u64) -> u64
     z ^ (z >> 31)
 }
 
-/// The gear table of a seed: the first 256 outputs of SplitMix64. It takes no memory.
+/// The Gear table of a seed: the first 256 outputs of SplitMix64. Does not allocate.
 pub fn gear_table(seed: u64) -> [u64; 256]
     ensures { result ≡ gear_table seed }
 {
@@ -32,7 +32,8 @@ pub fn gear_table(seed: u64) -> [u64; 256]
     table
 }
 
-/// A file of so many bytes: the little-endian bytes of the outputs from a seed.
+/// A file of `length` bytes: the little-endian bytes of the outputs from a seed. The only error is out of
+/// memory.
 pub fn generated(alloc: Global, seed: u64, length: usize) -> Result<Vec<u8>, StoreError>
     ensures bytes { IfOk result (λ bytes. bytes.items ≡ generated seed length) }
     ensures memory { IsOkUnless result StoreError.OutOfMemory }

@@ -9,43 +9,43 @@ use xet_xorb_chunk::CompressionScheme;
 /// Settings for `Limits::new`, each with its range. Lengths and sizes are in bytes.
 #[derive(Clone, Copy, PartialEq, Eq, Debug)]
 pub struct LimitSettings {
-    /// The length that chunks are to have on the whole: a power of two from 128 to 4,194,304.
+    /// Target (average) chunk size: a power of two from 128 to 4,194,304.
     pub target_chunk: u32,
-    /// The least length of a chunk that is not the last: from 1 to below the greatest.
+    /// Minimum size of a chunk that is not the last: from 1, below `maximum_chunk`.
     pub minimum_chunk: u32,
-    /// The greatest length of a chunk: below 8,388,608.
+    /// Maximum chunk size: below 8,388,608.
     pub maximum_chunk: u32,
-    /// The greatest length of a xorb's chunks together: from that of a chunk to 2^30.
+    /// Maximum number of uncompressed bytes of a xorb: from `maximum_chunk` to 2^30.
     pub cut_bytes: u32,
-    /// The greatest number of chunks of a xorb: from 1 to 65,536.
+    /// Maximum number of chunks of a xorb: from 1 to 65,536.
     pub cut_chunks: u32,
-    /// The size past which the pending shard is written: below 2^32.
+    /// Size above which the pending shard is written: below 2^32.
     pub shard_target: u64,
-    /// The number of ranges that the fragmentation guard looks at: from 1 to 65,536.
+    /// Number of ranges that the fragmentation guard looks at: from 1 to 65,536.
     pub guard_window: u32,
-    /// The guard's least mean number of chunks of a range, a fraction: its denominator is not 0.
+    /// The guard's minimum mean number of chunks of a range, as numerator and denominator. The denominator is
+    /// not 0.
     pub min_range: (u32, u32),
-    /// The factor of `min_range` after a refusal, a fraction: its denominator is not 0.
+    /// Factor of `min_range` after a rejection, as numerator and denominator. The denominator is not 0.
     pub low_factor: (u32, u32),
-    /// The greatest number of bytes of one read: from 1 to 2^30.
+    /// Maximum number of bytes of one read: from 1 to 2^30.
     pub block_bytes: u32,
-    /// The greatest length of a source: from 1 to 2^42, and below 2^30 when divided by
-    /// `minimum_chunk`.
+    /// Maximum length of a source: from 1 to 2^42, and below 2^30 when divided by `minimum_chunk`.
     pub max_source_bytes: u64,
     /// How chunks are stored: `None` or `Auto`.
     pub scheme: CompressionScheme,
-    /// The number of different first words of chunks that are indexed.
+    /// Maximum number of different first words of chunk hashes in the index.
     pub index_cap: u64,
-    /// For how many seconds an expired shard is kept.
+    /// Number of seconds for which an expired shard is retained.
     pub expiry_buffer: u64,
-    /// A word for each byte, by which the cut decides.
+    /// Gear table: a word for each byte value, from which the Gear hash is computed.
     pub gear: [u64; 256],
 }
 
 impl LimitSettings {
     ghost use Rattle.xet_cut.specs.Limits.{shown_settings};
 
-    /// The usual settings, with this gear table.
+    /// The default settings, with this Gear table.
     pub fn shown(gear: [u64; 256]) -> LimitSettings
         ensures { result ≡ shown_settings gear }
     {
@@ -92,8 +92,8 @@ impl Limits {
     ghost use Rattle.std.specs.Int.{is_power_of_two};
     ghost use Rattle.xet_cut.specs.Limits.{AreInRange, bad_field, is_plain_scheme};
 
-    /// Limits of these settings. Refuses the first that is out of its range, in the order of the
-    /// fields.
+    /// Limits with these settings. The error is `BadLimits` with the first limit, in the order of the fields,
+    /// that is out of its range.
     pub fn new(settings: LimitSettings) -> Result<Limits, StoreError>
         ensures ok { IfOk result (λ limits. (limits ≡ settings) × (bad_field settings ≡ None)) }
         ensures refused { IfErr result (λ error. IsSomeAnd (bad_field settings) (λ field. error ≡ StoreError.BadLimits field)) }
@@ -104,14 +104,14 @@ impl Limits {
         }
     }
 
-    /// Does nothing: that all are in their ranges is known after it.
+    /// Proof aid without effect: makes it available to the caller that all limits are in their ranges.
     pub fn known(&self)
         ensures { AreInRange self.now }
     {
         let _ = &self.settings;
     }
 
-    /// The length that chunks are to have on the whole, in bytes: a power of two.
+    /// Target (average) chunk size in bytes: a power of two.
     pub fn target_chunk(&self) -> u32
         ensures value { result ≡ self.now.target_chunk }
         ensures power { IsTrue (is_power_of_two result) }
@@ -120,7 +120,7 @@ impl Limits {
         self.settings.target_chunk
     }
 
-    /// The least length of a chunk that is not the last, in bytes.
+    /// Minimum size of a chunk that is not the last, in bytes.
     pub fn minimum_chunk(&self) -> u32
         ensures value { result ≡ self.now.minimum_chunk }
         ensures range { (1 ≤ result) × (result < self.now.maximum_chunk) }
@@ -128,7 +128,7 @@ impl Limits {
         self.settings.minimum_chunk
     }
 
-    /// The greatest length of a chunk, in bytes.
+    /// Maximum chunk size in bytes.
     pub fn maximum_chunk(&self) -> u32
         ensures value { result ≡ self.now.maximum_chunk }
         ensures range { result < 8388608 }
@@ -136,7 +136,7 @@ impl Limits {
         self.settings.maximum_chunk
     }
 
-    /// The greatest length of a xorb's chunks together, in bytes.
+    /// Maximum number of uncompressed bytes of a xorb.
     pub fn cut_bytes(&self) -> u32
         ensures value { result ≡ self.now.cut_bytes }
         ensures range { (self.now.maximum_chunk ≤ result) × (result ≤ 2 ^ 30) }
@@ -144,7 +144,7 @@ impl Limits {
         self.settings.cut_bytes
     }
 
-    /// The greatest number of chunks of a xorb.
+    /// Maximum number of chunks of a xorb.
     pub fn cut_chunks(&self) -> u32
         ensures value { result ≡ self.now.cut_chunks }
         ensures range { (1 ≤ result) × (result ≤ 65536) }
@@ -152,7 +152,7 @@ impl Limits {
         self.settings.cut_chunks
     }
 
-    /// The size past which the pending shard is written, in bytes.
+    /// Size above which the pending shard is written, in bytes.
     pub fn shard_target(&self) -> u64
         ensures value { result ≡ self.now.shard_target }
         ensures range { result < 2 ^ 32 }
@@ -160,7 +160,7 @@ impl Limits {
         self.settings.shard_target
     }
 
-    /// The number of ranges that the fragmentation guard looks at.
+    /// Number of ranges that the fragmentation guard looks at.
     pub fn guard_window(&self) -> u32
         ensures value { result ≡ self.now.guard_window }
         ensures range { (1 ≤ result) × (result ≤ 65536) }
@@ -168,7 +168,7 @@ impl Limits {
         self.settings.guard_window
     }
 
-    /// The guard's least mean number of chunks of a range, as numerator and denominator.
+    /// The guard's minimum mean number of chunks of a range, as numerator and denominator.
     pub fn min_range(&self) -> (u32, u32)
         ensures value { result ≡ self.now.min_range }
         ensures range { 1 ≤ result.1 }
@@ -176,7 +176,7 @@ impl Limits {
         self.settings.min_range
     }
 
-    /// The factor of `min_range` after a refusal, as numerator and denominator.
+    /// Factor of `min_range` after a rejection, as numerator and denominator.
     pub fn low_factor(&self) -> (u32, u32)
         ensures value { result ≡ self.now.low_factor }
         ensures range { 1 ≤ result.1 }
@@ -184,7 +184,7 @@ impl Limits {
         self.settings.low_factor
     }
 
-    /// The greatest number of bytes of one read.
+    /// Maximum number of bytes of one read.
     pub fn block_bytes(&self) -> u32
         ensures value { result ≡ self.now.block_bytes }
         ensures range { (1 ≤ result) × (result ≤ 2 ^ 30) }
@@ -192,7 +192,7 @@ impl Limits {
         self.settings.block_bytes
     }
 
-    /// The greatest length of a source, in bytes.
+    /// Maximum length of a source in bytes.
     pub fn max_source_bytes(&self) -> u64
         ensures value { result ≡ self.now.max_source_bytes }
         ensures range { (1 ≤ result) × (result ≤ 2 ^ 42) }
@@ -201,7 +201,7 @@ impl Limits {
         self.settings.max_source_bytes
     }
 
-    /// How chunks are stored.
+    /// How chunks are stored: `None` or `Auto`.
     pub fn scheme(&self) -> CompressionScheme
         ensures value { result ≡ self.now.scheme }
         ensures range { IsTrue (is_plain_scheme result) }
@@ -209,21 +209,21 @@ impl Limits {
         self.settings.scheme
     }
 
-    /// The number of different first words of chunks that are indexed.
+    /// Maximum number of different first words of chunk hashes in the index.
     pub fn index_cap(&self) -> u64
         ensures { result ≡ self.now.index_cap }
     {
         self.settings.index_cap
     }
 
-    /// For how many seconds an expired shard is kept.
+    /// Number of seconds for which an expired shard is retained.
     pub fn expiry_buffer(&self) -> u64
         ensures { result ≡ self.now.expiry_buffer }
     {
         self.settings.expiry_buffer
     }
 
-    /// The word of each byte, by which the cut decides.
+    /// Gear table: a word for each byte value, from which the Gear hash is computed.
     pub fn gear(&self) -> &[u64; 256]
         ensures { result.now ≡ self.now.gear }
     {
@@ -231,7 +231,7 @@ impl Limits {
     }
 }
 
-/// The limits that have a range, in the order in which they are tested.
+/// The limits that have a range, in the order in which they are checked.
 const FIELDS: [Field; 12] = [
     Field::TargetChunk,
     Field::MinimumChunk,
@@ -282,7 +282,7 @@ fn is_in_range(s: &LimitSettings, field: Field) -> bool
     }
 }
 
-/// Whether a source may be so long.
+/// Whether the maximum length of a source is in its range.
 fn is_source_length(s: &LimitSettings) -> bool
     ensures { result ≡ in_range s.now Field.MaxSourceBytes }
 {

@@ -3,8 +3,8 @@ use Rattle.std.specs.Prelude.{ℕ, zero, suc, ◌-◌, nat_le, true, false, List
 use Rattle.xet_base.specs.Pieces.{pieces}
 use Rattle.xet_cut.specs.declared.limits.LimitSettings.{LimitSettings}
 
--- How many of the chunks at the front go into a xorb that has room for so many bytes and chunks: it
--- ends before the first that passes either.
+-- How many of the first chunks go into a xorb with room for this many bytes and chunks. It ends before the
+-- first chunk that exceeds either.
 unfoldable pub fitting : ℕ → ℕ → List (List ℕ) → ℕ
 fitting bytes zero chunks = 0
 fitting bytes (suc count) [] = 0

@@ -1,4 +1,4 @@
--- The records of files and of xorbs, as shards keep them.
+-- The records of files, as shards store them.
 use Rattle.std.specs.Prelude.{◌≡◌, ℕ, ◌-◌, true, List, [], ◌∷◌, length, map, take, drop, Option, is_some}
 use Rattle.std.specs.Option.{option_map}
 use Rattle.xet_hash.specs.Merkle.{file_hash, range_hash}
@@ -8,17 +8,17 @@ use Rattle.xet_shard_format.specs.declared.record.MDBFileInfo.{MDBFileInfo}
 use Rattle.xet_shard_format.specs.Records.{flags_of}
 pub use Rattle.xet_xorb.specs.Raw.{entries_from, xorb_record}
 
--- how many chunks a segment names
+-- the number of chunks of a segment
 abbrev pub run_len : Segment → ℕ
 run_len s = s.chunk_index_end - s.chunk_index_start
 
--- the digest of the chunks' hashes of each segment, where the plan joins to these members
+-- the range hash of each segment, if the plan resolves to these chunks
 abbrev pub range_hashes : List Segment → List (List ℕ × ℕ) → List FileVerificationEntry
 range_hashes [] members = []
 range_hashes (s ∷ ss) members =
     record { range_hash = range_hash (map (λ m. m.0) (take (run_len s) members)) } ∷ range_hashes ss (drop (run_len s) members)
 
--- the record of the file with these members, this plan and this SHA-256, if any
+-- the record of the file with this chunk list, this plan and this SHA-256, if any
 abbrev pub file_record : List (List ℕ × ℕ) → List Segment → Option (List ℕ) → MDBFileInfo
 file_record members plan sha256 = record {
   metadata = record { file_hash = file_hash members; file_flags = flags_of true (is_some sha256); num_entries = length plan };
@@ -27,7 +27,7 @@ file_record members plan sha256 = record {
   metadata_ext = option_map (λ digest. record { sha256 = digest }) sha256;
 }
 
--- It is the record of a file of these members.
+-- f is the record of a file with this chunk list.
 pub record IsRecordOf (members : List (List ℕ × ℕ)) (f : MDBFileInfo) : Type 0 where
   pub sha256 : Option (List ℕ)
   pub is : f ≡ file_record members f.segments sha256

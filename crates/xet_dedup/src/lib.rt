@@ -1,4 +1,4 @@
-//! How the chunks of files are packed into xorbs, and the records of files. With all of limits and chunking.
+//! Packing the chunks of files into xorbs, and the records of files. Re-exports limits and chunking.
 #![tactic(auto)]
 
 mod packing;
@@ -7,5 +7,5 @@ mod records;
 pub use packing::{chunks_of, pack_len};
 pub use records::file_record;
 pub use xet_cut::{
-    LimitSettings, Limits, chunk_list, cut_lengths, gear_table, generated, piece_len,
+    LimitSettings, Limits, chunk_lengths, chunk_list, first_chunk_len, gear_table, generated,
 };

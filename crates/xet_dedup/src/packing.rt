@@ -1,4 +1,4 @@
-//! A file's bytes as chunks, and its chunks in xorbs.
+//! The chunks of a file, and how they are packed into xorbs.
 
 ghost use Rattle.std.specs.Prelude.{◌≡◌, ◌≤◌, ◌<◌, ℕ, length, map, take, IfOk, IsOkUnless};
 ghost use Rattle.std.specs.List.{AllByRecursion};
@@ -8,11 +8,12 @@ ghost use Rattle.xet_dedup.specs.Packing.{pack_len};
 
 use bytes::Bytes;
 use std::alloc::Global;
-use xet_cut::{Limits, piece_len};
+use xet_cut::{Limits, first_chunk_len};
 use xet_hash::StoreError;
 use xet_xorb_chunk::Chunk;
 
-/// The chunks into which a file's bytes are cut. They share the bytes.
+/// The chunks of a file's bytes, by content-defined chunking. They share the bytes. The only error is out of
+/// memory.
 pub fn chunks_of(alloc: Global, limits: &Limits, bytes: Vec<u8>) -> Result<Vec<Chunk>, StoreError>
     ensures chunks { IfOk result (λ chunks. chunks.items ≡ map chunk_of (cut limits.now bytes.items)) }
     ensures total { IfOk result (λ chunks. total chunks.items ≡ length bytes.items) }
@@ -21,13 +22,13 @@ pub fn chunks_of(alloc: Global, limits: &Limits, bytes: Vec<u8>) -> Result<Vec<C
     let mut rest = Bytes::from_vec(bytes)?;
     let mut chunks = Vec::new(alloc);
     'pieces: while rest.len() > 0 {
-        let length = piece_len(limits, rest.as_slice());
+        let length = first_chunk_len(limits, rest.as_slice());
         chunks.push(Chunk::new(rest.split_to(length)?))?;
     }
     Ok(chunks)
 }
 
-/// How many of the chunks at the front go into the next xorb.
+/// How many of the first chunks go into the next xorb: as many as fit its limits of bytes and of chunks.
 pub fn pack_len(limits: &Limits, chunks: &[Chunk]) -> usize
     requires some { 0 < length chunks.now }
     requires fit { AllByRecursion (λ c. length c.bytes ≤ limits.now.cut_bytes) chunks.now }

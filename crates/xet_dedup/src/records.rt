@@ -1,4 +1,4 @@
-//! Records of xorbs and files, as shards keep them.
+//! Records of files, as shards store them.
 
 ghost use Rattle.std.specs.Prelude.{◌≡◌, ◌<◌, ◌^◌, IfOk, IsOkUnless, Some, length, map};
 ghost use Rattle.xet_hash.specs.Merkle.{file_hash};
@@ -12,7 +12,8 @@ use xet_shard_format::{
     MDBFileInfo, Sha256,
 };
 
-/// The record of the file of these members, of which this is the hash, with this plan and this SHA-256.
+/// The record of a file with this chunk list, reconstruction plan and SHA-256. `hash` must be the file hash
+/// of the chunk list. The only error is `OutOfMemory`, also if the plan has 2^32 or more segments.
 pub fn file_record(
     alloc: Global,
     hash: MerkleHash,
@@ -36,7 +37,7 @@ pub fn file_record(
     })
 }
 
-/// The digest of the chunks' hashes of each segment.
+/// The range hash of each segment: the digest of its chunks' hashes.
 fn range_hashes(
     alloc: Global,
     plan: &[FileDataSequenceEntry],
@@ -57,7 +58,7 @@ fn range_hashes(
     Ok(ranges)
 }
 
-/// How many chunks a segment names.
+/// The number of chunks of a segment.
 fn run_len(segment: &FileDataSequenceEntry) -> usize
     ensures { result ≡ run_len segment.now }
 {
@@ -66,7 +67,7 @@ fn run_len(segment: &FileDataSequenceEntry) -> usize
         .saturating_sub(segment.chunk_index_start) as usize
 }
 
-/// The digests of members.
+/// The hashes of a chunk list.
 fn hashes_of(alloc: Global, members: &[(MerkleHash, u64)]) -> Result<Vec<MerkleHash>, StoreError>
     ensures hashes { IfOk result (λ hashes. hashes.items ≡ map (λ m. m.0) members.now) }
     ensures memory { IsOkUnless result StoreError.OutOfMemory }

@@ -7,11 +7,11 @@ use Rattle.xet_hash.specs.Merkle.{members_of}
 use Rattle.xet_xorb.specs.declared.object.XorbObject.{XorbObject}
 use Rattle.xet_xorb.specs.Footer.{V0, V1, Version, ends_from, footer_info}
 use Rattle.xet_xorb.specs.Validation.{IsValid, IsXorbOf}
-use Rattle.xet_xorb.specs.Xorb.{IsXorbText}
+use Rattle.xet_xorb.specs.Xorb.{IsXorbEncoding}
 use Rattle.xet_folder.specs.Names.{xorb_path}
 use Rattle.xet_folder.specs.Stored.{IsBacked, IsStored}
 use Rattle.xet_folder.specs.Runs.{stored_len}
-use Rattle.xet_folder.specs.Xorbs.{spans_from}
+use Rattle.xet_folder.specs.internal.Xorbs.{spans_from}
 use Rattle.xet_folder.proofs.Placing.{stored_below}
 
 -- what the test of two hashes tells
@@ -78,7 +78,7 @@ module _ (files : Files) (folder h bytes : List ℕ) (there : bytes_at files (xo
       → (chunks : List (List ℕ)) → IsStored files folder h chunks → ⊥
   none_stored seen found all is never chunks s =
       let same : s.bytes ≡ seen = cc (s.there, there) ∙ sym all in
-      never (ap is_some is) chunks (record { text = subst (λ (b : List ℕ). IsXorbText b chunks) same s.text; fit = fitting chunks s.readable; hashed = s.hash })
+      never (ap is_some is) chunks (record { text = subst (λ (b : List ℕ). IsXorbEncoding b chunks) same s.text; fit = fitting chunks s.readable; hashed = s.hash })
 
 -- a valid xorb's chunks are stored in fewer than 2 ^ 32 bytes
 pub found_below : (h seen : List ℕ) (found : Option XorbObject) (o : XorbObject) (ms : List (List ℕ × ℕ)) → found ≡ Some o

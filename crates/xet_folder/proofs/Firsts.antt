@@ -7,7 +7,8 @@ use Rattle.std.specs.List.{AllByRecursion}
 use Rattle.xet_base.specs.theorems.Elements.{all_both}
 use Rattle.xet_shard_format.specs.declared.record.MDBFileInfo.{MDBFileInfo}
 use Rattle.xet_folder.specs.Contents.{firsts}
-use Rattle.xet_folder.specs.Gathering.{with_first, with_firsts}
+use Rattle.xet_folder.specs.Gathering.{with_first}
+use Rattle.xet_folder.specs.internal.Gathering.{with_firsts}
 use Rattle.xet_folder.specs.Xorbs.{Records, found}
 use Rattle.xet_folder.specs.theorems.Firsts.{Row, apart, found_apart}
 

@@ -21,7 +21,7 @@ use Rattle.xet_folder.specs.Admission.{FirstFails, Refuses, ShardFails, ShardHol
 use Rattle.xet_folder.specs.Checks.{Grows, Has, HasFile, HasShard, OfBytes, OfShard}
 use Rattle.xet_folder.specs.Contents.{AreContents, HasContents, firsts, listed_in, listed_of}
 use Rattle.xet_shard_file.specs.Entries.{IsEntry, ListsShards, entry_of, is_valid}
-use Rattle.xet_folder.specs.Gathering.{EntryFails, IsGathered, ShardsFail, shard_file, valid_bytes, with_firsts, with_valid}
+use Rattle.xet_folder.specs.internal.Gathering.{EntryFails, IsGathered, ShardsFail, shard_file, valid_bytes, with_firsts, with_valid}
 use Rattle.xet_shard_file.specs.Names.{shard_path}
 use Rattle.xet_shard_file.specs.Shards.{IsThere, Registers, ShardFile, is_expired}
 use Rattle.xet_folder.specs.Xorbs.{Records, Xorbs, found}
@@ -142,17 +142,17 @@ fails_after Holds Fails (z ∷ xs) x ys e all here = inr (all.0, fails_after Hol
 module _ (files : Files) (folder : List ℕ) (now : ℕ) (entries : List ShardEntry) (read : List ShardFile) (same : map entry_of read ≡ entries) (there : All (IsThere files folder) read) (i : ℕ) (e : ShardEntry)
     (below : i < length entries) (is : e ≡ get_or entries i e) where
   abbrev this : ShardFile
-  this = get_or read i (shard_file e.hash (file [] e.stamp))
+  this = get_or read i (shard_file e.hash (file [] e.modified))
 
   inside : i < length read
   inside = let long = sym (length-map read entry_of) ∙ ap (λ (es : List ShardEntry). length es) same in omega (arith, long, below)
 
   hash_is : this.hash ≡ e.hash
   hash_is =
-      ap (λ (x : ShardEntry). x.hash) (sym (is ∙ ap (λ (es : List ShardEntry). get_or es i e) (sym same) ∙ get_or-map entry_of read i (shard_file e.hash (file [] e.stamp))))
+      ap (λ (x : ShardEntry). x.hash) (sym (is ∙ ap (λ (es : List ShardEntry). get_or es i e) (sym same) ∙ get_or-map entry_of read i (shard_file e.hash (file [] e.modified))))
 
   there_is : file_at files (shard_path folder e.hash) ≡ Some this.file
-  there_is = ap (λ (h : List ℕ). file_at files (shard_path folder h)) (sym hash_is) ∙ (there i (shard_file e.hash (file [] e.stamp)) inside).there
+  there_is = ap (λ (h : List ℕ). file_at files (shard_path folder h)) (sym hash_is) ∙ (there i (shard_file e.hash (file [] e.modified)) inside).there
 
   this_is : shard_file e.hash this.file ≡ this
   this_is = ap (λ (h : List ℕ). shard_file h this.file) (sym hash_is)
@@ -162,7 +162,7 @@ module _ (files : Files) (folder : List ℕ) (now : ℕ) (entries : List ShardEn
   gathered_more old new step before =
       let shards : List ShardFile = filter (is_valid now) (take i read) in
       subst (λ (l : List ShardFile). IsGathered files folder l new)
-      (ap (with_valid now shards) this_is ∙ sym (filter_last now (take i read) this) ∙ ap (filter (is_valid now)) (sym (take_more read i (shard_file e.hash (file [] e.stamp)) inside)))
+      (ap (with_valid now shards) this_is ∙ sym (filter_last now (take i read) this) ∙ ap (filter (is_valid now)) (sym (take_more read i (shard_file e.hash (file [] e.modified)) inside)))
       (step shards this.file there_is before)
 
   pub shards_fail : (x : StoreError) (name : List ℕ) → AllByRecursion (ShardHolds files folder) (filter (is_valid now) (take i read)) → EntryFails files folder now e.hash x name
@@ -171,7 +171,7 @@ module _ (files : Files) (folder : List ℕ) (now : ℕ) (entries : List ShardEn
       let f = fails this.file there_is in
       let here : ShardFails files folder this x × (name ≡ shard_name this.hash) = (subst (λ (s : ShardFile). ShardFails files folder s x) this_is f.1, f.2 ∙ ap shard_name (sym hash_is)) in
       let rest = drop (i + 1) read in
-      let whole : take i read ++ this ∷ rest ≡ read = ap (λ (l : List ShardFile). take i read ++ l) (sym (drop_more read i (shard_file e.hash (file [] e.stamp)) inside)) ∙ take-append-drop i read in
+      let whole : take i read ++ this ∷ rest ≡ read = ap (λ (l : List ShardFile). take i read ++ l) (sym (drop_more read i (shard_file e.hash (file [] e.modified)) inside)) ∙ take-append-drop i read in
       let kept : filter (is_valid now) (this ∷ rest) ≡ this ∷ filter (is_valid now) rest = ap (λ (b : Bool). cond (not b) (this ∷ filter (is_valid now) rest) (filter (is_valid now) rest)) f.0 in
       let parts : filter (is_valid now) (take i read) ++ this ∷ filter (is_valid now) rest ≡ filter (is_valid now) read
       = ap (λ (l : List ShardFile). filter (is_valid now) (take i read) ++ l) (sym kept) ∙ sym (filter-append (is_valid now) (take i read) (this ∷ rest)) ∙ ap (filter (is_valid now)) whole in
@@ -198,10 +198,10 @@ module _ (files : Files) (folder : List ℕ) where
   read_one : (e : ShardEntry) → IsEntry files folder e → (s : ShardFile) × (entry_of s ≡ e) × IsThere files folder s
   read_one e is = go (file_at files (shard_path folder e.hash)) refl is.there
     where
-      go : (o : Option File) → file_at files (shard_path folder e.hash) ≡ o → option_map (λ (f : File). f.stamp) o ≡ Some e.stamp → (s : ShardFile) × (entry_of s ≡ e) × IsThere files folder s
-      go None at stamp = absurd (cc stamp)
-      go (Some f) at stamp =
-          let same : f.stamp ≡ e.stamp = cc stamp in (shard_file e.hash f, (λ i. record { hash = e.hash; stamp = same i }), record { named = is.named; there = at })
+      go : (o : Option File) → file_at files (shard_path folder e.hash) ≡ o → option_map (λ (f : File). f.modified) o ≡ Some e.modified → (s : ShardFile) × (entry_of s ≡ e) × IsThere files folder s
+      go None at modified = absurd (cc modified)
+      go (Some f) at modified =
+          let same : f.modified ≡ e.modified = cc modified in (shard_file e.hash f, (λ i. record { hash = e.hash; modified = same i }), record { named = is.named; there = at })
 
   read_of : (entries : List ShardEntry) → AllByRecursion (IsEntry files folder) entries → IsReadOf entries
   read_of [] all = record { read = []; same = refl; there = tt }

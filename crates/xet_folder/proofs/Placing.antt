@@ -8,12 +8,13 @@ use Rattle.xet_io.specs.Disk.{Files, FillsFrom, bytes_at}
 use Rattle.xet_hash.specs.Merkle.{chunk_hash, member_of, members_of, total_len, xorb_hash}
 use Rattle.xet_shard_format.specs.declared.record.FileDataSequenceEntry.{FileDataSequenceEntry as Segment}
 use Rattle.xet_codec.specs.Numbers.{number}
-use Rattle.xet_xorb_chunk.specs.Spelling.{spelling}
-use Rattle.xet_xorb.specs.Xorb.{IsXorbText, xorb_text}
+use Rattle.xet_xorb_chunk.specs.ChunkEncoding.{encoded_chunk}
+use Rattle.xet_xorb.specs.Xorb.{IsXorbEncoding, xorb_bytes}
 use Rattle.xet_xorb.specs.Footer.{footer_len, footer_text}
 use Rattle.xet_folder.specs.Names.{xorb_path}
 use Rattle.xet_folder.specs.Plan.{LiesIn, part, range}
-use Rattle.xet_folder.specs.Runs.{HasPlace, Spells, Touches, stored_len}
+use Rattle.xet_folder.specs.internal.Runs.{HasPlace, Encodes, Touches}
+use Rattle.xet_folder.specs.Runs.{stored_len}
 use Rattle.xet_folder.specs.Stored.{IsStored}
 use Rattle.xet_folder.proofs.Ranges.{range_within}
 use Rattle.xet_folder.specs.theorems.Placing.{Member, plain_joined}
@@ -23,11 +24,11 @@ rest_is xs n = take_all (length xs - n) (drop n xs) (omega (arith, length-drop n
 
 -- ---- lengths
 
-pub stored_joined : (chunks : List (List ℕ)) → stored_len (members_of chunks) ≡ length (flat_map spelling chunks)
-unfolding spelling
+pub stored_joined : (chunks : List (List ℕ)) → stored_len (members_of chunks) ≡ length (flat_map encoded_chunk chunks)
+unfolding encoded_chunk
 stored_joined [] = refl
 stored_joined (c ∷ cs) =
-    omega (arith, sum_by-cons (λ (m : Member). 8 + m.1) (chunk_hash c, length c) (members_of cs), stored_joined cs, length-append (spelling c) (flat_map spelling cs))
+    omega (arith, sum_by-cons (λ (m : Member). 8 + m.1) (chunk_hash c, length c) (members_of cs), stored_joined cs, length-append (encoded_chunk c) (flat_map encoded_chunk cs))
 
 -- ---- parts of parts
 
@@ -55,20 +56,20 @@ record IsPlace (bytes before here : List ℕ) : Type 0 where
   after : List ℕ
   is : bytes ≡ before ++ (here ++ after)
 
-place_in : (bytes : List ℕ) (chunks : List (List ℕ)) (at count : ℕ) → IsXorbText bytes chunks → IsPlace bytes (flat_map spelling (take at chunks)) (flat_map spelling (piece at count chunks))
-unfolding xorb_text
+place_in : (bytes : List ℕ) (chunks : List (List ℕ)) (at count : ℕ) → IsXorbEncoding bytes chunks → IsPlace bytes (flat_map encoded_chunk (take at chunks)) (flat_map encoded_chunk (piece at count chunks))
+unfolding xorb_bytes
 place_in bytes chunks at count text =
     let ms = members_of chunks in
     let foot : List ℕ = footer_text text.version (xorb_hash ms) ms text.spare ++ number (footer_len text.version (length ms)) in
     let rest : List (List ℕ) = drop count (drop at chunks) in
-    let two : flat_map spelling chunks ≡ flat_map spelling (take at chunks) ++ flat_map spelling (drop at chunks) =
-    ap (λ (l : List (List ℕ)). flat_map spelling l) (sym (take-append-drop at chunks)) ∙ flat_map-append spelling (take at chunks) (drop at chunks) in
-    let three : flat_map spelling (drop at chunks) ≡ flat_map spelling (piece at count chunks) ++ flat_map spelling rest =
-    ap (λ (l : List (List ℕ)). flat_map spelling l) (sym (take-append-drop count (drop at chunks))) ∙ flat_map-append spelling (piece at count chunks) rest in
+    let two : flat_map encoded_chunk chunks ≡ flat_map encoded_chunk (take at chunks) ++ flat_map encoded_chunk (drop at chunks) =
+    ap (λ (l : List (List ℕ)). flat_map encoded_chunk l) (sym (take-append-drop at chunks)) ∙ flat_map-append encoded_chunk (take at chunks) (drop at chunks) in
+    let three : flat_map encoded_chunk (drop at chunks) ≡ flat_map encoded_chunk (piece at count chunks) ++ flat_map encoded_chunk rest =
+    ap (λ (l : List (List ℕ)). flat_map encoded_chunk l) (sym (take-append-drop count (drop at chunks))) ∙ flat_map-append encoded_chunk (piece at count chunks) rest in
     record {
-      after = flat_map spelling rest ++ foot;
-      is = text.spelled ∙ ap (λ (l : List ℕ). l ++ foot) (two ∙ ap (λ (l : List ℕ). flat_map spelling (take at chunks) ++ l) three)
-          ∙ regroup (flat_map spelling (take at chunks)) (flat_map spelling (piece at count chunks)) (flat_map spelling rest) foot;
+      after = flat_map encoded_chunk rest ++ foot;
+      is = text.encoded ∙ ap (λ (l : List ℕ). l ++ foot) (two ∙ ap (λ (l : List ℕ). flat_map encoded_chunk (take at chunks) ++ l) three)
+          ∙ regroup (flat_map encoded_chunk (take at chunks)) (flat_map encoded_chunk (piece at count chunks)) (flat_map encoded_chunk rest) foot;
     }
 
 place_reaches : (bytes before here : List ℕ) → IsPlace bytes before here → length before + length here ≤ length bytes
@@ -78,11 +79,11 @@ place_slice : (bytes before here : List ℕ) (at len : ℕ) → IsPlace bytes be
 place_slice bytes before here at len p low size = ap (λ (l : List ℕ). take len (drop at l)) p.is ∙ ap (take len) (drop_at before (here ++ p.after) at low) ∙ take_at here p.after len size
 
 -- a xorb's chunks are stored in fewer bytes than it has
-pub stored_below : (bytes : List ℕ) (chunks : List (List ℕ)) → IsXorbText bytes chunks → stored_len (members_of chunks) < 2 ^ 32
+pub stored_below : (bytes : List ℕ) (chunks : List (List ℕ)) → IsXorbEncoding bytes chunks → stored_len (members_of chunks) < 2 ^ 32
 stored_below bytes chunks text =
     let all = place_in bytes chunks 0 (length chunks) text in
     let whole : piece 0 (length chunks) chunks ≡ chunks = take_all (length chunks) chunks (omega arith) in
-    omega (arith, place_reaches _ _ _ all, text.bound, stored_joined chunks, ap (λ (l : List (List ℕ)). length (flat_map spelling l)) whole)
+    omega (arith, place_reaches _ _ _ all, text.bound, stored_joined chunks, ap (λ (l : List (List ℕ)). length (flat_map encoded_chunk l)) whole)
 
 -- ---- what a range touches
 
@@ -105,17 +106,17 @@ module _ (files : Files) (folder : List ℕ) (s : Segment) (members : List Membe
   touched_members : members_of touched_chunks ≡ touched
   touched_members = piece-map member_of first t.count (part s chunks) ∙ ap (λ (l : List Member). piece first t.count l) run_members ∙ sym t.is
 
-  before_len : length (flat_map spelling (take (s.chunk_index_start + first) chunks)) ≡ stored_len (take (s.chunk_index_start + first) members)
+  before_len : length (flat_map encoded_chunk (take (s.chunk_index_start + first) chunks)) ≡ stored_len (take (s.chunk_index_start + first) members)
   before_len =
       sym (stored_joined (take (s.chunk_index_start + first) chunks))
       ∙ ap (λ (l : List Member). stored_len l) (sym (take-map member_of (s.chunk_index_start + first) chunks) ∙ ap (take (s.chunk_index_start + first)) same)
 
-  touched_len : length (flat_map spelling touched_chunks) ≡ stored_len touched
+  touched_len : length (flat_map encoded_chunk touched_chunks) ≡ stored_len touched
   touched_len = sym (stored_joined touched_chunks) ∙ ap (λ (l : List Member). stored_len l) touched_members
 
-  place : IsPlace stored.bytes (flat_map spelling (take (s.chunk_index_start + first) chunks)) (flat_map spelling touched_chunks)
+  place : IsPlace stored.bytes (flat_map encoded_chunk (take (s.chunk_index_start + first) chunks)) (flat_map encoded_chunk touched_chunks)
   place =
-      subst (λ (l : List (List ℕ)). IsPlace stored.bytes (flat_map spelling (take (s.chunk_index_start + first) chunks)) (flat_map spelling l)) (sym in_xorb)
+      subst (λ (l : List (List ℕ)). IsPlace stored.bytes (flat_map encoded_chunk (take (s.chunk_index_start + first) chunks)) (flat_map encoded_chunk l)) (sym in_xorb)
       (place_in stored.bytes chunks (s.chunk_index_start + first) t.count stored.text)
 
   reaches : stored_len (take (s.chunk_index_start + first) members) + stored_len touched ≤ length stored.bytes
@@ -130,16 +131,16 @@ module _ (files : Files) (folder : List ℕ) (s : Segment) (members : List Membe
 
   -- what is read there spells them
   pub touched_spelled : (path : List ℕ) (at : ℕ) (room : List ℕ) → path ≡ xorb_path folder s.xorb_hash → at ≡ stored_len (take (s.chunk_index_start + first) members) → length room ≡ stored_len touched
-      → FillsFrom (bytes_at files path) at room true → Spells room touched touched_chunks
+      → FillsFrom (bytes_at files path) at room true → Encodes room touched touched_chunks
   touched_spelled path at room path_is at_is len fills = go (bytes_at files path) (ap (bytes_at files) path_is ∙ stored.there) fills
     where
-      go : (o : Option (List ℕ)) → o ≡ Some stored.bytes → FillsFrom o at room true → Spells room touched touched_chunks
+      go : (o : Option (List ℕ)) → o ≡ Some stored.bytes → FillsFrom o at room true → Encodes room touched touched_chunks
       go None there f = absurd (cc there)
       go (Some bytes) there f =
           let all : bytes ≡ stored.bytes = cc there in
           record {
             same = touched_members;
-            spelled = f.1 ∙ ap (λ (l : List ℕ). take (length room) (drop at l)) all ∙ place_slice stored.bytes _ _ at (length room) place (before_len ∙ sym at_is) (touched_len ∙ sym len);
+            encoded = f.1 ∙ ap (λ (l : List ℕ). take (length room) (drop at l)) all ∙ place_slice stored.bytes _ _ at (length room) place (before_len ∙ sym at_is) (touched_len ∙ sym len);
           }
 
   -- the range is one of them

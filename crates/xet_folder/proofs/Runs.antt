@@ -8,17 +8,18 @@ use Rattle.xet_hash.specs.declared.error.StoreError.{StoreError}
 use Rattle.xet_hash.specs.declared.error.StoreError.TheVariants.{Io, MalformedData, OutOfMemory}
 use Rattle.xet_hash.specs.declared.error.Place.TheVariants.{Disk}
 use Rattle.xet_hash.specs.declared.error.Reason.TheVariants.{XorbText}
-use Rattle.xet_folder.specs.Refusals.{IsRefusal}
-use Rattle.xet_xorb_chunk.specs.Spelling.{le24, spelling}
+use Rattle.xet_folder.specs.internal.Refusals.{IsRefusal}
+use Rattle.xet_xorb_chunk.specs.ChunkEncoding.{le24, encoded_chunk}
 use Rattle.xet_folder.specs.Plan.{range}
-use Rattle.xet_folder.specs.Runs.{IsRunRefusal, Spells}
+use Rattle.xet_folder.specs.Runs.{IsRunRefusal}
+use Rattle.xet_folder.specs.internal.Runs.{Encodes}
 use Rattle.xet_folder.specs.theorems.Ranges.{range-append, range_cut, range_past}
 use Rattle.xet_folder.specs.theorems.Placing.{Member}
 
 -- the header of a stored chunk, from the bytes of its length
 pub header_is : (bytes rest ds : List ℕ) (n : ℕ) → length bytes ≡ n → ds ≡ to_le_bytes w32 n
-    → take 8 (spelling bytes ++ rest) ≡ 0 ∷ get_or ds 0 0 ∷ get_or ds 1 0 ∷ get_or ds 2 0 ∷ 0 ∷ get_or ds 0 0 ∷ get_or ds 1 0 ∷ get_or ds 2 0 ∷ []
-unfolding spelling
+    → take 8 (encoded_chunk bytes ++ rest) ≡ 0 ∷ get_or ds 0 0 ∷ get_or ds 1 0 ∷ get_or ds 2 0 ∷ 0 ∷ get_or ds 0 0 ∷ get_or ds 1 0 ∷ get_or ds 2 0 ∷ []
+unfolding encoded_chunk
 header_is bytes rest ds n same digits =
     ap (λ (k : ℕ). 0 ∷ le24 k ++ 0 ∷ le24 k) same ∙ ap (λ (xs : List ℕ). 0 ∷ get_or xs 0 0 ∷ get_or xs 1 0 ∷ get_or xs 2 0 ∷ 0 ∷ get_or xs 0 0 ∷ get_or xs 1 0 ∷ get_or xs 2 0 ∷ []) (sym digits)
 
@@ -28,37 +29,37 @@ pub record First (bytes : List ℕ) (m : Member) (ms : List Member) (chunks : Li
   pub others : List (List ℕ)
   pub all : chunks ≡ chunk ∷ others
   pub len : length chunk ≡ m.1
-  pub spelled : bytes ≡ spelling chunk ++ flat_map spelling others
+  pub encoded : bytes ≡ encoded_chunk chunk ++ flat_map encoded_chunk others
   pub here : take m.1 (drop 8 bytes) ≡ chunk
-  pub rest : Spells (drop (8 + m.1) bytes) ms others
+  pub rest : Encodes (drop (8 + m.1) bytes) ms others
 
-behind_header : (chunk rest : List ℕ) → drop 8 (spelling chunk ++ rest) ≡ chunk ++ rest
-unfolding spelling
+behind_header : (chunk rest : List ℕ) → drop 8 (encoded_chunk chunk ++ rest) ≡ chunk ++ rest
+unfolding encoded_chunk
 behind_header chunk rest = refl
 
-pub first_of : (bytes : List ℕ) (m : Member) (ms : List Member) (chunks : List (List ℕ)) → Spells bytes (m ∷ ms) chunks → First bytes m ms chunks
+pub first_of : (bytes : List ℕ) (m : Member) (ms : List Member) (chunks : List (List ℕ)) → Encodes bytes (m ∷ ms) chunks → First bytes m ms chunks
 first_of bytes m ms [] s = absurd (let bad : [] ≡ m ∷ ms = s.same in cc)
 first_of bytes m ms (c ∷ cs) s =
     let whole : (chunk_hash c, length c) ∷ members_of cs ≡ m ∷ ms = s.same in
     let tails : members_of cs ≡ ms = cc in
     let pair : (chunk_hash c, length c) ≡ m = cc in
     let len : length c ≡ m.1 = ap (λ (p : Member). p.1) pair in
-    let rest : List ℕ = flat_map spelling cs in
-    let body : drop 8 bytes ≡ c ++ rest = ap (drop 8) s.spelled ∙ behind_header c rest in
+    let rest : List ℕ = flat_map encoded_chunk cs in
+    let body : drop 8 bytes ≡ c ++ rest = ap (drop 8) s.encoded ∙ behind_header c rest in
     record {
       chunk = c;
       others = cs;
       all = refl;
       len = len;
-      spelled = s.spelled;
+      encoded = s.encoded;
       here = ap (take m.1) body ∙ take_at c rest m.1 len;
-      rest = record { same = tails; spelled = sym (drop-drop m.1 8 bytes) ∙ ap (drop m.1) body ∙ drop_at c rest m.1 len };
+      rest = record { same = tails; encoded = sym (drop-drop m.1 8 bytes) ∙ ap (drop m.1) body ∙ drop_at c rest m.1 len };
     }
 
 -- What is left to read of chunks, which with the bytes so far makes the whole.
 pub record Reading (rest : List ℕ) (members : List Member) (out : List ℕ) (from to : ℕ) (whole : List ℕ) : Type 0 where
   pub chunks : List (List ℕ)
-  pub spells : Spells rest members chunks
+  pub spells : Encodes rest members chunks
   pub is : out ++ range (concat chunks) from to ≡ whole
 
 -- one chunk more
@@ -80,7 +81,7 @@ reading_more stored part place m ms out new from to first last whole r is at_fir
     ∙ sym (range-append f.chunk tail from to) ∙ ap (λ (l : List (List ℕ)). range (concat l) from to) (sym f.all) in
     record {
       chunks = f.others;
-      spells = subst (λ (b : List ℕ). Spells b ms f.others) (drop-drop (8 + m.1) place stored) f.rest;
+      spells = subst (λ (b : List ℕ). Encodes b ms f.others) (drop-drop (8 + m.1) place stored) f.rest;
       is = ap (λ (l : List ℕ). l ++ range tail (from - first) (to - last)) (added ∙ ap (λ (l : List ℕ). out ++ l) cut) ∙ append_assoc out (range f.chunk from to) (range tail (from - first) (to - last))
           ∙ ap (λ (l : List ℕ). out ++ l) both ∙ r.is;
     }

@@ -9,7 +9,7 @@ use Rattle.xet_folder.specs.Admission.{Refuses}
 use Rattle.xet_shard_file.specs.Refusals.{IsCheckRefusal, IsBadShard, IsCheckError, IsShardError}
 use Rattle.xet_codec.specs.Stops.{HasDiskReason}
 use Rattle.xet_folder.specs.Contents.{IsUnadmitted}
-use Rattle.xet_folder.specs.Gathering.{IsNamed, IsStopped}
+use Rattle.xet_folder.specs.internal.Gathering.{IsNamed, IsStopped}
 use Rattle.xet_shard_file.specs.Names.{IsHash}
 use Rattle.xet_shard_file.specs.theorems.Exits.{rose_before}
 

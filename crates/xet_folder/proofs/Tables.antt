@@ -11,7 +11,8 @@ use Rattle.xet_shard_format.specs.declared.record.MDBXorbInfo.{MDBXorbInfo}
 use Rattle.xet_shard_format.specs.Records.{xorb_hash}
 use Rattle.xet_base.specs.theorems.Elements.{all_both}
 use Rattle.xet_folder.specs.Checks.{Grows, Has, HasFile, Knows}
-use Rattle.xet_folder.specs.Contents.{IsFileRecord, IsRecord, listed_of}
+use Rattle.xet_folder.specs.internal.Contents.{IsFileRecord}
+use Rattle.xet_folder.specs.Contents.{IsRecord, listed_of}
 use Rattle.xet_folder.specs.Plan.{Joins}
 use Rattle.xet_folder.specs.Stored.{IsBacked}
 use Rattle.xet_folder.specs.Xorbs.{IsListed, Records, Xorbs, found}

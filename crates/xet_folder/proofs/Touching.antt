@@ -5,7 +5,8 @@ use Rattle.std.proofs.lemmas.List.{length-drop, length-take-le, take-take, take_
 use Rattle.xet_hash.specs.Merkle.{total_len}
 use Rattle.xet_shard_format.specs.declared.record.FileDataSequenceEntry.{FileDataSequenceEntry as Segment}
 use Rattle.xet_folder.specs.Plan.{LiesIn, part}
-use Rattle.xet_folder.specs.Runs.{IsTouched, Touches, stored_len}
+use Rattle.xet_folder.specs.internal.Runs.{IsTouched, Touches}
+use Rattle.xet_folder.specs.Runs.{stored_len}
 use Rattle.xet_folder.specs.theorems.Placing.{Member}
 use Rattle.xet_folder.proofs.Placing.{piece, piece-piece}
 use Rattle.xet_folder.proofs.Sums.{sum_of_part, sum_rises}

@@ -1,4 +1,4 @@
--- When a folder is admitted: each shard that is valid is whole, and what it names is stored.
+-- Validation of a folder: each unexpired shard is well formed, and everything that it names is stored.
 use Rattle.std.specs.Prelude.{◌≡◌, ◌≢◌, ◌⊎◌, ℕ, ◌<◌, List, [], ◌∷◌, length, map, None, IsSome, Ok, Err}
 use Rattle.std.specs.List.{AllByRecursion}
 use Rattle.xet_io.specs.Disk.{Files, bytes_at}
@@ -19,30 +19,30 @@ use Rattle.xet_folder.specs.Plan.{Joins, LiesIn}
 use Rattle.xet_shard_file.specs.Shards.{Registers, ShardFile}
 use Rattle.xet_folder.specs.Stored.{IsBacked, IsStored}
 
--- One of a list fails so, and those before it hold.
+-- One element of a list fails with this error, and those before it hold.
 abbrev pub FirstFails : {X : Type 0} → (X → Type 0) → (X → StoreError → Type 0) → List X → StoreError → Type 0
 FirstFails Holds Fails [] e = ⊥
 FirstFails Holds Fails (x ∷ xs) e = Fails x e ⊎ (Holds x × FirstFails Holds Fails xs e)
 
--- the digest of a shard's bytes, which its name tells
+-- the digest of a shard's bytes, which is the hash in its name
 abbrev pub shard_hash : List ℕ → List ℕ
 shard_hash bytes = chunk_hash bytes
 
--- the digests and lengths that a block lists
+-- the hash and the length that an entry of a xorb record lists
 abbrev pub entry_member : XorbChunkSequenceEntry → List ℕ × ℕ
 entry_member c = (c.chunk_hash, c.unpacked_segment_bytes)
 
 abbrev pub block_members : MDBXorbInfo → List (List ℕ × ℕ)
 block_members b = map entry_member b.chunks
 
--- In a folder, of the shard of a hash:
+-- In a folder, for the shard with this hash:
 module _ (files : Files) (folder shard : List ℕ) where
-  -- The xorb's file is not there, or it is not a xorb of that hash whose chunks can be read.
+  -- The xorb's file does not exist, or it is not a xorb of that hash whose chunks can be read.
   pub data XorbFails (h : List ℕ) (e : StoreError) : Type 0 where
     missing : bytes_at files (xorb_path folder h) ≡ None → e ≡ InvalidShard shard MissingXorb → XorbFails h e
     text : IsSome (bytes_at files (xorb_path folder h)) → ((chunks : List (List ℕ)) → IsStored files folder h chunks → ⊥) → e ≡ MalformedData XorbText → XorbFails h e
 
-  -- A block lists the digests and lengths of the stored chunks.
+  -- A xorb record lists the hashes and lengths of the stored chunks.
   abbrev pub BlockHolds : MDBXorbInfo → Type 0
   BlockHolds b = IsBacked files folder (record_of.xorb_hash b) (block_members b)
 
@@ -60,7 +60,7 @@ module _ (files : Files) (folder shard : List ℕ) where
     xorb : XorbFails s.xorb_hash e → SegmentFails s e
     run : (members : List (List ℕ × ℕ)) → IsBacked files folder s.xorb_hash members → (LiesIn (λ m. m.1) s members → ⊥) → e ≡ InvalidShard shard MissingRun → SegmentFails s e
 
-  -- A file's segments join to chunks, not none, of which it has the hash.
+  -- A file's segments resolve to stored chunks, at least one, which give its file hash.
   pub record FileHolds (f : MDBFileInfo) : Type 0 where
     pub members : List (List ℕ × ℕ)
     pub joins : Joins (IsBacked files folder) (λ m. m.1) f.segments members
@@ -72,7 +72,7 @@ module _ (files : Files) (folder shard : List ℕ) where
     other : (members : List (List ℕ × ℕ)) → Joins (IsBacked files folder) (λ m. m.1) f.segments members → (members ≡ []) ⊎ (file_hash members ≢ record_of.file_hash f)
         → e ≡ InvalidShard shard OtherFileHash → FileFails f e
 
--- A shard's file is a whole shard without a key under the name of its digest; its blocks and files hold.
+-- The file is a well-formed shard without a key, named by its digest; its xorb records and its files hold.
 pub record ShardHolds (files : Files) (folder : List ℕ) (s : ShardFile) : Type 0 where
   pub parts : Parts
   pub read : all_of s.file.bytes ≡ Ok parts
@@ -81,7 +81,7 @@ pub record ShardHolds (files : Files) (folder : List ℕ) (s : ShardFile) : Type
   pub blocks : AllByRecursion (BlockHolds files folder s.hash) parts.0
   pub files_hold : AllByRecursion (FileHolds files folder s.hash) parts.1
 
--- The first check that fails: its bytes, its name, its key, its blocks in order, its files in order.
+-- The first check that fails: the bytes, the name, the key, the xorb records in order, the files in order.
 pub data ShardFails (files : Files) (folder : List ℕ) (s : ShardFile) (e : StoreError) : Type 0 where
   grammar : all_of s.file.bytes ≡ Err e → ShardFails files folder s e
   name : (parts : Parts) → all_of s.file.bytes ≡ Ok parts → shard_hash s.file.bytes ≢ s.hash → e ≡ MalformedData ShardHash → ShardFails files folder s e
@@ -92,12 +92,12 @@ pub data ShardFails (files : Files) (folder : List ℕ) (s : ShardFile) (e : Sto
   file : (parts : Parts) → all_of s.file.bytes ≡ Ok parts → shard_hash s.file.bytes ≡ s.hash → parts.2.chunk_hash_hmac_key ≡ zero_hash
       → AllByRecursion (BlockHolds files folder s.hash) parts.0 → FirstFails (FileHolds files folder s.hash) (FileFails files folder s.hash) parts.1 e → ShardFails files folder s e
 
--- The folder is admitted at a moment, with these shards.
+-- The folder is valid at a time, with these unexpired shards. For *valid*, names say *admitted*.
 pub record Admits (files : Files) (folder : List ℕ) (now : ℕ) (shards : List ShardFile) : Type 0 where
   pub registers : Registers files folder now shards
   pub hold : AllByRecursion (ShardHolds files folder) shards
 
--- It is not: this is the first check that fails, in the shard of this file name.
+-- The folder is not valid: this is the error of the first check that fails, in the shard with this file name.
 pub record Refuses (files : Files) (folder : List ℕ) (now : ℕ) (e : StoreError) (name : List ℕ) : Type 0 where
   pub shards : List ShardFile
   pub registers : Registers files folder now shards

@@ -1,4 +1,4 @@
--- What checks of what shards name do to the table of xorbs, and why they refuse.
+-- Which xorbs shards name, and how checks of shards extend the table of verified xorbs.
 use Rattle.std.specs.Prelude.{◌≡◌, ◌⊎◌, ℕ, Bool, true, List, ◌++◌, map, IsSome, Ok}
 use Rattle.std.specs.List.{AllByRecursion, IsAmong}
 use Rattle.xet_io.specs.Disk.{Files}
@@ -7,16 +7,14 @@ use Rattle.xet_shard_format.specs.declared.record.MDBFileInfo.{MDBFileInfo}
 use Rattle.xet_shard_format.specs.declared.record.MDBXorbInfo.{MDBXorbInfo}
 use Rattle.xet_shard_format.specs.Reading.{Parts, all_of}
 use Rattle.xet_shard_format.specs.Records as record_of
-use Rattle.xet_folder.specs.Plan.{LiesIn, part}
-use Rattle.xet_folder.specs.Stored.{IsBacked}
-use Rattle.xet_folder.specs.Xorbs.{AreBacked, IsListed, Xorbs, found}
+use Rattle.xet_folder.specs.Xorbs.{AreBacked, Xorbs, found}
 
--- the disk tells, and each xorb in the table is stored so
+-- the disk is observable, and each xorb in the table is stored with the listed chunks
 pub record Knows (tells : Bool) (files : Files) (folder : List ℕ) (xorbs : Xorbs) : Type 0 where
   pub told : tells ≡ true
   pub backed : AreBacked files folder xorbs
 
--- A table has grown: its rows stand first, and each of the others is of such a hash.
+-- A table has grown: its earlier rows come first, and Of holds of the hash of each new row.
 pub record Grows (Of : List ℕ → Type 0) (old new : Xorbs) : Type 0 where
   pub added : Xorbs
   pub is : new ≡ old ++ added
@@ -26,7 +24,7 @@ pub record Grows (Of : List ℕ → Type 0) (old new : Xorbs) : Type 0 where
 abbrev pub Has : Xorbs → List ℕ → Type 0
 Has xorbs h = IsSome (found xorbs h)
 
--- what blocks name, and what files do
+-- the xorb h is named by one of these xorb records, and likewise by segments, files and shards
 abbrev pub OfBlocks : List MDBXorbInfo → List ℕ → Type 0
 OfBlocks blocks h = IsAmong (map record_of.xorb_hash blocks) h
 
@@ -49,21 +47,7 @@ OfBytes bytes h = (p : Parts) × (all_of bytes ≡ Ok p) × OfShard p h
 abbrev pub HasFile : Xorbs → MDBFileInfo → Type 0
 HasFile xorbs f = AllByRecursion (λ s. Has xorbs s.xorb_hash) f.segments
 
--- each that a shard names
+-- each xorb that a shard names is in the table
 pub record HasShard (xorbs : Xorbs) (p : Parts) : Type 0 where
   pub blocks : AllByRecursion (λ b. Has xorbs (record_of.xorb_hash b)) p.0
   pub files : AllByRecursion (HasFile xorbs) p.1
-
--- A segment's run of its stored xorb was added to the chunks of a file.
-pub record AddsRun (files : Files) (folder : List ℕ) (s : Segment) (old new : List (List ℕ × ℕ)) : Type 0 where
-  pub members : List (List ℕ × ℕ)
-  pub backed : IsBacked files folder s.xorb_hash members
-  pub lies : LiesIn (λ m. m.1) s members
-  pub is : new ≡ old ++ part s members
-
--- The same of a xorb in the table.
-pub record AddsListed (xorbs : Xorbs) (s : Segment) (old new : List (List ℕ × ℕ)) : Type 0 where
-  pub members : List (List ℕ × ℕ)
-  pub listed : IsListed xorbs s.xorb_hash members
-  pub lies : LiesIn (λ m. m.1) s members
-  pub is : new ≡ old ++ part s members

@@ -1,5 +1,4 @@
--- What an admitted folder contains: its registered shards, the xorbs that they name, and the records of
--- the files that they list.
+-- The contents of a valid folder: its registered shards, the xorbs that they name, and their file records.
 use Rattle.std.specs.Prelude.{◌≡◌, ◌↔◌, ℕ, ◌<◌, ◌^◌, Bool, true, List, [], ◌∷◌, length, filter, map, not, nat_eq, Option, Some, None, IsSome, Any, Ok, Err}
 use Rattle.std.specs.Cmp.Lexicographic.{pointwise}
 use Rattle.std.specs.List.{flat_map}
@@ -20,20 +19,21 @@ use Rattle.xet_shard_file.specs.Refusals.{IsBadShard}
 use Rattle.xet_shard_file.specs.Shards.{ShardFile}
 use Rattle.xet_folder.specs.Xorbs.{IsListed, Records, Xorbs, found}
 
--- the files that a shard's bytes list: the record of each under its hash
+-- file records, each under its file hash
 abbrev pub listed_of : List MDBFileInfo → Records
 listed_of files = map (λ f. (record_of.file_hash f, f)) files
 
+-- the file records in a shard's bytes; none if these are not a shard
 abbrev pub listed_in : List ℕ → Records
 listed_in bytes = elim (all_of bytes) [ Ok p ↦ listed_of p.1 | Err e ↦ [] ]
 
--- the first of each hash
+-- the first record of each hash
 unfoldable pub firsts : Records → Records
 firsts [] = []
 firsts (r ∷ rs) = r ∷ filter (λ q. not (pointwise nat_eq q.0 r.0)) (firsts rs)
 
--- The record has this hash, and its plan joins, over the listed members, to members, not none, of which this
--- is the file hash.
+-- The record has this hash. Over the listed xorbs, its plan resolves to chunks, at least one, which give this
+-- file hash and have fewer than 2 ^ 64 bytes together.
 pub record IsRecord (xorbs : Xorbs) (r : List ℕ × MDBFileInfo) : Type 0 where
   pub named : record_of.file_hash r.1 ≡ r.0
   pub members : List (List ℕ × ℕ)
@@ -42,25 +42,21 @@ pub record IsRecord (xorbs : Xorbs) (r : List ℕ × MDBFileInfo) : Type 0 where
   pub some : 0 < length members
   pub bound : total_len members < 2 ^ 64
 
--- the same of what a shard lists
-abbrev pub IsFileRecord : Xorbs → MDBFileInfo → Type 0
-IsFileRecord xorbs f = IsRecord xorbs (record_of.file_hash f, f)
-
--- The contents of these shards: they are registered, the xorbs are those that they name, and the files
+-- The contents of these shards: the shards are registered, the xorbs are those that they name, and the files
 -- are the first record of each hash.
 pub record AreContents (shards : List ShardFile) (c : Contents) : Type 0 where
   pub registered : c.shards ≡ map (λ f. f.hash) shards
   pub named : (h : List ℕ) → IsSome (found c.xorbs h) ↔ Any (λ f. OfBytes f.file.bytes h) shards
   pub records : c.records ≡ firsts (flat_map (λ f. listed_in f.file.bytes) shards)
 
--- The folder is admitted at a moment, and these are its contents.
+-- The folder is valid at a time, and these are its contents.
 pub record HasContents (files : Files) (folder : List ℕ) (now : ℕ) (c : Contents) : Type 0 where
   pub shards : List ShardFile
   pub admits : Admits files folder now shards
   pub contents : AreContents shards c
 
--- Why a folder is not admitted. With a name, a check of the shard of that file name failed: on every disk the error
--- is one of a check, and on one that tells it is the first check that fails.
+-- Why a folder is rejected. An error with a name is that of a check in the shard with that file name; if the
+-- disk is observable, it is the first check that fails.
 abbrev pub IsUnadmitted : Bool → Files → List ℕ → ℕ → ℕ → ℕ → StoreError → Option (List ℕ) → Type 0
 IsUnadmitted tells files folder now before after (Io Disk) None = Rose before after
 IsUnadmitted tells files folder now before after OutOfMemory None = Unit {0}

@@ -1,70 +1,9 @@
--- What is gathered of a folder's shards, one after the other.
+-- What validation collects from the shards of a folder, one after the other.
 use Rattle.std.specs.Prelude.{◌≡◌, ◌≢◌, ℕ, false, List, [], ◌∷◌, ◌++◌, Option, Some, None, Err, is_some, if◌then◌else◌}
 use Rattle.std.specs.List.{AllByRecursion}
-use Rattle.xet_io.specs.Disk.{File, Files, file_at}
-use Rattle.xet_io.specs.Faults.{Rose}
-use Rattle.xet_hash.specs.declared.error.StoreError.{StoreError}
-use Rattle.xet_hash.specs.declared.error.StoreError.TheVariants.{Io, OutOfMemory}
-use Rattle.xet_hash.specs.declared.error.Place.TheVariants.{Disk}
 use Rattle.xet_shard_format.specs.declared.record.MDBFileInfo.{MDBFileInfo}
-use Rattle.xet_shard_format.specs.Names.{shard_name}
-use Rattle.xet_folder.specs.declared.contents.Contents.{Contents}
-use Rattle.xet_folder.specs.declared.gathering.Gathered.{Gathered}
-use Rattle.xet_folder.specs.Admission.{FirstFails, ShardFails, ShardHolds}
-use Rattle.xet_folder.specs.Contents.{AreContents}
-use Rattle.xet_shard_file.specs.Names.{shard_path}
-use Rattle.xet_shard_file.specs.Refusals.{IsBadShard}
-use Rattle.xet_shard_file.specs.Shards.{ShardFile, is_expired}
-use Rattle.xet_folder.specs.Xorbs.{AreBacked, Records, found}
+use Rattle.xet_folder.specs.Xorbs.{Records, found}
 
--- a row more, unless there is one of its hash
+-- the rows, and one more unless its hash has a row
 abbrev pub with_first : Records → List ℕ × MDBFileInfo → Records
 with_first rows r = if is_some (found rows r.0) then rows else rows ++ r ∷ []
-
-abbrev pub with_firsts : Records → Records → Records
-with_firsts rows [] = rows
-with_firsts rows (r ∷ rs) = with_firsts (with_first rows r) rs
-
--- what was gathered, as contents
-abbrev pub gathered : Gathered → Contents
-gathered g = record { shards = g.shards.items; xorbs = g.xorbs; records = g.records }
-
--- These shards hold, and it is their contents.
-pub record IsGathered (files : Files) (folder : List ℕ) (shards : List ShardFile) (c : Contents) : Type 0 where
-  pub hold : AllByRecursion (ShardHolds files folder) shards
-  pub backed : AreBacked files folder c.xorbs
-  pub contents : AreContents shards c
-
-abbrev pub shard_file : List ℕ → File → ShardFile
-shard_file hash f = record { hash = hash; file = f }
-
--- a shard more, where it is valid
-abbrev pub with_valid : ℕ → List ShardFile → ShardFile → List ShardFile
-with_valid now shards s = if is_expired now s.file.bytes then shards else shards ++ s ∷ []
-
--- the bytes of what is valid
-abbrev pub valid_bytes : ℕ → List ℕ → Option (List ℕ)
-valid_bytes now bytes = if is_expired now bytes then None else Some bytes
-
--- A refusal as the folder's: a check's has the file name of the shard.
-abbrev pub IsNamed : List ℕ → StoreError → StoreError → Option (List ℕ) → Type 0
-IsNamed hash e given (Some name) = (given ≡ e) × (e ≢ Io Disk) × (e ≢ OutOfMemory) × (name ≡ shard_name hash)
-IsNamed hash e OutOfMemory None = Unit {0}
-IsNamed hash e given None = (given ≡ Io Disk) × (e ≡ Io Disk)
-
--- why gathering refuses, by what is known, and what fails in the shard of a file name
-abbrev pub IsStopped : Type 0 → (StoreError → List ℕ → Type 0) → ℕ → ℕ → StoreError → Option (List ℕ) → Type 0
-IsStopped Known Fails before after (Io Disk) None = Rose before after
-IsStopped Known Fails before after OutOfMemory None = Unit {0}
-IsStopped Known Fails before after e (Some name) = IsBadShard e name × (Known → Fails e name)
-IsStopped Known Fails before after e None = ⊥
-
--- the shard of this hash, which is there, is valid and fails
-abbrev pub EntryFails : Files → List ℕ → ℕ → List ℕ → StoreError → List ℕ → Type 0
-EntryFails files folder now hash e name =
-    (f : File) → file_at files (shard_path folder hash) ≡ Some f
-    → (is_expired now f.bytes ≡ false) × ShardFails files folder (shard_file hash f) e × (name ≡ shard_name hash)
-
--- the first of these that does not hold, and how it fails
-abbrev pub ShardsFail : Files → List ℕ → List ShardFile → StoreError → List ℕ → Type 0
-ShardsFail files folder shards e name = FirstFails (ShardHolds files folder) (λ s x. ShardFails files folder s x × (name ≡ shard_name s.hash)) shards e

@@ -2,7 +2,6 @@ pub mod Ends
 pub mod Plan
 pub mod Recorded
 pub mod Names
-pub mod Refusals
 pub mod Stored
 pub mod Admission
 pub mod Listed
@@ -12,3 +11,4 @@ pub mod Contents
 pub mod Gathering
 pub mod Runs
 pub mod theorems
+pub mod internal

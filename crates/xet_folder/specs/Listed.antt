@@ -1,4 +1,4 @@
--- The files that a folder lists at a moment.
+-- The files that a folder lists at a time.
 use Rattle.std.specs.Prelude.{◌≡◌, ℕ, false, List, length, Ok}
 use Rattle.std.specs.List.{IsAmong}
 use Rattle.xet_io.specs.Disk.{Files}
@@ -8,7 +8,7 @@ use Rattle.xet_folder.specs.Plan.{Joins}
 use Rattle.xet_shard_file.specs.Shards.{IsThere, ShardFile, is_expired}
 use Rattle.xet_folder.specs.Stored.{IsStored}
 
--- a record of a shard that is valid at the moment
+-- a file record in a shard that is unexpired at the time
 pub record Lists (files : Files) (folder : List ℕ) (now : ℕ) (f : MDBFileInfo) : Type 0 where
   pub shard : ShardFile
   pub there : IsThere files folder shard
@@ -17,6 +17,6 @@ pub record Lists (files : Files) (folder : List ℕ) (now : ℕ) (f : MDBFileInf
   pub read : all_of shard.file.bytes ≡ Ok parts
   pub among : IsAmong parts.1 f
 
--- what is stored joins to these chunks, contents included
+-- the plan of a file resolves to these stored chunks, contents included
 abbrev pub JoinsTo : Files → List ℕ → MDBFileInfo → List (List ℕ) → Type 0
 JoinsTo files folder f chunks = Joins (IsStored files folder) length f.segments chunks

@@ -1,20 +1,20 @@
--- What stands in a store's folder under a xorb's name.
+-- What is stored in a folder under the name of a xorb.
 use Rattle.std.specs.Prelude.{◌≡◌, ℕ, ◌<◌, ◌^◌, List, length, Some}
 use Rattle.std.specs.List.{AllByRecursion}
 use Rattle.xet_io.specs.Disk.{Files, bytes_at}
 use Rattle.xet_hash.specs.Merkle.{members_of, xorb_hash}
-use Rattle.xet_xorb.specs.Xorb.{IsXorbText}
+use Rattle.xet_xorb.specs.Xorb.{IsXorbEncoding}
 use Rattle.xet_folder.specs.Names.{xorb_path}
 
--- The file of the xorb h is a xorb's text of these chunks, of which h is the hash; each can be read.
+-- The file of the xorb h is a xorb of exactly these chunks; h is its hash, and each chunk can be read.
 pub record IsStored (files : Files) (folder h : List ℕ) (chunks : List (List ℕ)) : Type 0 where
   pub bytes : List ℕ
   pub there : bytes_at files (xorb_path folder h) ≡ Some bytes
-  pub text : IsXorbText bytes chunks
+  pub text : IsXorbEncoding bytes chunks
   pub readable : AllByRecursion (λ b. length b < 2 ^ 23) chunks
   pub hash : xorb_hash (members_of chunks) ≡ h
 
--- the xorb h is stored, and these are its chunks' digests and lengths
+-- the xorb h is stored, and its chunks have these hashes and lengths
 pub record IsBacked (files : Files) (folder h : List ℕ) (members : List (List ℕ × ℕ)) : Type 0 where
   pub chunks : List (List ℕ)
   pub stored : IsStored files folder h chunks

@@ -1,4 +1,4 @@
--- Xorbs that were read of a store's folder.
+-- Tables of xorbs and of file records.
 use Rattle.std.specs.Prelude.{◌≡◌, ℕ, ◌+◌, ◌-◌, ◌≤◌, ◌^◌, List, [], ◌∷◌, length, Option, Some, None, IsSome, nat_eq}
 use Rattle.std.specs.Cmp.Lexicographic.{pointwise}
 use Rattle.std.specs.Map.{lookup}
@@ -9,40 +9,28 @@ use Rattle.xet_folder.specs.declared.xorbs.XorbFile.TheVariants.{Missing, Malfor
 use Rattle.xet_folder.specs.Names.{xorb_path}
 use Rattle.xet_folder.specs.Stored.{IsBacked, IsStored}
 
--- the xorbs that were read, each under its hash with its chunks' digests and lengths, in order
+-- xorbs in the order in which they were read: each under its hash, with its chunks' hashes and lengths
 abbrev pub Xorbs : Type 0
 Xorbs = List (List ℕ × List (List ℕ × ℕ))
 
--- what stands under a hash
+-- the value under a hash
 abbrev pub found : {X : Type 0} → List (List ℕ × X) → List ℕ → Option X
 found rows h = lookup (pointwise nat_eq h) rows
 
--- the xorb h is listed with these members
+-- the xorb h is listed with these chunks
 abbrev pub IsListed : Xorbs → List ℕ → List (List ℕ × ℕ) → Type 0
 IsListed xorbs h members = found xorbs h ≡ Some members
 
--- recorded files: the record of each under its hash, in order of recording
+-- the records of files, each under its file hash, in order of recording
 abbrev pub Records : Type 0
 Records = List (List ℕ × MDBFileInfo)
 
--- each of them is stored so
+-- each xorb in a table is stored with the listed chunks
 abbrev pub AreBacked : Files → List ℕ → Xorbs → Type 0
 AreBacked files folder xorbs = (h : List ℕ) (members : List (List ℕ × ℕ)) → found xorbs h ≡ Some members → IsBacked files folder h members
 
--- The digest and the length of each chunk by the digests and the ends of the stored chunks, of which the first stands
--- behind so many bytes. Eight bytes of each are its header.
-abbrev pub spans_from : ℕ → List (List ℕ) → List ℕ → List (List ℕ × ℕ)
-spans_from at [] ends = []
-spans_from at (h ∷ hs) [] = []
-spans_from at (h ∷ hs) (end ∷ ends) = (h, end - (at + 8)) ∷ spans_from end hs ends
-
--- there is a file, and it is longer than any xorb
-abbrev pub IsOverlong : Option (List ℕ) → Type 0
-IsOverlong None = ⊥
-IsOverlong (Some bytes) = 2 ^ 32 ≤ length bytes
-
--- What was read of a xorb: there is no file of it; there is one, which is not a xorb of that hash whose
--- chunks can be read; or its chunks' digests and lengths.
+-- What was read of a xorb: no file; a file that is not a xorb of that hash whose chunks can be read; or the
+-- hashes and lengths of its chunks.
 abbrev pub IsXorbFile : Files → List ℕ → List ℕ → XorbFile → Type 0
 IsXorbFile files folder h Missing = bytes_at files (xorb_path folder h) ≡ None
 IsXorbFile files folder h Malformed = IsSome (bytes_at files (xorb_path folder h)) × ((chunks : List (List ℕ)) → IsStored files folder h chunks → ⊥)

@@ -1,10 +1,12 @@
-//! Whether what a shard names is stored.
+//! Validation of a shard: whether it is well formed, and whether everything that it names is stored.
 
 ghost use Rattle.std.specs.Prelude.{◌≡◌, ◌≤◌, ◌<◌, ◌+◌, ◌^◌, ◌↔◌, IfErr, IfOk, IsOkUnless, IsTrue, Ok, OnOk, length, ℕ};
 ghost use Rattle.std.specs.List.{AllByRecursion};
 ghost use Rattle.xet_folder.specs.Admission.{BlockFails, BlockHolds, FileFails, FileHolds, FirstFails, SegmentFails, SegmentHolds, ShardFails, ShardHolds};
-ghost use Rattle.xet_folder.specs.Contents.{IsFileRecord, IsRecord, listed_of};
-ghost use Rattle.xet_folder.specs.Checks.{AddsListed, AddsRun, Grows, Has, HasFile, HasShard, Knows, OfBlocks, OfBytes, OfFile, OfFiles, OfSegments};
+ghost use Rattle.xet_folder.specs.internal.Contents.{IsFileRecord};
+ghost use Rattle.xet_folder.specs.Contents.{IsRecord, listed_of};
+ghost use Rattle.xet_folder.specs.internal.Checks.{AddsListed, AddsRun};
+ghost use Rattle.xet_folder.specs.Checks.{Grows, Has, HasFile, HasShard, Knows, OfBlocks, OfBytes, OfFile, OfFiles, OfSegments};
 ghost use Rattle.xet_shard_file.specs.Refusals.{IsCheckRefusal, IsShardError};
 ghost use Rattle.xet_folder.specs.Plan.{Joins};
 ghost use Rattle.xet_folder.specs.Stored.{IsBacked};
@@ -12,8 +14,9 @@ ghost use Rattle.xet_folder.specs.Xorbs.{IsListed};
 ghost use Rattle.xet_hash.specs.Merkle.{file_hash as hash_of_file, total_len};
 ghost use Rattle.xet_shard_format.specs.Records.{segment_bytes, xorb_hash};
 ghost use Rattle.xet_shard_format.specs.Reading.{Parts, all_of};
-ghost use Rattle.xet_shard_format.specs.Text.{materialized};
+ghost use Rattle.xet_shard_format.specs.Encoding.{materialized};
 ghost use Rattle.xet_io.specs.Disk.{file};
+ghost use Rattle.xet_io.specs.Frame.{Unchanged};
 
 use crate::members::{lies_in, lists_members, run_of};
 use crate::verifying::verify_xorb;
@@ -25,10 +28,10 @@ use xet_shard_format::{
     FileDataSequenceEntry, MDBFileInfo, MDBShardFileFooter, MDBXorbInfo, read_shard,
 };
 
-/// The files of a shard's bytes, which stand under the name of this hash: reads them, and checks that
-/// the shard is whole, has this digest and no key, and that what it names is stored. Each xorb that it
-/// names is then in the table. Refused as `Io(Disk)` only where the disk has failed, as `OutOfMemory`,
-/// or as the first check that fails says.
+/// Validates a shard file with `bytes`, whose name has `hash`, and returns its file records. The bytes must
+/// be a well-formed shard with this digest and without a key, and everything that it names must be stored.
+/// Afterwards each xorb that it names is in `table`. The error is that of the first check that fails,
+/// `OutOfMemory`, or `Io(Disk)`, which is returned only if the disk failed.
 pub fn admit_shard<D: Disk>(
     disk: &mut D,
     alloc: Global,
@@ -39,25 +42,23 @@ pub fn admit_shard<D: Disk>(
 ) -> Result<Vec<MDBFileInfo>, StoreError>
     ensures files { IfOk result (λ files. (p : Parts) × (all_of bytes.now ≡ Ok p) × (files.items ≡ p.1)) }
     ensures recorded { IfOk result (λ files. AllByRecursion (IsRecord table.new) (listed_of files.items)) }
-    ensures holds { OnOk result (Knows (D.tells disk.old) (D.files disk.old) folder.now table.old → (stamp : ℕ) → ShardHolds (D.files disk.old) folder.now (record { hash = hash.now; file = file bytes.now stamp })) }
+    ensures holds { OnOk result (Knows (D.tells disk.old) (D.files disk.old) folder.now table.old → (modified : ℕ) → ShardHolds (D.files disk.old) folder.now (record { hash = hash.now; file = file bytes.now modified })) }
     ensures there { OnOk result ((p : Parts) → all_of bytes.now ≡ Ok p → HasShard table.new p) }
     ensures grows { Grows (OfBytes bytes.now) table.old table.new }
     ensures knows { Knows (D.tells disk.old) (D.files disk.old) folder.now table.old → Knows (D.tells disk.new) (D.files disk.new) folder.now table.new }
-    ensures refused { IfErr result (IsCheckRefusal (Knows (D.tells disk.old) (D.files disk.old) folder.now table.old) (λ e. (stamp : ℕ) → ShardFails (D.files disk.old) folder.now (record { hash = hash.now; file = file bytes.now stamp }) e) (D.faults disk.old) (D.faults disk.new)) }
+    ensures refused { IfErr result (IsCheckRefusal (Knows (D.tells disk.old) (D.files disk.old) folder.now table.old) (λ e. (modified : ℕ) → ShardFails (D.files disk.old) folder.now (record { hash = hash.now; file = file bytes.now modified }) e) (D.faults disk.old) (D.faults disk.new)) }
     ensures error { IfErr result (IsShardError hash.now) }
-    ensures same { D.files disk.new ≡ D.files disk.old }
-    ensures tells { D.tells disk.new ≡ D.tells disk.old }
-    ensures later { D.faults disk.old ≤ D.faults disk.new }
+    ensures frame { Unchanged D.files D.tells D.faults disk.old disk.new }
 {
     let parts = read_shard(alloc, bytes)?;
     check_parts(disk, alloc, folder, hash, bytes, &parts, table)?;
     Ok(parts.1)
 }
 
-/// The xorbs and the files of a shard, and its footer.
+/// The xorb records, the file records and the footer of a shard.
 type ShardParts = (Vec<MDBXorbInfo>, Vec<MDBFileInfo>, MDBShardFileFooter);
 
-/// Checks what was read of a shard.
+/// Checks a shard that was read: its digest, its key, its xorb records and its file records, in this order.
 fn check_parts<D: Disk>(
     disk: &mut D,
     alloc: Global,
@@ -69,16 +70,14 @@ fn check_parts<D: Disk>(
 ) -> Result<(), StoreError>
     requires read { all_of bytes.now ≡ Ok (parts.now.0.items, parts.now.1.items, parts.now.2) }
     requires total { materialized parts.now.1.items < 2 ^ 64 }
-    ensures holds { OnOk result (Knows (D.tells disk.old) (D.files disk.old) folder.now table.old → (stamp : ℕ) → ShardHolds (D.files disk.old) folder.now (record { hash = hash.now; file = file bytes.now stamp })) }
+    ensures holds { OnOk result (Knows (D.tells disk.old) (D.files disk.old) folder.now table.old → (modified : ℕ) → ShardHolds (D.files disk.old) folder.now (record { hash = hash.now; file = file bytes.now modified })) }
     ensures recorded { OnOk result (AllByRecursion (IsFileRecord table.new) parts.now.1.items) }
     ensures there { OnOk result ((p : Parts) → all_of bytes.now ≡ Ok p → HasShard table.new p) }
     ensures grows { Grows (OfBytes bytes.now) table.old table.new }
     ensures knows { Knows (D.tells disk.old) (D.files disk.old) folder.now table.old → Knows (D.tells disk.new) (D.files disk.new) folder.now table.new }
-    ensures refused { IfErr result (IsCheckRefusal (Knows (D.tells disk.old) (D.files disk.old) folder.now table.old) (λ e. (stamp : ℕ) → ShardFails (D.files disk.old) folder.now (record { hash = hash.now; file = file bytes.now stamp }) e) (D.faults disk.old) (D.faults disk.new)) }
+    ensures refused { IfErr result (IsCheckRefusal (Knows (D.tells disk.old) (D.files disk.old) folder.now table.old) (λ e. (modified : ℕ) → ShardFails (D.files disk.old) folder.now (record { hash = hash.now; file = file bytes.now modified }) e) (D.faults disk.old) (D.faults disk.new)) }
     ensures error { IfErr result (IsShardError hash.now) }
-    ensures same { D.files disk.new ≡ D.files disk.old }
-    ensures tells { D.tells disk.new ≡ D.tells disk.old }
-    ensures later { D.faults disk.old ≤ D.faults disk.new }
+    ensures frame { Unchanged D.files D.tells D.faults disk.old disk.new }
 {
     if compute_data_hash(bytes) != *hash {
         return Err(StoreError::MalformedData(Reason::ShardHash));
@@ -91,7 +90,7 @@ fn check_parts<D: Disk>(
     Ok(())
 }
 
-/// Checks that a shard's block lists the chunks of its stored xorb.
+/// Checks that a xorb record lists the chunks of its stored xorb.
 fn check_block<D: Disk>(
     disk: &mut D,
     alloc: Global,
@@ -106,9 +105,7 @@ fn check_block<D: Disk>(
     ensures knows { Knows (D.tells disk.old) (D.files disk.old) folder.now table.old → Knows (D.tells disk.new) (D.files disk.new) folder.now table.new }
     ensures refused { IfErr result (IsCheckRefusal (Knows (D.tells disk.old) (D.files disk.old) folder.now table.old) (BlockFails (D.files disk.old) folder.now shard.now block.now) (D.faults disk.old) (D.faults disk.new)) }
     ensures error { IfErr result (IsShardError shard.now) }
-    ensures same { D.files disk.new ≡ D.files disk.old }
-    ensures tells { D.tells disk.new ≡ D.tells disk.old }
-    ensures later { D.faults disk.old ≤ D.faults disk.new }
+    ensures frame { Unchanged D.files D.tells D.faults disk.old disk.new }
 {
     let hash = block.hash();
     verify_xorb(disk, alloc, folder, shard, &hash, table)?;
@@ -119,7 +116,7 @@ fn check_block<D: Disk>(
     }
 }
 
-/// Checks a shard's blocks, in order.
+/// Checks xorb records, in order.
 fn check_blocks<D: Disk>(
     disk: &mut D,
     alloc: Global,
@@ -135,9 +132,7 @@ fn check_blocks<D: Disk>(
     ensures refused { IfErr result (IsCheckRefusal (Knows (D.tells disk.old) (D.files disk.old) folder.now table.old)
         (FirstFails (BlockHolds (D.files disk.old) folder.now shard.now) (BlockFails (D.files disk.old) folder.now shard.now) blocks.now) (D.faults disk.old) (D.faults disk.new)) }
     ensures error { IfErr result (IsShardError shard.now) }
-    ensures same { D.files disk.new ≡ D.files disk.old }
-    ensures tells { D.tells disk.new ≡ D.tells disk.old }
-    ensures later { D.faults disk.old ≤ D.faults disk.new }
+    ensures frame { Unchanged D.files D.tells D.faults disk.old disk.new }
 {
     for block in blocks {
         check_block(disk, alloc, folder, shard, block, table)?;
@@ -145,7 +140,7 @@ fn check_blocks<D: Disk>(
     Ok(())
 }
 
-/// Checks that a segment lies in its stored xorb, and adds the chunks that it names.
+/// Checks that a segment lies in its stored xorb, and appends the chunks that it names to `members`.
 fn add_segment<D: Disk>(
     disk: &mut D,
     alloc: Global,
@@ -163,9 +158,7 @@ fn add_segment<D: Disk>(
     ensures knows { Knows (D.tells disk.old) (D.files disk.old) folder.now table.old → Knows (D.tells disk.new) (D.files disk.new) folder.now table.new }
     ensures refused { IfErr result (IsCheckRefusal (Knows (D.tells disk.old) (D.files disk.old) folder.now table.old) (SegmentFails (D.files disk.old) folder.now shard.now segment.now) (D.faults disk.old) (D.faults disk.new)) }
     ensures error { IfErr result (IsShardError shard.now) }
-    ensures same { D.files disk.new ≡ D.files disk.old }
-    ensures tells { D.tells disk.new ≡ D.tells disk.old }
-    ensures later { D.faults disk.old ≤ D.faults disk.new }
+    ensures frame { Unchanged D.files D.tells D.faults disk.old disk.new }
 {
     let hash = segment.xorb_hash;
     verify_xorb(disk, alloc, folder, shard, &hash, table)?;
@@ -177,7 +170,7 @@ fn add_segment<D: Disk>(
     Ok(())
 }
 
-/// Checks a file's segments, in order, and gives the chunks to which they join.
+/// Checks a file's segments, in order, and returns the chunks to which they resolve.
 fn join_segments<D: Disk>(
     disk: &mut D,
     alloc: Global,
@@ -194,9 +187,7 @@ fn join_segments<D: Disk>(
     ensures knows { Knows (D.tells disk.old) (D.files disk.old) folder.now table.old → Knows (D.tells disk.new) (D.files disk.new) folder.now table.new }
     ensures refused { IfErr result (IsCheckRefusal (Knows (D.tells disk.old) (D.files disk.old) folder.now table.old) (FirstFails (SegmentHolds (D.files disk.old) folder.now shard.now) (SegmentFails (D.files disk.old) folder.now shard.now) segments.now) (D.faults disk.old) (D.faults disk.new)) }
     ensures error { IfErr result (IsShardError shard.now) }
-    ensures same { D.files disk.new ≡ D.files disk.old }
-    ensures tells { D.tells disk.new ≡ D.tells disk.old }
-    ensures later { D.faults disk.old ≤ D.faults disk.new }
+    ensures frame { Unchanged D.files D.tells D.faults disk.old disk.new }
 {
     let mut members = Vec::new(alloc);
     for segment in segments {
@@ -205,7 +196,7 @@ fn join_segments<D: Disk>(
     Ok(members)
 }
 
-/// Checks that a shard's file joins to stored chunks of which it has the hash.
+/// Checks that a file record resolves to at least one stored chunk, and that the chunks give its file hash.
 fn check_file<D: Disk>(
     disk: &mut D,
     alloc: Global,
@@ -222,9 +213,7 @@ fn check_file<D: Disk>(
     ensures knows { Knows (D.tells disk.old) (D.files disk.old) folder.now table.old → Knows (D.tells disk.new) (D.files disk.new) folder.now table.new }
     ensures refused { IfErr result (IsCheckRefusal (Knows (D.tells disk.old) (D.files disk.old) folder.now table.old) (FileFails (D.files disk.old) folder.now shard.now file.now) (D.faults disk.old) (D.faults disk.new)) }
     ensures error { IfErr result (IsShardError shard.now) }
-    ensures same { D.files disk.new ≡ D.files disk.old }
-    ensures tells { D.tells disk.new ≡ D.tells disk.old }
-    ensures later { D.faults disk.old ≤ D.faults disk.new }
+    ensures frame { Unchanged D.files D.tells D.faults disk.old disk.new }
 {
     let segments = file.segments.as_slice();
     let members = join_segments(disk, alloc, folder, shard, segments, table)?;
@@ -235,7 +224,7 @@ fn check_file<D: Disk>(
     }
 }
 
-/// Whether there are chunks, and their file has this hash.
+/// Whether there is at least one chunk, and the chunks give this file hash.
 fn has_file_hash(
     alloc: Global,
     members: &[(MerkleHash, u64)],
@@ -249,7 +238,7 @@ fn has_file_hash(
     Ok(!members.is_empty() && found == *hash)
 }
 
-/// Checks a shard's files, in order.
+/// Checks file records, in order.
 fn check_files<D: Disk>(
     disk: &mut D,
     alloc: Global,
@@ -266,9 +255,7 @@ fn check_files<D: Disk>(
     ensures knows { Knows (D.tells disk.old) (D.files disk.old) folder.now table.old → Knows (D.tells disk.new) (D.files disk.new) folder.now table.new }
     ensures refused { IfErr result (IsCheckRefusal (Knows (D.tells disk.old) (D.files disk.old) folder.now table.old) (FirstFails (FileHolds (D.files disk.old) folder.now shard.now) (FileFails (D.files disk.old) folder.now shard.now) files.now) (D.faults disk.old) (D.faults disk.new)) }
     ensures error { IfErr result (IsShardError shard.now) }
-    ensures same { D.files disk.new ≡ D.files disk.old }
-    ensures tells { D.tells disk.new ≡ D.tells disk.old }
-    ensures later { D.faults disk.old ≤ D.faults disk.new }
+    ensures frame { Unchanged D.files D.tells D.faults disk.old disk.new }
 {
     for file in files {
         check_file(disk, alloc, folder, shard, file, table)?;

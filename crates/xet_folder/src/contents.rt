@@ -1,4 +1,4 @@
-//! What an admitted folder contains.
+//! The contents of a valid folder.
 
 ghost use Rattle.std.specs.Prelude.{◌≡◌, ◌≢◌, ◌≤◌, [], true, AllPairs, IfErr, IfOk, IsOkUnless, OnErr, OnOk};
 ghost use Rattle.std.specs.List.{AllByRecursion};
@@ -7,6 +7,7 @@ ghost use Rattle.xet_folder.specs.Gathering.{with_first};
 ghost use Rattle.xet_shard_file.specs.Names.{IsHash};
 ghost use Rattle.xet_folder.specs.Xorbs.{AreBacked};
 ghost use Rattle.xet_shard_format.specs.Records.{file_hash};
+ghost use Rattle.xet_io.specs.Frame.{Unchanged};
 
 use crate::gathering::gather_shards;
 use crate::recorded::RecordedFile;
@@ -20,8 +21,7 @@ use xet_io::Disk;
 use xet_shard_file::list_shards;
 use xet_shard_format::MDBFileInfo;
 
-/// Records of files, each under the file's hash. Contracts see the rows in the order in which they were
-/// added.
+/// File records, each under its file hash. Contracts see the rows in the order in which they were added.
 #[derive(Drop)]
 pub struct RecordTable {
     alloc: Global,
@@ -37,7 +37,7 @@ impl Model for RecordTable {
 }
 
 impl RecordTable {
-    /// A table of no rows. It takes no memory.
+    /// An empty table. It allocates no memory.
     pub fn new(alloc: Global) -> RecordTable
         ensures { result ≡ [] }
     {
@@ -47,7 +47,8 @@ impl RecordTable {
         }
     }
 
-    /// Adds the record of a file, unless the file has one.
+    /// Adds the record of a file, unless the file has one. The only error is `OutOfMemory`; then nothing has
+    /// changed.
     pub fn add_first(&mut self, file: MDBFileInfo) -> Result<(), StoreError>
         ensures added { OnOk result (self.new ≡ with_first self.old (file_hash file, file)) }
         ensures kept { OnErr result (self.new ≡ self.old) }
@@ -62,42 +63,43 @@ impl RecordTable {
         Ok(())
     }
 
-    /// The rows themselves.
+    /// The rows, in order. No two have the same hash.
     pub fn into_rows(self) -> IndexMap<MerkleHash, RecordedFile>
         ensures rows { result.entries ≡ self }
         ensures differ { AllPairs (λ a b. a.0 ≢ b.0) self }
     {
         let RecordTable { alloc: _, rows } = self;
-        // That no two keys of a map are one is known after a call of it.
+        // Proof aid without effect: makes available that no two keys are equal.
         let _count = rows.len();
         rows
     }
 }
 
-/// What an admitted folder contains.
+/// The contents of a valid folder.
 #[derive(Drop)]
 pub struct Contents {
-    /// The registered shards, in order.
+    /// The hashes of the registered shards, the newest modification time first, equal times by the lowest
+    /// name.
     pub shards: Items<MerkleHash>,
-    /// The xorbs that they name.
+    /// The xorbs that these shards name.
     pub xorbs: XorbTable,
     /// The first record of each file that they list.
     pub records: RecordTable,
 }
 
-/// Why a folder is not admitted.
+/// Why a folder is rejected, or cannot be read.
 #[derive(Debug, Drop)]
 pub struct Unadmitted {
-    /// What is wrong.
+    /// The error of the first check that fails, `OutOfMemory` or `Io(Disk)`.
     pub error: StoreError,
-    /// The file name of the shard with which it is; none for other causes.
+    /// The file name of the shard in which a check failed; none if no check did.
     pub name: Option<Text>,
 }
 
-/// Admits a folder of a disk at a moment, in seconds: reads the shards that are valid then, the newest
-/// stamp first and of one stamp the lowest name first, and checks each wholly, and that the xorbs that
-/// it names are stored; each xorb is read once. Refused as `Io(Disk)` only where the disk has failed, as
-/// `OutOfMemory`, or as the first check that fails says.
+/// Validates a folder of a disk at a time, in seconds since 1970, and returns its contents. The shards that
+/// are unexpired then are read, the newest modification time first, equal times by the lowest name. Each is
+/// checked in full, and the xorbs that it names must be stored. Each xorb is read once. The error is that of
+/// the first check that fails, `OutOfMemory`, or `Io(Disk)`, which is returned only if the disk failed.
 pub fn admit_folder<D: Disk>(
     disk: &mut D,
     alloc: Global,
@@ -109,9 +111,7 @@ pub fn admit_folder<D: Disk>(
     ensures recorded { IfOk result (λ c. AllByRecursion (IsRecord c.xorbs) c.records) }
     ensures hashes { IfOk result (λ c. AllByRecursion IsHash c.shards) }
     ensures refused { IfErr result (λ u. IsUnadmitted (D.tells disk.old) (D.files disk.old) folder.now now (D.faults disk.old) (D.faults disk.new) u.error u.name) }
-    ensures same { D.files disk.new ≡ D.files disk.old }
-    ensures tells { D.tells disk.new ≡ D.tells disk.old }
-    ensures later { D.faults disk.old ≤ D.faults disk.new }
+    ensures frame { Unchanged D.files D.tells D.faults disk.old disk.new }
 {
     match list_shards(disk, alloc, folder) {
         Ok(entries) => {

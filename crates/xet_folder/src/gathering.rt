@@ -1,4 +1,4 @@
-//! What is gathered of a folder's shards, one after the other.
+//! What validation collects from the shards of a folder, one after the other.
 
 ghost use Rattle.std.specs.Prelude.{◌≡◌, ◌≤◌, ◌++◌, ◌∷◌, [], ℕ, All, IfErr, IfOk, IsOkUnless, List, OnOk, Some, filter, map, true};
 ghost use Rattle.std.specs.List.{AllByRecursion};
@@ -9,9 +9,10 @@ ghost use Rattle.xet_shard_file.specs.Refusals.{IsCheckRefusal, EndsFail, IsShar
 ghost use Rattle.xet_folder.specs.Checks.{Knows};
 ghost use Rattle.xet_folder.specs.Contents.{IsRecord, listed_of};
 ghost use Rattle.xet_shard_file.specs.Entries.{entry_of, is_valid};
-ghost use Rattle.xet_folder.specs.Gathering.{EntryFails, IsGathered, IsNamed, IsStopped, ShardsFail, gathered as contents, shard_file, valid_bytes, with_firsts, with_valid};
+ghost use Rattle.xet_folder.specs.internal.Gathering.{EntryFails, IsGathered, IsNamed, IsStopped, ShardsFail, gathered as contents, shard_file, valid_bytes, with_firsts, with_valid};
 ghost use Rattle.xet_shard_file.specs.Names.{IsHash, shard_path};
 ghost use Rattle.xet_shard_file.specs.Shards.{IsThere, ShardFile, is_expired};
+ghost use Rattle.xet_io.specs.Frame.{Unchanged};
 
 use crate::admission::admit_shard;
 use crate::contents::{RecordTable, Unadmitted};
@@ -24,18 +25,19 @@ use xet_io::{Disk, read_file};
 use xet_shard_file::{ShardEntry, is_past_expiry, known_bytes, shard_path};
 use xet_shard_format::{MDBFileInfo, read_footer, shard_file_name};
 
-/// What was gathered of shards.
+/// What was collected from shards.
 #[derive(Drop)]
 pub struct Gathered {
-    /// The registered shards, in order.
+    /// The hashes of the registered shards, in order.
     pub shards: Vec<MerkleHash>,
-    /// The xorbs that they name.
+    /// The xorbs that these shards name.
     pub xorbs: XorbTable,
     /// The first record of each file that they list.
     pub records: RecordTable,
 }
 
-/// Gathers what the listed shards that are valid at a moment contain, in the order of the list.
+/// Validates the listed shards that are unexpired at `now`, in the order of the list, and collects their
+/// contents.
 pub fn gather_shards<D: Disk>(
     disk: &mut D,
     alloc: Global,
@@ -50,9 +52,7 @@ pub fn gather_shards<D: Disk>(
     ensures refused { IfErr result (λ u. IsStopped (D.tells disk.old ≡ true)
         (λ e name. (read : List ShardFile) → map entry_of read ≡ entries.now → All (IsThere (D.files disk.old) folder.now) read → ShardsFail (D.files disk.old) folder.now (filter (is_valid now) read) e name)
         (D.faults disk.old) (D.faults disk.new) u.error u.name) }
-    ensures same { D.files disk.new ≡ D.files disk.old }
-    ensures tells { D.tells disk.new ≡ D.tells disk.old }
-    ensures later { D.faults disk.old ≤ D.faults disk.new }
+    ensures frame { Unchanged D.files D.tells D.faults disk.old disk.new }
 {
     let mut gathered = Gathered {
         shards: Vec::new(alloc),
@@ -65,8 +65,8 @@ pub fn gather_shards<D: Disk>(
     Ok(gathered)
 }
 
-/// Gathers what the shard of this hash contains, where it is valid at a moment. One that is not there
-/// is passed over.
+/// Validates the shard with this hash, if it is unexpired, and collects its contents. A missing file is
+/// skipped.
 fn gather_entry<D: Disk>(
     disk: &mut D,
     alloc: Global,
@@ -81,9 +81,7 @@ fn gather_entry<D: Disk>(
     ensures hashes { OnOk result (AllByRecursion IsHash gathered.old.shards.items → AllByRecursion IsHash gathered.new.shards.items) }
     ensures refused { IfErr result (λ u. IsStopped (Knows (D.tells disk.old) (D.files disk.old) folder.now gathered.old.xorbs) (EntryFails (D.files disk.old) folder.now now hash.now)
         (D.faults disk.old) (D.faults disk.new) u.error u.name) }
-    ensures same { D.files disk.new ≡ D.files disk.old }
-    ensures tells { D.tells disk.new ≡ D.tells disk.old }
-    ensures later { D.faults disk.old ≤ D.faults disk.new }
+    ensures frame { Unchanged D.files D.tells D.faults disk.old disk.new }
 {
     known_bytes(hash);
     match read_valid(disk, alloc, folder, now, hash) {
@@ -96,7 +94,7 @@ fn gather_entry<D: Disk>(
     }
 }
 
-/// Admits the shard of this hash and these bytes, and gathers what it contains.
+/// Validates the shard with this hash and these bytes, and collects its contents.
 fn gather_shard<D: Disk>(
     disk: &mut D,
     alloc: Global,
@@ -105,16 +103,14 @@ fn gather_shard<D: Disk>(
     bytes: &[u8],
     gathered: &mut Gathered,
 ) -> Result<(), StoreError>
-    ensures gathered { D.tells disk.old ≡ true → OnOk result ((shards : List ShardFile) (stamp : ℕ) → IsGathered (D.files disk.old) folder.now shards (contents gathered.old)
-        → IsGathered (D.files disk.old) folder.now (shards ++ shard_file hash.now (file bytes.now stamp) ∷ []) (contents gathered.new)) }
+    ensures gathered { D.tells disk.old ≡ true → OnOk result ((shards : List ShardFile) (modified : ℕ) → IsGathered (D.files disk.old) folder.now shards (contents gathered.old)
+        → IsGathered (D.files disk.old) folder.now (shards ++ shard_file hash.now (file bytes.now modified) ∷ []) (contents gathered.new)) }
     ensures recorded { OnOk result (AllByRecursion (IsRecord gathered.old.xorbs) gathered.old.records → AllByRecursion (IsRecord gathered.new.xorbs) gathered.new.records) }
     ensures hashes { OnOk result (AllByRecursion IsHash gathered.old.shards.items → AllByRecursion IsHash gathered.new.shards.items) }
     ensures refused { IfErr result (IsCheckRefusal (Knows (D.tells disk.old) (D.files disk.old) folder.now gathered.old.xorbs)
-        (λ e. (stamp : ℕ) → ShardFails (D.files disk.old) folder.now (shard_file hash.now (file bytes.now stamp)) e) (D.faults disk.old) (D.faults disk.new)) }
+        (λ e. (modified : ℕ) → ShardFails (D.files disk.old) folder.now (shard_file hash.now (file bytes.now modified)) e) (D.faults disk.old) (D.faults disk.new)) }
     ensures error { IfErr result (IsShardError hash.now) }
-    ensures same { D.files disk.new ≡ D.files disk.old }
-    ensures tells { D.tells disk.new ≡ D.tells disk.old }
-    ensures later { D.faults disk.old ≤ D.faults disk.new }
+    ensures frame { Unchanged D.files D.tells D.faults disk.old disk.new }
 {
     let files = admit_shard(disk, alloc, folder, hash, bytes, &mut gathered.xorbs)?;
     add_files(files, &mut gathered.records)?;
@@ -123,7 +119,7 @@ fn gather_shard<D: Disk>(
     Ok(())
 }
 
-/// Adds each of these records whose file has none yet.
+/// Adds each record whose file has none yet.
 fn add_files(files: Vec<MDBFileInfo>, records: &mut RecordTable) -> Result<(), StoreError>
     ensures added { OnOk result (records.new ≡ with_firsts records.old (listed_of files.items)) }
     ensures memory { IsOkUnless result StoreError.OutOfMemory }
@@ -134,8 +130,8 @@ fn add_files(files: Vec<MDBFileInfo>, records: &mut RecordTable) -> Result<(), S
     Ok(())
 }
 
-/// The bytes of the shard of this hash; none where it is past its expiry, or not there. Of one that is past
-/// its expiry, or whose header or footer is malformed, no other byte is read.
+/// The bytes of the shard with this hash; none if it has expired or does not exist. If it has expired, or its
+/// header or footer is malformed, only header and footer are read.
 fn read_valid<D: Disk>(
     disk: &mut D,
     alloc: Global,
@@ -144,9 +140,7 @@ fn read_valid<D: Disk>(
     hash: &MerkleHash,
 ) -> Result<Option<Vec<u8>>, StoreError>
     ensures told { D.tells disk.old ≡ true → IfOk result (λ found. (bytes : List ℕ) → bytes_at (D.files disk.old) (shard_path folder.now hash.now) ≡ Some bytes → option_map (λ b. b.items) found ≡ valid_bytes now bytes) }
-    ensures same { D.files disk.new ≡ D.files disk.old }
-    ensures tells { D.tells disk.new ≡ D.tells disk.old }
-    ensures later { D.faults disk.old ≤ D.faults disk.new }
+    ensures frame { Unchanged D.files D.tells D.faults disk.old disk.new }
     ensures refused { IfErr result (IsCheckRefusal (D.tells disk.old ≡ true) (EndsFail (bytes_at (D.files disk.old) (shard_path folder.now hash.now))) (D.faults disk.old) (D.faults disk.new)) }
     ensures error { IfErr result (IsShardError hash.now) }
 {
@@ -166,8 +160,7 @@ fn read_valid<D: Disk>(
     }
 }
 
-/// Whether a moment is past the expiry of a shard. What has no readable header and footer does not
-/// expire.
+/// Whether a shard has expired. Bytes without a readable header and footer do not expire.
 fn is_expired(bytes: &[u8], now: u64) -> bool
     ensures { result ≡ is_expired now bytes.now }
 {
@@ -177,7 +170,8 @@ fn is_expired(bytes: &[u8], now: u64) -> bool
     }
 }
 
-/// Why the folder is not admitted, where this is refused of the shard of this hash.
+/// The folder's error for an error of the shard with this hash. It has the file name of the shard, unless the
+/// disk failed or memory is out.
 fn unadmitted(alloc: Global, hash: &MerkleHash, error: StoreError) -> Unadmitted
     ensures { IsNamed hash.now error result.error result.name }
 {

@@ -1,4 +1,4 @@
-//! The folder of a store: the files of its xorbs and shards, how they are put, read and verified.
+//! The folder of a store: the names, writing, reading and validation of its xorb and shard files.
 #![tactic(auto)]
 
 mod admission;

@@ -1,4 +1,4 @@
-//! A xorb's chunks by digest and length, and what records say of them.
+//! The chunks of a xorb as (hash, length) pairs, and what records say about them.
 
 ghost use Rattle.std.specs.Prelude.{◌≡◌, ◌≤◌, ◌<◌, ◌-◌, ◌^◌, ◌↔◌, ℕ, IfOk, IsOkUnless, IsTrue, drop, length, take};
 ghost use Rattle.std.specs.List.{sum_by};
@@ -14,15 +14,15 @@ use std::marker::Model;
 use xet_hash::{MerkleHash, StoreError};
 use xet_shard_format::{FileDataSequenceEntry, MDBXorbInfo, XorbChunkSequenceEntry};
 
-/// The bytes of a stored chunk's header.
+/// The length of a stored chunk's header, in bytes.
 const HEADER_LEN: u64 = 8;
 
-/// The chunks of a xorb: the digest and the length in bytes of each, in order. Contracts see this list.
-/// Stored with their headers they have fewer than 2^32 bytes.
+/// The chunks of a xorb, in order: the hash and the uncompressed length in bytes of each. Contracts see this
+/// list. The stored chunks, headers included, have fewer than 2^32 bytes together.
 #[derive(Debug, Drop)]
 pub struct Members {
     pairs: Vec<(MerkleHash, u64)>,
-    /// The bytes of the first chunks: of none, of one, and so on up to all.
+    /// The boundary offsets: at index k, the uncompressed length of the first k chunks, from none to all.
     ends: Vec<u64>,
 }
 
@@ -38,7 +38,7 @@ impl Model for Members {
 }
 
 impl Members {
-    /// The chunks of a list. It takes room for eight bytes a chunk.
+    /// Takes a list of chunks. Allocates eight bytes for each. The only error is `OutOfMemory`.
     pub fn from_vec(alloc: Global, pairs: Vec<(MerkleHash, u64)>) -> Result<Members, StoreError>
         requires { stored_len pairs.items < 2 ^ 32 }
         ensures pairs { IfOk result (λ members. members ≡ pairs.items) }
@@ -48,7 +48,7 @@ impl Members {
         Ok(Members { pairs, ends })
     }
 
-    /// Lends the list.
+    /// The (hash, length) pairs, in order.
     pub fn as_slice(&self) -> &[(MerkleHash, u64)]
         ensures { result.now ≡ self.now }
     {
@@ -62,7 +62,7 @@ impl Members {
         self.pairs.len()
     }
 
-    /// The bytes of the first `count` chunks.
+    /// The uncompressed length of the first `count` chunks, in bytes.
     pub fn end(&self, count: usize) -> u64
         requires { count ≤ length self.now }
         ensures end { result ≡ total_len (take count self.now) }
@@ -71,7 +71,7 @@ impl Members {
         self.ends[count]
     }
 
-    /// The bytes of the first `count` chunks as they are stored, each after its header.
+    /// The stored length of the first `count` chunks, headers included, in bytes.
     pub fn stored_end(&self, count: usize) -> u64
         requires { count ≤ length self.now }
         ensures end { result ≡ stored_len (take count self.now) }
@@ -80,7 +80,7 @@ impl Members {
         self.ends[count] + HEADER_LEN * count as u64
     }
 
-    /// How many chunks end at or before `place`: all those before the first chunk that has the byte there.
+    /// The number of chunks that end at or before offset `place`: those before the chunk with the byte there.
     pub fn ended_by(&self, place: u64) -> usize
         requires { place < 2 ^ 63 }
         ensures within { result ≤ length self.now }
@@ -90,7 +90,7 @@ impl Members {
         ends_below(&self.ends, place + 1) - 1
     }
 
-    /// How many of the first chunks it takes to have `bytes` bytes.
+    /// The minimum number of first chunks that have at least `bytes` uncompressed bytes together.
     pub fn reaching(&self, bytes: u64) -> usize
         requires { bytes ≤ total_len self.now }
         ensures within { result ≤ length self.now }
@@ -101,7 +101,7 @@ impl Members {
     }
 }
 
-/// The bytes of the first chunks: of none, of one, and so on up to all.
+/// The boundary offsets of chunks: at index k, the uncompressed length of the first k, from none to all.
 fn ends_of(alloc: Global, pairs: &[(MerkleHash, u64)]) -> Result<Vec<u64>, StoreError>
     requires { stored_len pairs.now < 2 ^ 32 }
     ensures ends { IfOk result (λ ends. AreEnds (λ m. m.1) pairs.now ends.items) }
@@ -117,7 +117,7 @@ fn ends_of(alloc: Global, pairs: &[(MerkleHash, u64)]) -> Result<Vec<u64>, Store
     Ok(ends)
 }
 
-/// Whether a block lists these digests and lengths.
+/// Whether a xorb record lists exactly these chunks.
 pub fn lists_members(block: &MDBXorbInfo, members: &[(MerkleHash, u64)]) -> bool
     ensures { IsTrue result ↔ (members.now ≡ block_members block.now) }
 {
@@ -133,14 +133,15 @@ pub fn lists_members(block: &MDBXorbInfo, members: &[(MerkleHash, u64)]) -> bool
     true
 }
 
-/// Whether an entry of a block lists this digest and length.
+/// Whether an entry of a xorb record lists this hash and length.
 fn is_listed(chunk: &XorbChunkSequenceEntry, member: &(MerkleHash, u64)) -> bool
     ensures { IsTrue result ↔ (member.now ≡ entry_member chunk.now) }
 {
     member.0 == chunk.chunk_hash && member.1 == u64::from(chunk.unpacked_segment_bytes)
 }
 
-/// Whether a segment lies in a xorb of these chunks.
+/// Whether a segment lies in a xorb of these chunks: it is not empty, ends within the xorb, and gives the
+/// uncompressed length of its chunks.
 pub fn lies_in(segment: &FileDataSequenceEntry, members: &Members) -> bool
     ensures { IsTrue result ↔ LiesIn (λ m. m.1) segment.now members.now }
 {
@@ -151,7 +152,7 @@ pub fn lies_in(segment: &FileDataSequenceEntry, members: &Members) -> bool
         && has_bytes(members, start, end, segment.unpacked_segment_bytes)
 }
 
-/// Whether the chunks from one index to before another have so many bytes together.
+/// Whether the chunks `start..end` have exactly `bytes` uncompressed bytes together.
 fn has_bytes(members: &Members, start: usize, end: usize, bytes: u32) -> bool
     requires order { start < end }
     requires within { end ≤ length members.now }

@@ -1,14 +1,16 @@
-//! Parts of stored xorbs, read where they stand.
+//! Reading byte ranges of stored xorbs.
 
 ghost use Rattle.std.specs.Prelude.{◌≡◌, ◌≤◌, ◌<◌, ◌+◌, ◌-◌, ◌^◌, ◌++◌, [], ℕ, List, true, length, take, drop, slice_range, IfErr, IfOk, IfSome, IsNone, IsOkUnless, OnErr, OnOk};
 ghost use Rattle.std.specs.List.{concat};
 ghost use Rattle.xet_io.specs.Disk.{FillsFrom, bytes_at};
 ghost use Rattle.xet_hash.specs.Merkle.{members_of, total_len};
-ghost use Rattle.xet_folder.specs.Refusals.{IsRefusal};
-ghost use Rattle.xet_xorb_chunk.specs.Spelling.{spelling};
+ghost use Rattle.xet_folder.specs.internal.Refusals.{IsRefusal};
+ghost use Rattle.xet_xorb_chunk.specs.ChunkEncoding.{encoded_chunk};
 ghost use Rattle.xet_folder.specs.Plan.{LiesIn, part, range};
-ghost use Rattle.xet_folder.specs.Runs.{HasPlace, IsRunRefusal, IsTouched, Spells, stored_len};
+ghost use Rattle.xet_folder.specs.internal.Runs.{HasPlace, IsTouched, Encodes};
+ghost use Rattle.xet_folder.specs.Runs.{IsRunRefusal, stored_len};
 ghost use Rattle.xet_folder.specs.Stored.{IsBacked, IsStored};
+ghost use Rattle.xet_io.specs.Frame.{Unchanged};
 
 use crate::members::Members;
 use crate::names::xorb_path;
@@ -20,15 +22,15 @@ use xet_io::{Disk, read_file_at};
 use xet_shard_format::FileDataSequenceEntry;
 use xet_xorb_chunk::CompressionScheme;
 
-/// The bytes of a stored chunk's header.
+/// The length of a stored chunk's header, in bytes.
 const HEADER_LEN: usize = 8;
 
-/// The bytes of chunks that are read of stored xorbs. Contracts see the bytes that it has.
+/// A buffer for bytes that are read from stored chunks. Contracts see the bytes read so far.
 #[derive(Drop)]
 pub struct RunReader {
     alloc: Global,
     bytes: Vec<u8>,
-    /// Room for chunks as they are stored.
+    /// A buffer for stored chunks, reused by each read.
     stored: Vec<u8>,
 }
 
@@ -41,7 +43,7 @@ impl Model for RunReader {
 }
 
 impl RunReader {
-    /// One with no bytes, and with room for so many.
+    /// An empty buffer with room for `size` bytes. The only error is `OutOfMemory`.
     pub fn with_capacity(alloc: Global, size: usize) -> Result<RunReader, StoreError>
         ensures none { IfOk result (λ reader. reader ≡ []) }
         ensures memory { IsOkUnless result StoreError.OutOfMemory }
@@ -53,17 +55,18 @@ impl RunReader {
         })
     }
 
-    /// The bytes.
+    /// The bytes read so far.
     pub fn into_bytes(self) -> Vec<u8>
         ensures { result.items ≡ self }
     {
         self.bytes
     }
 
-    /// Reads, of the chunks that a segment names, joined, the bytes from `from` to before `to`, behind those
-    /// that it has. Of the xorb's file it reads the chunks that these bytes touch, at once; it finds them in
-    /// time logarithmic in the number of chunks. A file that is missing or short, or that has another header
-    /// before a chunk, is refused as `MalformedData(XorbText)`. After an error it has the bytes that it had.
+    /// Appends bytes FROM..TO, TO excluded, of the chunks that a segment names. Only the stored chunks that
+    /// the range touches are read, all together; they are found by binary search. The error is
+    /// `MalformedData(XorbText)` if the file is missing or too short, or if the header of a chunk is not the
+    /// one for its listed length; else `OutOfMemory`, or `Io(Disk)`, which is returned only if the disk
+    /// failed. After an error nothing was appended.
     pub fn read_run<D: Disk>(
         &mut self,
         disk: &mut D,
@@ -80,9 +83,7 @@ impl RunReader {
         ensures len { OnOk result (length self.new ≡ length self.old + (to - from)) }
         ensures kept { OnErr result (self.new ≡ self.old) }
         ensures refused { IfErr result (IsRunRefusal ((D.tells disk.old ≡ true) × IsBacked (D.files disk.old) folder.now segment.now.xorb_hash members.now) (D.faults disk.old) (D.faults disk.new)) }
-        ensures same { D.files disk.new ≡ D.files disk.old }
-        ensures tells { D.tells disk.new ≡ D.tells disk.old }
-        ensures later { D.faults disk.old ≤ D.faults disk.new }
+        ensures frame { Unchanged D.files D.tells D.faults disk.old disk.new }
     {
         let touched = touched_part(segment, members, from, to);
         let path = xorb_path(self.alloc, folder, &segment.xorb_hash)?;
@@ -103,15 +104,15 @@ impl RunReader {
 #[derive(Clone, Copy)]
 struct Touched<'a> {
     chunks: &'a [(MerkleHash, u64)],
-    /// The bytes of the segment's chunks before them.
+    /// The number of the segment's bytes before these chunks.
     skipped: u64,
-    /// Their offset in the xorb's file.
+    /// The offset of these chunks in the xorb's file.
     at: u64,
-    /// Their bytes there, each after its header.
+    /// The stored length of these chunks, headers included, in bytes.
     len: usize,
 }
 
-/// The chunks of which the bytes `from..to` of a segment are, found by binary search.
+/// The chunks that contain the bytes `from..to` of a segment, found by binary search.
 fn touched_part<'a>(
     segment: &FileDataSequenceEntry,
     members: &'a Members,
@@ -136,7 +137,7 @@ fn touched_part<'a>(
     }
 }
 
-/// Sees to it that a list has so many bytes or more.
+/// Extends a list to at least `size` bytes.
 fn grow(list: &mut Vec<u8>, size: usize) -> Result<(), StoreError>
     ensures size { OnOk result (size ≤ length list.new.items) }
     ensures memory { IsOkUnless result StoreError.OutOfMemory }
@@ -147,8 +148,8 @@ fn grow(list: &mut Vec<u8>, size: usize) -> Result<(), StoreError>
     Ok(())
 }
 
-/// Fills `stored` with a file's bytes from a place on. Where the file is missing or does not reach so far,
-/// it is refused as `MalformedData(XorbText)`.
+/// Fills `stored` with the bytes of a file from offset `at` on. The error is `MalformedData(XorbText)` if the
+/// file is missing or too short.
 fn read_stored<D: Disk>(
     disk: &mut D,
     path: &str,
@@ -159,9 +160,7 @@ fn read_stored<D: Disk>(
     requires fits { at + length stored.old < 2 ^ 64 }
     ensures told { D.tells disk.old ≡ true → OnOk result (FillsFrom (bytes_at (D.files disk.old) path.now) at stored.new true) }
     ensures refused { IfErr result (IsRunRefusal ((D.tells disk.old ≡ true) × HasPlace (bytes_at (D.files disk.old) path.now) at (length stored.old)) (D.faults disk.old) (D.faults disk.new)) }
-    ensures same { D.files disk.new ≡ D.files disk.old }
-    ensures tells { D.tells disk.new ≡ D.tells disk.old }
-    ensures later { D.faults disk.old ≤ D.faults disk.new }
+    ensures frame { Unchanged D.files D.tells D.faults disk.old disk.new }
 {
     match read_file_at(disk, path, at, stored) {
         Ok(true) => Ok(()),
@@ -170,8 +169,9 @@ fn read_stored<D: Disk>(
     }
 }
 
-/// Appends, of chunks that are stored so, joined, the bytes `from..to`. Where another header stands before
-/// a chunk, they are refused as `MalformedData(XorbText)`. After an error nothing is appended.
+/// Appends the bytes `from..to` of these chunks, which are stored in this form. The error is
+/// `MalformedData(XorbText)` if the header of a chunk is not the one for its length. After an error nothing
+/// was appended.
 fn push_range(
     out: &mut Vec<u8>,
     stored: &[u8],
@@ -183,10 +183,10 @@ fn push_range(
     requires fits { total_len chunks.now < 2 ^ 32 }
     requires order { from ≤ to }
     requires within { to ≤ total_len chunks.now }
-    ensures range { OnOk result ((bytes : List (List ℕ)) → Spells stored.now chunks.now bytes → out.new.items ≡ out.old.items ++ range (concat bytes) from to) }
+    ensures range { OnOk result ((bytes : List (List ℕ)) → Encodes stored.now chunks.now bytes → out.new.items ≡ out.old.items ++ range (concat bytes) from to) }
     ensures len { OnOk result (length out.new.items ≡ length out.old.items + (to - from)) }
     ensures kept { OnErr result (out.new.items ≡ out.old.items) }
-    ensures refused { IfErr result (IsRefusal ((bytes : List (List ℕ)) × Spells stored.now chunks.now bytes)) }
+    ensures refused { IfErr result (IsRefusal ((bytes : List (List ℕ)) × Encodes stored.now chunks.now bytes)) }
 {
     let had = out.len();
     match push_chunks(out, stored, chunks, from, to) {
@@ -198,7 +198,7 @@ fn push_range(
     }
 }
 
-/// The same, but that after an error some of the bytes may be appended.
+/// As `push_range`, but after an error some of the bytes may have been appended.
 fn push_chunks(
     out: &mut Vec<u8>,
     stored: &[u8],
@@ -210,10 +210,10 @@ fn push_chunks(
     requires fits { total_len members.now < 2 ^ 32 }
     requires order { from ≤ to }
     requires within { to ≤ total_len members.now }
-    ensures range { OnOk result ((chunks : List (List ℕ)) → Spells stored.now members.now chunks → out.new.items ≡ out.old.items ++ range (concat chunks) from to) }
+    ensures range { OnOk result ((chunks : List (List ℕ)) → Encodes stored.now members.now chunks → out.new.items ≡ out.old.items ++ range (concat chunks) from to) }
     ensures len { OnOk result (length out.new.items ≡ length out.old.items + (to - from)) }
     ensures front { take (length out.old.items) out.new.items ≡ out.old.items }
-    ensures refused { IfErr result (IsRefusal ((chunks : List (List ℕ)) × Spells stored.now members.now chunks)) }
+    ensures refused { IfErr result (IsRefusal ((chunks : List (List ℕ)) × Encodes stored.now members.now chunks)) }
 {
     let mut from = from;
     let mut to = to;
@@ -232,13 +232,13 @@ fn push_chunks(
     Ok(())
 }
 
-/// The bytes of the chunk of this length that is stored at a place; none where another header stands
-/// there.
+/// The bytes of the chunk of `size` bytes that is stored at offset `place`; none if the header there is not
+/// the one for this length.
 fn stored_chunk(stored: &[u8], place: usize, size: u32) -> Option<&[u8]>
     requires { place + (8 + size) ≤ length stored.now }
     ensures bytes { IfSome result (λ bytes. bytes.now ≡ slice_range stored.now (place + 8) (place + 8 + size)) }
     ensures len { IfSome result (λ bytes. length bytes.now ≡ size) }
-    ensures none { IsNone result → (bytes rest : List ℕ) → length bytes ≡ size → drop place stored.now ≡ spelling bytes ++ rest → ⊥ }
+    ensures none { IsNone result → (bytes rest : List ℕ) → length bytes ≡ size → drop place stored.now ≡ encoded_chunk bytes ++ rest → ⊥ }
 {
     let [a, b, c, _] = size.to_le_bytes();
     let scheme = CompressionScheme::None as u8;

@@ -1,16 +1,19 @@
-//! Xorbs that shards name, each read once.
+//! Verification of the xorbs that shards name. Each is read once.
 
 ghost use Rattle.std.specs.Prelude.{◌≡◌, ◌≤◌, Some, IfErr, OnOk};
 ghost use Rattle.xet_folder.specs.Admission.{XorbFails};
 ghost use Rattle.xet_folder.specs.Checks.{Grows, Has, Knows};
 ghost use Rattle.xet_shard_file.specs.Refusals.{IsCheckRefusal, IsShardError};
+ghost use Rattle.xet_io.specs.Frame.{Unchanged};
 
 use crate::xorbs::{XorbFile, XorbTable, read_xorb};
 use std::alloc::Global;
 use xet_hash::{MerkleHash, Reason, StoreError};
 use xet_io::Disk;
 
-/// Sees to it that a xorb that a shard names is in the table: reads it, unless it is.
+/// Ensures that a xorb that a shard names is in the table of verified xorbs: reads it, unless it is there
+/// already. The error is that of the first check that fails, `OutOfMemory`, or `Io(Disk)`, which is returned
+/// only if the disk failed.
 pub fn verify_xorb<D: Disk>(
     disk: &mut D,
     alloc: Global,
@@ -24,9 +27,7 @@ pub fn verify_xorb<D: Disk>(
     ensures knows { Knows (D.tells disk.old) (D.files disk.old) folder.now table.old → Knows (D.tells disk.new) (D.files disk.new) folder.now table.new }
     ensures refused { IfErr result (IsCheckRefusal (Knows (D.tells disk.old) (D.files disk.old) folder.now table.old) (XorbFails (D.files disk.old) folder.now shard.now hash.now) (D.faults disk.old) (D.faults disk.new)) }
     ensures error { IfErr result (IsShardError shard.now) }
-    ensures same { D.files disk.new ≡ D.files disk.old }
-    ensures tells { D.tells disk.new ≡ D.tells disk.old }
-    ensures later { D.faults disk.old ≤ D.faults disk.new }
+    ensures frame { Unchanged D.files D.tells D.faults disk.old disk.new }
 {
     if table.get(hash).is_some() {
         return Ok(());

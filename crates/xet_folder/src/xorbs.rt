@@ -1,4 +1,4 @@
-//! Xorbs that are read of a store's folder.
+//! Reading the xorbs of a store's folder.
 
 ghost use Rattle.std.specs.Prelude.{◌≡◌, ◌≢◌, ◌≤◌, ◌↔◌, IsTrue, AllPairs, ◌∷◌, ◌++◌, [], ℕ, List, true, IfOk, IfErr, IsOkUnless, IsSome, OnErr, OnOk, Some, None, length, option_map};
 ghost use Rattle.std.specs.List.{AllByRecursion};
@@ -6,7 +6,9 @@ ghost use Rattle.xet_io.specs.Disk.{Files, bytes_at};
 ghost use Rattle.xet_shard_file.specs.Names.{IsHash};
 ghost use Rattle.xet_folder.specs.Names.{xorb_path};
 ghost use Rattle.xet_codec.specs.Stops.{HasDiskReason};
-ghost use Rattle.xet_folder.specs.Xorbs.{IsOverlong, IsXorbFile, found, spans_from};
+ghost use Rattle.xet_folder.specs.internal.Xorbs.{IsOverlong, spans_from};
+ghost use Rattle.xet_folder.specs.Xorbs.{IsXorbFile, found};
+ghost use Rattle.xet_io.specs.Frame.{Unchanged};
 
 use crate::members::Members;
 use crate::names::xorb_path;
@@ -19,27 +21,28 @@ use xet_io::{Disk, SliceReader, read_file};
 use xet_shard_file::known_bytes;
 use xet_xorb::XorbObject;
 
-/// The most bytes of a chunk that can be read.
+/// The maximum uncompressed length of a chunk that can be read, in bytes.
 const MAX_CHUNK: u32 = (1 << 23) - 1;
 
-/// The bytes of a file that is longer than any xorb.
+/// The minimum length of a file that is too long for a xorb, in bytes.
 const OVERLONG: u64 = 1 << 32;
 
-/// The bytes of a stored chunk's header.
+/// The length of a stored chunk's header, in bytes.
 const HEADER_LEN: u64 = 8;
 
-/// What stands under a xorb's name.
+/// What is stored under the name of a xorb.
 #[derive(Debug, Drop)]
 pub enum XorbFile {
     /// No file.
     Missing,
-    /// A file that is not a xorb of that hash, or has a chunk that is too long to be read.
+    /// A file that is not a xorb with this hash, or that has a chunk too long to be read.
     Malformed,
-    /// A xorb: the digest and the length in bytes of each of its chunks, in order.
+    /// A xorb with this hash: its chunks.
     Stored(Members),
 }
 
-/// Reads what stands under a xorb's name. Of a file that is longer than any xorb nothing is read.
+/// Reads the file under the name of a xorb. Nothing is read of a file that is too long for a xorb. The error
+/// is `OutOfMemory`, or `Io(Disk)`, which is returned only if the disk failed.
 pub fn read_xorb<D: Disk>(
     disk: &mut D,
     alloc: Global,
@@ -47,9 +50,7 @@ pub fn read_xorb<D: Disk>(
     hash: &MerkleHash,
 ) -> Result<XorbFile, StoreError>
     ensures told { D.tells disk.old ≡ true → IfOk result (IsXorbFile (D.files disk.old) folder.now hash.now) }
-    ensures same { D.files disk.new ≡ D.files disk.old }
-    ensures tells { D.tells disk.new ≡ D.tells disk.old }
-    ensures later { D.faults disk.old ≤ D.faults disk.new }
+    ensures frame { Unchanged D.files D.tells D.faults disk.old disk.new }
     ensures reason { IfErr result (HasDiskReason (D.faults disk.old) (D.faults disk.new)) }
 {
     let path = xorb_path(alloc, folder, hash)?;
@@ -63,12 +64,10 @@ pub fn read_xorb<D: Disk>(
     }
 }
 
-/// Whether a file is longer than any xorb.
+/// Whether a file is too long for a xorb.
 fn is_overlong<D: Disk>(disk: &mut D, name: &str) -> Result<bool, StoreError>
     ensures told { D.tells disk.old ≡ true → IfOk result (λ long. IsTrue long ↔ IsOverlong (bytes_at (D.files disk.old) name.now)) }
-    ensures same { D.files disk.new ≡ D.files disk.old }
-    ensures tells { D.tells disk.new ≡ D.tells disk.old }
-    ensures later { D.faults disk.old ≤ D.faults disk.new }
+    ensures frame { Unchanged D.files D.tells D.faults disk.old disk.new }
     ensures reason { IfErr result (HasDiskReason (D.faults disk.old) (D.faults disk.new)) }
 {
     match disk.stat(name) {
@@ -78,7 +77,7 @@ fn is_overlong<D: Disk>(disk: &mut D, name: &str) -> Result<bool, StoreError>
     }
 }
 
-/// What these bytes are under a xorb's name.
+/// What these bytes are, as the file of the xorb with this hash.
 fn xorb_of(alloc: Global, bytes: Vec<u8>, hash: &MerkleHash) -> Result<XorbFile, StoreError>
     ensures told { (files : Files) (folder : List ℕ) → bytes_at files (xorb_path folder hash.now) ≡ Some bytes.items → IfOk result (IsXorbFile files folder hash.now) }
     ensures memory { IsOkUnless result StoreError.OutOfMemory }
@@ -96,7 +95,8 @@ fn xorb_of(alloc: Global, bytes: Vec<u8>, hash: &MerkleHash) -> Result<XorbFile,
     }
 }
 
-/// The digest and the length in bytes of each chunk, by the digests and the ends of the stored chunks.
+/// The hash and the uncompressed length of each chunk, from the hashes and the boundary offsets of the stored
+/// chunks.
 fn spans_of(
     alloc: Global,
     hashes: &[MerkleHash],
@@ -116,8 +116,8 @@ fn spans_of(
     Ok(spans)
 }
 
-/// Xorbs that were read, each under its hash. Contracts see the rows in the order in which they were
-/// added: the hash, and the digest and the length in bytes of each chunk.
+/// Xorbs that were read, each under its hash. Contracts see the rows in the order in which they were added:
+/// the hash, and the (hash, length) pairs of the chunks.
 #[derive(Drop)]
 pub struct XorbTable {
     rows: IndexMap<MerkleHash, Members>,
@@ -136,7 +136,7 @@ impl Model for XorbTable {
 }
 
 impl XorbTable {
-    /// A table of no rows. It takes no memory.
+    /// An empty table. It allocates no memory.
     pub fn new(alloc: Global) -> XorbTable
         ensures { result ≡ [] }
     {
@@ -145,14 +145,14 @@ impl XorbTable {
         }
     }
 
-    /// The number of rows.
+    /// The number of xorbs.
     pub fn len(&self) -> usize
         ensures { result ≡ length self.now }
     {
         self.rows.len()
     }
 
-    /// The chunks of a xorb; none where it is not in the table.
+    /// The chunks of a xorb; none if it is not in the table.
     pub fn get(&self, hash: &MerkleHash) -> Option<&Members>
         ensures { option_map (λ members. members.now) result ≡ found self.now hash.now }
     {
@@ -170,7 +170,7 @@ impl XorbTable {
         }
     }
 
-    /// Adds a xorb that is not in the table.
+    /// Adds a xorb that is not in the table. The only error is `OutOfMemory`; then nothing has changed.
     pub fn insert(&mut self, hash: MerkleHash, members: Members) -> Result<(), StoreError>
         requires { found self.old hash ≡ None }
         ensures added { OnOk result (self.new ≡ self.old ++ (hash, members) ∷ []) }
@@ -182,14 +182,14 @@ impl XorbTable {
         Ok(())
     }
 
-    /// The rows themselves.
+    /// The rows, in order. No two have the same hash.
     pub fn into_rows(self) -> IndexMap<MerkleHash, Members>
         ensures rows { result.entries ≡ self }
         ensures hashes { AllByRecursion (λ row. IsHash row.0) self }
         ensures differ { AllPairs (λ a b. a.0 ≢ b.0) self }
     {
         let XorbTable { rows } = self;
-        // That no two keys of a map are one is known after a call of it.
+        // Proof aid without effect: makes available that no two keys are equal.
         let _count = rows.len();
         rows
     }

@@ -1,19 +1,14 @@
 -- Tables of counts, one byte at a time.
-use Rattle.std.proofs.Common.{◌≡◌, ◌∙◌, ℕ, ◌+◌, ◌<◌, ◌≤◌, ◌%◌, ◌==◌, ◌&&◌, if◌then◌else◌, Bool, true, false, List, [], length, map, get_or, set, drop, count_ones, refl, sym, ap, subst, arith, ◌^◌, ◌∷◌}
+use Rattle.std.proofs.Common.{◌≡◌, ◌∙◌, ℕ, ◌+◌, ◌<◌, ◌≤◌, ◌%◌, ◌==◌, ◌&&◌, if◌then◌else◌, Bool, true, false, List, [], length, get_or, set, drop, count_ones, refl, sym, ap, subst, arith, ◌^◌}
 use Rattle.std.proofs.lemmas.Bool.{eqb-true, eqb-false, eq-eqb}
 use Rattle.std.proofs.lemmas.List.{at_drop_more, at_drop_all, get_or-set_other, get_or-set_same, length-set}
-use Rattle.std.proofs.lemmas.List.FromFn.{fill_by_all, get_or-map-range_with_len}
-use Rattle.std.specs.List.{range_with_len}
-use Rattle.xet_group.specs.Histogram.{CountsFit, IsTable, count_at, counted, table}
+use Rattle.std.proofs.lemmas.List.FromFn.{fill_by_all}
+use Rattle.xet_group.specs.Histogram.{IsTable, count_at, counted, table}
 
 -- a table of these counts is the one that has them
 pub table_from : (counts : List (List ℕ)) (f : ℕ → ℕ → ℕ) → IsTable counts → ((g k : ℕ) → g < 4 → k < 9 → count_at counts g k ≡ f g k) → counts ≡ table f
 table_from counts f shape each =
     fill_by_all _ counts 4 [] shape.rows (λ g low. fill_by_all (f g) (get_or counts g []) 9 0 (shape.places g low) (λ k less. each g k low less))
-
-count_at-table : (f : ℕ → ℕ → ℕ) (g k : ℕ) → g < 4 → k < 9 → count_at (table f) g k ≡ f g k
-count_at-table f g k low less =
-    ap (λ row. get_or row k 0) (get_or-map-range_with_len (λ g. map (f g) (range_with_len 0 9)) 0 4 g g [] low (omega arith)) ∙ get_or-map-range_with_len (f g) 0 9 k k 0 less (omega arith)
 
 -- 1 at the place [g'][k'], and else 0
 abbrev pub one_at : ℕ → ℕ → ℕ → ℕ → ℕ
@@ -80,17 +75,3 @@ one_fits counts bytes at i total here fits kept =
     let k = count_ones (get_or bytes i 0) in
     let one : one_at g k g k ≡ 1 = rw (eq-eqb g g refl, eq-eqb k k refl) refl in
     omega (arith, kept, fits, counted_step at bytes i g k here, one)
-
-counted-le : (at : ℕ) (bytes : List ℕ) (g k : ℕ) → counted at bytes g k ≤ length bytes
-unfolding counted
-counted-le at [] g k = omega arith
-counted-le at (b ∷ bs) g k = elim ((at % 4 == g) && (count_ones b == k)) as (λ d. (if d then 1 else 0) + counted (at + 1) bs g k ≤ length (b ∷ bs)) [
-  | true ↦ omega (arith, counted-le (at + 1) bs g k)
-  | false ↦ omega (arith, counted-le (at + 1) bs g k)
-]
-
--- what is counted in fewer than 2 ^ 32 bytes fits a table of zeros
-pub zeros_fit : (counts : List (List ℕ)) (at : ℕ) (bytes : List ℕ) → counts ≡ table (λ _ _. 0) → length bytes < 2 ^ 32 → CountsFit counts at bytes
-zeros_fit counts at bytes zeros few = λ g k low less.
-    let none : count_at counts g k ≡ 0 = ap (λ t. count_at t g k) zeros ∙ count_at-table (λ _ _. 0) g k low less in
-    omega (arith, none, counted-le at bytes g k)

@@ -1,3 +1,3 @@
-pub mod Fourths
-pub mod Woven
-pub mod Counts
+mod Fourths
+mod Woven
+mod Counts

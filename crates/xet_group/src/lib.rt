@@ -1,4 +1,4 @@
-//! Bytes in four groups by place modulo 4: split, put back, and counted by one bits.
+//! Byte groups by index modulo 4: splitting, regrouping, and histograms of set bits.
 #![tactic(auto)]
 
 pub mod laws;
@@ -12,6 +12,3 @@ pub use regroup::{
     bg4_regroup_together_combined_write_8, groups_fit,
 };
 pub use split::{bg4_split, bg4_split_separate, bg4_split_together};
-
-#[cfg(test)]
-mod tests;

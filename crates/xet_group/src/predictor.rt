@@ -1,12 +1,12 @@
-//! Counts of one bits in each of the four groups.
+//! Histograms of set bits, one for each of the four groups.
 
 ghost use Rattle.std.specs.Prelude.{◌≡◌, ◌%◌};
 ghost use Rattle.xet_group.specs.Histogram.{CountsFit, table, with_counted};
 
 use std::marker::Model;
 
-/// How many of the bytes met so far stand in group g and have k one bits, at the place [g][k] of a
-/// table of 4 rows of 9. The group is the place modulo 4. No call takes memory.
+/// Counts of bytes. `[g][k]` is the number of bytes so far that are in group g and have k set bits, in a
+/// table of 4 rows of 9. The group of a byte is its index modulo 4. No call allocates.
 #[derive(Debug, Drop)]
 pub struct BG4Predictor {
     counts: [[u32; 9]; 4],
@@ -26,7 +26,7 @@ impl Model for BG4Predictor {
 impl Default for BG4Predictor {
     ghost is_default = { λ p. p ≡ table (λ _ _. 0) };
 
-    /// No byte is counted.
+    /// All counts are 0.
     fn default() -> BG4Predictor {
         BG4Predictor {
             counts: [[0; 9]; 4],
@@ -35,8 +35,8 @@ impl Default for BG4Predictor {
 }
 
 impl BG4Predictor {
-    /// Counts these bytes, of which the first has the place `offset`, which may be any number. No
-    /// count may pass 2^32 - 1 by it.
+    /// Counts these bytes. The first has the index `offset`, which may be any number. No count may exceed
+    /// 2^32 - 1 afterwards.
     pub fn add_data_reference(&mut self, offset: usize, b: &[u8])
         requires { CountsFit self.old (offset % 4) b.now }
         ensures { self.new ≡ with_counted self.old (offset % 4) b.now }
@@ -47,7 +47,8 @@ impl BG4Predictor {
         }
     }
 
-    /// Counts these bytes, as `add_data_reference` does. It differs in how they are to be counted alone.
+    /// Same contract as `add_data_reference`, which it calls. Variants are meant to differ only in how they
+    /// count.
     pub fn add_data_v1(&mut self, offset: usize, b: &[u8])
         requires { CountsFit self.old (offset % 4) b.now }
         ensures { self.new ≡ with_counted self.old (offset % 4) b.now }
@@ -55,8 +56,8 @@ impl BG4Predictor {
         self.add_data_reference(offset, b);
     }
 
-    /// Counts these bytes, as `add_data_reference` does. It differs in how they are to be counted
-    /// alone: several bytes of a word at once.
+    /// Same contract as `add_data_reference`, which it calls. The variant is meant to count several bytes of
+    /// a word at once.
     pub fn add_data_swar(&mut self, offset: usize, b: &[u8])
         requires { CountsFit self.old (offset % 4) b.now }
         ensures { self.new ≡ with_counted self.old (offset % 4) b.now }
@@ -64,7 +65,7 @@ impl BG4Predictor {
         self.add_data_reference(offset, b);
     }
 
-    /// Counts these bytes, as `add_data_reference` does.
+    /// Same contract as `add_data_reference`, which it calls.
     pub fn add_data(&mut self, offset: usize, b: &[u8])
         requires { CountsFit self.old (offset % 4) b.now }
         ensures { self.new ≡ with_counted self.old (offset % 4) b.now }
@@ -72,7 +73,7 @@ impl BG4Predictor {
         self.add_data_reference(offset, b);
     }
 
-    /// The table.
+    /// The counts, as `[group][number of set bits]`.
     pub fn histograms(&self) -> [[u32; 9]; 4]
         ensures { result ≡ self.now }
     {

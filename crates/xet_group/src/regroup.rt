@@ -1,4 +1,4 @@
-//! Bytes put back from their four groups.
+//! Regrouping: bytes from their four groups.
 
 ghost use Rattle.std.specs.Prelude.{◌≡◌, ◌+◌, ◌≤◌, ◌↔◌, ◌∷◌, [], IfOk, IsTrue, length, map};
 ghost use Rattle.xet_group.specs.Groups.{AreGroups, grouped, groups_of};
@@ -6,8 +6,8 @@ ghost use Rattle.xet_group.specs.Groups.{AreGroups, grouped, groups_of};
 use crate::split::group_len;
 use std::alloc::{AllocError, Global};
 
-/// Whether there are bytes whose groups these are: there are four groups, of which none is longer
-/// than the one before it, and the first is at most one byte longer than the last.
+/// Whether these are the groups of some bytes: four lists, none longer than the one before it, and the first
+/// at most one byte longer than the last.
 pub fn groups_fit(groups: &[Vec<u8>]) -> bool
     ensures { IsTrue result ↔ AreGroups (map (λ v. v.items) groups.now) }
 {
@@ -19,8 +19,8 @@ pub fn groups_fit(groups: &[Vec<u8>]) -> bool
     }
 }
 
-/// The bytes of which these are the groups, as `groups_fit` tells that there are. It takes memory
-/// once, for the exact length. The call fails where there is none, and for no other reason.
+/// The bytes whose groups these are. The groups must fit (`groups_fit`). Allocates once, the exact length.
+/// The only error is out of memory.
 pub fn bg4_regroup_separate(alloc: Global, groups: &[Vec<u8>]) -> Result<Vec<u8>, AllocError>
     requires { AreGroups (map (λ v. v.items) groups.now) }
     ensures { IfOk result (λ bytes. groups_of bytes.items ≡ map (λ v. v.items) groups.now) }
@@ -31,8 +31,8 @@ pub fn bg4_regroup_separate(alloc: Global, groups: &[Vec<u8>]) -> Result<Vec<u8>
     interleaved(alloc, first, second, third, fourth)
 }
 
-/// The bytes whose joined groups these are. It takes memory once, for the exact length. The call
-/// fails where there is none, and for no other reason.
+/// The bytes whose concatenated groups these are. Allocates once, the exact length. The only error is out of
+/// memory.
 pub fn bg4_regroup_together(alloc: Global, b: &[u8]) -> Result<Vec<u8>, AllocError>
     ensures { IfOk result (λ bytes. grouped bytes.items ≡ b.now) }
 {
@@ -42,31 +42,30 @@ pub fn bg4_regroup_together(alloc: Global, b: &[u8]) -> Result<Vec<u8>, AllocErr
     interleaved(alloc, first, second, third, fourth)
 }
 
-/// The bytes whose joined groups these are, as `bg4_regroup_together` gives them. It differs in how
-/// they are to be computed alone: four bytes a write.
+/// Same contract as `bg4_regroup_together`, which it calls. The variant is meant to write four bytes at a
+/// time.
 pub fn bg4_regroup_together_combined_write_4(alloc: Global, b: &[u8]) -> Result<Vec<u8>, AllocError>
     ensures { IfOk result (λ bytes. grouped bytes.items ≡ b.now) }
 {
     bg4_regroup_together(alloc, b)
 }
 
-/// The bytes whose joined groups these are, as `bg4_regroup_together` gives them. It differs in how
-/// they are to be computed alone: eight bytes a write.
+/// Same contract as `bg4_regroup_together`, which it calls. The variant is meant to write eight bytes at a
+/// time.
 pub fn bg4_regroup_together_combined_write_8(alloc: Global, b: &[u8]) -> Result<Vec<u8>, AllocError>
     ensures { IfOk result (λ bytes. grouped bytes.items ≡ b.now) }
 {
     bg4_regroup_together(alloc, b)
 }
 
-/// The bytes whose joined groups these are, as `bg4_regroup_together` gives them.
+/// Same contract as `bg4_regroup_together`, which it calls.
 pub fn bg4_regroup(alloc: Global, b: &[u8]) -> Result<Vec<u8>, AllocError>
     ensures { IfOk result (λ bytes. grouped bytes.items ≡ b.now) }
 {
     bg4_regroup_together(alloc, b)
 }
 
-/// Whether none of the lengths is greater than the one before it, and the first is at most one
-/// greater than the last.
+/// Whether no length is greater than the one before it, and the first is at most one greater than the last.
 fn are_near(first: usize, second: usize, third: usize, fourth: usize) -> bool
     ensures { IsTrue result
         ↔ ((fourth ≤ third) × (third ≤ second) × (second ≤ first) × (first ≤ fourth + 1)) }
@@ -74,7 +73,7 @@ fn are_near(first: usize, second: usize, third: usize, fourth: usize) -> bool
     fourth <= third && third <= second && second <= first && first - fourth <= 1
 }
 
-/// The bytes of which these are the groups.
+/// The bytes whose groups these four are.
 fn interleaved(
     alloc: Global,
     first: &[u8],
@@ -98,7 +97,7 @@ fn interleaved(
     for (i, last) in fourth.iter().enumerate() {
         bytes.extend_from_slice(&[first[i], second[i], third[i], *last])?;
     }
-    // Of each of the others at most one byte is left.
+    // Each group but the last has at most one byte left.
     bytes.extend_from_slice(&first[fourth.len()..])?;
     bytes.extend_from_slice(&second[fourth.len()..])?;
     bytes.extend_from_slice(&third[fourth.len()..])?;

@@ -1,12 +1,12 @@
-//! Bytes split into four groups.
+//! Splitting bytes into four groups.
 
 ghost use Rattle.std.specs.Prelude.{◌≡◌, ◌+◌, ◌-◌, ◌/◌, ◌^◌, ◌<◌, ◌++◌, IfOk, OnOk, map};
 ghost use Rattle.xet_group.specs.Groups.{every_fourth, grouped, groups_of};
 
 use std::alloc::{AllocError, Global};
 
-/// The four groups of these bytes: byte i goes to group i modulo 4, in order. Each group takes its
-/// memory once, for its exact length. The call fails where there is none, and for no other reason.
+/// The four groups of these bytes: byte i belongs to group i modulo 4, in order. Allocates each group once,
+/// at its exact length. The only error is out of memory.
 pub fn bg4_split_separate(alloc: Global, b: &[u8]) -> Result<[Vec<u8>; 4], AllocError>
     ensures { IfOk result (λ parts. map (λ v. v.items) parts ≡ groups_of b.now) }
 {
@@ -18,8 +18,8 @@ pub fn bg4_split_separate(alloc: Global, b: &[u8]) -> Result<[Vec<u8>; 4], Alloc
     ])
 }
 
-/// The four groups of these bytes, joined, group 0 first. It takes memory once, for the exact length.
-/// The call fails where there is none, and for no other reason.
+/// The four groups of these bytes, concatenated, group 0 first. Allocates once, the exact length. The only
+/// error is out of memory.
 pub fn bg4_split_together(alloc: Global, b: &[u8]) -> Result<Vec<u8>, AllocError>
     ensures { IfOk result (λ joined. joined.items ≡ grouped b.now) }
 {
@@ -31,14 +31,14 @@ pub fn bg4_split_together(alloc: Global, b: &[u8]) -> Result<Vec<u8>, AllocError
     Ok(joined)
 }
 
-/// The four groups of these bytes, joined, as `bg4_split_together` gives them.
+/// Same contract as `bg4_split_together`, which it calls.
 pub fn bg4_split(alloc: Global, b: &[u8]) -> Result<Vec<u8>, AllocError>
     ensures { IfOk result (λ joined. joined.items ≡ grouped b.now) }
 {
     bg4_split_together(alloc, b)
 }
 
-/// How many of so many bytes a group has.
+/// How many of `count` bytes are in a group.
 pub(crate) fn group_len(count: usize, group: usize) -> usize
     requires count { count < 2 ^ 63 }
     requires group { group < 4 }
@@ -47,7 +47,7 @@ pub(crate) fn group_len(count: usize, group: usize) -> usize
     (count + 3 - group) / 4
 }
 
-/// One group of these bytes.
+/// The group with this number.
 fn group(alloc: Global, bytes: &[u8], number: usize) -> Result<Vec<u8>, AllocError>
     requires { number < 4 }
     ensures { IfOk result (λ group. group.items ≡ every_fourth number bytes.now) }
@@ -57,7 +57,7 @@ fn group(alloc: Global, bytes: &[u8], number: usize) -> Result<Vec<u8>, AllocErr
     Ok(group)
 }
 
-/// Appends one group of these bytes.
+/// Appends the group with this number.
 fn push_group(out: &mut Vec<u8>, bytes: &[u8], number: usize) -> Result<(), AllocError>
     ensures { OnOk result (out.new.items ≡ out.old.items ++ every_fourth number bytes.now) }
 {

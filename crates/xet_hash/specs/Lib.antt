@@ -6,3 +6,4 @@ pub mod Merkle
 pub mod Chunks
 pub mod Hasher
 pub mod theorems
+pub mod internal

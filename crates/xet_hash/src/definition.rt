@@ -1,5 +1,5 @@
-//! The digests as they are defined: the whole message is split from the top. The other forms are tested
-//! by these.
+//! BLAKE3 as it is defined: the whole message is split from the top. The other implementations are tested
+//! against this one.
 
 ghost use Rattle.std.specs.Prelude.{◌≡◌, ◌+◌, ◌*◌, ◌^◌, ◌<◌, ◌≤◌, length};
 ghost use Rattle.xet_hash.specs.Blake3.{keyed_digest, plain_digest, subtree, subtree_len};
@@ -9,10 +9,10 @@ use crate::blake3::{
 };
 use crate::data_hash::DataHash;
 
-/// The number of levels that any message fits in.
+/// The number of levels of the tree of any message.
 const LEVELS: u32 = 54;
 
-/// BLAKE3 under a key.
+/// BLAKE3 with a key.
 pub fn keyed_digest(key: &[u8; 32], bytes: &[u8]) -> DataHash
     ensures { result ≡ keyed_digest key.now bytes.now }
 {
@@ -28,7 +28,7 @@ pub fn plain_digest(bytes: &[u8]) -> DataHash
     DataHash::from_bytes(bytes_of(&root))
 }
 
-/// The bytes of 2^level chunks.
+/// The number of bytes of 2^level chunks.
 fn subtree_len(level: u32) -> usize
     requires { level < 54 }
     ensures { result ≡ subtree_len level }
@@ -36,7 +36,7 @@ fn subtree_len(level: u32) -> usize
     CHUNK_LEN << level
 }
 
-/// How many chunks a whole subtree has.
+/// The number of chunks of a full subtree.
 fn chunk_count(level: u32) -> u64
     requires { level < 54 }
     ensures { result ≡ 2 ^ level }
@@ -44,7 +44,7 @@ fn chunk_count(level: u32) -> u64
     1 << level
 }
 
-/// The value of the chunks of these bytes, which are numbered from `index` on.
+/// The chaining value of the chunks of these bytes. The first chunk has the number `index`.
 fn subtree(key: &[u32; 8], flags: u32, last: u32, index: u64, bytes: &[u8], level: u32) -> [u32; 8]
     requires level { level ≤ 54 }
     requires fits { length bytes.now ≤ subtree_len level }

@@ -1,4 +1,4 @@
-//! Digests of bytes in one piece. They take no memory.
+//! Digests of bytes that are all in memory. They allocate nothing.
 
 ghost use Rattle.std.specs.Prelude.{◌≡◌};
 ghost use Rattle.xet_hash.specs.Blake3.{keyed_digest, plain_digest};
@@ -7,32 +7,32 @@ ghost use Rattle.xet_hash.specs.Keys.{data_key, node_key};
 use crate::data_hash::DataHash;
 use crate::hasher::DataHasher;
 
-/// The key of chunks' digests: the bytes 1 to 32.
-pub(crate) const DATA_KEY: [u8; 32] = [
+/// The key of chunk hashes: the bytes 1 to 32.
+pub const DATA_KEY: [u8; 32] = [
     1, 2, 3, 4, 5, 6, 7, 8, 9, 10, 11, 12, 13, 14, 15, 16, 17, 18, 19, 20, 21, 22, 23, 24, 25, 26,
     27, 28, 29, 30, 31, 32,
 ];
 
-/// The key of Merkle nodes' digests: the bytes 33 to 64.
+/// The key of Merkle node hashes: the bytes 33 to 64.
 pub(crate) const NODE_KEY: [u8; 32] = [
     33, 34, 35, 36, 37, 38, 39, 40, 41, 42, 43, 44, 45, 46, 47, 48, 49, 50, 51, 52, 53, 54, 55, 56,
     57, 58, 59, 60, 61, 62, 63, 64,
 ];
 
-/// The key under which the hashes of a range of chunks are hashed.
+/// The verification key: the key of range hashes.
 pub const VERIFICATION_KEY: [u8; 32] = [
     127, 24, 87, 214, 206, 86, 237, 102, 18, 127, 249, 19, 231, 165, 195, 243, 164, 205, 38, 213,
     181, 219, 73, 230, 65, 36, 152, 127, 40, 251, 148, 195,
 ];
 
-/// The digest of a chunk's bytes: BLAKE3 under the data key.
+/// The digest of a chunk's bytes: BLAKE3 with the data key.
 pub fn compute_data_hash(bytes: &[u8]) -> DataHash
     ensures { result ≡ keyed_digest data_key bytes.now }
 {
     keyed_hash(&DATA_KEY, bytes)
 }
 
-/// The digest of a Merkle node's lines: BLAKE3 under the node key.
+/// The digest of a Merkle node's lines: BLAKE3 with the node key.
 pub fn compute_internal_node_hash(bytes: &[u8]) -> DataHash
     ensures { result ≡ keyed_digest node_key bytes.now }
 {
@@ -48,7 +48,7 @@ pub fn plain_hash(bytes: &[u8]) -> DataHash
     hasher.finish_in_mode()
 }
 
-/// BLAKE3 under a key.
+/// BLAKE3 with a key.
 pub(crate) fn keyed_hash(key: &[u8; 32], bytes: &[u8]) -> DataHash
     ensures { result ≡ keyed_digest key.now bytes.now }
 {

@@ -18,12 +18,11 @@ pub use data_hash::{
     DataHash, HMACKey, MDB_SHARD_GLOBAL_DEDUP_CHUNK_MODULUS, MerkleHash,
     hash_is_global_dedup_eligible,
 };
-pub use digest::{VERIFICATION_KEY, compute_data_hash, compute_internal_node_hash, plain_hash};
+pub use digest::{
+    DATA_KEY, VERIFICATION_KEY, compute_data_hash, compute_internal_node_hash, plain_hash,
+};
 pub use error::{Field, Place, Reason, Refused, StoreError, What};
 pub use hasher::DataHasher;
 pub use maps::{MerkleHashMap, PassThroughHashMap, TruncatedMerkleHashMap};
 pub use merkle::{file_hash, file_hash_with_salt, xorb_hash};
 pub use range::range_hash_from_chunks;
-
-#[cfg(test)]
-mod tests;

@@ -2,7 +2,7 @@
 use Rattle.std.proofs.Common.{◌≡◌, ◌≢◌, ⊎_elim, ℕ, true, false, cond, List, Option, Some, None, is_some, IsSome, IfSome, Result, Ok, Err, OnOk, OnErr, refl, sym, ◌∙◌, ap, subst}
 use Rattle.std.specs.Cmp.Lexicographic.{nat_list_cmp_total}
 use Rattle.std.specs.FinMap.{get, insert, remove, get-remove}
-use Rattle.xet_io.specs.Disk.{Files, Entry, File, entry, file_of, file_at, stable_if, synced, gone_if, moved_if, renamed, removed}
+use Rattle.xet_io.specs.Disk.{Files, Entry, File, entry, file_of, file_at, durable_if, synced, gone_if, moved_if, renamed, removed}
 use Rattle.xet_io.specs.theorems.Names.{is_name, either_name, same, get_here, get_other, get_kept}
 
 pub none_of : {A : Type 0} (o : Option A) → is_some o ≡ false → o ≡ None
@@ -31,10 +31,10 @@ module _ (m new : Files) (n : List ℕ) (e : Entry) where
 
 module _ (m : Files) (n : List ℕ) where
   pub synced_absent : file_at m n ≡ None → synced m n ≡ m
-  synced_absent is = ap (λ f. stable_if m n f) is
+  synced_absent is = ap (λ f. durable_if m n f) is
 
   pub synced_there : (f : File) → file_at m n ≡ Some f → synced m n ≡ insert m n (entry (Some f) true)
-  synced_there f is = ap (λ f. stable_if m n f) is
+  synced_there f is = ap (λ f. durable_if m n f) is
 
   pub removed_there : (f : File) → file_at m n ≡ Some f → removed m n ≡ remove m n
   removed_there f is = ap (λ f. gone_if m n f) is

@@ -36,7 +36,7 @@ module _ (files : Files) (folder name : List ℕ) (e : Entry) (new : get files n
   apart : (d : DiskEntry) → IsListed files folder d → in_folder folder d.name ≢ name
   apart d listed same =
       let none = ap (λ (o : Option Entry). stat_of (file_of o)) new in
-      let some = subst (λ (n : List ℕ). stat_of (file_at files n) ≡ Some (d.length, d.stamp)) same listed.1 in
+      let some = subst (λ (n : List ℕ). stat_of (file_at files n) ≡ Some (d.length, d.modified)) same listed.1 in
       absurd (cc (none, some))
 
   still_listed : (d : DiskEntry) → IsListed files folder d → IsListed more folder d
@@ -69,7 +69,7 @@ module _ (files : Files) (folder name : List ℕ) (e : Entry) (new : get files n
   -- the name is a file's of the folder
   module _ (own : List ℕ) (plain : IsTrue (is_plain own)) (is : in_folder folder own ≡ name) (f : File) (has : e.file ≡ Some f) where
     abbrev one : DiskEntry
-    one = record { name = own; length = length f.bytes; stamp = f.stamp }
+    one = record { name = own; length = length f.bytes; modified = f.modified }
 
     one_listed : IsListed more folder one
     one_listed = (

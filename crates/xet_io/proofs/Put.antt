@@ -10,16 +10,16 @@ on_err (Ok x) P p = tt
 on_err (Err e) P p = p
 
 module _ (old : Files) (temp name bytes : List ℕ) where
-  module _ (stamp : ℕ) where
+  module _ (modified : ℕ) where
     abbrev f : File
-    f = file bytes stamp
+    f = file bytes modified
 
-    pub synced_temp : synced (written old temp bytes stamp) temp ≡ insert old temp (entry (Some f) true)
+    pub synced_temp : synced (written old temp bytes modified) temp ≡ insert old temp (entry (Some f) true)
     synced_temp =
-        synced_there (written old temp bytes stamp) temp f (ap file_of (get_here old temp (entry (Some f) false)))
+        synced_there (written old temp bytes modified) temp f (ap file_of (get_here old temp (entry (Some f) false)))
         ∙ insert-insert old temp (entry (Some f) false) (entry (Some f) true)
 
-    pub put_done : renamed (synced (written old temp bytes stamp) temp) temp name ≡ insert (remove old temp) name (entry (Some f) true)
+    pub put_done : renamed (synced (written old temp bytes modified) temp) temp name ≡ insert (remove old temp) name (entry (Some f) true)
     put_done =
         ap (λ (m : Files). renamed m temp name) synced_temp
         ∙ renamed_there (insert old temp (entry (Some f) true)) temp name (entry (Some f) true) f (get_here old temp (entry (Some f) true)) refl

@@ -1,4 +1,4 @@
--- The calls of a disk that are to fail.
+-- Plans by which the calls of a disk fail.
 use Rattle.std.specs.Prelude.{◌≡◌, ◌==◌, ◌&&◌, ◌-◌, ◌⊎◌, ℕ, Bool, not, cond, List, refl}
 use Rattle.std.proofs.Common.{inl, inr}
 use Rattle.std.specs.List.{list_any, retain_mut}
@@ -33,7 +33,7 @@ op_numbered-op_number Remove = refl
 abbrev pub op_code : Coded Op
 op_code = code_by ℕ coded_ℕ op_number op_numbered op_numbered-op_number
 
--- Which calls fail: for each (op, n) the call of the kind op after n others of it; or each call after so
+-- Which calls fail: for each (op, n) the call of the kind op after n others of it; or every call after this
 -- many of any kind.
 pub data FailPlan : Type 0 where
   Calls : List (Op × ℕ) → FailPlan
@@ -55,37 +55,37 @@ abbrev pub plan_code : Coded FailPlan
 plan_code =
     code_by (List (Op × ℕ) ⊎ ℕ) (coded⊎ (coded_list (coded× op_code coded_ℕ)) coded_ℕ) plan_parts plan_of_parts plan_of_parts-plan_parts
 
--- what a plan is to contracts
+-- a plan as contracts see it
 abbrev pub plan_of : Plan → FailPlan
 plan_of (plan.Calls calls) = Calls calls.items
 plan_of (plan.After count) = After count
 
--- of one kind
+-- both calls are of the same kind
 abbrev pub same_op : Op → Op → Bool
 same_op a b = op_number a == op_number b
 
--- this failure is the next call's, if it is of this kind
+-- the failure f falls on the next call, if that is of the kind op
 abbrev pub is_now : Op → Op × ℕ → Bool
 is_now op f = same_op f.0 op && f.1 == 0
 
 abbrev pub one_is_now : List (Op × ℕ) → Op → Bool
 one_is_now calls op = list_any (is_now op) calls
 
--- a call of a kind is to fail
+-- the next call fails, if it is of the kind op
 abbrev pub fails_now : FailPlan → Op → Bool
 fails_now (Calls calls) op = one_is_now calls op
 fails_now (After count) op = count == 0
 
--- a failure one call of a kind later
+-- a failure after one more call of the kind op
 abbrev pub nearer : Op → Op × ℕ → Op × ℕ
 nearer op f = cond (same_op f.0 op) (f.0, f.1 - 1) f
 
--- The failures to come after a call of a kind: those of the call are past, and those of its kind are
--- one call nearer.
+-- The failures that are left after a call of the kind op: those of the call are removed, and the others of
+-- its kind are one call nearer.
 abbrev pub all_nearer : List (Op × ℕ) → Op → List (Op × ℕ)
 all_nearer calls op = retain_mut (λ f. not (is_now op f)) (nearer op) calls
 
--- the plan after a call of a kind; where each call fails, each later one does
+-- The plan after a call of the kind op. If every call fails now, so does each later one.
 abbrev pub fails_after : FailPlan → Op → FailPlan
 fails_after (Calls calls) op = Calls (all_nearer calls op)
 fails_after (After count) op = After (count - 1)

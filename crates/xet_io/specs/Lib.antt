@@ -3,8 +3,11 @@ pub mod Streams
 pub mod FailingStreams
 pub mod Named
 pub mod Disk
+pub mod Lent
+pub mod Frame
 pub mod FailingCalls
 pub mod Memory
 pub mod MemoryFiles
 pub mod Whole
 pub mod theorems
+pub mod internal

@@ -1,12 +1,12 @@
--- What a disk in memory is to contracts.
+-- A disk in memory as contracts see it.
 use Rattle.std.specs.Prelude.{ℕ, List, Bool, Option, refl}
 use Rattle.std.specs.Coded.{Coded, code_by, coded×, coded_list, coded_ℕ, coded_bool, coded_option}
 use Rattle.std.specs.FinMap as map
 use Rattle.xet_io.specs.Disk.{Files, File, Entry}
 use Rattle.xet_io.specs.FailingCalls.{FailPlan, plan_code}
 
--- Its files, and how many calls it has taken: a write's stamp is the number of its call, from 0. How
--- often it has failed, up to 2 ^ 64 - 1, and the failures to come.
+-- Its files, the number of its calls and of its failures, each up to 2 ^ 64 - 1, and the plan of later
+-- failures. The modification time of a write is the number of its call, from 0.
 pub record Memory : Type 0 where
   pub files : Files
   pub calls : ℕ
@@ -15,11 +15,11 @@ pub record Memory : Type 0 where
 
 abbrev pub file_code : Coded File
 file_code =
-    code_by (List ℕ × ℕ) (coded× (coded_list coded_ℕ) coded_ℕ) (λ f. (f.bytes, f.stamp)) (λ p. record { bytes = p.0; stamp = p.1 }) (λ _. refl)
+    code_by (List ℕ × ℕ) (coded× (coded_list coded_ℕ) coded_ℕ) (λ f. (f.bytes, f.modified)) (λ p. record { bytes = p.0; modified = p.1 }) (λ _. refl)
 
 abbrev pub entry_code : Coded Entry
 entry_code =
-    code_by (Option File × Bool) (coded× (coded_option file_code) coded_bool) (λ e. (e.file, e.stable)) (λ p. record { file = p.0; stable = p.1 }) (λ _. refl)
+    code_by (Option File × Bool) (coded× (coded_option file_code) coded_bool) (λ e. (e.file, e.durable)) (λ p. record { file = p.0; durable = p.1 }) (λ _. refl)
 
 abbrev pub memory_code : Coded Memory
 memory_code =

@@ -1,4 +1,4 @@
--- The files of a disk in memory.
+-- The files of a disk in memory, from its entries.
 use Rattle.std.specs.Prelude.{List, map, String, string_bytes}
 use Rattle.std.specs.Global.{Global}
 use Rattle.std.specs.Option.{option_map}
@@ -9,10 +9,10 @@ use Rattle.xet_io.specs.declared.held.Held.{Held}
 use Rattle.xet_io.specs.declared.held.HeldFile.{HeldFile}
 
 abbrev pub file_of_held : HeldFile → File
-file_of_held f = file f.bytes.items f.stamp
+file_of_held f = file f.bytes.items f.modified
 
 abbrev pub entry_of : Held → Entry
-entry_of held = entry (option_map file_of_held held.file) held.stable
+entry_of held = entry (option_map file_of_held held.file) held.durable
 
 abbrev pub files_in : List (String Global × Held) → Files
 files_in names = from_entries (map (λ e. (string_bytes e.0, entry_of e.1)) names)

@@ -1,4 +1,4 @@
-//! The count of a disk's calls, and of those that are to fail.
+//! Counts the calls and failures of a disk, and plans which calls fail.
 
 ghost use Rattle.std.specs.Prelude.{◌≡◌, ◌+◌, ◌-◌, ◌^◌, min, not};
 ghost use Rattle.xet_io.specs.Faults.{HasCause, one_more};
@@ -6,7 +6,7 @@ ghost use Rattle.xet_io.specs.FailingCalls.{plan_of, is_now, one_is_now, nearer,
 
 use crate::fault::Refusal;
 
-/// A kind of call of a disk.
+/// A kind of disk call.
 #[derive(Clone, Copy, PartialEq, Eq, Debug)]
 pub enum Op {
     /// A call of `Disk::stat`.
@@ -25,17 +25,17 @@ pub enum Op {
     Remove,
 }
 
-/// Which calls are still to fail.
+/// Which later calls fail.
 #[derive(Debug, Drop)]
 pub(crate) enum Plan {
-    /// For each pair the call of that kind after so many others of it.
+    /// For each pair (kind, n): the call of this kind after n others of it.
     Calls(Vec<(Op, u64)>),
-    /// Each call after so many of any kind.
+    /// Every call after this many of any kind.
     After(u64),
 }
 
 impl Plan {
-    /// Passes a call of a kind, and answers whether it is to fail.
+    /// Records a call of this kind, and returns whether it must fail.
     fn pass(&mut self, op: Op) -> bool
         ensures now { result ≡ fails_now (plan_of self.old) op }
         ensures later { plan_of self.new ≡ fails_after (plan_of self.old) op }
@@ -55,8 +55,7 @@ impl Plan {
     }
 }
 
-/// How many calls there were, how many of them failed, both up to 2^64 - 1, and which are still to
-/// fail.
+/// The number of calls and of failures, each up to 2^64 - 1, and which later calls fail.
 #[derive(Debug, Drop)]
 pub(crate) struct Count {
     pub(crate) calls: u64,
@@ -65,7 +64,7 @@ pub(crate) struct Count {
 }
 
 impl Count {
-    /// No call yet.
+    /// No call so far.
     pub(crate) fn new(plan: Plan) -> Count
         ensures calls { result.calls ≡ 0 }
         ensures faults { result.faults ≡ 0 }
@@ -78,7 +77,7 @@ impl Count {
         }
     }
 
-    /// Counts a call of a kind, and answers whether it is to fail.
+    /// Counts a call of this kind, and returns whether it must fail.
     pub(crate) fn fails(&mut self, op: Op) -> bool
         ensures now { result ≡ fails_now (plan_of self.old.plan) op }
         ensures calls { self.new.calls ≡ min (self.old.calls + 1) (2 ^ 64 - 1) }
@@ -89,7 +88,7 @@ impl Count {
         self.plan.pass(op)
     }
 
-    /// Counts a failure, and answers it.
+    /// Counts a failure, and returns `Failed`.
     pub(crate) fn failed(&mut self) -> Refusal
         ensures failed { result ≡ Refusal.Failed }
         ensures calls { self.new.calls ≡ self.old.calls }
@@ -102,21 +101,21 @@ impl Count {
     }
 }
 
-/// Whether one of these failures is that of the next call, if it is of this kind.
+/// Whether one of these failures falls on the next call, if it is of this kind.
 fn one_is_now(calls: &[(Op, u64)], op: Op) -> bool
     ensures { result ≡ one_is_now calls.now op }
 {
     calls.iter().any(|fail| is_now(op, fail))
 }
 
-/// Whether a failure is that of the next call, if it is of this kind.
+/// Whether this failure falls on the next call, if it is of this kind.
 fn is_now(op: Op, fail: &(Op, u64)) -> bool
     ensures { result ≡ is_now op fail.now }
 {
     fail.0 == op && fail.1 == 0
 }
 
-/// Brings the failures of a kind one call nearer, without those of this call.
+/// Removes the failures of this call, and brings the others of its kind one call nearer.
 fn come_nearer(calls: &mut Vec<(Op, u64)>, op: Op)
     ensures { calls.new.items ≡ all_nearer calls.old.items op }
 {

@@ -1,47 +1,47 @@
-//! A disk as its callers see it: files under names, and how often it has failed.
+//! `Disk`: named files, and a count of failures.
 
 ghost use Rattle.std.specs.Prelude.{◌≡◌, ◌≢◌, ◌≤◌, ◌<◌, ◌+◌, ◌^◌, ℕ, Bool, true, length, take, drop, IfOk, IfSome, IsErrOf, OnOk, OnErr};
 ghost use Rattle.std.specs.Option.{option_map};
-ghost use Rattle.xet_io.specs.Disk.{Files, bytes_at, file_at, stat_of, FillsFrom, FillsFront, ReadsAt, Lists, Writes, Changes, synced, renamed, removed, IsPut, IsPutOrKept};
+ghost use Rattle.xet_io.specs.Disk.{Files, bytes_at, file_at, stat_of, FillsFrom, ReadsAt, Lists, Writes, Changes, synced, renamed, removed, IsPut, IsPutOrKept};
+ghost use Rattle.xet_io.specs.internal.Disk.{FillsFront};
 ghost use Rattle.xet_io.specs.Faults.{HasCause};
+ghost use Rattle.xet_io.specs.Frame.{Called, Queried};
 
 use crate::fault::Refusal;
 use std::alloc::Global;
 use xet_base::Text;
 
-/// A file of a folder, as `Disk::list` tells it.
+/// A file of a folder, as `Disk::list` returns it.
 #[derive(Debug, Drop)]
 pub struct DiskEntry {
-    /// Its own name, without the folder's and with no slash.
+    /// The file's own name: without the folder, and with no slash.
     pub name: Text,
-    /// Its number of bytes.
+    /// Length in bytes.
     pub length: u64,
-    /// Its stamp.
-    pub stamp: u64,
+    /// Modification time. On a disk in memory it is the number of the write call.
+    pub modified: u64,
 }
 
-/// Where files are kept under names. The name of the file `f` of a folder `d` is `d/f`, and `f` has
-/// no slash.
+/// Storage of named files. The file `f` of the folder `d` has the name `d/f`, and `f` has no slash.
 pub trait Disk {
-    /// Whether it tells its files. No call changes that.
+    /// Whether the files are observable, so that contracts can speak of them. No call changes this.
     ghost tells: { Self → Bool };
 
-    /// Its files, where it tells them.
+    /// The files, if observable.
     ghost files: { Self → Files };
 
-    /// How often it has failed, up to 2^64 - 1.
+    /// The number of failures so far, up to 2^64 - 1.
     ghost faults: { Self → ℕ };
 
-    /// Length in bytes and stamp of a file. None exactly where the name is absent.
+    /// The length in bytes and the modification time of a file. `None` if and only if the name is absent.
     fn stat(&mut self, name: &str) -> Result<Option<(u64, u64)>, Refusal>
         ensures told { tells self.old ≡ true → IfOk result (λ found. found ≡ stat_of (file_at (files self.old) name.now)) }
         ensures same { files self.new ≡ files self.old }
         ensures tells { tells self.new ≡ tells self.old }
         ensures cause { HasCause (faults self.old) (faults self.new) (IsErrOf result Refusal.Failed) };
 
-    /// Reads the file's bytes from place `at` on into the front of `buf`, and returns how many: at
-    /// least one, unless `at` is at or past the end or `buf` is empty. None exactly where the name
-    /// is absent.
+    /// Reads the file's bytes from offset `at` into the start of `buf`, and returns how many: at least one,
+    /// unless `at` is at or past the end or `buf` is empty. `None` if and only if the name is absent.
     fn read_at(&mut self, name: &str, at: u64, buf: &mut [u8]) -> Result<Option<usize>, Refusal>
         ensures bound { IfOk result (λ found. IfSome found (λ count. count ≤ length buf.new)) }
         ensures told { tells self.old ≡ true → IfOk result (ReadsAt (file_at (files self.old) name.now) at buf.new) }
@@ -49,52 +49,49 @@ pub trait Disk {
         ensures tells { tells self.new ≡ tells self.old }
         ensures cause { HasCause (faults self.old) (faults self.new) (IsErrOf result Refusal.Failed) };
 
-    /// The files of a folder, once each, in any order. A lacking folder has none.
+    /// The files of a folder, each once, in any order. A folder that does not exist has none.
     fn list(&mut self, alloc: Global, folder: &str) -> Result<Vec<DiskEntry>, Refusal>
         ensures told { tells self.old ≡ true → IfOk result (λ listed. Lists (files self.old) folder.now listed.items) }
         ensures same { files self.new ≡ files self.old }
         ensures tells { tells self.new ≡ tells self.old }
         ensures cause { HasCause (faults self.old) (faults self.new) (IsErrOf result Refusal.Failed) };
 
-    /// Makes or replaces a file: the name has exactly these bytes, under a new stamp, and is not
-    /// stable. After a refusal nothing has changed, or the name may hold anything or be absent, and
-    /// is not stable.
+    /// Creates or replaces a file: the name has exactly these bytes, with a modification time, and is not
+    /// durable. After an error either nothing has changed, or the name may have any content or be absent, and
+    /// is not durable.
     fn write(&mut self, name: &str, bytes: &[u8]) -> Result<(), Refusal>
         ensures told { tells self.old ≡ true → Writes (files self.old) name.now bytes.now result (files self.new) }
         ensures tells { tells self.new ≡ tells self.old }
         ensures cause { HasCause (faults self.old) (faults self.new) (IsErrOf result Refusal.Failed) };
 
-    /// Makes a name stable, so that a crash keeps its bytes. False exactly where it is absent.
-    /// After a refusal it has happened or not.
+    /// Makes a file durable: a crash keeps its bytes. `false` if and only if the name is absent. After an
+    /// error it may have happened or not.
     fn sync(&mut self, name: &str) -> Result<bool, Refusal>
         ensures told { tells self.old ≡ true → Changes (file_at (files self.old) name.now) (files self.old) (synced (files self.old) name.now) result (files self.new) }
         ensures tells { tells self.new ≡ tells self.old }
         ensures cause { HasCause (faults self.old) (faults self.new) (IsErrOf result Refusal.Failed) };
 
-    /// Moves bytes, stamp and stability of `from` to `to`, whose old file is replaced. False exactly
-    /// where `from` is absent. After a refusal it has happened or not.
+    /// Moves bytes, modification time and durability of `from` to `to`, and replaces the file at `to`.
+    /// `false` if and only if `from` is absent. After an error it may have happened or not.
     fn rename(&mut self, from: &str, to: &str) -> Result<bool, Refusal>
         ensures told { tells self.old ≡ true → Changes (file_at (files self.old) from.now) (files self.old) (renamed (files self.old) from.now to.now) result (files self.new) }
         ensures tells { tells self.new ≡ tells self.old }
         ensures cause { HasCause (faults self.old) (faults self.new) (IsErrOf result Refusal.Failed) };
 
-    /// Removes a file. False exactly where the name is absent. After a refusal it has happened or
-    /// not.
+    /// Removes a file. `false` if and only if the name is absent. After an error it may have happened or not.
     fn remove(&mut self, name: &str) -> Result<bool, Refusal>
         ensures told { tells self.old ≡ true → Changes (file_at (files self.old) name.now) (files self.old) (removed (files self.old) name.now) result (files self.new) }
         ensures tells { tells self.new ≡ tells self.old }
         ensures cause { HasCause (faults self.old) (faults self.new) (IsErrOf result Refusal.Failed) };
 }
 
-/// Writes `bytes` to `temp`, syncs it and renames it to `name`, so that a crash leaves under `name`
-/// what was there before or exactly `bytes`. It takes no memory of its own and refuses only as the
-/// disk does.
+/// Writes `bytes` to `temp`, syncs it and renames it to `name`. The order is for crashes: `name` then has its
+/// earlier content or exactly `bytes`. Allocates nothing itself, and fails only if the disk does.
 pub fn put_file<D: Disk>(disk: &mut D, temp: &str, name: &str, bytes: &[u8]) -> Result<(), Refusal>
     requires { temp.now ≢ name.now }
     ensures put { D.tells disk.old ≡ true → OnOk result (IsPut (D.files disk.old) temp.now name.now bytes.now (D.files disk.new)) }
     ensures refused { D.tells disk.old ≡ true → OnErr result (IsPutOrKept (D.files disk.old) temp.now name.now bytes.now (D.files disk.new)) }
-    ensures tells { D.tells disk.new ≡ D.tells disk.old }
-    ensures cause { HasCause (D.faults disk.old) (D.faults disk.new) (IsErrOf result Refusal.Failed) }
+    ensures frame { Called D.tells D.faults disk.old disk.new (IsErrOf result Refusal.Failed) }
 {
     disk.write(temp, bytes)?;
     disk.sync(temp)?;
@@ -102,16 +99,14 @@ pub fn put_file<D: Disk>(disk: &mut D, temp: &str, name: &str, bytes: &[u8]) -> 
     Ok(())
 }
 
-/// All bytes of a file, read straight into their place. None exactly where the name is absent.
+/// All bytes of a file, read directly into the vector returned. `None` if and only if the name is absent.
 pub fn read_file<D: Disk>(
     disk: &mut D,
     alloc: Global,
     name: &str,
 ) -> Result<Option<Vec<u8>>, Refusal>
     ensures told { D.tells disk.old ≡ true → IfOk result (λ found. option_map (λ b. b.items) found ≡ bytes_at (D.files disk.old) name.now) }
-    ensures same { D.files disk.new ≡ D.files disk.old }
-    ensures tells { D.tells disk.new ≡ D.tells disk.old }
-    ensures cause { HasCause (D.faults disk.old) (D.faults disk.new) (IsErrOf result Refusal.Failed) }
+    ensures frame { Queried D.files D.tells D.faults disk.old disk.new (IsErrOf result Refusal.Failed) }
 {
     let Some((length, _)) = disk.stat(name)? else {
         return Ok(None);
@@ -122,8 +117,8 @@ pub fn read_file<D: Disk>(
     Ok(Some(bytes))
 }
 
-/// Fills `buf` with a file's bytes from place `at` on. False where the name is absent or the file ends
-/// before `buf` is full.
+/// Fills `buf` with a file's bytes from offset `at`. `false` if and only if the name is absent or the file
+/// ends before `buf` is full.
 pub fn read_file_at<D: Disk>(
     disk: &mut D,
     name: &str,
@@ -133,15 +128,14 @@ pub fn read_file_at<D: Disk>(
     requires some { 0 < length buf.old }
     requires fits { at + length buf.old < 2 ^ 64 }
     ensures told { D.tells disk.old ≡ true → IfOk result (FillsFrom (bytes_at (D.files disk.old) name.now) at buf.new) }
-    ensures same { D.files disk.new ≡ D.files disk.old }
-    ensures tells { D.tells disk.new ≡ D.tells disk.old }
-    ensures cause { HasCause (D.faults disk.old) (D.faults disk.new) (IsErrOf result Refusal.Failed) }
+    ensures frame { Queried D.files D.tells D.faults disk.old disk.new (IsErrOf result Refusal.Failed) }
 {
     let filled = fill_from_file(disk, name, at, buf)?;
     Ok(filled == buf.len())
 }
 
-/// Reads a file from place `at` on, up to the end of `buf` or of what comes, and returns how many bytes.
+/// Reads a file from offset `at` until `buf` is full or the file ends, and returns how many bytes. An absent
+/// file has none.
 fn fill_from_file<D: Disk>(
     disk: &mut D,
     name: &str,
@@ -150,9 +144,7 @@ fn fill_from_file<D: Disk>(
 ) -> Result<usize, Refusal>
     requires { at + length buf.old < 2 ^ 64 }
     ensures told { D.tells disk.old ≡ true → IfOk result (FillsFront (bytes_at (D.files disk.old) name.now) at buf.new) }
-    ensures same { D.files disk.new ≡ D.files disk.old }
-    ensures tells { D.tells disk.new ≡ D.tells disk.old }
-    ensures cause { HasCause (D.faults disk.old) (D.faults disk.new) (IsErrOf result Refusal.Failed) }
+    ensures frame { Queried D.files D.tells D.faults disk.old disk.new (IsErrOf result Refusal.Failed) }
 {
     let mut filled = 0;
     'reads: while filled < buf.len() {
@@ -165,8 +157,7 @@ fn fill_from_file<D: Disk>(
     Ok(filled)
 }
 
-/// Reads once, from behind the first `filled` bytes of what begins at place `at` of the file, into the
-/// room behind the first `filled` bytes of `buf`.
+/// Reads once from offset `at + filled` of the file into `buf`, after its first `filled` bytes.
 fn read_behind<D: Disk>(
     disk: &mut D,
     name: &str,
@@ -179,9 +170,7 @@ fn read_behind<D: Disk>(
     ensures told { D.tells disk.old ≡ true → IfOk result (ReadsAt (file_at (D.files disk.old) name.now) (at + filled) (drop filled buf.new)) }
     ensures front { take filled buf.new ≡ take filled buf.old }
     ensures bound { IfOk result (λ found. IfSome found (λ count. filled + count ≤ length buf.new)) }
-    ensures same { D.files disk.new ≡ D.files disk.old }
-    ensures tells { D.tells disk.new ≡ D.tells disk.old }
-    ensures cause { HasCause (D.faults disk.old) (D.faults disk.new) (IsErrOf result Refusal.Failed) }
+    ensures frame { Queried D.files D.tells D.faults disk.old disk.new (IsErrOf result Refusal.Failed) }
 {
     disk.read_at(name, at + filled as u64, &mut buf[filled..])
 }

@@ -1,4 +1,4 @@
-//! A source and a sink that fail once.
+//! A source and a sink that fail once, on purpose.
 
 ghost use Rattle.std.specs.Prelude.{◌≡◌, ◌+◌, ◌-◌, ◌^◌, ◌<◌, ◌≤◌, ◌↔◌, ℕ, List, Some, None, [], true, length, min, IfOk, OnOk, OnErr, IsErr, IsErrOf, IsTrue, IsFalse};
 ghost use Rattle.xet_io.specs.FailingStreams.{FailsNow, taken_of, before_after};
@@ -11,8 +11,8 @@ use crate::source::Source;
 use std::alloc::Global;
 use std::marker::Model;
 
-/// A source of the bytes of a slice that fails once. Contracts see the bytes that are left, how many
-/// of them may still be taken before it fails, and how often it has failed.
+/// A source over a slice that fails once. Contracts see the bytes left, how many of them can be taken before
+/// the failure, and the number of failures.
 #[derive(Debug, Drop)]
 pub struct FailingSource<'a> {
     rest: &'a [u8],
@@ -30,8 +30,8 @@ impl<'a> Model for FailingSource<'a> {
 }
 
 impl<'a> FailingSource<'a> {
-    /// A source of these bytes, whose read after `fail_at` bytes fails. Where `fail_at` is their
-    /// number, it fails before it tells its end, and where it is greater, never. It takes no memory.
+    /// A source of these bytes that fails after `fail_at` of them were taken. If `fail_at` is their number,
+    /// it fails before it reports the end; if it is greater, it never fails. Does not allocate.
     pub fn new(bytes: &'a [u8], fail_at: u64) -> FailingSource<'a>
         ensures { result ≡ record { left = bytes.now; before = Some fail_at; faults = 0 } }
     {
@@ -71,8 +71,8 @@ impl Source for FailingSource<'_> {
     }
 }
 
-/// A sink that keeps what is written, and fails once. Contracts see those bytes, how many may still
-/// be taken before it fails, and how often it has failed.
+/// A sink that stores what is written, and fails once. Contracts see the stored bytes, how many more it takes
+/// before the failure, and the number of failures.
 #[derive(Debug, Drop)]
 pub struct FailingSink {
     buffer: Vec<u8>,
@@ -90,8 +90,7 @@ impl Model for FailingSink {
 }
 
 impl FailingSink {
-    /// A sink to which nothing was written, whose write after `fail_at` bytes fails. It takes no
-    /// memory.
+    /// An empty sink that fails after `fail_at` bytes were written. Does not allocate.
     pub fn new(alloc: Global, fail_at: u64) -> FailingSink
         ensures { result ≡ record { written = []; before = Some fail_at; faults = 0 } }
     {
@@ -101,7 +100,7 @@ impl FailingSink {
         }
     }
 
-    /// The bytes that were written.
+    /// The bytes written so far.
     pub fn bytes(&self) -> &[u8]
         ensures { result.now ≡ self.now.written }
     {
@@ -138,16 +137,16 @@ impl Sink for FailingSink {
     }
 }
 
-/// A failure that comes once, and how often it has come.
+/// A failure that happens once, and the number of failures so far.
 #[derive(Debug, Drop)]
 struct Failure {
-    /// How many bytes may still be taken before it. None once it has come.
+    /// How many bytes can be taken before the failure. `None` after it has happened.
     before: Option<u64>,
     faults: u64,
 }
 
 impl Failure {
-    /// A failure that comes after `fail_at` bytes.
+    /// A failure after `fail_at` bytes.
     fn new(fail_at: u64) -> Failure
         ensures { result ≡ record { before = Some fail_at; faults = 0 } }
     {
@@ -157,7 +156,7 @@ impl Failure {
         }
     }
 
-    /// Whether it comes at a call over `count` bytes. If so, it is counted, and never comes again.
+    /// Whether a call over `count` bytes fails. If so, the failure is counted, and never happens again.
     fn comes(&mut self, count: usize) -> bool
         ensures now { IsTrue result ↔ FailsNow self.old.before count }
         ensures failed { IsTrue result → self.new ≡ record { before = None; faults = min (self.old.faults + 1) (2 ^ 64 - 1) } }
@@ -172,7 +171,7 @@ impl Failure {
         true
     }
 
-    /// How many of `count` bytes are taken at once, at most those before it.
+    /// How many of `count` bytes a call takes: at most those before the failure.
     fn taken_of(&self, count: usize) -> usize
         ensures { result ≡ taken_of self.now.before count }
     {
@@ -182,7 +181,7 @@ impl Failure {
         }
     }
 
-    /// Passes `count` bytes that were taken.
+    /// Counts `count` bytes as taken.
     fn pass(&mut self, count: usize)
         ensures { self.new ≡ record self.old { before = before_after self.old.before count } }
     {

@@ -1,20 +1,20 @@
-//! Why an object of the outside refuses.
+//! The errors of I/O objects.
 
 ghost use Rattle.std.specs.Prelude.{◌≡◌};
 ghost use Rattle.xet_io.specs.declared.fault.Refusal.TheVariants.{OutOfMemory};
 
 use std::alloc::{AllocError, AllocFailed};
 
-/// An object that is only read has failed, and has counted it.
+/// The error of an object that is only read: it has failed, and has counted the failure.
 #[derive(Clone, Copy, PartialEq, Eq, Debug)]
 pub struct Failed;
 
-/// Why an object that is written, or that opens or lists, refuses.
+/// The error of an object that is written, or that opens or lists.
 #[derive(Clone, Copy, PartialEq, Eq, Debug)]
 pub enum Refusal {
-    /// It has failed, and has counted it.
+    /// The object has failed, and has counted the failure.
     Failed,
-    /// There was no memory.
+    /// Out of memory.
     OutOfMemory,
 }
 

@@ -1,9 +1,9 @@
-//! What a disk in memory holds under its names.
+//! The named entries of a disk in memory, and how calls change them.
 
 ghost use Rattle.std.specs.Prelude.{◌≡◌, ◌≢◌, ℕ, false, List, None, IsTrue, IsSome, is_some, IfOk, IfErr, IfSome, OnOk, OnErr};
 ghost use Rattle.std.specs.Option.{option_map};
 ghost use Rattle.std.specs.FinMap.{get, insert, remove};
-ghost use Rattle.xet_io.specs.Disk.{Files, entry, file_at, Lists, synced, unstable};
+ghost use Rattle.xet_io.specs.Disk.{Files, entry, file_at, Lists, synced, not_durable};
 ghost use Rattle.xet_io.specs.Named.{in_folder, is_plain};
 ghost use Rattle.xet_io.specs.MemoryFiles.{files_of, file_of_held, entry_of};
 
@@ -13,23 +13,23 @@ use std::alloc::Global;
 use std::collections::BTreeMap;
 use xet_base::Text;
 
-/// A name's file, if it is there, and whether a crash keeps that.
+/// An entry: the file of a name, if there is one, and whether a crash keeps this.
 #[derive(Debug, Drop)]
 pub(crate) struct Held {
     pub(crate) file: Option<HeldFile>,
-    pub(crate) stable: bool,
+    pub(crate) durable: bool,
 }
 
-/// A file's bytes, and the stamp of the write that made it.
+/// The bytes of a file, and its modification time: the number of the write call that stored it.
 #[derive(Debug, Drop)]
 pub(crate) struct HeldFile {
     pub(crate) bytes: Vec<u8>,
-    pub(crate) stamp: u64,
+    pub(crate) modified: u64,
 }
 
 pub(crate) type Names = BTreeMap<String, Held>;
 
-/// The file of a name, if it is there.
+/// The file of a name, if it exists.
 pub(crate) fn held_file<'a>(names: &'a Names, name: &str) -> Option<&'a HeldFile>
     ensures { option_map (λ f. file_of_held f.now) result ≡ file_at (files_of names.now) name.now }
 {
@@ -39,15 +39,15 @@ pub(crate) fn held_file<'a>(names: &'a Names, name: &str) -> Option<&'a HeldFile
     }
 }
 
-/// Whether a name is there.
+/// Whether a name has a file.
 pub(crate) fn is_there(names: &Names, name: &str) -> bool
     ensures { result ≡ is_some (file_at (files_of names.now) name.now) }
 {
     held_file(names, name).is_some()
 }
 
-/// Makes a name stable, and answers whether it is there.
-pub(crate) fn make_stable(names: &mut Names, name: &str) -> bool
+/// Makes a file durable, and returns whether it exists.
+pub(crate) fn make_durable(names: &mut Names, name: &str) -> bool
     ensures there { result ≡ is_some (file_at (files_of names.old) name.now) }
     ensures synced { files_of names.new ≡ synced (files_of names.old) name.now }
 {
@@ -57,24 +57,24 @@ pub(crate) fn make_stable(names: &mut Names, name: &str) -> bool
     if held.file.is_none() {
         return false;
     }
-    held.stable = true;
+    held.durable = true;
     true
 }
 
-/// Makes a name unstable, with the file that it has, if any. It may want memory where the name is not held.
-pub(crate) fn make_unstable(names: &mut Names, alloc: Global, name: &str) -> Result<(), Refusal>
-    ensures unstable { OnOk result (files_of names.new ≡ unstable (files_of names.old) name.now) }
+/// Makes a name not durable, and keeps its file, if any. Allocates only if the name has no entry.
+pub(crate) fn make_not_durable(names: &mut Names, alloc: Global, name: &str) -> Result<(), Refusal>
+    ensures not_durable { OnOk result (files_of names.new ≡ not_durable (files_of names.old) name.now) }
     ensures kept { OnErr result (files_of names.new ≡ files_of names.old) }
     ensures refused { IfErr result (λ e. e ≡ Refusal.OutOfMemory) }
 {
     let Some(held) = names.get_mut(name) else {
         return hold_absent(names, alloc, name);
     };
-    held.stable = false;
+    held.durable = false;
     Ok(())
 }
 
-/// Sees to it that a name is held. Only this step of a rename may want memory.
+/// Makes sure that a name has an entry. Only this step of a rename may run out of memory.
 pub(crate) fn hold_name(names: &mut Names, alloc: Global, name: &str) -> Result<(), Refusal>
     ensures held { OnOk result (IsSome (get (files_of names.new) name.now)) }
     ensures others { (other : List ℕ) → other ≢ name.now → get (files_of names.new) other ≡ get (files_of names.old) other }
@@ -87,7 +87,7 @@ pub(crate) fn hold_name(names: &mut Names, alloc: Global, name: &str) -> Result<
     hold_absent(names, alloc, name)
 }
 
-/// Holds a name with no file, unstable.
+/// Adds an entry without a file, not durable.
 fn hold_absent(names: &mut Names, alloc: Global, name: &str) -> Result<(), Refusal>
     ensures held { OnOk result (files_of names.new ≡ insert (files_of names.old) name.now (entry None false)) }
     ensures kept { OnErr result (files_of names.new ≡ files_of names.old) }
@@ -96,13 +96,13 @@ fn hold_absent(names: &mut Names, alloc: Global, name: &str) -> Result<(), Refus
     let key = String::from_str(alloc, name)?;
     let absent = Held {
         file: None,
-        stable: false,
+        durable: false,
     };
     names.insert(key, absent)?;
     Ok(())
 }
 
-/// Moves what one name holds to another that is held.
+/// Moves the entry of `from` to `to`, which must have one.
 pub(crate) fn move_held(names: &mut Names, from: &str, to: &str)
     requires apart { from.now ≢ to.now }
     requires held { IsSome (get (files_of names.old) to.now) }
@@ -115,7 +115,7 @@ pub(crate) fn move_held(names: &mut Names, from: &str, to: &str)
     }
 }
 
-/// The files of a folder, once each.
+/// The files of a folder, each once.
 pub(crate) fn list_folder(
     names: &Names,
     alloc: Global,
@@ -131,7 +131,7 @@ pub(crate) fn list_folder(
     Ok(listed)
 }
 
-/// Lists a name more, if it is one of the folder's and its file is there.
+/// Adds a name to the list, if it is in the folder and has a file.
 fn list_name(
     listed: &mut Vec<DiskEntry>,
     alloc: Global,
@@ -151,13 +151,13 @@ fn list_name(
     let entry = DiskEntry {
         name: Text::new(String::from_str(alloc, own)?),
         length: file.bytes.len() as u64,
-        stamp: file.stamp,
+        modified: file.modified,
     };
     listed.push(entry)?;
     Ok(())
 }
 
-/// A file's own name, if it is one of the folder's.
+/// The file's own name, if the file is in the folder.
 fn own_name<'a>(folder: &str, name: &'a str) -> Option<&'a str>
     ensures found { IfSome result (λ own. (name.now ≡ in_folder folder.now own.now) × IsTrue (is_plain own.now)) }
     ensures all { (own : List ℕ) → IsTrue (is_plain own) → name.now ≡ in_folder folder.now own → IsSome result }
@@ -166,7 +166,7 @@ fn own_name<'a>(folder: &str, name: &'a str) -> Option<&'a str>
     if is_plain_name(own) { Some(own) } else { None }
 }
 
-/// Whether there is no slash in a name.
+/// Whether a name has no slash.
 fn is_plain_name(name: &str) -> bool
     ensures { result ≡ is_plain name.now }
 {

@@ -1,4 +1,4 @@
-//! Named sources.
+//! `Inputs`: named sources.
 
 ghost use Rattle.std.specs.Prelude.{◌≡◌, ℕ, Bool, true, List, IfOk, IfSome, IsErrOf};
 ghost use Rattle.std.specs.Option.{option_map};
@@ -10,21 +10,21 @@ use crate::fault::Refusal;
 use crate::source::Source;
 use std::marker::Send;
 
-/// Where sources are found by their names.
+/// Opens sources by name.
 pub trait Inputs {
     type S: Source + Send + Drop;
 
-    /// Whether they tell their files. No call changes that.
+    /// Whether the files are observable, so that contracts can speak of them. No call changes this.
     ghost tells: { Self → Bool };
 
-    /// The bytes under each name, where they tell them. No call changes them.
+    /// The bytes under each name, if observable. No call changes them.
     ghost files: { Self → Named (List ℕ) };
 
-    /// How often they have failed, sources that came back included, up to 2^64 - 1.
+    /// The number of failures so far, up to 2^64 - 1. It also rises when a source is closed that has failed.
     ghost faults: { Self → ℕ };
 
-    /// Opens the source of that name: it has the name's bytes left and has not failed. None exactly
-    /// where the name is not there.
+    /// Opens the source of a name: all bytes of the name are left in it, and it has not failed. `None` if and
+    /// only if the name does not exist.
     fn open(&mut self, name: &str) -> Result<Option<Self::S>, Refusal>
         ensures told { tells self.old ≡ true → IfOk result (λ found. option_map Self.S.left found ≡ get (files self.old) name.now) }
         ensures source_tells { tells self.old ≡ true → IfOk result (λ found. IfSome found (λ source. Self.S.tells source ≡ true)) }
@@ -33,7 +33,7 @@ pub trait Inputs {
         ensures tells { tells self.new ≡ tells self.old }
         ensures cause { HasCause (faults self.old) (faults self.new) (IsErrOf result Refusal.Failed) };
 
-    /// Takes a source back. The count of the inputs rises where that source has failed.
+    /// Takes a source back. The count of failures rises if that source has failed.
     fn close(&mut self, source: Self::S)
         ensures same { files self.new ≡ files self.old }
         ensures tells { tells self.new ≡ tells self.old }

@@ -1,5 +1,5 @@
-//! The traits of the outside: where bytes come from, where they go, and where files are kept. Each
-//! has a meaning, where it tells one, and a count of its failures, which never falls.
+//! The traits for I/O: where bytes come from, where they go, and where files are stored. Each object has
+//! contents, if they are observable, and a count of its failures, which never falls.
 #![tactic(auto)]
 
 mod count;
@@ -34,6 +34,3 @@ pub use source::Source;
 pub use streams::{StdSink, StdSource};
 pub use whole::{Unread, read_all, read_full};
 pub use writing::write_all;
-
-#[cfg(test)]
-mod tests;

@@ -1,4 +1,4 @@
-//! A sink and named inputs in memory. They never fail.
+//! A sink and named inputs in memory. They never fail, but may run out of memory.
 
 ghost use Rattle.std.specs.Prelude.{◌≡◌, ◌<◌, ◌≤◌, ◌++◌, ℕ, List, [], true, drop, length, map, string_bytes, vec_len, IfOk, IfErr, OnOk, OnErr, IsErrOf};
 ghost use Rattle.std.specs.FinMap.{from_entries};
@@ -12,7 +12,7 @@ use crate::source::Source;
 use std::alloc::Global;
 use std::marker::Model;
 
-/// A sink that keeps what is written. Contracts see those bytes.
+/// A sink that stores what is written. Contracts see these bytes.
 #[derive(Debug, Drop)]
 pub struct MemorySink {
     buffer: Vec<u8>,
@@ -25,7 +25,7 @@ impl Model for MemorySink {
 }
 
 impl MemorySink {
-    /// A sink to which nothing was written. It takes no memory.
+    /// An empty sink. Does not allocate.
     pub fn new(alloc: Global) -> MemorySink
         ensures { result ≡ [] }
     {
@@ -34,7 +34,7 @@ impl MemorySink {
         }
     }
 
-    /// A sink to which these bytes were written, and with their room. It takes no memory.
+    /// A sink to which these bytes were written; it reuses the vector and its capacity. Does not allocate.
     pub fn from_vec(bytes: Vec<u8>) -> MemorySink
         ensures { result ≡ bytes.items }
     {
@@ -48,7 +48,7 @@ impl MemorySink {
         &self.buffer
     }
 
-    /// Gives up the bytes that were written. It takes no memory.
+    /// Returns the bytes that were written. Does not allocate.
     pub fn into_bytes(self) -> Vec<u8>
         ensures { result.items ≡ self }
     {
@@ -63,7 +63,7 @@ impl Sink for MemorySink {
 
     ghost faults = { λ _. 0 };
 
-    /// Takes all of the piece, or runs out of memory and takes none.
+    /// Takes the whole slice, or runs out of memory and takes nothing.
     fn write(&mut self, piece: &[u8]) -> Result<usize, Refusal>
         ensures bound { IfOk result (λ count. count ≤ length piece.now) }
         ensures some { 0 < length piece.now → IfOk result (λ count. 0 < count) }
@@ -79,7 +79,7 @@ impl Sink for MemorySink {
     }
 }
 
-/// A source that owns its bytes. Contracts see those that are left.
+/// A source that owns its bytes. Contracts see the bytes that are left.
 #[derive(Debug, Drop)]
 pub struct OwnedSource {
     bytes: Vec<u8>,
@@ -95,7 +95,7 @@ impl Model for OwnedSource {
 }
 
 impl OwnedSource {
-    /// A source of these bytes. It takes no memory.
+    /// A source of these bytes. Does not allocate.
     pub fn new(bytes: Vec<u8>) -> OwnedSource
         ensures { result ≡ bytes.items }
     {
@@ -120,8 +120,7 @@ impl Source for OwnedSource {
     }
 }
 
-/// Named inputs. Contracts see the bytes under each name; where a name comes twice, the first
-/// counts.
+/// Named inputs in memory. Contracts see the bytes under each name; of equal names the first counts.
 #[derive(Debug, Drop)]
 pub struct MemoryInputs {
     alloc: Global,
@@ -142,7 +141,7 @@ impl Model for MemoryInputs {
 }
 
 impl MemoryInputs {
-    /// Inputs of these files, each a name and its bytes. It takes no memory.
+    /// Inputs with these files, each a name and its bytes. Does not allocate.
     pub fn new(alloc: Global, files: Vec<(String, Vec<u8>)>) -> MemoryInputs
         ensures { result ≡ from_entries (map (λ f. (string_bytes f.0, f.1.items)) files.items) }
     {

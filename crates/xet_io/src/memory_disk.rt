@@ -1,10 +1,10 @@
-//! A disk in memory. It fails only where it is made to.
+//! A disk in memory. It fails only by plan.
 #![tactic(auto, using(crate::proofs::Caused::failed_cause))]
 
 ghost use Rattle.std.specs.Prelude.{◌≡◌, ◌+◌, ◌-◌, ◌^◌, ◌≤◌, ◌↔◌, min, true, [], length, IfOk, IfSome, IsTrue, OnOk, OnErr, IsErr, IsErrOf};
 ghost use Rattle.std.specs.Option.{option_map};
 ghost use Rattle.std.specs.FinMap.{empty};
-ghost use Rattle.xet_io.specs.Disk.{bytes_at, file_at, stat_of, ReadsAt, Lists, Changes, written, unstable, synced, renamed, removed};
+ghost use Rattle.xet_io.specs.Disk.{bytes_at, file_at, stat_of, ReadsAt, Lists, Changes, written, not_durable, synced, renamed, removed};
 ghost use Rattle.xet_io.specs.Faults.{HasCause, faults_after};
 ghost use Rattle.xet_io.specs.FailingCalls.{Calls, After, plan_of, fails_now, fails_after};
 ghost use Rattle.xet_io.specs.declared.count.Op.TheVariants as op;
@@ -13,16 +13,16 @@ use crate::count::{Count, Op, Plan};
 use crate::disk::{Disk, DiskEntry};
 use crate::fault::Refusal;
 use crate::held::{
-    Held, HeldFile, Names, held_file, hold_name, is_there, list_folder, make_stable, make_unstable,
-    move_held,
+    Held, HeldFile, Names, held_file, hold_name, is_there, list_folder, make_durable,
+    make_not_durable, move_held,
 };
 use crate::slices::copy_part;
 use std::alloc::Global;
 use std::collections::BTreeMap;
 use std::marker::Model;
 
-/// A disk in memory. Contracts see its files, how many calls it has taken, how often it has failed
-/// and which of its calls are still to fail.
+/// A disk in memory. Contracts see its files, the number of its calls and failures, and which later calls
+/// fail.
 #[derive(Drop)]
 pub struct MemoryDisk {
     alloc: Global,
@@ -44,7 +44,7 @@ impl Model for MemoryDisk {
 }
 
 impl MemoryDisk {
-    /// An empty disk, before its first call, of which no call fails. It takes no memory.
+    /// An empty disk on which no call fails. Does not allocate.
     pub fn new(alloc: Global) -> MemoryDisk
         ensures files { result.files ≡ empty }
         ensures calls { result.calls ≡ 0 }
@@ -54,8 +54,8 @@ impl MemoryDisk {
         MemoryDisk::failing(alloc, Vec::new(alloc))
     }
 
-    /// An empty disk, before its first call. For each pair the call of that kind fails that comes
-    /// after so many others of it. It takes no memory.
+    /// An empty disk. For each pair (kind, n) the call of this kind after n others of it fails. Does not
+    /// allocate.
     pub fn failing(alloc: Global, fails: Vec<(Op, u64)>) -> MemoryDisk
         ensures files { result.files ≡ empty }
         ensures calls { result.calls ≡ 0 }
@@ -65,8 +65,7 @@ impl MemoryDisk {
         MemoryDisk::with_plan(alloc, Plan::Calls(fails))
     }
 
-    /// An empty disk, before its first call. It passes `k` calls of any kind, and each later one
-    /// fails. It takes no memory.
+    /// An empty disk. Every call after the first `k` calls of any kind fails. Does not allocate.
     pub fn stopping(alloc: Global, k: u64) -> MemoryDisk
         ensures files { result.files ≡ empty }
         ensures calls { result.calls ≡ 0 }
@@ -76,7 +75,7 @@ impl MemoryDisk {
         MemoryDisk::with_plan(alloc, Plan::After(k))
     }
 
-    /// An empty disk, before its first call.
+    /// An empty disk with this plan of failures.
     fn with_plan(alloc: Global, plan: Plan) -> MemoryDisk
         ensures files { result.files ≡ empty }
         ensures calls { result.calls ≡ 0 }
@@ -90,7 +89,7 @@ impl MemoryDisk {
         }
     }
 
-    /// The bytes of a file, if the name is there. It is no call of the disk.
+    /// The bytes of a file, if it exists. This does not count as a call of the disk.
     pub fn get(&self, name: &str) -> Option<&[u8]>
         ensures { option_map (λ bytes. bytes.now) result ≡ bytes_at self.now.files name.now }
     {
@@ -121,7 +120,7 @@ impl Disk for MemoryDisk {
             return Err(self.count.failed());
         }
         match held_file(&self.names, name) {
-            Some(file) => Ok(Some((file.bytes.len() as u64, file.stamp))),
+            Some(file) => Ok(Some((file.bytes.len() as u64, file.modified))),
             None => Ok(None),
         }
     }
@@ -160,11 +159,11 @@ impl Disk for MemoryDisk {
         list_folder(&self.names, alloc, folder)
     }
 
-    /// A write that fails leaves the name with the file that it had, if any, and not stable. Where memory
-    /// is wanting, nothing has changed.
+    /// A write that fails leaves the name with its earlier file, if any, and not durable. If it runs out of
+    /// memory, nothing has changed.
     fn write(&mut self, name: &str, bytes: &[u8]) -> Result<(), Refusal>
         ensures stamped { OnOk result (self.new.files ≡ written self.old.files name.now bytes.now self.old.calls) }
-        ensures unstable { IsErrOf result Refusal.Failed → self.new.files ≡ unstable self.old.files name.now }
+        ensures not_durable { IsErrOf result Refusal.Failed → self.new.files ≡ not_durable self.old.files name.now }
         ensures kept { IsErrOf result Refusal.OutOfMemory → self.new.files ≡ self.old.files }
         ensures counted { self.new.calls ≡ min (self.old.calls + 1) (2 ^ 64 - 1) }
         ensures failed { IsErrOf result Refusal.Failed → IsTrue (fails_now self.old.fails op.Write) }
@@ -173,16 +172,16 @@ impl Disk for MemoryDisk {
         ensures fails { self.new.fails ≡ fails_after self.old.fails op.Write }
         ensures cause { HasCause self.old.faults self.new.faults (IsErrOf result Refusal.Failed) }
     {
-        let stamp = self.count.calls;
+        let modified = self.count.calls;
         if self.count.fails(Op::Write) {
-            make_unstable(&mut self.names, self.alloc, name)?;
+            make_not_durable(&mut self.names, self.alloc, name)?;
             return Err(self.count.failed());
         }
         let key = String::from_str(self.alloc, name)?;
         let bytes = Vec::from_slice(self.alloc, bytes)?;
         let held = Held {
-            file: Some(HeldFile { bytes, stamp }),
-            stable: false,
+            file: Some(HeldFile { bytes, modified }),
+            durable: false,
         };
         self.names.insert(key, held)?;
         Ok(())
@@ -201,7 +200,7 @@ impl Disk for MemoryDisk {
         if self.count.fails(Op::Sync) {
             return Err(self.count.failed());
         }
-        Ok(make_stable(&mut self.names, name))
+        Ok(make_durable(&mut self.names, name))
     }
 
     fn rename(&mut self, from: &str, to: &str) -> Result<bool, Refusal>

@@ -1,20 +1,18 @@
-//! Readers that are read from front to end.
+//! Reading a reader whole, or filling a buffer from it.
 
 ghost use Rattle.std.specs.Prelude.{◌≡◌, ◌≤◌, ◌<◌, ◌+◌, ◌^◌, true, length, drop, take, Some, IfOk, IsErr, IsErrOf};
-ghost use Rattle.xet_io.specs.Disk.{FillsFront};
-ghost use Rattle.xet_io.specs.Faults.{HasCause};
+ghost use Rattle.xet_io.specs.internal.Disk.{FillsFront};
 ghost use Rattle.xet_io.specs.Streams.{Fills, ReadsPart};
+ghost use Rattle.xet_io.specs.Frame.{ReadFrom};
 
 use crate::fault::{Failed, Refusal};
 use crate::read_at::ReadAt;
 use std::alloc::Global;
 
-/// All bytes of a reader, read straight into their place.
+/// All bytes of a reader, read directly into the vector returned.
 pub fn read_whole<R: ReadAt>(alloc: Global, reader: &mut R) -> Result<Vec<u8>, Refusal>
     ensures told { R.tells reader.old ≡ true → IfOk result (λ bytes. bytes.items ≡ R.bytes reader.old) }
-    ensures same { R.bytes reader.new ≡ R.bytes reader.old }
-    ensures tells { R.tells reader.new ≡ R.tells reader.old }
-    ensures cause { HasCause (R.faults reader.old) (R.faults reader.new) (IsErrOf result Refusal.Failed) }
+    ensures frame { ReadFrom R.bytes R.tells R.faults R.lent reader.old reader.new (IsErrOf result Refusal.Failed) }
 {
     let Ok(length) = reader.length() else {
         return Err(Refusal::Failed);
@@ -29,27 +27,23 @@ pub fn read_whole<R: ReadAt>(alloc: Global, reader: &mut R) -> Result<Vec<u8>, R
     }
 }
 
-/// Fills `buf` with the bytes from place `at` on. False exactly where the bytes end before.
+/// Fills `buf` with the bytes from offset `at`. `false` if and only if the bytes end before `buf` is full.
 pub fn read_exact_at<R: ReadAt>(reader: &mut R, at: u64, buf: &mut [u8]) -> Result<bool, Failed>
     requires { at + length buf.old < 2 ^ 64 }
     ensures told { R.tells reader.old ≡ true → IfOk result (Fills (R.bytes reader.old) at buf.new) }
-    ensures same { R.bytes reader.new ≡ R.bytes reader.old }
-    ensures tells { R.tells reader.new ≡ R.tells reader.old }
-    ensures cause { HasCause (R.faults reader.old) (R.faults reader.new) (IsErr result) }
+    ensures frame { ReadFrom R.bytes R.tells R.faults R.lent reader.old reader.new (IsErr result) }
 {
     let filled = read_front(reader, at, buf)?;
     Ok(filled == buf.len())
 }
 
-/// Reads the bytes from place `at` on, up to the end of `buf` or of what comes, and returns how many.
+/// Reads the bytes from offset `at` until `buf` is full or they end, and returns how many.
 fn read_front<R: ReadAt>(reader: &mut R, at: u64, buf: &mut [u8]) -> Result<usize, Failed>
     requires { at + length buf.old < 2 ^ 64 }
     ensures told { R.tells reader.old ≡ true → IfOk result (FillsFront (Some (R.bytes reader.old)) at buf.new) }
     ensures bound { IfOk result (λ filled. filled ≤ length buf.new) }
     ensures len { length buf.new ≡ length buf.old }
-    ensures same { R.bytes reader.new ≡ R.bytes reader.old }
-    ensures tells { R.tells reader.new ≡ R.tells reader.old }
-    ensures cause { HasCause (R.faults reader.old) (R.faults reader.new) (IsErr result) }
+    ensures frame { ReadFrom R.bytes R.tells R.faults R.lent reader.old reader.new (IsErr result) }
 {
     let mut filled = 0;
     'reads: while filled < buf.len() {
@@ -62,8 +56,7 @@ fn read_front<R: ReadAt>(reader: &mut R, at: u64, buf: &mut [u8]) -> Result<usiz
     Ok(filled)
 }
 
-/// Reads once, from behind the first `filled` bytes of those at place `at` on, into the room behind as
-/// many of `buf`.
+/// Reads once from offset `at + filled` into `buf`, after its first `filled` bytes.
 fn read_on<R: ReadAt>(
     reader: &mut R,
     at: u64,
@@ -76,9 +69,7 @@ fn read_on<R: ReadAt>(
     ensures front { take filled buf.new ≡ take filled buf.old }
     ensures len { length buf.new ≡ length buf.old }
     ensures bound { IfOk result (λ count. filled + count ≤ length buf.new) }
-    ensures same { R.bytes reader.new ≡ R.bytes reader.old }
-    ensures tells { R.tells reader.new ≡ R.tells reader.old }
-    ensures cause { HasCause (R.faults reader.old) (R.faults reader.new) (IsErr result) }
+    ensures frame { ReadFrom R.bytes R.tells R.faults R.lent reader.old reader.new (IsErr result) }
 {
     reader.read_at(at + filled as u64, &mut buf[filled..])
 }

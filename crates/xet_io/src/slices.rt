@@ -1,4 +1,4 @@
-//! Sources and readers over bytes that are lent. They never fail.
+//! A source and a reader over borrowed bytes. They never fail.
 
 ghost use Rattle.std.specs.Prelude.{◌≡◌, ◌≤◌, ℕ, List, true, length};
 ghost use Rattle.xet_io.specs.Streams.{ReadsPart};
@@ -45,7 +45,7 @@ impl Source for SliceSource<'_> {
     }
 }
 
-/// A reader at any place of the bytes of a slice. Contracts see the bytes.
+/// A reader of the bytes of a slice. Contracts see the bytes.
 #[derive(Debug, Drop)]
 pub struct SliceReader<'a> {
     bytes: &'a [u8],
@@ -82,8 +82,8 @@ impl ReadAt for SliceReader<'_> {
     }
 }
 
-/// Copies the bytes from place `at` on into the front of `buf`, as far as both go, and returns how
-/// many.
+/// Copies bytes from offset `at` into the start of `buf`, until the bytes end or `buf` is full, and returns
+/// how many.
 pub(crate) fn copy_part(bytes: &[u8], at: u64, buf: &mut [u8]) -> usize
     ensures bound { result ≤ length buf.new }
     ensures part { ReadsPart bytes.now at buf.new result }

@@ -1,4 +1,4 @@
-//! Thin adapters to the standard library's readers and writers. They tell no bytes.
+//! Adapters to the standard library's readers and writers. Their bytes are not observable.
 
 ghost use Rattle.std.specs.Prelude.{◌≡◌, ◌<◌, ◌≤◌, ℕ, [], false, length, IfOk, IfErr, IsErr, IsErrOf};
 ghost use Rattle.xet_io.specs.Faults.{HasCause, counted};
@@ -9,7 +9,7 @@ use crate::source::Source;
 use std::io::{Read, Write};
 use std::marker::Model;
 
-/// A source over a reader. Contracts see how often it has failed.
+/// A source over a reader. Contracts see the number of failures.
 #[derive(Drop)]
 pub struct StdSource<R> {
     inner: R,
@@ -53,7 +53,7 @@ impl<R: Read> Source for StdSource<R> {
     }
 }
 
-/// A sink over a writer. Contracts see how often it has failed.
+/// A sink over a writer. Contracts see the number of failures.
 #[derive(Drop)]
 pub struct StdSink<W> {
     inner: W,
@@ -82,7 +82,7 @@ impl<W: Write> Sink for StdSink<W> {
 
     ghost faults = { λ s. s };
 
-    /// A writer that takes none of a piece which is not empty has failed.
+    /// A writer that takes nothing of a slice that is not empty counts as failed.
     fn write(&mut self, piece: &[u8]) -> Result<usize, Refusal>
         ensures bound { IfOk result (λ count. count ≤ length piece.now) }
         ensures some { 0 < length piece.now → IfOk result (λ count. 0 < count) }

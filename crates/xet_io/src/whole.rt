@@ -1,9 +1,9 @@
-//! Sources read to their ends.
+//! Reading a source to its end, or until a buffer is full.
 
 ghost use Rattle.std.specs.Prelude.{◌≡◌, ◌≢◌, ◌≤◌, ◌<◌, ◌+◌, ◌++◌, ◌^◌, ℕ, [], true, length, vec_len, drop, take, IfErr, IfOk, OnErr, OnOk, IsErr, IsErrOf, IsOkUnless};
-ghost use Rattle.xet_io.specs.Faults.{HasCause};
 ghost use Rattle.xet_io.specs.Streams.{Reads};
 ghost use Rattle.xet_io.specs.Whole.{Fills, ReadsAll};
+ghost use Rattle.xet_io.specs.Frame.{Called};
 
 use crate::fault::Failed;
 use crate::source::Source;
@@ -12,17 +12,18 @@ use std::alloc::{AllocError, Global};
 /// Why a source was not read to its end.
 #[derive(Clone, Copy, PartialEq, Eq, Debug)]
 pub enum Unread {
-    /// There was no memory.
+    /// Out of memory.
     OutOfMemory,
-    /// The source has failed, and has counted it.
+    /// The source has failed, and has counted the failure.
     Failed,
-    /// The source has more bytes than are to be read.
+    /// The source has more bytes than the caller allows.
     TooLong,
 }
 
 impl From<AllocError> for Unread {
     ghost use Rattle.std.specs.Prelude.{◌≡◌};
     ghost use Rattle.xet_io.specs.declared.whole.Unread.TheVariants.{OutOfMemory};
+    ghost use Rattle.xet_io.specs.Frame.{Called};
 
     ghost from_gives = { λ _ e. e ≡ OutOfMemory };
 
@@ -31,15 +32,16 @@ impl From<AllocError> for Unread {
     }
 }
 
-/// The first room that is made, in bytes.
+/// The length to which the vector first grows, in bytes.
 const FIRST_ROOM: usize = 1 << 16;
 
-/// Where the room is full, so many bytes are read beside it at most, so that a source that has just ended costs no
-/// room.
+/// When the vector is full, the next read goes to a separate buffer of this many bytes. So the vector does
+/// not grow if the source has ended.
 const BESIDE: usize = 32;
 
-/// All bytes that are left in a source, read at most `block` bytes at a time, straight into their place.
-/// A source that has more than `most` is too long.
+/// All bytes that are left in a source. A read takes at most `block` bytes, and goes directly into the vector
+/// returned if that has room. The error is `TooLong` if the source has more than `most` bytes. After an error
+/// a prefix of what was left was taken.
 pub fn read_all<S: Source>(
     alloc: Global,
     source: &mut S,
@@ -50,8 +52,7 @@ pub fn read_all<S: Source>(
     requires most { most ≤ 2 ^ 62 }
     ensures told { S.tells source.old ≡ true → ReadsAll most (S.left source.old) result (S.left source.new) }
     ensures short { IfOk result (λ bytes. length bytes.items ≤ most) }
-    ensures tells { S.tells source.new ≡ S.tells source.old }
-    ensures cause { HasCause (S.faults source.old) (S.faults source.new) (IsErrOf result Unread.Failed) }
+    ensures frame { Called S.tells S.faults source.old source.new (IsErrOf result Unread.Failed) }
 {
     let mut bytes = Vec::new(alloc);
     let mut filled = 0;
@@ -68,8 +69,8 @@ pub fn read_all<S: Source>(
     Err(Unread::TooLong)
 }
 
-/// Reads once behind the first `filled` bytes, at most `block` bytes, and returns how many: none only at the end.
-/// More room is made only where there are more bytes.
+/// Reads once, at most `block` bytes, and stores them after the first `filled` bytes. Returns how many: none
+/// only at the end. The vector grows only if there are more bytes.
 fn read_more<S: Source>(
     source: &mut S,
     bytes: &mut Vec<u8>,
@@ -85,8 +86,7 @@ fn read_more<S: Source>(
     ensures front { OnOk result (take filled bytes.new.items ≡ take filled bytes.old.items) }
     ensures bound { IfOk result (λ count. filled + count ≤ vec_len bytes.new) }
     ensures kind { IfErr result (λ e. e ≢ Unread.TooLong) }
-    ensures tells { S.tells source.new ≡ S.tells source.old }
-    ensures cause { HasCause (S.faults source.old) (S.faults source.new) (IsErrOf result Unread.Failed) }
+    ensures frame { Called S.tells S.faults source.old source.new (IsErrOf result Unread.Failed) }
 {
     if filled < bytes.len() {
         return match read_behind(source, bytes, filled, block) {
@@ -102,7 +102,7 @@ fn read_more<S: Source>(
     }
 }
 
-/// Puts bytes that were read beside behind the others, where there are any, and returns how many.
+/// Stores the bytes of the separate buffer after the others, if there are any, and returns how many.
 fn push_beside(bytes: &mut Vec<u8>, beside: &[u8]) -> Result<usize, Unread>
     requires most { vec_len bytes.old ≤ 2 ^ 62 }
     requires few { length beside.now ≤ 32 }
@@ -119,13 +119,12 @@ fn push_beside(bytes: &mut Vec<u8>, beside: &[u8]) -> Result<usize, Unread>
     Ok(count)
 }
 
-/// Reads until `buf` is full or the source has ended, and returns how many bytes it took, which stand at
-/// the front of `buf`.
+/// Reads until `buf` is full or the source ends, and returns how many bytes it took. They are at the start of
+/// `buf`.
 pub fn read_full<S: Source>(source: &mut S, buf: &mut [u8]) -> Result<usize, Failed>
     ensures told { S.tells source.old ≡ true → Fills (S.left source.old) buf.new result (S.left source.new) }
     ensures bound { IfOk result (λ count. count ≤ length buf.new) }
-    ensures tells { S.tells source.new ≡ S.tells source.old }
-    ensures cause { HasCause (S.faults source.old) (S.faults source.new) (IsErr result) }
+    ensures frame { Called S.tells S.faults source.old source.new (IsErr result) }
 {
     let len = buf.len();
     let mut filled = 0;
@@ -139,7 +138,7 @@ pub fn read_full<S: Source>(source: &mut S, buf: &mut [u8]) -> Result<usize, Fai
     Ok(filled)
 }
 
-/// Reads once into the room behind the first `filled` bytes, at most `block` bytes.
+/// Reads once, at most `block` bytes, into `bytes` after its first `filled` bytes.
 fn read_behind<S: Source>(
     source: &mut S,
     bytes: &mut [u8],
@@ -151,8 +150,7 @@ fn read_behind<S: Source>(
     ensures told { S.tells source.old ≡ true → Reads (S.left source.old) (take block (drop filled bytes.new)) result (S.left source.new) }
     ensures front { take filled bytes.new ≡ take filled bytes.old }
     ensures bound { IfOk result (λ count. (filled + count ≤ length bytes.new) × (count ≤ block)) }
-    ensures tells { S.tells source.new ≡ S.tells source.old }
-    ensures cause { HasCause (S.faults source.old) (S.faults source.new) (IsErr result) }
+    ensures frame { Called S.tells S.faults source.old source.new (IsErr result) }
 {
     let end = bytes.len().min(filled.saturating_add(block));
     source.read(&mut bytes[filled..end])

@@ -1,18 +1,17 @@
-//! Sinks that are given whole pieces.
+//! Writing a slice whole.
 
 ghost use Rattle.std.specs.Prelude.{◌≡◌, ℕ, true, ◌++◌, take, IsErrOf, IsOk, OnOk, []};
-ghost use Rattle.xet_io.specs.Faults.{HasCause};
+ghost use Rattle.xet_io.specs.Frame.{Called};
 
 use crate::fault::Refusal;
 use crate::sink::Sink;
 
-/// Writes all bytes of a piece. After a refusal a front of it was written.
+/// Writes all bytes of a slice. After an error a prefix of it was written.
 pub fn write_all<W: Sink>(sink: &mut W, piece: &[u8]) -> Result<(), Refusal>
     ensures whole { W.tells sink.old ≡ true → OnOk result (W.written sink.new ≡ W.written sink.old ++ piece.now) }
     ensures front { W.tells sink.old ≡ true → (n : ℕ) × (W.written sink.new ≡ W.written sink.old ++ take n piece.now) }
     ensures nothing { piece.now ≡ [] → IsOk result }
-    ensures tells { W.tells sink.new ≡ W.tells sink.old }
-    ensures cause { HasCause (W.faults sink.old) (W.faults sink.new) (IsErrOf result Refusal.Failed) }
+    ensures frame { Called W.tells W.faults sink.old sink.new (IsErrOf result Refusal.Failed) }
 {
     let mut rest = piece;
     'pieces: while !rest.is_empty() {

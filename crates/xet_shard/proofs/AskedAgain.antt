@@ -22,7 +22,7 @@ use Rattle.xet_shard_format.specs.Reading.{file_at, file_row_count, xorb_at, xor
 use Rattle.xet_shard_format.specs.Records.{AreRecords, IsFile, IsXorb, file_hash, file_head, file_rest, file_rows, first_word, section, xorb_hash, xorb_head, xorb_rest, xorb_rows}
 use Rattle.xet_shard_format.specs.Rows.{rows_in}
 use Rattle.xet_shard.specs.Runs.{run_after, run_at}
-use Rattle.xet_shard_format.specs.Text.{Fits, IsShard, Shard, footer_of, shard_text}
+use Rattle.xet_shard_format.specs.Encoding.{Fits, IsShard, Shard, footer_of, shard_bytes}
 use Rattle.xet_base.specs.theorems.Elements.{all_both}
 use Rattle.xet_shard.proofs.ItemsAgain.{sorted_all}
 use Rattle.xet_shard.proofs.PartsAgain.{chunks_again, text_checked, text_placed, xorbs_again, chunk_table_again, file_table_again, files_again, xorb_table_again}
@@ -186,7 +186,7 @@ module _ (f : MDBShardFileFooter) (bytes : List ℕ) (blocks : List MDBXorbInfo)
 
 module _ (w : Lookups) (s : Shard) (form : IsShard s) (fits : Fits s) where
   abbrev text : List ℕ
-  text = shard_text w s
+  text = shard_bytes w s
 
   abbrev foot : MDBShardFileFooter
   foot = footer_of w s

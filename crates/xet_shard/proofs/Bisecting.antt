@@ -11,7 +11,8 @@ use Rattle.xet_hash.specs.declared.error.StoreError.{StoreError}
 use Rattle.xet_hash.specs.declared.error.StoreError.TheVariants as errors
 use Rattle.xet_shard.specs.declared.query.bisection.Probe.{Probe}
 use Rattle.xet_shard.specs.declared.query.bisection.Probe.TheVariants.{RowBelow, WordAtMost, WordBelow}
-use Rattle.xet_shard.specs.Bisection.{AnswersAt, Bisects, in_table, passes, slots}
+use Rattle.xet_shard.specs.Bisection.{AnswersAt, Bisects, in_table, passes}
+use Rattle.xet_shard.specs.internal.Bisection.{slots}
 use Rattle.xet_codec.specs.Parsing.{GivesUnlessFault}
 use Rattle.xet_shard_format.specs.theorems.FirstLast.{half_word_first, word_first}
 

@@ -8,7 +8,7 @@ use Rattle.xet_shard.specs.Export.{exported, files_wanted, keyed_block}
 use Rattle.xet_shard.specs.Held.{never}
 use Rattle.xet_codec.specs.Parsing.{GivesUnlessFault}
 use Rattle.xet_shard.specs.Sections.{blocks_in}
-use Rattle.xet_shard_format.specs.Text.{Shard, shard}
+use Rattle.xet_shard_format.specs.Encoding.{Shard, shard}
 use Rattle.xet_shard.proofs.Faulting.{fault_on, gives_on}
 
 module _ (wanted : Bool) (key : List ℕ) (valid now : ℕ) (f : MDBShardFileFooter) (bytes : List ℕ) where

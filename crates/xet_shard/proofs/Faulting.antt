@@ -8,9 +8,9 @@ use Rattle.xet_codec.specs.Parsing.{◌>>=◌, GivesUnlessFault}
 use Rattle.xet_shard_format.specs.Reading.{footer_at, header_at}
 use Rattle.xet_shard_format.specs.declared.header_footer.MDBShardFileFooter.{MDBShardFileFooter}
 use Rattle.xet_shard.specs.declared.info.MDBShardInfo.{MDBShardInfo}
-use Rattle.xet_shard.specs.ReaderBytes.{piece_at, rows_at}
+use Rattle.xet_shard.specs.internal.ReaderBytes.{piece_at, rows_at}
 use Rattle.xet_shard.specs.Sections.{info_at}
-use Rattle.xet_shard_format.specs.Text.{header}
+use Rattle.xet_shard_format.specs.Encoding.{header}
 
 -- what was read goes on
 pub gives_on : {A X B Y : Type 0} (first : A → X) (then : B → Y) (a : A) (read : Result X StoreError) (f : X → Result Y StoreError) (result : Result B StoreError) → read ≡ Ok (first a) → GivesUnlessFault then result (f (first a))

@@ -10,7 +10,7 @@ use Rattle.xet_shard_format.specs.declared.record.MDBFileInfo.{MDBFileInfo}
 use Rattle.xet_shard_format.specs.declared.row.Row.{Row}
 use Rattle.xet_shard_format.specs.declared.record.MDBXorbInfo.{MDBXorbInfo}
 use Rattle.xet_shard_format.specs.declared.record.XorbChunkSequenceEntry.{XorbChunkSequenceEntry}
-use Rattle.xet_shard_format.specs.Lookups.{chunk_items, chunks_from, file_items, head_text, heads_from, heads_text, place_cmp, place_text, places_from, places_text, xorb_items}
+use Rattle.xet_shard_format.specs.Lookups.{chunk_items, chunks_from, file_items, record_item_bytes, heads_from, record_items_bytes, place_cmp, chunk_item_bytes, places_from, chunk_items_bytes, xorb_items}
 use Rattle.xet_shard_format.specs.Records.{chunk_row, file_hash, file_head, file_rest, file_section, first_word, section, xorb_hash, xorb_head, xorb_rest, xorb_rows, xorb_section}
 use Rattle.xet_shard_format.specs.Rows.{RowFits}
 use Rattle.xet_shard.specs.Sections.{heads_in, places_in}
@@ -27,18 +27,18 @@ HeadFits i = (i.0 < 2 ^ 64) × (i.1 < 2 ^ 32)
 abbrev pub PlaceFits : ℕ × ℕ × ℕ → Type 0
 PlaceFits i = (i.0 < 2 ^ 64) × (i.1 < 2 ^ 32) × (i.2 < 2 ^ 32)
 
-pub heads_again : (items : List (ℕ × ℕ)) → AllByRecursion HeadFits items → heads_in (length items) (heads_text items) ≡ items
+pub heads_again : (items : List (ℕ × ℕ)) → AllByRecursion HeadFits items → heads_in (length items) (record_items_bytes items) ≡ items
 unfolding heads_in
 heads_again [] fits = λ i. []
 heads_again (h ∷ items) fits =
-    ap (heads_in (suc (length items))) (flat_map-cons head_text h items)
+    ap (heads_in (suc (length items))) (flat_map-cons record_item_bytes h items)
     ∙ (λ i. (from_le_bytes-to_le_bytes_8 h.0 fits.0.0 i, from_le_bytes-to_le_bytes_4 h.1 fits.0.1 i) ∷ heads_again items fits.1 i)
 
-pub places_again : (items : List (ℕ × ℕ × ℕ)) → AllByRecursion PlaceFits items → places_in (length items) (places_text items) ≡ items
+pub places_again : (items : List (ℕ × ℕ × ℕ)) → AllByRecursion PlaceFits items → places_in (length items) (chunk_items_bytes items) ≡ items
 unfolding places_in
 places_again [] fits = λ i. []
 places_again (p ∷ items) fits =
-    ap (places_in (suc (length items))) (flat_map-cons place_text p items)
+    ap (places_in (suc (length items))) (flat_map-cons chunk_item_bytes p items)
     ∙ (λ i. (from_le_bytes-to_le_bytes_8 p.0 fits.0.0 i, from_le_bytes-to_le_bytes_4 p.1 fits.0.1 i, from_le_bytes-to_le_bytes_4 p.2 fits.0.2 i) ∷ places_again items fits.1 i)
 
 -- ---- the items of fitting xorbs fit

@@ -11,7 +11,7 @@ use Rattle.std.proofs.lemmas.List.MinMax.{ranks_by}
 use Rattle.xet_hash.specs.theorems.Ties.{hash_tied}
 use Rattle.xet_hash.specs.Order.{hash_cmp}
 use Rattle.xet_shard.specs.Held.{record_of}
-use Rattle.xet_shard.specs.Merging.{FirstAgrees, Rises, behind, below, not_below}
+use Rattle.xet_shard.specs.internal.Merging.{FirstAgrees, Rises, behind, below, not_below}
 use Rattle.xet_shard_format.specs.Records.{AreRecords}
 use Rattle.xet_shard_format.specs.Sorted.{put_in, sorted}
 use Rattle.xet_shard.specs.Union.{Agree, union}

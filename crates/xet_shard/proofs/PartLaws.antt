@@ -10,7 +10,7 @@ use Rattle.xet_shard.specs.Bisection.{in_table}
 use Rattle.xet_shard.specs.Queries.{file_items_from}
 use Rattle.xet_codec.specs.Parsing.{◌>>=◌, Gives, GivesUnlessFault, reaches, wants}
 use Rattle.xet_shard_format.specs.Reading.{section_at}
-use Rattle.xet_shard.specs.ReaderBytes.{piece_at, rows_at}
+use Rattle.xet_shard.specs.internal.ReaderBytes.{piece_at, rows_at}
 use Rattle.xet_shard_format.specs.Rows.{rows_in}
 use Rattle.xet_shard.specs.Sections.{block_heads_in, blocks_in, chunk_lookup_in, files_in, heads_in, heads_of, places_in, row_count, section_in, xorb_lookup_in}
 use Rattle.std.specs.Prelude.{◌==◌}

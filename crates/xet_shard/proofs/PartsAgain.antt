@@ -9,15 +9,15 @@ use Rattle.xet_shard_format.specs.declared.record.MDBXorbInfo.{MDBXorbInfo}
 use Rattle.xet_shard.specs.Bisection.{in_table}
 use Rattle.xet_shard.specs.Queries.{chunk_table, file_table, xorb_table}
 use Rattle.xet_shard_format.specs.declared.row.Row.{Row}
-use Rattle.xet_shard_format.specs.Lookups.{Lookups, chunk_items, file_items, head_text, heads_text, left_in, place_text, places_text, xorb_items}
-use Rattle.xet_shard.specs.ReaderBytes.{piece_at}
+use Rattle.xet_shard_format.specs.Lookups.{Lookups, chunk_items, file_items, record_item_bytes, record_items_bytes, left_in, chunk_item_bytes, chunk_items_bytes, xorb_items}
+use Rattle.xet_shard.specs.internal.ReaderBytes.{piece_at}
 use Rattle.xet_codec.specs.Parsing.{◌>>=◌}
 use Rattle.xet_shard_format.specs.Reading.{IsPlaced, Parts, all_of, file_at, file_row_count, footer_at, footer_in, header_at, lookup_at, places_at, section_at, totals_at, xorb_at, xorb_row_count}
 use Rattle.xet_shard_format.specs.Records.{file_hash, xorb_hash}
 use Rattle.xet_shard_format.specs.Rows.{rows_in}
 use Rattle.xet_codec.specs.Numbers.{word}
 use Rattle.xet_shard.specs.Sections.{blocks_in, chunk_lookup_in, files_in, heads_in, info_at, places_in, section_in, xorb_lookup_in}
-use Rattle.xet_shard_format.specs.Text.{Fits, IsShard, Shard, footer_of, header, materialized, shard_text, stored}
+use Rattle.xet_shard_format.specs.Encoding.{Fits, IsShard, Shard, footer_of, header, materialized, shard_bytes, stored}
 use Rattle.xet_shard.proofs.Faulting.{info_of, piece_there}
 use Rattle.xet_shard_format.specs.theorems.Footers.{places_take}
 use Rattle.xet_shard.proofs.ItemsAgain.{chunk_items_fit, file_items_fit, heads_again, places_again, xorb_items_fit}
@@ -32,9 +32,9 @@ pub record Checked (bytes : List ℕ) (p : Parts) : Type 0 where
   pub footer : footer_at bytes ≡ Ok p.2
   pub files : section_at file_at file_hash (file_row_count p.2) None (rows_in (file_row_count p.2) (drop p.2.file_info_offset bytes)) ≡ Ok p.1
   pub blocks : section_at xorb_at xorb_hash (xorb_row_count p.2) None (rows_in (xorb_row_count p.2) (drop p.2.xorb_info_offset bytes)) ≡ Ok p.0
-  pub heads : lookup_at bytes p.2.file_lookup_offset (12 * p.2.file_lookup_num_entry) (heads_text (file_items p.1)) ≡ Ok tt
-  pub xorbs : lookup_at bytes p.2.xorb_lookup_offset (12 * p.2.xorb_lookup_num_entry) (heads_text (xorb_items p.0)) ≡ Ok tt
-  pub chunks : lookup_at bytes p.2.chunk_lookup_offset (16 * p.2.chunk_lookup_num_entry) (places_text (chunk_items p.0)) ≡ Ok tt
+  pub heads : lookup_at bytes p.2.file_lookup_offset (12 * p.2.file_lookup_num_entry) (record_items_bytes (file_items p.1)) ≡ Ok tt
+  pub xorbs : lookup_at bytes p.2.xorb_lookup_offset (12 * p.2.xorb_lookup_num_entry) (record_items_bytes (xorb_items p.0)) ≡ Ok tt
+  pub chunks : lookup_at bytes p.2.chunk_lookup_offset (16 * p.2.chunk_lookup_num_entry) (chunk_items_bytes (chunk_items p.0)) ≡ Ok tt
 
 checked : (bytes : List ℕ) (p : Parts) → all_of bytes ≡ Ok p → Checked bytes p
 unfolding all_of
@@ -43,9 +43,9 @@ checked bytes p e =
     let g = bind_ok (footer_at bytes) _ _ h.2 in
     let fs = bind_ok (section_at file_at file_hash (file_row_count g.0) None (rows_in (file_row_count g.0) (drop g.0.file_info_offset bytes))) _ _ g.2 in
     let xs = bind_ok (section_at xorb_at xorb_hash (xorb_row_count g.0) None (rows_in (xorb_row_count g.0) (drop g.0.xorb_info_offset bytes))) _ _ fs.2 in
-    let l1 = bind_ok (lookup_at bytes g.0.file_lookup_offset (12 * g.0.file_lookup_num_entry) (heads_text (file_items fs.0))) _ _ xs.2 in
-    let l2 = bind_ok (lookup_at bytes g.0.xorb_lookup_offset (12 * g.0.xorb_lookup_num_entry) (heads_text (xorb_items xs.0))) _ _ l1.2 in
-    let l3 = bind_ok (lookup_at bytes g.0.chunk_lookup_offset (16 * g.0.chunk_lookup_num_entry) (places_text (chunk_items xs.0))) _ _ l2.2 in
+    let l1 = bind_ok (lookup_at bytes g.0.file_lookup_offset (12 * g.0.file_lookup_num_entry) (record_items_bytes (file_items fs.0))) _ _ xs.2 in
+    let l2 = bind_ok (lookup_at bytes g.0.xorb_lookup_offset (12 * g.0.xorb_lookup_num_entry) (record_items_bytes (xorb_items xs.0))) _ _ l1.2 in
+    let l3 = bind_ok (lookup_at bytes g.0.chunk_lookup_offset (16 * g.0.chunk_lookup_num_entry) (chunk_items_bytes (chunk_items xs.0))) _ _ l2.2 in
     let t = bind_ok (totals_at g.0 (materialized fs.0) (stored xs.0)) _ _ l3.2 in
     let made : Parts = (xs.0, fs.0, g.0) in
     subst (λ (q : Parts). Checked bytes q) (ok_is made p t.2) (record { header = h.1; footer = g.1; files = fs.1; blocks = xs.1; heads = l1.1; xorbs = l2.1; chunks = l3.1 })
@@ -74,24 +74,24 @@ stands {I} text items n piece ne left =
 
 -- a look-up of records that stands, or is made
 heads_there : (bytes : List ℕ) (items : List (ℕ × ℕ)) (at n : ℕ) (whole : Result (List (ℕ × ℕ)) StoreError) → (n ≡ 0 → whole ≡ Ok items) → (n ≢ 0 → (piece_at at (12 * n) bytes >>= λ p. Ok (heads_in n p)) ≡ whole) → at + 12 * n ≤ length bytes
-    → heads_in (length items) (heads_text items) ≡ items → lookup_at bytes at (12 * n) (heads_text items) ≡ Ok tt → whole ≡ Ok items
+    → heads_in (length items) (record_items_bytes items) ≡ items → lookup_at bytes at (12 * n) (record_items_bytes items) ≡ Ok tt → whole ≡ Ok items
 heads_there bytes items at n whole made kept le again e = elim (cases_Bool (eqb n 0)) [
   | inl none ↦ made (eqb-true n 0 none)
   | inr some ↦
       let ne : n ≢ 0 = eqb-false n 0 some in
-      let both = stands head_text items n (take (12 * n) (drop at bytes)) ne (lookup_takes head_text 11 head_len items bytes at n (12 * n) tt refl le e) in
+      let both = stands record_item_bytes items n (take (12 * n) (drop at bytes)) ne (lookup_takes record_item_bytes 11 head_len items bytes at n (12 * n) tt refl le e) in
       goes_on (λ (x : List ℕ). x) (λ (x : List (ℕ × ℕ)). x) (take (12 * n) (drop at bytes)) items (piece_at at (12 * n) bytes) (heads_in n) whole (kept ne) (piece_there at (12 * n) bytes le) (sym again ∙ (λ i. heads_in (sym both.0 i) (sym both.1 i)))
 ]
 
-xorbs_there : (bytes : List ℕ) (f : MDBShardFileFooter) (blocks : List MDBXorbInfo) → IsPlaced (length bytes) f → heads_in (length (xorb_items blocks)) (heads_text (xorb_items blocks)) ≡ xorb_items blocks → blocks_in f bytes ≡ Ok blocks
-    → lookup_at bytes f.xorb_lookup_offset (12 * f.xorb_lookup_num_entry) (heads_text (xorb_items blocks)) ≡ Ok tt → xorb_lookup_in f bytes ≡ Ok (xorb_items blocks)
+xorbs_there : (bytes : List ℕ) (f : MDBShardFileFooter) (blocks : List MDBXorbInfo) → IsPlaced (length bytes) f → heads_in (length (xorb_items blocks)) (record_items_bytes (xorb_items blocks)) ≡ xorb_items blocks → blocks_in f bytes ≡ Ok blocks
+    → lookup_at bytes f.xorb_lookup_offset (12 * f.xorb_lookup_num_entry) (record_items_bytes (xorb_items blocks)) ≡ Ok tt → xorb_lookup_in f bytes ≡ Ok (xorb_items blocks)
 xorbs_there bytes f blocks p again whole e =
     heads_there bytes (xorb_items blocks) f.xorb_lookup_offset f.xorb_lookup_num_entry (xorb_lookup_in f bytes)
     (λ none. goes_on (λ (x : List MDBXorbInfo). x) (λ (x : List (ℕ × ℕ)). x) blocks (xorb_items blocks) (blocks_in f bytes) xorb_items (xorb_lookup_in f bytes) (xorbs_made f bytes none) whole refl)
     (xorbs_kept f bytes) (omega (arith, p.chunk_lookup, p.footer, p.end)) again e
 
-chunks_there : (bytes : List ℕ) (f : MDBShardFileFooter) (blocks : List MDBXorbInfo) → IsPlaced (length bytes) f → places_in (length (chunk_items blocks)) (places_text (chunk_items blocks)) ≡ chunk_items blocks → blocks_in f bytes ≡ Ok blocks
-    → lookup_at bytes f.chunk_lookup_offset (16 * f.chunk_lookup_num_entry) (places_text (chunk_items blocks)) ≡ Ok tt → chunk_lookup_in f bytes ≡ Ok (chunk_items blocks)
+chunks_there : (bytes : List ℕ) (f : MDBShardFileFooter) (blocks : List MDBXorbInfo) → IsPlaced (length bytes) f → places_in (length (chunk_items blocks)) (chunk_items_bytes (chunk_items blocks)) ≡ chunk_items blocks → blocks_in f bytes ≡ Ok blocks
+    → lookup_at bytes f.chunk_lookup_offset (16 * f.chunk_lookup_num_entry) (chunk_items_bytes (chunk_items blocks)) ≡ Ok tt → chunk_lookup_in f bytes ≡ Ok (chunk_items blocks)
 chunks_there bytes f blocks p again whole e =
     let at = f.chunk_lookup_offset in
     let n = f.chunk_lookup_num_entry in
@@ -101,7 +101,7 @@ chunks_there bytes f blocks p again whole e =
       | inl none ↦ goes_on (λ (x : List MDBXorbInfo). x) (λ (x : List (ℕ × ℕ × ℕ)). x) blocks items (blocks_in f bytes) chunk_items (chunk_lookup_in f bytes) (chunks_made f bytes (eqb-true n 0 none)) whole refl
       | inr some ↦
           let ne : n ≢ 0 = eqb-false n 0 some in
-          let both = stands place_text items n (take (16 * n) (drop at bytes)) ne (lookup_takes place_text 15 place_len items bytes at n (16 * n) tt refl le e) in
+          let both = stands chunk_item_bytes items n (take (16 * n) (drop at bytes)) ne (lookup_takes chunk_item_bytes 15 place_len items bytes at n (16 * n) tt refl le e) in
           goes_on (λ (x : List ℕ). x) (λ (x : List (ℕ × ℕ × ℕ)). x) (take (16 * n) (drop at bytes)) items (piece_at at (16 * n) bytes) (places_in n) (chunk_lookup_in f bytes) (chunks_kept f bytes ne) (piece_there at (16 * n) bytes le)
           (sym again ∙ (λ i. places_in (sym both.0 i) (sym both.1 i)))
     ]
@@ -110,7 +110,7 @@ chunks_there bytes f blocks p again whole e =
 
 module _ (w : Lookups) (s : Shard) (form : IsShard s) (fits : Fits s) where
   abbrev text : List ℕ
-  text = shard_text w s
+  text = shard_bytes w s
 
   abbrev foot : MDBShardFileFooter
   foot = footer_of w s

@@ -6,7 +6,8 @@ use Rattle.std.specs.Cmp.Lexicographic.{pointwise}
 use Rattle.std.specs.Map.{lookup}
 use Rattle.xet_shard_format.specs.declared.record.MDBXorbInfo.{MDBXorbInfo}
 use Rattle.xet_shard_format.specs.declared.record.XorbChunkSequenceEntry.{XorbChunkSequenceEntry}
-use Rattle.xet_shard.specs.LastPlaces.{last_at, noted}
+use Rattle.xet_shard.specs.LastPlaces.{last_at}
+use Rattle.xet_shard.specs.internal.LastPlaces.{noted}
 use Rattle.xet_shard_format.specs.Records.{xorb_rows, xorb_section}
 use Rattle.xet_shard.specs.Runs.{digests, last_place}
 use Rattle.xet_shard_format.specs.theorems.Counts.{length-section}

@@ -6,7 +6,7 @@ use Rattle.xet_hash.specs.declared.error.StoreError.{StoreError}
 use Rattle.xet_hash.specs.declared.error.StoreError.TheVariants as errors
 use Rattle.xet_shard.specs.Export.{IsExportRefusal}
 use Rattle.xet_shard.specs.WriteRefusals.{IsWriteRefusal}
-use Rattle.xet_shard.specs.Merging.{IsNoText}
+use Rattle.xet_shard.specs.internal.Merging.{IsNoText}
 use Rattle.xet_shard_format.specs.Reading.{IsShardRefusal}
 use Rattle.xet_shard.specs.Union.{IsUnionRefusal, Records}
 

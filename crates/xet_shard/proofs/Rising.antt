@@ -20,7 +20,7 @@ use Rattle.xet_shard.specs.Held.{DifferBy, Held, IsHeld, by_hash, held_shard}
 use Rattle.xet_hash.specs.Hash.{marker}
 use Rattle.xet_shard_format.specs.Records.{AreRecords, IsFile, IsXorb, end_row, file_hash, file_rows, file_section, is_after, section, xorb_hash, xorb_rows, xorb_section}
 use Rattle.xet_shard_format.specs.Sorted.{put_in, sorted}
-use Rattle.xet_shard_format.specs.Text.{IsShard}
+use Rattle.xet_shard_format.specs.Encoding.{IsShard}
 use Rattle.xet_shard_format.specs.theorems.Sorting.{sorted_apart}
 
 pub hash_total : IsTotalOrder hash_cmp

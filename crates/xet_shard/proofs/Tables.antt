@@ -11,7 +11,8 @@ use Rattle.xet_hash.specs.declared.error.StoreError.TheVariants as errors
 use Rattle.xet_shard.specs.declared.query.bisection.Probe.TheVariants.{RowBelow, WordAtMost, WordBelow}
 use Rattle.xet_shard_format.specs.declared.header_footer.MDBShardFileFooter.{MDBShardFileFooter}
 use Rattle.xet_shard_format.specs.declared.record.MDBXorbInfo.{MDBXorbInfo}
-use Rattle.xet_shard.specs.Bisection.{AnswersAt, Bisects, in_table, passes, slots}
+use Rattle.xet_shard.specs.Bisection.{AnswersAt, Bisects, in_table, passes}
+use Rattle.xet_shard.specs.internal.Bisection.{slots}
 use Rattle.xet_shard_format.specs.Lookups.{chunk_items, xorb_items}
 use Rattle.xet_shard.specs.Queries.{chunk_place, chunk_table, file_items_from, file_table, has_head, last_of, place_before, tells_row, xorb_table}
 use Rattle.xet_codec.specs.Parsing.{◌>>=◌, GivesUnlessFault, reaches}

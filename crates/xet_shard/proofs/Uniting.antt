@@ -9,11 +9,11 @@ use Rattle.xet_shard_format.specs.declared.header_footer.MDBShardFileFooter.{MDB
 use Rattle.xet_shard_format.specs.declared.record.MDBFileInfo.{MDBFileInfo}
 use Rattle.xet_shard_format.specs.declared.record.MDBXorbInfo.{MDBXorbInfo}
 use Rattle.xet_shard_format.specs.declared.row.Row.{Row}
-use Rattle.xet_shard.specs.Merging.{AreOfShard, IsNoText, behind, below, not_below}
+use Rattle.xet_shard.specs.internal.Merging.{AreOfShard, IsNoText, behind, below, not_below}
 use Rattle.xet_codec.specs.Parsing.{GivesUnlessFault}
 use Rattle.xet_shard_format.specs.Records.{AreRecords, IsFile, IsXorb, file_hash, file_section, section, xorb_hash, xorb_section}
 use Rattle.xet_shard.specs.Sections.{blocks_in, files_in}
-use Rattle.xet_shard_format.specs.Text.{IsShard}
+use Rattle.xet_shard_format.specs.Encoding.{IsShard}
 use Rattle.xet_shard.specs.Union.{HasUnionFront, IsNoUnion, IsUnion, Records, both_in, records_in, union, union_shard}
 use Rattle.xet_shard_format.specs.theorems.Counts.{length-section}
 use Rattle.xet_shard.proofs.Faulting.{fault_on, gives_on}

@@ -1,5 +1,4 @@
--- The shard that another is exported as: its chunks' hashes are hashed again under a key, and it is valid for
--- so long.
+-- The exported shard: chunk hashes are keyed, and it has an expiry.
 use Rattle.std.specs.Prelude.{◌≡◌, ℕ, ◌+◌, Bool, true, false, List, [], ◌++◌, map, min, take, Result, Ok, Err}
 use Rattle.xet_hash.specs.Blake3.{keyed_digest}
 use Rattle.xet_hash.specs.declared.error.Place.TheVariants.{Input, Output}
@@ -12,50 +11,50 @@ use Rattle.xet_shard_format.specs.declared.record.XorbChunkSequenceEntry.{XorbCh
 use Rattle.xet_shard.specs.Held.{never}
 use Rattle.xet_shard_format.specs.Lookups.{Lookups}
 use Rattle.xet_shard.specs.Sections.{blocks_in, files_in}
-use Rattle.xet_shard_format.specs.Text.{Fits, IsShard, Shard, shard, shard_text}
+use Rattle.xet_shard_format.specs.Encoding.{Fits, IsShard, Shard, shard, shard_bytes}
 use Rattle.xet_codec.specs.Parsing.{◌>>=◌}
 
 abbrev pub keyed_chunk : List ℕ → XorbChunkSequenceEntry → XorbChunkSequenceEntry
 keyed_chunk key c = record { chunk_hash = keyed_digest key c.chunk_hash; chunk_byte_range_start = c.chunk_byte_range_start; unpacked_segment_bytes = c.unpacked_segment_bytes }
 
--- the xorb with its chunks' hashes under a key
+-- the xorb with keyed chunk hashes
 abbrev pub keyed_block : List ℕ → MDBXorbInfo → MDBXorbInfo
 keyed_block key x = record { metadata = x.metadata; chunks = map (keyed_chunk key) x.chunks }
 
--- the files, where they are wanted
+-- the files, if they are selected
 abbrev pub files_wanted : Bool → MDBShardFileFooter → List ℕ → Result (List MDBFileInfo) StoreError
 files_wanted true f bytes = files_in f bytes
 files_wanted false f bytes = Ok []
 
--- The shard that is exported: with the files or without, under a key, created at a moment and valid for so
--- many seconds from then.
+-- The exported shard: with or without files, under a key, created at `now`, and valid for `valid_for` seconds
+-- from then.
 unfoldable pub exported : Bool → List ℕ → ℕ → ℕ → MDBShardFileFooter → List ℕ → Result Shard StoreError
 exported with_files key valid_for now f bytes = do
   files ← files_wanted with_files f bytes
   blocks ← blocks_in f bytes
   Ok (shard (map (keyed_block key) blocks) files key now (min (now + valid_for) never))
 
--- What was written behind what stood there is the text of the shard, with these look-ups.
+-- The encoding of the shard, with these lookup tables, was written after the bytes that were there before.
 pub record IsExport (lookups : Lookups) (read : Result Shard StoreError) (before : List ℕ) (after : List ℕ) : Type 0 where
   pub shard : Shard
   pub found : read ≡ Ok shard
   pub form : IsShard shard
   pub fits : Fits shard
-  pub text : after ≡ before ++ shard_text lookups shard
+  pub text : after ≡ before ++ shard_bytes lookups shard
 
--- After a refusal a front of it was written, and nothing where the shard's own bytes were refused.
+-- After an error a prefix of it was written, and nothing if the shard's own bytes are malformed.
 abbrev pub HasFront : Lookups → Result Shard StoreError → List ℕ → List ℕ → Type 0
-HasFront lookups (Ok s) before after = (n : ℕ) × (after ≡ before ++ take n (shard_text lookups s))
+HasFront lookups (Ok s) before after = (n : ℕ) × (after ≡ before ++ take n (shard_bytes lookups s))
 HasFront lookups (Err e) before after = after ≡ before
 
--- why nothing whole was written: the shard's bytes are refused, a reader or a sink failed, or memory wanted
+-- the error of an export: out of memory, a failed reader or sink, or that of reading the shard's bytes
 abbrev pub IsUnwritten : {X : Type 0} → Result X StoreError → StoreError → Type 0
 IsUnwritten read OutOfMemory = Unit {0}
 IsUnwritten read (Io Input) = Unit {0}
 IsUnwritten read (Io Output) = Unit {0}
 IsUnwritten read e = read ≡ Err e
 
--- the kinds of refusals of an export: those of reading a shard, and a sink that fails
+-- the errors of an export: those of reading a shard, and a failed sink
 abbrev pub IsExportRefusal : StoreError → Type 0
 IsExportRefusal OutOfMemory = Unit {0}
 IsExportRefusal UnexpectedEof = Unit {0}

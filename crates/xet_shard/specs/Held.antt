@@ -1,4 +1,4 @@
--- What a shard in memory holds, and the shard that is written of it.
+-- The records of a shard in memory, and the shard that is written of them.
 use Rattle.std.specs.Prelude.{◌≡◌, ◌≢◌, ◌<◌, ℕ, ◌+◌, ◌-◌, ◌*◌, ◌^◌, List, [], ◌∷◌, ◌++◌, filter, length, not, nat_eq, Option, Some, None, if◌then◌else◌, unwrap_or}
 use Rattle.std.specs.Cmp.Lexicographic.{pointwise}
 use Rattle.std.specs.List.{AllByRecursion, sum_by}
@@ -8,7 +8,7 @@ use Rattle.xet_shard_format.specs.declared.record.MDBFileInfo.{MDBFileInfo}
 use Rattle.xet_shard_format.specs.declared.record.MDBXorbInfo.{MDBXorbInfo}
 use Rattle.xet_shard_format.specs.Records.{IsFile, IsXorb, file_hash, file_section, xorb_hash, xorb_section}
 use Rattle.xet_shard_format.specs.Sorted.{sorted}
-use Rattle.xet_shard_format.specs.Text.{Shard, shard}
+use Rattle.xet_shard_format.specs.Encoding.{Shard, shard}
 use Rattle.xet_shard_format.specs.RecordSizes.{file_record_size, xorb_record_size}
 
 -- xorbs and files in the order in which they were added, each hash once
@@ -22,16 +22,17 @@ held blocks files = record { blocks = blocks; files = files }
 abbrev pub nothing : Held
 nothing = held [] []
 
--- a list with one more at its end, which takes the place of one of an equal hash
+-- the list with x added at its end, without an earlier record of equal hash
 abbrev pub with_last : {X : Type 0} → (X → List ℕ) → List X → X → List X
 with_last hash xs x = filter (λ y. not (pointwise nat_eq (hash y) (hash x))) xs ++ x ∷ []
 
--- no two have the same hash
+-- no two records have the same hash
 abbrev pub DifferBy : {X : Type 0} → (X → List ℕ) → List X → Type 0
 DifferBy hash [] = Unit {0}
 DifferBy hash (x ∷ xs) = AllByRecursion (λ y. hash x ≢ hash y) xs × DifferBy hash xs
 
--- Each record has the form and a hash of its own, which isn't the marker, and the sections have fewer than 2 ^ 32 rows.
+-- The invariant of a shard in memory: each record is well formed and has a hash of its own, which is not the
+-- sentinel, and each section has fewer than 2 ^ 32 rows.
 pub record IsHeld (h : Held) : Type 0 where
   pub blocks : AllByRecursion (λ x. (xorb_hash x ≢ marker) × IsXorb x) h.blocks
   pub files : AllByRecursion (λ f. (file_hash f ≢ marker) × IsFile f) h.files
@@ -40,27 +41,27 @@ pub record IsHeld (h : Held) : Type 0 where
   pub few_blocks : length (xorb_section h.blocks) < 2 ^ 32
   pub few_files : length (file_section h.files) < 2 ^ 32
 
--- the record of a hash, if there is one
+-- the record with a hash, if there is one
 abbrev pub record_of : {X : Type 0} → (X → List ℕ) → List ℕ → List X → Option X
 record_of hash h [] = None
 record_of hash h (x ∷ xs) = if pointwise nat_eq h (hash x) then Some x else record_of hash h xs
 
--- each record stands under its hash
+-- each record is under its hash
 abbrev pub Keyed : {X : Type 0} → (X → List ℕ) → List (List ℕ × X) → Type 0
 Keyed hash entries = AllByRecursion (λ e. e.0 ≡ hash e.1) entries
 
--- in rising order of hash
+-- in ascending order of hash
 abbrev pub by_hash : {X : Type 0} → (X → List ℕ) → List X → List X
 by_hash hash xs = sorted (λ x y. hash_cmp (hash x) (hash y)) xs
 
--- the greatest moment, which is no expiry
+-- the expiry that means none: the maximum time
 abbrev pub never : ℕ
 never = 2 ^ 64 - 1
 
--- the shard that is written of what is held: without a key, with these moments of creation and expiry
+-- the shard that is written: without a key, with this creation time and expiry
 abbrev pub held_shard : Held → ℕ → Option ℕ → Shard
 held_shard h creation expiry = shard (by_hash xorb_hash h.blocks) (by_hash file_hash h.files) zero_hash creation (unwrap_or expiry never)
 
--- the bytes of an empty shard, and of each record
+-- the length of the shard: that of an empty one, and the bytes that each record adds
 abbrev pub held_size : Held → ℕ
 held_size h = 344 + sum_by xorb_record_size h.blocks + sum_by file_record_size h.files

@@ -6,7 +6,6 @@ pub mod LastPlaces
 pub mod Queries
 pub mod Export
 pub mod Union
-pub mod Merging
-pub mod ReaderBytes
 pub mod WriteRefusals
 pub mod theorems
+pub mod internal

@@ -1,6 +1,6 @@
--- What a shard's bytes answer: the file of a hash, and the run of a query. A query bisects a lookup table, and
--- reads the records at the rows that a few of its items tell. A table that was left out is made from all records,
--- and then no index is needed.
+-- The results of queries to the bytes of a shard: the file of a hash, and the run of a query.
+-- A query bisects a lookup table, and reads the records in the rows that a few of its items give. An omitted
+-- table is made from all records, and then the index has no influence.
 use Rattle.std.specs.Prelude.{ℕ, ◌+◌, ◌-◌, ◌*◌, ◌^◌, ◌==◌, nat_eq, nat_le, nat_lt, Bool, false, List, [], ◌∷◌, drop, filter, length, map, take, Option, Some, None, Result, Ok, Err, if◌then◌else◌}
 use Rattle.std.specs.Cmp.Lexicographic.{pointwise}
 use Rattle.std.specs.List.{list_any, slice_get}
@@ -23,9 +23,9 @@ use Rattle.xet_shard_format.specs.Rows.{rows_in}
 use Rattle.xet_shard.specs.Runs.{run_after, run_at}
 use Rattle.xet_shard.specs.Sections.{files_in, heads_in, row_count, blocks_in, places_in}
 use Rattle.xet_shard.specs.Bisection.{in_table, item_before}
-use Rattle.xet_shard_format.specs.Text.{Shard}
+use Rattle.xet_shard_format.specs.Encoding.{Shard}
 
--- how many rows there are from a row on in the section of so many rows from a place on
+-- the number of rows from row `row` on, in the section of `count` rows at offset `at`
 unfoldable pub rows_from : ℕ → ℕ → ℕ → List ℕ → Result ℕ StoreError
 rows_from at count row bytes = do
   _ ← wants (nat_lt count (2 ^ 32)) SectionPlace
@@ -33,21 +33,21 @@ rows_from at count row bytes = do
   _ ← reaches (nat_le (at + 48 * count) (length bytes))
   Ok (count - row)
 
--- what is read of the head in a row of that section and of the rows after it
+-- what is read of the header in a row of that section, and of the rows after it
 unfoldable pub read_in_row : {X : Type 0} → (Row → List Row → Result X StoreError) → ℕ → ℕ → ℕ → List ℕ → Result X StoreError
 read_in_row read at count row bytes = do
   n ← rows_from at count row bytes
   r ← row_at (rows_in n (drop (at + 48 * row) bytes))
   read r.0 r.1
 
--- the file of a head, of its own rows, which are the first after it
+-- the file with this header, from the first rows after it
 abbrev pub file_after : Row → List Row → Result MDBFileInfo StoreError
 file_after head rows = file_at head rows >>= λ x. Ok x.0
 
 abbrev pub file_in : MDBShardFileFooter → ℕ → List ℕ → Result MDBFileInfo StoreError
 file_in f row bytes = row_count f.file_info_offset f.xorb_info_offset >>= λ count. read_in_row file_after f.file_info_offset count row bytes
 
--- ---- lookup tables, as the bytes have them
+-- ---- stored lookup tables
 
 abbrev pub file_table : MDBShardFileFooter → List ℕ → List (ℕ × ℕ)
 file_table f bytes = heads_in f.file_lookup_num_entry (drop f.file_lookup_offset bytes)
@@ -60,28 +60,29 @@ chunk_table f bytes = places_in f.chunk_lookup_num_entry (drop f.chunk_lookup_of
 
 -- ---- files
 
--- the items of the files' table that are looked at: at most eight from an index on, or all of one that was left out
+-- the items of the file lookup table that are read: at most eight from an index on, or all of an omitted
+-- table
 unfoldable pub file_items_from : MDBShardFileFooter → ℕ → List ℕ → Result (List (ℕ × ℕ)) StoreError
 file_items_from f index bytes =
     if f.file_lookup_num_entry == 0 then (files_in f bytes >>= λ files. Ok (file_items files))
     else in_table f.file_lookup_offset (12 * f.file_lookup_num_entry) bytes (take 8 (drop index (file_table f bytes)))
 
--- the rows of the items of a word
+-- the rows of the items with a word
 abbrev pub rows_of : ℕ → List (ℕ × ℕ) → List ℕ
 rows_of word items = map (λ i. i.1) (filter (λ i. i.0 == word) items)
 
--- the first of the files at these rows that has the hash
+-- the first file in these rows that has the hash
 unfoldable pub first_file : MDBShardFileFooter → List ℕ → List ℕ → List ℕ → Result (Option MDBFileInfo) StoreError
 first_file f h [] bytes = Ok None
 first_file f h (row ∷ rows) bytes = do
   x ← file_in f row bytes
   if pointwise nat_eq h (file_hash x) then Ok (Some x) else first_file f h rows bytes
 
--- Where eight or more files share the first word of a hash, none is told.
+-- If eight or more files share the first word of a hash, the query fails.
 abbrev pub fewer_than_eight : ℕ → Result (Unit {0}) StoreError
 fewer_than_eight count = if nat_lt count 8 then Ok tt else Err TruncatedHashCollision
 
--- The file of a hash, if there is one, by an index at which the table is bisected by the hash's first word.
+-- The file with a hash, if there is one. `index` bisects the table by the first word of the hash.
 unfoldable pub found_file : MDBShardFileFooter → List ℕ → ℕ → List ℕ → Result (Option MDBFileInfo) StoreError
 found_file f h index bytes = do
   items ← file_items_from f index bytes
@@ -90,76 +91,76 @@ found_file f h index bytes = do
 
 -- ---- runs
 
--- a chunk's hash as a shard keeps it: under its key, where it has one
+-- a chunk hash as a shard stores it: keyed, if the shard has a key
 unfoldable pub kept_hash : List ℕ → List ℕ → List ℕ
 kept_hash key h = if pointwise nat_eq key zero_hash then h else keyed_digest key h
 
--- the run of a query at a place of the xorb whose head is in a row
+-- the run of a query at index `place` of the xorb whose header is in row `row`
 abbrev pub run_in : MDBShardFileFooter → List (List ℕ) → ℕ → ℕ → List ℕ → Result (Option (ℕ × FileDataSequenceEntry)) StoreError
 run_in f query row place bytes =
     row_count f.xorb_info_offset f.file_lookup_offset >>= λ count. read_in_row (run_after (map (kept_hash f.chunk_hash_hmac_key) query) place) f.xorb_info_offset count row bytes
 
--- row and place of the last item of a word
+-- the row and the index of the last item with a word
 unfoldable pub last_of : ℕ → List (ℕ × ℕ × ℕ) → Option (ℕ × ℕ)
 last_of word [] = None
 last_of word (i ∷ is) = elim (last_of word is) [ Some found ↦ Some found | None ↦ if i.0 == word then Some (i.1, i.2) else None ]
 
--- row and place of the item before an index, if it has a word
+-- the row and the index of the item before `index`, if it has the word
 abbrev pub place_before : ℕ → ℕ → List (ℕ × ℕ × ℕ) → Option (ℕ × ℕ)
 place_before word index items = elim (item_before index items) [ None ↦ None | Some i ↦ if i.0 == word then Some (i.1, i.2) else None ]
 
--- where the last chunk of a word stands
+-- the row and the index of the last chunk with a first word
 unfoldable pub chunk_place : MDBShardFileFooter → ℕ → ℕ → List ℕ → Result (Option (ℕ × ℕ)) StoreError
 chunk_place f word index bytes =
     if f.chunk_lookup_num_entry == 0 then (blocks_in f bytes >>= λ blocks. Ok (last_of word (chunk_items blocks)))
     else in_table f.chunk_lookup_offset (16 * f.chunk_lookup_num_entry) bytes (place_before word index (chunk_table f bytes))
 
--- the run of a query at the last place of a word
+-- the run of a query at the last chunk with a first word
 unfoldable pub run_of_word : MDBShardFileFooter → List (List ℕ) → ℕ → ℕ → List ℕ → Result (Option (ℕ × FileDataSequenceEntry)) StoreError
 run_of_word f query word index bytes = do
   place ← chunk_place f word index bytes
   elim place [ None ↦ Ok None | Some found ↦ run_in f query found.0 found.1 bytes ]
 
--- the first word of the first hash of a query, as a shard keeps it
+-- the first word of the first hash of a query, as the shard stores it
 abbrev pub query_word : MDBShardFileFooter → List (List ℕ) → ℕ
 query_word f [] = 0
 query_word f (h ∷ hs) = first_word (kept_hash f.chunk_hash_hmac_key h)
 
--- The run of a query at the last place of its first hash's first word, by an index at which the table is bisected
--- by that word; none where there is no such place.
+-- The run of a query at the last chunk with the first word of its first hash; none if there is no such chunk.
+-- `index` bisects the table by that word.
 unfoldable pub found_run : MDBShardFileFooter → List (List ℕ) → ℕ → List ℕ → Result (Option (ℕ × FileDataSequenceEntry)) StoreError
 found_run f [] index bytes = Ok None
 found_run f (h ∷ hs) index bytes = run_of_word f (h ∷ hs) (query_word f (h ∷ hs)) index bytes
 
--- whether the item at an index tells a row
+-- whether the item at an index has a row
 abbrev pub tells_row : ℕ → ℕ → List (ℕ × ℕ) → Bool
 tells_row row index items = elim (slice_get items index) [ None ↦ false | Some i ↦ i.1 == row ]
 
--- whether a xorb's head is in a row
+-- whether the header of a xorb is in a row
 unfoldable pub has_head : MDBShardFileFooter → ℕ → ℕ → List ℕ → Result Bool StoreError
 has_head f row index bytes =
     if f.xorb_lookup_num_entry == 0 then (blocks_in f bytes >>= λ blocks. Ok (list_any (λ i. i.1 == row) (xorb_items blocks)))
     else in_table f.xorb_lookup_offset (12 * f.xorb_lookup_num_entry) bytes (tells_row row index (xorb_table f bytes))
 
--- The run of a query at a row and a place that are told, by an index at which the table is bisected by the row;
--- none where no xorb's head is in the row.
+-- The run of a query at a given row and index in the xorb; none if no xorb's header is in the row. `index`
+-- bisects the table by the row.
 unfoldable pub told_run : MDBShardFileFooter → List (List ℕ) → ℕ → ℕ → ℕ → List ℕ → Result (Option (ℕ × FileDataSequenceEntry)) StoreError
 told_run f [] row place index bytes = Ok None
 told_run f (h ∷ hs) row place index bytes = do
   there ← has_head f row index bytes
   if there then run_in f (h ∷ hs) row place bytes else Ok None
 
--- the refusals of looking up a file
+-- the errors of looking up a file
 abbrev pub IsFileRefusal : StoreError → Type 0
 IsFileRefusal TruncatedHashCollision = Unit {0}
 IsFileRefusal e = IsShardRefusal e
 
--- ---- the same of a shard
+-- ---- the same queries to a shard
 
 abbrev pub shard_file : Shard → List ℕ → Result (Option MDBFileInfo) StoreError
 shard_file s h = fewer_than_eight (length (rows_of (first_word h) (file_items s.files))) >>= λ _. Ok (record_of file_hash h s.files)
 
--- the xorb whose head is in a row
+-- the xorb whose header is in a row
 unfoldable pub block_at : ℕ → ℕ → List MDBXorbInfo → Option MDBXorbInfo
 block_at row at [] = None
 block_at row at (x ∷ xs) = if row == at then Some x else block_at row (at + length (xorb_rows x)) xs

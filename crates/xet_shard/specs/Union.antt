@@ -1,4 +1,4 @@
--- The union of two shards: each record of either, each hash once.
+-- The union of two shards: the records of both, each hash once.
 use Rattle.std.specs.Prelude.{◌≡◌, ◌≢◌, ◌⊎◌, ◌≤◌, ℕ, ◌^◌, List, ◌++◌, filter, is_none, length, max, take, Result, Ok, Err}
 use Rattle.std.specs.List.{AllByRecursion}
 use Rattle.xet_hash.specs.Hash.{zero_hash}
@@ -15,18 +15,19 @@ use Rattle.xet_shard_format.specs.Records.{file_hash, file_section, xorb_hash, x
 use Rattle.xet_shard.specs.Sections.{blocks_in, files_in}
 use Rattle.xet_shard.specs.declared.info.MDBShardInfo.{MDBShardInfo}
 use Rattle.xet_shard_format.specs.Lookups.{all_lookups}
-use Rattle.xet_shard_format.specs.Text.{Fits, IsShard, Shard, footer_of, full_text, header, shard}
+use Rattle.xet_shard_format.specs.Encoding.{Fits, IsShard, Shard, footer_of, full_shard_bytes, header, shard}
 use Rattle.xet_codec.specs.Parsing.{◌>>=◌}
 
--- the records of the first list, and those of the second whose hash none of the first has, in rising order
+-- the records of the first list, and those of the second whose hash the first does not have, in ascending
+-- order
 abbrev pub union : {X : Type 0} → (X → List ℕ) → List X → List X → List X
 union hash xs ys = by_hash hash (xs ++ filter (λ y. is_none (record_of hash (hash y) xs)) ys)
 
--- what has the same hash in both is the same record
+-- records with the same hash in both lists are equal
 abbrev pub Agree : {X : Type 0} → (X → List ℕ) → List X → List X → Type 0
 Agree hash xs ys = AllByRecursion (λ x. AllByRecursion (λ y. hash x ≡ hash y → x ≡ y) ys) xs
 
--- the xorbs and the files that a shard's bytes hold
+-- the xorbs and the files of a shard
 abbrev pub Records : Type 0
 Records = List MDBXorbInfo × List MDBFileInfo
 
@@ -36,7 +37,7 @@ records_in f bytes = do
   blocks ← blocks_in f bytes
   Ok (blocks, files)
 
--- those of two shards, the first one's read first
+-- the records of two shards, those of the first read first
 unfoldable pub both_in : MDBShardFileFooter → List ℕ → MDBShardFileFooter → List ℕ → Result (Records × Records) StoreError
 both_in f bytes g others = do
   x ← records_in f bytes
@@ -46,11 +47,11 @@ both_in f bytes g others = do
 abbrev pub AgreeBoth : Records × Records → Type 0
 AgreeBoth p = Agree xorb_hash p.0.0 p.1.0 × Agree file_hash p.0.1 p.1.1
 
--- The shard of both: without a key and without an expiry, created at the later moment.
+-- The union of two shards: without a key and without an expiry, created at the later of two times.
 abbrev pub union_shard : Records × Records → ℕ → ℕ → Shard
 union_shard p creation other = shard (union xorb_hash p.0.0 p.1.0) (union file_hash p.0.1 p.1.1) zero_hash (max creation other) never
 
--- a shard's chunks are hashed again under a key
+-- the shard is keyed
 abbrev pub IsKeyed : MDBShardFileFooter → Type 0
 IsKeyed f = f.chunk_hash_hmac_key ≢ zero_hash
 
@@ -58,7 +59,8 @@ IsKeyed f = f.chunk_hash_hmac_key ≢ zero_hash
 abbrev pub HasTooMany : Shard → Type 0
 HasTooMany s = (2 ^ 32 ≤ length (file_section s.files)) ⊎ (2 ^ 32 ≤ length (xorb_section s.blocks))
 
--- What was written behind what stood there is the full text of the union, whose header and footer are these.
+-- The encoding of the union was written after the bytes that were there before; `ends` are its header and
+-- footer.
 pub record IsUnion (read : Result (Records × Records) StoreError) (creation other : ℕ) (ends : MDBShardInfo) (before after : List ℕ) : Type 0 where
   pub both : Records × Records
   pub found : read ≡ Ok both
@@ -66,15 +68,15 @@ pub record IsUnion (read : Result (Records × Records) StoreError) (creation oth
   pub form : IsShard (union_shard both creation other)
   pub fits : Fits (union_shard both creation other)
   pub info : ends ≡ record { header = header; metadata = footer_of all_lookups (union_shard both creation other) }
-  pub text : after ≡ before ++ full_text (union_shard both creation other)
+  pub text : after ≡ before ++ full_shard_bytes (union_shard both creation other)
 
--- After a refusal nothing was written, or a front of the union's text.
+-- After an error nothing was written, or a prefix of the union's encoding.
 abbrev pub HasUnionFront : Result (Records × Records) StoreError → ℕ → ℕ → List ℕ → List ℕ → Type 0
 HasUnionFront read creation other before after =
     (after ≡ before)
-    ⊎ ((both : Records × Records) × (n : ℕ) × (read ≡ Ok both) × AgreeBoth both × (after ≡ before ++ take n (full_text (union_shard both creation other))))
+    ⊎ ((both : Records × Records) × (n : ℕ) × (read ≡ Ok both) × AgreeBoth both × (after ≡ before ++ take n (full_shard_bytes (union_shard both creation other))))
 
--- why there is no union
+-- the error of a union, and its cause
 abbrev pub IsNoUnion : MDBShardFileFooter → MDBShardFileFooter → Result (Records × Records) StoreError → StoreError → Type 0
 IsNoUnion f g read OutOfMemory = Unit {0}
 IsNoUnion f g read (Io Input) = Unit {0}
@@ -84,7 +86,7 @@ IsNoUnion f g read e =
     (read ≡ Err e)
     ⊎ ((e ≡ MalformedData SectionPlace) × (both : Records × Records) × (read ≡ Ok both) × AgreeBoth both × HasTooMany (union_shard both f.shard_creation_timestamp g.shard_creation_timestamp))
 
--- the kinds of refusals of a union: those of an export, and records that have none
+-- the errors of a union: those of an export, and `InvalidArguments`
 abbrev pub IsUnionRefusal : StoreError → Type 0
 IsUnionRefusal InvalidArguments = Unit {0}
 IsUnionRefusal e = IsExportRefusal e

@@ -1,4 +1,4 @@
--- Why writing a shard is refused.
+-- The errors of writing a shard.
 use Rattle.std.specs.Prelude.{◌≡◌, ◌≢◌, ◌<◌, ℕ, ◌+◌, ◌-◌, ◌*◌, ◌^◌, List, [], ◌∷◌, ◌++◌, filter, length, not, nat_eq, Option, Some, None, if◌then◌else◌, unwrap_or}
 use Rattle.std.specs.Cmp.Lexicographic.{pointwise}
 use Rattle.std.specs.List.{AllByRecursion, sum_by}
@@ -6,7 +6,7 @@ use Rattle.xet_hash.specs.declared.error.Place.TheVariants.{Output}
 use Rattle.xet_hash.specs.declared.error.StoreError.{StoreError}
 use Rattle.xet_hash.specs.declared.error.StoreError.TheVariants.{Io, OutOfMemory}
 
--- the refusals of writing a shard
+-- out of memory, or a failed sink
 abbrev pub IsWriteRefusal : StoreError → Type 0
 IsWriteRefusal OutOfMemory = Unit {0}
 IsWriteRefusal (Io place) = place ≡ Output

@@ -1,4 +1,4 @@
-//! A shard, exported under a key.
+//! Export of a shard under a key.
 
 ghost use Rattle.std.specs.Prelude.{◌≡◌, ◌≢◌, ◌<◌, ◌+◌, ◌^◌, ℕ, [], None, true, min, IfErr, IfOk, IsErrOf, OnErr, OnOk, length, map};
 ghost use Rattle.xet_hash.specs.Hash.{zero_hash};
@@ -8,11 +8,12 @@ ghost use Rattle.xet_shard.specs.Held.{never};
 ghost use Rattle.xet_codec.specs.Parsing.{GivesUnlessFault};
 ghost use Rattle.xet_shard_format.specs.Reading.{IsShardRefusal};
 ghost use Rattle.xet_shard_format.specs.Records.{AreRecords, IsFile, IsXorb, file_hash, file_section, xorb_hash, xorb_section};
-ghost use Rattle.xet_shard_format.specs.Text.{shard};
+ghost use Rattle.xet_shard_format.specs.Encoding.{shard};
+ghost use Rattle.xet_io.specs.Frame.{ReadFrom};
 
 use crate::info::MDBShardInfo;
 use crate::reader::sections::{blocks, files};
-use crate::write::write_text;
+use crate::write::write_bytes;
 use std::alloc::Global;
 use std::mem;
 use xet_base::Items;
@@ -22,10 +23,14 @@ use xet_shard_format::shard_encoding::{Lookups, write_with_lookups};
 use xet_shard_format::{MDBFileInfo, MDBShardFileFooter, MDBXorbInfo, XorbChunkSequenceEntry};
 
 impl MDBShardInfo {
-    /// Writes the shard again, with its chunks' hashes hashed under a key, created now and valid for so many
-    /// seconds: with its files and their look-up or without them, and with each of the other look-ups or
-    /// without it. The files and the xorbs are read; malformed ones are refused by the first check that
-    /// fails, and nothing is written. A failing reader is `Io(Input)`, a failing sink `Io(Output)`.
+    /// Writes the shard again as a keyed shard, in which chunk hashes are hashed under `key`. `now` is the
+    /// creation time, in seconds since the Unix epoch, and `now + valid_for` the expiry, at most 2^64 - 1.
+    /// `files` selects the files with their lookup table, `xorb_lookup` and `chunk_lookup` select these
+    /// tables. The caller ensures that the key is not zero, and that the shard is not keyed.
+    /// The xorbs are read, and the files if they are selected. If these are malformed, the error is that of
+    /// the first check that fails, and nothing was written. The error is `Io(Input)` if the reader failed,
+    /// and `Io(Output)` if the sink failed. After these errors a prefix of the export was written; it may be
+    /// empty.
     pub fn export_as_keyed_shard<R: ReadAt, W: Sink>(
         &self,
         alloc: Global,
@@ -55,13 +60,13 @@ impl MDBShardInfo {
             xorbs: xorb_lookup,
             chunks: chunk_lookup,
         };
-        let text = keyed_text(alloc, reader, &self.metadata, lookups, key, valid_for, now)?;
-        write_text(sink, &text)
+        let text = keyed_bytes(alloc, reader, &self.metadata, lookups, key, valid_for, now)?;
+        write_bytes(sink, &text)
     }
 }
 
-/// The text of the shard that is exported.
-fn keyed_text<R: ReadAt>(
+/// The encoding of the exported shard.
+fn keyed_bytes<R: ReadAt>(
     alloc: Global,
     reader: &mut R,
     f: &MDBShardFileFooter,
@@ -73,9 +78,7 @@ fn keyed_text<R: ReadAt>(
     ensures text { R.tells reader.old ≡ true → IfOk result (λ text. IsExport (record { files = lookups.files; xorbs = lookups.xorbs; chunks = lookups.chunks }) (exported lookups.files key valid_for now f.now (R.bytes reader.old)) [] text.items) }
     ensures refused { R.tells reader.old ≡ true → IfErr result (IsUnwritten (exported lookups.files key valid_for now f.now (R.bytes reader.old))) }
     ensures refusals { IfErr result IsShardRefusal }
-    ensures cause { HasCause (R.faults reader.old) (R.faults reader.new) (IsErrOf result (StoreError.Io Place.Input)) }
-    ensures same { R.bytes reader.new ≡ R.bytes reader.old }
-    ensures tells { R.tells reader.new ≡ R.tells reader.old }
+    ensures frame { ReadFrom R.bytes R.tells R.faults R.lent reader.old reader.new (IsErrOf result (StoreError.Io Place.Input)) }
 {
     let (blocks, files) = keyed_records(alloc, reader, f, key, lookups.files)?;
     let expiry = now.saturating_add(valid_for);
@@ -85,7 +88,7 @@ fn keyed_text<R: ReadAt>(
     Ok(text)
 }
 
-/// The xorbs with their chunks' hashes under a key, and the files where they are wanted.
+/// The xorbs with keyed chunk hashes, and the files if `with_files`.
 fn keyed_records<R: ReadAt>(
     alloc: Global,
     reader: &mut R,
@@ -100,9 +103,7 @@ fn keyed_records<R: ReadAt>(
     ensures few_blocks { IfOk result (λ x. length (xorb_section x.0.items) < 2 ^ 32) }
     ensures few_files { IfOk result (λ x. length (file_section x.1.items) < 2 ^ 32) }
     ensures refusals { IfErr result IsShardRefusal }
-    ensures cause { HasCause (R.faults reader.old) (R.faults reader.new) (IsErrOf result (StoreError.Io Place.Input)) }
-    ensures same { R.bytes reader.new ≡ R.bytes reader.old }
-    ensures tells { R.tells reader.new ≡ R.tells reader.old }
+    ensures frame { ReadFrom R.bytes R.tells R.faults R.lent reader.old reader.new (IsErrOf result (StoreError.Io Place.Input)) }
 {
     let found = wanted_files(alloc, reader, f, with_files)?;
     let mut keyed = blocks(alloc, reader, f)?;
@@ -110,7 +111,7 @@ fn keyed_records<R: ReadAt>(
     Ok((keyed, found))
 }
 
-/// The files where they are wanted, otherwise none.
+/// The files if `with_files`, otherwise none.
 fn wanted_files<R: ReadAt>(
     alloc: Global,
     reader: &mut R,
@@ -121,9 +122,7 @@ fn wanted_files<R: ReadAt>(
     ensures form { IfOk result (λ v. AreRecords file_hash IsFile None v.items) }
     ensures few { IfOk result (λ v. length (file_section v.items) < 2 ^ 32) }
     ensures refusals { IfErr result IsShardRefusal }
-    ensures cause { HasCause (R.faults reader.old) (R.faults reader.new) (IsErrOf result (StoreError.Io Place.Input)) }
-    ensures same { R.bytes reader.new ≡ R.bytes reader.old }
-    ensures tells { R.tells reader.new ≡ R.tells reader.old }
+    ensures frame { ReadFrom R.bytes R.tells R.faults R.lent reader.old reader.new (IsErrOf result (StoreError.Io Place.Input)) }
 {
     if with_files {
         files(alloc, reader, f)
@@ -132,7 +131,7 @@ fn wanted_files<R: ReadAt>(
     }
 }
 
-/// Hashes the chunks' hashes of these xorbs under a key, in place.
+/// Replaces the chunk hashes of these xorbs by keyed ones.
 fn key_blocks(alloc: Global, blocks: &mut [MDBXorbInfo], key: HMACKey)
     ensures { blocks.new ≡ map (keyed_block key) blocks.old }
 {
@@ -141,7 +140,7 @@ fn key_blocks(alloc: Global, blocks: &mut [MDBXorbInfo], key: HMACKey)
     }
 }
 
-/// The same of a xorb.
+/// Replaces the chunk hashes of a xorb by keyed ones.
 fn key_block(alloc: Global, block: &mut MDBXorbInfo, key: HMACKey)
     ensures { block.new ≡ keyed_block key block.old }
 {
@@ -150,7 +149,7 @@ fn key_block(alloc: Global, block: &mut MDBXorbInfo, key: HMACKey)
     block.chunks = Items::from_vec(chunks);
 }
 
-/// The same of chunks.
+/// Replaces the hashes of these chunks by keyed ones.
 fn key_chunks(chunks: &mut [XorbChunkSequenceEntry], key: HMACKey)
     ensures { chunks.new ≡ map (keyed_chunk key) chunks.old }
 {

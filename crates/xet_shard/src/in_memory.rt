@@ -1,23 +1,23 @@
-//! A shard in memory.
+//! A shard in memory, to which records are added until it is written.
 
 ghost use Rattle.std.specs.Prelude.{◌≡◌, ◌≢◌, ◌↔◌, ◌<◌, ◌^◌, ◌++◌, ℕ, IfErr, IfOk, IsErrOf, IsOkUnless, IsTrue, OnErr, OnOk, length, map, nat_eq, option_map, take, true, unwrap_or};
 ghost use Rattle.std.specs.List.{sum_by};
 ghost use Rattle.std.specs.Cmp.Lexicographic.{pointwise};
 ghost use Rattle.indexmap.specs.IndexMap.{get, values};
-ghost use Rattle.xet_io.specs.Faults.{HasCause};
 ghost use Rattle.xet_shard.specs.Held.{DifferBy, Held, IsHeld, Keyed, by_hash, held_shard, held_size, nothing, with_last};
 ghost use Rattle.xet_shard.specs.WriteRefusals.{IsWriteRefusal};
 ghost use Rattle.xet_shard_format.specs.RecordSizes.{file_record_size, xorb_record_size};
 ghost use Rattle.xet_shard_format.specs.Lookups.{all_lookups};
-ghost use Rattle.xet_shard_format.specs.Text.{Fits, IsShard, footer_of, full_text, header};
+ghost use Rattle.xet_shard_format.specs.Encoding.{Fits, IsShard, footer_of, full_shard_bytes, header};
 ghost use Rattle.xet_hash.specs.Hash.{marker};
 ghost use Rattle.xet_shard_format.specs.Records.{IsFile, IsXorb, file_hash, file_section, xorb_hash, xorb_section};
+ghost use Rattle.xet_io.specs.Frame.{Called};
 
 mod places;
 mod queries;
 
 use crate::info::MDBShardInfo;
-use crate::write::{write_shard, write_text};
+use crate::write::{write_bytes, write_shard};
 use indexmap::IndexMap;
 use places::{LastPlaces, put_block};
 use std::alloc::{AllocError, Global};
@@ -27,20 +27,20 @@ use xet_io::Sink;
 use xet_shard_format::section::Record;
 use xet_shard_format::{MDBFileInfo, MDBXorbInfo};
 
-/// The bytes of a shard of nothing.
+/// The length in bytes of a shard without records.
 const EMPTY_SIZE: u64 = 344;
 
-/// Files and xorbs that are to be written as a shard, each hash once. Contracts see them in the order
-/// in which they were added.
+/// Files and xorbs that are to be written as a shard, each hash once. Contracts see them in the order in
+/// which they were added.
 #[derive(Drop)]
 pub struct MDBInMemoryShard {
     /// The xorbs, in the order in which they were added.
     blocks: IndexMap<MerkleHash, MDBXorbInfo>,
     /// The files, in the order in which they were added.
     files: IndexMap<MerkleHash, MDBFileInfo>,
-    /// Where the chunks of the xorbs stand.
+    /// The last position of each chunk hash in the xorbs.
     places: LastPlaces,
-    /// The bytes of the shard that would be written.
+    /// The length in bytes of the shard that would be written.
     size: u64,
 }
 
@@ -62,7 +62,7 @@ impl Model for MDBInMemoryShard {
 }
 
 impl MDBInMemoryShard {
-    /// Nothing. It takes no memory.
+    /// A shard without records. Allocates nothing.
     pub fn new(alloc: Global) -> MDBInMemoryShard
         ensures { result ≡ nothing }
     {
@@ -74,28 +74,30 @@ impl MDBInMemoryShard {
         }
     }
 
-    /// Does nothing: what is always held is known after it.
+    /// Proof aid without effect: makes the invariant `IsHeld` available to the caller.
     pub fn known(&self)
         ensures { IsHeld self.now }
     {
         let _ = &self.blocks;
     }
 
-    /// Whether nothing is held.
+    /// Whether the shard has no records.
     pub fn is_empty(&self) -> bool
         ensures { IsTrue result ↔ (self.now ≡ nothing) }
     {
         self.blocks.is_empty() && self.files.is_empty()
     }
 
-    /// The bytes of the shard that is written of what is held.
+    /// The length in bytes of the shard that `serialize_from` writes.
     pub fn shard_file_size(&self) -> u64
         ensures { result ≡ held_size self.now }
     {
         self.size
     }
 
-    /// Adds a xorb, which takes the place of one of an equal hash.
+    /// Adds a xorb at the end, and removes one of an equal hash. The caller ensures that the record is well
+    /// formed, that its hash is not the sentinel, and that the section has fewer than 2^32 rows then. The
+    /// only error is `StoreError::OutOfMemory`; the shard is then unchanged.
     pub fn add_xorb_block(&mut self, block: MDBXorbInfo) -> Result<(), StoreError>
         requires form { IsXorb block }
         requires hash { xorb_hash block ≢ marker }
@@ -111,7 +113,8 @@ impl MDBInMemoryShard {
         Ok(())
     }
 
-    /// Adds a file, which takes the place of one of an equal hash.
+    /// Adds a file at the end, and removes one of an equal hash. The caller ensures the same as for
+    /// `add_xorb_block`. The only error is `StoreError::OutOfMemory`; the shard is then unchanged.
     pub fn add_file_reconstruction_info(&mut self, file: MDBFileInfo) -> Result<(), StoreError>
         requires form { IsFile file }
         requires hash { file_hash file ≢ marker }
@@ -127,9 +130,10 @@ impl MDBInMemoryShard {
         Ok(())
     }
 
-    /// Writes the shard of what is held to a sink: files and xorbs in rising order of hash, with all
-    /// look-ups and no key, under this moment of creation and this last moment at which it is valid, in
-    /// seconds, if there is one. It gives the header and the footer. A failing sink is `Io(Output)`.
+    /// Writes the shard to a sink, and returns its header and footer. Files and xorbs are in ascending order
+    /// of hash; all lookup tables are there, and there is no key. `creation` and `expiry` are in seconds
+    /// since the Unix epoch; with `None` the shard does not expire. The error is `Io(Output)` if the sink
+    /// failed, or `OutOfMemory`.
     pub fn serialize_from<W: Sink>(
         &self,
         alloc: Global,
@@ -137,31 +141,30 @@ impl MDBInMemoryShard {
         creation: u64,
         expiry: Option<u64>,
     ) -> Result<MDBShardInfo, StoreError>
-        ensures written { W.tells sink.old ≡ true → OnOk result (W.written sink.new ≡ W.written sink.old ++ full_text (held_shard self.now creation expiry)) }
-        // After a refusal a front of it was written.
-        ensures front { W.tells sink.old ≡ true → (n : ℕ) × (W.written sink.new ≡ W.written sink.old ++ take n (full_text (held_shard self.now creation expiry))) }
+        ensures written { W.tells sink.old ≡ true → OnOk result (W.written sink.new ≡ W.written sink.old ++ full_shard_bytes (held_shard self.now creation expiry)) }
+        // In every case a prefix of the encoding was written.
+        ensures front { W.tells sink.old ≡ true → (n : ℕ) × (W.written sink.new ≡ W.written sink.old ++ take n (full_shard_bytes (held_shard self.now creation expiry))) }
         ensures info { IfOk result (λ info. info ≡ record { header = header; metadata = footer_of all_lookups (held_shard self.now creation expiry) }) }
         ensures shard { OnOk result (IsShard (held_shard self.now creation expiry)) }
         ensures fits { OnOk result (Fits (held_shard self.now creation expiry)) }
-        ensures size { OnOk result (length (full_text (held_shard self.now creation expiry)) ≡ held_size self.now) }
+        ensures size { OnOk result (length (full_shard_bytes (held_shard self.now creation expiry)) ≡ held_size self.now) }
         ensures refusals { IfErr result IsWriteRefusal }
-        ensures cause { HasCause (W.faults sink.old) (W.faults sink.new) (IsErrOf result (StoreError.Io Place.Output)) }
-        ensures tells { W.tells sink.new ≡ W.tells sink.old }
+        ensures frame { Called W.tells W.faults sink.old sink.new (IsErrOf result (StoreError.Io Place.Output)) }
     {
-        let (text, info) = self.shard_text(alloc, creation, expiry)?;
-        write_text(sink, &text)?;
+        let (text, info) = self.shard_bytes(alloc, creation, expiry)?;
+        write_bytes(sink, &text)?;
         Ok(info)
     }
 
-    /// The text of the shard that `serialize_from` writes, its header and its footer. Where there is no
-    /// memory for it, the call fails with `StoreError::OutOfMemory`, and for no other reason.
-    pub fn shard_text(
+    /// Encodes the shard as `serialize_from` writes it, and also returns its header and footer. The only
+    /// error is `StoreError::OutOfMemory`.
+    pub fn shard_bytes(
         &self,
         alloc: Global,
         creation: u64,
         expiry: Option<u64>,
     ) -> Result<(Vec<u8>, MDBShardInfo), StoreError>
-        ensures text { IfOk result (λ x. x.0.items ≡ full_text (held_shard self.now creation expiry)) }
+        ensures text { IfOk result (λ x. x.0.items ≡ full_shard_bytes (held_shard self.now creation expiry)) }
         ensures info { IfOk result (λ x. x.1 ≡ record { header = header; metadata = footer_of all_lookups (held_shard self.now creation expiry) }) }
         ensures shard { OnOk result (IsShard (held_shard self.now creation expiry)) }
         ensures fits { OnOk result (Fits (held_shard self.now creation expiry)) }
@@ -174,11 +177,12 @@ impl MDBInMemoryShard {
     }
 }
 
-/// What adds bytes to a shard.
+/// A record that adds bytes to a shard.
 trait Measured {
     ghost use Rattle.std.specs.Prelude.{ℕ, ◌≡◌, ◌<◌, ◌^◌};
+    ghost use Rattle.xet_io.specs.Frame.{Called};
 
-    /// How many.
+    /// The number of these bytes.
     ghost size: { Self → ℕ };
 
     fn size(&self) -> u64
@@ -202,7 +206,7 @@ impl Measured for MDBFileInfo {
     }
 }
 
-/// Puts a record at the end, in the place of one of an equal hash.
+/// Adds a record at the end, and removes one of an equal hash. After an error the records are unchanged.
 fn put_last<X: Record>(table: &mut IndexMap<MerkleHash, X>, value: X) -> Result<(), AllocError>
     requires keyed { Keyed X.hash_of table.old.entries }
     requires differ { DifferBy X.hash_of (values table.old) }
@@ -219,7 +223,7 @@ fn put_last<X: Record>(table: &mut IndexMap<MerkleHash, X>, value: X) -> Result<
     }
 }
 
-/// The bytes that the record of a hash adds to a shard, 0 where there is none.
+/// The bytes that the record with a hash adds to a shard; 0 if there is none.
 fn size_at<X: Measured>(table: &IndexMap<MerkleHash, X>, hash: &MerkleHash) -> u64
     requires { sum_by X.size (values table.now) < 2 ^ 64 }
     ensures { result ≡ unwrap_or (option_map X.size (get (pointwise nat_eq) table.now hash.now)) 0 }
@@ -230,7 +234,7 @@ fn size_at<X: Measured>(table: &IndexMap<MerkleHash, X>, hash: &MerkleHash) -> u
     }
 }
 
-/// The records of a table in rising order of hash.
+/// The records of a table in ascending order of hash.
 fn by_hash<X: Record>(alloc: Global, table: &IndexMap<MerkleHash, X>) -> Result<Vec<&X>, AllocError>
     requires { DifferBy X.hash_of (values table.now) }
     ensures { IfOk result (λ records. map (λ x. x.now) records.items ≡ by_hash X.hash_of (values table.now)) }

@@ -1,4 +1,4 @@
-//! Laws over the definitions. Each is the contract of a call without parameters, which does nothing.
+//! Theorems about shards. Each is the contract of a function without parameters and without effect.
 
 ghost use Rattle.std.specs.Prelude.{◌≡◌, [], ◌∷◌, ◌<◌, ℕ, List, None, Ok, Option, length, nat_le, nat_lt};
 ghost use Rattle.std.specs.List.{All};
@@ -8,29 +8,29 @@ ghost use Rattle.xet_shard.specs.Sections.{blocks_in, chunk_lookup_in, files_in,
 ghost use Rattle.xet_shard.specs.Held.{Held, held_shard, held_size};
 ghost use Rattle.xet_shard.specs.Queries.{chunk_table, file_table, found_file, found_run, query_word, shard_file, shard_run, shard_run_at, told_run, xorb_table};
 ghost use Rattle.xet_shard_format.specs.Records.{first_word};
-ghost use Rattle.xet_shard_format.specs.Text.{Fits, IsShard, Shard, footer_of, full_text, header, shard_text};
+ghost use Rattle.xet_shard_format.specs.Encoding.{Fits, IsShard, Shard, footer_of, full_shard_bytes, header, shard_bytes};
 
 pub use xet_shard_format::laws::{bytes_determine_shard, what_is_read_is_a_shard, written_is_read};
 
-/// The length that is told of a shard in memory is that of its text.
+/// The length that a shard in memory reports is that of its encoding.
 pub fn size_is_length()
-    ensures { (h : Held) (creation : ℕ) (expiry : Option ℕ) → Fits (held_shard h creation expiry) → length (full_text (held_shard h creation expiry)) ≡ held_size h }
+    ensures { (h : Held) (creation : ℕ) (expiry : Option ℕ) → Fits (held_shard h creation expiry) → length (full_shard_bytes (held_shard h creation expiry)) ≡ held_size h }
 {}
 
-/// On the text of a shard, under its own footer, what is read of each part alone is that part, whichever
-/// look-ups stand.
+/// On the encoding of a well-formed shard, under its own footer, each part that is read on its own is the
+/// shard's, whichever lookup tables it has.
 pub fn parts_are_read()
-    ensures info { (w : Lookups) (s : Shard) → IsShard s → Fits s → info_at (shard_text w s) ≡ Ok (record { header = header; metadata = footer_of w s }) }
-    ensures files { (w : Lookups) (s : Shard) → IsShard s → Fits s → files_in (footer_of w s) (shard_text w s) ≡ Ok s.files }
-    ensures blocks { (w : Lookups) (s : Shard) → IsShard s → Fits s → blocks_in (footer_of w s) (shard_text w s) ≡ Ok s.blocks }
-    ensures xorb_lookup { (w : Lookups) (s : Shard) → IsShard s → Fits s → xorb_lookup_in (footer_of w s) (shard_text w s) ≡ Ok (xorb_items s.blocks) }
-    ensures chunk_lookup { (w : Lookups) (s : Shard) → IsShard s → Fits s → chunk_lookup_in (footer_of w s) (shard_text w s) ≡ Ok (chunk_items s.blocks) }
+    ensures info { (w : Lookups) (s : Shard) → IsShard s → Fits s → info_at (shard_bytes w s) ≡ Ok (record { header = header; metadata = footer_of w s }) }
+    ensures files { (w : Lookups) (s : Shard) → IsShard s → Fits s → files_in (footer_of w s) (shard_bytes w s) ≡ Ok s.files }
+    ensures blocks { (w : Lookups) (s : Shard) → IsShard s → Fits s → blocks_in (footer_of w s) (shard_bytes w s) ≡ Ok s.blocks }
+    ensures xorb_lookup { (w : Lookups) (s : Shard) → IsShard s → Fits s → xorb_lookup_in (footer_of w s) (shard_bytes w s) ≡ Ok (xorb_items s.blocks) }
+    ensures chunk_lookup { (w : Lookups) (s : Shard) → IsShard s → Fits s → chunk_lookup_in (footer_of w s) (shard_bytes w s) ≡ Ok (chunk_items s.blocks) }
 {}
 
-/// On the text of a shard, under its own footer, the questions are answered by what the shard holds,
-/// whichever look-ups stand: at every index that bisects a lookup table the answer is that of all its items.
+/// On the encoding of a well-formed shard, under its own footer, a query returns the shard's own result,
+/// whichever lookup tables it has. The result is the same at every index that bisects the table.
 pub fn questions_are_answered()
-    ensures file { (w : Lookups) (s : Shard) → IsShard s → Fits s → (h : List ℕ) (index : ℕ) → Bisects (λ i. nat_lt i.0 (first_word h)) (file_table (footer_of w s) (shard_text w s)) index → found_file (footer_of w s) h index (shard_text w s) ≡ shard_file s h }
-    ensures run { (w : Lookups) (s : Shard) → IsShard s → Fits s → (query : List (List ℕ)) (index : ℕ) → Bisects (λ i. nat_le i.0 (query_word (footer_of w s) query)) (chunk_table (footer_of w s) (shard_text w s)) index → found_run (footer_of w s) query index (shard_text w s) ≡ Ok (shard_run s query) }
-    ensures told { (w : Lookups) (s : Shard) → IsShard s → Fits s → (query : List (List ℕ)) (row place index : ℕ) → Bisects (λ i. nat_lt i.1 row) (xorb_table (footer_of w s) (shard_text w s)) index → told_run (footer_of w s) query row place index (shard_text w s) ≡ Ok (elim query [ [] ↦ None | h ∷ hs ↦ shard_run_at s (h ∷ hs) row place ]) }
+    ensures file { (w : Lookups) (s : Shard) → IsShard s → Fits s → (h : List ℕ) (index : ℕ) → Bisects (λ i. nat_lt i.0 (first_word h)) (file_table (footer_of w s) (shard_bytes w s)) index → found_file (footer_of w s) h index (shard_bytes w s) ≡ shard_file s h }
+    ensures run { (w : Lookups) (s : Shard) → IsShard s → Fits s → (query : List (List ℕ)) (index : ℕ) → Bisects (λ i. nat_le i.0 (query_word (footer_of w s) query)) (chunk_table (footer_of w s) (shard_bytes w s)) index → found_run (footer_of w s) query index (shard_bytes w s) ≡ Ok (shard_run s query) }
+    ensures told { (w : Lookups) (s : Shard) → IsShard s → Fits s → (query : List (List ℕ)) (row place index : ℕ) → Bisects (λ i. nat_lt i.1 row) (xorb_table (footer_of w s) (shard_bytes w s)) index → told_run (footer_of w s) query row place index (shard_bytes w s) ≡ Ok (elim query [ [] ↦ None | h ∷ hs ↦ shard_run_at s (h ∷ hs) row place ]) }
 {}

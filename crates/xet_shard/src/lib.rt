@@ -1,5 +1,5 @@
-//! Shards in memory and in readers: how they are read part by part, queried, exported under a key and joined. With
-//! all of their format.
+//! Shards in memory and behind readers: reading part by part, queries, export under a key, union.
+//! It also exports the types and functions of the shard format.
 #![tactic(auto)]
 
 mod export;

@@ -1,4 +1,4 @@
-//! Queries: a file by its hash, and the run of chunks that a list of hashes begins with.
+//! Queries: a file by its hash, and the run of chunks with which a list of hashes begins.
 
 pub mod bisection;
 pub mod file_record;

@@ -1,4 +1,4 @@
-//! Shards that are read from any reader, part by part.
+//! Reading of shards from any reader, part by part.
 
 pub mod byte_ranges;
 pub mod lookup_items;

@@ -3,15 +3,16 @@
 ghost use Rattle.std.specs.Prelude.{◌≡◌, ◌≢◌, ◌⊎◌, ◌≤◌, ◌<◌, ◌^◌, ◌++◌, [], Ok, true, false, max, IfErr, IfOk, IsErrOf, IsFalse, IsTrue, OnErr, OnOk, length, map};
 ghost use Rattle.std.specs.List.{AllByRecursion};
 ghost use Rattle.xet_io.specs.Faults.{HasCause, Rose};
-ghost use Rattle.xet_shard.specs.Merging.{AreOfShard, FirstAgrees, IsNoMerge, IsNoText, Rises, behind, below, not_below};
+ghost use Rattle.xet_shard.specs.internal.Merging.{AreOfShard, FirstAgrees, IsNoMerge, IsNoText, Rises, behind, below, not_below};
 ghost use Rattle.xet_codec.specs.Parsing.{GivesUnlessFault};
 ghost use Rattle.xet_shard_format.specs.Reading.{IsShardRefusal};
 ghost use Rattle.xet_shard_format.specs.Records.{section};
 ghost use Rattle.xet_shard.specs.Union.{Agree, HasUnionFront, IsKeyed, IsNoUnion, IsUnion, IsUnionRefusal, both_in, records_in, union};
+ghost use Rattle.xet_io.specs.Frame.{ReadFrom};
 
 use crate::info::MDBShardInfo;
 use crate::reader::sections::{blocks, files};
-use crate::write::{write_shard, write_text};
+use crate::write::{write_bytes, write_shard};
 use std::alloc::{AllocError, Global};
 use xet_hash::{HMACKey, MerkleHash, Place, Reason, StoreError};
 use xet_io::{ReadAt, Sink};
@@ -21,12 +22,13 @@ use xet_shard_format::{MDBFileInfo, MDBShardFileFooter, MDBXorbInfo};
 /// The xorbs and the files of a shard.
 type Records = (Vec<MDBXorbInfo>, Vec<MDBFileInfo>);
 
-/// Writes the full text of the shard of all xorbs and files of two shards, each hash once, without a key
-/// and without an expiry, created at the later of their moments, and gives its header and footer. The call
-/// fails with `InvalidArguments` where either is keyed, or where one hash has two different records; files
-/// and xorbs that are malformed are refused by the first check that fails, those of the first shard first.
-/// After these refusals nothing was written. A failing reader is `Io(Input)`, a failing sink `Io(Output)`;
-/// where no records differ, a section of 2^32 rows or more is `MalformedData(SectionPlace)`.
+/// Writes the shard of all xorbs and files of two shards, each hash once, with all lookup tables. It has no
+/// key and no expiry, and its creation time is the later of theirs. Returns its header and footer.
+/// The error is `InvalidArguments` if either shard is keyed, or if two different records have the same hash.
+/// If files or xorbs are malformed, the error is that of the first check that fails; the first shard is
+/// checked first. After these errors nothing was written. If no records differ, a section of 2^32 rows or
+/// more is `MalformedData(SectionPlace)`. The error is `Io(Input)` if a reader failed, and `Io(Output)` if
+/// the sink failed.
 pub fn shard_set_union<R: ReadAt, Q: ReadAt, W: Sink>(
     alloc: Global,
     first: &MDBShardInfo,
@@ -57,18 +59,18 @@ pub fn shard_set_union<R: ReadAt, Q: ReadAt, W: Sink>(
         return Err(StoreError::InvalidArguments);
     }
     let (ours, theirs) = both_records(alloc, &first.metadata, reader, &second.metadata, other)?;
-    let (text, info) = union_text(
+    let (text, info) = union_bytes(
         alloc,
         &ours,
         &theirs,
         first.metadata.shard_creation_timestamp,
         second.metadata.shard_creation_timestamp,
     )?;
-    write_text(sink, &text)?;
+    write_bytes(sink, &text)?;
     Ok(info)
 }
 
-/// Whether a shard's chunks are hashed again under a key.
+/// Whether a shard is keyed.
 fn is_keyed(f: &MDBShardFileFooter) -> bool
     ensures keyed { IsTrue result → IsKeyed f.now }
     ensures plain { IsFalse result → IsKeyed f.now → ⊥ }
@@ -76,7 +78,7 @@ fn is_keyed(f: &MDBShardFileFooter) -> bool
     f.chunk_hash_hmac_key != HMACKey::default()
 }
 
-/// The records of two shards, those of the first one first.
+/// The records of two shards. Those of the first are read first.
 fn both_records<R: ReadAt, Q: ReadAt>(
     alloc: Global,
     f: &MDBShardFileFooter,
@@ -99,7 +101,7 @@ fn both_records<R: ReadAt, Q: ReadAt>(
     Ok((ours, theirs))
 }
 
-/// The records of a shard: its files are read first.
+/// The records of a shard. Its files are read first.
 fn read_records<R: ReadAt>(
     alloc: Global,
     reader: &mut R,
@@ -108,18 +110,16 @@ fn read_records<R: ReadAt>(
     ensures exact { R.tells reader.old ≡ true → GivesUnlessFault (λ x. (x.0.items, x.1.items)) result (records_in f.now (R.bytes reader.old)) }
     ensures form { IfOk result (λ x. AreOfShard (x.0.items, x.1.items)) }
     ensures refusals { IfErr result IsShardRefusal }
-    ensures cause { HasCause (R.faults reader.old) (R.faults reader.new) (IsErrOf result (StoreError.Io Place.Input)) }
-    ensures same { R.bytes reader.new ≡ R.bytes reader.old }
-    ensures tells { R.tells reader.new ≡ R.tells reader.old }
+    ensures frame { ReadFrom R.bytes R.tells R.faults R.lent reader.old reader.new (IsErrOf result (StoreError.Io Place.Input)) }
 {
     let found = files(alloc, reader, f)?;
     let xorbs = blocks(alloc, reader, f)?;
     Ok((xorbs, found))
 }
 
-/// The text of the union of the records of two shards, created at the later of two moments, with its
-/// header and footer.
-fn union_text(
+/// The encoding of the union of the records of two shards, with its header and footer. `creation` and `other`
+/// are their creation times.
+fn union_bytes(
     alloc: Global,
     ours: &Records,
     theirs: &Records,
@@ -143,7 +143,7 @@ fn union_text(
     Ok(written)
 }
 
-/// Whether the section of these records has fewer than 2^32 rows.
+/// Whether the section of these records has fewer than 2^32 rows, the end row included.
 fn is_few<R: Record, T: Lends<R>>(records: &[T]) -> bool
     requires { AllByRecursion (λ r. length (R.rows_of r) < 2 ^ 32) (map T.lent records.now) }
     ensures few { IsTrue result → length (section R.rows_of (map T.lent records.now)) < 2 ^ 32 }
@@ -159,8 +159,8 @@ fn is_few<R: Record, T: Lends<R>>(records: &[T]) -> bool
     true
 }
 
-/// The union of two lists of records in rising order of hash. Where one hash has two different records,
-/// the call fails with `InvalidArguments`.
+/// The union of two lists of records in ascending order of hash. `InvalidArguments` if two different records
+/// have the same hash.
 fn merge<'a, R: Record>(
     alloc: Global,
     ours: &'a [R],
@@ -183,7 +183,7 @@ fn merge<'a, R: Record>(
     Ok(found)
 }
 
-/// Adds the records at the front of a lesser hash, and gives those behind them.
+/// Appends the first records, those with a hash below `hash`, and returns the records after them.
 fn push_below<'a, R: Record>(
     found: &mut Vec<&'a R>,
     records: &'a [R],
@@ -204,7 +204,8 @@ fn push_below<'a, R: Record>(
     Ok(rest)
 }
 
-/// The records without the first one where it is this record. It may not be another one of its hash.
+/// The records without the first one, if that is `this`. `InvalidArguments` if it is another record with the
+/// same hash.
 fn behind<'a, R: Record>(this: &R, records: &'a [R]) -> Result<&'a [R], StoreError>
     ensures rest { IfOk result (λ rest. rest.now ≡ behind R.hash_of (R.hash_of this.now) records.now) }
     ensures agrees { OnOk result (FirstAgrees R.hash_of this.now records.now) }
@@ -223,7 +224,7 @@ fn behind<'a, R: Record>(this: &R, records: &'a [R]) -> Result<&'a [R], StoreErr
     Ok(others)
 }
 
-/// Adds all records.
+/// Appends all records.
 fn push_all<'a, R: Record>(found: &mut Vec<&'a R>, records: &'a [R]) -> Result<(), AllocError>
     ensures { OnOk result (map (λ r. r.now) found.new.items ≡ map (λ r. r.now) found.old.items ++ records.now) }
 {

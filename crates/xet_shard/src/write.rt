@@ -1,11 +1,11 @@
-//! Shards that are written: with all look-ups, and to a sink.
+//! Encoding of a shard with all lookup tables, and writing to a sink.
 
 ghost use Rattle.std.specs.Prelude.{◌≡◌, ◌<◌, ◌+◌, ◌*◌, ◌^◌, ◌++◌, ℕ, IfErr, IfOk, IsErrOf, IsOkUnless, OnOk, None, cond, length, map, take, true};
-ghost use Rattle.xet_io.specs.Faults.{HasCause};
 ghost use Rattle.xet_shard.specs.WriteRefusals.{IsWriteRefusal};
 ghost use Rattle.xet_shard_format.specs.Records.{AreRecords, IsFile, IsXorb, file_hash, file_section, xorb_hash, xorb_section};
 ghost use Rattle.xet_shard_format.specs.Lookups.{all_lookups};
-ghost use Rattle.xet_shard_format.specs.Text.{Fits, IsShardText, footer_of, full_text, header, shard};
+ghost use Rattle.xet_shard_format.specs.Encoding.{Fits, IsShardEncoding, footer_of, full_shard_bytes, header, shard};
+ghost use Rattle.xet_io.specs.Frame.{Called};
 
 use crate::info::MDBShardInfo;
 use std::alloc::Global;
@@ -16,10 +16,10 @@ use xet_shard_format::header_footer::HEADER;
 use xet_shard_format::shard_encoding::{ALL_LOOKUPS, write_with_lookups};
 use xet_shard_format::{MDBFileInfo, MDBXorbInfo};
 
-/// The full text of a shard with these xorbs and files, in the order in which they are given, with its
-/// header and footer. It is a shard where the records have the form and their hashes rise. The memory of
-/// the text is taken once, for its exact length. Where there is none, the call fails with
-/// `StoreError::OutOfMemory`, and for no other reason.
+/// Encodes the shard with these xorbs and files, in the given order, with all lookup tables; also returns its
+/// header and footer. The result is a well-formed shard if the records are well formed and their hashes
+/// ascend. The caller ensures that each section has fewer than 2^32 rows, the end row included. The buffer of
+/// the result is allocated once, with the exact length. The only error is `StoreError::OutOfMemory`.
 pub fn write_shard(
     alloc: Global,
     blocks: &[&MDBXorbInfo],
@@ -30,12 +30,12 @@ pub fn write_shard(
 ) -> Result<(Vec<u8>, MDBShardInfo), StoreError>
     requires few_files { length (file_section (map (λ f. f.now) files.now)) < 2 ^ 32 }
     requires few_blocks { length (xorb_section (map (λ x. x.now) blocks.now)) < 2 ^ 32 }
-    ensures text { IfOk result (λ x. x.0.items ≡ full_text (shard (map (λ x. x.now) blocks.now) (map (λ f. f.now) files.now) key creation expiry)) }
+    ensures text { IfOk result (λ x. x.0.items ≡ full_shard_bytes (shard (map (λ x. x.now) blocks.now) (map (λ f. f.now) files.now) key creation expiry)) }
     ensures info { IfOk result (λ x. x.1 ≡ record { header = header; metadata = footer_of all_lookups (shard (map (λ x. x.now) blocks.now) (map (λ f. f.now) files.now) key creation expiry) }) }
     ensures fits { OnOk result (Fits (shard (map (λ x. x.now) blocks.now) (map (λ f. f.now) files.now) key creation expiry)) }
-    // Where the records have the form and rise, what is written is a shard.
+    // If the records are well formed and their hashes ascend, the bytes are a shard.
     ensures shard { AreRecords xorb_hash IsXorb None (map (λ x. x.now) blocks.now) → AreRecords file_hash IsFile None (map (λ f. f.now) files.now)
-        → IfOk result (λ x. IsShardText x.0.items (shard (map (λ x. x.now) blocks.now) (map (λ f. f.now) files.now) key creation expiry)) }
+        → IfOk result (λ x. IsShardEncoding x.0.items (shard (map (λ x. x.now) blocks.now) (map (λ f. f.now) files.now) key creation expiry)) }
     ensures memory { IsOkUnless result StoreError.OutOfMemory }
 {
     let (text, metadata) = write_with_lookups::<&MDBXorbInfo, &MDBFileInfo>(
@@ -51,13 +51,13 @@ pub fn write_shard(
     Ok((text, MDBShardInfo { header, metadata }))
 }
 
-/// Gives the text of a shard to a sink.
-pub(crate) fn write_text<W: Sink>(sink: &mut W, text: &[u8]) -> Result<(), StoreError>
+/// Writes the bytes of a shard to a sink. In every case a prefix of them was written. The error is
+/// `Io(Output)` if the sink failed, or `OutOfMemory`.
+pub(crate) fn write_bytes<W: Sink>(sink: &mut W, text: &[u8]) -> Result<(), StoreError>
     ensures whole { W.tells sink.old ≡ true → OnOk result (W.written sink.new ≡ W.written sink.old ++ text.now) }
     ensures front { W.tells sink.old ≡ true → (n : ℕ) × (W.written sink.new ≡ W.written sink.old ++ take n text.now) }
     ensures refusals { IfErr result IsWriteRefusal }
-    ensures cause { HasCause (W.faults sink.old) (W.faults sink.new) (IsErrOf result (StoreError.Io Place.Output)) }
-    ensures tells { W.tells sink.new ≡ W.tells sink.old }
+    ensures frame { Called W.tells W.faults sink.old sink.new (IsErrOf result (StoreError.Io Place.Output)) }
 {
     match write_piece(sink, text) {
         Ok(()) => Ok(()),

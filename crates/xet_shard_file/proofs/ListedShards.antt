@@ -27,7 +27,7 @@ use Rattle.xet_shard_file.specs.declared.listing.NamedShard.{NamedShard}
 use Rattle.xet_shard_file.specs.declared.listing.ShardEntry.{ShardEntry}
 use Rattle.xet_shard_file.specs.Entries.{IsBefore, IsEntry, ListsShards}
 use Rattle.xet_shard_file.specs.Names.{IsHash, shard_path}
-use Rattle.xet_shard_file.specs.Picking.{Picks, name_order, named}
+use Rattle.xet_shard_file.specs.internal.Picking.{Picks, name_order, named}
 use Rattle.xet_shard_file.specs.theorems.Names.{name_determines}
 
 -- ---- a shard's name has no slash
@@ -61,9 +61,9 @@ plain_name h = plain_text (shown_words h 4) (codes ".mdb") refl
 
 -- ---- what is picked
 
-stamp_of : (o : Option File) (n s : ℕ) → stat_of o ≡ Some (n, s) → option_map (λ (f : File). f.stamp) o ≡ Some s
-stamp_of None n s e = absurd (cc e)
-stamp_of (Some f) n s e = let pair : ◌≡◌ {A = ℕ × ℕ} (length f.bytes, f.stamp) (n, s) = cc e in ap (λ (p : ℕ × ℕ). Some p.1) pair
+modified_of : (o : Option File) (n s : ℕ) → stat_of o ≡ Some (n, s) → option_map (λ (f : File). f.modified) o ≡ Some s
+modified_of None n s e = absurd (cc e)
+modified_of (Some f) n s e = let pair : ◌≡◌ {A = ℕ × ℕ} (length f.bytes, f.modified) (n, s) = cc e in ap (λ (p : ℕ × ℕ). Some p.1) pair
 
 pub record IsNamed (files : Files) (folder : List ℕ) (n : NamedShard) : Type 0 where
   pub name : n.name ≡ shard_name n.entry.hash
@@ -73,9 +73,9 @@ module _ (files : Files) (folder : List ℕ) where
   picked_there : (ds : List DiskEntry) (out : List NamedShard) → AllByRecursion (IsListed files folder) ds → Picks ds out → AllByRecursion (IsNamed files folder) out
   picked_there [] out listed none = subst (λ (l : List NamedShard). AllByRecursion (IsNamed files folder) l) (sym none) tt
   picked_there (d ∷ ds) out listed (inl (h, rest, is, name, adds, more)) =
-      let at : stat_of (file_at files (shard_path folder h)) ≡ Some (d.length, d.stamp) = subst (λ (n : List ℕ). stat_of (file_at files (in_folder folder n)) ≡ Some (d.length, d.stamp)) name listed.0.1 in
+      let at : stat_of (file_at files (shard_path folder h)) ≡ Some (d.length, d.modified) = subst (λ (n : List ℕ). stat_of (file_at files (in_folder folder n)) ≡ Some (d.length, d.modified)) name listed.0.1 in
       subst (λ (l : List NamedShard). AllByRecursion (IsNamed files folder) l) (sym adds)
-      (record { name = name; entry = record { named = is; there = stamp_of (file_at files (shard_path folder h)) d.length d.stamp at } }, picked_there ds rest listed.1 more)
+      (record { name = name; entry = record { named = is; there = modified_of (file_at files (shard_path folder h)) d.length d.modified at } }, picked_there ds rest listed.1 more)
   picked_there (d ∷ ds) out listed (inr (never, more)) = picked_there ds out listed.1 more
 
 abbrev Has : List NamedShard → List ℕ → Type 0
@@ -163,7 +163,7 @@ once_by (d ∷ ds) once = (
 -- ---- the order
 
 pub order_total : IsTotalOrder name_order
-order_total = then_total (back_total (on_total (λ (n : NamedShard). n.entry.stamp) nat_cmp_total)) (on_total (λ (n : NamedShard). n.name) nat_list_cmp_total)
+order_total = then_total (back_total (on_total (λ (n : NamedShard). n.entry.modified) nat_cmp_total)) (on_total (λ (n : NamedShard). n.name) nat_list_cmp_total)
 
 text_less : (a b : List ℕ) (o : Ordering) → slice_cmp nat_cmp b a ≡ o → is_lt o ≡ false → a ≢ b → IsTrue (is_lt (slice_cmp nat_cmp a b))
 text_less a b Less e less apart = absurd (cc less)
@@ -174,7 +174,7 @@ text_less a b Greater e less apart =
 
 before_of : (a b : NamedShard) → is_lt (name_order b a) ≡ false → a.name ≢ b.name → a.name ≡ shard_name a.entry.hash → b.name ≡ shard_name b.entry.hash → IsBefore a.entry b.entry
 before_of a b less apart name_a name_b =
-    by_ranked (a.entry.stamp < b.entry.stamp) (a.entry.stamp ≡ b.entry.stamp) (b.entry.stamp < a.entry.stamp) (nat_cmp a.entry.stamp b.entry.stamp) (ranked a.entry.stamp b.entry.stamp _ refl)
+    by_ranked (a.entry.modified < b.entry.modified) (a.entry.modified ≡ b.entry.modified) (b.entry.modified < a.entry.modified) (nat_cmp a.entry.modified b.entry.modified) (ranked a.entry.modified b.entry.modified _ refl)
     (λ e lt. let bad : is_lt (ordering_then Less (slice_cmp nat_cmp b.name a.name)) ≡ false = subst (λ (o : Ordering). is_lt (ordering_then o (slice_cmp nat_cmp b.name a.name)) ≡ false) e less in absurd (cc bad))
     (λ e same.
     let less2 : is_lt (slice_cmp nat_cmp b.name a.name) ≡ false = subst (λ (o : Ordering). is_lt (ordering_then o (slice_cmp nat_cmp b.name a.name)) ≡ false) e less in

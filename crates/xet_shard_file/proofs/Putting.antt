@@ -26,8 +26,8 @@ module _ (old new : Files) (temp name bytes : List ℕ) where
   pub put_there : IsPut old temp name bytes new → bytes_at new name ≡ Some bytes
   put_there done = ap (λ (o : Option Entry). option_map (λ (f : File). f.bytes) (file_of o)) (at_name done)
 
-  pub put_stable : IsPut old temp name bytes new → option_map (λ (e : Entry). e.stable) (get new name) ≡ Some true
-  put_stable done = ap (λ (o : Option Entry). option_map (λ (e : Entry). e.stable) o) (at_name done)
+  pub put_durable : IsPut old temp name bytes new → option_map (λ (e : Entry). e.durable) (get new name) ≡ Some true
+  put_durable done = ap (λ (o : Option Entry). option_map (λ (e : Entry). e.durable) o) (at_name done)
 
   gone : get (remove old temp) temp ≡ None
   gone = get-remove nat_list_cmp_total old temp temp ∙ ap (λ b. cond b None (get old temp)) (is_name_self temp)
@@ -42,4 +42,4 @@ module _ (old new : Files) (temp name bytes : List ℕ) where
   -- refused, the name is as before, or the put is done
   pub put_refused : temp ≡ temp_name name → IsPutOrKept old temp name bytes new → IsKeptOrDone old new name bytes
   put_refused is (inl kept) = inl (kept name (λ same. temp_apart name (sym is ∙ sym same)))
-  put_refused is (inr done) = inr (record { there = put_there done; stable = put_stable done; temp = put_gone is done })
+  put_refused is (inr done) = inr (record { there = put_there done; durable = put_durable done; temp = put_gone is done })

@@ -1,4 +1,4 @@
--- The names of shards' files.
+-- Paths of shard files and names of temporary files.
 use Rattle.std.specs.Prelude.{◌≡◌, ◌≢◌, ℕ, List, length, ◌++◌, codes}
 use Rattle.hex.specs.Hex.{IsBytes}
 use Rattle.xet_io.specs.Named.{in_folder}
@@ -11,6 +11,6 @@ IsHash h = (length h ≡ 32) × IsBytes h
 abbrev pub shard_path : List ℕ → List ℕ → List ℕ
 shard_path folder h = in_folder folder (shard_name h)
 
--- the name under which a file is written before it has its own
+-- the temporary name, under which a file is written before it is renamed
 abbrev pub temp_name : List ℕ → List ℕ
 temp_name name = name ++ codes "_temp"

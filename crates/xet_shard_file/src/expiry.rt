@@ -1,4 +1,4 @@
-//! The expiry of a shard, by the ends of its file alone.
+//! The expiry of a shard file, read from its header and footer alone.
 
 ghost use Rattle.std.specs.Prelude.{◌≡◌, ◌<◌, ◌≤◌, ◌+◌, ◌^◌, ℕ, IfErr, IfOk, IsTrue, List, Some, Err, length, true};
 ghost use Rattle.xet_io.specs.Disk.{FillsFrom, bytes_at};
@@ -6,28 +6,28 @@ ghost use Rattle.xet_shard_format.specs.Reading.{ends_of};
 ghost use Rattle.xet_shard_file.specs.Refusals.{IsCheckRefusal, EndsFail, IsShardError};
 ghost use Rattle.xet_codec.specs.Stops.{HasDiskReason};
 ghost use Rattle.xet_shard_file.specs.Shards.{is_expired};
+ghost use Rattle.xet_io.specs.Frame.{Unchanged};
 
 use xet_codec::store_error;
 use xet_hash::StoreError;
 use xet_io::{Disk, read_file_at};
 use xet_shard_format::read_footer_of_ends;
 
-/// The bytes of a shard's footer.
+/// The length of a footer in bytes.
 const FOOTER_LEN: u64 = 200;
 
-/// The bytes of a shard's header and footer.
+/// The length of a header and a footer in bytes.
 const ENDS_LEN: u64 = 248;
 
-/// Whether a moment is past the expiry of the shard of a name. Only its header and its footer are read;
-/// where they are malformed, their first check that fails is the error. False where there is no file, or
-/// one that is shorter than a header and a footer.
+/// Whether the time `now` is past the expiry of the shard file `name`, both in seconds since the Unix epoch.
+/// Only its header and its footer are read. False if there is no file, or if it is shorter than a header and
+/// a footer. If these are malformed, the error is that of the first check that fails; a failed disk is
+/// `Io(Disk)`.
 pub fn is_past_expiry<D: Disk>(disk: &mut D, name: &str, now: u64) -> Result<bool, StoreError>
     ensures told { D.tells disk.old ≡ true → IfOk result (λ past. IsTrue past → (bytes : List ℕ) → bytes_at (D.files disk.old) name.now ≡ Some bytes → is_expired now bytes ≡ true) }
     ensures refused { IfErr result (IsCheckRefusal (D.tells disk.old ≡ true) (EndsFail (bytes_at (D.files disk.old) name.now)) (D.faults disk.old) (D.faults disk.new)) }
     ensures error { (shard : List ℕ) → IfErr result (IsShardError shard) }
-    ensures same { D.files disk.new ≡ D.files disk.old }
-    ensures tells { D.tells disk.new ≡ D.tells disk.old }
-    ensures later { D.faults disk.old ≤ D.faults disk.new }
+    ensures frame { Unchanged D.files D.tells D.faults disk.old disk.new }
 {
     match disk.stat(name) {
         Ok(Some((len, _))) => {
@@ -41,15 +41,13 @@ pub fn is_past_expiry<D: Disk>(disk: &mut D, name: &str, now: u64) -> Result<boo
     }
 }
 
-/// The same of a file of so many bytes.
+/// `is_past_expiry` for a file of `len` bytes.
 fn is_past_in<D: Disk>(disk: &mut D, name: &str, len: u64, now: u64) -> Result<bool, StoreError>
     requires { 248 ≤ len }
     ensures told { D.tells disk.old ≡ true → IfOk result (λ past. IsTrue past → (bytes : List ℕ) → bytes_at (D.files disk.old) name.now ≡ Some bytes → len ≡ length bytes → is_expired now bytes ≡ true) }
     ensures refused { IfErr result (IsCheckRefusal (D.tells disk.old ≡ true) (λ e. (bytes : List ℕ) → bytes_at (D.files disk.old) name.now ≡ Some bytes → len ≡ length bytes → ends_of bytes ≡ Err e) (D.faults disk.old) (D.faults disk.new)) }
     ensures error { (shard : List ℕ) → IfErr result (IsShardError shard) }
-    ensures same { D.files disk.new ≡ D.files disk.old }
-    ensures tells { D.tells disk.new ≡ D.tells disk.old }
-    ensures later { D.faults disk.old ≤ D.faults disk.new }
+    ensures frame { Unchanged D.files D.tells D.faults disk.old disk.new }
 {
     let mut first = [0; 48];
     let mut last = [0; 200];
@@ -63,15 +61,13 @@ fn is_past_in<D: Disk>(disk: &mut D, name: &str, len: u64, now: u64) -> Result<b
     Ok(footer.shard_key_expiry < now)
 }
 
-/// Fills `buf` with a file's bytes from place `at` on. False where there is no file, or it ends before.
+/// Fills `buf` with the file's bytes at offset `at`. False if there is no file, or if it ends before.
 fn fill<D: Disk>(disk: &mut D, name: &str, at: u64, buf: &mut [u8]) -> Result<bool, StoreError>
     requires some { 0 < length buf.old }
     requires fits { at + length buf.old < 2 ^ 64 }
     ensures told { D.tells disk.old ≡ true → IfOk result (FillsFrom (bytes_at (D.files disk.old) name.now) at buf.new) }
     ensures len { length buf.new ≡ length buf.old }
-    ensures same { D.files disk.new ≡ D.files disk.old }
-    ensures tells { D.tells disk.new ≡ D.tells disk.old }
-    ensures later { D.faults disk.old ≤ D.faults disk.new }
+    ensures frame { Unchanged D.files D.tells D.faults disk.old disk.new }
     ensures reason { IfErr result (HasDiskReason (D.faults disk.old) (D.faults disk.new)) }
 {
     match read_file_at(disk, name, at, buf) {

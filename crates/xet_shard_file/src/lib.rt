@@ -1,4 +1,4 @@
-//! Shards as files of a folder: their names, how they are listed and put, and when they are valid.
+//! Shard files in a folder: their paths, how they are listed and written, and when they have expired.
 #![tactic(auto)]
 
 mod expiry;
@@ -9,4 +9,4 @@ mod put;
 pub use expiry::is_past_expiry;
 pub use listing::{ShardEntry, list_shards};
 pub use names::{known_bytes, shard_path};
-pub use put::{put_shard_file, put_text};
+pub use put::{put_named_file, put_shard_file};

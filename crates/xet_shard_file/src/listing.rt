@@ -1,10 +1,11 @@
-//! The shards of a store's folder, as they are listed.
+//! The listing of the shard files in a folder.
 
 ghost use Rattle.std.specs.Prelude.{◌≡◌, ◌≤◌, true, IfErr, IfOk, map};
 ghost use Rattle.std.specs.List.Sorted.{IsPermutation, IsSorted};
 ghost use Rattle.xet_shard_file.specs.Entries.{ListsShards};
-ghost use Rattle.xet_shard_file.specs.Picking.{Picks, name_order};
+ghost use Rattle.xet_shard_file.specs.internal.Picking.{Picks, name_order};
 ghost use Rattle.xet_codec.specs.Stops.{HasDiskReason};
+ghost use Rattle.xet_io.specs.Frame.{Unchanged};
 
 use crate::names::known_bytes;
 use std::alloc::{AllocError, Global};
@@ -15,33 +16,32 @@ use xet_hash::{MerkleHash, StoreError};
 use xet_io::{Disk, DiskEntry};
 use xet_shard_format::parse_shard_filename;
 
-/// A file of the folder under a shard's name.
+/// A file in the folder with the name of a shard.
 #[derive(Clone, Copy, PartialEq, Eq, Debug)]
 pub struct ShardEntry {
-    /// The digest that its name tells.
+    /// The hash in its name.
     pub hash: MerkleHash,
-    /// Its stamp.
-    pub stamp: u64,
+    /// Its modification time.
+    pub modified: u64,
 }
 
-/// The same with its own name.
+/// A listed shard file, with its file name.
 #[derive(Debug, Drop)]
 struct NamedShard {
     name: Text,
     entry: ShardEntry,
 }
 
-/// All files of a folder under shards' names: the newest stamp first, and of one stamp the lowest name
-/// first. A lacking folder has none.
+/// All files in a folder that have the name of a shard: the newest modification time first, equal times by
+/// the lowest name. A folder that does not exist has none. The error is `Io(Disk)` if the disk failed, or
+/// `OutOfMemory`.
 pub fn list_shards<D: Disk>(
     disk: &mut D,
     alloc: Global,
     folder: &str,
 ) -> Result<Vec<ShardEntry>, StoreError>
     ensures told { D.tells disk.old ≡ true → IfOk result (λ entries. ListsShards (D.files disk.old) folder.now entries.items) }
-    ensures same { D.files disk.new ≡ D.files disk.old }
-    ensures tells { D.tells disk.new ≡ D.tells disk.old }
-    ensures later { D.faults disk.old ≤ D.faults disk.new }
+    ensures frame { Unchanged D.files D.tells D.faults disk.old disk.new }
     ensures reason { IfErr result (HasDiskReason (D.faults disk.old) (D.faults disk.new)) }
 {
     match disk.list(alloc, folder) {
@@ -53,7 +53,7 @@ pub fn list_shards<D: Disk>(
     }
 }
 
-/// Those that have a shard's name.
+/// The listed files that have the name of a shard.
 fn named_shards(alloc: Global, listed: Vec<DiskEntry>) -> Result<Vec<NamedShard>, AllocError>
     ensures { IfOk result (λ named. Picks listed.items named.items) }
 {
@@ -65,7 +65,7 @@ fn named_shards(alloc: Global, listed: Vec<DiskEntry>) -> Result<Vec<NamedShard>
                 name: file.name,
                 entry: ShardEntry {
                     hash,
-                    stamp: file.stamp,
+                    modified: file.modified,
                 },
             })?;
         }
@@ -73,7 +73,7 @@ fn named_shards(alloc: Global, listed: Vec<DiskEntry>) -> Result<Vec<NamedShard>
     Ok(named)
 }
 
-/// The same in their order.
+/// Sorts the files by `name_order`.
 fn in_order(mut named: Vec<NamedShard>) -> Vec<NamedShard>
     ensures permutation { IsPermutation named.items result.items }
     ensures sorted { IsSorted name_order result.items }
@@ -82,17 +82,17 @@ fn in_order(mut named: Vec<NamedShard>) -> Vec<NamedShard>
     named
 }
 
-/// A newer stamp comes first, and of one stamp the lower name.
+/// A newer modification time comes first; equal times are ordered by name.
 fn name_order(a: &NamedShard, b: &NamedShard) -> Ordering
     ensures { result ≡ name_order a.now b.now }
 {
     b.entry
-        .stamp
-        .cmp(&a.entry.stamp)
+        .modified
+        .cmp(&a.entry.modified)
         .then(a.name.as_str().cmp(b.name.as_str()))
 }
 
-/// Without their names.
+/// The entries of these files.
 fn entries_of(alloc: Global, named: &[NamedShard]) -> Result<Vec<ShardEntry>, AllocError>
     ensures { IfOk result (λ entries. entries.items ≡ map (λ n. n.entry) named.now) }
 {

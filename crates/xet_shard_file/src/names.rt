@@ -1,4 +1,4 @@
-//! The names of shards' files in a folder.
+//! Paths of shard files.
 
 ghost use Rattle.std.specs.Prelude.{◌≡◌, IfOk, IsOkUnless, length, string_bytes};
 ghost use Rattle.hex.specs.Hex.{IsBytes};
@@ -8,7 +8,8 @@ use std::alloc::Global;
 use xet_hash::{MerkleHash, StoreError};
 use xet_shard_format::shard_file_name;
 
-/// The name of a shard's file in a folder.
+/// The path of a shard file: the folder, a slash, and the file name of the hash. The only error is
+/// `StoreError::OutOfMemory`.
 pub fn shard_path(alloc: Global, folder: &str, hash: &MerkleHash) -> Result<String, StoreError>
     ensures path { IfOk result (λ path. string_bytes path ≡ shard_path folder.now hash.now) }
     ensures memory { IsOkUnless result StoreError.OutOfMemory }
@@ -17,7 +18,7 @@ pub fn shard_path(alloc: Global, folder: &str, hash: &MerkleHash) -> Result<Stri
     Ok(format!(in alloc; "{folder}/{name}")?)
 }
 
-/// Does nothing: that a hash is 32 bytes is known after it.
+/// Proof aid without effect: a hash is 32 bytes.
 pub fn known_bytes(hash: &MerkleHash)
     ensures length { length hash.now ≡ 32 }
     ensures bytes { IsBytes hash.now }
@@ -25,7 +26,7 @@ pub fn known_bytes(hash: &MerkleHash)
     known_array(hash.as_bytes());
 }
 
-/// The same, of an array.
+/// Proof aid without effect: such an array is 32 bytes.
 fn known_array(bytes: &[u8; 32])
     ensures length { length bytes.now ≡ 32 }
     ensures bytes { IsBytes bytes.now }
@@ -33,7 +34,7 @@ fn known_array(bytes: &[u8; 32])
     known_slice(bytes.as_slice());
 }
 
-/// The same, of a slice, but for its length.
+/// Proof aid without effect: the elements of a slice of bytes are below 256.
 fn known_slice(bytes: &[u8])
     ensures { IsBytes bytes.now }
 {

@@ -1,4 +1,4 @@
-//! Shards' files that are put into a folder.
+//! Durable writing of shard files.
 
 ghost use Rattle.std.specs.Prelude.{◌≡◌, ◌≢◌, ◌≤◌, ℕ, List, true, OnErr, OnOk, IfErr, Some, None, option_map};
 ghost use Rattle.std.specs.FinMap.{get};
@@ -6,6 +6,7 @@ ghost use Rattle.xet_io.specs.Disk.{bytes_at};
 ghost use Rattle.xet_shard_file.specs.Names.{IsHash, shard_path, temp_name};
 ghost use Rattle.xet_shard_file.specs.Puts.{IsKeptOrDone};
 ghost use Rattle.xet_codec.specs.Stops.{HasDiskReason};
+ghost use Rattle.xet_io.specs.Frame.{Stays};
 
 use crate::names::{known_bytes, shard_path};
 use std::alloc::Global;
@@ -13,8 +14,10 @@ use xet_codec::store_error;
 use xet_hash::{MerkleHash, StoreError};
 use xet_io::{Disk, put_file};
 
-/// Puts the text of a shard under its name, so that a crash keeps it. Refused, the file of that name is as it was, or
-/// is done; what is left under the temporary name is no xorb's and no shard's.
+/// Writes the bytes of a shard under the name of its hash, durably, and leaves no temporary file. The caller
+/// passes the hash; it is not compared with the bytes. After an error the file is as it was, or the write has
+/// completed; a temporary file may be left. No other file changes; in particular no file of another shard.
+/// The error is `Io(Disk)` if the disk failed, or `OutOfMemory`.
 pub fn put_shard_file<D: Disk>(
     disk: &mut D,
     alloc: Global,
@@ -23,34 +26,34 @@ pub fn put_shard_file<D: Disk>(
     text: &[u8],
 ) -> Result<(), StoreError>
     ensures there { D.tells disk.old ≡ true → OnOk result (bytes_at (D.files disk.new) (shard_path folder.now hash.now) ≡ Some text.now) }
-    ensures stable { D.tells disk.old ≡ true → OnOk result (option_map (λ e. e.stable) (get (D.files disk.new) (shard_path folder.now hash.now)) ≡ Some true) }
+    ensures durable { D.tells disk.old ≡ true → OnOk result (option_map (λ e. e.durable) (get (D.files disk.new) (shard_path folder.now hash.now)) ≡ Some true) }
     ensures temp { D.tells disk.old ≡ true → OnOk result (get (D.files disk.new) (temp_name (shard_path folder.now hash.now)) ≡ None) }
     ensures refused { D.tells disk.old ≡ true → OnErr result (IsKeptOrDone (D.files disk.old) (D.files disk.new) (shard_path folder.now hash.now) text.now) }
     ensures shards { D.tells disk.old ≡ true → (h : List ℕ) → IsHash h → h ≢ hash.now → get (D.files disk.new) (shard_path folder.now h) ≡ get (D.files disk.old) (shard_path folder.now h) }
     ensures others { D.tells disk.old ≡ true → (other : List ℕ) → other ≢ shard_path folder.now hash.now → other ≢ temp_name (shard_path folder.now hash.now) → get (D.files disk.new) other ≡ get (D.files disk.old) other }
-    ensures tells { D.tells disk.new ≡ D.tells disk.old }
-    ensures later { D.faults disk.old ≤ D.faults disk.new }
+    ensures frame { Stays D.tells D.faults disk.old disk.new }
     ensures reason { IfErr result (HasDiskReason (D.faults disk.old) (D.faults disk.new)) }
 {
     known_bytes(hash);
     let path = shard_path(alloc, folder, hash)?;
-    put_text(disk, alloc, path.as_str(), text)
+    put_named_file(disk, alloc, path.as_str(), text)
 }
 
-/// Puts bytes under a name, so that a crash keeps them. Refused, the file of that name is as it was, or is done.
-pub fn put_text<D: Disk>(
+/// Writes bytes under a name, durably, through the temporary file `name` followed by `_temp`, and leaves no
+/// temporary file. After an error the file is as it was, or the write has completed; a temporary file may be
+/// left. The error is `Io(Disk)` if the disk failed, or `OutOfMemory`.
+pub fn put_named_file<D: Disk>(
     disk: &mut D,
     alloc: Global,
     name: &str,
     text: &[u8],
 ) -> Result<(), StoreError>
     ensures there { D.tells disk.old ≡ true → OnOk result (bytes_at (D.files disk.new) name.now ≡ Some text.now) }
-    ensures stable { D.tells disk.old ≡ true → OnOk result (option_map (λ e. e.stable) (get (D.files disk.new) name.now) ≡ Some true) }
+    ensures durable { D.tells disk.old ≡ true → OnOk result (option_map (λ e. e.durable) (get (D.files disk.new) name.now) ≡ Some true) }
     ensures temp { D.tells disk.old ≡ true → OnOk result (get (D.files disk.new) (temp_name name.now) ≡ None) }
     ensures refused { D.tells disk.old ≡ true → OnErr result (IsKeptOrDone (D.files disk.old) (D.files disk.new) name.now text.now) }
     ensures others { D.tells disk.old ≡ true → (other : List ℕ) → other ≢ name.now → other ≢ temp_name name.now → get (D.files disk.new) other ≡ get (D.files disk.old) other }
-    ensures tells { D.tells disk.new ≡ D.tells disk.old }
-    ensures later { D.faults disk.old ≤ D.faults disk.new }
+    ensures frame { Stays D.tells D.faults disk.old disk.new }
     ensures reason { IfErr result (HasDiskReason (D.faults disk.old) (D.faults disk.new)) }
 {
     let mut temp = String::from_str(alloc, name)?;

@@ -10,7 +10,8 @@ use Rattle.std.specs.Str.{str_to_ascii_lowercase}
 use Rattle.std.specs.Str.Pattern.{StripsSuffix, FindsTextSuffix}
 use Rattle.hex.specs.Hex.{encode_lower, encode_with, lower_digits}
 use Rattle.xet_hash.specs.Hash.{hash_text, shown_words}
-use Rattle.xet_shard_format.specs.Names.{has_capitals, shard_name}
+use Rattle.xet_shard_format.specs.internal.Names.{has_capitals}
+use Rattle.xet_shard_format.specs.Names.{shard_name}
 
 neither : (a b : Bool) → (a || b) ≡ false → (a ≡ false) × (b ≡ false)
 neither false false e = (refl, refl)

@@ -1,4 +1,4 @@
--- The header and the footer of a shard's first and last bytes.
+-- Header and footer, read from the first and the last bytes of a shard alone.
 use Rattle.std.specs.Prelude.{ℕ, ◌+◌, ◌*◌, ◌^◌, ◌==◌, nat_eq, nat_le, nat_lt, List, length, take, drop, replicate, Result, Ok}
 use Rattle.std.specs.Cmp.Lexicographic.{pointwise}
 use Rattle.xet_hash.specs.declared.error.Reason.TheVariants.{FooterSize, SectionPlace, ShardVersion, Tag}
@@ -7,9 +7,9 @@ use Rattle.xet_shard_format.specs.declared.header_footer.MDBShardFileFooter.{MDB
 use Rattle.xet_shard_format.specs.Reading.{footer_in, places_at}
 use Rattle.xet_codec.specs.Parsing.{◌>>=◌, reaches, wants}
 use Rattle.xet_codec.specs.Numbers.{word}
-use Rattle.xet_shard_format.specs.Text.{tag}
+use Rattle.xet_shard_format.specs.Encoding.{tag}
 
--- the header of a shard of so many bytes, whose first 48 are these
+-- the checks of the header of a shard of `len` bytes, by its first 48 bytes
 unfoldable pub header_of_first : ℕ → List ℕ → Result (Unit {0}) StoreError
 header_of_first len first = do
   _ ← reaches (nat_le 32 len)
@@ -20,7 +20,7 @@ header_of_first len first = do
   _ ← wants (word first 40 == 200) FooterSize
   reaches (nat_le 248 len)
 
--- the footer of a shard of so many bytes, whose last 200 are these
+-- the footer of a shard of `len` bytes, by its last 200 bytes
 unfoldable pub footer_of_last : ℕ → List ℕ → Result MDBShardFileFooter StoreError
 footer_of_last len last = do
   _ ← wants (word last 0 == 1) ShardVersion

@@ -7,5 +7,6 @@ pub mod RecordSizes
 pub mod Records
 pub mod Rows
 pub mod Sorted
-pub mod Text
+pub mod Encoding
 pub mod theorems
+pub mod internal

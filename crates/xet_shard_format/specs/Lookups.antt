@@ -1,5 +1,5 @@
--- The three look-ups of a shard. Each says by the first word of a hash where its record stands; a row is
--- counted from the front of its section.
+-- The lookup tables of a shard: from the first word of a hash to the row of its record.
+-- Rows are counted from the start of their section, from 0.
 use Rattle.std.specs.Prelude.{ℕ, ◌+◌, Bool, true, false, List, [], ◌∷◌, ◌++◌, length, map}
 use Rattle.std.specs.declared.cmp.Ordering.{Ordering}
 use Rattle.std.specs.Int.{w32, w64, to_le_bytes}
@@ -12,8 +12,8 @@ use Rattle.xet_shard_format.specs.declared.record.MDBXorbInfo.{MDBXorbInfo}
 use Rattle.xet_shard_format.specs.Records.{file_hash, file_rows, first_word, xorb_hash, xorb_rows}
 use Rattle.xet_shard_format.specs.Sorted.{sorted}
 
--- Files and xorbs: the first word, and the row of the head. The order of a section is that of the hashes,
--- so it is also that of (word, row).
+-- Files and xorbs: the first word, and the row of the header. A section is sorted by hash, so these items are
+-- sorted by word, then by row.
 unfoldable pub heads_from : {X : Type 0} → (X → List ℕ) → (X → List Row) → ℕ → List X → List (ℕ × ℕ)
 heads_from hash rows at [] = []
 heads_from hash rows at (x ∷ xs) = (first_word (hash x), at) ∷ heads_from hash rows (at + length (rows x)) xs
@@ -24,7 +24,7 @@ file_items files = heads_from file_hash file_rows 0 files
 abbrev pub xorb_items : List MDBXorbInfo → List (ℕ × ℕ)
 xorb_items blocks = heads_from xorb_hash xorb_rows 0 blocks
 
--- Chunks: the first word, the row of the xorb's head, and the place in the xorb, in the order of these three.
+-- Chunks: first word, row of the xorb's header, and index in the xorb. The table is sorted by these three.
 unfoldable pub places_from : ℕ → ℕ → List XorbChunkSequenceEntry → List (ℕ × ℕ × ℕ)
 places_from at place [] = []
 places_from at place (c ∷ cs) = (first_word c.chunk_hash, at, place) ∷ places_from at (place + 1) cs
@@ -39,27 +39,27 @@ place_cmp x y = ordering_then (ordering_then (nat_cmp x.0 y.0) (nat_cmp x.1 y.1)
 abbrev pub chunk_items : List MDBXorbInfo → List (ℕ × ℕ × ℕ)
 chunk_items blocks = sorted place_cmp (chunks_from 0 blocks)
 
--- a place whose row and place in the xorb stand in a pair
+-- an item of the chunk lookup table whose row and index are a pair
 abbrev pub flat_place : ℕ × (ℕ × ℕ) → ℕ × ℕ × ℕ
 flat_place p = (p.0, p.1.0, p.1.1)
 
 abbrev pub flat_places : List (ℕ × (ℕ × ℕ)) → List (ℕ × ℕ × ℕ)
 flat_places places = map flat_place places
 
--- an item is 12 bytes, or 16
-abbrev pub head_text : ℕ × ℕ → List ℕ
-head_text i = to_le_bytes w64 i.0 ++ to_le_bytes w32 i.1
+-- an item has 12 bytes; one of the chunk lookup table has 16
+abbrev pub record_item_bytes : ℕ × ℕ → List ℕ
+record_item_bytes i = to_le_bytes w64 i.0 ++ to_le_bytes w32 i.1
 
-abbrev pub place_text : ℕ × ℕ × ℕ → List ℕ
-place_text i = to_le_bytes w64 i.0 ++ (to_le_bytes w32 i.1 ++ to_le_bytes w32 i.2)
+abbrev pub chunk_item_bytes : ℕ × ℕ × ℕ → List ℕ
+chunk_item_bytes i = to_le_bytes w64 i.0 ++ (to_le_bytes w32 i.1 ++ to_le_bytes w32 i.2)
 
-abbrev pub heads_text : List (ℕ × ℕ) → List ℕ
-heads_text items = flat_map head_text items
+abbrev pub record_items_bytes : List (ℕ × ℕ) → List ℕ
+record_items_bytes items = flat_map record_item_bytes items
 
-abbrev pub places_text : List (ℕ × ℕ × ℕ) → List ℕ
-places_text items = flat_map place_text items
+abbrev pub chunk_items_bytes : List (ℕ × ℕ × ℕ) → List ℕ
+chunk_items_bytes items = flat_map chunk_item_bytes items
 
--- which of the look-ups stand; the others are left out
+-- which lookup tables a shard has; the others are omitted
 pub record Lookups : Type 0 where
   pub files : Bool
   pub xorbs : Bool

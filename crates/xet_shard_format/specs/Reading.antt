@@ -1,4 +1,4 @@
--- Reading a shard, with the first check that fails: header, footer, files, xorbs, look-ups, totals.
+-- Decoding of a shard, with the first check that fails: header, footer, files, xorbs, lookup tables, totals.
 use Rattle.std.specs.Prelude.{◌≡◌, ℕ, zero, suc, ◌+◌, ◌-◌, ◌*◌, ◌/◌, ◌%◌, ◌^◌, ◌<◌, Bool, true, false, List, [], ◌∷◌, length, take, drop, replicate, Option, Some, None, Result, Ok, Err, nat_lt, nat_le, nat_eq, ◌==◌, if◌then◌else◌}
 use Rattle.std.specs.Cmp.Lexicographic.{pointwise}
 use Rattle.xet_hash.specs.declared.error.Place.TheVariants.{Input}
@@ -17,11 +17,11 @@ use Rattle.xet_shard_format.specs.Rows.{rows_in}
 use Rattle.xet_codec.specs.Numbers.{word}
 use Rattle.xet_hash.specs.Hash.{marker}
 use Rattle.xet_shard_format.specs.Records.{file_hash, flags_of, is_after, xorb_hash}
-use Rattle.xet_shard_format.specs.Lookups.{Lookups, chunk_items, file_items, heads_text, places_text, xorb_items}
-use Rattle.xet_shard_format.specs.Text.{Fits, IsShard, Shard, footer_of, materialized, shard_text, stored, tag}
+use Rattle.xet_shard_format.specs.Lookups.{Lookups, chunk_items, file_items, record_items_bytes, chunk_items_bytes, xorb_items}
+use Rattle.xet_shard_format.specs.Encoding.{Fits, IsShard, Shard, footer_of, materialized, shard_bytes, stored, tag}
 use Rattle.xet_codec.specs.Parsing.{reaches, wants, ◌>>=◌}
 
--- the refusals of reading a shard
+-- the errors of reading a shard
 abbrev pub IsShardRefusal : StoreError → Type 0
 IsShardRefusal OutOfMemory = Unit {0}
 IsShardRefusal UnexpectedEof = Unit {0}
@@ -35,7 +35,7 @@ abbrev pub row_at : List Row → Result (Row × List Row) StoreError
 row_at [] = Err (MalformedData SectionPlace)
 row_at (r ∷ rows) = Ok (r, rows)
 
--- n things, one after the other
+-- n values, read one after the other
 unfoldable pub times : {X : Type 0} → (List Row → Result (X × List Row) StoreError) → ℕ → List Row → Result (List X × List Row) StoreError
 times read zero rows = Ok ([], rows)
 times read (suc n) rows = do
@@ -49,7 +49,7 @@ segment_at rows = do
   _ ← wants (r.0.a == 0) SectionEntry
   Ok (record { xorb_hash = r.0.hash; xorb_flags = r.0.a; unpacked_segment_bytes = r.0.b; chunk_index_start = r.0.c; chunk_index_end = r.0.d }, r.1)
 
--- the hash of a row that holds a hash alone
+-- the hash of a row whose four numbers must be 0
 unfoldable pub hash_in : Row → Result (List ℕ) StoreError
 hash_in r = do
   _ ← wants (r.a == 0) SectionEntry
@@ -75,23 +75,23 @@ ext_at true rows = do
   h ← hash_at rows
   Ok (Some (record { sha256 = h.0 }), h.1)
 
--- the flags 31 and 30 of a number below 2 ^ 32
+-- bits 31 and 30 of a number below 2 ^ 32
 abbrev pub is_verified : ℕ → Bool
 is_verified flags = nat_le (2 ^ 31) flags
 
 abbrev pub has_ext : ℕ → Bool
 has_ext flags = nat_le (2 ^ 30) (flags % 2 ^ 31)
 
--- the number of rows of a file after its header
+-- the number of rows of a file record after its header
 abbrev pub rows_after_file : Row → ℕ
 rows_after_file head = head.b + ((if is_verified head.a then head.b else 0) + (if has_ext head.a then 1 else 0))
 
--- A record is within its section: so many rows are left.
+-- A record lies within its section: at least `count` rows are left.
 abbrev pub has_rows : ℕ → List Row → Result (Unit {0}) StoreError
 has_rows count rows = wants (nat_le count (length rows)) SectionPlace
 
--- The file whose header was read. Checked are that its rows are within the section, then its header, then each
--- entry in order.
+-- The file record whose header row was read. The checks: its rows lie within the section; then its header;
+-- then each entry, in order.
 unfoldable pub file_at : Row → List Row → Result (MDBFileInfo × List Row) StoreError
 file_at head rows = do
   _ ← has_rows (rows_after_file head) rows
@@ -103,7 +103,7 @@ file_at head rows = do
   ext ← ext_at (has_ext head.a) verification.1
   Ok (record { metadata = record { file_hash = head.hash; file_flags = head.a; num_entries = head.b }; segments = segments.0; verification = verification.0; metadata_ext = ext.0 }, ext.1)
 
--- the chunk in a row, which starts at a place
+-- the chunk in a row, before which there must be `at` bytes in its xorb
 unfoldable pub chunk_in : Row → ℕ → Result XorbChunkSequenceEntry StoreError
 chunk_in r at = do
   _ ← wants (r.a == at) SectionEntry
@@ -111,7 +111,7 @@ chunk_in r at = do
   _ ← wants (r.d == 0) SectionEntry
   Ok (record { chunk_hash = r.hash; chunk_byte_range_start = r.a; unpacked_segment_bytes = r.b })
 
--- n chunks, the first of which starts at a place, and where the last one ends
+-- n chunks, the first of which starts at offset `at`, and the offset at which the last one ends
 unfoldable pub chunks_at : ℕ → ℕ → List Row → Result (List XorbChunkSequenceEntry × ℕ × List Row) StoreError
 chunks_at zero at rows = Ok ([], at, rows)
 chunks_at (suc n) at rows = do
@@ -120,7 +120,7 @@ chunks_at (suc n) at rows = do
   cs ← chunks_at n (r.0.a + r.0.b) r.1
   Ok (c ∷ cs.0, cs.1, cs.2)
 
--- The xorb whose header was read, by the same checks. Its total is checked after its chunks.
+-- The xorb record whose header row was read, by the same checks. Its total is checked after its chunks.
 unfoldable pub xorb_at : Row → List Row → Result (MDBXorbInfo × List Row) StoreError
 xorb_at head rows = do
   _ ← has_rows head.b rows
@@ -130,20 +130,20 @@ xorb_at head rows = do
   _ ← wants (chunks.1 == head.c) SectionEntry
   Ok (record { metadata = record { xorb_hash = head.hash; xorb_flags = head.a; num_entries = head.b; num_bytes_in_xorb = head.c; num_bytes_on_disk = head.d }; chunks = chunks.0 }, chunks.2)
 
--- the end row, and nothing after it
+-- the end row, which no row follows
 unfoldable pub end_at : Row → List Row → Result (Unit {0}) StoreError
 end_at r rows = do
   _ ← hash_in r
   wants (length rows == 0) SectionPlace
 
--- The next record, or none at the end of the section. Its hash has to be greater than the last one, which is
--- checked after all that is in the record.
+-- The next record; none at the end row. Its hash must be above that of the record before, which is checked
+-- after all else in the record.
 unfoldable pub step_at : {X : Type 0} → (Row → List Row → Result (X × List Row) StoreError) → Option (List ℕ) → List Row → Result (Option X × List Row) StoreError
 step_at record_at last rows = do
   r ← row_at rows
   if pointwise nat_eq r.0.hash marker then (end_at r.0 r.1 >>= λ _. Ok (None, r.1)) else (record_at r.0 r.1 >>= λ x. wants (is_after last r.0.hash) SectionOrder >>= λ _. Ok (Some x.0, x.1))
 
--- at most n records up to the section's end
+-- the records up to the end row, which must come within n steps
 unfoldable pub section_at : {X : Type 0} → (Row → List Row → Result (X × List Row) StoreError) → (X → List ℕ) → ℕ → Option (List ℕ) → List Row → Result (List X) StoreError
 section_at record_at hash zero last rows = Err (MalformedData SectionPlace)
 section_at record_at hash (suc n) last rows = do
@@ -162,7 +162,7 @@ header_at bytes = do
   _ ← wants (word bytes 40 == 200) FooterSize
   reaches (nat_le 248 (length bytes))
 
--- the fields of the 200 bytes of a footer
+-- the fields of a footer of 200 bytes
 unfoldable pub footer_in : List ℕ → MDBShardFileFooter
 footer_in bytes = record {
   version = word bytes 0;
@@ -189,7 +189,7 @@ file_row_count f = (f.xorb_info_offset - f.file_info_offset) / 48
 abbrev pub xorb_row_count : MDBShardFileFooter → ℕ
 xorb_row_count f = (f.file_lookup_offset - f.xorb_info_offset) / 48
 
--- Each part begins where the one before ends, and the footer ends the bytes. A section has at least its end row.
+-- Parts have no gaps, and the footer ends the bytes. A section has 1 to 2 ^ 32 - 1 rows.
 unfoldable pub places_at : ℕ → MDBShardFileFooter → Result (Unit {0}) StoreError
 places_at len f = do
   _ ← wants (f.file_info_offset == 48) SectionPlace
@@ -204,7 +204,7 @@ places_at len f = do
   _ ← wants (f.footer_offset == f.chunk_lookup_offset + 16 * f.chunk_lookup_num_entry) SectionPlace
   wants (len == f.footer_offset + 200) SectionPlace
 
--- what the places then are
+-- the offsets of a footer that passes these checks
 pub record IsPlaced (len : ℕ) (f : MDBShardFileFooter) : Type 0 where
   pub files : f.file_info_offset ≡ 48
   pub xorbs : f.xorb_info_offset ≡ f.file_info_offset + 48 * file_row_count f
@@ -226,13 +226,13 @@ footer_at bytes = do
   _ ← places_at (length bytes) (footer_in end)
   Ok (footer_in end)
 
--- the footer, where the bytes begin with a header
+-- the footer, after the checks of the header
 abbrev pub ends_of : List ℕ → Result MDBShardFileFooter StoreError
 ends_of bytes = header_at bytes >>= λ _. footer_at bytes
 
--- ---- look-ups and totals
+-- ---- lookup tables and totals
 
--- The bytes of a look-up, so many from a place on, are none, or its text.
+-- A lookup table, `len` bytes at offset `at`, is omitted, or it has the bytes `text`.
 unfoldable pub lookup_at : List ℕ → ℕ → ℕ → List ℕ → Result (Unit {0}) StoreError
 lookup_at bytes at len text = if len == 0 then Ok tt else wants (pointwise nat_eq (take len (drop at bytes)) text) Lookup
 
@@ -253,23 +253,23 @@ all_of bytes = do
   f ← footer_at bytes
   files ← section_at file_at file_hash (file_row_count f) None (rows_in (file_row_count f) (drop f.file_info_offset bytes))
   blocks ← section_at xorb_at xorb_hash (xorb_row_count f) None (rows_in (xorb_row_count f) (drop f.xorb_info_offset bytes))
-  _ ← lookup_at bytes f.file_lookup_offset (12 * f.file_lookup_num_entry) (heads_text (file_items files))
-  _ ← lookup_at bytes f.xorb_lookup_offset (12 * f.xorb_lookup_num_entry) (heads_text (xorb_items blocks))
-  _ ← lookup_at bytes f.chunk_lookup_offset (16 * f.chunk_lookup_num_entry) (places_text (chunk_items blocks))
+  _ ← lookup_at bytes f.file_lookup_offset (12 * f.file_lookup_num_entry) (record_items_bytes (file_items files))
+  _ ← lookup_at bytes f.xorb_lookup_offset (12 * f.xorb_lookup_num_entry) (record_items_bytes (xorb_items blocks))
+  _ ← lookup_at bytes f.chunk_lookup_offset (16 * f.chunk_lookup_num_entry) (chunk_items_bytes (chunk_items blocks))
   _ ← totals_at f (materialized files) (stored blocks)
   Ok (blocks, files, f)
 
 abbrev pub shard_of : Parts → Shard
 shard_of p = record { blocks = p.0; files = p.1; key = p.2.chunk_hash_hmac_key; creation = p.2.shard_creation_timestamp; expiry = p.2.shard_key_expiry }
 
--- what was read: a shard, and the footer that it has
+-- What was read is a well-formed shard with its footer, and the bytes are its encoding.
 pub record IsRead (bytes : List ℕ) (p : Parts) : Type 0 where
   pub shard : IsShard (shard_of p)
   pub fits : Fits (shard_of p)
   pub lookups : Lookups
-  pub text : bytes ≡ shard_text lookups (shard_of p)
+  pub text : bytes ≡ shard_bytes lookups (shard_of p)
   pub footer : p.2 ≡ footer_of lookups (shard_of p)
 
--- what is read of a shard's text
+-- what is read of the encoding of a shard
 abbrev pub parts_of : Lookups → Shard → Parts
 parts_of w s = (s.blocks, s.files, footer_of w s)

@@ -1,4 +1,4 @@
--- How many bytes records add to a shard.
+-- The bytes that a record adds to a shard.
 use Rattle.std.specs.Prelude.{◌≡◌, ◌≢◌, ◌<◌, ℕ, ◌+◌, ◌-◌, ◌*◌, ◌^◌, List, [], ◌∷◌, ◌++◌, filter, length, not, nat_eq, Option, Some, None, if◌then◌else◌, unwrap_or}
 use Rattle.std.specs.Cmp.Lexicographic.{pointwise}
 use Rattle.std.specs.List.{AllByRecursion, sum_by}
@@ -6,7 +6,7 @@ use Rattle.xet_shard_format.specs.declared.record.MDBFileInfo.{MDBFileInfo}
 use Rattle.xet_shard_format.specs.declared.record.MDBXorbInfo.{MDBXorbInfo}
 use Rattle.xet_shard_format.specs.Records.{file_rows, xorb_rows}
 
--- how many bytes a record adds to a shard: its rows and its items in the look-ups
+-- rows of 48 bytes, and items of 12 or 16 bytes in the lookup tables
 abbrev pub file_record_size : MDBFileInfo → ℕ
 file_record_size f = 48 * length (file_rows f) + 12
 

@@ -1,4 +1,4 @@
--- The rows of a file and of a xorb, and the form that they have.
+-- The rows of file and xorb records, and when a record is well formed.
 use Rattle.std.specs.Prelude.{◌≡◌, ◌≢◌, ℕ, ◌+◌, ◌^◌, Bool, true, false, List, [], ◌∷◌, ◌++◌, length, map, Option, Some, None, is_some, if◌then◌else◌}
 use Rattle.std.specs.List.{flat_map, AllByRecursion, sum_by}
 use Rattle.std.specs.Ordering.{is_lt}
@@ -31,21 +31,21 @@ abbrev pub ext_rows : Option FileMetadataExt → List Row
 ext_rows None = []
 ext_rows (Some m) = row m.sha256 0 0 0 0 ∷ []
 
--- the rows after the head
+-- the rows after the header
 abbrev pub file_rest : MDBFileInfo → List Row
 file_rest f = map segment_row f.segments ++ (map verification_row f.verification ++ ext_rows f.metadata_ext)
 
 abbrev pub file_rows : MDBFileInfo → List Row
 file_rows f = file_head f ∷ file_rest f
 
--- Flag 31 says that a file has a verification row for each segment, flag 30 that it has a metadata row.
+-- Bit 31: each segment has a verification row. Bit 30: there is a metadata row.
 abbrev pub flags_of : Bool → Bool → ℕ
 flags_of false false = 0
 flags_of false true = 2 ^ 30
 flags_of true false = 2 ^ 31
 flags_of true true = 2 ^ 31 + 2 ^ 30
 
--- The form of a file: its numbers and flags are those of its rows.
+-- A file record is well formed: its counts and flags are those of its rows.
 pub record IsFile (f : MDBFileInfo) : Type 0 where
   pub counted : f.metadata.num_entries ≡ length f.segments
   pub plain : AllByRecursion (λ s. s.xorb_flags ≡ 0) f.segments
@@ -81,7 +81,7 @@ StartAt at (c ∷ cs) = (c.chunk_byte_range_start ≡ at) × StartAt (at + c.unp
 abbrev pub chunk_bytes : List XorbChunkSequenceEntry → ℕ
 chunk_bytes chunks = sum_by (λ c. c.unpacked_segment_bytes) chunks
 
--- The form of a xorb: the numbers are those of its rows.
+-- A xorb record is well formed: its counts and totals are those of its chunks.
 pub record IsXorb (x : MDBXorbInfo) : Type 0 where
   pub counted : x.metadata.num_entries ≡ length x.chunks
   pub plain : x.metadata.xorb_flags ≡ 0
@@ -91,7 +91,7 @@ pub record IsXorb (x : MDBXorbInfo) : Type 0 where
 
 -- ---- sections
 
--- the last row of a section; no file and no xorb has the hash of all ones
+-- the end row of a section; its hash is the sentinel, which is the hash of no record
 abbrev pub end_row : Row
 end_row = row marker 0 0 0 0
 
@@ -104,16 +104,16 @@ file_section files = section file_rows files
 abbrev pub xorb_section : List MDBXorbInfo → List Row
 xorb_section blocks = section xorb_rows blocks
 
--- a hash is greater than the one before, where there is one
+-- whether a hash is above that of the record before, if there is one
 abbrev pub is_after : Option (List ℕ) → List ℕ → Bool
 is_after None hash = true
 is_after (Some last) hash = is_lt (hash_cmp last hash)
 
--- The hashes rise, none of them is the marker, and each of the records has the form.
+-- The hashes ascend, none of them is the sentinel, and each record is well formed.
 abbrev pub AreRecords : {X : Type 0} → (X → List ℕ) → (X → Type 0) → Option (List ℕ) → List X → Type 0
 AreRecords hash Form last [] = Unit {0}
 AreRecords hash Form last (x ∷ xs) = (is_after last (hash x) ≡ true) × (hash x ≢ marker) × Form x × AreRecords hash Form (Some (hash x)) xs
 
--- the first word of a hash, by which look-ups go
+-- the first word of a hash, by which lookup tables are searched
 abbrev pub first_word : List ℕ → ℕ
 first_word h = hash_word h 0

@@ -1,9 +1,9 @@
--- A list in the order of a comparison. Of what compares as equal, what came first comes first.
+-- Sorting of a list by a comparison. Elements that compare as equal keep their order.
 use Rattle.std.specs.Prelude.{true, false, List, [], ◌∷◌}
 use Rattle.std.specs.declared.cmp.Ordering.{Ordering}
 use Rattle.std.specs.Ordering.{is_lt}
 
--- a sorted list with one more, before the first that is not less
+-- inserts x into a sorted list, before the first element that is not below it
 unfoldable pub put_in : {X : Type 0} → (X → X → Ordering) → X → List X → List X
 put_in cmp x [] = x ∷ []
 put_in cmp x (y ∷ ys) = elim (is_lt (cmp y x)) [ true ↦ y ∷ put_in cmp x ys | false ↦ x ∷ y ∷ ys ]

@@ -1,10 +1,10 @@
-//! The bytes of rows, of records, and of what begins and ends a shard.
+//! Encoding of rows, records, header and footer.
 
 ghost use Rattle.std.specs.Prelude.{◌≡◌, ◌<◌, ◌^◌, ◌++◌, OnOk, length, map};
 ghost use Rattle.std.specs.List.{All, AllByRecursion};
-ghost use Rattle.xet_shard_format.specs.Rows.{RowFits, row_text, rows_text};
+ghost use Rattle.xet_shard_format.specs.Rows.{RowFits, row_bytes, rows_bytes};
 ghost use Rattle.xet_shard_format.specs.Records.{ext_rows, file_rows, section, xorb_rows};
-ghost use Rattle.xet_shard_format.specs.Text.{footer_text, header_text};
+ghost use Rattle.xet_shard_format.specs.Encoding.{footer_text, shard_header_bytes};
 
 use crate::header_footer::{MDBShardFileFooter, MDBShardFileHeader};
 use crate::record::{FileMetadataExt, MDBFileInfo, MDBXorbInfo};
@@ -13,12 +13,12 @@ use crate::section::{Entry, Lends, Record};
 use std::alloc::AllocError;
 use xet_hash::DataHash;
 
-/// Adds the section of these records: their rows, and the end row.
+/// Appends the section of these records: their rows, and the end row.
 pub fn push_section<R: Record, T: Lends<R>>(
     text: &mut Vec<u8>,
     records: &[T],
 ) -> Result<(), AllocError>
-    ensures text { OnOk result (text.new.items ≡ text.old.items ++ rows_text (section R.rows_of (map T.lent records.now))) }
+    ensures text { OnOk result (text.new.items ≡ text.old.items ++ rows_bytes (section R.rows_of (map T.lent records.now))) }
     ensures fits { OnOk result (AllByRecursion RowFits (section R.rows_of (map T.lent records.now))) }
 {
     for item in records {
@@ -28,9 +28,9 @@ pub fn push_section<R: Record, T: Lends<R>>(
     Ok(())
 }
 
-/// Adds a file.
+/// Appends the rows of a file record.
 pub fn push_file(text: &mut Vec<u8>, file: &MDBFileInfo) -> Result<(), AllocError>
-    ensures text { OnOk result (text.new.items ≡ text.old.items ++ rows_text (file_rows file.now)) }
+    ensures text { OnOk result (text.new.items ≡ text.old.items ++ rows_bytes (file_rows file.now)) }
     ensures fits { OnOk result (AllByRecursion RowFits (file_rows file.now)) }
 {
     let head = Row {
@@ -47,9 +47,9 @@ pub fn push_file(text: &mut Vec<u8>, file: &MDBFileInfo) -> Result<(), AllocErro
     Ok(())
 }
 
-/// Adds a xorb.
+/// Appends the rows of a xorb record.
 pub fn push_xorb(text: &mut Vec<u8>, block: &MDBXorbInfo) -> Result<(), AllocError>
-    ensures text { OnOk result (text.new.items ≡ text.old.items ++ rows_text (xorb_rows block.now)) }
+    ensures text { OnOk result (text.new.items ≡ text.old.items ++ rows_bytes (xorb_rows block.now)) }
     ensures fits { OnOk result (AllByRecursion RowFits (xorb_rows block.now)) }
 {
     let head = Row {
@@ -64,9 +64,9 @@ pub fn push_xorb(text: &mut Vec<u8>, block: &MDBXorbInfo) -> Result<(), AllocErr
     Ok(())
 }
 
-/// Adds what else is told of a file.
+/// Appends the metadata row of a file, if it has one.
 fn push_ext(text: &mut Vec<u8>, ext: &Option<FileMetadataExt>) -> Result<(), AllocError>
-    ensures text { OnOk result (text.new.items ≡ text.old.items ++ rows_text (ext_rows ext.now)) }
+    ensures text { OnOk result (text.new.items ≡ text.old.items ++ rows_bytes (ext_rows ext.now)) }
     ensures fits { OnOk result (AllByRecursion RowFits (ext_rows ext.now)) }
 {
     if let Some(m) = ext {
@@ -76,9 +76,9 @@ fn push_ext(text: &mut Vec<u8>, ext: &Option<FileMetadataExt>) -> Result<(), All
     Ok(())
 }
 
-/// Adds the rows of these entries.
+/// Appends the rows of these entries.
 fn push_entries<E: Entry>(text: &mut Vec<u8>, entries: &[E]) -> Result<(), AllocError>
-    ensures text { OnOk result (text.new.items ≡ text.old.items ++ rows_text (map E.row_of entries.now)) }
+    ensures text { OnOk result (text.new.items ≡ text.old.items ++ rows_bytes (map E.row_of entries.now)) }
     ensures fits { OnOk result (AllByRecursion RowFits (map E.row_of entries.now)) }
 {
     for entry in entries {
@@ -87,9 +87,9 @@ fn push_entries<E: Entry>(text: &mut Vec<u8>, entries: &[E]) -> Result<(), Alloc
     Ok(())
 }
 
-/// Adds the bytes of a row.
+/// Appends the encoding of a row.
 fn push_row(text: &mut Vec<u8>, row: &Row) -> Result<(), AllocError>
-    ensures text { OnOk result (text.new.items ≡ text.old.items ++ row_text row.now) }
+    ensures text { OnOk result (text.new.items ≡ text.old.items ++ row_bytes row.now) }
     ensures fits { RowFits row.now }
 {
     known_row(row);
@@ -97,10 +97,10 @@ fn push_row(text: &mut Vec<u8>, row: &Row) -> Result<(), AllocError>
     Ok(())
 }
 
-/// The same.
-#[tactic(auto, unfolding(crate::specs::Rows::row_text))]
+/// Appends the fields of a row.
+#[tactic(auto, unfolding(crate::specs::Rows::row_bytes))]
 fn push_fields(text: &mut Vec<u8>, row: &Row) -> Result<(), AllocError>
-    ensures { OnOk result (text.new.items ≡ text.old.items ++ row_text row.now) }
+    ensures { OnOk result (text.new.items ≡ text.old.items ++ row_bytes row.now) }
 {
     text.extend_from_slice(row.hash.as_bytes())?;
     text.extend_from_slice(&row.a.to_le_bytes())?;
@@ -110,7 +110,7 @@ fn push_fields(text: &mut Vec<u8>, row: &Row) -> Result<(), AllocError>
     Ok(())
 }
 
-/// Does nothing: that a row fits into its bytes is known after it.
+/// Proof aid without effect: the fields of a row fit in their bytes.
 fn known_row(row: &Row)
     ensures { RowFits row.now }
 {
@@ -118,7 +118,7 @@ fn known_row(row: &Row)
     known_numbers(row.a, row.b, row.c, row.d);
 }
 
-/// The same, of its numbers.
+/// Proof aid without effect: numbers of 32 bits are below 2^32.
 fn known_numbers(a: u32, b: u32, c: u32, d: u32)
     ensures first { a < 2 ^ 32 }
     ensures second { b < 2 ^ 32 }
@@ -128,7 +128,7 @@ fn known_numbers(a: u32, b: u32, c: u32, d: u32)
     let _ = (a, b, c, d);
 }
 
-/// The same, of a hash.
+/// Proof aid without effect: a hash is 32 bytes.
 pub fn known_hash(hash: &DataHash)
     ensures length { length hash.now ≡ 32 }
     ensures bytes { All (λ b. b < 256) hash.now }
@@ -136,7 +136,7 @@ pub fn known_hash(hash: &DataHash)
     known_array(hash.as_bytes());
 }
 
-/// The same, of an array.
+/// Proof aid without effect: such an array is 32 bytes.
 fn known_array(bytes: &[u8; 32])
     ensures length { length bytes.now ≡ 32 }
     ensures bytes { All (λ b. b < 256) bytes.now }
@@ -144,16 +144,16 @@ fn known_array(bytes: &[u8; 32])
     known_slice(bytes.as_slice());
 }
 
-/// The same, of a slice, but for its length.
+/// Proof aid without effect: the elements of a slice of bytes are below 256.
 fn known_slice(bytes: &[u8])
     ensures { All (λ b. b < 256) bytes.now }
 {
     let _ = bytes;
 }
 
-/// Adds a header.
+/// Appends the encoding of a header.
 pub fn push_header(text: &mut Vec<u8>, header: &MDBShardFileHeader) -> Result<(), AllocError>
-    ensures { OnOk result (text.new.items ≡ text.old.items ++ header_text header.now) }
+    ensures { OnOk result (text.new.items ≡ text.old.items ++ shard_header_bytes header.now) }
 {
     text.extend_from_slice(&header.tag)?;
     text.extend_from_slice(&header.version.to_le_bytes())?;
@@ -161,7 +161,7 @@ pub fn push_header(text: &mut Vec<u8>, header: &MDBShardFileHeader) -> Result<()
     Ok(())
 }
 
-/// Adds a footer.
+/// Appends the encoding of a footer.
 pub fn push_footer(text: &mut Vec<u8>, f: &MDBShardFileFooter) -> Result<(), AllocError>
     ensures { OnOk result (text.new.items ≡ text.old.items ++ footer_text f.now) }
 {

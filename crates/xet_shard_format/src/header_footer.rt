@@ -1,4 +1,4 @@
-//! The header and the footer of a shard's bytes.
+//! The header and the footer of a shard.
 
 ghost use Rattle.std.specs.Prelude.{◌≡◌, ◌⊎◌, ◌≤◌, ◌+◌, ◌-◌, ◌*◌, ◌==◌, ℕ, IfErr, IfOk, List, OnOk, drop, length, min, take};
 ghost use Rattle.xet_shard_format.specs.Ends.{footer_of_last, header_of_first};
@@ -8,55 +8,55 @@ ghost use Rattle.xet_shard_format.specs.Reading.{IsPlaced, ends_of, footer_at, f
 use xet_codec::{hash_at, word};
 use xet_hash::{HMACKey, Reason, StoreError};
 
-/// The first 48 bytes of a shard.
+/// The header: the first 48 bytes of a shard.
 #[derive(Clone, Copy, PartialEq, Eq, Debug, Default)]
 pub struct MDBShardFileHeader {
-    /// `XETSHARD` and 24 zeros.
+    /// The magic `XETSHARD` and 24 zeros.
     pub tag: [u8; 32],
-    /// 2.
+    /// The version: 2.
     pub version: u64,
-    /// The bytes of the footer: 200.
+    /// The length of the footer in bytes: 200.
     pub footer_size: u64,
 }
 
-/// The last 200 bytes of a shard. A place is counted from the front of the shard.
+/// The footer: the last 200 bytes of a shard. Offsets are in bytes from the start of the shard.
 #[derive(Clone, Copy, PartialEq, Eq, Debug, Default)]
 pub struct MDBShardFileFooter {
-    /// 1.
+    /// The version: 1.
     pub version: u64,
-    /// The place of the files.
+    /// The offset of the file section.
     pub file_info_offset: u64,
-    /// The place of the xorbs.
+    /// The offset of the xorb section.
     pub xorb_info_offset: u64,
-    /// The place of the look-up of files.
+    /// The offset of the file lookup table.
     pub file_lookup_offset: u64,
     /// The number of its items.
     pub file_lookup_num_entry: u64,
-    /// The place of the look-up of xorbs.
+    /// The offset of the xorb lookup table.
     pub xorb_lookup_offset: u64,
     /// The number of its items.
     pub xorb_lookup_num_entry: u64,
-    /// The place of the look-up of chunks.
+    /// The offset of the chunk lookup table.
     pub chunk_lookup_offset: u64,
     /// The number of its items.
     pub chunk_lookup_num_entry: u64,
-    /// The key under which the chunks' digests were hashed again; zero where they were not.
+    /// The key of the chunk hashes; zero if the shard is not keyed.
     pub chunk_hash_hmac_key: HMACKey,
-    /// The moment of creation, in seconds.
+    /// The creation time, in seconds since the Unix epoch.
     pub shard_creation_timestamp: u64,
-    /// The last moment at which the shard is valid, in seconds; 2^64 - 1 for none.
+    /// The expiry: the last second at which the shard is valid, since the Unix epoch; 2^64 - 1 for none.
     pub shard_key_expiry: u64,
-    /// Always 0.
+    /// 0 in a well-formed shard.
     pub stored_bytes_on_disk: u64,
-    /// The bytes of the files together.
+    /// The uncompressed bytes of all segments of all files.
     pub materialized_bytes: u64,
-    /// The bytes of the xorbs' chunks together.
+    /// The uncompressed bytes of all chunks of all xorbs.
     pub stored_bytes: u64,
-    /// The place of the footer.
+    /// The offset of the footer.
     pub footer_offset: u64,
 }
 
-/// With which a shard begins.
+/// The first 32 bytes of a shard: the magic and 24 zeros.
 const TAG: [u8; 32] = *b"XETSHARD\0\0\0\0\0\0\0\0\0\0\0\0\0\0\0\0\0\0\0\0\0\0\0\0";
 
 /// The header of every shard.
@@ -66,8 +66,8 @@ pub const HEADER: MDBShardFileHeader = MDBShardFileHeader {
     footer_size: 200,
 };
 
-/// The footer of a shard's bytes, by the checks of the header and of the footer alone: what comes
-/// between them is not looked at. It takes no memory.
+/// Reads the footer of a shard. Only the header and the footer are checked; the bytes between them are not
+/// read. The error is that of the first check that fails. Allocates nothing.
 pub fn read_footer(bytes: &[u8]) -> Result<MDBShardFileFooter, StoreError>
     ensures { result ≡ ends_of bytes.now }
 {
@@ -75,7 +75,7 @@ pub fn read_footer(bytes: &[u8]) -> Result<MDBShardFileFooter, StoreError>
     footer(bytes)
 }
 
-/// The footer of a shard of so many bytes, as `read_footer` reads it, by its first 48 bytes and its last 200
+/// Returns what `read_footer` does for a shard of `len` bytes, from its first 48 bytes and its last 200
 /// alone.
 pub fn read_footer_of_ends(
     len: u64,
@@ -93,7 +93,7 @@ pub fn read_footer_of_ends(
     }
 }
 
-/// Checks the header, and that there is room for a footer.
+/// Checks the header, and that there is room for a footer after it.
 #[tactic(auto, using(crate::specs::theorems::FirstLast::header_is))]
 pub fn header(bytes: &[u8]) -> Result<(), StoreError>
     ensures gives { Gives (λ _. tt) result (header_at bytes.now) }
@@ -104,8 +104,8 @@ pub fn header(bytes: &[u8]) -> Result<(), StoreError>
     Ok(())
 }
 
-/// Checks the header of a shard of so many bytes, whose first 48 are these, and that there is room for a
-/// footer.
+/// Checks the header of a shard of `len` bytes by its first 48 bytes, or by all if it has fewer, and that
+/// there is room for a footer after it.
 #[tactic(auto, unfolding(crate::specs::Ends::header_of_first))]
 pub fn header_of_first(len: u64, first: &[u8]) -> Result<(), StoreError>
     requires { min len 48 ≤ length first.now }
@@ -138,7 +138,8 @@ pub fn header_of_first(len: u64, first: &[u8]) -> Result<(), StoreError>
     Ok(())
 }
 
-/// The footer, whose places are those of parts without gaps.
+/// Reads the footer. Checks its version and its 48 zeros, and that its offsets are those of parts without
+/// gaps.
 #[tactic(auto, using(crate::specs::theorems::FirstLast::footer_is))]
 pub fn footer(bytes: &[u8]) -> Result<MDBShardFileFooter, StoreError>
     requires { 248 ≤ length bytes.now }
@@ -151,7 +152,7 @@ pub fn footer(bytes: &[u8]) -> Result<MDBShardFileFooter, StoreError>
     Ok(footer)
 }
 
-/// The footer of a shard of so many bytes, whose last 200 are these.
+/// Reads the footer of a shard of `len` bytes, of which `last` are the last 200.
 #[tactic(auto, unfolding(crate::specs::Ends::footer_of_last))]
 pub fn footer_of_last(len: u64, last: &[u8]) -> Result<MDBShardFileFooter, StoreError>
     requires { length last.now ≡ 200 }
@@ -172,7 +173,7 @@ pub fn footer_of_last(len: u64, last: &[u8]) -> Result<MDBShardFileFooter, Store
     Ok(footer)
 }
 
-/// The fields of a footer.
+/// The fields of a footer, without checks.
 #[tactic(auto, unfolding(crate::specs::Reading::footer_in))]
 fn footer_in(bytes: &[u8]) -> MDBShardFileFooter
     requires { length bytes.now ≡ 200 }
@@ -198,7 +199,7 @@ fn footer_in(bytes: &[u8]) -> MDBShardFileFooter
     }
 }
 
-/// Checks that the parts of so many bytes follow each other without gaps.
+/// Checks that the parts of a shard of `len` bytes follow each other without gaps.
 #[tactic(auto, using(crate::specs::theorems::Footers::places_take))]
 fn places(len: u64, f: &MDBShardFileFooter) -> Result<(), StoreError>
     ensures gives { Gives (λ _. tt) result (places_at len f.now) }
@@ -209,7 +210,7 @@ fn places(len: u64, f: &MDBShardFileFooter) -> Result<(), StoreError>
     Ok(())
 }
 
-/// The same.
+/// The checks that `places` makes.
 #[tactic(auto, unfolding(crate::specs::Reading::places_at))]
 fn places_follow(len: u64, f: &MDBShardFileFooter) -> Result<(), StoreError>
     ensures gives { Gives (λ _. tt) result (places_at len f.now) }
@@ -249,7 +250,8 @@ fn places_follow(len: u64, f: &MDBShardFileFooter) -> Result<(), StoreError>
     Ok(())
 }
 
-/// Whether a place comes so many items of a size after another.
+/// Whether `to` is the offset after `count` items of `size` bytes each, the first of which is at offset
+/// `from`.
 pub fn follows(to: u64, from: u64, size: u64, count: u64) -> bool
     ensures { result ≡ (to == from + size * count) }
 {

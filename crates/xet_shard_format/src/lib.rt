@@ -1,5 +1,4 @@
-//! The format of shards: records of files and of xorbs as rows, the look-ups, header and footer, and how a shard's
-//! bytes are written and read as a whole.
+//! The shard format: records as rows, lookup tables, header and footer, and encoding and decoding of a shard.
 #![tactic(auto)]
 
 pub mod encoding;

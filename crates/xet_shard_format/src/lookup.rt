@@ -1,28 +1,30 @@
-//! The look-ups of a shard, and its totals.
+//! Encoding of the lookup tables of a shard, and its totals.
 
 ghost use Rattle.std.specs.Prelude.{◌≡◌, ◌<◌, ◌^◌, ◌++◌, IfOk, OnOk, length, map};
 ghost use Rattle.xet_shard_format.specs.Records.{section, segment_bytes, xorb_section};
 ghost use Rattle.xet_shard_format.specs.Sorted.{sorted};
-ghost use Rattle.xet_shard_format.specs.Lookups.{chunk_items, chunks_from, flat_place, flat_places, heads_from, heads_text, left_in, place_cmp, place_text, places_from, places_text};
-ghost use Rattle.xet_shard_format.specs.Text.{materialized, stored};
+ghost use Rattle.xet_shard_format.specs.Lookups.{chunk_items, chunks_from, flat_place, flat_places, heads_from, record_items_bytes, left_in, place_cmp, chunk_item_bytes, places_from, chunk_items_bytes};
+ghost use Rattle.xet_shard_format.specs.Encoding.{materialized, stored};
 
 use crate::record::{MDBFileInfo, MDBXorbInfo, XorbChunkSequenceEntry};
 use crate::section::{Lends, Record};
 use std::alloc::{AllocError, Global};
 
-/// The first word of a hash, and the row of its record's head.
+/// An item of the file or the xorb lookup table: the first word of a hash, and the row of its record's
+/// header.
 pub type Head = (u64, u32);
 
-/// The first word of a chunk's hash, the row of its xorb's head, and its place in the xorb.
+/// An item of the chunk lookup table: the first word of a chunk hash, the row of its xorb's header, and the
+/// chunk's index in the xorb.
 pub type ChunkPlace = (u64, (u32, u32));
 
-/// Adds the look-up of these records: of each the first word of its hash, and the row of its head.
+/// Appends the lookup table of these records. The caller ensures that their section has fewer than 2^32 rows.
 pub fn push_heads<R: Record, T: Lends<R>>(
     text: &mut Vec<u8>,
     records: &[T],
 ) -> Result<(), AllocError>
     requires { length (section R.rows_of (map T.lent records.now)) < 2 ^ 32 }
-    ensures { OnOk result (text.new.items ≡ text.old.items ++ heads_text (heads_from R.hash_of R.rows_of 0 (map T.lent records.now))) }
+    ensures { OnOk result (text.new.items ≡ text.old.items ++ record_items_bytes (heads_from R.hash_of R.rows_of 0 (map T.lent records.now))) }
 {
     let mut row: u32 = 0;
     for item in records {
@@ -34,14 +36,14 @@ pub fn push_heads<R: Record, T: Lends<R>>(
     Ok(())
 }
 
-/// Adds the look-up of these records where it stands, and nothing where it is left out.
+/// Appends the lookup table of these records if `stands`; otherwise it is omitted.
 pub fn push_standing_heads<R: Record, T: Lends<R>>(
     text: &mut Vec<u8>,
     stands: bool,
     records: &[T],
 ) -> Result<(), AllocError>
     requires { length (section R.rows_of (map T.lent records.now)) < 2 ^ 32 }
-    ensures { OnOk result (text.new.items ≡ text.old.items ++ heads_text (left_in stands (heads_from R.hash_of R.rows_of 0 (map T.lent records.now)))) }
+    ensures { OnOk result (text.new.items ≡ text.old.items ++ record_items_bytes (left_in stands (heads_from R.hash_of R.rows_of 0 (map T.lent records.now)))) }
 {
     if stands {
         push_heads::<R, T>(text, records)
@@ -50,7 +52,7 @@ pub fn push_standing_heads<R: Record, T: Lends<R>>(
     }
 }
 
-/// The same of the chunks of these xorbs.
+/// Appends the chunk lookup table of these xorbs if `stands`; otherwise it is omitted.
 pub fn push_standing_places<T: Lends<MDBXorbInfo>>(
     alloc: Global,
     text: &mut Vec<u8>,
@@ -58,7 +60,7 @@ pub fn push_standing_places<T: Lends<MDBXorbInfo>>(
     blocks: &[T],
 ) -> Result<(), AllocError>
     requires { length (xorb_section (map T.lent blocks.now)) < 2 ^ 32 }
-    ensures { OnOk result (text.new.items ≡ text.old.items ++ places_text (left_in stands (chunk_items (map T.lent blocks.now)))) }
+    ensures { OnOk result (text.new.items ≡ text.old.items ++ chunk_items_bytes (left_in stands (chunk_items (map T.lent blocks.now)))) }
 {
     if stands {
         push_places::<T>(alloc, text, blocks)
@@ -67,14 +69,14 @@ pub fn push_standing_places<T: Lends<MDBXorbInfo>>(
     }
 }
 
-/// Adds the look-up of the chunks of these xorbs, in the order of words, rows and places.
+/// Appends the chunk lookup table of these xorbs, sorted by word, row and index.
 pub fn push_places<T: Lends<MDBXorbInfo>>(
     alloc: Global,
     text: &mut Vec<u8>,
     blocks: &[T],
 ) -> Result<(), AllocError>
     requires { length (xorb_section (map T.lent blocks.now)) < 2 ^ 32 }
-    ensures { OnOk result (text.new.items ≡ text.old.items ++ places_text (chunk_items (map T.lent blocks.now))) }
+    ensures { OnOk result (text.new.items ≡ text.old.items ++ chunk_items_bytes (chunk_items (map T.lent blocks.now))) }
 {
     let places = chunk_places(alloc, blocks)?;
     for place in &places {
@@ -83,7 +85,7 @@ pub fn push_places<T: Lends<MDBXorbInfo>>(
     Ok(())
 }
 
-/// The look-up of the chunks of these xorbs, in the order of words, rows and places.
+/// The chunk lookup table of these xorbs, sorted by word, row and index.
 pub fn chunk_places<T: Lends<MDBXorbInfo>>(
     alloc: Global,
     blocks: &[T],
@@ -95,7 +97,7 @@ pub fn chunk_places<T: Lends<MDBXorbInfo>>(
     in_order(found)
 }
 
-/// The places of all chunks, as they come.
+/// The items of all chunks, in the order of the xorbs.
 fn places<T: Lends<MDBXorbInfo>>(alloc: Global, blocks: &[T]) -> Result<Vec<ChunkPlace>, AllocError>
     requires { length (xorb_section (map T.lent blocks.now)) < 2 ^ 32 }
     ensures { IfOk result (λ places. flat_places places.items ≡ chunks_from 0 (map T.lent blocks.now)) }
@@ -110,7 +112,7 @@ fn places<T: Lends<MDBXorbInfo>>(alloc: Global, blocks: &[T]) -> Result<Vec<Chun
     Ok(found)
 }
 
-/// Adds the places of the chunks of a xorb, whose head is this row.
+/// Appends the items of a xorb's chunks. The xorb's header is in row `row`.
 fn push_chunks(
     found: &mut Vec<ChunkPlace>,
     chunks: &[XorbChunkSequenceEntry],
@@ -127,7 +129,7 @@ fn push_chunks(
     Ok(())
 }
 
-/// The places in their order.
+/// Sorts the items by word, row and index.
 fn in_order(mut places: Vec<ChunkPlace>) -> Result<Vec<ChunkPlace>, AllocError>
     ensures { IfOk result (λ ordered. flat_places ordered.items ≡ sorted place_cmp (flat_places places.items)) }
 {
@@ -135,9 +137,9 @@ fn in_order(mut places: Vec<ChunkPlace>) -> Result<Vec<ChunkPlace>, AllocError>
     Ok(places)
 }
 
-/// Adds the bytes of a place.
+/// Appends the encoding of an item of the chunk lookup table.
 fn push_place(text: &mut Vec<u8>, place: &ChunkPlace) -> Result<(), AllocError>
-    ensures { OnOk result (text.new.items ≡ text.old.items ++ place_text (flat_place place.now)) }
+    ensures { OnOk result (text.new.items ≡ text.old.items ++ chunk_item_bytes (flat_place place.now)) }
 {
     text.extend_from_slice(&place.0.to_le_bytes())?;
     text.extend_from_slice(&place.1.0.to_le_bytes())?;
@@ -145,7 +147,7 @@ fn push_place(text: &mut Vec<u8>, place: &ChunkPlace) -> Result<(), AllocError>
     Ok(())
 }
 
-/// The bytes of the files together.
+/// The uncompressed bytes of all segments of these files. The caller ensures that the sum is below 2^64.
 pub fn materialized<T: Lends<MDBFileInfo>>(files: &[T]) -> u64
     requires { materialized (map T.lent files.now) < 2 ^ 64 }
     ensures { result ≡ materialized (map T.lent files.now) }
@@ -157,7 +159,7 @@ pub fn materialized<T: Lends<MDBFileInfo>>(files: &[T]) -> u64
     total
 }
 
-/// The bytes of a file.
+/// The uncompressed bytes of all segments of a file.
 #[tactic(auto, using(crate::specs::theorems::Steps::sum_step))]
 fn file_bytes(file: &MDBFileInfo) -> u64
     requires { segment_bytes file.now.segments < 2 ^ 64 }
@@ -170,7 +172,8 @@ fn file_bytes(file: &MDBFileInfo) -> u64
     total
 }
 
-/// The bytes of the xorbs together.
+/// The uncompressed bytes of all chunks, as the headers of these xorbs state them. The caller ensures that
+/// the sum is below 2^64.
 pub fn stored<T: Lends<MDBXorbInfo>>(blocks: &[T]) -> u64
     requires { stored (map T.lent blocks.now) < 2 ^ 64 }
     ensures { result ≡ stored (map T.lent blocks.now) }

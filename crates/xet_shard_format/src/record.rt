@@ -1,4 +1,4 @@
-//! The records of a shard: files, and the xorbs of which they are made.
+//! The records of a shard: those of files and those of xorbs.
 
 ghost use Rattle.std.specs.Prelude.{◌≡◌, ◌<◌, ◌≤◌, ◌^◌, ◌*◌, [], IfOk, IsOkUnless, length};
 ghost use Rattle.xet_hash.specs.Hash.{zero_hash};
@@ -11,20 +11,20 @@ use std::alloc::Global;
 use xet_base::Items;
 use xet_hash::{MerkleHash, StoreError};
 
-/// The head of a file's record.
+/// The header of a file record.
 #[derive(Clone, Copy, PartialEq, Eq, Debug)]
 pub struct FileDataSequenceHeader {
-    /// The file's hash.
+    /// The file hash.
     pub file_hash: MerkleHash,
-    /// 2^31 where there are verification rows, 2^30 where there is a metadata row.
+    /// 2^31 if each segment has a verification row, plus 2^30 if there is a metadata row.
     pub file_flags: u32,
     /// The number of segments.
     pub num_entries: u32,
 }
 
 impl FileDataSequenceHeader {
-    /// The head of a file of so many segments. The flags say whether there are verification rows, and
-    /// whether there is a metadata row.
+    /// The header of a file record with `num_entries` segments. `verification` says whether there are
+    /// verification rows, `metadata_ext` whether there is a metadata row.
     pub fn new(
         file_hash: MerkleHash,
         num_entries: u32,
@@ -41,7 +41,7 @@ impl FileDataSequenceHeader {
     }
 }
 
-/// The flags of a file's head.
+/// The flags of a file header.
 fn flags_of(verification: bool, metadata_ext: bool) -> u32
     ensures { result ≡ flags_of verification metadata_ext }
 {
@@ -61,24 +61,24 @@ impl Default for FileDataSequenceHeader {
     }
 }
 
-/// A segment of a file: a run of a xorb's chunks.
+/// A segment of a file: a run of chunks of one xorb.
 #[derive(Clone, Copy, PartialEq, Eq, Debug)]
 pub struct FileDataSequenceEntry {
-    /// The hash of the xorb.
+    /// The xorb hash.
     pub xorb_hash: MerkleHash,
-    /// Always 0.
+    /// 0 in a well-formed record.
     pub xorb_flags: u32,
-    /// The bytes of the run's chunks together.
+    /// The uncompressed length of the run, in bytes.
     pub unpacked_segment_bytes: u32,
-    /// The place in the xorb of the run's first chunk, from 0.
+    /// The index of the run's first chunk in the xorb, from 0.
     pub chunk_index_start: u32,
-    /// The place behind the run's last chunk.
+    /// The index after the run's last chunk.
     pub chunk_index_end: u32,
 }
 
 impl FileDataSequenceEntry {
-    /// The segment of the chunks from `chunk_index_start` to before `chunk_index_end` of a xorb, which
-    /// have so many bytes.
+    /// The segment of the chunks `chunk_index_start`..`chunk_index_end` of a xorb, the end excluded, with
+    /// `unpacked_segment_bytes` uncompressed bytes.
     pub fn new(
         xorb_hash: MerkleHash,
         unpacked_segment_bytes: u32,
@@ -105,15 +105,15 @@ impl Default for FileDataSequenceEntry {
     }
 }
 
-/// What verifies a segment.
+/// The verification of a segment.
 #[derive(Clone, Copy, PartialEq, Eq, Debug)]
 pub struct FileVerificationEntry {
-    /// The digest of the hashes of the segment's chunks.
+    /// The range hash: the digest of the hashes of the segment's chunks, under the verification key.
     pub range_hash: MerkleHash,
 }
 
 impl FileVerificationEntry {
-    /// The verification of a segment by this digest.
+    /// The verification with this range hash.
     pub fn new(range_hash: MerkleHash) -> FileVerificationEntry
         ensures { result ≡ record { range_hash = range_hash } }
     {
@@ -129,15 +129,15 @@ impl Default for FileVerificationEntry {
     }
 }
 
-/// What else is told of a file.
+/// The metadata of a file.
 #[derive(Clone, Copy, PartialEq, Eq, Debug)]
 pub struct FileMetadataExt {
-    /// The SHA-256 of its bytes.
+    /// The SHA-256 of the file's bytes.
     pub sha256: Sha256,
 }
 
 impl FileMetadataExt {
-    /// What is told of a file of this SHA-256.
+    /// The metadata with this SHA-256.
     pub fn new(sha256: Sha256) -> FileMetadataExt
         ensures { result ≡ record { sha256 = sha256 } }
     {
@@ -153,21 +153,21 @@ impl Default for FileMetadataExt {
     }
 }
 
-/// A file: the segments whose bytes, one after the other, are its bytes.
+/// A file record. Its segments, in order, reconstruct the file.
 #[derive(Debug, Drop)]
 pub struct MDBFileInfo {
-    /// The head.
+    /// The header.
     pub metadata: FileDataSequenceHeader,
     /// The segments, in order.
     pub segments: Items<FileDataSequenceEntry>,
-    /// For each segment what verifies it, or nothing.
+    /// One verification for each segment, or none.
     pub verification: Items<FileVerificationEntry>,
-    /// What else is told, if anything.
+    /// The metadata, if any.
     pub metadata_ext: Option<FileMetadataExt>,
 }
 
 impl MDBFileInfo {
-    /// A file of no segments, whose hash is zero. It takes no memory.
+    /// A record without segments, whose hash is zero. Allocates nothing.
     pub fn default(alloc: Global) -> MDBFileInfo
         ensures { result ≡ record { metadata = record { file_hash = zero_hash; file_flags = 0; num_entries = 0 }; segments = []; verification = []; metadata_ext = None } }
     {
@@ -179,14 +179,14 @@ impl MDBFileInfo {
         }
     }
 
-    /// The file's hash.
+    /// The file hash.
     pub fn hash(&self) -> MerkleHash
         ensures { result ≡ file_hash self.now }
     {
         self.metadata.file_hash
     }
 
-    /// A copy. Where there is no memory for it, the call fails with `StoreError::OutOfMemory`.
+    /// A copy. The only error is `StoreError::OutOfMemory`.
     pub fn copy(&self, alloc: Global) -> Result<MDBFileInfo, StoreError>
         ensures copy { IfOk result (λ copy. copy ≡ self.now) }
         ensures memory { IsOkUnless result StoreError.OutOfMemory }
@@ -199,7 +199,8 @@ impl MDBFileInfo {
         })
     }
 
-    /// The bytes of its segments together, of which there are not too many for their sum.
+    /// The uncompressed bytes of all segments. The caller ensures that there are fewer than 2^32 segments, so
+    /// that the sum does not overflow.
     pub fn known_size(&self) -> u64
         requires { length self.now.segments < 2 ^ 32 }
         ensures size { result ≡ segment_bytes self.now.segments }
@@ -212,7 +213,7 @@ impl MDBFileInfo {
         total
     }
 
-    /// The bytes of its segments together.
+    /// The uncompressed bytes of all segments. The caller ensures that the sum is below 2^64.
     pub fn file_size(&self) -> u64
         requires { segment_bytes self.now.segments < 2 ^ 64 }
         ensures { result ≡ segment_bytes self.now.segments }
@@ -224,7 +225,7 @@ impl MDBFileInfo {
             .sum()
     }
 
-    /// The bytes that it adds to a shard: its rows and its item in the look-up.
+    /// The bytes that the record adds to a shard: its rows, and its item in the file lookup table.
     pub fn num_bytes(&self) -> u64
         requires { file_record_size self.now < 2 ^ 64 }
         ensures { result ≡ file_record_size self.now }
@@ -235,23 +236,24 @@ impl MDBFileInfo {
     }
 }
 
-/// The head of a xorb's record.
+/// The header of a xorb record.
 #[derive(Clone, Copy, PartialEq, Eq, Debug)]
 pub struct XorbChunkSequenceHeader {
-    /// The xorb's hash.
+    /// The xorb hash.
     pub xorb_hash: MerkleHash,
-    /// Always 0.
+    /// 0 in a well-formed record.
     pub xorb_flags: u32,
     /// The number of chunks.
     pub num_entries: u32,
-    /// The bytes of the chunks together.
+    /// The uncompressed bytes of all chunks.
     pub num_bytes_in_xorb: u32,
-    /// Always 0.
+    /// 0 in a well-formed record.
     pub num_bytes_on_disk: u32,
 }
 
 impl XorbChunkSequenceHeader {
-    /// The head of a xorb of so many chunks, which have so many bytes together.
+    /// The header of a xorb record with `num_entries` chunks, which have `num_bytes_in_xorb` uncompressed
+    /// bytes together.
     pub fn new(
         xorb_hash: MerkleHash,
         num_entries: u32,
@@ -277,19 +279,20 @@ impl Default for XorbChunkSequenceHeader {
     }
 }
 
-/// A chunk of a xorb.
+/// A chunk of a xorb record.
 #[derive(Clone, Copy, PartialEq, Eq, Debug)]
 pub struct XorbChunkSequenceEntry {
-    /// The chunk's digest.
+    /// The chunk hash; in a keyed shard, the keyed chunk hash.
     pub chunk_hash: MerkleHash,
-    /// The bytes of the chunks before it.
+    /// The uncompressed bytes of the chunks before it in the xorb.
     pub chunk_byte_range_start: u32,
-    /// Its bytes.
+    /// The uncompressed length of the chunk, in bytes.
     pub unpacked_segment_bytes: u32,
 }
 
 impl XorbChunkSequenceEntry {
-    /// A chunk of so many bytes, before which `chunk_byte_range_start` bytes stand in its xorb.
+    /// A chunk of `unpacked_segment_bytes` uncompressed bytes, after `chunk_byte_range_start` uncompressed
+    /// bytes of its xorb.
     pub fn new(
         chunk_hash: MerkleHash,
         unpacked_segment_bytes: u32,
@@ -313,17 +316,17 @@ impl Default for XorbChunkSequenceEntry {
     }
 }
 
-/// A xorb: its chunks.
+/// A xorb record: the list of the xorb's chunks.
 #[derive(Debug, Drop)]
 pub struct MDBXorbInfo {
-    /// The head.
+    /// The header.
     pub metadata: XorbChunkSequenceHeader,
     /// The chunks, in order.
     pub chunks: Items<XorbChunkSequenceEntry>,
 }
 
 impl MDBXorbInfo {
-    /// A xorb of no chunks, whose hash is zero. It takes no memory.
+    /// A record without chunks, whose hash is zero. Allocates nothing.
     pub fn default(alloc: Global) -> MDBXorbInfo
         ensures { result ≡ record { metadata = record { xorb_hash = zero_hash; xorb_flags = 0; num_entries = 0; num_bytes_in_xorb = 0; num_bytes_on_disk = 0 }; chunks = [] } }
     {
@@ -333,14 +336,14 @@ impl MDBXorbInfo {
         }
     }
 
-    /// The xorb's hash.
+    /// The xorb hash.
     pub fn hash(&self) -> MerkleHash
         ensures { result ≡ xorb_hash self.now }
     {
         self.metadata.xorb_hash
     }
 
-    /// A copy. Where there is no memory for it, the call fails with `StoreError::OutOfMemory`.
+    /// A copy. The only error is `StoreError::OutOfMemory`.
     pub fn copy(&self, alloc: Global) -> Result<MDBXorbInfo, StoreError>
         ensures copy { IfOk result (λ copy. copy ≡ self.now) }
         ensures memory { IsOkUnless result StoreError.OutOfMemory }
@@ -351,7 +354,7 @@ impl MDBXorbInfo {
         })
     }
 
-    /// The bytes of its chunks together, as its head tells them.
+    /// The uncompressed bytes of all chunks, as the header states them.
     pub fn told_size(&self) -> u64
         ensures size { result ≡ self.now.metadata.num_bytes_in_xorb }
         ensures small { result < 2 ^ 32 }
@@ -359,7 +362,8 @@ impl MDBXorbInfo {
         u64::from(self.metadata.num_bytes_in_xorb)
     }
 
-    /// The bytes that it adds to a shard: its rows and its items in the look-ups.
+    /// The bytes that the record adds to a shard: its rows, its item in the xorb lookup table, and its
+    /// chunks' items in the chunk lookup table.
     pub fn num_bytes(&self) -> u64
         requires { xorb_record_size self.now < 2 ^ 64 }
         ensures { result ≡ xorb_record_size self.now }
@@ -368,7 +372,8 @@ impl MDBXorbInfo {
         48 * (1 + chunks) + 12 + 16 * chunks
     }
 
-    /// The digest of each chunk, and the sum of the lengths up to and with it.
+    /// The hash of each chunk, with the uncompressed boundary offset at its end. The caller ensures that the
+    /// chunks have fewer than 2^32 bytes together. The only error is `StoreError::OutOfMemory`.
     pub fn chunks_and_boundaries(&self, alloc: Global) -> Result<Vec<(MerkleHash, u32)>, StoreError>
         requires { chunk_bytes self.now.chunks < 2 ^ 32 }
         ensures boundaries { IfOk result (λ found. found.items ≡ boundaries_from 0 self.now.chunks) }

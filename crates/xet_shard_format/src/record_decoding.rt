@@ -1,4 +1,4 @@
-//! The files and xorbs of a shard, row by row.
+//! Decoding of file and xorb records from the rows of a section.
 
 ghost use Rattle.std.specs.Prelude.{◌≡◌, ◌++◌, ◌∷◌, [], None, IfErr, OnOk};
 ghost use Rattle.xet_hash.specs.declared.error.StoreError.TheVariants.{OutOfMemory};
@@ -18,13 +18,13 @@ use std::alloc::Global;
 use xet_base::Items;
 use xet_hash::{DataHash, Reason, StoreError};
 
-/// The flag of a file with verification rows.
+/// The flag of a file with verification rows: bit 31.
 const VERIFIED: u32 = 1 << 31;
 
-/// The flag of a file with a metadata row.
+/// The flag of a file with a metadata row: bit 30.
 const WITH_EXT: u32 = 1 << 30;
 
-/// A segment.
+/// Reads the next row as a segment.
 #[tactic(auto, unfolding(crate::specs::Reading::segment_at))]
 fn segment(rows: &mut Rows) -> Result<FileDataSequenceEntry, StoreError>
     ensures { Gives (λ s. (s, rows.new)) result (segment_at rows.old) }
@@ -42,7 +42,7 @@ fn segment(rows: &mut Rows) -> Result<FileDataSequenceEntry, StoreError>
     })
 }
 
-/// The hash of a row that holds a hash alone.
+/// The hash of a row whose four numbers must be 0.
 #[tactic(auto, unfolding(crate::specs::Reading::hash_in))]
 fn hash_in(row: &Row) -> Result<DataHash, StoreError>
     ensures { Gives (λ h. h) result (hash_in row.now) }
@@ -53,7 +53,7 @@ fn hash_in(row: &Row) -> Result<DataHash, StoreError>
     Ok(row.hash)
 }
 
-/// The hash of the next row, which holds a hash alone.
+/// Reads the next row, whose four numbers must be 0, and returns its hash.
 #[tactic(auto, unfolding(crate::specs::Reading::hash_at))]
 fn hash_at(rows: &mut Rows) -> Result<DataHash, StoreError>
     ensures { Gives (λ h. (h, rows.new)) result (hash_at rows.old) }
@@ -63,7 +63,7 @@ fn hash_at(rows: &mut Rows) -> Result<DataHash, StoreError>
     Ok(hash)
 }
 
-/// What verifies a segment.
+/// Reads the next row as a verification.
 #[tactic(auto, unfolding(crate::specs::Reading::verification_at))]
 fn verification(rows: &mut Rows) -> Result<FileVerificationEntry, StoreError>
     ensures { Gives (λ v. (v, rows.new)) result (verification_at rows.old) }
@@ -72,7 +72,7 @@ fn verification(rows: &mut Rows) -> Result<FileVerificationEntry, StoreError>
     Ok(FileVerificationEntry { range_hash })
 }
 
-/// What else is told of a file, where its flag stands.
+/// Reads the next row as metadata if `wanted`; otherwise reads nothing.
 #[tactic(auto, unfolding(crate::specs::Reading::ext_at))]
 fn ext(rows: &mut Rows, wanted: bool) -> Result<Option<FileMetadataExt>, StoreError>
     ensures { Gives (λ v. (v, rows.new)) result (ext_at wanted rows.old) }
@@ -86,7 +86,7 @@ fn ext(rows: &mut Rows, wanted: bool) -> Result<Option<FileMetadataExt>, StoreEr
     }))
 }
 
-/// So many segments.
+/// Reads `count` segments.
 fn segments(
     alloc: Global,
     rows: &mut Rows,
@@ -102,7 +102,7 @@ fn segments(
     Ok(found)
 }
 
-/// So many verification rows.
+/// Reads `count` verifications.
 fn verifications(
     alloc: Global,
     rows: &mut Rows,
@@ -118,7 +118,8 @@ fn verifications(
     Ok(found)
 }
 
-/// The chunk in a row, which starts at a place.
+/// The chunk in a row. The bytes before it in its xorb must be `at`; a row of another form is
+/// `MalformedData(SectionEntry)`.
 #[tactic(auto, unfolding(crate::specs::Reading::chunk_in))]
 pub fn chunk_in(row: &Row, at: u64) -> Result<XorbChunkSequenceEntry, StoreError>
     ensures gives { Gives (λ c. c) result (chunk_in row.now at) }
@@ -134,7 +135,7 @@ pub fn chunk_in(row: &Row, at: u64) -> Result<XorbChunkSequenceEntry, StoreError
     })
 }
 
-/// The chunks, and where the last one ends.
+/// Reads `count` chunks. Also returns the uncompressed offset at which the last one ends.
 fn chunks(
     alloc: Global,
     rows: &mut Rows,
@@ -153,7 +154,7 @@ fn chunks(
     Ok((found, at))
 }
 
-/// The flags of a file.
+/// The flags of a file header.
 fn flags_of(verified: bool, with_ext: bool) -> u32
     ensures { result ≡ flags_of verified with_ext }
 {
@@ -165,21 +166,21 @@ fn flags_of(verified: bool, with_ext: bool) -> u32
     }
 }
 
-/// Whether these flags tell of verification rows.
+/// Whether these flags say that there are verification rows.
 pub fn is_verified(flags: u32) -> bool
     ensures { result ≡ is_verified flags }
 {
     flags >= VERIFIED
 }
 
-/// Whether these flags tell of a metadata row.
+/// Whether these flags say that there is a metadata row.
 pub fn has_ext(flags: u32) -> bool
     ensures { result ≡ has_ext flags }
 {
     flags % VERIFIED >= WITH_EXT
 }
 
-/// The number of rows of a file after its header.
+/// The number of rows of a file record after its header.
 pub fn rows_after_file(head: &Row) -> u64
     ensures { result ≡ rows_after_file head.now }
 {
@@ -189,7 +190,7 @@ pub fn rows_after_file(head: &Row) -> u64
     entries + (checks + ext)
 }
 
-/// The file whose header was read. Memory is reserved only for rows that are there.
+/// Reads the file record whose header row is `head`. Memory is reserved only for rows that exist.
 #[tactic(auto, unfolding(crate::specs::Reading::file_at))]
 pub fn file(alloc: Global, head: &Row, rows: &mut Rows) -> Result<MDBFileInfo, StoreError>
     ensures { Gives (λ f. (f, rows.new)) result (file_at head.now rows.old) }
@@ -220,7 +221,7 @@ pub fn file(alloc: Global, head: &Row, rows: &mut Rows) -> Result<MDBFileInfo, S
     })
 }
 
-/// The xorb whose header was read. Memory is reserved only for rows that are there.
+/// Reads the xorb record whose header row is `head`. Memory is reserved only for rows that exist.
 #[tactic(auto, unfolding(crate::specs::Reading::xorb_at))]
 pub fn xorb(alloc: Global, head: &Row, rows: &mut Rows) -> Result<MDBXorbInfo, StoreError>
     ensures { Gives (λ x. (x, rows.new)) result (xorb_at head.now rows.old) }
@@ -247,7 +248,7 @@ pub fn xorb(alloc: Global, head: &Row, rows: &mut Rows) -> Result<MDBXorbInfo, S
     })
 }
 
-/// Whether a hash is greater than the one before, where there is one.
+/// Whether a hash is above that of the record before, if there is one.
 fn is_after(last: Option<DataHash>, hash: DataHash) -> bool
     ensures { result ≡ is_after last hash }
 {
@@ -257,7 +258,7 @@ fn is_after(last: Option<DataHash>, hash: DataHash) -> bool
     }
 }
 
-/// The end of a section.
+/// Checks the end row: its numbers are 0, and no row follows it.
 #[tactic(auto, unfolding(crate::specs::Reading::end_at))]
 fn end(row: &Row, rows: &Rows) -> Result<(), StoreError>
     ensures { Gives (λ _. tt) result (end_at row.now rows.now) }
@@ -269,8 +270,7 @@ fn end(row: &Row, rows: &Rows) -> Result<(), StoreError>
     Ok(())
 }
 
-/// The next record, or none at the end of the section. Its hash is compared with the last one after the record
-/// was read.
+/// Reads the next record; none at the end row. The order of hashes is checked after all else in the record.
 #[tactic(auto, unfolding(crate::specs::Reading::step_at))]
 fn record_or_end<R: Record>(
     alloc: Global,
@@ -292,7 +292,7 @@ fn record_or_end<R: Record>(
     }
 }
 
-/// Adds an item at the end.
+/// Appends an item.
 fn push<T: Drop>(found: &mut Vec<T>, item: T) -> Result<(), StoreError>
     ensures ok { OnOk result (found.new.items ≡ found.old.items ++ item ∷ []) }
     ensures err { IfErr result (λ e. e ≡ OutOfMemory) }
@@ -301,7 +301,7 @@ fn push<T: Drop>(found: &mut Vec<T>, item: T) -> Result<(), StoreError>
     Ok(())
 }
 
-/// The records of a section of so many rows.
+/// Reads the records of a section of `count` rows.
 pub fn records<R: Record>(alloc: Global, rows: &mut Rows, count: u32) -> Result<Vec<R>, StoreError>
     ensures { Gives (λ v. v.items) result (section_at R.record_at R.hash_of count None rows.old) }
 {

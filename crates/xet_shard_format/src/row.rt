@@ -1,4 +1,4 @@
-//! A row of a section.
+//! A row of a section: a hash and four numbers, 48 bytes.
 
 ghost use Rattle.std.specs.Prelude.{◌≡◌, ◌≤◌, ◌+◌, length, take, drop};
 ghost use Rattle.xet_codec.specs.Numbers.{half_word};
@@ -7,23 +7,23 @@ ghost use Rattle.xet_shard_format.specs.Rows.{row, row_of};
 use xet_codec::{half_word, hash_at};
 use xet_hash::DataHash;
 
-/// A row: a hash and four numbers, whose meaning is that of its place.
+/// A row: a hash and four numbers. Their meaning depends on the kind of row.
 #[derive(Clone, Copy, PartialEq, Eq, Debug)]
 pub struct Row {
     /// The hash.
     pub hash: DataHash,
-    /// The first number.
+    /// The number at offset 32.
     pub a: u32,
-    /// The second.
+    /// The number at offset 36.
     pub b: u32,
-    /// The third.
+    /// The number at offset 40.
     pub c: u32,
-    /// The fourth.
+    /// The number at offset 44.
     pub d: u32,
 }
 
 impl Row {
-    /// A row that holds a hash alone.
+    /// The row with this hash, whose numbers are 0.
     pub fn of_hash(hash: DataHash) -> Row
         ensures { result ≡ row hash 0 0 0 0 }
     {
@@ -37,7 +37,7 @@ impl Row {
     }
 }
 
-/// The row at the front.
+/// Decodes the row in the first 48 bytes.
 #[tactic(auto, unfolding(crate::specs::Rows::row_of))]
 pub fn row_of(bytes: &[u8]) -> Row
     requires { 48 ≤ length bytes.now }

@@ -1,4 +1,4 @@
-//! The rows of a section, from front to end.
+//! A cursor over the rows of a section.
 
 ghost use Rattle.std.specs.Prelude.{◌≡◌, ◌≤◌, ◌*◌, ◌==◌, length, nat_le};
 ghost use Rattle.xet_shard_format.specs.Rows.{rows_in};
@@ -9,7 +9,7 @@ use crate::row::{Row, row_of};
 use std::marker::Model;
 use xet_hash::{Reason, StoreError};
 
-/// Rows that are left to read. Contracts see their list.
+/// The rows that are left to read. Contracts see the list of these rows.
 #[derive(Drop)]
 pub struct Rows<'a> {
     rest: &'a [u8],
@@ -29,7 +29,7 @@ impl<'a> Model for Rows<'a> {
 }
 
 impl<'a> Rows<'a> {
-    /// The first rows of the bytes.
+    /// A cursor over the first `count` rows in the bytes.
     pub fn new(bytes: &'a [u8], count: u32) -> Rows<'a>
         requires { 48 * count ≤ length bytes.now }
         ensures { result ≡ rows_in count bytes.now }
@@ -40,7 +40,7 @@ impl<'a> Rows<'a> {
         }
     }
 
-    /// The next row; `SectionPlace` where none is left.
+    /// Reads the next row; `MalformedData(SectionPlace)` if none is left.
     pub fn next(&mut self) -> Result<Row, StoreError>
         ensures { Gives (λ r. (r, self.new)) result (row_at self.old) }
     {
@@ -54,7 +54,7 @@ impl<'a> Rows<'a> {
         Ok(row)
     }
 
-    /// Whether so many rows are left.
+    /// Whether at least `count` rows are left.
     pub fn has(&self, count: u64) -> bool
         ensures { result ≡ nat_le count (length self.now) }
     {

@@ -1,10 +1,10 @@
-//! What the records of a section have in common.
+//! Traits of the records of a section, of their entries, and of references to records.
 
 ghost use Rattle.std.specs.Prelude.{◌≡◌, ◌↔◌, ◌<◌, ◌^◌, ◌++◌, ℕ, List, IsTrue, OnOk, Result, length};
 ghost use Rattle.std.specs.List.{AllByRecursion};
 ghost use Rattle.xet_hash.specs.declared.error.StoreError.{StoreError};
 ghost use Rattle.xet_shard_format.specs.declared.row.Row.{Row};
-ghost use Rattle.xet_shard_format.specs.Rows.{RowFits, rows_text};
+ghost use Rattle.xet_shard_format.specs.Rows.{RowFits, rows_bytes};
 ghost use Rattle.xet_shard_format.specs.Records.{chunk_row, file_hash, file_rows, segment_row, verification_row, xorb_hash, xorb_rows};
 ghost use Rattle.xet_codec.specs.Parsing.{Gives};
 ghost use Rattle.xet_shard_format.specs.Reading.{file_at, xorb_at};
@@ -19,37 +19,37 @@ use crate::{encoding, record_decoding};
 use std::alloc::{AllocError, Global};
 use xet_hash::{MerkleHash, StoreError};
 
-/// A record of a section.
+/// A record of a section: that of a file or of a xorb.
 pub trait Record: Drop {
-    /// Its hash, by which a section rises.
+    /// Its hash. The records of a section are in ascending order of hash.
     ghost hash_of: { Self → List ℕ };
 
     /// Its rows.
     ghost rows_of: { Self → List Row };
 
-    /// How it is read after its head.
+    /// How it is read after its header row.
     ghost record_at: { Row → List Row → Result (Self × List Row) StoreError };
 
     /// The hash.
     fn hash(&self) -> MerkleHash
         ensures { result ≡ hash_of self.now };
 
-    /// Whether another is the same record.
+    /// Whether the two records are equal.
     fn same(&self, other: &Self) -> bool
         ensures { IsTrue result ↔ (self.now ≡ other.now) };
 
-    /// The number of rows.
+    /// The number of its rows. The caller ensures that it is below 2^32.
     fn num_rows(&self) -> u32
         requires { length (rows_of self.now) < 2 ^ 32 }
         ensures { result ≡ length (rows_of self.now) };
 
-    /// The record whose head was read.
+    /// Reads the record whose header row is `head`.
     fn read(alloc: Global, head: &Row, rows: &mut Rows) -> Result<Self, StoreError>
         ensures { Gives (λ r. (r, rows.new)) result (record_at head.now rows.old) };
 
-    /// Adds the bytes of its rows.
+    /// Appends the encoding of its rows.
     fn push(&self, text: &mut Vec<u8>) -> Result<(), AllocError>
-        ensures text { OnOk result (text.new.items ≡ text.old.items ++ rows_text (rows_of self.now)) }
+        ensures text { OnOk result (text.new.items ≡ text.old.items ++ rows_bytes (rows_of self.now)) }
         ensures fits { OnOk result (AllByRecursion RowFits (rows_of self.now)) };
 }
 
@@ -129,14 +129,14 @@ fn same_segments(ours: &[FileDataSequenceEntry], theirs: &[FileDataSequenceEntry
     ours == theirs
 }
 
-/// Whether the same verifies the segments of two files.
+/// Whether two files have the same verifications.
 fn same_verifications(ours: &[FileVerificationEntry], theirs: &[FileVerificationEntry]) -> bool
     ensures { IsTrue result ↔ (ours.now ≡ theirs.now) }
 {
     ours == theirs
 }
 
-/// Whether the same is told else of two files.
+/// Whether two files have the same metadata.
 fn same_ext(ours: &Option<FileMetadataExt>, theirs: &Option<FileMetadataExt>) -> bool
     ensures { IsTrue result ↔ (ours.now ≡ theirs.now) }
 {
@@ -154,12 +154,12 @@ fn same_chunks(ours: &[XorbChunkSequenceEntry], theirs: &[XorbChunkSequenceEntry
     ours == theirs
 }
 
-/// An entry of a record: a row after its head.
+/// An entry of a record: a row after its header.
 pub trait Entry {
-    /// The row.
+    /// Its row.
     ghost row_of: { Self → Row };
 
-    /// The row.
+    /// Its row.
     fn row(&self) -> Row
         ensures { result ≡ row_of self.now };
 }
@@ -205,7 +205,7 @@ pub trait Lends<R> {
     /// The record.
     ghost lent: { Self → R };
 
-    /// Lends it.
+    /// A reference to the record.
     fn lend(&self) -> &R
         ensures { result.now ≡ lent self.now };
 }

@@ -1,4 +1,4 @@
-//! A SHA-256 digest.
+//! SHA-256 digests and their text form.
 
 ghost use Rattle.std.specs.Prelude.{◌≡◌, ◌↔◌, IfErr, IfOk, IsOk, IsOkUnless, List, Ok, length, string_bytes, ℕ};
 ghost use Rattle.hex.specs.Hex.{IsBytes, decode_of, encode_lower};
@@ -26,15 +26,15 @@ impl Model for Sha256 {
 }
 
 impl Sha256 {
-    /// The digest of these bytes.
+    /// The digest with these bytes.
     pub fn from_bytes(bytes: [u8; 32]) -> Sha256
         ensures { result ≡ bytes }
     {
         Sha256 { bytes }
     }
 
-    /// The digest of this text: 64 hexadecimal digits, of either case, two for each byte in order.
-    /// Another text is refused as `MalformedData(HexText)`.
+    /// Reads the text form: 64 hexadecimal digits of either case, two for each byte, in order. Any other text
+    /// is `MalformedData(HexText)`.
     pub fn from_hex(text: &str) -> Result<Sha256, StoreError>
         ensures digits { IsOk result ↔ IsHashText text.now }
         ensures refused { IfErr result (λ error. error ≡ StoreError.MalformedData Reason.HexText) }
@@ -47,14 +47,15 @@ impl Sha256 {
         }
     }
 
-    /// Lends the bytes.
+    /// The bytes of the digest.
     pub fn as_bytes(&self) -> &[u8; 32]
         ensures { result.now ≡ self.now }
     {
         &self.bytes
     }
 
-    /// Its text: 64 lower-case hexadecimal digits, two for each byte in order.
+    /// The text form: 64 lower-case hexadecimal digits, two for each byte, in order. The only error is
+    /// `StoreError::OutOfMemory`.
     pub fn hex(&self, alloc: Global) -> Result<String, StoreError>
         ensures text { IfOk result (λ text. string_bytes text ≡ encode_lower self.now) }
         ensures memory { IsOkUnless result StoreError.OutOfMemory }
@@ -66,7 +67,7 @@ impl Sha256 {
 impl Default for Sha256 {
     ghost is_default = { λ digest. digest ≡ zero_hash };
 
-    /// Zero.
+    /// 32 zero bytes.
     fn default() -> Sha256 {
         Sha256 { bytes: [0; 32] }
     }

@@ -1,10 +1,10 @@
-//! A shard's bytes, read as a whole.
+//! Decoding of a whole shard.
 
 ghost use Rattle.std.specs.Prelude.{◌≡◌, ◌<◌, ◌≤◌, ◌+◌, ◌*◌, ◌^◌, None, IfOk, Ok, drop, length};
 ghost use Rattle.xet_shard_format.specs.Rows.{rows_in};
 ghost use Rattle.xet_shard_format.specs.Records.{file_hash, file_section, section, xorb_hash, xorb_section};
-ghost use Rattle.xet_shard_format.specs.Lookups.{Lookups, chunk_items, heads_from, heads_text, places_text};
-ghost use Rattle.xet_shard_format.specs.Text.{Fits, IsShard, Shard, materialized, shard_text, stored};
+ghost use Rattle.xet_shard_format.specs.Lookups.{Lookups, chunk_items, heads_from, record_items_bytes, chunk_items_bytes};
+ghost use Rattle.xet_shard_format.specs.Encoding.{Fits, IsShard, Shard, materialized, shard_bytes, stored};
 ghost use Rattle.xet_codec.specs.Parsing.{Gives};
 ghost use Rattle.xet_shard_format.specs.Reading.{IsPlaced, IsRead, all_of, file_at, file_row_count, lookup_at, parts_of, section_at, totals_at, xorb_at, xorb_row_count};
 
@@ -20,21 +20,20 @@ use xet_hash::{Reason, StoreError};
 /// The xorbs and the files of a shard, and its footer.
 type Parts = (Vec<MDBXorbInfo>, Vec<MDBFileInfo>, MDBShardFileFooter);
 
-/// The xorbs, the files and the footer of a shard's bytes. Bytes that are no shard are refused by the
-/// first check that fails: the header, the footer, the files, the xorbs, the look-ups, the totals. Where
-/// there is no memory, the call fails with `StoreError::OutOfMemory`.
+/// Reads a shard, and returns its xorbs, its files and its footer. The error is that of the first check that
+/// fails: header, footer, files, xorbs, lookup tables, totals; or it is `StoreError::OutOfMemory`.
 pub fn read_shard(alloc: Global, bytes: &[u8]) -> Result<Parts, StoreError>
-    // What is read is a shard, whose text the bytes are, with its footer.
+    // What is read is a well-formed shard with its footer, and the bytes are its encoding.
     ensures found { IfOk result (λ x. IsRead bytes.now (x.0.items, x.1.items, x.2)) }
-    // A shard's text is read, unless memory is wanting.
-    ensures only { (w : Lookups) (s : Shard) → IsShard s → Fits s → bytes.now ≡ shard_text w s → Gives (λ x. (x.0.items, x.1.items, x.2)) result (Ok (parts_of w s)) }
-    // Which check fails first.
+    // The encoding of a well-formed shard is read, unless memory is out.
+    ensures only { (w : Lookups) (s : Shard) → IsShard s → Fits s → bytes.now ≡ shard_bytes w s → Gives (λ x. (x.0.items, x.1.items, x.2)) result (Ok (parts_of w s)) }
+    // The error is that of the first check that fails, unless memory is out.
     ensures exact { Gives (λ x. (x.0.items, x.1.items, x.2)) result (all_of bytes.now) }
 {
     all(alloc, bytes)
 }
 
-/// The same, by the checks alone.
+/// Makes the checks of `read_shard`, in order.
 #[tactic(auto, unfolding(crate::specs::Reading::all_of))]
 fn all(alloc: Global, bytes: &[u8]) -> Result<Parts, StoreError>
     ensures { Gives (λ x. (x.0.items, x.1.items, x.2)) result (all_of bytes.now) }
@@ -68,7 +67,7 @@ fn all(alloc: Global, bytes: &[u8]) -> Result<Parts, StoreError>
     Ok((blocks, files, f))
 }
 
-/// The files.
+/// Reads the file section.
 fn all_files(
     alloc: Global,
     bytes: &[u8],
@@ -83,7 +82,7 @@ fn all_files(
     records_at(alloc, bytes, f.file_info_offset, count as u32)
 }
 
-/// The xorbs.
+/// Reads the xorb section.
 fn all_xorbs(
     alloc: Global,
     bytes: &[u8],
@@ -98,7 +97,7 @@ fn all_xorbs(
     records_at(alloc, bytes, f.xorb_info_offset, count as u32)
 }
 
-/// The records of the section of so many rows at a place.
+/// Reads the records of the section of `count` rows at offset `at`.
 pub fn records_at<R: Record>(
     alloc: Global,
     bytes: &[u8],
@@ -113,7 +112,7 @@ pub fn records_at<R: Record>(
     records(alloc, &mut rows, count)
 }
 
-/// Checks a look-up of records: it is left out or complete.
+/// Checks that the lookup table of these records, `len` bytes at offset `at`, is omitted or complete.
 #[tactic(auto, unfolding(crate::specs::Reading::lookup_at))]
 fn check_heads<R: Record>(
     alloc: Global,
@@ -124,7 +123,7 @@ fn check_heads<R: Record>(
 ) -> Result<(), StoreError>
     requires inside { at + len ≤ length bytes.now }
     requires few { length (section R.rows_of records.now) < 2 ^ 32 }
-    ensures { Gives (λ _. tt) result (lookup_at bytes.now at len (heads_text (heads_from R.hash_of R.rows_of 0 records.now))) }
+    ensures { Gives (λ _. tt) result (lookup_at bytes.now at len (record_items_bytes (heads_from R.hash_of R.rows_of 0 records.now))) }
 {
     if len == 0 {
         return Ok(());
@@ -134,7 +133,7 @@ fn check_heads<R: Record>(
     check_lookup(bytes, at, len, &text)
 }
 
-/// The same of chunks.
+/// Checks that the chunk lookup table, `len` bytes at offset `at`, is omitted or complete.
 #[tactic(auto, unfolding(crate::specs::Reading::lookup_at))]
 fn check_places(
     alloc: Global,
@@ -145,7 +144,7 @@ fn check_places(
 ) -> Result<(), StoreError>
     requires inside { at + len ≤ length bytes.now }
     requires few { length (xorb_section blocks.now) < 2 ^ 32 }
-    ensures { Gives (λ _. tt) result (lookup_at bytes.now at len (places_text (chunk_items blocks.now))) }
+    ensures { Gives (λ _. tt) result (lookup_at bytes.now at len (chunk_items_bytes (chunk_items blocks.now))) }
 {
     if len == 0 {
         return Ok(());
@@ -155,7 +154,7 @@ fn check_places(
     check_lookup(bytes, at, len, &text)
 }
 
-/// Checks that the bytes of a look-up, if any, are this text.
+/// Checks that the `len` bytes at offset `at` are `text`, or that `len` is 0.
 #[tactic(auto, unfolding(crate::specs::Reading::lookup_at))]
 fn check_lookup(bytes: &[u8], at: u64, len: u64, text: &[u8]) -> Result<(), StoreError>
     requires { at + len ≤ length bytes.now }
@@ -172,7 +171,7 @@ fn check_lookup(bytes: &[u8], at: u64, len: u64, text: &[u8]) -> Result<(), Stor
     Ok(())
 }
 
-/// Checks the totals.
+/// Checks the totals in the footer.
 #[tactic(auto, unfolding(crate::specs::Reading::totals_at))]
 fn check_totals(
     f: &MDBShardFileFooter,

@@ -1,9 +1,9 @@
-//! A shard, written as a whole.
+//! Encoding of a whole shard.
 
 ghost use Rattle.std.specs.Prelude.{◌≡◌, ◌<◌, ◌+◌, ◌*◌, ◌^◌, ◌++◌, ℕ, IfErr, IfOk, IsErrOf, IsOkUnless, OnOk, None, cond, length, map, take, true};
 ghost use Rattle.xet_shard_format.specs.Records.{file_section, section, xorb_section};
 ghost use Rattle.xet_shard_format.specs.Lookups.{chunk_items, file_items, xorb_items};
-ghost use Rattle.xet_shard_format.specs.Text.{Fits, footer_of, footer_with, shard, shard_text};
+ghost use Rattle.xet_shard_format.specs.Encoding.{Fits, footer_of, footer_with, shard, shard_bytes};
 
 use crate::encoding::{known_hash, push_footer, push_header, push_section};
 use crate::header_footer::{HEADER, MDBShardFileFooter};
@@ -13,42 +13,42 @@ use crate::section::{Lends, Record};
 use std::alloc::Global;
 use xet_hash::{HMACKey, Place, StoreError};
 
-/// How much there is in a shard.
+/// The numbers of rows and of lookup items of a shard.
 #[derive(Clone, Copy)]
 struct Counts {
-    /// The rows of the files.
+    /// The rows of the file section, the end row included.
     file_rows: u32,
-    /// The rows of the xorbs.
+    /// The rows of the xorb section, the end row included.
     xorb_rows: u32,
-    /// The items of the look-up of files.
+    /// The items of the file lookup table.
     files: u32,
-    /// Those of the look-up of xorbs.
+    /// The items of the xorb lookup table.
     xorbs: u32,
-    /// Those of the look-up of chunks.
+    /// The items of the chunk lookup table.
     chunks: u32,
 }
 
-/// Which of the look-ups stand in a shard. The others are left out.
+/// Which lookup tables a shard has. The others are omitted.
 #[derive(Clone, Copy)]
 pub struct Lookups {
-    /// The files'.
+    /// Whether it has the file lookup table.
     pub files: bool,
-    /// The xorbs'.
+    /// Whether it has the xorb lookup table.
     pub xorbs: bool,
-    /// The chunks'.
+    /// Whether it has the chunk lookup table.
     pub chunks: bool,
 }
 
-/// All look-ups.
+/// All lookup tables.
 pub const ALL_LOOKUPS: Lookups = Lookups {
     files: true,
     xorbs: true,
     chunks: true,
 };
 
-/// The text of a shard with these xorbs, files and look-ups, and its footer. The memory of the text is taken
-/// once, for its exact length. Where there is none, the call fails with `StoreError::OutOfMemory`, and for no
-/// other reason.
+/// Encodes the shard with these xorbs, files and lookup tables, and also returns its footer. The caller
+/// ensures that each section has fewer than 2^32 rows, the end row included. The buffer of the result is
+/// allocated once, with the exact length. The only error is `StoreError::OutOfMemory`.
 pub fn write_with_lookups<B: Lends<MDBXorbInfo>, F: Lends<MDBFileInfo>>(
     alloc: Global,
     lookups: Lookups,
@@ -60,7 +60,7 @@ pub fn write_with_lookups<B: Lends<MDBXorbInfo>, F: Lends<MDBFileInfo>>(
 ) -> Result<(Vec<u8>, MDBShardFileFooter), StoreError>
     requires few_files { length (file_section (map F.lent files.now)) < 2 ^ 32 }
     requires few_blocks { length (xorb_section (map B.lent blocks.now)) < 2 ^ 32 }
-    ensures text { IfOk result (λ x. x.0.items ≡ shard_text (record { files = lookups.files; xorbs = lookups.xorbs; chunks = lookups.chunks }) (shard (map B.lent blocks.now) (map F.lent files.now) key creation expiry)) }
+    ensures text { IfOk result (λ x. x.0.items ≡ shard_bytes (record { files = lookups.files; xorbs = lookups.xorbs; chunks = lookups.chunks }) (shard (map B.lent blocks.now) (map F.lent files.now) key creation expiry)) }
     ensures footer { IfOk result (λ x. x.1 ≡ footer_of (record { files = lookups.files; xorbs = lookups.xorbs; chunks = lookups.chunks }) (shard (map B.lent blocks.now) (map F.lent files.now) key creation expiry)) }
     ensures fits { OnOk result (Fits (shard (map B.lent blocks.now) (map F.lent files.now) key creation expiry)) }
     ensures memory { IsOkUnless result StoreError.OutOfMemory }
@@ -86,7 +86,7 @@ pub fn write_with_lookups<B: Lends<MDBXorbInfo>, F: Lends<MDBFileInfo>>(
     Ok((text, footer))
 }
 
-/// How much there is in the shard of these records.
+/// Counts the rows and the lookup items of the shard of these records, with all lookup tables.
 fn count<B: Lends<MDBXorbInfo>, F: Lends<MDBFileInfo>>(blocks: &[B], files: &[F]) -> Counts
     requires few_files { length (file_section (map F.lent files.now)) < 2 ^ 32 }
     requires few_blocks { length (xorb_section (map B.lent blocks.now)) < 2 ^ 32 }
@@ -103,12 +103,12 @@ fn count<B: Lends<MDBXorbInfo>, F: Lends<MDBFileInfo>>(blocks: &[B], files: &[F]
         xorb_rows,
         files: files.len() as u32,
         xorbs,
-        // A row that is neither a head nor the last one is a chunk's.
+        // All rows of the xorb section but the headers and the end row are chunks.
         chunks: xorb_rows - 1 - xorbs,
     }
 }
 
-/// How many rows the section of these records has.
+/// The number of rows of the section of these records, the end row included.
 fn section_rows<R: Record, T: Lends<R>>(records: &[T]) -> u32
     requires { length (section R.rows_of (map T.lent records.now)) < 2 ^ 32 }
     ensures { result ≡ length (section R.rows_of (map T.lent records.now)) }
@@ -120,7 +120,7 @@ fn section_rows<R: Record, T: Lends<R>>(records: &[T]) -> u32
     rows
 }
 
-/// So many items of a look-up, or none where it is left out.
+/// The number of items of a lookup table: `count`, or 0 if it is omitted.
 fn count_standing(stands: bool, count: u32) -> u32
     ensures { result ≡ cond stands count 0 }
 {
@@ -128,7 +128,7 @@ fn count_standing(stands: bool, count: u32) -> u32
 }
 
 impl Counts {
-    /// The same, with the items of these look-ups alone.
+    /// The same numbers, with 0 items for each omitted lookup table.
     fn standing(&self, lookups: Lookups) -> Counts
         ensures file_rows { result.file_rows ≡ self.now.file_rows }
         ensures xorb_rows { result.xorb_rows ≡ self.now.xorb_rows }
@@ -145,7 +145,7 @@ impl Counts {
         }
     }
 
-    /// Where the footer begins.
+    /// The offset of the footer.
     fn footer_offset(&self) -> u64
         ensures { result ≡ 48 + 48 * self.now.file_rows + 48 * self.now.xorb_rows + 12 * self.now.files + 12 * self.now.xorbs + 16 * self.now.chunks }
     {
@@ -156,7 +156,7 @@ impl Counts {
             + 16 * self.chunks as u64
     }
 
-    /// The footer of a shard with so much in it, these moments and these totals.
+    /// The footer of a shard with these numbers, times and totals.
     fn footer(
         &self,
         key: HMACKey,

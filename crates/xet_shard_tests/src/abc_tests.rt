@@ -1,4 +1,4 @@
-//! The shard of the xorb and the file of `abc`.
+//! Tests of the shard with the xorb and the file of `abc`.
 
 ghost use Rattle.std.specs.Prelude.{◌≡◌, ◌≢◌, IfOk, length};
 ghost use Rattle.xet_hash.specs.Hash.{marker};
@@ -14,7 +14,7 @@ use xet_hash::{
 use xet_io::{MemorySink, SliceReader};
 use xet_shard::*;
 
-/// The xorb of the one chunk `abc`.
+/// The xorb with one chunk of 3 bytes, which has this hash.
 fn xorb_of_abc(alloc: Global, chunk: MerkleHash) -> Result<MDBXorbInfo, StoreError>
     ensures form { IfOk result IsXorb }
     ensures hash { IfOk result (λ xorb. xorb_hash xorb ≡ chunk) }
@@ -26,7 +26,7 @@ fn xorb_of_abc(alloc: Global, chunk: MerkleHash) -> Result<MDBXorbInfo, StoreErr
     })
 }
 
-/// The file of this hash whose one segment is that chunk.
+/// The file with this hash, whose one segment is that chunk.
 pub(crate) fn file_of_abc(
     alloc: Global,
     hash: MerkleHash,
@@ -51,12 +51,12 @@ pub(crate) fn file_of_abc(
 /// The bytes of a shard, and its header and footer.
 pub type Written = (Vec<u8>, MDBShardInfo);
 
-/// The shard of the xorb and the file of `abc`.
+/// The shard with the xorb and the file of `abc`.
 pub fn shard_of_abc(alloc: Global) -> Result<Written, StoreError> {
     shard_of(alloc, b"abc")
 }
 
-/// The same of three other bytes.
+/// The same for three other bytes.
 pub fn shard_of(alloc: Global, bytes: &[u8]) -> Result<Written, StoreError> {
     let chunk = compute_data_hash(bytes);
     let hash = file_hash(alloc, &[(chunk, 3)])?;
@@ -66,7 +66,7 @@ pub fn shard_of(alloc: Global, bytes: &[u8]) -> Result<Written, StoreError> {
     added_and_written(alloc, hash, chunk)
 }
 
-/// The shard of this file and this chunk, added to a shard in memory.
+/// Adds the file and the chunk to a shard in memory, and writes it.
 fn added_and_written(
     alloc: Global,
     hash: MerkleHash,
@@ -81,7 +81,7 @@ fn added_and_written(
     answer
 }
 
-/// Adds both to a shard of nothing, and writes it.
+/// Adds the file and the chunk to an empty shard, and writes it.
 fn written(
     alloc: Global,
     shard: &mut MDBInMemoryShard,

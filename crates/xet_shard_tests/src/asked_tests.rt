@@ -1,4 +1,4 @@
-//! What a shard is asked over a reader.
+//! Tests of queries to a shard behind a reader.
 
 ghost use Rattle.std.specs.Prelude.{◌≡◌, length};
 ghost use Rattle.xet_shard_format.specs.Records.{file_rows};
@@ -12,14 +12,14 @@ use xet_hash::{HMACKey, MerkleHash, StoreError, compute_data_hash, file_hash};
 use xet_io::SliceReader;
 use xet_shard::*;
 
-/// The hash of this last byte, the others of which are one.
+/// The hash with this last byte, whose other bytes are 1.
 fn hash_of(last: u8) -> MerkleHash {
     let mut bytes = [1; 32];
     bytes[31] = last;
     MerkleHash::from_bytes(bytes)
 }
 
-/// The file of no segments whose hash has this last byte.
+/// The file without segments whose hash has this last byte.
 fn file_of(alloc: Global, last: u8) -> MDBFileInfo
     ensures { length (file_rows result) ≡ 1 }
 {
@@ -31,7 +31,7 @@ fn file_of(alloc: Global, last: u8) -> MDBFileInfo
     }
 }
 
-/// The bytes of a shard of seven files under one first word, or of eight.
+/// The bytes of a shard of seven files with the same first word of their hashes, or of eight.
 fn shard_of_files(alloc: Global, eight: bool) -> Result<Vec<u8>, StoreError> {
     let a = file_of(alloc, 0);
     let b = file_of(alloc, 1);
@@ -50,11 +50,11 @@ fn shard_of_files(alloc: Global, eight: bool) -> Result<Vec<u8>, StoreError> {
     Ok(text)
 }
 
-/// A run.
+/// The result of a query for a run.
 type Run = Option<(usize, FileDataSequenceEntry)>;
 
-/// What the shard of `abc` in these bytes answers: the number of the file's segments, the run of its chunk,
-/// and the runs at the first row and at the second.
+/// What queries to the shard of `abc` in these bytes return: the file's number of segments, the run of its
+/// chunk, and the runs at row 0 and at row 1.
 fn answers(alloc: Global, text: &[u8]) -> Result<(Option<usize>, Run, Run, Run), StoreError> {
     let mut reader = SliceReader::new(text);
     let info = MDBShardInfo::load_from_reader(&mut reader)?;
@@ -75,7 +75,7 @@ fn run_of_abc() -> Run {
     Some((1, FileDataSequenceEntry::new(chunk, 3, 0, 1)))
 }
 
-/// What it is to answer.
+/// The expected results.
 fn wanted() -> (Option<usize>, Run, Run, Run) {
     (Some(1), run_of_abc(), run_of_abc(), None)
 }

@@ -1,3 +1,5 @@
+//! Tests of export under a key, and of unions.
+
 use crate::abc_tests::{Written, file_of_abc, release, shard_of, shard_of_abc};
 use std::alloc::Global;
 use std::test::Fail;
@@ -5,8 +7,8 @@ use xet_hash::{HMACKey, MerkleHash, StoreError, compute_data_hash};
 use xet_io::{MemorySink, SliceReader};
 use xet_shard::*;
 
-/// The shard under the key of 32 bytes 1, created at 5 and valid for 10 seconds, with its files and all
-/// look-ups or without them.
+/// The shard, exported under the key of 32 bytes 1, created at 5 and valid for 10 seconds, with its files and
+/// all lookup tables, or without them.
 fn keyed(alloc: Global, shard: &Written, whole: bool) -> Result<Vec<u8>, StoreError> {
     let key = HMACKey::from_bytes([1; 32]);
     if key == HMACKey::default() || shard.1.metadata.chunk_hash_hmac_key != HMACKey::default() {
@@ -44,7 +46,7 @@ fn union(alloc: Global, ours: &Written, theirs: &Written) -> Result<Vec<u8>, Sto
     Ok(sink.into_bytes())
 }
 
-/// The shard of one file, whose hash is of 32 bytes 7 and whose chunk is of these bytes.
+/// The shard of one file, whose hash is 32 bytes 7, and whose one chunk has these bytes.
 fn shard_of_file(alloc: Global, bytes: &[u8]) -> Result<Written, StoreError> {
     let file = file_of_abc(
         alloc,
@@ -111,12 +113,13 @@ fn a_union_has_each_file_once(rt: HostRuntime) -> Result<(), Fail> {
     Ok(())
 }
 
-/// The name of the shard of these bytes.
+/// The file name of the shard with these bytes.
 fn name_of(alloc: Global, text: &[u8]) -> Result<String, StoreError> {
     shard_file_name(alloc, &compute_data_hash(text))
 }
 
-/// The names of the empty shard and of the union of those of `abc` and `abd`, as an outside program gives them.
+/// The names of the empty shard and of the union of those of `abc` and `abd`. The expected ones were computed
+/// by a separate program.
 #[test]
 fn names_of_the_empty_shard_and_of_a_union(rt: HostRuntime) -> Result<(), Fail> {
     let alloc = rt.alloc();

@@ -1,3 +1,5 @@
+//! Tests of names, of SHA-256 text, of boundary offsets and of a shard in memory.
+
 use std::test::Fail;
 use xet_base::Items;
 use xet_hash::{MerkleHash, Reason, StoreError};

@@ -1,4 +1,4 @@
-//! Tests of shards by their public calls.
+//! Tests of shards through their public functions.
 #![tactic(auto)]
 
 #[cfg(test)]

@@ -1,4 +1,4 @@
-//! The parts of the shard of `abc`, each read for itself.
+//! Tests of the parts of the shard of `abc`, each read on its own.
 
 ghost use Rattle.std.specs.Prelude.{◌≡◌, length};
 
@@ -9,7 +9,7 @@ use xet_hash::{MerkleHash, Reason, StoreError, compute_data_hash};
 use xet_io::SliceReader;
 use xet_shard::*;
 
-/// The same shard without its look-ups, which are the 40 bytes before the footer.
+/// The same shard without its lookup tables, which are the 40 bytes before the footer.
 pub(crate) fn without_lookups(alloc: Global, text: &[u8]) -> Result<Vec<u8>, StoreError>
     requires { length text.now ≡ 672 }
 {
@@ -54,7 +54,7 @@ fn are_found(rt: HostRuntime) -> Result<(), Fail> {
     Ok(())
 }
 
-/// Whether the lookup tables of xorbs and of chunks lead to this chunk's xorb in the first row.
+/// Whether the xorb and the chunk lookup table lead to this chunk's xorb in row 0.
 fn lookups_are_of(
     alloc: Global,
     info: &MDBShardInfo,

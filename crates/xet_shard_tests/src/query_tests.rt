@@ -1,4 +1,4 @@
-//! What a shard in memory is asked.
+//! Tests of queries to a shard in memory.
 
 ghost use Rattle.std.specs.Prelude.{◌≡◌, IfOk, length};
 ghost use Rattle.xet_shard_format.specs.Records.{IsXorb, xorb_hash, xorb_rows};
@@ -10,7 +10,7 @@ use xet_base::Items;
 use xet_hash::{MerkleHash, StoreError, compute_data_hash};
 use xet_shard::*;
 
-/// The xorb of a hash whose chunks have these digests and ten bytes each.
+/// The xorb with this hash, whose three chunks have these hashes and ten bytes each.
 fn xorb_of(
     alloc: Global,
     hash: MerkleHash,

@@ -1,4 +1,4 @@
-//! Which check of a damaged section fails first.
+//! Tests of which check of a damaged section fails first.
 
 use std::alloc::Global;
 use std::test::Fail;
@@ -6,7 +6,7 @@ use xet_hash::{Reason, StoreError};
 use xet_io::SliceReader;
 use xet_shard::MDBShardInfo;
 
-/// Sets bytes of some rows, each by its offset.
+/// Sets bytes of the rows, each at its offset.
 fn set(rows: &mut [u8; 192], bytes: &[(usize, u8)]) {
     for (at, byte) in bytes {
         if let Some(place) = rows.get_mut(*at) {
@@ -15,8 +15,9 @@ fn set(rows: &mut [u8; 192], bytes: &[(usize, u8)]) {
     }
 }
 
-/// The error of a section of so many bytes that begins with these rows, some bytes of which are changed: the
-/// header of a xorb of one chunk, its chunk of 5 bytes, the header of a xorb of none, the end row.
+/// The error of reading a xorb section of `len` bytes that starts with these rows, of which some bytes are
+/// changed: the header of a xorb of one chunk, its chunk of 5 bytes, the header of a xorb of none, the end
+/// row.
 fn error(alloc: Global, len: u64, changed: &[(usize, u8)]) -> Option<StoreError> {
     let mut rows = [0; 192];
     set(&mut rows, &[(0, 1), (36, 1), (40, 5), (84, 5), (96, 2)]);
@@ -29,7 +30,7 @@ fn error(alloc: Global, len: u64, changed: &[(usize, u8)]) -> Option<StoreError>
     read.err()
 }
 
-/// Whether that is the error.
+/// Whether the error is the expected one.
 fn is(alloc: Global, len: u64, changed: &[(usize, u8)], expected: Option<Reason>) -> bool {
     match (error(alloc, len, changed), expected) {
         (None, None) => true,
@@ -47,16 +48,17 @@ fn a_record_leaves_its_section_is_broken_or_out_of_order(rt: HostRuntime) -> Res
         Some(Reason::SectionOrder),
     );
     assert!(rt; is(alloc, 192, &[], None));
-    // The second xorb has the hash of the first, and then a flag, and then more chunks than rows are left.
+    // The second xorb has the hash of the first; then also a flag; then also more chunks than there are rows
+    // left.
     assert!(rt; is(alloc, 192, &[(96, 1)], order));
     assert!(rt; is(alloc, 192, &[(96, 1), (128, 1)], entry));
     assert!(rt; is(alloc, 192, &[(96, 1), (128, 1), (132, 2)], place));
-    // It takes the end row as its chunk: no row is left after it.
+    // The second xorb takes the end row as its chunk, so no end row is left.
     assert!(rt; is(alloc, 192, &[(132, 1)], place));
     assert!(rt; is(alloc, 192, &[(96, 1), (132, 1)], order));
     // The first xorb's total is not that of its chunk.
     assert!(rt; is(alloc, 192, &[(40, 6)], entry));
-    // The end row is not zero after its hash.
+    // A number of the end row is not 0.
     assert!(rt; is(alloc, 192, &[(191, 1)], entry));
     Ok(())
 }

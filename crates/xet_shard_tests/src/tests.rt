@@ -1,3 +1,5 @@
+//! Tests of the empty shard, and of a header that ends early.
+
 use std::test::Fail;
 use xet_hash::{HMACKey, StoreError};
 use xet_shard::*;

@@ -10,7 +10,7 @@ use Rattle.xet_io.specs.Disk.{Files, bytes_at}
 use Rattle.xet_hash.specs.Merkle.{chunk_hash, members_of, total_len, xorb_hash}
 use Rattle.xet_xorb_chunk.specs.declared.chunk.Chunk.{Chunk}
 use Rattle.xet_xorb_chunk.specs.Chunks.{bytes_of, chunk_member, total}
-use Rattle.xet_xorb.specs.Xorb.{IsXorbText}
+use Rattle.xet_xorb.specs.Xorb.{IsXorbEncoding}
 use Rattle.xet_xorb_chunk.specs.theorems.Grammar.{members_are, total-bytes}
 use Rattle.xet_xorb.specs.declared.raw.RawXorbData.{RawXorbData}
 use Rattle.xet_xorb.specs.Raw.{ArePartsOfXorb, raw_members, raw_of}
@@ -28,7 +28,7 @@ use Rattle.xet_folder.specs.Runs.{stored_len}
 use Rattle.xet_folder.specs.Xorbs.{IsListed, Records, Xorbs, found}
 use Rattle.xet_folder.specs.theorems.Placing.{stored_is}
 use Rattle.xet_folder.specs.theorems.Tables.{found_either, found_here, found_kept}
-use Rattle.xet_store.specs.Cleaning.{HasXorb, IsStable, Keeps, SameEntry}
+use Rattle.xet_store.specs.Cleaning.{HasXorb, IsDurable, Keeps, SameEntry}
 use Rattle.xet_dedup.specs.Records.{xorb_record}
 use Rattle.xet_store.specs.Tables.{Tables, tables, tables_of, with_members, with_xorb as with_xorb_of}
 use Rattle.xet_folder.specs.Contents.{IsRecord}
@@ -76,12 +76,12 @@ module _ (s : State) (h : List ℕ) (members : Members) where
   listed_new none = found_here s.xorbs h members none
 
   module _ (tells : Bool) (files : Files) (faults : ℕ) (stays : Stays s tells files faults) where
-    pub keeps_added : (s.tells ≡ true → IsStable files (xorb_path s.folder h)) → Keeps s (with_xorb tells files faults)
-    keeps_added stable = keeps_changed s tells files faults stays listed_too s.records [] s.shards [] pending_too stays_listed (λ told k none is. this told k none (is_some_either s.xorbs h k members is)) (sym (append-nil s.records)) (sym (append-nil s.shards))
+    pub keeps_added : (s.tells ≡ true → IsDurable files (xorb_path s.folder h)) → Keeps s (with_xorb tells files faults)
+    keeps_added durable = keeps_changed s tells files faults stays listed_too s.records [] s.shards [] pending_too stays_listed (λ told k none is. this told k none (is_some_either s.xorbs h k members is)) (sym (append-nil s.records)) (sym (append-nil s.shards))
       where
-        this : s.tells ≡ true → (k : List ℕ) → found s.xorbs k ≡ None → IsSome (found s.xorbs k) ⊎ (h ≡ k) → IsStable files (xorb_path s.folder k)
+        this : s.tells ≡ true → (k : List ℕ) → found s.xorbs k ≡ None → IsSome (found s.xorbs k) ⊎ (h ≡ k) → IsDurable files (xorb_path s.folder k)
         this told k none (inl is) = found_nowhere (found s.xorbs k) none is
-        this told k none (inr e) = subst (λ (x : List ℕ). IsStable files (xorb_path s.folder x)) e (stable told)
+        this told k none (inr e) = subst (λ (x : List ℕ). IsDurable files (xorb_path s.folder x)) e (durable told)
 
     pub sound_added : Sound s → found s.xorbs h ≡ None → IsHash h → IsHeld pending_too → (s.tells ≡ true → IsBacked files s.folder h members)
         → (s.tells ≡ true → (k : List ℕ) → IsHash k → SameEntry s.files files (shard_path s.folder k)) → Sound (with_xorb tells files faults)
@@ -116,8 +116,8 @@ module _ (s : State) (h : List ℕ) (members : Members) (tells : Bool) (files : 
   same_added : with_xorb s h members tells files faults ≡ changed s tells files faults xorbs s.records s.shards pending
   same_added = same_change s tells files faults listed refl refl held
 
-  pub keeps_added_at : (s.tells ≡ true → IsStable files (xorb_path s.folder h)) → (t : State) → s ≡ t → Keeps t (changed s tells files faults xorbs s.records s.shards pending)
-  keeps_added_at stable t e = keeps_at s t (changed s tells files faults xorbs s.records s.shards pending) e (subst (λ (n : State). Keeps s n) same_added (keeps_added s h members tells files faults stays stable))
+  pub keeps_added_at : (s.tells ≡ true → IsDurable files (xorb_path s.folder h)) → (t : State) → s ≡ t → Keeps t (changed s tells files faults xorbs s.records s.shards pending)
+  keeps_added_at durable t e = keeps_at s t (changed s tells files faults xorbs s.records s.shards pending) e (subst (λ (n : State). Keeps s n) same_added (keeps_added s h members tells files faults stays durable))
 
   pub sound_added_at : found s.xorbs h ≡ None → IsHash h → IsHeld pending → (s.tells ≡ true → IsBacked files s.folder h members)
       → (s.tells ≡ true → (k : List ℕ) → IsHash k → SameEntry s.files files (shard_path s.folder k)) → Sound (changed s tells files faults xorbs s.records s.shards pending)
@@ -157,7 +157,7 @@ all_readable (c ∷ cs) h = (h.0, all_readable cs h.1)
 
 -- a xorb's text under its name is what backs the members of its chunks
 pub backed_by_text : (files : Files) (folder h text : List ℕ) (chunks : List Chunk) → AllByRecursion (λ c. c.hash ≡ chunk_hash c.bytes) chunks → AllByRecursion (λ c. length c.bytes < 2 ^ 23) chunks
-    → IsXorbText text (map bytes_of chunks) → h ≡ xorb_hash (map chunk_member chunks) → bytes_at files (xorb_path folder h) ≡ Some text → IsBacked files folder h (map chunk_member chunks)
+    → IsXorbEncoding text (map bytes_of chunks) → h ≡ xorb_hash (map chunk_member chunks) → bytes_at files (xorb_path folder h) ≡ Some text → IsBacked files folder h (map chunk_member chunks)
 backed_by_text files folder h text chunks digests small is_text is_hash there =
     let same : map chunk_member chunks ≡ members_of (map bytes_of chunks) = members_are chunks (All-from_recursion _ chunks digests) in record {
       chunks = map bytes_of chunks;
@@ -176,12 +176,12 @@ module _ (raw : RawXorbData) (chunks : List Chunk) (boundaries : List ℕ) (exac
 
   -- its text is a xorb of their bytes
   pub raw_text : (text : List ℕ) → AllByRecursion (λ c. c.hash ≡ chunk_hash c.bytes) chunks → 0 < length chunks → raw_members raw ≡ map chunk_member chunks
-      → (0 < length raw.parts → raw_members raw ≡ members_of raw.parts → raw.xorb_info.metadata.xorb_hash ≡ xorb_hash (members_of raw.parts) → IsXorbText text raw.parts) → IsXorbText text (map bytes_of chunks)
+      → (0 < length raw.parts → raw_members raw ≡ members_of raw.parts → raw.xorb_info.metadata.xorb_hash ≡ xorb_hash (members_of raw.parts) → IsXorbEncoding text raw.parts) → IsXorbEncoding text (map bytes_of chunks)
   raw_text text digests some members is_text =
       let parts : raw.parts ≡ map bytes_of chunks = ap (λ (r : RawXorbData). r.parts) exact in
       let same : map chunk_member chunks ≡ members_of raw.parts = members_are chunks (All-from_recursion _ chunks digests) ∙ ap members_of (sym parts) in
       let many : length raw.parts ≡ length chunks = ap length parts ∙ length-map chunks bytes_of in
-      subst (λ (l : List (List ℕ)). IsXorbText text l) parts (is_text (omega arith) (members ∙ same) (sym hash ∙ raw_hash ∙ ap xorb_hash same))
+      subst (λ (l : List (List ℕ)). IsXorbEncoding text l) parts (is_text (omega arith) (members ∙ same) (sym hash ∙ raw_hash ∙ ap xorb_hash same))
 
 -- chunks that a xorb may have
 pub parts_fit : (chunks : List Chunk) → AllByRecursion (λ c. length c.bytes < 2 ^ 23) chunks → length chunks ≤ 65536 → total chunks ≤ 2 ^ 30 → ArePartsOfXorb (map bytes_of chunks)
@@ -219,7 +219,7 @@ module _ {s : State} {folder h text : List ℕ} {members : Members} {tells : Boo
     where
       go : IsKeptOrDone s.files files (xorb_path s.folder h) text → SameEntry s.files files (xorb_path s.folder h) ⊎ HasXorb files s.folder h
       go (inl e) = inl e
-      go (inr done) = let b = p.backs done.there in inr (record { chunks = b.chunks; stored = b.stored; stable = done.stable })
+      go (inr done) = let b = p.backs done.there in inr (record { chunks = b.chunks; stored = b.stored; durable = done.durable })
 
   xorb_stays : Stays s tells files faults
   xorb_stays = stays_xorb s folder h tells files faults p.sound p.same p.tells_same p.later p.none p.xorbs p.shards p.foreign left_here
@@ -239,8 +239,8 @@ module _ {s : State} {folder h text : List ℕ} {members : Members} {tells : Boo
     put_sound is form there = sound_added_at s h members tells files faults xorb_stays p.sound listed held p.none is form
         (λ told. p.backs (subst (λ (f : List ℕ). bytes_at files (xorb_path f h) ≡ Some text) p.same (there told))) shards_here
 
-    pub put_keeps : (s.tells ≡ true → IsStable files (xorb_path folder h)) → (t : State) → s ≡ t → Keeps t (changed s tells files faults xorbs s.records s.shards pending)
-    put_keeps stable t e = keeps_added_at s h members tells files faults xorb_stays p.sound listed held (λ told. subst (λ (f : List ℕ). IsStable files (xorb_path f h)) p.same (stable told)) t e
+    pub put_keeps : (s.tells ≡ true → IsDurable files (xorb_path folder h)) → (t : State) → s ≡ t → Keeps t (changed s tells files faults xorbs s.records s.shards pending)
+    put_keeps durable t e = keeps_added_at s h members tells files faults xorb_stays p.sound listed held (λ told. subst (λ (f : List ℕ). IsDurable files (xorb_path f h)) p.same (durable told)) t e
 
     pub put_tables : (t : State) → s ≡ t → (chunks : List Chunk) → AllByRecursion (λ c. c.hash ≡ chunk_hash c.bytes) chunks → h ≡ xorb_hash (map chunk_member chunks)
         → members ≡ map chunk_member chunks → tables xorbs s.records pending ≡ with_xorb_of (tables_of t) (map bytes_of chunks)

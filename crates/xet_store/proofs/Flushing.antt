@@ -12,13 +12,13 @@ use Rattle.xet_shard_format.specs.declared.header_footer.MDBShardFileFooter.{MDB
 use Rattle.xet_shard_format.specs.declared.record.FileDataSequenceEntry.{FileDataSequenceEntry as Segment}
 use Rattle.xet_shard_format.specs.declared.record.MDBFileInfo.{MDBFileInfo}
 use Rattle.xet_shard.specs.Held.{Held, IsHeld, by_hash, held_shard, nothing}
-use Rattle.xet_shard_format.specs.Lookups.{all_lookups, chunk_items, file_items, heads_text, places_text, xorb_items}
+use Rattle.xet_shard_format.specs.Lookups.{all_lookups, chunk_items, file_items, record_items_bytes, chunk_items_bytes, xorb_items}
 use Rattle.xet_codec.specs.Parsing.{◌>>=◌}
 use Rattle.xet_shard_format.specs.Reading.{Parts, all_of, file_at as read_file, file_row_count, footer_at, header_at, lookup_at, parts_of, section_at, totals_at, xorb_at, xorb_row_count}
 use Rattle.xet_shard_format.specs.Records.{file_hash, xorb_hash}
 use Rattle.xet_shard_format.specs.Rows.{rows_in}
 use Rattle.xet_shard_format.specs.Sorted.{put_in, sorted}
-use Rattle.xet_shard_format.specs.Text.{Fits, IsShard, footer_of, full_text, materialized, stored}
+use Rattle.xet_shard_format.specs.Encoding.{Fits, IsShard, footer_of, full_shard_bytes, materialized, stored}
 use Rattle.xet_shard_format.specs.theorems.RowLaws.{bind_ok}
 use Rattle.xet_shard_format.specs.theorems.WholeAgain.{all_again}
 use Rattle.xet_folder.specs.Admission.{BlockHolds, FileHolds, ShardHolds, block_members, shard_hash}
@@ -34,7 +34,7 @@ use Rattle.xet_folder.specs.Stored.{IsBacked}
 use Rattle.xet_folder.specs.Xorbs.{AreBacked, IsListed, Records, Xorbs, found}
 use Rattle.xet_base.specs.theorems.Elements.{all_push, all_more}
 use Rattle.xet_store.specs.Cleaning.{HasWholeShard, Keeps, SameEntry}
-use Rattle.xet_store.specs.Flushing.{IsFlushed, IsUnflushed, KeepsOthers, pending_text}
+use Rattle.xet_store.specs.Flushing.{IsFlushed, IsUnflushed, KeepsOthers, pending_bytes}
 use Rattle.xet_store.specs.Separate.{Among}
 use Rattle.xet_store.specs.Store.{State, IsAdmitted, IsKept, IsPendingFile, Sound}
 use Rattle.xet_store.specs.theorems.Admitting.{SameXorb, admitted_still, admitted_with, backed_same, registered_still, this_registered}
@@ -56,16 +56,16 @@ with_footer bytes p e =
     let g : MDBShardFileFooter = foot.0 in
     let fs = bind_ok (section_at read_file file_hash (file_row_count g) None (rows_in (file_row_count g) (drop g.file_info_offset bytes))) _ _ foot.2 in
     let xs = bind_ok (section_at xorb_at xorb_hash (xorb_row_count g) None (rows_in (xorb_row_count g) (drop g.xorb_info_offset bytes))) _ _ fs.2 in
-    let l1 = bind_ok (lookup_at bytes g.file_lookup_offset (12 * g.file_lookup_num_entry) (heads_text (file_items fs.0))) _ _ xs.2 in
-    let l2 = bind_ok (lookup_at bytes g.xorb_lookup_offset (12 * g.xorb_lookup_num_entry) (heads_text (xorb_items xs.0))) _ _ l1.2 in
-    let l3 = bind_ok (lookup_at bytes g.chunk_lookup_offset (16 * g.chunk_lookup_num_entry) (places_text (chunk_items xs.0))) _ _ l2.2 in
+    let l1 = bind_ok (lookup_at bytes g.file_lookup_offset (12 * g.file_lookup_num_entry) (record_items_bytes (file_items fs.0))) _ _ xs.2 in
+    let l2 = bind_ok (lookup_at bytes g.xorb_lookup_offset (12 * g.xorb_lookup_num_entry) (record_items_bytes (xorb_items xs.0))) _ _ l1.2 in
+    let l3 = bind_ok (lookup_at bytes g.chunk_lookup_offset (16 * g.chunk_lookup_num_entry) (chunk_items_bytes (chunk_items xs.0))) _ _ l2.2 in
     let t = bind_ok (totals_at g (materialized fs.0) (stored xs.0)) _ _ l3.2 in
     let made : Parts = (xs.0, fs.0, g) in
     ap (λ (r : Result (Unit {0}) StoreError). r >>= λ _. footer_at bytes) head.1 ∙ foot.1 ∙ ap Ok (ok_footer made p t.2)
 
 -- a shard without expiry does not expire
 module _ (held : Held) (now : ℕ) (shard : IsShard (held_shard held now None)) (fits : Fits (held_shard held now None)) where
-  pub read_again : all_of (full_text (held_shard held now None)) ≡ Ok (parts_of all_lookups (held_shard held now None))
+  pub read_again : all_of (full_shard_bytes (held_shard held now None)) ≡ Ok (parts_of all_lookups (held_shard held now None))
   read_again = all_again all_lookups (held_shard held now None) shard fits
 
   never_past : (moment : ℕ) → moment < 2 ^ 64 → nat_lt (footer_of all_lookups (held_shard held now None)).shard_key_expiry moment ≡ false
@@ -73,11 +73,11 @@ module _ (held : Held) (now : ℕ) (shard : IsShard (held_shard held now None)) 
   never_past moment below = le-ltb (2 ^ 64 - 1) moment (omega (arith, below))
 
   -- at any moment
-  pub never_expired : (moment : ℕ) → moment < 2 ^ 64 → is_expired moment (full_text (held_shard held now None)) ≡ false
+  pub never_expired : (moment : ℕ) → moment < 2 ^ 64 → is_expired moment (full_shard_bytes (held_shard held now None)) ≡ false
   never_expired moment below =
-      ap (is_past moment) (with_footer (full_text (held_shard held now None)) (parts_of all_lookups (held_shard held now None)) read_again) ∙ never_past moment below
+      ap (is_past moment) (with_footer (full_shard_bytes (held_shard held now None)) (parts_of all_lookups (held_shard held now None)) read_again) ∙ never_past moment below
 
-  pub not_expired : is_expired now (full_text (held_shard held now None)) ≡ false
+  pub not_expired : is_expired now (full_shard_bytes (held_shard held now None)) ≡ false
   not_expired = never_expired now fits.creation
 
 -- ---- the shard is whole
@@ -132,7 +132,7 @@ module _ (s : State) (sound : Sound s) (shard : IsShard (held_shard s.pending s.
   blocks_listed = all_sorted _ (λ b. IsListed s.xorbs (xorb_hash b) (block_members b)) s.pending.blocks sound.blocks
 
   -- each xorb that it names is listed
-  named_listed : (bytes : List ℕ) → bytes ≡ pending_text s → (x : List ℕ) → OfBytes bytes x → IsSome (found s.xorbs x)
+  named_listed : (bytes : List ℕ) → bytes ≡ pending_bytes s → (x : List ℕ) → OfBytes bytes x → IsSome (found s.xorbs x)
   named_listed bytes is x (p, read, of) = go (subst (λ (q : Parts). OfShard q x) same of)
     where
       reads : ◌≡◌ {A = Result Parts StoreError} (Ok p) (Ok parts)
@@ -157,7 +157,7 @@ module _ (s : State) (sound : Sound s) (shard : IsShard (held_shard s.pending s.
       go (inr (f, among, of)) = of_files (by_hash file_hash s.pending.files) f files_recorded (to_among (by_hash file_hash s.pending.files) f among) of
 
   -- where the listed xorbs are stored, it holds
-  text_holds : (files : Files) (h : List ℕ) (file : File) → AreBacked files s.folder s.xorbs → h ≡ shard_hash (pending_text s) → file.bytes ≡ pending_text s
+  text_holds : (files : Files) (h : List ℕ) (file : File) → AreBacked files s.folder s.xorbs → h ≡ shard_hash (pending_bytes s) → file.bytes ≡ pending_bytes s
       → ShardHolds files s.folder (record { hash = h; file = file })
   unfolding footer_of
   text_holds files h file backed hash is = record {
@@ -171,24 +171,24 @@ module _ (s : State) (sound : Sound s) (shard : IsShard (held_shard s.pending s.
   }
 
 -- what a put leaves of a shard's file: it is as it was, or the whole shard
-module _ (s : State) (h : List ℕ) (tells : Bool) (files : Files) (faults : ℕ) (sound : Sound s) (is_hash : IsHash h) (hash : h ≡ shard_hash (pending_text s)) (shard : IsShard (held_shard s.pending s.opened None))
+module _ (s : State) (h : List ℕ) (tells : Bool) (files : Files) (faults : ℕ) (sound : Sound s) (is_hash : IsHash h) (hash : h ≡ shard_hash (pending_bytes s)) (shard : IsShard (held_shard s.pending s.opened None))
     (fits : Fits (held_shard s.pending s.opened None)) (same_xorbs : s.tells ≡ true → (k : List ℕ) → IsHash k → SameEntry s.files files (xorb_path s.folder k)) where
   backed_after : s.tells ≡ true → AreBacked files s.folder s.xorbs
   backed_after told k ms listed =
       backed_same s.files files s.folder k ms (same_bytes_at s.files files (xorb_path s.folder k) (same_xorbs told k (sound.hashes k (is_some_found s.xorbs k ms listed)))) (sound.backed told k ms listed)
 
-  pub whole_there : s.tells ≡ true → IsDone files (shard_path s.folder h) (pending_text s) → HasWholeShard (changed s tells files faults s.xorbs s.records s.shards s.pending) h
+  pub whole_there : s.tells ≡ true → IsDone files (shard_path s.folder h) (pending_bytes s) → HasWholeShard (changed s tells files faults s.xorbs s.records s.shards s.pending) h
   whole_there told done =
-      let f = file_there files (shard_path s.folder h) (pending_text s) done.there in record {
-        shard = record { file = f.0; there = f.1; stable = done.stable; holds = text_holds s sound shard fits files h f.0 (backed_after told) hash f.2 };
+      let f = file_there files (shard_path s.folder h) (pending_bytes s) done.there in record {
+        shard = record { file = f.0; there = f.1; durable = done.durable; holds = text_holds s sound shard fits files h f.0 (backed_after told) hash f.2 };
         listed = named_listed s sound shard fits (f.0).bytes f.2;
       }
 
-  pub left_there : (s.tells ≡ true → IsKeptOrDone s.files files (shard_path s.folder h) (pending_text s))
+  pub left_there : (s.tells ≡ true → IsKeptOrDone s.files files (shard_path s.folder h) (pending_bytes s))
       → s.tells ≡ true → SameEntry s.files files (shard_path s.folder h) ⊎ HasWholeShard (changed s tells files faults s.xorbs s.records s.shards s.pending) h
   left_there left told = go (left told)
     where
-      go : IsKeptOrDone s.files files (shard_path s.folder h) (pending_text s)
+      go : IsKeptOrDone s.files files (shard_path s.folder h) (pending_bytes s)
           → SameEntry s.files files (shard_path s.folder h) ⊎ HasWholeShard (changed s tells files faults s.xorbs s.records s.shards s.pending) h
       go (inl same) = inl same
       go (inr done) = inr (whole_there told done)
@@ -201,14 +201,14 @@ module _ (s : State) (h : List ℕ) (tells : Bool) (files : Files) (faults : ℕ
     others_same : s.tells ≡ true → (k : List ℕ) → IsHash k → k ≢ h → file_at files (shard_path s.folder k) ≡ file_at s.files (shard_path s.folder k)
     others_same told k is apart = same_file_at s.files files (shard_path s.folder k) (others told k is apart)
 
-    valid_text : (file : File) → file.bytes ≡ pending_text s → is_expired s.opened file.bytes ≡ false
+    valid_text : (file : File) → file.bytes ≡ pending_bytes s → is_expired s.opened file.bytes ≡ false
     valid_text file is = ap (is_expired s.opened) is ∙ not_expired s.pending s.opened shard fits
 
     -- with the shard registered
-    pub admitted_put : s.tells ≡ true → IsDone files (shard_path s.folder h) (pending_text s) → IsAdmitted files s.folder s.opened s.xorbs (s.shards ++ h ∷ [])
+    pub admitted_put : s.tells ≡ true → IsDone files (shard_path s.folder h) (pending_bytes s) → IsAdmitted files s.folder s.opened s.xorbs (s.shards ++ h ∷ [])
     unfolding file_there whole_there
     admitted_put told done =
-        let f = file_there files (shard_path s.folder h) (pending_text s) done.there in
+        let f = file_there files (shard_path s.folder h) (pending_bytes s) done.there in
         let w = whole_there told done in
         let still = registered_still s.files files s.folder s.opened s.xorbs s.xorbs s.shards (λ k is. is) (xorbs_same told) (sound.admitted told) h f.0 is_hash f.1 (valid_text f.0 f.2) w.shard.holds w.listed (others_same told) in
         let this = this_registered s.files files s.folder s.opened s.xorbs s.xorbs s.shards (λ k is. is) (xorbs_same told) (sound.admitted told) h f.0 is_hash f.1 (valid_text f.0 f.2) w.shard.holds w.listed (others_same told) in
@@ -216,16 +216,16 @@ module _ (s : State) (h : List ℕ) (tells : Bool) (files : Files) (faults : ℕ
         (s.shards ++ h ∷ []) (all_push _ s.shards h still this)
 
     -- and where it is not
-    pub admitted_left : (s.tells ≡ true → IsKeptOrDone s.files files (shard_path s.folder h) (pending_text s))
+    pub admitted_left : (s.tells ≡ true → IsKeptOrDone s.files files (shard_path s.folder h) (pending_bytes s))
         → s.tells ≡ true → IsAdmitted files s.folder s.opened s.xorbs s.shards
     unfolding file_there whole_there
     admitted_left left told = go (left told)
       where
-        go : IsKeptOrDone s.files files (shard_path s.folder h) (pending_text s) → IsAdmitted files s.folder s.opened s.xorbs s.shards
+        go : IsKeptOrDone s.files files (shard_path s.folder h) (pending_bytes s) → IsAdmitted files s.folder s.opened s.xorbs s.shards
         go (inl same) = admitted_still s.files files s.folder s.opened s.xorbs s.xorbs s.shards (λ k is. is) (xorbs_same told) (sound.admitted told)
             (λ k is. hash_cases k h (λ e. subst (λ (x : List ℕ). file_at files (shard_path s.folder x) ≡ file_at s.files (shard_path s.folder x)) (sym e) (same_file_at s.files files (shard_path s.folder h) same)) (λ apart. others_same told k is apart))
         go (inr done) =
-            let f = file_there files (shard_path s.folder h) (pending_text s) done.there in
+            let f = file_there files (shard_path s.folder h) (pending_bytes s) done.there in
             let w = whole_there told done in
             let still = registered_still s.files files s.folder s.opened s.xorbs s.xorbs s.shards (λ k is. is) (xorbs_same told) (sound.admitted told) h f.0 is_hash f.1 (valid_text f.0 f.2) w.shard.holds w.listed (others_same told) in
             admitted_with s.files files s.folder s.opened s.xorbs s.xorbs s.shards (λ k is. is) (xorbs_same told) (sound.admitted told) h f.0 is_hash f.1 (valid_text f.0 f.2) w.shard.holds w.listed (others_same told) s.shards still
@@ -234,10 +234,10 @@ module _ (s : State) (h : List ℕ) (tells : Bool) (files : Files) (faults : ℕ
 
 -- where the shard is there, each file that was pending is listed at any moment
 module _ (s : State) (h : List ℕ) (files : Files) (hash : IsHash h) (shard : IsShard (held_shard s.pending s.opened None)) (fits : Fits (held_shard s.pending s.opened None))
-    (there : bytes_at files (shard_path s.folder h) ≡ Some (pending_text s)) where
+    (there : bytes_at files (shard_path s.folder h) ≡ Some (pending_bytes s)) where
   pub lists_new : (f : MDBFileInfo) → IsAmong s.pending.files f → (moment : ℕ) → moment < 2 ^ 64 → Lists files s.folder moment f
   lists_new f among moment below =
-      let file = file_there files (shard_path s.folder h) (pending_text s) there in record {
+      let file = file_there files (shard_path s.folder h) (pending_bytes s) there in record {
         shard = record { hash = h; file = file.0 };
         there = record { named = hash; there = file.1 };
         valid = ap (λ (b : List ℕ). is_expired moment b) file.2 ∙ never_expired s.pending s.opened shard fits moment below;
@@ -257,7 +257,7 @@ module _ (s : State) (h : List ℕ) (tells : Bool) (files : Files) (faults : ℕ
   keeps_flushed = keeps_changed s tells files faults stays s.xorbs s.records [] (s.shards ++ h ∷ []) (h ∷ []) nothing (λ k ms l. l) (λ told k none is. found_nowhere (found s.xorbs k) none is) (sym (append-nil s.records)) refl
 
   module _ (sound : Sound s) (hash : IsHash h) (shard : IsShard (held_shard s.pending s.opened None)) (fits : Fits (held_shard s.pending s.opened None))
-      (there : s.tells ≡ true → bytes_at files (shard_path s.folder h) ≡ Some (pending_text s)) (admitted : s.tells ≡ true → IsAdmitted files s.folder s.opened s.xorbs (s.shards ++ h ∷ [])) where
+      (there : s.tells ≡ true → bytes_at files (shard_path s.folder h) ≡ Some (pending_bytes s)) (admitted : s.tells ≡ true → IsAdmitted files s.folder s.opened s.xorbs (s.shards ++ h ∷ [])) where
     -- what was pending is kept by the new shard
     kept_new : (f : MDBFileInfo) → s.tells ≡ true → IsAmong s.pending.files f → IsKept files s.folder s.opened (s.shards ++ h ∷ []) f
     unfolding lists_new
@@ -298,18 +298,18 @@ module _ (s : State) (h : List ℕ) (tells : Bool) (files : Files) (faults : ℕ
   keeps_flushed_at t e = keeps_at s t (changed s tells files faults s.xorbs s.records shards pending) e (subst (λ (n : State). Keeps s n) same_flushed (keeps_flushed s h tells files faults stays))
 
   pub sound_flushed_at : IsHash h → IsShard (held_shard s.pending s.opened None) → Fits (held_shard s.pending s.opened None)
-      → (s.tells ≡ true → bytes_at files (shard_path s.folder h) ≡ Some (pending_text s)) → (s.tells ≡ true → IsAdmitted files s.folder s.opened s.xorbs (s.shards ++ h ∷ []))
+      → (s.tells ≡ true → bytes_at files (shard_path s.folder h) ≡ Some (pending_bytes s)) → (s.tells ≡ true → IsAdmitted files s.folder s.opened s.xorbs (s.shards ++ h ∷ []))
       → Sound (changed s tells files faults s.xorbs s.records shards pending)
   sound_flushed_at hash shard fits there admitted = subst Sound same_flushed (sound_flushed s h tells files faults stays sound hash shard fits there admitted)
 
-  pub is_flushed : IsHash h → IsShard (held_shard s.pending s.opened None) → Fits (held_shard s.pending s.opened None) → (t : State) → s ≡ t → h ≡ shard_hash (pending_text s)
-      → (s.tells ≡ true → IsDone files (shard_path s.folder h) (pending_text s)) → (s.tells ≡ true → KeepsOthers s.files files (shard_path s.folder h))
+  pub is_flushed : IsHash h → IsShard (held_shard s.pending s.opened None) → Fits (held_shard s.pending s.opened None) → (t : State) → s ≡ t → h ≡ shard_hash (pending_bytes s)
+      → (s.tells ≡ true → IsDone files (shard_path s.folder h) (pending_bytes s)) → (s.tells ≡ true → KeepsOthers s.files files (shard_path s.folder h))
       → IsFlushed t h (changed s tells files faults s.xorbs s.records shards pending)
   is_flushed is_hash shard fits t e hash done others = subst (λ (o : State). IsFlushed o h (changed s tells files faults s.xorbs s.records shards pending)) e
       (record {
         hash = hash;
         there = λ told. (done told).there;
-        durable = λ told. (done told).stable;
+        durable = λ told. (done told).durable;
         temp = λ told. (done told).temp;
         others = others;
         lasts = λ told f among moment below. lists_new s h files is_hash shard fits (done told).there f among moment below;
@@ -321,8 +321,8 @@ module _ (s : State) (h : List ℕ) (tells : Bool) (files : Files) (faults : ℕ
 
 -- ---- after an error
 
-module _ (s : State) (h : List ℕ) (tells : Bool) (files : Files) (faults : ℕ) (hash : h ≡ shard_hash (pending_text s)) (others : s.tells ≡ true → KeepsOthers s.files files (shard_path s.folder h))
-    (whole : s.tells ≡ true → IsKeptOrDone s.files files (shard_path s.folder h) (pending_text s)) {xorbs : Xorbs} {records : Records} {shards : List (List ℕ)} {pending : Held} where
+module _ (s : State) (h : List ℕ) (tells : Bool) (files : Files) (faults : ℕ) (hash : h ≡ shard_hash (pending_bytes s)) (others : s.tells ≡ true → KeepsOthers s.files files (shard_path s.folder h))
+    (whole : s.tells ≡ true → IsKeptOrDone s.files files (shard_path s.folder h) (pending_bytes s)) {xorbs : Xorbs} {records : Records} {shards : List (List ℕ)} {pending : Held} where
   pub unflushed_at : (t : State) → s ≡ t → xorbs ≡ s.xorbs → records ≡ s.records → shards ≡ s.shards → pending ≡ s.pending → IsUnflushed t (changed s tells files faults xorbs records shards pending)
   unflushed_at t e ex er es ep = subst (λ (o : State). IsUnflushed o (changed s tells files faults xorbs records shards pending)) e
       (record {
@@ -331,13 +331,13 @@ module _ (s : State) (h : List ℕ) (tells : Bool) (files : Files) (faults : ℕ
         xorbs = ex;
         records = er;
         others = λ told. subst (λ (k : List ℕ). KeepsOthers s.files files (shard_path s.folder k)) hash (others told);
-        whole = λ told. subst (λ (k : List ℕ). IsKeptOrDone s.files files (shard_path s.folder k) (pending_text s)) hash (whole told);
+        whole = λ told. subst (λ (k : List ℕ). IsKeptOrDone s.files files (shard_path s.folder k) (pending_bytes s)) hash (whole told);
       })
 
 -- before anything was put
 pub unput_at : (s : State) {xorbs : Xorbs} {records : Records} {shards : List (List ℕ)} {pending : Held} (t : State) → s ≡ t → xorbs ≡ s.xorbs → records ≡ s.records → shards ≡ s.shards → pending ≡ s.pending
     → IsUnflushed t (changed s s.tells s.files s.faults xorbs records shards pending)
-unput_at s t e ex er es ep = unflushed_at s (shard_hash (pending_text s)) s.tells s.files s.faults refl (λ told other name temp. refl) (λ told. inl refl) t e ex er es ep
+unput_at s t e ex er es ep = unflushed_at s (shard_hash (pending_bytes s)) s.tells s.files s.faults refl (λ told other name temp. refl) (λ told. inl refl) t e ex er es ep
 
 pub nothing_done : (s : State) → IsUnflushed s s
 nothing_done s = unput_at s s refl refl refl refl refl
@@ -353,7 +353,7 @@ pub record PutsShard (s : State) (folder h text : List ℕ) (tells : Bool) (file
   pub new : Among s.shards h → ⊥
   pub is_hash : IsHash h
   pub hash : h ≡ shard_hash text
-  pub is : text ≡ pending_text s
+  pub is : text ≡ pending_bytes s
   pub shard : IsShard (held_shard s.pending s.opened None)
   pub fits : Fits (held_shard s.pending s.opened None)
   pub xorbs : s.tells ≡ true → (k : List ℕ) → IsHash k → SameEntry s.files files (xorb_path folder k)
@@ -363,7 +363,7 @@ pub record PutsShard (s : State) (folder h text : List ℕ) (tells : Bool) (file
   pub left : s.tells ≡ true → IsKeptOrDone s.files files (shard_path folder h) text
 
 module _ {s : State} {folder h text : List ℕ} {tells : Bool} {files : Files} {faults : ℕ} (p : PutsShard s folder h text tells files faults) where
-  hash_here : h ≡ shard_hash (pending_text s)
+  hash_here : h ≡ shard_hash (pending_bytes s)
   hash_here = p.hash ∙ ap shard_hash p.is
 
   xorbs_here : s.tells ≡ true → (k : List ℕ) → IsHash k → SameEntry s.files files (xorb_path s.folder k)
@@ -375,7 +375,7 @@ module _ {s : State} {folder h text : List ℕ} {tells : Bool} {files : Files} {
   others_here : s.tells ≡ true → KeepsOthers s.files files (shard_path s.folder h)
   others_here told = subst (λ (f : List ℕ). KeepsOthers s.files files (shard_path f h)) p.same (p.others told)
 
-  left_here : s.tells ≡ true → IsKeptOrDone s.files files (shard_path s.folder h) (pending_text s)
+  left_here : s.tells ≡ true → IsKeptOrDone s.files files (shard_path s.folder h) (pending_bytes s)
   left_here told =
       subst (λ (t : List ℕ). IsKeptOrDone s.files files (shard_path s.folder h) t) p.is (subst (λ (f : List ℕ). IsKeptOrDone s.files files (shard_path f h) text) p.same (p.left told))
 
@@ -398,7 +398,7 @@ module _ {s : State} {folder h text : List ℕ} {tells : Bool} {files : Files} {
 
   -- done
   module _ {shards : List (List ℕ)} {pending : Held} (registered : shards ≡ s.shards ++ h ∷ []) (none : pending ≡ nothing) (done : s.tells ≡ true → IsDone files (shard_path folder h) text) where
-    done_here : s.tells ≡ true → IsDone files (shard_path s.folder h) (pending_text s)
+    done_here : s.tells ≡ true → IsDone files (shard_path s.folder h) (pending_bytes s)
     done_here told = subst (λ (t : List ℕ). IsDone files (shard_path s.folder h) t) p.is (subst (λ (f : List ℕ). IsDone files (shard_path f h) text) p.same (done told))
 
     pub put_sound : Sound (changed s tells files faults s.xorbs s.records shards pending)

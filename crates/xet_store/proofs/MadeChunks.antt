@@ -7,7 +7,7 @@ use Rattle.xet_hash.specs.Merkle.{chunk_hash, members_of}
 use Rattle.xet_xorb_chunk.specs.Chunks.{bytes_of, chunk_member, chunk_of}
 use Rattle.xet_xorb_chunk.specs.declared.chunk.Chunk.{Chunk}
 use Rattle.xet_cut.specs.declared.limits.LimitSettings.{LimitSettings}
-use Rattle.xet_cut.specs.Cut.{cut, may_end, piece_len}
+use Rattle.xet_cut.specs.Cut.{cut, may_end, first_chunk_len}
 
 -- They carry their digests.
 pub made_digests : (bs : List (List ℕ)) → AllByRecursion (λ c. c.hash ≡ chunk_hash c.bytes) (map chunk_of bs)
@@ -39,8 +39,8 @@ first_below p k (suc n) most e = by_cases (p k) refl (first_below p (suc k) n mo
     by_cases false t later = rw (t, first_of) later
 
 -- A piece is no longer than a chunk may be.
-piece_short : (s : LimitSettings) (bs : List ℕ) → piece_len s bs ≤ s.maximum_chunk
-unfolding piece_len
+piece_short : (s : LimitSettings) (bs : List ℕ) → first_chunk_len s bs ≤ s.maximum_chunk
+unfolding first_chunk_len
 piece_short s bs =
     let most : ℕ = min s.maximum_chunk (length bs) in
     let below : unwrap_or (first_of (may_end s bs) s.minimum_chunk (most + 1 - s.minimum_chunk)) most ≤ most = first_below (may_end s bs) s.minimum_chunk (most + 1 - s.minimum_chunk) most refl in
@@ -63,4 +63,4 @@ made_fit n (b ∷ bs) h = (h.0, made_fit n bs h.1)
 
 -- No chunk of a cut is longer than a chunk may be.
 pub cut_fits : (s : LimitSettings) (bs : List ℕ) → AllByRecursion (λ c. length c.bytes ≤ s.maximum_chunk) (map chunk_of (cut s bs))
-cut_fits s bs = made_fit s.maximum_chunk (cut s bs) (pieces_short (piece_len s) s.maximum_chunk (piece_short s) 0 bs)
+cut_fits s bs = made_fit s.maximum_chunk (cut s bs) (pieces_short (first_chunk_len s) s.maximum_chunk (piece_short s) 0 bs)

@@ -18,7 +18,7 @@ use Rattle.xet_folder.specs.theorems.Ranges.{range-append, range_past}
 use Rattle.xet_folder.specs.Contents.{IsRecord}
 use Rattle.xet_store.specs.Ranges.{IsRange}
 use Rattle.xet_store.specs.Store.{Sound, State, plan_of}
-use Rattle.xet_store.specs.Reading.{IsStoredListed, JoinsListed, LiesListed}
+use Rattle.xet_store.specs.internal.Reading.{IsStoredListed, JoinsListed, LiesListed}
 use Rattle.xet_store.specs.theorems.Plans.{joins_bytes, joins_map, joins_more, joins_split, part-map, record_bytes}
 use Rattle.xet_store.specs.theorems.Staying.{changed}
 use Rattle.xet_store.specs.theorems.Whole.{found_has, mapped}

@@ -16,7 +16,8 @@ use Rattle.xet_folder.specs.Xorbs.{IsListed, Records, Xorbs, found}
 use Rattle.xet_folder.specs.theorems.Tables.{found_either, found_here, found_kept}
 use Rattle.xet_store.specs.Cleaning.{Adds, Keeps}
 use Rattle.xet_dedup.specs.Records.{file_record}
-use Rattle.xet_store.specs.Store.{State, IsKept, IsNewFile, IsPendingFile, Sound}
+use Rattle.xet_store.specs.Store.{State, IsKept, IsPendingFile, Sound}
+use Rattle.xet_store.specs.internal.Store.{IsNewFile}
 use Rattle.xet_store.specs.Tables.{tables, tables_of, with_record}
 use Rattle.xet_store.specs.theorems.Rows.{among_filter, among_last, among_more, apart_found, from_among, is_some_found, to_among}
 use Rattle.xet_store.proofs.Rows.{differ_more, differ_none}

@@ -13,7 +13,7 @@ use Rattle.xet_shard_format.specs.declared.record.MDBFileInfo.{MDBFileInfo}
 use Rattle.xet_store.specs.declared.info.XetFileInfo.{XetFileInfo}
 use Rattle.xet_cut.specs.declared.limits.LimitSettings.{LimitSettings}
 use Rattle.xet_store.specs.Cleaning.{EachTold, Later, Stores, StoresSome, Taken, info_of}
-use Rattle.xet_cut.specs.Cut.{cut, piece_len}
+use Rattle.xet_cut.specs.Cut.{cut, first_chunk_len}
 use Rattle.xet_dedup.specs.Packing.{packs}
 use Rattle.xet_dedup.specs.Records.{file_record}
 use Rattle.xet_store.specs.Store.{State}
@@ -30,7 +30,7 @@ with_none s t bytes none = sym (ap (with_file s t) none)
 
 -- no bytes have no chunks
 pub cut_none : (s : LimitSettings) (bytes : List ℕ) → bytes ≡ [] → cut s bytes ≡ []
-cut_none s bytes none = ap (cut s) none ∙ pieces_none (piece_len s) [] refl
+cut_none s bytes none = ap (cut s) none ∙ pieces_none (first_chunk_len s) [] refl
 
 -- the record that is made of a file's chunks is that of its bytes
 pub made_record : (s : LimitSettings) (bytes : List ℕ) (f : MDBFileInfo) (members : List (List ℕ × ℕ)) (plan : List Segment) (digest : List ℕ) → f ≡ file_record members plan (Some digest)

@@ -1,4 +1,4 @@
--- Cleaning: files into a store.
+-- Cleaning: what it returns, what it adds to a session, and what it keeps.
 use Rattle.std.specs.Prelude.{◌≡◌, ◌⊎◌, ℕ, zero, suc, ◌<◌, ◌≤◌, Bool, true, List, [], ◌∷◌, ◌++◌, drop, length, map, Some, None, IsSome}
 use Rattle.std.specs.FinMap.{get}
 use Rattle.std.specs.List.{AllByRecursion}
@@ -26,25 +26,26 @@ use Rattle.xet_folder.specs.Xorbs.{IsListed, Records, found}
 use Rattle.xet_store.specs.Store.{Differ, State, plan_of}
 use Rattle.xet_store.specs.Tables.{StoresPart, tables_of, with_files}
 
--- hash, length and SHA-256 (FIPS 180-4) of a file
+-- the pointer record of a file: hash, length and SHA-256 (FIPS 180-4)
 abbrev pub info_of : LimitSettings → List ℕ → XetFileInfo
 info_of s bytes = record { hash = file_hash (members_of (cut s bytes)); file_size = length bytes; sha256 = Some (sha256 bytes) }
 
--- P holds of what each source tells and what stands beside it, and the lists are equally long.
+-- The lists are equally long, and P holds of what each observable source has left and the element at its
+-- index.
 abbrev pub EachTold : {S X : Type 0} → (S → Bool) → (S → List ℕ) → (List ℕ → X → Type 0) → List S → List X → Type 0
 EachTold tells left P [] [] = Unit {0}
 EachTold tells left P [] (x ∷ xs) = ⊥
 EachTold tells left P (s ∷ ss) [] = ⊥
 EachTold tells left P (s ∷ ss) (x ∷ xs) = (tells s ≡ true → P (left s) x) × EachTold tells left P ss xs
 
--- the count of each source has not fallen
+-- the count of failures of each source has not fallen
 abbrev pub Later : {S : Type 0} → (S → ℕ) → List S → List S → Type 0
 Later faults [] [] = Unit {0}
 Later faults [] (t ∷ ts) = ⊥
 Later faults (s ∷ ss) [] = ⊥
 Later faults (s ∷ ss) (t ∷ ts) = (faults s ≤ faults t) × Later faults ss ts
 
--- of each source that is observable a front of what it had left was taken
+-- of each observable source, a prefix of what it had left was taken
 abbrev pub Taken : {S : Type 0} → (S → Bool) → (S → List ℕ) → List S → List S → Type 0
 Taken tells left [] [] = Unit {0}
 Taken tells left [] (t ∷ ts) = ⊥
@@ -55,7 +56,7 @@ Taken tells left (s ∷ ss) (t ∷ ts) = (tells s ≡ true → (n : ℕ) × (lef
 abbrev pub cuts : {S : Type 0} → (S → List ℕ) → LimitSettings → List S → List (List (List ℕ))
 cuts left s sources = map (λ source. cut s (left source)) sources
 
--- The store has a plan for the file of these chunks, and what is stored joins to them.
+-- The session has a plan for the file of these chunks, and it resolves to these chunks as they are stored.
 abbrev pub HasFile : State → List (List ℕ) → Type 0
 HasFile s chunks =
     (plan : List Segment) × (plan_of s.records (file_hash (members_of chunks)) ≡ Some plan) × Joins (IsStored s.files s.folder) length plan chunks
@@ -67,36 +68,37 @@ IsPacked files folder s chunks = AllByRecursion (λ pack. IsStored files folder 
 abbrev pub HasXorbs : State → List (List ℕ) → Type 0
 HasXorbs s chunks = IsPacked s.files s.folder s.limits chunks
 
--- A file under a name is as it was: its bytes, its stamp, and whether a crash keeps it.
+-- The file under a name is as it was: its bytes, its modification time and its durability.
 abbrev pub SameEntry : Files → Files → List ℕ → Type 0
 SameEntry old new name = get new name ≡ get old name
 
--- A crash keeps what stands under a name.
-abbrev pub IsStable : Files → List ℕ → Type 0
-IsStable files name = option_map (λ e. e.stable) (get files name) ≡ Some true
+-- The file under a name is durable: a crash keeps it.
+abbrev pub IsDurable : Files → List ℕ → Type 0
+IsDurable files name = option_map (λ e. e.durable) (get files name) ≡ Some true
 
--- The xorb h stands in a folder, and a crash keeps it.
+-- The xorb h is stored in a folder, durable.
 pub record HasXorb (files : Files) (folder h : List ℕ) : Type 0 where
   pub chunks : List (List ℕ)
   pub stored : IsStored files folder h chunks
-  pub stable : IsStable files (xorb_path folder h)
+  pub durable : IsDurable files (xorb_path folder h)
 
--- A whole shard stands in a folder under the name of its digest, and a crash keeps it; what it names is stored.
+-- A well-formed shard is stored in a folder, under the name of its digest and durable; what it names is
+-- stored.
 pub record HasShard (files : Files) (folder h : List ℕ) : Type 0 where
   pub file : File
   pub there : file_at files (shard_path folder h) ≡ Some file
-  pub stable : IsStable files (shard_path folder h)
+  pub durable : IsDurable files (shard_path folder h)
   pub holds : ShardHolds files folder (record { hash = h; file = file })
 
--- The same in a store's folder, and the store lists what it names.
+-- The same in the folder of a session, which lists the xorbs that the shard names.
 pub record HasWholeShard (s : State) (h : List ℕ) : Type 0 where
   pub shard : HasShard s.files s.folder h
   pub listed : (x : List ℕ) → OfBytes shard.file.bytes x → IsSome (found s.xorbs x)
 
 -- What no call takes away: folder, limits and time of opening, listed xorbs and registered shards with their
--- files, earlier records in their order, and files that are not a store's. Under a xorb's name no file has changed but to
--- a xorb of that hash, under a shard's none but to a whole shard, and a crash keeps those. It keeps the file of each xorb
--- that is newly listed, whether it stood there already or not.
+-- files, earlier records in their order, and foreign files. Under a xorb's name a file changes only to a xorb
+-- of that hash, under a shard's only to a well-formed shard, and these are durable. So is the file of each
+-- newly listed xorb, even if it existed before.
 pub record Keeps (old new : State) : Type 0 where
   pub tells : new.tells ≡ old.tells
   pub folder : new.folder ≡ old.folder
@@ -108,45 +110,45 @@ pub record Keeps (old new : State) : Type 0 where
   pub shards : (added : List (List ℕ)) × (new.shards ≡ old.shards ++ added)
   pub xorb_files : old.tells ≡ true → (h : List ℕ) → IsSome (found old.xorbs h) → SameEntry old.files new.files (xorb_path old.folder h)
   pub shard_files : old.tells ≡ true → AllByRecursion (λ h. SameEntry old.files new.files (shard_path old.folder h)) old.shards
-  pub listed_files : old.tells ≡ true → (h : List ℕ) → found old.xorbs h ≡ None → IsSome (found new.xorbs h) → IsStable new.files (xorb_path old.folder h)
+  pub listed_files : old.tells ≡ true → (h : List ℕ) → found old.xorbs h ≡ None → IsSome (found new.xorbs h) → IsDurable new.files (xorb_path old.folder h)
   pub xorb_names : old.tells ≡ true → (h : List ℕ) → IsHash h
       → SameEntry old.files new.files (xorb_path old.folder h) ⊎ HasXorb new.files new.folder h
   pub shard_names : old.tells ≡ true → (h : List ℕ) → IsHash h → SameEntry old.files new.files (shard_path old.folder h) ⊎ HasWholeShard new h
   pub foreign : old.tells ≡ true → (name : List ℕ) → IsForeign old.folder name → SameEntry old.files new.files name
 
--- New records stand after the earlier ones, each under one of these hashes, none of which had one; no two have
--- one hash.
+-- New records follow the earlier ones, each under one of these hashes that had no record before. No two have
+-- the same hash.
 abbrev pub Adds : Records → Records → List (List ℕ) → Type 0
 Adds old new hashes =
     (added : Records) × (new ≡ old ++ added) × Differ added
     × AllByRecursion (λ r. (found old r.0 ≡ None) × IsSome (found (map (λ h. (h, r.1)) hashes) r.0)) added
 
--- The files that were read are those that are answered and stored: those of the sources that are observable are their
--- bytes.
+-- Each source has a file: of an observable source, the bytes that it had left. The results are those of these
+-- files, and the tables have these files added.
 abbrev pub Stores : {S : Type 0} → (S → Bool) → (S → List ℕ) → List S → State → State → List XetFileInfo → Type 0
 Stores tells left sources old new infos =
     (files : List (List ℕ)) × EachTold tells left (λ bytes file. file ≡ bytes) sources files × (infos ≡ map (info_of old.limits) files)
     × (tables_of new ≡ with_files old.limits (tables_of old) files)
 
--- Some of them are.
+-- The same after an error: some first files were added, and some first xorbs of the next.
 abbrev pub StoresSome : {S : Type 0} → (S → Bool) → (S → List ℕ) → List S → State → State → Type 0
 StoresSome tells left sources old new =
     (files : List (List ℕ)) × EachTold tells left (λ bytes file. file ≡ bytes) sources files × StoresPart old.limits files (tables_of old) (tables_of new)
 
--- the count of the source of this number rose
+-- the count of failures of source i rose
 abbrev pub RoseAt : {S : Type 0} → (S → ℕ) → List S → List S → ℕ → Type 0
 RoseAt faults [] new i = ⊥
 RoseAt faults (s ∷ ss) [] i = ⊥
 RoseAt faults (s ∷ ss) (t ∷ ts) zero = Rose (faults s) (faults t)
 RoseAt faults (s ∷ ss) (t ∷ ts) (suc i) = RoseAt faults ss ts i
 
--- the source of this number has more bytes left than this, where it tells
+-- source i has more than `most` bytes left, if it is observable
 abbrev pub IsLongAt : {S : Type 0} → (S → Bool) → (S → List ℕ) → List S → ℕ → ℕ → Type 0
 IsLongAt tells left [] most i = ⊥
 IsLongAt tells left (s ∷ ss) most zero = tells s ≡ true → most < length (left s)
 IsLongAt tells left (s ∷ ss) most (suc i) = IsLongAt tells left ss most i
 
--- why cleaning refuses
+-- the errors of cleaning, and when each is returned
 abbrev pub HasReason : {S : Type 0} → (S → Bool) → (S → List ℕ) → (S → ℕ) → List S → List S → State → State → StoreError → Type 0
 HasReason tells left faults old new before after (Io (Source i)) = RoseAt faults old new i
 HasReason tells left faults old new before after (Io Disk) = Rose before.faults after.faults

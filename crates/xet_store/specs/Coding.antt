@@ -1,4 +1,4 @@
--- Codes of what contracts see of a store, as a model wants them.
+-- Codes of the model of a store, which the toolchain requires (`ghost coded`).
 use Rattle.std.specs.Prelude.{ℕ, zero, suc, ◌≡◌, Bool, List, Option, refl}
 use Rattle.std.specs.Coded.{Coded, code_by, coded×, coded_ℕ, coded_bool, coded_list, coded_option}
 use Rattle.std.specs.FinMap as map
@@ -74,7 +74,7 @@ segment_code = code_by (List ℕ × (Pair × Pair)) (coded× (coded_list coded_�
     (λ p. record { xorb_hash = p.0; xorb_flags = p.1.0.0; unpacked_segment_bytes = p.1.0.1; chunk_index_start = p.1.1.0; chunk_index_end = p.1.1.1 })
     (λ _. refl)
 
--- a hash
+-- bytes, such as a hash
 abbrev pub Bytes : Type 0
 Bytes = List ℕ
 

@@ -1,32 +1,32 @@
--- What a flush does.
+-- What a flush changes.
 use Rattle.std.specs.Prelude.{◌≡◌, ◌≢◌, ℕ, ◌<◌, ◌^◌, true, List, [], ◌∷◌, ◌++◌, Some, None}
 use Rattle.std.specs.FinMap.{get}
 use Rattle.std.specs.List.{IsAmong}
 use Rattle.xet_io.specs.Disk.{Files, bytes_at}
 use Rattle.xet_shard_format.specs.declared.record.MDBFileInfo.{MDBFileInfo}
 use Rattle.xet_shard.specs.Held.{held_shard, nothing}
-use Rattle.xet_shard_format.specs.Text.{full_text}
+use Rattle.xet_shard_format.specs.Encoding.{full_shard_bytes}
 use Rattle.xet_folder.specs.Admission.{shard_hash}
 use Rattle.xet_folder.specs.Listed.{Lists}
 use Rattle.xet_shard_file.specs.Names.{shard_path, temp_name}
 use Rattle.xet_shard_file.specs.Puts.{IsKeptOrDone}
-use Rattle.xet_store.specs.Cleaning.{IsStable, SameEntry}
+use Rattle.xet_store.specs.Cleaning.{IsDurable, SameEntry}
 use Rattle.xet_store.specs.Store.{State}
 
--- the shard of what is pending, created at the time of opening and without expiry
-abbrev pub pending_text : State → List ℕ
-pending_text s = full_text (held_shard s.pending s.opened None)
+-- the bytes of the shard of what is pending, created at the time of opening and without expiry
+abbrev pub pending_bytes : State → List ℕ
+pending_bytes s = full_shard_bytes (held_shard s.pending s.opened None)
 
 -- no name has changed but this one and its temporary one
 abbrev pub KeepsOthers : Files → Files → List ℕ → Type 0
 KeepsOthers old new name = (other : List ℕ) → other ≢ name → other ≢ temp_name name → SameEntry old new other
 
--- What was pending is kept by the shard of this hash, which is durable and the last registered one, so that each file
--- that was pending is listed at every moment; nothing else changes.
+-- What was pending is in the shard of this hash, which is durable and the last registered one. So each file
+-- that was pending is listed at every time below 2 ^ 64. Nothing else changes.
 pub record IsFlushed (old : State) (h : List ℕ) (new : State) : Type 0 where
-  pub hash : h ≡ shard_hash (pending_text old)
-  pub there : old.tells ≡ true → bytes_at new.files (shard_path old.folder h) ≡ Some (pending_text old)
-  pub durable : old.tells ≡ true → IsStable new.files (shard_path old.folder h)
+  pub hash : h ≡ shard_hash (pending_bytes old)
+  pub there : old.tells ≡ true → bytes_at new.files (shard_path old.folder h) ≡ Some (pending_bytes old)
+  pub durable : old.tells ≡ true → IsDurable new.files (shard_path old.folder h)
   pub temp : old.tells ≡ true → get new.files (temp_name (shard_path old.folder h)) ≡ None
   pub others : old.tells ≡ true → KeepsOthers old.files new.files (shard_path old.folder h)
   pub lasts : old.tells ≡ true → (f : MDBFileInfo) → IsAmong old.pending.files f → (moment : ℕ) → moment < 2 ^ 64 → Lists new.files new.folder moment f
@@ -35,12 +35,12 @@ pub record IsFlushed (old : State) (h : List ℕ) (new : State) : Type 0 where
   pub xorbs : new.xorbs ≡ old.xorbs
   pub records : new.records ≡ old.records
 
--- After an error all is as it was but the disk: there the shard's file is as it was, or it is the whole shard, and a
--- crash keeps it.
+-- After an error nothing has changed but the disk: there the shard's file is as it was, or it is the shard of
+-- what is pending, durable.
 pub record IsUnflushed (old new : State) : Type 0 where
   pub pending : new.pending ≡ old.pending
   pub registered : new.shards ≡ old.shards
   pub xorbs : new.xorbs ≡ old.xorbs
   pub records : new.records ≡ old.records
-  pub others : old.tells ≡ true → KeepsOthers old.files new.files (shard_path old.folder (shard_hash (pending_text old)))
-  pub whole : old.tells ≡ true → IsKeptOrDone old.files new.files (shard_path old.folder (shard_hash (pending_text old))) (pending_text old)
+  pub others : old.tells ≡ true → KeepsOthers old.files new.files (shard_path old.folder (shard_hash (pending_bytes old)))
+  pub whole : old.tells ≡ true → IsKeptOrDone old.files new.files (shard_path old.folder (shard_hash (pending_bytes old))) (pending_bytes old)

@@ -2,10 +2,10 @@ pub mod Store
 pub mod Opening
 pub mod Flushing
 pub mod Ranges
-pub mod Reading
 pub mod Coding
 pub mod Separate
 pub mod Tables
 pub mod Cleaning
 pub mod Steps
 pub mod theorems
+pub mod internal

@@ -1,4 +1,4 @@
--- Ranges of files that are read.
+-- Reading byte ranges of files.
 use Rattle.std.specs.Prelude.{◌≡◌, ◌⊎◌, ℕ, ◌<◌, ◌≤◌, false, List, length, Some, None}
 use Rattle.std.specs.List.{concat}
 use Rattle.xet_io.specs.Faults.{Rose}
@@ -11,7 +11,7 @@ use Rattle.xet_folder.specs.Plan.{Joins, plan_bytes, range}
 use Rattle.xet_folder.specs.Stored.{IsStored}
 use Rattle.xet_store.specs.Store.{State, plan_of}
 
--- The bytes are that range of the chunks to which the file's plan joins, as they are stored.
+-- The bytes are this range of the stored chunks to which the file's plan resolves.
 pub record IsRange (s : State) (h : List ℕ) (from to : ℕ) (bytes : List ℕ) : Type 0 where
   pub plan : List Segment
   pub planned : plan_of s.records h ≡ Some plan
@@ -19,18 +19,18 @@ pub record IsRange (s : State) (h : List ℕ) (from to : ℕ) (bytes : List ℕ)
   pub joins : Joins (IsStored s.files s.folder) length plan chunks
   pub is : bytes ≡ range (concat chunks) from to
 
--- a range that is reversed or passes the file's end
+-- the range is reversed or passes the file's end
 pub record IsOutside (s : State) (h : List ℕ) (from to : ℕ) : Type 0 where
   pub plan : List Segment
   pub planned : plan_of s.records h ≡ Some plan
   pub outside : (to < from) ⊎ (plan_bytes plan < to)
 
--- After reading all is as it was but the disk's failures.
+-- Reading changes nothing but the disk's count of failures, which does not fall.
 pub record IsUnchanged (old new : State) : Type 0 where
   pub is : new ≡ record old { faults = new.faults }
   pub later : old.faults ≤ new.faults
 
--- why a range is not read
+-- the errors of reading a range, and when each is returned
 abbrev pub IsRangeRefusal : State → List ℕ → ℕ → ℕ → ℕ → StoreError → Type 0
 IsRangeRefusal s h from to after FileNotFound = plan_of s.records h ≡ None
 IsRangeRefusal s h from to after InvalidRange = IsOutside s h from to

@@ -1,6 +1,4 @@
--- Digests separate what was met: in what a store and some files show, equal digests have equal
--- contents, and no digest is zero or the marker. BLAKE3 is believed to do so for all that is ever met;
--- no one can prove it.
+-- No collisions among the data seen: the premise of clauses about contents.
 use Rattle.std.specs.Prelude.{◌≡◌, ◌≢◌, ◌⊎◌, ℕ, ◌<◌, false, List, [], ◌∷◌, length, Some, IsSome}
 use Rattle.xet_io.specs.Disk.{Files}
 use Rattle.xet_hash.specs.Hash.{marker, zero_hash}
@@ -20,22 +18,23 @@ abbrev pub Among : {X : Type 0} → List X → X → Type 0
 Among [] x = ⊥
 Among (y ∷ ys) x = (y ≡ x) ⊎ Among ys x
 
--- of what is met
+-- Among what is seen (Met), equal digests have equal contents, and no digest is zero or the sentinel. This is
+-- believed of BLAKE3 for all data that is ever seen, and cannot be proved.
 pub record Apart {X : Type 0} (digest : X → List ℕ) (Met : X → Type 0) : Type 0 where
   pub same : (x y : X) → Met x → Met y → digest x ≡ digest y → x ≡ y
   pub not_zero : (x : X) → Met x → digest x ≢ zero_hash
   pub not_marker : (x : X) → Met x → digest x ≢ marker
 
--- a listed xorb has these chunks on the disk
+-- a listed xorb is stored with these chunks
 abbrev pub HasChunks : State → List ℕ → List (List ℕ) → Type 0
 HasChunks s h chunks = IsSome (found s.xorbs h) × IsStored s.files s.folder h chunks
 
--- a chunk of a listed xorb, or of one of these files
+-- a chunk of a listed xorb, as it is stored, or of one of these files
 abbrev pub MetChunk : State → List (List (List ℕ)) → List ℕ → Type 0
 MetChunk s files b =
     ((h : List ℕ) × (c : List (List ℕ)) × HasChunks s h c × Among c b) ⊎ ((f : List (List ℕ)) × Among files f × Among f b)
 
--- a shard of a folder that is valid at a moment names the xorb h
+-- an unexpired shard of a folder names the xorb h, at a time
 abbrev pub IsNamed : Files → List ℕ → ℕ → List ℕ → Type 0
 IsNamed disk folder now h = (shard : ShardFile) × IsThere disk folder shard × (is_expired now shard.file.bytes ≡ false) × OfBytes shard.file.bytes h
 
@@ -43,43 +42,43 @@ IsNamed disk folder now h = (shard : ShardFile) × IsThere disk folder shard × 
 abbrev pub IsPackOf : LimitSettings → List (List (List ℕ)) → List ℕ → Type 0
 IsPackOf s files h = (f : List (List ℕ)) × Among files f × (pack : List (List ℕ)) × Among (packs s f) pack × (xorb_hash (members_of pack) ≡ h)
 
--- The xorbs that are met in a folder at a moment, with these files: those that a valid shard names, and those into
--- which the files are packed. What else stands there is not met.
+-- The xorbs that are seen in a folder at a time, with these files: those that an unexpired shard names, and
+-- those into which the files are packed. What else is in the folder is not seen.
 abbrev pub IsMet : Files → List ℕ → ℕ → LimitSettings → List (List (List ℕ)) → List ℕ → Type 0
 IsMet disk folder now s files h = IsNamed disk folder now h ⊎ IsPackOf s files h
 
--- a chunk of such a xorb, as it stands there, or of one of these files
+-- a chunk of such a xorb, as it is stored, or of one of these files
 abbrev pub MetStored : Files → List ℕ → ℕ → LimitSettings → List (List (List ℕ)) → List ℕ → Type 0
 MetStored disk folder now s files b =
     ((h : List ℕ) × (c : List (List ℕ)) × IsMet disk folder now s files h × IsStored disk folder h c × Among c b) ⊎ ((f : List (List ℕ)) × Among files f × Among f b)
 
--- the members of a listed xorb
+-- the chunk list, as (hash, length) pairs, of a listed xorb
 abbrev pub MetXorb : State → List (List ℕ × ℕ) → Type 0
 MetXorb s members = (h : List ℕ) × IsListed s.xorbs h members
 
--- the members of a recorded file, or of one of these files that is not empty
+-- the chunk list of a recorded file, or of one of these files that is not empty
 abbrev pub MetFile : State → List (List (List ℕ)) → List (List ℕ × ℕ) → Type 0
 MetFile s files members =
     ((h : List ℕ) × (f : MDBFileInfo) × (found s.records h ≡ Some f) × Joins (IsListed s.xorbs) (λ m. m.1) f.segments members)
     ⊎ ((f : List (List ℕ)) × Among files f × (0 < length f) × (members ≡ members_of f))
 
--- Digests separate what a store and these files, each as its chunks, show.
+-- No collisions among the data seen in a session and in these files, each given as its chunks.
 pub record Separate (s : State) (files : List (List (List ℕ))) : Type 0 where
   pub chunks : Apart chunk_hash (MetChunk s files)
   pub xorbs : Apart xorb_hash (MetXorb s)
   pub lists : Apart file_hash (MetFile s files)
 
--- the members, not none, of a file that a folder lists at a moment, or of one of these files
+-- the chunk list, not empty, of a file that a folder lists at a time, or of one of these files
 abbrev pub MetListed : Files → List ℕ → ℕ → List (List (List ℕ)) → List (List ℕ × ℕ) → Type 0
 MetListed disk folder now files members =
     ((f : MDBFileInfo) × Lists disk folder now f × Joins (IsBacked disk folder) (λ m. m.1) f.segments members × (0 < length members))
     ⊎ ((f : List (List ℕ)) × Among files f × (0 < length f) × (members ≡ members_of f))
 
--- the members of a xorb that is met in a folder
+-- the chunk list of a xorb that is seen in a folder
 abbrev pub MetBacked : Files → List ℕ → ℕ → LimitSettings → List (List (List ℕ)) → List (List ℕ × ℕ) → Type 0
 MetBacked disk folder now s files members = (h : List ℕ) × IsMet disk folder now s files h × IsBacked disk folder h members
 
--- Digests separate what is met in a folder at a moment, and these files, each as its chunks.
+-- No collisions among the data seen in a folder at a time and in these files, each given as its chunks.
 pub record SeparateIn (disk : Files) (folder : List ℕ) (now : ℕ) (s : LimitSettings) (files : List (List (List ℕ))) : Type 0 where
   pub chunks : Apart chunk_hash (MetStored disk folder now s files)
   pub xorbs : Apart xorb_hash (MetBacked disk folder now s files)

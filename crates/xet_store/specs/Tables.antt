@@ -1,4 +1,4 @@
--- What a store lists, has recorded and has pending, and what a file adds to it.
+-- The tables of a session: what it lists, has recorded and has pending; and what a file adds to them.
 use Rattle.std.specs.Prelude.{◌≡◌, ℕ, List, [], ◌∷◌, ◌++◌, length, map, take, drop, Some, is_some, if◌then◌else◌}
 use Rattle.sha2.specs.Sha256.{sha256}
 use Rattle.xet_hash.specs.Merkle.{members_of, total_len, xorb_hash}
@@ -24,28 +24,28 @@ tables xorbs records pending = record { xorbs = xorbs; records = records; pendin
 abbrev pub tables_of : State → Tables
 tables_of s = tables s.xorbs s.records s.pending
 
--- with a xorb of these members, unless one of its hash is listed: it is listed, and its block is pending
+-- the tables with one more xorb, unless one of its hash is listed: it is listed, and its record is pending
 abbrev pub with_members : Tables → List ℕ → List (List ℕ × ℕ) → Tables
 with_members t h members =
     if is_some (found t.xorbs h) then t
     else tables (t.xorbs ++ (h, members) ∷ []) t.records (held (with_last record_of.xorb_hash t.pending.blocks (xorb_record h members)) t.pending.files)
 
--- with the xorb of these chunks
+-- the tables with the xorb of these chunks
 abbrev pub with_xorb : Tables → List (List ℕ) → Tables
 with_xorb t chunks = with_members t (xorb_hash (members_of chunks)) (members_of chunks)
 
--- with each of these, in turn
+-- the tables with each of these xorbs, in turn
 abbrev pub with_xorbs : Tables → List (List (List ℕ)) → Tables
 with_xorbs t [] = t
 with_xorbs t (p ∷ ps) = with_xorbs (with_xorb t p) ps
 
--- with a record, unless its file is recorded: it is recorded and pending
+-- the tables with one more record, unless its file is recorded: it is recorded and pending
 abbrev pub with_record : Tables → MDBFileInfo → Tables
 with_record t f =
     if is_some (found t.records (record_of.file_hash f)) then t
     else tables t.xorbs (t.records ++ (record_of.file_hash f, f) ∷ []) (held t.pending.blocks (with_last record_of.file_hash t.pending.files f))
 
--- the segment of all of a xorb's chunks
+-- the segment that names all chunks of a xorb
 abbrev pub whole_segment : List (List ℕ) → Segment
 whole_segment chunks = record {
   xorb_hash = xorb_hash (members_of chunks);
@@ -59,22 +59,22 @@ whole_segment chunks = record {
 abbrev pub record_of_file : LimitSettings → List ℕ → MDBFileInfo
 record_of_file s bytes = file_record (members_of (cut s bytes)) (map whole_segment (packs s (cut s bytes))) (Some (sha256 bytes))
 
--- with the file of these bytes: its xorbs, and its record; the empty file has none
+-- the tables with the file of these bytes: its xorbs and its record; the empty file adds nothing
 abbrev pub with_file : LimitSettings → Tables → List ℕ → Tables
 with_file s t [] = t
 with_file s t (b ∷ bs) = with_record (with_xorbs t (packs s (cut s (b ∷ bs)))) (record_of_file s (b ∷ bs))
 
--- with each of these files, in turn
+-- the tables with each of these files, in turn
 abbrev pub with_files : LimitSettings → Tables → List (List ℕ) → Tables
 with_files s t [] = t
 with_files s t (f ∷ fs) = with_files s (with_file s t f) fs
 
--- the xorbs of the first of these files, if there is one
+-- the xorbs of the first of these files, each as its chunks; none if there is no file
 abbrev pub first_packs : LimitSettings → List (List ℕ) → List (List (List ℕ))
 first_packs s [] = []
 first_packs s (f ∷ fs) = packs s (cut s f)
 
--- Some first files are stored, and some first xorbs of the next.
+-- Some first files were added, and some first xorbs of the next.
 pub record StoresPart (s : LimitSettings) (files : List (List ℕ)) (old new : Tables) : Type 0 where
   pub done : ℕ
   pub xorbs : ℕ

@@ -1,4 +1,4 @@
-//! Files into a store.
+//! Cleaning: reading files from sources and storing them.
 
 ghost use Rattle.std.specs.Prelude.{◌≡◌, ◌≤◌, ◌<◌, ◌^◌, ◌∷◌, [], ℕ, List, true, drop, length, map, take, OnOk, OnErr, IfOk, IfErr, IsSome};
 ghost use Rattle.std.specs.List.{AllByRecursion};
@@ -9,11 +9,13 @@ ghost use Rattle.xet_cut.specs.Cut.{cut};
 ghost use Rattle.xet_folder.specs.Plan.{Joins};
 ghost use Rattle.xet_codec.specs.Stops.{HasDiskReason};
 ghost use Rattle.xet_store.specs.Separate.{Apart, MetChunk, Separate};
-ghost use Rattle.xet_store.specs.Steps.{HasReasonOfOne, HasSourceReason, ListsXorbs};
+ghost use Rattle.xet_store.specs.internal.Steps.{HasReasonOfOne, HasSourceReason};
+ghost use Rattle.xet_store.specs.Steps.{ListsXorbs};
 ghost use Rattle.xet_folder.specs.Xorbs.{IsListed};
 ghost use Rattle.xet_dedup.specs.Packing.{packs};
 ghost use Rattle.xet_store.specs.Store.{plan_of};
 ghost use Rattle.xet_store.specs.Tables.{tables_of, whole_segment, with_file, with_xorbs};
+ghost use Rattle.xet_io.specs.Frame.{Stays};
 
 use crate::info::{Cleaned, XetFileInfo};
 use crate::store::Store;
@@ -27,9 +29,11 @@ use xet_io::{Disk, Source, Unread, read_all};
 use xet_shard_format::{FileDataSequenceEntry, Sha256};
 use xet_xorb_chunk::{Chunk, chunk_members};
 
-/// Reads each source to its end and stores its file, in order. So far at most one source; all work runs
-/// on the caller. A refusal hands the session back with its earlier files; xorbs that were put already
-/// may stay.
+/// Reads each source to its end and stores its file, in order. Returns the session, and the pointer record of
+/// each file. Currently at most one source is allowed, and all work runs on the calling thread. After an
+/// error the session has its earlier files; xorbs that were written already may stay. `Io(Source(i))` and
+/// `Io(Disk)` are returned only if that source or the disk failed, `TooLarge(Source(i))` only if that source
+/// has more bytes than the limits allow; any other error is `OutOfMemory`.
 pub fn clean_files<D: Disk + Send, S: Source + Send>(
     alloc: Global,
     session: Store<D>,
@@ -39,25 +43,26 @@ pub fn clean_files<D: Disk + Send, S: Source + Send>(
     requires one { length sources.old ≤ 1 }
     requires workers { (1 ≤ workers) × (workers ≤ 256) }
 
-    // Ok: each source was read to its end, and each answer is that of the bytes it had left.
+    // If Ok, each source was read to its end, and each result is that of the bytes that it had left.
     ensures infos { IfOk result.1 (λ cleaned. EachTold S.tells S.left (λ bytes info. info ≡ info_of session.limits bytes) sources.old cleaned.infos.items) }
     ensures read { OnOk result.1 (AllByRecursion (λ s. S.tells s ≡ true → S.left s ≡ []) sources.new) }
     ensures short { OnOk result.1 (AllByRecursion (λ s. S.tells s ≡ true → length (S.left s) ≤ session.limits.max_source_bytes) sources.old) }
 
-    // Where all tell and digests separate, each source has a plan that joins to its chunks; where those
-    // of chunks do, each of its xorbs is stored.
+    // If disk and sources are observable: each source has a plan that resolves to its chunks, if there are no
+    // collisions among the data seen; and each of its xorbs is stored, if there are none among the chunks
+    // seen.
     ensures files { session.tells ≡ true → AllByRecursion (λ s. S.tells s ≡ true) sources.old → Separate result.0 (cuts S.left session.limits sources.old)
         → OnOk result.1 (AllByRecursion (HasFile result.0) (cuts S.left session.limits sources.old)) }
     ensures xorbs { session.tells ≡ true → AllByRecursion (λ s. S.tells s ≡ true) sources.old → Apart chunk_hash (MetChunk result.0 (cuts S.left session.limits sources.old))
         → OnOk result.1 (AllByRecursion (HasXorbs result.0) (cuts S.left session.limits sources.old)) }
 
-    // Each answer's file has a plan; where all tell, each of their xorbs is listed.
+    // Each file of the result has a plan. If the sources are observable, each of their xorbs is listed.
     ensures recorded { IfOk result.1 (λ cleaned. AllByRecursion (λ info. IsSome (plan_of result.0.records info.hash)) cleaned.infos.items) }
     ensures listed { AllByRecursion (λ s. S.tells s ≡ true) sources.old → OnOk result.1 (AllByRecursion (ListsXorbs result.0) (cuts S.left session.limits sources.old)) }
 
-    // Nothing is taken away, whatever the answer; new records stand after the earlier ones, each of a
-    // source. What is listed, recorded and pending is what was, with each source's file in turn, which is the one
-    // that is answered; after an error with some of them.
+    // Whatever the result, nothing is taken away. New records follow the earlier ones, each under the hash of
+    // a source. What is listed, recorded and pending is what was, with each source's file added in turn,
+    // which is the file of the result; after an error, with some of them.
     ensures keeps { Keeps session result.0 }
     ensures adds { IfOk result.1 (λ cleaned. Adds session.records result.0.records (map (λ info. info.hash) cleaned.infos.items)) }
     ensures err { OnErr result.1 (result.0.records ≡ session.records) }
@@ -65,8 +70,8 @@ pub fn clean_files<D: Disk + Send, S: Source + Send>(
     ensures stores { IfOk result.1 (λ cleaned. Stores S.tells S.left sources.old session result.0 cleaned.infos.items) }
     ensures some { OnErr result.1 (StoresSome S.tells S.left sources.old session result.0) }
 
-    // Each source is observable or not, as before, a front of what it had left was taken, whatever the answer, and
-    // its count has not fallen. An error has a reason.
+    // Each source is observable if and only if it was before. Whatever the result, a prefix of what it had
+    // left was taken, and its count of failures has not fallen. An error has a reason.
     ensures sources_tell { map S.tells sources.new ≡ map S.tells sources.old }
     ensures sources_taken { Taken S.tells S.left sources.old sources.new }
     ensures sources_later { Later S.faults sources.old sources.new }
@@ -108,7 +113,7 @@ fn clean_all<D: Disk + Send, S: Source + Send>(
     Ok(Cleaned { infos })
 }
 
-/// Reads a source, that of number 0, to its end and stores its file.
+/// Reads a source to its end and stores its file. Errors name it as source 0.
 fn clean_source<D: Disk + Send, S: Source + Send>(
     session: &mut Store<D>,
     source: &mut S,
@@ -127,9 +132,8 @@ fn clean_source<D: Disk + Send, S: Source + Send>(
     ensures some { OnErr result ((bytes : List ℕ) × (n : ℕ) × (S.tells source.old ≡ true → bytes ≡ S.left source.old)
         × (tables_of session.new ≡ with_xorbs (tables_of session.old) (take n (packs session.old.limits (cut session.old.limits bytes))))) }
     ensures taken { S.tells source.old ≡ true → (n : ℕ) × (S.left source.new ≡ drop n (S.left source.old)) }
-    ensures tells { S.tells source.new ≡ S.tells source.old }
     ensures reason { IfErr result (HasReasonOfOne S.tells S.left S.faults source.old source.new session.old session.new) }
-    ensures later { S.faults source.old ≤ S.faults source.new }
+    ensures frame { Stays S.tells S.faults source.old source.new }
 {
     let alloc = session.alloc();
     let limits = *session.limits();
@@ -150,7 +154,7 @@ fn clean_source<D: Disk + Send, S: Source + Send>(
     })
 }
 
-/// Stores chunks in xorbs, packed in order, and gives the segment of each.
+/// Stores chunks in xorbs, packed in order, and returns the segment of each xorb.
 fn add_xorbs<D: Disk + Send>(
     session: &mut Store<D>,
     chunks: &[Chunk],
@@ -182,7 +186,7 @@ fn add_xorbs<D: Disk + Send>(
     Ok(plan)
 }
 
-/// The segment of all of a xorb's chunks.
+/// The segment that names all chunks of a xorb.
 fn whole_xorb(hash: MerkleHash, chunks: &[Chunk]) -> FileDataSequenceEntry
     requires count { length chunks.now ≤ 65536 }
     requires bytes { total chunks.now ≤ 2 ^ 30 }
@@ -192,7 +196,7 @@ fn whole_xorb(hash: MerkleHash, chunks: &[Chunk]) -> FileDataSequenceEntry
     FileDataSequenceEntry::new(hash, bytes as u32, 0, chunks.len() as u32)
 }
 
-/// All bytes that are left in the source of number 0, read at most `block_bytes` at a time.
+/// Reads all bytes that are left in a source, at most `block_bytes` at a time. Errors name it as source 0.
 fn read_source<S: Source>(
     alloc: Global,
     limits: &Limits,
@@ -202,8 +206,7 @@ fn read_source<S: Source>(
     ensures read { S.tells source.old ≡ true → OnOk result (S.left source.new ≡ []) }
     ensures short { IfOk result (λ bytes. length bytes.items ≤ limits.now.max_source_bytes) }
     ensures taken { S.tells source.old ≡ true → (n : ℕ) × (S.left source.new ≡ drop n (S.left source.old)) }
-    ensures tells { S.tells source.new ≡ S.tells source.old }
-    ensures later { S.faults source.old ≤ S.faults source.new }
+    ensures frame { Stays S.tells S.faults source.old source.new }
     ensures reason { IfErr result (HasSourceReason (S.tells source.old) (S.left source.old) (S.faults source.old) (S.faults source.new) limits.now.max_source_bytes) }
 {
     let block = limits.block_bytes() as usize;

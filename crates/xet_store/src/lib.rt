@@ -1,4 +1,4 @@
-//! The store: files cut into chunks by content, stored in xorbs, and the plans of the files.
+//! The store: content-defined chunks of files, packed into xorbs, and the reconstruction plans of the files.
 #![tactic(auto)]
 
 mod clean;
@@ -9,5 +9,5 @@ pub use clean::clean_files;
 pub use info::{Cleaned, XetFileInfo};
 pub use store::Store;
 
-/// A session in which files are cleaned.
+/// A session: a store that is open.
 pub type Session<D> = Store<D>;

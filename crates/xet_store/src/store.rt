@@ -1,4 +1,4 @@
-//! The store: xorbs and shards in a folder of a disk, and the plans of files over them.
+//! A session: xorbs and shards in a folder of a disk, and the reconstruction plans of files over them.
 
 ghost use Rattle.std.specs.Prelude.{◌≡◌, length, IfOk, IsOkUnless};
 ghost use Rattle.std.specs.Option.{option_map};
@@ -21,22 +21,22 @@ use xet_io::Disk;
 use xet_shard::MDBInMemoryShard;
 use xet_shard_format::{FileDataSequenceEntry, MDBFileInfo};
 
-/// A store of files in a folder of a disk. Contracts see a `State`.
+/// A store of files in a folder of a disk, open. Contracts see a `State`.
 #[derive(Drop)]
 pub struct Store<D: Disk + Send> {
     disk: D,
     alloc: Global,
     folder: Text,
     limits: Limits,
-    /// The moment of opening, in seconds.
+    /// The time of opening, in seconds since 1970.
     opened: u64,
-    /// The digests and lengths of each listed xorb's chunks.
+    /// The hashes and lengths of each listed xorb's chunks.
     xorbs: IndexMap<MerkleHash, Members>,
     /// The record of each recorded file.
     records: IndexMap<MerkleHash, RecordedFile>,
-    /// The registered shards.
+    /// The hashes of the registered shards.
     shards: Vec<MerkleHash>,
-    /// What no shard keeps yet.
+    /// What is recorded, but in no shard on the disk yet.
     pending: MDBInMemoryShard,
 }
 
@@ -78,19 +78,19 @@ impl<D: Disk + Send> Model for Store<D> {
 impl<D: Disk + Send> Store<D> {
     ghost use Rattle.xet_store.specs.Store.{Sound};
 
-    /// Does nothing: what every store has is known after it.
+    /// Proof aid without effect: makes the session invariant available to the caller.
     pub fn known(&self)
         ensures { Sound self.now }
     {
         let _ = &self.xorbs;
     }
 
-    /// The allocator.
+    /// The allocator that was passed to `open`.
     pub(crate) fn alloc(&self) -> Global {
         self.alloc
     }
 
-    /// The limits.
+    /// The limits that were passed to `open`.
     pub fn limits(&self) -> &Limits
         ensures { result.now ≡ self.now.limits }
     {
@@ -104,8 +104,8 @@ impl<D: Disk + Send> Store<D> {
         self.xorbs.len() as u64
     }
 
-    /// The segments of a file's plan; none where it is not recorded. The empty file, whose hash is zero,
-    /// has the empty plan.
+    /// The segments of a file's reconstruction plan; none if the file is not recorded. The empty file, whose
+    /// hash is zero, has the empty plan. The only error is `OutOfMemory`.
     pub fn plan(
         &self,
         alloc: Global,
@@ -120,7 +120,7 @@ impl<D: Disk + Send> Store<D> {
         }
     }
 
-    /// The record of a file: its plan, the hashes of its ranges and its SHA-256; none where it is not recorded.
+    /// The record of a file: its plan, its range hashes and its SHA-256; none if the file is not recorded.
     pub fn record(&self, hash: &MerkleHash) -> Option<&MDBFileInfo>
         ensures { option_map (λ file. file.now) result ≡ found self.now.records hash.now }
     {
@@ -130,8 +130,8 @@ impl<D: Disk + Send> Store<D> {
         }
     }
 
-    /// Hash and length in bytes of each recorded file, in order of recording and each hash once. The empty file
-    /// is never recorded.
+    /// The hash and the length in bytes of each recorded file, in order of recording, each hash once. The
+    /// empty file is never recorded. The only error is `OutOfMemory`.
     pub fn files(&self, alloc: Global) -> Result<Vec<(MerkleHash, u64)>, StoreError>
         ensures files { IfOk result (λ files. files.items ≡ files_of self.now.records) }
         ensures differ { IfOk result (λ files. Differ files.items) }
@@ -144,7 +144,7 @@ impl<D: Disk + Send> Store<D> {
         Ok(files)
     }
 
-    /// The disk, as it is. What is pending is dropped.
+    /// Closes the session and returns the disk. What is pending is dropped.
     pub fn into_disk(self) -> D
         ensures tells { D.tells result ≡ self.tells }
         ensures files { D.files result ≡ self.files }
@@ -165,7 +165,7 @@ impl<D: Disk + Send> Store<D> {
     }
 }
 
-/// The plan of a file; none where it is not recorded. The empty file has the empty plan.
+/// The reconstruction plan of a file; none if it is not recorded. The empty file has the empty plan.
 fn plan_in<'a>(
     records: &'a IndexMap<MerkleHash, RecordedFile>,
     hash: &MerkleHash,

@@ -18,7 +18,7 @@ use Rattle.xet_store_cli.specs.Lines.{numbered, range_bytes}
 use Rattle.xet_store_cli.specs.Parsing.{Said, are_good}
 use Rattle.xet_store_cli.specs.Stops.{IsSessionStop, stop_of_error}
 use Rattle.xet_store_cli.specs.Report.{file_line, info_line}
-use Rattle.xet_store_cli.specs.Steps.{hash_at}
+use Rattle.xet_store_cli.specs.internal.Steps.{hash_at}
 use Rattle.xet_store_cli.proofs.Ranged.{numbered_past, numbered_zero, range_none}
 
 -- ---- pointer records

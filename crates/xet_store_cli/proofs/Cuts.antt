@@ -3,7 +3,7 @@ use Rattle.std.proofs.Common.{◌≡◌, ◌≢◌, ◌∙◌, ℕ, zero, suc, �
 use Rattle.std.specs.List.{concat}
 use Rattle.xet_base.specs.Pieces.{first_of, pieces_after}
 use Rattle.xet_cut.specs.declared.limits.LimitSettings.{LimitSettings}
-use Rattle.xet_cut.specs.Cut.{cut, may_end, piece_len}
+use Rattle.xet_cut.specs.Cut.{cut, may_end, first_chunk_len}
 use Rattle.xet_cut.specs.Limits.{AreInRange}
 
 -- what passes a test first is not below where the search began
@@ -18,8 +18,8 @@ first_from test k (suc n) m e = by_test (test k) e (first_from test (suc k) n m)
     by_test false is more = omega (arith, more is)
 
 -- no piece is empty
-piece_some : (s : LimitSettings) (bs : List ℕ) → AreInRange s → 0 < length bs → 0 < piece_len s bs
-unfolding piece_len
+piece_some : (s : LimitSettings) (bs : List ℕ) → AreInRange s → 0 < length bs → 0 < first_chunk_len s bs
+unfolding first_chunk_len
 piece_some s bs fits some = by_first (first_of (may_end s bs) s.minimum_chunk (min s.maximum_chunk (length bs) + 1 - s.minimum_chunk)) refl
   where
     by_first : (o : Option ℕ) → first_of (may_end s bs) s.minimum_chunk (min s.maximum_chunk (length bs) + 1 - s.minimum_chunk) ≡ o → 0 < unwrap_or o (min s.maximum_chunk (length bs))
@@ -43,7 +43,7 @@ concat_after len zero (x ∷ xs) some =
 concat_after len (suc k) (x ∷ xs) some = concat_after len k xs some
 
 pub concat_cut : (s : LimitSettings) (bs : List ℕ) → AreInRange s → concat (cut s bs) ≡ bs
-concat_cut s bs fits = concat_after (piece_len s) 0 bs (λ ys some. piece_some s ys fits some)
+concat_cut s bs fits = concat_after (first_chunk_len s) 0 bs (λ ys some. piece_some s ys fits some)
 
 pub cut_some : (s : LimitSettings) (bs : List ℕ) → AreInRange s → bs ≢ [] → 0 < length (cut s bs)
 cut_some s bs fits some = by_cut (cut s bs) (concat_cut s bs fits)

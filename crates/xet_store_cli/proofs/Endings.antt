@@ -19,7 +19,8 @@ use Rattle.xet_store_cli.specs.Ending.MayEnd.{early, malformed, refused, reporte
 use Rattle.xet_store_cli.specs.Parsing.{ForLines, Said, are_good, parted}
 use Rattle.xet_store_cli.specs.Report.{IsReport}
 use Rattle.xet_store_cli.specs.Stored.{Makes, Records, Stores}
-use Rattle.xet_store_cli.specs.Stops.{AnswersByFolder, AnswersByInput, IsSaid, answer_outcome}
+use Rattle.xet_store_cli.specs.Stops.{AnswersByFolder, AnswersByInput, answer_outcome}
+use Rattle.xet_store_cli.specs.internal.Stops.{IsSaid}
 use Rattle.xet_store_cli.specs.Words.{command_of}
 
 -- ---- lines that say what was read

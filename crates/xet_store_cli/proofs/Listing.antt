@@ -8,7 +8,7 @@ use Rattle.xet_shard_file.specs.Names.{shard_path}
 use Rattle.xet_folder.specs.Names.{xorb_path}
 use Rattle.xet_shard_file.specs.Shards.{IsThere}
 use Rattle.xet_cut.specs.declared.limits.LimitSettings.{LimitSettings}
-use Rattle.xet_store.specs.Cleaning.{HasShard, HasWholeShard, HasXorb, IsStable, Keeps, SameEntry}
+use Rattle.xet_store.specs.Cleaning.{HasShard, HasWholeShard, HasXorb, IsDurable, Keeps, SameEntry}
 use Rattle.xet_store.specs.Opening.{IsOpened, contents_of}
 use Rattle.xet_store.specs.Separate.{IsNamed}
 use Rattle.xet_store.specs.Store.{Sound, State}
@@ -65,9 +65,9 @@ keeps_names s t told folder contents keeps sound =
     xorb h (inl same) = inl (subst (λ (x : List ℕ). SameEntry s.files t.files (xorb_path x h)) folder same)
     xorb h (inr has) = inr (subst (λ (x : List ℕ). HasXorb t.files x h) (keeps.folder ∙ folder) has)
 
-    new : (h : List ℕ) → IsNamed s.files s.folder s.opened h ⊎ IsStable t.files (xorb_path s.folder h) → IsNamed s.files store_folder s.opened h ⊎ IsStable t.files (xorb_path store_folder h)
+    new : (h : List ℕ) → IsNamed s.files s.folder s.opened h ⊎ IsDurable t.files (xorb_path s.folder h) → IsNamed s.files store_folder s.opened h ⊎ IsDurable t.files (xorb_path store_folder h)
     new h (inl is) = inl (subst (λ (x : List ℕ). IsNamed s.files x s.opened h) folder is)
-    new h (inr is) = inr (subst (λ (x : List ℕ). IsStable t.files (xorb_path x h)) folder is)
+    new h (inr is) = inr (subst (λ (x : List ℕ). IsDurable t.files (xorb_path x h)) folder is)
 
     shard : (h : List ℕ) → SameEntry s.files t.files (shard_path s.folder h) ⊎ HasWholeShard t h → SameEntry s.files t.files (shard_path store_folder h) ⊎ HasShard t.files store_folder h
     shard h (inl same) = inl (subst (λ (x : List ℕ). SameEntry s.files t.files (shard_path x h)) folder same)

@@ -26,7 +26,8 @@ use Rattle.xet_store.specs.theorems.Whole.{found_has}
 use Rattle.xet_store_cli.specs.Outcome.{store_folder}
 use Rattle.xet_store_cli.specs.Parsing.{ForLines, Said}
 use Rattle.xet_store_cli.specs.Report.{hash_of_file}
-use Rattle.xet_store_cli.specs.Steps.{IsSettled, MakesIn}
+use Rattle.xet_store_cli.specs.internal.Steps.{IsSettled}
+use Rattle.xet_store_cli.specs.Steps.{MakesIn}
 use Rattle.xet_store_cli.specs.Stored.{ListsHash, ListsMade, Makes}
 
 none_among : {X : Type 0} (xs : List X) (x : X) → xs ≡ [] → IsAmong xs x → ⊥

@@ -16,13 +16,15 @@ use Rattle.xet_store_cli.specs.declared.ending.Stop.TheVariants.{OutOfMemory, In
 use Rattle.xet_store_cli.specs.declared.words.Command.{Command}
 use Rattle.xet_store_cli.specs.declared.words.Command.TheVariants.{Pack}
 use Rattle.xet_store_cli.specs.Lines.{Line, first_bad, good_lines}
-use Rattle.xet_store_cli.specs.Outcome.{AreSeparate, Ended, EndedEarly, EndsEarly, EndsOver, IsCutShort, IsDue, IsFaultless, IsStopped, IsStoppedSilent, Outcome, Prints, PrintsNothing, bad_line_text, by_lines, lines_said, most_input, outcome, pack_early, store_folder}
-use Rattle.xet_store_cli.specs.Outcome.Ended.{as_due, stopped}
+use Rattle.xet_store_cli.specs.Outcome.{AreSeparate, EndsEarly, EndsOver, IsCutShort, IsDue, IsFaultless, IsStopped, IsStoppedSilent, Outcome, Prints, PrintsNothing, bad_line_text, by_lines, lines_said, most_input, outcome, pack_early, store_folder}
+use Rattle.xet_store_cli.specs.internal.Outcome.{Ended, EndedEarly}
+use Rattle.xet_store_cli.specs.internal.Outcome.Ended.{as_due, stopped}
 use Rattle.xet_store_cli.specs.Outcome.IsDue.{admitted, early, refused}
 use Rattle.xet_store_cli.specs.Allowed.{are_short}
 use Rattle.xet_store_cli.specs.Parsing.{ForLines, Said, Says, are_good, parted}
 use Rattle.xet_store_cli.specs.Report.{IsReport}
-use Rattle.xet_store_cli.specs.Stops.{Answers, AnswersByFolder, AnswersByInput, AnswersEarly, AnswersLate, IsEarlyStop, IsIdleStop, IsLateStop, IsSaid, IsSessionStop, answer_outcome, stop_of_unread}
+use Rattle.xet_store_cli.specs.Stops.{Answers, AnswersByFolder, AnswersByInput, IsIdleStop, IsSessionStop, answer_outcome, stop_of_unread}
+use Rattle.xet_store_cli.specs.internal.Stops.{AnswersEarly, AnswersLate, IsEarlyStop, IsLateStop, IsSaid}
 use Rattle.xet_store_cli.specs.Words.{command_of}
 use Rattle.xet_store_cli.proofs.Lengths.{short_said}
 use Rattle.xet_store_cli.proofs.Said.{good_parted}

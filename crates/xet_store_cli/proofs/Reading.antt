@@ -7,7 +7,7 @@ use Rattle.xet_store.specs.Store.{State}
 use Rattle.xet_store.specs.declared.info.XetFileInfo.{XetFileInfo}
 use Rattle.xet_store.specs.theorems.Keeping.{keeps_counted}
 use Rattle.xet_store_cli.specs.declared.lines.FileRange.{FileRange}
-use Rattle.xet_store_cli.specs.Steps.{AreRead, IsLineRead}
+use Rattle.xet_store_cli.specs.internal.Steps.{AreRead, IsLineRead}
 
 -- ---- after reading all is as it was
 

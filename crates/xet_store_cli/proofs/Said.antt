@@ -11,7 +11,8 @@ use Rattle.xet_base.specs.theorems.FirstOf.{first_of_here, first_of_none}
 use Rattle.xet_store_cli.specs.declared.lines.FileRange.{FileRange}
 use Rattle.xet_store_cli.specs.Lines.{Line, decoded, file_bytes, files_of, first_bad, good_lines, is_bad_at, limited, line_of, ranges_of, said, with_line}
 use Rattle.xet_store_cli.specs.Lines.Line.{FileLine, RangeLine}
-use Rattle.xet_store_cli.specs.Parsing.{Said, and_line, parted, with_next}
+use Rattle.xet_store_cli.specs.Parsing.{Said, parted}
+use Rattle.xet_store_cli.specs.internal.Parsing.{and_line, with_next}
 
 same_said : {a b : List (List ℕ)} {r q : List FileRange} → a ≡ b → r ≡ q → ◌≡◌ {A = Said} (record { files = a; ranges = r }) (record { files = b; ranges = q })
 same_said e f = λ i. record { files = e i; ranges = f i }

@@ -29,7 +29,7 @@ use Rattle.xet_store_cli.specs.Lines.{Line, bytes_in, numbered, range_bytes}
 use Rattle.xet_store_cli.specs.Outcome.{AreSeparate, store_folder}
 use Rattle.xet_store_cli.specs.Parsing.{ForLines, Said, are_good, parted}
 use Rattle.xet_store_cli.specs.Report.{IsReport, bytes_line, file_line, file_report, info_line, range_report}
-use Rattle.xet_store_cli.specs.Steps.{AreRead, IsLineRead, IsSettled, hash_at}
+use Rattle.xet_store_cli.specs.internal.Steps.{AreRead, IsLineRead, IsSettled, hash_at}
 use Rattle.xet_store_cli.specs.Stored.{IsRecorded, Records, Stores}
 use Rattle.xet_store_cli.proofs.Cleaned.{lines_of_infos}
 use Rattle.xet_store_cli.proofs.Making.{listed_of_files}

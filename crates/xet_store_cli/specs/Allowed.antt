@@ -6,7 +6,7 @@ use Rattle.xet_store_cli.specs.declared.words.Command.{Command}
 use Rattle.xet_store_cli.specs.declared.words.Command.TheVariants.{Pack}
 use Rattle.xet_store_cli.specs.Outcome.{most_input}
 
--- whether each file is as short as a source must be
+-- whether no file is longer than the limits allow a source to be
 abbrev pub are_short : LimitSettings → List (List ℕ) → Bool
 are_short s files = list_all (λ bytes. nat_le (length bytes) s.max_source_bytes) files
 

@@ -1,4 +1,4 @@
--- How a run may end, whatever its input and its disk tell.
+-- How a run may end, over any input and disk, observable or not.
 use Rattle.std.specs.Prelude.{◌≡◌, ◌⊎◌, ℕ, Bool, true, false, List, [], Some, None}
 use Rattle.std.specs.Str.Lines.{lines}
 use Rattle.xet_io.specs.Disk.{Files}
@@ -14,8 +14,8 @@ use Rattle.xet_store_cli.specs.Report.{IsReport}
 use Rattle.xet_store_cli.specs.Stored.{Makes, Records, Stores}
 use Rattle.xet_store_cli.specs.Words.{command_of}
 
--- The text is a report of what an input says to the command; it is this input, where that tells. Where the disk tells,
--- the files of its lines are stored, recorded and made: a report is printed once they are.
+-- The text is a report of what an input says to the command; it is this input, if that is observable. If the
+-- disk is observable, the files of the lines are then stored, recorded and made.
 pub record IsReportOf (command : Command) (input_tells : Bool) (input : List ℕ) (tells : Bool) (old new : Files) (now : ℕ) (text : List ℕ) : Type 0 where
   pub settings : LimitSettings
   pub said : List Line
@@ -31,9 +31,9 @@ pub record IsReportOf (command : Command) (input_tells : Bool) (input : List ℕ
 abbrev pub IsEarly : Outcome → Type 0
 IsEarly o = (o ≡ outcome 2 []) ⊎ (o ≡ outcome 8 []) ⊎ (o ≡ outcome 9 []) ⊎ ((n : ℕ) × (o ≡ outcome 3 (bad_line_text n)))
 
--- How a run with these words at a moment may end, over an input and a disk that tell or not: before its store
--- is opened, as is due then; at a shard that fails a check; with a report; stopped, with no text; or, over a
--- disk that does not tell, because a stored xorb was other than when it was checked.
+-- How a run with these arguments may end, at a time, over an input and a disk that are observable or not:
+-- before its store is opened, as is due then; at a shard that fails a check; with a report; stopped, with no
+-- text; or, on a disk that is not observable, because a stored xorb changed after it was verified.
 pub data MayEnd (words : List (List ℕ)) (input_tells : Bool) (input : List ℕ) (now : ℕ) (tells : Bool) (old new : Files) (o : Outcome) : Type 0 where
   early : (input_tells ≡ true → early_outcome (command_of words) input ≡ Some o) → IsEarly o → MayEnd words input_tells input now tells old new o
   refused : (input_tells ≡ true → early_outcome (command_of words) input ≡ None) → (name : List ℕ) → (tells ≡ true → (e : StoreError) × Refuses old store_folder now e name)

@@ -8,3 +8,4 @@ pub mod Stops
 pub mod Stored
 pub mod Ending
 pub mod Steps
+pub mod internal

@@ -5,8 +5,7 @@ use Rattle.std.specs.Option.{option_map}
 use Rattle.xet_store_cli.specs.declared.ending.Stop.{Stop}
 use Rattle.xet_store_cli.specs.declared.ending.Stop.TheVariants.{OutOfMemory, BadLine}
 use Rattle.xet_store_cli.specs.declared.lines.FileRange.{FileRange}
-use Rattle.xet_store_cli.specs.Lines.{Line, files_of, first_bad, good_lines, line_of, most_files, range_bytes, ranges_of}
-use Rattle.xet_store_cli.specs.Lines.Line.{FileLine, RangeLine}
+use Rattle.xet_store_cli.specs.Lines.{Line, files_of, first_bad, good_lines, range_bytes, ranges_of}
 
 pub record Said : Type 0 where
   pub files : List (List ℕ)
@@ -15,7 +14,7 @@ pub record Said : Type 0 where
 abbrev pub parted : List Line → Said
 parted lines = record { files = files_of lines; ranges = ranges_of lines }
 
--- of all lines that say this
+-- P holds of all lists of lines that say this
 abbrev pub ForLines : Said → (List Line → Type 0) → Type 0
 ForLines said P = (lines : List Line) → parted lines ≡ said → P lines
 
@@ -23,21 +22,7 @@ ForLines said P = (lines : List Line) → parted lines ≡ said → P lines
 abbrev pub are_good : Said → Bool
 are_good said = list_all (λ r. is_some (range_bytes said.files r)) said.ranges
 
-abbrev pub and_file : Said → List ℕ → Option Said
-and_file said bytes =
-    if nat_lt (length said.files) most_files then Some (record { files = said.files ++ bytes ∷ []; ranges = said.ranges }) else None
-
-abbrev pub and_line : Said → Option Line → Option Said
-and_line said None = None
-and_line said (Some (FileLine bytes)) = and_file said bytes
-and_line said (Some (RangeLine range)) = Some (record { files = said.files; ranges = said.ranges ++ range ∷ [] })
-
--- what good lines say with one line more, or none where it is bad
-abbrev pub with_next : Said → List ℕ → Option Said
-with_next said [] = Some said
-with_next said (b ∷ bs) = and_line said (line_of (b ∷ bs))
-
--- What the lines of an input say, or the number of the first bad one.
+-- The result of parsing: what the lines say, or the number of the first bad one.
 abbrev pub Says : List (List ℕ) → Result Said Stop → Type 0
 Says lines (Ok said) = (first_bad lines ≡ None) × (option_map parted (good_lines lines) ≡ Some said)
 Says lines (Err OutOfMemory) = Unit {0}

@@ -11,12 +11,12 @@ use Rattle.xet_store.specs.declared.info.XetFileInfo.{XetFileInfo}
 use Rattle.xet_cut.specs.Cut.{cut}
 use Rattle.xet_store_cli.specs.Lines.{Line, files_of, range_bytes, ranges_of}
 
--- a file's hash: that of the chunks into which its bytes are cut
+-- the file hash of these bytes, which is that of their chunks
 abbrev pub hash_of_file : LimitSettings → List ℕ → List ℕ
 hash_of_file s bytes = file_hash (members_of (cut s bytes))
 
--- a file's line: its hash's text, its length in decimal and its SHA-256 (FIPS 180-4) in
--- hexadecimal, with spaces between, and LF
+-- the line of a file: the text form of its hash, its length in decimal and its SHA-256 (FIPS 180-4) in
+-- hexadecimal, separated by spaces, and LF
 unfoldable pub file_line : LimitSettings → List ℕ → List ℕ
 file_line s bytes =
     hash_text (hash_of_file s bytes) ++ 32 ∷ decimal (length bytes) ++ 32 ∷ encode_lower (sha256 bytes) ++ 10 ∷ []
@@ -25,7 +25,7 @@ file_line s bytes =
 unfoldable pub file_report : LimitSettings → List Line → List ℕ
 file_report s lines = flat_map (file_line s) (files_of lines)
 
--- the line of some bytes: in hexadecimal, and LF
+-- the line of some bytes: hexadecimal, and LF
 abbrev pub bytes_line : List ℕ → List ℕ
 bytes_line bytes = encode_lower bytes ++ 10 ∷ []
 
@@ -33,15 +33,15 @@ bytes_line bytes = encode_lower bytes ++ 10 ∷ []
 unfoldable pub range_report : List Line → List ℕ
 range_report lines = flat_map (λ r. bytes_line (unwrap_or (range_bytes (files_of lines) r) [])) (ranges_of lines)
 
--- The report: the line of each file line, then that of each range line, whose bytes are read from the
--- store: they are the file's where digests separate.
+-- The report: the line of each file line, then a line for each range line. The bytes of ranges are read from
+-- the store. They are the file's if there are no collisions among the data seen (Separates).
 pub record IsReport (Separates : Type 0) (s : LimitSettings) (lines : List Line) (text : List ℕ) : Type 0 where
   pub ranges : List ℕ
   pub is : text ≡ file_report s lines ++ ranges
   pub exact : Separates → ranges ≡ range_report lines
   pub none : ranges_of lines ≡ [] → ranges ≡ []
 
--- the SHA-256 of a pointer record, in hexadecimal
+-- the SHA-256 of a pointer record in hexadecimal; nothing if there is none
 abbrev pub sha256_text : Option (List ℕ) → List ℕ
 sha256_text None = []
 sha256_text (Some digest) = encode_lower digest

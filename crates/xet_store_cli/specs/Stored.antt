@@ -6,7 +6,7 @@ use Rattle.xet_io.specs.Disk.{Files}
 use Rattle.xet_hash.specs.Merkle.{chunk_hash}
 use Rattle.xet_cut.specs.declared.limits.LimitSettings.{LimitSettings}
 use Rattle.xet_cut.specs.Cut.{cut}
-use Rattle.xet_store.specs.Cleaning.{HasShard, HasXorb, IsPacked, IsStable, SameEntry}
+use Rattle.xet_store.specs.Cleaning.{HasShard, HasXorb, IsPacked, IsDurable, SameEntry}
 use Rattle.xet_store.specs.Separate.{Apart, IsNamed, MetStored, SeparateIn}
 use Rattle.xet_store.specs.Tables.{record_of_file}
 use Rattle.xet_folder.specs.Admission.{Admits}
@@ -23,8 +23,8 @@ use Rattle.xet_store_cli.specs.Lines.{Line, files_of}
 use Rattle.xet_store_cli.specs.Outcome.{cuts_of, lines_said, store_folder}
 use Rattle.xet_store_cli.specs.Report.{hash_of_file}
 
--- Where the digests of chunks separate what is met in the folder at a moment and what these lines say, each xorb
--- into which a file's chunks are packed is stored under its hash.
+-- If there are no collisions among the chunks seen in the folder at a time and in these lines, each xorb into
+-- which a file's chunks are packed is stored under its hash.
 abbrev pub Stores : LimitSettings → List Line → ℕ → Files → Type 0
 Stores s said now files =
     Apart chunk_hash (MetStored files store_folder now s (cuts_of s said))
@@ -37,15 +37,15 @@ HasStoredBy (Pack s) input now files = Stores s (lines_said (lines input)) now f
 abbrev pub HasStored : List (List ℕ) → List ℕ → ℕ → Files → Type 0
 HasStored words input now files = IfSome (command_of words) (λ command. HasStoredBy command input now files)
 
--- The folder lists a record of the file of these bytes, by its hash, which joins to its chunks.
+-- The folder lists a record of the file of these bytes, under its hash, and the plan resolves to its chunks.
 pub record IsRecorded (s : LimitSettings) (files : Files) (now : ℕ) (bytes : List ℕ) : Type 0 where
   pub record_of_it : MDBFileInfo
   pub lists : Lists files store_folder now record_of_it
   pub hash : record_of.file_hash record_of_it ≡ hash_of_file s bytes
   pub joins : JoinsTo files store_folder record_of_it (cut s bytes)
 
--- Where digests separate what is met in the folder and what these lines say, each file that is not empty is
--- recorded.
+-- If there are no collisions among the data seen in the folder and in these lines, each file that is not
+-- empty is recorded.
 abbrev pub Records : LimitSettings → List Line → ℕ → Files → Type 0
 Records s said now files =
     SeparateIn files store_folder now s (cuts_of s said)
@@ -58,22 +58,22 @@ HasRecordedBy (Pack s) input now files = Records s (lines_said (lines input)) no
 abbrev pub HasRecorded : List (List ℕ) → List ℕ → ℕ → Files → Type 0
 HasRecorded words input now files = IfSome (command_of words) (λ command. HasRecordedBy command input now files)
 
--- Each file that was listed at a moment from this one on is listed then, and joins to the same chunks.
+-- Each file that is listed before, at `now` or later, is listed after for that time, with the same chunks.
 pub record KeepsListed (now : ℕ) (old new : Files) : Type 0 where
   pub listed : (later : ℕ) → now ≤ later → (f : MDBFileInfo) → Lists old store_folder later f → Lists new store_folder later f
   pub joins : (later : ℕ) → now ≤ later → (f : MDBFileInfo) → Lists old store_folder later f → (chunks : List (List ℕ)) → JoinsTo old store_folder f chunks → JoinsTo new store_folder f chunks
 
--- At a moment the folder lists a record of this hash.
+-- At a time the folder lists a record with this hash.
 abbrev pub ListsHash : Files → ℕ → List ℕ → Type 0
 ListsHash files now h = (f : MDBFileInfo) × Lists files store_folder now f × (record_of.file_hash f ≡ h)
 
--- At every moment the folder lists the record that is made of the file of these bytes: its plan, the hashes of its
--- ranges and its SHA-256.
+-- At every time below 2 ^ 64 the folder lists the record that is made of the file of these bytes: its plan,
+-- its range hashes and its SHA-256.
 abbrev pub ListsMade : LimitSettings → Files → List ℕ → Type 0
 ListsMade s files bytes = (moment : ℕ) → moment < 2 ^ 64 → Lists files store_folder moment (record_of_file s bytes)
 
--- Each file of these lines that is not empty, and of whose hash no record was listed at the moment of the run, has
--- one that is listed at every moment, and that was made of it, or of a file line of the same hash.
+-- Each file of these lines that is not empty, and whose hash had no record listed at `now`, has one that is
+-- listed at every time below 2 ^ 64, and that was made of it or of a file line with the same hash.
 abbrev pub Makes : LimitSettings → List Line → ℕ → Files → Files → Type 0
 Makes s said now old new =
     AllByRecursion (λ bytes. bytes ≢ [] → (ListsHash old now (hash_of_file s bytes) → ⊥)
@@ -82,21 +82,22 @@ Makes s said now old new =
 unfoldable pub HasMadeBy : Command → List ℕ → ℕ → Files → Files → Type 0
 HasMadeBy (Pack s) input now old new = Makes s (lines_said (lines input)) now old new
 
--- The files of the lines of this input that were new to a folder with the old files are made in one with the new.
+-- The files of the lines of this input that were new to the folder before are made in the folder after.
 abbrev pub HasMade : List (List ℕ) → List ℕ → ℕ → Files → Files → Type 0
 HasMade words input now old new = IfSome (command_of words) (λ command. HasMadeBy command input now old new)
 
--- The store's folder on a disk with these files is admitted at a moment.
+-- The store's folder on a disk with these files is valid at a time.
 abbrev pub IsAdmittedAt : ℕ → Files → Type 0
 IsAdmittedAt now files = (shards : List ShardFile) × Admits files store_folder now shards
 
--- What stands under the names of a store's files is as it was, or it is a xorb of that hash, or a whole shard under
--- the name of its digest, and a crash keeps it. The files of the shards that are valid at a moment, and of the xorbs that
--- they name, are as they were, and a crash keeps each xorb that is named newly; a folder that was admitted then is.
+-- The file under the name of a xorb or of a shard is as it was; or it is a xorb of that hash, or a
+-- well-formed shard with that digest, and durable. The files of shards that are unexpired at a time, and of
+-- the xorbs that they name, are as they were, and each xorb that is named newly is durable. A folder that was
+-- valid then still is.
 pub record KeepsFolder (now : ℕ) (old new : Files) : Type 0 where
   pub xorbs : (h : List ℕ) → IsHash h → SameEntry old new (xorb_path store_folder h) ⊎ HasXorb new store_folder h
   pub shards : (h : List ℕ) → IsHash h → SameEntry old new (shard_path store_folder h) ⊎ HasShard new store_folder h
   pub valid : (shard : ShardFile) → IsThere old store_folder shard → is_expired now shard.file.bytes ≡ false → SameEntry old new (shard_path store_folder shard.hash)
   pub named : (h : List ℕ) → IsNamed old store_folder now h → SameEntry old new (xorb_path store_folder h)
-  pub newly : (h : List ℕ) → IsNamed new store_folder now h → IsNamed old store_folder now h ⊎ IsStable new (xorb_path store_folder h)
+  pub newly : (h : List ℕ) → IsNamed new store_folder now h → IsNamed old store_folder now h ⊎ IsDurable new (xorb_path store_folder h)
   pub admitted : IsAdmittedAt now old → IsAdmittedAt now new

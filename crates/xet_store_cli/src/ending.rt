@@ -1,9 +1,9 @@
-//! How a command ends.
+//! How a command ends: the status and the text.
 
 ghost use Rattle.std.specs.Prelude.{◌≡◌, ◌⊎◌, [], ◌++◌, true, ℕ, take, IfOk, IsOkUnless, string_bytes};
-ghost use Rattle.xet_io.specs.Faults.{HasCause};
 ghost use Rattle.xet_store_cli.specs.Outcome.{bad_line_text, bad_shard_text, outcome, Prints};
 ghost use Rattle.xet_store_cli.specs.Stops.{answer_outcome};
+ghost use Rattle.xet_io.specs.Frame.{Called};
 
 use std::alloc::{AllocError, AllocFailed, Global};
 use std::marker::Model;
@@ -11,24 +11,24 @@ use xet_base::Text;
 use xet_hash::StoreError;
 use xet_io::{Refusal, Sink, Unread, write_all};
 
-/// Why a command stops before its report.
+/// Why a command stops without a report.
 #[derive(Debug, Drop)]
 pub enum Stop {
-    /// There was no memory.
+    /// Out of memory.
     OutOfMemory,
-    /// The input failed.
+    /// Reading the input failed.
     Input,
     /// The input is too long.
     TooLarge,
-    /// The line of this number, from 1, is the first bad one.
+    /// The number, counted from 1, of the first bad line.
     BadLine(u64),
     /// A range line names no bytes of the file lines.
     BadRange,
     /// The disk failed.
     Disk,
-    /// The shard of this file name is the first that fails a check.
+    /// The file name of the first shard that fails a check.
     BadShard(Text),
-    /// A stored xorb was other than when it was checked.
+    /// A stored xorb changed after it was verified.
     Malformed,
 }
 
@@ -58,7 +58,7 @@ impl From<StoreError> for Stop {
             StoreError::Io(_) => Stop::Disk,
             StoreError::TooLarge(_) => Stop::TooLarge,
             StoreError::MalformedData(_) => Stop::Malformed,
-            // No others come, but `InvalidRange` where the digests of two files collide.
+            // `OutOfMemory`. Of the others only `InvalidRange` can occur, and only if digests collide.
             _ => Stop::OutOfMemory,
         }
     }
@@ -86,40 +86,40 @@ impl<T: Drop> From<AllocFailed<T>> for Stop {
     }
 }
 
-/// The status of a run whose report was printed.
+/// The status if the report was printed.
 const DONE: u8 = 0;
 
-/// The status of a run for which there was no memory.
+/// The status if memory is out.
 const OUT_OF_MEMORY: u8 = 1;
 
-/// The status of a run whose words are no command.
+/// The status if the arguments are invalid.
 const BAD_WORDS: u8 = 2;
 
-/// The status of a run whose input has a bad line.
+/// The status if the input has a bad line.
 const BAD_LINE: u8 = 3;
 
-/// The status of a run whose input failed.
+/// The status if reading the input failed.
 const INPUT_FAILED: u8 = 4;
 
-/// The status of a run whose output failed.
+/// The status if writing the output failed.
 const OUTPUT_FAILED: u8 = 5;
 
-/// The status of a run whose disk failed.
+/// The status if the disk failed.
 const DISK_FAILED: u8 = 6;
 
-/// The status of a run over a folder that can't be opened.
+/// The status if the folder is not valid.
 const BAD_SHARD: u8 = 7;
 
-/// The status of a run whose input has a range line that names no bytes of its file lines.
+/// The status if a range line names no bytes of the file lines.
 const BAD_RANGE: u8 = 8;
 
-/// The status of a run whose input is too long.
+/// The status if the input is too long.
 const TOO_LARGE: u8 = 9;
 
-/// The status of a run over a disk on which a stored xorb changed by itself.
+/// The status if a stored xorb changed after it was verified.
 const MALFORMED: u8 = 10;
 
-/// How a command ends: its status and all that it prints. Contracts see both.
+/// How a command ends: its status and the text that is to be printed. Contracts see both.
 #[derive(Drop)]
 pub struct Ending {
     status: u8,
@@ -136,18 +136,18 @@ impl Model for Ending {
 
 impl Ending {
     ghost use Rattle.std.specs.Prelude.{◌≡◌, ◌≢◌, ◌⊎◌, [], true, IfOk, OnErr};
-    ghost use Rattle.xet_io.specs.Faults.{HasCause};
     ghost use Rattle.xet_store_cli.specs.Outcome.{outcome, Prints};
     ghost use Rattle.xet_store_cli.specs.Stops.{answer_outcome};
+    ghost use Rattle.xet_io.specs.Frame.{Called};
 
-    /// The end of words that are no command.
+    /// The ending for invalid arguments.
     pub fn of_bad_words(alloc: Global) -> Ending
         ensures { result ≡ outcome 2 [] }
     {
         Ending::silent(alloc, BAD_WORDS)
     }
 
-    /// The end of a command that answers so, or that of no memory.
+    /// The ending for the result of a command, or the one for out of memory if the text cannot be allocated.
     pub fn of_answer(alloc: Global, answer: Result<Vec<u8>, Stop>) -> Ending
         ensures ends { (result ≡ answer_outcome answer) ⊎ (result ≡ outcome 1 []) }
         ensures report { IfOk answer (λ text. result ≡ outcome 0 text.items) }
@@ -169,7 +169,7 @@ impl Ending {
         }
     }
 
-    /// An end at which a text is printed, or that of no memory where there was none for the text.
+    /// The ending with this status and text, or the one for out of memory if the text could not be allocated.
     fn told(alloc: Global, status: u8, text: Result<Vec<u8>, AllocError>) -> Ending
         ensures told { IfOk text (λ text. result ≡ outcome status text.items) }
         ensures memory { OnErr text (result ≡ outcome 1 []) }
@@ -180,7 +180,7 @@ impl Ending {
         }
     }
 
-    /// An end at which nothing is printed.
+    /// The ending with this status and no text.
     fn silent(alloc: Global, status: u8) -> Ending
         ensures { result ≡ outcome status [] }
     {
@@ -190,13 +190,13 @@ impl Ending {
         }
     }
 
-    /// Prints the text, and gives the status: that of the ending, unless the output refused.
+    /// Prints the text and returns the status: that of the ending, or 5 if the output failed, or 1 if it ran
+    /// out of memory.
     pub fn print<O: Sink>(&self, output: &mut O) -> u8
         ensures prints { Prints (O.tells output.old) self.now (O.written output.old) (O.written output.new) result }
         ensures status { (result ≡ self.now.status) ⊎ (result ≡ 1) ⊎ (result ≡ 5) }
         ensures silent { self.now.text ≡ [] → result ≡ self.now.status }
-        ensures tells { O.tells output.new ≡ O.tells output.old }
-        ensures cause { HasCause (O.faults output.old) (O.faults output.new) ((result ≡ 5) × (self.now.status ≢ 5)) }
+        ensures frame { Called O.tells O.faults output.old output.new ((result ≡ 5) × (self.now.status ≢ 5)) }
     {
         match write_all(output, &self.text) {
             Ok(()) => self.status,

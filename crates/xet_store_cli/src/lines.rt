@@ -1,10 +1,11 @@
-//! The lines of an input.
+//! Parsing of the lines of an input.
 
 ghost use Rattle.std.specs.Prelude.{◌≡◌, ℕ, ◌<◌, ◌∷◌, [], List, length, IfOk, IfNone, IfSome, IsOkUnless, MatchBool, None, Some, IsTrue, ◌↔◌};
 ghost use Rattle.std.specs.Option.{option_map};
 ghost use Rattle.std.specs.Str.Lines.{lines, strip_carriage_return};
 ghost use Rattle.xet_store_cli.specs.Lines.{file_bytes, range_by, range_of, words_of};
-ghost use Rattle.xet_store_cli.specs.Parsing.{Says, with_next};
+ghost use Rattle.xet_store_cli.specs.Parsing.{Says};
+ghost use Rattle.xet_store_cli.specs.internal.Parsing.{with_next};
 ghost use Rattle.xet_store_cli.specs.Words.{number_of};
 
 use crate::ending::Stop;
@@ -14,17 +15,17 @@ use memchr::memchr;
 use std::alloc::Global;
 use std::marker::Model;
 
-/// The greatest number of file lines.
+/// The maximum number of file lines.
 const MOST_FILES: usize = 1;
 
 /// A range of the bytes of one of an input's files.
 #[derive(Clone, Copy, PartialEq, Eq, Debug)]
 pub struct FileRange {
-    /// The number of the file's line among the file lines, from 1.
+    /// The number of the file's line among the file lines, counted from 1.
     pub file: u64,
-    /// The place of the first byte.
+    /// The offset of the first byte.
     pub from: u64,
-    /// The place behind the last byte.
+    /// The offset after the last byte.
     pub to: u64,
 }
 
@@ -47,7 +48,8 @@ impl Model for PackLines {
 impl PackLines {
     ghost use Rattle.std.specs.Prelude.{◌≡◌, ℕ, [], map, is_some, IfOk, IsOkUnless, MatchBool, None, Some};
     ghost use Rattle.xet_store_cli.specs.Lines.{range_bytes};
-    ghost use Rattle.xet_store_cli.specs.Parsing.{and_file, are_good, parted, with_next};
+    ghost use Rattle.xet_store_cli.specs.internal.Parsing.{and_file, with_next};
+    ghost use Rattle.xet_store_cli.specs.Parsing.{are_good, parted};
 
     fn new(alloc: Global) -> PackLines
         ensures { result ≡ parted [] }
@@ -58,14 +60,14 @@ impl PackLines {
         }
     }
 
-    /// The bytes of the file lines, in order.
+    /// The bytes of each file line, in order.
     pub fn files(&self) -> &[Vec<u8>]
         ensures { map (λ f. f.items) result.now ≡ self.now.files }
     {
         &self.files
     }
 
-    /// The ranges of the range lines, in order.
+    /// The range of each range line, in order.
     pub fn ranges(&self) -> &[FileRange]
         ensures { result.now ≡ self.now.ranges }
     {
@@ -79,7 +81,7 @@ impl PackLines {
         self.ranges.iter().all(|range| self.has(range))
     }
 
-    /// Whether a range names bytes of the files.
+    /// Whether a range has the number of a file, is not reversed, and does not pass the file's end.
     fn has(&self, range: &FileRange) -> bool
         ensures { result ≡ is_some (range_bytes self.now.files range.now) }
     {
@@ -90,7 +92,7 @@ impl PackLines {
         range.from <= range.to && range.to <= size
     }
 
-    /// Adds what one more line says. False where it is bad.
+    /// Adds what one more line says. Returns false if the line is bad. The only error is `OutOfMemory`.
     fn push(&mut self, alloc: Global, line: &[u8]) -> Result<bool, Stop>
         ensures good { IfOk result (λ good. MatchBool good (with_next self.old line.now ≡ Some self.new) (with_next self.old line.now ≡ None)) }
         ensures memory { IsOkUnless result Stop.OutOfMemory }
@@ -110,7 +112,7 @@ impl PackLines {
         }
     }
 
-    /// Adds a file. False where it is one too many.
+    /// Adds a file. Returns false if there are too many.
     fn push_file(&mut self, bytes: Vec<u8>) -> Result<bool, Stop>
         ensures good { IfOk result (λ good. MatchBool good (and_file self.old bytes.items ≡ Some self.new) (and_file self.old bytes.items ≡ None)) }
         ensures memory { IsOkUnless result Stop.OutOfMemory }
@@ -123,7 +125,8 @@ impl PackLines {
     }
 }
 
-/// What the lines of an input say, or the number of the first bad one.
+/// Parses the lines of an input. The error is `BadLine` with the number of the first bad line, counted from
+/// 1, or `OutOfMemory`.
 pub fn parse(alloc: Global, input: &[u8]) -> Result<PackLines, Stop>
     ensures { Says (lines input.now) result }
 {
@@ -141,7 +144,7 @@ pub fn parse(alloc: Global, input: &[u8]) -> Result<PackLines, Stop>
     Ok(said)
 }
 
-/// The first line of some bytes, without its end, and what follows it.
+/// The first line of some bytes, without its end, and the bytes after it.
 fn first_line(bytes: &[u8]) -> (&[u8], &[u8])
     requires { 0 < length bytes.now }
     ensures line { lines bytes.now ≡ result.0.now ∷ lines result.1.now }
@@ -153,7 +156,7 @@ fn first_line(bytes: &[u8]) -> (&[u8], &[u8])
     }
 }
 
-/// A line without the one CR at its end, if it has one.
+/// A line without the CR at its end, if there is one. A second CR stays.
 fn without_return(line: &[u8]) -> &[u8]
     ensures { result.now ≡ strip_carriage_return line.now }
 {
@@ -163,7 +166,7 @@ fn without_return(line: &[u8]) -> &[u8]
     }
 }
 
-/// The bytes of a file line; none where the line is out of form.
+/// The bytes of a file line; none if the line is not one. The only error is `OutOfMemory`.
 fn file_bytes(alloc: Global, line: &[u8]) -> Result<Option<Vec<u8>>, Stop>
     ensures bytes { IfOk result (λ found. option_map (λ bytes. bytes.items) found ≡ file_bytes line.now) }
     ensures memory { IsOkUnless result Stop.OutOfMemory }
@@ -186,7 +189,7 @@ fn file_bytes(alloc: Global, line: &[u8]) -> Result<Option<Vec<u8>>, Stop>
     }
 }
 
-/// The range of a range line; none where the line is out of form.
+/// The range of a range line; none if the line is not one.
 fn range_of(line: &[u8]) -> Option<FileRange>
     ensures { result ≡ range_of (words_of line.now) }
 {
@@ -199,7 +202,7 @@ fn range_of(line: &[u8]) -> Option<FileRange>
     range_by(file, from, to)
 }
 
-/// The range of three numbers; none where a word is none.
+/// The range of three numbers; none if one of the words is not a number.
 fn range_by(file: &[u8], from: &[u8], to: &[u8]) -> Option<FileRange>
     ensures { result ≡ range_by (number_of file.now) (number_of from.now) (number_of to.now) }
 {
@@ -210,7 +213,7 @@ fn range_by(file: &[u8], from: &[u8], to: &[u8]) -> Option<FileRange>
     })
 }
 
-/// The word before the first space, and what follows that; none where there is no space.
+/// The word before the first space, and the bytes after that; none if there is no space.
 fn first_word(line: &[u8]) -> Option<(&[u8], &[u8])>
     ensures found { IfSome result (λ found. words_of line.now ≡ found.0.now ∷ words_of found.1.now) }
     ensures none { IfNone result (words_of line.now ≡ line.now ∷ []) }

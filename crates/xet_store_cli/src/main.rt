@@ -1,6 +1,8 @@
-//! The program: `pack TARGET GEAR` stores and reports the file that a line of standard input gives in
-//! hexadecimal, and prints the ranges of it that other lines name. `run_program` is the whole of it, over
-//! any input, output and disk; `main` hands in the real ones.
+//! The program `pack TARGET GEAR`: it stores a file, and prints a report and byte ranges of it.
+//!
+//! A line of standard input gives the bytes of the file in hexadecimal, and other lines name the ranges.
+//! `run_program` is the whole program, over any input, output and disk. `main` passes the standard streams
+//! and a disk in memory.
 #![tactic(auto)]
 
 mod ending;
@@ -20,8 +22,8 @@ use xet_io::{MemoryDisk, MemoryInputs, StdSink, StdSource};
 #[cfg(test)]
 mod tests;
 
-/// Runs the command of the words behind the program's name and ends with its status: 2 where a word
-/// is not text, 1 where there is no memory for them.
+/// Runs the command of the arguments and exits with its status: 2 if an argument is not text, 1 if there is
+/// no memory for the arguments.
 fn main(rt: HostRuntime) -> ExitCode {
     let alloc = rt.alloc();
     let words = match read_words(&rt) {
@@ -44,7 +46,7 @@ fn main(rt: HostRuntime) -> ExitCode {
     ExitCode::from(status)
 }
 
-/// The words behind the program's name, or the status where they can't be read.
+/// The arguments after the program's name, or the status if they cannot be read.
 fn read_words(rt: &HostRuntime) -> Result<Vec<String>, u8> {
     let args = env::args(rt).map_err(|error| status_of(&error))?;
     let mut words = Vec::new(rt.alloc());
@@ -54,7 +56,7 @@ fn read_words(rt: &HostRuntime) -> Result<Vec<String>, u8> {
     Ok(words)
 }
 
-/// The status of a command line that can't be read.
+/// The status if the arguments cannot be read.
 fn status_of(error: &io::Error) -> u8 {
     if error.kind() == io::ErrorKind::OutOfMemory {
         1
@@ -63,7 +65,7 @@ fn status_of(error: &io::Error) -> u8 {
     }
 }
 
-/// The moment, in seconds since 1970, or 0 where the clock fails.
+/// The current time in seconds since 1970; 0 if the clock fails or is before 1970.
 fn seconds(rt: &HostRuntime) -> u64 {
     match SystemTime::now(rt) {
         Ok(now) => now

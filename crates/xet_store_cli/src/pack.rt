@@ -9,8 +9,10 @@ ghost use Rattle.xet_store_cli.specs.Allowed.{AllowsInput, are_short};
 ghost use Rattle.xet_store_cli.specs.Ending.{IsReportOf};
 ghost use Rattle.xet_store_cli.specs.Parsing.{ForLines, are_good};
 ghost use Rattle.xet_store_cli.specs.Report.{IsReport};
-ghost use Rattle.xet_store_cli.specs.Stops.{Answers, AnswersByFolder, AnswersByInput, AnswersEarly, AnswersLate, IsEarlyStop, IsIdleStop, IsLateStop, IsSaid, stop_of_refusal};
+ghost use Rattle.xet_store_cli.specs.Stops.{Answers, AnswersByFolder, AnswersByInput, IsIdleStop};
+ghost use Rattle.xet_store_cli.specs.internal.Stops.{AnswersEarly, AnswersLate, IsEarlyStop, IsLateStop, IsSaid, stop_of_refusal};
 ghost use Rattle.xet_store_cli.specs.Stored.{HasMadeBy, HasRecordedBy, HasStoredBy, KeepsFolder, KeepsListed, Makes, Records, Stores};
+ghost use Rattle.xet_io.specs.Frame.{Called};
 
 use crate::ending::Stop;
 use crate::lines::{PackLines, parse};
@@ -23,17 +25,17 @@ use xet_hash::Refused;
 use xet_io::{Disk, Source, read_all};
 use xet_store::Store;
 
-/// The folder of the store.
+/// The folder of the store on the disk.
 const FOLDER: &str = "store";
 
-/// The greatest length of an input, in bytes.
+/// The maximum length of an input, in bytes.
 const MOST_INPUT: usize = 1 << 31;
 
-/// The greatest length of one read of an input, in bytes.
+/// The maximum length of one read of the input, in bytes.
 const MOST_READ: usize = 1 << 31;
 
-/// Reads an input to its end, stores the files of its lines in the folder `store` of a disk, at a moment
-/// in seconds, and reports them and their ranges.
+/// Reads an input to its end, stores the files of its lines in the folder `store` of a disk, and returns the
+/// disk and the report of files and ranges, or why it stops. `now` is the time in seconds since 1970.
 pub fn pack<I: Source, D: Disk + Send>(
     alloc: Global,
     limits: &Limits,
@@ -72,7 +74,7 @@ pub fn pack<I: Source, D: Disk + Send>(
     }
 }
 
-/// Reads an input to its end.
+/// Reads an input to its end and parses its lines. All ranges of the result name bytes of its files.
 fn read_lines<I: Source>(alloc: Global, input: &mut I) -> Result<PackLines, Stop>
     ensures answer { I.tells input.old ≡ true → AnswersEarly (I.left input.old) result }
     ensures few { IfOk result (λ lines. length lines.files ≤ 1) }
@@ -80,8 +82,7 @@ fn read_lines<I: Source>(alloc: Global, input: &mut I) -> Result<PackLines, Stop
     ensures said { IfOk result (λ lines. (bytes : List ℕ) × IsSaid bytes lines) }
     ensures stop { IfErr result IsEarlyStop }
     ensures read { I.tells input.old ≡ true → OnOk result (I.left input.new ≡ []) }
-    ensures tells { I.tells input.new ≡ I.tells input.old }
-    ensures cause { HasCause (I.faults input.old) (I.faults input.new) (IsErrOf result Stop.Input) }
+    ensures frame { Called I.tells I.faults input.old input.new (IsErrOf result Stop.Input) }
 {
     let bytes = read_all(alloc, input, MOST_READ, MOST_INPUT)?;
     let lines = parse(alloc, &bytes)?;
@@ -91,7 +92,7 @@ fn read_lines<I: Source>(alloc: Global, input: &mut I) -> Result<PackLines, Stop
     Ok(lines)
 }
 
-/// Stores the files of some lines, and reports them and their ranges.
+/// Stores the files of some lines, and returns the disk and the report of files and ranges, or why it stops.
 fn store_lines<D: Disk + Send>(
     alloc: Global,
     limits: &Limits,
@@ -127,7 +128,7 @@ fn store_lines<D: Disk + Send>(
     }
 }
 
-/// A folder that was not opened.
+/// The result if the folder was not opened: the disk, and the error as a stop.
 fn not_opened<D: Disk>(refused: Refused<D>) -> (D, Result<Vec<u8>, Stop>)
     ensures disk { result.0 ≡ refused.disk }
     ensures stop { IsErrOf result.1 (stop_of_refusal refused.error refused.name) }

@@ -8,7 +8,7 @@ use crate::ending::Stop;
 use std::alloc::Global;
 use xet_store::XetFileInfo;
 
-/// The line of each file, in order.
+/// The line of each file, in order. The only error is `OutOfMemory`.
 pub fn report(alloc: Global, infos: &[XetFileInfo]) -> Result<Vec<u8>, Stop>
     ensures text { IfOk result (λ text. text.items ≡ flat_map info_line infos.now) }
     ensures memory { IsOkUnless result Stop.OutOfMemory }
@@ -20,7 +20,7 @@ pub fn report(alloc: Global, infos: &[XetFileInfo]) -> Result<Vec<u8>, Stop>
     Ok(text)
 }
 
-/// Adds a file's line: its hash, its length and its SHA-256, where it has one.
+/// Appends the line of a file: its hash, its length and its SHA-256, if it has one.
 fn push_info_line(alloc: Global, info: &XetFileInfo, text: &mut Vec<u8>) -> Result<(), Stop>
     ensures line { OnOk result (text.new.items ≡ text.old.items ++ info_line info.now) }
     ensures memory { IsOkUnless result Stop.OutOfMemory }
@@ -36,7 +36,7 @@ fn push_info_line(alloc: Global, info: &XetFileInfo, text: &mut Vec<u8>) -> Resu
     Ok(())
 }
 
-/// Adds the line of some bytes: in lower-case hexadecimal.
+/// Appends the line of some bytes: lower-case hexadecimal. The only error is `OutOfMemory`.
 pub fn push_bytes_line(bytes: &[u8], text: &mut Vec<u8>) -> Result<(), Stop>
     ensures line { OnOk result (text.new.items ≡ text.old.items ++ bytes_line bytes.now) }
     ensures memory { IsOkUnless result Stop.OutOfMemory }

@@ -6,7 +6,8 @@ ghost use Rattle.xet_io.specs.Faults.{HasCause};
 ghost use Rattle.xet_hash.specs.declared.error.StoreError.{StoreError};
 ghost use Rattle.xet_folder.specs.Admission.{Refuses};
 ghost use Rattle.xet_folder.specs.Names.{IsForeign};
-ghost use Rattle.xet_store_cli.specs.Outcome.{Ended, EndedEarly, EndsEarly, EndsOver, IsDue, IsFaultless, IsIdle, IsSilent, IsStopped, Outcome, Prints, Reports, bad_line_text, bad_shard_text, early_outcome, store_folder};
+ghost use Rattle.xet_store_cli.specs.internal.Outcome.{Ended, EndedEarly};
+ghost use Rattle.xet_store_cli.specs.Outcome.{EndsEarly, EndsOver, IsDue, IsFaultless, IsIdle, IsSilent, IsStopped, Outcome, Prints, Reports, bad_line_text, bad_shard_text, early_outcome, store_folder};
 ghost use Rattle.xet_store_cli.specs.Ending.{IsReportOf, MayEnd};
 ghost use Rattle.xet_store_cli.specs.Allowed.{AllowsInput};
 ghost use Rattle.xet_store_cli.specs.Stops.{Answers, AnswersByFolder, AnswersByInput, IsIdleStop};
@@ -23,27 +24,28 @@ use std::thread::Threads;
 use xet_folder::laws::admitted_later;
 use xet_io::{Disk, Inputs, Sink, Source};
 
-/// Runs the command of these words: it reads `input`, works on the disk, prints to `output`, and hands the
-/// disk back with the status. `now` is the moment, in seconds. So far the inputs are not used, and no
-/// thread is started.
+/// Runs the command of the arguments `words`: reads `input`, works on `disk`, prints to `output`, and returns
+/// the disk and the status. `now` is the time in seconds since 1970. Currently `rt` and `inputs` are not
+/// used, and no thread is started.
 ///
-/// | Status | Comes |
+/// | Status | Meaning |
 /// |---|---|
 /// | 0 | the input was read to its end, its files were stored, and the report of its lines was printed |
-/// | 1 | there was no memory; a store answers so too where digests collide |
-/// | 2 | exactly where the words are no command |
-/// | 3 | exactly where the input has a bad line; it prints `bad line n` of the first, counted from 1 |
-/// | 4, 5, 6 | only where the input, the output, the disk failed in this call |
-/// | 7 | exactly where the folder `store` is not admitted; it prints `bad shard NAME` of the first shard that fails a check |
-/// | 8 | exactly where a range line names no bytes of the file lines |
-/// | 9 | exactly where the input is longer than 2^31 bytes |
-/// | 10 | only over a disk that does not tell: a stored xorb was other than when it was checked |
+/// | 1 | out of memory; also if digests collide |
+/// | 2 | invalid arguments, and only then |
+/// | 3 | the input has a bad line; prints `bad line n` for the first, counted from 1 |
+/// | 4, 5, 6 | the input, the output or the disk failed in this call |
+/// | 7 | the folder `store` is not valid; prints `bad shard NAME` for the first shard that fails a check |
+/// | 8 | a range line names no bytes of the file lines |
+/// | 9 | the input is longer than 2^31 bytes |
+/// | 10 | a stored xorb changed after it was verified; only on a disk that is not observable |
 ///
-/// Of 2, 9, 3, 8 and 7 the first that fits is due, and else 0. A run to which another status than 2 is due may
-/// be stopped by 1, 4 or 6 before it prints, and has then written nothing. A report is printed once its files are
-/// stored, recorded and made; it is cut short by 5, or by 1 where the output has no memory, after a prefix. No other
-/// status comes, and nothing is printed at 2, 4, 6, 8, 9 and 10, whatever an input and a disk tell. What is said
-/// of the bytes of an input, an output and a disk holds where they tell.
+/// Of 2, 9, 3, 8 and 7 the first that applies is due, else 0; they are returned only if they are due. If
+/// another status than 2 is due, the run may be stopped with 1, 4 or 6 before it prints, and has then written
+/// nothing. A report is printed once its files are stored, recorded and made. A text may be cut short after a
+/// prefix of it, with 5, or with 1 if the output has no memory. No other status is returned, and 2, 4, 6, 8,
+/// 9 and 10 print nothing, also if input and disk are not observable. Clauses about contents apply to inputs,
+/// outputs and disks that are observable.
 pub fn run_program<I, O, D, F, R>(
     alloc: Global,
     rt: &R,
@@ -105,7 +107,7 @@ where
     (disk, status)
 }
 
-/// Runs the command of these words as far as its text.
+/// Runs the command of the arguments up to its text, which is not printed yet.
 fn run_command<I: Source, D: Disk + Send>(
     alloc: Global,
     words: &[String],
@@ -150,7 +152,7 @@ fn run_command<I: Source, D: Disk + Send>(
     }
 }
 
-/// What a command answers: its report, or why it stops.
+/// Runs a command, and returns the disk and the report, or why it stops.
 fn answer<I: Source, D: Disk + Send>(
     alloc: Global,
     command: &Command,

@@ -1,4 +1,4 @@
-//! The files and ranges of some lines, over a session.
+//! Storing the files of some lines in a session, and reporting them and their ranges.
 
 ghost use Rattle.std.specs.Prelude.{◌≡◌, ◌≤◌, ◌<◌, ◌++◌, ℕ, List, true, length, map, All, IfErr, IfOk, OnOk, IsErrOf, IsOkUnless};
 ghost use Rattle.std.specs.List.{AllByRecursion, flat_map};
@@ -14,7 +14,8 @@ ghost use Rattle.xet_store.specs.Tables.{tables_of, with_files};
 ghost use Rattle.xet_store_cli.specs.Outcome.{AreSeparate, store_folder};
 ghost use Rattle.xet_store_cli.specs.Parsing.{ForLines, are_good};
 ghost use Rattle.xet_store_cli.specs.Report.{IsReport, info_line};
-ghost use Rattle.xet_store_cli.specs.Steps.{AreRead, IsLineRead, IsReadingStop, IsSettled, MakesIn};
+ghost use Rattle.xet_store_cli.specs.internal.Steps.{AreRead, IsLineRead, IsReadingStop, IsSettled};
+ghost use Rattle.xet_store_cli.specs.Steps.{MakesIn};
 ghost use Rattle.xet_store_cli.specs.Stops.{IsSessionStop};
 ghost use Rattle.xet_store_cli.specs.Stored.{Records, Stores};
 
@@ -26,7 +27,7 @@ use std::marker::Send;
 use xet_io::{Disk, SliceSource};
 use xet_store::{Cleaned, Store, XetFileInfo, clean_files};
 
-/// Stores the files of some lines in a session, and reports them and their ranges.
+/// Stores the files of some lines in a session, and returns the report of files and ranges, or why it stops.
 pub fn report_lines<D: Disk + Send>(
     alloc: Global,
     session: Store<D>,
@@ -96,7 +97,7 @@ fn sources_of<'a>(alloc: Global, lines: &'a PackLines) -> Result<Vec<SliceSource
     Ok(sources)
 }
 
-/// Keeps what a session has pending, and gives the report of files and of ranges of them.
+/// Flushes a session, and returns the report of some files and of ranges of them.
 fn report_cleaned<D: Disk + Send>(
     alloc: Global,
     session: &mut Store<D>,
@@ -116,7 +117,7 @@ fn report_cleaned<D: Disk + Send>(
     Ok(text)
 }
 
-/// Adds the line of each range, in order.
+/// Appends the line of each range, in order.
 fn push_ranges<D: Disk + Send>(
     session: &mut Store<D>,
     infos: &[XetFileInfo],
@@ -135,7 +136,7 @@ fn push_ranges<D: Disk + Send>(
     Ok(())
 }
 
-/// Adds the line of a range, whose bytes are read of a session.
+/// Appends the line of a range, whose bytes are read from a session.
 fn push_range<D: Disk + Send>(
     session: &mut Store<D>,
     infos: &[XetFileInfo],

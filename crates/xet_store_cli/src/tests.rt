@@ -1,4 +1,4 @@
-//! Runs over an input, an output and a disk in memory.
+//! Tests of the program over an input, an output and a disk in memory.
 
 use crate::run::run_program;
 use std::alloc::Global;
@@ -21,7 +21,7 @@ const NOTHING: &str =
 const ONE_ZERO: &str =
     "b118eb6b1e0b61b6af72793e29bf136ad42b7d2052b0be0fae9a04a58e48f3b7 1 6e340b9cffb37a989ca544e6bb780a2c78901d3fb33738768511a30617afa01d\n";
 
-/// The disk after a run with these words, parted by spaces, and its status.
+/// Runs the program with these arguments, separated by spaces. Returns the disk and the status.
 fn run_over<R: Threads + Wait + Sync, I: Source, O: Sink>(
     rt: &R,
     alloc: Global,
@@ -38,7 +38,7 @@ fn run_over<R: Threads + Wait + Sync, I: Source, O: Sink>(
     Ok(run_program(alloc, rt, &list, input, output, disk, &mut inputs, 0))
 }
 
-/// The same, over this input, with what was printed.
+/// The same over this input. Returns also what was printed.
 fn run<R: Threads + Wait + Sync>(
     rt: &R,
     alloc: Global,
@@ -144,7 +144,7 @@ fn ranges_of_a_file(rt: HostRuntime) -> Result<(), Fail> {
     Ok(())
 }
 
-/// The name of the one shard of the folder of a disk.
+/// The name of the one shard in the folder of a disk.
 fn shard_name(alloc: Global, disk: &mut MemoryDisk) -> Result<String, Fail> {
     let mut found = String::new(alloc);
     for entry in disk.list(alloc, "store")? {
@@ -156,7 +156,7 @@ fn shard_name(alloc: Global, disk: &mut MemoryDisk) -> Result<String, Fail> {
     Ok(found)
 }
 
-/// The bytes of a file of the folder of a disk; none where it is not there.
+/// The bytes of a file in the folder of a disk; no bytes if it does not exist.
 fn bytes_of(alloc: Global, disk: &MemoryDisk, name: &str) -> Result<Vec<u8>, Fail> {
     let path = format!(in alloc; "store/{name}")?;
     match disk.get(path.as_str()) {
@@ -250,12 +250,12 @@ fn leaves_other_files_alone(rt: HostRuntime) -> Result<(), Fail> {
     Ok(())
 }
 
-/// The words and the input of the runs that fail.
+/// The arguments and the input of runs that store `abc`.
 const WORDS: &str = "pack 512 zero";
 
 const INPUT: &str = "file 616263\n";
 
-/// Whether a run over a disk that another handed back prints its report.
+/// Whether a run on the disk that another run returned prints its report.
 fn runs_again<R: Threads + Wait + Sync>(
     rt: &R,
     alloc: Global,

@@ -1,4 +1,4 @@
-//! The words of a command line.
+//! Parsing of the arguments.
 
 ghost use Rattle.std.specs.Prelude.{◌≡◌, ◌≤◌, map, replicate, string_bytes, IsTrue, IfSome};
 ghost use Rattle.std.specs.Char.{is_ascii_digit};
@@ -11,12 +11,12 @@ use xet_cut::{LimitSettings, Limits, gear_table};
 /// A command of the program.
 #[derive(Clone, Copy, PartialEq, Eq, Debug)]
 pub enum Command {
-    /// Reports the files of the lines of the input, under these limits.
+    /// Stores the files of the input's lines, under these limits, and reports them and their ranges.
     Pack(Limits),
 }
 
-/// The command that these words are, if they are one: `pack TARGET GEAR`. Its limits allow a source as long
-/// as the longest input.
+/// The command of these arguments, `pack TARGET GEAR`; none if they are invalid. Its limits allow a source as
+/// long as the longest input.
 pub fn command_of(words: &[String]) -> Option<Command>
     ensures command { result ≡ command_of (map string_bytes words.now) }
     ensures allows { IfSome result AllowsInput }
@@ -38,7 +38,8 @@ fn pack_command(name: &str, target: &str, gear: &str) -> Option<Command>
     Some(Command::Pack(pack_limits(target, gear)))
 }
 
-/// The limits of `pack`: the usual ones around a target, with the longest source that they allow.
+/// The limits of `pack`: the default ones, with a minimum, a maximum and a source length that follow from the
+/// target chunk size.
 fn pack_limits(target: u32, gear: [u64; 256]) -> Limits
     requires { IsTrue (is_target target) }
     ensures { result ≡ pack_settings target gear }
@@ -63,7 +64,7 @@ fn pack_settings(target: u32, gear: [u64; 256]) -> LimitSettings
     }
 }
 
-/// A target: a power of two from 128 to 2,097,152.
+/// A target chunk size: a power of two from 128 to 2,097,152.
 fn target_of(word: &str) -> Option<u32>
     ensures value { result ≡ target_of word.now }
     ensures range { IfSome result (λ target. IsTrue (is_target target)) }
@@ -76,7 +77,7 @@ fn target_of(word: &str) -> Option<u32>
     }
 }
 
-/// A gear table: `zero`, `one`, or that of a seed.
+/// A Gear table: `zero`, `one`, or the number of a seed.
 fn gear_of(word: &str) -> Option<[u64; 256]>
     ensures { result ≡ gear_of word.now }
 {
@@ -104,7 +105,7 @@ fn number_of(word: &str) -> Option<u64>
     }
 }
 
-/// The same, of bytes.
+/// The same from bytes.
 pub fn number_in(bytes: &[u8]) -> Option<u64>
     ensures { result ≡ number_of bytes.now }
 {

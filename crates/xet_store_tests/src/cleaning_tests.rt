@@ -1,4 +1,4 @@
-//! Files that are cleaned and flushed. What a session shows is gathered first, and then compared at once.
+//! Tests of cleaning and flushing. What a session shows is collected first, and then compared at once.
 
 use crate::folders::{Listed, hash_of, read_listed, text_of};
 use crate::session::{Session, bytes_of};
@@ -13,7 +13,7 @@ use xet_store::XetFileInfo;
 /// The hash of the file `abc`, in hexadecimal.
 const ABC: &str = "8679a9c73b087ee02033e84569cba8c79c2413d79f99a1e9bd1ae79ae88776cf";
 
-/// A new session in which a file of these bytes was cleaned, and the answer.
+/// A new session in which a file of these bytes was cleaned, and the result.
 fn made(
     alloc: Global,
     bytes: &[u8],
@@ -27,7 +27,7 @@ fn is_abc(alloc: Global, info: &XetFileInfo) -> Result<bool, StoreError> {
     Ok(text.as_str() == ABC && info.file_size == 3)
 }
 
-/// Whether a session of the file `abc` alone plans it as all of one xorb, and lists nothing else.
+/// Whether a session of the file `abc` alone has a plan of one whole xorb for it, and lists nothing else.
 fn plans_abc(session: &Session, info: &XetFileInfo) -> Result<bool, StoreError> {
     let whole = FileDataSequenceEntry::new(compute_data_hash(b"abc"), 3, 0, 1);
     let plan = session.plan(&info.hash)?;
@@ -39,14 +39,14 @@ fn plans_abc(session: &Session, info: &XetFileInfo) -> Result<bool, StoreError> 
     )
 }
 
-/// Whether a text is that of the xorb of `abc`, but for its hashes.
+/// Whether these are the bytes of the xorb of `abc`, except for its hashes.
 fn is_xorb_of_abc(text: &[u8]) -> bool {
     text.len() == 147
         && text.starts_with(&[0, 3, 0, 0, 0, 3, 0, 0, 0x61, 0x62, 0x63])
         && text.ends_with(&[0x84, 0, 0, 0])
 }
 
-/// Whether the record and the plan of `abc` are as they are to be.
+/// Whether the pointer record and the plan of `abc` are right.
 fn records_abc(
     alloc: Global,
     session: &Session,
@@ -58,14 +58,14 @@ fn records_abc(
     }
 }
 
-/// Whether the xorb of `abc` is as it is to be.
+/// Whether the xorb of `abc` is right.
 fn stores_abc(alloc: Global, disk: &MemoryDisk) -> Result<bool, StoreError> {
     let name = xorb_path(alloc, "store", &compute_data_hash(b"abc"))?;
     let text = bytes_of(alloc, disk, name.as_str())?;
     Ok(is_xorb_of_abc(&text))
 }
 
-/// An answer of two things, and one of a third.
+/// Joins a result of two values and a result of one.
 fn all_three(
     first: Result<(bool, bool), StoreError>,
     third: Result<bool, StoreError>,
@@ -74,7 +74,7 @@ fn all_three(
     Ok((record, plan, third?))
 }
 
-/// Cleans `abc`: whether its record, its plan and its xorb are as they are to be.
+/// Cleans `abc`: whether its pointer record, its plan and its xorb are right.
 fn cleans_abc(alloc: Global) -> Result<(bool, bool, bool), StoreError> {
     let (session, info) = made(alloc, b"abc")?;
     let recorded = records_abc(alloc, &session, &info);
@@ -88,8 +88,8 @@ fn stores_a_file_of_one_chunk(rt: HostRuntime) -> Result<(), Fail> {
     Ok(())
 }
 
-/// Flushes after the empty file: whether nothing was put, the hash is zero and its plan empty, and how many
-/// xorbs and files there are.
+/// Flushes after the empty file: whether nothing was written, whether the hash is zero and its plan empty,
+/// and how many xorbs and files there are.
 fn shows_nothing(
     session: &mut Session,
     hash: Result<MerkleHash, StoreError>,
@@ -101,7 +101,7 @@ fn shows_nothing(
     Ok((idle, empty, session.xorb_count(), session.files()?.len()))
 }
 
-/// Cleans the empty file: what the session then shows.
+/// Cleans the empty file: what the session shows then.
 fn cleans_nothing(alloc: Global) -> Result<(bool, bool, u64, usize), StoreError> {
     let (mut session, info) = made(alloc, b"")?;
     let answer = shows_nothing(&mut session, hash_of(&info));
@@ -115,7 +115,7 @@ fn keeps_no_record_of_the_empty_file(rt: HostRuntime) -> Result<(), Fail> {
     Ok(())
 }
 
-/// Whether a segment is the first two chunks of a xorb, of so many bytes.
+/// Whether a segment is the first two chunks of a xorb, with this number of bytes.
 fn is_pair(segment: &FileDataSequenceEntry, bytes: u32) -> bool {
     segment.unpacked_segment_bytes == bytes
         && segment.chunk_index_start == 0
@@ -161,7 +161,7 @@ fn shows_two(
     Ok((packed, kept, session.xorb_count(), session.files()?.len()))
 }
 
-/// Cleans `abc` and then 200 zeros: what the session then shows of the two.
+/// Cleans `abc` and then 200 zeros: what the session shows then.
 fn cleans_two(alloc: Global) -> Result<(bool, bool, u64, usize), StoreError> {
     let (session, first) = made(alloc, b"abc")?;
     let before = planned(&session, &first);
@@ -177,7 +177,7 @@ fn packs_chunks_in_order_and_keeps_earlier_plans(rt: HostRuntime) -> Result<(), 
     Ok(())
 }
 
-/// Flushes twice after a file: the shard, and whether there was nothing to flush the second time.
+/// Flushes twice after a file: the hash of the shard, and whether there was nothing to flush the second time.
 fn flushes_twice(
     session: &mut Session,
     file: Result<MerkleHash, StoreError>,
@@ -187,7 +187,7 @@ fn flushes_twice(
     Ok((shard, session.flush()?.is_none()))
 }
 
-/// The text of a shard that was flushed, and whether that is under the name of its digest.
+/// The bytes of a shard that was flushed, and whether its name is that of its digest.
 fn flushed_text(
     alloc: Global,
     disk: &MemoryDisk,
@@ -199,7 +199,7 @@ fn flushed_text(
     Ok((text, named, idle))
 }
 
-/// Cleans `abc` and flushes: the shard's text, whether that is under the name of its digest, and whether
+/// Cleans `abc` and flushes: the bytes of the shard, whether its name is that of its digest, and whether
 /// there was nothing to flush afterwards.
 fn flushes_abc(alloc: Global) -> Result<(Vec<u8>, bool, bool), StoreError> {
     let (mut session, info) = made(alloc, b"abc")?;
@@ -208,7 +208,7 @@ fn flushes_abc(alloc: Global) -> Result<(Vec<u8>, bool, bool), StoreError> {
     flushed_text(alloc, &disk, flushed)
 }
 
-/// Whether what is listed is `abc` alone, and where the footer is.
+/// Whether only `abc` is listed, and the offset of the footer.
 fn is_only_abc(alloc: Global, listed: &Listed) -> Result<(bool, u64), StoreError> {
     let xorbs = listed.xorbs.as_slice() == [compute_data_hash(b"abc")].as_slice();
     let files = match listed.files.as_slice() {
@@ -218,7 +218,7 @@ fn is_only_abc(alloc: Global, listed: &Listed) -> Result<(bool, u64), StoreError
     Ok((xorbs && files && listed.bytes == 3, listed.footer))
 }
 
-/// Whether a text is a shard of `abc` alone, and where its footer is.
+/// Whether these bytes are a shard of `abc` alone, and the offset of its footer.
 fn lists_abc(alloc: Global, text: &[u8]) -> Result<(bool, u64), StoreError> {
     let listed = read_listed(alloc, text)?;
     is_only_abc(alloc, &listed)

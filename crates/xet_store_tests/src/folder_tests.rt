@@ -1,4 +1,4 @@
-//! A folder of a disk in memory.
+//! Tests of a folder on a disk in memory.
 
 use crate::xorbs::xorb_bytes;
 use bytes::Bytes;
@@ -24,7 +24,7 @@ fn stored(alloc: Global) -> Result<MemoryDisk, StoreError> {
     Ok(disk)
 }
 
-/// The shard of the file `abc`.
+/// The bytes of the shard of the file `abc`.
 fn shard_of_abc(alloc: Global) -> Result<Vec<u8>, StoreError> {
     let hash = compute_data_hash(b"abc");
     let block = MDBXorbInfo {
@@ -90,7 +90,7 @@ fn refuses_a_shard_whose_xorb_is_missing(rt: HostRuntime) -> Result<(), Fail> {
     Ok(())
 }
 
-/// Stores the xorb of `abc` and `def`, and gives its hash.
+/// Stores the xorb of `abc` and `def`, and returns its hash.
 fn store_both(disk: &mut MemoryDisk, alloc: Global) -> Result<MerkleHash, StoreError> {
     let chunks = [
         Chunk::new(Bytes::from_static(b"abc")),
@@ -105,7 +105,7 @@ fn store_both(disk: &mut MemoryDisk, alloc: Global) -> Result<MerkleHash, StoreE
     Ok(hash)
 }
 
-/// Puts a shard that lists the file `abc` as the first chunk of a xorb, and gives its hash.
+/// Writes a shard that lists the file `abc` as the first chunk of a xorb, and returns its hash.
 fn put_plan(
     disk: &mut MemoryDisk,
     alloc: Global,

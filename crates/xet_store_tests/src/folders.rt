@@ -1,4 +1,4 @@
-//! What stands in the folder of a store: names of its files, and shards that are another but for a number.
+//! The folder of a store: names of its files, and copies of shards in which one number differs.
 
 use crate::session::{Session, bytes_of, put_bytes};
 use std::alloc::Global;
@@ -8,13 +8,13 @@ use xet_shard_file::shard_path;
 use xet_shard_format::read_shard;
 use xet_store::XetFileInfo;
 
-/// The place of the moment of creation in a shard of 672 bytes.
+/// The offset of the creation time in a shard of 672 bytes.
 pub const CREATION: usize = 576;
 
-/// The place of the expiry in a shard of 672 bytes.
+/// The offset of the expiry in a shard of 672 bytes.
 pub const EXPIRY: usize = 584;
 
-/// What a shard lists: hashes of its xorbs and of its files, the bytes of these, and the place of its footer.
+/// What a shard lists: hashes of xorbs and files, the number of bytes of the files, and the footer's offset.
 #[derive(Drop)]
 pub struct Listed {
     pub xorbs: Vec<MerkleHash>,
@@ -23,14 +23,14 @@ pub struct Listed {
     pub footer: u64,
 }
 
-/// A file that was cleaned and flushed: its hash, and that of its shard.
+/// The hash of a file that was cleaned and flushed, and the hash of its shard.
 #[derive(Clone, Copy)]
 pub struct Flushed {
     pub file: MerkleHash,
     pub shard: MerkleHash,
 }
 
-/// The disk of a store in which a file of these bytes was cleaned and flushed, with the answer.
+/// The disk of a store in which a file of these bytes was cleaned and flushed, and the result.
 pub fn written(
     alloc: Global,
     disk: MemoryDisk,
@@ -49,7 +49,7 @@ pub fn hash_of(info: &Result<XetFileInfo, StoreError>) -> Result<MerkleHash, Sto
     }
 }
 
-/// The answer of a file that was cleaned and then flushed.
+/// The result for a file that was cleaned and then flushed.
 fn answer_of(
     file: Result<MerkleHash, StoreError>,
     shard: Result<Option<MerkleHash>, StoreError>,
@@ -59,7 +59,7 @@ fn answer_of(
     Ok(Flushed { file, shard })
 }
 
-/// Puts a shard that is another but for a number at this place, and gives its hash.
+/// Writes a copy of a shard with another number at this offset, and returns the hash of the copy.
 pub fn put_changed(
     alloc: Global,
     disk: &mut MemoryDisk,
@@ -72,7 +72,7 @@ pub fn put_changed(
     put_shard(alloc, disk, &bytes)
 }
 
-/// The text of a shard.
+/// The bytes of a shard.
 pub fn text_of(
     alloc: Global,
     disk: &MemoryDisk,
@@ -82,7 +82,7 @@ pub fn text_of(
     bytes_of(alloc, disk, name.as_str())
 }
 
-/// Puts a shard under the name of its hash, and gives that.
+/// Writes a shard under the name of its hash, and returns the hash.
 fn put_shard(alloc: Global, disk: &mut MemoryDisk, bytes: &[u8]) -> Result<MerkleHash, StoreError> {
     let hash = compute_data_hash(bytes);
     let name = shard_path(alloc, "store", &hash)?;
@@ -90,7 +90,7 @@ fn put_shard(alloc: Global, disk: &mut MemoryDisk, bytes: &[u8]) -> Result<Merkl
     Ok(hash)
 }
 
-/// Writes a number of eight bytes at a place.
+/// Writes a number of eight bytes at an offset.
 fn change(bytes: &mut Vec<u8>, at: usize, number: u64) {
     for (i, byte) in number.to_le_bytes().iter().enumerate() {
         if let Some(place) = bytes.get_mut(at.saturating_add(i)) {
@@ -99,7 +99,7 @@ fn change(bytes: &mut Vec<u8>, at: usize, number: u64) {
     }
 }
 
-/// What the text of a shard lists.
+/// What the bytes of a shard list.
 pub fn read_listed(alloc: Global, text: &[u8]) -> Result<Listed, StoreError> {
     let (blocks, files, footer) = read_shard(alloc, text)?;
     let mut listed = Listed {

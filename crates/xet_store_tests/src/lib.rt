@@ -1,5 +1,6 @@
-//! Tests of a store on a disk in memory. They call it through a `Session`, whose calls have no contract, so
-//! that each step is proved by itself.
+//! Tests of a store on a disk in memory.
+//!
+//! They call it through a `Session`, whose calls have no contract, so that each step is proved on its own.
 #![tactic(auto)]
 
 #[cfg(test)]

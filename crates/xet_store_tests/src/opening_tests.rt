@@ -1,4 +1,4 @@
-//! Stores that are opened over what another store has written.
+//! Tests of stores that are opened over the files of another store.
 
 use crate::folders::{CREATION, EXPIRY, Flushed, put_changed, text_of, written};
 use crate::session::{NOW, Session, Unopened, bytes_of, put_bytes, refusal, remove};
@@ -37,7 +37,7 @@ fn reads(
     Ok(session.read(hash, from, to)?.as_slice() == bytes)
 }
 
-/// How many of six ranges of `abc`, of the zeros and of the empty file are as they are to be.
+/// How many of six ranges of `abc`, of the zeros and of the empty file are right.
 fn right_ranges(
     session: &mut Session,
     hashes: Result<[MerkleHash; 2], StoreError>,
@@ -60,7 +60,7 @@ fn right_ranges(
     Ok(right)
 }
 
-/// Reopens the store: how many of its six ranges are right.
+/// Reopens the store: how many of the six ranges are right.
 fn reads_ranges(alloc: Global) -> Result<u32, StoreError> {
     let (mut session, hashes) = reopened(alloc)?;
     let answer = right_ranges(&mut session, hashes);
@@ -74,13 +74,13 @@ fn a_reopened_store_reads_what_was_written(rt: HostRuntime) -> Result<(), Fail> 
     Ok(())
 }
 
-/// Why a range is refused, if it is.
+/// The error of reading a range; none if there is no error.
 fn refused(session: &mut Session, hash: &MerkleHash, from: u64, to: u64) -> Option<StoreError> {
     session.read(hash, from, to).err()
 }
 
-/// The refusals of a reversed range of `abc`, of one past its end, of one of the empty file, and of one of a
-/// file that is not there.
+/// The errors of reading a reversed range of `abc`, one past its end, one of the empty file, and one of a
+/// file that is not recorded.
 fn refusals(
     session: &mut Session,
     hashes: Result<[MerkleHash; 2], StoreError>,
@@ -95,7 +95,7 @@ fn refusals(
     ])
 }
 
-/// Reopens the store: how it refuses those four ranges.
+/// Reopens the store: the errors of these four ranges.
 fn refuses_ranges(alloc: Global) -> Result<[Option<StoreError>; 4], StoreError> {
     let (mut session, hashes) = reopened(alloc)?;
     let answer = refusals(&mut session, hashes);
@@ -113,7 +113,7 @@ fn a_range_that_is_not_there(rt: HostRuntime) -> Result<(), Fail> {
     Ok(())
 }
 
-/// Takes a shard away; whether it was there.
+/// Removes a shard. Returns whether it existed.
 fn remove_shard(
     alloc: Global,
     disk: &mut MemoryDisk,
@@ -123,8 +123,8 @@ fn remove_shard(
     remove(disk, name.as_str())
 }
 
-/// Puts a shard of `abc` that was created later and lists the same, and has that of `abd` expire; gives the
-/// hash of `abc`.
+/// Writes a copy of the shard of `abc` that was created later, and replaces that of `abd` by a copy that has
+/// expired. Returns the hash of `abc`.
 fn change_two(
     alloc: Global,
     disk: &mut MemoryDisk,
@@ -138,8 +138,8 @@ fn change_two(
     Ok(older.file)
 }
 
-/// The disk of a store with a shard of `abc`, one that was created later and lists the same, and one of
-/// `abd` that has expired; and the hash of `abc`.
+/// The disk of a store with a shard of `abc`, a copy of it that was created later, and a shard of `abd` that
+/// has expired; and the hash of `abc`.
 fn three_shards(alloc: Global) -> Result<(MemoryDisk, Result<MerkleHash, StoreError>), StoreError> {
     let (disk, abc) = written(alloc, MemoryDisk::new(alloc), b"abc")?;
     let (mut disk, abd) = written(alloc, disk, b"abd")?;
@@ -147,7 +147,7 @@ fn three_shards(alloc: Global) -> Result<(MemoryDisk, Result<MerkleHash, StoreEr
     Ok((disk, hash))
 }
 
-/// Whether `abc` alone is listed, whether it is read, whether there is nothing to flush, and how many xorbs
+/// Whether only `abc` is listed, whether it is read, whether there is nothing to flush, and how many xorbs
 /// there are.
 fn shows_abc(
     session: &mut Session,
@@ -160,7 +160,7 @@ fn shows_abc(
     Ok((listed, read, idle, session.xorb_count()))
 }
 
-/// Opens the three shards: what the store then shows.
+/// Opens the three shards: what the store shows then.
 fn opens_three(alloc: Global) -> Result<(bool, bool, bool, u64), StoreError> {
     let (disk, abc) = three_shards(alloc)?;
     let mut session = Session::open(alloc, disk)?;
@@ -175,7 +175,7 @@ fn older_newer_and_expired_shards(rt: HostRuntime) -> Result<(), Fail> {
     Ok(())
 }
 
-/// A file with one byte changed.
+/// The bytes of a file with one byte changed.
 fn changed(alloc: Global, disk: &MemoryDisk, path: &str) -> Result<Vec<u8>, StoreError> {
     let mut bytes = bytes_of(alloc, disk, path)?;
     if let Some(byte) = bytes.get_mut(8) {
@@ -184,7 +184,7 @@ fn changed(alloc: Global, disk: &MemoryDisk, path: &str) -> Result<Vec<u8>, Stor
     Ok(bytes)
 }
 
-/// Changes one byte of the xorb of `abc`; gives the hash of its shard.
+/// Changes one byte of the xorb of `abc`. Returns the hash of its shard.
 fn change_xorb(
     alloc: Global,
     disk: &mut MemoryDisk,
@@ -203,7 +203,7 @@ fn is_name(alloc: Global, shard: &MerkleHash, name: &str) -> Result<bool, StoreE
     Ok(path.as_str().strip_prefix("store/") == Some(name))
 }
 
-/// The refusal, and whether it tells the name of the shard.
+/// The error, and whether it comes with the name of the shard.
 fn told(
     alloc: Global,
     shard: Result<MerkleHash, StoreError>,
@@ -219,8 +219,8 @@ fn told(
     }
 }
 
-/// Opens a folder in which one byte of the xorb of `abc` is another: the refusal, and whether the shard's
-/// name is told.
+/// Opens a folder in which one byte of the xorb of `abc` was changed: the error, and whether it comes with
+/// the name of the shard.
 fn opens_changed(alloc: Global) -> Result<Option<(StoreError, bool)>, StoreError> {
     let (mut disk, abc) = written(alloc, MemoryDisk::new(alloc), b"abc")?;
     let shard = change_xorb(alloc, &mut disk, abc);
@@ -234,7 +234,7 @@ fn a_changed_byte_of_a_xorb(rt: HostRuntime) -> Result<(), Fail> {
     Ok(())
 }
 
-/// The text of a shard that was written.
+/// The bytes of a shard that was written.
 fn written_text(
     alloc: Global,
     disk: &MemoryDisk,
@@ -243,19 +243,19 @@ fn written_text(
     text_of(alloc, disk, &abc?.shard)
 }
 
-/// The text of the shard of `abc`.
+/// The bytes of the shard of `abc`.
 fn shard_of_abc(alloc: Global) -> Result<Vec<u8>, StoreError> {
     let (disk, abc) = written(alloc, MemoryDisk::new(alloc), b"abc")?;
     written_text(alloc, &disk, abc)
 }
 
-/// Puts a text under the name of a shard of zeros.
+/// Writes bytes under the name of the shard whose hash is zero.
 fn put_zeros(alloc: Global, disk: &mut MemoryDisk, text: &[u8]) -> Result<(), StoreError> {
     let name = shard_path(alloc, "store", &MerkleHash::default())?;
     put_bytes(disk, name.as_str(), text)
 }
 
-/// The refusal, and whether it tells the name of zeros.
+/// The error, and whether it comes with the name for the hash zero.
 fn told_zeros(
     put: Result<(), StoreError>,
     refused: Result<Option<Unopened>, StoreError>,
@@ -268,8 +268,8 @@ fn told_zeros(
     }
 }
 
-/// Opens a folder in which the shard of `abc` is under the name of zeros: the refusal, and whether that name
-/// is told.
+/// Opens a folder in which the shard of `abc` has the name for the hash zero: the error, and whether it comes
+/// with that name.
 fn opens_renamed(alloc: Global) -> Result<Option<(StoreError, bool)>, StoreError> {
     let text = shard_of_abc(alloc)?;
     let mut disk = MemoryDisk::new(alloc);
@@ -284,7 +284,7 @@ fn a_shard_under_another_name(rt: HostRuntime) -> Result<(), Fail> {
     Ok(())
 }
 
-/// Writes a footer of version 0 of a xorb of one chunk of three bytes.
+/// Writes a footer of version 0, of a xorb of one chunk of three bytes.
 fn write_footer(alloc: Global, hash: MerkleHash, sink: &mut MemorySink) -> Result<(), StoreError> {
     let ends = vec![in alloc; 11u32]?;
     let hashes = vec![in alloc; hash]?;
@@ -293,7 +293,7 @@ fn write_footer(alloc: Global, hash: MerkleHash, sink: &mut MemorySink) -> Resul
     Ok(())
 }
 
-/// The text of a xorb of `abc` with a footer of version 0.
+/// The bytes of a xorb of `abc` with a footer of version 0.
 fn older_xorb(alloc: Global, hash: MerkleHash) -> Result<Vec<u8>, StoreError> {
     let stored = Vec::from_slice(alloc, b"\x00\x03\x00\x00\x00\x03\x00\x00abc")?;
     let mut sink = MemorySink::from_vec(stored);
@@ -303,7 +303,7 @@ fn older_xorb(alloc: Global, hash: MerkleHash) -> Result<Vec<u8>, StoreError> {
     Ok(text)
 }
 
-/// Puts a xorb with a footer of version 0 in the place of that of `abc`.
+/// Replaces the xorb of `abc` by one with a footer of version 0.
 fn put_older_xorb(alloc: Global, disk: &mut MemoryDisk) -> Result<(), StoreError> {
     let hash = compute_data_hash(b"abc");
     let text = older_xorb(alloc, hash)?;
@@ -311,7 +311,7 @@ fn put_older_xorb(alloc: Global, disk: &mut MemoryDisk) -> Result<(), StoreError
     put_bytes(disk, name.as_str(), &text)
 }
 
-/// Whether `abc` reads, once such a xorb was put.
+/// Whether `abc` is read after its xorb was replaced.
 fn reads_abc(
     session: &mut Session,
     abc: Result<Flushed, StoreError>,
@@ -321,7 +321,7 @@ fn reads_abc(
     reads(session, &abc?.file, 0, 3, b"abc")
 }
 
-/// Whether a store over such a xorb opens, and its file reads.
+/// Whether a store over such a xorb opens, and its file is read.
 fn reads_older_xorb(alloc: Global) -> Result<bool, StoreError> {
     let (mut disk, abc) = written(alloc, MemoryDisk::new(alloc), b"abc")?;
     let put = put_older_xorb(alloc, &mut disk);

@@ -1,4 +1,4 @@
-//! Parts of xorbs on a disk in memory.
+//! Tests of reading byte ranges of xorbs on a disk in memory.
 
 use crate::xorbs::xorb_bytes;
 use bytes::Bytes;
@@ -10,7 +10,7 @@ use xet_io::MemoryDisk;
 use xet_shard_format::FileDataSequenceEntry;
 use xet_xorb_chunk::{Chunk, chunk_members};
 
-/// Puts a xorb of three chunks, and returns its hash.
+/// Writes a xorb of three chunks, and returns its hash.
 fn put_three(alloc: Global, disk: &mut MemoryDisk) -> Result<MerkleHash, StoreError> {
     let chunks = [
         Chunk::new(Bytes::from_static(b"abc")),
@@ -24,7 +24,7 @@ fn put_three(alloc: Global, disk: &mut MemoryDisk) -> Result<MerkleHash, StoreEr
     Ok(hash)
 }
 
-/// Reads a part of a segment, where there is one.
+/// Reads a range of a segment; `InvalidRange` if the segment does not lie in the xorb or the range not in it.
 fn read_part(
     reader: &mut RunReader,
     disk: &mut MemoryDisk,
@@ -40,7 +40,7 @@ fn read_part(
     reader.read_run(disk, "store", segment, members, from, to)
 }
 
-/// Parts of the xorb, one after the other.
+/// Reads two ranges of the xorb, one after the other.
 fn read_parts(
     alloc: Global,
     disk: &mut MemoryDisk,

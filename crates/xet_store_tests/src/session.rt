@@ -1,4 +1,4 @@
-//! A store, by calls that say nothing of what they do.
+//! A store behind calls that have no contract.
 
 use std::alloc::Global;
 use xet_cut::{LimitSettings, Limits};
@@ -7,7 +7,7 @@ use xet_io::{Disk, MemoryDisk, SliceSource};
 use xet_shard_format::FileDataSequenceEntry;
 use xet_store::{Cleaned, Store, XetFileInfo, clean_files};
 
-/// The moment at which stores are opened.
+/// The time at which stores are opened.
 pub const NOW: u64 = 1_000;
 
 /// A store in the folder `store` of a disk in memory.
@@ -17,14 +17,14 @@ pub struct Session {
     store: Store<MemoryDisk>,
 }
 
-/// Why a folder is not opened: the refusal, and the name that it tells.
+/// Why a folder was not opened: the error and the name of the shard, empty if there is none.
 #[derive(Drop)]
 pub struct Unopened {
     pub error: StoreError,
     pub name: String,
 }
 
-/// Pieces from 64 to 1,024 bytes that end as soon as they may, and two chunks a xorb.
+/// Chunks from 64 to 1,024 bytes that end as soon as they may, and two chunks a xorb.
 fn limits() -> Result<Limits, StoreError> {
     Limits::new(LimitSettings {
         target_chunk: 512,
@@ -50,19 +50,19 @@ impl Session {
         Session::open(alloc, MemoryDisk::new(alloc))
     }
 
-    /// Cleans a file of these bytes. The session is handed back, whatever the answer.
+    /// Cleans a file of these bytes. Returns the session, whatever the result.
     pub fn clean(self, bytes: &[u8]) -> (Session, Result<XetFileInfo, StoreError>) {
         let alloc = self.alloc;
         let (store, answer) = clean_one(alloc, self.store, bytes);
         (Session { alloc, store }, first_of(answer))
     }
 
-    /// Puts a shard of what is pending.
+    /// Writes a shard of what is pending.
     pub fn flush(&mut self) -> Result<Option<MerkleHash>, StoreError> {
         self.store.flush()
     }
 
-    /// The bytes of a file from one place to before another.
+    /// Bytes FROM..TO of a file, TO excluded.
     pub fn read(&mut self, hash: &MerkleHash, from: u64, to: u64) -> Result<Vec<u8>, StoreError> {
         self.store.read_range(hash, from, to)
     }
@@ -74,7 +74,7 @@ impl Session {
             .ok_or(StoreError::FileNotFound)
     }
 
-    /// The recorded files.
+    /// The hash and the length of each recorded file.
     pub fn files(&self) -> Result<Vec<(MerkleHash, u64)>, StoreError> {
         self.store.files(self.alloc)
     }
@@ -84,12 +84,12 @@ impl Session {
         self.store.xorb_count()
     }
 
-    /// The disk.
+    /// Closes the session and returns the disk.
     pub fn into_disk(self) -> MemoryDisk {
         self.store.into_disk()
     }
 
-    /// Drops the session.
+    /// Closes the session and drops the disk.
     pub fn close(self) {
         let _disk = self.store.into_disk();
     }
@@ -113,7 +113,7 @@ fn first_of(answer: Result<Cleaned, StoreError>) -> Result<XetFileInfo, StoreErr
     }
 }
 
-/// The refusal of opening the folder of a disk; none where it is opened.
+/// The error of opening the folder of a disk; none if it is opened.
 pub fn refusal(alloc: Global, disk: MemoryDisk) -> Result<Option<Unopened>, StoreError> {
     match Store::open(alloc, disk, "store", limits()?, NOW, false) {
         Ok(store) => {
@@ -124,7 +124,7 @@ pub fn refusal(alloc: Global, disk: MemoryDisk) -> Result<Option<Unopened>, Stor
     }
 }
 
-/// What a refused opening tells.
+/// The error and the name of a folder that was not opened.
 fn reason_of(alloc: Global, refused: Refused<MemoryDisk>) -> Unopened {
     let Refused {
         disk: _,
@@ -140,13 +140,13 @@ fn reason_of(alloc: Global, refused: Refused<MemoryDisk>) -> Unopened {
     }
 }
 
-/// The bytes of a file of a disk.
+/// The bytes of a file on a disk.
 pub fn bytes_of(alloc: Global, disk: &MemoryDisk, name: &str) -> Result<Vec<u8>, StoreError> {
     let bytes = disk.get(name).ok_or(StoreError::FileNotFound)?;
     Ok(Vec::from_slice(alloc, bytes)?)
 }
 
-/// Puts bytes in place of a file of a disk.
+/// Writes bytes in place of a file on a disk.
 pub fn put_bytes(disk: &mut MemoryDisk, name: &str, bytes: &[u8]) -> Result<(), StoreError> {
     match disk.write(name, bytes) {
         Ok(()) => Ok(()),
@@ -154,7 +154,7 @@ pub fn put_bytes(disk: &mut MemoryDisk, name: &str, bytes: &[u8]) -> Result<(), 
     }
 }
 
-/// Takes a file of a disk away; whether it was there.
+/// Removes a file from a disk. Returns whether it existed.
 pub fn remove(disk: &mut MemoryDisk, name: &str) -> Result<bool, StoreError> {
     match disk.remove(name) {
         Ok(found) => Ok(found),

@@ -9,7 +9,7 @@ use xet_hash::StoreError;
 use xet_xorb::{RawXorbData, SerializedXorbObject};
 use xet_xorb_chunk::Chunk;
 
-/// The xorb of these chunks.
+/// The bytes of the xorb of these chunks.
 pub(crate) fn xorb_bytes(alloc: Global, chunks: &[Chunk]) -> Result<Vec<u8>, StoreError>
     requires { ArePartsOfXorb (map bytes_of chunks.now) }
 {

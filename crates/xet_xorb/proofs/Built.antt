@@ -7,16 +7,16 @@ use Rattle.std.specs.List.{flat_map, sum_by}
 use Rattle.xet_hash.specs.Merkle.{member_of, members_of, total_len, xorb_hash}
 use Rattle.xet_shard_format.specs.Records.{chunk_bytes}
 use Rattle.xet_shard_format.specs.declared.record.XorbChunkSequenceEntry.{XorbChunkSequenceEntry}
-use Rattle.xet_xorb_footer.specs.Spelled.{length_of, text_v1}
+use Rattle.xet_xorb_footer.specs.FooterEncoding.{length_of, footer_bytes_v1}
 use Rattle.xet_codec.specs.Numbers.{number}
 use Rattle.xet_xorb_footer.specs.theorems.Readback.{length_is_known}
-use Rattle.xet_xorb_chunk.specs.Spelling.{spelling}
+use Rattle.xet_xorb_chunk.specs.ChunkEncoding.{encoded_chunk}
 use Rattle.xet_xorb.specs.declared.building.SerializedXorbObject.{SerializedXorbObject}
 use Rattle.xet_xorb.specs.declared.raw.RawXorbData.{RawXorbData}
 use Rattle.xet_xorb.specs.Building.{built_of, ending, no_spare, start_of_footer}
 use Rattle.xet_xorb.specs.Footer.{V1, footer_len, footer_v1}
 use Rattle.xet_xorb.specs.Raw.{ArePartsOfXorb, IsRaw, raw_members}
-use Rattle.xet_xorb.specs.Xorb.{IsXorbText, xorb_text}
+use Rattle.xet_xorb.specs.Xorb.{IsXorbEncoding, xorb_bytes}
 use Rattle.xet_xorb.specs.theorems.Digests.{length-xorb_hash, members_hashed}
 use Rattle.xet_xorb.specs.theorems.OfMembers.{length-ends, length-hashes, standard_v1}
 
@@ -56,13 +56,13 @@ pub total_members : (chunks : List (List ℕ)) → total_len (members_of chunks)
 total_members [] = refl
 total_members (c ∷ cs) = omega (arith, total_members cs, sum_by-cons length c cs, sum_by-cons (λ (m : List ℕ × ℕ). m.1) (member_of c) (members_of cs))
 
-length-spelling : (b : List ℕ) → length (spelling b) ≡ 8 + length b
-unfolding spelling
-length-spelling b = omega arith
+length-encoded_chunk : (b : List ℕ) → length (encoded_chunk b) ≡ 8 + length b
+unfolding encoded_chunk
+length-encoded_chunk b = omega arith
 
-pub length_spelled : (chunks : List (List ℕ)) → length (flat_map spelling chunks) ≡ sum_by length chunks + 8 * length chunks
+pub length_spelled : (chunks : List (List ℕ)) → length (flat_map encoded_chunk chunks) ≡ sum_by length chunks + 8 * length chunks
 length_spelled [] = refl
-length_spelled (c ∷ cs) = omega (arith, length-append (spelling c) (flat_map spelling cs), length-spelling c, length_spelled cs, sum_by-cons length c cs)
+length_spelled (c ∷ cs) = omega (arith, length-append (encoded_chunk c) (flat_map encoded_chunk cs), length-encoded_chunk c, length_spelled cs, sum_by-cons length c cs)
 
 -- the footer of members is as long as it is told
 pub told_of_members : (hash : List ℕ) (ms : List (List ℕ × ℕ)) (spare : List ℕ) → length_of (footer_v1 hash ms spare) ≡ footer_len V1 (length ms)
@@ -71,13 +71,13 @@ told_of_members hash ms spare = omega (arith, length-hashes ms, length-ends 8 0 
 -- ---- the whole
 
 -- a footer of members, and its length
-pub ending_is : (hash : List ℕ) (ms : List (List ℕ × ℕ)) (info : _) → info ≡ footer_v1 hash ms no_spare → text_v1 info ++ number (length_of info) ≡ ending true hash ms
+pub ending_is : (hash : List ℕ) (ms : List (List ℕ × ℕ)) (info : _) → info ≡ footer_v1 hash ms no_spare → footer_bytes_v1 info ++ number (length_of info) ≡ ending true hash ms
 ending_is hash ms info is =
-    ap (λ (i : _). text_v1 i ++ number (length_of i)) is ∙ ap (λ (n : ℕ). text_v1 (footer_v1 hash ms no_spare) ++ number n) (told_of_members hash ms no_spare)
+    ap (λ (i : _). footer_bytes_v1 i ++ number (length_of i)) is ∙ ap (λ (n : ℕ). footer_bytes_v1 (footer_v1 hash ms no_spare) ++ number n) (told_of_members hash ms no_spare)
 
 -- parts that have their digests and their hash are a xorb
-pub parts_text : (parts : List (List ℕ)) → ArePartsOfXorb parts → 0 < length parts → IsXorbText (flat_map spelling parts ++ ending true (xorb_hash (members_of parts)) (members_of parts)) parts
-unfolding xorb_text
+pub parts_text : (parts : List (List ℕ)) → ArePartsOfXorb parts → 0 < length parts → IsXorbEncoding (flat_map encoded_chunk parts ++ ending true (xorb_hash (members_of parts)) (members_of parts)) parts
+unfolding xorb_bytes
 parts_text parts are some =
     let ms : List (List ℕ × ℕ) = members_of parts in
     let hash : List ℕ = xorb_hash ms in
@@ -85,26 +85,26 @@ parts_text parts are some =
     let count : length ms ≡ length parts = length-map parts _ in
     let total : total_len ms ≡ sum_by length parts = total_members parts in
     let standard = standard_v1 hash ms no_spare (length-xorb_hash ms hashed) hashed (omega (arith, are.count)) (omega (arith, are.count, are.total)) refl in
-    let footer : length (text_v1 (footer_v1 hash ms no_spare)) ≡ 92 + 40 * length ms = length_is_known (footer_v1 hash ms no_spare) standard in
+    let footer : length (footer_bytes_v1 (footer_v1 hash ms no_spare)) ≡ 92 + 40 * length ms = length_is_known (footer_v1 hash ms no_spare) standard in
     let tail : List ℕ = number (92 + 40 * length ms) in
     let four : length tail ≡ 4 = refl in
     record {
       some = some;
       small = are.small;
-      bound = omega (arith, are.count, are.total, length_spelled parts, length-append (flat_map spelling parts) (text_v1 (footer_v1 hash ms no_spare) ++ tail), length-append (text_v1 (footer_v1 hash ms no_spare)) tail);
+      bound = omega (arith, are.count, are.total, length_spelled parts, length-append (flat_map encoded_chunk parts) (footer_bytes_v1 (footer_v1 hash ms no_spare) ++ tail), length-append (footer_bytes_v1 (footer_v1 hash ms no_spare)) tail);
       version = V1;
       spare = no_spare;
       spare_len = refl;
-      spelled = refl;
+      encoded = refl;
     }
 
 -- a footer begins where the stored chunks end
-pub start_is : (footer : Bool) (n : ℕ) (parts : List (List ℕ)) → n ≡ length (flat_map spelling parts) → then_some footer n ≡ start_of_footer footer parts
+pub start_is : (footer : Bool) (n : ℕ) (parts : List (List ℕ)) → n ≡ length (flat_map encoded_chunk parts) → then_some footer n ≡ start_of_footer footer parts
 start_is true n parts e = ap (λ (m : ℕ). Some m) e
 start_is false n parts e = refl
 
 -- the record of what was built
-pub built_is : (x : RawXorbData) (footer : Bool) (s : SerializedXorbObject) → IsRaw x → s.serialized_data ≡ flat_map spelling x.parts ++ ending footer x.xorb_info.metadata.xorb_hash (raw_members x)
+pub built_is : (x : RawXorbData) (footer : Bool) (s : SerializedXorbObject) → IsRaw x → s.serialized_data ≡ flat_map encoded_chunk x.parts ++ ending footer x.xorb_info.metadata.xorb_hash (raw_members x)
     → s.hash ≡ x.xorb_info.metadata.xorb_hash → s.raw_num_bytes ≡ chunk_bytes x.xorb_info.chunks → s.num_chunks ≡ length x.parts → s.footer_start ≡ start_of_footer footer x.parts → s ≡ built_of x footer
 built_is x footer s raw bytes hash plain count start =
     let all : s.raw_num_bytes ≡ sum_by length x.parts = plain ∙ plain_listed x raw in
@@ -112,10 +112,10 @@ built_is x footer s raw bytes hash plain count start =
 
 -- with a footer, and with the digests of its parts, it is a xorb
 pub built_text : (x : RawXorbData) (footer : Bool) (s : SerializedXorbObject) → IsRaw x → s ≡ built_of x footer → footer ≡ true → 0 < length x.parts → raw_members x ≡ members_of x.parts
-    → x.xorb_info.metadata.xorb_hash ≡ xorb_hash (members_of x.parts) → IsXorbText s.serialized_data x.parts
+    → x.xorb_info.metadata.xorb_hash ≡ xorb_hash (members_of x.parts) → IsXorbEncoding s.serialized_data x.parts
 built_text x footer s raw built with some members hash =
-    let bytes : s.serialized_data ≡ flat_map spelling x.parts ++ ending true (xorb_hash (members_of x.parts)) (members_of x.parts) =
-    ap (λ (t : SerializedXorbObject). t.serialized_data) built ∙ ap (λ (f : Bool). flat_map spelling x.parts ++ ending f x.xorb_info.metadata.xorb_hash (raw_members x)) with
-    ∙ ap (λ (h : List ℕ). flat_map spelling x.parts ++ ending true h (raw_members x)) hash
-    ∙ ap (λ (ms : List (List ℕ × ℕ)). flat_map spelling x.parts ++ ending true (xorb_hash (members_of x.parts)) ms) members in
-    subst (λ (b : List ℕ). IsXorbText b x.parts) (sym bytes) (parts_text x.parts raw.parts some)
+    let bytes : s.serialized_data ≡ flat_map encoded_chunk x.parts ++ ending true (xorb_hash (members_of x.parts)) (members_of x.parts) =
+    ap (λ (t : SerializedXorbObject). t.serialized_data) built ∙ ap (λ (f : Bool). flat_map encoded_chunk x.parts ++ ending f x.xorb_info.metadata.xorb_hash (raw_members x)) with
+    ∙ ap (λ (h : List ℕ). flat_map encoded_chunk x.parts ++ ending true h (raw_members x)) hash
+    ∙ ap (λ (ms : List (List ℕ × ℕ)). flat_map encoded_chunk x.parts ++ ending true (xorb_hash (members_of x.parts)) ms) members in
+    subst (λ (b : List ℕ). IsXorbEncoding b x.parts) (sym bytes) (parts_text x.parts raw.parts some)

@@ -8,8 +8,8 @@ use Rattle.xet_hash.specs.declared.error.StoreError.{StoreError}
 use Rattle.xet_hash.specs.declared.error.StoreError.TheVariants.{UnexpectedEof}
 use Rattle.xet_hash.specs.Merkle.{chunk_hash, member_of, members_of, total_len}
 use Rattle.xet_codec.specs.Blocks.{EndsBefore}
-use Rattle.xet_xorb_chunk.specs.Spelling.{spelling}
-use Rattle.xet_xorb.specs.Checking.{AreChunks, HaveMembers, StandsAt, header_of}
+use Rattle.xet_xorb_chunk.specs.ChunkEncoding.{encoded_chunk}
+use Rattle.xet_xorb.specs.internal.Checking.{AreChunks, HaveMembers, StandsAt, header_of}
 use Rattle.xet_xorb.specs.theorems.Determined.{all_chunks, le24_same, one_chunk}
 
 -- ---- one chunk
@@ -20,13 +20,13 @@ take_two n m bytes =
     sym (take-append-drop n (take (n + m) bytes)) ∙ ap (λ (t : List ℕ). t ++ drop n (take (n + m) bytes)) (take-take n (n + m) bytes (omega arith)) ∙ ap (λ (t : List ℕ). take n bytes ++ t) (drop-take n m bytes)
 
 -- a chunk is stored as its header and its bytes
-pub spelled : (b : List ℕ) → spelling b ≡ header_of (length b) ++ b
-unfolding spelling
-spelled b = refl
+pub encoded : (b : List ℕ) → encoded_chunk b ≡ header_of (length b) ++ b
+unfolding encoded_chunk
+encoded b = refl
 
-length-spelling : (b : List ℕ) → length (spelling b) ≡ 8 + length b
-unfolding spelling
-length-spelling b = omega arith
+length-encoded_chunk : (b : List ℕ) → length (encoded_chunk b) ≡ 8 + length b
+unfolding encoded_chunk
+length-encoded_chunk b = omega arith
 
 -- the header and the bytes that were read are those of a stored chunk
 pub stands : (most at end size : ℕ) (bytes header : List ℕ) → size ≤ most → at + (8 + size) ≤ end → end ≤ length bytes
@@ -40,14 +40,14 @@ stands most at end size bytes header fits within room read is =
     record {
       fits = omega arith;
       within = omega arith;
-      stored = ap (λ (n : ℕ). take (8 + n) (drop at bytes)) long ∙ both ∙ ap (λ (t : List ℕ). t ++ take size (drop 8 (drop at bytes))) front ∙ ap (λ (t : List ℕ). header_of (length body) ++ take size t) behind ∙ sym (spelled body);
+      stored = ap (λ (n : ℕ). take (8 + n) (drop at bytes)) long ∙ both ∙ ap (λ (t : List ℕ). t ++ take size (drop 8 (drop at bytes))) front ∙ ap (λ (t : List ℕ). header_of (length body) ++ take size t) behind ∙ sym (encoded body);
     }
 
 -- the header of a chunk that is stored
 pub header_shown : (most at end : ℕ) (bytes header chunk : List ℕ) → header ≡ take 8 (drop at bytes) → StandsAt most bytes at end chunk → header ≡ header_of (length chunk)
 header_shown most at end bytes header chunk read s =
     let front : take 8 (take (8 + length chunk) (drop at bytes)) ≡ take 8 (drop at bytes) = take-take 8 (8 + length chunk) (drop at bytes) (omega arith) in
-    read ∙ sym front ∙ ap (take 8) (s.stored ∙ spelled chunk) ∙ take_at (header_of (length chunk)) chunk 8 refl
+    read ∙ sym front ∙ ap (take 8) (s.stored ∙ encoded chunk) ∙ take_at (header_of (length chunk)) chunk 8 refl
 
 -- a header tells one number
 pub header_same : (n m : ℕ) → n < 2 ^ 24 → m < 2 ^ 24 → header_of n ≡ header_of m → n ≡ m
@@ -92,10 +92,10 @@ pub one_more : (most at end : ℕ) (bytes : List ℕ) (ms : List (List ℕ × �
     → HaveMembers most (take (at + (8 + m.1)) bytes) (ms ++ m ∷ [])
 one_more most at end bytes ms m chunk h s is =
     let size : m.1 ≡ length chunk = ap (λ (x : List ℕ × ℕ). x.1) is in
-    let last : flat_map spelling (chunk ∷ []) ≡ spelling chunk = append-nil (spelling chunk) in
-    let both : flat_map spelling (h.chunks ++ chunk ∷ []) ≡ flat_map spelling h.chunks ++ spelling chunk = flat_map-append spelling h.chunks (chunk ∷ []) ∙ ap (λ (t : List ℕ). flat_map spelling h.chunks ++ t) last in
-    let read : take (at + (8 + length chunk)) bytes ≡ flat_map spelling h.chunks ++ spelling chunk =
-    take_two at (8 + length chunk) bytes ∙ ap (λ (t : List ℕ). t ++ take (8 + length chunk) (drop at bytes)) h.are.stored ∙ ap (λ (t : List ℕ). flat_map spelling h.chunks ++ t) s.stored in
+    let last : flat_map encoded_chunk (chunk ∷ []) ≡ encoded_chunk chunk = append-nil (encoded_chunk chunk) in
+    let both : flat_map encoded_chunk (h.chunks ++ chunk ∷ []) ≡ flat_map encoded_chunk h.chunks ++ encoded_chunk chunk = flat_map-append encoded_chunk h.chunks (chunk ∷ []) ∙ ap (λ (t : List ℕ). flat_map encoded_chunk h.chunks ++ t) last in
+    let read : take (at + (8 + length chunk)) bytes ≡ flat_map encoded_chunk h.chunks ++ encoded_chunk chunk =
+    take_two at (8 + length chunk) bytes ∙ ap (λ (t : List ℕ). t ++ take (8 + length chunk) (drop at bytes)) h.are.stored ∙ ap (λ (t : List ℕ). flat_map encoded_chunk h.chunks ++ t) s.stored in
     record {
       chunks = h.chunks ++ chunk ∷ [];
       are = record { fit = fit_more most h.chunks chunk h.are.fit s.fits; stored = ap (λ (n : ℕ). take (at + (8 + n)) bytes) size ∙ read ∙ sym both };
@@ -112,13 +112,13 @@ all_small = small_of
 
 -- the chunks that are left, where the first are known
 rest_of : (most : ℕ) (cs all : List (List ℕ)) (s : List ℕ) → most < 2 ^ 23 → AllByRecursion (λ b. length b ≤ most) cs → AllByRecursion (λ b. length b ≤ most) all → 0 < length s
-    → flat_map spelling cs ++ s ≡ flat_map spelling all → (r : List ℕ) × (rest : List ℕ) × (length r ≤ most) × (s ≡ spelling r ++ rest)
-unfolding spelling
+    → flat_map encoded_chunk cs ++ s ≡ flat_map encoded_chunk all → (r : List ℕ) × (rest : List ℕ) × (length r ≤ most) × (s ≡ encoded_chunk r ++ rest)
+unfolding encoded_chunk
 rest_of most [] [] s small fc fa some e = absurd (omega (arith, ap length e))
-rest_of most [] (r ∷ rs) s small fc fa some e = (r, flat_map spelling rs, fa.0, e)
+rest_of most [] (r ∷ rs) s small fc fa some e = (r, flat_map encoded_chunk rs, fa.0, e)
 rest_of most (c ∷ cs) [] s small fc fa some e = absurd (omega (arith, ap length e))
 rest_of most (c ∷ cs) (d ∷ ds) s small fc fa some e =
-    let same = one_chunk c d (flat_map spelling cs ++ s) (flat_map spelling ds) (omega (arith, fc.0)) (omega (arith, fa.0)) (sym (append_assoc (spelling c) (flat_map spelling cs) s) ∙ e) in
+    let same = one_chunk c d (flat_map encoded_chunk cs ++ s) (flat_map encoded_chunk ds) (omega (arith, fc.0)) (omega (arith, fa.0)) (sym (append_assoc (encoded_chunk c) (flat_map encoded_chunk cs) s) ∙ e) in
     rest_of most cs ds s small fc.1 fa.1 some same.1
 
 -- bytes up to a place, in two parts
@@ -127,15 +127,15 @@ take_to at end bytes before =
     let sum : at + (end - at) ≡ end = omega arith in ap (λ (n : ℕ). take n bytes) (sym sum) ∙ take_two at (end - at) bytes
 
 -- the chunk that begins what is left
-first_stands : (most at end : ℕ) (bytes chunk rest : List ℕ) → at ≤ end → end ≤ length bytes → length chunk ≤ most → take (end - at) (drop at bytes) ≡ spelling chunk ++ rest → StandsAt most bytes at end chunk
+first_stands : (most at end : ℕ) (bytes chunk rest : List ℕ) → at ≤ end → end ≤ length bytes → length chunk ≤ most → take (end - at) (drop at bytes) ≡ encoded_chunk chunk ++ rest → StandsAt most bytes at end chunk
 first_stands most at end bytes chunk rest before room fits is =
     let long : length (take (end - at) (drop at bytes)) ≡ end - at = length-take-le (end - at) (drop at bytes) (omega (arith, length-drop at bytes)) in
-    let size : length (spelling chunk) ≡ 8 + length chunk = length-spelling chunk in
-    let sum : end - at ≡ 8 + length chunk + length rest = omega (arith, ap length is, length-append (spelling chunk) rest) in
+    let size : length (encoded_chunk chunk) ≡ 8 + length chunk = length-encoded_chunk chunk in
+    let sum : end - at ≡ 8 + length chunk + length rest = omega (arith, ap length is, length-append (encoded_chunk chunk) rest) in
     record {
       fits = fits;
       within = omega arith;
-      stored = sym (take-take (8 + length chunk) (end - at) (drop at bytes) (omega arith)) ∙ ap (take (8 + length chunk)) is ∙ take_at (spelling chunk) rest (8 + length chunk) size;
+      stored = sym (take-take (8 + length chunk) (end - at) (drop at bytes) (omega arith)) ∙ ap (take (8 + length chunk)) is ∙ take_at (encoded_chunk chunk) rest (8 + length chunk) size;
     }
 
 -- where bytes are left a chunk stands
@@ -143,7 +143,7 @@ pub next_stands : (most at end : ℕ) (bytes : List ℕ) (ms : List (List ℕ ×
     → HaveMembers most (take at bytes) ms → AreChunks most (take end bytes) all → (chunk : List ℕ) × StandsAt most bytes at end chunk
 next_stands most at end bytes ms all small before room h a =
     let long : length (take (end - at) (drop at bytes)) ≡ end - at = length-take-le (end - at) (drop at bytes) (omega (arith, length-drop at bytes)) in
-    let e : flat_map spelling h.chunks ++ take (end - at) (drop at bytes) ≡ flat_map spelling all =
+    let e : flat_map encoded_chunk h.chunks ++ take (end - at) (drop at bytes) ≡ flat_map encoded_chunk all =
     sym (ap (λ (t : List ℕ). t ++ take (end - at) (drop at bytes)) h.are.stored) ∙ sym (take_to at end bytes (omega arith)) ∙ a.stored in
     let r = rest_of most h.chunks all (take (end - at) (drop at bytes)) small h.are.fit a.fit (omega arith) e in
     (r.0, first_stands most at end bytes r.0 r.1 (omega arith) room r.2 r.3)

@@ -10,14 +10,14 @@ use Rattle.xet_hash.specs.Hash.{zero_hash}
 use Rattle.xet_hash.specs.Merkle.{member_of, members_of}
 use Rattle.xet_hash.specs.declared.error.StoreError.{StoreError}
 use Rattle.xet_codec.specs.Parsing.{reaches, ◌>>=◌}
-use Rattle.xet_xorb_chunk.specs.Spelled.{AreSpelled}
-use Rattle.xet_xorb_chunk.specs.Spelling.{spelling}
+use Rattle.xet_xorb_chunk.specs.EncodedChunks.{AreEncoded}
+use Rattle.xet_xorb_chunk.specs.ChunkEncoding.{encoded_chunk}
 use Rattle.xet_xorb_chunk.specs.Stream.{Decodes, IsStream, end_of}
-use Rattle.xet_xorb_chunk.specs.theorems.Readback.{stream_of_spelled}
+use Rattle.xet_xorb_chunk.specs.theorems.Readback.{stream_of_encoded}
 use Rattle.xet_xorb.specs.Laws.{ContentsAreChunks, RangesAreChunks}
 use Rattle.xet_xorb.specs.Ranges.{IsPlain, ReadsPlain, in_file, listed_contents, listed_range}
 use Rattle.xet_xorb.specs.Validation.{IsValid}
-use Rattle.xet_xorb.specs.Xorb.{IsXorbText, xorb_text}
+use Rattle.xet_xorb.specs.Xorb.{IsXorbEncoding, xorb_bytes}
 use Rattle.xet_xorb.specs.declared.object.XorbObject.{XorbObject}
 use Rattle.xet_xorb.proofs.Listed.{Lists, contents_are, lists_members, range_is, reach}
 
@@ -61,17 +61,17 @@ plain_is most stored chunks (Err e) x y = absurd (cc (stream_same most stored ch
 
 -- ---- where chunks are stored
 
-length-stored : (k : ℕ) (chunks : List (List ℕ)) → length (flat_map spelling (take k chunks)) ≡ reach 8 k (members_of chunks)
-unfolding spelling
+length-stored : (k : ℕ) (chunks : List (List ℕ)) → length (flat_map encoded_chunk (take k chunks)) ≡ reach 8 k (members_of chunks)
+unfolding encoded_chunk
 length-stored zero chunks = refl
 length-stored (suc k) [] = refl
-length-stored (suc k) (c ∷ cs) = omega (arith, length-append (spelling c) (flat_map spelling (take k cs)), length-stored k cs)
+length-stored (suc k) (c ∷ cs) = omega (arith, length-append (encoded_chunk c) (flat_map encoded_chunk (take k cs)), length-stored k cs)
 
 -- chunks are stored in more bytes than they have
-stored_more : (chunks : List (List ℕ)) → sum_by length chunks ≤ length (flat_map spelling chunks)
-unfolding spelling
+stored_more : (chunks : List (List ℕ)) → sum_by length chunks ≤ length (flat_map encoded_chunk chunks)
+unfolding encoded_chunk
 stored_more [] = omega arith
-stored_more (c ∷ cs) = omega (arith, length-append (spelling c) (flat_map spelling cs), sum_by-cons length c cs, stored_more cs)
+stored_more (c ∷ cs) = omega (arith, length-append (encoded_chunk c) (flat_map encoded_chunk cs), sum_by-cons length c cs, stored_more cs)
 
 all_dropped : (P : List ℕ → Type 0) (k : ℕ) (chunks : List (List ℕ)) → AllByRecursion P chunks → AllByRecursion P (drop k chunks)
 all_dropped P zero chunks all = all
@@ -92,38 +92,38 @@ part_at xs ys zs from to first both =
 -- These bytes of a xorb are these chunks of it, as they are stored.
 record IsStored (bytes : List ℕ) (chunks : List (List ℕ)) (start end : ℕ) : Type 0 where
   pub within : reach 8 end (members_of chunks) ≤ length bytes
-  pub part : slice_range bytes (reach 8 start (members_of chunks)) (reach 8 end (members_of chunks)) ≡ flat_map spelling (slice_range chunks start end)
-  pub room : length (flat_map spelling (slice_range chunks start end)) ≤ length bytes
+  pub part : slice_range bytes (reach 8 start (members_of chunks)) (reach 8 end (members_of chunks)) ≡ flat_map encoded_chunk (slice_range chunks start end)
+  pub room : length (flat_map encoded_chunk (slice_range chunks start end)) ≤ length bytes
 
-is_stored : (bytes rest : List ℕ) (chunks : List (List ℕ)) (start end : ℕ) → bytes ≡ flat_map spelling chunks ++ rest → start ≤ end → IsStored bytes chunks start end
+is_stored : (bytes rest : List ℕ) (chunks : List (List ℕ)) (start end : ℕ) → bytes ≡ flat_map encoded_chunk chunks ++ rest → start ≤ end → IsStored bytes chunks start end
 is_stored bytes rest chunks start end is order =
     let part : List (List ℕ) = slice_range chunks start end in
-    let before : List ℕ = flat_map spelling (take start chunks) in
-    let behind : List ℕ = flat_map spelling (drop end chunks) ++ rest in
+    let before : List ℕ = flat_map encoded_chunk (take start chunks) in
+    let behind : List ℕ = flat_map encoded_chunk (drop end chunks) ++ rest in
     let count : end ≡ start + (end - start) = omega arith in
     let front : take end chunks ≡ take start chunks ++ part = ap (λ (k : ℕ). take k chunks) count ∙ take-add start (end - start) chunks in
-    let stored : flat_map spelling (take end chunks) ≡ before ++ flat_map spelling part = ap (flat_map spelling) front ∙ flat_map-append spelling (take start chunks) part in
-    let all : flat_map spelling chunks ≡ flat_map spelling (take end chunks) ++ flat_map spelling (drop end chunks) =
-    ap (flat_map spelling) (sym (take-append-drop end chunks)) ∙ flat_map-append spelling (take end chunks) (drop end chunks) in
-    let split : bytes ≡ (before ++ flat_map spelling part) ++ behind =
-    is ∙ ap (λ (t : List ℕ). t ++ rest) all ∙ append_assoc (flat_map spelling (take end chunks)) (flat_map spelling (drop end chunks)) rest ∙ ap (λ (t : List ℕ). t ++ behind) stored in
-    let to : length (before ++ flat_map spelling part) ≡ reach 8 end (members_of chunks) = ap length (sym stored) ∙ length-stored end chunks in
+    let stored : flat_map encoded_chunk (take end chunks) ≡ before ++ flat_map encoded_chunk part = ap (flat_map encoded_chunk) front ∙ flat_map-append encoded_chunk (take start chunks) part in
+    let all : flat_map encoded_chunk chunks ≡ flat_map encoded_chunk (take end chunks) ++ flat_map encoded_chunk (drop end chunks) =
+    ap (flat_map encoded_chunk) (sym (take-append-drop end chunks)) ∙ flat_map-append encoded_chunk (take end chunks) (drop end chunks) in
+    let split : bytes ≡ (before ++ flat_map encoded_chunk part) ++ behind =
+    is ∙ ap (λ (t : List ℕ). t ++ rest) all ∙ append_assoc (flat_map encoded_chunk (take end chunks)) (flat_map encoded_chunk (drop end chunks)) rest ∙ ap (λ (t : List ℕ). t ++ behind) stored in
+    let to : length (before ++ flat_map encoded_chunk part) ≡ reach 8 end (members_of chunks) = ap length (sym stored) ∙ length-stored end chunks in
     record {
-      within = omega (arith, to, ap length split, length-append (before ++ flat_map spelling part) behind);
+      within = omega (arith, to, ap length split, length-append (before ++ flat_map encoded_chunk part) behind);
       part = ap (λ (t : List ℕ). slice_range t (reach 8 start (members_of chunks)) (reach 8 end (members_of chunks))) split
-          ∙ part_at before (flat_map spelling part) behind (reach 8 start (members_of chunks)) (reach 8 end (members_of chunks)) (length-stored start chunks) to;
-      room = omega (arith, ap length split, length-append (before ++ flat_map spelling part) behind, length-append before (flat_map spelling part));
+          ∙ part_at before (flat_map encoded_chunk part) behind (reach 8 start (members_of chunks)) (reach 8 end (members_of chunks)) (length-stored start chunks) to;
+      room = omega (arith, ap length split, length-append (before ++ flat_map encoded_chunk part) behind, length-append before (flat_map encoded_chunk part));
     }
 
 -- ---- what is read of a validated xorb
 
 -- a xorb begins with its stored chunks
-begins : (bytes : List ℕ) (chunks : List (List ℕ)) → IsXorbText bytes chunks → (rest : List ℕ) × (bytes ≡ flat_map spelling chunks ++ rest)
-unfolding xorb_text
-begins bytes chunks x = (_, x.spelled)
+begins : (bytes : List ℕ) (chunks : List (List ℕ)) → IsXorbEncoding bytes chunks → (rest : List ℕ) × (bytes ≡ flat_map encoded_chunk chunks ++ rest)
+unfolding xorb_bytes
+begins bytes chunks x = (_, x.encoded)
 
 -- what is read between the places of some chunks, if these are listed, is what the chunks are
-read_is : (most : ℕ) (bytes : List ℕ) (chunks : List (List ℕ)) (start end : ℕ) (places : Result (ℕ × ℕ) StoreError) (read : Result (List ℕ) StoreError) → most < 2 ^ 23 → IsXorbText bytes chunks
+read_is : (most : ℕ) (bytes : List ℕ) (chunks : List (List ℕ)) (start end : ℕ) (places : Result (ℕ × ℕ) StoreError) (read : Result (List ℕ) StoreError) → most < 2 ^ 23 → IsXorbEncoding bytes chunks
     → AllByRecursion (λ b. length b ≤ most) chunks → start ≤ end → places ≡ Ok (reach 8 start (members_of chunks), reach 8 end (members_of chunks))
     → ReadsPlain most bytes (in_file (length bytes) places) read → read ≡ Ok (concat (slice_range chunks start end))
 read_is most bytes chunks start end places read small x fit order are reads =
@@ -133,9 +133,9 @@ read_is most bytes chunks start end places read small x fit order are reads =
     let part : List (List ℕ) = slice_range chunks start end in
     let found : in_file (length bytes) places ≡ Ok (reach 8 start ms, reach 8 end ms) =
     ap (in_file (length bytes)) are ∙ ap (λ (b : Bool). reaches b >>= λ _. Ok (reach 8 start ms, reach 8 end ms)) (le-leb (reach 8 end ms) (length bytes) s.within) in
-    let spelled : AreSpelled most (flat_map spelling part) part =
-    record { fit = all_taken _ (end - start) (drop start chunks) (all_dropped _ start chunks fit); total = omega (arith, s.room, stored_more part, x.bound); spelled = refl } in
-    plain_is most (flat_map spelling part) part read (stream_of_spelled most (flat_map spelling part) part small spelled)
+    let encoded : AreEncoded most (flat_map encoded_chunk part) part =
+    record { fit = all_taken _ (end - start) (drop start chunks) (all_dropped _ start chunks fit); total = omega (arith, s.room, stored_more part, x.bound); encoded = refl } in
+    plain_is most (flat_map encoded_chunk part) part read (stream_of_encoded most (flat_map encoded_chunk part) part small encoded)
     (subst (λ (t : List ℕ). IsPlain most t read) s.part (subst (λ (r : Result (ℕ × ℕ) StoreError). ReadsPlain most bytes r read) found reads))
 
 valid_lists : (most : ℕ) (hash bytes : List ℕ) (chunks : List (List ℕ)) (o : XorbObject) → IsValid most hash bytes chunks o → hash ≢ zero_hash → Lists o.info (members_of chunks)

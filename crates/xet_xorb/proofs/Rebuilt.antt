@@ -11,21 +11,21 @@ use Rattle.xet_hash.specs.declared.error.Reason.TheVariants.{ChunkCount}
 use Rattle.xet_hash.specs.declared.error.StoreError.{StoreError}
 use Rattle.xet_hash.specs.declared.error.StoreError.TheVariants.{ChunkHeaderParse, MalformedData, UnexpectedEof}
 use Rattle.xet_xorb_footer.specs.declared.info.XorbObjectInfoV1.{XorbObjectInfoV1}
-use Rattle.xet_xorb_footer.specs.Spelled.{length_of, most_chunks, text_v1}
+use Rattle.xet_xorb_footer.specs.FooterEncoding.{length_of, max_chunks, footer_bytes_v1}
 use Rattle.xet_codec.specs.Numbers.{number}
 use Rattle.xet_xorb_chunk.specs.Header.{Header, header_at}
-use Rattle.xet_xorb_chunk.specs.Spelling.{spelling}
+use Rattle.xet_xorb_chunk.specs.ChunkEncoding.{encoded_chunk}
 use Rattle.xet_xorb_chunk.specs.Stream.{Decodes, Fails, IsStream, Short, Whole, behind, body_of, end_of, front_of}
 use Rattle.xet_xorb_chunk.specs.theorems.Fronts.{front_few}
 use Rattle.xet_xorb_chunk.specs.theorems.More.{behind_all, behind_few, body_whole, front_at, whole_within}
 use Rattle.xet_xorb_chunk.specs.theorems.Passed.{decodes_after, passes_append}
-use Rattle.xet_xorb_chunk.specs.theorems.Readback.{spelled_of_stream}
+use Rattle.xet_xorb_chunk.specs.theorems.Readback.{encoded_of_stream}
 use Rattle.xet_xorb.specs.declared.object.XorbObject.{XorbObject}
 use Rattle.xet_xorb.specs.Building.{ending, no_spare, object_for, text_of}
-use Rattle.xet_xorb.specs.Copying.{AreInFront, IsCopied, IsNoCopy, ShowsNext}
+use Rattle.xet_xorb.specs.internal.Copying.{AreInFront, IsCopied, IsNoCopy, ShowsNext}
 use Rattle.xet_xorb.specs.Footer.{V1, footer_v1}
 use Rattle.xet_xorb.specs.Object.{object_of}
-use Rattle.xet_xorb.specs.Xorb.{IsXorbText, xorb_text}
+use Rattle.xet_xorb.specs.Xorb.{IsXorbEncoding, xorb_bytes}
 use Rattle.xet_xorb.proofs.Built.{ending_is, length_spelled, told_of_members, total_members}
 
 -- ---- a whole chunk at the front is spelled there
@@ -68,22 +68,22 @@ front_alone most bytes chunk e =
     front_at most (take n bytes) (omega (arith, length-take-le n bytes within)) ∙ ap (λ (x : List ℕ). behind (header_at most x) (drop 8 (take n bytes))) head ∙ ap (behind (header_at most (take 8 bytes))) rest
     ∙ behind_fewer (header_at most (take 8 bytes)) (drop 8 bytes) chunk (length chunk) (sym (front_at most bytes (omega arith)) ∙ e) (omega arith)
 
-front_spelled : (most : ℕ) (bytes chunk : List ℕ) → AreBytes bytes → length chunk < 2 ^ 32 → front_of most bytes ≡ Whole chunk → take (8 + length chunk) bytes ≡ spelling chunk
+front_spelled : (most : ℕ) (bytes chunk : List ℕ) → AreBytes bytes → length chunk < 2 ^ 32 → front_of most bytes ≡ Whole chunk → take (8 + length chunk) bytes ≡ encoded_chunk chunk
 front_spelled most bytes chunk small fits e =
     let n : ℕ = 8 + length chunk in
     let none : drop n (take n bytes) ≡ [] = drop_all n (take n bytes) (omega (arith, length-take n bytes)) in
     let end : front_of most (drop n (take n bytes)) ≡ Short = front_few most _ (omega (arith, ap length none)) in
     let stream : IsStream most (take n bytes) (chunk ∷ []) (Ok tt) = record { rest = Ok []; decodes = (front_alone most bytes chunk e, omega arith, inl (end, ap (λ (x : List ℕ). Ok x) (sym none))); ends = refl } in
-    (spelled_of_stream most (take n bytes) (chunk ∷ []) (bytes_before n bytes small) stream).spelled ∙ append-nil (spelling chunk)
+    (encoded_of_stream most (take n bytes) (chunk ∷ []) (bytes_before n bytes small) stream).encoded ∙ append-nil (encoded_chunk chunk)
 
 -- ---- chunk by chunk
 
 -- how far they go
 pub front_len : (most : ℕ) (raw : List ℕ) (chunks : List (List ℕ)) (at : ℕ) → AreInFront most raw chunks at → at ≡ sum_by length chunks + 8 * length chunks
-front_len most raw chunks at f = sym (length-take-le at raw f.within) ∙ ap length f.spelled ∙ length_spelled chunks
+front_len most raw chunks at f = sym (length-take-le at raw f.within) ∙ ap length f.encoded ∙ length_spelled chunks
 
 pub front_none : (most : ℕ) (raw : List ℕ) → AreInFront most raw [] 0
-front_none most raw = record { passes = (refl, refl); spelled = refl; within = omega arith }
+front_none most raw = record { passes = (refl, refl); encoded = refl; within = omega arith }
 
 -- one more
 pub front_step : (most : ℕ) (raw : List ℕ) (chunks : List (List ℕ)) (at n : ℕ) (chunk : List ℕ) → AreBytes raw → length raw < 2 ^ 32 → AreInFront most raw chunks at
@@ -97,9 +97,9 @@ front_step most raw chunks at n chunk small bound f e size =
     let fits : sum_by length chunks + length chunk < 2 ^ 32 = omega (arith, f.within) in
     record {
       passes = passes_append most 0 raw chunks (sum_by length chunks) (drop at raw) (chunk ∷ []) (sum_by length (chunks ++ chunk ∷ [])) (drop (at + 8 + n) raw) f.passes (e, fits, (sym sum, sym rest));
-      spelled =
-          ap (λ (k : ℕ). take k raw) step ∙ take-add at (8 + length chunk) raw ∙ ap (λ (x : List ℕ). x ++ take (8 + length chunk) (drop at raw)) f.spelled
-          ∙ ap (λ (x : List ℕ). flat_map spelling chunks ++ x) (front_spelled most (drop at raw) chunk (bytes_after at raw small) (omega arith) e ∙ sym (append-nil (spelling chunk))) ∙ sym (flat_map-append spelling chunks (chunk ∷ []));
+      encoded =
+          ap (λ (k : ℕ). take k raw) step ∙ take-add at (8 + length chunk) raw ∙ ap (λ (x : List ℕ). x ++ take (8 + length chunk) (drop at raw)) f.encoded
+          ∙ ap (λ (x : List ℕ). flat_map encoded_chunk chunks ++ x) (front_spelled most (drop at raw) chunk (bytes_after at raw small) (omega arith) e ∙ sym (append-nil (encoded_chunk chunk))) ∙ sym (flat_map-append encoded_chunk chunks (chunk ∷ []));
       within = omega (arith, f.within);
     }
 
@@ -151,12 +151,12 @@ no_copy_by most raw chunks at rest e f is (inr s) = record {
 }
 
 -- a check fails
-pub no_copy : (most : ℕ) (raw : List ℕ) (chunks : List (List ℕ)) (at : ℕ) (rest : List ℕ) (e : StoreError) → AreInFront most raw chunks at → rest ≡ drop at raw → ShowsNext most rest (Err e) → length chunks ≤ most_chunks
+pub no_copy : (most : ℕ) (raw : List ℕ) (chunks : List (List ℕ)) (at : ℕ) (rest : List ℕ) (e : StoreError) → AreInFront most raw chunks at → rest ≡ drop at raw → ShowsNext most rest (Err e) → length chunks ≤ max_chunks
     → IsNoCopy most raw e
 no_copy most raw chunks at rest e f is next few = inl (record { chunks = chunks; stream = no_copy_by most raw chunks at rest e f is next.1; few = few; failure = next.0 })
 
 -- there are too many
-pub too_many : (most : ℕ) (raw : List ℕ) (chunks : List (List ℕ)) (at : ℕ) (chunk : List ℕ) (next : ℕ) → AreInFront most raw (chunks ++ chunk ∷ []) next → length chunks ≡ most_chunks → IsNoCopy most raw (MalformedData ChunkCount)
+pub too_many : (most : ℕ) (raw : List ℕ) (chunks : List (List ℕ)) (at : ℕ) (chunk : List ℕ) (next : ℕ) → AreInFront most raw (chunks ++ chunk ∷ []) next → length chunks ≡ max_chunks → IsNoCopy most raw (MalformedData ChunkCount)
 too_many most raw chunks at chunk next f full =
     inr (inl (refl, record { chunks = chunks ++ chunk ∷ []; whole = (sum_by length (chunks ++ chunk ∷ []), drop next raw, f.passes); count = omega (arith, length_push chunks chunk) }))
 
@@ -178,13 +178,13 @@ copied_by most raw chunks at rest f is (inr footer) =
 
 -- nothing more comes
 pub all_copied : (most : ℕ) (raw : List ℕ) (chunks : List (List ℕ)) (at : ℕ) (rest : List ℕ) (members : List (List ℕ × ℕ)) → AreInFront most raw chunks at → rest ≡ drop at raw → ShowsNext most rest (Ok None)
-    → members ≡ members_of chunks → length members ≤ most_chunks → IsCopied most raw members at
+    → members ≡ members_of chunks → length members ≤ max_chunks → IsCopied most raw members at
 all_copied most raw chunks at rest members f is next kept few =
     record {
       chunks = chunks;
       copied = record { stream = copied_by most raw chunks at rest f is next; few = omega (arith, ap (λ (ms : List (List ℕ × ℕ)). length ms) kept, length-map chunks member_of) };
       of_chunks = kept;
-      spelled = f.spelled;
+      encoded = f.encoded;
       within = f.within;
     }
 
@@ -197,12 +197,12 @@ copied_small most raw chunks at members f bound kept =
 
 -- what is written of them is their xorb
 pub text_is : (most : ℕ) (raw : List ℕ) (members : List (List ℕ × ℕ)) (at : ℕ) (hash : List ℕ) (info : XorbObjectInfoV1) (c : IsCopied most raw members at) → hash ≡ xorb_hash members → info ≡ footer_v1 hash members no_spare
-    → take at raw ++ (text_v1 info ++ number (length_of info)) ≡ text_of c.chunks
-unfolding xorb_text
+    → take at raw ++ (footer_bytes_v1 info ++ number (length_of info)) ≡ text_of c.chunks
+unfolding xorb_bytes
 text_is most raw members at hash info c digest is =
     let chunks : List (List ℕ) = c.chunks in
-    let stored : List ℕ = flat_map spelling chunks in
-    ap (λ (x : List ℕ). x ++ (text_v1 info ++ number (length_of info))) c.spelled ∙ ap (λ (x : List ℕ). stored ++ x) (ending_is hash members info is)
+    let stored : List ℕ = flat_map encoded_chunk chunks in
+    ap (λ (x : List ℕ). x ++ (footer_bytes_v1 info ++ number (length_of info))) c.encoded ∙ ap (λ (x : List ℕ). stored ++ x) (ending_is hash members info is)
     ∙ ap (λ (h : List ℕ). stored ++ ending true h members) digest ∙ ap (λ (ms : List (List ℕ × ℕ)). stored ++ ending true (xorb_hash ms) ms) c.of_chunks
 
 -- and its object that of the chunks
@@ -226,7 +226,7 @@ short_chunks (c ∷ cs) all = (all.0, short_chunks cs all.1)
 
 -- the text of short chunks is of the grammar
 pub rebuilt_is_xorb : (chunks : List (List ℕ)) (members : List (List ℕ × ℕ)) → members ≡ members_of chunks → AllByRecursion (λ m. m.1 < 2 ^ 24) members → 0 < length chunks → length (text_of chunks) < 2 ^ 32
-    → IsXorbText (text_of chunks) chunks
+    → IsXorbEncoding (text_of chunks) chunks
 rebuilt_is_xorb chunks members are each some bound = record {
   some = some;
   small = short_chunks chunks (subst (λ (l : List (List ℕ × ℕ)). AllByRecursion (λ m. m.1 < 2 ^ 24) l) are each);
@@ -234,5 +234,5 @@ rebuilt_is_xorb chunks members are each some bound = record {
   version = V1;
   spare = no_spare;
   spare_len = refl;
-  spelled = refl;
+  encoded = refl;
 }

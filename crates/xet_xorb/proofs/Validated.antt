@@ -8,20 +8,20 @@ use Rattle.std.specs.List.{flat_map}
 use Rattle.xet_hash.specs.Merkle.{member_of, members_of, total_len, xorb_hash}
 use Rattle.xet_xorb_footer.specs.declared.info.XorbObjectInfoV0.{XorbObjectInfoV0}
 use Rattle.xet_xorb_footer.specs.declared.info.XorbObjectInfoV1.{XorbObjectInfoV1}
-use Rattle.xet_xorb_footer.specs.Ends.{last_footer, told_length}
+use Rattle.xet_xorb_footer.specs.Ends.{last_footer, footer_length}
 use Rattle.xet_codec.specs.Numbers.{joined, number, numbers}
-use Rattle.xet_xorb_footer.specs.Spelled.{most_chunks, text_v0, text_v1}
+use Rattle.xet_xorb_footer.specs.FooterEncoding.{max_chunks, footer_bytes_v0, footer_bytes_v1}
 use Rattle.xet_xorb_footer.specs.theorems.Endings.{told_is}
 use Rattle.xet_xorb_footer.specs.theorems.LastRead.{last_is_read, last_is_read_v0}
 use Rattle.xet_xorb_footer.specs.theorems.Readback.{length_joined}
-use Rattle.xet_xorb_footer.specs.theorems.Texts.{length_v0, length_v1}
-use Rattle.xet_xorb_chunk.specs.Spelling.{spelling}
+use Rattle.xet_xorb_footer.specs.theorems.EncodedLengths.{length_v0, length_v1}
+use Rattle.xet_xorb_chunk.specs.ChunkEncoding.{encoded_chunk}
 use Rattle.xet_xorb.specs.declared.object.XorbObject.{XorbObject}
-use Rattle.xet_xorb.specs.Checking.{AreChunks, HaveMembers, IsEnding, ending}
+use Rattle.xet_xorb.specs.internal.Checking.{AreChunks, HaveMembers, IsEnding, ending}
 use Rattle.xet_xorb.specs.Footer.{Version, V0, V1, footer_info, footer_len, footer_text, footer_v0, footer_v1}
 use Rattle.xet_xorb.specs.Object.{object_of}
 use Rattle.xet_xorb.specs.Validation.{IsValid, IsXorbOf}
-use Rattle.xet_xorb.specs.Xorb.{IsXorbText, xorb_text}
+use Rattle.xet_xorb.specs.Xorb.{IsXorbEncoding, xorb_bytes}
 use Rattle.xet_xorb.proofs.Checked.{all_small, same_chunks}
 use Rattle.xet_xorb.specs.theorems.Digests.{AreHashed, length-xorb_hash, members_hashed}
 use Rattle.xet_xorb.specs.theorems.OfMembers.{length-ends, length-hashes, standard_v0, standard_v1, whole_hashes}
@@ -42,11 +42,11 @@ pub length-ending : (version : Version) (hash : List ℕ) (ms : List (List ℕ �
 length-ending version hash ms spare size hashed sixteen =
     omega (arith, length-append (footer_text version hash ms spare) (number (footer_len version (length ms))), length-footer version hash ms spare size hashed sixteen)
 
-pub length-spellings : (chunks : List (List ℕ)) → length (flat_map spelling chunks) ≡ total_len (members_of chunks) + 8 * length chunks
-unfolding spelling
+pub length-spellings : (chunks : List (List ℕ)) → length (flat_map encoded_chunk chunks) ≡ total_len (members_of chunks) + 8 * length chunks
+unfolding encoded_chunk
 length-spellings [] = refl
 length-spellings (b ∷ bs) =
-    omega (arith, length-append (spelling b) (flat_map spelling bs), sum_by-cons (λ (m : List ℕ × ℕ). m.1) (member_of b) (members_of bs), length-spellings bs)
+    omega (arith, length-append (encoded_chunk b) (flat_map encoded_chunk bs), sum_by-cons (λ (m : List ℕ × ℕ). m.1) (member_of b) (members_of bs), length-spellings bs)
 
 least : (version : Version) (n : ℕ) → 60 ≤ footer_len version n
 least V0 n = omega arith
@@ -69,7 +69,7 @@ regroup_v1 a b c d e f g h i j s v w x = simp append_assoc
 
 -- the spare bytes stand at a footer's end
 footer_with : (version : Version) (hash : List ℕ) (ms : List (List ℕ × ℕ)) (spare : List ℕ) → footer_text version hash ms spare ≡ footer_text version hash ms [] ++ spare
-unfolding text_v0 text_v1
+unfolding footer_bytes_v0 footer_bytes_v1
 footer_with V0 hash ms spare =
     let i : XorbObjectInfoV0 = footer_v0 hash ms spare in
     regroup_v0 i.ident i.xorb_hash (number i.num_chunks) (numbers i.chunk_boundary_offsets) (joined i.chunk_hashes) spare i.version
@@ -89,7 +89,7 @@ ending_found start told version hash ms bytes text spare info whole hashed size 
       version = version;
       spare = spare;
       spare_len = sixteen;
-      spelled = sym all ∙ sym stands ∙ is_text;
+      encoded = sym all ∙ sym stands ∙ is_text;
       listed = λ i. record { info = is_info i; info_length = is_told i };
     }
 
@@ -97,7 +97,7 @@ ending_found start told version hash ms bytes text spare info whole hashed size 
 pub told_of : (start told : ℕ) (hash : List ℕ) (ms : List (List ℕ × ℕ)) (bytes : List ℕ) (object : XorbObject) → start + told + 4 ≡ length bytes → AreHashed ms → length hash ≡ 32
     → (e : IsEnding hash ms (drop start bytes) object) → told ≡ footer_len e.version (length ms)
 told_of start told hash ms bytes object whole hashed size e =
-    omega (arith, length-drop start bytes, ap length e.spelled, length-ending e.version hash ms e.spare size hashed e.spare_len)
+    omega (arith, length-drop start bytes, ap length e.encoded, length-ending e.version hash ms e.spare size hashed e.spare_len)
 
 -- where its spare bytes stand
 spare_of : (start told : ℕ) (hash : List ℕ) (ms : List (List ℕ × ℕ)) (bytes : List ℕ) (object : XorbObject) → start + told + 4 ≡ length bytes → AreHashed ms → length hash ≡ 32
@@ -109,7 +109,7 @@ spare_of start told hash ms bytes object whole hashed size e =
     let enough = least e.version (length ms) in
     let long : length front ≡ told - 16 =
     omega (arith, length-footer e.version hash ms e.spare size hashed e.spare_len, ap length (footer_with e.version hash ms e.spare), length-append front e.spare, e.spare_len) in
-    let parts : drop start bytes ≡ front ++ (e.spare ++ last) = e.spelled ∙ ap (λ (t : List ℕ). t ++ last) (footer_with e.version hash ms e.spare) ∙ append_assoc front e.spare last in
+    let parts : drop start bytes ≡ front ++ (e.spare ++ last) = e.encoded ∙ ap (λ (t : List ℕ). t ++ last) (footer_with e.version hash ms e.spare) ∙ append_assoc front e.spare last in
     let place : start + (told - 16) ≡ start + told - 16 = omega arith in
     let here : drop (start + told - 16) bytes ≡ e.spare ++ last =
     ap (λ (n : ℕ). drop n bytes) (sym place) ∙ sym (drop-drop (told - 16) start bytes) ∙ ap (drop (told - 16)) parts ∙ drop_at front (e.spare ++ last) (told - 16) long in
@@ -121,7 +121,7 @@ pub ending_stands : (start told : ℕ) (version : Version) (hash : List ℕ) (ms
 ending_stands start told version hash ms bytes text spare object whole hashed size read is_told is_text e =
     let same : version ≡ e.version = same_version version e.version (length ms) (sym is_told ∙ told_of start told hash ms bytes object whole hashed size e) in
     let spares : spare ≡ e.spare = read ∙ spare_of start told hash ms bytes object whole hashed size e in
-    let is : text ≡ drop start bytes = is_text ∙ ap (λ (v : Version). ending v hash ms spare) same ∙ ap (ending e.version hash ms) spares ∙ sym e.spelled in
+    let is : text ≡ drop start bytes = is_text ∙ ap (λ (v : Version). ending v hash ms spare) same ∙ ap (ending e.version hash ms) spares ∙ sym e.encoded in
     let all : take (length text) (drop start bytes) ≡ drop start bytes = take_all (length text) (drop start bytes) (omega (arith, ap length is)) in
     is ∙ sym all
 
@@ -140,7 +140,7 @@ hash_size ms hash hashed is = ap length (sym is) ∙ length-xorb_hash ms hashed
 -- stored chunks and an ending are a xorb
 pub is_valid : (most start : ℕ) (hash bytes : List ℕ) (ms : List (List ℕ × ℕ)) (object : XorbObject) → most < 2 ^ 23 → length bytes < 2 ^ 32 → HaveMembers most (take start bytes) ms → 0 < length ms → xorb_hash ms ≡ hash
     → IsEnding hash ms (drop start bytes) object → (chunks : List (List ℕ)) × IsValid most hash bytes chunks object
-unfolding xorb_text
+unfolding xorb_bytes
 is_valid most start hash bytes ms object small bound h some is e =
     let chunks : List (List ℕ) = h.chunks in
     let own : xorb_hash (members_of chunks) ≡ hash = ap xorb_hash (sym h.members) ∙ is in
@@ -156,7 +156,7 @@ is_valid most start hash bytes ms object small bound h some is e =
             version = e.version;
             spare = e.spare;
             spare_len = e.spare_len;
-            spelled = sym (take-append-drop start bytes) ∙ ap (λ (t : List ℕ). t ++ drop start bytes) h.are.stored ∙ ap (λ (t : List ℕ). flat_map spelling chunks ++ t) (e.spelled ∙ last);
+            encoded = sym (take-append-drop start bytes) ∙ ap (λ (t : List ℕ). t ++ drop start bytes) h.are.stored ∙ ap (λ (t : List ℕ). flat_map encoded_chunk chunks ++ t) (e.encoded ∙ last);
           };
           fit = h.are.fit;
           hashed = own;
@@ -171,13 +171,13 @@ pub record HasParts (most : ℕ) (hash bytes : List ℕ) (chunks : List (List �
   pub told : ℕ
   pub enough : 60 ≤ told
   pub whole : start + told + 4 ≡ length bytes
-  pub tells : told_length bytes ≡ Ok told
+  pub tells : footer_length bytes ≡ Ok told
   pub stored : AreChunks most (take start bytes) chunks
   pub object : XorbObject
   pub ends : IsEnding hash (members_of chunks) (drop start bytes) object
 
 -- the last four bytes tell a number
-told_back : (front : List ℕ) (n : ℕ) → n < 2 ^ 32 → told_length (front ++ number n) ≡ Ok n
+told_back : (front : List ℕ) (n : ℕ) → n < 2 ^ 32 → footer_length (front ++ number n) ≡ Ok n
 told_back front n small =
     let all : List ℕ = front ++ number n in
     let len : length all ≡ length front + 4 = length-append front (number n) in
@@ -186,17 +186,17 @@ told_back front n small =
     told_is (length all) all (number n) refl (omega arith) last ∙ ap Ok (from_le_bytes-to_le_bytes_4 n small)
 
 pub parts_of : (most : ℕ) (hash bytes : List ℕ) (chunks : List (List ℕ)) → IsXorbOf most hash bytes chunks → HasParts most hash bytes chunks
-unfolding xorb_text
+unfolding xorb_bytes
 parts_of most hash bytes chunks x =
     let ms : List (List ℕ × ℕ) = members_of chunks in
     let v : Version = x.text.version in
     let spare : List ℕ = x.text.spare in
-    let front : List ℕ = flat_map spelling chunks in
+    let front : List ℕ = flat_map encoded_chunk chunks in
     let foot : List ℕ = footer_text v hash ms spare in
     let n : ℕ = footer_len v (length ms) in
     let hashed : AreHashed ms = members_hashed chunks in
     let size : length hash ≡ 32 = hash_size ms hash hashed x.hashed in
-    let is : bytes ≡ front ++ ending v hash ms spare = x.text.spelled ∙ ap (λ (h : List ℕ). front ++ ending v h ms spare) x.hashed in
+    let is : bytes ≡ front ++ ending v hash ms spare = x.text.encoded ∙ ap (λ (h : List ℕ). front ++ ending v h ms spare) x.hashed in
     let long : length bytes ≡ length front + (n + 4) = omega (arith, ap length is, length-append front (ending v hash ms spare), length-ending v hash ms spare size hashed x.text.spare_len) in
     let split : bytes ≡ (front ++ foot) ++ number n = is ∙ sym (append_assoc front foot (number n)) in
     let bound = x.text.bound in
@@ -205,14 +205,14 @@ parts_of most hash bytes chunks x =
       told = n;
       enough = least v (length ms);
       whole = omega arith;
-      tells = ap told_length split ∙ told_back (front ++ foot) n (omega arith);
+      tells = ap footer_length split ∙ told_back (front ++ foot) n (omega arith);
       stored = record { fit = x.fit; stored = ap (take (length front)) is ∙ take-append_seam front (ending v hash ms spare) };
       object = object_of v hash ms spare;
       ends = record {
         version = v;
         spare = spare;
         spare_len = x.text.spare_len;
-        spelled = ap (drop (length front)) is ∙ drop-append_seam front (ending v hash ms spare);
+        encoded = ap (drop (length front)) is ∙ drop-append_seam front (ending v hash ms spare);
         listed = refl;
       };
     }
@@ -220,30 +220,30 @@ parts_of most hash bytes chunks x =
 -- ---- the last footer is read
 
 -- how many members there are at most, and how far they go
-sizes_of : (version : Version) (n stored len : ℕ) → len ≡ stored + (footer_len version n + 4) → 8 * n ≤ stored → len < 2 ^ 32 → n ≤ most_chunks
+sizes_of : (version : Version) (n stored len : ℕ) → len ≡ stored + (footer_len version n + 4) → 8 * n ≤ stored → len < 2 ^ 32 → n ≤ max_chunks
 sizes_of V0 n stored len whole each bound = omega arith
 sizes_of V1 n stored len whole each bound = omega arith
 
-last_of : (version : Version) (front hash : List ℕ) (ms : List (List ℕ × ℕ)) (spare : List ℕ) → length hash ≡ 32 → AreHashed ms → length ms ≤ most_chunks → total_len ms + 8 * length ms < 2 ^ 32 → length spare ≡ 16
+last_of : (version : Version) (front hash : List ℕ) (ms : List (List ℕ × ℕ)) (spare : List ℕ) → length hash ≡ 32 → AreHashed ms → length ms ≤ max_chunks → total_len ms + 8 * length ms < 2 ^ 32 → length spare ≡ 16
     → last_footer (front ++ ending version hash ms spare) ≡ Ok (footer_info version hash ms spare, footer_len version (length ms))
 last_of V0 front hash ms spare size hashed few fits sixteen = last_is_read_v0 (footer_v0 hash ms spare) front (standard_v0 hash ms spare size hashed few fits sixteen)
 last_of V1 front hash ms spare size hashed few fits sixteen = last_is_read (footer_v1 hash ms spare) front (standard_v1 hash ms spare size hashed few fits sixteen)
 
-pub last_footer_is_read : (bytes : List ℕ) (chunks : List (List ℕ)) (x : IsXorbText bytes chunks) (o : XorbObject) → o ≡ object_of x.version (xorb_hash (members_of chunks)) (members_of chunks) x.spare
+pub last_footer_is_read : (bytes : List ℕ) (chunks : List (List ℕ)) (x : IsXorbEncoding bytes chunks) (o : XorbObject) → o ≡ object_of x.version (xorb_hash (members_of chunks)) (members_of chunks) x.spare
     → last_footer bytes ≡ Ok (o.info, o.info_length)
-unfolding xorb_text
+unfolding xorb_bytes
 last_footer_is_read bytes chunks x o is =
     let ms : List (List ℕ × ℕ) = members_of chunks in
     let hash : List ℕ = xorb_hash ms in
-    let front : List ℕ = flat_map spelling chunks in
+    let front : List ℕ = flat_map encoded_chunk chunks in
     let hashed : AreHashed ms = members_hashed chunks in
     let size : length hash ≡ 32 = length-xorb_hash ms hashed in
     let bound = x.bound in
     let stored : length front ≡ total_len ms + 8 * length ms = omega (arith, length-spellings chunks, length-members chunks) in
     let long : length bytes ≡ length front + (footer_len x.version (length ms) + 4) =
-    omega (arith, ap length x.spelled, length-append front (ending x.version hash ms x.spare), length-ending x.version hash ms x.spare size hashed x.spare_len) in
-    let few : length ms ≤ most_chunks = sizes_of x.version (length ms) (length front) (length bytes) long (omega arith) bound in
-    ap last_footer x.spelled ∙ last_of x.version front hash ms x.spare size hashed few (omega arith) x.spare_len ∙ ap (λ (y : XorbObject). Ok (y.info, y.info_length)) (sym is)
+    omega (arith, ap length x.encoded, length-append front (ending x.version hash ms x.spare), length-ending x.version hash ms x.spare size hashed x.spare_len) in
+    let few : length ms ≤ max_chunks = sizes_of x.version (length ms) (length front) (length bytes) long (omega arith) bound in
+    ap last_footer x.encoded ∙ last_of x.version front hash ms x.spare size hashed few (omega arith) x.spare_len ∙ ap (λ (y : XorbObject). Ok (y.info, y.info_length)) (sym is)
 
 -- a valid object is the last footer
 pub valid_is_read : (most : ℕ) (hash bytes : List ℕ) (object : XorbObject) → (chunks : List (List ℕ)) × IsValid most hash bytes chunks object → last_footer bytes ≡ Ok (object.info, object.info_length)
@@ -265,7 +265,7 @@ none_more P Q (Ok found) more h = λ none. more (h none)
 none_more P Q (Err e) more h = h
 
 -- where the footer of a xorb begins, if its length is told
-pub place_is : (most start told : ℕ) (hash bytes : List ℕ) (chunks : List (List ℕ)) → start + told + 4 ≡ length bytes → told_length bytes ≡ Ok told → (p : HasParts most hash bytes chunks) → p.start ≡ start
+pub place_is : (most start told : ℕ) (hash bytes : List ℕ) (chunks : List (List ℕ)) → start + told + 4 ≡ length bytes → footer_length bytes ≡ Ok told → (p : HasParts most hash bytes chunks) → p.start ≡ start
 place_is most start told hash bytes chunks whole tells p =
     let both : Ok told ≡ Ok p.told = sym tells ∙ p.tells in
     let same : told ≡ p.told = cc in
@@ -273,19 +273,19 @@ place_is most start told hash bytes chunks whole tells p =
     omega arith
 
 -- so its stored chunks and its ending are known
-pub chunks_at : (most start told : ℕ) (hash bytes : List ℕ) (chunks : List (List ℕ)) → start + told + 4 ≡ length bytes → told_length bytes ≡ Ok told → IsXorbOf most hash bytes chunks → AreChunks most (take start bytes) chunks
+pub chunks_at : (most start told : ℕ) (hash bytes : List ℕ) (chunks : List (List ℕ)) → start + told + 4 ≡ length bytes → footer_length bytes ≡ Ok told → IsXorbOf most hash bytes chunks → AreChunks most (take start bytes) chunks
 chunks_at most start told hash bytes chunks whole tells x =
     let p = parts_of most hash bytes chunks x in
     subst (λ (n : ℕ). AreChunks most (take n bytes) chunks) (place_is most start told hash bytes chunks whole tells p) p.stored
 
-pub ending_at : (most start told : ℕ) (hash bytes : List ℕ) (chunks : List (List ℕ)) → start + told + 4 ≡ length bytes → told_length bytes ≡ Ok told → IsXorbOf most hash bytes chunks
+pub ending_at : (most start told : ℕ) (hash bytes : List ℕ) (chunks : List (List ℕ)) → start + told + 4 ≡ length bytes → footer_length bytes ≡ Ok told → IsXorbOf most hash bytes chunks
     → (object : XorbObject) × IsEnding hash (members_of chunks) (drop start bytes) object
 ending_at most start told hash bytes chunks whole tells x =
     let p = parts_of most hash bytes chunks x in
     (p.object, subst (λ (n : ℕ). IsEnding hash (members_of chunks) (drop n bytes) p.object) (place_is most start told hash bytes chunks whole tells p) p.ends)
 
 -- the members that were found are those of a xorb
-pub members_at : (most start told : ℕ) (hash bytes : List ℕ) (ms : List (List ℕ × ℕ)) (chunks : List (List ℕ)) → most < 2 ^ 23 → start + told + 4 ≡ length bytes → told_length bytes ≡ Ok told
+pub members_at : (most start told : ℕ) (hash bytes : List ℕ) (ms : List (List ℕ × ℕ)) (chunks : List (List ℕ)) → most < 2 ^ 23 → start + told + 4 ≡ length bytes → footer_length bytes ≡ Ok told
     → HaveMembers most (take start bytes) ms → IsXorbOf most hash bytes chunks → ms ≡ members_of chunks
 members_at most start told hash bytes ms chunks small whole tells h x =
     h.members ∙ ap members_of (same_chunks most (take start bytes) h.chunks chunks small h.are (chunks_at most start told hash bytes chunks whole tells x))

@@ -1,16 +1,16 @@
--- Xorbs as they are built.
+-- Construction of xorbs, and footers that are added to stored chunks.
 use Rattle.std.specs.Prelude.{◌≡◌, ◌≢◌, ◌⊎◌, ℕ, ◌+◌, ◌<◌, ◌≤◌, ◌^◌, Bool, true, false, List, [], ◌++◌, length, replicate, take, Option, Some, None, Ok, Err}
 use Rattle.std.specs.List.{flat_map, sum_by}
 use Rattle.xet_hash.specs.Merkle.{members_of, xorb_hash}
 use Rattle.xet_hash.specs.declared.error.Reason.TheVariants.{ChunkCount}
 use Rattle.xet_hash.specs.declared.error.StoreError.{StoreError}
 use Rattle.xet_hash.specs.declared.error.StoreError.TheVariants.{ChunkHeaderParse, MalformedData}
-use Rattle.xet_xorb_footer.specs.Spelled.{most_chunks}
+use Rattle.xet_xorb_footer.specs.FooterEncoding.{max_chunks}
 use Rattle.xet_codec.specs.Numbers.{number}
 use Rattle.xet_xorb_chunk.specs.Checks.{IsCheck}
 use Rattle.xet_codec.specs.Stops.{StopsWriting}
 use Rattle.xet_xorb_chunk.specs.Passing.{Begins}
-use Rattle.xet_xorb_chunk.specs.Spelling.{spelling}
+use Rattle.xet_xorb_chunk.specs.ChunkEncoding.{encoded_chunk}
 use Rattle.xet_xorb_chunk.specs.Stream.{IsStream}
 use Rattle.xet_xorb.specs.declared.building.SerializedXorbObject.{SerializedXorbObject}
 use Rattle.xet_xorb.specs.declared.object.XorbObject.{XorbObject}
@@ -18,80 +18,81 @@ use Rattle.xet_xorb.specs.declared.raw.RawXorbData.{RawXorbData}
 use Rattle.xet_xorb.specs.Footer.{V1, footer_len, footer_text}
 use Rattle.xet_xorb.specs.Object.{object_of}
 use Rattle.xet_xorb.specs.Raw.{raw_members}
-use Rattle.xet_xorb.specs.Xorb.{IsXorbText, xorb_text}
+use Rattle.xet_xorb.specs.Xorb.{IsXorbEncoding, xorb_bytes}
 
--- a new footer has zeros as spare bytes
+-- The spare bytes of a new footer: zeros.
 abbrev pub no_spare : List ℕ
 no_spare = replicate 16 0
 
--- what stands behind the stored chunks
+-- What follows the stored chunks: a footer of version 1 and its length, or nothing.
 abbrev pub ending : Bool → List ℕ → List (List ℕ × ℕ) → List ℕ
 ending true hash ms = footer_text V1 hash ms no_spare ++ number (footer_len V1 (length ms))
 ending false hash ms = []
 
 abbrev pub start_of_footer : Bool → List (List ℕ) → Option ℕ
-start_of_footer true parts = Some (length (flat_map spelling parts))
+start_of_footer true parts = Some (length (flat_map encoded_chunk parts))
 start_of_footer false parts = None
 
--- the xorb of this hash, with these members and these parts, with or without a footer
+-- The encoded xorb with this hash, these (hash, length) pairs and these parts, with or without a footer.
 abbrev pub built : List ℕ → List (List ℕ × ℕ) → List (List ℕ) → Bool → SerializedXorbObject
 built hash ms parts footer = record {
-  serialized_data = flat_map spelling parts ++ ending footer hash ms;
+  serialized_data = flat_map encoded_chunk parts ++ ending footer hash ms;
   hash = hash;
   raw_num_bytes = sum_by length parts;
   num_chunks = length parts;
   footer_start = start_of_footer footer parts;
 }
 
--- a raw xorb as it is built
+-- The encoding of a raw xorb.
 abbrev pub built_of : RawXorbData → Bool → SerializedXorbObject
 built_of x footer = built x.xorb_info.metadata.xorb_hash (raw_members x) x.parts footer
 
--- ---- a footer for stored chunks
+-- ---- Footers for stored chunks
 
--- The bytes are these chunks, to their end or to where a footer begins, and they are not too many.
+-- `raw` is these stored chunks, up to its end or to a footer, and a footer can list them.
 pub record AreCopied (most : ℕ) (raw : List ℕ) (chunks : List (List ℕ)) : Type 0 where
   pub stream : IsStream most raw chunks (Ok tt) ⊎ IsStream most raw chunks (Err ChunkHeaderParse)
-  pub few : length chunks ≤ most_chunks
+  pub few : length chunks ≤ max_chunks
 
--- the xorb of these chunks, and its object
+-- The xorb of these chunks, and its footer with its length.
 abbrev pub text_of : List (List ℕ) → List ℕ
-text_of chunks = xorb_text V1 (xorb_hash (members_of chunks)) (members_of chunks) chunks no_spare
+text_of chunks = xorb_bytes V1 (xorb_hash (members_of chunks)) (members_of chunks) chunks no_spare
 
 abbrev pub object_for : List (List ℕ) → XorbObject
 object_for chunks = object_of V1 (xorb_hash (members_of chunks)) (members_of chunks) no_spare
 
--- The xorb of the chunks was written, and this object and this hash are its; it is of the grammar, where there is a
--- chunk and it has fewer than 2 ^ 32 bytes.
+-- The xorb of the chunks was written, and its footer and its hash were returned. It is well formed if there
+-- is a chunk and it has fewer than 2 ^ 32 bytes.
 abbrev pub Rebuilds : ℕ → List ℕ → Type 0 → List ℕ → List ℕ → XorbObject × List ℕ → Type 0
 Rebuilds most raw told before now made =
     (chunks : List (List ℕ)) × AreCopied most raw chunks × (made.0 ≡ object_for chunks) × (made.1 ≡ xorb_hash (members_of chunks))
-    × (0 < length chunks → length (text_of chunks) < 2 ^ 32 → IsXorbText (text_of chunks) chunks)
+    × (0 < length chunks → length (text_of chunks) < 2 ^ 32 → IsXorbEncoding (text_of chunks) chunks)
     × (told → now ≡ before ++ text_of chunks)
 
--- The first check of stored chunks that fails, after no more of them than a footer lists. A footer is no failure.
+-- The first check of the stored chunks that fails, after no more chunks than a footer can list. A footer is
+-- no failure.
 pub record FailsCheck (most : ℕ) (raw : List ℕ) (e : StoreError) : Type 0 where
   pub chunks : List (List ℕ)
   pub stream : IsStream most raw chunks (Err e)
-  pub few : length chunks ≤ most_chunks
+  pub few : length chunks ≤ max_chunks
   pub failure : e ≢ ChunkHeaderParse
 
--- One whole chunk more than a footer lists.
+-- There is one whole chunk more than a footer can list.
 pub record HasTooMany (most : ℕ) (raw : List ℕ) : Type 0 where
   pub chunks : List (List ℕ)
   pub whole : Begins most 0 raw chunks
-  pub count : length chunks ≡ 1 + most_chunks
+  pub count : length chunks ≡ 1 + max_chunks
 
--- Why no footer is made: the first check that fails; or there are too many chunks; or the sink failed or there was no
+-- Errors of adding a footer: the first check that fails, too many chunks, a failure of the sink, or out of
 -- memory.
 abbrev pub IsNoRebuild : ℕ → List ℕ → StoreError → Type 0
 IsNoRebuild most raw e = FailsCheck most raw e ⊎ ((e ≡ MalformedData ChunkCount) × HasTooMany most raw) ⊎ StopsWriting e
 
--- a check of the stored chunks failed: one of the bytes, or the one that they are not too many
+-- A check of the stored chunks failed, or that of their number.
 abbrev pub IsRebuildCheck : StoreError → Type 0
 IsRebuildCheck e = IsCheck e ⊎ (e ≡ MalformedData ChunkCount)
 
--- a front of the xorb was written, or nothing
+-- Nothing was written, or a prefix of the xorb.
 abbrev pub RebuildsFront : ℕ → List ℕ → List ℕ → List ℕ → Type 0
 RebuildsFront most raw before now =
     (now ≡ before) ⊎ ((chunks : List (List ℕ)) × (n : ℕ) × AreCopied most raw chunks × (now ≡ before ++ take n (text_of chunks)))

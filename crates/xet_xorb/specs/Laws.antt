@@ -1,4 +1,4 @@
--- Laws of xorbs, their objects and their ranges.
+-- Theorems about xorbs, their footers and their ranges.
 use Rattle.std.specs.Prelude.{◌≡◌, ◌≢◌, ℕ, ◌+◌, ◌≤◌, ◌<◌, ◌^◌, List, length, slice_range, Result, Ok}
 use Rattle.std.specs.List.{concat}
 use Rattle.xet_hash.specs.declared.error.StoreError.{StoreError}
@@ -9,19 +9,20 @@ use Rattle.xet_xorb.specs.declared.object.XorbObject.{XorbObject}
 use Rattle.xet_xorb.specs.Object.{object_of, range_length}
 use Rattle.xet_xorb.specs.Ranges.{ReadsPlain, in_file, listed_contents, listed_range}
 use Rattle.xet_xorb.specs.Validation.{IsValid}
-use Rattle.xet_xorb.specs.Xorb.{IsXorbText}
+use Rattle.xet_xorb.specs.Xorb.{IsXorbEncoding}
 
--- the bytes of a xorb determine its chunks
-abbrev pub TextDeterminesChunks : Type 0
-TextDeterminesChunks = (bytes : List ℕ) (one other : List (List ℕ)) → IsXorbText bytes one → IsXorbText bytes other → one ≡ other
+-- The bytes of a xorb determine its chunks.
+abbrev pub BytesDetermineChunks : Type 0
+BytesDetermineChunks = (bytes : List ℕ) (one other : List (List ℕ)) → IsXorbEncoding bytes one → IsXorbEncoding bytes other → one ≡ other
 
--- the last footer of a xorb is that of its chunks
+-- The footer that is read at the end of a xorb is that of its chunks.
 abbrev pub LastFooterIsRead : Type 0
 LastFooterIsRead =
-    (bytes : List ℕ) (chunks : List (List ℕ)) (x : IsXorbText bytes chunks)
+    (bytes : List ℕ) (chunks : List (List ℕ)) (x : IsXorbEncoding bytes chunks)
     → (o : XorbObject) → o ≡ object_of x.version (xorb_hash (members_of chunks)) (members_of chunks) x.spare → last_footer bytes ≡ Ok (o.info, o.info_length)
 
--- on a validated xorb, whose hash is not zero, what is read of a range is what its chunks are, and of all what all are
+-- If the hash of a validated xorb is not zero, a range that is read has the bytes of its chunks, and so have
+-- the whole contents.
 abbrev pub RangesAreChunks : Type 0
 RangesAreChunks =
     (most : ℕ) (hash bytes : List ℕ) (chunks : List (List ℕ)) (o : XorbObject) (start end : ℕ) (read : Result (List ℕ) StoreError)
@@ -33,7 +34,7 @@ ContentsAreChunks =
     (most : ℕ) (hash bytes : List ℕ) (chunks : List (List ℕ)) (o : XorbObject) (read : Result (List ℕ) StoreError)
     → most < 2 ^ 23 → IsValid most hash bytes chunks o → hash ≢ zero_hash → ReadsPlain most bytes (in_file (length bytes) (listed_contents o.info)) read → read ≡ Ok (concat chunks)
 
--- lengths that add up: over a range to a place, over one from there, and over both
+-- The lengths of the ranges `from..at` and `at..to` add up to that of `from..to`.
 pub record AddUp (o : XorbObject) (from at to : ℕ) : Type 0 where
   pub first : ℕ
   pub second : ℕ
@@ -41,7 +42,7 @@ pub record AddUp (o : XorbObject) (from at to : ℕ) : Type 0 where
   pub from_place : range_length o.info at to ≡ Ok second
   pub both : range_length o.info from to ≡ Ok (first + second)
 
--- on a validated xorb with a footer of version 1, whose hash is not zero, lengths add up
+-- On a validated xorb with a footer of version 1 and a hash that is not zero, lengths add up.
 abbrev pub LengthsAddUp : Type 0
 LengthsAddUp =
     (most : ℕ) (hash bytes : List ℕ) (chunks : List (List ℕ)) (o : XorbObject) (from at to : ℕ)

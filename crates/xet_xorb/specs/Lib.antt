@@ -5,7 +5,6 @@ pub mod Ranges
 pub mod Validation
 pub mod Raw
 pub mod Building
-pub mod Copying
 pub mod Laws
-pub mod Checking
 pub mod theorems
+pub mod internal

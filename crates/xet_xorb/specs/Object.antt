@@ -1,4 +1,5 @@
--- A xorb's footer with its length, and what its lists tell: each a value, or the first check that fails.
+-- A xorb's footer with its length, and what its lists give: each a value, or the error of the first check
+-- that fails.
 use Rattle.std.specs.Prelude.{ℕ, zero, suc, ◌-◌, ◌==◌, nat_eq, nat_le, nat_lt, Bool, true, false, not, ◌&&◌, ◌||◌, List, length, Result, Ok, Err, if◌then◌else◌, slice_index, slice_range}
 use Rattle.std.specs.Cmp.Lexicographic.{pointwise}
 use Rattle.xet_hash.specs.Hash.{zero_hash}
@@ -11,12 +12,12 @@ use Rattle.xet_codec.specs.Parsing.{◌>>=◌, wants}
 use Rattle.xet_xorb.specs.declared.object.XorbObject.{XorbObject}
 use Rattle.xet_xorb.specs.Footer.{Version, footer_info, footer_len}
 
--- the object of a xorb of this hash and these members
+-- The footer, with its length, of a xorb with this hash and these (hash, length) pairs.
 abbrev pub object_of : Version → List ℕ → List (List ℕ × ℕ) → List ℕ → XorbObject
 object_of version hash ms spare = record { info = footer_info version hash ms spare; info_length = footer_len version (length ms) }
 
--- Whether a footer lists all its chunks, of which there is one, and has a hash. One whose boundary section is of
--- version 0 has no plain ends.
+-- Whether a footer lists all its chunks, at least one, and its hash is not zero. If its boundary section has
+-- not version 1, there need be no uncompressed boundary offsets.
 abbrev pub is_complete : XorbObjectInfoV1 → Bool
 is_complete i =
     nat_lt 0 i.num_chunks
@@ -28,44 +29,44 @@ is_complete i =
 abbrev pub complete : XorbObjectInfoV1 → Result (Unit {0}) StoreError
 complete i = wants (is_complete i) Incomplete
 
--- arguments that are to fit
+-- A check of the arguments.
 abbrev pub fits : Bool → Result (Unit {0}) StoreError
 fits true = Ok tt
 fits false = Err InvalidArguments
 
--- the chunks from `start` to before `end`, of which there is one
+-- The chunks `start..end` exist, and are at least one.
 abbrev pub some_chunks : XorbObjectInfoV1 → ℕ → ℕ → Result (Unit {0}) StoreError
 some_chunks i start end = complete i >>= λ _. fits (nat_lt start end && nat_le end i.num_chunks)
 
--- where so many chunks end
+-- The offset at which the first chunks end, as many as the second argument says.
 abbrev pub end_of : List ℕ → ℕ → ℕ
 end_of ends zero = 0
 end_of ends (suc n) = slice_index ends n
 
--- from one end to another, which is not before it
+-- The number of bytes between two offsets, the second not below the first.
 abbrev pub between : ℕ → ℕ → Result ℕ StoreError
 between from to = wants (nat_le from to) Offsets >>= λ _. Ok (to - from)
 
--- the hash of the listed hashes of these chunks
+-- The range hash of these chunks, from the listed chunk hashes.
 abbrev pub chunk_range_hash : XorbObjectInfoV1 → ℕ → ℕ → Result (List ℕ) StoreError
 chunk_range_hash i start end = some_chunks i start end >>= λ _. Ok (range_hash (slice_range i.chunk_hashes start end))
 
--- where these chunks begin and end among the stored bytes
+-- The offsets at which these chunks start and end among the stored bytes.
 abbrev pub byte_offset : XorbObjectInfoV1 → ℕ → ℕ → Result (ℕ × ℕ) StoreError
 byte_offset i start end = some_chunks i start end >>= λ _. Ok (end_of i.chunk_boundary_offsets start, end_of i.chunk_boundary_offsets end)
 
--- where all chunks end among the stored bytes
+-- The offset at which the last chunk ends among the stored bytes.
 abbrev pub contents_length : XorbObjectInfoV1 → Result ℕ StoreError
 contents_length i = complete i >>= λ _. Ok (end_of i.chunk_boundary_offsets i.num_chunks)
 
--- the plain bytes of chunk k
+-- The uncompressed length of chunk k.
 abbrev pub chunk_length : XorbObjectInfoV1 → ℕ → Result ℕ StoreError
 chunk_length i k = do
   _ ← complete i
   _ ← fits (nat_lt k (length i.unpacked_chunk_offsets))
   between (end_of i.unpacked_chunk_offsets k) (end_of i.unpacked_chunk_offsets (suc k))
 
--- the plain bytes of the chunks from `start` to before `end`, of which there may be none
+-- The uncompressed length of the chunks `start..end`, which may be none.
 abbrev pub range_length : XorbObjectInfoV1 → ℕ → ℕ → Result ℕ StoreError
 range_length i start end = do
   _ ← complete i

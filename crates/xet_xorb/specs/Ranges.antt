@@ -1,4 +1,4 @@
--- The plain bytes of chunks, which are read where a footer says that they are stored.
+-- Uncompressed bytes of chunks that are read at the offsets that a footer lists.
 use Rattle.std.specs.Prelude.{◌≡◌, ℕ, nat_le, List, slice_range, Result, Ok, Err}
 use Rattle.std.specs.List.{concat}
 use Rattle.xet_hash.specs.declared.error.StoreError.{StoreError}
@@ -7,7 +7,7 @@ use Rattle.xet_codec.specs.Parsing.{reaches, ◌>>=◌}
 use Rattle.xet_xorb_chunk.specs.Stream.{IsStream}
 use Rattle.xet_xorb.specs.Object.{between, byte_offset, contents_length}
 
--- the places between which chunks are stored by what is listed: of a range, and of all
+-- The offsets between which chunks are stored, as listed: those of a range, and those of all.
 abbrev pub listed_range : XorbObjectInfoV1 → ℕ → ℕ → Result (ℕ × ℕ) StoreError
 listed_range i start end = do
   ends ← byte_offset i start end
@@ -17,19 +17,19 @@ listed_range i start end = do
 abbrev pub listed_contents : XorbObjectInfoV1 → Result (ℕ × ℕ) StoreError
 listed_contents i = contents_length i >>= λ end. Ok (0, end)
 
--- places that are to be in a file of so many bytes
+-- A check that these offsets lie within a file of `len` bytes.
 abbrev pub in_file : ℕ → Result (ℕ × ℕ) StoreError → Result (ℕ × ℕ) StoreError
 in_file len places = do
   ends ← places
   _ ← reaches (nat_le ends.1 len)
   Ok ends
 
--- the bytes as a stream of chunks: their plain bytes, or the first check that fails
+-- `stored`, read as a stream of chunks: their uncompressed bytes, or the error of the first check that fails.
 abbrev pub IsPlain : ℕ → List ℕ → Result (List ℕ) StoreError → Type 0
 IsPlain most stored (Ok plain) = (chunks : List (List ℕ)) × IsStream most stored chunks (Ok tt) × (plain ≡ concat chunks)
 IsPlain most stored (Err e) = (chunks : List (List ℕ)) × IsStream most stored chunks (Err e)
 
--- what is read of some bytes between places
+-- The same of the bytes between two offsets.
 abbrev pub ReadsPlain : ℕ → List ℕ → Result (ℕ × ℕ) StoreError → Result (List ℕ) StoreError → Type 0
 ReadsPlain most bytes (Ok ends) read = IsPlain most (slice_range bytes ends.0 ends.1) read
 ReadsPlain most bytes (Err e) read = read ≡ Err e

@@ -1,4 +1,4 @@
-//! Xorbs as they are stored.
+//! Construction of xorbs: encoded chunks, with or without a footer.
 
 ghost use Rattle.std.specs.Prelude.{◌≡◌, ◌⊎◌, ◌<◌, ◌≤◌, ◌+◌, ◌*◌, ◌^◌, ◌++◌, [], Err, true, IfErr, IfOk, IsOkUnless, OnOk, length, map};
 ghost use Rattle.std.specs.List.{AllByRecursion, flat_map};
@@ -6,10 +6,10 @@ ghost use Rattle.xet_hash.specs.Merkle.{members_of, xorb_hash};
 ghost use Rattle.xet_hash.specs.declared.error.StoreError.{StoreError};
 ghost use Rattle.xet_hash.specs.declared.error.StoreError.TheVariants.{OutOfMemory};
 ghost use Rattle.xet_xorb_chunk.specs.Scheme.{compressed};
-ghost use Rattle.xet_xorb_chunk.specs.Spelling.{spelling};
+ghost use Rattle.xet_xorb_chunk.specs.ChunkEncoding.{encoded_chunk};
 ghost use Rattle.xet_xorb.specs.Building.{built_of, ending};
 ghost use Rattle.xet_xorb.specs.Raw.{IsRaw, raw_members};
-ghost use Rattle.xet_xorb.specs.Xorb.{IsXorbText};
+ghost use Rattle.xet_xorb.specs.Xorb.{IsXorbEncoding};
 
 use crate::footers::new_footer;
 use crate::object::XorbObject;
@@ -22,28 +22,27 @@ use xet_io::MemorySink;
 use xet_shard_format::MDBXorbInfo;
 use xet_xorb_chunk::{CompressionScheme, XORB_CHUNK_HEADER_LENGTH, serialize_chunk};
 
-/// A xorb as it is stored.
+/// An encoded xorb, with or without a footer.
 #[derive(Debug, Drop)]
 pub struct SerializedXorbObject {
-    /// Its bytes.
+    /// The encoding.
     pub serialized_data: Items<u8>,
-    /// Its hash.
+    /// Xorb hash.
     pub hash: MerkleHash,
-    /// The plain bytes of its chunks together.
+    /// Number of uncompressed bytes of all chunks.
     pub raw_num_bytes: u64,
-    /// The number of its chunks.
+    /// Number of chunks.
     pub num_chunks: usize,
-    /// Where its footer begins; none, where it has none.
+    /// Offset of the footer in the encoding, or none if there is no footer.
     pub footer_start: Option<u64>,
 }
 
 impl SerializedXorbObject {
-    /// A raw xorb as it is stored: each part behind its header, uncompressed, and then, if it is wanted, a footer of
-    /// version 1 and its length. With a footer it is a xorb of its parts, where there is one and the hashes are
-    /// theirs.
+    /// Encodes a raw xorb: its chunks, uncompressed, and if `footer` is set a footer of version 1 and its
+    /// length. With a footer the result is a well-formed xorb, if there is a chunk and the recorded hashes
+    /// are those of the chunks.
     ///
-    /// The memory for the bytes is taken once. Where there is none, the call fails with `StoreError::OutOfMemory`,
-    /// and for no other reason.
+    /// The memory for the encoding is allocated once. The only error is `OutOfMemory`.
     pub fn from_xorb(
         alloc: Global,
         xorb: RawXorbData,
@@ -52,7 +51,7 @@ impl SerializedXorbObject {
         requires { IsRaw xorb }
         ensures built { IfOk result (λ made. made ≡ built_of xorb footer) }
         ensures grammar { footer ≡ true → 0 < length xorb.parts → raw_members xorb ≡ members_of xorb.parts → xorb.xorb_info.metadata.xorb_hash ≡ xorb_hash (members_of xorb.parts)
-            → IfOk result (λ made. IsXorbText made.serialized_data xorb.parts) }
+            → IfOk result (λ made. IsXorbEncoding made.serialized_data xorb.parts) }
         ensures memory { IsOkUnless result StoreError.OutOfMemory }
     {
         let parts = xorb.parts.as_slice();
@@ -71,8 +70,8 @@ impl SerializedXorbObject {
         })
     }
 
-    /// A raw xorb as it is stored under a scheme, as `from_xorb` gives it for `None` and for `Auto`. The other schemes
-    /// are refused as `CompressionError` of their number.
+    /// Encodes a raw xorb under a scheme: as `from_xorb` does for `None` and `Auto`. The other schemes fail
+    /// with `CompressionError` of their number.
     pub fn from_xorb_with_compression(
         alloc: Global,
         xorb: RawXorbData,
@@ -82,7 +81,7 @@ impl SerializedXorbObject {
         requires { IsRaw xorb }
         ensures built { IfOk result (λ made. made ≡ built_of xorb footer) }
         ensures grammar { footer ≡ true → 0 < length xorb.parts → raw_members xorb ≡ members_of xorb.parts → xorb.xorb_info.metadata.xorb_hash ≡ xorb_hash (members_of xorb.parts)
-            → IfOk result (λ made. IsXorbText made.serialized_data xorb.parts) }
+            → IfOk result (λ made. IsXorbEncoding made.serialized_data xorb.parts) }
         ensures scheme { (e : StoreError) → compressed scheme [] ≡ Err e → result ≡ Err e }
         ensures refusals { IfErr result (λ e. (compressed scheme [] ≡ Err e) ⊎ (e ≡ OutOfMemory)) }
     {
@@ -91,7 +90,7 @@ impl SerializedXorbObject {
     }
 }
 
-/// How many bytes stand behind so many stored chunks.
+/// Number of bytes after `count` stored chunks: those of the footer and of its length.
 fn ending_length(count: usize, footer: bool) -> usize
     requires { count ≤ 65536 }
     ensures { result ≤ 96 + 40 * count }
@@ -99,10 +98,10 @@ fn ending_length(count: usize, footer: bool) -> usize
     if footer { 96 + 40 * count } else { 0 }
 }
 
-/// Writes each part behind its header. Refused as `OutOfMemory`.
+/// Writes each part as a stored chunk. The only error is `OutOfMemory`.
 fn write_parts(parts: &[Bytes], sink: &mut MemorySink) -> Result<(), StoreError>
     requires { AllByRecursion (λ p. length p < 2 ^ 24) parts.now }
-    ensures written { OnOk result (sink.new ≡ sink.old ++ flat_map spelling parts.now) }
+    ensures written { OnOk result (sink.new ≡ sink.old ++ flat_map encoded_chunk parts.now) }
     ensures memory { IsOkUnless result StoreError.OutOfMemory }
 {
     for part in parts {
@@ -111,7 +110,8 @@ fn write_parts(parts: &[Bytes], sink: &mut MemorySink) -> Result<(), StoreError>
     Ok(())
 }
 
-/// Writes the footer of the listed members and its length, if a footer is wanted. Refused as `OutOfMemory`.
+/// Writes the footer of the recorded chunks and its length, if `footer` is set. The only error is
+/// `OutOfMemory`.
 fn write_ending(
     alloc: Global,
     xorb: &RawXorbData,
@@ -131,7 +131,7 @@ fn write_ending(
     Ok(())
 }
 
-/// The hash and the length of each chunk that is listed. Refused as `OutOfMemory`.
+/// The (hash, length) pair of each recorded chunk. The only error is `OutOfMemory`.
 fn listed_members(
     alloc: Global,
     xorb_info: &MDBXorbInfo,

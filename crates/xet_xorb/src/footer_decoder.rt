@@ -1,4 +1,4 @@
-//! Footers that come in pieces, as objects.
+//! Incremental decoder of a footer that returns a `XorbObject`.
 
 ghost use Rattle.std.specs.Prelude.{◌≡◌, ◌↔◌, ◌++◌, [], List, ℕ, Ok, Err, true, IfErr, IfOk, IsOk, IsTrue, OnOk};
 ghost use Rattle.xet_hash.specs.declared.error.StoreError.TheVariants.{UnexpectedEof};
@@ -11,7 +11,7 @@ use std::alloc::Global;
 use std::marker::Model;
 use xet_hash::StoreError;
 
-/// A decoder of a footer and its length, which come in pieces.
+/// Incremental decoder of a footer and its length, which arrive in parts of any lengths.
 #[derive(Drop)]
 pub struct FooterDecoder {
     decoder: xet_xorb_footer::FooterDecoder,
@@ -26,7 +26,7 @@ impl Model for FooterDecoder {
 }
 
 impl FooterDecoder {
-    /// A decoder to which nothing was fed. It takes no memory.
+    /// A decoder to which nothing was fed. Does not allocate.
     pub fn new(alloc: Global) -> FooterDecoder
         ensures whole { whole_of result ≡ true }
         ensures holds { Holds result [] }
@@ -36,16 +36,18 @@ impl FooterDecoder {
         }
     }
 
-    /// Whether nothing was refused so far.
+    /// Whether no call has failed. A decoder that has failed must not be used further.
     pub fn is_whole(&self) -> bool
         ensures { result ≡ whole_of self.now }
     {
         self.decoder.is_whole()
     }
 
-    /// Takes the next piece. Refused as the first check that fails says, as soon as it is decided: as
-    /// `InfoLength` with the fourth byte of a wrong length, as `TrailingBytes` with the first byte behind
-    /// it; or as `OutOfMemory`. Nothing may be fed after a refusal.
+    /// Decodes the next part. After an error nothing may be fed.
+    ///
+    /// Fails with the error of the first check that fails, as soon as it is decided: `InfoLength` with the
+    /// fourth byte of a wrong length, `TrailingBytes` with the first byte after the length. The other error
+    /// is `OutOfMemory`.
     pub fn feed(&mut self, piece: &[u8]) -> Result<(), StoreError>
         requires { whole_of self.old ≡ true }
         ensures fed { OnOk result ((bytes : List ℕ) → Holds self.old bytes → Holds self.new (bytes ++ piece.now)) }
@@ -56,8 +58,8 @@ impl FooterDecoder {
         self.decoder.feed(piece)
     }
 
-    /// Ends the pieces: gives the footer's object. Refused as `UnexpectedEof` where they end before the length
-    /// does.
+    /// Ends the input, and returns the footer with its length. Fails with `UnexpectedEof` if the input ended
+    /// before the end of the length.
     pub fn finish(self) -> Result<XorbObject, StoreError>
         requires { whole_of self ≡ true }
         ensures read { IfOk result (λ o. (bytes : List ℕ) → Holds self bytes → whole_footer bytes ≡ Ok (o.info, o.info_length)) }

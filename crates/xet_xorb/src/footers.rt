@@ -1,18 +1,19 @@
-//! Footers that are made of members.
+//! Footers of (hash, length) pairs.
 
 ghost use Rattle.std.specs.Prelude.{◌≡◌, ◌≤◌, ◌<◌, ◌+◌, ◌*◌, ◌^◌, IfOk, IsOkUnless, length, map};
 ghost use Rattle.xet_hash.specs.Merkle.{total_len};
-ghost use Rattle.xet_xorb_footer.specs.Spelled.{HasLists, HasShortLists, most_chunks};
+ghost use Rattle.xet_xorb_footer.specs.FooterEncoding.{HasLists, HasShortLists, max_chunks};
 ghost use Rattle.xet_xorb.specs.Footer.{ends_from, footer_v0, footer_v1};
 
 use std::alloc::Global;
 use xet_hash::{MerkleHash, StoreError};
 use xet_xorb_footer::{XorbObjectInfoV0, XorbObjectInfoV1};
 
-/// The bytes of a chunk's header.
+/// Length of a chunk header, in bytes.
 const HEADER_LENGTH: u64 = 8;
 
-/// Where each member ends among the stored bytes, its header counted in. Refused as `OutOfMemory`.
+/// Boundary offsets: the end of each chunk among the stored chunks, headers included. The only error is
+/// `OutOfMemory`.
 pub(crate) fn stored_ends(
     alloc: Global,
     members: &[(MerkleHash, u64)],
@@ -24,7 +25,8 @@ pub(crate) fn stored_ends(
     ends_with(alloc, members, HEADER_LENGTH)
 }
 
-/// Where each member ends among the plain bytes. Refused as `OutOfMemory`.
+/// Uncompressed boundary offsets: the end of each chunk among the uncompressed bytes. The only error is
+/// `OutOfMemory`.
 pub(crate) fn plain_ends(
     alloc: Global,
     members: &[(MerkleHash, u64)],
@@ -36,7 +38,7 @@ pub(crate) fn plain_ends(
     ends_with(alloc, members, 0)
 }
 
-/// Where each member ends, if so many bytes stand before each one's own. Refused as `OutOfMemory`.
+/// The end of each chunk, if `before` bytes precede the bytes of each. The only error is `OutOfMemory`.
 fn ends_with(
     alloc: Global,
     members: &[(MerkleHash, u64)],
@@ -55,7 +57,7 @@ fn ends_with(
     Ok(ends)
 }
 
-/// The hash of each member. Refused as `OutOfMemory`.
+/// The hash of each pair. The only error is `OutOfMemory`.
 pub(crate) fn hashes_of(
     alloc: Global,
     members: &[(MerkleHash, u64)],
@@ -70,15 +72,15 @@ pub(crate) fn hashes_of(
     Ok(hashes)
 }
 
-/// The footer of version 1 of a xorb of this hash with these members, and with these spare bytes. Refused as
-/// `OutOfMemory`.
+/// The footer of version 1 of a xorb with this hash, the (hash, length) pairs of its chunks, and these spare
+/// bytes. The only error is `OutOfMemory`.
 pub fn new_footer(
     alloc: Global,
     hash: &MerkleHash,
     members: &[(MerkleHash, u64)],
     spare: [u8; 16],
 ) -> Result<XorbObjectInfoV1, StoreError>
-    requires few { length members.now ≤ most_chunks }
+    requires few { length members.now ≤ max_chunks }
     requires bound { total_len members.now + 8 * length members.now < 2 ^ 32 }
     ensures footer { IfOk result (λ footer. footer ≡ footer_v1 hash.now members.now spare) }
     ensures lists { IfOk result HasLists }
@@ -91,19 +93,19 @@ pub fn new_footer(
     Ok(XorbObjectInfoV1::from_lists(*hash, hashes, stored, plain, spare))
 }
 
-/// The footer of version 0 of a xorb of this hash with these members, and with these spare bytes. Refused as
-/// `OutOfMemory`.
+/// The footer of version 0 of a xorb with this hash, the (hash, length) pairs of its chunks, and these spare
+/// bytes. The only error is `OutOfMemory`.
 pub(crate) fn new_footer_v0(
     alloc: Global,
     hash: &MerkleHash,
     members: &[(MerkleHash, u64)],
     spare: [u8; 16],
 ) -> Result<XorbObjectInfoV0, StoreError>
-    requires few { length members.now ≤ most_chunks }
+    requires few { length members.now ≤ max_chunks }
     requires bound { total_len members.now + 8 * length members.now < 2 ^ 32 }
     ensures footer { IfOk result (λ footer. footer ≡ footer_v0 hash.now members.now spare) }
-    ensures hashes { IfOk result (λ footer. length footer.chunk_hashes ≤ most_chunks) }
-    ensures stored { IfOk result (λ footer. length footer.chunk_boundary_offsets ≤ most_chunks) }
+    ensures hashes { IfOk result (λ footer. length footer.chunk_hashes ≤ max_chunks) }
+    ensures stored { IfOk result (λ footer. length footer.chunk_boundary_offsets ≤ max_chunks) }
     ensures memory { IsOkUnless result StoreError.OutOfMemory }
 {
     let hashes = hashes_of(alloc, members)?;

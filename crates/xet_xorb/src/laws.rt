@@ -1,10 +1,10 @@
-//! Laws over the definitions. Each is the contract of a call without parameters, which does nothing.
+//! Theorems about the definitions. Each is the contract of a function without parameters and without effect.
 
-ghost use Rattle.xet_xorb.specs.Laws.{ContentsAreChunks, LastFooterIsRead, LengthsAddUp, RangesAreChunks, TextDeterminesChunks};
+ghost use Rattle.xet_xorb.specs.Laws.{ContentsAreChunks, LastFooterIsRead, LengthsAddUp, RangesAreChunks, BytesDetermineChunks};
 
 /// The bytes of a xorb determine its chunks.
-pub fn text_determines_chunks()
-    ensures { TextDeterminesChunks }
+pub fn bytes_determine_chunks()
+    ensures { BytesDetermineChunks }
 {}
 
 /// The footer that is read at the end of a xorb is that of its chunks.
@@ -12,18 +12,19 @@ pub fn last_footer_is_read()
     ensures { LastFooterIsRead }
 {}
 
-/// What is read of a range of a validated xorb, whose hash is not zero, is what its chunks are. Where the hash is
-/// zero the footer is refused as not complete.
+/// A range that is read of a validated xorb has the bytes of its chunks, if the xorb hash is not zero. With a
+/// zero hash the footer is incomplete, and the read fails.
 pub fn ranges_are_chunks()
     ensures { RangesAreChunks }
 {}
 
-/// What is read of all of a validated xorb, whose hash is not zero, is what its chunks are.
+/// The contents that are read of a validated xorb are the bytes of its chunks, if the xorb hash is not zero.
 pub fn contents_are_chunks()
     ensures { ContentsAreChunks }
 {}
 
-/// Lengths of ranges add up on a validated xorb with a footer of version 1, whose hash is not zero.
+/// On a validated xorb with a footer of version 1, the lengths of adjacent ranges add up, if the xorb hash is
+/// not zero.
 pub fn lengths_add_up()
     ensures { LengthsAddUp }
 {}

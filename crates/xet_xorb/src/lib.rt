@@ -1,5 +1,5 @@
-//! Xorbs, the objects in which chunks are stored: their footers as objects, ranges that are read of them, their
-//! validation, and how they are built. With all of chunks and of footers.
+//! Xorbs, the content-addressed objects in which chunks are stored: construction, validation, reads of ranges
+//! of chunks, and footers. Re-exports the calls of `xet_xorb_chunk` and the types of `xet_xorb_footer`.
 #![tactic(auto)]
 
 mod building;

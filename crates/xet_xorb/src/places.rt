@@ -1,4 +1,4 @@
-//! What the lists of a xorb's footer tell of its chunks.
+//! Offsets, lengths and hashes of ranges of chunks, from the lists of a footer.
 
 ghost use Rattle.std.specs.Prelude.{◌≡◌, ◌+◌, ◌≤◌, Ok, Err, IsTrue, length, ◌↔◌, true};
 ghost use Rattle.xet_xorb.specs.Object.{byte_offset, chunk_length, chunk_range_hash, complete, contents_length, end_of, between, is_complete, range_length, some_chunks};
@@ -8,9 +8,10 @@ use xet_hash::{DataHash, MerkleHash, Reason, StoreError, range_hash_from_chunks}
 use xet_xorb_footer::XorbObjectInfoV1;
 
 impl XorbObject {
-    /// The hash of the listed hashes of the chunks from `start` to before `end`. It takes no memory. A footer that
-    /// does not list all its chunks is refused as `MalformedData(Incomplete)`, and a range that is empty or
-    /// passes the last chunk as `InvalidArguments`.
+    /// The range hash of the chunks `start..end`, from the listed chunk hashes. Does not allocate.
+    ///
+    /// Fails with `MalformedData(Incomplete)` if the footer does not list all its chunks, and with
+    /// `InvalidArguments` if the range is empty or passes the last chunk.
     pub fn generate_chunk_range_hash(&self, start: u32, end: u32) -> Result<DataHash, StoreError>
         ensures { result ≡ chunk_range_hash self.now.info start end }
     {
@@ -19,9 +20,9 @@ impl XorbObject {
         Ok(range_hash_from_chunks(&hashes[start as usize..end as usize]))
     }
 
-    /// Where the chunks from `start` to before `end` begin and end among the stored bytes, headers included, as
-    /// the footer lists it; whether these places rise is not asked. It takes no memory. Refused as
-    /// `generate_chunk_range_hash` is.
+    /// The offsets among the stored bytes, headers included, at which the chunks `start..end` start and end.
+    /// They are those that the footer lists; their order is not checked. Does not allocate. Errors are those
+    /// of `generate_chunk_range_hash`.
     pub fn get_byte_offset(&self, start: u32, end: u32) -> Result<(u32, u32), StoreError>
         ensures { result ≡ byte_offset self.now.info start end }
     {
@@ -30,8 +31,8 @@ impl XorbObject {
         Ok((end_of(ends, start as usize), end_of(ends, end as usize)))
     }
 
-    /// Where the last chunk ends among the stored bytes. It takes no memory. A footer that does not list all its
-    /// chunks is refused as `MalformedData(Incomplete)`.
+    /// The offset among the stored bytes at which the last chunk ends. Does not allocate. Fails with
+    /// `MalformedData(Incomplete)` if the footer does not list all its chunks.
     pub fn get_contents_length(&self) -> Result<u32, StoreError>
         ensures { result ≡ contents_length self.now.info }
     {
@@ -40,9 +41,10 @@ impl XorbObject {
         Ok(end_of(ends, self.info.num_chunks as usize))
     }
 
-    /// The plain bytes of a chunk. It takes no memory. Refused as `MalformedData(Incomplete)`, as
-    /// `InvalidArguments` where no plain end is listed of it, or as `MalformedData(Offsets)` where the chunk
-    /// before it is said to end behind it.
+    /// The uncompressed length of a chunk, in bytes. Does not allocate.
+    ///
+    /// Fails with `MalformedData(Incomplete)`, with `InvalidArguments` if no uncompressed boundary offset is
+    /// listed for the chunk, and with `MalformedData(Offsets)` if the offset before it is larger.
     pub fn uncompressed_chunk_length(&self, chunk_index: u32) -> Result<u32, StoreError>
         ensures { result ≡ chunk_length self.now.info chunk_index }
     {
@@ -55,10 +57,12 @@ impl XorbObject {
         length_between(end_of(ends, before), end_of(ends, before + 1))
     }
 
-    /// The plain bytes of the chunks from `start` to before `end`; 0 where these are the same. It takes no memory.
-    /// Refused as `MalformedData(Incomplete)`, as `InvalidArguments` where `end` is before `start` or passes the
-    /// last chunk, `start` is no chunk, or the plain ends are not listed so far, or as `MalformedData(Offsets)`
-    /// where the range is said to end before it begins.
+    /// The uncompressed length of the chunks `start..end`, in bytes; 0 if `start` is `end`. Does not
+    /// allocate.
+    ///
+    /// Fails with `MalformedData(Incomplete)`; with `InvalidArguments` if `end` is before `start` or passes
+    /// the last chunk, `start` is not the index of a chunk, or too few uncompressed boundary offsets are
+    /// listed; and with `MalformedData(Offsets)` if the offset at `end` is below the one at `start`.
     pub fn uncompressed_range_length(&self, start: u32, end: u32) -> Result<u32, StoreError>
         ensures { result ≡ range_length self.now.info start end }
     {
@@ -78,7 +82,7 @@ impl XorbObject {
     }
 }
 
-/// Whether a footer lists all its chunks, of which there is one, and has a hash.
+/// Whether a footer lists all its chunks, at least one, and its hash is not zero.
 fn is_complete(info: &XorbObjectInfoV1) -> bool
     ensures { result ≡ is_complete info.now }
 {
@@ -90,7 +94,7 @@ fn is_complete(info: &XorbObjectInfoV1) -> bool
         && info.xorb_hash != MerkleHash::default()
 }
 
-/// Refuses a footer that does not list all its chunks, as `MalformedData(Incomplete)`.
+/// Fails with `MalformedData(Incomplete)` if the footer does not list all its chunks.
 pub(crate) fn check_complete(info: &XorbObjectInfoV1) -> Result<(), StoreError>
     ensures { result ≡ complete info.now }
 {
@@ -101,8 +105,8 @@ pub(crate) fn check_complete(info: &XorbObjectInfoV1) -> Result<(), StoreError>
     }
 }
 
-/// Refuses a footer that does not list all its chunks, as `MalformedData(Incomplete)`, and a range that is empty or
-/// passes the last one, as `InvalidArguments`.
+/// Fails with `MalformedData(Incomplete)` if the footer does not list all its chunks, and with
+/// `InvalidArguments` if the range is empty or passes the last one.
 fn check_range(info: &XorbObjectInfoV1, start: u32, end: u32) -> Result<(), StoreError>
     ensures { result ≡ some_chunks info.now start end }
 {
@@ -114,7 +118,7 @@ fn check_range(info: &XorbObjectInfoV1, start: u32, end: u32) -> Result<(), Stor
     }
 }
 
-/// Where so many chunks end.
+/// The offset at which the first `count` chunks end.
 fn end_of(ends: &[u32], count: usize) -> u32
     requires { count ≤ length ends.now }
     ensures { result ≡ end_of ends.now count }
@@ -122,7 +126,7 @@ fn end_of(ends: &[u32], count: usize) -> u32
     if count == 0 { 0 } else { ends[count - 1] }
 }
 
-/// The bytes from one end to another. Refused as `MalformedData(Offsets)` where that is before it.
+/// The number of bytes between two offsets. Fails with `MalformedData(Offsets)` if `to` is below `from`.
 fn length_between(from: u32, to: u32) -> Result<u32, StoreError>
     ensures { result ≡ between from to }
 {

@@ -1,4 +1,4 @@
-//! Chunks that are read of a xorb where its footer says that they are stored.
+//! Reads of chunks at the offsets that a footer lists.
 
 ghost use Rattle.std.specs.Prelude.{◌≡◌, ◌<◌, ◌≤◌, ◌^◌, ◌++◌, ◌⊎◌, [], ℕ, List, Ok, Err, true, IfErr, IfOk, IsErrOf, IsOkUnless, OnOk, length, nat_le, slice_range, vec_len};
 ghost use Rattle.std.specs.List.{concat};
@@ -6,13 +6,13 @@ ghost use Rattle.xet_hash.specs.declared.error.Place.TheVariants.{Input, Output}
 ghost use Rattle.xet_hash.specs.declared.error.Reason.TheVariants.{Offsets};
 ghost use Rattle.xet_hash.specs.declared.error.StoreError.{StoreError};
 ghost use Rattle.xet_hash.specs.declared.error.StoreError.TheVariants.{Io, UnexpectedEof};
-ghost use Rattle.xet_io.specs.Faults.{HasCause};
 ghost use Rattle.xet_xorb_chunk.specs.Decoder.{Holds, fed_len, most_of, whole_of};
 ghost use Rattle.xet_xorb_chunk.specs.Checks.{IsCheck};
 ghost use Rattle.xet_codec.specs.Stops.{StopsReading, StopsWriting};
 ghost use Rattle.xet_xorb_chunk.specs.Stream.{Decodes};
 ghost use Rattle.xet_codec.specs.Parsing.{wants};
 ghost use Rattle.xet_xorb.specs.Ranges.{ReadsPlain, in_file, listed_contents, listed_range};
+ghost use Rattle.xet_io.specs.Frame.{Called, ReadFrom};
 
 use crate::object::XorbObject;
 use std::alloc::Global;
@@ -21,14 +21,16 @@ use xet_hash::{Reason, StoreError};
 use xet_io::{MemorySink, ReadAt, Sink};
 use xet_xorb_chunk::ChunkDecoder;
 
-/// The most bytes that are read at once.
+/// Maximum number of bytes read at once.
 const BLOCK: usize = 1 << 17;
 
 impl XorbObject {
-    /// The plain bytes of all chunks of a xorb of this footer, of at most `max_chunk` bytes each, which is below
-    /// 2^23. Refused as `MalformedData(Incomplete)` where the footer does not list all its chunks, as
-    /// `UnexpectedEof` where the last is said to end behind the xorb's bytes, before any chunk is read, by the
-    /// first check of the chunks that fails, as `Io(Input)`, or as `OutOfMemory`.
+    /// Reads the uncompressed bytes of all chunks of the xorb with this footer. A chunk may have at most
+    /// `max_chunk` bytes, which is below 2^23.
+    ///
+    /// Errors: `MalformedData(Incomplete)` if the footer does not list all its chunks; `UnexpectedEof`,
+    /// before any chunk is read, if the last listed offset is after the last byte; the first check of the
+    /// chunks that fails; `Io(Input)` and `OutOfMemory`.
     pub fn get_all_bytes<R: ReadAt>(
         &self,
         alloc: Global,
@@ -40,17 +42,17 @@ impl XorbObject {
         ensures listed { (e : StoreError) → listed_contents self.now.info ≡ Err e → IsErrOf result e }
         ensures refused { R.tells reader.old ≡ true → IfErr result (λ e. ReadsPlain max_chunk (R.bytes reader.old) (in_file (length (R.bytes reader.old)) (listed_contents self.now.info)) (Err e) ⊎ StopsReading e) }
         ensures kinds { IfErr result (λ e. (listed_contents self.now.info ≡ Err e) ⊎ ((e ≡ UnexpectedEof) ⊎ (IsCheck e ⊎ StopsReading e))) }
-        ensures cause { HasCause (R.faults reader.old) (R.faults reader.new) (IsErrOf result (Io Input)) }
-        ensures same { R.bytes reader.new ≡ R.bytes reader.old }
-        ensures tells { R.tells reader.new ≡ R.tells reader.old }
+        ensures frame { ReadFrom R.bytes R.tells R.faults R.lent reader.old reader.new (IsErrOf result (Io Input)) }
     {
         let end = self.get_contents_length()?;
         read_plain(alloc, reader, 0, end, max_chunk)
     }
 
-    /// The plain bytes of the chunks from `start` to before `end`, as `get_all_bytes` reads them. Also refused as
-    /// `InvalidArguments` where the range is empty or passes the last chunk, and as `MalformedData(Offsets)` where
-    /// it is said to end before it begins. No other places are looked at.
+    /// Reads the uncompressed bytes of the chunks `start..end`, as `get_all_bytes` does. Only the two offsets
+    /// of the range are used.
+    ///
+    /// Further errors: `InvalidArguments` if the range is empty or passes the last chunk, and
+    /// `MalformedData(Offsets)` if its end is listed before its start.
     pub fn get_bytes_by_chunk_range<R: ReadAt>(
         &self,
         alloc: Global,
@@ -64,9 +66,7 @@ impl XorbObject {
         ensures listed { (e : StoreError) → listed_range self.now.info start end ≡ Err e → IsErrOf result e }
         ensures refused { R.tells reader.old ≡ true → IfErr result (λ e. ReadsPlain max_chunk (R.bytes reader.old) (in_file (length (R.bytes reader.old)) (listed_range self.now.info start end)) (Err e) ⊎ StopsReading e) }
         ensures kinds { IfErr result (λ e. (listed_range self.now.info start end ≡ Err e) ⊎ ((e ≡ UnexpectedEof) ⊎ (IsCheck e ⊎ StopsReading e))) }
-        ensures cause { HasCause (R.faults reader.old) (R.faults reader.new) (IsErrOf result (Io Input)) }
-        ensures same { R.bytes reader.new ≡ R.bytes reader.old }
-        ensures tells { R.tells reader.new ≡ R.tells reader.old }
+        ensures frame { ReadFrom R.bytes R.tells R.faults R.lent reader.old reader.new (IsErrOf result (Io Input)) }
     {
         let (from, to) = self.get_byte_offset(start, end)?;
         check_order(from, to)?;
@@ -74,7 +74,7 @@ impl XorbObject {
     }
 }
 
-/// Refuses places of which the later is before the earlier, as `MalformedData(Offsets)`.
+/// Fails with `MalformedData(Offsets)` if `to` is below `from`.
 fn check_order(from: u32, to: u32) -> Result<(), StoreError>
     ensures { result ≡ wants (nat_le from to) Offsets }
 {
@@ -85,8 +85,8 @@ fn check_order(from: u32, to: u32) -> Result<(), StoreError>
     }
 }
 
-/// The plain bytes of the chunks that are stored between two places. Refused as `UnexpectedEof` where the reader
-/// ends before the later one, by the first check of the chunks that fails, as `Io(Input)`, or as `OutOfMemory`.
+/// Reads the uncompressed bytes of the chunks that are stored between two offsets. Errors: `UnexpectedEof` if
+/// the reader ends before `to`, the first check of the chunks that fails, `Io(Input)` and `OutOfMemory`.
 fn read_plain<R: ReadAt>(
     alloc: Global,
     reader: &mut R,
@@ -99,9 +99,7 @@ fn read_plain<R: ReadAt>(
     ensures bytes { R.tells reader.old ≡ true → IfOk result (λ plain. ReadsPlain max_chunk (R.bytes reader.old) (in_file (length (R.bytes reader.old)) (Ok (from, to))) (Ok plain.items)) }
     ensures refused { R.tells reader.old ≡ true → IfErr result (λ e. ReadsPlain max_chunk (R.bytes reader.old) (in_file (length (R.bytes reader.old)) (Ok (from, to))) (Err e) ⊎ StopsReading e) }
     ensures kinds { IfErr result (λ e. IsCheck e ⊎ StopsReading e) }
-    ensures cause { HasCause (R.faults reader.old) (R.faults reader.new) (IsErrOf result (Io Input)) }
-    ensures same { R.bytes reader.new ≡ R.bytes reader.old }
-    ensures tells { R.tells reader.new ≡ R.tells reader.old }
+    ensures frame { ReadFrom R.bytes R.tells R.faults R.lent reader.old reader.new (IsErrOf result (Io Input)) }
 {
     if reader_length(reader)? < to as u64 {
         return Err(StoreError::UnexpectedEof);
@@ -122,7 +120,7 @@ fn read_plain<R: ReadAt>(
     Ok(sink.into_bytes())
 }
 
-/// Room for what is read at once of so many bytes. Refused as `OutOfMemory`.
+/// A block for reads of `count` bytes in all. The only error is `OutOfMemory`.
 fn new_block(alloc: Global, count: usize) -> Result<Vec<u8>, StoreError>
     ensures some { IfOk result (λ block. 0 < count → 0 < vec_len block) }
     ensures memory { IsOkUnless result StoreError.OutOfMemory }
@@ -132,8 +130,8 @@ fn new_block(alloc: Global, count: usize) -> Result<Vec<u8>, StoreError>
     Ok(block)
 }
 
-/// Feeds a new decoder a reader's bytes between two places, block by block. Refused by the first check of the chunks
-/// that fails, as `Io(Input)`, `Io(Output)` or `OutOfMemory`.
+/// Feeds a new decoder the reader's bytes between two offsets, block by block. Errors: the first check of the
+/// chunks that fails, `Io(Input)`, `Io(Output)` and `OutOfMemory`.
 fn feed_between<R: ReadAt, W: Sink>(
     decoder: &mut ChunkDecoder,
     reader: &mut R,
@@ -153,11 +151,8 @@ fn feed_between<R: ReadAt, W: Sink>(
     ensures most { most_of decoder.new ≡ most_of decoder.old }
     ensures refused { R.tells reader.old ≡ true → to ≤ length (R.bytes reader.old) → IfErr result (λ e. ((chunks : List (List ℕ)) × Decodes (most_of decoder.old) 0 (slice_range (R.bytes reader.old) from to) chunks (Err e)) ⊎ (StopsWriting e ⊎ (e ≡ Io Input))) }
     ensures kinds { IfErr result (λ e. IsCheck e ⊎ (StopsWriting e ⊎ (e ≡ Io Input))) }
-    ensures reader_cause { HasCause (R.faults reader.old) (R.faults reader.new) (IsErrOf result (Io Input)) }
-    ensures sink_cause { HasCause (W.faults w.old) (W.faults w.new) (IsErrOf result (Io Output)) }
-    ensures same { R.bytes reader.new ≡ R.bytes reader.old }
-    ensures reader_tells { R.tells reader.new ≡ R.tells reader.old }
-    ensures sink_tells { W.tells w.new ≡ W.tells w.old }
+    ensures reader { ReadFrom R.bytes R.tells R.faults R.lent reader.old reader.new (IsErrOf result (Io Input)) }
+    ensures sink { Called W.tells W.faults w.old w.new (IsErrOf result (Io Output)) }
 {
     let mut at = from;
     'reads: while at < to {

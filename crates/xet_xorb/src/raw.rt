@@ -1,4 +1,4 @@
-//! Xorbs that are to be stored.
+//! Xorbs before they are encoded.
 
 ghost use Rattle.std.specs.Prelude.{◌≡◌, ◌<◌, ◌^◌, [], IfOk, IsOkUnless, OnOk, length, map};
 ghost use Rattle.std.specs.List.{concat};
@@ -14,19 +14,19 @@ use xet_hash::{MerkleHash, StoreError, xorb_hash};
 use xet_shard_format::{MDBXorbInfo, XorbChunkSequenceEntry, XorbChunkSequenceHeader};
 use xet_xorb_chunk::{Chunk, chunk_members};
 
-/// A xorb that is to be stored.
+/// A xorb before it is encoded: the bytes of its chunks, and its record.
 #[derive(Debug, Drop)]
 pub struct RawXorbData {
-    /// The bytes of its chunks, which they share.
+    /// The bytes of each chunk, shared with the chunk.
     pub parts: Items<Bytes>,
-    /// Its record: its hash, and the hash, the start and the length of each chunk.
+    /// The record of the xorb: its hash, and the hash, start and length of each chunk.
     pub xorb_info: MDBXorbInfo,
-    /// The places of the chunks with which files begin.
+    /// Indices of the chunks with which files begin.
     pub file_boundaries: Items<usize>,
 }
 
 impl RawXorbData {
-    /// A xorb of no chunks, whose hash is zero. It takes no memory.
+    /// The xorb of no chunks, with a zero hash. Does not allocate.
     pub fn default(alloc: Global) -> RawXorbData
         ensures { result ≡ raw_of [] [] }
     {
@@ -37,9 +37,9 @@ impl RawXorbData {
         }
     }
 
-    /// The xorb of these chunks, by the hashes that they carry. There are at most 65,536, of fewer than 2^24 bytes
-    /// each and of at most 2^30 together. It shares their bytes. Where there is no memory, the call fails with
-    /// `StoreError::OutOfMemory`, and for no other reason.
+    /// The xorb of these chunks, with the hashes that they carry. Shares their bytes. There may be at most
+    /// 65,536 chunks, of fewer than 2^24 bytes each and of at most 2^30 together. The only error is
+    /// `OutOfMemory`.
     pub fn from_chunks(
         alloc: Global,
         chunks: &[Chunk],
@@ -60,7 +60,7 @@ impl RawXorbData {
         })
     }
 
-    /// The same xorb again, which shares the bytes.
+    /// A copy that shares the bytes of the chunks. Its only error is `OutOfMemory`.
     pub fn clone(&self, alloc: Global) -> Result<RawXorbData, StoreError>
         ensures same { IfOk result (λ copy. copy ≡ self.now) }
         ensures memory { IsOkUnless result StoreError.OutOfMemory }
@@ -73,14 +73,14 @@ impl RawXorbData {
         })
     }
 
-    /// Its hash. It takes no memory.
+    /// Xorb hash. Does not allocate.
     pub fn hash(&self) -> MerkleHash
         ensures { result ≡ self.now.xorb_info.metadata.xorb_hash }
     {
         self.xorb_info.metadata.xorb_hash
     }
 
-    /// The plain bytes of its chunks together. It takes no memory.
+    /// Number of uncompressed bytes of all chunks. Does not allocate.
     pub fn num_bytes(&self) -> usize
         requires { IsRaw self.now }
         ensures { result ≡ chunk_bytes self.now.xorb_info.chunks }
@@ -89,8 +89,7 @@ impl RawXorbData {
     }
 }
 
-/// The bytes of its chunks, joined. Where there is no memory, the call fails with `StoreError::OutOfMemory`, and for
-/// no other reason.
+/// The bytes of all chunks, concatenated. The only error is `OutOfMemory`.
 pub fn raw_xorb_to_vec(alloc: Global, xorb: &RawXorbData) -> Result<Vec<u8>, StoreError>
     requires { IsRaw xorb.now }
     ensures joined { IfOk result (λ bytes. bytes.items ≡ concat xorb.now.parts) }
@@ -103,7 +102,7 @@ pub fn raw_xorb_to_vec(alloc: Global, xorb: &RawXorbData) -> Result<Vec<u8>, Sto
     Ok(bytes)
 }
 
-/// The bytes of each chunk, which are shared.
+/// The bytes of each chunk, shared with it.
 fn parts_of(alloc: Global, chunks: &[Chunk]) -> Result<Vec<Bytes>, StoreError>
     ensures parts { IfOk result (λ parts. parts.items ≡ map bytes_of chunks.now) }
     ensures memory { IsOkUnless result StoreError.OutOfMemory }
@@ -115,7 +114,7 @@ fn parts_of(alloc: Global, chunks: &[Chunk]) -> Result<Vec<Bytes>, StoreError>
     Ok(parts)
 }
 
-/// The same bytes again, which are shared.
+/// A copy of the list that shares the bytes.
 fn shared(alloc: Global, parts: &[Bytes]) -> Result<Vec<Bytes>, StoreError>
     ensures same { IfOk result (λ copies. copies.items ≡ parts.now) }
     ensures memory { IsOkUnless result StoreError.OutOfMemory }
@@ -127,8 +126,8 @@ fn shared(alloc: Global, parts: &[Bytes]) -> Result<Vec<Bytes>, StoreError>
     Ok(copies)
 }
 
-/// The record of the xorb of this hash with these members, each a chunk's hash and length. Where there is no memory,
-/// the call fails with `StoreError::OutOfMemory`, and for no other reason.
+/// The record of the xorb with this hash and the (hash, length) pairs of its chunks. The only error is
+/// `OutOfMemory`.
 pub fn xorb_record(
     alloc: Global,
     hash: MerkleHash,

@@ -1,4 +1,4 @@
-//! Footers for stored chunks.
+//! Adds a footer to stored chunks.
 
 ghost use Rattle.std.specs.Prelude.{◌≡◌, ◌⊎◌, ◌<◌, ◌≤◌, ◌+◌, ◌*◌, ◌^◌, ◌++◌, ℕ, true, IfErr, IfOk, IfSome, IsErrOf, OnErr, OnOk, length, take};
 ghost use Rattle.std.specs.List.{AllByRecursion};
@@ -6,13 +6,13 @@ ghost use Rattle.xet_hash.specs.declared.error.Place.TheVariants.{Output};
 ghost use Rattle.xet_hash.specs.declared.error.Reason.TheVariants.{ChunkCount};
 ghost use Rattle.xet_hash.specs.declared.error.StoreError.TheVariants.{Io, MalformedData, OutOfMemory};
 ghost use Rattle.xet_hash.specs.Merkle.{total_len};
-ghost use Rattle.xet_io.specs.Faults.{HasCause};
-ghost use Rattle.xet_xorb_footer.specs.Spelled.{HasLists, HasShortLists, length_of, most_chunks, text_v1};
+ghost use Rattle.xet_xorb_footer.specs.FooterEncoding.{HasLists, HasShortLists, length_of, max_chunks, footer_bytes_v1};
 ghost use Rattle.xet_codec.specs.Numbers.{number};
 ghost use Rattle.xet_xorb_chunk.specs.Checks.{IsCheck};
 ghost use Rattle.xet_codec.specs.Stops.{StopsWriting};
 ghost use Rattle.xet_xorb.specs.Building.{IsNoRebuild, IsRebuildCheck, Rebuilds, RebuildsFront};
-ghost use Rattle.xet_xorb.specs.Copying.{IsCopied, IsNoCopy, ShowsNext};
+ghost use Rattle.xet_xorb.specs.internal.Copying.{IsCopied, IsNoCopy, ShowsNext};
+ghost use Rattle.xet_io.specs.Frame.{Called};
 
 use crate::footers::new_footer;
 use crate::object::XorbObject;
@@ -22,16 +22,16 @@ use xet_io::{Refusal, Sink, write_all};
 use xet_xorb_chunk::{XORB_CHUNK_HEADER_LENGTH, chunk_len};
 use xet_xorb_footer::XorbObjectInfoV1;
 
-/// The most chunks of a footer: one of so many has fewer than 2^32 bytes.
-const MOST_CHUNKS: usize = 107_374_180;
+/// Maximum number of chunks of a footer. A footer of version 1 then has fewer than 2^32 bytes.
+const MAX_CHUNKS: usize = 107_374_180;
 
-/// Writes the xorb of the stored chunks in `raw`, which has fewer than 2^32 bytes, up to its end or to a footer, at
-/// which nothing is looked: the chunks as they stand, each of at most `max_chunk` bytes, which is below 2^23, and the
-/// footer of version 1 that they have. Gives its object and the xorb's hash. It is a xorb, where there is a chunk and it
-/// has fewer than 2^32 bytes.
+/// Copies the stored chunks in `raw` to the sink, up to their end or to a footer, and writes the footer of
+/// version 1 that they have. `raw` must have fewer than 2^32 bytes, and each chunk at most `max_chunk`, which
+/// is below 2^23. A footer in `raw` is not read. Returns the new footer and the xorb hash. What was written
+/// is a well-formed xorb if there is a chunk and it has fewer than 2^32 bytes.
 ///
-/// Refused by the first check of the chunks that fails, as `MalformedData(ChunkCount)` at chunk 107,374,181, with
-/// nothing written; as `Io(Output)`, or as `OutOfMemory`, with a front of the xorb written.
+/// Errors: the first check of the chunks that fails, or `MalformedData(ChunkCount)` at chunk 107,374,181,
+/// both with nothing written; `Io(Output)` or `OutOfMemory`, with a prefix of the xorb written.
 pub fn reconstruct_xorb_with_footer<W: Sink>(
     alloc: Global,
     sink: &mut W,
@@ -44,8 +44,7 @@ pub fn reconstruct_xorb_with_footer<W: Sink>(
     ensures refused { IfErr result (IsNoRebuild max_chunk raw.now) }
     ensures nothing { W.tells sink.old ≡ true → IfErr result (λ e. IsRebuildCheck e → W.written sink.new ≡ W.written sink.old) }
     ensures front { W.tells sink.old ≡ true → OnErr result (RebuildsFront max_chunk raw.now (W.written sink.old) (W.written sink.new)) }
-    ensures cause { HasCause (W.faults sink.old) (W.faults sink.new) (IsErrOf result (Io Output)) }
-    ensures tells { W.tells sink.new ≡ W.tells sink.old }
+    ensures frame { Called W.tells W.faults sink.old sink.new (IsErrOf result (Io Output)) }
 {
     let (members, end) = read_members(alloc, raw, max_chunk)?;
     let hash = xorb_hash(alloc, &members)?;
@@ -54,7 +53,8 @@ pub fn reconstruct_xorb_with_footer<W: Sink>(
     Ok((object, hash))
 }
 
-/// The digest and the length of each stored chunk, and where they end: at the end of `raw`, or where a footer begins.
+/// Hashes the stored chunks. Returns their (hash, length) pairs, and the offset at which they end: the end of
+/// `raw`, or the start of a footer.
 fn read_members(
     alloc: Global,
     raw: &[u8],
@@ -63,7 +63,7 @@ fn read_members(
     requires most { max_chunk < 2 ^ 23 }
     requires bound { length raw.now < 2 ^ 32 }
     ensures copied { IfOk result (λ read. IsCopied max_chunk raw.now read.0.items read.1) }
-    ensures few { IfOk result (λ read. length read.0.items ≤ most_chunks) }
+    ensures few { IfOk result (λ read. length read.0.items ≤ max_chunks) }
     ensures each { IfOk result (λ read. AllByRecursion (λ m. m.1 < 2 ^ 24) read.0.items) }
     ensures small { IfOk result (λ read. total_len read.0.items + 8 * length read.0.items < 2 ^ 32) }
     ensures end { IfOk result (λ read. read.1 ≤ length raw.now) }
@@ -82,20 +82,20 @@ fn read_members(
     Ok((members, at))
 }
 
-/// Refuses one chunk more than so many, where a footer has room for no more, as `MalformedData(ChunkCount)`.
+/// Fails with `MalformedData(ChunkCount)` if a footer cannot list one chunk more than `count`.
 fn check_count(count: usize) -> Result<(), StoreError>
-    ensures few { OnOk result (count < most_chunks) }
-    ensures full { OnErr result (most_chunks ≤ count) }
+    ensures few { OnOk result (count < max_chunks) }
+    ensures full { OnErr result (max_chunks ≤ count) }
     ensures kind { IfErr result (λ e. e ≡ MalformedData ChunkCount) }
 {
-    if count >= MOST_CHUNKS {
+    if count >= MAX_CHUNKS {
         return Err(StoreError::MalformedData(Reason::ChunkCount));
     }
     Ok(())
 }
 
-/// How many bytes the next chunk has behind its header; none, where the bytes end or a footer begins. Refused by the
-/// first check that fails, or as `UnexpectedEof` inside a chunk.
+/// The body length of the next chunk, or none if the bytes end or a footer begins. Errors: the first check
+/// that fails, and `UnexpectedEof` inside a chunk.
 fn next_chunk(bytes: &[u8], max_chunk: u32) -> Result<Option<usize>, StoreError>
     requires { max_chunk < 2 ^ 23 }
     ensures next { ShowsNext max_chunk bytes.now result }
@@ -111,8 +111,8 @@ fn next_chunk(bytes: &[u8], max_chunk: u32) -> Result<Option<usize>, StoreError>
     }
 }
 
-/// Writes stored chunks, and then a footer and its length: gives its object. Refused as `Io(Output)`, or as
-/// `OutOfMemory`, with a front of the bytes written.
+/// Writes stored chunks, then a footer and its length. Returns the footer with its length. Errors:
+/// `Io(Output)` and `OutOfMemory`, with a prefix of the bytes written.
 fn write_with_footer<W: Sink>(
     sink: &mut W,
     stored: &[u8],
@@ -121,24 +121,22 @@ fn write_with_footer<W: Sink>(
     requires short { HasShortLists footer }
     requires lists { HasLists footer }
     ensures object { IfOk result (λ object. object ≡ record { info = footer; info_length = length_of footer }) }
-    ensures written { W.tells sink.old ≡ true → OnOk result (W.written sink.new ≡ W.written sink.old ++ (stored.now ++ (text_v1 footer ++ number (length_of footer)))) }
-    ensures front { W.tells sink.old ≡ true → (n : ℕ) × (W.written sink.new ≡ W.written sink.old ++ take n (stored.now ++ (text_v1 footer ++ number (length_of footer)))) }
+    ensures written { W.tells sink.old ≡ true → OnOk result (W.written sink.new ≡ W.written sink.old ++ (stored.now ++ (footer_bytes_v1 footer ++ number (length_of footer)))) }
+    ensures front { W.tells sink.old ≡ true → (n : ℕ) × (W.written sink.new ≡ W.written sink.old ++ take n (stored.now ++ (footer_bytes_v1 footer ++ number (length_of footer)))) }
     ensures refused { IfErr result StopsWriting }
-    ensures cause { HasCause (W.faults sink.old) (W.faults sink.new) (IsErrOf result (Io Output)) }
-    ensures tells { W.tells sink.new ≡ W.tells sink.old }
+    ensures frame { Called W.tells W.faults sink.old sink.new (IsErrOf result (Io Output)) }
 {
     write_stored(sink, stored)?;
     let (object, _) = XorbObject::serialize_given_info(sink, footer)?;
     Ok(object)
 }
 
-/// Writes stored chunks. After a refusal, as `Io(Output)` or as `OutOfMemory`, a front of them was written.
+/// Writes stored chunks. Errors: `Io(Output)` and `OutOfMemory`, with a prefix of the bytes written.
 fn write_stored<W: Sink>(sink: &mut W, stored: &[u8]) -> Result<(), StoreError>
     ensures written { W.tells sink.old ≡ true → OnOk result (W.written sink.new ≡ W.written sink.old ++ stored.now) }
     ensures front { W.tells sink.old ≡ true → (n : ℕ) × (W.written sink.new ≡ W.written sink.old ++ take n stored.now) }
     ensures refused { IfErr result StopsWriting }
-    ensures cause { HasCause (W.faults sink.old) (W.faults sink.new) (IsErrOf result (Io Output)) }
-    ensures tells { W.tells sink.new ≡ W.tells sink.old }
+    ensures frame { Called W.tells W.faults sink.old sink.new (IsErrOf result (Io Output)) }
 {
     match write_all(sink, stored) {
         Ok(()) => Ok(()),

@@ -1,18 +1,18 @@
-//! Bytes that are validated as a xorb.
+//! Validation of bytes as a xorb.
 
 ghost use Rattle.std.specs.Prelude.{◌≡◌, ◌≤◌, ◌<◌, ◌+◌, ◌*◌, ◌^◌, ◌↔◌, ℕ, List, Ok, Some, true, IfErr, IfOk, IfSome, IsErrOf, IsNone, IsOkUnless, IsTrue, drop, length, take};
 ghost use Rattle.std.specs.List.{AllByRecursion};
 ghost use Rattle.xet_hash.specs.declared.error.Place.TheVariants.{Input};
 ghost use Rattle.xet_hash.specs.declared.error.StoreError.TheVariants.{Io};
 ghost use Rattle.xet_hash.specs.Merkle.{chunk_hash, member_of, total_len, xorb_hash};
-ghost use Rattle.xet_io.specs.Faults.{HasCause};
-ghost use Rattle.xet_xorb_footer.specs.Ends.{last_footer, told_length};
+ghost use Rattle.xet_xorb_footer.specs.Ends.{last_footer, footer_length};
 ghost use Rattle.xet_codec.specs.Blocks.{Has, IsPart, Sees};
-ghost use Rattle.xet_xorb_footer.specs.Spelled.{HasShortLists, most_chunks, text_v0, text_v1};
+ghost use Rattle.xet_xorb_footer.specs.FooterEncoding.{HasShortLists, max_chunks, footer_bytes_v0, footer_bytes_v1};
 ghost use Rattle.xet_codec.specs.Stops.{StopsReading};
-ghost use Rattle.xet_xorb.specs.Checking.{AreChunks, HaveMembers, IsEnding, StandsAt, ending, header_of};
+ghost use Rattle.xet_xorb.specs.internal.Checking.{AreChunks, HaveMembers, IsEnding, StandsAt, ending, header_of};
 ghost use Rattle.xet_xorb.specs.Footer.{Version, footer_info, footer_len};
 ghost use Rattle.xet_xorb.specs.Validation.{IsValid, IsXorbOf};
+ghost use Rattle.xet_io.specs.Frame.{ReadFrom};
 
 use crate::footers::{new_footer, new_footer_v0};
 use crate::object::XorbObject;
@@ -20,18 +20,18 @@ use std::alloc::Global;
 use xet_codec::{Block, read_exact, reader_length};
 use xet_hash::{MerkleHash, StoreError, compute_data_hash, xorb_hash};
 use xet_io::{MemorySink, ReadAt};
-use xet_xorb_footer::{XorbObjectInfoV0, XorbObjectInfoV1, told_length};
+use xet_xorb_footer::{XorbObjectInfoV0, XorbObjectInfoV1, footer_length};
 
-/// The bytes of a chunk's header.
+/// Length of a chunk header, in bytes.
 const HEADER_SIZE: u64 = 8;
 
-/// The bytes of a footer's length.
+/// Size of the field that holds a footer's length, in bytes.
 const LENGTH_SIZE: u64 = 4;
 
-/// The spare bytes at a footer's end.
+/// Size of the spare bytes at the end of a footer.
 const SPARE_SIZE: u64 = 16;
 
-/// The bytes of a footer of no chunks, and those that each chunk adds, of version 0 and of version 1.
+/// Length of a footer, for each version: without chunks, and for each chunk.
 const EMPTY_V0: u64 = 60;
 
 const EACH_V0: u64 = 36;
@@ -40,14 +40,17 @@ const EMPTY_V1: u64 = 92;
 
 const EACH_V1: u64 = 40;
 
-/// The most bytes that are compared at a time.
+/// Maximum number of bytes that are compared at once.
 const PIECE: usize = 4096;
 
 impl XorbObject {
-    /// The object of a xorb of this hash, whose chunks have at most `max_chunk` bytes each, which is below 2^23; none,
-    /// where the bytes are anything else. Each chunk is digested: what the footer says is only compared with what
-    /// the chunks are. The bytes are read once, in blocks of 64 KiB, or of the longest chunk where that is longer; the
-    /// footer's length and its spare bytes are read twice. Refused as `Io(Input)`, or as `OutOfMemory`.
+    /// Validates a reader's bytes as a xorb with this hash, whose chunks have at most `max_chunk` bytes each,
+    /// which is below 2^23. Returns its footer with its length, or none if the bytes are anything else. The
+    /// only errors are `Io(Input)` and `OutOfMemory`.
+    ///
+    /// Each chunk is hashed, and the footer that the chunks have is compared with the bytes: nothing that the
+    /// footer says is believed. The bytes are read once, in blocks of 64 KiB, or of the longest chunk if that
+    /// is longer. Only the length of the footer and its spare bytes are read twice.
     pub fn validate_xorb_object<R: ReadAt>(
         alloc: Global,
         reader: &mut R,
@@ -59,9 +62,7 @@ impl XorbObject {
         ensures read { R.tells reader.old ≡ true → IfOk result (λ found. IfSome found (λ object. last_footer (R.bytes reader.old) ≡ Ok (object.info, object.info_length))) }
         ensures none { R.tells reader.old ≡ true → IfOk result (λ found. IsNone found → (chunks : List (List ℕ)) → IsXorbOf max_chunk hash.now (R.bytes reader.old) chunks → ⊥) }
         ensures refusals { IfErr result StopsReading }
-        ensures cause { HasCause (R.faults reader.old) (R.faults reader.new) (IsErrOf result (Io Input)) }
-        ensures same { R.bytes reader.new ≡ R.bytes reader.old }
-        ensures tells { R.tells reader.new ≡ R.tells reader.old }
+        ensures frame { ReadFrom R.bytes R.tells R.faults R.lent reader.old reader.new (IsErrOf result (Io Input)) }
     {
         let Some((start, told)) = footer_place(reader)? else {
             return Ok(None);
@@ -78,24 +79,22 @@ impl XorbObject {
     }
 }
 
-/// Where the footer begins, and how many bytes it has, as the last four bytes tell it; none, where it cannot have
-/// as many, or there are 2^32 bytes. Refused as `Io(Input)`.
+/// Offset and length of the footer, by the length in the last four bytes. None if the bytes are too few for
+/// it, if it is shorter than any footer, or if there are 2^32 bytes or more. The only error is `Io(Input)`.
 fn footer_place<R: ReadAt>(reader: &mut R) -> Result<Option<(u64, u32)>, StoreError>
     ensures bound { IfOk result (λ found. IfSome found (λ place. place.0 + place.1 + 4 < 2 ^ 32)) }
     ensures some { IfOk result (λ found. IfSome found (λ place. 60 ≤ place.1)) }
     ensures whole { R.tells reader.old ≡ true → IfOk result (λ found. IfSome found (λ place. place.0 + place.1 + 4 ≡ length (R.bytes reader.old))) }
-    ensures told { R.tells reader.old ≡ true → IfOk result (λ found. IfSome found (λ place. told_length (R.bytes reader.old) ≡ Ok place.1)) }
-    ensures none { R.tells reader.old ≡ true → IfOk result (λ found. IsNone found → length (R.bytes reader.old) < 2 ^ 32 → (n : ℕ) → 60 ≤ n → n + 4 ≤ length (R.bytes reader.old) → told_length (R.bytes reader.old) ≡ Ok n → ⊥) }
+    ensures told { R.tells reader.old ≡ true → IfOk result (λ found. IfSome found (λ place. footer_length (R.bytes reader.old) ≡ Ok place.1)) }
+    ensures none { R.tells reader.old ≡ true → IfOk result (λ found. IsNone found → length (R.bytes reader.old) < 2 ^ 32 → (n : ℕ) → 60 ≤ n → n + 4 ≤ length (R.bytes reader.old) → footer_length (R.bytes reader.old) ≡ Ok n → ⊥) }
     ensures refusals { IfErr result StopsReading }
-    ensures cause { HasCause (R.faults reader.old) (R.faults reader.new) (IsErrOf result (Io Input)) }
-    ensures same { R.bytes reader.new ≡ R.bytes reader.old }
-    ensures tells { R.tells reader.new ≡ R.tells reader.old }
+    ensures frame { ReadFrom R.bytes R.tells R.faults R.lent reader.old reader.new (IsErrOf result (Io Input)) }
 {
     let length = reader_length(reader)?;
     if length > u32::MAX as u64 || length < EMPTY_V0 + LENGTH_SIZE {
         return Ok(None);
     }
-    let told = match told_length(reader) {
+    let told = match footer_length(reader) {
         Ok(told) => told,
         Err(StoreError::UnexpectedEof) => return Ok(None),
         Err(error) => return Err(error),
@@ -107,8 +106,9 @@ fn footer_place<R: ReadAt>(reader: &mut R) -> Result<Option<(u64, u32)>, StoreEr
     Ok(Some((length - size, told)))
 }
 
-/// The members of the chunks that are stored before place `end` of `len` bytes, of at most `max_chunk` bytes each;
-/// none, where anything else stands there. Refused as `Io(Input)`, or as `OutOfMemory`.
+/// The (hash, length) pairs of the chunks that are stored in the first `end` of `len` bytes, each of at most
+/// `max_chunk` bytes. None if these bytes are anything but stored chunks. Errors: `Io(Input)` and
+/// `OutOfMemory`.
 fn stored_members<R: ReadAt>(
     alloc: Global,
     reader: &mut R,
@@ -125,9 +125,7 @@ fn stored_members<R: ReadAt>(
     ensures none { (bytes : List ℕ) → Sees (R.tells reader.old) (R.bytes reader.old) bytes len block.old → IfOk result (λ found. IsNone found → (chunks : List (List ℕ)) → AreChunks max_chunk (take end bytes) chunks → ⊥) }
     ensures part { (bytes : List ℕ) → Sees (R.tells reader.old) (R.bytes reader.old) bytes len block.old → IfOk result (λ found. IfSome found (λ _. IsPart block.new bytes)) }
     ensures refusals { IfErr result StopsReading }
-    ensures cause { HasCause (R.faults reader.old) (R.faults reader.new) (IsErrOf result (Io Input)) }
-    ensures same { R.bytes reader.new ≡ R.bytes reader.old }
-    ensures tells { R.tells reader.new ≡ R.tells reader.old }
+    ensures frame { ReadFrom R.bytes R.tells R.faults R.lent reader.old reader.new (IsErrOf result (Io Input)) }
 {
     let mut members = Vec::new(alloc);
     let mut at: u64 = 0;
@@ -141,8 +139,9 @@ fn stored_members<R: ReadAt>(
     Ok(Some(members))
 }
 
-/// The digest and the length of the chunk that is stored at place `at` of `len` bytes; none, where none of at most
-/// `max_chunk` bytes is, which ends at place `end` or before. Refused as `Io(Input)`, or as `OutOfMemory`.
+/// The (hash, length) pair of the chunk that is stored at offset `at` of `len` bytes. None if there is no
+/// chunk of at most `max_chunk` bytes that ends at offset `end` or before. Errors: `Io(Input)` and
+/// `OutOfMemory`.
 fn member_at<R: ReadAt>(
     reader: &mut R,
     block: &mut Block,
@@ -160,9 +159,7 @@ fn member_at<R: ReadAt>(
     ensures none { (bytes : List ℕ) → Sees (R.tells reader.old) (R.bytes reader.old) bytes len block.old → IfOk result (λ found. IsNone found → (chunk : List ℕ) → StandsAt max_chunk bytes at end chunk → ⊥) }
     ensures part { (bytes : List ℕ) → Sees (R.tells reader.old) (R.bytes reader.old) bytes len block.old → IfOk result (λ found. IfSome found (λ _. IsPart block.new bytes)) }
     ensures refusals { IfErr result StopsReading }
-    ensures cause { HasCause (R.faults reader.old) (R.faults reader.new) (IsErrOf result (Io Input)) }
-    ensures same { R.bytes reader.new ≡ R.bytes reader.old }
-    ensures tells { R.tells reader.new ≡ R.tells reader.old }
+    ensures frame { ReadFrom R.bytes R.tells R.faults R.lent reader.old reader.new (IsErrOf result (Io Input)) }
 {
     let room = end - at;
     if room < HEADER_SIZE {
@@ -183,7 +180,7 @@ fn member_at<R: ReadAt>(
     Ok(Some((digest, size as u64)))
 }
 
-/// The eight bytes from place `at` of `len` bytes on; none, where there are fewer. Refused as `Io(Input)`, or as
+/// The eight bytes at offset `at` of `len` bytes, or none if there are fewer. Errors: `Io(Input)` and
 /// `OutOfMemory`.
 fn header_at<R: ReadAt>(
     reader: &mut R,
@@ -195,9 +192,7 @@ fn header_at<R: ReadAt>(
     ensures read { (bytes : List ℕ) → Sees (R.tells reader.old) (R.bytes reader.old) bytes len block.old → at + 8 ≤ len → IfOk result (λ header. header ≡ Some (take 8 (drop at bytes))) }
     ensures part { (bytes : List ℕ) → Sees (R.tells reader.old) (R.bytes reader.old) bytes len block.old → IfOk result (λ header. IfSome header (λ _. IsPart block.new bytes)) }
     ensures refusals { IfErr result StopsReading }
-    ensures cause { HasCause (R.faults reader.old) (R.faults reader.new) (IsErrOf result (Io Input)) }
-    ensures same { R.bytes reader.new ≡ R.bytes reader.old }
-    ensures tells { R.tells reader.new ≡ R.tells reader.old }
+    ensures frame { ReadFrom R.bytes R.tells R.faults R.lent reader.old reader.new (IsErrOf result (Io Input)) }
 {
     if !load(reader, block, at, len, 8)? {
         return Ok(None);
@@ -207,8 +202,8 @@ fn header_at<R: ReadAt>(
     Ok(Some(header))
 }
 
-/// How many bytes a stored chunk with this header has; none, where it is not the header of a stored chunk of at most
-/// `max_chunk` bytes.
+/// The length of the stored chunk with this header, without the header, or none if it is not the header that
+/// a chunk of at most `max_chunk` bytes has.
 fn chunk_size(header: [u8; 8], max_chunk: u32) -> Option<u32>
     requires { max_chunk < 2 ^ 23 }
     ensures fits { IfSome result (λ n. n ≤ max_chunk) }
@@ -224,8 +219,8 @@ fn chunk_size(header: [u8; 8], max_chunk: u32) -> Option<u32>
     Some(plain)
 }
 
-/// The digest of so many bytes from place `at` of `len` bytes on; none, where there are fewer. Refused as `Io(Input)`,
-/// or as `OutOfMemory`.
+/// The chunk hash of the `size` bytes at offset `at` of `len` bytes, or none if there are fewer. Errors:
+/// `Io(Input)` and `OutOfMemory`.
 fn digest_at<R: ReadAt>(
     reader: &mut R,
     block: &mut Block,
@@ -237,9 +232,7 @@ fn digest_at<R: ReadAt>(
     ensures read { (bytes : List ℕ) → Sees (R.tells reader.old) (R.bytes reader.old) bytes len block.old → at + size ≤ len → IfOk result (λ digest. digest ≡ Some (chunk_hash (take size (drop at bytes)))) }
     ensures part { (bytes : List ℕ) → Sees (R.tells reader.old) (R.bytes reader.old) bytes len block.old → IfOk result (λ digest. IfSome digest (λ _. IsPart block.new bytes)) }
     ensures refusals { IfErr result StopsReading }
-    ensures cause { HasCause (R.faults reader.old) (R.faults reader.new) (IsErrOf result (Io Input)) }
-    ensures same { R.bytes reader.new ≡ R.bytes reader.old }
-    ensures tells { R.tells reader.new ≡ R.tells reader.old }
+    ensures frame { ReadFrom R.bytes R.tells R.faults R.lent reader.old reader.new (IsErrOf result (Io Input)) }
 {
     if !load(reader, block, at, len, size)? {
         return Ok(None);
@@ -248,8 +241,8 @@ fn digest_at<R: ReadAt>(
     Ok(Some(compute_data_hash(body)))
 }
 
-/// Sees to it that the block has so many bytes from place `at` of `len` bytes on; false, where there are fewer. Refused
-/// as `Io(Input)`, or as `OutOfMemory`.
+/// Loads at least `count` bytes from offset `at` of `len` bytes into the block. False if there are fewer.
+/// Errors: `Io(Input)` and `OutOfMemory`.
 fn load<R: ReadAt>(
     reader: &mut R,
     block: &mut Block,
@@ -262,9 +255,7 @@ fn load<R: ReadAt>(
     ensures part { (bytes : List ℕ) → Sees (R.tells reader.old) (R.bytes reader.old) bytes len block.old → IfOk result (λ there. IsTrue there → IsPart block.new bytes) }
     ensures whole { (bytes : List ℕ) → Sees (R.tells reader.old) (R.bytes reader.old) bytes len block.old → at + count ≤ len → IfOk result (λ there. there ≡ true) }
     ensures refusals { IfErr result StopsReading }
-    ensures cause { HasCause (R.faults reader.old) (R.faults reader.new) (IsErrOf result (Io Input)) }
-    ensures same { R.bytes reader.new ≡ R.bytes reader.old }
-    ensures tells { R.tells reader.new ≡ R.tells reader.old }
+    ensures frame { ReadFrom R.bytes R.tells R.faults R.lent reader.old reader.new (IsErrOf result (Io Input)) }
 {
     match block.load(reader, at, len, count) {
         Ok(()) => Ok(true),
@@ -273,7 +264,8 @@ fn load<R: ReadAt>(
     }
 }
 
-/// Whether there is a member, and the xorb of these members has this hash. Refused as `OutOfMemory`.
+/// Whether there is at least one pair, and the xorb hash of the pairs is `hash`. The only error is
+/// `OutOfMemory`.
 fn have_hash(
     alloc: Global,
     members: &[(MerkleHash, u64)],
@@ -287,8 +279,8 @@ fn have_hash(
     Ok(!members.is_empty() && found == *hash)
 }
 
-/// The object of the footer from place `start` on, which has `told` bytes; none, where anything but the footer of a
-/// xorb of this hash with these members, and its length, stands there. Refused as `Io(Input)`, or as `OutOfMemory`.
+/// The footer of `told` bytes at offset `start`, with its length. None unless it is the footer of a xorb with
+/// this hash and these pairs, followed by its length. Errors: `Io(Input)` and `OutOfMemory`.
 fn checked_object<R: ReadAt>(
     alloc: Global,
     reader: &mut R,
@@ -304,9 +296,7 @@ fn checked_object<R: ReadAt>(
     ensures found { (bytes : List ℕ) → Sees (R.tells reader.old) (R.bytes reader.old) bytes (start + told + 4) block.old → AllByRecursion (λ m. length m.0 ≡ 32) members.now → length hash.now ≡ 32 → IfOk result (λ found. IfSome found (IsEnding hash.now members.now (drop start bytes))) }
     ensures none { (bytes : List ℕ) → Sees (R.tells reader.old) (R.bytes reader.old) bytes (start + told + 4) block.old → AllByRecursion (λ m. length m.0 ≡ 32) members.now → length hash.now ≡ 32 → IfOk result (λ found. IsNone found → (object : _) → IsEnding hash.now members.now (drop start bytes) object → ⊥) }
     ensures refusals { IfErr result StopsReading }
-    ensures cause { HasCause (R.faults reader.old) (R.faults reader.new) (IsErrOf result (Io Input)) }
-    ensures same { R.bytes reader.new ≡ R.bytes reader.old }
-    ensures tells { R.tells reader.new ≡ R.tells reader.old }
+    ensures frame { ReadFrom R.bytes R.tells R.faults R.lent reader.old reader.new (IsErrOf result (Io Input)) }
 {
     let mut spare = [0; 16];
     if !fill(reader, start + told as u64 - SPARE_SIZE, &mut spare)? {
@@ -325,8 +315,8 @@ fn checked_object<R: ReadAt>(
     }))
 }
 
-/// The footer of `told` bytes of a xorb of this hash with these members, and with these spare bytes, and the bytes of it
-/// and of its length; none, where none has as many. Refused as `OutOfMemory`.
+/// The footer of `told` bytes that a xorb with this hash, these pairs and these spare bytes has, and the
+/// encoding of it and of its length. None if no version has this length. The only error is `OutOfMemory`.
 fn ending_of(
     alloc: Global,
     hash: &MerkleHash,
@@ -355,10 +345,11 @@ fn ending_of(
     Ok(None)
 }
 
-/// The bytes of a footer of version 1. Refused as `OutOfMemory`, since a sink in memory fails for no other reason.
+/// The encoding of a footer of version 1. Every error is returned as `OutOfMemory`: a sink in memory has no
+/// other, and the caller passes complete lists.
 fn text_of(alloc: Global, info: &XorbObjectInfoV1) -> Result<Vec<u8>, StoreError>
     requires { HasShortLists info.now }
-    ensures text { IfOk result (λ text. text.items ≡ text_v1 info.now) }
+    ensures text { IfOk result (λ text. text.items ≡ footer_bytes_v1 info.now) }
     ensures memory { IsOkUnless result StoreError.OutOfMemory }
 {
     let mut sink = MemorySink::new(alloc);
@@ -368,11 +359,12 @@ fn text_of(alloc: Global, info: &XorbObjectInfoV1) -> Result<Vec<u8>, StoreError
     }
 }
 
-/// The bytes of a footer of version 0. Refused as `OutOfMemory`, since a sink in memory fails for no other reason.
+/// The encoding of a footer of version 0. Every error is returned as `OutOfMemory`: a sink in memory has no
+/// other.
 fn text_of_v0(alloc: Global, info: &XorbObjectInfoV0) -> Result<Vec<u8>, StoreError>
-    requires hashes { length info.now.chunk_hashes ≤ most_chunks }
-    requires stored { length info.now.chunk_boundary_offsets ≤ most_chunks }
-    ensures text { IfOk result (λ text. text.items ≡ text_v0 info.now) }
+    requires hashes { length info.now.chunk_hashes ≤ max_chunks }
+    requires stored { length info.now.chunk_boundary_offsets ≤ max_chunks }
+    ensures text { IfOk result (λ text. text.items ≡ footer_bytes_v0 info.now) }
     ensures memory { IsOkUnless result StoreError.OutOfMemory }
 {
     let mut sink = MemorySink::new(alloc);
@@ -382,7 +374,7 @@ fn text_of_v0(alloc: Global, info: &XorbObjectInfoV0) -> Result<Vec<u8>, StoreEr
     }
 }
 
-/// Whether these bytes stand at place `at` of `len` bytes. Refused as `Io(Input)`, or as `OutOfMemory`.
+/// Whether the bytes `text` are at offset `at` of `len` bytes. Errors: `Io(Input)` and `OutOfMemory`.
 fn stands_at<R: ReadAt>(
     reader: &mut R,
     block: &mut Block,
@@ -393,9 +385,7 @@ fn stands_at<R: ReadAt>(
     requires { at ≤ len }
     ensures found { (bytes : List ℕ) → Sees (R.tells reader.old) (R.bytes reader.old) bytes len block.old → IfOk result (λ same. IsTrue same ↔ (text.now ≡ take (length text.now) (drop at bytes))) }
     ensures refusals { IfErr result StopsReading }
-    ensures cause { HasCause (R.faults reader.old) (R.faults reader.new) (IsErrOf result (Io Input)) }
-    ensures same { R.bytes reader.new ≡ R.bytes reader.old }
-    ensures tells { R.tells reader.new ≡ R.tells reader.old }
+    ensures frame { ReadFrom R.bytes R.tells R.faults R.lent reader.old reader.new (IsErrOf result (Io Input)) }
 {
     if len - at < text.len() as u64 {
         return Ok(false);
@@ -412,7 +402,7 @@ fn stands_at<R: ReadAt>(
     Ok(true)
 }
 
-/// Whether this piece stands at place `at` of `len` bytes. Refused as `Io(Input)`, or as `OutOfMemory`.
+/// Whether the bytes `piece` are at offset `at` of `len` bytes. Errors: `Io(Input)` and `OutOfMemory`.
 fn piece_stands_at<R: ReadAt>(
     reader: &mut R,
     block: &mut Block,
@@ -424,24 +414,20 @@ fn piece_stands_at<R: ReadAt>(
     ensures found { (bytes : List ℕ) → Sees (R.tells reader.old) (R.bytes reader.old) bytes len block.old → IfOk result (λ same. IsTrue same ↔ (piece.now ≡ take (length piece.now) (drop at bytes))) }
     ensures part { (bytes : List ℕ) → Sees (R.tells reader.old) (R.bytes reader.old) bytes len block.old → IfOk result (λ same. IsTrue same → IsPart block.new bytes) }
     ensures refusals { IfErr result StopsReading }
-    ensures cause { HasCause (R.faults reader.old) (R.faults reader.new) (IsErrOf result (Io Input)) }
-    ensures same { R.bytes reader.new ≡ R.bytes reader.old }
-    ensures tells { R.tells reader.new ≡ R.tells reader.old }
+    ensures frame { ReadFrom R.bytes R.tells R.faults R.lent reader.old reader.new (IsErrOf result (Io Input)) }
 {
     let there = load(reader, block, at, len, piece.len())?;
     Ok(there && piece == block.part(at, piece.len()))
 }
 
-/// Fills `buf` with the bytes from place `at` on; false, where there are fewer. Refused as `Io(Input)`.
+/// Fills `buf` with the bytes from offset `at` on. False if there are fewer. The only error is `Io(Input)`.
 fn fill<R: ReadAt>(reader: &mut R, at: u64, buf: &mut [u8]) -> Result<bool, StoreError>
     requires { at + length buf.old < 2 ^ 64 }
     ensures whole { R.tells reader.old ≡ true → at + length buf.old ≤ length (R.bytes reader.old) → IfOk result (λ whole. whole ≡ true) }
     ensures read { R.tells reader.old ≡ true → at + length buf.old ≤ length (R.bytes reader.old) → IfOk result (λ _. buf.new ≡ take (length buf.old) (drop at (R.bytes reader.old))) }
     ensures len { length buf.new ≡ length buf.old }
     ensures refusals { IfErr result (λ e. e ≡ Io Input) }
-    ensures cause { HasCause (R.faults reader.old) (R.faults reader.new) (IsErrOf result (Io Input)) }
-    ensures same { R.bytes reader.new ≡ R.bytes reader.old }
-    ensures tells { R.tells reader.new ≡ R.tells reader.old }
+    ensures frame { ReadFrom R.bytes R.tells R.faults R.lent reader.old reader.new (IsErrOf result (Io Input)) }
 {
     match read_exact(reader, at, buf) {
         Ok(()) => Ok(true),

@@ -6,7 +6,7 @@ use Rattle.xet_hash.specs.declared.error.Place.{Place}
 use Rattle.xet_hash.specs.declared.error.StoreError.{StoreError}
 use Rattle.xet_hash.specs.declared.error.StoreError.TheVariants.{ChunkHeaderParse, Io, MalformedData, OutOfMemory, UnexpectedEof}
 use Rattle.xet_hash.specs.declared.error.Reason.TheVariants.{HeaderVersion, PlainLength, Scheme, StoredLength}
-use Rattle.xet_xorb_chunk.specs.Header.{Header, header_at, header_of, is_ident, is_scheme, wants}
+use Rattle.xet_xorb_chunk.specs.Header.{Header, header_at, header_of, is_footer_magic, is_scheme, wants}
 use Rattle.xet_xorb_chunk.specs.Checks.{IsCheck}
 use Rattle.xet_xorb_chunk.specs.Passing.{ShowsFront}
 use Rattle.xet_xorb_chunk.specs.Stream.{Fails, front_of}
@@ -29,7 +29,7 @@ accepts x e h = absurd (cc h)
 pub header_checks : (most : ℕ) (bytes : List ℕ) (e : StoreError) → header_at most bytes ≡ Err e → IsCheck e
 unfolding header_at
 header_checks most bytes e =
-    not_by (is_ident bytes) ChunkHeaderParse _ e refl
+    not_by (is_footer_magic bytes) ChunkHeaderParse _ e refl
     (by_check (is_scheme (header_of bytes).scheme) (MalformedData Scheme) _ e refl
     (by_check ((header_of bytes).version == 0) (MalformedData HeaderVersion) _ e refl
     (by_check (nat_le (header_of bytes).stored (2 * most)) (MalformedData StoredLength) _ e refl

@@ -6,7 +6,8 @@ use Rattle.xet_hash.specs.declared.error.StoreError.TheVariants.{OutOfMemory}
 use Rattle.xet_xorb_chunk.specs.declared.decoder.Tally.{Tally}
 use Rattle.xet_xorb_chunk.specs.Decoder.{Moves}
 use Rattle.xet_codec.specs.Stops.{StopsWriting}
-use Rattle.xet_xorb_chunk.specs.Passing.{Gathers, Refuses, ShowsFront}
+use Rattle.xet_xorb_chunk.specs.internal.Passing.{Gathers}
+use Rattle.xet_xorb_chunk.specs.Passing.{Refuses, ShowsFront}
 use Rattle.xet_xorb_chunk.specs.Stream.{Fails, Whole, front_of}
 use Rattle.xet_xorb_chunk.proofs.Gathered.{added}
 use Rattle.xet_xorb_chunk.specs.theorems.More.{whole_more}

@@ -5,7 +5,7 @@ use Rattle.std.proofs.lemmas.Bool.{cases_lt, le-ltb}
 use Rattle.std.proofs.lemmas.List.{append-nil, length-take-le, take-append-drop, take-append-le, take_rest}
 use Rattle.xet_hash.specs.declared.error.StoreError.{StoreError}
 use Rattle.xet_xorb_chunk.specs.Header.{Header}
-use Rattle.xet_xorb_chunk.specs.Passing.{Gathers}
+use Rattle.xet_xorb_chunk.specs.internal.Passing.{Gathers}
 use Rattle.xet_xorb_chunk.specs.Stream.{Fails, Short, Whole, front_of}
 use Rattle.xet_xorb_chunk.specs.Taking.{header_in}
 use Rattle.xet_xorb_chunk.specs.theorems.Fronts.{front_body, front_few, front_short}

@@ -1,11 +1,11 @@
--- What a call that reads a source or writes a sink may refuse with beside its checks.
+-- Errors of the checks of stored chunks.
 use Rattle.std.specs.Prelude.{◌≡◌, ◌⊎◌, Bool, true, false}
 use Rattle.xet_hash.specs.declared.error.StoreError.{StoreError}
 use Rattle.xet_hash.specs.declared.error.StoreError.TheVariants.{ChunkHeaderParse, CompressionError, MalformedData, UnexpectedEof}
 use Rattle.xet_hash.specs.declared.error.Reason.{Reason}
 use Rattle.xet_hash.specs.declared.error.Reason.TheVariants as reasons
 
--- a check of a chunk's header, of its body, or of the length of all chunks
+-- Reasons of the checks of a chunk's header, of its body, and of the total length.
 abbrev pub is_chunk_check : Reason → Bool
 is_chunk_check reasons.Scheme = true
 is_chunk_check reasons.HeaderVersion = true
@@ -16,8 +16,8 @@ is_chunk_check reasons.BodyLength = true
 is_chunk_check reasons.TotalLength = true
 is_chunk_check reason = false
 
--- whether it is an error of a check of the bytes: they end inside a chunk, have no header, are malformed,
--- or are compressed under a scheme that is not supported
+-- Whether this is the error of a check: the bytes end inside a chunk, begin like a footer, are malformed, or
+-- are compressed under a scheme that is not supported.
 abbrev pub is_check : StoreError → Bool
 is_check UnexpectedEof = true
 is_check ChunkHeaderParse = true

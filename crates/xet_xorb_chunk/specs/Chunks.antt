@@ -1,20 +1,20 @@
--- The program's chunks, each with the hash that it carries.
+-- Chunks in memory, each with the hash that it carries.
 use Rattle.std.specs.Prelude.{ℕ, List, length}
 use Rattle.std.specs.List.{sum_by}
 use Rattle.xet_hash.specs.Merkle.{chunk_hash}
 use Rattle.xet_xorb_chunk.specs.declared.chunk.Chunk.{Chunk}
 
--- the chunk of these bytes
+-- The chunk of these bytes, with their chunk hash.
 abbrev pub chunk_of : List ℕ → Chunk
 chunk_of bytes = record { hash = chunk_hash bytes; bytes = bytes }
 
 abbrev pub bytes_of : Chunk → List ℕ
 bytes_of c = c.bytes
 
--- a chunk's hash and length
+-- The (hash, length) pair of a chunk, with the hash that it carries.
 abbrev pub chunk_member : Chunk → List ℕ × ℕ
 chunk_member c = (c.hash, length c.bytes)
 
--- the bytes of all chunks
+-- Number of bytes of all chunks.
 abbrev pub total : List Chunk → ℕ
 total chunks = sum_by (λ c. length c.bytes) chunks

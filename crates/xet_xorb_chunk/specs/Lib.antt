@@ -1,4 +1,4 @@
-pub mod Spelling
+pub mod ChunkEncoding
 pub mod Chunks
 pub mod Header
 pub mod Stream
@@ -7,6 +7,7 @@ pub mod Taking
 pub mod Passing
 pub mod Decoder
 pub mod Segment
-pub mod Spelled
+pub mod EncodedChunks
 pub mod theorems
 pub mod Checks
+pub mod internal

@@ -1,4 +1,4 @@
--- Compression schemes: their numbers and names, and what they do to a chunk's bytes.
+-- Compression schemes: their numbers, their names, and the bytes that they store.
 use Rattle.std.specs.Prelude.{ℕ, ◌==◌, List, [], codes, Result, Ok, Err, if◌then◌else◌}
 use Rattle.std.specs.Str.{bytes_eq}
 use Rattle.xet_hash.specs.declared.error.StoreError.{StoreError}
@@ -7,14 +7,14 @@ use Rattle.xet_hash.specs.declared.error.Reason.TheVariants.{AutoScheme, Scheme,
 use Rattle.xet_xorb_chunk.specs.declared.scheme.CompressionScheme.{CompressionScheme}
 use Rattle.xet_xorb_chunk.specs.declared.scheme.CompressionScheme.TheVariants.{Auto, ByteGrouping4LZ4, LZ4, None}
 
--- the number that a header has for it
+-- The scheme's number in a chunk header.
 abbrev pub number_of : CompressionScheme → ℕ
 number_of None = 0
 number_of LZ4 = 1
 number_of ByteGrouping4LZ4 = 2
 number_of Auto = 99
 
--- the scheme of a number
+-- The scheme with this number.
 abbrev pub scheme_of : ℕ → Result CompressionScheme StoreError
 scheme_of n =
     if n == 0 then Ok None
@@ -29,7 +29,7 @@ scheme_name LZ4 = codes "lz4"
 scheme_name ByteGrouping4LZ4 = codes "bg4-lz4"
 scheme_name Auto = codes "auto"
 
--- the scheme of a name in small letters; no name is that of the one to be chosen
+-- The scheme with this name, in lower-case letters. The empty name is that of `Auto`.
 abbrev pub scheme_named : List ℕ → Result CompressionScheme StoreError
 scheme_named name =
     if bytes_eq name [] then Ok Auto
@@ -39,21 +39,21 @@ scheme_named name =
     else if bytes_eq name (scheme_name ByteGrouping4LZ4) then Ok ByteGrouping4LZ4
     else Err (MalformedData SchemeText)
 
--- the scheme under which bytes are stored
+-- The scheme under which bytes are stored.
 abbrev pub resolved : CompressionScheme → CompressionScheme
 resolved None = None
 resolved LZ4 = LZ4
 resolved ByteGrouping4LZ4 = ByteGrouping4LZ4
 resolved Auto = None
 
--- the bytes as they are stored
+-- The stored form of a chunk's bytes, or the error of a scheme that is not supported.
 abbrev pub compressed : CompressionScheme → List ℕ → Result (List ℕ) StoreError
 compressed None bytes = Ok bytes
 compressed LZ4 bytes = Err (CompressionError 1)
 compressed ByteGrouping4LZ4 bytes = Err (CompressionError 2)
 compressed Auto bytes = Ok bytes
 
--- what is stored as the bytes that it stands for
+-- The content of stored bytes, or the error of a scheme that is not supported.
 abbrev pub decompressed : CompressionScheme → List ℕ → Result (List ℕ) StoreError
 decompressed None bytes = Ok bytes
 decompressed LZ4 bytes = Err (CompressionError 1)

@@ -1,18 +1,17 @@
--- Streams of stored chunks: what stands at their front, and how they are read to their end.
+-- Streams of stored chunks: what their first chunk is, and how they are read to their end.
 use Rattle.std.specs.Prelude.{◌≡◌, ◌⊎◌, ℕ, ◌+◌, ◌<◌, ◌≤◌, ◌^◌, ◌==◌, nat_lt, List, [], ◌∷◌, length, take, drop, Result, Ok, Err, if◌then◌else◌}
 use Rattle.xet_hash.specs.declared.error.StoreError.{StoreError}
 use Rattle.xet_hash.specs.declared.error.StoreError.TheVariants.{CompressionError, MalformedData, UnexpectedEof}
 use Rattle.xet_hash.specs.declared.error.Reason.TheVariants.{AutoScheme, BodyLength, TotalLength}
 use Rattle.xet_xorb_chunk.specs.Header.{Header, header_at}
 
--- What stands at the front of some bytes: less than a chunk, a whole chunk, or what fails a check.
+-- Result of reading the first chunk of some bytes: it is incomplete, it is whole, or a check fails.
 pub data Front : Type 0 where
   Short : Front
   Whole : (chunk : List ℕ) → Front
   Fails : (error : StoreError) → Front
 
--- The body of a header, which is as long as it says: the scheme must be that of plain bytes, and both
--- lengths the same.
+-- The checks of a complete body: the scheme must be 0, and both lengths equal.
 abbrev pub body_of : Header → List ℕ → Front
 body_of h body =
     if h.scheme == 99 then Fails (MalformedData AutoScheme)
@@ -23,11 +22,11 @@ abbrev pub behind : Result Header StoreError → List ℕ → Front
 behind (Err e) body = Fails e
 behind (Ok h) body = if nat_lt (length body) h.stored then Short else body_of h (take h.stored body)
 
--- The header is checked as soon as its eight bytes are there, the rest when the body is.
+-- The header is checked as soon as its eight bytes are there, the body as soon as it is complete.
 unfoldable pub front_of : ℕ → List ℕ → Front
 front_of most bytes = if nat_lt (length bytes) 8 then Short else behind (header_at most (take 8 bytes)) (drop 8 bytes)
 
--- one chunk that is read: it, or why it is refused
+-- The chunk of such a result, or its error. An incomplete chunk is `UnexpectedEof`.
 abbrev pub chunk_in : Front → Result (List ℕ) StoreError
 chunk_in Short = Err UnexpectedEof
 chunk_in (Whole chunk) = Ok chunk
@@ -36,8 +35,8 @@ chunk_in (Fails e) = Err e
 abbrev pub chunk_at : ℕ → List ℕ → Result (List ℕ) StoreError
 chunk_at most bytes = chunk_in (front_of most bytes)
 
--- Bytes, which stand behind chunks of so many bytes, are these whole chunks, with fewer than 2 ^ 32 bytes
--- in all; and what stands behind them is less than a chunk, or fails a check.
+-- After chunks of `total` uncompressed bytes, `bytes` is these whole chunks, with fewer than 2 ^ 32 in all,
+-- followed by `rest`: an incomplete chunk, which may be empty, or the error of the first check that fails.
 abbrev pub Decodes : ℕ → ℕ → List ℕ → List (List ℕ) → Result (List ℕ) StoreError → Type 0
 Decodes most total bytes [] rest =
     ((front_of most bytes ≡ Short) × (rest ≡ Ok bytes))
@@ -46,24 +45,24 @@ Decodes most total bytes [] rest =
 Decodes most total bytes (chunk ∷ chunks) rest =
     (front_of most bytes ≡ Whole chunk) × (total + length chunk < 2 ^ 32) × Decodes most (total + length chunk) (drop (8 + length chunk) bytes) chunks rest
 
--- how a stream ends that ends there
+-- Result of a stream that ends with this rest: `UnexpectedEof` if bytes are left over.
 abbrev pub end_of : Result (List ℕ) StoreError → Result (Unit {0}) StoreError
 end_of (Ok []) = Ok tt
 end_of (Ok (b ∷ bs)) = Err UnexpectedEof
 end_of (Err e) = Err e
 
--- The bytes as a stream to its end: these whole chunks, and then the end, or why it is refused.
+-- `bytes`, read as a stream to its end: these whole chunks, followed by the end or by an error.
 pub record IsStream (most : ℕ) (bytes : List ℕ) (chunks : List (List ℕ)) (end : Result (Unit {0}) StoreError) : Type 0 where
   pub rest : Result (List ℕ) StoreError
   pub decodes : Decodes most 0 bytes chunks rest
   pub ends : end_of rest ≡ end
 
--- where each chunk ends among the plain bytes, from a place on, which stands first
+-- Offsets among the uncompressed bytes, if the first chunk starts at `at`: `at`, and the end of each chunk.
 abbrev pub places_from : ℕ → List (List ℕ) → List ℕ
 places_from at [] = at ∷ []
 places_from at (chunk ∷ chunks) = at ∷ places_from (at + length chunk) chunks
 
--- the bytes of chunks as they are stored
+-- Number of stored bytes of these chunks, headers included.
 abbrev pub stored_bytes : List (List ℕ) → ℕ
 stored_bytes [] = 0
 stored_bytes (chunk ∷ chunks) = 8 + length chunk + stored_bytes chunks

@@ -1,4 +1,4 @@
-//! Pieces of files.
+//! Chunks in memory: their bytes and hashes.
 
 ghost use Rattle.std.specs.Prelude.{◌≡◌, IfOk, IsOkUnless, map};
 ghost use Rattle.xet_hash.specs.Merkle.{total_len};
@@ -9,17 +9,18 @@ use std::alloc::Global;
 use std::convert::AsSlice;
 use xet_hash::{MerkleHash, StoreError, compute_data_hash};
 
-/// A piece of a file, with its digest under the data key.
+/// A chunk of a file, with its chunk hash.
 #[derive(Debug, Drop, PartialEq, Eq)]
 pub struct Chunk {
-    /// The digest of the bytes, if it was made by `new`.
+    /// The chunk hash of `bytes`, if `new` made the chunk. A chunk that is built by its fields may carry any
+    /// hash.
     pub hash: MerkleHash,
-    /// The bytes.
+    /// The uncompressed bytes.
     pub bytes: Bytes,
 }
 
 impl Chunk {
-    /// The chunk of these bytes. It takes no memory.
+    /// Hashes the bytes. Does not allocate.
     pub fn new(bytes: Bytes) -> Chunk
         ensures { result ≡ chunk_of bytes }
     {
@@ -29,7 +30,7 @@ impl Chunk {
         }
     }
 
-    /// The same chunk again, which shares the bytes.
+    /// A copy that shares the bytes. Its only error is `OutOfMemory`.
     pub fn clone(&self) -> Result<Chunk, StoreError>
         ensures same { IfOk result (λ copy. copy ≡ self.now) }
         ensures memory { IsOkUnless result StoreError.OutOfMemory }
@@ -44,14 +45,14 @@ impl Chunk {
 impl AsSlice<u8> for Chunk {
     ghost items = { λ c. c.bytes };
 
-    /// Lends the bytes.
+    /// The uncompressed bytes.
     fn as_slice(&self) -> &[u8] {
         self.bytes.as_slice()
     }
 }
 
-/// The hash that each chunk carries, with its length in bytes. Where there is no memory, the call fails
-/// with `StoreError::OutOfMemory`, and for no other reason.
+/// The (hash, length) pair of each chunk: the hash that it carries, and its length in bytes. The only error
+/// is `OutOfMemory`.
 pub fn chunk_members(alloc: Global, chunks: &[Chunk]) -> Result<Vec<(MerkleHash, u64)>, StoreError>
     ensures members { IfOk result (λ members. members.items ≡ map chunk_member chunks.now) }
     ensures total { IfOk result (λ members. total_len members.items ≡ total chunks.now) }

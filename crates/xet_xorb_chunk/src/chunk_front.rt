@@ -1,4 +1,4 @@
-//! The chunk at the front of some bytes.
+//! The first stored chunk of a byte slice.
 
 ghost use Rattle.std.specs.Prelude.{◌≡◌, ◌<◌, ◌≤◌, ◌+◌, ◌^◌, Ok, Err, IfErr, IfOk, IfSome, IsNone, Some, length, take};
 ghost use Rattle.xet_xorb_chunk.specs.Header.{Header};
@@ -10,7 +10,7 @@ ghost use Rattle.xet_xorb_chunk.specs.Taking.{header_in};
 use crate::header::{XORB_CHUNK_HEADER_LENGTH, XorbChunkHeader, parse_chunk_header};
 use xet_hash::StoreError;
 
-/// The header at the front; none, where there are fewer than eight bytes.
+/// The header in the first eight bytes, or none if there are fewer.
 fn header_at_front(bytes: &[u8], most: u32) -> Result<Option<XorbChunkHeader>, StoreError>
     requires { most < 2 ^ 23 }
     ensures none { IfOk result (λ header. IsNone header → length bytes.now < 8) }
@@ -25,7 +25,7 @@ fn header_at_front(bytes: &[u8], most: u32) -> Result<Option<XorbChunkHeader>, S
     Ok(Some(parse_chunk_header([a, b, c, d, e, f, g, h], most)?))
 }
 
-/// Where the chunk at the front ends, by its header; none, where there are fewer than eight bytes.
+/// Where the first chunk ends according to its header, or none if there are fewer than eight bytes.
 pub(crate) fn body_end(bytes: &[u8], most: u32) -> Result<Option<usize>, StoreError>
     requires { most < 2 ^ 23 }
     ensures none { IfOk result (λ end. IsNone end → length bytes.now < 8) }
@@ -40,8 +40,10 @@ pub(crate) fn body_end(bytes: &[u8], most: u32) -> Result<Option<usize>, StoreEr
     Ok(Some(XORB_CHUNK_HEADER_LENGTH + header.get_compressed_length() as usize))
 }
 
-/// How many bytes the chunk at the front has behind its header; none, where there is less than a chunk.
-/// Refused by the first check that fails, of chunks of at most `most` bytes, which is below 2^23.
+/// The body length of the first stored chunk, in bytes without its header, or none if the bytes end inside
+/// the chunk. A chunk may have at most `most` bytes, which is below 2^23.
+///
+/// Fails with the error of the first check that fails.
 pub fn chunk_len(bytes: &[u8], most: u32) -> Result<Option<usize>, StoreError>
     requires { most < 2 ^ 23 }
     ensures front { ShowsFront most bytes.now result }

@@ -1,17 +1,17 @@
-//! Chunks that are written to sinks and read from sources, one by one.
+//! Single chunks: written to a sink and read from a source.
 
 ghost use Rattle.std.specs.Prelude.{◌≡◌, ◌<◌, ◌≤◌, ◌+◌, ◌^◌, ◌++◌, ◌⊎◌, [], ℕ, Ok, Err, true, IfErr, IfOk, IsErrOf, OnErr, OnOk, drop, length, take, vec_len};
 ghost use Rattle.xet_hash.specs.declared.error.StoreError.{StoreError};
 ghost use Rattle.xet_hash.specs.declared.error.StoreError.TheVariants.{Io, UnexpectedEof};
 ghost use Rattle.xet_hash.specs.declared.error.Place.TheVariants.{Input, Output};
-ghost use Rattle.xet_io.specs.Faults.{HasCause};
 ghost use Rattle.xet_io.specs.Whole.{Fills};
 ghost use Rattle.xet_xorb_chunk.specs.Checks.{IsCheck};
 ghost use Rattle.xet_codec.specs.Stops.{StopsReading, StopsWriting};
 ghost use Rattle.xet_xorb_chunk.specs.Scheme.{compressed};
-ghost use Rattle.xet_xorb_chunk.specs.Spelling.{spelling};
+ghost use Rattle.xet_xorb_chunk.specs.ChunkEncoding.{encoded_chunk};
 ghost use Rattle.xet_xorb_chunk.specs.Stream.{chunk_at};
 ghost use Rattle.xet_xorb_chunk.specs.Taking.{TakesFailedChunk, TakesFailedHeader, TakesPrefix, WritesChunk, WritesFront, header_in};
+ghost use Rattle.xet_io.specs.Frame.{Called};
 
 use crate::header::{
     XORB_CHUNK_HEADER_LENGTH, XorbChunkHeader, parse_chunk_header, write_chunk_header,
@@ -22,12 +22,15 @@ use xet_codec::{read_front, write_piece};
 use xet_hash::StoreError;
 use xet_io::{Sink, Source};
 
-/// The most bytes of a body that are read at once.
+/// Maximum number of body bytes read at once, so that memory grows with the bytes that arrive, not with the
+/// length that a header claims.
 const BLOCK: usize = 1 << 17;
 
-/// Writes a chunk of fewer than 2^24 bytes behind its header, under the scheme `None` for `Auto`, and
-/// returns how many bytes these are. The other schemes are refused as `CompressionError` of their number,
-/// before anything is written. Where the sink refuses, a front of these bytes was written.
+/// Writes a chunk of fewer than 2^24 bytes, header first, and returns the number of bytes written. `Auto` is
+/// stored as `None`.
+///
+/// The schemes that compress fail with `CompressionError` of their number, before anything is written. The
+/// other errors are `Io(Output)` and `OutOfMemory`; a prefix of the encoding was written then.
 pub fn serialize_chunk<W: Sink>(
     chunk: &[u8],
     w: &mut W,
@@ -35,13 +38,12 @@ pub fn serialize_chunk<W: Sink>(
 ) -> Result<usize, StoreError>
     requires { length chunk.now < 2 ^ 24 }
     ensures count { IfOk result (λ count. count ≡ 8 + length chunk.now) }
-    ensures whole { W.tells w.old ≡ true → OnOk result (W.written w.new ≡ W.written w.old ++ spelling chunk.now) }
-    ensures front { W.tells w.old ≡ true → OnErr result ((n : ℕ) × (W.written w.new ≡ W.written w.old ++ take n (spelling chunk.now))) }
+    ensures whole { W.tells w.old ≡ true → OnOk result (W.written w.new ≡ W.written w.old ++ encoded_chunk chunk.now) }
+    ensures front { W.tells w.old ≡ true → OnErr result ((n : ℕ) × (W.written w.new ≡ W.written w.old ++ take n (encoded_chunk chunk.now))) }
     ensures refused { (e : StoreError) → compressed scheme chunk.now ≡ Err e → result ≡ Err e }
     ensures nothing { W.tells w.old ≡ true → (e : StoreError) → compressed scheme chunk.now ≡ Err e → W.written w.new ≡ W.written w.old }
     ensures refusals { IfErr result (λ e. (compressed scheme chunk.now ≡ Err e) ⊎ StopsWriting e) }
-    ensures tells { W.tells w.new ≡ W.tells w.old }
-    ensures cause { HasCause (W.faults w.old) (W.faults w.new) (IsErrOf result (Io Output)) }
+    ensures frame { Called W.tells W.faults w.old w.new (IsErrOf result (Io Output)) }
 {
     scheme.compress_from_slice(chunk)?;
     let length = chunk.len() as u32;
@@ -51,10 +53,10 @@ pub fn serialize_chunk<W: Sink>(
     Ok(XORB_CHUNK_HEADER_LENGTH + chunk.len())
 }
 
-/// Takes the header at the front of a source, of a chunk of at most `max_chunk` bytes, which is below
-/// 2^23. Refused as `UnexpectedEof` where fewer than eight bytes are left, as `parse_chunk_header`
-/// refuses, as `Io(Input)`, or as `OutOfMemory`. A check that fails has taken the eight bytes, or all where
-/// fewer are left.
+/// Reads a chunk header from a source. The chunk may have at most `max_chunk` bytes, which is below 2^23.
+///
+/// Errors: `UnexpectedEof` if fewer than eight bytes are left, those of `parse_chunk_header`, `Io(Input)` and
+/// `OutOfMemory`. After a failed check the eight bytes were taken, or all if fewer were left.
 pub fn deserialize_chunk_header<R: Source>(
     r: &mut R,
     max_chunk: u32,
@@ -65,8 +67,7 @@ pub fn deserialize_chunk_header<R: Source>(
     ensures rest { R.tells r.old ≡ true → IfErr result (TakesFailedHeader max_chunk (R.left r.old) (R.left r.new)) }
     ensures refusals { R.tells r.old ≡ true → IfErr result (λ e. (header_in max_chunk (R.left r.old) ≡ Err e) ⊎ StopsReading e) }
     ensures kinds { IfErr result (λ e. IsCheck e ⊎ StopsReading e) }
-    ensures tells { R.tells r.new ≡ R.tells r.old }
-    ensures cause { HasCause (R.faults r.old) (R.faults r.new) (IsErrOf result (Io Input)) }
+    ensures frame { Called R.tells R.faults r.old r.new (IsErrOf result (Io Input)) }
 {
     let mut bytes = [0; 8];
     let count = read_front(r, &mut bytes)?;
@@ -76,8 +77,7 @@ pub fn deserialize_chunk_header<R: Source>(
     parse_chunk_header(bytes, max_chunk)
 }
 
-/// Takes the next `wanted` bytes of a source. Refused as `UnexpectedEof` where there are fewer, as
-/// `Io(Input)`, or as `OutOfMemory`.
+/// Reads exactly `wanted` bytes. Errors: `UnexpectedEof` if there are fewer, `Io(Input)` and `OutOfMemory`.
 fn take_bytes<R: Source>(alloc: Global, r: &mut R, wanted: usize) -> Result<Vec<u8>, StoreError>
     requires { wanted < 2 ^ 32 }
     ensures bytes { R.tells r.old ≡ true → IfOk result (λ bytes. R.left r.old ≡ bytes.items ++ R.left r.new) }
@@ -86,8 +86,7 @@ fn take_bytes<R: Source>(alloc: Global, r: &mut R, wanted: usize) -> Result<Vec<
     ensures ended { R.tells r.old ≡ true → IfErr result (λ e. IsCheck e → R.left r.new ≡ []) }
     ensures refusals { R.tells r.old ≡ true → IfErr result (λ e. ((e ≡ UnexpectedEof) × (length (R.left r.old) < wanted)) ⊎ StopsReading e) }
     ensures kinds { IfErr result (λ e. IsCheck e ⊎ StopsReading e) }
-    ensures tells { R.tells r.new ≡ R.tells r.old }
-    ensures cause { HasCause (R.faults r.old) (R.faults r.new) (IsErrOf result (Io Input)) }
+    ensures frame { Called R.tells R.faults r.old r.new (IsErrOf result (Io Input)) }
 {
     let mut bytes = Vec::new(alloc);
     'reads: while bytes.len() < wanted {
@@ -101,8 +100,8 @@ fn take_bytes<R: Source>(alloc: Global, r: &mut R, wanted: usize) -> Result<Vec<
     Ok(bytes)
 }
 
-/// Reads into what stands behind the first `filled` bytes until it is full or the source has ended, and
-/// returns how many bytes it took.
+/// Reads into `bytes`, after the first `filled`, until they are full or the source ends. Returns the number
+/// of bytes read.
 fn fill_behind<R: Source>(
     source: &mut R,
     bytes: &mut [u8],
@@ -113,16 +112,17 @@ fn fill_behind<R: Source>(
     ensures front { take filled bytes.new ≡ take filled bytes.old }
     ensures bound { IfOk result (λ count. filled + count ≤ length bytes.new) }
     ensures refusals { IfErr result (λ e. e ≡ Io Input) }
-    ensures tells { R.tells source.new ≡ R.tells source.old }
-    ensures cause { HasCause (R.faults source.old) (R.faults source.new) (IsErrOf result (Io Input)) }
+    ensures frame { Called R.tells R.faults source.old source.new (IsErrOf result (Io Input)) }
 {
     read_front(source, &mut bytes[filled..])
 }
 
-/// Takes the chunk at the front of a source, of at most `max_chunk` bytes, which is below 2^23. Gives its
-/// bytes, how many bytes are stored of it with its header, and its length. Refused as `UnexpectedEof`
-/// where the bytes end inside it, as the first check that fails says, as `Io(Input)`, or as
-/// `OutOfMemory`. A check of the header that fails has taken the header, and one of the body the body too.
+/// Reads the next chunk of a source. It may have at most `max_chunk` bytes, which is below 2^23. Returns its
+/// bytes, its stored size with the header, and its uncompressed length.
+///
+/// Errors: the first check that fails, `UnexpectedEof` if the bytes end inside the chunk, `Io(Input)` and
+/// `OutOfMemory`. After a failed check of the header the header was taken; after one of the body, the body
+/// too.
 pub fn deserialize_chunk<R: Source>(
     alloc: Global,
     r: &mut R,
@@ -135,8 +135,7 @@ pub fn deserialize_chunk<R: Source>(
     ensures rest { R.tells r.old ≡ true → IfErr result (TakesFailedChunk max_chunk (R.left r.old) (R.left r.new)) }
     ensures refusals { R.tells r.old ≡ true → IfErr result (λ e. (chunk_at max_chunk (R.left r.old) ≡ Err e) ⊎ StopsReading e) }
     ensures kinds { IfErr result (λ e. IsCheck e ⊎ StopsReading e) }
-    ensures tells { R.tells r.new ≡ R.tells r.old }
-    ensures cause { HasCause (R.faults r.old) (R.faults r.new) (IsErrOf result (Io Input)) }
+    ensures frame { Called R.tells R.faults r.old r.new (IsErrOf result (Io Input)) }
 {
     let header = deserialize_chunk_header(r, max_chunk)?;
     let bytes = take_bytes(alloc, r, header.get_compressed_length() as usize)?;
@@ -145,10 +144,11 @@ pub fn deserialize_chunk<R: Source>(
     Ok((bytes, stored, header.get_uncompressed_length()))
 }
 
-/// Takes the chunk at the front of a source, as `deserialize_chunk` does, and writes it: only when it is
-/// whole and has passed every check. Gives how many bytes are stored of it with its header, and its
-/// length. Also refused as `Io(Output)`; a front of the chunk was written then. After `Io(Input)` or a
-/// check that fails nothing was written.
+/// Reads the next chunk of a source, as `deserialize_chunk` does, and writes its bytes to a sink once it is
+/// whole and has passed every check. Returns its stored size with the header, and its uncompressed length.
+///
+/// Errors: those of `deserialize_chunk`, and `Io(Output)`. After a failed check or `Io(Input)` nothing was
+/// written; after another error at most a prefix of the chunk.
 pub fn deserialize_chunk_to_writer<R: Source, W: Sink>(
     alloc: Global,
     r: &mut R,
@@ -167,10 +167,8 @@ pub fn deserialize_chunk_to_writer<R: Source, W: Sink>(
     ensures rest { R.tells r.old ≡ true → IfErr result (λ e. StopsWriting e ⊎ TakesFailedChunk max_chunk (R.left r.old) (R.left r.new) e) }
     ensures refusals { R.tells r.old ≡ true → IfErr result (λ e. (chunk_at max_chunk (R.left r.old) ≡ Err e) ⊎ (StopsReading e ⊎ StopsWriting e)) }
     ensures kinds { IfErr result (λ e. IsCheck e ⊎ (StopsReading e ⊎ StopsWriting e)) }
-    ensures source_tells { R.tells r.new ≡ R.tells r.old }
-    ensures sink_tells { W.tells w.new ≡ W.tells w.old }
-    ensures source_cause { HasCause (R.faults r.old) (R.faults r.new) (IsErrOf result (Io Input)) }
-    ensures sink_cause { HasCause (W.faults w.old) (W.faults w.new) (IsErrOf result (Io Output)) }
+    ensures source { Called R.tells R.faults r.old r.new (IsErrOf result (Io Input)) }
+    ensures sink { Called W.tells W.faults w.old w.new (IsErrOf result (Io Output)) }
 {
     let (bytes, stored, plain) = deserialize_chunk(alloc, r, max_chunk)?;
     write_piece(w, &bytes)?;

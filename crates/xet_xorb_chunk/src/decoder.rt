@@ -1,10 +1,11 @@
-//! Chunks that come in pieces.
+//! Incremental decoder of a stream of chunks that arrives in parts.
 
 ghost use Rattle.std.specs.Prelude.{◌≡◌, ◌≤◌, ◌<◌, ◌+◌, ◌^◌, ◌⊎◌, ◌++◌, true, IfErr, IfOk, length, take, vec_len};
 ghost use Rattle.xet_hash.specs.declared.error.StoreError.TheVariants.{OutOfMemory};
 ghost use Rattle.xet_xorb_chunk.specs.Checks.{IsCheck};
-ghost use Rattle.xet_xorb_chunk.specs.Passing.{Gathers};
+ghost use Rattle.xet_xorb_chunk.specs.internal.Passing.{Gathers};
 ghost use Rattle.xet_xorb_chunk.specs.Stream.{Fails, Short, front_of};
+ghost use Rattle.xet_io.specs.Frame.{Called};
 
 use crate::chunk_front::{body_end, chunk_len};
 use crate::header::XORB_CHUNK_HEADER_LENGTH;
@@ -13,7 +14,8 @@ use xet_codec::write_piece;
 use xet_hash::{Reason, StoreError};
 use xet_io::Sink;
 
-/// What was passed on: where each chunk begins among the plain bytes, and how many bytes there are.
+/// Totals of the chunks forwarded so far: the offset of each among the uncompressed bytes (`starts`), and the
+/// number of uncompressed bytes (`total`) and of stored bytes, headers included (`stored`).
 #[derive(Debug, Drop)]
 pub(crate) struct Tally {
     starts: Vec<u32>,
@@ -27,14 +29,14 @@ impl Tally {
     ghost use Rattle.xet_hash.specs.declared.error.StoreError.TheVariants.{Io, MalformedData};
     ghost use Rattle.xet_hash.specs.declared.error.Place.TheVariants.{Output};
     ghost use Rattle.xet_hash.specs.declared.error.Reason.TheVariants.{TotalLength};
-    ghost use Rattle.xet_io.specs.Faults.{HasCause};
     ghost use Rattle.xet_xorb_chunk.specs.Decoder.{Counts, Moves};
     ghost use Rattle.xet_xorb_chunk.specs.Checks.{IsCheck};
     ghost use Rattle.xet_codec.specs.Stops.{StopsWriting};
     ghost use Rattle.xet_xorb_chunk.specs.Passing.{Refuses, RefusesOne};
     ghost use Rattle.xet_xorb_chunk.specs.Stream.{Short, front_of};
+    ghost use Rattle.xet_io.specs.Frame.{Called};
 
-    /// The tally of no chunk. It takes no memory.
+    /// No chunk has been forwarded. Does not allocate.
     fn new(alloc: Global) -> Tally
         ensures counts { Counts result [] }
         ensures stored { result.stored ≡ 0 }
@@ -47,7 +49,8 @@ impl Tally {
         }
     }
 
-    /// Writes a chunk, unless all have 2^32 bytes with it, and counts it.
+    /// Writes a chunk and counts it. Fails with `TotalLength`, before it writes, if all chunks together would
+    /// have 2^32 bytes or more.
     fn pass<W: Sink>(&mut self, chunk: &[u8], w: &mut W) -> Result<(), StoreError>
         requires small { length chunk.now < 2 ^ 24 }
         requires room { self.old.stored + (8 + length chunk.now) ≤ 2 ^ 63 }
@@ -56,8 +59,7 @@ impl Tally {
         ensures total { OnOk result ((self.old.total + length chunk.now < 2 ^ 32) × (self.new.total ≡ self.old.total + length chunk.now)) }
         ensures whole { W.tells w.old ≡ true → OnOk result (W.written w.new ≡ W.written w.old ++ chunk.now) }
         ensures refusals { IfErr result (RefusesOne self.old.total chunk.now (W.tells w.old ≡ true) (W.written w.old) (W.written w.new)) }
-        ensures tells { W.tells w.new ≡ W.tells w.old }
-        ensures cause { HasCause (W.faults w.old) (W.faults w.new) (IsErrOf result (Io Output)) }
+        ensures frame { Called W.tells W.faults w.old w.new (IsErrOf result (Io Output)) }
     {
         let Some(total) = self.total.checked_add(chunk.len() as u32) else {
             return Err(StoreError::MalformedData(Reason::TotalLength));
@@ -69,8 +71,8 @@ impl Tally {
         Ok(())
     }
 
-    /// Passes on the whole chunks at the front of a piece, straight from it, and returns how many bytes
-    /// these are.
+    /// Forwards the whole chunks at the start of `piece`, without buffering them, and returns the number of
+    /// bytes consumed.
     fn pass_whole<W: Sink>(
         &mut self,
         piece: &[u8],
@@ -84,8 +86,7 @@ impl Tally {
         ensures rest { IfOk result (λ n. front_of most (drop n piece.now) ≡ Short) }
         ensures refusals { IfErr result (Refuses most self.old.total piece.now (W.tells w.old ≡ true) (W.written w.old) (W.written w.new)) }
         ensures kinds { IfErr result (λ e. IsCheck e ⊎ StopsWriting e) }
-        ensures tells { W.tells w.new ≡ W.tells w.old }
-        ensures cause { HasCause (W.faults w.old) (W.faults w.new) (IsErrOf result (Io Output)) }
+        ensures frame { Called W.tells W.faults w.old w.new (IsErrOf result (Io Output)) }
     {
         let mut at = 0;
         'chunks: while let Some(len) = chunk_len(&piece[at..], most)? {
@@ -96,8 +97,8 @@ impl Tally {
         Ok(at)
     }
 
-    /// Fills up what is at hand from the front of a piece, passes it on if it is a whole chunk then, and
-    /// returns how many bytes it took: all, if it is not.
+    /// Completes the buffered chunk from the start of `piece` and forwards it once it is whole. Returns the
+    /// number of bytes consumed: all of `piece` if the chunk is still incomplete.
     fn complete<W: Sink>(
         &mut self,
         held: &mut Vec<u8>,
@@ -113,8 +114,7 @@ impl Tally {
         ensures rest { IfOk result (λ n. (front_of most held.new.items ≡ Short) × (n < length piece.now → held.new.items ≡ [])) }
         ensures refusals { IfErr result (Refuses most self.old.total (held.old.items ++ piece.now) (W.tells w.old ≡ true) (W.written w.old) (W.written w.new)) }
         ensures kinds { IfErr result (λ e. IsCheck e ⊎ StopsWriting e) }
-        ensures tells { W.tells w.new ≡ W.tells w.old }
-        ensures cause { HasCause (W.faults w.old) (W.faults w.new) (IsErrOf result (Io Output)) }
+        ensures frame { Called W.tells W.faults w.old w.new (IsErrOf result (Io Output)) }
     {
         let taken = gather(held, piece, most)?;
         let Some(len) = chunk_len(held, most)? else {
@@ -127,7 +127,7 @@ impl Tally {
     }
 }
 
-/// Adds bytes from the front of a piece until there are `len`, and returns how many.
+/// Appends bytes from the start of `piece` until there are `len`, and returns the number appended.
 fn fill(bytes: &mut Vec<u8>, piece: &[u8], len: usize) -> Result<usize, AllocError>
     ensures within { IfOk result (λ n. n ≤ length piece.now) }
     ensures bytes { IfOk result (λ n. bytes.new.items ≡ bytes.old.items ++ take n piece.now) }
@@ -141,7 +141,7 @@ fn fill(bytes: &mut Vec<u8>, piece: &[u8], len: usize) -> Result<usize, AllocErr
     Ok(count)
 }
 
-/// Adds bytes from the front of a piece until there is a whole chunk, and returns how many.
+/// Appends bytes from the start of `piece` until `held` is a whole chunk, and returns the number appended.
 fn gather(held: &mut Vec<u8>, piece: &[u8], most: u32) -> Result<usize, StoreError>
     requires { most < 2 ^ 23 }
     ensures within { IfOk result (λ n. n ≤ length piece.now) }
@@ -157,15 +157,16 @@ fn gather(held: &mut Vec<u8>, piece: &[u8], most: u32) -> Result<usize, StoreErr
     Ok(first + fill(held, &piece[first..], end)?)
 }
 
-/// Chunks that come in pieces: each is passed on as soon as it is whole.
+/// Incremental decoder of a stream of chunks that arrives in parts of any lengths. Each chunk is written as
+/// soon as it is whole.
 #[derive(Debug, Drop)]
 pub struct ChunkDecoder {
-    /// The most bytes of a chunk.
+    /// Maximum chunk size, in bytes.
     most: u32,
-    /// What has come of the chunk at hand.
+    /// Buffered bytes of a chunk that is not yet whole.
     held: Vec<u8>,
     passed: Tally,
-    /// Nothing was refused.
+    /// No call has failed.
     whole: bool,
     ghost small: { most < 2 ^ 23 },
     ghost short: { whole ≡ true → front_of most held.items ≡ Short },
@@ -177,14 +178,14 @@ impl ChunkDecoder {
     ghost use Rattle.std.specs.List.{concat};
     ghost use Rattle.xet_hash.specs.declared.error.StoreError.TheVariants.{Io, OutOfMemory, UnexpectedEof};
     ghost use Rattle.xet_hash.specs.declared.error.Place.TheVariants.{Output};
-    ghost use Rattle.xet_io.specs.Faults.{HasCause};
     ghost use Rattle.xet_xorb_chunk.specs.Decoder.{Ends, Holds, Moves, fed_len, most_of, whole_of};
     ghost use Rattle.xet_xorb_chunk.specs.Checks.{IsCheck};
     ghost use Rattle.xet_codec.specs.Stops.{StopsWriting};
     ghost use Rattle.xet_xorb_chunk.specs.Passing.{Refuses, RefusesMore};
     ghost use Rattle.xet_xorb_chunk.specs.Stream.{Short, front_of};
+    ghost use Rattle.xet_io.specs.Frame.{Called};
 
-    /// A decoder of chunks of at most `max_chunk` bytes each, which is below 2^23. It takes no memory.
+    /// A decoder of chunks of at most `max_chunk` bytes each, which is below 2^23. Does not allocate.
     pub fn new(alloc: Global, max_chunk: u32) -> ChunkDecoder
         requires { max_chunk < 2 ^ 23 }
         ensures most { most_of result ≡ max_chunk }
@@ -200,14 +201,14 @@ impl ChunkDecoder {
         }
     }
 
-    /// Whether nothing was refused so far.
+    /// Whether no call has failed. A decoder that has failed must not be used further.
     pub fn is_whole(&self) -> bool
         ensures { result ≡ whole_of self.now }
     {
         self.whole
     }
 
-    /// How many bytes were fed, headers included: at most 2^63. Not to be asked after a refusal.
+    /// Number of bytes fed, headers included: at most 2^63. Not available after an error.
     pub fn fed_len(&self) -> usize
         requires { whole_of self.now ≡ true }
         ensures value { result ≡ fed_len self.now }
@@ -216,10 +217,11 @@ impl ChunkDecoder {
         self.passed.stored + self.held.len()
     }
 
-    /// Takes the next piece of the stream, and writes each chunk that is whole now. At most 2^63 bytes are
-    /// fed in all, which `fed_len` counts. Refused as the first check that fails says, as soon as it is
-    /// decided, with all chunks before it written; or as `Io(Output)` or `OutOfMemory`, with a front of the
-    /// whole chunks written. Nothing may be fed after a refusal.
+    /// Decodes the next part of the stream, and writes each chunk that is whole now. All parts together may
+    /// have at most 2^63 bytes (see `fed_len`). After an error nothing may be fed.
+    ///
+    /// Fails with the error of the first check that fails, as soon as it is decided; all chunks before it
+    /// were written. `Io(Output)` and `OutOfMemory` leave a prefix of the whole chunks written.
     pub fn feed<W: Sink>(&mut self, piece: &[u8], w: &mut W) -> Result<(), StoreError>
         requires whole { whole_of self.old ≡ true }
         requires len { fed_len self.old + length piece.now ≤ 2 ^ 63 }
@@ -229,8 +231,7 @@ impl ChunkDecoder {
         ensures len { OnOk result (fed_len self.new ≡ fed_len self.old + length piece.now) }
         ensures whole { IsTrue (whole_of self.new) ↔ IsOk result }
         ensures most { most_of self.new ≡ most_of self.old }
-        ensures tells { W.tells w.new ≡ W.tells w.old }
-        ensures cause { HasCause (W.faults w.old) (W.faults w.new) (IsErrOf result (Io Output)) }
+        ensures frame { Called W.tells W.faults w.old w.new (IsErrOf result (Io Output)) }
     {
         self.whole = false;
         self.absorb(piece, w)?;
@@ -238,7 +239,7 @@ impl ChunkDecoder {
         Ok(())
     }
 
-    /// Takes the next piece.
+    /// `feed` without the bookkeeping of errors: the caller sets `whole`.
     fn absorb<W: Sink>(&mut self, piece: &[u8], w: &mut W) -> Result<(), StoreError>
         requires refused { self.old.whole ≡ false }
         requires short { front_of self.old.most self.old.held.items ≡ Short }
@@ -249,8 +250,7 @@ impl ChunkDecoder {
         ensures kinds { IfErr result (λ e. IsCheck e ⊎ StopsWriting e) }
         ensures whole { self.new.whole ≡ false }
         ensures most { self.new.most ≡ self.old.most }
-        ensures tells { W.tells w.new ≡ W.tells w.old }
-        ensures cause { HasCause (W.faults w.old) (W.faults w.new) (IsErrOf result (Io Output)) }
+        ensures frame { Called W.tells W.faults w.old w.new (IsErrOf result (Io Output)) }
     {
         if self.held.is_empty() {
             return self.pass_whole(piece, w);
@@ -262,7 +262,7 @@ impl ChunkDecoder {
         self.pass_whole(&piece[taken..], w)
     }
 
-    /// Takes the next piece where nothing is at hand: passes its whole chunks on, and keeps the rest.
+    /// Decodes the next part when nothing is buffered: forwards its whole chunks, and buffers the rest.
     fn pass_whole<W: Sink>(&mut self, piece: &[u8], w: &mut W) -> Result<(), StoreError>
         requires refused { self.old.whole ≡ false }
         requires empty { self.old.held.items ≡ [] }
@@ -273,17 +273,17 @@ impl ChunkDecoder {
         ensures kinds { IfErr result (λ e. IsCheck e ⊎ StopsWriting e) }
         ensures whole { self.new.whole ≡ false }
         ensures most { self.new.most ≡ self.old.most }
-        ensures tells { W.tells w.new ≡ W.tells w.old }
-        ensures cause { HasCause (W.faults w.old) (W.faults w.new) (IsErrOf result (Io Output)) }
+        ensures frame { Called W.tells W.faults w.old w.new (IsErrOf result (Io Output)) }
     {
         let taken = self.passed.pass_whole(piece, self.most, w)?;
         self.held.extend_from_slice(&piece[taken..])?;
         Ok(())
     }
 
-    /// Ends the stream: gives how many bytes were fed, headers included, and where each chunk begins among
-    /// the plain bytes, with their number last. Refused as `UnexpectedEof` where the stream ends inside a
-    /// chunk, or as `OutOfMemory`.
+    /// Ends the stream. Returns the number of bytes fed, headers included, and the offset of each chunk among
+    /// the uncompressed bytes, followed by their total length.
+    ///
+    /// Errors: `UnexpectedEof` if the stream ends inside a chunk, and `OutOfMemory`.
     pub fn finish(self) -> Result<(usize, Vec<u32>), StoreError>
         requires { whole_of self ≡ true }
         ensures ends { (fed : List ℕ) (chunks : List (List ℕ)) → Holds self fed chunks → Ends (most_of self) fed chunks result }

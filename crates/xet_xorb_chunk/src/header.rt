@@ -1,14 +1,14 @@
-//! The header before each stored chunk: eight bytes.
+//! The header of a stored chunk: eight bytes (docs/FORMATS.md, Stored chunk).
 
 ghost use Rattle.std.specs.Prelude.{◌≡◌, ◌≢◌, ◌*◌, ◌<◌, ◌≤◌, ◌^◌, ◌++◌, ℕ, List, true, IfErr, IfOk, IsErrOf, MatchResult, OnOk, length, take};
 ghost use Rattle.xet_hash.specs.declared.error.StoreError.TheVariants.{Io};
 ghost use Rattle.xet_hash.specs.declared.error.Place.TheVariants.{Output};
-ghost use Rattle.xet_io.specs.Faults.{HasCause};
-ghost use Rattle.xet_xorb_chunk.specs.Header.{header_at, header_bytes, header_of, is_ident};
+ghost use Rattle.xet_xorb_chunk.specs.Header.{header_at, header_bytes, header_of, is_footer_magic};
 ghost use Rattle.xet_xorb_chunk.specs.Checks.{IsCheck};
 ghost use Rattle.xet_codec.specs.Stops.{StopsWriting};
 ghost use Rattle.xet_xorb_chunk.specs.Scheme.{number_of, scheme_of};
 ghost use Rattle.xet_xorb_chunk.specs.Stream.{Fails, Whole, body_of};
+ghost use Rattle.xet_io.specs.Frame.{Called};
 
 use crate::scheme::CompressionScheme;
 use std::marker::Model;
@@ -16,13 +16,13 @@ use xet_codec::write_piece;
 use xet_hash::{Reason, StoreError};
 use xet_io::Sink;
 
-/// The bytes of a chunk's header.
+/// Length of a chunk header, in bytes.
 pub const XORB_CHUNK_HEADER_LENGTH: usize = 8;
 
 /// The header of a stored chunk. Contracts see its four numbers.
 #[derive(Clone, Copy, PartialEq, Eq, Debug)]
 pub struct XorbChunkHeader {
-    /// The version of the form, 0 so far.
+    /// Format version. Only 0 passes `parse_chunk_header`.
     pub version: u8,
     stored: u32,
     scheme: u8,
@@ -40,8 +40,8 @@ impl Model for XorbChunkHeader {
 }
 
 impl XorbChunkHeader {
-    /// The header of version 0 of a chunk of `uncompressed` bytes, of which `compressed` are stored. Both
-    /// are below 2^24, and the scheme is chosen.
+    /// A header of version 0. `compressed` and `uncompressed` are lengths in bytes, below 2^24. The scheme
+    /// must not be `Auto`.
     pub fn new(scheme: CompressionScheme, compressed: u32, uncompressed: u32) -> XorbChunkHeader
         requires stored { compressed < 2 ^ 24 }
         requires plain { uncompressed < 2 ^ 24 }
@@ -56,7 +56,7 @@ impl XorbChunkHeader {
         }
     }
 
-    /// Sets the number of bytes that are stored, which is below 2^24.
+    /// Sets the length of the stored body, in bytes, below 2^24.
     pub fn set_compressed_length(&mut self, length: u32)
         requires { length < 2 ^ 24 }
         ensures { self.new ≡ record self.old { stored = length } }
@@ -64,7 +64,7 @@ impl XorbChunkHeader {
         self.stored = length;
     }
 
-    /// Sets the number of the chunk's bytes, which is below 2^24.
+    /// Sets the length of the chunk's content, in bytes, below 2^24.
     pub fn set_uncompressed_length(&mut self, length: u32)
         requires { length < 2 ^ 24 }
         ensures { self.new ≡ record self.old { plain = length } }
@@ -72,7 +72,7 @@ impl XorbChunkHeader {
         self.plain = length;
     }
 
-    /// Sets the scheme, which is chosen.
+    /// Sets the scheme, which must not be `Auto`.
     pub fn set_compression_scheme(&mut self, scheme: CompressionScheme)
         requires { scheme ≢ CompressionScheme.Auto }
         ensures { self.new ≡ record self.old { scheme = number_of scheme } }
@@ -80,29 +80,29 @@ impl XorbChunkHeader {
         self.scheme = scheme.number();
     }
 
-    /// How many bytes are stored.
+    /// Length of the stored body, in bytes.
     pub fn get_compressed_length(&self) -> u32
         ensures { result ≡ self.now.stored }
     {
         self.stored
     }
 
-    /// How many bytes the chunk has.
+    /// Length of the chunk's content, in bytes.
     pub fn get_uncompressed_length(&self) -> u32
         ensures { result ≡ self.now.plain }
     {
         self.plain
     }
 
-    /// The scheme. A number that is none's is refused as `MalformedData(Scheme)`.
+    /// The scheme. Fails with `MalformedData(Scheme)` if the number is that of no scheme.
     pub fn get_compression_scheme(&self) -> Result<CompressionScheme, StoreError>
         ensures { result ≡ scheme_of self.now.scheme }
     {
         CompressionScheme::try_from(self.scheme)
     }
 
-    /// Whether a body of the length that is stored is the chunk. The scheme must be that of plain bytes,
-    /// and both lengths the same.
+    /// Checks that a body of the stored length can be read: the scheme is `None` (else `AutoScheme` or
+    /// `CompressionError`), and both lengths are equal (else `BodyLength`).
     pub(crate) fn check_body(&self) -> Result<(), StoreError>
         ensures body { (body : List ℕ) → MatchResult result (λ _. body_of self.now body ≡ Whole body) (λ e. body_of self.now body ≡ Fails e) }
         ensures same { OnOk result (self.now.stored ≡ self.now.plain) }
@@ -135,19 +135,17 @@ impl Default for XorbChunkHeader {
     }
 }
 
-/// Writes the eight bytes of a header, with the version that it has. After a refusal a front of them was
-/// written. It needs no memory, but the sink may.
+/// Writes the eight bytes of a header, with the version that it has. After an error a prefix of them was
+/// written. Does not allocate, but the sink may.
 pub fn write_chunk_header<W: Sink>(w: &mut W, header: &XorbChunkHeader) -> Result<(), StoreError>
     ensures whole { W.tells w.old ≡ true → OnOk result (W.written w.new ≡ W.written w.old ++ header_bytes header.now) }
     ensures front { W.tells w.old ≡ true → (n : ℕ) × (W.written w.new ≡ W.written w.old ++ take n (header_bytes header.now)) }
     ensures refusals { IfErr result StopsWriting }
-    ensures tells { W.tells w.new ≡ W.tells w.old }
-    ensures cause { HasCause (W.faults w.old) (W.faults w.new) (IsErrOf result (Io Output)) }
+    ensures frame { Called W.tells W.faults w.old w.new (IsErrOf result (Io Output)) }
 {
     write_piece(w, &bytes_of_header(header))
 }
 
-/// The eight bytes of a header.
 fn bytes_of_header(header: &XorbChunkHeader) -> [u8; 8]
     ensures { result ≡ header_bytes header.now }
 {
@@ -156,17 +154,21 @@ fn bytes_of_header(header: &XorbChunkHeader) -> [u8; 8]
     [header.version, a, b, c, header.scheme, d, e, f]
 }
 
-/// The header that these bytes are, of a chunk of at most `max_chunk` bytes, which is below 2^23. The
-/// first check that fails is answered: they are no footer's (`ChunkHeaderParse`), the scheme is known, the
-/// version is 0, what is stored is at most twice as long, and the chunk is not longer (each
-/// `MalformedData`).
+/// Parses a chunk header. The chunk may have at most `max_chunk` bytes, which is below 2^23.
+///
+/// The error is that of the first check that fails:
+/// - the bytes do not begin like a footer (`ChunkHeaderParse`)
+/// - the scheme is known (`MalformedData(Scheme)`)
+/// - the version is 0 (`MalformedData(HeaderVersion)`)
+/// - the compressed length is at most `2 * max_chunk` (`MalformedData(StoredLength)`)
+/// - the uncompressed length is at most `max_chunk` (`MalformedData(PlainLength)`)
 pub fn parse_chunk_header(bytes: [u8; 8], max_chunk: u32) -> Result<XorbChunkHeader, StoreError>
     requires { max_chunk < 2 ^ 23 }
     ensures header { result ≡ header_at max_chunk bytes }
     ensures small { IfOk result (λ header. header.stored ≤ 2 * max_chunk) }
     ensures check { IfErr result IsCheck }
 {
-    if is_ident(&bytes) {
+    if is_footer_magic(&bytes) {
         return Err(StoreError::ChunkHeaderParse);
     }
     let header = header_of(bytes);
@@ -183,15 +185,15 @@ pub fn parse_chunk_header(bytes: [u8; 8], max_chunk: u32) -> Result<XorbChunkHea
     Ok(header)
 }
 
-/// Whether a footer begins so.
-fn is_ident(bytes: &[u8]) -> bool
+/// Whether the bytes begin with the magic of a footer.
+fn is_footer_magic(bytes: &[u8]) -> bool
     requires { 7 ≤ length bytes.now }
-    ensures { result ≡ is_ident bytes.now }
+    ensures { result ≡ is_footer_magic bytes.now }
 {
     &bytes[..7] == b"XETBLOB".as_slice()
 }
 
-/// The header that these bytes spell.
+/// Splits the bytes into the fields, without any check.
 fn header_of(bytes: [u8; 8]) -> XorbChunkHeader
     ensures { result ≡ header_of bytes }
 {

@@ -1,4 +1,4 @@
-//! Chunks: how they are stored one behind the other, and how streams of them are written and read.
+//! Stored chunks: headers, bodies, streams of chunks, and compression schemes.
 #![tactic(auto)]
 
 mod chunk;
@@ -29,6 +29,3 @@ pub use header::{
 pub use scheme::CompressionScheme;
 pub use segment::append_chunk_segment;
 pub use stream::{deserialize_chunks, deserialize_chunks_to_writer};
-
-#[cfg(test)]
-mod chunk_tests;

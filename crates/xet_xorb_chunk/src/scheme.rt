@@ -1,4 +1,4 @@
-//! How a chunk's bytes are stored.
+//! Compression schemes of stored chunks.
 
 ghost use Rattle.std.specs.Prelude.{◌≡◌, ◌<◌, ◌^◌, ◌⊎◌, ◌++◌, [], ℕ, true, MatchResult, IfErr, IfOk, IsErrOf, OnOk, Ok, Err, Some, length, take};
 ghost use Rattle.std.specs.Cow.{cow_slice_items};
@@ -6,9 +6,9 @@ ghost use Rattle.std.specs.Str.{bytes_eq, str_to_ascii_lowercase, trim};
 ghost use Rattle.xet_hash.specs.declared.error.StoreError.{StoreError};
 ghost use Rattle.xet_hash.specs.declared.error.StoreError.TheVariants.{Io};
 ghost use Rattle.xet_hash.specs.declared.error.Place.TheVariants.{Input, Output};
-ghost use Rattle.xet_io.specs.Faults.{HasCause};
 ghost use Rattle.xet_codec.specs.Stops.{PassesLimit, StopsWriting};
 ghost use Rattle.xet_xorb_chunk.specs.Scheme.{compressed, decompressed, number_of, resolved, scheme_name, scheme_named, scheme_of};
+ghost use Rattle.xet_io.specs.Frame.{Called};
 
 use std::alloc::Global;
 use std::borrow::CowSlice;
@@ -18,21 +18,21 @@ use xet_codec::{copy_all, new_block};
 use xet_hash::{Reason, StoreError};
 use xet_io::{Sink, Source};
 
-/// A compression scheme, with its number in a chunk header.
+/// A compression scheme. The discriminant is its number in a chunk header.
 #[derive(Clone, Copy, PartialEq, Eq, Debug)]
 pub enum CompressionScheme {
-    /// The bytes as they are.
+    /// The bytes are stored as they are.
     None = 0,
-    /// LZ4, which is read and written by no call here.
+    /// LZ4. No call here reads or writes it.
     LZ4 = 1,
-    /// LZ4 over bytes in four groups, which is read and written by no call here.
+    /// LZ4 over bytes in four groups. No call here reads or writes it.
     ByteGrouping4LZ4 = 2,
-    /// To be chosen when a chunk is stored; the bytes as they are, so far.
+    /// Chosen when a chunk is stored; at present always `None`.
     Auto = 99,
 }
 
 impl CompressionScheme {
-    /// Its name: `none`, `lz4`, `bg4-lz4` or `auto`.
+    /// The scheme's name: `none`, `lz4`, `bg4-lz4` or `auto`.
     fn name(self) -> &'static str
         ensures { result.now ≡ scheme_name self }
     {
@@ -44,14 +44,14 @@ impl CompressionScheme {
         }
     }
 
-    /// The number that a header has for it.
+    /// The scheme's number in a chunk header.
     pub(crate) fn number(self) -> u8
         ensures { result ≡ number_of self }
     {
         self as u8
     }
 
-    /// The scheme under which these bytes are stored: `None` for `Auto`, else itself.
+    /// The scheme under which these bytes are stored: `None` for `Auto`, otherwise the scheme itself.
     pub fn resolve_for_data(&self, _bytes: &[u8]) -> CompressionScheme
         ensures { result ≡ resolved self.now }
     {
@@ -61,8 +61,8 @@ impl CompressionScheme {
         }
     }
 
-    /// The bytes as they are stored, for `None` and `Auto`. It takes no memory. The other schemes are
-    /// refused as `CompressionError` of their number.
+    /// The bytes as they are stored under `None` or `Auto`. Does not allocate. The other schemes fail with
+    /// `CompressionError` of their number.
     pub fn compress_from_slice<'a>(&self, bytes: &'a [u8]) -> Result<CowSlice<'a, u8>, StoreError>
         ensures { MatchResult result (λ stored. compressed self.now bytes.now ≡ Ok (cow_slice_items stored)) (λ e. compressed self.now bytes.now ≡ Err e) }
     {
@@ -72,8 +72,8 @@ impl CompressionScheme {
         }
     }
 
-    /// The bytes that these stand for, for `None`. It takes no memory. `Auto` is refused as
-    /// `MalformedData(AutoScheme)`, and the other schemes as `CompressionError` of their number.
+    /// The content of bytes that were stored under `None`. Does not allocate. `Auto` fails with
+    /// `MalformedData(AutoScheme)`, the other schemes with `CompressionError` of their number.
     pub fn decompress_from_slice<'a>(&self, bytes: &'a [u8]) -> Result<CowSlice<'a, u8>, StoreError>
         ensures { MatchResult result (λ plain. decompressed self.now bytes.now ≡ Ok (cow_slice_items plain)) (λ e. decompressed self.now bytes.now ≡ Err e) }
     {
@@ -84,11 +84,12 @@ impl CompressionScheme {
         }
     }
 
-    /// Writes what all bytes that are left in a source stand for, for `None`, and returns how many they
-    /// are. A source that tells has fewer than 2^63 bytes left. The other schemes are refused as by
-    /// `decompress_from_slice`, before a byte is read. Also refused as `Io(Input)`, `Io(Output)`,
-    /// `OutOfMemory`, or as `TooLarge(Input)` at the first byte behind 2^63, which only a source that does
-    /// not tell can have; a front of the bytes was written then.
+    /// Writes the content of all bytes left in a source, stored under `None`, and returns its length in
+    /// bytes. An observable source must have fewer than 2^63 bytes left.
+    ///
+    /// The other schemes fail as in `decompress_from_slice`, before a byte is read. Further errors are
+    /// `Io(Input)`, `Io(Output)`, `OutOfMemory`, and `TooLarge(Input)` after 2^63 bytes, which only a source
+    /// that is not observable can have. A prefix of the bytes was written then.
     pub fn decompress_from_reader<R: Source, W: Sink>(
         &self,
         alloc: Global,
@@ -105,10 +106,8 @@ impl CompressionScheme {
         ensures nothing { W.tells w.old ≡ true → (e : StoreError) → decompressed self.now [] ≡ Err e → W.written w.new ≡ W.written w.old }
         ensures refusals { R.tells r.old ≡ true → IfErr result (λ e. (decompressed self.now [] ≡ Err e) ⊎ ((e ≡ Io Input) ⊎ StopsWriting e)) }
         ensures kinds { IfErr result (λ e. (decompressed self.now [] ≡ Err e) ⊎ ((e ≡ Io Input) ⊎ (StopsWriting e ⊎ PassesLimit e))) }
-        ensures source_tells { R.tells r.new ≡ R.tells r.old }
-        ensures sink_tells { W.tells w.new ≡ W.tells w.old }
-        ensures source_cause { HasCause (R.faults r.old) (R.faults r.new) (IsErrOf result (Io Input)) }
-        ensures sink_cause { HasCause (W.faults w.old) (W.faults w.new) (IsErrOf result (Io Output)) }
+        ensures source { Called R.tells R.faults r.old r.new (IsErrOf result (Io Input)) }
+        ensures sink { Called W.tells W.faults w.old w.new (IsErrOf result (Io Output)) }
     {
         self.decompress_from_slice(&[])?;
         let mut block = new_block(alloc)?;
@@ -157,7 +156,7 @@ impl TryFrom<u8> for CompressionScheme {
 
     ghost try_from_gives = { λ number r. r ≡ scheme_of number };
 
-    /// The scheme of this number. Another number is refused as `MalformedData(Scheme)`.
+    /// The scheme with this number. Fails with `MalformedData(Scheme)` if there is none.
     fn try_from(number: u8) -> Result<CompressionScheme, StoreError> {
         match number {
             0 => Ok(CompressionScheme::None),
@@ -174,8 +173,8 @@ impl FromStr for CompressionScheme {
 
     ghost from_str_gives = { λ text r. r ≡ scheme_named (str_to_ascii_lowercase (trim text)) };
 
-    /// The scheme of this name, in letters of either case, with white space around it; `Auto` where
-    /// there is no name. Another text is refused as `MalformedData(SchemeText)`.
+    /// The scheme with this name, in letters of either case and with white space around it; `Auto` if the
+    /// name is empty. Fails with `MalformedData(SchemeText)` for another string.
     fn from_str(text: &str) -> Result<CompressionScheme, StoreError> {
         let name = text.trim();
         if name.is_empty() {
@@ -197,7 +196,7 @@ impl FromStr for CompressionScheme {
     }
 }
 
-/// Whether this is the scheme's name, in letters of either case.
+/// Whether `text` is the scheme's name, in letters of either case.
 fn is_name(text: &str, scheme: CompressionScheme) -> bool
     ensures { result ≡ bytes_eq (str_to_ascii_lowercase text.now) (scheme_name scheme) }
 {

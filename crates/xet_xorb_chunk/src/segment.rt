@@ -1,4 +1,4 @@
-//! Chunks that were read in parts.
+//! Chunks that were read in several parts.
 
 ghost use Rattle.std.specs.Prelude.{◌≡◌, ◌<◌, ◌≤◌, ◌+◌, ◌^◌, ◌++◌, IsOk, IsOkUnless, OnErr, OnOk, length, map, vec_capacity, vec_len};
 ghost use Rattle.std.specs.List.{All};
@@ -7,10 +7,12 @@ ghost use Rattle.xet_xorb_chunk.specs.Segment.{SumsFit, joined_places};
 use std::alloc::AllocError;
 use xet_hash::StoreError;
 
-/// Adds the bytes of a part behind `all`, and where its chunks begin, with their number last, to
-/// `indices`: as they are where `indices` is empty, else without the first, each behind the old bytes.
-/// The sums are below 2^32. Where there is no memory, the call fails with `StoreError::OutOfMemory`, and
-/// leaves both as they were.
+/// Appends one part of a read to the parts before it. `all` and `segment` are uncompressed bytes. `indices`
+/// and `segment_indices` are the offsets of their chunks, followed by the total length.
+///
+/// If `indices` is empty, the part's offsets are appended as they are. Otherwise all but the first are, each
+/// plus the old length of `all`; these sums must be below 2^32. The only error is `OutOfMemory`; both lists
+/// are unchanged then.
 pub fn append_chunk_segment(
     all: &mut Vec<u8>,
     indices: &mut Vec<u32>,
@@ -31,7 +33,7 @@ pub fn append_chunk_segment(
     Ok(())
 }
 
-/// Adds the places of a part, behind so many bytes. There is room for them.
+/// Appends the offsets of a part that follows `before` bytes. The capacity must suffice.
 fn join_places(indices: &mut Vec<u32>, places: &[u32], before: usize) -> Result<(), AllocError>
     requires fits { SumsFit indices.old.items before places.now }
     requires room { vec_len indices.old + length places.now ≤ vec_capacity indices.old }
@@ -47,7 +49,7 @@ fn join_places(indices: &mut Vec<u32>, places: &[u32], before: usize) -> Result<
     push_places(indices, rest, before)
 }
 
-/// Adds these places, each behind so many bytes. There is room for them.
+/// Appends `before` plus each of these offsets. The capacity must suffice.
 fn push_places(indices: &mut Vec<u32>, places: &[u32], before: usize) -> Result<(), AllocError>
     requires fits { All (λ place. before + place < 2 ^ 32) places.now }
     requires room { vec_len indices.old + length places.now ≤ vec_capacity indices.old }

@@ -1,16 +1,16 @@
-//! Streams of chunks, which are read to their end.
+//! Streams of chunks that are read to their end.
 
 ghost use Rattle.std.specs.Prelude.{◌≡◌, ◌<◌, ◌≤◌, ◌^◌, ◌++◌, ◌⊎◌, [], ℕ, List, Ok, Err, true, IfErr, IfOk, IsErrOf, OnOk, length};
 ghost use Rattle.std.specs.List.{concat};
 ghost use Rattle.xet_hash.specs.declared.error.StoreError.TheVariants.{Io};
 ghost use Rattle.xet_hash.specs.declared.error.Place.TheVariants.{Input, Output};
-ghost use Rattle.xet_io.specs.Faults.{HasCause};
 ghost use Rattle.xet_xorb_chunk.specs.Decoder.{Holds, fed_len, most_of, whole_of};
 ghost use Rattle.xet_xorb_chunk.specs.Checks.{IsCheck};
 ghost use Rattle.xet_codec.specs.Stops.{PassesLimit, StopsReading, StopsWriting};
 ghost use Rattle.xet_xorb_chunk.specs.Passing.{Refuses, RefusesStream, WritesStream, WritesWhole};
 ghost use Rattle.xet_xorb_chunk.specs.Stream.{IsStream, places_from, stored_bytes};
 ghost use Rattle.xet_xorb_chunk.specs.Taking.{TakesPrefix};
+ghost use Rattle.xet_io.specs.Frame.{Called};
 
 use crate::decoder::ChunkDecoder;
 use std::alloc::Global;
@@ -18,13 +18,13 @@ use xet_codec::{MOST, new_block, read_some};
 use xet_hash::{StoreError, What};
 use xet_io::{MemorySink, Sink, Source};
 
-/// Reads a stream of chunks, of at most `max_chunk` bytes each, which is below 2^23, to its end: gives
-/// all their bytes, and where each chunk begins among them, with their number last. A source that tells
-/// has fewer than 2^63 bytes left.
+/// Reads a stream of chunks to its end, each of at most `max_chunk` bytes, which is below 2^23. Returns their
+/// uncompressed bytes, and the offset of each chunk among these, followed by the total length. An observable
+/// source must have fewer than 2^63 bytes left.
 ///
-/// Refused as the first check that fails says, as `UnexpectedEof` where the stream ends inside a chunk,
-/// as `Io(Input)`, as `OutOfMemory`, or as `TooLarge(Input)` at the first byte behind 2^63, which only a
-/// source that does not tell can have.
+/// Errors: the first check that fails, `UnexpectedEof` if the stream ends inside a chunk, `Io(Input)`,
+/// `OutOfMemory`, and `TooLarge(Input)` after 2^63 bytes, which only a source that is not observable can
+/// have.
 pub fn deserialize_chunks<R: Source>(
     alloc: Global,
     r: &mut R,
@@ -37,18 +37,20 @@ pub fn deserialize_chunks<R: Source>(
     ensures prefix { R.tells r.old ≡ true → TakesPrefix (R.left r.old) (R.left r.new) }
     ensures refusals { R.tells r.old ≡ true → IfErr result (λ e. ((chunks : List (List ℕ)) × IsStream max_chunk (R.left r.old) chunks (Err e)) ⊎ StopsReading e) }
     ensures kinds { IfErr result (λ e. IsCheck e ⊎ (StopsReading e ⊎ PassesLimit e)) }
-    ensures tells { R.tells r.new ≡ R.tells r.old }
-    ensures cause { HasCause (R.faults r.old) (R.faults r.new) (IsErrOf result (Io Input)) }
+    ensures frame { Called R.tells R.faults r.old r.new (IsErrOf result (Io Input)) }
 {
     let mut sink = MemorySink::new(alloc);
     let (_, places) = deserialize_chunks_to_writer(alloc, r, &mut sink, max_chunk)?;
     Ok((sink.into_bytes(), places))
 }
 
-/// Reads a stream of chunks, as `deserialize_chunks` does, and writes each as soon as it is whole: gives
-/// how many bytes were taken, headers included, and where each chunk begins among the written bytes, with
-/// their number last. Also refused as `Io(Output)`. After a refusal whole chunks were written, and where
-/// the sink refused, a front of one.
+/// Reads a stream of chunks, as `deserialize_chunks` does, and writes each chunk as soon as it is whole.
+/// Returns the number of bytes read, headers included, and the offset of each chunk among the written bytes,
+/// followed by the total length.
+///
+/// Errors: those of `deserialize_chunks`, and `Io(Output)`. After a failed check all chunks before it were
+/// written, and after `Io(Input)` some whole chunks. `Io(Output)` and `OutOfMemory` leave a prefix of the
+/// whole chunks written.
 pub fn deserialize_chunks_to_writer<R: Source, W: Sink>(
     alloc: Global,
     r: &mut R,
@@ -62,10 +64,8 @@ pub fn deserialize_chunks_to_writer<R: Source, W: Sink>(
     ensures prefix { R.tells r.old ≡ true → TakesPrefix (R.left r.old) (R.left r.new) }
     ensures refusals { R.tells r.old ≡ true → IfErr result (RefusesStream max_chunk (R.left r.old) (W.tells w.old ≡ true) (W.written w.old) (W.written w.new)) }
     ensures kinds { IfErr result (λ e. IsCheck e ⊎ (StopsWriting e ⊎ ((e ≡ Io Input) ⊎ PassesLimit e))) }
-    ensures source_tells { R.tells r.new ≡ R.tells r.old }
-    ensures sink_tells { W.tells w.new ≡ W.tells w.old }
-    ensures source_cause { HasCause (R.faults r.old) (R.faults r.new) (IsErrOf result (Io Input)) }
-    ensures sink_cause { HasCause (W.faults w.old) (W.faults w.new) (IsErrOf result (Io Output)) }
+    ensures source { Called R.tells R.faults r.old r.new (IsErrOf result (Io Input)) }
+    ensures sink { Called W.tells W.faults w.old w.new (IsErrOf result (Io Output)) }
 {
     let mut block = new_block(alloc)?;
     let mut decoder = ChunkDecoder::new(alloc, max_chunk);
@@ -92,10 +92,8 @@ fn feed_all<R: Source, W: Sink>(
     ensures most { most_of decoder.new ≡ most_of decoder.old }
     ensures refusals { R.tells r.old ≡ true → IfErr result (λ e. Refuses (most_of decoder.old) 0 (R.left r.old) (W.tells w.old ≡ true) (W.written w.old) (W.written w.new) e ⊎ ((e ≡ Io Input) × (W.tells w.old ≡ true → WritesWhole (most_of decoder.old) (R.left r.old) (W.written w.old) (W.written w.new)))) }
     ensures kinds { IfErr result (λ e. IsCheck e ⊎ (StopsWriting e ⊎ ((e ≡ Io Input) ⊎ PassesLimit e))) }
-    ensures source_tells { R.tells r.new ≡ R.tells r.old }
-    ensures sink_tells { W.tells w.new ≡ W.tells w.old }
-    ensures source_cause { HasCause (R.faults r.old) (R.faults r.new) (IsErrOf result (Io Input)) }
-    ensures sink_cause { HasCause (W.faults w.old) (W.faults w.new) (IsErrOf result (Io Output)) }
+    ensures source { Called R.tells R.faults r.old r.new (IsErrOf result (Io Input)) }
+    ensures sink { Called W.tells W.faults w.old w.new (IsErrOf result (Io Output)) }
 {
     'reads: loop {
         let count = read_some(r, block)?;

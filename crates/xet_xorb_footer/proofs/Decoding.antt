@@ -6,7 +6,8 @@ use Rattle.xet_hash.specs.declared.error.StoreError.TheVariants.{UnexpectedEof}
 use Rattle.xet_xorb_footer.specs.declared.decoder.FooterDecoder.{FooterDecoder}
 use Rattle.xet_xorb_footer.specs.Decoder.{Holds, Refuses}
 use Rattle.xet_xorb_footer.specs.Ends.{whole_footer}
-use Rattle.xet_xorb_footer.specs.Joining.{IsReady, IsTotal, Reads, Stops, joined_wanted, rest_whole, wanted_next}
+use Rattle.xet_xorb_footer.specs.Joining.{IsReady, joined_wanted, rest_whole, wanted_next}
+use Rattle.xet_xorb_footer.specs.internal.Joining.{IsTotal, Reads, Stops}
 use Rattle.xet_xorb_footer.specs.Machine.{info_of}
 use Rattle.xet_xorb_footer.specs.Reader.{bytes_wanted, parts_of}
 use Rattle.xet_xorb_footer.proofs.Joining.{at_end, short_rest}

@@ -9,21 +9,22 @@ use Rattle.xet_hash.specs.declared.error.Reason.TheVariants.{InfoLength}
 use Rattle.xet_hash.specs.declared.error.StoreError.{StoreError}
 use Rattle.xet_hash.specs.declared.error.StoreError.TheVariants.{Io, MalformedData, OutOfMemory, UnexpectedEof}
 use Rattle.xet_xorb_footer.specs.declared.info.XorbObjectInfoV1.{XorbObjectInfoV1}
-use Rattle.xet_xorb_footer.specs.Ends.{last_footer, told_length}
+use Rattle.xet_xorb_footer.specs.Ends.{last_footer, footer_length}
 use Rattle.xet_xorb_footer.specs.declared.machine.Field.{Field}
-use Rattle.xet_xorb_footer.specs.Machine.{Parts, as_value, info_of, rest}
+use Rattle.xet_xorb_footer.specs.Machine.{Parts, info_of, rest}
+use Rattle.xet_xorb_footer.specs.internal.Machine.{as_value}
 use Rattle.xet_codec.specs.Parsing.{◌>>=◌, Taken, wants}
 use Rattle.xet_xorb_footer.specs.Reading.{footer_at}
 
-pub told_short : (bytes : List ℕ) → length bytes < 4 → told_length bytes ≡ Err UnexpectedEof
-unfolding told_length
+pub told_short : (bytes : List ℕ) → length bytes < 4 → footer_length bytes ≡ Err UnexpectedEof
+unfolding footer_length
 told_short bytes lt = rw (lt-leb 4 (length bytes) lt) refl
 
-pub last_untold : (bytes : List ℕ) (e : StoreError) → told_length bytes ≡ Err e → last_footer bytes ≡ Err e
+pub last_untold : (bytes : List ℕ) (e : StoreError) → footer_length bytes ≡ Err e → last_footer bytes ≡ Err e
 unfolding last_footer
 last_untold bytes e untold = rw untold refl
 
-pub last_beyond : (len n : ℕ) (bytes : List ℕ) → len ≡ length bytes → told_length bytes ≡ Ok n → len < n + 4 → last_footer bytes ≡ Err UnexpectedEof
+pub last_beyond : (len n : ℕ) (bytes : List ℕ) → len ≡ length bytes → footer_length bytes ≡ Ok n → len < n + 4 → last_footer bytes ≡ Err UnexpectedEof
 unfolding last_footer
 last_beyond len n bytes same told lt = rw (told, lt-leb (n + 4) (length bytes) (omega arith)) refl
 
@@ -41,41 +42,41 @@ field_refused f p n at field bytes e is (inr fails) = inl (ap (λ (b : List ℕ)
 behind_it : ℕ → Taken XorbObjectInfoV1 → Result (XorbObjectInfoV1 × ℕ) StoreError
 behind_it n read = read >>= λ x. wants (length x.1 == 4) InfoLength >>= λ _. Ok (x.0, n)
 
-begins : (len n : ℕ) (bytes : List ℕ) → len ≡ length bytes → told_length bytes ≡ Ok n → n + 4 ≤ len → last_footer bytes ≡ behind_it n (footer_at (drop (len - (n + 4)) bytes))
+begins : (len n : ℕ) (bytes : List ℕ) → len ≡ length bytes → footer_length bytes ≡ Ok n → n + 4 ≤ len → last_footer bytes ≡ behind_it n (footer_at (drop (len - (n + 4)) bytes))
 unfolding last_footer behind_it
 begins len n bytes same told le =
     let enough : nat_le (n + 4) (length bytes) ≡ true = le-leb (n + 4) (length bytes) (omega arith) in
     let here : length bytes - (n + 4) ≡ len - (n + 4) = ap (λ (k : ℕ). k - (n + 4)) (sym same) in
     rw (told, enough, here) refl
 
-pub last_refused : (len n : ℕ) (bytes : List ℕ) (read : Taken Parts) (e : StoreError) → len ≡ length bytes → told_length bytes ≡ Ok n → n + 4 ≤ len → as_value info_of read ≡ footer_at (drop (len - (n + 4)) bytes) → read ≡ Err e
+pub last_refused : (len n : ℕ) (bytes : List ℕ) (read : Taken Parts) (e : StoreError) → len ≡ length bytes → footer_length bytes ≡ Ok n → n + 4 ≤ len → as_value info_of read ≡ footer_at (drop (len - (n + 4)) bytes) → read ≡ Err e
     → last_footer bytes ≡ Err e
 unfolding behind_it
 last_refused len n bytes read e same told le is err = begins len n bytes same told le ∙ ap (behind_it n) (sym is ∙ ap (as_value info_of) err)
 
 -- it was read up to a place
-reached : (len n to : ℕ) (bytes : List ℕ) (read : Taken Parts) (p : Parts) → len ≡ length bytes → told_length bytes ≡ Ok n → n + 4 ≤ len → as_value info_of read ≡ footer_at (drop (len - (n + 4)) bytes)
+reached : (len n to : ℕ) (bytes : List ℕ) (read : Taken Parts) (p : Parts) → len ≡ length bytes → footer_length bytes ≡ Ok n → n + 4 ≤ len → as_value info_of read ≡ footer_at (drop (len - (n + 4)) bytes)
     → read ≡ Ok (p, drop to bytes) → last_footer bytes ≡ (wants ((len - to) == 4) InfoLength >>= λ _. Ok (info_of p, n))
 unfolding behind_it
 reached len n to bytes read p same told le is ok =
     let left : length (drop to bytes) ≡ len - to = length-drop to bytes ∙ ap (λ (k : ℕ). k - to) (sym same) in
     begins len n bytes same told le ∙ ap (behind_it n) (sym is ∙ ap (as_value info_of) ok) ∙ ap (λ (k : ℕ). wants (k == 4) InfoLength >>= λ _. Ok (info_of p, n)) left
 
-pub last_wrong : (len n to : ℕ) (bytes : List ℕ) (read : Taken Parts) (p : Parts) → len ≡ length bytes → told_length bytes ≡ Ok n → n + 4 ≤ len → as_value info_of read ≡ footer_at (drop (len - (n + 4)) bytes)
+pub last_wrong : (len n to : ℕ) (bytes : List ℕ) (read : Taken Parts) (p : Parts) → len ≡ length bytes → footer_length bytes ≡ Ok n → n + 4 ≤ len → as_value info_of read ≡ footer_at (drop (len - (n + 4)) bytes)
     → read ≡ Ok (p, drop to bytes) → ((len - to) == 4) ≡ false → last_footer bytes ≡ Err (MalformedData InfoLength)
 last_wrong len n to bytes read p same told le is ok off = reached len n to bytes read p same told le is ok ∙ ap (λ (b : Bool). wants b InfoLength >>= λ _. Ok (info_of p, n)) off
 
-pub last_is : (len n to : ℕ) (bytes : List ℕ) (read : Taken Parts) (p : Parts) → len ≡ length bytes → told_length bytes ≡ Ok n → n + 4 ≤ len → as_value info_of read ≡ footer_at (drop (len - (n + 4)) bytes)
+pub last_is : (len n to : ℕ) (bytes : List ℕ) (read : Taken Parts) (p : Parts) → len ≡ length bytes → footer_length bytes ≡ Ok n → n + 4 ≤ len → as_value info_of read ≡ footer_at (drop (len - (n + 4)) bytes)
     → read ≡ Ok (p, drop to bytes) → ((len - to) == 4) ≡ true → last_footer bytes ≡ Ok (info_of p, n)
 last_is len n to bytes read p same told le is ok fits = reached len n to bytes read p same told le is ok ∙ ap (λ (b : Bool). wants b InfoLength >>= λ _. Ok (info_of p, n)) fits
 
 -- ---- the same, as calls refuse
 
-pub untold : {P : Type 0} (bytes : List ℕ) (e : StoreError) → (told_length bytes ≡ Err e) ⊎ (e ≡ Io Input) → (last_footer bytes ≡ Err e) ⊎ (e ≡ Io Input) ⊎ P
+pub untold : {P : Type 0} (bytes : List ℕ) (e : StoreError) → (footer_length bytes ≡ Err e) ⊎ (e ≡ Io Input) → (last_footer bytes ≡ Err e) ⊎ (e ≡ Io Input) ⊎ P
 untold bytes e (inl is) = inl (last_untold bytes e is)
 untold bytes e (inr fault) = inr (inl fault)
 
-pub unread : {P : Type 0} (len n : ℕ) (bytes seen : List ℕ) (read : List ℕ → Taken Parts) (e : StoreError) → seen ≡ bytes → len ≡ length bytes → told_length bytes ≡ Ok n → n + 4 ≤ len
+pub unread : {P : Type 0} (len n : ℕ) (bytes seen : List ℕ) (read : List ℕ → Taken Parts) (e : StoreError) → seen ≡ bytes → len ≡ length bytes → footer_length bytes ≡ Ok n → n + 4 ≤ len
     → ((b : List ℕ) → as_value info_of (read b) ≡ footer_at b) → (read (drop (len - (n + 4)) seen) ≡ Err e) ⊎ P → (last_footer bytes ≡ Err e) ⊎ P
 unread len n bytes seen read e is same told le reads (inl err) =
     inl (last_refused len n bytes (read (drop (len - (n + 4)) bytes)) e same told le (reads (drop (len - (n + 4)) bytes)) (ap (λ (b : List ℕ). read (drop (len - (n + 4)) b)) (sym is) ∙ err))

@@ -11,8 +11,10 @@ use Rattle.xet_xorb_footer.specs.declared.info.XorbObjectInfoV1.{XorbObjectInfoV
 use Rattle.xet_xorb_footer.specs.declared.machine.Field.{Field}
 use Rattle.xet_xorb_footer.specs.declared.machine.Field.TheVariants as fields
 use Rattle.xet_xorb_footer.specs.Ends.{whole_footer}
-use Rattle.xet_xorb_footer.specs.Joining.{IsReady, IsTotal, Reads, Stops, ends_with, is_done, rest_whole, wanted_next}
-use Rattle.xet_xorb_footer.specs.Machine.{IsSettled, Parts, as_value, info_of, wanted_of}
+use Rattle.xet_xorb_footer.specs.Joining.{IsReady, ends_with, is_done, rest_whole, wanted_next}
+use Rattle.xet_xorb_footer.specs.internal.Joining.{IsTotal, Reads, Stops}
+use Rattle.xet_xorb_footer.specs.internal.Machine.{IsSettled, as_value}
+use Rattle.xet_xorb_footer.specs.Machine.{Parts, info_of, wanted_of}
 use Rattle.xet_xorb_footer.specs.Reader.{bytes_wanted, parts_of, rest_of}
 use Rattle.xet_codec.specs.Parsing.{◌>>=◌, Taken, wants}
 use Rattle.xet_xorb_footer.specs.Reading.{footer_at}

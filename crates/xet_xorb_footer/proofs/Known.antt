@@ -8,11 +8,13 @@ use Rattle.xet_hash.specs.declared.error.Reason.{Reason}
 use Rattle.xet_hash.specs.declared.error.Reason.TheVariants as reasons
 use Rattle.xet_xorb_footer.specs.declared.machine.Field.{Field}
 use Rattle.xet_xorb_footer.specs.declared.machine.Field.TheVariants as fields
-use Rattle.xet_xorb_footer.specs.Items.{hashes_in, numbers_in}
-use Rattle.xet_xorb_footer.specs.Machine.{IsSettled, Parts, behind_ends, behind_hashes, block_of, ends_v0, ends_v1, hashes_v0, hashes_v1, lacks, more_ends, more_hashes, more_plain, plain_v1, room_behind_ends, room_of, step, wanted_of}
+use Rattle.xet_xorb_footer.specs.internal.Items.{hashes_in, numbers_in}
+use Rattle.xet_xorb_footer.specs.internal.Machine.{IsSettled, behind_ends, behind_hashes, ends_v0, ends_v1, hashes_v0, hashes_v1, lacks, more_ends, more_hashes, more_plain, plain_v1, step}
+use Rattle.xet_xorb_footer.specs.Machine.{Parts, block_of, room_behind_ends, room_of, wanted_of}
 use Rattle.xet_codec.specs.Parsing.{◌>>=◌, wants}
-use Rattle.xet_xorb_footer.specs.Refusals.{IsFailedCheck, is_check}
-use Rattle.xet_xorb_footer.specs.Spelled.{most_chunks}
+use Rattle.xet_xorb_footer.specs.internal.Refusals.{IsFailedCheck}
+use Rattle.xet_xorb_footer.specs.Refusals.{is_check}
+use Rattle.xet_xorb_footer.specs.FooterEncoding.{max_chunks}
 use Rattle.xet_xorb_footer.specs.theorems.Fronts.{length_items}
 
 -- behind a test
@@ -171,25 +173,25 @@ abbrev pub Fewer : ℕ → ℕ → Field → Parts → Type 0
 Fewer len room f p = len + room_of f p ≤ room
 
 room_version : (b : Bool) (p : Parts) (field : List ℕ)
-    → IfOk {T = Field × Parts} (cond b (Ok (fields.Hash, record p { is_v1 = true })) (wants (pointwise nat_eq field (0 ∷ [])) reasons.Version >>= λ _. Ok (fields.Hash, record p { is_v1 = false }))) (λ x. 1 + room_of x.0 x.1 ≤ 85 + 40 * most_chunks)
+    → IfOk {T = Field × Parts} (cond b (Ok (fields.Hash, record p { is_v1 = true })) (wants (pointwise nat_eq field (0 ∷ [])) reasons.Version >>= λ _. Ok (fields.Hash, record p { is_v1 = false }))) (λ x. 1 + room_of x.0 x.1 ≤ 85 + 40 * max_chunks)
 room_version true p field = omega arith
-room_version false p field = tested (Fewer 1 (85 + 40 * most_chunks)) (pointwise nat_eq field (0 ∷ [])) reasons.Version fields.Hash (record p { is_v1 = false }) (omega arith)
+room_version false p field = tested (Fewer 1 (85 + 40 * max_chunks)) (pointwise nat_eq field (0 ∷ [])) reasons.Version fields.Hash (record p { is_v1 = false }) (omega arith)
 
-room_count : (b : Bool) (q : Parts) → q.is_v1 ≡ b → q.count ≤ most_chunks → 4 + room_of (cond q.is_v1 (hashes_v1 q) (ends_v0 q)) q ≤ 44 + 40 * most_chunks
+room_count : (b : Bool) (q : Parts) → q.is_v1 ≡ b → q.count ≤ max_chunks → 4 + room_of (cond q.is_v1 (hashes_v1 q) (ends_v0 q)) q ≤ 44 + 40 * max_chunks
 room_count true q e few = omega (arith, room_hashes_v1 q e, ap (λ (b : Bool). room_of (cond b (hashes_v1 q) (ends_v0 q)) q) e)
 room_count false q e few = omega (arith, room_ends_v0 q e, ap (λ (b : Bool). room_of (cond b (hashes_v1 q) (ends_v0 q)) q) e)
 
 -- what is left behind a field
 pub step_room : (f : Field) (p : Parts) (field : List ℕ) → IfOk (step f p field) (λ x. wanted_of f p + room_of x.0 x.1 ≤ room_of f p)
 unfolding step
-step_room fields.Ident p field = tested (Fewer 7 (92 + 40 * most_chunks)) _ _ fields.Version p (omega arith)
+step_room fields.Ident p field = tested (Fewer 7 (92 + 40 * max_chunks)) _ _ fields.Version p (omega arith)
 step_room fields.Version p field = room_version (p.either && pointwise nat_eq field (1 ∷ [])) p field
-step_room fields.Hash p field = of_either (λ f. 32 + room_of f (record p { hash = field }) ≤ 84 + 40 * most_chunks) p.is_v1 fields.HashesIdent fields.Count (omega arith) (omega arith)
-step_room fields.HashesIdent p field = tested (Fewer 7 (52 + 40 * most_chunks)) _ _ fields.HashesVersion p (omega arith)
-step_room fields.HashesVersion p field = tested (Fewer 1 (45 + 40 * most_chunks)) _ _ fields.Count p (omega arith)
+step_room fields.Hash p field = of_either (λ f. 32 + room_of f (record p { hash = field }) ≤ 84 + 40 * max_chunks) p.is_v1 fields.HashesIdent fields.Count (omega arith) (omega arith)
+step_room fields.HashesIdent p field = tested (Fewer 7 (52 + 40 * max_chunks)) _ _ fields.HashesVersion p (omega arith)
+step_room fields.HashesVersion p field = tested (Fewer 1 (45 + 40 * max_chunks)) _ _ fields.Count p (omega arith)
 step_room fields.Count p field =
     let q : Parts = record p { count = from_le_bytes w32 field } in
-    tested_on (Fewer 4 (44 + 40 * most_chunks)) (nat_le (from_le_bytes w32 field) most_chunks) reasons.ChunkCount _ q (λ few. room_count p.is_v1 q refl (leb-true q.count most_chunks few))
+    tested_on (Fewer 4 (44 + 40 * max_chunks)) (nat_le (from_le_bytes w32 field) max_chunks) reasons.ChunkCount _ q (λ few. room_count p.is_v1 q refl (leb-true q.count max_chunks few))
 step_room fields.Hashes p field =
     let q : Parts = more_hashes p field in
     let room = room_hashes q.is_v1 q refl in

@@ -6,10 +6,10 @@ use Rattle.std.specs.Int.{w32, from_le_bytes}
 use Rattle.xet_hash.specs.declared.error.Reason.{Reason}
 use Rattle.xet_hash.specs.declared.error.StoreError.{StoreError}
 use Rattle.xet_hash.specs.declared.error.StoreError.TheVariants.{MalformedData, UnexpectedEof}
-use Rattle.xet_xorb_footer.specs.Items.{numbers_in}
+use Rattle.xet_xorb_footer.specs.internal.Items.{numbers_in}
 use Rattle.xet_codec.specs.declared.block.Block.{Block}
 use Rattle.xet_codec.specs.Blocks.{EndsBefore, IsPart, RefusedBy, Sees, Tells}
-use Rattle.xet_xorb_footer.specs.Places.{checked_at}
+use Rattle.xet_xorb_footer.specs.internal.Places.{checked_at}
 use Rattle.xet_codec.specs.Parsing.{◌>>=◌, Taken, bytes_at, number_at, times, wants}
 use Rattle.xet_xorb_footer.specs.Reading.{number_is}
 use Rattle.xet_xorb_footer.specs.theorems.Fronts.{a_number, bytes_short, bytes_whole, length_items, list_block, list_full, list_short, number_whole}

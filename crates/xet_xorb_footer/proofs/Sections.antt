@@ -9,9 +9,9 @@ use Rattle.xet_xorb_footer.specs.declared.info.XorbObjectInfoV1.{XorbObjectInfoV
 use Rattle.xet_xorb_footer.specs.Ends.{boundaries, last_boundaries, number_before}
 use Rattle.xet_codec.specs.Parsing.{reaches, ◌>>=◌, Taken, bytes_at, number_at, times, wants}
 use Rattle.xet_codec.specs.Blocks.{RefusedBy}
-use Rattle.xet_xorb_footer.specs.Places.{checked_at, head_at, lists_at, tail_at}
-use Rattle.xet_xorb_footer.specs.Reading.{count_at, ident_at, number_is, version_at}
-use Rattle.xet_xorb_footer.specs.Spelled.{boundaries_ident, empty_v1, most_chunks}
+use Rattle.xet_xorb_footer.specs.internal.Places.{checked_at, head_at, lists_at, tail_at}
+use Rattle.xet_xorb_footer.specs.Reading.{count_at, magic_at, number_is, version_at}
+use Rattle.xet_xorb_footer.specs.FooterEncoding.{boundaries_magic, empty_v1, max_chunks}
 use Rattle.xet_xorb_footer.specs.theorems.Fronts.{bind_bind, bytes_whole, onward}
 use Rattle.xet_xorb_footer.proofs.Placing.{refused_after, then_refused}
 
@@ -25,35 +25,35 @@ at_place r x bytes m n is same = is ∙ ap (λ (k : ℕ). Ok (x, drop k bytes)) 
 
 -- ---- ident, version and number of chunks
 
-pub head_ident : (b : List ℕ) (e : StoreError) → RefusedBy (checked_at 7 boundaries_ident BoundariesIdent b) e → RefusedBy (head_at b) e
-unfolding head_at ident_at checked_at
-head_ident b e r = then_refused (checked_at 7 boundaries_ident BoundariesIdent b) (λ s. version_at 1 BoundariesVersion s.1 >>= λ v. count_at v.1) e r
+pub head_ident : (b : List ℕ) (e : StoreError) → RefusedBy (checked_at 7 boundaries_magic BoundariesIdent b) e → RefusedBy (head_at b) e
+unfolding head_at magic_at checked_at
+head_ident b e r = then_refused (checked_at 7 boundaries_magic BoundariesIdent b) (λ s. version_at 1 BoundariesVersion s.1 >>= λ v. count_at v.1) e r
 
-head_behind : (b b1 : List ℕ) → checked_at 7 boundaries_ident BoundariesIdent b ≡ Ok (tt, b1) → head_at b ≡ (version_at 1 BoundariesVersion b1 >>= λ v. count_at v.1)
-unfolding head_at ident_at checked_at
+head_behind : (b b1 : List ℕ) → checked_at 7 boundaries_magic BoundariesIdent b ≡ Ok (tt, b1) → head_at b ≡ (version_at 1 BoundariesVersion b1 >>= λ v. count_at v.1)
+unfolding head_at magic_at checked_at
 head_behind b b1 one = ap (λ (r : Taken (Unit {0})). r >>= λ s. version_at 1 BoundariesVersion s.1 >>= λ v. count_at v.1) one
 
-pub head_version : (b b1 : List ℕ) (e : StoreError) → checked_at 7 boundaries_ident BoundariesIdent b ≡ Ok (tt, b1) → RefusedBy (checked_at 1 (1 ∷ []) BoundariesVersion b1) e → RefusedBy (head_at b) e
+pub head_version : (b b1 : List ℕ) (e : StoreError) → checked_at 7 boundaries_magic BoundariesIdent b ≡ Ok (tt, b1) → RefusedBy (checked_at 1 (1 ∷ []) BoundariesVersion b1) e → RefusedBy (head_at b) e
 unfolding version_at checked_at
 head_version b b1 e one r = refused_as (head_at b) _ e (head_behind b b1 one) (then_refused (checked_at 1 (1 ∷ []) BoundariesVersion b1) (λ v. count_at v.1) e r)
 
-pub head_from : (b b1 b2 : List ℕ) → checked_at 7 boundaries_ident BoundariesIdent b ≡ Ok (tt, b1) → checked_at 1 (1 ∷ []) BoundariesVersion b1 ≡ Ok (tt, b2) → head_at b ≡ count_at b2
+pub head_from : (b b1 b2 : List ℕ) → checked_at 7 boundaries_magic BoundariesIdent b ≡ Ok (tt, b1) → checked_at 1 (1 ∷ []) BoundariesVersion b1 ≡ Ok (tt, b2) → head_at b ≡ count_at b2
 unfolding version_at checked_at
 head_from b b1 b2 one two = head_behind b b1 one ∙ ap (λ (r : Taken (Unit {0})). r >>= λ v. count_at v.1) two
 
 pub count_unread : (b : List ℕ) (e : StoreError) → RefusedBy (number_at b) e → RefusedBy (count_at b) e
 unfolding count_at
-count_unread b e r = then_refused (number_at b) (λ x. wants (nat_le x.0 most_chunks) ChunkCount >>= λ _. Ok x) e r
+count_unread b e r = then_refused (number_at b) (λ x. wants (nat_le x.0 max_chunks) ChunkCount >>= λ _. Ok x) e r
 
-pub count_many : (b more : List ℕ) (n : ℕ) → number_at b ≡ Ok (n, more) → most_chunks < n → count_at b ≡ Err (MalformedData ChunkCount)
+pub count_many : (b more : List ℕ) (n : ℕ) → number_at b ≡ Ok (n, more) → max_chunks < n → count_at b ≡ Err (MalformedData ChunkCount)
 unfolding count_at
 count_many b more n read many =
-    ap (λ (r : Taken ℕ). r >>= λ x. wants (nat_le x.0 most_chunks) ChunkCount >>= λ _. Ok x) read ∙ ap (λ (t : Bool). wants t ChunkCount >>= λ _. Ok (n, more)) (lt-leb n most_chunks many)
+    ap (λ (r : Taken ℕ). r >>= λ x. wants (nat_le x.0 max_chunks) ChunkCount >>= λ _. Ok x) read ∙ ap (λ (t : Bool). wants t ChunkCount >>= λ _. Ok (n, more)) (lt-leb n max_chunks many)
 
-pub count_few : (b more : List ℕ) (n : ℕ) → number_at b ≡ Ok (n, more) → n ≤ most_chunks → count_at b ≡ Ok (n, more)
+pub count_few : (b more : List ℕ) (n : ℕ) → number_at b ≡ Ok (n, more) → n ≤ max_chunks → count_at b ≡ Ok (n, more)
 unfolding count_at
 count_few b more n read few =
-    ap (λ (r : Taken ℕ). r >>= λ x. wants (nat_le x.0 most_chunks) ChunkCount >>= λ _. Ok x) read ∙ ap (λ (t : Bool). wants t ChunkCount >>= λ _. Ok (n, more)) (le-leb n most_chunks few)
+    ap (λ (r : Taken ℕ). r >>= λ x. wants (nat_le x.0 max_chunks) ChunkCount >>= λ _. Ok x) read ∙ ap (λ (t : Bool). wants t ChunkCount >>= λ _. Ok (n, more)) (le-leb n max_chunks few)
 
 -- ---- the lists
 
@@ -146,8 +146,8 @@ pub parts : (b : List ℕ) → boundaries b ≡ (head_at b >>= λ n. behind_head
 unfolding boundaries head_at
 parts b =
     sym
-    (bind_bind (ident_at boundaries_ident BoundariesIdent b) _ _
-    ∙ onward (ident_at boundaries_ident BoundariesIdent b) _ _
+    (bind_bind (magic_at boundaries_magic BoundariesIdent b) _ _
+    ∙ onward (magic_at boundaries_magic BoundariesIdent b) _ _
     (λ s. bind_bind (version_at 1 BoundariesVersion s.1) _ _
     ∙ onward (version_at 1 BoundariesVersion s.1) _ _
     (λ v. onward (count_at v.1) _ _

@@ -7,13 +7,13 @@ use Rattle.xet_hash.specs.declared.error.StoreError.TheVariants.{UnexpectedEof}
 use Rattle.std.specs.Int.{w32, from_le_bytes}
 use Rattle.xet_xorb_footer.specs.declared.machine.Field.{Field}
 use Rattle.xet_xorb_footer.specs.declared.machine.Field.TheVariants as fields
-use Rattle.xet_xorb_footer.specs.Machine.{Parts, rest, rest_boundaries_ident, rest_boundaries_version, rest_boundary_offset, rest_count, rest_count_again, rest_count_last, rest_ends_v0, rest_ends_v1, rest_hash, rest_hashes_ident, rest_hashes_offset, rest_hashes_v0, rest_hashes_v1, rest_hashes_version, rest_ident, rest_plain, rest_spare, rest_version, wanted_of}
+use Rattle.xet_xorb_footer.specs.Machine.{Parts, rest, rest_boundaries_magic, rest_boundaries_version, rest_boundary_offset, rest_count, rest_count_again, rest_count_last, rest_ends_v0, rest_ends_v1, rest_hash, rest_hashes_magic, rest_hashes_offset, rest_hashes_v0, rest_hashes_v1, rest_hashes_version, rest_magic, rest_plain, rest_spare, rest_version, wanted_of}
 use Rattle.xet_codec.specs.Parsing.{bytes_at, number_at}
-use Rattle.xet_xorb_footer.specs.Reading.{count_at, ident_at, number_is, version_at}
+use Rattle.xet_xorb_footer.specs.Reading.{count_at, magic_at, number_is, version_at}
 use Rattle.xet_xorb_footer.specs.theorems.Fronts.{a_hash, a_number, bytes_short, list_short, number_short}
 
-ident_short : (ident : List ℕ) (reason : Reason) (bytes : List ℕ) → length bytes < 7 → ident_at ident reason bytes ≡ Err UnexpectedEof
-unfolding ident_at
+ident_short : (ident : List ℕ) (reason : Reason) (bytes : List ℕ) → length bytes < 7 → magic_at ident reason bytes ≡ Err UnexpectedEof
+unfolding magic_at
 ident_short ident reason bytes few = rw (bytes_short 7 bytes few) refl
 
 version_short : (version : ℕ) (reason : Reason) (bytes : List ℕ) → length bytes < 1 → version_at version reason bytes ≡ Err UnexpectedEof
@@ -33,7 +33,7 @@ either_way true x y z is _ = is
 either_way false x y z _ is = is
 
 pub rest_short : (f : Field) (p : Parts) (bytes : List ℕ) → length bytes < wanted_of f p → rest f p bytes ≡ Err UnexpectedEof
-unfolding rest rest_ident rest_version rest_hash rest_hashes_ident rest_hashes_version rest_count rest_hashes_v1 rest_hashes_v0 rest_boundaries_ident rest_boundaries_version rest_count_again rest_ends_v1 rest_ends_v0 rest_plain rest_count_last rest_hashes_offset rest_boundary_offset rest_spare
+unfolding rest rest_magic rest_version rest_hash rest_hashes_magic rest_hashes_version rest_count rest_hashes_v1 rest_hashes_v0 rest_boundaries_magic rest_boundaries_version rest_count_again rest_ends_v1 rest_ends_v0 rest_plain rest_count_last rest_hashes_offset rest_boundary_offset rest_spare
 rest_short fields.Ident p bytes few = rw (ident_short _ _ bytes few) refl
 rest_short fields.Version p bytes few = rw (bytes_short 1 bytes few) refl
 rest_short fields.Hash p bytes few = rw (bytes_short 32 bytes few) refl

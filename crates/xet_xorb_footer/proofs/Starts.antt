@@ -4,10 +4,11 @@ use Rattle.std.specs.Cmp.Lexicographic.{pointwise}
 use Rattle.xet_hash.specs.declared.error.Reason.TheVariants as reasons
 use Rattle.xet_hash.specs.declared.error.StoreError.{StoreError}
 use Rattle.xet_xorb_footer.specs.declared.machine.Field.TheVariants as fields
-use Rattle.xet_xorb_footer.specs.Machine.{Parts, as_value, info_of, info_v0, rest, rest_behind_version, rest_boundaries_ident, rest_boundaries_version, rest_boundary_offset, rest_count, rest_count_again, rest_count_last, rest_ends_v0, rest_ends_v1, rest_hash, rest_hashes_ident, rest_hashes_offset, rest_hashes_v0, rest_hashes_v1, rest_hashes_version, rest_ident, rest_plain, rest_spare, rest_version, started}
+use Rattle.xet_xorb_footer.specs.Machine.{Parts, info_of, info_v0, rest, rest_behind_version, rest_boundaries_magic, rest_boundaries_version, rest_boundary_offset, rest_count, rest_count_again, rest_count_last, rest_ends_v0, rest_ends_v1, rest_hash, rest_hashes_magic, rest_hashes_offset, rest_hashes_v0, rest_hashes_v1, rest_hashes_version, rest_magic, rest_plain, rest_spare, rest_version}
+use Rattle.xet_xorb_footer.specs.internal.Machine.{as_value, started}
 use Rattle.xet_codec.specs.Parsing.{◌>>=◌, Taken, bytes_at, number_at, times, wants}
-use Rattle.xet_xorb_footer.specs.Reading.{count_at, footer_at, footer_v0, ident_at, number_is, rest_v0, rest_v1, version_at, version_of}
-use Rattle.xet_xorb_footer.specs.Spelled.{boundaries_ident, footer_ident, hashes_ident, of_v0}
+use Rattle.xet_xorb_footer.specs.Reading.{count_at, footer_at, footer_v0, magic_at, number_is, rest_v0, rest_v1, version_at, version_of}
+use Rattle.xet_xorb_footer.specs.FooterEncoding.{boundaries_magic, footer_magic, hashes_magic, of_v0}
 use Rattle.xet_xorb_footer.specs.theorems.Fronts.{bind_bind, onward}
 
 pub as_value_twice : {X Y Z : Type 0} (make : X → Y) (again : Y → Z) (read : Taken X) → as_value again (as_value make read) ≡ as_value (λ x. again (make x)) read
@@ -130,13 +131,13 @@ on_boundaries_version make q bytes =
     ∙ onward (version_at 1 reasons.BoundariesVersion bytes) (λ x. as_value make (rest_count_again (record q { is_v1 = true; ends = []; plain = [] }) x.1)) (λ x. read_count_again make q x.1) (λ x. on_count_again make q x.1)
 
 abbrev read_boundaries_ident : {X : Type 0} → (Parts → X) → Parts → List ℕ → Taken X
-read_boundaries_ident make q bytes = ident_at boundaries_ident reasons.BoundariesIdent bytes >>= λ x. read_boundaries_version make q x.1
+read_boundaries_ident make q bytes = magic_at boundaries_magic reasons.BoundariesIdent bytes >>= λ x. read_boundaries_version make q x.1
 
-on_boundaries_ident : {X : Type 0} (make : Parts → X) (q : Parts) (bytes : List ℕ) → as_value make (rest_boundaries_ident (record q { is_v1 = true; ends = []; plain = [] }) bytes) ≡ read_boundaries_ident make q bytes
-unfolding rest_boundaries_ident
+on_boundaries_ident : {X : Type 0} (make : Parts → X) (q : Parts) (bytes : List ℕ) → as_value make (rest_boundaries_magic (record q { is_v1 = true; ends = []; plain = [] }) bytes) ≡ read_boundaries_ident make q bytes
+unfolding rest_boundaries_magic
 on_boundaries_ident make q bytes =
-    bind_bind (ident_at boundaries_ident reasons.BoundariesIdent bytes) (λ x. rest_boundaries_version (record q { is_v1 = true; ends = []; plain = [] }) x.1) (λ x. Ok (make x.0, x.1))
-    ∙ onward (ident_at boundaries_ident reasons.BoundariesIdent bytes) (λ x. as_value make (rest_boundaries_version (record q { is_v1 = true; ends = []; plain = [] }) x.1)) (λ x. read_boundaries_version make q x.1) (λ x. on_boundaries_version make q x.1)
+    bind_bind (magic_at boundaries_magic reasons.BoundariesIdent bytes) (λ x. rest_boundaries_version (record q { is_v1 = true; ends = []; plain = [] }) x.1) (λ x. Ok (make x.0, x.1))
+    ∙ onward (magic_at boundaries_magic reasons.BoundariesIdent bytes) (λ x. as_value make (rest_boundaries_version (record q { is_v1 = true; ends = []; plain = [] }) x.1)) (λ x. read_boundaries_version make q x.1) (λ x. on_boundaries_version make q x.1)
 
 abbrev read_hashes_v1 : {X : Type 0} → (Parts → X) → Parts → List ℕ → Taken X
 read_hashes_v1 make q bytes = times (bytes_at 32) q.count bytes >>= λ x. read_boundaries_ident make (record q { hashes = x.0 }) x.1
@@ -144,9 +145,9 @@ read_hashes_v1 make q bytes = times (bytes_at 32) q.count bytes >>= λ x. read_b
 on_hashes_v1 : {X : Type 0} (make : Parts → X) (q : Parts) (bytes : List ℕ) → as_value make (rest_hashes_v1 (record q { is_v1 = true; hashes = []; ends = []; plain = [] }) bytes) ≡ read_hashes_v1 make q bytes
 unfolding rest_hashes_v1
 on_hashes_v1 make q bytes =
-    ap (λ (n : ℕ). as_value make (times (bytes_at 32) n bytes >>= (λ x. rest_boundaries_ident (record (record q { hashes = x.0 }) { is_v1 = true; ends = []; plain = [] }) x.1))) (no_less q.count)
-    ∙ bind_bind (times (bytes_at 32) q.count bytes) (λ x. rest_boundaries_ident (record (record q { hashes = x.0 }) { is_v1 = true; ends = []; plain = [] }) x.1) (λ x. Ok (make x.0, x.1))
-    ∙ onward (times (bytes_at 32) q.count bytes) (λ x. as_value make (rest_boundaries_ident (record (record q { hashes = x.0 }) { is_v1 = true; ends = []; plain = [] }) x.1)) (λ x. read_boundaries_ident make (record q { hashes = x.0 }) x.1) (λ x. on_boundaries_ident make (record q { hashes = x.0 }) x.1)
+    ap (λ (n : ℕ). as_value make (times (bytes_at 32) n bytes >>= (λ x. rest_boundaries_magic (record (record q { hashes = x.0 }) { is_v1 = true; ends = []; plain = [] }) x.1))) (no_less q.count)
+    ∙ bind_bind (times (bytes_at 32) q.count bytes) (λ x. rest_boundaries_magic (record (record q { hashes = x.0 }) { is_v1 = true; ends = []; plain = [] }) x.1) (λ x. Ok (make x.0, x.1))
+    ∙ onward (times (bytes_at 32) q.count bytes) (λ x. as_value make (rest_boundaries_magic (record (record q { hashes = x.0 }) { is_v1 = true; ends = []; plain = [] }) x.1)) (λ x. read_boundaries_ident make (record q { hashes = x.0 }) x.1) (λ x. on_boundaries_ident make (record q { hashes = x.0 }) x.1)
 
 abbrev read_count_v1 : {X : Type 0} → (Parts → X) → Parts → List ℕ → Taken X
 read_count_v1 make q bytes = count_at bytes >>= λ x. read_hashes_v1 make (record q { count = x.0 }) x.1
@@ -167,13 +168,13 @@ on_hashes_version make q bytes =
     ∙ onward (version_at 0 reasons.HashesVersion bytes) (λ x. as_value make (rest_count (record q { is_v1 = true; hashes = []; ends = []; plain = [] }) x.1)) (λ x. read_count_v1 make q x.1) (λ x. on_count_v1 make q x.1)
 
 abbrev read_hashes_ident : {X : Type 0} → (Parts → X) → Parts → List ℕ → Taken X
-read_hashes_ident make q bytes = ident_at hashes_ident reasons.HashesIdent bytes >>= λ x. read_hashes_version make q x.1
+read_hashes_ident make q bytes = magic_at hashes_magic reasons.HashesIdent bytes >>= λ x. read_hashes_version make q x.1
 
-on_hashes_ident : {X : Type 0} (make : Parts → X) (q : Parts) (bytes : List ℕ) → as_value make (rest_hashes_ident (record q { is_v1 = true; hashes = []; ends = []; plain = [] }) bytes) ≡ read_hashes_ident make q bytes
-unfolding rest_hashes_ident
+on_hashes_ident : {X : Type 0} (make : Parts → X) (q : Parts) (bytes : List ℕ) → as_value make (rest_hashes_magic (record q { is_v1 = true; hashes = []; ends = []; plain = [] }) bytes) ≡ read_hashes_ident make q bytes
+unfolding rest_hashes_magic
 on_hashes_ident make q bytes =
-    bind_bind (ident_at hashes_ident reasons.HashesIdent bytes) (λ x. rest_hashes_version (record q { is_v1 = true; hashes = []; ends = []; plain = [] }) x.1) (λ x. Ok (make x.0, x.1))
-    ∙ onward (ident_at hashes_ident reasons.HashesIdent bytes) (λ x. as_value make (rest_hashes_version (record q { is_v1 = true; hashes = []; ends = []; plain = [] }) x.1)) (λ x. read_hashes_version make q x.1) (λ x. on_hashes_version make q x.1)
+    bind_bind (magic_at hashes_magic reasons.HashesIdent bytes) (λ x. rest_hashes_version (record q { is_v1 = true; hashes = []; ends = []; plain = [] }) x.1) (λ x. Ok (make x.0, x.1))
+    ∙ onward (magic_at hashes_magic reasons.HashesIdent bytes) (λ x. as_value make (rest_hashes_version (record q { is_v1 = true; hashes = []; ends = []; plain = [] }) x.1)) (λ x. read_hashes_version make q x.1) (λ x. on_hashes_version make q x.1)
 
 abbrev read_hash_v1 : {X : Type 0} → (Parts → X) → Parts → List ℕ → Taken X
 read_hash_v1 make q bytes = bytes_at 32 bytes >>= λ x. read_hashes_ident make (record q { hash = x.0 }) x.1
@@ -181,8 +182,8 @@ read_hash_v1 make q bytes = bytes_at 32 bytes >>= λ x. read_hashes_ident make (
 on_hash_v1 : {X : Type 0} (make : Parts → X) (q : Parts) (bytes : List ℕ) → as_value make (rest_hash (record q { is_v1 = true; hashes = []; ends = []; plain = [] }) bytes) ≡ read_hash_v1 make q bytes
 unfolding rest_hash
 on_hash_v1 make q bytes =
-    bind_bind (bytes_at 32 bytes) (λ x. rest_hashes_ident (record (record q { hash = x.0 }) { is_v1 = true; hashes = []; ends = []; plain = [] }) x.1) (λ x. Ok (make x.0, x.1))
-    ∙ onward (bytes_at 32 bytes) (λ x. as_value make (rest_hashes_ident (record (record q { hash = x.0 }) { is_v1 = true; hashes = []; ends = []; plain = [] }) x.1)) (λ x. read_hashes_ident make (record q { hash = x.0 }) x.1) (λ x. on_hashes_ident make (record q { hash = x.0 }) x.1)
+    bind_bind (bytes_at 32 bytes) (λ x. rest_hashes_magic (record (record q { hash = x.0 }) { is_v1 = true; hashes = []; ends = []; plain = [] }) x.1) (λ x. Ok (make x.0, x.1))
+    ∙ onward (bytes_at 32 bytes) (λ x. as_value make (rest_hashes_magic (record (record q { hash = x.0 }) { is_v1 = true; hashes = []; ends = []; plain = [] }) x.1)) (λ x. read_hashes_ident make (record q { hash = x.0 }) x.1) (λ x. on_hashes_ident make (record q { hash = x.0 }) x.1)
 
 -- ---- what the definitions read
 
@@ -214,10 +215,10 @@ only_behind version bytes =
 
 -- ident and version, and what is behind them
 behind_version : {X : Type 0} (make : Parts → X) (p : Parts) (f : List ℕ × List ℕ → Taken X) → ((version bytes : List ℕ) → as_value make (rest_behind_version p version bytes) ≡ f (version, bytes)) → (bytes : List ℕ)
-    → as_value make (rest_ident p bytes) ≡ (version_of bytes >>= f)
-unfolding rest_ident rest_version version_of
+    → as_value make (rest_magic p bytes) ≡ (version_of bytes >>= f)
+unfolding rest_magic rest_version version_of
 behind_version make p f same bytes =
-    let first = ident_at footer_ident reasons.Ident bytes in
+    let first = magic_at footer_magic reasons.Ident bytes in
     let second : Unit {0} × List ℕ → Taken (List ℕ) = λ x. bytes_at 1 x.1 in
     bind_bind first (λ x. rest_version p x.1) (λ x. Ok (make x.0, x.1))
     ∙ onward first (λ x. as_value make (rest_version p x.1)) (λ x. second x >>= f)

@@ -8,10 +8,11 @@ use Rattle.xet_hash.specs.declared.error.Reason.{Reason}
 use Rattle.xet_hash.specs.declared.error.Reason.TheVariants as reasons
 use Rattle.xet_xorb_footer.specs.declared.machine.Field.{Field}
 use Rattle.xet_xorb_footer.specs.declared.machine.Field.TheVariants as fields
-use Rattle.xet_xorb_footer.specs.Machine.{Next, Parts, behind_ends, behind_hashes, block_of, ends_v0, ends_v1, expects, expects_number, hashes_v0, hashes_v1, lacks, more_ends, more_hashes, more_plain, next_count, next_version, plain_v1, rest, rest_boundaries_ident, rest_boundaries_version, rest_boundary_offset, rest_count, rest_count_again, rest_count_last, rest_ends, rest_ends_v0, rest_ends_v1, rest_hash, rest_hashes, rest_hashes_ident, rest_hashes_offset, rest_hashes_v0, rest_hashes_v1, rest_hashes_version, rest_ident, rest_lists, rest_plain, rest_spare, rest_version, step, wanted_of}
+use Rattle.xet_xorb_footer.specs.internal.Machine.{Next, behind_ends, behind_hashes, ends_v0, ends_v1, expects, expects_number, hashes_v0, hashes_v1, lacks, more_ends, more_hashes, more_plain, next_count, next_version, plain_v1, step}
+use Rattle.xet_xorb_footer.specs.Machine.{Parts, block_of, rest, rest_boundaries_magic, rest_boundaries_version, rest_boundary_offset, rest_count, rest_count_again, rest_count_last, rest_ends, rest_ends_v0, rest_ends_v1, rest_hash, rest_hashes, rest_hashes_magic, rest_hashes_offset, rest_hashes_v0, rest_hashes_v1, rest_hashes_version, rest_magic, rest_lists, rest_plain, rest_spare, rest_version, wanted_of}
 use Rattle.xet_codec.specs.Parsing.{◌>>=◌, Taken, bytes_at, number_at, wants}
-use Rattle.xet_xorb_footer.specs.Reading.{count_at, ident_at, number_is, version_at}
-use Rattle.xet_xorb_footer.specs.Spelled.{boundaries_ident, footer_ident, hashes_ident, most_chunks}
+use Rattle.xet_xorb_footer.specs.Reading.{count_at, magic_at, number_is, version_at}
+use Rattle.xet_xorb_footer.specs.FooterEncoding.{boundaries_magic, footer_magic, hashes_magic, max_chunks}
 use Rattle.xet_xorb_footer.specs.theorems.Fronts.{a_hash, a_number, bytes_whole, checked, checked_on, ident_whole, list_block, list_full, number_is_whole, number_whole, pick_false, pick_true, version_whole}
 
 -- ---- a list that comes next, or what is behind it
@@ -40,7 +41,7 @@ ends_entered_v1 p more v1 = entered p p.ends fields.Ends (plain_v1 p) more (rest
 hashes_entered_v1 : (p : Parts) (more : List ℕ) → p.is_v1 ≡ true → rest (hashes_v1 p) p more ≡ rest_hashes_v1 p more
 unfolding rest rest_hashes_v1
 hashes_entered_v1 p more v1 = entered p p.hashes fields.Hashes fields.BoundariesIdent more (rest_hashes_v1 p more) (rw v1 refl)
-    (λ le. sym (list_full (bytes_at 32) p.count p.hashes (λ hs bytes. rest_boundaries_ident (record p { hashes = hs }) bytes) more le))
+    (λ le. sym (list_full (bytes_at 32) p.count p.hashes (λ hs bytes. rest_boundaries_magic (record p { hashes = hs }) bytes) more le))
 
 hashes_entered_v0 : (p : Parts) (more : List ℕ) → p.is_v1 ≡ false → rest (hashes_v0 p) p more ≡ rest_hashes_v0 p more
 unfolding rest rest_hashes_v0
@@ -80,7 +81,7 @@ ends_block_v0 p field more len = list_block number_at (from_le_bytes w32) 4 a_nu
 
 hashes_block_v1 : (p : Parts) (field more : List ℕ) → length field ≡ 32 * block_of p p.hashes → rest_hashes_v1 p (field ++ more) ≡ rest_hashes_v1 (more_hashes p field) more
 unfolding rest_hashes_v1
-hashes_block_v1 p field more len = list_block (bytes_at 32) (λ b. b) 32 a_hash p.count p.hashes (λ hs bytes. rest_boundaries_ident (record p { hashes = hs }) bytes) field more len
+hashes_block_v1 p field more len = list_block (bytes_at 32) (λ b. b) 32 a_hash p.count p.hashes (λ hs bytes. rest_boundaries_magic (record p { hashes = hs }) bytes) field more len
 
 hashes_block_v0 : (p : Parts) (field more : List ℕ) → length field ≡ 32 * block_of p p.hashes → rest_hashes_v0 p (field ++ more) ≡ rest_hashes_v0 (more_hashes p field) more
 unfolding rest_hashes_v0
@@ -111,7 +112,7 @@ unfolding rest rest_hash step
 on_hash true p field more e len = rw (bytes_whole 32 field more len, e) refl
 on_hash false p field more e len = rw (bytes_whole 32 field more len, e) refl
 
-count_whole : (field more : List ℕ) → length field ≡ 4 → count_at (field ++ more) ≡ (wants (nat_le (from_le_bytes w32 field) most_chunks) reasons.ChunkCount >>= λ _. Ok (from_le_bytes w32 field, more))
+count_whole : (field more : List ℕ) → length field ≡ 4 → count_at (field ++ more) ≡ (wants (nat_le (from_le_bytes w32 field) max_chunks) reasons.ChunkCount >>= λ _. Ok (from_le_bytes w32 field, more))
 unfolding count_at
 count_whole field more len = rw (number_whole field more len) refl
 
@@ -121,10 +122,10 @@ on_count p field more len =
     let n : ℕ = from_le_bytes w32 field in
     let q : Parts = record p { count = n } in
     rw (count_whole field more len)
-    (checked (wants (nat_le n most_chunks) reasons.ChunkCount) (n, more) (cond q.is_v1 (hashes_v1 q) (ends_v0 q), q) (λ (x : ℕ × List ℕ). rest_lists (record p { count = x.0 }) x.1) (λ (x : Field × Parts). rest x.0 x.1 more)
+    (checked (wants (nat_le n max_chunks) reasons.ChunkCount) (n, more) (cond q.is_v1 (hashes_v1 q) (ends_v0 q), q) (λ (x : ℕ × List ℕ). rest_lists (record p { count = x.0 }) x.1) (λ (x : Field × Parts). rest x.0 x.1 more)
     (sym (lists_entered q.is_v1 q more refl)))
 
-on_ident : (ident : List ℕ) (reason : Reason) (next : Field) (p : Parts) (field more : List ℕ) (f : List ℕ → Taken Parts) → rest next p more ≡ f more → length field ≡ 7 → (ident_at ident reason (field ++ more) >>= λ x. f x.1) ≡ behind (expects field ident reason next p) more
+on_ident : (ident : List ℕ) (reason : Reason) (next : Field) (p : Parts) (field more : List ℕ) (f : List ℕ → Taken Parts) → rest next p more ≡ f more → length field ≡ 7 → (magic_at ident reason (field ++ more) >>= λ x. f x.1) ≡ behind (expects field ident reason next p) more
 on_ident ident reason next p field more f same len =
     rw (ident_whole ident reason field more len) (checked (wants (pointwise nat_eq field ident) reason) (tt, more) (next, p) (λ (x : Unit {0} × List ℕ). f x.1) (λ (x : Field × Parts). rest x.0 x.1 more) (sym same))
 
@@ -140,15 +141,15 @@ on_number n reason next p field more f same len =
 
 -- a field that was taken whole
 pub rest_step : (f : Field) (p : Parts) (field more : List ℕ) → length field ≡ wanted_of f p → rest f p (field ++ more) ≡ behind (step f p field) more
-unfolding rest step rest_ident rest_hashes_ident rest_hashes_version rest_boundaries_ident rest_boundaries_version rest_count_again rest_count_last rest_hashes_offset rest_boundary_offset rest_spare
-rest_step fields.Ident p field more len = on_ident footer_ident reasons.Ident fields.Version p field more (λ bytes. rest_version p bytes) refl len
+unfolding rest step rest_magic rest_hashes_magic rest_hashes_version rest_boundaries_magic rest_boundaries_version rest_count_again rest_count_last rest_hashes_offset rest_boundary_offset rest_spare
+rest_step fields.Ident p field more len = on_ident footer_magic reasons.Ident fields.Version p field more (λ bytes. rest_version p bytes) refl len
 rest_step fields.Version p field more len = on_version (p.either && pointwise nat_eq field (1 ∷ [])) p field more refl len
 rest_step fields.Hash p field more len = on_hash p.is_v1 p field more refl len
-rest_step fields.HashesIdent p field more len = on_ident hashes_ident reasons.HashesIdent fields.HashesVersion p field more (λ bytes. rest_hashes_version p bytes) refl len
+rest_step fields.HashesIdent p field more len = on_ident hashes_magic reasons.HashesIdent fields.HashesVersion p field more (λ bytes. rest_hashes_version p bytes) refl len
 rest_step fields.HashesVersion p field more len = on_byte 0 reasons.HashesVersion fields.Count p field more (λ bytes. rest_count p bytes) refl len
 rest_step fields.Count p field more len = on_count p field more len
 rest_step fields.Hashes p field more len = hashes_block p.is_v1 p field more refl len ∙ sym (hashes_entered p.is_v1 (more_hashes p field) more refl)
-rest_step fields.BoundariesIdent p field more len = on_ident boundaries_ident reasons.BoundariesIdent fields.BoundariesVersion p field more (λ bytes. rest_boundaries_version p bytes) refl len
+rest_step fields.BoundariesIdent p field more len = on_ident boundaries_magic reasons.BoundariesIdent fields.BoundariesVersion p field more (λ bytes. rest_boundaries_version p bytes) refl len
 rest_step fields.BoundariesVersion p field more len = on_byte 1 reasons.BoundariesVersion fields.CountAgain p field more (λ bytes. rest_count_again p bytes) refl len
 rest_step fields.CountAgain p field more len = on_number p.count reasons.CountMismatch (behind_ends p) p field more (λ bytes. rest_ends p bytes) (ends_entered p.is_v1 p more refl) len
 rest_step fields.Ends p field more len = ends_block p.is_v1 p field more refl len ∙ sym (ends_entered p.is_v1 (more_ends p field) more refl)

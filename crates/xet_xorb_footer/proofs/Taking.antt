@@ -4,9 +4,11 @@ use Rattle.std.specs.Result.{IfErr, IfOk, IsErrOf, OnOk}
 use Rattle.xet_hash.specs.declared.error.StoreError.{StoreError}
 use Rattle.xet_hash.specs.declared.error.StoreError.TheVariants as errors
 use Rattle.xet_xorb_footer.specs.declared.machine.Field.{Field}
-use Rattle.xet_xorb_footer.specs.Machine.{IsSettled, Next, Parts, rest, room_of, step, wanted_of}
+use Rattle.xet_xorb_footer.specs.internal.Machine.{IsSettled, Next, step}
+use Rattle.xet_xorb_footer.specs.Machine.{Parts, rest, room_of, wanted_of}
 use Rattle.xet_codec.specs.Parsing.{Fails, Gives}
-use Rattle.xet_xorb_footer.specs.Refusals.{IsFailedCheck, IsRefusal}
+use Rattle.xet_xorb_footer.specs.internal.Refusals.{IsFailedCheck}
+use Rattle.xet_xorb_footer.specs.Refusals.{IsRefusal}
 use Rattle.xet_xorb_footer.proofs.Known.{step_refused, step_room, step_settled}
 use Rattle.xet_xorb_footer.proofs.Steps.{behind, rest_step}
 

@@ -4,7 +4,7 @@ use Rattle.std.proofs.lemmas.List.{append-nil}
 use Rattle.xet_xorb_footer.specs.declared.info.XorbObjectInfoV0.{XorbObjectInfoV0}
 use Rattle.xet_xorb_footer.specs.declared.info.XorbObjectInfoV1.{XorbObjectInfoV1}
 use Rattle.xet_codec.specs.Numbers.{joined, number, numbers}
-use Rattle.xet_xorb_footer.specs.Spelled.{text_v0, text_v1}
+use Rattle.xet_xorb_footer.specs.FooterEncoding.{footer_bytes_v0, footer_bytes_v1}
 
 -- ---- version 0
 
@@ -12,8 +12,8 @@ abbrev pub head_v0 : XorbObjectInfoV0 → List ℕ → List ℕ → List ℕ
 head_v0 i hash count = i.ident ++ ((i.version ∷ []) ++ (hash ++ (count ++ [])))
 
 pub parts_v0 : (i : XorbObjectInfoV0) (hash count ends : List ℕ) (hashes : List (List ℕ)) → hash ≡ i.xorb_hash → count ≡ number i.num_chunks → ends ≡ i.chunk_boundary_offsets → hashes ≡ i.chunk_hashes
-    → head_v0 i hash count ++ (numbers ends ++ (joined hashes ++ i.spare)) ≡ text_v0 i
-unfolding text_v0
+    → head_v0 i hash count ++ (numbers ends ++ (joined hashes ++ i.spare)) ≡ footer_bytes_v0 i
+unfolding footer_bytes_v0
 parts_v0 i hash count ends hashes is_hash is_count is_ends is_hashes =
     ap (λ (x : _). head_v0 i x count ++ (numbers ends ++ (joined hashes ++ i.spare))) is_hash ∙ ap (λ (x : _). head_v0 i i.xorb_hash x ++ (numbers ends ++ (joined hashes ++ i.spare))) is_count
     ∙ ap (λ (x : _). head_v0 i i.xorb_hash (number i.num_chunks) ++ (numbers x ++ (joined hashes ++ i.spare))) is_ends
@@ -37,8 +37,8 @@ all_v1 i hash count hashes ends plain hashes_at boundaries_at =
 
 pub parts_v1 : (i : XorbObjectInfoV1) (hash count : List ℕ) (hashes : List (List ℕ)) (ends plain hashes_at boundaries_at : List ℕ) → hash ≡ i.xorb_hash → count ≡ number i.num_chunks → hashes ≡ i.chunk_hashes
     → ends ≡ i.chunk_boundary_offsets → plain ≡ i.unpacked_chunk_offsets → hashes_at ≡ number i.hashes_section_offset_from_end → boundaries_at ≡ number i.boundary_section_offset_from_end
-    → all_v1 i hash count hashes ends plain hashes_at boundaries_at ≡ text_v1 i
-unfolding text_v1
+    → all_v1 i hash count hashes ends plain hashes_at boundaries_at ≡ footer_bytes_v1 i
+unfolding footer_bytes_v1
 parts_v1 i hash count hashes ends plain hashes_at boundaries_at is_hash is_count is_hashes is_ends is_plain is_hashes_at is_boundaries_at =
     let same : all_v1 i hash count hashes ends plain hashes_at boundaries_at
     ≡ all_v1 i i.xorb_hash (number i.num_chunks) i.chunk_hashes i.chunk_boundary_offsets i.unpacked_chunk_offsets (number i.hashes_section_offset_from_end) (number i.boundary_section_offset_from_end) = cc in

@@ -1,4 +1,4 @@
--- A decoder of footers that come in pieces.
+-- The state of an incremental footer decoder.
 use Rattle.std.specs.Prelude.{◌≡◌, ◌⊎◌, ℕ, ◌+◌, Bool, false, List, ◌++◌, length, Err}
 use Rattle.xet_hash.specs.declared.error.StoreError.{StoreError}
 use Rattle.xet_hash.specs.declared.error.StoreError.TheVariants.{OutOfMemory}
@@ -6,16 +6,16 @@ use Rattle.xet_xorb_footer.specs.declared.decoder.FooterDecoder.{FooterDecoder}
 use Rattle.xet_xorb_footer.specs.Ends.{whole_footer}
 use Rattle.xet_xorb_footer.specs.Joining.{rest_whole}
 
--- it has refused nothing
+-- No call has failed.
 abbrev pub whole_of : FooterDecoder → Bool
 whole_of d = d.whole
 
--- The pieces that were joined so far are these bytes: whatever comes, reading them and it is reading what is at
--- hand and it from here on.
+-- The decoder was fed `bytes`: whatever follows, reading all of it from the first field gives what reading
+-- the buffered bytes and the rest gives from the next field on.
 pub record Holds (d : FooterDecoder) (bytes : List ℕ) : Type 0 where
   pub rest : (more : List ℕ) → whole_footer (bytes ++ more) ≡ rest_whole d.joined (length (bytes ++ more)) (d.held.items ++ more)
   pub count : d.joined.ended ≡ false → length bytes ≡ d.joined.count + length d.held.items
 
--- Why a piece is refused: for want of memory, or whatever comes behind it.
+-- Errors of a part: out of memory, or the error of all bytes, whatever follows.
 abbrev pub Refuses : FooterDecoder → List ℕ → StoreError → Type 0
 Refuses d piece e = (e ≡ OutOfMemory) ⊎ ((bytes more : List ℕ) → Holds d bytes → whole_footer ((bytes ++ piece) ++ more) ≡ Err e)

@@ -1,31 +1,31 @@
--- Footers at the end of a xorb's bytes, and their boundary section read for itself.
+-- The footer at the end of a xorb, and its boundary section read alone.
 use Rattle.std.specs.Prelude.{ℕ, ◌+◌, ◌-◌, ◌*◌, ◌==◌, nat_le, Bool, true, false, List, length, drop, take, Result, Ok, Err}
 use Rattle.std.specs.Int.{w32, from_le_bytes}
 use Rattle.xet_hash.specs.declared.error.Reason.TheVariants.{BoundariesIdent, BoundariesVersion, BoundaryOffset, CountMismatch, InfoLength, TrailingBytes}
 use Rattle.xet_hash.specs.declared.error.StoreError.{StoreError}
 use Rattle.xet_xorb_footer.specs.declared.info.XorbObjectInfoV1.{XorbObjectInfoV1}
 use Rattle.xet_codec.specs.Parsing.{◌>>=◌, Taken, bytes_at, number_at, times, wants, reaches}
-use Rattle.xet_xorb_footer.specs.Reading.{count_at, footer_at, ident_at, number_is, version_at}
-use Rattle.xet_xorb_footer.specs.Spelled.{boundaries_ident, empty_v1}
+use Rattle.xet_xorb_footer.specs.Reading.{count_at, footer_at, magic_at, number_is, version_at}
+use Rattle.xet_xorb_footer.specs.FooterEncoding.{boundaries_magic, empty_v1}
 
--- the number in the four bytes that begin so many before the end
+-- The number in the four bytes that start `n` bytes before the end.
 abbrev pub number_before : ℕ → List ℕ → ℕ
 number_before n bytes = from_le_bytes w32 (take 4 (drop (length bytes - n) bytes))
 
--- how many bytes the footer has, as the last four bytes tell it
-unfoldable pub told_length : List ℕ → Result ℕ StoreError
-told_length bytes = reaches (nat_le 4 (length bytes)) >>= λ _. Ok (number_before 4 bytes)
+-- The length of the footer, in the last four bytes.
+unfoldable pub footer_length : List ℕ → Result ℕ StoreError
+footer_length bytes = reaches (nat_le 4 (length bytes)) >>= λ _. Ok (number_before 4 bytes)
 
--- The footer before the last four bytes, which tell its length, with that length.
+-- The footer before the last four bytes, which hold its length, and that length.
 unfoldable pub last_footer : List ℕ → Result (XorbObjectInfoV1 × ℕ) StoreError
 last_footer bytes = do
-  n ← told_length bytes
+  n ← footer_length bytes
   _ ← reaches (nat_le (n + 4) (length bytes))
   x ← footer_at (drop (length bytes - (n + 4)) bytes)
   _ ← wants (length x.1 == 4) InfoLength
   Ok (x.0, n)
 
--- Bytes that are a footer, its length in four bytes, and nothing else.
+-- The same of bytes that are a footer, its length in four bytes, and nothing else.
 unfoldable pub whole_footer : List ℕ → Result (XorbObjectInfoV1 × ℕ) StoreError
 whole_footer bytes = do
   x ← footer_at bytes
@@ -34,11 +34,10 @@ whole_footer bytes = do
   _ ← wants (length n.1 == 0) TrailingBytes
   Ok (x.0, n.0)
 
--- The boundary section and what is behind it, which begin so many bytes before the last four as a number tells
--- that begins 24 bytes before the end; nothing else is known.
+-- The boundary section of a footer of version 1 and what follows it, as a footer without hashes.
 unfoldable pub boundaries : List ℕ → Taken XorbObjectInfoV1
 boundaries bytes = do
-  section ← ident_at boundaries_ident BoundariesIdent bytes
+  section ← magic_at boundaries_magic BoundariesIdent bytes
   version ← version_at 1 BoundariesVersion section.1
   n ← count_at version.1
   ends ← times number_at n.0 n.1
@@ -59,6 +58,8 @@ boundaries bytes = do
     spare.1,
   )
 
+-- The same of the footer before the last four bytes. The number that starts 24 bytes before the end gives the
+-- section's offset, in bytes before these four.
 unfoldable pub last_boundaries : List ℕ → Taken XorbObjectInfoV1
 last_boundaries bytes = do
   _ ← reaches (nat_le 24 (length bytes))

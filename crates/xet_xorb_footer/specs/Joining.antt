@@ -2,7 +2,7 @@
 use Rattle.std.specs.Prelude.{◌≡◌, ◌⊎◌, ◌≤◌, ℕ, zero, suc, ◌+◌, ◌-◌, ◌*◌, ◌==◌, Bool, true, false, List, ◌++◌, length, Result, Ok, Err, if◌then◌else◌}
 use Rattle.xet_hash.specs.declared.error.Reason.TheVariants.{InfoLength, TrailingBytes}
 use Rattle.xet_hash.specs.declared.error.StoreError.{StoreError}
-use Rattle.xet_hash.specs.declared.error.StoreError.TheVariants.{MalformedData, OutOfMemory}
+use Rattle.xet_hash.specs.declared.error.StoreError.TheVariants.{MalformedData}
 use Rattle.xet_xorb_footer.specs.declared.decoder.Joined.{Joined}
 use Rattle.xet_xorb_footer.specs.declared.info.XorbObjectInfoV1.{XorbObjectInfoV1}
 use Rattle.xet_xorb_footer.specs.declared.machine.Field.{Field}
@@ -11,9 +11,9 @@ use Rattle.xet_xorb_footer.specs.Machine.{info_of}
 use Rattle.xet_xorb_footer.specs.Reader.{bytes_left, bytes_wanted, parts_of, rest_of}
 use Rattle.xet_codec.specs.Parsing.{◌>>=◌, number_at, wants}
 use Rattle.xet_xorb_footer.specs.Refusals.{IsRefusal}
-use Rattle.xet_xorb_footer.specs.Spelled.{most_chunks}
+use Rattle.xet_xorb_footer.specs.FooterEncoding.{max_chunks}
 
--- the length behind a footer, of which and of what is before it there are so many bytes, and nothing else
+-- The end of a footer: its length, and nothing else. `total` is the number of all bytes.
 abbrev pub ends_with : XorbObjectInfoV1 → ℕ → List ℕ → Result (XorbObjectInfoV1 × ℕ) StoreError
 ends_with info total bytes = do
   n ← number_at bytes
@@ -21,11 +21,12 @@ ends_with info total bytes = do
   _ ← wants (length n.1 == 0) TrailingBytes
   Ok (info, n.0)
 
--- What reading does from here on with the last of so many bytes.
+-- What reading gives from the next field on. `bytes` is left, of `total` bytes in all.
 unfoldable pub rest_whole : Joined → ℕ → List ℕ → Result (XorbObjectInfoV1 × ℕ) StoreError
 rest_whole j total bytes = if j.ended then (wants (length bytes == 0) TrailingBytes >>= λ _. Ok (info_of (parts_of j.footer), j.count)) else (rest_of j.footer bytes >>= λ x. ends_with (info_of x.0) total x.1)
 
--- the bytes of what comes next: of a field of the footer, of the length, or any byte
+-- Number of bytes of the next field: one of the footer, the length, or any byte after it. `n` is that of the
+-- footer's next field.
 abbrev pub wanted_next : Bool → ℕ → ℕ
 wanted_next true n = 1
 wanted_next false zero = 4
@@ -34,29 +35,16 @@ wanted_next false (suc n) = suc n
 abbrev pub joined_wanted : Joined → ℕ
 joined_wanted j = wanted_next j.ended (bytes_wanted j.footer)
 
--- no field comes next
+-- The footer is complete.
 abbrev pub is_done : Field → Bool
 is_done fields.Done = true
 is_done f = false
 
--- What comes next can be taken: it is no list that is whole.
+-- The next field is no complete list, and the footer does not become too long.
 pub record IsReady (j : Joined) : Type 0 where
   pub settled : bytes_wanted j.footer ≡ 0 → is_done j.footer.next ≡ true
-  pub left : j.count + bytes_left j.footer ≤ 92 + 40 * most_chunks
+  pub left : j.count + bytes_left j.footer ≤ 92 + 40 * max_chunks
 
--- There are so many bytes, of which these are the last.
-abbrev pub IsTotal : Joined → List ℕ → ℕ → Type 0
-IsTotal j bytes total = j.ended ≡ false → total ≡ j.count + length bytes
-
--- From one state to another these bytes were read, but for the rest.
-pub record Reads (old new : Joined) (bytes rest : List ℕ) : Type 0 where
-  pub moved : (more : List ℕ) (total : ℕ) → IsTotal old (bytes ++ more) total → rest_whole old total (bytes ++ more) ≡ rest_whole new total (rest ++ more)
-  pub count : new.ended ≡ false → (old.ended ≡ false) × (new.count + length rest ≡ old.count + length bytes)
-
--- These bytes are refused: for want of memory, or whatever comes behind them.
-abbrev pub Stops : Joined → List ℕ → StoreError → Type 0
-Stops j bytes e = (e ≡ OutOfMemory) ⊎ ((more : List ℕ) (total : ℕ) → IsTotal j (bytes ++ more) total → rest_whole j total (bytes ++ more) ≡ Err e)
-
--- a refusal of bytes that are to be a footer and its length
+-- Errors of reading a footer and its length.
 abbrev pub IsWholeRefusal : StoreError → Type 0
 IsWholeRefusal e = IsRefusal e ⊎ ((e ≡ MalformedData InfoLength) ⊎ (e ≡ MalformedData TrailingBytes))

@@ -1,23 +1,23 @@
--- What is written of a footer is read back.
+-- Theorems about footers: round trips and lengths.
 use Rattle.std.specs.Prelude.{◌≡◌, ◌<◌, ◌≤◌, ℕ, ◌+◌, ◌*◌, ◌^◌, List, ◌++◌, length, Ok}
 use Rattle.std.specs.List.{AllByRecursion}
 use Rattle.xet_xorb_footer.specs.declared.info.XorbObjectInfoV0.{XorbObjectInfoV0}
 use Rattle.xet_xorb_footer.specs.declared.info.XorbObjectInfoV1.{XorbObjectInfoV1}
 use Rattle.xet_xorb_footer.specs.Ends.{last_footer}
 use Rattle.xet_xorb_footer.specs.Reading.{footer_at}
-use Rattle.xet_xorb_footer.specs.Spelled.{HasLists, boundaries_ident, footer_ident, hashes_ident, most_chunks, of_v0, text_v0, text_v1}
+use Rattle.xet_xorb_footer.specs.FooterEncoding.{HasLists, boundaries_magic, footer_magic, hashes_magic, max_chunks, of_v0, footer_bytes_v0, footer_bytes_v1}
 use Rattle.xet_codec.specs.Numbers.{number}
 
--- a footer of version 1 as it is to be
+-- A well-formed footer of version 1.
 pub record IsStandard (i : XorbObjectInfoV1) : Type 0 where
-  pub ident : i.ident ≡ footer_ident
+  pub ident : i.ident ≡ footer_magic
   pub version : i.version ≡ 1
   pub hash : length i.xorb_hash ≡ 32
-  pub hashes_ident : i.ident_hash_section ≡ hashes_ident
+  pub hashes_magic : i.ident_hash_section ≡ hashes_magic
   pub hashes_version : i.hashes_version ≡ 0
-  pub boundaries_ident : i.ident_boundary_section ≡ boundaries_ident
+  pub boundaries_magic : i.ident_boundary_section ≡ boundaries_magic
   pub boundaries_version : i.boundaries_version ≡ 1
-  pub few : i.num_chunks ≤ most_chunks
+  pub few : i.num_chunks ≤ max_chunks
   pub lists : HasLists i
   pub whole_hashes : AllByRecursion (λ h. length h ≡ 32) i.chunk_hashes
   pub small_stored : AllByRecursion (λ n. n < 2 ^ 32) i.chunk_boundary_offsets
@@ -27,23 +27,23 @@ pub record IsStandard (i : XorbObjectInfoV1) : Type 0 where
   pub spare : length i.spare ≡ 16
 
 abbrev pub WrittenIsRead : Type 0
-WrittenIsRead = (i : XorbObjectInfoV1) (more : List ℕ) → IsStandard i → footer_at (text_v1 i ++ more) ≡ Ok (i, more)
+WrittenIsRead = (i : XorbObjectInfoV1) (more : List ℕ) → IsStandard i → footer_at (footer_bytes_v1 i ++ more) ≡ Ok (i, more)
 
 abbrev pub LengthIsKnown : Type 0
-LengthIsKnown = (i : XorbObjectInfoV1) → IsStandard i → length (text_v1 i) ≡ 92 + 40 * i.num_chunks
+LengthIsKnown = (i : XorbObjectInfoV1) → IsStandard i → length (footer_bytes_v1 i) ≡ 92 + 40 * i.num_chunks
 
--- a footer that is read at the end of other bytes, before its length
+-- A footer that is followed by its length, at the end of other bytes.
 abbrev pub LastIsRead : Type 0
-LastIsRead = (i : XorbObjectInfoV1) (front : List ℕ) → IsStandard i → last_footer (front ++ (text_v1 i ++ number (92 + 40 * i.num_chunks))) ≡ Ok (i, 92 + 40 * i.num_chunks)
+LastIsRead = (i : XorbObjectInfoV1) (front : List ℕ) → IsStandard i → last_footer (front ++ (footer_bytes_v1 i ++ number (92 + 40 * i.num_chunks))) ≡ Ok (i, 92 + 40 * i.num_chunks)
 
--- ---- version 0
+-- ---- Version 0
 
--- a footer of version 0 as it is to be
+-- A well-formed footer of version 0.
 pub record IsStandardV0 (i : XorbObjectInfoV0) : Type 0 where
-  pub ident : i.ident ≡ footer_ident
+  pub ident : i.ident ≡ footer_magic
   pub version : i.version ≡ 0
   pub hash : length i.xorb_hash ≡ 32
-  pub few : i.num_chunks ≤ most_chunks
+  pub few : i.num_chunks ≤ max_chunks
   pub hashes : length i.chunk_hashes ≡ i.num_chunks
   pub stored : length i.chunk_boundary_offsets ≡ i.num_chunks
   pub whole_hashes : AllByRecursion (λ h. length h ≡ 32) i.chunk_hashes
@@ -51,10 +51,10 @@ pub record IsStandardV0 (i : XorbObjectInfoV0) : Type 0 where
   pub spare : length i.spare ≡ 16
 
 abbrev pub WrittenIsReadV0 : Type 0
-WrittenIsReadV0 = (i : XorbObjectInfoV0) (more : List ℕ) → IsStandardV0 i → footer_at (text_v0 i ++ more) ≡ Ok (of_v0 i, more)
+WrittenIsReadV0 = (i : XorbObjectInfoV0) (more : List ℕ) → IsStandardV0 i → footer_at (footer_bytes_v0 i ++ more) ≡ Ok (of_v0 i, more)
 
 abbrev pub LengthIsKnownV0 : Type 0
-LengthIsKnownV0 = (i : XorbObjectInfoV0) → IsStandardV0 i → length (text_v0 i) ≡ 60 + 36 * i.num_chunks
+LengthIsKnownV0 = (i : XorbObjectInfoV0) → IsStandardV0 i → length (footer_bytes_v0 i) ≡ 60 + 36 * i.num_chunks
 
 abbrev pub LastIsReadV0 : Type 0
-LastIsReadV0 = (i : XorbObjectInfoV0) (front : List ℕ) → IsStandardV0 i → last_footer (front ++ (text_v0 i ++ number (60 + 36 * i.num_chunks))) ≡ Ok (of_v0 i, 60 + 36 * i.num_chunks)
+LastIsReadV0 = (i : XorbObjectInfoV0) (front : List ℕ) → IsStandardV0 i → last_footer (front ++ (footer_bytes_v0 i ++ number (60 + 36 * i.num_chunks))) ≡ Ok (of_v0 i, 60 + 36 * i.num_chunks)

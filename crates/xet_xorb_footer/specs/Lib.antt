@@ -1,4 +1,4 @@
-pub mod Spelled
+pub mod FooterEncoding
 pub mod Reading
 pub mod Items
 pub mod Machine
@@ -8,5 +8,5 @@ pub mod Laws
 pub mod Ends
 pub mod Joining
 pub mod Decoder
-pub mod Places
 pub mod theorems
+pub mod internal

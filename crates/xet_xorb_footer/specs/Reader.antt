@@ -1,4 +1,4 @@
--- What a reader of a footer knows.
+-- The state of a footer reader, as definitions see it.
 use Rattle.std.specs.Prelude.{ℕ, List}
 use Rattle.xet_xorb_footer.specs.declared.machine.FooterReader.{FooterReader}
 use Rattle.xet_xorb_footer.specs.Machine.{Parts, rest, room_of, wanted_of}
@@ -7,13 +7,13 @@ use Rattle.xet_codec.specs.Parsing.{Taken}
 abbrev pub parts_of : FooterReader → Parts
 parts_of r = record { either = r.either; is_v1 = r.is_v1; hash = r.hash; count = r.count; hashes = r.hashes.items; ends = r.ends.items; plain = r.plain.items; spare = r.spare }
 
--- what reading does from here on
+-- What reading gives from the next field on.
 abbrev pub rest_of : FooterReader → List ℕ → Taken Parts
 rest_of r bytes = rest r.next (parts_of r) bytes
 
 abbrev pub bytes_wanted : FooterReader → ℕ
 bytes_wanted r = wanted_of r.next (parts_of r)
 
--- at most so many bytes are read from here on
+-- Maximum number of bytes left to read.
 abbrev pub bytes_left : FooterReader → ℕ
 bytes_left r = room_of r.next (parts_of r)

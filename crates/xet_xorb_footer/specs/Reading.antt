@@ -1,4 +1,4 @@
--- Reading a footer, with the first check that fails, in the order of the bytes.
+-- Reading a footer: its checks in the order of the bytes, with the error of the first that fails.
 use Rattle.std.specs.Prelude.{ℕ, zero, suc, ◌+◌, ◌*◌, ◌==◌, nat_eq, nat_le, Bool, true, false, List, [], ◌∷◌, length, take, drop, Result, Ok, Err, if◌then◌else◌}
 use Rattle.std.specs.Cmp.Lexicographic.{pointwise}
 use Rattle.std.specs.Int.{w32, from_le_bytes}
@@ -6,38 +6,38 @@ use Rattle.xet_hash.specs.declared.error.Reason.{Reason}
 use Rattle.xet_hash.specs.declared.error.Reason.TheVariants.{BoundariesIdent, BoundariesVersion, BoundaryOffset, ChunkCount, CountMismatch, HashesIdent, HashesOffset, HashesVersion, Ident, Version}
 use Rattle.xet_xorb_footer.specs.declared.info.XorbObjectInfoV0.{XorbObjectInfoV0}
 use Rattle.xet_xorb_footer.specs.declared.info.XorbObjectInfoV1.{XorbObjectInfoV1}
-use Rattle.xet_xorb_footer.specs.Spelled.{boundaries_ident, footer_ident, hashes_ident, most_chunks, of_v0}
+use Rattle.xet_xorb_footer.specs.FooterEncoding.{boundaries_magic, footer_magic, hashes_magic, max_chunks, of_v0}
 use Rattle.xet_codec.specs.Parsing.{Taken, bytes_at, number_at, times, wants, ◌>>=◌}
 
--- with what a footer or a section of it begins: this ident
-unfoldable pub ident_at : List ℕ → Reason → List ℕ → Taken (Unit {0})
-ident_at ident reason bytes = do
+-- The magic of a footer or of a section, which must be `ident`.
+unfoldable pub magic_at : List ℕ → Reason → List ℕ → Taken (Unit {0})
+magic_at ident reason bytes = do
   x ← bytes_at 7 bytes
   _ ← wants (pointwise nat_eq x.0 ident) reason
   Ok (tt, x.1)
 
--- a byte of this value
+-- A byte that must be `version`.
 unfoldable pub version_at : ℕ → Reason → List ℕ → Taken (Unit {0})
 version_at version reason bytes = do
   x ← bytes_at 1 bytes
   _ ← wants (pointwise nat_eq x.0 (version ∷ [])) reason
   Ok (tt, x.1)
 
--- a number that is to be this one
+-- A number that must be `n`.
 unfoldable pub number_is : ℕ → Reason → List ℕ → Taken (Unit {0})
 number_is n reason bytes = do
   x ← number_at bytes
   _ ← wants (x.0 == n) reason
   Ok (tt, x.1)
 
--- the number of chunks, of which there are not too many
+-- The number of chunks, at most `max_chunks`.
 unfoldable pub count_at : List ℕ → Taken ℕ
 count_at bytes = do
   x ← number_at bytes
-  _ ← wants (nat_le x.0 most_chunks) ChunkCount
+  _ ← wants (nat_le x.0 max_chunks) ChunkCount
   Ok x
 
--- what stands behind ident and version in a footer of version 0
+-- What follows the magic and the version in a footer of version 0.
 unfoldable pub rest_v0 : List ℕ → Taken XorbObjectInfoV0
 rest_v0 bytes = do
   hash ← bytes_at 32 bytes
@@ -45,17 +45,17 @@ rest_v0 bytes = do
   ends ← times number_at n.0 n.1
   hashes ← times (bytes_at 32) n.0 ends.1
   spare ← bytes_at 16 hashes.1
-  Ok (record { ident = footer_ident; version = 0; xorb_hash = hash.0; num_chunks = n.0; chunk_boundary_offsets = ends.0; chunk_hashes = hashes.0; spare = spare.0 }, spare.1)
+  Ok (record { ident = footer_magic; version = 0; xorb_hash = hash.0; num_chunks = n.0; chunk_boundary_offsets = ends.0; chunk_hashes = hashes.0; spare = spare.0 }, spare.1)
 
--- and in one of version 1
+-- The same in a footer of version 1.
 unfoldable pub rest_v1 : List ℕ → Taken XorbObjectInfoV1
 rest_v1 bytes = do
   hash ← bytes_at 32 bytes
-  section ← ident_at hashes_ident HashesIdent hash.1
+  section ← magic_at hashes_magic HashesIdent hash.1
   version ← version_at 0 HashesVersion section.1
   n ← count_at version.1
   hashes ← times (bytes_at 32) n.0 n.1
-  section ← ident_at boundaries_ident BoundariesIdent hashes.1
+  section ← magic_at boundaries_magic BoundariesIdent hashes.1
   version ← version_at 1 BoundariesVersion section.1
   again ← number_is n.0 CountMismatch version.1
   ends ← times number_at n.0 again.1
@@ -66,13 +66,13 @@ rest_v1 bytes = do
   spare ← bytes_at 16 place.1
   Ok (
     record {
-      ident = footer_ident;
+      ident = footer_magic;
       version = 1;
       xorb_hash = hash.0;
-      ident_hash_section = hashes_ident;
+      ident_hash_section = hashes_magic;
       hashes_version = 0;
       chunk_hashes = hashes.0;
-      ident_boundary_section = boundaries_ident;
+      ident_boundary_section = boundaries_magic;
       boundaries_version = 1;
       chunk_boundary_offsets = ends.0;
       unpacked_chunk_offsets = plain.0;
@@ -84,20 +84,20 @@ rest_v1 bytes = do
     spare.1,
   )
 
--- ident and version, and what the version is
+-- The magic, and the version as one byte.
 unfoldable pub version_of : List ℕ → Taken (List ℕ)
 version_of bytes = do
-  x ← ident_at footer_ident Ident bytes
+  x ← magic_at footer_magic Ident bytes
   bytes_at 1 x.1
 
--- a footer of version 0
+-- A footer of version 0.
 unfoldable pub footer_v0 : List ℕ → Taken XorbObjectInfoV0
 footer_v0 bytes = do
   version ← version_of bytes
   _ ← wants (pointwise nat_eq version.0 (0 ∷ [])) Version
   rest_v0 version.1
 
--- a footer of either version, as one of version 1
+-- A footer of either version, as one of version 1.
 unfoldable pub footer_at : List ℕ → Taken XorbObjectInfoV1
 footer_at bytes = do
   version ← version_of bytes

@@ -1,4 +1,4 @@
--- Why a footer is refused, and what a call that reads one returns.
+-- Errors of reading a footer.
 use Rattle.std.specs.Prelude.{◌≡◌, Bool, true, false, Result, Ok, Err}
 use Rattle.xet_hash.specs.declared.error.Place.TheVariants.{Input}
 use Rattle.xet_hash.specs.declared.error.Reason.{Reason}
@@ -6,7 +6,7 @@ use Rattle.xet_hash.specs.declared.error.Reason.TheVariants as reasons
 use Rattle.xet_hash.specs.declared.error.StoreError.{StoreError}
 use Rattle.xet_hash.specs.declared.error.StoreError.TheVariants as errors
 
--- a check of a footer
+-- Reasons of the checks of a footer.
 abbrev pub is_check : Reason → Bool
 is_check reasons.Ident = true
 is_check reasons.Version = true
@@ -20,19 +20,14 @@ is_check reasons.HashesOffset = true
 is_check reasons.BoundaryOffset = true
 is_check reason = false
 
--- a check of the bytes that fails
-abbrev pub IsFailedCheck : StoreError → Type 0
-IsFailedCheck (errors.MalformedData reason) = is_check reason ≡ true
-IsFailedCheck e = ⊥
-
--- a refusal of the bytes, or for want of memory
+-- Errors of reading bytes in memory: of the bytes, or out of memory.
 abbrev pub IsRefusal : StoreError → Type 0
 IsRefusal errors.OutOfMemory = Unit {0}
 IsRefusal errors.UnexpectedEof = Unit {0}
 IsRefusal (errors.MalformedData reason) = is_check reason ≡ true
 IsRefusal e = ⊥
 
--- what a call that reads a footer from a source may refuse with
+-- Errors of reading a source.
 abbrev pub IsFooterRefusal : StoreError → Type 0
 IsFooterRefusal (errors.Io place) = place ≡ Input
 IsFooterRefusal e = IsRefusal e

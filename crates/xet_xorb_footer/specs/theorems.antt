@@ -2,5 +2,5 @@ pub mod Endings
 pub mod Fronts
 pub mod LastRead
 pub mod Readback
-pub mod Texts
+pub mod EncodedLengths
 pub mod ReadbackV0

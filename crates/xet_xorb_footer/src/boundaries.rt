@@ -1,35 +1,39 @@
-//! The section of boundaries at the end of a xorb's bytes, read for itself.
+//! The boundary section of the footer at the end of a xorb, read alone.
 
 ghost use Rattle.std.specs.Prelude.{◌≡◌, ◌≤◌, ◌+◌, ◌-◌, ◌*◌, ◌⊎◌, ◌++◌, List, ℕ, Ok, Err, true, IfErr, IfOk, IsErrOf, OnOk, drop, length};
 ghost use Rattle.xet_hash.specs.declared.error.Place.TheVariants.{Input};
 ghost use Rattle.xet_hash.specs.declared.error.StoreError.TheVariants.{Io, OutOfMemory};
-ghost use Rattle.xet_io.specs.Faults.{HasCause};
 ghost use Rattle.xet_xorb_footer.specs.Ends.{boundaries, last_boundaries, number_before};
 ghost use Rattle.xet_codec.specs.Blocks.{IsPart, RefusedBy, Sees, Tells};
-ghost use Rattle.xet_xorb_footer.specs.Places.{checked_at, head_at, lists_at, tail_at};
+ghost use Rattle.xet_xorb_footer.specs.internal.Places.{checked_at, head_at, lists_at, tail_at};
 ghost use Rattle.xet_codec.specs.Parsing.{number_at, times};
 ghost use Rattle.xet_xorb_footer.specs.Reading.{number_is};
 ghost use Rattle.xet_xorb_footer.specs.Refusals.{IsFooterRefusal, is_check};
-ghost use Rattle.xet_xorb_footer.specs.Spelled.{most_chunks};
+ghost use Rattle.xet_xorb_footer.specs.FooterEncoding.{max_chunks};
+ghost use Rattle.xet_io.specs.Frame.{ReadFrom};
 
-use crate::info::{BOUNDARIES_IDENT, XorbObjectInfoV1};
+use crate::info::{BOUNDARIES_MAGIC, XorbObjectInfoV1};
 use crate::lists::{number_of, push_numbers};
-use crate::machine::MOST_CHUNKS;
+use crate::machine::MAX_CHUNKS;
 use std::alloc::Global;
 use xet_base::Items;
 use xet_codec::{Block, read_exact, reader_length};
 use xet_hash::{Reason, StoreError};
 use xet_io::ReadAt;
 
-/// The maximum number of numbers that are taken from a block at once.
+/// Maximum number of boundary offsets taken from a block at once.
 const BLOCK: usize = 64;
 
 impl XorbObjectInfoV1 {
-    /// Reads the section of boundaries of the footer before the last four bytes, and what is after it, and
-    /// returns it with their number of bytes. Nothing before them is read: hash and hashes are those of no
-    /// chunks. The section begins where the number tells that begins 24 bytes before the end. From there it is
-    /// read in blocks of 64 KiB, or in one where it is shorter. The error is `UnexpectedEof` where it would
-    /// begin before the bytes do, else that of the first check that fails, `Io(Input)`, or `OutOfMemory`.
+    /// Reads the boundary section of the footer before the last four bytes, and what follows it in the
+    /// footer. Returns them as a footer without hashes (the xorb hash is zero, the list of chunk hashes
+    /// empty), and their number of bytes.
+    ///
+    /// The number that starts 24 bytes before the end gives the section's offset. Nothing else before the
+    /// section is read. The bytes are read in blocks of 64 KiB, or in one block if they are fewer.
+    ///
+    /// Errors: `UnexpectedEof` if the section would start before the first byte, the first check that fails,
+    /// `Io(Input)` and `OutOfMemory`.
     pub fn deserialize_only_boundaries_section<R: ReadAt>(
         alloc: Global,
         reader: &mut R,
@@ -39,9 +43,7 @@ impl XorbObjectInfoV1 {
         ensures count { IfOk result (λ x. x.1 ≡ 40 + 8 * x.0.num_chunks) }
         ensures refused { R.tells reader.old ≡ true → IfErr result (λ e. (last_boundaries (R.bytes reader.old) ≡ Err e) ⊎ (e ≡ Io Input) ⊎ (e ≡ OutOfMemory)) }
         ensures kinds { IfErr result IsFooterRefusal }
-        ensures cause { HasCause (R.faults reader.old) (R.faults reader.new) (IsErrOf result (Io Input)) }
-        ensures same { R.bytes reader.new ≡ R.bytes reader.old }
-        ensures tells { R.tells reader.new ≡ R.tells reader.old }
+        ensures frame { ReadFrom R.bytes R.tells R.faults R.lent reader.old reader.new (IsErrOf result (Io Input)) }
     {
         let end = reader_length(reader)?;
         let at = boundaries_start(reader, end)?;
@@ -51,7 +53,7 @@ impl XorbObjectInfoV1 {
     }
 }
 
-/// The number at an offset before the end.
+/// Reads the number at offset `at`. Here and below, `end` is the length of the reader's bytes.
 fn read_number<R: ReadAt>(
     reader: &mut R,
     block: &mut Block,
@@ -64,15 +66,13 @@ fn read_number<R: ReadAt>(
     ensures within { OnOk result (at + 4 ≤ end) }
     ensures refused { (bytes : List ℕ) → Sees (R.tells reader.old) (R.bytes reader.old) bytes end block.old → IfErr result (RefusedBy (number_at (drop at bytes))) }
     ensures kinds { IfErr result IsFooterRefusal }
-    ensures cause { HasCause (R.faults reader.old) (R.faults reader.new) (IsErrOf result (Io Input)) }
-    ensures same { R.bytes reader.new ≡ R.bytes reader.old }
-    ensures tells { R.tells reader.new ≡ R.tells reader.old }
+    ensures frame { ReadFrom R.bytes R.tells R.faults R.lent reader.old reader.new (IsErrOf result (Io Input)) }
 {
     block.load(reader, at, end, 4)?;
     Ok(number_of(block.part(at, 4)))
 }
 
-/// Checks that this number is at an offset before the end.
+/// Checks that the number at offset `at` is `wanted`.
 fn expect_number<R: ReadAt>(
     reader: &mut R,
     block: &mut Block,
@@ -88,9 +88,7 @@ fn expect_number<R: ReadAt>(
     ensures within { OnOk result (at + 4 ≤ end) }
     ensures refused { (bytes : List ℕ) → Sees (R.tells reader.old) (R.bytes reader.old) bytes end block.old → IfErr result (RefusedBy (number_is wanted reason (drop at bytes))) }
     ensures kinds { IfErr result IsFooterRefusal }
-    ensures cause { HasCause (R.faults reader.old) (R.faults reader.new) (IsErrOf result (Io Input)) }
-    ensures same { R.bytes reader.new ≡ R.bytes reader.old }
-    ensures tells { R.tells reader.new ≡ R.tells reader.old }
+    ensures frame { ReadFrom R.bytes R.tells R.faults R.lent reader.old reader.new (IsErrOf result (Io Input)) }
 {
     if read_number(reader, block, at, end)? != wanted {
         return Err(StoreError::MalformedData(reason));
@@ -98,7 +96,7 @@ fn expect_number<R: ReadAt>(
     Ok(())
 }
 
-/// Checks that these bytes, at most seven, are at an offset before the end.
+/// Checks that the bytes at offset `at` are `wanted`, at most seven.
 fn expect_bytes<R: ReadAt>(
     reader: &mut R,
     block: &mut Block,
@@ -115,9 +113,7 @@ fn expect_bytes<R: ReadAt>(
     ensures within { OnOk result (at + length wanted.now ≤ end) }
     ensures refused { (bytes : List ℕ) → Sees (R.tells reader.old) (R.bytes reader.old) bytes end block.old → IfErr result (RefusedBy (checked_at (length wanted.now) wanted.now reason (drop at bytes))) }
     ensures kinds { IfErr result IsFooterRefusal }
-    ensures cause { HasCause (R.faults reader.old) (R.faults reader.new) (IsErrOf result (Io Input)) }
-    ensures same { R.bytes reader.new ≡ R.bytes reader.old }
-    ensures tells { R.tells reader.new ≡ R.tells reader.old }
+    ensures frame { ReadFrom R.bytes R.tells R.faults R.lent reader.old reader.new (IsErrOf result (Io Input)) }
 {
     block.load(reader, at, end, wanted.len())?;
     if block.part(at, wanted.len()) != wanted {
@@ -126,7 +122,8 @@ fn expect_bytes<R: ReadAt>(
     Ok(())
 }
 
-/// So many numbers, from an offset on before the end. The list is reserved once the bytes are known to be there.
+/// Reads `count` numbers from offset `at` on. Checks first that their bytes are there, so that a wrong count
+/// reserves no more memory than there are bytes.
 fn read_numbers<R: ReadAt>(
     alloc: Global,
     reader: &mut R,
@@ -141,9 +138,7 @@ fn read_numbers<R: ReadAt>(
     ensures within { OnOk result (at + 4 * count ≤ end) }
     ensures refused { (bytes : List ℕ) → Sees (R.tells reader.old) (R.bytes reader.old) bytes end block.old → IfErr result (RefusedBy (times number_at count (drop at bytes))) }
     ensures kinds { IfErr result IsFooterRefusal }
-    ensures cause { HasCause (R.faults reader.old) (R.faults reader.new) (IsErrOf result (Io Input)) }
-    ensures same { R.bytes reader.new ≡ R.bytes reader.old }
-    ensures tells { R.tells reader.new ≡ R.tells reader.old }
+    ensures frame { ReadFrom R.bytes R.tells R.faults R.lent reader.old reader.new (IsErrOf result (Io Input)) }
 {
     if end - at < 4 * count as u64 {
         return Err(StoreError::UnexpectedEof);
@@ -159,7 +154,7 @@ fn read_numbers<R: ReadAt>(
     Ok(list)
 }
 
-/// The number of chunks, after ident and version, at an offset before the end.
+/// Reads the number of chunks, after it has checked the section's magic and version.
 fn read_head<R: ReadAt>(
     reader: &mut R,
     block: &mut Block,
@@ -170,30 +165,28 @@ fn read_head<R: ReadAt>(
     ensures read { (bytes : List ℕ) → Sees (R.tells reader.old) (R.bytes reader.old) bytes end block.old → IfOk result (λ n. head_at (drop at bytes) ≡ Ok (n, drop (at + 12) bytes)) }
     ensures part { (bytes : List ℕ) → Sees (R.tells reader.old) (R.bytes reader.old) bytes end block.old → OnOk result (IsPart block.new bytes) }
     ensures within { OnOk result (at + 12 ≤ end) }
-    ensures few { IfOk result (λ n. n ≤ most_chunks) }
+    ensures few { IfOk result (λ n. n ≤ max_chunks) }
     ensures refused { (bytes : List ℕ) → Sees (R.tells reader.old) (R.bytes reader.old) bytes end block.old → IfErr result (RefusedBy (head_at (drop at bytes))) }
     ensures kinds { IfErr result IsFooterRefusal }
-    ensures cause { HasCause (R.faults reader.old) (R.faults reader.new) (IsErrOf result (Io Input)) }
-    ensures same { R.bytes reader.new ≡ R.bytes reader.old }
-    ensures tells { R.tells reader.new ≡ R.tells reader.old }
+    ensures frame { ReadFrom R.bytes R.tells R.faults R.lent reader.old reader.new (IsErrOf result (Io Input)) }
 {
     expect_bytes(
         reader,
         block,
         at,
         end,
-        &BOUNDARIES_IDENT,
+        &BOUNDARIES_MAGIC,
         Reason::BoundariesIdent,
     )?;
     expect_bytes(reader, block, at + 7, end, &[1], Reason::BoundariesVersion)?;
     let count = read_number(reader, block, at + 8, end)?;
-    if count > MOST_CHUNKS {
+    if count > MAX_CHUNKS {
         return Err(StoreError::MalformedData(Reason::ChunkCount));
     }
     Ok(count)
 }
 
-/// The stored ends and the plain ends of so many chunks, from an offset on before the end.
+/// Reads the boundary offsets and the uncompressed boundary offsets of `count` chunks.
 fn read_lists<R: ReadAt>(
     alloc: Global,
     reader: &mut R,
@@ -208,16 +201,15 @@ fn read_lists<R: ReadAt>(
     ensures within { OnOk result (at + 8 * count ≤ end) }
     ensures refused { (bytes : List ℕ) → Sees (R.tells reader.old) (R.bytes reader.old) bytes end block.old → IfErr result (RefusedBy (lists_at count (drop at bytes))) }
     ensures kinds { IfErr result IsFooterRefusal }
-    ensures cause { HasCause (R.faults reader.old) (R.faults reader.new) (IsErrOf result (Io Input)) }
-    ensures same { R.bytes reader.new ≡ R.bytes reader.old }
-    ensures tells { R.tells reader.new ≡ R.tells reader.old }
+    ensures frame { ReadFrom R.bytes R.tells R.faults R.lent reader.old reader.new (IsErrOf result (Io Input)) }
 {
     let ends = read_numbers(alloc, reader, block, at, end, count)?;
     let plain = read_numbers(alloc, reader, block, at + 4 * count as u64, end, count)?;
     Ok((ends, plain))
 }
 
-/// Where the section of hashes begins, and the spare bytes, after the section of so many chunks.
+/// Reads what follows the section: returns the offset of the hash section from the footer's end, and the
+/// spare bytes.
 fn read_tail<R: ReadAt>(
     reader: &mut R,
     block: &mut Block,
@@ -226,15 +218,13 @@ fn read_tail<R: ReadAt>(
     count: u32,
 ) -> Result<(u32, [u8; 16]), StoreError>
     requires within { at ≤ end }
-    requires few { count ≤ most_chunks }
+    requires few { count ≤ max_chunks }
     ensures read { (bytes : List ℕ) → Sees (R.tells reader.old) (R.bytes reader.old) bytes end block.old → IfOk result (λ x. tail_at count (drop at bytes) ≡ Ok ((x.0, x.1), drop (at + 28) bytes)) }
     ensures part { (bytes : List ℕ) → Sees (R.tells reader.old) (R.bytes reader.old) bytes end block.old → OnOk result (IsPart block.new bytes) }
     ensures within { OnOk result (at + 28 ≤ end) }
     ensures refused { (bytes : List ℕ) → Sees (R.tells reader.old) (R.bytes reader.old) bytes end block.old → IfErr result (RefusedBy (tail_at count (drop at bytes))) }
     ensures kinds { IfErr result IsFooterRefusal }
-    ensures cause { HasCause (R.faults reader.old) (R.faults reader.new) (IsErrOf result (Io Input)) }
-    ensures same { R.bytes reader.new ≡ R.bytes reader.old }
-    ensures tells { R.tells reader.new ≡ R.tells reader.old }
+    ensures frame { ReadFrom R.bytes R.tells R.faults R.lent reader.old reader.new (IsErrOf result (Io Input)) }
 {
     expect_number(reader, block, at, end, count, Reason::CountMismatch)?;
     let hashes = read_number(reader, block, at + 4, end)?;
@@ -252,7 +242,7 @@ fn read_tail<R: ReadAt>(
     Ok((hashes, spare))
 }
 
-/// The section that begins at an offset, and what is after it, before the end.
+/// Reads the section at offset `at` and what follows it in the footer.
 fn read_boundaries<R: ReadAt>(
     alloc: Global,
     reader: &mut R,
@@ -262,12 +252,10 @@ fn read_boundaries<R: ReadAt>(
     requires { at ≤ end }
     ensures read { (bytes : List ℕ) → Tells (R.tells reader.old) (R.bytes reader.old) bytes end → IfOk result (λ i. boundaries (drop at bytes) ≡ Ok (i, drop (at + (40 + 8 * i.num_chunks)) bytes)) }
     ensures within { IfOk result (λ i. at + (40 + 8 * i.num_chunks) ≤ end) }
-    ensures few { IfOk result (λ i. i.num_chunks ≤ most_chunks) }
+    ensures few { IfOk result (λ i. i.num_chunks ≤ max_chunks) }
     ensures refused { (bytes : List ℕ) → Tells (R.tells reader.old) (R.bytes reader.old) bytes end → IfErr result (RefusedBy (boundaries (drop at bytes))) }
     ensures kinds { IfErr result IsFooterRefusal }
-    ensures cause { HasCause (R.faults reader.old) (R.faults reader.new) (IsErrOf result (Io Input)) }
-    ensures same { R.bytes reader.new ≡ R.bytes reader.old }
-    ensures tells { R.tells reader.new ≡ R.tells reader.old }
+    ensures frame { ReadFrom R.bytes R.tells R.faults R.lent reader.old reader.new (IsErrOf result (Io Input)) }
 {
     let mut block = Block::new(alloc);
     let count = read_head(reader, &mut block, at, end)?;
@@ -284,16 +272,14 @@ fn read_boundaries<R: ReadAt>(
     Ok(info)
 }
 
-/// Where the section begins, as the number tells that begins 24 bytes before the end.
+/// Offset of the section, from the number that starts 24 bytes before the end.
 fn boundaries_start<R: ReadAt>(reader: &mut R, end: u64) -> Result<u64, StoreError>
     ensures read { (bytes : List ℕ) → Tells (R.tells reader.old) (R.bytes reader.old) bytes end → IfOk result (λ at. last_boundaries bytes ≡ boundaries (drop at bytes)) }
     ensures place { (bytes : List ℕ) → Tells (R.tells reader.old) (R.bytes reader.old) bytes end → IfOk result (λ at. at ≡ length bytes - (number_before 24 bytes + 4)) }
     ensures within { IfOk result (λ at. at ≤ end) }
     ensures refused { (bytes : List ℕ) → Tells (R.tells reader.old) (R.bytes reader.old) bytes end → IfErr result (RefusedBy (last_boundaries bytes)) }
     ensures kinds { IfErr result IsFooterRefusal }
-    ensures cause { HasCause (R.faults reader.old) (R.faults reader.new) (IsErrOf result (Io Input)) }
-    ensures same { R.bytes reader.new ≡ R.bytes reader.old }
-    ensures tells { R.tells reader.new ≡ R.tells reader.old }
+    ensures frame { ReadFrom R.bytes R.tells R.faults R.lent reader.old reader.new (IsErrOf result (Io Input)) }
 {
     if end < 24 {
         return Err(StoreError::UnexpectedEof);

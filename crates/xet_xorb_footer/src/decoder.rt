@@ -1,4 +1,4 @@
-//! Footers that come in pieces, each with its length behind it.
+//! Incremental decoder of a footer and its length, which arrive in parts.
 
 ghost use Rattle.std.specs.Prelude.{◌≡◌, ◌≤◌, ◌<◌, ◌+◌, ◌⊎◌, ◌++◌, true, IfErr, IfOk, OnOk, drop, length, take};
 ghost use Rattle.xet_xorb_footer.specs.Joining.{IsReady, joined_wanted};
@@ -9,17 +9,16 @@ use crate::machine::FooterReader;
 use std::alloc::Global;
 use xet_hash::{Reason, StoreError};
 
-/// The bytes of a footer's length.
+/// Size of the field that holds a footer's length, in bytes.
 const LENGTH_SIZE: usize = 4;
 
-/// What was read of a footer and of its length.
+/// Progress of reading a footer and its length.
 #[derive(Drop)]
 pub(crate) struct Joined {
-    /// The footer.
     footer: FooterReader,
-    /// How many of its bytes were read.
+    /// Number of bytes of the footer read so far.
     count: u32,
-    /// Its length has come.
+    /// Whether the length was read.
     ended: bool,
 }
 
@@ -27,10 +26,11 @@ impl Joined {
     ghost use Rattle.std.specs.Prelude.{◌≡◌, ◌≤◌, ◌<◌, ◌+◌, ◌++◌, [], List, ℕ, false, IfErr, IfOk, OnOk, drop, length};
     ghost use Rattle.std.specs.Int.{w32, from_le_bytes};
     ghost use Rattle.xet_xorb_footer.specs.Ends.{whole_footer};
-    ghost use Rattle.xet_xorb_footer.specs.Joining.{IsReady, IsWholeRefusal, Reads, Stops, joined_wanted, rest_whole};
+    ghost use Rattle.xet_xorb_footer.specs.Joining.{IsReady, IsWholeRefusal, joined_wanted, rest_whole};
+    ghost use Rattle.xet_xorb_footer.specs.internal.Joining.{Reads, Stops};
     ghost use Rattle.xet_xorb_footer.specs.Reader.{bytes_wanted};
 
-    /// Nothing was read. It takes no memory.
+    /// Nothing was read. Does not allocate.
     fn new(alloc: Global) -> Joined
         ensures rest { (bytes : List ℕ) → whole_footer bytes ≡ rest_whole result (length bytes) bytes }
         ensures ready { IsReady result }
@@ -44,7 +44,7 @@ impl Joined {
         }
     }
 
-    /// The bytes of what comes next. Behind the length this is any byte, which is refused.
+    /// Number of bytes of the next field. After the length it is 1, for a trailing byte, which is rejected.
     fn wanted(&self) -> usize
         ensures { result ≡ joined_wanted self.now }
     {
@@ -57,7 +57,7 @@ impl Joined {
         }
     }
 
-    /// Takes what comes next, whole.
+    /// Consumes the next field, which must be complete.
     fn take(&mut self, field: &[u8]) -> Result<(), StoreError>
         requires ready { IsReady self.old }
         requires len { length field.now ≡ joined_wanted self.old }
@@ -77,7 +77,7 @@ impl Joined {
         Ok(())
     }
 
-    /// Takes the length of the footer, which is whole.
+    /// Consumes the length of the footer, once the footer is complete.
     fn take_length(&mut self, field: &[u8]) -> Result<(), StoreError>
         requires ready { IsReady self.old }
         requires ended { self.old.ended ≡ false }
@@ -95,7 +95,8 @@ impl Joined {
         Ok(())
     }
 
-    /// Takes what is whole at the front of a piece, straight from it, and returns how many bytes that has.
+    /// Consumes the complete fields at the start of `piece`, without buffering them, and returns their number
+    /// of bytes.
     fn take_whole(&mut self, piece: &[u8]) -> Result<usize, StoreError>
         requires { IsReady self.old }
         ensures within { IfOk result (λ n. n ≤ length piece.now) }
@@ -114,8 +115,8 @@ impl Joined {
         Ok(at)
     }
 
-    /// Fills up what is at hand from the front of a piece, takes it if it is whole then, and returns how many
-    /// bytes it added: all, if it is not.
+    /// Completes the buffered field from the start of `piece`, and consumes it once it is complete. Returns
+    /// the number of bytes added: all of `piece` if the field is still incomplete.
     fn complete(&mut self, held: &mut Vec<u8>, piece: &[u8]) -> Result<usize, StoreError>
         requires ready { IsReady self.old }
         requires short { length held.old.items < joined_wanted self.old }
@@ -139,13 +140,14 @@ impl Joined {
     }
 }
 
-/// A footer and its length, in four bytes behind it, that come in pieces.
+/// Incremental decoder of a footer and its length, in four bytes after it, which arrive in parts of any
+/// lengths.
 #[derive(Drop)]
 pub struct FooterDecoder {
     joined: Joined,
-    /// What has come of the field at hand.
+    /// Buffered bytes of the next field.
     held: Vec<u8>,
-    /// Nothing was refused.
+    /// No call has failed.
     whole: bool,
     ghost ready: { whole ≡ true → IsReady joined },
     ghost short: { whole ≡ true → length held.items < joined_wanted joined },
@@ -156,9 +158,10 @@ impl FooterDecoder {
     ghost use Rattle.xet_hash.specs.declared.error.StoreError.TheVariants.{UnexpectedEof};
     ghost use Rattle.xet_xorb_footer.specs.Decoder.{Holds, Refuses, whole_of};
     ghost use Rattle.xet_xorb_footer.specs.Ends.{whole_footer};
-    ghost use Rattle.xet_xorb_footer.specs.Joining.{IsReady, IsWholeRefusal, Reads, Stops, joined_wanted};
+    ghost use Rattle.xet_xorb_footer.specs.Joining.{IsReady, IsWholeRefusal, joined_wanted};
+    ghost use Rattle.xet_xorb_footer.specs.internal.Joining.{Reads, Stops};
 
-    /// A decoder to which nothing was fed. It takes no memory.
+    /// A decoder to which nothing was fed. Does not allocate.
     pub fn new(alloc: Global) -> FooterDecoder
         ensures whole { whole_of result ≡ true }
         ensures holds { Holds result [] }
@@ -170,16 +173,18 @@ impl FooterDecoder {
         }
     }
 
-    /// Whether nothing was refused so far.
+    /// Whether no call has failed. A decoder that has failed must not be used further.
     pub fn is_whole(&self) -> bool
         ensures { result ≡ whole_of self.now }
     {
         self.whole
     }
 
-    /// Takes the next piece. Refused as the first check that fails says, as soon as it is decided: as
-    /// `InfoLength` with the fourth byte of a wrong length, as `TrailingBytes` with the first byte behind
-    /// it; or as `OutOfMemory`. Nothing may be fed after a refusal.
+    /// Decodes the next part. After an error nothing may be fed.
+    ///
+    /// Fails with the error of the first check that fails, as soon as it is decided: `InfoLength` with the
+    /// fourth byte of a wrong length, `TrailingBytes` with the first byte after the length. The other error
+    /// is `OutOfMemory`.
     pub fn feed(&mut self, piece: &[u8]) -> Result<(), StoreError>
         requires { whole_of self.old ≡ true }
         ensures fed { OnOk result ((bytes : List ℕ) → Holds self.old bytes → Holds self.new (bytes ++ piece.now)) }
@@ -193,7 +198,7 @@ impl FooterDecoder {
         Ok(())
     }
 
-    /// Takes the next piece.
+    /// `feed` without the bookkeeping of errors: the caller sets `whole`.
     fn absorb(&mut self, piece: &[u8]) -> Result<(), StoreError>
         requires refused { self.old.whole ≡ false }
         requires ready { IsReady self.old.joined }
@@ -215,7 +220,7 @@ impl FooterDecoder {
         self.take_whole(&piece[added..])
     }
 
-    /// Takes the next piece where nothing is at hand: what is whole, and keeps the rest.
+    /// Decodes the next part when nothing is buffered: consumes its complete fields, and buffers the rest.
     fn take_whole(&mut self, piece: &[u8]) -> Result<(), StoreError>
         requires refused { self.old.whole ≡ false }
         requires ready { IsReady self.old.joined }
@@ -232,8 +237,8 @@ impl FooterDecoder {
         Ok(())
     }
 
-    /// Ends the pieces: gives the footer, and how many bytes it has. Refused as `UnexpectedEof` where they end
-    /// before the length does.
+    /// Ends the input. Returns the footer and its length in bytes. Fails with `UnexpectedEof` if the input
+    /// ended before the end of the length.
     pub fn finish(self) -> Result<(XorbObjectInfoV1, u32), StoreError>
         requires { whole_of self ≡ true }
         ensures read { IfOk result (λ x. (bytes : List ℕ) → Holds self bytes → whole_footer bytes ≡ Ok (x.0, x.1)) }

@@ -1,15 +1,15 @@
-//! Footers at the end of a xorb's bytes.
+//! The footer at the end of a xorb.
 
 ghost use Rattle.std.specs.Prelude.{◌≡◌, ◌≤◌, ◌<◌, ◌+◌, ◌-◌, ◌*◌, ◌^◌, ◌⊎◌, List, ℕ, Ok, Err, true, IfErr, IfOk, IsErrOf, OnOk, drop, length, take};
 ghost use Rattle.xet_hash.specs.declared.error.Place.TheVariants.{Input};
 ghost use Rattle.xet_hash.specs.declared.error.Reason.TheVariants.{InfoLength};
 ghost use Rattle.xet_hash.specs.declared.error.StoreError.TheVariants.{Io, MalformedData, OutOfMemory, UnexpectedEof};
-ghost use Rattle.xet_io.specs.Faults.{HasCause};
-ghost use Rattle.xet_xorb_footer.specs.Ends.{last_footer, told_length};
-ghost use Rattle.xet_xorb_footer.specs.Machine.{IsSettled};
+ghost use Rattle.xet_xorb_footer.specs.Ends.{last_footer, footer_length};
+ghost use Rattle.xet_xorb_footer.specs.internal.Machine.{IsSettled};
 ghost use Rattle.xet_codec.specs.Blocks.{IsPart, RefusedBy, Sees};
 ghost use Rattle.xet_xorb_footer.specs.Reader.{bytes_left, bytes_wanted, parts_of, rest_of};
 ghost use Rattle.xet_xorb_footer.specs.Refusals.{IsFooterRefusal};
+ghost use Rattle.xet_io.specs.Frame.{ReadFrom};
 
 use crate::info::XorbObjectInfoV1;
 use crate::machine::FooterReader;
@@ -18,27 +18,26 @@ use xet_codec::{Block, read_exact, reader_length};
 use xet_hash::{Reason, StoreError};
 use xet_io::ReadAt;
 
-/// The bytes of a footer's length.
+/// Size of the field that holds a footer's length, in bytes.
 const LENGTH_SIZE: u64 = 4;
 
-/// How many bytes the footer has, as the last four bytes tell it. It takes no memory. Refused as
-/// `UnexpectedEof` where there are fewer than four bytes, or as `Io(Input)`.
-pub fn told_length<R: ReadAt>(reader: &mut R) -> Result<u32, StoreError>
-    ensures read { R.tells reader.old ≡ true → IfOk result (λ n. told_length (R.bytes reader.old) ≡ Ok n) }
-    ensures refused { R.tells reader.old ≡ true → IfErr result (λ e. (told_length (R.bytes reader.old) ≡ Err e) ⊎ (e ≡ Io Input)) }
+/// The length of the footer in bytes, which the last four bytes hold. Does not allocate. Errors:
+/// `UnexpectedEof` if there are fewer than four bytes, and `Io(Input)`.
+pub fn footer_length<R: ReadAt>(reader: &mut R) -> Result<u32, StoreError>
+    ensures read { R.tells reader.old ≡ true → IfOk result (λ n. footer_length (R.bytes reader.old) ≡ Ok n) }
+    ensures refused { R.tells reader.old ≡ true → IfErr result (λ e. (footer_length (R.bytes reader.old) ≡ Err e) ⊎ (e ≡ Io Input)) }
     ensures kinds { IfErr result (λ e. (e ≡ UnexpectedEof) ⊎ (e ≡ Io Input)) }
-    ensures cause { HasCause (R.faults reader.old) (R.faults reader.new) (IsErrOf result (Io Input)) }
-    ensures same { R.bytes reader.new ≡ R.bytes reader.old }
-    ensures tells { R.tells reader.new ≡ R.tells reader.old }
+    ensures frame { ReadFrom R.bytes R.tells R.faults R.lent reader.old reader.new (IsErrOf result (Io Input)) }
 {
     let len = reader_length(reader)?;
     number_at_end(reader, len)
 }
 
-/// The footer before the last four bytes, which tell how many bytes it has, and that number. No bytes before
-/// it are read, and it is read in blocks of 64 KiB, or in one where it is shorter. The error is `UnexpectedEof`
-/// where it would begin before the bytes do, else that of the first check that fails, `InfoLength` where not
-/// just these four bytes are after it, `Io(Input)`, or `OutOfMemory`.
+/// Reads the footer before the last four bytes, which hold its length, and returns it with that length. The
+/// bytes before the footer are not read. It is read in blocks of 64 KiB, or in one block if it is shorter.
+///
+/// Errors: `UnexpectedEof` if it would start before the first byte, the first check that fails, `InfoLength`
+/// if the footer does not end exactly four bytes before the end, `Io(Input)` and `OutOfMemory`.
 pub fn last_footer<R: ReadAt>(
     alloc: Global,
     reader: &mut R,
@@ -46,22 +45,18 @@ pub fn last_footer<R: ReadAt>(
     ensures read { R.tells reader.old ≡ true → IfOk result (λ x. last_footer (R.bytes reader.old) ≡ Ok (x.0, x.1)) }
     ensures refused { R.tells reader.old ≡ true → IfErr result (λ e. (last_footer (R.bytes reader.old) ≡ Err e) ⊎ (e ≡ Io Input) ⊎ (e ≡ OutOfMemory)) }
     ensures kinds { IfErr result (λ e. IsFooterRefusal e ⊎ (e ≡ MalformedData InfoLength)) }
-    ensures cause { HasCause (R.faults reader.old) (R.faults reader.new) (IsErrOf result (Io Input)) }
-    ensures same { R.bytes reader.new ≡ R.bytes reader.old }
-    ensures tells { R.tells reader.new ≡ R.tells reader.old }
+    ensures frame { ReadFrom R.bytes R.tells R.faults R.lent reader.old reader.new (IsErrOf result (Io Input)) }
 {
     let len = reader_length(reader)?;
     footer_before(alloc, reader, len)
 }
 
-/// The number in the last four of so many bytes.
+/// `footer_length` of a reader of `len` bytes.
 fn number_at_end<R: ReadAt>(reader: &mut R, len: u64) -> Result<u32, StoreError>
-    ensures read { R.tells reader.old ≡ true → len ≡ length (R.bytes reader.old) → IfOk result (λ n. told_length (R.bytes reader.old) ≡ Ok n) }
-    ensures refused { R.tells reader.old ≡ true → len ≡ length (R.bytes reader.old) → IfErr result (λ e. (told_length (R.bytes reader.old) ≡ Err e) ⊎ (e ≡ Io Input)) }
+    ensures read { R.tells reader.old ≡ true → len ≡ length (R.bytes reader.old) → IfOk result (λ n. footer_length (R.bytes reader.old) ≡ Ok n) }
+    ensures refused { R.tells reader.old ≡ true → len ≡ length (R.bytes reader.old) → IfErr result (λ e. (footer_length (R.bytes reader.old) ≡ Err e) ⊎ (e ≡ Io Input)) }
     ensures kinds { IfErr result (λ e. (e ≡ UnexpectedEof) ⊎ (e ≡ Io Input)) }
-    ensures cause { HasCause (R.faults reader.old) (R.faults reader.new) (IsErrOf result (Io Input)) }
-    ensures same { R.bytes reader.new ≡ R.bytes reader.old }
-    ensures tells { R.tells reader.new ≡ R.tells reader.old }
+    ensures frame { ReadFrom R.bytes R.tells R.faults R.lent reader.old reader.new (IsErrOf result (Io Input)) }
 {
     if len < LENGTH_SIZE {
         return Err(StoreError::UnexpectedEof);
@@ -71,7 +66,7 @@ fn number_at_end<R: ReadAt>(reader: &mut R, len: u64) -> Result<u32, StoreError>
     Ok(u32::from_le_bytes(last))
 }
 
-/// The footer before the last four of so many bytes, and its length as these tell it.
+/// `last_footer` of a reader of `len` bytes.
 fn footer_before<R: ReadAt>(
     alloc: Global,
     reader: &mut R,
@@ -80,9 +75,7 @@ fn footer_before<R: ReadAt>(
     ensures read { R.tells reader.old ≡ true → len ≡ length (R.bytes reader.old) → IfOk result (λ x. last_footer (R.bytes reader.old) ≡ Ok (x.0, x.1)) }
     ensures refused { R.tells reader.old ≡ true → len ≡ length (R.bytes reader.old) → IfErr result (λ e. (last_footer (R.bytes reader.old) ≡ Err e) ⊎ (e ≡ Io Input) ⊎ (e ≡ OutOfMemory)) }
     ensures kinds { IfErr result (λ e. IsFooterRefusal e ⊎ (e ≡ MalformedData InfoLength)) }
-    ensures cause { HasCause (R.faults reader.old) (R.faults reader.new) (IsErrOf result (Io Input)) }
-    ensures same { R.bytes reader.new ≡ R.bytes reader.old }
-    ensures tells { R.tells reader.new ≡ R.tells reader.old }
+    ensures frame { ReadFrom R.bytes R.tells R.faults R.lent reader.old reader.new (IsErrOf result (Io Input)) }
 {
     let told = number_at_end(reader, len)?;
     let size = told as u64 + LENGTH_SIZE;
@@ -97,8 +90,8 @@ fn footer_before<R: ReadAt>(
     Ok((footer.into_v1(), told))
 }
 
-/// Reads all fields that are wanted, from offset `at` on, before offset `end`, and returns where they end. They are
-/// taken from blocks of 64 KiB, or one of all bytes there where these are fewer.
+/// Reads all remaining fields from offset `at` on, before offset `end`, and returns the offset after them.
+/// The fields are taken from blocks of 64 KiB, or from one block if fewer bytes are left.
 fn read_fields_at<R: ReadAt>(
     alloc: Global,
     footer: &mut FooterReader,
@@ -112,9 +105,7 @@ fn read_fields_at<R: ReadAt>(
     ensures within { IfOk result (λ to. to ≤ end) }
     ensures refused { R.tells reader.old ≡ true → end ≡ length (R.bytes reader.old) → IfErr result (λ e. (rest_of footer.old (drop at (R.bytes reader.old)) ≡ Err e) ⊎ (e ≡ Io Input) ⊎ (e ≡ OutOfMemory)) }
     ensures kinds { IfErr result IsFooterRefusal }
-    ensures cause { HasCause (R.faults reader.old) (R.faults reader.new) (IsErrOf result (Io Input)) }
-    ensures same { R.bytes reader.new ≡ R.bytes reader.old }
-    ensures tells { R.tells reader.new ≡ R.tells reader.old }
+    ensures frame { ReadFrom R.bytes R.tells R.faults R.lent reader.old reader.new (IsErrOf result (Io Input)) }
 {
     let mut block = Block::new(alloc);
     let mut to = at;
@@ -124,7 +115,7 @@ fn read_fields_at<R: ReadAt>(
     Ok(to)
 }
 
-/// Takes the next field, at offset `at`, before offset `end`, from a block, and returns where it ends.
+/// Reads the next field at offset `at`, before offset `end`, and returns the offset after it.
 fn read_field_at<R: ReadAt>(
     footer: &mut FooterReader,
     reader: &mut R,
@@ -141,9 +132,7 @@ fn read_field_at<R: ReadAt>(
     ensures left { OnOk result (bytes_wanted footer.old + bytes_left footer.new ≤ bytes_left footer.old) }
     ensures refused { (bytes : List ℕ) → Sees (R.tells reader.old) (R.bytes reader.old) bytes end block.old → IfErr result (RefusedBy (rest_of footer.old (drop at bytes))) }
     ensures kinds { IfErr result IsFooterRefusal }
-    ensures cause { HasCause (R.faults reader.old) (R.faults reader.new) (IsErrOf result (Io Input)) }
-    ensures same { R.bytes reader.new ≡ R.bytes reader.old }
-    ensures tells { R.tells reader.new ≡ R.tells reader.old }
+    ensures frame { ReadFrom R.bytes R.tells R.faults R.lent reader.old reader.new (IsErrOf result (Io Input)) }
 {
     let wanted = footer.wanted();
     block.load(reader, at, end, wanted)?;

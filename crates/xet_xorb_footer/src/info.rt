@@ -1,91 +1,94 @@
-//! Footers of xorbs, as values.
+//! Footers of xorbs as values, in both versions.
 
 ghost use Rattle.std.specs.Prelude.{◌+◌, ◌*◌, ◌≡◌, ◌≤◌, ◌≢◌, ◌↔◌, [], IfOk, IsOkUnless, IsTrue, length};
-ghost use Rattle.xet_xorb_footer.specs.Spelled.{HasShortLists, empty_v0, empty_v1, filled, length_of, most_chunks, of_v0, of_v0_with};
+ghost use Rattle.xet_xorb_footer.specs.FooterEncoding.{HasShortLists, empty_v0, empty_v1, filled, length_of, max_chunks, of_v0, of_v0_with};
 
 use serde::Serialize;
 use std::alloc::Global;
 use xet_base::Items;
 use xet_hash::{MerkleHash, StoreError};
 
-/// With what a footer and each of its sections begins.
+/// The magic of a footer or of one of its sections.
 pub type XorbObjectIdent = [u8; 7];
 
-/// The bytes at the end of a footer that mean nothing yet.
+/// Size of the spare bytes at the end of a footer. They have no meaning yet.
 const SPARE: usize = 16;
 
-/// With what a footer begins.
-pub(crate) const FOOTER_IDENT: XorbObjectIdent = *b"XETBLOB";
+/// Magic of a footer.
+pub(crate) const FOOTER_MAGIC: XorbObjectIdent = *b"XETBLOB";
 
-/// With what its section of hashes begins.
-pub(crate) const HASHES_IDENT: XorbObjectIdent = *b"XBLBHSH";
+/// Magic of the hash section.
+pub(crate) const HASHES_MAGIC: XorbObjectIdent = *b"XBLBHSH";
 
-/// With what its section of boundaries begins.
-pub(crate) const BOUNDARIES_IDENT: XorbObjectIdent = *b"XBLBBND";
+/// Magic of the boundary section.
+pub(crate) const BOUNDARIES_MAGIC: XorbObjectIdent = *b"XBLBBND";
 
-/// A footer of version 0. JSON has its fields in this order, the hash as `cashash`, and no spare bytes.
+/// A footer of version 0. Its JSON has the fields in this order, the xorb hash as `cashash`, and no spare
+/// bytes.
 #[derive(PartialEq, Eq, Debug, Drop, Serialize)]
 pub struct XorbObjectInfoV0 {
-    /// `XETBLOB`.
+    /// Magic, `XETBLOB`.
     pub ident: XorbObjectIdent,
-    /// 0.
+    /// Version, 0.
     pub version: u8,
-    /// The hash of the xorb.
+    /// Xorb hash.
     #[serde(rename = "cashash")]
     pub xorb_hash: MerkleHash,
-    /// The number of chunks.
+    /// Number of chunks.
     pub num_chunks: u32,
-    /// Where each chunk ends among the stored bytes, its header counted in.
+    /// Boundary offsets: the end of each chunk among the stored chunks, headers included.
     pub chunk_boundary_offsets: Items<u32>,
-    /// The hash of each chunk.
+    /// Chunk hashes.
     pub chunk_hashes: Items<MerkleHash>,
-    /// Kept as read.
+    /// Spare bytes, preserved as read.
     #[serde(skip)]
     pub(crate) spare: [u8; SPARE],
 }
 
-/// A footer of version 1. JSON has its fields in this order, the hash as `cashash`, and no spare bytes.
+/// A footer of version 1. Its JSON has the fields in this order, the xorb hash as `cashash`, and no spare
+/// bytes.
 #[derive(PartialEq, Eq, Debug, Drop, Serialize)]
 pub struct XorbObjectInfoV1 {
-    /// `XETBLOB`.
+    /// Magic, `XETBLOB`.
     pub ident: XorbObjectIdent,
-    /// 1.
+    /// Version, 1.
     pub version: u8,
-    /// The hash of the xorb.
+    /// Xorb hash.
     #[serde(rename = "cashash")]
     pub xorb_hash: MerkleHash,
-    /// `XBLBHSH`.
+    /// Magic of the hash section, `XBLBHSH`.
     pub ident_hash_section: XorbObjectIdent,
-    /// 0.
+    /// Version of the hash section, 0.
     pub hashes_version: u8,
-    /// The hash of each chunk.
+    /// Chunk hashes.
     pub chunk_hashes: Items<MerkleHash>,
-    /// `XBLBBND`.
+    /// Magic of the boundary section, `XBLBBND`.
     pub ident_boundary_section: XorbObjectIdent,
-    /// 1; 0 where there are no plain ends.
+    /// Version of the boundary section: 1, or 0 if the footer was converted from version 0 without
+    /// uncompressed boundary offsets.
     pub boundaries_version: u8,
-    /// Where each chunk ends among the stored bytes, its header counted in.
+    /// Boundary offsets: the end of each chunk among the stored chunks, headers included.
     pub chunk_boundary_offsets: Items<u32>,
-    /// Where each chunk ends among the plain bytes.
+    /// Uncompressed boundary offsets: the end of each chunk among the uncompressed bytes.
     pub unpacked_chunk_offsets: Items<u32>,
-    /// The number of chunks.
+    /// Number of chunks.
     pub num_chunks: u32,
-    /// Where the section of hashes begins, counted from the footer's end.
+    /// Start of the hash section, in bytes before the end of the footer.
     pub hashes_section_offset_from_end: u32,
-    /// Where the section of boundaries begins, counted from the footer's end.
+    /// Start of the boundary section, in bytes before the end of the footer.
     pub boundary_section_offset_from_end: u32,
-    /// Kept as read.
+    /// Spare bytes, preserved as read.
     #[serde(skip)]
     pub(crate) spare: [u8; SPARE],
 }
 
 impl XorbObjectInfoV0 {
-    /// A footer of no chunks, whose hash and spare bytes are zeros. It takes no memory.
+    /// The footer of no chunks, with zeros as hash and spare bytes. Does not allocate.
     pub fn default(alloc: Global) -> XorbObjectInfoV0
         ensures { result ≡ empty_v0 }
     {
         XorbObjectInfoV0 {
-            ident: FOOTER_IDENT,
+            ident: FOOTER_MAGIC,
             version: 0,
             xorb_hash: MerkleHash::default(),
             num_chunks: 0,
@@ -95,19 +98,19 @@ impl XorbObjectInfoV0 {
         }
     }
 
-    /// A footer of these lists, which have as many items as there are chunks, at most 107,374,180. It takes no
-    /// memory.
+    /// A footer with these lists and as many chunks as hashes, at most 107,374,180. `stored_ends` are the
+    /// boundary offsets. There should be one for each chunk, which is not checked. Does not allocate.
     pub fn from_lists(
         xorb_hash: MerkleHash,
         stored_ends: Vec<u32>,
         chunk_hashes: Vec<MerkleHash>,
         spare: [u8; 16],
     ) -> XorbObjectInfoV0
-        requires { length chunk_hashes.items ≤ most_chunks }
+        requires { length chunk_hashes.items ≤ max_chunks }
         ensures { result ≡ record empty_v0 { xorb_hash = xorb_hash; num_chunks = length chunk_hashes.items; chunk_boundary_offsets = stored_ends.items; chunk_hashes = chunk_hashes.items; spare = spare } }
     {
         XorbObjectInfoV0 {
-            ident: FOOTER_IDENT,
+            ident: FOOTER_MAGIC,
             version: 0,
             xorb_hash,
             num_chunks: chunk_hashes.len() as u32,
@@ -117,7 +120,7 @@ impl XorbObjectInfoV0 {
         }
     }
 
-    /// The same footer again.
+    /// A copy. Its only error is `OutOfMemory`.
     pub fn clone(&self, alloc: Global) -> Result<XorbObjectInfoV0, StoreError>
         ensures same { IfOk result (λ copy. copy ≡ self.now) }
         ensures memory { IsOkUnless result StoreError.OutOfMemory }
@@ -135,18 +138,18 @@ impl XorbObjectInfoV0 {
 }
 
 impl XorbObjectInfoV1 {
-    /// A footer of no chunks, whose hash and spare bytes are zeros. It takes no memory.
+    /// The footer of no chunks, with zeros as hash and spare bytes. Does not allocate.
     pub fn default(alloc: Global) -> XorbObjectInfoV1
         ensures { result ≡ empty_v1 }
     {
         XorbObjectInfoV1 {
-            ident: FOOTER_IDENT,
+            ident: FOOTER_MAGIC,
             version: 1,
             xorb_hash: MerkleHash::default(),
-            ident_hash_section: HASHES_IDENT,
+            ident_hash_section: HASHES_MAGIC,
             hashes_version: 0,
             chunk_hashes: Items::new(alloc),
-            ident_boundary_section: BOUNDARIES_IDENT,
+            ident_boundary_section: BOUNDARIES_MAGIC,
             boundaries_version: 1,
             chunk_boundary_offsets: Items::new(alloc),
             unpacked_chunk_offsets: Items::new(alloc),
@@ -157,8 +160,9 @@ impl XorbObjectInfoV1 {
         }
     }
 
-    /// A footer of these lists, which have as many items as there are chunks, at most 107,374,180. It takes no
-    /// memory.
+    /// A footer with these lists and as many chunks as hashes, at most 107,374,180. `stored_ends` are the
+    /// boundary offsets and `plain_ends` the uncompressed ones. There should be one of each for each chunk, which
+    /// is not checked. Does not allocate.
     pub fn from_lists(
         xorb_hash: MerkleHash,
         chunk_hashes: Vec<MerkleHash>,
@@ -166,18 +170,18 @@ impl XorbObjectInfoV1 {
         plain_ends: Vec<u32>,
         spare: [u8; 16],
     ) -> XorbObjectInfoV1
-        requires { length chunk_hashes.items ≤ most_chunks }
+        requires { length chunk_hashes.items ≤ max_chunks }
         ensures { result ≡ record empty_v1 { xorb_hash = xorb_hash; chunk_hashes = chunk_hashes.items; chunk_boundary_offsets = stored_ends.items; unpacked_chunk_offsets = plain_ends.items; num_chunks = length chunk_hashes.items; hashes_section_offset_from_end = 52 + 40 * length chunk_hashes.items; boundary_section_offset_from_end = 40 + 8 * length chunk_hashes.items; spare = spare } }
     {
         let count = chunk_hashes.len() as u32;
         XorbObjectInfoV1 {
-            ident: FOOTER_IDENT,
+            ident: FOOTER_MAGIC,
             version: 1,
             xorb_hash,
-            ident_hash_section: HASHES_IDENT,
+            ident_hash_section: HASHES_MAGIC,
             hashes_version: 0,
             chunk_hashes: Items::from_vec(chunk_hashes),
-            ident_boundary_section: BOUNDARIES_IDENT,
+            ident_boundary_section: BOUNDARIES_MAGIC,
             boundaries_version: 1,
             chunk_boundary_offsets: Items::from_vec(stored_ends),
             unpacked_chunk_offsets: Items::from_vec(plain_ends),
@@ -188,7 +192,7 @@ impl XorbObjectInfoV1 {
         }
     }
 
-    /// The same footer again.
+    /// A copy. Its only error is `OutOfMemory`.
     pub fn clone(&self, alloc: Global) -> Result<XorbObjectInfoV1, StoreError>
         ensures same { IfOk result (λ copy. copy ≡ self.now) }
         ensures memory { IsOkUnless result StoreError.OutOfMemory }
@@ -211,7 +215,7 @@ impl XorbObjectInfoV1 {
         })
     }
 
-    /// The bytes of a footer with these lists.
+    /// Length of the encoding, in bytes, by the lengths of the lists.
     pub fn serialized_length(&self) -> usize
         requires { HasShortLists self.now }
         ensures { result ≡ length_of self.now }
@@ -221,7 +225,7 @@ impl XorbObjectInfoV1 {
             + 4 * self.unpacked_chunk_offsets.as_slice().len()
     }
 
-    /// Sets where the sections begin, as the lists tell it.
+    /// Sets the offsets of both sections by the lengths of the lists.
     pub fn fill_in_boundary_offsets(&mut self)
         requires { HasShortLists self.old }
         ensures { self.new ≡ filled self.old }
@@ -235,17 +239,17 @@ impl XorbObjectInfoV1 {
             + 32 * self.chunk_hashes.as_slice().len() as u32;
     }
 
-    /// Whether hashes are listed.
+    /// Whether chunk hashes are listed.
     pub fn has_chunk_hashes(&self) -> bool
         ensures { IsTrue result ↔ (self.now.chunk_hashes ≢ []) }
     {
         !self.chunk_hashes.as_slice().is_empty()
     }
 
-    /// A footer of version 0 as one of version 1, without plain ends. It takes no memory.
+    /// Converts a footer of version 0 to version 1, without uncompressed boundary offsets. Does not allocate.
     pub fn from_v0(src: XorbObjectInfoV0) -> XorbObjectInfoV1
-        requires hashes { length src.chunk_hashes ≤ most_chunks }
-        requires stored { length src.chunk_boundary_offsets ≤ most_chunks }
+        requires hashes { length src.chunk_hashes ≤ max_chunks }
+        requires stored { length src.chunk_boundary_offsets ≤ max_chunks }
         ensures { result ≡ of_v0 src }
     {
         let stored = src.chunk_boundary_offsets.into_vec();
@@ -256,10 +260,10 @@ impl XorbObjectInfoV1 {
             ident: src.ident,
             version: 1,
             xorb_hash: src.xorb_hash,
-            ident_hash_section: HASHES_IDENT,
+            ident_hash_section: HASHES_MAGIC,
             hashes_version: 0,
             chunk_hashes: src.chunk_hashes,
-            ident_boundary_section: BOUNDARIES_IDENT,
+            ident_boundary_section: BOUNDARIES_MAGIC,
             boundaries_version: 0,
             chunk_boundary_offsets: Items::from_vec(stored),
             unpacked_chunk_offsets: Items::new(alloc),
@@ -269,15 +273,15 @@ impl XorbObjectInfoV1 {
             spare: src.spare,
         }
     }
-    /// A footer of version 0 as one of version 1, with these plain ends, and with zeros as spare bytes. It
-    /// takes no memory.
+    /// Converts a footer of version 0 to version 1, with these uncompressed boundary offsets and zeros as
+    /// spare bytes. Does not allocate.
     pub fn from_v0_with_unpacked_chunk_offsets(
         src: XorbObjectInfoV0,
         offsets: Vec<u32>,
     ) -> XorbObjectInfoV1
-        requires hashes { length src.chunk_hashes ≤ most_chunks }
-        requires stored { length src.chunk_boundary_offsets ≤ most_chunks }
-        requires plain { length offsets.items ≤ most_chunks }
+        requires hashes { length src.chunk_hashes ≤ max_chunks }
+        requires stored { length src.chunk_boundary_offsets ≤ max_chunks }
+        requires plain { length offsets.items ≤ max_chunks }
         ensures { result ≡ of_v0_with src offsets.items }
     {
         let mut info = XorbObjectInfoV1::from_v0(src);
@@ -289,7 +293,7 @@ impl XorbObjectInfoV1 {
     }
 }
 
-/// The same items again.
+/// A copy of the items. Its only error is `OutOfMemory`.
 fn copy<T: Copy>(alloc: Global, items: &Items<T>) -> Result<Items<T>, StoreError>
     ensures same { IfOk result (λ copy. copy ≡ items.now) }
     ensures memory { IsOkUnless result StoreError.OutOfMemory }

@@ -1,35 +1,37 @@
-//! What is written of a footer is read back.
+//! Theorems about footers: round trips and lengths. Each is the contract of a function without parameters and
+//! without effect. They apply to footers with the magic, versions, lists and offsets of the format
+//! (`IsStandard`).
 
 ghost use Rattle.xet_xorb_footer.specs.Laws.{LastIsRead, LastIsReadV0, LengthIsKnown, LengthIsKnownV0, WrittenIsRead, WrittenIsReadV0};
 
-/// Does nothing: that a footer of version 1 is read back as it was written, whatever stands behind it.
+/// A footer of version 1 is read back from its encoding, whatever bytes follow.
 pub fn written_is_read()
     ensures { WrittenIsRead }
 {}
 
-/// Does nothing: that a footer of version 1 and of n chunks has 92 + 40 n bytes.
+/// A footer of version 1 with n chunks has 92 + 40 n bytes.
 pub fn length_is_known()
     ensures { LengthIsKnown }
 {}
 
-/// Does nothing: that a footer of version 1 with its length behind it is read as it was written, with that
-/// length, at the end of any bytes.
+/// A footer of version 1 that is followed by its length is read back at the end of any bytes, with that
+/// length.
 pub fn last_is_read()
     ensures { LastIsRead }
 {}
 
-/// Does nothing: that a footer of version 0 is read back as the same of version 1, whatever stands behind it.
+/// A footer of version 0 is read back from its encoding, converted to version 1, whatever bytes follow.
 pub fn written_is_read_v0()
     ensures { WrittenIsReadV0 }
 {}
 
-/// Does nothing: that a footer of version 0 and of n chunks has 60 + 36 n bytes.
+/// A footer of version 0 with n chunks has 60 + 36 n bytes.
 pub fn length_is_known_v0()
     ensures { LengthIsKnownV0 }
 {}
 
-/// Does nothing: that a footer of version 0 with its length behind it is read as the same of version 1, with
-/// that length, at the end of any bytes.
+/// A footer of version 0 that is followed by its length is read back at the end of any bytes, converted to
+/// version 1, with that length.
 pub fn last_is_read_v0()
     ensures { LastIsReadV0 }
 {}

@@ -1,4 +1,4 @@
-//! Footers of xorbs, as values: written to sinks, and read from sources, at the end of a reader and in pieces.
+//! Footers of xorbs: written to sinks, and read from sources, at the end of a reader, and incrementally.
 #![tactic(auto)]
 
 mod boundaries;
@@ -12,10 +12,5 @@ mod reading;
 mod writing;
 
 pub use decoder::FooterDecoder;
-pub use ends::{last_footer, told_length};
+pub use ends::{footer_length, last_footer};
 pub use info::{XorbObjectIdent, XorbObjectInfoV0, XorbObjectInfoV1};
-
-#[cfg(test)]
-mod ends_tests;
-#[cfg(test)]
-mod tests;

@@ -1,8 +1,8 @@
-//! Numbers and hashes in the bytes of a field.
+//! Little-endian numbers and hashes in the bytes of a field.
 
 ghost use Rattle.std.specs.Prelude.{◌≡◌, ◌≤◌, ◌+◌, ◌*◌, ◌++◌, OnOk, length, take, vec_len};
 ghost use Rattle.std.specs.Int.{from_le_bytes, w32};
-ghost use Rattle.xet_xorb_footer.specs.Items.{hashes_in, numbers_in};
+ghost use Rattle.xet_xorb_footer.specs.internal.Items.{hashes_in, numbers_in};
 
 use std::alloc::AllocError;
 use xet_hash::MerkleHash;
@@ -28,7 +28,7 @@ pub(crate) fn hash_of(bytes: &[u8]) -> MerkleHash
     MerkleHash::from_bytes(hash)
 }
 
-/// Adds the first so many numbers of a field.
+/// Appends the first `count` numbers of a field.
 pub(crate) fn push_numbers(
     list: &mut Vec<u32>,
     field: &[u8],
@@ -47,7 +47,7 @@ pub(crate) fn push_numbers(
     Ok(())
 }
 
-/// Adds the first so many hashes of a field.
+/// Appends the first `count` hashes of a field.
 pub(crate) fn push_hashes(
     list: &mut Vec<MerkleHash>,
     field: &[u8],

@@ -1,82 +1,76 @@
-//! A footer that is read field by field.
+//! State machine that reads a footer field by field.
 
 ghost use Rattle.std.specs.Prelude.{◌≤◌, vec_len};
 
 use crate::info::{
-    BOUNDARIES_IDENT, FOOTER_IDENT, HASHES_IDENT, XorbObjectInfoV0, XorbObjectInfoV1,
+    BOUNDARIES_MAGIC, FOOTER_MAGIC, HASHES_MAGIC, XorbObjectInfoV0, XorbObjectInfoV1,
 };
 use crate::lists::{hash_of, number_of, push_hashes, push_numbers};
 use std::alloc::{AllocError, Global};
 use xet_base::Items;
 use xet_hash::{MerkleHash, Reason, StoreError};
 
-/// The most items of a list that are read at once.
+/// Maximum number of list items in one field.
 const BLOCK: usize = 64;
 
-/// The most chunks of a footer.
-pub(crate) const MOST_CHUNKS: u32 = 107374180;
+/// Maximum number of chunks of a footer. A footer of version 1 then has fewer than 2^32 bytes.
+pub(crate) const MAX_CHUNKS: u32 = 107374180;
 
-/// A field of a footer.
+/// A field of a footer. A list is read as several fields.
 #[derive(Clone, Copy, PartialEq, Eq, Debug)]
 pub(crate) enum Field {
-    /// The ident.
+    /// Magic of the footer.
     Ident,
-    /// The version.
     Version,
-    /// The hash of the xorb.
+    /// Xorb hash.
     Hash,
-    /// The ident of the section of hashes.
+    /// Magic of the hash section.
     HashesIdent,
-    /// The version of the section of hashes.
     HashesVersion,
-    /// The number of chunks.
+    /// Number of chunks.
     Count,
-    /// Some hashes.
+    /// Up to 64 chunk hashes.
     Hashes,
-    /// The ident of the section of boundaries.
+    /// Magic of the boundary section.
     BoundariesIdent,
-    /// The version of the section of boundaries.
     BoundariesVersion,
-    /// The number of chunks in the section of boundaries.
+    /// Number of chunks in the boundary section.
     CountAgain,
-    /// Some stored ends.
+    /// Up to 64 boundary offsets.
     Ends,
-    /// Some plain ends.
+    /// Up to 64 uncompressed boundary offsets.
     PlainEnds,
-    /// The number of chunks behind the sections.
+    /// Number of chunks after the sections.
     CountLast,
-    /// Where the section of hashes begins.
+    /// Offset of the hash section, from the end of the footer.
     HashesOffset,
-    /// Where the section of boundaries begins.
+    /// Offset of the boundary section, from the end of the footer.
     BoundaryOffset,
-    /// The spare bytes.
     Spare,
-    /// Nothing.
+    /// The footer is complete.
     Done,
 }
 
-/// What was read of a footer so far, and which field comes next.
+/// Progress of reading a footer: the fields read so far, and the next one.
 #[derive(Drop)]
 pub(crate) struct FooterReader {
-    /// The next field.
     next: Field,
-    /// Whether version 1 is allowed.
+    /// Whether version 1 is accepted.
     either: bool,
-    /// Whether it is of version 1.
+    /// Whether the footer is of version 1.
     is_v1: bool,
-    /// The hash of the xorb.
+    /// Xorb hash.
     hash: MerkleHash,
-    /// The number of chunks.
+    /// Number of chunks.
     count: u32,
-    /// The hashes.
+    /// Chunk hashes.
     hashes: Vec<MerkleHash>,
-    /// The stored ends.
+    /// Boundary offsets.
     ends: Vec<u32>,
-    /// The plain ends.
+    /// Uncompressed boundary offsets.
     plain: Vec<u32>,
-    /// The spare bytes.
     spare: [u8; 16],
-    /// How many bytes are there, of the footer and after it, as far as that is known.
+    /// Number of bytes known to be available, of the footer and after it.
     available: u64,
     ghost few: { count ≤ 107374180 },
     ghost few_hashes: { vec_len hashes ≤ 107374180 },
@@ -87,42 +81,44 @@ pub(crate) struct FooterReader {
 impl FooterReader {
     ghost use Rattle.std.specs.Prelude.{◌≡◌, ◌≤◌, ◌⊎◌, ℕ, ◌+◌, ◌-◌, ◌*◌, List, ◌++◌, Err, IfErr, IsErrOf, OnOk, length, min, nat_lt};
     ghost use Rattle.xet_hash.specs.declared.error.StoreError.TheVariants.{OutOfMemory, UnexpectedEof};
-    ghost use Rattle.xet_xorb_footer.specs.Machine.{IsSettled, as_value, behind_ends, block_of, ends_v0, ends_v1, expects, expects_number, hashes_v0, hashes_v1, info_of, info_v0, next_count, next_ends, next_hash, next_hashes, next_plain, next_spare, next_version, plain_v1, started, step};
+    ghost use Rattle.xet_xorb_footer.specs.internal.Machine.{IsSettled, as_value, behind_ends, ends_v0, ends_v1, expects, expects_number, hashes_v0, hashes_v1, next_count, next_ends, next_hash, next_hashes, next_plain, next_spare, next_version, plain_v1, started, step};
+    ghost use Rattle.xet_xorb_footer.specs.Machine.{block_of, info_of, info_v0};
     ghost use Rattle.xet_xorb_footer.specs.Reader.{bytes_left, bytes_wanted, parts_of, rest_of};
     ghost use Rattle.xet_xorb_footer.specs.Reading.{footer_at, footer_v0, rest_v0};
     ghost use Rattle.xet_codec.specs.Parsing.{Gives};
     ghost use Rattle.xet_xorb_footer.specs.Refusals.{IsRefusal};
-    ghost use Rattle.xet_xorb_footer.specs.Spelled.{most_chunks};
+    ghost use Rattle.xet_xorb_footer.specs.FooterEncoding.{max_chunks};
 
-    /// A reader of a footer of either version, for which so many bytes are available: lists that fit into them are
-    /// reserved once, as soon as their length is read, and others grow.
+    /// Reads a footer of either version. `available` is the number of bytes known to be available. If the
+    /// lists fit into them, they are reserved once, as soon as the number of chunks is read. Otherwise they
+    /// grow.
     pub(crate) fn of_either(alloc: Global, available: u64) -> FooterReader
         ensures rest { (bytes : List ℕ) → as_value info_of (rest_of result bytes) ≡ footer_at bytes }
         ensures settled { IsSettled result.next (parts_of result) }
-        ensures left { bytes_left result ≤ 92 + 40 * most_chunks }
+        ensures left { bytes_left result ≤ 92 + 40 * max_chunks }
     {
         FooterReader::started(alloc, true, Field::Ident, available)
     }
 
-    /// A reader of a footer of version 0.
+    /// Reads a footer of version 0.
     pub(crate) fn of_v0(alloc: Global) -> FooterReader
         ensures rest { (bytes : List ℕ) → as_value info_v0 (rest_of result bytes) ≡ footer_v0 bytes }
         ensures settled { IsSettled result.next (parts_of result) }
-        ensures left { bytes_left result ≤ 92 + 40 * most_chunks }
+        ensures left { bytes_left result ≤ 92 + 40 * max_chunks }
     {
         FooterReader::started(alloc, false, Field::Ident, 0)
     }
 
-    /// A reader of what stands behind ident and version of a footer of version 0.
+    /// Reads what follows the magic and the version in a footer of version 0.
     pub(crate) fn of_rest_v0(alloc: Global) -> FooterReader
         ensures rest { (bytes : List ℕ) → as_value info_v0 (rest_of result bytes) ≡ rest_v0 bytes }
         ensures settled { IsSettled result.next (parts_of result) }
-        ensures left { bytes_left result ≤ 92 + 40 * most_chunks }
+        ensures left { bytes_left result ≤ 92 + 40 * max_chunks }
     {
         FooterReader::started(alloc, false, Field::Hash, 0)
     }
 
-    /// A reader that has read nothing.
+    /// Nothing was read, and `next` is the first field.
     fn started(alloc: Global, either: bool, next: Field, available: u64) -> FooterReader
         ensures next { result.next ≡ next }
         ensures parts { parts_of result ≡ started either }
@@ -141,13 +137,13 @@ impl FooterReader {
         }
     }
 
-    /// The footer, where it is whole.
+    /// The footer, once it is complete.
     pub(crate) fn into_v0(self) -> XorbObjectInfoV0
         ensures { result ≡ info_v0 (parts_of self) }
     {
         let spare = self.spare;
         XorbObjectInfoV0 {
-            ident: FOOTER_IDENT,
+            ident: FOOTER_MAGIC,
             version: 0,
             xorb_hash: self.hash,
             num_chunks: self.count,
@@ -157,7 +153,7 @@ impl FooterReader {
         }
     }
 
-    /// The footer of either version, as one of version 1, where it is whole.
+    /// The footer of either version, once it is complete, as one of version 1.
     pub(crate) fn into_v1(self) -> XorbObjectInfoV1
         ensures { result ≡ info_of (parts_of self) }
     {
@@ -166,13 +162,13 @@ impl FooterReader {
         }
         let spare = self.spare;
         XorbObjectInfoV1 {
-            ident: FOOTER_IDENT,
+            ident: FOOTER_MAGIC,
             version: 1,
             xorb_hash: self.hash,
-            ident_hash_section: HASHES_IDENT,
+            ident_hash_section: HASHES_MAGIC,
             hashes_version: 0,
             chunk_hashes: Items::from_vec(self.hashes),
-            ident_boundary_section: BOUNDARIES_IDENT,
+            ident_boundary_section: BOUNDARIES_MAGIC,
             boundaries_version: 1,
             chunk_boundary_offsets: Items::from_vec(self.ends),
             unpacked_chunk_offsets: Items::from_vec(self.plain),
@@ -183,7 +179,7 @@ impl FooterReader {
         }
     }
 
-    /// The bytes of the next field; none where the footer is whole.
+    /// Number of bytes of the next field, or 0 if the footer is complete.
     pub(crate) fn wanted(&self) -> usize
         ensures { result ≡ bytes_wanted self.now }
     {
@@ -201,13 +197,13 @@ impl FooterReader {
         }
     }
 
-    /// How many items are read next of a list of which so many are there.
+    /// Number of items in the next field of a list that has `len` items so far.
     fn block(&self, len: usize) -> usize
         ensures { result ≡ min 64 (self.now.count - len) }
     {
         BLOCK.min((self.count as usize).saturating_sub(len))
     }
-    /// Takes the next field, whole.
+    /// Consumes the next field, which must be complete.
     pub(crate) fn take(&mut self, field: &[u8]) -> Result<(), StoreError>
         requires { length field.now ≡ bytes_wanted self.old }
         ensures taken { OnOk result ((more : List ℕ) → rest_of self.old (field.now ++ more) ≡ rest_of self.new more) }
@@ -220,21 +216,21 @@ impl FooterReader {
         self.step(field)
     }
 
-    /// The same.
-    #[tactic(auto, unfolding(crate::specs::Machine::step))]
+    /// `take`, with the contract that it does what the definition `step` says.
+    #[tactic(auto, unfolding(crate::specs::internal::Machine::step))]
     fn step(&mut self, field: &[u8]) -> Result<(), StoreError>
         requires { length field.now ≡ bytes_wanted self.old }
         ensures { Gives (λ _. (self.new.next, parts_of self.new)) result (step self.old.next (parts_of self.old) field.now) }
     {
         let count = self.count as u64;
         match self.next {
-            Field::Ident => self.expect(field, &FOOTER_IDENT, Reason::Ident, Field::Version),
+            Field::Ident => self.expect(field, &FOOTER_MAGIC, Reason::Ident, Field::Version),
             Field::Version => self.take_version(field),
             Field::Hash => self.take_hash(field),
             Field::HashesIdent => {
                 self.expect(
                     field,
-                    &HASHES_IDENT,
+                    &HASHES_MAGIC,
                     Reason::HashesIdent,
                     Field::HashesVersion,
                 )
@@ -246,7 +242,7 @@ impl FooterReader {
             Field::Hashes => self.take_hashes(field),
             Field::BoundariesIdent => self.expect(
                 field,
-                &BOUNDARIES_IDENT,
+                &BOUNDARIES_MAGIC,
                 Reason::BoundariesIdent,
                 Field::BoundariesVersion,
             ),
@@ -275,7 +271,7 @@ impl FooterReader {
         }
     }
 
-    /// Checks that the field is this one.
+    /// Checks that the field is `wanted`.
     fn expect(
         &mut self,
         field: &[u8],
@@ -292,7 +288,7 @@ impl FooterReader {
         Ok(())
     }
 
-    /// Checks that the field is this number.
+    /// Checks that the field is the number `wanted`.
     fn expect_number(
         &mut self,
         field: &[u8],
@@ -310,7 +306,6 @@ impl FooterReader {
         Ok(())
     }
 
-    /// Takes the version.
     fn take_version(&mut self, field: &[u8]) -> Result<(), StoreError>
         ensures { Gives (λ _. (self.new.next, parts_of self.new)) result (next_version (parts_of self.old) field.now) }
     {
@@ -323,7 +318,6 @@ impl FooterReader {
         self.expect(field, &[0], Reason::Version, Field::Hash)
     }
 
-    /// Takes the hash of the xorb.
     fn take_hash(&mut self, field: &[u8]) -> Result<(), StoreError>
         requires { length field.now ≡ 32 }
         ensures { Gives (λ _. (self.new.next, parts_of self.new)) result (next_hash (parts_of self.old) field.now) }
@@ -337,13 +331,13 @@ impl FooterReader {
         Ok(())
     }
 
-    /// Takes the number of chunks.
+    /// Checks the number of chunks, and reserves the lists.
     fn take_count(&mut self, field: &[u8]) -> Result<(), StoreError>
         requires { length field.now ≡ 4 }
         ensures { Gives (λ _. (self.new.next, parts_of self.new)) result (next_count (parts_of self.old) field.now) }
     {
         let count = number_of(field);
-        if count > MOST_CHUNKS {
+        if count > MAX_CHUNKS {
             return Err(StoreError::MalformedData(Reason::ChunkCount));
         }
         self.count = count;
@@ -356,8 +350,8 @@ impl FooterReader {
         Ok(())
     }
 
-    /// Reserves the lists, if they fit into the bytes that are available: a chunk has 40 bytes there in version 1,
-    /// and 36 in version 0.
+    /// Reserves the lists if they fit into the available bytes, so that a wrong count reserves no more memory
+    /// than there are bytes. A chunk takes 40 bytes in version 1, and 36 in version 0.
     fn reserve(&mut self) -> Result<(), AllocError>
         ensures next { self.new.next ≡ self.old.next }
         ensures parts { parts_of self.new ≡ parts_of self.old }
@@ -375,7 +369,6 @@ impl FooterReader {
         Ok(())
     }
 
-    /// Takes some hashes.
     fn take_hashes(&mut self, field: &[u8]) -> Result<(), StoreError>
         requires { length field.now ≡ 32 * block_of (parts_of self.old) self.old.hashes.items }
         ensures { Gives (λ _. (self.new.next, parts_of self.new)) result (next_hashes (parts_of self.old) field.now) }
@@ -390,7 +383,6 @@ impl FooterReader {
         Ok(())
     }
 
-    /// Takes some stored ends.
     fn take_ends(&mut self, field: &[u8]) -> Result<(), StoreError>
         requires { length field.now ≡ 4 * block_of (parts_of self.old) self.old.ends.items }
         ensures { Gives (λ _. (self.new.next, parts_of self.new)) result (next_ends (parts_of self.old) field.now) }
@@ -401,7 +393,6 @@ impl FooterReader {
         Ok(())
     }
 
-    /// Takes some plain ends.
     fn take_plain(&mut self, field: &[u8]) -> Result<(), StoreError>
         requires { length field.now ≡ 4 * block_of (parts_of self.old) self.old.plain.items }
         ensures { Gives (λ _. (self.new.next, parts_of self.new)) result (next_plain (parts_of self.old) field.now) }
@@ -412,7 +403,6 @@ impl FooterReader {
         Ok(())
     }
 
-    /// Takes the spare bytes.
     fn take_spare(&mut self, field: &[u8]) -> Result<(), StoreError>
         requires { length field.now ≡ 16 }
         ensures { Gives (λ _. (self.new.next, parts_of self.new)) result (next_spare (parts_of self.old) field.now) }
@@ -422,14 +412,14 @@ impl FooterReader {
         Ok(())
     }
 
-    /// Whether a list of which so many items are there is not whole.
+    /// Whether a list with `len` items is incomplete.
     fn lacks(&self, len: usize) -> bool
         ensures { result ≡ nat_lt len self.now.count }
     {
         len < self.count as usize
     }
 
-    /// What comes next where the plain ends do.
+    /// The next field when the uncompressed boundary offsets are due.
     fn plain_v1(&self) -> Field
         ensures { result ≡ plain_v1 (parts_of self.now) }
     {
@@ -440,7 +430,7 @@ impl FooterReader {
         }
     }
 
-    /// What comes next where the stored ends of version 1 do.
+    /// The next field of version 1 when the boundary offsets are due.
     fn ends_v1(&self) -> Field
         ensures { result ≡ ends_v1 (parts_of self.now) }
     {
@@ -451,7 +441,7 @@ impl FooterReader {
         }
     }
 
-    /// What comes next where the stored ends do.
+    /// The next field when the boundary offsets are due.
     fn behind_ends(&self) -> Field
         ensures { result ≡ behind_ends (parts_of self.now) }
     {
@@ -462,7 +452,7 @@ impl FooterReader {
         }
     }
 
-    /// What comes next where the hashes of version 1 do.
+    /// The next field of version 1 when the chunk hashes are due.
     fn hashes_v1(&self) -> Field
         ensures { result ≡ hashes_v1 (parts_of self.now) }
     {
@@ -473,7 +463,7 @@ impl FooterReader {
         }
     }
 
-    /// What comes next where the hashes of version 0 do.
+    /// The next field of version 0 when the chunk hashes are due.
     fn hashes_v0(&self) -> Field
         ensures { result ≡ hashes_v0 (parts_of self.now) }
     {
@@ -484,7 +474,7 @@ impl FooterReader {
         }
     }
 
-    /// What comes next where the stored ends of version 0 do.
+    /// The next field of version 0 when the boundary offsets are due.
     fn ends_v0(&self) -> Field
         ensures { result ≡ ends_v0 (parts_of self.now) }
     {

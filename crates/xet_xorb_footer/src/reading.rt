@@ -3,12 +3,12 @@
 ghost use Rattle.std.specs.Prelude.{◌≡◌, ◌≤◌, ◌+◌, ◌*◌, ◌⊎◌, ℕ, [], Ok, Err, true, IfErr, IfOk, IsErrOf, OnOk, drop, length};
 ghost use Rattle.xet_hash.specs.declared.error.Place.TheVariants.{Input};
 ghost use Rattle.xet_hash.specs.declared.error.StoreError.TheVariants.{Io, OutOfMemory, UnexpectedEof};
-ghost use Rattle.xet_io.specs.Faults.{HasCause};
-ghost use Rattle.xet_xorb_footer.specs.Machine.{IsSettled};
+ghost use Rattle.xet_xorb_footer.specs.internal.Machine.{IsSettled};
 ghost use Rattle.xet_xorb_footer.specs.Reader.{bytes_left, bytes_wanted, parts_of, rest_of};
 ghost use Rattle.xet_xorb_footer.specs.Reading.{footer_at, footer_v0, rest_v0};
 ghost use Rattle.xet_xorb_footer.specs.Refusals.{IsFooterRefusal};
-ghost use Rattle.xet_xorb_footer.specs.Spelled.{most_chunks};
+ghost use Rattle.xet_xorb_footer.specs.FooterEncoding.{max_chunks};
+ghost use Rattle.xet_io.specs.Frame.{Called};
 
 use crate::info::{XorbObjectInfoV0, XorbObjectInfoV1};
 use crate::machine::FooterReader;
@@ -17,15 +17,17 @@ use xet_codec::read_front;
 use xet_hash::StoreError;
 use xet_io::Source;
 
-/// The most bytes of a field.
+/// Maximum size of a field, in bytes: 64 hashes.
 const BLOCK: usize = 2048;
 
 impl XorbObjectInfoV1 {
     /// Reads a footer of either version from a source, as one of version 1, and returns it with its number of
-    /// bytes. The error is that of the first check that fails, `UnexpectedEof` where the bytes end inside the
-    /// footer, `Io(Input)`, or `OutOfMemory`. Whatever comes, a prefix of the source is taken: with a footer
-    /// just its bytes, with `UnexpectedEof` all bytes. A source is read field by field, and not in larger
-    /// blocks: what it has after the footer stays there.
+    /// bytes.
+    ///
+    /// Errors: the first check that fails, `UnexpectedEof` if the bytes end inside the footer, `Io(Input)`
+    /// and `OutOfMemory`. In every case a prefix of the source is taken: with a footer exactly its bytes,
+    /// with `UnexpectedEof` all bytes. So the source is read field by field, not in larger blocks: what
+    /// follows the footer stays there.
     pub fn deserialize<R: Source>(
         alloc: Global,
         source: &mut R,
@@ -36,8 +38,7 @@ impl XorbObjectInfoV1 {
         ensures prefix { R.tells source.old ≡ true → (n : ℕ) × (R.left source.new ≡ drop n (R.left source.old)) }
         ensures ended { R.tells source.old ≡ true → IsErrOf result UnexpectedEof → R.left source.new ≡ [] }
         ensures kinds { IfErr result IsFooterRefusal }
-        ensures cause { HasCause (R.faults source.old) (R.faults source.new) (IsErrOf result (Io Input)) }
-        ensures tells { R.tells source.new ≡ R.tells source.old }
+        ensures frame { Called R.tells R.faults source.old source.new (IsErrOf result (Io Input)) }
     {
         let mut reader = FooterReader::of_either(alloc, 0);
         let count = read_fields(&mut reader, source)?;
@@ -46,8 +47,8 @@ impl XorbObjectInfoV1 {
 }
 
 impl XorbObjectInfoV0 {
-    /// Reads a footer of version 0 from a source, and returns it with its number of bytes. Errors, and what is
-    /// taken of the source, are as for a footer of either version.
+    /// Reads a footer of version 0 from a source, and returns it with its number of bytes. Errors, and what
+    /// is taken of the source, are as in `XorbObjectInfoV1::deserialize`.
     pub fn deserialize<R: Source>(
         alloc: Global,
         source: &mut R,
@@ -58,15 +59,15 @@ impl XorbObjectInfoV0 {
         ensures prefix { R.tells source.old ≡ true → (n : ℕ) × (R.left source.new ≡ drop n (R.left source.old)) }
         ensures ended { R.tells source.old ≡ true → IsErrOf result UnexpectedEof → R.left source.new ≡ [] }
         ensures kinds { IfErr result IsFooterRefusal }
-        ensures cause { HasCause (R.faults source.old) (R.faults source.new) (IsErrOf result (Io Input)) }
-        ensures tells { R.tells source.new ≡ R.tells source.old }
+        ensures frame { Called R.tells R.faults source.old source.new (IsErrOf result (Io Input)) }
     {
         let mut reader = FooterReader::of_v0(alloc);
         let count = read_fields(&mut reader, source)?;
         Ok((reader.into_v0(), count))
     }
 
-    /// Reads what stands after ident and version of such a footer, and returns it with its number of bytes.
+    /// Reads what follows the magic and the version in a footer of version 0, and returns the footer with the
+    /// number of bytes read.
     pub fn deserialize_v0<R: Source>(
         alloc: Global,
         source: &mut R,
@@ -77,8 +78,7 @@ impl XorbObjectInfoV0 {
         ensures prefix { R.tells source.old ≡ true → (n : ℕ) × (R.left source.new ≡ drop n (R.left source.old)) }
         ensures ended { R.tells source.old ≡ true → IsErrOf result UnexpectedEof → R.left source.new ≡ [] }
         ensures kinds { IfErr result IsFooterRefusal }
-        ensures cause { HasCause (R.faults source.old) (R.faults source.new) (IsErrOf result (Io Input)) }
-        ensures tells { R.tells source.new ≡ R.tells source.old }
+        ensures frame { Called R.tells R.faults source.old source.new (IsErrOf result (Io Input)) }
     {
         let mut reader = FooterReader::of_rest_v0(alloc);
         let count = read_fields(&mut reader, source)?;
@@ -86,18 +86,17 @@ impl XorbObjectInfoV0 {
     }
 }
 
-/// Reads all fields that are wanted, and returns how many bytes they have.
+/// Reads all remaining fields, and returns their number of bytes.
 fn read_fields<R: Source>(reader: &mut FooterReader, source: &mut R) -> Result<u32, StoreError>
     requires settled { IsSettled reader.old.next (parts_of reader.old) }
-    requires left { bytes_left reader.old ≤ 92 + 40 * most_chunks }
+    requires left { bytes_left reader.old ≤ 92 + 40 * max_chunks }
     ensures read { R.tells source.old ≡ true → OnOk result (rest_of reader.old (R.left source.old) ≡ Ok (parts_of reader.new, R.left source.new)) }
     ensures count { R.tells source.old ≡ true → IfOk result (λ n. length (R.left source.old) ≡ n + length (R.left source.new)) }
     ensures refused { R.tells source.old ≡ true → IfErr result (λ e. (rest_of reader.old (R.left source.old) ≡ Err e) ⊎ (e ≡ Io Input) ⊎ (e ≡ OutOfMemory)) }
     ensures prefix { R.tells source.old ≡ true → (n : ℕ) × (R.left source.new ≡ drop n (R.left source.old)) }
     ensures ended { R.tells source.old ≡ true → IsErrOf result UnexpectedEof → R.left source.new ≡ [] }
     ensures kinds { IfErr result IsFooterRefusal }
-    ensures cause { HasCause (R.faults source.old) (R.faults source.new) (IsErrOf result (Io Input)) }
-    ensures tells { R.tells source.new ≡ R.tells source.old }
+    ensures frame { Called R.tells R.faults source.old source.new (IsErrOf result (Io Input)) }
 {
     let mut block = [0; BLOCK];
     let mut count: u32 = 0;
@@ -108,7 +107,7 @@ fn read_fields<R: Source>(reader: &mut FooterReader, source: &mut R) -> Result<u
     Ok(count)
 }
 
-/// Reads the next field, and returns how many bytes it has.
+/// Reads the next field, and returns its number of bytes.
 fn read_field<R: Source>(
     reader: &mut FooterReader,
     source: &mut R,
@@ -124,8 +123,7 @@ fn read_field<R: Source>(
     ensures prefix { R.tells source.old ≡ true → (n : ℕ) × (R.left source.new ≡ drop n (R.left source.old)) }
     ensures ended { R.tells source.old ≡ true → IsErrOf result UnexpectedEof → R.left source.new ≡ [] }
     ensures kinds { IfErr result IsFooterRefusal }
-    ensures cause { HasCause (R.faults source.old) (R.faults source.new) (IsErrOf result (Io Input)) }
-    ensures tells { R.tells source.new ≡ R.tells source.old }
+    ensures frame { Called R.tells R.faults source.old source.new (IsErrOf result (Io Input)) }
 {
     let wanted = reader.wanted();
     let (field, _) = block.split_at_mut(wanted);

@@ -11,10 +11,10 @@ use Rattle.xet_hash.specs.Merkle.{chunk_hash, members_of, total_len, xorb_hash}
 use Rattle.xet_xorb_chunk.specs.declared.scheme.CompressionScheme.{CompressionScheme}
 use Rattle.xet_xorb_chunk.specs.declared.scheme.CompressionScheme.TheVariants.{Auto, ByteGrouping4LZ4, LZ4, None}
 use Rattle.xet_xorb_chunk.specs.Scheme.{compressed}
-use Rattle.xet_xorb_chunk.specs.Spelling.{spelling}
+use Rattle.xet_xorb_chunk.specs.ChunkEncoding.{encoded_chunk}
 use Rattle.xet_base.specs.theorems.Written.{front_of_first, written_both, written_then}
 use Rattle.xet_xorb_footer.specs.declared.info.XorbObjectInfoV1.{XorbObjectInfoV1}
-use Rattle.xet_xorb_footer.specs.Spelled.{length_of, most_chunks, text_v1}
+use Rattle.xet_xorb_footer.specs.FooterEncoding.{length_of, max_chunks, footer_bytes_v1}
 use Rattle.xet_codec.specs.Numbers.{number}
 use Rattle.xet_shard_format.specs.Boundaries.{boundaries_from}
 use Rattle.xet_shard_format.specs.Records.{chunk_bytes}
@@ -26,7 +26,7 @@ use Rattle.xet_xorb.specs.Object.{object_of}
 use Rattle.xet_xorb.specs.declared.raw.RawXorbData.{RawXorbData}
 use Rattle.xet_xorb.specs.Raw.{ArePartsOfXorb, IsRaw, raw_members}
 use Rattle.xet_xorb_samples.specs.Samples.{AreCuts, Rise, cuts_from, members_from, parts_from}
-use Rattle.xet_xorb.specs.Xorb.{xorb_text}
+use Rattle.xet_xorb.specs.Xorb.{xorb_bytes}
 use Rattle.xet_xorb.specs.theorems.OfMembers.{length-ends, length-hashes}
 
 -- ---- one place after another
@@ -66,14 +66,14 @@ pub length-members : (at : ℕ) (cs : List (List ℕ × ℕ)) → length (member
 length-members at [] = refl
 length-members at (c ∷ cs) = omega (arith, length-members c.1 cs)
 
-pub length-spelling : (bytes : List ℕ) → length (spelling bytes) ≡ 8 + length bytes
-unfolding spelling
-length-spelling bytes = omega arith
+pub length-encoded_chunk : (bytes : List ℕ) → length (encoded_chunk bytes) ≡ 8 + length bytes
+unfolding encoded_chunk
+length-encoded_chunk bytes = omega arith
 
-pub length-spelled : (parts : List (List ℕ)) → length (flat_map spelling parts) ≡ sum_by length parts + 8 * length parts
-length-spelled [] = refl
-length-spelled (p ∷ ps) =
-    omega (arith, length-append (spelling p) (flat_map spelling ps), length-spelling p, length-spelled ps, sum_by-cons length p ps)
+pub length-encoded : (parts : List (List ℕ)) → length (flat_map encoded_chunk parts) ≡ sum_by length parts + 8 * length parts
+length-encoded [] = refl
+length-encoded (p ∷ ps) =
+    omega (arith, length-append (encoded_chunk p) (flat_map encoded_chunk ps), length-encoded_chunk p, length-encoded ps, sum_by-cons length p ps)
 
 -- what the parts have together is what the members say
 part_length : (at to : ℕ) (bytes : List ℕ) → at ≤ to → to ≤ length bytes → length (slice_range bytes at to) ≡ to - at
@@ -94,8 +94,8 @@ members_total at (c ∷ cs) bytes rise =
 -- ---- parts that are written one after another
 
 -- all parts have fewer bytes than an address can count
-pub spelled_bound : (at : ℕ) (cs : List (List ℕ × ℕ)) (bytes : List ℕ) → ArePartsOfXorb (parts_from at cs bytes) → length (flat_map spelling (parts_from at cs bytes)) < 2 ^ 31
-spelled_bound at cs bytes are = omega (arith, length-spelled (parts_from at cs bytes), are.total, are.count)
+pub spelled_bound : (at : ℕ) (cs : List (List ℕ × ℕ)) (bytes : List ℕ) → ArePartsOfXorb (parts_from at cs bytes) → length (flat_map encoded_chunk (parts_from at cs bytes)) < 2 ^ 31
+spelled_bound at cs bytes are = omega (arith, length-encoded (parts_from at cs bytes), are.total, are.count)
 
 -- what stands before a part, the part, and the rest
 pub part_next : (at : ℕ) (cs : List (List ℕ × ℕ)) (i : ℕ) (c : List ℕ × ℕ) (bytes : List ℕ) → i < length cs → c ≡ get_or cs i c
@@ -103,16 +103,16 @@ pub part_next : (at : ℕ) (cs : List (List ℕ × ℕ)) (i : ℕ) (c : List ℕ
 part_next at cs i c bytes here e = ap (λ (x : List (List ℕ × ℕ)). parts_from at x bytes) (next_place cs i c here e)
 
 pub spelled_next : (at : ℕ) (cs : List (List ℕ × ℕ)) (i : ℕ) (c : List ℕ × ℕ) (bytes done whole : List ℕ) → i < length cs → c ≡ get_or cs i c
-    → done ++ flat_map spelling (parts_from at (drop i cs) bytes) ≡ whole
-    → (done ++ spelling (slice_range bytes at c.1)) ++ flat_map spelling (parts_from c.1 (drop (i + 1) cs) bytes) ≡ whole
+    → done ++ flat_map encoded_chunk (parts_from at (drop i cs) bytes) ≡ whole
+    → (done ++ encoded_chunk (slice_range bytes at c.1)) ++ flat_map encoded_chunk (parts_from c.1 (drop (i + 1) cs) bytes) ≡ whole
 spelled_next at cs i c bytes done whole here e kept =
-    append_assoc done (spelling (slice_range bytes at c.1)) (flat_map spelling (parts_from c.1 (drop (i + 1) cs) bytes))
-    ∙ ap (λ (x : List (List ℕ)). done ++ flat_map spelling x) (sym (part_next at cs i c bytes here e)) ∙ kept
+    append_assoc done (encoded_chunk (slice_range bytes at c.1)) (flat_map encoded_chunk (parts_from c.1 (drop (i + 1) cs) bytes))
+    ∙ ap (λ (x : List (List ℕ)). done ++ flat_map encoded_chunk x) (sym (part_next at cs i c bytes here e)) ∙ kept
 
 pub spelled_none : (at : ℕ) (cs : List (List ℕ × ℕ)) (i : ℕ) (bytes done whole : List ℕ) → length cs ≤ i
-    → done ++ flat_map spelling (parts_from at (drop i cs) bytes) ≡ whole → done ≡ whole
+    → done ++ flat_map encoded_chunk (parts_from at (drop i cs) bytes) ≡ whole → done ≡ whole
 spelled_none at cs i bytes done whole past kept =
-    sym (append-nil done) ∙ ap (λ (x : List (List ℕ)). done ++ flat_map spelling x) (sym (at_drop_all (λ (x : List (List ℕ × ℕ)). parts_from at x bytes) cs i past)) ∙ kept
+    sym (append-nil done) ∙ ap (λ (x : List (List ℕ)). done ++ flat_map encoded_chunk x) (sym (at_drop_all (λ (x : List (List ℕ × ℕ)). parts_from at x bytes) cs i past)) ∙ kept
 
 pub small_next : (at : ℕ) (cs : List (List ℕ × ℕ)) (i : ℕ) (c : List ℕ × ℕ) (bytes : List ℕ) (bound : ℕ) → i < length cs → c ≡ get_or cs i c
     → AllByRecursion (λ p. length p < bound) (parts_from at (drop i cs) bytes)
@@ -143,38 +143,38 @@ same_refusal Auto bytes e h = absurd (cc h)
 
 -- a front of the chunks, or the chunks and a front of what stands behind them, is a front of the whole
 pub front_of_chunks : (version : Version) (hash : List ℕ) (ms : List (List ℕ × ℕ)) (parts : List (List ℕ)) (spare before now : List ℕ) (n : ℕ)
-    → now ≡ before ++ take n (flat_map spelling parts) → (m : ℕ) × (now ≡ before ++ take m (xorb_text version hash ms parts spare))
-unfolding xorb_text
+    → now ≡ before ++ take n (flat_map encoded_chunk parts) → (m : ℕ) × (now ≡ before ++ take m (xorb_bytes version hash ms parts spare))
+unfolding xorb_bytes
 front_of_chunks version hash ms parts spare before now n is =
-    let f = front_of_first (flat_map spelling parts) (footer_text version hash ms spare ++ number (footer_len version (length ms))) n in
+    let f = front_of_first (flat_map encoded_chunk parts) (footer_text version hash ms spare ++ number (footer_len version (length ms))) n in
     (f.0, is ∙ ap (λ (x : List ℕ). before ++ x) f.1)
 
 pub front_of_footer : (version : Version) (hash : List ℕ) (ms : List (List ℕ × ℕ)) (parts : List (List ℕ)) (spare before middle now footer : List ℕ) (n : ℕ)
-    → middle ≡ before ++ flat_map spelling parts → now ≡ middle ++ take n footer → footer ≡ footer_text version hash ms spare ++ number (footer_len version (length ms))
-    → (m : ℕ) × (now ≡ before ++ take m (xorb_text version hash ms parts spare))
-unfolding xorb_text
+    → middle ≡ before ++ flat_map encoded_chunk parts → now ≡ middle ++ take n footer → footer ≡ footer_text version hash ms spare ++ number (footer_len version (length ms))
+    → (m : ℕ) × (now ≡ before ++ take m (xorb_bytes version hash ms parts spare))
+unfolding xorb_bytes
 front_of_footer version hash ms parts spare before middle now footer n first next is = (
-  length (flat_map spelling parts) + n,
-  written_then before middle now (flat_map spelling parts) footer n first next
-      ∙ ap (λ (x : List ℕ). before ++ take (length (flat_map spelling parts) + n) (flat_map spelling parts ++ x)) is,
+  length (flat_map encoded_chunk parts) + n,
+  written_then before middle now (flat_map encoded_chunk parts) footer n first next
+      ∙ ap (λ (x : List ℕ). before ++ take (length (flat_map encoded_chunk parts) + n) (flat_map encoded_chunk parts ++ x)) is,
 )
 
 pub whole_text : (version : Version) (hash : List ℕ) (ms : List (List ℕ × ℕ)) (parts : List (List ℕ)) (spare before middle now footer : List ℕ)
-    → middle ≡ before ++ flat_map spelling parts → now ≡ middle ++ footer → footer ≡ footer_text version hash ms spare ++ number (footer_len version (length ms))
-    → now ≡ before ++ xorb_text version hash ms parts spare
-unfolding xorb_text
+    → middle ≡ before ++ flat_map encoded_chunk parts → now ≡ middle ++ footer → footer ≡ footer_text version hash ms spare ++ number (footer_len version (length ms))
+    → now ≡ before ++ xorb_bytes version hash ms parts spare
+unfolding xorb_bytes
 whole_text version hash ms parts spare before middle now footer first next is =
-    written_both before middle now (flat_map spelling parts) footer first next ∙ ap (λ (x : List ℕ). before ++ (flat_map spelling parts ++ x)) is
+    written_both before middle now (flat_map encoded_chunk parts) footer first next ∙ ap (λ (x : List ℕ). before ++ (flat_map encoded_chunk parts ++ x)) is
 
 -- how long it is
 pub length-text : (hash : List ℕ) (ms : List (List ℕ × ℕ)) (parts : List (List ℕ)) (spare : List ℕ)
-    → length (xorb_text V1 hash ms parts spare) ≡ length (flat_map spelling parts) + (length (text_v1 (footer_v1 hash ms spare)) + 4)
-unfolding xorb_text
+    → length (xorb_bytes V1 hash ms parts spare) ≡ length (flat_map encoded_chunk parts) + (length (footer_bytes_v1 (footer_v1 hash ms spare)) + 4)
+unfolding xorb_bytes
 length-text hash ms parts spare =
     omega (
       arith,
-      length-append (flat_map spelling parts) (text_v1 (footer_v1 hash ms spare) ++ number (footer_len V1 (length ms))),
-      length-append (text_v1 (footer_v1 hash ms spare)) (number (footer_len V1 (length ms))),
+      length-append (flat_map encoded_chunk parts) (footer_bytes_v1 (footer_v1 hash ms spare) ++ number (footer_len V1 (length ms))),
+      length-append (footer_bytes_v1 (footer_v1 hash ms spare)) (number (footer_len V1 (length ms))),
     )
 
 -- a new footer is as long as it says
@@ -183,9 +183,9 @@ length_of-new hash ms spare = omega (arith, length-hashes ms, length-ends 8 0 ms
 
 -- what stands behind the chunks
 pub footer_is : (info : XorbObjectInfoV1) (hash : List ℕ) (ms : List (List ℕ × ℕ)) (spare : List ℕ) → info ≡ footer_v1 hash ms spare
-    → text_v1 info ++ number (length_of info) ≡ footer_text V1 hash ms spare ++ number (footer_len V1 (length ms))
+    → footer_bytes_v1 info ++ number (length_of info) ≡ footer_text V1 hash ms spare ++ number (footer_len V1 (length ms))
 footer_is info hash ms spare is =
-    ap (λ (x : XorbObjectInfoV1). text_v1 x ++ number (length_of x)) is ∙ ap (λ (n : ℕ). text_v1 (footer_v1 hash ms spare) ++ number n) (length_of-new hash ms spare)
+    ap (λ (x : XorbObjectInfoV1). footer_bytes_v1 x ++ number (length_of x)) is ∙ ap (λ (n : ℕ). footer_bytes_v1 (footer_v1 hash ms spare) ++ number n) (length_of-new hash ms spare)
 
 pub object_is : (info : XorbObjectInfoV1) (hash : List ℕ) (ms : List (List ℕ × ℕ)) (spare : List ℕ) (object : XorbObject) → info ≡ footer_v1 hash ms spare
     → object ≡ record { info = info; info_length = length_of info } → object ≡ object_of V1 hash ms spare
@@ -194,9 +194,9 @@ object_is info hash ms spare object is made =
     ∙ ap (λ (n : ℕ). record { info = footer_v1 hash ms spare; info_length = n }) (length_of-new hash ms spare)
 
 pub text_count : (info : XorbObjectInfoV1) (hash : List ℕ) (ms : List (List ℕ × ℕ)) (parts : List (List ℕ)) (spare : List ℕ) (start footer : ℕ) → info ≡ footer_v1 hash ms spare
-    → start ≡ length (flat_map spelling parts) → footer ≡ length_of info + 4 → length_of info ≡ length (text_v1 info) → start + footer ≡ length (xorb_text V1 hash ms parts spare)
+    → start ≡ length (flat_map encoded_chunk parts) → footer ≡ length_of info + 4 → length_of info ≡ length (footer_bytes_v1 info) → start + footer ≡ length (xorb_bytes V1 hash ms parts spare)
 text_count info hash ms parts spare start footer is before behind whole =
-    let same : length (text_v1 info) ≡ length (text_v1 (footer_v1 hash ms spare)) = ap (λ (x : XorbObjectInfoV1). length (text_v1 x)) is in
+    let same : length (footer_bytes_v1 info) ≡ length (footer_bytes_v1 (footer_v1 hash ms spare)) = ap (λ (x : XorbObjectInfoV1). length (footer_bytes_v1 x)) is in
     omega (arith, before, behind, whole, same, length-text hash ms parts spare)
 
 -- the whole is a front of itself
@@ -204,7 +204,7 @@ pub whole_front : (before text now : List ℕ) → now ≡ before ++ text → (n
 whole_front before text now is = (length text, is ∙ ap (λ (x : List ℕ). before ++ x) (sym (take-length text)))
 
 -- the members of cuts are few, and so are their bytes
-pub few_members : (bytes : List ℕ) (cs : List (List ℕ × ℕ)) → AreCuts bytes cs → length (members_from 0 cs) ≤ most_chunks
+pub few_members : (bytes : List ℕ) (cs : List (List ℕ × ℕ)) → AreCuts bytes cs → length (members_from 0 cs) ≤ max_chunks
 few_members bytes cs are = omega (arith, are.parts.count, length-parts 0 cs bytes, length-members 0 cs)
 
 pub fit_members : (bytes : List ℕ) (cs : List (List ℕ × ℕ)) → AreCuts bytes cs → total_len (members_from 0 cs) + 8 * length (members_from 0 cs) < 2 ^ 32
@@ -253,10 +253,10 @@ raw_rise at (p ∷ ps) (c ∷ cs) listed =
     (omega arith, subst (Rise (at + c.unpacked_segment_bytes) (boundaries_from (at + c.unpacked_segment_bytes) cs)) end (raw_rise (at + c.unpacked_segment_bytes) ps cs rest))
 
 -- the same in memory
-pub components_are : (hash : List ℕ) (ms : List (List ℕ × ℕ)) (parts : List (List ℕ)) (bytes : List ℕ) (plain count start : ℕ) → bytes ≡ xorb_text V1 hash ms parts no_spare
-    → plain ≡ sum_by length parts → count ≡ length parts → start ≡ length (flat_map spelling parts)
+pub components_are : (hash : List ℕ) (ms : List (List ℕ × ℕ)) (parts : List (List ℕ)) (bytes : List ℕ) (plain count start : ℕ) → bytes ≡ xorb_bytes V1 hash ms parts no_spare
+    → plain ≡ sum_by length parts → count ≡ length parts → start ≡ length (flat_map encoded_chunk parts)
     → record { serialized_data = bytes; hash = hash; raw_num_bytes = plain; num_chunks = count; footer_start = Some start } ≡ built hash ms parts true
-unfolding xorb_text
+unfolding xorb_bytes
 components_are hash ms parts bytes plain count start text plain_is count_is start_is =
     λ i. record { serialized_data = text i; hash = hash; raw_num_bytes = plain_is i; num_chunks = count_is i; footer_start = Some (start_is i) }
 
@@ -331,8 +331,8 @@ more_cuts at (c ∷ cs) next =
     ap (λ (x : List (List ℕ × ℕ)). (chunk_hash c, at + length c) ∷ x) (more_cuts (at + length c) cs next)
     ∙ ap (λ (n : ℕ). (chunk_hash c, at + length c) ∷ (cuts_from (at + length c) cs ++ (chunk_hash next, n) ∷ [])) end
 
-pub more_stored : (chunks : List (List ℕ)) (next stored now : List ℕ) → stored ≡ flat_map spelling chunks → now ≡ stored ++ spelling next → now ≡ flat_map spelling (chunks ++ next ∷ [])
-more_stored chunks next stored now are is = is ∙ ap (λ (x : List ℕ). x ++ spelling next) are ∙ flat_map_more spelling [] chunks next
+pub more_stored : (chunks : List (List ℕ)) (next stored now : List ℕ) → stored ≡ flat_map encoded_chunk chunks → now ≡ stored ++ encoded_chunk next → now ≡ flat_map encoded_chunk (chunks ++ next ∷ [])
+more_stored chunks next stored now are is = is ∙ ap (λ (x : List ℕ). x ++ encoded_chunk next) are ∙ flat_map_more encoded_chunk [] chunks next
 
 pub more_plain : (chunks : List (List ℕ)) (next plain now : List ℕ) → plain ≡ concat chunks → now ≡ plain ++ next → now ≡ concat (chunks ++ next ∷ [])
 more_plain chunks next plain now are is =

@@ -10,7 +10,8 @@ use Rattle.xet_xorb_chunk.specs.Chunks.{bytes_of, chunk_of}
 use Rattle.xet_xorb_samples.specs.declared.samples.ChunkSize.{ChunkSize}
 use Rattle.xet_xorb_samples.specs.declared.samples.ChunkSize.TheVariants.{Fixed, Random}
 use Rattle.xet_xorb.specs.Raw.{ArePartsOfXorb}
-use Rattle.xet_xorb_samples.specs.Samples.{AreSampleChunks, AreSamples, DrawsChunk, DrawsChunks, DrawsSize, FitXorb, HasSize, most_of}
+use Rattle.xet_xorb_samples.specs.internal.Samples.{AreSampleChunks}
+use Rattle.xet_xorb_samples.specs.Samples.{AreSamples, DrawsChunk, DrawsChunks, DrawsSize, FitXorb, HasSize, most_of}
 use Rattle.xet_xorb_samples.proofs.Cuts.{length-concat}
 use Rattle.xet_base.specs.theorems.Elements.{all_push}
 

@@ -1,4 +1,4 @@
-//! Xorbs for tests: of random chunks, and written from their parts, by which built ones are compared.
+//! Sample xorbs for tests: of random chunks, and a reference encoder with which built xorbs are compared.
 #![tactic(auto)]
 
 mod reference;

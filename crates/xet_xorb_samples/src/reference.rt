@@ -1,20 +1,21 @@
-//! Xorbs that are written from their parts, by which built ones are compared. For tests of what stands above.
+//! A reference encoder that writes xorbs from their parts. Tests compare built xorbs with it.
 
 ghost use Rattle.std.specs.Prelude.{◌≡◌, ◌↔◌, ◌⊎◌, ◌+◌, ◌*◌, ◌≤◌, ◌++◌, [], ℕ, Err, true, IfErr, IfOk, IsErrOf, IsOkUnless, IsTrue, OnErr, OnOk, length, take};
 ghost use Rattle.std.specs.List.{flat_map};
 ghost use Rattle.xet_hash.specs.declared.error.Place.TheVariants.{Output};
 ghost use Rattle.xet_hash.specs.declared.error.StoreError.{StoreError};
 ghost use Rattle.xet_hash.specs.declared.error.StoreError.TheVariants.{Io, OutOfMemory};
-ghost use Rattle.xet_io.specs.Faults.{HasCause};
 ghost use Rattle.xet_codec.specs.Stops.{StopsWriting};
 ghost use Rattle.xet_xorb_chunk.specs.Scheme.{compressed};
-ghost use Rattle.xet_xorb_chunk.specs.Spelling.{spelling};
+ghost use Rattle.xet_xorb_chunk.specs.ChunkEncoding.{encoded_chunk};
 ghost use Rattle.xet_xorb.specs.Building.{built, built_of, no_spare};
 ghost use Rattle.xet_xorb.specs.Footer.{V1};
 ghost use Rattle.xet_xorb.specs.Object.{object_of};
 ghost use Rattle.xet_xorb.specs.Raw.{IsRaw};
-ghost use Rattle.xet_xorb_samples.specs.Samples.{AreAlike, AreCuts, DoRise, members_from, parts_from};
-ghost use Rattle.xet_xorb.specs.Xorb.{xorb_text};
+ghost use Rattle.xet_xorb_samples.specs.Samples.{AreAlike, AreCuts, members_from, parts_from};
+ghost use Rattle.xet_xorb_samples.specs.internal.Samples.{DoRise};
+ghost use Rattle.xet_xorb.specs.Xorb.{xorb_bytes};
+ghost use Rattle.xet_io.specs.Frame.{Called};
 
 use std::alloc::Global;
 use xet_base::Items;
@@ -23,14 +24,14 @@ use xet_io::{MemorySink, Sink};
 use xet_xorb::{RawXorbData, SerializedXorbObject, XorbObject, new_footer, raw_xorb_to_vec};
 use xet_xorb_chunk::{CompressionScheme, XORB_CHUNK_HEADER_LENGTH, serialize_chunk};
 
-/// The bytes that a chunk adds to a xorb beside its own: its header, its hash, and where it ends, twice.
+/// Bytes that a chunk adds to a xorb besides its content: header, hash, and two boundary offsets.
 const MOST_PER_CHUNK: usize = 48;
 
-/// The bytes of a footer of no chunks, with its length.
+/// Length of a footer without chunks, and of the length after it.
 const EMPTY_FOOTER: usize = 96;
 
-/// The hash of each chunk, and the length of the part that ends where it ends. Where there is no memory, the call
-/// fails with `StoreError::OutOfMemory`, and for no other reason.
+/// The (hash, length) pairs of chunks that are given by their hashes and end offsets. The only error is
+/// `OutOfMemory`.
 pub(crate) fn cut_members(
     alloc: Global,
     chunks: &[(MerkleHash, u32)],
@@ -48,9 +49,9 @@ pub(crate) fn cut_members(
     Ok(members)
 }
 
-/// Writes the parts of the bytes that end at these places, each as it is stored. Gives how many bytes were written.
-/// The schemes that compress are refused as `CompressionError` of their number; also refused as `Io(Output)`, or as
-/// `OutOfMemory`, with a front of the bytes written.
+/// Writes the parts of `bytes` between the offsets as stored chunks, and returns the number of bytes written.
+/// The schemes that compress fail with `CompressionError` of their number. The other errors are `Io(Output)`
+/// and `OutOfMemory`. After an error a prefix of the bytes was written.
 fn write_parts<W: Sink>(
     sink: &mut W,
     bytes: &[u8],
@@ -58,12 +59,11 @@ fn write_parts<W: Sink>(
     scheme: CompressionScheme,
 ) -> Result<usize, StoreError>
     requires { AreCuts bytes.now chunks.now }
-    ensures count { IfOk result (λ count. count ≡ length (flat_map spelling (parts_from 0 chunks.now bytes.now))) }
-    ensures written { W.tells sink.old ≡ true → OnOk result (W.written sink.new ≡ W.written sink.old ++ flat_map spelling (parts_from 0 chunks.now bytes.now)) }
-    ensures front { W.tells sink.old ≡ true → OnErr result ((n : ℕ) × (W.written sink.new ≡ W.written sink.old ++ take n (flat_map spelling (parts_from 0 chunks.now bytes.now)))) }
+    ensures count { IfOk result (λ count. count ≡ length (flat_map encoded_chunk (parts_from 0 chunks.now bytes.now))) }
+    ensures written { W.tells sink.old ≡ true → OnOk result (W.written sink.new ≡ W.written sink.old ++ flat_map encoded_chunk (parts_from 0 chunks.now bytes.now)) }
+    ensures front { W.tells sink.old ≡ true → OnErr result ((n : ℕ) × (W.written sink.new ≡ W.written sink.old ++ take n (flat_map encoded_chunk (parts_from 0 chunks.now bytes.now)))) }
     ensures refusals { IfErr result (λ e. (compressed scheme [] ≡ Err e) ⊎ StopsWriting e) }
-    ensures cause { HasCause (W.faults sink.old) (W.faults sink.new) (IsErrOf result (Io Output)) }
-    ensures tells { W.tells sink.new ≡ W.tells sink.old }
+    ensures frame { Called W.tells W.faults sink.old sink.new (IsErrOf result (Io Output)) }
 {
     let mut count = 0;
     let mut start = 0;
@@ -75,12 +75,13 @@ fn write_parts<W: Sink>(
     Ok(count)
 }
 
-/// Writes the xorb of this hash from its plain bytes, with the hash of each chunk and where it ends: the chunks as
-/// they are stored, the footer of version 1 and its length. Gives its object, how many bytes these are, and how many
-/// stand before the footer. The places rise and end in the bytes, and cut them into parts that a xorb may have.
+/// Writes the xorb with this hash from its uncompressed bytes, and the hash and end offset of each chunk: the
+/// stored chunks, the footer of version 1, and its length. Returns the footer with its length, the number of
+/// bytes written, and the offset of the footer. The offsets must not fall or pass the end of `bytes`, and
+/// must divide them into chunks within the limits of a xorb.
 ///
-/// The schemes that compress are refused as `CompressionError` of their number, before anything is written; also
-/// refused as `Io(Output)`, or as `OutOfMemory`, with a front of the bytes written.
+/// The schemes that compress fail with `CompressionError` of their number, before anything is written. The
+/// other errors are `Io(Output)` and `OutOfMemory`, with a prefix of the xorb written.
 pub fn serialize_xorb_to_stream_reference<W: Sink>(
     alloc: Global,
     sink: &mut W,
@@ -91,15 +92,14 @@ pub fn serialize_xorb_to_stream_reference<W: Sink>(
 ) -> Result<(XorbObject, usize, u64), StoreError>
     requires { AreCuts bytes.now chunks.now }
     ensures object { IfOk result (λ made. made.0 ≡ object_of V1 hash.now (members_from 0 chunks.now) no_spare) }
-    ensures count { IfOk result (λ made. made.1 ≡ length (xorb_text V1 hash.now (members_from 0 chunks.now) (parts_from 0 chunks.now bytes.now) no_spare)) }
-    ensures start { IfOk result (λ made. made.2 ≡ length (flat_map spelling (parts_from 0 chunks.now bytes.now))) }
-    ensures written { W.tells sink.old ≡ true → OnOk result (W.written sink.new ≡ W.written sink.old ++ xorb_text V1 hash.now (members_from 0 chunks.now) (parts_from 0 chunks.now bytes.now) no_spare) }
-    ensures front { W.tells sink.old ≡ true → (n : ℕ) × (W.written sink.new ≡ W.written sink.old ++ take n (xorb_text V1 hash.now (members_from 0 chunks.now) (parts_from 0 chunks.now bytes.now) no_spare)) }
+    ensures count { IfOk result (λ made. made.1 ≡ length (xorb_bytes V1 hash.now (members_from 0 chunks.now) (parts_from 0 chunks.now bytes.now) no_spare)) }
+    ensures start { IfOk result (λ made. made.2 ≡ length (flat_map encoded_chunk (parts_from 0 chunks.now bytes.now))) }
+    ensures written { W.tells sink.old ≡ true → OnOk result (W.written sink.new ≡ W.written sink.old ++ xorb_bytes V1 hash.now (members_from 0 chunks.now) (parts_from 0 chunks.now bytes.now) no_spare) }
+    ensures front { W.tells sink.old ≡ true → (n : ℕ) × (W.written sink.new ≡ W.written sink.old ++ take n (xorb_bytes V1 hash.now (members_from 0 chunks.now) (parts_from 0 chunks.now bytes.now) no_spare)) }
     ensures nothing { W.tells sink.old ≡ true → (e : StoreError) → compressed scheme [] ≡ Err e → W.written sink.new ≡ W.written sink.old }
     ensures scheme { (e : StoreError) → compressed scheme [] ≡ Err e → result ≡ Err e }
     ensures refusals { IfErr result (λ e. (compressed scheme [] ≡ Err e) ⊎ StopsWriting e) }
-    ensures cause { HasCause (W.faults sink.old) (W.faults sink.new) (IsErrOf result (Io Output)) }
-    ensures tells { W.tells sink.new ≡ W.tells sink.old }
+    ensures frame { Called W.tells W.faults sink.old sink.new (IsErrOf result (Io Output)) }
 {
     scheme.compress_from_slice(&[])?;
     let members = cut_members(alloc, chunks)?;
@@ -109,7 +109,7 @@ pub fn serialize_xorb_to_stream_reference<W: Sink>(
     Ok((object, start + footer, start as u64))
 }
 
-/// How long a xorb of these bytes is, in so many chunks, with its footer.
+/// Length of the xorb with these chunks and a footer, in bytes.
 fn xorb_length(bytes: &[u8], chunks: &[(MerkleHash, u32)]) -> usize
     requires { length chunks.now ≤ 65536 }
     ensures { result ≡ length bytes.now + 48 * length chunks.now + 96 }
@@ -117,8 +117,8 @@ fn xorb_length(bytes: &[u8], chunks: &[(MerkleHash, u32)]) -> usize
     bytes.len() + MOST_PER_CHUNK * chunks.len() + EMPTY_FOOTER
 }
 
-/// The xorb that `serialize_xorb_to_stream_reference` writes, in memory. The schemes that compress are refused as
-/// `CompressionError` of their number.
+/// The xorb that `serialize_xorb_to_stream_reference` writes, in memory. The schemes that compress fail with
+/// `CompressionError` of their number; the other error is `OutOfMemory`.
 pub fn serialized_xorb_object_from_components(
     alloc: Global,
     hash: &MerkleHash,
@@ -146,7 +146,7 @@ pub fn serialized_xorb_object_from_components(
     })
 }
 
-/// Whether both have the same bytes, plain length and number of chunks.
+/// Whether both have the same bytes, uncompressed length and number of chunks.
 fn are_alike(one: &SerializedXorbObject, other: &SerializedXorbObject) -> bool
     ensures { IsTrue result ↔ AreAlike one.now other.now }
 {
@@ -155,8 +155,9 @@ fn are_alike(one: &SerializedXorbObject, other: &SerializedXorbObject) -> bool
         && one.num_chunks == other.num_chunks
 }
 
-/// Whether a built xorb has the bytes, the plain length and the number of chunks of the one that is written of this
-/// raw xorb from its parts. The schemes that compress are refused as `CompressionError` of their number.
+/// Whether a built xorb has the bytes, the uncompressed length and the number of chunks of the one that the
+/// reference encoder makes of `xorb`. The schemes that compress fail with `CompressionError` of their number;
+/// the other error is `OutOfMemory`.
 pub fn verify_serialized_xorb_object(
     alloc: Global,
     xorb: &RawXorbData,
@@ -181,8 +182,9 @@ pub fn verify_serialized_xorb_object(
     Ok(are_alike(serialized, &reference))
 }
 
-/// A raw xorb as it is stored, with a footer, after it was compared with the one that is written from its parts, of
-/// which it never differs. The schemes that compress are refused as `CompressionError` of their number.
+/// Encodes a raw xorb with a footer, and compares the result with that of the reference encoder. They never
+/// differ. The schemes that compress fail with `CompressionError` of their number; the other error is
+/// `OutOfMemory`.
 pub fn build_and_verify_xorb_object(
     alloc: Global,
     xorb: RawXorbData,

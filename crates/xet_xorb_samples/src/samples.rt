@@ -1,4 +1,4 @@
-//! Xorbs of random chunks. For tests of what stands above.
+//! Xorbs of random chunks, for tests.
 
 ghost use Rattle.std.specs.Prelude.{◌≡◌, ◌⊎◌, [], ◌∷◌, ℕ, List, Err, IfErr, IfOk, IsOkUnless, Some, length, map};
 ghost use Rattle.xet_hash.specs.Merkle.{xorb_hash};
@@ -11,7 +11,8 @@ ghost use Rattle.xet_xorb.specs.Building.{no_spare};
 ghost use Rattle.xet_xorb.specs.Footer.{V1};
 ghost use Rattle.xet_xorb.specs.Object.{object_of};
 ghost use Rattle.xet_xorb.specs.Raw.{IsRaw, raw_of};
-ghost use Rattle.xet_xorb_samples.specs.Samples.{AreCuts, AreSampleChunks, AreSamples, DrawsSize, FitXorb, HasSize, IsOrdered, IsSampleOf, members_from, most_of, size_text};
+ghost use Rattle.xet_xorb_samples.specs.Samples.{AreCuts, AreSamples, DrawsSize, FitXorb, HasSize, IsOrdered, IsSampleOf, members_from, most_of, size_text};
+ghost use Rattle.xet_xorb_samples.specs.internal.Samples.{AreSampleChunks};
 
 use crate::reference::cut_members;
 use bytes::Bytes;
@@ -23,17 +24,17 @@ use xet_io::MemorySink;
 use xet_xorb::{RawXorbData, XorbObject, new_footer};
 use xet_xorb_chunk::{Chunk, CompressionScheme, XORB_CHUNK_HEADER_LENGTH, serialize_chunk};
 
-/// How many bytes each of some random chunks has.
+/// The lengths of random chunks, in bytes.
 #[derive(Clone, Copy, PartialEq, Eq, Debug)]
 pub enum ChunkSize {
-    /// From the first number to the second.
+    /// From the first number to the second, both included.
     Random(u32, u32),
-    /// This number.
+    /// Exactly this number.
     Fixed(u32),
 }
 
 impl ChunkSize {
-    /// The largest size that is drawn. It takes no memory.
+    /// The maximum length.
     fn most(self) -> u32
         ensures { result ≡ most_of self }
     {
@@ -43,7 +44,7 @@ impl ChunkSize {
         }
     }
 
-    /// The size of one chunk. It takes no memory.
+    /// Draws the length of one chunk.
     fn draw<G: Rng>(self, rng: &mut G) -> u32
         requires { IsOrdered self }
         ensures size { HasSize self result }
@@ -67,8 +68,7 @@ impl fmt::Display for ChunkSize {
     }
 }
 
-/// So many random bytes, the next of the generator. Where there is no memory, the call fails with
-/// `StoreError::OutOfMemory`, and for no other reason.
+/// The next `size` random bytes of the generator. The only error is `OutOfMemory`.
 pub fn gen_random_bytes<G: Rng>(
     alloc: Global,
     size: u32,
@@ -83,8 +83,7 @@ pub fn gen_random_bytes<G: Rng>(
     Ok(bytes)
 }
 
-/// So many random chunks. Where there is no memory, the call fails with `StoreError::OutOfMemory`, and for no other
-/// reason.
+/// `num_chunks` random chunks. The only error is `OutOfMemory`.
 fn random_chunks<G: Rng>(
     alloc: Global,
     num_chunks: u32,
@@ -103,9 +102,8 @@ fn random_chunks<G: Rng>(
     Ok(chunks)
 }
 
-/// The raw xorb of so many random chunks, whose first file begins at its first chunk. Of each chunk in turn the length
-/// and then the bytes are drawn, so that equal generators give equal xorbs. Where there is no memory, the call fails
-/// with `StoreError::OutOfMemory`, and for no other reason.
+/// A raw xorb of random chunks, with a file that begins at the first chunk. For each chunk in turn its length
+/// and then its bytes are drawn, so equal generators give equal xorbs. The only error is `OutOfMemory`.
 pub fn build_raw_xorb<G: Rng>(
     alloc: Global,
     num_chunks: u32,
@@ -122,9 +120,11 @@ pub fn build_raw_xorb<G: Rng>(
     RawXorbData::from_chunks(alloc, &chunks, boundaries)
 }
 
-/// A xorb of so many random chunks, drawn as `build_raw_xorb` draws them: its object, the chunks as they are stored,
-/// their plain bytes, and of each chunk its digest and where it ends among these. The schemes that compress are refused
-/// as `CompressionError` of their number.
+/// A xorb of random chunks, drawn as in `build_raw_xorb`. Returns its footer with its length, the stored
+/// chunks, their uncompressed bytes, and the hash of each chunk with its end offset among the uncompressed
+/// bytes.
+///
+/// The schemes that compress fail with `CompressionError` of their number. The other error is `OutOfMemory`.
 pub fn build_xorb_object<G: Rng>(
     alloc: Global,
     num_chunks: u32,
@@ -154,8 +154,8 @@ pub fn build_xorb_object<G: Rng>(
     Ok((object, stored.into_bytes(), plain, cuts))
 }
 
-/// The object of the xorb of the chunks that are cut at these places, with the hash that it has by their hashes.
-/// Where there is no memory, the call fails with `StoreError::OutOfMemory`, and for no other reason.
+/// The footer, with its length, of the xorb with these chunks, given by their hashes and end offsets. Its
+/// hash is the one that these give. The only error is `OutOfMemory`.
 fn cut_object(alloc: Global, cuts: &[(MerkleHash, u32)]) -> Result<XorbObject, StoreError>
     requires { (bytes : List ℕ) × AreCuts bytes cuts.now }
     ensures object { IfOk result (λ object. object ≡ object_of V1 (xorb_hash (members_from 0 cuts.now)) (members_from 0 cuts.now) no_spare) }

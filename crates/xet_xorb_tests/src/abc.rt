@@ -1,6 +1,6 @@
-//! The xorb of `abc`, for tests.
+//! The xorb of `abc`, a worked example for the tests (docs/FORMATS.md).
 
-/// Its digest, which is the hash of the xorb too.
+/// The chunk hash, which is also the xorb hash.
 pub(crate) const HASH_OF_ABC: [u8; 32] =
     *b"\x72\x03\xef\x36\x35\x50\xa4\xa7\x8a\xd1\x2d\x22\x85\xf9\x37\x86\
     \x48\xc8\x36\xee\xd7\x11\x0f\x54\xc6\x62\xdb\x19\x61\xeb\x0a\xf7";
@@ -8,7 +8,7 @@ pub(crate) const HASH_OF_ABC: [u8; 32] =
 /// The stored chunk.
 pub(crate) const CHUNK_OF_ABC: [u8; 11] = *b"\x00\x03\x00\x00\x00\x03\x00\x00abc";
 
-/// The whole text: the stored chunk, the footer and the footer's length.
+/// The whole xorb: the stored chunk, the footer, and its length.
 pub(crate) const XORB_OF_ABC: [u8; 147] = *b"\x00\x03\x00\x00\x00\x03\x00\x00abc\
     XETBLOB\x01\
     \x72\x03\xef\x36\x35\x50\xa4\xa7\x8a\xd1\x2d\x22\x85\xf9\x37\x86\

@@ -1,4 +1,4 @@
-//! How a xorb is read while it is validated: in blocks, and no byte of its chunks twice.
+//! Reads of validation: in blocks, and no byte of a chunk twice.
 
 ghost use Rattle.std.specs.Prelude.{true};
 
@@ -11,10 +11,10 @@ use xet_io::{Failed, MemorySink, ReadAt, SliceReader};
 use xet_xorb::*;
 use xet_xorb_samples::*;
 
-/// The most bytes of a chunk.
+/// Maximum chunk size, in bytes.
 const MOST: u32 = 200_000;
 
-/// A reader that counts its reads, and the bytes that they gave.
+/// A reader that counts its reads, and the bytes that they returned.
 #[derive(Drop)]
 struct CountingReader<'a> {
     reader: SliceReader<'a>,
@@ -41,7 +41,7 @@ impl ReadAt for CountingReader<'_> {
     }
 }
 
-/// A xorb of drawn chunks that have these lengths, and its hash.
+/// A xorb of random chunks with these lengths, and its hash.
 fn xorb_of(alloc: Global, lengths: &[u32]) -> Result<(Vec<u8>, MerkleHash), StoreError> {
     let mut rng = Pcg64::seed_from_u64(14);
     let mut stored = MemorySink::new(alloc);
@@ -58,7 +58,8 @@ fn xorb_of(alloc: Global, lengths: &[u32]) -> Result<(Vec<u8>, MerkleHash), Stor
     Ok((sink.into_bytes(), hash))
 }
 
-/// How many chunks are validated in some bytes, in how many reads, which give how many bytes.
+/// The number of validated chunks, of reads, and of bytes read. There are no chunks if the bytes are not
+/// valid.
 fn validated(
     alloc: Global,
     bytes: &[u8],
@@ -76,7 +77,7 @@ fn validated(
     Ok((count, reader.reads, reader.given))
 }
 
-// Four bytes tell the footer's length, and 16 are its spare ones: these 20 are read twice.
+// The footer's length (4 bytes) and its spare bytes (16) are read twice.
 #[test]
 fn short_chunks_are_read_in_blocks(rt: HostRuntime) -> Result<(), Fail> {
     let alloc = rt.alloc();
@@ -100,7 +101,7 @@ fn long_chunks_are_read_whole(rt: HostRuntime) -> Result<(), Fail> {
     Ok(())
 }
 
-/// How many chunks are validated where one bit of a byte differs.
+/// The number of validated chunks after one bit at this offset was flipped.
 fn with_change(
     alloc: Global,
     bytes: &[u8],

@@ -1,4 +1,4 @@
-//! Xorbs that are built, and footers for stored chunks.
+//! Construction of xorbs, and footers that are added to stored chunks.
 
 ghost use Rattle.std.specs.Prelude.{◌≡◌, ◌<◌, ◌^◌, IfOk, length};
 ghost use Rattle.xet_xorb.specs.Raw.{IsRaw};
@@ -18,7 +18,7 @@ fn chunk(alloc: Global) -> Result<Chunk, AllocError>
     Ok(Chunk::new(Bytes::copy_from_slice(alloc, b"abc")?))
 }
 
-/// The raw xorb of this one chunk.
+/// The raw xorb of the chunk `abc`.
 fn raw_xorb(alloc: Global) -> Result<RawXorbData, StoreError>
     ensures { IfOk result IsRaw }
 {
@@ -43,7 +43,7 @@ fn one_chunk(rt: HostRuntime) -> Result<(), Fail> {
     Ok(())
 }
 
-/// Why the xorb is not built under a scheme.
+/// The error of building the xorb under this scheme, if there is one.
 fn refusal_of(alloc: Global, scheme: CompressionScheme) -> Option<StoreError> {
     match raw_xorb(alloc) {
         Ok(raw) => SerializedXorbObject::from_xorb_with_compression(alloc, raw, scheme, true).err(),
@@ -72,7 +72,7 @@ fn schemes(rt: HostRuntime) -> Result<(), Fail> {
     Ok(())
 }
 
-/// What is written of these stored chunks with their footer.
+/// These stored chunks with the footer that they have.
 fn rebuilt(alloc: Global, raw: &[u8]) -> Result<Vec<u8>, StoreError>
     requires { length raw.now < 2 ^ 32 }
 {
@@ -103,7 +103,7 @@ fn footers_for_stored_chunks(rt: HostRuntime) -> Result<(), Fail> {
     Ok(())
 }
 
-/// The object and the hash of the chunk `abc` as it is stored.
+/// The footer with its length, and the xorb hash, of the stored chunk `abc`.
 fn object_and_hash(alloc: Global) -> Result<(XorbObject, MerkleHash), StoreError> {
     let mut sink = MemorySink::new(alloc);
     reconstruct_xorb_with_footer(alloc, &mut sink, &CHUNK_OF_ABC, 131_072)

@@ -1,4 +1,4 @@
-//! Damaged footers.
+//! Errors of damaged footers.
 
 use crate::abc::XORB_OF_ABC;
 use std::alloc::Global;
@@ -7,7 +7,7 @@ use xet_hash::{Reason, StoreError};
 use xet_io::SliceReader;
 use xet_xorb::*;
 
-/// What the reader of the last footer answers.
+/// The result of reading the footer at the end of these bytes.
 fn answer(alloc: Global, text: &[u8]) -> &'static str {
     let mut reader = SliceReader::new(text);
     match XorbObject::deserialize(alloc, &mut reader) {
@@ -18,7 +18,7 @@ fn answer(alloc: Global, text: &[u8]) -> &'static str {
     }
 }
 
-/// The name of a footer's check.
+/// A name for the check of a footer.
 fn name_of(reason: Reason) -> &'static str {
     match reason {
         Reason::Ident => "ident",
@@ -36,7 +36,7 @@ fn name_of(reason: Reason) -> &'static str {
     }
 }
 
-/// The answers where each byte in turn is complemented: each with the first place of those that have it.
+/// The results after each byte in turn was complemented: each change of the result, with its offset.
 fn answers_of_changes(alloc: Global) -> Result<Vec<(usize, &'static str)>, StoreError> {
     let mut found: Vec<(usize, &'static str)> = Vec::new(alloc);
     let mut last = "";
@@ -52,7 +52,7 @@ fn answers_of_changes(alloc: Global) -> Result<Vec<(usize, &'static str)>, Store
     Ok(found)
 }
 
-/// The answers where the text is cut after so many bytes, each with the first such number.
+/// The results of each prefix of the xorb: each change of the result, with the length of the prefix.
 fn answers_of_cuts(alloc: Global) -> Result<Vec<(usize, &'static str)>, StoreError> {
     let mut found: Vec<(usize, &'static str)> = Vec::new(alloc);
     let mut last = "";
@@ -94,7 +94,8 @@ fn each_byte_changed(rt: HostRuntime) -> Result<(), Fail> {
     Ok(())
 }
 
-// Where the last four bytes of a cut text are a small number, a footer is looked for before them.
+// If the last four bytes of a prefix are a small number, they are taken as the length of a footer before
+// them.
 #[test]
 fn cut_at_each_length(rt: HostRuntime) -> Result<(), Fail> {
     let found = answers_of_cuts(rt.alloc())?;

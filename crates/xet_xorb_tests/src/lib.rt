@@ -1,4 +1,4 @@
-//! Tests of xorbs: their footers as objects, ranges that are read of them, their validation, and how they are built.
+//! Tests of the public calls of `xet_xorb`, and of the samples of `xet_xorb_samples`.
 #![tactic(auto)]
 
 #[cfg(test)]
@@ -8,7 +8,13 @@ mod block_tests;
 #[cfg(test)]
 mod building_tests;
 #[cfg(test)]
+mod chunk_tests;
+#[cfg(test)]
 mod damage_tests;
+#[cfg(test)]
+mod footer_tests;
+#[cfg(test)]
+mod last_footer_tests;
 #[cfg(test)]
 mod object_tests;
 #[cfg(test)]

@@ -1,4 +1,4 @@
-//! Objects of footers.
+//! `XorbObject`: a footer with its length.
 
 use crate::abc::{HASH_OF_ABC, XORB_OF_ABC};
 use std::alloc::Global;
@@ -7,14 +7,14 @@ use xet_hash::{MerkleHash, Reason, StoreError};
 use xet_io::{MemorySink, SliceReader};
 use xet_xorb::*;
 
-/// The footer of no chunks, with its length.
+/// The footer of no chunks, and its length.
 fn empty_footer(alloc: Global) -> Result<Vec<u8>, StoreError> {
     let mut sink = MemorySink::new(alloc);
     XorbObject::serialize_given_info(&mut sink, XorbObjectInfoV1::default(alloc))?;
     Ok(sink.into_bytes())
 }
 
-/// The object of a footer and its length that come in two pieces.
+/// Decodes a footer and its length, fed in two parts.
 fn in_two_pieces(alloc: Global, bytes: &[u8]) -> Result<XorbObject, StoreError> {
     let (front, back) = bytes.split_at(bytes.len() / 2);
     let mut decoder = FooterDecoder::new(alloc);
@@ -23,7 +23,7 @@ fn in_two_pieces(alloc: Global, bytes: &[u8]) -> Result<XorbObject, StoreError> 
     decoder.finish()
 }
 
-/// What is told and read at the end of some bytes.
+/// The length of the footer and the footer at the end of these bytes.
 fn at_the_end(alloc: Global, bytes: &[u8]) -> Result<(u32, XorbObject), StoreError> {
     let mut reader = SliceReader::new(bytes);
     let told = XorbObject::get_info_length(&mut reader)?;
@@ -45,7 +45,7 @@ fn the_footer_of_no_chunks(rt: HostRuntime) -> Result<(), Fail> {
     Ok(())
 }
 
-/// The bytes of the chunks of a xorb of this hash; none, where the bytes are no such xorb.
+/// The uncompressed bytes of a validated xorb, or none if the bytes are not a xorb with this hash.
 fn plain_bytes(alloc: Global, bytes: &[u8], hash: [u8; 32]) -> Result<Vec<u8>, StoreError> {
     let mut reader = SliceReader::new(bytes);
     let hash = MerkleHash::from_bytes(hash);

@@ -8,12 +8,12 @@ use xet_hash::{Reason, StoreError, compute_data_hash, range_hash_from_chunks};
 use xet_io::SliceReader;
 use xet_xorb::*;
 
-/// The chunks `abc` and `defgh` as they are stored.
+/// The stored chunks `abc` and `defgh`.
 const STORED: [u8; 24] = [
     0, 3, 0, 0, 0, 3, 0, 0, b'a', b'b', b'c', 0, 5, 0, 0, 0, 5, 0, 0, b'd', b'e', b'f', b'g', b'h',
 ];
 
-/// The object of two chunks that end at these places.
+/// A footer that lists the two chunks with these boundary offsets and uncompressed boundary offsets.
 fn of_ends(alloc: Global, stored: [u32; 2], plain: [u32; 2]) -> Result<XorbObject, StoreError> {
     let hashes = [compute_data_hash(b"abc"), compute_data_hash(b"defgh")];
     let info = XorbObjectInfoV1::from_lists(
@@ -29,7 +29,7 @@ fn of_ends(alloc: Global, stored: [u32; 2], plain: [u32; 2]) -> Result<XorbObjec
     })
 }
 
-/// The object of the two chunks with a footer of version 0.
+/// The footer of the two chunks in version 0.
 fn without_plain_ends(alloc: Global) -> Result<XorbObject, StoreError> {
     let hashes = [compute_data_hash(b"abc"), compute_data_hash(b"defgh")];
     let info = XorbObjectInfoV0::from_lists(
@@ -44,7 +44,7 @@ fn without_plain_ends(alloc: Global) -> Result<XorbObject, StoreError> {
     })
 }
 
-/// What is read of a range of the chunks in these bytes.
+/// Reads a range of chunks of these bytes.
 fn read_range(
     alloc: Global,
     object: &XorbObject,
@@ -55,7 +55,7 @@ fn read_range(
     object.get_bytes_by_chunk_range(alloc, &mut SliceReader::new(bytes), start, end, 8)
 }
 
-/// What is read of all chunks in the stored bytes, of at most so many bytes each.
+/// Reads all chunks of `STORED`, each of at most `most` bytes.
 fn read_all(alloc: Global, object: &XorbObject, most: u32) -> Result<Vec<u8>, StoreError>
     requires { most < 2 ^ 23 }
 {

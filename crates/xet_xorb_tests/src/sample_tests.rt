@@ -1,4 +1,4 @@
-//! Samples of xorbs.
+//! Sample xorbs.
 
 ghost use Rattle.std.specs.Prelude.{IfOk};
 ghost use Rattle.xet_xorb.specs.Raw.{IsRaw};
@@ -16,14 +16,14 @@ use xet_xorb_samples::*;
 
 const SCHEME: CompressionScheme = CompressionScheme::Auto;
 
-/// The raw xorb of three chunks of ten bytes.
+/// A raw xorb of three chunks of ten bytes.
 fn three_chunks(alloc: Global) -> Result<RawXorbData, StoreError>
     ensures { IfOk result IsRaw }
 {
     build_raw_xorb(alloc, 3, ChunkSize::Fixed(10), &mut Pcg64::seed_from_u64(7))
 }
 
-/// A built xorb with the byte at a place changed, if there is one.
+/// A built xorb with one bit flipped at this offset, if it is within the bytes.
 fn with_change(built: SerializedXorbObject, place: usize) -> SerializedXorbObject {
     let SerializedXorbObject {
         serialized_data,
@@ -45,7 +45,7 @@ fn with_change(built: SerializedXorbObject, place: usize) -> SerializedXorbObjec
     }
 }
 
-/// Whether a built xorb is verified, as it is and after a byte was changed.
+/// Whether a built xorb is verified, as it is and after one bit was flipped.
 fn verified(alloc: Global, place: usize) -> Result<(bool, bool), StoreError> {
     let raw = three_chunks(alloc)?;
     let built = SerializedXorbObject::from_xorb(alloc, raw.clone(alloc)?, true)?;
@@ -64,8 +64,8 @@ fn built_xorbs_are_verified(rt: HostRuntime) -> Result<(), Fail> {
     Ok(())
 }
 
-/// The plain bytes, the chunks and the place of the footer of three chunks that were built and verified, and
-/// whether they are as those that are built only.
+/// The uncompressed length, the number of chunks, the offset of the footer and the length of three chunks
+/// that were built and verified, and whether they equal those that were only built.
 fn built_and_verified(alloc: Global) -> Result<(u64, usize, Option<u64>, usize, bool), StoreError> {
     let raw = three_chunks(alloc)?;
     let built = SerializedXorbObject::from_xorb(alloc, raw.clone(alloc)?, true)?;
@@ -88,7 +88,8 @@ fn three_chunks_are_built(rt: HostRuntime) -> Result<(), Fail> {
     Ok(())
 }
 
-/// How long the stored and the plain bytes of three chunks are, where they end, and what their object tells.
+/// The stored and the uncompressed length of three chunks, their end offsets, and the number of chunks and
+/// the length of their footer.
 fn sampled(alloc: Global) -> Result<(usize, usize, Vec<u32>, u32, u32), StoreError> {
     let mut rng = Pcg64::seed_from_u64(8);
     let (object, stored, plain, cuts) = build_xorb_object(
@@ -119,8 +120,8 @@ fn objects_are_sampled(rt: HostRuntime) -> Result<(), Fail> {
     Ok(())
 }
 
-/// Whether the stored chunks are written behind one another, with this object, and as in memory; how many bytes are
-/// written, and how many of them before the footer.
+/// Whether the reference encoder returns this footer, writes these stored chunks first, and writes the same
+/// as in memory; the number of bytes written, and the offset of the footer.
 fn written_like(
     alloc: Global,
     object: &XorbObject,
@@ -147,7 +148,7 @@ fn written_like(
     ))
 }
 
-/// What `written_like` tells of a sample.
+/// `written_like` of a sample.
 fn written(alloc: Global) -> Result<(bool, bool, bool, usize, u64), StoreError> {
     let mut rng = Pcg64::seed_from_u64(9);
     let (object, stored, plain, cuts) = build_xorb_object(
@@ -166,7 +167,7 @@ fn samples_are_written(rt: HostRuntime) -> Result<(), Fail> {
     Ok(())
 }
 
-/// What is refused where a sink fails after some bytes, and how many were written.
+/// The error of writing to a sink that fails after `fail_at` bytes, and the number of bytes written.
 fn refused_by_sink(alloc: Global, fail_at: u64) -> (Option<StoreError>, usize) {
     let mut sink = FailingSink::new(alloc, fail_at);
     let hash = MerkleHash::default();
@@ -188,7 +189,7 @@ fn sinks_fail(rt: HostRuntime) -> Result<(), Fail> {
     Ok(())
 }
 
-/// What each call that takes a scheme is refused as under this one.
+/// The error of each call that takes a scheme, under this scheme.
 fn refused_schemes(
     alloc: Global,
     scheme: CompressionScheme,
@@ -222,7 +223,7 @@ fn schemes_are_refused(rt: HostRuntime) -> Result<(), Fail> {
     Ok(())
 }
 
-/// Whether one seed gives the same bytes twice, and another seed others.
+/// Whether one seed gives the same bytes twice, and another seed gives others.
 fn drawn(alloc: Global) -> Result<(bool, bool), StoreError> {
     let one = gen_random_bytes(alloc, 100, &mut Pcg64::seed_from_u64(11))?;
     let again = gen_random_bytes(alloc, 100, &mut Pcg64::seed_from_u64(11))?;
@@ -230,7 +231,7 @@ fn drawn(alloc: Global) -> Result<(bool, bool), StoreError> {
     Ok((one == again, one != other))
 }
 
-/// Whether two chunks of a sample differ.
+/// Whether the first two chunks of a sample differ.
 fn chunks_differ(alloc: Global) -> Result<bool, StoreError> {
     let plain = raw_xorb_to_vec(alloc, &three_chunks(alloc)?)?;
     let (first, rest) = plain.as_slice().split_at(plain.len().min(10));

@@ -1,4 +1,4 @@
-//! Streams of many chunks, written chunk by chunk and read back.
+//! Round trips of streams of many chunks.
 
 ghost use Rattle.std.specs.Prelude.{◌≤◌};
 
@@ -11,10 +11,10 @@ use xet_io::{MemorySink, SliceSource};
 use xet_xorb::*;
 use xet_xorb_samples::*;
 
-/// The most bytes of a chunk: 16 KiB.
+/// Maximum chunk size: 16 KiB.
 const MOST: u32 = 16_384;
 
-/// How many bytes the next chunk has: so many, or at random 1 to 16 KiB.
+/// The length of the next chunk: the given one, or a random one from 1 byte to 16 KiB.
 fn next_length(length: Option<u32>, rng: &mut Pcg64) -> u32
     ensures { result ≤ 16384 }
 {
@@ -24,7 +24,7 @@ fn next_length(length: Option<u32>, rng: &mut Pcg64) -> u32
     }
 }
 
-/// So many drawn chunks, as they are stored, and their bytes.
+/// `count` random chunks as stored, and their uncompressed bytes.
 fn written(
     alloc: Global,
     count: u32,
@@ -42,7 +42,7 @@ fn written(
     Ok((sink.into_bytes(), plain))
 }
 
-/// The bytes of the chunks in a stream, which is fed in pieces of so many bytes, and the number of places.
+/// Decodes a stream that is fed in parts of `size` bytes: its uncompressed bytes, and the number of offsets.
 fn in_pieces(alloc: Global, stored: &[u8], size: usize) -> Result<(Vec<u8>, usize), StoreError> {
     let mut sink = MemorySink::new(alloc);
     let mut decoder = ChunkDecoder::new(alloc, MOST);
@@ -56,7 +56,7 @@ fn in_pieces(alloc: Global, stored: &[u8], size: usize) -> Result<(Vec<u8>, usiz
     Ok((sink.into_bytes(), places.len()))
 }
 
-/// Whether a stream is read back, by the reader of a source and in pieces: as many chunks with the same bytes.
+/// Whether a stream is read back, from a source and in parts: as many chunks with the same bytes.
 fn is_read_back(alloc: Global, count: u32, length: Option<u32>) -> Result<bool, StoreError> {
     let (stored, plain) = written(alloc, count, length)?;
     let (whole, places) = deserialize_chunks(alloc, &mut SliceSource::new(&stored), MOST)?;

@@ -1,4 +1,4 @@
-//! Xorbs that are validated.
+//! Validation of xorbs.
 
 ghost use Rattle.std.specs.Prelude.{◌<◌, ◌^◌};
 
@@ -9,7 +9,7 @@ use xet_hash::{MerkleHash, StoreError, compute_data_hash};
 use xet_io::{MemorySink, SliceReader};
 use xet_xorb::*;
 
-/// The xorb of `abc` with a footer of version 0, of 111 bytes.
+/// The xorb of `abc` with a footer of version 0, 111 bytes.
 fn old_xorb_of_abc(alloc: Global) -> Result<Vec<u8>, StoreError> {
     let mut bytes = Vec::from_slice(alloc, b"\x00\x03\x00\x00\x00\x03\x00\x00abcXETBLOB\x00")?;
     bytes.extend_from_slice(&HASH_OF_ABC)?;
@@ -20,8 +20,8 @@ fn old_xorb_of_abc(alloc: Global) -> Result<Vec<u8>, StoreError> {
     Ok(bytes)
 }
 
-/// What is validated as a xorb of this hash: the footer's bytes, the version of its boundaries and its chunks; zeros,
-/// where nothing is.
+/// The length of the footer, the version of its boundary section and the number of chunks of a validated
+/// xorb; zeros if the bytes are not valid.
 fn validated(
     alloc: Global,
     bytes: &[u8],
@@ -41,7 +41,7 @@ fn validated(
     }
 }
 
-/// How many chunks are validated where one bit of the byte at each of these places differs.
+/// The number of validated chunks after one bit was flipped at each of these offsets in turn.
 fn with_changes(
     alloc: Global,
     bytes: &[u8],
@@ -83,7 +83,7 @@ fn changed_bytes(rt: HostRuntime) -> Result<(), Fail> {
         &[0, 8, 11, 20, 60, 111, 115, 119, 143],
     )?;
     assert_eq!(rt; none.as_slice(), [0; 9].as_slice());
-    // The spare bytes may be any.
+    // The spare bytes may have any value.
     let spare = with_changes(alloc, &XORB_OF_ABC, &hash, &[127, 142])?;
     assert_eq!(rt; spare.as_slice(), [1, 1].as_slice());
     Ok(())
@@ -101,12 +101,12 @@ fn no_chunks(rt: HostRuntime) -> Result<(), Fail> {
     Ok(())
 }
 
-/// Whether an object equals its clone, and has no plain ends.
+/// Whether a footer equals its clone, and its boundary section has version 0.
 fn is_cloned(alloc: Global, object: &XorbObject) -> Result<bool, StoreError> {
     Ok(object.clone(alloc)? == *object && object.info.boundaries_version == 0)
 }
 
-/// Whether the object of a xorb whose footer is of version 0 equals its clone.
+/// Whether the footer of a xorb with a footer of version 0 equals its clone.
 fn old_object_is_cloned(alloc: Global) -> Result<bool, StoreError> {
     let bytes = old_xorb_of_abc(alloc)?;
     let mut reader = SliceReader::new(&bytes);

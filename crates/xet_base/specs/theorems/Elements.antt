@@ -1,4 +1,4 @@
--- What holds of each element of a list, and of its parts.
+-- Properties of every element of a list, and of its parts.
 use Rattle.std.proofs.Common.{ℕ, zero, suc, Bool, true, false, cond, List, [], ◌∷◌, ◌++◌, filter, take, drop}
 use Rattle.std.specs.List.{AllByRecursion}
 

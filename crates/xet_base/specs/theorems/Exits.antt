@@ -1,4 +1,4 @@
--- What the exit of a `?` returns.
+-- What holds of the error that `?` returns.
 use Rattle.std.proofs.Common.{◌≡◌, Result, Ok, Err, subst, sym}
 use Rattle.std.specs.Result.{IfErr, IsErrAnd, OnErr}
 

@@ -1,4 +1,4 @@
--- What is written and held back after one piece more.
+-- What is written and buffered after one more slice.
 use Rattle.std.proofs.Common.{◌≡◌, ◌∙◌, ℕ, ◌+◌, ◌≤◌, List, [], ◌++◌, Result, Ok, Err, ap, append_assoc, arith, drop, length, min, subst, sym, take}
 use Rattle.std.proofs.Math.Seq.{drop-drop, drop-length, take-add, take-append-add, take-length}
 use Rattle.std.proofs.lemmas.List.{append-nil, drop-append-le, drop_min, take-append-drop, take-append-le, take_min}

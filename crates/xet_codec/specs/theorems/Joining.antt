@@ -1,4 +1,4 @@
--- Pieces of a list that are written one after the other.
+-- Items of a list that are written one after the other.
 use Rattle.std.proofs.Common.{◌≡◌, ◌∙◌, ℕ, ◌+◌, ◌*◌, ◌<◌, List, [], ◌++◌, ap, append_assoc, arith, drop, get_or, length, length-append, subst, sym, take}
 use Rattle.std.proofs.lemmas.List.{flat_map_more, take-append-drop, take_more}
 use Rattle.std.proofs.lemmas.List.Concat.{flat_map-append}

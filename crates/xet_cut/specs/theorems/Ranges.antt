@@ -1,4 +1,4 @@
--- Settings in which no limit is out of its range.
+-- Settings in which every limit is in its range.
 use Rattle.std.proofs.Common.{◌≡◌, ℕ, zero, suc, ◌^◌, ◌/◌, ◌<◌, ◌≤◌, Bool, true, false, not, List, [], ◌∷◌, length, get_or, Option, Some, None, cond, refl, arith, lit<}
 use Rattle.std.proofs.lemmas.Bool.{and_parts, le-leb, leb-true, lt-ltb, ltb-true, not-false}
 use Rattle.std.specs.List.{find}

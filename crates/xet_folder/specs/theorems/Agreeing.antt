@@ -1,4 +1,4 @@
--- What is stored agrees with itself.
+-- A stored xorb has one list of chunks, a plan resolves to one list, and a valid folder is not rejected.
 use Rattle.std.proofs.Common.{◌≡◌, inl, inr, ◌∙◌, ℕ, ◌<◌, List, [], ◌∷◌, ◌++◌, length, get_or, sym, ap, subst, arith}
 use Rattle.std.proofs.lemmas.List.Elements.{All-from_recursion, recursion_from_All}
 use Rattle.std.specs.List.{All, AllByRecursion}
@@ -12,8 +12,8 @@ use Rattle.xet_shard_format.specs.declared.record.MDBXorbInfo.{MDBXorbInfo}
 use Rattle.xet_shard_format.specs.Names.{shard_name}
 use Rattle.xet_shard_format.specs.Reading.{Parts}
 use Rattle.xet_shard_format.specs.Records as record_of
-use Rattle.xet_xorb.specs.theorems.Determined.{text_determines}
-use Rattle.xet_xorb.specs.Xorb.{IsXorbText}
+use Rattle.xet_xorb.specs.theorems.Determined.{bytes_determine}
+use Rattle.xet_xorb.specs.Xorb.{IsXorbEncoding}
 use Rattle.xet_folder.specs.Admission.{Admits, BlockFails, BlockHolds, FileFails, FileHolds, FirstFails, Refuses, SegmentFails, SegmentHolds, ShardFails, ShardHolds, XorbFails, block_members}
 use Rattle.xet_folder.specs.Plan.{Joins, LiesIn, part}
 use Rattle.xet_shard_file.specs.Shards.{ShardFile}
@@ -36,7 +36,7 @@ module _ (files : Files) (folder : List ℕ) where
   -- a xorb is stored with one list of chunks
   pub stored_once : (h : List ℕ) (cs ds : List (List ℕ)) → IsStored files folder h cs → IsStored files folder h ds → cs ≡ ds
   stored_once h cs ds s t =
-      let same : s.bytes ≡ t.bytes = cc (s.there, t.there) in text_determines t.bytes cs ds (subst (λ (bytes : List ℕ). IsXorbText bytes cs) same s.text) t.text
+      let same : s.bytes ≡ t.bytes = cc (s.there, t.there) in bytes_determine t.bytes cs ds (subst (λ (bytes : List ℕ). IsXorbEncoding bytes cs) same s.text) t.text
 
   -- and backed by one list of members
   backed_once : (h : List ℕ) (ms ns : List (List ℕ × ℕ)) → IsBacked files folder h ms → IsBacked files folder h ns → ms ≡ ns

@@ -1,4 +1,4 @@
--- Where chunks lie.
+-- Uncompressed and stored lengths of chunks.
 use Rattle.std.proofs.Common.{◌≡◌, ◌∙◌, ℕ, ◌+◌, ◌-◌, ◌*◌, ◌<◌, ◌≤◌, ◌^◌, true, List, [], ◌∷◌, ◌++◌, length, length-append, map, take, drop, Option, Some, None, refl, sym, ap, subst, arith, append_assoc}
 use Rattle.std.proofs.lemmas.Grind.{flat_map-append}
 use Rattle.std.proofs.lemmas.List.{drop-drop, drop-map, drop-take, drop_at, length-drop, length-take-le, take-append-drop, take-map, take-take, take_all, take_at}

@@ -1,4 +1,4 @@
--- What is left of a list.
+-- The rest of a list, from an index on.
 use Rattle.std.proofs.Common.{◌≡◌, inl, inr, ◌∙◌, ℕ, ◌+◌, ◌<◌, ◌≤◌, List, ◌∷◌, map, length, drop, get_or, sym, ap, subst, arith}
 use Rattle.std.proofs.lemmas.List.{drop_all, drop_more, get_or-map, length-map}
 use Rattle.std.specs.List.{AllByRecursion, IsAmong}

@@ -1,4 +1,4 @@
--- Words that are read from bytes.
+-- Words read from bytes.
 use Rattle.std.proofs.Common.{◌≡◌, ℕ, zero, suc, ◌+◌, ◌*◌, ◌<◌, ◌≤◌, List, [], ◌∷◌, ◌++◌, length, take, slice_index, slice_set, ◌-◌, ◌/◌, ◌^◌, bit_and, drop, replicate, get_or, refl, sym, ap, ◌∙◌, add-one, arith}
 use Rattle.std.proofs.lemmas.List.{take_more_set, take_all, drop_all, drop-replicate}
 use Rattle.std.proofs.lemmas.Slice.{take-put_mid}

@@ -1,10 +1,11 @@
-//! The look-up of the chunks of held xorbs.
+//! The map from chunk hashes to their last positions in a shard in memory.
 
 ghost use Rattle.std.specs.Prelude.{◌≡◌, ◌<◌, ◌≤◌, ◌^◌, ℕ, List, None, IsOk, OnErr, OnOk, length, nat_eq};
 ghost use Rattle.std.specs.Cmp.Lexicographic.{pointwise};
 ghost use Rattle.indexmap.specs.IndexMap.{get, spare, values};
 ghost use Rattle.xet_shard.specs.Held.{DifferBy, Keyed, with_last};
-ghost use Rattle.xet_shard.specs.LastPlaces.{HasPlaces, noted};
+ghost use Rattle.xet_shard.specs.LastPlaces.{HasPlaces};
+ghost use Rattle.xet_shard.specs.internal.LastPlaces.{noted};
 ghost use Rattle.xet_shard_format.specs.Records.{xorb_hash, xorb_section};
 
 use super::put_last;
@@ -13,10 +14,10 @@ use std::alloc::AllocError;
 use xet_hash::MerkleHash;
 use xet_shard_format::{MDBXorbInfo, XorbChunkSequenceEntry};
 
-/// For the hash of each chunk the index of the last xorb that has it, and its last place there.
+/// For each chunk hash: the index of the last xorb that has it, and its last index in this xorb.
 pub(super) type LastPlaces = IndexMap<MerkleHash, (u32, u32)>;
 
-/// Puts a xorb at the end, in the place of one of an equal hash, and notes its chunks.
+/// Adds a xorb at the end, removes one of an equal hash, and updates the map.
 pub(super) fn put_block(
     blocks: &mut IndexMap<MerkleHash, MDBXorbInfo>,
     places: &mut LastPlaces,
@@ -38,7 +39,7 @@ pub(super) fn put_block(
     }
 }
 
-/// Puts a xorb of a hash that none has at the end. Its places win over those of the others.
+/// Adds a xorb whose hash is new. It is then the last xorb, so its chunks replace equal ones in the map.
 fn put_new(
     blocks: &mut IndexMap<MerkleHash, MDBXorbInfo>,
     places: &mut LastPlaces,
@@ -64,8 +65,8 @@ fn put_new(
     }
 }
 
-/// Puts a xorb at the end, in the place of the one of its hash. The chunks of all are noted anew, since
-/// those of the one that goes may stand in others too.
+/// Adds a xorb at the end, and removes the one of its hash. The map is built anew, since chunks of the
+/// removed xorb may also be in other xorbs.
 fn put_again(
     blocks: &mut IndexMap<MerkleHash, MDBXorbInfo>,
     places: &mut LastPlaces,
@@ -95,7 +96,7 @@ fn put_again(
     Ok(())
 }
 
-/// Notes the chunks of the xorb of an index.
+/// Adds the chunks of the xorb with this index to the map.
 fn note_chunks(
     places: &mut LastPlaces,
     index: u32,

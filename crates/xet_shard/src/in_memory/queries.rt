@@ -1,10 +1,10 @@
-//! What a shard in memory tells of what it holds.
+//! Queries to a shard in memory.
 
 ghost use Rattle.std.specs.Prelude.{◌≡◌, IfOk, IsOkUnless, length};
 ghost use Rattle.xet_shard.specs.Held.{record_of};
 ghost use Rattle.xet_shard_format.specs.Records.{file_hash};
 ghost use Rattle.xet_shard.specs.Runs.{held_run};
-ghost use Rattle.xet_shard_format.specs.Text.{materialized, stored};
+ghost use Rattle.xet_shard_format.specs.Encoding.{materialized, stored};
 
 use super::MDBInMemoryShard;
 use crate::query::run::run_at;
@@ -13,7 +13,8 @@ use xet_hash::{HMACKey, MerkleHash, StoreError};
 use xet_shard_format::{FileDataSequenceEntry, MDBFileInfo};
 
 impl MDBInMemoryShard {
-    /// A copy of the held file of a hash, if there is one.
+    /// A copy of the file record with a hash, or none if the shard has none. The only error is
+    /// `StoreError::OutOfMemory`.
     pub fn get_file_reconstruction_info(
         &self,
         alloc: Global,
@@ -28,10 +29,10 @@ impl MDBInMemoryShard {
         }
     }
 
-    /// How many hashes at the front of the query are those of chunks that stand in a row in a held xorb,
-    /// and the segment of these chunks. The row begins at the last chunk of the first hash: the last one
-    /// in the xorb that was added last of those that have it. None where no held xorb has it. It takes no
-    /// memory, and its time does not grow with what is held.
+    /// The run of a query: how many of its first hashes are those of consecutive chunks of a xorb, and the
+    /// segment of these chunks. The run starts at the last chunk with the first hash: of the xorbs that have
+    /// it, in the one that was added last, and there at the last index. None if no xorb has it, or if the
+    /// query is empty. Allocates nothing. Its time does not depend on the size of the shard.
     pub fn chunk_hash_dedup_query(
         &self,
         query: &[MerkleHash],
@@ -44,21 +45,21 @@ impl MDBInMemoryShard {
         run_at(&HMACKey::default(), query, block, place)
     }
 
-    /// The number of held xorbs.
+    /// The number of xorbs.
     pub fn num_xorb_entries(&self) -> u64
         ensures { result ≡ length self.now.blocks }
     {
         self.blocks.len() as u64
     }
 
-    /// The number of held files.
+    /// The number of files.
     pub fn num_file_entries(&self) -> u64
         ensures { result ≡ length self.now.files }
     {
         self.files.len() as u64
     }
 
-    /// The bytes of the held files together.
+    /// The uncompressed bytes of all segments of all files.
     pub fn materialized_bytes(&self) -> u64
         ensures { result ≡ materialized self.now.files }
     {
@@ -69,7 +70,7 @@ impl MDBInMemoryShard {
         total
     }
 
-    /// The bytes of the chunks of the held xorbs together.
+    /// The uncompressed bytes of all chunks of all xorbs.
     pub fn stored_bytes(&self) -> u64
         ensures { result ≡ stored self.now.blocks }
     {

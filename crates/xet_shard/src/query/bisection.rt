@@ -1,28 +1,29 @@
-//! Bisection of a lookup table over a reader: each step reads one item, and nothing is allocated.
+//! Bisection of a lookup table behind a reader: each step reads one item, and nothing is allocated.
 
 ghost use Rattle.std.specs.Prelude.{◌≡◌, ◌≤◌, ◌<◌, ◌+◌, ◌*◌, ◌^◌, true, drop, length, IfErr, IfOk, IsErrOf};
-ghost use Rattle.xet_io.specs.Faults.{HasCause};
-ghost use Rattle.xet_shard.specs.Bisection.{AnswersAt, Bisects, in_table, passes, slots};
+ghost use Rattle.xet_shard.specs.Bisection.{AnswersAt, Bisects, in_table, passes};
+ghost use Rattle.xet_shard.specs.internal.Bisection.{slots};
 ghost use Rattle.xet_shard_format.specs.Reading.{IsShardRefusal};
+ghost use Rattle.xet_io.specs.Frame.{ReadFrom};
 
 use crate::reader::byte_ranges::{fill, within};
 use xet_codec::{half_word, reader_length, word};
 use xet_hash::{Place, StoreError};
 use xet_io::ReadAt;
 
-/// A test of an item of a lookup table. An item begins with a word and a row: 12 bytes.
+/// A test of a lookup item by its first 12 bytes: a word and a row.
 #[derive(Clone, Copy, PartialEq, Eq, Debug)]
 pub enum Probe {
-    /// The word is below a number.
+    /// The word is below this number.
     WordBelow(u64),
-    /// The word is at most a number.
+    /// The word is at most this number.
     WordAtMost(u64),
-    /// The row is below a number.
+    /// The row is below this number.
     RowBelow(u32),
 }
 
 impl Probe {
-    /// Whether an item passes.
+    /// Whether an item passes the test.
     #[tactic(auto, unfolding(crate::specs::Bisection::passes))]
     fn passes(&self, item: &[u8]) -> bool
         requires { 12 ≤ length item.now }
@@ -36,8 +37,9 @@ impl Probe {
     }
 }
 
-/// An index that bisects the table of `count` items of a size from offset `at` on. `UnexpectedEof` where the
-/// bytes end before the table does.
+/// An index that bisects the table of `count` items of `size` bytes each, at offset `at`: the item before it
+/// passes, and the item at it does not. The error is `UnexpectedEof` if the bytes end before the table does,
+/// or `Io(Input)` if the reader failed.
 pub fn bisecting_index<R: ReadAt>(
     reader: &mut R,
     at: u64,
@@ -50,9 +52,7 @@ pub fn bisecting_index<R: ReadAt>(
     ensures within { IfOk result (λ index. index ≤ count) }
     ensures inside { IfOk result (λ index. at + size * count < 2 ^ 64) }
     ensures refusals { IfErr result IsShardRefusal }
-    ensures cause { HasCause (R.faults reader.old) (R.faults reader.new) (IsErrOf result (StoreError.Io Place.Input)) }
-    ensures same { R.bytes reader.new ≡ R.bytes reader.old }
-    ensures tells { R.tells reader.new ≡ R.tells reader.old }
+    ensures frame { ReadFrom R.bytes R.tells R.faults R.lent reader.old reader.new (IsErrOf result (StoreError.Io Place.Input)) }
 {
     let end = reader_length(reader)?;
     match within(at, size, count, end) {
@@ -61,7 +61,7 @@ pub fn bisecting_index<R: ReadAt>(
     }
 }
 
-/// The same, where a reader that tells its bytes has the table.
+/// The steps of the bisection. The contract says what is found if the reader has the table.
 fn bisect<R: ReadAt>(
     reader: &mut R,
     at: u64,
@@ -75,9 +75,7 @@ fn bisect<R: ReadAt>(
     ensures fault { R.tells reader.old ≡ true → at + size * count ≤ length (R.bytes reader.old) → IfErr result (λ e. e ≡ StoreError.Io Place.Input) }
     ensures within { IfOk result (λ index. index ≤ count) }
     ensures refusals { IfErr result IsShardRefusal }
-    ensures cause { HasCause (R.faults reader.old) (R.faults reader.new) (IsErrOf result (StoreError.Io Place.Input)) }
-    ensures same { R.bytes reader.new ≡ R.bytes reader.old }
-    ensures tells { R.tells reader.new ≡ R.tells reader.old }
+    ensures frame { ReadFrom R.bytes R.tells R.faults R.lent reader.old reader.new (IsErrOf result (StoreError.Io Place.Input)) }
 {
     let mut low = 0;
     let mut high = count;
@@ -92,15 +90,13 @@ fn bisect<R: ReadAt>(
     Ok(low)
 }
 
-/// Whether the item at an offset passes. A reader that tells its bytes has the item.
+/// Reads the item at offset `at`, and tests it. The contract says the result if the reader has the item.
 fn passes_at<R: ReadAt>(reader: &mut R, at: u64, probe: Probe) -> Result<bool, StoreError>
     requires { at + 12 < 2 ^ 64 }
     ensures told { R.tells reader.old ≡ true → at + 12 ≤ length (R.bytes reader.old) → IfOk result (λ passed. passed ≡ passes probe (drop at (R.bytes reader.old))) }
     ensures fault { R.tells reader.old ≡ true → at + 12 ≤ length (R.bytes reader.old) → IfErr result (λ e. e ≡ StoreError.Io Place.Input) }
     ensures refusals { IfErr result IsShardRefusal }
-    ensures cause { HasCause (R.faults reader.old) (R.faults reader.new) (IsErrOf result (StoreError.Io Place.Input)) }
-    ensures same { R.bytes reader.new ≡ R.bytes reader.old }
-    ensures tells { R.tells reader.new ≡ R.tells reader.old }
+    ensures frame { ReadFrom R.bytes R.tells R.faults R.lent reader.old reader.new (IsErrOf result (StoreError.Io Place.Input)) }
 {
     let mut item = [0; 12];
     fill(reader, at, &mut item)?;

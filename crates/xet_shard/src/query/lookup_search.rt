@@ -1,13 +1,13 @@
-//! Searches in the lookup tables. A table that stands is bisected; one that was left out is made of the records.
+//! Searches in the lookup tables. A stored table is bisected; an omitted one is made from the records.
 
 ghost use Rattle.std.specs.List.{list_any};
 ghost use Rattle.std.specs.Prelude.{◌≡◌, ◌≢◌, ◌==◌, true, nat_le, nat_lt, IfErr, IsErrOf};
-ghost use Rattle.xet_io.specs.Faults.{HasCause};
 ghost use Rattle.xet_shard.specs.Bisection.{AnswersAt};
 ghost use Rattle.xet_shard_format.specs.Lookups.{flat_places};
 ghost use Rattle.xet_shard.specs.Queries.{chunk_place, chunk_table, file_items_from, file_table, has_head, last_of, xorb_table};
 ghost use Rattle.xet_codec.specs.Parsing.{GivesUnlessFault};
 ghost use Rattle.xet_shard_format.specs.Reading.{IsShardRefusal};
+ghost use Rattle.xet_io.specs.Frame.{ReadFrom};
 
 use crate::query::bisection::{Probe, bisecting_index};
 use crate::reader::byte_ranges::{bytes_at, fill};
@@ -20,8 +20,8 @@ use xet_io::ReadAt;
 use xet_shard_format::MDBShardFileFooter;
 use xet_shard_format::lookup::{ChunkPlace, Head};
 
-/// The items of the files' table among which are those of a word: at most eight, or all of a table that was
-/// left out.
+/// The items of the file lookup table from the index that bisects it by the word `first` on, at most eight;
+/// all items if the table is omitted.
 pub fn file_items<R: ReadAt>(
     alloc: Global,
     reader: &mut R,
@@ -30,9 +30,7 @@ pub fn file_items<R: ReadAt>(
 ) -> Result<Vec<Head>, StoreError>
     ensures exact { R.tells reader.old ≡ true → AnswersAt (λ i. nat_lt i.0 first) (file_table f.now (R.bytes reader.old)) (λ v. v.items) result (λ index. file_items_from f.now index (R.bytes reader.old)) }
     ensures refusals { IfErr result IsShardRefusal }
-    ensures cause { HasCause (R.faults reader.old) (R.faults reader.new) (IsErrOf result (StoreError.Io Place.Input)) }
-    ensures same { R.bytes reader.new ≡ R.bytes reader.old }
-    ensures tells { R.tells reader.new ≡ R.tells reader.old }
+    ensures frame { ReadFrom R.bytes R.tells R.faults R.lent reader.old reader.new (IsErrOf result (StoreError.Io Place.Input)) }
 {
     if f.file_lookup_num_entry == 0 {
         made_file_lookup(alloc, reader, f)
@@ -41,7 +39,8 @@ pub fn file_items<R: ReadAt>(
     }
 }
 
-/// Row and place of the last chunk of a word.
+/// The row and the index of the last chunk with the word `first`: the row of its xorb's header, and its index
+/// in the xorb. None if there is no such chunk.
 pub fn chunk_place<R: ReadAt>(
     alloc: Global,
     reader: &mut R,
@@ -50,9 +49,7 @@ pub fn chunk_place<R: ReadAt>(
 ) -> Result<Option<(u32, u32)>, StoreError>
     ensures exact { R.tells reader.old ≡ true → AnswersAt (λ i. nat_le i.0 first) (chunk_table f.now (R.bytes reader.old)) (λ place. place) result (λ index. chunk_place f.now first index (R.bytes reader.old)) }
     ensures refusals { IfErr result IsShardRefusal }
-    ensures cause { HasCause (R.faults reader.old) (R.faults reader.new) (IsErrOf result (StoreError.Io Place.Input)) }
-    ensures same { R.bytes reader.new ≡ R.bytes reader.old }
-    ensures tells { R.tells reader.new ≡ R.tells reader.old }
+    ensures frame { ReadFrom R.bytes R.tells R.faults R.lent reader.old reader.new (IsErrOf result (StoreError.Io Place.Input)) }
 {
     if f.chunk_lookup_num_entry == 0 {
         made_chunk_place(alloc, reader, f, first)
@@ -61,7 +58,7 @@ pub fn chunk_place<R: ReadAt>(
     }
 }
 
-/// Whether a xorb's head is in a row.
+/// Whether the header of a xorb is in row `row`.
 pub fn has_head<R: ReadAt>(
     alloc: Global,
     reader: &mut R,
@@ -70,9 +67,7 @@ pub fn has_head<R: ReadAt>(
 ) -> Result<bool, StoreError>
     ensures exact { R.tells reader.old ≡ true → AnswersAt (λ i. nat_lt i.1 row) (xorb_table f.now (R.bytes reader.old)) (λ there. there) result (λ index. has_head f.now row index (R.bytes reader.old)) }
     ensures refusals { IfErr result IsShardRefusal }
-    ensures cause { HasCause (R.faults reader.old) (R.faults reader.new) (IsErrOf result (StoreError.Io Place.Input)) }
-    ensures same { R.bytes reader.new ≡ R.bytes reader.old }
-    ensures tells { R.tells reader.new ≡ R.tells reader.old }
+    ensures frame { ReadFrom R.bytes R.tells R.faults R.lent reader.old reader.new (IsErrOf result (StoreError.Io Place.Input)) }
 {
     if f.xorb_lookup_num_entry == 0 {
         made_head(alloc, reader, f, row)
@@ -81,7 +76,7 @@ pub fn has_head<R: ReadAt>(
     }
 }
 
-/// The items of the files' table, where it stands.
+/// `file_items` for a stored table.
 fn kept_file_items<R: ReadAt>(
     alloc: Global,
     reader: &mut R,
@@ -91,9 +86,7 @@ fn kept_file_items<R: ReadAt>(
     requires { f.now.file_lookup_num_entry ≢ 0 }
     ensures exact { R.tells reader.old ≡ true → AnswersAt (λ i. nat_lt i.0 first) (file_table f.now (R.bytes reader.old)) (λ v. v.items) result (λ index. file_items_from f.now index (R.bytes reader.old)) }
     ensures refusals { IfErr result IsShardRefusal }
-    ensures cause { HasCause (R.faults reader.old) (R.faults reader.new) (IsErrOf result (StoreError.Io Place.Input)) }
-    ensures same { R.bytes reader.new ≡ R.bytes reader.old }
-    ensures tells { R.tells reader.new ≡ R.tells reader.old }
+    ensures frame { ReadFrom R.bytes R.tells R.faults R.lent reader.old reader.new (IsErrOf result (StoreError.Io Place.Input)) }
 {
     let at = f.file_lookup_offset;
     let count = f.file_lookup_num_entry;
@@ -104,7 +97,7 @@ fn kept_file_items<R: ReadAt>(
     Ok(items)
 }
 
-/// The last place of a word, where the chunks' table was left out.
+/// `chunk_place` for an omitted table.
 fn made_chunk_place<R: ReadAt>(
     alloc: Global,
     reader: &mut R,
@@ -114,15 +107,13 @@ fn made_chunk_place<R: ReadAt>(
     requires { f.now.chunk_lookup_num_entry ≡ 0 }
     ensures exact { R.tells reader.old ≡ true → GivesUnlessFault (λ place. place) result (chunk_place f.now first 0 (R.bytes reader.old)) }
     ensures refusals { IfErr result IsShardRefusal }
-    ensures cause { HasCause (R.faults reader.old) (R.faults reader.new) (IsErrOf result (StoreError.Io Place.Input)) }
-    ensures same { R.bytes reader.new ≡ R.bytes reader.old }
-    ensures tells { R.tells reader.new ≡ R.tells reader.old }
+    ensures frame { ReadFrom R.bytes R.tells R.faults R.lent reader.old reader.new (IsErrOf result (StoreError.Io Place.Input)) }
 {
     let items = made_chunk_lookup(alloc, reader, f)?;
     Ok(last_of(first, &items))
 }
 
-/// The last place of a word, where the chunks' table stands: that of the item before the index.
+/// `chunk_place` for a stored table: the item before the bisecting index, if it has the word.
 fn kept_chunk_place<R: ReadAt>(
     reader: &mut R,
     f: &MDBShardFileFooter,
@@ -131,9 +122,7 @@ fn kept_chunk_place<R: ReadAt>(
     requires { f.now.chunk_lookup_num_entry ≢ 0 }
     ensures exact { R.tells reader.old ≡ true → AnswersAt (λ i. nat_le i.0 first) (chunk_table f.now (R.bytes reader.old)) (λ place. place) result (λ index. chunk_place f.now first index (R.bytes reader.old)) }
     ensures refusals { IfErr result IsShardRefusal }
-    ensures cause { HasCause (R.faults reader.old) (R.faults reader.new) (IsErrOf result (StoreError.Io Place.Input)) }
-    ensures same { R.bytes reader.new ≡ R.bytes reader.old }
-    ensures tells { R.tells reader.new ≡ R.tells reader.old }
+    ensures frame { ReadFrom R.bytes R.tells R.faults R.lent reader.old reader.new (IsErrOf result (StoreError.Io Place.Input)) }
 {
     let at = f.chunk_lookup_offset;
     let count = f.chunk_lookup_num_entry;
@@ -149,7 +138,7 @@ fn kept_chunk_place<R: ReadAt>(
     Ok(Some((half_word(&item, 8), half_word(&item, 12))))
 }
 
-/// Whether a head is in a row, where the xorbs' table was left out.
+/// `has_head` for an omitted table.
 fn made_head<R: ReadAt>(
     alloc: Global,
     reader: &mut R,
@@ -159,15 +148,13 @@ fn made_head<R: ReadAt>(
     requires { f.now.xorb_lookup_num_entry ≡ 0 }
     ensures exact { R.tells reader.old ≡ true → GivesUnlessFault (λ there. there) result (has_head f.now row 0 (R.bytes reader.old)) }
     ensures refusals { IfErr result IsShardRefusal }
-    ensures cause { HasCause (R.faults reader.old) (R.faults reader.new) (IsErrOf result (StoreError.Io Place.Input)) }
-    ensures same { R.bytes reader.new ≡ R.bytes reader.old }
-    ensures tells { R.tells reader.new ≡ R.tells reader.old }
+    ensures frame { ReadFrom R.bytes R.tells R.faults R.lent reader.old reader.new (IsErrOf result (StoreError.Io Place.Input)) }
 {
     let items = made_xorb_lookup(alloc, reader, f)?;
     Ok(has_row(&items, row))
 }
 
-/// Whether a head is in a row, where the xorbs' table stands: whether the item at the index tells the row.
+/// `has_head` for a stored table: whether the item at the bisecting index has the row.
 fn kept_head<R: ReadAt>(
     reader: &mut R,
     f: &MDBShardFileFooter,
@@ -176,9 +163,7 @@ fn kept_head<R: ReadAt>(
     requires { f.now.xorb_lookup_num_entry ≢ 0 }
     ensures exact { R.tells reader.old ≡ true → AnswersAt (λ i. nat_lt i.1 row) (xorb_table f.now (R.bytes reader.old)) (λ there. there) result (λ index. has_head f.now row index (R.bytes reader.old)) }
     ensures refusals { IfErr result IsShardRefusal }
-    ensures cause { HasCause (R.faults reader.old) (R.faults reader.new) (IsErrOf result (StoreError.Io Place.Input)) }
-    ensures same { R.bytes reader.new ≡ R.bytes reader.old }
-    ensures tells { R.tells reader.new ≡ R.tells reader.old }
+    ensures frame { ReadFrom R.bytes R.tells R.faults R.lent reader.old reader.new (IsErrOf result (StoreError.Io Place.Input)) }
 {
     let at = f.xorb_lookup_offset;
     let count = f.xorb_lookup_num_entry;
@@ -191,14 +176,14 @@ fn kept_head<R: ReadAt>(
     Ok(half_word(&item, 8) == row)
 }
 
-/// Whether an item of the xorbs' table tells a row.
+/// Whether an item of the xorb lookup table has this row.
 fn has_row(items: &[Head], row: u32) -> bool
     ensures { result ≡ list_any (λ i. i.1 == row) items.now }
 {
     items.iter().any(|item| item.1 == row)
 }
 
-/// Row and place of the last item of a word.
+/// The row and the index of the last item with this word.
 fn last_of(first: u64, items: &[ChunkPlace]) -> Option<(u32, u32)>
     ensures { result ≡ last_of first (flat_places items.now) }
 {

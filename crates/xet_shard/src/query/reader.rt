@@ -1,12 +1,12 @@
-//! Questions to a shard that is read from any reader: the file of a hash, and the run of a query.
+//! Queries to a shard behind a reader: the file of a hash, and the run of a query.
 
 ghost use Rattle.std.specs.Prelude.{◌≡◌, ◌==◌, ◌∷◌, [], true, IfErr, IsErrOf, filter, length, IfOk, nat_le, nat_lt};
-ghost use Rattle.xet_io.specs.Faults.{HasCause};
 ghost use Rattle.xet_shard.specs.Bisection.{AnswersAt};
 ghost use Rattle.xet_shard.specs.Queries.{IsFileRefusal, file_in, first_file, found_file, found_run, rows_of, run_in, run_of_word, told_run, chunk_table, file_table, query_word, xorb_table};
 ghost use Rattle.xet_codec.specs.Parsing.{GivesUnlessFault};
 ghost use Rattle.xet_shard_format.specs.Reading.{IsShardRefusal};
 ghost use Rattle.xet_shard_format.specs.Records.{first_word};
+ghost use Rattle.xet_io.specs.Frame.{ReadFrom};
 
 use crate::info::MDBShardInfo;
 use crate::query::file_record::file_in_row;
@@ -21,10 +21,10 @@ use xet_shard_format::lookup::Head;
 use xet_shard_format::{FileDataSequenceEntry, MDBFileInfo, MDBShardFileFooter};
 
 impl MDBShardInfo {
-    /// The file of a hash, if there is one. The files' lookup table is bisected by the hash's first word, or
-    /// all files are read where it was left out, and then the files of that word are read. Where eight or
-    /// more share it, the call fails with `StoreError::TruncatedHashCollision`. Bytes that are malformed are
-    /// refused by the first check that fails. A failing reader is `Io(Input)`.
+    /// The file record with a hash, or none if the shard has none. The file lookup table is bisected by the
+    /// first word of the hash; if it is omitted, all files are read. Then the files with this word are read.
+    /// If eight or more files share the word, the error is `TruncatedHashCollision`. If bytes are malformed,
+    /// the error is that of the first check that fails. It is `Io(Input)` if the reader failed.
     pub fn get_file_reconstruction_info<R: ReadAt>(
         &self,
         alloc: Global,
@@ -33,9 +33,7 @@ impl MDBShardInfo {
     ) -> Result<Option<MDBFileInfo>, StoreError>
         ensures exact { R.tells reader.old ≡ true → AnswersAt (λ i. nat_lt i.0 (first_word hash.now)) (file_table self.now.metadata (R.bytes reader.old)) (λ file. file) result (λ index. found_file self.now.metadata hash.now index (R.bytes reader.old)) }
         ensures refusals { IfErr result IsFileRefusal }
-        ensures cause { HasCause (R.faults reader.old) (R.faults reader.new) (IsErrOf result (StoreError.Io Place.Input)) }
-        ensures same { R.bytes reader.new ≡ R.bytes reader.old }
-        ensures tells { R.tells reader.new ≡ R.tells reader.old }
+        ensures frame { ReadFrom R.bytes R.tells R.faults R.lent reader.old reader.new (IsErrOf result (StoreError.Io Place.Input)) }
     {
         let items = file_items(alloc, reader, &self.metadata, hash.word(0))?;
         if count_of(hash.word(0), &items) >= 8 {
@@ -44,11 +42,13 @@ impl MDBShardInfo {
         first_file(alloc, reader, &self.metadata, hash, &items)
     }
 
-    /// How many hashes at the front of the query are those of chunks that stand in a row in a xorb, and the
-    /// segment of these chunks. The row begins at the last place to which the look-up of chunks leads from
-    /// the first hash's first word. Where the shard is keyed, hashes are compared under its key. The chunks'
-    /// lookup table is bisected, or all xorbs are read where it was left out, and then that xorb is read.
-    /// Malformed bytes are refused by the first check that fails. A failing reader is `Io(Input)`.
+    /// The run of a query: how many of its first hashes are those of consecutive chunks of a xorb, and the
+    /// segment of these chunks. The run starts at the last item of the chunk lookup table with the first word
+    /// of the first hash. None if there is no such item, if it leads to no chunk with the first hash, or if
+    /// the query is empty. If the shard is keyed, hashes are compared under its key.
+    /// The table is bisected; if it is omitted, all xorbs are read. Then the rows of the run are read. If
+    /// bytes are malformed, the error is that of the first check that fails. It is `Io(Input)` if the reader
+    /// failed.
     pub fn chunk_hash_dedup_query<R: ReadAt>(
         &self,
         alloc: Global,
@@ -57,9 +57,7 @@ impl MDBShardInfo {
     ) -> Result<Option<(usize, FileDataSequenceEntry)>, StoreError>
         ensures exact { R.tells reader.old ≡ true → AnswersAt (λ i. nat_le i.0 (query_word self.now.metadata query.now)) (chunk_table self.now.metadata (R.bytes reader.old)) (λ run. run) result (λ index. found_run self.now.metadata query.now index (R.bytes reader.old)) }
         ensures refusals { IfErr result IsShardRefusal }
-        ensures cause { HasCause (R.faults reader.old) (R.faults reader.new) (IsErrOf result (StoreError.Io Place.Input)) }
-        ensures same { R.bytes reader.new ≡ R.bytes reader.old }
-        ensures tells { R.tells reader.new ≡ R.tells reader.old }
+        ensures frame { ReadFrom R.bytes R.tells R.faults R.lent reader.old reader.new (IsErrOf result (StoreError.Io Place.Input)) }
     {
         match query.first() {
             Some(first) => {
@@ -71,10 +69,11 @@ impl MDBShardInfo {
         }
     }
 
-    /// The same of a place that is told: chunk `place` of the xorb whose head is in `row`, counted from the
-    /// front of the section. None where no head is in the row, or the xorb has no such chunk. The xorbs'
-    /// lookup table is bisected by the row, or all xorbs are read where it was left out, and then that xorb
-    /// is read.
+    /// The run of a query that starts at a given chunk: index `place` of the xorb whose header is in row
+    /// `row`, counted from the start of the section. None if no header is in the row, if the xorb has no such
+    /// chunk, if the chunk has another hash, or if the query is empty.
+    /// The xorb lookup table is bisected by the row; if it is omitted, all xorbs are read. Then the rows of
+    /// the run are read. Errors are those of `chunk_hash_dedup_query`.
     pub fn chunk_hash_dedup_query_direct<R: ReadAt>(
         &self,
         alloc: Global,
@@ -85,9 +84,7 @@ impl MDBShardInfo {
     ) -> Result<Option<(usize, FileDataSequenceEntry)>, StoreError>
         ensures exact { R.tells reader.old ≡ true → AnswersAt (λ i. nat_lt i.1 row) (xorb_table self.now.metadata (R.bytes reader.old)) (λ run. run) result (λ index. told_run self.now.metadata query.now row place index (R.bytes reader.old)) }
         ensures refusals { IfErr result IsShardRefusal }
-        ensures cause { HasCause (R.faults reader.old) (R.faults reader.new) (IsErrOf result (StoreError.Io Place.Input)) }
-        ensures same { R.bytes reader.new ≡ R.bytes reader.old }
-        ensures tells { R.tells reader.new ≡ R.tells reader.old }
+        ensures frame { ReadFrom R.bytes R.tells R.faults R.lent reader.old reader.new (IsErrOf result (StoreError.Io Place.Input)) }
     {
         if query.is_empty() {
             return Ok(None);
@@ -100,14 +97,14 @@ impl MDBShardInfo {
     }
 }
 
-/// How many items of the look-up have a word.
+/// The number of items with this word.
 fn count_of(word: u64, items: &[Head]) -> usize
     ensures { result ≡ length (filter (λ i. i.0 == word) items.now) }
 {
     items.iter().filter(|item| item.0 == word).count()
 }
 
-/// The first of the files at the rows of the items of a hash's first word that has the hash.
+/// The first file with this hash, of those in the rows of the items with the hash's first word.
 fn first_file<R: ReadAt>(
     alloc: Global,
     reader: &mut R,
@@ -117,9 +114,7 @@ fn first_file<R: ReadAt>(
 ) -> Result<Option<MDBFileInfo>, StoreError>
     ensures exact { R.tells reader.old ≡ true → GivesUnlessFault (λ x. x) result (first_file f.now hash.now (rows_of (first_word hash.now) items.now) (R.bytes reader.old)) }
     ensures refusals { IfErr result IsShardRefusal }
-    ensures cause { HasCause (R.faults reader.old) (R.faults reader.new) (IsErrOf result (StoreError.Io Place.Input)) }
-    ensures same { R.bytes reader.new ≡ R.bytes reader.old }
-    ensures tells { R.tells reader.new ≡ R.tells reader.old }
+    ensures frame { ReadFrom R.bytes R.tells R.faults R.lent reader.old reader.new (IsErrOf result (StoreError.Io Place.Input)) }
 {
     for item in items {
         match file_of(alloc, reader, f, hash, *item)? {
@@ -130,7 +125,7 @@ fn first_file<R: ReadAt>(
     Ok(None)
 }
 
-/// The file at the row of an item of the look-up, if it has a hash.
+/// The file in the row of an item, if it has this hash.
 fn file_of<R: ReadAt>(
     alloc: Global,
     reader: &mut R,
@@ -140,9 +135,7 @@ fn file_of<R: ReadAt>(
 ) -> Result<Option<MDBFileInfo>, StoreError>
     ensures exact { R.tells reader.old ≡ true → GivesUnlessFault (λ x. x) result (first_file f.now hash.now (rows_of (first_word hash.now) (item ∷ [])) (R.bytes reader.old)) }
     ensures refusals { IfErr result IsShardRefusal }
-    ensures cause { HasCause (R.faults reader.old) (R.faults reader.new) (IsErrOf result (StoreError.Io Place.Input)) }
-    ensures same { R.bytes reader.new ≡ R.bytes reader.old }
-    ensures tells { R.tells reader.new ≡ R.tells reader.old }
+    ensures frame { ReadFrom R.bytes R.tells R.faults R.lent reader.old reader.new (IsErrOf result (StoreError.Io Place.Input)) }
 {
     if item.0 != hash.word(0) {
         return Ok(None);
@@ -155,7 +148,7 @@ fn file_of<R: ReadAt>(
     }
 }
 
-/// The run of a query at the last place of a word.
+/// The run of a query at the last chunk with the first word `word`.
 fn run_of_word<R: ReadAt>(
     alloc: Global,
     reader: &mut R,
@@ -165,9 +158,7 @@ fn run_of_word<R: ReadAt>(
 ) -> Result<Option<(usize, FileDataSequenceEntry)>, StoreError>
     ensures exact { R.tells reader.old ≡ true → AnswersAt (λ i. nat_le i.0 word) (chunk_table info.now.metadata (R.bytes reader.old)) (λ x. x) result (λ index. run_of_word info.now.metadata query.now word index (R.bytes reader.old)) }
     ensures refusals { IfErr result IsShardRefusal }
-    ensures cause { HasCause (R.faults reader.old) (R.faults reader.new) (IsErrOf result (StoreError.Io Place.Input)) }
-    ensures same { R.bytes reader.new ≡ R.bytes reader.old }
-    ensures tells { R.tells reader.new ≡ R.tells reader.old }
+    ensures frame { ReadFrom R.bytes R.tells R.faults R.lent reader.old reader.new (IsErrOf result (StoreError.Io Place.Input)) }
 {
     match chunk_place(alloc, reader, &info.metadata, word)? {
         Some((row, place)) => run_in(alloc, reader, &info.metadata, query, row, place),
@@ -175,7 +166,7 @@ fn run_of_word<R: ReadAt>(
     }
 }
 
-/// The file whose head is in a row.
+/// The file whose header is in row `row`.
 fn file_in<R: ReadAt>(
     alloc: Global,
     reader: &mut R,
@@ -184,9 +175,7 @@ fn file_in<R: ReadAt>(
 ) -> Result<MDBFileInfo, StoreError>
     ensures exact { R.tells reader.old ≡ true → GivesUnlessFault (λ x. x) result (file_in f.now row (R.bytes reader.old)) }
     ensures refusals { IfErr result IsShardRefusal }
-    ensures cause { HasCause (R.faults reader.old) (R.faults reader.new) (IsErrOf result (StoreError.Io Place.Input)) }
-    ensures same { R.bytes reader.new ≡ R.bytes reader.old }
-    ensures tells { R.tells reader.new ≡ R.tells reader.old }
+    ensures frame { ReadFrom R.bytes R.tells R.faults R.lent reader.old reader.new (IsErrOf result (StoreError.Io Place.Input)) }
 {
     let count = row_count(f.file_info_offset, f.xorb_info_offset)?;
     file_in_row(alloc, reader, f.file_info_offset, count, row)

@@ -1,4 +1,4 @@
-//! Chunks that stand in a xorb in the order of a query.
+//! Runs: consecutive chunks of a xorb whose hashes are the first of a query.
 
 ghost use Rattle.std.specs.Prelude.{◌≡◌, ◌<◌, ◌≤◌, ◌^◌, length, map, take};
 ghost use Rattle.xet_shard.specs.Queries.{kept_hash};
@@ -8,7 +8,7 @@ ghost use Rattle.xet_shard.specs.Runs.{agreeing, digests, run_at};
 use xet_hash::{HMACKey, MerkleHash};
 use xet_shard_format::{FileDataSequenceEntry, MDBXorbInfo, XorbChunkSequenceEntry};
 
-/// A chunk's hash as a shard keeps it: under its key, where that is not zero.
+/// A chunk hash as a shard stores it: keyed, if the shard's key is not zero.
 #[tactic(auto, unfolding(crate::specs::Queries::kept_hash))]
 pub(crate) fn kept_hash(key: &HMACKey, hash: &MerkleHash) -> MerkleHash
     ensures { result ≡ kept_hash key.now hash.now }
@@ -20,9 +20,9 @@ pub(crate) fn kept_hash(key: &HMACKey, hash: &MerkleHash) -> MerkleHash
     }
 }
 
-/// The run of a query at a place of a xorb, whose chunks' hashes are kept under a key: how many hashes at
-/// the front of the query are those of the chunks from there on, and the segment of these chunks. None
-/// where the first hash differs. As many hashes are kept under the key as agree, and one more.
+/// The run of a query at index `place` of a xorb: how many of its first hashes are those of the chunks from
+/// there on, and the segment of these chunks. None if the first hash differs. The xorb's chunk hashes are
+/// stored under `key`. Only the hashes up to the first that differs are keyed.
 pub(crate) fn run_at(
     key: &HMACKey,
     query: &[MerkleHash],
@@ -46,7 +46,8 @@ pub(crate) fn run_at(
     ))
 }
 
-/// How many hashes at the front of the query are those of the first chunks, and the bytes of these.
+/// How many first hashes of the query are those of the first chunks, and the uncompressed bytes of these
+/// chunks.
 fn run_length(
     key: &HMACKey,
     query: &[MerkleHash],

@@ -1,12 +1,12 @@
-//! The run of a query at a place of a xorb, of the rows of a reader that it touches.
+//! The run of a query in a xorb behind a reader, from the rows that it needs.
 
 ghost use Rattle.std.specs.Prelude.{◌≡◌, ◌≤◌, ◌<◌, ◌+◌, ◌-◌, ◌*◌, ◌^◌, true, drop, length, map, IfErr, IfOk, IsErrOf};
-ghost use Rattle.xet_io.specs.Faults.{HasCause};
 ghost use Rattle.xet_shard.specs.Queries.{kept_hash, read_in_row, run_in};
 ghost use Rattle.xet_codec.specs.Parsing.{GivesUnlessFault};
 ghost use Rattle.xet_shard_format.specs.Reading.{IsShardRefusal};
 ghost use Rattle.xet_shard_format.specs.Rows.{row_of, rows_in};
 ghost use Rattle.xet_shard.specs.Runs.{agreed, chunk_end, run_after, run_of};
+ghost use Rattle.xet_io.specs.Frame.{ReadFrom};
 
 use crate::query::run::kept_hash;
 use crate::reader::byte_ranges::{bytes_at, row_there, rows_from};
@@ -18,11 +18,12 @@ use xet_shard_format::record_decoding::chunk_in;
 use xet_shard_format::row::{Row, row_of};
 use xet_shard_format::{FileDataSequenceEntry, MDBShardFileFooter};
 
-/// At most so many rows are read at once: 4 KiB.
+/// The maximum number of rows in one read: 4,080 bytes.
 const AT_ONCE: u32 = 85;
 
-/// The run of a query at a place of the xorb whose head is in a row. Read are the head, and the rows from
-/// the place on up to one whose hash differs.
+/// The run of a query at index `place` of the xorb whose header is in row `row`. The result depends on the
+/// header, and on the chunk rows from `place` on up to the first whose hash differs. Rows are read in blocks,
+/// so rows after that one may be read too.
 pub fn run_in<R: ReadAt>(
     alloc: Global,
     reader: &mut R,
@@ -33,9 +34,7 @@ pub fn run_in<R: ReadAt>(
 ) -> Result<Option<(usize, FileDataSequenceEntry)>, StoreError>
     ensures exact { R.tells reader.old ≡ true → GivesUnlessFault (λ x. x) result (run_in f.now query.now row place (R.bytes reader.old)) }
     ensures refusals { IfErr result IsShardRefusal }
-    ensures cause { HasCause (R.faults reader.old) (R.faults reader.new) (IsErrOf result (StoreError.Io Place.Input)) }
-    ensures same { R.bytes reader.new ≡ R.bytes reader.old }
-    ensures tells { R.tells reader.new ≡ R.tells reader.old }
+    ensures frame { ReadFrom R.bytes R.tells R.faults R.lent reader.old reader.new (IsErrOf result (StoreError.Io Place.Input)) }
 {
     let at = f.xorb_info_offset;
     let count = row_count(at, f.file_lookup_offset)?;
@@ -45,8 +44,8 @@ pub fn run_in<R: ReadAt>(
     run_from(alloc, reader, key, query, at + 48 * row, left, place)
 }
 
-/// The same of the xorb whose head is the first of so many rows from place `at` on. A reader that tells its
-/// bytes has as many.
+/// `run_in` for the xorb whose header is the first of `count` rows at offset `at`. The contract says the
+/// result if the reader has these rows.
 fn run_from<R: ReadAt>(
     alloc: Global,
     reader: &mut R,
@@ -61,9 +60,7 @@ fn run_from<R: ReadAt>(
     requires inside { at + 48 * count < 2 ^ 64 }
     ensures exact { R.tells reader.old ≡ true → at + 48 * count ≤ length (R.bytes reader.old) → GivesUnlessFault (λ x. x) result (read_in_row (run_after (map (kept_hash key.now) query.now) place) at count 0 (R.bytes reader.old)) }
     ensures refusals { IfErr result IsShardRefusal }
-    ensures cause { HasCause (R.faults reader.old) (R.faults reader.new) (IsErrOf result (StoreError.Io Place.Input)) }
-    ensures same { R.bytes reader.new ≡ R.bytes reader.old }
-    ensures tells { R.tells reader.new ≡ R.tells reader.old }
+    ensures frame { ReadFrom R.bytes R.tells R.faults R.lent reader.old reader.new (IsErrOf result (StoreError.Io Place.Input)) }
 {
     let head = row_there(reader, at)?;
     if u64::from(head.b) > count - 1 {
@@ -79,7 +76,7 @@ fn run_from<R: ReadAt>(
     run_of(alloc, reader, key, query, &head, first, place)
 }
 
-/// The same of the xorb of a head, whose rows from the place on stand from place `at` on.
+/// `run_in` for the xorb with this header, whose row of chunk `place` is at offset `at`.
 fn run_of<R: ReadAt>(
     alloc: Global,
     reader: &mut R,
@@ -93,9 +90,7 @@ fn run_of<R: ReadAt>(
     requires inside { at + 48 * (head.now.b - place) < 2 ^ 64 }
     ensures exact { R.tells reader.old ≡ true → at + 48 * (head.now.b - place) ≤ length (R.bytes reader.old) → GivesUnlessFault (λ x. x) result (run_of (map (kept_hash key.now) query.now) place head.now (rows_in (head.now.b - place) (drop at (R.bytes reader.old)))) }
     ensures refusals { IfErr result IsShardRefusal }
-    ensures cause { HasCause (R.faults reader.old) (R.faults reader.new) (IsErrOf result (StoreError.Io Place.Input)) }
-    ensures same { R.bytes reader.new ≡ R.bytes reader.old }
-    ensures tells { R.tells reader.new ≡ R.tells reader.old }
+    ensures frame { ReadFrom R.bytes R.tells R.faults R.lent reader.old reader.new (IsErrOf result (StoreError.Io Place.Input)) }
 {
     let Some((first, rest)) = query.split_first() else {
         return Ok(None);
@@ -112,9 +107,9 @@ fn run_of<R: ReadAt>(
     Ok(Some((count as usize, segment)))
 }
 
-/// How many hashes at the front of the query are those of the chunks in so many rows from place `at` on, the
-/// first of which begins at `from`, and where the last of these chunks ends. Rows are read until one
-/// differs.
+/// How many first hashes of the query are those of the chunks in the `count` rows at offset `at`, and the
+/// uncompressed offset at which the last of these chunks ends. The first chunk starts at `from`; `end` is the
+/// end of the xorb. Blocks of rows are read until a hash differs.
 fn agreed<R: ReadAt>(
     alloc: Global,
     reader: &mut R,
@@ -130,9 +125,7 @@ fn agreed<R: ReadAt>(
     ensures within { IfOk result (λ n. n.0 ≤ count) }
     ensures behind { IfOk result (λ n. from ≤ n.1) }
     ensures refusals { IfErr result IsShardRefusal }
-    ensures cause { HasCause (R.faults reader.old) (R.faults reader.new) (IsErrOf result (StoreError.Io Place.Input)) }
-    ensures same { R.bytes reader.new ≡ R.bytes reader.old }
-    ensures tells { R.tells reader.new ≡ R.tells reader.old }
+    ensures frame { ReadFrom R.bytes R.tells R.faults R.lent reader.old reader.new (IsErrOf result (StoreError.Io Place.Input)) }
 {
     let mut done: u32 = 0;
     let mut to = from;
@@ -167,7 +160,7 @@ fn at_once(rows: u32, hashes: usize) -> u32
     }
 }
 
-/// The same as `agreed`, of rows that are all read.
+/// `agreed` for rows that are read at once.
 fn agreed_block<R: ReadAt>(
     alloc: Global,
     reader: &mut R,
@@ -183,15 +176,13 @@ fn agreed_block<R: ReadAt>(
     ensures within { IfOk result (λ n. n.0 ≤ count) }
     ensures behind { IfOk result (λ n. from ≤ n.1) }
     ensures refusals { IfErr result IsShardRefusal }
-    ensures cause { HasCause (R.faults reader.old) (R.faults reader.new) (IsErrOf result (StoreError.Io Place.Input)) }
-    ensures same { R.bytes reader.new ≡ R.bytes reader.old }
-    ensures tells { R.tells reader.new ≡ R.tells reader.old }
+    ensures frame { ReadFrom R.bytes R.tells R.faults R.lent reader.old reader.new (IsErrOf result (StoreError.Io Place.Input)) }
 {
     let bytes = bytes_at(alloc, reader, at, 48 * u64::from(count))?;
     agreed_rows(key, query, &bytes, count, end, from)
 }
 
-/// The same of the first rows of bytes.
+/// `agreed` for the first rows of `bytes`.
 fn agreed_rows(
     key: &HMACKey,
     query: &[MerkleHash],
@@ -219,7 +210,7 @@ fn agreed_rows(
     Ok((done, to))
 }
 
-/// Where the chunk in a row ends, which begins at a place.
+/// Where the chunk in a row ends. It must start at `at`, and not pass `end`.
 #[tactic(auto, unfolding(crate::specs::Runs::chunk_end, xet_shard_format::specs::Reading::chunk_in))]
 fn chunk_end(row: &Row, at: u32, end: u32) -> Result<u32, StoreError>
     ensures exact { result ≡ chunk_end row.now at end }

@@ -1,12 +1,12 @@
-//! Pieces of a reader's bytes, each read for itself.
+//! Byte ranges and rows of a reader.
 
 ghost use Rattle.std.specs.Prelude.{◌≡◌, ◌≤◌, ◌<◌, ◌+◌, ◌-◌, ◌*◌, ◌^◌, true, drop, take, length, IfErr, IfNone, IfOk, IfSome, IsErrOf, IsNone, OnOk};
-ghost use Rattle.xet_io.specs.Faults.{HasCause};
-ghost use Rattle.xet_shard.specs.ReaderBytes.{piece_at, rows_at};
+ghost use Rattle.xet_shard.specs.internal.ReaderBytes.{piece_at, rows_at};
 ghost use Rattle.xet_shard.specs.Queries.{rows_from};
 ghost use Rattle.xet_codec.specs.Parsing.{GivesUnlessFault, IsInputError};
 ghost use Rattle.xet_shard_format.specs.Reading.{IsShardRefusal};
 ghost use Rattle.xet_shard_format.specs.Rows.{row_of};
+ghost use Rattle.xet_io.specs.Frame.{ReadFrom};
 
 use std::alloc::Global;
 use xet_codec::{read_exact, reader_length};
@@ -14,7 +14,7 @@ use xet_hash::{Place, Reason, StoreError};
 use xet_io::ReadAt;
 use xet_shard_format::row::{Row, row_of};
 
-/// Fills `buf` with the bytes from place `at` on. A reader that tells its bytes has as many.
+/// Fills `buf` with the bytes at offset `at`. The contract says the result if the reader has these bytes.
 pub fn fill<R: ReadAt>(reader: &mut R, at: u64, buf: &mut [u8]) -> Result<(), StoreError>
     requires { at + length buf.old < 2 ^ 64 }
     ensures told { R.tells reader.old ≡ true → at + length buf.old ≤ length (R.bytes reader.old) → OnOk result (buf.new ≡ take (length buf.old) (drop at (R.bytes reader.old))) }
@@ -22,9 +22,7 @@ pub fn fill<R: ReadAt>(reader: &mut R, at: u64, buf: &mut [u8]) -> Result<(), St
     ensures len { length buf.new ≡ length buf.old }
     ensures refusals { IfErr result IsShardRefusal }
     ensures input { IfErr result IsInputError }
-    ensures cause { HasCause (R.faults reader.old) (R.faults reader.new) (IsErrOf result (StoreError.Io Place.Input)) }
-    ensures same { R.bytes reader.new ≡ R.bytes reader.old }
-    ensures tells { R.tells reader.new ≡ R.tells reader.old }
+    ensures frame { ReadFrom R.bytes R.tells R.faults R.lent reader.old reader.new (IsErrOf result (StoreError.Io Place.Input)) }
 {
     match read_exact(reader, at, buf) {
         Ok(()) => Ok(()),
@@ -32,7 +30,8 @@ pub fn fill<R: ReadAt>(reader: &mut R, at: u64, buf: &mut [u8]) -> Result<(), St
     }
 }
 
-/// The bytes of so many items of a size from place `at` on. `UnexpectedEof` where they end before.
+/// The bytes of `count` items of `size` bytes each, at offset `at`. `UnexpectedEof` if the reader ends before
+/// them.
 pub fn piece<R: ReadAt>(
     alloc: Global,
     reader: &mut R,
@@ -43,9 +42,7 @@ pub fn piece<R: ReadAt>(
     ensures told { R.tells reader.old ≡ true → GivesUnlessFault (λ v. v.items) result (piece_at at (size * count) (R.bytes reader.old)) }
     ensures long { IfOk result (λ v. length v.items ≡ size * count) }
     ensures refusals { IfErr result IsShardRefusal }
-    ensures cause { HasCause (R.faults reader.old) (R.faults reader.new) (IsErrOf result (StoreError.Io Place.Input)) }
-    ensures same { R.bytes reader.new ≡ R.bytes reader.old }
-    ensures tells { R.tells reader.new ≡ R.tells reader.old }
+    ensures frame { ReadFrom R.bytes R.tells R.faults R.lent reader.old reader.new (IsErrOf result (StoreError.Io Place.Input)) }
 {
     let end = reader_length(reader)?;
     match within(at, size, count, end) {
@@ -54,7 +51,7 @@ pub fn piece<R: ReadAt>(
     }
 }
 
-/// The bytes of so many items of a size, where they do not pass an end.
+/// The length in bytes of `count` items of `size` bytes each, at offset `at`; none if they pass `end`.
 pub fn within(at: u64, size: u64, count: u64, end: u64) -> Option<u64>
     ensures some { IfSome result (λ len. (len ≡ size * count) × (at + size * count ≤ end)) }
     ensures none { IsNone result → end < at + size * count }
@@ -67,7 +64,7 @@ pub fn within(at: u64, size: u64, count: u64, end: u64) -> Option<u64>
     Some(len)
 }
 
-/// So many bytes from place `at` on. A reader that tells its bytes has as many.
+/// The `len` bytes at offset `at`. The contract says the result if the reader has these bytes.
 pub fn bytes_at<R: ReadAt>(
     alloc: Global,
     reader: &mut R,
@@ -78,16 +75,15 @@ pub fn bytes_at<R: ReadAt>(
     ensures told { R.tells reader.old ≡ true → at + len ≤ length (R.bytes reader.old) → GivesUnlessFault (λ v. v.items) result (piece_at at len (R.bytes reader.old)) }
     ensures long { IfOk result (λ v. length v.items ≡ len) }
     ensures refusals { IfErr result IsShardRefusal }
-    ensures cause { HasCause (R.faults reader.old) (R.faults reader.new) (IsErrOf result (StoreError.Io Place.Input)) }
-    ensures same { R.bytes reader.new ≡ R.bytes reader.old }
-    ensures tells { R.tells reader.new ≡ R.tells reader.old }
+    ensures frame { ReadFrom R.bytes R.tells R.faults R.lent reader.old reader.new (IsErrOf result (StoreError.Io Place.Input)) }
 {
     let mut bytes = vec![in alloc; 0; len as usize]?;
     fill(reader, at, &mut bytes)?;
     Ok(bytes)
 }
 
-/// The bytes of the rows of a section of so many rows at a place.
+/// The bytes of the section of `count` rows at offset `at`. `MalformedData(SectionPlace)` if these are 2^32
+/// rows or more, `UnexpectedEof` if the reader ends before them.
 pub fn rows_at<R: ReadAt>(
     alloc: Global,
     reader: &mut R,
@@ -98,9 +94,7 @@ pub fn rows_at<R: ReadAt>(
     ensures few { IfOk result (λ v. count < 2 ^ 32) }
     ensures long { IfOk result (λ v. length v.items ≡ 48 * count) }
     ensures refusals { IfErr result IsShardRefusal }
-    ensures cause { HasCause (R.faults reader.old) (R.faults reader.new) (IsErrOf result (StoreError.Io Place.Input)) }
-    ensures same { R.bytes reader.new ≡ R.bytes reader.old }
-    ensures tells { R.tells reader.new ≡ R.tells reader.old }
+    ensures frame { ReadFrom R.bytes R.tells R.faults R.lent reader.old reader.new (IsErrOf result (StoreError.Io Place.Input)) }
 {
     if count >= 1 << 32 {
         return Err(StoreError::MalformedData(Reason::SectionPlace));
@@ -108,7 +102,9 @@ pub fn rows_at<R: ReadAt>(
     piece(alloc, reader, at, 48, count)
 }
 
-/// How many rows there are from a row on in the section of so many rows from place `at` on.
+/// The number of rows from row `row` on, in the section of `count` rows at offset `at`.
+/// `MalformedData(SectionPlace)` if the section has 2^32 rows or more, or has no such row; `UnexpectedEof` if
+/// the reader ends before it.
 pub fn rows_from<R: ReadAt>(
     reader: &mut R,
     at: u64,
@@ -122,9 +118,7 @@ pub fn rows_from<R: ReadAt>(
     ensures inside { OnOk result (at + 48 * count < 2 ^ 64) }
     ensures reached { R.tells reader.old ≡ true → OnOk result (at + 48 * count ≤ length (R.bytes reader.old)) }
     ensures refusals { IfErr result IsShardRefusal }
-    ensures cause { HasCause (R.faults reader.old) (R.faults reader.new) (IsErrOf result (StoreError.Io Place.Input)) }
-    ensures same { R.bytes reader.new ≡ R.bytes reader.old }
-    ensures tells { R.tells reader.new ≡ R.tells reader.old }
+    ensures frame { ReadFrom R.bytes R.tells R.faults R.lent reader.old reader.new (IsErrOf result (StoreError.Io Place.Input)) }
 {
     if count >= 1 << 32 || row >= count {
         return Err(StoreError::MalformedData(Reason::SectionPlace));
@@ -136,15 +130,13 @@ pub fn rows_from<R: ReadAt>(
     }
 }
 
-/// The row at place `at`. A reader that tells its bytes has it.
+/// The row at offset `at`. The contract says the result if the reader has it.
 pub fn row_there<R: ReadAt>(reader: &mut R, at: u64) -> Result<Row, StoreError>
     requires { at + 48 < 2 ^ 64 }
     ensures told { R.tells reader.old ≡ true → at + 48 ≤ length (R.bytes reader.old) → IfOk result (λ r. r ≡ row_of (drop at (R.bytes reader.old))) }
     ensures fault { R.tells reader.old ≡ true → at + 48 ≤ length (R.bytes reader.old) → IfErr result (λ e. e ≡ StoreError.Io Place.Input) }
     ensures refusals { IfErr result IsShardRefusal }
-    ensures cause { HasCause (R.faults reader.old) (R.faults reader.new) (IsErrOf result (StoreError.Io Place.Input)) }
-    ensures same { R.bytes reader.new ≡ R.bytes reader.old }
-    ensures tells { R.tells reader.new ≡ R.tells reader.old }
+    ensures frame { ReadFrom R.bytes R.tells R.faults R.lent reader.old reader.new (IsErrOf result (StoreError.Io Place.Input)) }
 {
     let mut bytes = [0; 48];
     fill(reader, at, &mut bytes)?;

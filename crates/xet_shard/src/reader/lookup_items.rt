@@ -1,4 +1,4 @@
-//! The items of the look-ups: as their bytes keep them, and as they are made of the records.
+//! Items of the lookup tables: decoded from bytes, or made from records.
 
 ghost use Rattle.std.specs.Prelude.{◌≡◌, ◌≤◌, ◌<◌, ◌*◌, ◌^◌, IfOk, length};
 ghost use Rattle.xet_shard_format.specs.Lookups.{flat_places, heads_from};
@@ -11,7 +11,7 @@ use xet_shard_format::lookup::{ChunkPlace, Head};
 use xet_shard_format::section::Record;
 use xet_shard_format::{MDBXorbInfo, XorbChunkSequenceHeader};
 
-/// So many items of 12 bytes.
+/// Decodes `count` items of 12 bytes.
 pub fn heads_in(alloc: Global, bytes: &[u8], count: u64) -> Result<Vec<Head>, AllocError>
     requires { 12 * count ≤ length bytes.now }
     ensures { IfOk result (λ heads. heads.items ≡ heads_in count bytes.now) }
@@ -26,7 +26,7 @@ pub fn heads_in(alloc: Global, bytes: &[u8], count: u64) -> Result<Vec<Head>, Al
     Ok(found)
 }
 
-/// So many items of 16 bytes.
+/// Decodes `count` items of 16 bytes.
 pub fn places_in(alloc: Global, bytes: &[u8], count: u64) -> Result<Vec<ChunkPlace>, AllocError>
     requires { 16 * count ≤ length bytes.now }
     ensures { IfOk result (λ places. flat_places places.items ≡ places_in count bytes.now) }
@@ -41,7 +41,7 @@ pub fn places_in(alloc: Global, bytes: &[u8], count: u64) -> Result<Vec<ChunkPla
     Ok(found)
 }
 
-/// The look-up of these records.
+/// The lookup items of these records.
 pub fn record_items<X: Record>(alloc: Global, records: &[X]) -> Result<Vec<Head>, AllocError>
     requires { length (section X.rows_of records.now) < 2 ^ 32 }
     ensures { IfOk result (λ items. items.items ≡ heads_from X.hash_of X.rows_of 0 records.now) }
@@ -55,7 +55,7 @@ pub fn record_items<X: Record>(alloc: Global, records: &[X]) -> Result<Vec<Head>
     Ok(found)
 }
 
-/// The heads of these xorbs, each with its row.
+/// The header of each of these xorbs, with its row.
 pub fn heads_of(
     alloc: Global,
     blocks: &[MDBXorbInfo],

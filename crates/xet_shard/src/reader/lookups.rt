@@ -1,12 +1,12 @@
-//! The look-ups of a shard, each read for itself from any reader.
+//! Reading of the lookup tables from any reader, each on its own.
 
 ghost use Rattle.std.specs.Prelude.{◌≡◌, ◌≢◌, true, IfErr, IsErrOf};
-ghost use Rattle.xet_io.specs.Faults.{HasCause};
 ghost use Rattle.xet_shard_format.specs.Lookups.{flat_places};
 ghost use Rattle.xet_shard.specs.Queries.{file_items_from};
 ghost use Rattle.xet_codec.specs.Parsing.{GivesUnlessFault};
 ghost use Rattle.xet_shard_format.specs.Reading.{IsShardRefusal};
 ghost use Rattle.xet_shard.specs.Sections.{chunk_lookup_in, xorb_lookup_in};
+ghost use Rattle.xet_io.specs.Frame.{ReadFrom};
 
 use crate::info::MDBShardInfo;
 use crate::reader::byte_ranges::piece;
@@ -19,8 +19,9 @@ use xet_shard_format::MDBShardFileFooter;
 use xet_shard_format::lookup::{ChunkPlace, Head, chunk_places};
 
 impl MDBShardInfo {
-    /// The look-up of xorbs: of each the first word of its hash, and the row of its head. One that was left
-    /// out is made from the xorbs. A failing reader is `Io(Input)`.
+    /// The xorb lookup table: for each xorb the first word of its hash, and the row of its header. An omitted
+    /// table is made from the xorbs; a stored one is not compared with them. If bytes are malformed, the
+    /// error is that of the first check that fails. It is `Io(Input)` if the reader failed.
     pub fn read_full_xorb_lookup<R: ReadAt>(
         &self,
         alloc: Global,
@@ -28,9 +29,7 @@ impl MDBShardInfo {
     ) -> Result<Vec<(u64, u32)>, StoreError>
         ensures exact { R.tells reader.old ≡ true → GivesUnlessFault (λ v. v.items) result (xorb_lookup_in self.now.metadata (R.bytes reader.old)) }
         ensures refusals { IfErr result IsShardRefusal }
-        ensures cause { HasCause (R.faults reader.old) (R.faults reader.new) (IsErrOf result (StoreError.Io Place.Input)) }
-        ensures same { R.bytes reader.new ≡ R.bytes reader.old }
-        ensures tells { R.tells reader.new ≡ R.tells reader.old }
+        ensures frame { ReadFrom R.bytes R.tells R.faults R.lent reader.old reader.new (IsErrOf result (StoreError.Io Place.Input)) }
     {
         if self.metadata.xorb_lookup_num_entry == 0 {
             made_xorb_lookup(alloc, reader, &self.metadata)
@@ -39,8 +38,9 @@ impl MDBShardInfo {
         }
     }
 
-    /// The look-up of chunks: of each the first word of its hash, the row of its xorb's head, and its place
-    /// in the xorb. One that was left out is made from the xorbs. A failing reader is `Io(Input)`.
+    /// The chunk lookup table: for each chunk the first word of its hash, the row of its xorb's header, and
+    /// its index in the xorb. An omitted table is made from the xorbs; a stored one is not compared with
+    /// them. Errors are those of `read_full_xorb_lookup`.
     pub fn read_all_truncated_hashes<R: ReadAt>(
         &self,
         alloc: Global,
@@ -48,9 +48,7 @@ impl MDBShardInfo {
     ) -> Result<Vec<(u64, (u32, u32))>, StoreError>
         ensures exact { R.tells reader.old ≡ true → GivesUnlessFault (λ v. flat_places v.items) result (chunk_lookup_in self.now.metadata (R.bytes reader.old)) }
         ensures refusals { IfErr result IsShardRefusal }
-        ensures cause { HasCause (R.faults reader.old) (R.faults reader.new) (IsErrOf result (StoreError.Io Place.Input)) }
-        ensures same { R.bytes reader.new ≡ R.bytes reader.old }
-        ensures tells { R.tells reader.new ≡ R.tells reader.old }
+        ensures frame { ReadFrom R.bytes R.tells R.faults R.lent reader.old reader.new (IsErrOf result (StoreError.Io Place.Input)) }
     {
         if self.metadata.chunk_lookup_num_entry == 0 {
             made_chunk_lookup(alloc, reader, &self.metadata)
@@ -60,7 +58,7 @@ impl MDBShardInfo {
     }
 }
 
-/// The look-up of files, where it was left out.
+/// The items of an omitted file lookup table.
 pub fn made_file_lookup<R: ReadAt>(
     alloc: Global,
     reader: &mut R,
@@ -69,16 +67,14 @@ pub fn made_file_lookup<R: ReadAt>(
     requires { f.now.file_lookup_num_entry ≡ 0 }
     ensures exact { R.tells reader.old ≡ true → GivesUnlessFault (λ v. v.items) result (file_items_from f.now 0 (R.bytes reader.old)) }
     ensures refusals { IfErr result IsShardRefusal }
-    ensures cause { HasCause (R.faults reader.old) (R.faults reader.new) (IsErrOf result (StoreError.Io Place.Input)) }
-    ensures same { R.bytes reader.new ≡ R.bytes reader.old }
-    ensures tells { R.tells reader.new ≡ R.tells reader.old }
+    ensures frame { ReadFrom R.bytes R.tells R.faults R.lent reader.old reader.new (IsErrOf result (StoreError.Io Place.Input)) }
 {
     let all = files(alloc, reader, f)?;
     let items = record_items(alloc, &all)?;
     Ok(items)
 }
 
-/// The look-up of xorbs, where it was left out.
+/// The items of an omitted xorb lookup table.
 pub fn made_xorb_lookup<R: ReadAt>(
     alloc: Global,
     reader: &mut R,
@@ -87,16 +83,14 @@ pub fn made_xorb_lookup<R: ReadAt>(
     requires { f.now.xorb_lookup_num_entry ≡ 0 }
     ensures exact { R.tells reader.old ≡ true → GivesUnlessFault (λ v. v.items) result (xorb_lookup_in f.now (R.bytes reader.old)) }
     ensures refusals { IfErr result IsShardRefusal }
-    ensures cause { HasCause (R.faults reader.old) (R.faults reader.new) (IsErrOf result (StoreError.Io Place.Input)) }
-    ensures same { R.bytes reader.new ≡ R.bytes reader.old }
-    ensures tells { R.tells reader.new ≡ R.tells reader.old }
+    ensures frame { ReadFrom R.bytes R.tells R.faults R.lent reader.old reader.new (IsErrOf result (StoreError.Io Place.Input)) }
 {
     let found = blocks(alloc, reader, f)?;
     let items = record_items(alloc, &found)?;
     Ok(items)
 }
 
-/// The look-up of xorbs, where it stands.
+/// The items of a stored xorb lookup table.
 fn kept_xorb_lookup<R: ReadAt>(
     alloc: Global,
     reader: &mut R,
@@ -105,9 +99,7 @@ fn kept_xorb_lookup<R: ReadAt>(
     requires { f.now.xorb_lookup_num_entry ≢ 0 }
     ensures exact { R.tells reader.old ≡ true → GivesUnlessFault (λ v. v.items) result (xorb_lookup_in f.now (R.bytes reader.old)) }
     ensures refusals { IfErr result IsShardRefusal }
-    ensures cause { HasCause (R.faults reader.old) (R.faults reader.new) (IsErrOf result (StoreError.Io Place.Input)) }
-    ensures same { R.bytes reader.new ≡ R.bytes reader.old }
-    ensures tells { R.tells reader.new ≡ R.tells reader.old }
+    ensures frame { ReadFrom R.bytes R.tells R.faults R.lent reader.old reader.new (IsErrOf result (StoreError.Io Place.Input)) }
 {
     let count = f.xorb_lookup_num_entry;
     let bytes = piece(alloc, reader, f.xorb_lookup_offset, 12, count)?;
@@ -115,7 +107,7 @@ fn kept_xorb_lookup<R: ReadAt>(
     Ok(items)
 }
 
-/// The look-up of chunks, where it was left out.
+/// The items of an omitted chunk lookup table.
 pub fn made_chunk_lookup<R: ReadAt>(
     alloc: Global,
     reader: &mut R,
@@ -124,16 +116,14 @@ pub fn made_chunk_lookup<R: ReadAt>(
     requires { f.now.chunk_lookup_num_entry ≡ 0 }
     ensures exact { R.tells reader.old ≡ true → GivesUnlessFault (λ v. flat_places v.items) result (chunk_lookup_in f.now (R.bytes reader.old)) }
     ensures refusals { IfErr result IsShardRefusal }
-    ensures cause { HasCause (R.faults reader.old) (R.faults reader.new) (IsErrOf result (StoreError.Io Place.Input)) }
-    ensures same { R.bytes reader.new ≡ R.bytes reader.old }
-    ensures tells { R.tells reader.new ≡ R.tells reader.old }
+    ensures frame { ReadFrom R.bytes R.tells R.faults R.lent reader.old reader.new (IsErrOf result (StoreError.Io Place.Input)) }
 {
     let found = blocks(alloc, reader, f)?;
     let items = chunk_places(alloc, &found)?;
     Ok(items)
 }
 
-/// The look-up of chunks, where it stands.
+/// The items of a stored chunk lookup table.
 fn kept_chunk_lookup<R: ReadAt>(
     alloc: Global,
     reader: &mut R,
@@ -142,9 +132,7 @@ fn kept_chunk_lookup<R: ReadAt>(
     requires { f.now.chunk_lookup_num_entry ≢ 0 }
     ensures exact { R.tells reader.old ≡ true → GivesUnlessFault (λ v. flat_places v.items) result (chunk_lookup_in f.now (R.bytes reader.old)) }
     ensures refusals { IfErr result IsShardRefusal }
-    ensures cause { HasCause (R.faults reader.old) (R.faults reader.new) (IsErrOf result (StoreError.Io Place.Input)) }
-    ensures same { R.bytes reader.new ≡ R.bytes reader.old }
-    ensures tells { R.tells reader.new ≡ R.tells reader.old }
+    ensures frame { ReadFrom R.bytes R.tells R.faults R.lent reader.old reader.new (IsErrOf result (StoreError.Io Place.Input)) }
 {
     let count = f.chunk_lookup_num_entry;
     let bytes = piece(alloc, reader, f.chunk_lookup_offset, 16, count)?;

@@ -1,11 +1,11 @@
-//! The parts of a shard, each read for itself from any reader.
+//! Reading of the header, the footer and the sections from any reader, each on its own.
 
 ghost use Rattle.std.specs.Prelude.{◌≡◌, ◌≤◌, ◌<◌, ◌+◌, ◌-◌, ◌*◌, ◌^◌, min, None, true, length, IfErr, IfOk, IsErrOf, OnOk};
-ghost use Rattle.xet_io.specs.Faults.{HasCause};
 ghost use Rattle.xet_codec.specs.Parsing.{GivesUnlessFault, IsInputError, IsUnlessFault};
 ghost use Rattle.xet_shard_format.specs.Reading.{IsShardRefusal, footer_at, header_at};
 ghost use Rattle.xet_shard_format.specs.Records.{AreRecords, IsFile, IsXorb, file_hash, file_section, xorb_hash, xorb_section};
 ghost use Rattle.xet_shard.specs.Sections.{block_heads_in, blocks_in, files_in, info_at, key_of, row_count};
+ghost use Rattle.xet_io.specs.Frame.{ReadFrom};
 
 use crate::info::MDBShardInfo;
 use crate::reader::byte_ranges::{fill, rows_at};
@@ -20,25 +20,24 @@ use xet_shard_format::header_footer::{
 use xet_shard_format::shard_decoding::records_at;
 use xet_shard_format::{MDBFileInfo, MDBXorbInfo, XorbChunkSequenceHeader};
 
-/// The bytes of a footer.
+/// The length of a footer in bytes.
 const FOOTER_SIZE: u64 = 200;
 
 impl MDBShardInfo {
-    /// The header and the footer of a shard. Only the first 48 and the last 200 bytes are read, and
-    /// nothing is allocated. A failing reader is `Io(Input)`.
+    /// Reads the header and the footer of a shard. Only the first 48 and the last 200 bytes are read, and
+    /// nothing is allocated. If they are malformed, the error is that of the first check that fails. It is
+    /// `Io(Input)` if the reader failed.
     pub fn load_from_reader<R: ReadAt>(reader: &mut R) -> Result<MDBShardInfo, StoreError>
         ensures exact { R.tells reader.old ≡ true → IsUnlessFault result (info_at (R.bytes reader.old)) }
         ensures refusals { IfErr result IsInputError }
-        ensures cause { HasCause (R.faults reader.old) (R.faults reader.new) (IsErrOf result (StoreError.Io Place.Input)) }
-        ensures same { R.bytes reader.new ≡ R.bytes reader.old }
-        ensures tells { R.tells reader.new ≡ R.tells reader.old }
+        ensures frame { ReadFrom R.bytes R.tells R.faults R.lent reader.old reader.new (IsErrOf result (StoreError.Io Place.Input)) }
     {
         let len = reader_length(reader)?;
         load(reader, len)
     }
 
-    /// The files, by the bytes of their section alone. A section that is malformed is refused by the first
-    /// check that fails. A failing reader is `Io(Input)`.
+    /// The files, read from the bytes of their section alone. If the section is malformed, the error is that
+    /// of the first check that fails. It is `Io(Input)` if the reader failed.
     pub fn read_all_file_info_sections<R: ReadAt>(
         &self,
         alloc: Global,
@@ -46,15 +45,13 @@ impl MDBShardInfo {
     ) -> Result<Vec<MDBFileInfo>, StoreError>
         ensures exact { R.tells reader.old ≡ true → GivesUnlessFault (λ v. v.items) result (files_in self.now.metadata (R.bytes reader.old)) }
         ensures refusals { IfErr result IsShardRefusal }
-        ensures cause { HasCause (R.faults reader.old) (R.faults reader.new) (IsErrOf result (StoreError.Io Place.Input)) }
-        ensures same { R.bytes reader.new ≡ R.bytes reader.old }
-        ensures tells { R.tells reader.new ≡ R.tells reader.old }
+        ensures frame { ReadFrom R.bytes R.tells R.faults R.lent reader.old reader.new (IsErrOf result (StoreError.Io Place.Input)) }
     {
         files(alloc, reader, &self.metadata)
     }
 
-    /// The xorbs, by the bytes of their section alone. A section that is malformed is refused by the first
-    /// check that fails. A failing reader is `Io(Input)`.
+    /// The xorbs, read from the bytes of their section alone. If the section is malformed, the error is that
+    /// of the first check that fails. It is `Io(Input)` if the reader failed.
     pub fn read_all_xorb_blocks_full<R: ReadAt>(
         &self,
         alloc: Global,
@@ -62,15 +59,13 @@ impl MDBShardInfo {
     ) -> Result<Vec<MDBXorbInfo>, StoreError>
         ensures exact { R.tells reader.old ≡ true → GivesUnlessFault (λ v. v.items) result (blocks_in self.now.metadata (R.bytes reader.old)) }
         ensures refusals { IfErr result IsShardRefusal }
-        ensures cause { HasCause (R.faults reader.old) (R.faults reader.new) (IsErrOf result (StoreError.Io Place.Input)) }
-        ensures same { R.bytes reader.new ≡ R.bytes reader.old }
-        ensures tells { R.tells reader.new ≡ R.tells reader.old }
+        ensures frame { ReadFrom R.bytes R.tells R.faults R.lent reader.old reader.new (IsErrOf result (StoreError.Io Place.Input)) }
     {
         blocks(alloc, reader, &self.metadata)
     }
 
-    /// The head of each xorb, with its row, counted from the front of the section. It reads and refuses as
-    /// `read_all_xorb_blocks_full` does.
+    /// The header of each xorb, with its row from the start of the section. Reads the same bytes as
+    /// `read_all_xorb_blocks_full`, and fails as it does.
     pub fn read_all_xorb_blocks<R: ReadAt>(
         &self,
         alloc: Global,
@@ -78,37 +73,35 @@ impl MDBShardInfo {
     ) -> Result<Vec<(XorbChunkSequenceHeader, u64)>, StoreError>
         ensures exact { R.tells reader.old ≡ true → GivesUnlessFault (λ v. v.items) result (block_heads_in self.now.metadata (R.bytes reader.old)) }
         ensures refusals { IfErr result IsShardRefusal }
-        ensures cause { HasCause (R.faults reader.old) (R.faults reader.new) (IsErrOf result (StoreError.Io Place.Input)) }
-        ensures same { R.bytes reader.new ≡ R.bytes reader.old }
-        ensures tells { R.tells reader.new ≡ R.tells reader.old }
+        ensures frame { ReadFrom R.bytes R.tells R.faults R.lent reader.old reader.new (IsErrOf result (StoreError.Io Place.Input)) }
     {
         let found = blocks(alloc, reader, &self.metadata)?;
         let heads = heads_of(alloc, &found)?;
         Ok(heads)
     }
 
-    /// The bytes of the shard: what is before the footer, and the footer's 200. At most 2^64 - 1.
+    /// The length of the shard in bytes: the offset of its footer plus 200, at most 2^64 - 1.
     pub fn num_bytes(&self) -> u64
         ensures { result ≡ min (self.now.metadata.footer_offset + 200) (2 ^ 64 - 1) }
     {
         self.metadata.footer_offset.saturating_add(FOOTER_SIZE)
     }
 
-    /// The bytes of the files together, as the footer tells them.
+    /// The uncompressed bytes of all segments of all files, as the footer states them.
     pub fn materialized_bytes(&self) -> u64
         ensures { result ≡ self.now.metadata.materialized_bytes }
     {
         self.metadata.materialized_bytes
     }
 
-    /// The bytes of the xorbs' chunks together, as the footer tells them.
+    /// The uncompressed bytes of all chunks of all xorbs, as the footer states them.
     pub fn stored_bytes(&self) -> u64
         ensures { result ≡ self.now.metadata.stored_bytes }
     {
         self.metadata.stored_bytes
     }
 
-    /// The key under which the chunks' digests were hashed again, where they were: zero is none.
+    /// The key of the chunk hashes; none if it is zero.
     pub fn chunk_hmac_key(&self) -> Option<HMACKey>
         ensures { key_of self.now.metadata result }
     {
@@ -121,7 +114,7 @@ impl MDBShardInfo {
     }
 }
 
-/// The number of rows from one offset to another: `MalformedData(SectionPlace)` where they are not whole.
+/// The number of rows from one offset to another. `MalformedData(SectionPlace)` if it is not a whole number.
 #[tactic(auto, unfolding(crate::specs::Sections::row_count))]
 pub fn row_count(from: u64, to: u64) -> Result<u64, StoreError>
     ensures exact { result ≡ row_count from to }
@@ -134,7 +127,7 @@ pub fn row_count(from: u64, to: u64) -> Result<u64, StoreError>
     Ok(count)
 }
 
-/// The files.
+/// Reads the file section.
 pub fn files<R: ReadAt>(
     alloc: Global,
     reader: &mut R,
@@ -144,9 +137,7 @@ pub fn files<R: ReadAt>(
     ensures form { IfOk result (λ v. AreRecords file_hash IsFile None v.items) }
     ensures few { IfOk result (λ v. length (file_section v.items) < 2 ^ 32) }
     ensures refusals { IfErr result IsShardRefusal }
-    ensures cause { HasCause (R.faults reader.old) (R.faults reader.new) (IsErrOf result (StoreError.Io Place.Input)) }
-    ensures same { R.bytes reader.new ≡ R.bytes reader.old }
-    ensures tells { R.tells reader.new ≡ R.tells reader.old }
+    ensures frame { ReadFrom R.bytes R.tells R.faults R.lent reader.old reader.new (IsErrOf result (StoreError.Io Place.Input)) }
 {
     let count = row_count(f.file_info_offset, f.xorb_info_offset)?;
     match rows_at(alloc, reader, f.file_info_offset, count) {
@@ -155,7 +146,7 @@ pub fn files<R: ReadAt>(
     }
 }
 
-/// The xorbs.
+/// Reads the xorb section.
 pub fn blocks<R: ReadAt>(
     alloc: Global,
     reader: &mut R,
@@ -165,9 +156,7 @@ pub fn blocks<R: ReadAt>(
     ensures form { IfOk result (λ v. AreRecords xorb_hash IsXorb None v.items) }
     ensures few { IfOk result (λ v. length (xorb_section v.items) < 2 ^ 32) }
     ensures refusals { IfErr result IsShardRefusal }
-    ensures cause { HasCause (R.faults reader.old) (R.faults reader.new) (IsErrOf result (StoreError.Io Place.Input)) }
-    ensures same { R.bytes reader.new ≡ R.bytes reader.old }
-    ensures tells { R.tells reader.new ≡ R.tells reader.old }
+    ensures frame { ReadFrom R.bytes R.tells R.faults R.lent reader.old reader.new (IsErrOf result (StoreError.Io Place.Input)) }
 {
     let count = row_count(f.xorb_info_offset, f.file_lookup_offset)?;
     match rows_at(alloc, reader, f.xorb_info_offset, count) {
@@ -176,13 +165,11 @@ pub fn blocks<R: ReadAt>(
     }
 }
 
-/// Header and footer of a shard of so many bytes.
+/// Reads the header and the footer of a shard of `len` bytes.
 fn load<R: ReadAt>(reader: &mut R, len: u64) -> Result<MDBShardInfo, StoreError>
     ensures exact { R.tells reader.old ≡ true → len ≡ length (R.bytes reader.old) → GivesUnlessFault (λ info. info) result (info_at (R.bytes reader.old)) }
     ensures refusals { IfErr result IsInputError }
-    ensures cause { HasCause (R.faults reader.old) (R.faults reader.new) (IsErrOf result (StoreError.Io Place.Input)) }
-    ensures same { R.bytes reader.new ≡ R.bytes reader.old }
-    ensures tells { R.tells reader.new ≡ R.tells reader.old }
+    ensures frame { ReadFrom R.bytes R.tells R.faults R.lent reader.old reader.new (IsErrOf result (StoreError.Io Place.Input)) }
 {
     read_header(reader, len)?;
     let metadata = read_footer(reader, len)?;
@@ -192,14 +179,12 @@ fn load<R: ReadAt>(reader: &mut R, len: u64) -> Result<MDBShardInfo, StoreError>
     })
 }
 
-/// Checks the header of a shard of so many bytes, and that there is room for a footer.
+/// Checks the header of a shard of `len` bytes, and that there is room for a footer after it.
 fn read_header<R: ReadAt>(reader: &mut R, len: u64) -> Result<(), StoreError>
     ensures exact { R.tells reader.old ≡ true → len ≡ length (R.bytes reader.old) → GivesUnlessFault (λ _. tt) result (header_at (R.bytes reader.old)) }
     ensures long { OnOk result (248 ≤ len) }
     ensures refusals { IfErr result IsInputError }
-    ensures cause { HasCause (R.faults reader.old) (R.faults reader.new) (IsErrOf result (StoreError.Io Place.Input)) }
-    ensures same { R.bytes reader.new ≡ R.bytes reader.old }
-    ensures tells { R.tells reader.new ≡ R.tells reader.old }
+    ensures frame { ReadFrom R.bytes R.tells R.faults R.lent reader.old reader.new (IsErrOf result (StoreError.Io Place.Input)) }
 {
     let mut room = [0; 48];
     let (first, _) = room.split_at_mut(len.min(48) as usize);
@@ -207,14 +192,12 @@ fn read_header<R: ReadAt>(reader: &mut R, len: u64) -> Result<(), StoreError>
     header_of_first(len, first)
 }
 
-/// The footer of a shard of so many bytes.
+/// Reads the footer of a shard of `len` bytes.
 fn read_footer<R: ReadAt>(reader: &mut R, len: u64) -> Result<MDBShardFileFooter, StoreError>
     requires { 248 ≤ len }
     ensures exact { R.tells reader.old ≡ true → len ≡ length (R.bytes reader.old) → GivesUnlessFault (λ f. f) result (footer_at (R.bytes reader.old)) }
     ensures refusals { IfErr result IsInputError }
-    ensures cause { HasCause (R.faults reader.old) (R.faults reader.new) (IsErrOf result (StoreError.Io Place.Input)) }
-    ensures same { R.bytes reader.new ≡ R.bytes reader.old }
-    ensures tells { R.tells reader.new ≡ R.tells reader.old }
+    ensures frame { ReadFrom R.bytes R.tells R.faults R.lent reader.old reader.new (IsErrOf result (StoreError.Io Place.Input)) }
 {
     let mut last = [0; 200];
     fill(reader, len - FOOTER_SIZE, &mut last)?;

@@ -1,4 +1,4 @@
--- An error of the ends is one of the whole.
+-- An error of the header or the footer of a shard is the error of reading the whole.
 use Rattle.std.proofs.Common.{◌≡◌, ◌⊎◌, inl, inr, ◌≤◌, ℕ, Bool, true, false, List, length, take, drop, Option, Some, Result, Ok, Err, sym, ap, subst}
 use Rattle.xet_hash.specs.declared.error.StoreError.{StoreError}
 use Rattle.xet_codec.specs.Parsing.{◌>>=◌}

@@ -1,4 +1,4 @@
--- What holds of an error holds of the exit with it.
+-- A count of failures that rose during a part of a call rose during the whole call.
 use Rattle.std.proofs.Common.{◌≡◌, ◌≤◌, ℕ, List, Result, Ok, Err, IfErr, sym, subst, arith}
 use Rattle.std.specs.Result.{IsErrAnd}
 use Rattle.xet_io.specs.Faults.{Rose}

@@ -1,4 +1,4 @@
--- A name determines the hash.
+-- The file name of a shard determines its hash.
 use Rattle.std.proofs.Common.{◌≡◌, ◌≢◌, inl, inr, ◌∙◌, ℕ, zero, suc, ◌+◌, ◌<◌, ◌≤◌, ◌/◌, ◌%◌, ◌==◌, ◌&&◌, Bool, true, false, not, cond, IsTrue, List, [], ◌∷◌, ◌++◌, length, get_or, map, codes, Option, Some, None, IsSome, refl, sym, ap, subst, arith, nat_eq, append_assoc}
 use Rattle.std.proofs.Math.ListN.{get_or-map}
 use Rattle.std.proofs.lemmas.Cmp.{by_ranked, ranked}

@@ -1,4 +1,4 @@
--- The names of shards' files differ.
+-- The paths of different shards differ, and none is a temporary name.
 use Rattle.std.proofs.Common.{◌≡◌, ◌≢◌, ◌∙◌, ℕ, List, [], ◌∷◌, ◌++◌, codes, sym, ap, arith, append_assoc}
 use Rattle.std.proofs.lemmas.List.{append_cancel_left, append_cancel_right, same_from_push}
 use Rattle.xet_hash.specs.Hash.{hash_text}

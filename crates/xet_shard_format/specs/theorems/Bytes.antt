@@ -1,4 +1,4 @@
--- Rows and bytes: what is read is spelled so, and what is spelled so is read.
+-- Round trip of rows and bytes: what is read encodes to the bytes, and an encoding is read back.
 use Rattle.std.proofs.Common.{◌≡◌, ℕ, zero, suc, ◌+◌, ◌*◌, ◌^◌, ◌<◌, ◌≤◌, List, [], ◌∷◌, ◌++◌, length, get_or, take, drop, refl, sym, ap, subst, ◌∙◌, append_assoc, arith, inl, inr}
 use Rattle.std.specs.List.{AllByRecursion, All}
 use Rattle.std.specs.Int.{w32, w64, from_le_bytes, to_le_bytes}
@@ -8,7 +8,7 @@ use Rattle.std.proofs.lemmas.List.Concat.{flat_map-cons}
 use Rattle.std.proofs.lemmas.List.Elements.{All-get_or}
 use Rattle.std.proofs.lemmas.Nat.{le_bytes_4, le_bytes_8, from_le_bytes-to_le_bytes_4}
 use Rattle.xet_shard_format.specs.declared.row.Row.{Row}
-use Rattle.xet_shard_format.specs.Rows.{RowFits, row, row_of, row_text, rows_in, rows_text}
+use Rattle.xet_shard_format.specs.Rows.{RowFits, row, row_of, row_bytes, rows_in, rows_bytes}
 use Rattle.xet_codec.specs.Numbers.{half_word, word}
 
 abbrev pub IsBytes : List ℕ → Type 0
@@ -49,8 +49,8 @@ word_below bytes at fits =
 regroup5 : (a b c d e f : List ℕ) → (a ++ (b ++ (c ++ (d ++ e)))) ++ f ≡ a ++ (b ++ (c ++ (d ++ (e ++ f))))
 regroup5 a b c d e f = append_assoc a (b ++ (c ++ (d ++ e))) f ∙ ap (λ (t : List ℕ). a ++ t) (append_assoc b (c ++ (d ++ e)) f ∙ ap (λ (t : List ℕ). b ++ t) (append_assoc c (d ++ e) f ∙ ap (λ (t : List ℕ). c ++ t) (append_assoc d e f)))
 
-pub row_back : (bytes : List ℕ) → IsBytes bytes → 48 ≤ length bytes → row_text (row_of bytes) ++ drop 48 bytes ≡ bytes
-unfolding row_text row_of
+pub row_back : (bytes : List ℕ) → IsBytes bytes → 48 ≤ length bytes → row_bytes (row_of bytes) ++ drop 48 bytes ≡ bytes
+unfolding row_bytes row_of
 row_back bytes fits le =
     let p32 = half_word_back bytes 32 fits (omega arith) in
     let p36 = half_word_back bytes 36 fits (omega arith) in
@@ -67,24 +67,24 @@ row_back bytes fits le =
     ∙ ap (λ (t : List ℕ). take 32 bytes ++ t) (glue 32 4 bytes)
     ∙ take-append-drop 32 bytes
 
-pub rows_back : (n : ℕ) (bytes : List ℕ) → IsBytes bytes → 48 * n ≤ length bytes → rows_text (rows_in n bytes) ++ drop (48 * n) bytes ≡ bytes
+pub rows_back : (n : ℕ) (bytes : List ℕ) → IsBytes bytes → 48 * n ≤ length bytes → rows_bytes (rows_in n bytes) ++ drop (48 * n) bytes ≡ bytes
 unfolding rows_in
 rows_back zero bytes fits le = refl
 rows_back (suc n) bytes fits le =
     let more : 48 * suc n ≡ 48 + 48 * n = omega arith in
-    let rest : rows_text (rows_in n (drop 48 bytes)) ++ drop (48 * n) (drop 48 bytes) ≡ drop 48 bytes = rows_back n (drop 48 bytes) (IsBytes-drop 48 bytes fits) (omega (arith, length-drop 48 bytes)) in
-    ap (λ (t : List ℕ). t ++ drop (48 * suc n) bytes) (flat_map-cons row_text (row_of bytes) (rows_in n (drop 48 bytes)))
-    ∙ append_assoc (row_text (row_of bytes)) (rows_text (rows_in n (drop 48 bytes))) (drop (48 * suc n) bytes)
-    ∙ ap (λ (t : List ℕ). row_text (row_of bytes) ++ (rows_text (rows_in n (drop 48 bytes)) ++ t)) (ap (λ (k : ℕ). drop k bytes) more ∙ sym (drop-drop (48 * n) 48 bytes))
-    ∙ ap (λ (t : List ℕ). row_text (row_of bytes) ++ t) rest
+    let rest : rows_bytes (rows_in n (drop 48 bytes)) ++ drop (48 * n) (drop 48 bytes) ≡ drop 48 bytes = rows_back n (drop 48 bytes) (IsBytes-drop 48 bytes fits) (omega (arith, length-drop 48 bytes)) in
+    ap (λ (t : List ℕ). t ++ drop (48 * suc n) bytes) (flat_map-cons row_bytes (row_of bytes) (rows_in n (drop 48 bytes)))
+    ∙ append_assoc (row_bytes (row_of bytes)) (rows_bytes (rows_in n (drop 48 bytes))) (drop (48 * suc n) bytes)
+    ∙ ap (λ (t : List ℕ). row_bytes (row_of bytes) ++ (rows_bytes (rows_in n (drop 48 bytes)) ++ t)) (ap (λ (k : ℕ). drop k bytes) more ∙ sym (drop-drop (48 * n) 48 bytes))
+    ∙ ap (λ (t : List ℕ). row_bytes (row_of bytes) ++ t) rest
     ∙ row_back bytes fits (omega arith)
 
-pub length-row_text : (r : Row) → RowFits r → length (row_text r) ≡ 48
-unfolding row_text
-length-row_text r fits = omega (arith, fits.hash.0, length-append r.hash (to_le_bytes w32 r.a ++ (to_le_bytes w32 r.b ++ (to_le_bytes w32 r.c ++ to_le_bytes w32 r.d))))
+pub length-row_bytes : (r : Row) → RowFits r → length (row_bytes r) ≡ 48
+unfolding row_bytes
+length-row_bytes r fits = omega (arith, fits.hash.0, length-append r.hash (to_le_bytes w32 r.a ++ (to_le_bytes w32 r.b ++ (to_le_bytes w32 r.c ++ to_le_bytes w32 r.d))))
 
-pub row_again : (r : Row) (rest : List ℕ) → RowFits r → row_of (row_text r ++ rest) ≡ r
-unfolding row_text row_of
+pub row_again : (r : Row) (rest : List ℕ) → RowFits r → row_of (row_bytes r ++ rest) ≡ r
+unfolding row_bytes row_of
 row_again r rest fits =
     let len = fits.hash.0 in
     let text : (r.hash ++ (to_le_bytes w32 r.a ++ (to_le_bytes w32 r.b ++ (to_le_bytes w32 r.c ++ to_le_bytes w32 r.d)))) ++ rest ≡ r.hash ++ (to_le_bytes w32 r.a ++ (to_le_bytes w32 r.b ++ (to_le_bytes w32 r.c ++ (to_le_bytes w32 r.d ++ rest)))) =
@@ -98,17 +98,17 @@ row_again r rest fits =
     ((ap (λ (t : List ℕ). from_le_bytes w32 (take 4 t)) (past 8) ∙ from_le_bytes-to_le_bytes_4 r.c fits.c) i)
     ((ap (λ (t : List ℕ). from_le_bytes w32 (take 4 t)) (past 12) ∙ from_le_bytes-to_le_bytes_4 r.d fits.d) i))
 
-pub rows_again : (rs : List Row) (rest : List ℕ) → AllByRecursion RowFits rs → rows_in (length rs) (rows_text rs ++ rest) ≡ rs
+pub rows_again : (rs : List Row) (rest : List ℕ) → AllByRecursion RowFits rs → rows_in (length rs) (rows_bytes rs ++ rest) ≡ rs
 unfolding rows_in
 rows_again [] rest fits = refl
 rows_again (r ∷ rs) rest fits =
-    let text : rows_text (r ∷ rs) ++ rest ≡ row_text r ++ (rows_text rs ++ rest) = ap (λ (t : List ℕ). t ++ rest) (flat_map-cons row_text r rs) ∙ append_assoc (row_text r) (rows_text rs) rest in
+    let text : rows_bytes (r ∷ rs) ++ rest ≡ row_bytes r ++ (rows_bytes rs ++ rest) = ap (λ (t : List ℕ). t ++ rest) (flat_map-cons row_bytes r rs) ∙ append_assoc (row_bytes r) (rows_bytes rs) rest in
     ap (rows_in (suc (length rs))) text
-    ∙ (λ i. row_again r (rows_text rs ++ rest) fits.0 i ∷ (ap (rows_in (length rs)) (drop_at (row_text r) (rows_text rs ++ rest) 48 (length-row_text r fits.0)) ∙ rows_again rs rest fits.1) i)
+    ∙ (λ i. row_again r (rows_bytes rs ++ rest) fits.0 i ∷ (ap (rows_in (length rs)) (drop_at (row_bytes r) (rows_bytes rs ++ rest) 48 (length-row_bytes r fits.0)) ∙ rows_again rs rest fits.1) i)
 
-pub length-rows_text : (rs : List Row) → AllByRecursion RowFits rs → length (rows_text rs) ≡ 48 * length rs
-length-rows_text [] fits = refl
-length-rows_text (r ∷ rs) fits = ap length (flat_map-cons row_text r rs) ∙ length-append (row_text r) (rows_text rs) ∙ omega (arith, length-row_text r fits.0, length-rows_text rs fits.1)
+pub length-rows_bytes : (rs : List Row) → AllByRecursion RowFits rs → length (rows_bytes rs) ≡ 48 * length rs
+length-rows_bytes [] fits = refl
+length-rows_bytes (r ∷ rs) fits = ap length (flat_map-cons row_bytes r rs) ∙ length-append (row_bytes r) (rows_bytes rs) ∙ omega (arith, length-row_bytes r fits.0, length-rows_bytes rs fits.1)
 
 -- ---- what was read fits
 
@@ -134,18 +134,18 @@ rows_fit (suc n) bytes fits le = (row_fits bytes fits (omega arith), rows_fit n 
 pub piece_before : (t t1 whole p rest : List ℕ) → t1 ≡ t ++ p → whole ≡ t1 ++ rest → whole ≡ t ++ (p ++ rest)
 piece_before t t1 whole p rest e w = w ∙ ap (λ (x : List ℕ). x ++ rest) e ∙ append_assoc t p rest
 
-pub rows_text-append : (rs ss : List Row) → rows_text (rs ++ ss) ≡ rows_text rs ++ rows_text ss
-rows_text-append [] ss = refl
-rows_text-append (r ∷ rs) ss = flat_map-cons row_text r (rs ++ ss) ∙ ap (λ (t : List ℕ). row_text r ++ t) (rows_text-append rs ss) ∙ sym (ap (λ (t : List ℕ). t ++ rows_text ss) (flat_map-cons row_text r rs) ∙ append_assoc (row_text r) (rows_text rs) (rows_text ss))
+pub rows_bytes-append : (rs ss : List Row) → rows_bytes (rs ++ ss) ≡ rows_bytes rs ++ rows_bytes ss
+rows_bytes-append [] ss = refl
+rows_bytes-append (r ∷ rs) ss = flat_map-cons row_bytes r (rs ++ ss) ∙ ap (λ (t : List ℕ). row_bytes r ++ t) (rows_bytes-append rs ss) ∙ sym (ap (λ (t : List ℕ). t ++ rows_bytes ss) (flat_map-cons row_bytes r rs) ∙ append_assoc (row_bytes r) (rows_bytes rs) (rows_bytes ss))
 
 -- the rows of a head, of three lists, of one list
-pub head_and_three : (t t1 t2 t3 t4 : List ℕ) (r : Row) (xs ys zs : List Row) → t1 ≡ t ++ row_text r → t2 ≡ t1 ++ rows_text xs → t3 ≡ t2 ++ rows_text ys → t4 ≡ t3 ++ rows_text zs → t4 ≡ t ++ rows_text (r ∷ (xs ++ (ys ++ zs)))
+pub head_and_three : (t t1 t2 t3 t4 : List ℕ) (r : Row) (xs ys zs : List Row) → t1 ≡ t ++ row_bytes r → t2 ≡ t1 ++ rows_bytes xs → t3 ≡ t2 ++ rows_bytes ys → t4 ≡ t3 ++ rows_bytes zs → t4 ≡ t ++ rows_bytes (r ∷ (xs ++ (ys ++ zs)))
 head_and_three t t1 t2 t3 t4 r xs ys zs e1 e2 e3 e4 =
-    piece_before t t1 t4 (row_text r) (rows_text xs ++ (rows_text ys ++ rows_text zs)) e1 (piece_before t1 t2 t4 (rows_text xs) (rows_text ys ++ rows_text zs) e2 (piece_before t2 t3 t4 (rows_text ys) (rows_text zs) e3 e4))
-    ∙ ap (λ (x : List ℕ). t ++ x) (ap (λ (x : List ℕ). row_text r ++ x) (ap (λ (x : List ℕ). rows_text xs ++ x) (sym (rows_text-append ys zs)) ∙ sym (rows_text-append xs (ys ++ zs))) ∙ sym (flat_map-cons row_text r (xs ++ (ys ++ zs))))
+    piece_before t t1 t4 (row_bytes r) (rows_bytes xs ++ (rows_bytes ys ++ rows_bytes zs)) e1 (piece_before t1 t2 t4 (rows_bytes xs) (rows_bytes ys ++ rows_bytes zs) e2 (piece_before t2 t3 t4 (rows_bytes ys) (rows_bytes zs) e3 e4))
+    ∙ ap (λ (x : List ℕ). t ++ x) (ap (λ (x : List ℕ). row_bytes r ++ x) (ap (λ (x : List ℕ). rows_bytes xs ++ x) (sym (rows_bytes-append ys zs)) ∙ sym (rows_bytes-append xs (ys ++ zs))) ∙ sym (flat_map-cons row_bytes r (xs ++ (ys ++ zs))))
 
-pub head_and_one : (t t1 t2 : List ℕ) (r : Row) (xs : List Row) → t1 ≡ t ++ row_text r → t2 ≡ t1 ++ rows_text xs → t2 ≡ t ++ rows_text (r ∷ xs)
-head_and_one t t1 t2 r xs e1 e2 = piece_before t t1 t2 (row_text r) (rows_text xs) e1 e2 ∙ ap (λ (x : List ℕ). t ++ x) (sym (flat_map-cons row_text r xs))
+pub head_and_one : (t t1 t2 : List ℕ) (r : Row) (xs : List Row) → t1 ≡ t ++ row_bytes r → t2 ≡ t1 ++ rows_bytes xs → t2 ≡ t ++ rows_bytes (r ∷ xs)
+head_and_one t t1 t2 r xs e1 e2 = piece_before t t1 t2 (row_bytes r) (rows_bytes xs) e1 e2 ∙ ap (λ (x : List ℕ). t ++ x) (sym (flat_map-cons row_bytes r xs))
 
 pub known_bytes : (bytes : List ℕ) → All (λ b. b < 256) bytes → IsBytes bytes
 known_bytes bytes all i = elim (cases_lt i (length bytes)) [

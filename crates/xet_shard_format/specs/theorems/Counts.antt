@@ -1,4 +1,4 @@
--- How many rows and items there are.
+-- The numbers of rows and of lookup items.
 use Rattle.std.proofs.Common.{◌≡◌, ℕ, Bool, true, false, cond, suc, ◌+◌, ◌^◌, ◌<◌, ◌≤◌, List, [], ◌∷◌, ◌++◌, length, refl, sym, ap, ◌∙◌, arith, length-append}
 use Rattle.std.specs.List.{flat_map}
 use Rattle.std.proofs.lemmas.Grind.{flat_map-append}
@@ -9,7 +9,7 @@ use Rattle.xet_shard_format.specs.declared.record.MDBXorbInfo.{MDBXorbInfo}
 use Rattle.xet_shard_format.specs.declared.record.XorbChunkSequenceEntry.{XorbChunkSequenceEntry}
 use Rattle.xet_shard_format.specs.Records.{chunk_row, end_row, file_hash, file_head, file_rest, file_rows, file_section, section, xorb_hash, xorb_head, xorb_rest, xorb_rows, xorb_section}
 use Rattle.xet_shard_format.specs.Lookups.{Lookups, chunk_items, chunks_from, file_items, heads_from, left_in, place_cmp, places_from, xorb_items}
-use Rattle.xet_shard_format.specs.Text.{Shard, footer_of, footer_with, materialized, stored}
+use Rattle.xet_shard_format.specs.Encoding.{Shard, footer_of, footer_with, materialized, stored}
 use Rattle.xet_shard_format.specs.theorems.SectionLaws.{section_cons}
 use Rattle.xet_shard_format.specs.theorems.Sorting.{length-sorted}
 

@@ -1,4 +1,4 @@
--- What is known of what was read.
+-- Properties of the values that reading returns.
 use Rattle.std.proofs.Common.{◌≡◌, ◌∷◌, ℕ, ◌*◌, ◌^◌, ◌<◌, ◌≤◌, List, None, Result, Ok, Err, ap, arith, length, subst}
 use Rattle.std.specs.Prelude.{IfOk}
 use Rattle.std.specs.List.{AllByRecursion}

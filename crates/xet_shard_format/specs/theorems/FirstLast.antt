@@ -1,4 +1,4 @@
--- Header and footer by the first and the last bytes of a shard alone.
+-- Header and footer, read from the first and the last bytes of a shard alone.
 use Rattle.std.proofs.Common.{inl, inr, ◌≤◌, ◌<◌, leb, min, ◌≡◌, ℕ, ◌-◌, ◌+◌, List, length, take, drop, refl, ap, ◌∙◌, arith}
 use Rattle.std.proofs.lemmas.Bool.{cases_Bool, leb-false, leb-true}
 use Rattle.std.proofs.lemmas.List.{drop-take, length-drop, take-take, take_all}

@@ -1,4 +1,4 @@
--- Rows that fit, and how few bytes files and xorbs then have.
+-- Rows that fit in their bytes, and the bounds on files and xorbs that follow.
 use Rattle.std.proofs.Common.{◌≡◌, Result, Ok, Err, ℕ, ◌+◌, ◌*◌, ◌^◌, ◌<◌, ◌≤◌, List, [], ◌∷◌, ◌++◌, length, map, ap, subst, arith, length-append}
 use Rattle.std.specs.List.{AllByRecursion, sum_by}
 use Rattle.std.specs.Prelude.{IfOk, OnOk}
@@ -12,7 +12,7 @@ use Rattle.xet_shard_format.specs.declared.row.Row.{Row}
 use Rattle.xet_shard_format.specs.Rows.{RowFits}
 use Rattle.xet_shard_format.specs.Records.{ext_rows, file_rows, file_section, section, segment_bytes, segment_row, verification_row, xorb_rows, xorb_section}
 use Rattle.xet_shard_format.specs.Lookups.{all_lookups}
-use Rattle.xet_shard_format.specs.Text.{Fits, IsShard, IsShardText, Shard, full_text, materialized, stored}
+use Rattle.xet_shard_format.specs.Encoding.{Fits, IsShard, IsShardEncoding, Shard, full_shard_bytes, materialized, stored}
 use Rattle.xet_shard_format.specs.theorems.SectionLaws.{section_cons}
 use Rattle.xet_base.specs.theorems.Elements.{all_back, all_front}
 
@@ -50,6 +50,6 @@ pub stored_below : (blocks : List MDBXorbInfo) → length (xorb_section blocks) 
 stored_below blocks few fits = omega (arith, few, sum_below xorb_rows (λ (x : MDBXorbInfo). x.metadata.num_bytes_in_xorb) xorb_bytes_below blocks fits)
 
 -- what is written of records that have the form and rise
-pub text_of_shard : {X : Type 0} (text : X → List ℕ) (r : Result X StoreError) (s : Shard) → IsShard s → IfOk r (λ x. text x ≡ full_text s) → OnOk r (Fits s) → IfOk r (λ x. IsShardText (text x) s)
+pub text_of_shard : {X : Type 0} (text : X → List ℕ) (r : Result X StoreError) (s : Shard) → IsShard s → IfOk r (λ x. text x ≡ full_shard_bytes s) → OnOk r (Fits s) → IfOk r (λ x. IsShardEncoding (text x) s)
 text_of_shard text (Ok x) s form is fits = record { shard = form; fits = fits; lookups = all_lookups; text = is }
 text_of_shard text (Err e) s form is fits = tt

@@ -1,4 +1,4 @@
--- Header and footer: what is read is spelled so, and what is spelled so is read.
+-- Round trip of header and footer: what is read encodes to the bytes, and an encoding is read back.
 use Rattle.std.proofs.Common.{◌≡◌, ℕ, ◌+◌, ◌*◌, ◌^◌, ◌<◌, ◌≤◌, eqb, ltb, leb, List, ◌++◌, length, take, drop, Ok, refl, sym, ap, ◌∙◌, arith}
 use Rattle.std.specs.Prelude.{replicate, nat_eq}
 use Rattle.std.specs.Int.{w64, from_le_bytes, to_le_bytes}
@@ -8,7 +8,7 @@ use Rattle.std.proofs.lemmas.List.{take_at, drop_at, take-append-drop, length-ap
 use Rattle.std.proofs.lemmas.Nat.{from_le_bytes-to_le_bytes_8}
 use Rattle.xet_shard_format.specs.declared.header_footer.MDBShardFileFooter.{MDBShardFileFooter}
 use Rattle.xet_codec.specs.Numbers.{word}
-use Rattle.xet_shard_format.specs.Text.{footer_text, header, header_text, tag}
+use Rattle.xet_shard_format.specs.Encoding.{footer_text, header, shard_header_bytes, tag}
 use Rattle.xet_shard_format.specs.Reading.{IsPlaced, file_row_count, footer_in, header_at, places_at, xorb_row_count}
 use Rattle.xet_shard_format.specs.theorems.RowLaws.{wants_ok, wants_last, reaches_ok, reaches_last}
 use Rattle.xet_shard_format.specs.theorems.Bytes.{IsBytes, glue, word_back}
@@ -18,7 +18,7 @@ word_then bytes at tail fits le e = (λ i. word_back bytes at fits le i ++ e i) 
 
 -- ---- header
 
-pub header_takes : (bytes : List ℕ) (u : Unit {0}) → IsBytes bytes → header_at bytes ≡ Ok u → (bytes ≡ header_text header ++ drop 48 bytes) × (248 ≤ length bytes)
+pub header_takes : (bytes : List ℕ) (u : Unit {0}) → IsBytes bytes → header_at bytes ≡ Ok u → (bytes ≡ shard_header_bytes header ++ drop 48 bytes) × (248 ≤ length bytes)
 unfolding header_at
 header_takes bytes u fits e =
     let a = reaches_ok (leb 32 (length bytes)) _ _ e in
@@ -33,11 +33,11 @@ header_takes bytes u fits e =
     let t0 : tag ++ (to_le_bytes w64 2 ++ (to_le_bytes w64 200 ++ drop 48 bytes)) ≡ bytes = (λ i. sym ((bytes_decides (take 32 bytes) tag).0 b.0) i ++ t32 i) ∙ take-append-drop 32 bytes in
     (sym t0, long)
 
-pub header_again : (rest : List ℕ) → 200 ≤ length rest → header_at (header_text header ++ rest) ≡ Ok tt
+pub header_again : (rest : List ℕ) → 200 ≤ length rest → header_at (shard_header_bytes header ++ rest) ≡ Ok tt
 unfolding header_at
 header_again rest long =
-    let len : length (header_text header ++ rest) ≡ 48 + length rest = length-append (header_text header) rest in
-    rw (le-leb 32 (length (header_text header ++ rest)) (omega arith), le-leb 40 (length (header_text header ++ rest)) (omega arith), le-leb 48 (length (header_text header ++ rest)) (omega arith), le-leb 248 (length (header_text header ++ rest)) (omega arith)) refl
+    let len : length (shard_header_bytes header ++ rest) ≡ 48 + length rest = length-append (shard_header_bytes header) rest in
+    rw (le-leb 32 (length (shard_header_bytes header ++ rest)) (omega arith), le-leb 40 (length (shard_header_bytes header ++ rest)) (omega arith), le-leb 48 (length (shard_header_bytes header ++ rest)) (omega arith), le-leb 248 (length (shard_header_bytes header ++ rest)) (omega arith)) refl
 
 -- ---- footer
 

@@ -1,4 +1,4 @@
--- The order of places is total, and has no ties.
+-- The order of the items of the chunk lookup table is total; items that compare as equal are equal.
 use Rattle.std.proofs.Common.{ap, ◌∙◌, ◌+◌, arith, get_or, ◌≡◌, ℕ, refl, sym, List, [], ◌∷◌, ◌++◌}
 use Rattle.std.specs.List.Sorted.{IsSorted}
 use Rattle.std.proofs.lemmas.List.{length-map, map-append}

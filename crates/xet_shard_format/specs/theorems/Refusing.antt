@@ -1,4 +1,4 @@
--- Reading refuses bytes that end too early, or that fail a check, and nothing else.
+-- Reading fails for bytes that end too early or that fail a check, and for nothing else.
 use Rattle.std.proofs.Common.{◌≡◌, ℕ, zero, suc, ◌+◌, ◌-◌, ◌*◌, ◌^◌, ◌≤◌, Bool, true, false, List, [], ◌∷◌, length, drop, take, replicate, nat_eq, nat_le, nat_lt, if◌then◌else◌, Option, None, Some, Result, Ok, Err, IfErr, IsErrOf, subst, refl, sym, ap}
 use Rattle.xet_hash.specs.declared.error.Place.{Place}
 use Rattle.xet_hash.specs.declared.error.Place.TheVariants.{Input}
@@ -14,7 +14,7 @@ use Rattle.xet_shard_format.specs.declared.header_footer.MDBShardFileFooter.{MDB
 use Rattle.xet_hash.specs.Hash.{marker}
 use Rattle.xet_shard_format.specs.Records.{file_hash, flags_of, is_after, xorb_hash}
 use Rattle.xet_codec.specs.Numbers.{word}
-use Rattle.xet_shard_format.specs.Text.{tag}
+use Rattle.xet_shard_format.specs.Encoding.{tag}
 use Rattle.xet_shard_format.specs.Ends.{footer_of_last, header_of_first}
 use Rattle.xet_shard_format.specs.theorems.FirstLast.{footer_is, header_is}
 use Rattle.xet_codec.specs.Parsing.{Fails, Gives, GivesUnlessFault, IsInputError, IsUnlessFault, reaches, wants, ◌>>=◌}

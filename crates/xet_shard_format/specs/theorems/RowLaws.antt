@@ -1,4 +1,4 @@
--- Two laws of each reader on rows: what it read are the rows of the value, and the rows of a value are read.
+-- Two theorems for each reader of rows: what is read has these rows, and the rows of a value are read back.
 use Rattle.std.proofs.Common.{inl, inr, ◌≡◌, ℕ, zero, suc, Bool, true, false, cond, eqb, leb, List, [], ◌∷◌, ◌++◌, length, map, Option, Some, None, Result, Ok, Err, refl, sym, ap, subst, ◌∙◌, append_assoc, arith, length-append}
 use Rattle.std.specs.List.{AllByRecursion}
 use Rattle.std.specs.Prelude.{◌⊎◌, is_some}

@@ -1,4 +1,4 @@
--- The rows at the front of bytes.
+-- The rows at the start of bytes.
 use Rattle.std.proofs.Common.{◌+◌, ◌*◌, ◌≤◌, take, ◌∙◌, ◌≡◌, ℕ, zero, suc, ◌-◌, ◌<◌, List, [], ◌∷◌, length, drop, refl, sym, ap, arith}
 use Rattle.std.proofs.lemmas.List.{drop-drop, drop-take, take-take}
 use Rattle.xet_shard_format.specs.declared.row.Row.{Row}

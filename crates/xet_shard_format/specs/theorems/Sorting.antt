@@ -1,5 +1,4 @@
--- A list that is in order and has the same elements is the sorted list, where elements that compare as
--- equal are one.
+-- A sorted list with the same elements is the sorted list, if elements that compare as equal are equal.
 use Rattle.std.proofs.Common.{◌≡◌, ℕ, zero, suc, ◌+◌, ◌<◌, Bool, true, false, List, [], ◌∷◌, length, get_or, set, refl, sym, ap, subst, ◌∙◌, arith, inl, inr}
 use Rattle.std.specs.List.{All, swap}
 use Rattle.std.specs.List.Sorted.{IsPermutation, IsSorted}

@@ -1,4 +1,4 @@
--- What is spelled as a shard is read.
+-- The encoding of a shard is read back.
 use Rattle.std.proofs.Common.{◌≡◌, ℕ, ◌+◌, ◌-◌, ◌*◌, ◌/◌, ◌^◌, ◌≤◌, Bool, true, false, eqb, List, ◌++◌, length, take, drop, None, Result, Ok, refl, sym, ap, subst, ◌∙◌, arith}
 use Rattle.std.specs.List.{AllByRecursion}
 use Rattle.std.specs.Prelude.{replicate, nat_eq}
@@ -11,14 +11,14 @@ use Rattle.xet_shard_format.specs.declared.header_footer.MDBShardFileFooter.{MDB
 use Rattle.xet_shard_format.specs.declared.record.MDBXorbInfo.{MDBXorbInfo}
 use Rattle.xet_shard_format.specs.declared.row.Row.{Row}
 use Rattle.xet_hash.specs.declared.error.StoreError.{StoreError}
-use Rattle.xet_shard_format.specs.Rows.{RowFits, rows_in, rows_text}
+use Rattle.xet_shard_format.specs.Rows.{RowFits, rows_in, rows_bytes}
 use Rattle.xet_codec.specs.Numbers.{word}
 use Rattle.xet_shard_format.specs.Records.{IsFile, IsXorb, file_hash, file_head, file_rest, file_section, xorb_hash, xorb_head, xorb_rest, xorb_section}
-use Rattle.xet_shard_format.specs.Lookups.{Lookups, chunk_items, file_items, head_text, heads_text, left_in, place_text, places_text, xorb_items}
-use Rattle.xet_shard_format.specs.Text.{Fits, IsShard, Shard, footer_of, footer_text, header, header_text, materialized, shard_text, stored}
+use Rattle.xet_shard_format.specs.Lookups.{Lookups, chunk_items, file_items, record_item_bytes, record_items_bytes, left_in, chunk_item_bytes, chunk_items_bytes, xorb_items}
+use Rattle.xet_shard_format.specs.Encoding.{Fits, IsShard, Shard, footer_of, footer_text, header, shard_header_bytes, materialized, shard_bytes, stored}
 use Rattle.xet_shard_format.specs.Reading.{IsPlaced, all_of, file_at, file_row_count, footer_at, footer_in, header_at, lookup_at, section_at, totals_at, Parts, parts_of, shard_of, xorb_at, xorb_row_count}
 use Rattle.xet_shard_format.specs.theorems.SectionLaws.{files_reading, xorbs_reading, section_again}
-use Rattle.xet_shard_format.specs.theorems.Bytes.{rows_again, length-rows_text}
+use Rattle.xet_shard_format.specs.theorems.Bytes.{rows_again, length-rows_bytes}
 use Rattle.xet_shard_format.specs.theorems.Footers.{header_again, footer_again, FooterFits, zeros_again, length-footer_text, places_again}
 use Rattle.xet_shard_format.specs.theorems.Counts.{chunk_count, file_count, rows_le, xorb_count}
 use Rattle.xet_shard_format.specs.theorems.Fitting.{materialized_below, stored_below}
@@ -49,9 +49,9 @@ count_after a n = let diff : a + 48 * n - a ≡ 48 * n = omega arith in ap (λ (
 read_again : (bytes : List ℕ) (f : MDBShardFileFooter) (files : List MDBFileInfo) (blocks : List MDBXorbInfo) → header_at bytes ≡ Ok tt → footer_at bytes ≡ Ok f
     → section_at file_at file_hash (file_row_count f) None (rows_in (file_row_count f) (drop f.file_info_offset bytes)) ≡ Ok files
     → section_at xorb_at xorb_hash (xorb_row_count f) None (rows_in (xorb_row_count f) (drop f.xorb_info_offset bytes)) ≡ Ok blocks
-    → lookup_at bytes f.file_lookup_offset (12 * f.file_lookup_num_entry) (heads_text (file_items files)) ≡ Ok tt
-    → lookup_at bytes f.xorb_lookup_offset (12 * f.xorb_lookup_num_entry) (heads_text (xorb_items blocks)) ≡ Ok tt
-    → lookup_at bytes f.chunk_lookup_offset (16 * f.chunk_lookup_num_entry) (places_text (chunk_items blocks)) ≡ Ok tt
+    → lookup_at bytes f.file_lookup_offset (12 * f.file_lookup_num_entry) (record_items_bytes (file_items files)) ≡ Ok tt
+    → lookup_at bytes f.xorb_lookup_offset (12 * f.xorb_lookup_num_entry) (record_items_bytes (xorb_items blocks)) ≡ Ok tt
+    → lookup_at bytes f.chunk_lookup_offset (16 * f.chunk_lookup_num_entry) (chunk_items_bytes (chunk_items blocks)) ≡ Ok tt
     → totals_at f (materialized files) (stored blocks) ≡ Ok tt → all_of bytes ≡ Ok (blocks, files, f)
 unfolding all_of
 read_again bytes f files blocks h g fs xs l1 l2 l3 t = rw (h, g, fs, xs, l1, l2, l3, t) refl
@@ -68,7 +68,7 @@ take_next : (bytes : List ℕ) (at len : ℕ) (piece rest : List ℕ) → drop a
 take_next bytes at len piece rest e l = ap (take len) e ∙ take_at piece rest len l
 
 section_placed : {X : Type 0} (record_at : Row → List Row → Result (X × List Row) StoreError) (hash : X → List ℕ) (bytes : List ℕ) (at n count : ℕ) (rows : List Row) (rest : List ℕ) (xs : List X)
-    → drop at bytes ≡ rows_text rows ++ rest → AllByRecursion RowFits rows → length rows ≡ n → count ≡ n → section_at record_at hash (length rows) None rows ≡ Ok xs → section_at record_at hash count None (rows_in count (drop at bytes)) ≡ Ok xs
+    → drop at bytes ≡ rows_bytes rows ++ rest → AllByRecursion RowFits rows → length rows ≡ n → count ≡ n → section_at record_at hash (length rows) None rows ≡ Ok xs → section_at record_at hash count None (rows_in count (drop at bytes)) ≡ Ok xs
 section_placed record_at hash bytes at n count rows rest xs e fits l c s =
     let same : count ≡ length rows = c ∙ sym l in
     (λ i. section_at record_at hash (same i) None (rows_in (same i) (e i))) ∙ ap (section_at record_at hash (length rows) None) (rows_again rows rest fits) ∙ s
@@ -77,8 +77,8 @@ no_count : {X : Type 0} (k : ℕ) (w : Bool) (xs : List X) → w ≡ false → k
 no_count k true xs e = absurd (true≢false e)
 no_count k false xs e = grind arith
 
-spelled_again : (bytes : List ℕ) (f : MDBShardFileFooter) (s : Shard) (w : Lookups) → IsShard s → Fits s → bytes ≡ shard_text w s → f ≡ footer_of w s → all_of bytes ≡ Ok (s.blocks, s.files, f)
-unfolding shard_text footer_of
+spelled_again : (bytes : List ℕ) (f : MDBShardFileFooter) (s : Shard) (w : Lookups) → IsShard s → Fits s → bytes ≡ shard_bytes w s → f ≡ footer_of w s → all_of bytes ≡ Ok (s.blocks, s.files, f)
+unfolding shard_bytes footer_of
 spelled_again bytes f s w form fits text footer =
     let e0 : f.file_info_offset ≡ 48 = ap (λ (g : MDBShardFileFooter). g.file_info_offset) footer in
     let e1 : f.xorb_info_offset ≡ 48 + 48 * length (file_section s.files) = ap (λ (g : MDBShardFileFooter). g.xorb_info_offset) footer in
@@ -89,11 +89,11 @@ spelled_again bytes f s w form fits text footer =
     let e4 : f.chunk_lookup_offset ≡ 48 + 48 * length (file_section s.files) + 48 * length (xorb_section s.blocks) + 12 * length (left_in w.files (file_items s.files)) + 12 * length (left_in w.xorbs (xorb_items s.blocks)) = ap (λ (g : MDBShardFileFooter). g.chunk_lookup_offset) footer in
     let nc : f.chunk_lookup_num_entry ≡ length (left_in w.chunks (chunk_items s.blocks)) = ap (λ (g : MDBShardFileFooter). g.chunk_lookup_num_entry) footer in
     let e5 : f.footer_offset ≡ 48 + 48 * length (file_section s.files) + 48 * length (xorb_section s.blocks) + 12 * length (left_in w.files (file_items s.files)) + 12 * length (left_in w.xorbs (xorb_items s.blocks)) + 16 * length (left_in w.chunks (chunk_items s.blocks)) = ap (λ (g : MDBShardFileFooter). g.footer_offset) footer in
-    let lf = length-rows_text (file_section s.files) fits.files in
-    let lx = length-rows_text (xorb_section s.blocks) fits.blocks in
-    let la = length-items_text head_text 12 head_len (left_in w.files (file_items s.files)) in
-    let lb = length-items_text head_text 12 head_len (left_in w.xorbs (xorb_items s.blocks)) in
-    let lc = length-items_text place_text 16 place_len (left_in w.chunks (chunk_items s.blocks)) in
+    let lf = length-rows_bytes (file_section s.files) fits.files in
+    let lx = length-rows_bytes (xorb_section s.blocks) fits.blocks in
+    let la = length-items_text record_item_bytes 12 head_len (left_in w.files (file_items s.files)) in
+    let lb = length-items_text record_item_bytes 12 head_len (left_in w.xorbs (xorb_items s.blocks)) in
+    let lc = length-items_text chunk_item_bytes 16 place_len (left_in w.chunks (chunk_items s.blocks)) in
     let d0 = ap (drop 48) text in
     let d1 = drop_next bytes 48 (48 * length (file_section s.files)) f.xorb_info_offset _ _ d0 lf (sym e1) in
     let d2 = drop_next bytes f.xorb_info_offset (48 * length (xorb_section s.blocks)) f.file_lookup_offset _ _ d1 lx (omega (arith, e1, e2)) in
@@ -141,20 +141,20 @@ spelled_again bytes f s w form fits text footer =
     let at_end : length bytes - 200 ≡ f.footer_offset = omega (arith, whole) in
     let end : drop (length bytes - 200) bytes ≡ footer_text f = ap (λ (k : ℕ). drop k bytes) at_end ∙ d5 ∙ ap footer_text (sym footer) in
     let long : 200 ≤ length (drop 48 bytes) = omega (arith, length-drop 48 bytes, whole, e5) in
-    let head : header_at bytes ≡ Ok tt = ap header_at (text ∙ ap (λ (t : List ℕ). header_text header ++ t) (sym d0)) ∙ header_again (drop 48 bytes) long in
+    let head : header_at bytes ≡ Ok tt = ap header_at (text ∙ ap (λ (t : List ℕ). shard_header_bytes header ++ t) (sym d0)) ∙ header_again (drop 48 bytes) long in
     read_again bytes f s.files s.blocks head
     (footer_at_again bytes f end (subst FooterFits (sym footer) ff) (ap (λ (g : MDBShardFileFooter). g.version) footer) placed)
     (section_placed file_at file_hash bytes f.file_info_offset (length (file_section s.files)) (file_row_count f) (file_section s.files) _ s.files (ap (λ (k : ℕ). drop k bytes) e0 ∙ d0) fits.files refl cf
     (section_again file_at file_hash file_head file_rest IsFile files_reading (length (file_section s.files)) None s.files (rows_le file_head file_rest s.files) form.files))
     (section_placed xorb_at xorb_hash bytes f.xorb_info_offset (length (xorb_section s.blocks)) (xorb_row_count f) (xorb_section s.blocks) _ s.blocks d1 fits.blocks refl cx
     (section_again xorb_at xorb_hash xorb_head xorb_rest IsXorb xorbs_reading (length (xorb_section s.blocks)) None s.blocks (rows_le xorb_head xorb_rest s.blocks) form.blocks))
-    (lookup_again head_text w.files (file_items s.files) bytes f.file_lookup_offset (12 * f.file_lookup_num_entry) (take_next bytes f.file_lookup_offset (12 * f.file_lookup_num_entry) _ _ d2 (omega (arith, la, na))) (λ e. ap (λ (k : ℕ). 12 * k) na ∙ no_count 12 w.files (file_items s.files) e))
-    (lookup_again head_text w.xorbs (xorb_items s.blocks) bytes f.xorb_lookup_offset (12 * f.xorb_lookup_num_entry) (take_next bytes f.xorb_lookup_offset (12 * f.xorb_lookup_num_entry) _ _ d3 (omega (arith, lb, nb))) (λ e. ap (λ (k : ℕ). 12 * k) nb ∙ no_count 12 w.xorbs (xorb_items s.blocks) e))
-    (lookup_again place_text w.chunks (chunk_items s.blocks) bytes f.chunk_lookup_offset (16 * f.chunk_lookup_num_entry) (take_next bytes f.chunk_lookup_offset (16 * f.chunk_lookup_num_entry) _ _ d4 (omega (arith, lc, nc))) (λ e. ap (λ (k : ℕ). 16 * k) nc ∙ no_count 16 w.chunks (chunk_items s.blocks) e))
+    (lookup_again record_item_bytes w.files (file_items s.files) bytes f.file_lookup_offset (12 * f.file_lookup_num_entry) (take_next bytes f.file_lookup_offset (12 * f.file_lookup_num_entry) _ _ d2 (omega (arith, la, na))) (λ e. ap (λ (k : ℕ). 12 * k) na ∙ no_count 12 w.files (file_items s.files) e))
+    (lookup_again record_item_bytes w.xorbs (xorb_items s.blocks) bytes f.xorb_lookup_offset (12 * f.xorb_lookup_num_entry) (take_next bytes f.xorb_lookup_offset (12 * f.xorb_lookup_num_entry) _ _ d3 (omega (arith, lb, nb))) (λ e. ap (λ (k : ℕ). 12 * k) nb ∙ no_count 12 w.xorbs (xorb_items s.blocks) e))
+    (lookup_again chunk_item_bytes w.chunks (chunk_items s.blocks) bytes f.chunk_lookup_offset (16 * f.chunk_lookup_num_entry) (take_next bytes f.chunk_lookup_offset (16 * f.chunk_lookup_num_entry) _ _ d4 (omega (arith, lc, nc))) (λ e. ap (λ (k : ℕ). 16 * k) nc ∙ no_count 16 w.chunks (chunk_items s.blocks) e))
     (totals_again f (materialized s.files) (stored s.blocks) (ap (λ (g : MDBShardFileFooter). g.stored_bytes_on_disk) footer) (ap (λ (g : MDBShardFileFooter). g.materialized_bytes) footer) (ap (λ (g : MDBShardFileFooter). g.stored_bytes) footer))
 
-pub all_again : (w : Lookups) (s : Shard) → IsShard s → Fits s → all_of (shard_text w s) ≡ Ok (s.blocks, s.files, footer_of w s)
-all_again w s form fits = spelled_again (shard_text w s) (footer_of w s) s w form fits refl refl
+pub all_again : (w : Lookups) (s : Shard) → IsShard s → Fits s → all_of (shard_bytes w s) ≡ Ok (s.blocks, s.files, footer_of w s)
+all_again w s form fits = spelled_again (shard_bytes w s) (footer_of w s) s w form fits refl refl
 
 -- ---- two shards of one text
 

@@ -1,4 +1,4 @@
--- The two laws of a whole shard.
+-- What is read of bytes is a well-formed shard, and the bytes are its encoding.
 use Rattle.std.proofs.Common.{◌≡◌, ℕ, zero, suc, ◌+◌, ◌-◌, ◌*◌, ◌/◌, ◌^◌, ◌<◌, ◌≤◌, Bool, true, false, eqb, List, [], ◌∷◌, ◌++◌, length, take, drop, None, Ok, refl, sym, ap, subst, ◌∙◌, arith, inl, inr}
 use Rattle.std.specs.List.{flat_map, AllByRecursion, All}
 use Rattle.std.specs.Prelude.{replicate, nat_eq}
@@ -11,11 +11,11 @@ use Rattle.xet_shard_format.specs.declared.record.MDBFileInfo.{MDBFileInfo}
 use Rattle.xet_shard_format.specs.declared.header_footer.MDBShardFileFooter.{MDBShardFileFooter}
 use Rattle.xet_shard_format.specs.declared.record.MDBXorbInfo.{MDBXorbInfo}
 use Rattle.xet_shard_format.specs.declared.row.Row.{Row}
-use Rattle.xet_shard_format.specs.Rows.{RowFits, rows_in, rows_text}
+use Rattle.xet_shard_format.specs.Rows.{RowFits, rows_in, rows_bytes}
 use Rattle.xet_codec.specs.Numbers.{word}
 use Rattle.xet_shard_format.specs.Records.{IsFile, IsXorb, file_hash, file_head, file_rest, file_section, xorb_hash, xorb_head, xorb_rest, xorb_section}
-use Rattle.xet_shard_format.specs.Lookups.{Lookups, chunk_items, file_items, head_text, heads_text, left_in, place_text, places_text, xorb_items}
-use Rattle.xet_shard_format.specs.Text.{Shard, footer_of, footer_text, header, header_text, materialized, shard_text, stored}
+use Rattle.xet_shard_format.specs.Lookups.{Lookups, chunk_items, file_items, record_item_bytes, record_items_bytes, left_in, chunk_item_bytes, chunk_items_bytes, xorb_items}
+use Rattle.xet_shard_format.specs.Encoding.{Shard, footer_of, footer_text, header, shard_header_bytes, materialized, shard_bytes, stored}
 use Rattle.xet_shard_format.specs.Reading.{IsPlaced, IsRead, Parts, all_of, file_at, file_row_count, footer_at, footer_in, header_at, lookup_at, places_at, section_at, totals_at, xorb_at, xorb_row_count}
 use Rattle.xet_shard_format.specs.theorems.RowList.{length-rows_in}
 use Rattle.xet_shard_format.specs.theorems.RowLaws.{chosen, bind_ok, wants_ok, wants_last, ok_is}
@@ -71,10 +71,10 @@ lookup_again text true items bytes at len e z = elim (cases_Bool (eqb len 0)) [
 
 -- ---- reading a shard
 
-pub head_len : (i : ℕ × ℕ) → length (head_text i) ≡ 12
+pub head_len : (i : ℕ × ℕ) → length (record_item_bytes i) ≡ 12
 head_len i = refl
 
-pub place_len : (i : ℕ × ℕ × ℕ) → length (place_text i) ≡ 16
+pub place_len : (i : ℕ × ℕ × ℕ) → length (chunk_item_bytes i) ≡ 16
 place_len i = refl
 
 pub record Ended (bytes : List ℕ) (f : MDBShardFileFooter) : Type 0 where
@@ -113,12 +113,12 @@ totals_take f m s u e =
 
 -- a section that was read: its rows are those in its place
 rows_placed : (bytes : List ℕ) (at n next : ℕ) (rows : List Row) → IsBytes bytes → at + 48 * n ≡ next → next ≤ length bytes → rows_in n (drop at bytes) ≡ rows
-    → (drop at bytes ≡ rows_text rows ++ drop next bytes) × (length rows ≡ n) × AllByRecursion RowFits rows
+    → (drop at bytes ≡ rows_bytes rows ++ drop next bytes) × (length rows ≡ n) × AllByRecursion RowFits rows
 rows_placed bytes at n next rows fits e le is =
     let enough : 48 * n ≤ length (drop at bytes) = omega (arith, e, le, length-drop at bytes) in
     let back = rows_back n (drop at bytes) (IsBytes-drop at bytes fits) enough in
     let rest : drop (48 * n) (drop at bytes) ≡ drop next bytes = drop-drop (48 * n) at bytes ∙ ap (λ (k : ℕ). drop k bytes) e in
-    (sym back ∙ (λ i. rows_text (is i) ++ rest i), ap length (sym is) ∙ length-rows_in n (drop at bytes), subst (AllByRecursion RowFits) is (rows_fit n (drop at bytes) (IsBytes-drop at bytes fits) enough))
+    (sym back ∙ (λ i. rows_bytes (is i) ++ rest i), ap length (sym is) ∙ length-rows_in n (drop at bytes), subst (AllByRecursion RowFits) is (rows_fit n (drop at bytes) (IsBytes-drop at bytes fits) enough))
 
 -- a look-up in its place
 piece_placed : (bytes : List ℕ) (at len next : ℕ) (piece : List ℕ) → at + len ≡ next → take len (drop at bytes) ≡ piece → drop at bytes ≡ piece ++ drop next bytes
@@ -147,16 +147,16 @@ footer_is f g e1 e2 e3 e4 e5 e6 e7 e8 e9 e10 e11 e12 e13 e14 e15 e16 = λ i. rec
   footer_offset = e16 i;
 }
 
-read_parts : (bytes : List ℕ) (files : List MDBFileInfo) (blocks : List MDBXorbInfo) (f : MDBShardFileFooter) → IsBytes bytes → (bytes ≡ header_text header ++ drop 48 bytes) × (248 ≤ length bytes)
+read_parts : (bytes : List ℕ) (files : List MDBFileInfo) (blocks : List MDBXorbInfo) (f : MDBShardFileFooter) → IsBytes bytes → (bytes ≡ shard_header_bytes header ++ drop 48 bytes) × (248 ≤ length bytes)
     → section_at file_at file_hash (file_row_count f) None (rows_in (file_row_count f) (drop f.file_info_offset bytes)) ≡ Ok files
     → section_at xorb_at xorb_hash (xorb_row_count f) None (rows_in (xorb_row_count f) (drop f.xorb_info_offset bytes)) ≡ Ok blocks
     → Ended bytes f
-    → (u1 : Unit {0}) → lookup_at bytes f.file_lookup_offset (12 * f.file_lookup_num_entry) (heads_text (file_items files)) ≡ Ok u1
-    → (u2 : Unit {0}) → lookup_at bytes f.xorb_lookup_offset (12 * f.xorb_lookup_num_entry) (heads_text (xorb_items blocks)) ≡ Ok u2
-    → (u3 : Unit {0}) → lookup_at bytes f.chunk_lookup_offset (16 * f.chunk_lookup_num_entry) (places_text (chunk_items blocks)) ≡ Ok u3
+    → (u1 : Unit {0}) → lookup_at bytes f.file_lookup_offset (12 * f.file_lookup_num_entry) (record_items_bytes (file_items files)) ≡ Ok u1
+    → (u2 : Unit {0}) → lookup_at bytes f.xorb_lookup_offset (12 * f.xorb_lookup_num_entry) (record_items_bytes (xorb_items blocks)) ≡ Ok u2
+    → (u3 : Unit {0}) → lookup_at bytes f.chunk_lookup_offset (16 * f.chunk_lookup_num_entry) (chunk_items_bytes (chunk_items blocks)) ≡ Ok u3
     → (f.stored_bytes_on_disk ≡ 0) × (f.materialized_bytes ≡ materialized files) × (f.stored_bytes ≡ stored blocks)
     → IsRead bytes (blocks, files, f)
-unfolding shard_text footer_of footer_in
+unfolding shard_bytes footer_of footer_in
 read_parts bytes files blocks f fits h fe xe end u1 l1 u2 l2 u3 l3 totals =
     let p = end.placed in
     let fs = section_takes file_at file_hash file_head file_rest IsFile files_reading (file_row_count f) None (rows_in (file_row_count f) (drop f.file_info_offset bytes)) files fe in
@@ -164,9 +164,9 @@ read_parts bytes files blocks f fits h fe xe end u1 l1 u2 l2 u3 l3 totals =
     let lt : f.footer_offset < length bytes = omega (arith, p.end) in
     let frows = rows_placed bytes f.file_info_offset (file_row_count f) f.xorb_info_offset (file_section files) fits (sym p.xorbs) (omega (arith, p.end, p.footer, p.chunk_lookup, p.xorb_lookup, p.file_lookup)) fs.0 in
     let xrows = rows_placed bytes f.xorb_info_offset (xorb_row_count f) f.file_lookup_offset (xorb_section blocks) fits (sym p.file_lookup) (omega (arith, p.end, p.footer, p.chunk_lookup, p.xorb_lookup)) xs.0 in
-    let a = lookup_takes head_text 11 head_len (file_items files) bytes f.file_lookup_offset f.file_lookup_num_entry (12 * f.file_lookup_num_entry) u1 refl (omega (arith, p.end, p.footer, p.chunk_lookup, p.xorb_lookup)) l1 in
-    let b = lookup_takes head_text 11 head_len (xorb_items blocks) bytes f.xorb_lookup_offset f.xorb_lookup_num_entry (12 * f.xorb_lookup_num_entry) u2 refl (omega (arith, p.end, p.footer, p.chunk_lookup)) l2 in
-    let c = lookup_takes place_text 15 place_len (chunk_items blocks) bytes f.chunk_lookup_offset f.chunk_lookup_num_entry (16 * f.chunk_lookup_num_entry) u3 refl (omega (arith, p.end, p.footer)) l3 in
+    let a = lookup_takes record_item_bytes 11 head_len (file_items files) bytes f.file_lookup_offset f.file_lookup_num_entry (12 * f.file_lookup_num_entry) u1 refl (omega (arith, p.end, p.footer, p.chunk_lookup, p.xorb_lookup)) l1 in
+    let b = lookup_takes record_item_bytes 11 head_len (xorb_items blocks) bytes f.xorb_lookup_offset f.xorb_lookup_num_entry (12 * f.xorb_lookup_num_entry) u2 refl (omega (arith, p.end, p.footer, p.chunk_lookup)) l2 in
+    let c = lookup_takes chunk_item_bytes 15 place_len (chunk_items blocks) bytes f.chunk_lookup_offset f.chunk_lookup_num_entry (16 * f.chunk_lookup_num_entry) u3 refl (omega (arith, p.end, p.footer)) l3 in
     let ta = piece_placed bytes f.file_lookup_offset (12 * f.file_lookup_num_entry) f.xorb_lookup_offset _ (sym p.xorb_lookup) a.is in
     let tb = piece_placed bytes f.xorb_lookup_offset (12 * f.xorb_lookup_num_entry) f.chunk_lookup_offset _ (sym p.chunk_lookup) b.is in
     let tc = piece_placed bytes f.chunk_lookup_offset (16 * f.chunk_lookup_num_entry) f.footer_offset _ (sym p.footer) c.is in
@@ -184,12 +184,12 @@ read_parts bytes files blocks f fits h fe xe end u1 l1 u2 l2 u3 l3 totals =
     refl refl refl totals.0 totals.1 totals.2
     (omega (arith, p.files, p.xorbs, p.file_lookup, p.xorb_lookup, p.chunk_lookup, p.footer, frows.1, xrows.1, a.count, b.count, c.count)) in
     let tail : drop f.footer_offset bytes ≡ footer_text (footer_of which s) = ap (λ (k : ℕ). drop k bytes) (sym at_end) ∙ sym end.text ∙ ap footer_text footer in
-    let e5 = tc ∙ ap (λ (t : List ℕ). flat_map place_text (left_in c.stands (chunk_items blocks)) ++ t) tail in
-    let e4 = tb ∙ ap (λ (t : List ℕ). flat_map head_text (left_in b.stands (xorb_items blocks)) ++ t) e5 in
-    let e3 = ta ∙ ap (λ (t : List ℕ). flat_map head_text (left_in a.stands (file_items files)) ++ t) e4 in
-    let e2 = xrows.0 ∙ ap (λ (t : List ℕ). rows_text (xorb_section blocks) ++ t) e3 in
-    let e1 = frows.0 ∙ ap (λ (t : List ℕ). rows_text (file_section files) ++ t) e2 in
-    let whole : bytes ≡ shard_text which s = h.0 ∙ ap (λ (t : List ℕ). header_text header ++ t) (ap (λ (k : ℕ). drop k bytes) (sym p.files) ∙ e1) in
+    let e5 = tc ∙ ap (λ (t : List ℕ). flat_map chunk_item_bytes (left_in c.stands (chunk_items blocks)) ++ t) tail in
+    let e4 = tb ∙ ap (λ (t : List ℕ). flat_map record_item_bytes (left_in b.stands (xorb_items blocks)) ++ t) e5 in
+    let e3 = ta ∙ ap (λ (t : List ℕ). flat_map record_item_bytes (left_in a.stands (file_items files)) ++ t) e4 in
+    let e2 = xrows.0 ∙ ap (λ (t : List ℕ). rows_bytes (xorb_section blocks) ++ t) e3 in
+    let e1 = frows.0 ∙ ap (λ (t : List ℕ). rows_bytes (file_section files) ++ t) e2 in
+    let whole : bytes ≡ shard_bytes which s = h.0 ∙ ap (λ (t : List ℕ). shard_header_bytes header ++ t) (ap (λ (k : ℕ). drop k bytes) (sym p.files) ∙ e1) in
     let ends : List ℕ = drop (length bytes - 200) bytes in
     let ends_fit : IsBytes (drop (length bytes - 200) bytes) = IsBytes-drop (length bytes - 200) bytes fits in
     let ends_len : length (drop (length bytes - 200) bytes) ≡ 200 = length-drop (length bytes - 200) bytes ∙ omega (arith, h.1) in
@@ -218,9 +218,9 @@ all_takes bytes p fits e =
     let f : MDBShardFileFooter = g.0 in
     let fs = bind_ok (section_at file_at file_hash (file_row_count g.0) None (rows_in (file_row_count g.0) (drop g.0.file_info_offset bytes))) _ _ g.2 in
     let xs = bind_ok (section_at xorb_at xorb_hash (xorb_row_count g.0) None (rows_in (xorb_row_count g.0) (drop g.0.xorb_info_offset bytes))) _ _ fs.2 in
-    let l1 = bind_ok (lookup_at bytes g.0.file_lookup_offset (12 * g.0.file_lookup_num_entry) (heads_text (file_items fs.0))) _ _ xs.2 in
-    let l2 = bind_ok (lookup_at bytes g.0.xorb_lookup_offset (12 * g.0.xorb_lookup_num_entry) (heads_text (xorb_items xs.0))) _ _ l1.2 in
-    let l3 = bind_ok (lookup_at bytes g.0.chunk_lookup_offset (16 * g.0.chunk_lookup_num_entry) (places_text (chunk_items xs.0))) _ _ l2.2 in
+    let l1 = bind_ok (lookup_at bytes g.0.file_lookup_offset (12 * g.0.file_lookup_num_entry) (record_items_bytes (file_items fs.0))) _ _ xs.2 in
+    let l2 = bind_ok (lookup_at bytes g.0.xorb_lookup_offset (12 * g.0.xorb_lookup_num_entry) (record_items_bytes (xorb_items xs.0))) _ _ l1.2 in
+    let l3 = bind_ok (lookup_at bytes g.0.chunk_lookup_offset (16 * g.0.chunk_lookup_num_entry) (chunk_items_bytes (chunk_items xs.0))) _ _ l2.2 in
     let t = bind_ok (totals_at g.0 (materialized fs.0) (stored xs.0)) _ _ l3.2 in
     let made : Parts = (xs.0, fs.0, g.0) in
     subst (λ (q : Parts). IsRead bytes q) (ok_is made p t.2)

@@ -1,4 +1,4 @@
--- A folder stays admitted where what its shards name stays, and with one whole shard more.
+-- A folder stays valid if what its shards name does not change, and also with one more well-formed shard.
 use Rattle.std.proofs.Common.{◌≡◌, ◌≢◌, inl, inr, ◌∙◌, ℕ, suc, ◌<◌, Bool, true, false, cond, not, filter, List, [], ◌∷◌, map, Option, Some, IsSome, refl, sym, ap, subst, arith, nat_eq}
 use Rattle.std.proofs.lemmas.Cmp.{by_ranked}
 use Rattle.std.proofs.lemmas.List.Elements.{All-from_recursion, recursion_from_All}
@@ -120,10 +120,10 @@ module _ (old new : Files) (folder : List ℕ) where
 -- ---- the order of shards
 
 abbrev shard_cmp : ShardFile → ShardFile → Ordering
-shard_cmp a b = ordering_then (nat_cmp b.file.stamp a.file.stamp) (slice_cmp nat_cmp (shard_name a.hash) (shard_name b.hash))
+shard_cmp a b = ordering_then (nat_cmp b.file.modified a.file.modified) (slice_cmp nat_cmp (shard_name a.hash) (shard_name b.hash))
 
 shard_cmp_total : IsTotalOrder shard_cmp
-shard_cmp_total = then_total (back_total (on_total (λ (s : ShardFile). s.file.stamp) nat_cmp_total)) (on_total (λ (s : ShardFile). shard_name s.hash) nat_list_cmp_total)
+shard_cmp_total = then_total (back_total (on_total (λ (s : ShardFile). s.file.modified) nat_cmp_total)) (on_total (λ (s : ShardFile). shard_name s.hash) nat_list_cmp_total)
 
 lt_is : (o : Ordering) → is_lt o ≡ true → o ≡ Less
 lt_is Less e = refl
@@ -132,7 +132,7 @@ lt_is Greater e = absurd (cc e)
 
 before_to : (a b : ShardFile) → shard_cmp a b ≡ Less → ComesBefore a b
 before_to a b less =
-    by_ranked (b.file.stamp < a.file.stamp) (b.file.stamp ≡ a.file.stamp) (a.file.stamp < b.file.stamp) (nat_cmp b.file.stamp a.file.stamp) (ranked b.file.stamp a.file.stamp _ refl)
+    by_ranked (b.file.modified < a.file.modified) (b.file.modified ≡ a.file.modified) (a.file.modified < b.file.modified) (nat_cmp b.file.modified a.file.modified) (ranked b.file.modified a.file.modified _ refl)
     (λ e lt. inl lt)
     (λ e same.
     let names : slice_cmp nat_cmp (shard_name a.hash) (shard_name b.hash) ≡ Less = subst (λ (o : Ordering). ordering_then o (slice_cmp nat_cmp (shard_name a.hash) (shard_name b.hash)) ≡ Less) e less in
@@ -141,16 +141,16 @@ before_to a b less =
 
 before_from : (a b : ShardFile) → ComesBefore a b → shard_cmp a b ≡ Less
 before_from a b before =
-    by_ranked (b.file.stamp < a.file.stamp) (b.file.stamp ≡ a.file.stamp) (a.file.stamp < b.file.stamp) (nat_cmp b.file.stamp a.file.stamp) (ranked b.file.stamp a.file.stamp _ refl)
+    by_ranked (b.file.modified < a.file.modified) (b.file.modified ≡ a.file.modified) (a.file.modified < b.file.modified) (nat_cmp b.file.modified a.file.modified) (ranked b.file.modified a.file.modified _ refl)
     (λ e lt. ap (λ (o : Ordering). ordering_then o (slice_cmp nat_cmp (shard_name a.hash) (shard_name b.hash))) e)
     (λ e same. ap (λ (o : Ordering). ordering_then o (slice_cmp nat_cmp (shard_name a.hash) (shard_name b.hash))) e ∙ names same before)
     (λ e gt. absurd (none gt before))
   where
-    names : b.file.stamp ≡ a.file.stamp → ComesBefore a b → slice_cmp nat_cmp (shard_name a.hash) (shard_name b.hash) ≡ Less
+    names : b.file.modified ≡ a.file.modified → ComesBefore a b → slice_cmp nat_cmp (shard_name a.hash) (shard_name b.hash) ≡ Less
     names same (inl lt) = absurd (omega (arith, lt, same))
     names same (inr p) = lt_is _ p.1
 
-    none : a.file.stamp < b.file.stamp → ComesBefore a b → ⊥
+    none : a.file.modified < b.file.modified → ComesBefore a b → ⊥
     none gt (inl lt) = omega (arith, gt, lt)
     none gt (inr p) = let same = p.0 in omega (arith, gt, same)
 
@@ -159,7 +159,7 @@ before_trans a b c p q = before_to a c (shard_cmp_total.trans a b c (before_from
 
 -- of two shards of different hashes one comes before the other
 name_of_equal : (a b : ShardFile) → shard_cmp a b ≡ Equal → shard_name a.hash ≡ shard_name b.hash
-name_of_equal a b e = slice_cmp-IsAntisymmetric nat_cmp-IsAntisymmetric (shard_name a.hash) (shard_name b.hash) (second (nat_cmp b.file.stamp a.file.stamp) e)
+name_of_equal a b e = slice_cmp-IsAntisymmetric nat_cmp-IsAntisymmetric (shard_name a.hash) (shard_name b.hash) (second (nat_cmp b.file.modified a.file.modified) e)
   where
     second : (o : Ordering) → ordering_then o (slice_cmp nat_cmp (shard_name a.hash) (shard_name b.hash)) ≡ Equal → slice_cmp nat_cmp (shard_name a.hash) (shard_name b.hash) ≡ Equal
     second Less e = absurd (cc e)

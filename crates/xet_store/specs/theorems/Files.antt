@@ -1,4 +1,4 @@
--- The cleaned files of a sound store, where digests separate.
+-- Cleaned files in a sound session without collisions: they have plans, and their xorbs are stored.
 use Rattle.std.proofs.Common.{Result, Ok, Err, OnOk, IfOk, ◌≡◌, ◌≢◌, inl, inr, ◌∙◌, ℕ, zero, suc, ◌-◌, ◌<◌, Bool, true, false, List, [], ◌∷◌, length, Option, Some, None, IsSome, option_map, refl, sym, subst, arith, nat_eq}
 use Rattle.std.specs.List.{AllByRecursion}
 use Rattle.std.specs.Cmp.Lexicographic.{pointwise}

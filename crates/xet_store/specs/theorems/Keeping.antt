@@ -1,4 +1,4 @@
--- What a store keeps over several calls.
+-- What a session keeps over several calls.
 use Rattle.std.proofs.Common.{◌≡◌, ◌⊎◌, inl, inr, ◌∙◌, ◌≤◌, ℕ, Bool, true, List, [], ◌∷◌, ◌++◌, Option, Some, None, IsSome, append_assoc, option_map, refl, sym, ap, subst, arith}
 use Rattle.std.specs.List.{AllByRecursion}
 use Rattle.xet_io.specs.Disk.{Entry, file_at}
@@ -6,7 +6,7 @@ use Rattle.xet_folder.specs.Admission.{ShardHolds}
 use Rattle.xet_folder.specs.Names.{IsForeign, xorb_path}
 use Rattle.xet_shard_file.specs.Names.{shard_path}
 use Rattle.xet_folder.specs.Xorbs.{Records, found}
-use Rattle.xet_store.specs.Cleaning.{HasWholeShard, HasXorb, IsStable, Keeps, SameEntry}
+use Rattle.xet_store.specs.Cleaning.{HasWholeShard, HasXorb, IsDurable, Keeps, SameEntry}
 use Rattle.xet_store.specs.Separate.{Among}
 use Rattle.xet_store.specs.Store.{State}
 use Rattle.xet_store.specs.theorems.Admitting.{holds_same, stored_same}
@@ -38,7 +38,7 @@ listed_still a b keeps k is = go (found a.xorbs k) refl is
     go (Some m) e ok = is_some_found b.xorbs k m (keeps.xorbs k m e)
 
 abbrev stability : Option Entry → Option Bool
-stability e = option_map (λ (x : Entry). x.stable) e
+stability e = option_map (λ (x : Entry). x.durable) e
 
 -- two calls, one after the other
 pub keeps_then : (a b c : State) → Keeps a b → Keeps b c → Keeps a c
@@ -66,8 +66,8 @@ keeps_then a b c x y = record {
     moved_xorb : (k : List ℕ) → SameEntry b.files c.files (xorb_path b.folder k) → SameEntry b.files c.files (xorb_path a.folder k)
     moved_xorb k same = subst (λ (f : List ℕ). SameEntry b.files c.files (xorb_path f k)) x.folder same
 
-    newly : (k : List ℕ) → a.tells ≡ true → found a.xorbs k ≡ None → (o : Option Members) → found b.xorbs k ≡ o → IsSome (found c.xorbs k) → IsStable c.files (xorb_path a.folder k)
-    newly k told none None e is = subst (λ (f : List ℕ). IsStable c.files (xorb_path f k)) x.folder (y.listed_files (x.tells ∙ told) k e is)
+    newly : (k : List ℕ) → a.tells ≡ true → found a.xorbs k ≡ None → (o : Option Members) → found b.xorbs k ≡ o → IsSome (found c.xorbs k) → IsDurable c.files (xorb_path a.folder k)
+    newly k told none None e is = subst (λ (f : List ℕ). IsDurable c.files (xorb_path f k)) x.folder (y.listed_files (x.tells ∙ told) k e is)
     newly k told none (Some m) e is =
         let there : IsSome (found b.xorbs k) = is_some_found b.xorbs k m e in
         ap stability (moved_xorb k (y.xorb_files (x.tells ∙ told) k there)) ∙ x.listed_files told k none there
@@ -87,7 +87,7 @@ keeps_then a b c x y = record {
         inr (subst (λ (f : List ℕ). HasXorb c.files f k) (sym y.folder) (record {
           chunks = there.chunks;
           stored = stored_same b.files c.files b.folder k there.chunks (same_bytes_at b.files c.files (xorb_path b.folder k) two) there.stored;
-          stable = ap stability two ∙ there.stable;
+          durable = ap stability two ∙ there.durable;
         }))
 
     whole : (k : List ℕ) → a.tells ≡ true → SameEntry b.files c.files (shard_path b.folder k) → HasWholeShard b k → HasWholeShard c k
@@ -95,7 +95,7 @@ keeps_then a b c x y = record {
       shard = record {
         file = w.shard.file;
         there = subst (λ (f : List ℕ). file_at c.files (shard_path f k) ≡ Some w.shard.file) (sym y.folder) (same_file_at b.files c.files (shard_path b.folder k) same ∙ w.shard.there);
-        stable = subst (λ (f : List ℕ). IsStable c.files (shard_path f k)) (sym y.folder) (ap stability same ∙ w.shard.stable);
+        durable = subst (λ (f : List ℕ). IsDurable c.files (shard_path f k)) (sym y.folder) (ap stability same ∙ w.shard.durable);
         holds = subst (λ (f : List ℕ). ShardHolds c.files f (record { hash = k; file = w.shard.file })) (sym y.folder)
             (holds_same b.files c.files b.folder (record { hash = k; file = w.shard.file }) (λ h of. same_bytes_at b.files c.files (xorb_path b.folder h) (y.xorb_files (x.tells ∙ told) h (w.listed h of))) w.shard.holds);
       };

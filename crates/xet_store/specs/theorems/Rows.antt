@@ -1,4 +1,4 @@
--- What is among the elements of a list.
+-- Membership in lists, and lookups in tables.
 use Rattle.std.proofs.Common.{◌≡◌, ◌≢◌, ◌⊎◌, inl, inr, ℕ, zero, suc, ◌<◌, length, get_or, Bool, true, false, cond, filter, List, [], ◌∷◌, ◌++◌, Option, Some, None, IsSome, is_some, nat_eq, refl, sym, ap, subst, arith, ◌∙◌}
 use Rattle.std.specs.List.{AllByRecursion, IsAmong}
 use Rattle.std.specs.Cmp.Lexicographic.{bytes_decides, pointwise}

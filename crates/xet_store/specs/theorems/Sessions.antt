@@ -1,4 +1,4 @@
--- What a session shows of its disk.
+-- What the state of a session says about its disk.
 use Rattle.std.proofs.Common.{◌≡◌, ◌≢◌, ◌⊎◌, inl, inr, ◌∙◌, ℕ, ◌<◌, ◌≤◌, Bool, true, false, List, [], ◌∷◌, length, Option, Some, None, IsSome, Result, Ok, Err, option_map, refl, sym, ap, subst, nat_eq}
 use Rattle.std.proofs.lemmas.Bool.{le-ltb, ltb-false}
 use Rattle.std.proofs.Math.Nat.{le_trans}
@@ -26,7 +26,7 @@ use Rattle.xet_shard_file.specs.Shards.{IsThere, ShardFile, is_expired, is_past}
 use Rattle.xet_folder.specs.Stored.{IsBacked, IsStored}
 use Rattle.xet_folder.specs.Xorbs.{IsListed, Records, found}
 use Rattle.xet_cut.specs.declared.limits.LimitSettings.{LimitSettings}
-use Rattle.xet_store.specs.Cleaning.{HasFile, IsStable, Keeps, SameEntry}
+use Rattle.xet_store.specs.Cleaning.{HasFile, IsDurable, Keeps, SameEntry}
 use Rattle.xet_store.specs.Opening.{contents_of}
 use Rattle.xet_store.specs.Ranges.{IsRange}
 use Rattle.xet_store.specs.Separate.{Among, Apart, IsMet, IsNamed, MetBacked, MetChunk, MetFile, MetListed, MetStored, MetXorb, Separate, SeparateIn}
@@ -161,7 +161,7 @@ module _ (old : State) (contents : HasContents old.files old.folder old.opened (
         )
 
     -- A xorb that is named newly is one that a crash keeps.
-    pub named_newly : Sound new → (h : List ℕ) → IsNamed new.files new.folder new.opened h → IsNamed old.files old.folder old.opened h ⊎ IsStable new.files (xorb_path old.folder h)
+    pub named_newly : Sound new → (h : List ℕ) → IsNamed new.files new.folder new.opened h → IsNamed old.files old.folder old.opened h ⊎ IsDurable new.files (xorb_path old.folder h)
     named_newly sound h (shard, there, valid, names) = go (found old.xorbs h) refl
       where
         admitted : IsAdmitted new.files new.folder new.opened new.xorbs new.shards
@@ -172,7 +172,7 @@ module _ (old : State) (contents : HasContents old.files old.folder old.opened (
             let r = admitted.admits.registers.all shard there valid in
             admitted.named h (r.0, shard, r.1.0, sym r.1.1, names)
 
-        go : (o : Option (List (List ℕ × ℕ))) → found old.xorbs h ≡ o → IsNamed old.files old.folder old.opened h ⊎ IsStable new.files (xorb_path old.folder h)
+        go : (o : Option (List (List ℕ × ℕ))) → found old.xorbs h ≡ o → IsNamed old.files old.folder old.opened h ⊎ IsDurable new.files (xorb_path old.folder h)
         go None e = inr (keeps.listed_files told h e listed)
         go (Some members) e = inl (listed_named h (is_some_found old.xorbs h members e))
 

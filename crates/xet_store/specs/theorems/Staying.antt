@@ -1,4 +1,4 @@
--- What a put leaves of a store on its disk.
+-- What stays of a session when a file is written to its disk.
 use Rattle.std.proofs.Common.{◌≡◌, ◌≢◌, ◌⊎◌, inl, inr, ◌∙◌, ℕ, ◌≤◌, Bool, true, false, List, [], ◌∷◌, ◌++◌, Option, Some, None, IsSome, nat_eq, refl, sym, ap, subst, arith, option_map}
 use Rattle.std.proofs.lemmas.List.{append-nil}
 use Rattle.std.specs.Cmp.Lexicographic.{bytes_decides, pointwise}
@@ -10,7 +10,7 @@ use Rattle.xet_folder.specs.Names.{IsForeign, xorb_path}
 use Rattle.xet_shard_file.specs.Names.{IsHash, shard_path}
 use Rattle.xet_folder.specs.Stored.{IsBacked}
 use Rattle.xet_folder.specs.Xorbs.{IsListed, Records, Xorbs, found}
-use Rattle.xet_store.specs.Cleaning.{HasWholeShard, HasXorb, IsStable, Keeps, SameEntry}
+use Rattle.xet_store.specs.Cleaning.{HasWholeShard, HasXorb, IsDurable, Keeps, SameEntry}
 use Rattle.xet_store.specs.Separate.{Among}
 use Rattle.xet_store.specs.Store.{State, IsAdmitted, IsKept, Sound}
 use Rattle.xet_store.specs.theorems.Admitting.{admitted_still, backed_same}
@@ -135,9 +135,9 @@ found_nowhere (Some m) none is = absurd (cc none)
 
 module _ (s : State) (tells : Bool) (files : Files) (faults : ℕ) (stays : Stays s tells files faults) where
   pub keeps_changed : (xorbs : Xorbs) (records added : Records) (shards more : List (List ℕ)) (pending : Held) → ((h : List ℕ) (ms : Members) → IsListed s.xorbs h ms → IsListed xorbs h ms)
-      → (s.tells ≡ true → (h : List ℕ) → found s.xorbs h ≡ None → IsSome (found xorbs h) → IsStable files (xorb_path s.folder h))
+      → (s.tells ≡ true → (h : List ℕ) → found s.xorbs h ≡ None → IsSome (found xorbs h) → IsDurable files (xorb_path s.folder h))
       → records ≡ s.records ++ added → shards ≡ s.shards ++ more → Keeps s (changed s tells files faults xorbs records shards pending)
-  keeps_changed xorbs records added shards more pending listed stable recorded registered = record {
+  keeps_changed xorbs records added shards more pending listed durable recorded registered = record {
     tells = stays.tells_same;
     folder = refl;
     limits = refl;
@@ -148,7 +148,7 @@ module _ (s : State) (tells : Bool) (files : Files) (faults : ℕ) (stays : Stay
     shards = (more, registered);
     xorb_files = stays.xorb_files;
     shard_files = stays.shard_files;
-    listed_files = stable;
+    listed_files = durable;
     xorb_names = stays.xorb_names;
     shard_names = λ told h is. shard_name (stays.shard_names told h is);
     foreign = stays.foreign;

@@ -1,4 +1,4 @@
--- Where digests separate what was met, a recorded file of a sound store joins to its chunks.
+-- Without collisions among the data seen, a recorded file of a sound session resolves to its chunks.
 use Rattle.std.proofs.Common.{◌≡◌, inl, inr, ◌∙◌, ℕ, suc, ◌<◌, Bool, true, false, cond, List, [], ◌∷◌, length, Option, Some, None, IsSome, option_map, refl, sym, ap, subst, arith, nat_eq}
 use Rattle.std.specs.List.{AllByRecursion}
 use Rattle.std.specs.Cmp.Lexicographic.{pointwise, bytes_decides}

@@ -1,4 +1,4 @@
-//! Xorbs and files that are added to a store.
+//! Adding xorbs and files to a session.
 
 ghost use Rattle.std.specs.Prelude.{◌≡◌, ◌↔◌, ◌≤◌, ◌<◌, ◌+◌, ◌*◌, ◌^◌, ◌∷◌, [], length, map, OnOk, OnErr, IfOk, IfErr, IsOkUnless, IsSome, IsTrue};
 ghost use Rattle.std.specs.List.{AllByRecursion};
@@ -9,7 +9,7 @@ ghost use Rattle.xet_xorb_chunk.specs.Chunks.{bytes_of, chunk_member, total};
 ghost use Rattle.xet_codec.specs.Stops.{HasDiskReason};
 ghost use Rattle.xet_folder.specs.Xorbs.{IsListed, found};
 ghost use Rattle.xet_store.specs.Cleaning.{Adds, Keeps};
-ghost use Rattle.xet_store.specs.Store.{IsNewFile};
+ghost use Rattle.xet_store.specs.internal.Store.{IsNewFile};
 ghost use Rattle.xet_store.specs.Tables.{tables_of, with_record, with_xorb};
 
 use crate::store::Store;
@@ -24,8 +24,10 @@ use xet_xorb::{RawXorbData, SerializedXorbObject};
 use xet_xorb_chunk::{Chunk, chunk_members};
 
 impl<D: Disk + Send> Store<D> {
-    /// Stores these chunks as a xorb and lists it, where it is not listed yet, and gives its hash. Where
-    /// one of that hash is listed with other members, it refuses.
+    /// Stores these chunks as a xorb and lists it, unless a xorb of its hash is listed, and returns the hash.
+    /// The error is `Io(Disk)`, which is returned only if the disk failed, or `OutOfMemory`, which is also
+    /// returned if a xorb of this hash is listed with other chunks, if the hash is the sentinel, or if the
+    /// shard of what is pending would be too long.
     pub(crate) fn add_xorb(&mut self, chunks: &[Chunk]) -> Result<MerkleHash, StoreError>
         requires some { 0 < length chunks.now }
         requires digests { AllByRecursion (λ c. c.hash ≡ chunk_hash c.bytes) chunks.now }
@@ -70,7 +72,9 @@ impl<D: Disk + Send> Store<D> {
         Ok(hash)
     }
 
-    /// Records a file, and its record is pending. One that is recorded keeps its record.
+    /// Records a file; its record is then pending. A file that is recorded keeps its record. The only error
+    /// is `OutOfMemory`, which is also returned if the hash is the sentinel, or if the shard of what is
+    /// pending would be too long.
     pub(crate) fn add_file(&mut self, file: MDBFileInfo) -> Result<(), StoreError>
         requires { IsNewFile self.old.xorbs file }
         ensures keeps { Keeps self.old self.new }
@@ -99,8 +103,8 @@ impl<D: Disk + Send> Store<D> {
     }
 }
 
-/// Whether a shard has room for what is held and so many rows more. One with less than 2^37 bytes has
-/// fewer than 2^32 rows.
+/// Whether the shard of what is pending stays below 2^37 bytes with `rows` more rows of 48 bytes. Below that
+/// length a shard has fewer than 2^32 rows.
 fn has_room(held: &MDBInMemoryShard, rows: u64) -> bool
     requires { rows < 2 ^ 40 }
     ensures { IsTrue result ↔ (held_size held.now + 48 * rows < 2 ^ 37) }

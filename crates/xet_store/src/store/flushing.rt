@@ -1,4 +1,4 @@
-//! Shards of what is pending.
+//! Flushing: writing a shard of what is pending.
 
 ghost use Rattle.std.specs.Prelude.{◌≡◌, ◌↔◌, None, Ok, IfErr, IfOk, IfSome, OnErr};
 ghost use Rattle.xet_shard.specs.Held.{nothing};
@@ -15,8 +15,9 @@ use xet_shard::MDBInMemoryShard;
 use xet_shard_file::known_bytes;
 
 impl<D: Disk + Send> Store<D> {
-    /// Puts a shard of what is pending, so that a crash keeps it, and gives its hash; none where nothing
-    /// is pending. After a refusal all of it is pending still.
+    /// Writes one shard of all that is pending, durable, and returns its hash; returns none if nothing is
+    /// pending. After an error all of it is still pending. The error is `OutOfMemory`, or `Io(Disk)`, which
+    /// is returned only if the disk failed.
     pub fn flush(&mut self) -> Result<Option<MerkleHash>, StoreError>
         ensures none { IfOk result (λ h. (h ≡ None) ↔ (self.old.pending ≡ nothing)) }
         ensures idle { self.old.pending ≡ nothing → (result ≡ Ok None) × (self.new ≡ self.old) }
@@ -28,9 +29,9 @@ impl<D: Disk + Send> Store<D> {
         if self.pending.is_empty() {
             return Ok(None);
         }
-        let (text, _) = self.pending.shard_text(self.alloc, self.opened, None)?;
+        let (text, _) = self.pending.shard_bytes(self.alloc, self.opened, None)?;
         let hash = compute_data_hash(&text);
-        // No registered shard keeps what is pending, so none has this hash where digests separate.
+        // No registered shard has what is pending, so one has this hash only if there is a collision.
         if self.shards.contains(&hash) {
             return Err(StoreError::OutOfMemory);
         }

@@ -1,4 +1,4 @@
-//! Stores as they are opened.
+//! Opening a store.
 
 ghost use Rattle.std.specs.Prelude.{◌≡◌, ◌≤◌, true, false, IfErr, IfOk};
 ghost use Rattle.std.specs.List.{AllByRecursion};
@@ -18,10 +18,11 @@ use xet_io::Disk;
 use xet_shard::MDBInMemoryShard;
 
 impl<D: Disk + Send> Store<D> {
-    /// Opens the folder of a disk at a moment, in seconds: it is admitted, its shards that are valid then
-    /// are registered, and the files are the first record of each hash. No file changes. So far `prune`
-    /// is false. A folder that is not admitted is refused by the first check that fails, with the file
-    /// name of the shard; the disk is handed back.
+    /// Opens the folder of a disk at a time, in seconds since 1970. The folder is validated, its shards that
+    /// are unexpired then are registered, and the files are the first record of each hash. No file changes.
+    /// `prune` must be false: there is no pruning yet. An error returns the disk. It is that of the first
+    /// check that fails, with the file name of the shard; or `OutOfMemory`; or `Io(Disk)`, which is returned
+    /// only if the disk failed.
     pub fn open(
         alloc: Global,
         mut disk: D,
@@ -59,7 +60,8 @@ impl<D: Disk + Send> Store<D> {
         }
     }
 
-    /// A store of a folder's contents, opened at a moment in seconds. It takes no memory.
+    /// A session over the contents of a folder, opened at a time in seconds since 1970. It allocates no
+    /// memory.
     fn of_folder(
         alloc: Global,
         disk: D,

@@ -1,4 +1,4 @@
-//! Ranges of files.
+//! Reading byte ranges of files.
 
 ghost use Rattle.std.specs.Prelude.{◌≡◌, ◌≤◌, ◌<◌, ◌+◌, ◌-◌, ◌++◌, ◌^◌, ℕ, List, true, length, min, None, IfErr, IfOk, IsErrOf, OnOk};
 ghost use Rattle.std.specs.List.{concat};
@@ -7,8 +7,9 @@ ghost use Rattle.xet_folder.specs.Plan.{Joins, part, plan_bytes, range};
 ghost use Rattle.xet_folder.specs.Runs.{IsRunRefusal};
 ghost use Rattle.xet_folder.specs.Xorbs.{AreBacked};
 ghost use Rattle.xet_store.specs.Ranges.{IsOutside, IsRange, IsRangeRefusal, IsUnchanged};
-ghost use Rattle.xet_store.specs.Reading.{IsStoredListed, JoinsListed, LiesListed};
+ghost use Rattle.xet_store.specs.internal.Reading.{IsStoredListed, JoinsListed, LiesListed};
 ghost use Rattle.xet_store.specs.Store.{plan_of};
+ghost use Rattle.xet_io.specs.Frame.{Unchanged};
 
 use crate::store::{Store, plan_in};
 use indexmap::IndexMap;
@@ -19,11 +20,11 @@ use xet_io::Disk;
 use xet_shard_format::FileDataSequenceEntry;
 
 impl<D: Disk + Send> Store<D> {
-    /// Reads the bytes of a file from one place to before another. Only the chunks that the range touches
-    /// are read. The empty file, whose hash is zero, has the range from 0 to 0. Refused as `FileNotFound`
-    /// exactly where another hash has no plan, then as `InvalidRange` exactly where the range is reversed or
-    /// passes the file's end, as `Io(Disk)` only where the disk has failed, as `MalformedData(XorbText)`
-    /// only over a disk that does not tell, or as `OutOfMemory`.
+    /// Reads bytes FROM..TO, TO excluded, of a file. Only the chunks that the range touches are read. The
+    /// empty file, whose hash is zero, has the range 0..0. `FileNotFound` is returned if and only if a hash
+    /// other than zero has no plan, then `InvalidRange` if and only if the range is reversed or passes the
+    /// file's end. `Io(Disk)` is returned only if the disk failed, `MalformedData(XorbText)` only on a disk
+    /// that is not observable. Any other error is `OutOfMemory`.
     pub fn read_range(
         &mut self,
         hash: &MerkleHash,
@@ -59,7 +60,7 @@ impl<D: Disk + Send> Store<D> {
     }
 }
 
-/// Reads, of the chunks to which a plan joins, the bytes from one place to before another.
+/// Appends bytes FROM..TO, TO excluded, of the chunks to which a plan resolves.
 fn read_plan<D: Disk>(
     disk: &mut D,
     folder: &str,
@@ -75,9 +76,7 @@ fn read_plan<D: Disk>(
     ensures range { D.tells disk.old ≡ true → OnOk result ((chunks : List (List ℕ)) → Joins (IsStoredListed (D.files disk.old) folder.now xorbs.now.entries) length plan.now chunks → reader.new ≡ reader.old ++ range (concat chunks) from to) }
     ensures len { OnOk result (length reader.new ≡ length reader.old + (to - from)) }
     ensures refused { IfErr result (IsRunRefusal ((D.tells disk.old ≡ true) × AreBacked (D.files disk.old) folder.now xorbs.now.entries) (D.faults disk.old) (D.faults disk.new)) }
-    ensures same { D.files disk.new ≡ D.files disk.old }
-    ensures tells { D.tells disk.new ≡ D.tells disk.old }
-    ensures later { D.faults disk.old ≤ D.faults disk.new }
+    ensures frame { Unchanged D.files D.tells D.faults disk.old disk.new }
 {
     let mut from = from;
     let mut to = to;
@@ -93,7 +92,7 @@ fn read_plan<D: Disk>(
     Ok(())
 }
 
-/// Reads, of the bytes of a segment's chunks, those from one place to before another that it has.
+/// Appends bytes FROM..TO, TO excluded, of a segment's chunks, as far as the segment has them.
 fn read_segment<D: Disk>(
     disk: &mut D,
     folder: &str,
@@ -107,9 +106,7 @@ fn read_segment<D: Disk>(
     ensures range { D.tells disk.old ≡ true → OnOk result ((chunks : List (List ℕ)) → IsStoredListed (D.files disk.old) folder.now xorbs.now.entries segment.now.xorb_hash chunks → reader.new ≡ reader.old ++ range (concat (part segment.now chunks)) from to) }
     ensures len { OnOk result (length reader.new ≡ length reader.old + (min to segment.now.unpacked_segment_bytes - min from segment.now.unpacked_segment_bytes)) }
     ensures refused { IfErr result (IsRunRefusal ((D.tells disk.old ≡ true) × AreBacked (D.files disk.old) folder.now xorbs.now.entries) (D.faults disk.old) (D.faults disk.new)) }
-    ensures same { D.files disk.new ≡ D.files disk.old }
-    ensures tells { D.tells disk.new ≡ D.tells disk.old }
-    ensures later { D.faults disk.old ≤ D.faults disk.new }
+    ensures frame { Unchanged D.files D.tells D.faults disk.old disk.new }
 {
     let end = to.min(u64::from(segment.unpacked_segment_bytes));
     if from >= end {

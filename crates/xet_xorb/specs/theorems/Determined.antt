@@ -3,10 +3,10 @@ use Rattle.std.proofs.Common.{◌≡◌, ◌∙◌, ℕ, ◌<◌, ◌^◌, ◌/�
 use Rattle.std.proofs.lemmas.List.{take_at, drop_at}
 use Rattle.std.specs.List.{flat_map, AllByRecursion}
 use Rattle.xet_codec.specs.Numbers.{number}
-use Rattle.xet_xorb_footer.specs.Spelled.{text_v0, text_v1}
-use Rattle.xet_xorb_chunk.specs.Spelling.{spelling}
+use Rattle.xet_xorb_footer.specs.FooterEncoding.{footer_bytes_v0, footer_bytes_v1}
+use Rattle.xet_xorb_chunk.specs.ChunkEncoding.{encoded_chunk}
 use Rattle.xet_xorb.specs.Footer.{Version, V0, V1, footer_len, footer_text}
-use Rattle.xet_xorb.specs.Xorb.{IsXorbText, xorb_text}
+use Rattle.xet_xorb.specs.Xorb.{IsXorbEncoding, xorb_bytes}
 
 -- a number below 2 ^ 24 is determined by its three bytes
 pub le24_same : (n m : ℕ) → n < 2 ^ 24 → m < 2 ^ 24 → (n % 256 ≡ m % 256) → (n / 256 % 256 ≡ m / 256 % 256) → (n / 65536 % 256 ≡ m / 65536 % 256) → n ≡ m
@@ -17,8 +17,8 @@ abbrev pub BeginsWith : ℕ → List ℕ → Type 0
 BeginsWith k s = (rest : List ℕ) × (s ≡ k ∷ rest)
 
 -- a stored chunk is determined by what begins with it
-pub one_chunk : (b d s t : List ℕ) → length b < 2 ^ 24 → length d < 2 ^ 24 → spelling b ++ s ≡ spelling d ++ t → (b ≡ d) × (s ≡ t)
-unfolding spelling
+pub one_chunk : (b d s t : List ℕ) → length b < 2 ^ 24 → length d < 2 ^ 24 → encoded_chunk b ++ s ≡ encoded_chunk d ++ t → (b ≡ d) × (s ≡ t)
+unfolding encoded_chunk
 one_chunk b d s t sb sd e =
     let n0 : length b % 256 ≡ length d % 256 = cc in
     let n1 : length b / 256 % 256 ≡ length d / 256 % 256 = cc in
@@ -31,30 +31,30 @@ one_chunk b d s t sb sd e =
 
 -- stored chunks are determined by what begins with them, where a footer follows
 pub all_chunks : (cs ds : List (List ℕ)) (s t : List ℕ) → AllByRecursion (λ b. length b < 2 ^ 24) cs → AllByRecursion (λ b. length b < 2 ^ 24) ds → BeginsWith 88 s → BeginsWith 88 t
-    → flat_map spelling cs ++ s ≡ flat_map spelling ds ++ t → cs ≡ ds
-unfolding spelling
+    → flat_map encoded_chunk cs ++ s ≡ flat_map encoded_chunk ds ++ t → cs ≡ ds
+unfolding encoded_chunk
 all_chunks [] [] s t sc sd fs ft e = refl
 all_chunks [] (d ∷ ds) s t sc sd fs ft e =
-    let x : 88 ∷ fs.0 ≡ spelling d ++ (flat_map spelling ds ++ t) = sym fs.1 ∙ e ∙ append_assoc (spelling d) (flat_map spelling ds) t in cc
+    let x : 88 ∷ fs.0 ≡ encoded_chunk d ++ (flat_map encoded_chunk ds ++ t) = sym fs.1 ∙ e ∙ append_assoc (encoded_chunk d) (flat_map encoded_chunk ds) t in cc
 all_chunks (c ∷ cs) [] s t sc sd fs ft e =
-    let x : 88 ∷ ft.0 ≡ spelling c ++ (flat_map spelling cs ++ s) = sym ft.1 ∙ sym e ∙ append_assoc (spelling c) (flat_map spelling cs) s in cc
+    let x : 88 ∷ ft.0 ≡ encoded_chunk c ++ (flat_map encoded_chunk cs ++ s) = sym ft.1 ∙ sym e ∙ append_assoc (encoded_chunk c) (flat_map encoded_chunk cs) s in cc
 all_chunks (c ∷ cs) (d ∷ ds) s t sc sd fs ft e =
-    let parts = one_chunk c d (flat_map spelling cs ++ s) (flat_map spelling ds ++ t) sc.0 sd.0 (sym (append_assoc (spelling c) (flat_map spelling cs) s) ∙ e ∙ append_assoc (spelling d) (flat_map spelling ds) t) in
+    let parts = one_chunk c d (flat_map encoded_chunk cs ++ s) (flat_map encoded_chunk ds ++ t) sc.0 sd.0 (sym (append_assoc (encoded_chunk c) (flat_map encoded_chunk cs) s) ∙ e ∙ append_assoc (encoded_chunk d) (flat_map encoded_chunk ds) t) in
     let rest : cs ≡ ds = all_chunks cs ds s t sc.1 sd.1 fs ft parts.1 in
     ap (λ (x : List ℕ). x ∷ cs) parts.0 ∙ ap (λ (xs : List (List ℕ)). d ∷ xs) rest
 
 -- what stands behind the chunks begins as a footer
 footer_begins : (version : Version) (hash : List ℕ) (ms : List (List ℕ × ℕ)) (spare more : List ℕ) → BeginsWith 88 (footer_text version hash ms spare ++ more)
-unfolding text_v0 text_v1
+unfolding footer_bytes_v0 footer_bytes_v1
 footer_begins V0 hash ms spare more = (_, refl)
 footer_begins V1 hash ms spare more = (_, refl)
 
-text_parts : (version : Version) (hash : List ℕ) (ms : List (List ℕ × ℕ)) (cs : List (List ℕ)) (spare : List ℕ) → (s : List ℕ) × BeginsWith 88 s × (xorb_text version hash ms cs spare ≡ flat_map spelling cs ++ s)
-unfolding xorb_text
+text_parts : (version : Version) (hash : List ℕ) (ms : List (List ℕ × ℕ)) (cs : List (List ℕ)) (spare : List ℕ) → (s : List ℕ) × BeginsWith 88 s × (xorb_bytes version hash ms cs spare ≡ flat_map encoded_chunk cs ++ s)
+unfolding xorb_bytes
 text_parts version hash ms cs spare = (footer_text version hash ms spare ++ number (footer_len version (length ms)), footer_begins version hash ms spare _, refl)
 
-pub text_determines : (bytes : List ℕ) (cs ds : List (List ℕ)) → IsXorbText bytes cs → IsXorbText bytes ds → cs ≡ ds
-text_determines bytes cs ds x y =
+pub bytes_determine : (bytes : List ℕ) (cs ds : List (List ℕ)) → IsXorbEncoding bytes cs → IsXorbEncoding bytes ds → cs ≡ ds
+bytes_determine bytes cs ds x y =
     let p = text_parts _ _ _ cs x.spare in
     let q = text_parts _ _ _ ds y.spare in
-    all_chunks cs ds p.0 q.0 x.small y.small p.1 q.1 (sym p.2 ∙ sym x.spelled ∙ y.spelled ∙ q.2)
+    all_chunks cs ds p.0 q.0 x.small y.small p.1 q.1 (sym p.2 ∙ sym x.encoded ∙ y.encoded ∙ q.2)

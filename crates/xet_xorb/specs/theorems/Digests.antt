@@ -1,4 +1,4 @@
--- Digests have 32 bytes, and so has the hash of a xorb whose members' hashes have.
+-- Digests have 32 bytes, and so has a xorb hash of hashes of 32 bytes.
 use Rattle.std.proofs.Common.{◌≡◌, ℕ, zero, suc, ◌*◌, List, [], ◌∷◌, length, map, true, false, refl, arith, length-append, slice_index}
 use Rattle.std.specs.List.{AllByRecursion}
 use Rattle.std.specs.Prelude.{nat_le, Bool}

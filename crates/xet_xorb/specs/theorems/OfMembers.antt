@@ -1,11 +1,11 @@
--- Footers of members: how long their lists are, how far their ends go, and that they are as footers are to be.
+-- Footers of (hash, length) pairs: lengths of lists, bounds of offsets, and that they are well formed.
 use Rattle.std.proofs.Common.{◌≡◌, ◌∙◌, ℕ, ◌+◌, ◌*◌, ◌≤◌, ◌<◌, ◌^◌, List, [], ◌∷◌, ◌++◌, length, get_or, drop, map, refl, sym, ap, arith}
 use Rattle.std.proofs.lemmas.List.{append-nil, append_assoc, at_drop_more, at_drop_all, length-map}
 use Rattle.std.proofs.lemmas.List.Sums.{sum_by-cons}
 use Rattle.std.specs.List.{AllByRecursion}
 use Rattle.xet_hash.specs.Merkle.{total_len}
 use Rattle.xet_xorb_footer.specs.Laws.{IsStandard, IsStandardV0}
-use Rattle.xet_xorb_footer.specs.Spelled.{HasLists, HasShortLists, most_chunks}
+use Rattle.xet_xorb_footer.specs.FooterEncoding.{HasLists, HasShortLists, max_chunks}
 use Rattle.xet_xorb.specs.Footer.{ends_from, footer_v0, footer_v1}
 use Rattle.xet_xorb.specs.theorems.Digests.{AreHashed}
 
@@ -83,7 +83,7 @@ whole_hashes (m ∷ ms) h = (h.0, whole_hashes ms h.1)
 pub has_lists : (hash : List ℕ) (ms : List (List ℕ × ℕ)) (spare : List ℕ) → HasLists (footer_v1 hash ms spare)
 has_lists hash ms spare = record { hashes = length-hashes ms; stored = length-ends 8 0 ms; plain = length-ends 0 0 ms }
 
-pub has_short_lists : (hash : List ℕ) (ms : List (List ℕ × ℕ)) (spare : List ℕ) → length ms ≤ most_chunks → HasShortLists (footer_v1 hash ms spare)
+pub has_short_lists : (hash : List ℕ) (ms : List (List ℕ × ℕ)) (spare : List ℕ) → length ms ≤ max_chunks → HasShortLists (footer_v1 hash ms spare)
 has_short_lists hash ms spare few = record {
   hashes = omega (arith, length-hashes ms);
   stored = omega (arith, length-ends 8 0 ms);
@@ -92,15 +92,15 @@ has_short_lists hash ms spare few = record {
 
 -- ---- footers as they are to be
 
-pub standard_v1 : (hash : List ℕ) (ms : List (List ℕ × ℕ)) (spare : List ℕ) → length hash ≡ 32 → AreHashed ms → length ms ≤ most_chunks
+pub standard_v1 : (hash : List ℕ) (ms : List (List ℕ × ℕ)) (spare : List ℕ) → length hash ≡ 32 → AreHashed ms → length ms ≤ max_chunks
     → total_len ms + 8 * length ms < 2 ^ 32 → length spare ≡ 16 → IsStandard (footer_v1 hash ms spare)
 standard_v1 hash ms spare size hashed few fits sixteen = record {
   ident = refl;
   version = refl;
   hash = size;
-  hashes_ident = refl;
+  hashes_magic = refl;
   hashes_version = refl;
-  boundaries_ident = refl;
+  boundaries_magic = refl;
   boundaries_version = refl;
   few = few;
   lists = has_lists hash ms spare;
@@ -112,7 +112,7 @@ standard_v1 hash ms spare size hashed few fits sixteen = record {
   spare = sixteen;
 }
 
-pub standard_v0 : (hash : List ℕ) (ms : List (List ℕ × ℕ)) (spare : List ℕ) → length hash ≡ 32 → AreHashed ms → length ms ≤ most_chunks
+pub standard_v0 : (hash : List ℕ) (ms : List (List ℕ × ℕ)) (spare : List ℕ) → length hash ≡ 32 → AreHashed ms → length ms ≤ max_chunks
     → total_len ms + 8 * length ms < 2 ^ 32 → length spare ≡ 16 → IsStandardV0 (footer_v0 hash ms spare)
 standard_v0 hash ms spare size hashed few fits sixteen = record {
   ident = refl;

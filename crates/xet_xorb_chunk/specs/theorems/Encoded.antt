@@ -1,11 +1,11 @@
--- What was written of two pieces, one behind the other.
+-- The encoding of a chunk, written in two parts: header and body.
 use Rattle.std.proofs.Common.{◌≡◌, ◌∙◌, ◌+◌, ℕ, List, ◌++◌, ap, append_assoc, arith, length, min, sym, take}
 use Rattle.std.proofs.Math.Seq.{take-append-add}
 use Rattle.std.proofs.lemmas.List.{take-append-le, take_min}
 use Rattle.xet_xorb_chunk.specs.Header.{Header, header_bytes}
-use Rattle.xet_xorb_chunk.specs.Spelling.{spelling}
+use Rattle.xet_xorb_chunk.specs.ChunkEncoding.{encoded_chunk}
 
 -- a chunk is spelled by its header and its bytes
-pub spelled_by : (h : Header) (chunk : List ℕ) → h ≡ record { version = 0; stored = length chunk; scheme = 0; plain = length chunk } → header_bytes h ++ chunk ≡ spelling chunk
-unfolding spelling
-spelled_by h chunk e = ap (λ (x : Header). header_bytes x ++ chunk) e
+pub encoded_by : (h : Header) (chunk : List ℕ) → h ≡ record { version = 0; stored = length chunk; scheme = 0; plain = length chunk } → header_bytes h ++ chunk ≡ encoded_chunk chunk
+unfolding encoded_chunk
+encoded_by h chunk e = ap (λ (x : Header). header_bytes x ++ chunk) e

@@ -1,7 +1,7 @@
--- The stored chunk at the front of a list of bytes.
+-- The stored chunk with which a list of bytes begins.
 use Rattle.std.proofs.Common.{◌≡◌, ◌∙◌, ℕ, ◌+◌, ◌-◌, ◌*◌, ◌<◌, ◌≤◌, ◌^◌, ◌/◌, ◌%◌, List, [], ◌∷◌, ◌++◌, length, get_or, drop, take, slice_range, refl, ap, arith, length-append}
 use Rattle.std.proofs.lemmas.List.{length-drop, length-take-le, take-append-drop, drop-drop}
-use Rattle.xet_xorb_chunk.specs.Spelling.{spelling}
+use Rattle.xet_xorb_chunk.specs.ChunkEncoding.{encoded_chunk}
 
 -- the header at the front is that of a chunk of so many bytes
 pub record IsHeaderOf (n : ℕ) (text : List ℕ) : Type 0 where
@@ -29,8 +29,8 @@ digits : (a b c n : ℕ) → a < 256 → b < 256 → c < 256 → a + b * 256 + c
 digits a b c n la lb lc e = (omega arith, omega arith, omega arith)
 
 -- a stored chunk stands behind its header
-pub front_is : (text : List ℕ) (n : ℕ) → ((i : ℕ) → get_or text i 0 < 256) → IsHeaderOf n text → text ≡ spelling (slice_range text 8 (8 + n)) ++ drop (8 + n) text
-unfolding spelling
+pub front_is : (text : List ℕ) (n : ℕ) → ((i : ℕ) → get_or text i 0 < 256) → IsHeaderOf n text → text ≡ encoded_chunk (slice_range text 8 (8 + n)) ++ drop (8 + n) text
+unfolding encoded_chunk
 front_is text n bytes h =
     let body : List ℕ = slice_range text 8 (8 + n) in
     let stored = digits _ _ _ n (bytes 1) (bytes 2) (bytes 3) h.stored in
@@ -45,8 +45,8 @@ front_is text n bytes h =
     cc
 
 -- what a stored chunk at the front shows
-pub header_is : (bytes rest text : List ℕ) → length bytes < 2 ^ 24 → text ≡ spelling bytes ++ rest → IsHeaderOf (length bytes) text
-unfolding spelling
+pub header_is : (bytes rest text : List ℕ) → length bytes < 2 ^ 24 → text ≡ encoded_chunk bytes ++ rest → IsHeaderOf (length bytes) text
+unfolding encoded_chunk
 header_is bytes rest text small e =
     let at = λ (i : ℕ). ap (λ (t : List ℕ). get_or t i 0) e in
     record {

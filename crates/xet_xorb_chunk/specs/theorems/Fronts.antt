@@ -1,4 +1,4 @@
--- What stands at the front of some bytes, by its header and its body.
+-- What reading the first chunk gives, by its header and its body.
 use Rattle.std.proofs.Common.{◌≡◌, ◌∙◌, ℕ, ◌-◌, ◌<◌, ◌≤◌, nat_lt, Bool, true, false, cond, List, ◌++◌, length, take, drop, Ok, Err, Result, refl, sym, ap, arith, length-append, length-drop}
 use Rattle.std.proofs.lemmas.Bool.{le-ltb, lt-ltb, true≢false}
 use Rattle.std.proofs.lemmas.List.{length-take-le, take-append-drop, take_all, take_at}

@@ -1,4 +1,4 @@
--- The checks of a header, in turn.
+-- The checks of a chunk header, in order.
 use Rattle.std.proofs.Common.{◌≡◌, ◌≢◌, ℕ, ◌*◌, ◌<◌, ◌≤◌, ◌==◌, ◌||◌, nat_le, Bool, true, false, List, Ok, Err, refl, sym, ap, ◌∙◌, if◌then◌else◌}
 use Rattle.std.proofs.lemmas.Bool.{eq-eqb, le-leb, lt-leb, ne_eqb}
 use Rattle.xet_hash.specs.declared.error.StoreError.{StoreError}
@@ -6,7 +6,7 @@ use Rattle.xet_hash.specs.declared.error.StoreError.TheVariants.{ChunkHeaderPars
 use Rattle.xet_hash.specs.declared.error.Reason.TheVariants.{HeaderVersion, PlainLength, Scheme, StoredLength}
 use Rattle.xet_xorb_chunk.specs.declared.scheme.CompressionScheme.{CompressionScheme}
 use Rattle.xet_xorb_chunk.specs.declared.scheme.CompressionScheme.TheVariants.{Auto, ByteGrouping4LZ4, LZ4, None}
-use Rattle.xet_xorb_chunk.specs.Header.{Header, header_at, header_of, is_ident, is_scheme}
+use Rattle.xet_xorb_chunk.specs.Header.{Header, header_at, header_of, is_footer_magic, is_scheme}
 use Rattle.xet_xorb_chunk.specs.Scheme.{scheme_of}
 
 known_by : (a b c d : Bool) (s : CompressionScheme)
@@ -33,11 +33,11 @@ known n s e = known_by (n == 0) (n == 1) (n == 2) (n == 99) s e
 pub unknown : (n : ℕ) (error : StoreError) → scheme_of n ≡ Err error → (is_scheme n ≡ false) × (error ≡ MalformedData Scheme)
 unknown n error e = unknown_by (n == 0) (n == 1) (n == 2) (n == 99) error e
 
-pub refused_ident : (most : ℕ) (bytes : List ℕ) → is_ident bytes ≡ true → header_at most bytes ≡ Err ChunkHeaderParse
+pub refused_ident : (most : ℕ) (bytes : List ℕ) → is_footer_magic bytes ≡ true → header_at most bytes ≡ Err ChunkHeaderParse
 unfolding header_at
 refused_ident most bytes i = rw i refl
 
-pub refused_scheme : (most : ℕ) (bytes : List ℕ) (h : Header) (error : StoreError) → is_ident bytes ≡ false → h ≡ header_of bytes → scheme_of h.scheme ≡ Err error
+pub refused_scheme : (most : ℕ) (bytes : List ℕ) (h : Header) (error : StoreError) → is_footer_magic bytes ≡ false → h ≡ header_of bytes → scheme_of h.scheme ≡ Err error
     → header_at most bytes ≡ Err error
 unfolding header_at
 refused_scheme most bytes h error i is s =
@@ -45,7 +45,7 @@ refused_scheme most bytes h error i is s =
     let no : is_scheme (header_of bytes).scheme ≡ false = ap (λ (x : Header). is_scheme x.scheme) (sym is) ∙ u.0 in
     rw (i, no, u.1) refl
 
-pub refused_version : (most : ℕ) (bytes : List ℕ) (h : Header) (s : CompressionScheme) → is_ident bytes ≡ false → h ≡ header_of bytes → scheme_of h.scheme ≡ Ok s
+pub refused_version : (most : ℕ) (bytes : List ℕ) (h : Header) (s : CompressionScheme) → is_footer_magic bytes ≡ false → h ≡ header_of bytes → scheme_of h.scheme ≡ Ok s
     → h.version ≢ 0 → header_at most bytes ≡ Err (MalformedData HeaderVersion)
 unfolding header_at
 refused_version most bytes h s i is k v =
@@ -53,7 +53,7 @@ refused_version most bytes h s i is k v =
     let no : ((header_of bytes).version == 0) ≡ false = ap (λ (x : Header). x.version == 0) (sym is) ∙ ne_eqb h.version 0 v in
     rw (i, yes, no) refl
 
-pub refused_stored : (most : ℕ) (bytes : List ℕ) (h : Header) (s : CompressionScheme) → is_ident bytes ≡ false → h ≡ header_of bytes → scheme_of h.scheme ≡ Ok s
+pub refused_stored : (most : ℕ) (bytes : List ℕ) (h : Header) (s : CompressionScheme) → is_footer_magic bytes ≡ false → h ≡ header_of bytes → scheme_of h.scheme ≡ Ok s
     → h.version ≡ 0 → 2 * most < h.stored → header_at most bytes ≡ Err (MalformedData StoredLength)
 unfolding header_at
 refused_stored most bytes h s i is k v l =
@@ -62,7 +62,7 @@ refused_stored most bytes h s i is k v l =
     let no : nat_le (header_of bytes).stored (2 * most) ≡ false = ap (λ (x : Header). nat_le x.stored (2 * most)) (sym is) ∙ lt-leb h.stored (2 * most) l in
     rw (i, yes, zero, no) refl
 
-pub refused_plain : (most : ℕ) (bytes : List ℕ) (h : Header) (s : CompressionScheme) → is_ident bytes ≡ false → h ≡ header_of bytes → scheme_of h.scheme ≡ Ok s
+pub refused_plain : (most : ℕ) (bytes : List ℕ) (h : Header) (s : CompressionScheme) → is_footer_magic bytes ≡ false → h ≡ header_of bytes → scheme_of h.scheme ≡ Ok s
     → h.version ≡ 0 → h.stored ≤ 2 * most → most < h.plain → header_at most bytes ≡ Err (MalformedData PlainLength)
 unfolding header_at
 refused_plain most bytes h s i is k v l p =
@@ -73,7 +73,7 @@ refused_plain most bytes h s i is k v l p =
     rw (i, yes, zero, fits, no) refl
 
 -- bytes that pass the checks
-pub accepted : (most : ℕ) (bytes : List ℕ) (h : Header) → is_ident bytes ≡ false → h ≡ header_of bytes → is_scheme h.scheme ≡ true
+pub accepted : (most : ℕ) (bytes : List ℕ) (h : Header) → is_footer_magic bytes ≡ false → h ≡ header_of bytes → is_scheme h.scheme ≡ true
     → h.version ≡ 0 → h.stored ≤ 2 * most → h.plain ≤ most → header_at most bytes ≡ Ok h
 unfolding header_at
 accepted most bytes h i is k v l p =

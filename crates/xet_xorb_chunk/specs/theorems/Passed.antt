@@ -1,4 +1,4 @@
--- Whole chunks that are passed on, step by step.
+-- Forwarding of whole chunks, one step at a time.
 use Rattle.std.proofs.Common.{◌≡◌, ◌∙◌, ℕ, ◌+◌, ◌<◌, ◌≤◌, ◌^◌, List, [], ◌∷◌, ◌++◌, ◌-◌, Some, length, slice_range, take, drop, Result, Ok, Err, refl, sym, ap, subst, inl, inr, arith, append_assoc, length-drop}
 use Rattle.std.proofs.Math.Seq.{take-append-add}
 use Rattle.std.proofs.lemmas.List.{append-nil, drop-drop, length-take-le, take_rest}

@@ -1,4 +1,4 @@
--- What is written as a header, a chunk or a stream is read back.
+-- Round trips of chunk headers, chunks and streams of chunks.
 use Rattle.std.proofs.Common.{◌≡◌, ◌∙◌, ◌⊎◌, ℕ, ◌+◌, ◌-◌, ◌*◌, ◌<◌, ◌≤◌, ◌^◌, ◌==◌, nat_eq, nat_le, nat_lt, Bool, true, false, cond, List, [], ◌∷◌, ◌++◌, codes, length, take, drop, get_or, slice_range, Ok, Err, Result, refl, sym, ap, subst, inl, inr, arith, append_assoc, length-append}
 use Rattle.std.specs.Cmp.Lexicographic.{pointwise}
 use Rattle.std.specs.Int.{w32, from_le_bytes}
@@ -9,22 +9,22 @@ use Rattle.std.proofs.lemmas.List.Sums.{sum_by-cons}
 use Rattle.xet_hash.specs.declared.error.StoreError.{StoreError}
 use Rattle.xet_hash.specs.declared.error.StoreError.TheVariants.{ChunkHeaderParse, CompressionError, MalformedData}
 use Rattle.xet_hash.specs.declared.error.Reason.TheVariants.{AutoScheme, BodyLength, HeaderVersion, PlainLength, Scheme, StoredLength}
-use Rattle.xet_xorb_chunk.specs.Header.{Header, header_at, header_bytes, header_of, is_ident, is_scheme, wants}
-use Rattle.xet_xorb_chunk.specs.Spelling.{le24, spelling}
+use Rattle.xet_xorb_chunk.specs.Header.{Header, header_at, header_bytes, header_of, is_footer_magic, is_scheme, wants}
+use Rattle.xet_xorb_chunk.specs.ChunkEncoding.{le24, encoded_chunk}
 use Rattle.xet_xorb_chunk.specs.Stream.{Decodes, Whole, Fails, IsStream, behind, body_of, end_of, front_of}
 use Rattle.xet_xorb_chunk.specs.Taking.{header_in}
-use Rattle.xet_xorb_chunk.specs.Spelled.{AreSpelled}
+use Rattle.xet_xorb_chunk.specs.EncodedChunks.{AreEncoded}
 use Rattle.xet_xorb_chunk.specs.theorems.Front.{eight, front_is}
 use Rattle.xet_xorb_chunk.specs.theorems.Fronts.{front_few, front_whole}
 use Rattle.xet_xorb_chunk.specs.theorems.Headers.{accepted, refused_ident}
 use Rattle.xet_xorb_chunk.specs.theorems.More.{behind_all, behind_few, body_whole, front_at, whole_within}
-use Rattle.xet_xorb_chunk.specs.theorems.Encoded.{spelled_by}
+use Rattle.xet_xorb_chunk.specs.theorems.Encoded.{encoded_by}
 
 -- a number below 2 ^ 24 is that of its three bytes
 number_back : (n : ℕ) → n < 2 ^ 24 → from_le_bytes w32 (le24 n ++ 0 ∷ []) ≡ n
 number_back n small = omega arith
 
-plain_version : (h : Header) → h.version ≡ 0 → is_ident (header_bytes h) ≡ false
+plain_version : (h : Header) → h.version ≡ 0 → is_footer_magic (header_bytes h) ≡ false
 plain_version h e = let test : nat_eq h.version 88 ≡ false = ap (λ (n : ℕ). nat_eq n 88) e in rw test refl
 
 header_back : (h : Header) → h.stored < 2 ^ 24 → h.plain < 2 ^ 24 → h ≡ header_of (header_bytes h)
@@ -38,43 +38,43 @@ header_read_back most h small known version stored plain =
 -- no accepted header begins a footer
 pub header_is_no_ident : (most : ℕ) (bytes : List ℕ) (h : Header) → header_at most bytes ≡ Ok h → take 7 bytes ≡ codes "XETBLOB" → ⊥
 header_is_no_ident most bytes h e ident =
-    let test : is_ident bytes ≡ true = ap (λ (x : List ℕ). pointwise nat_eq x (codes "XETBLOB")) ident in cc (sym (refused_ident most bytes test) ∙ e)
+    let test : is_footer_magic bytes ≡ true = ap (λ (x : List ℕ). pointwise nat_eq x (codes "XETBLOB")) ident in cc (sym (refused_ident most bytes test) ∙ e)
 
-spelled_len : (chunk : List ℕ) → length (spelling chunk) ≡ 8 + length chunk
+spelled_len : (chunk : List ℕ) → length (encoded_chunk chunk) ≡ 8 + length chunk
 spelled_len chunk =
     let h : Header = record { version = 0; stored = length chunk; scheme = 0; plain = length chunk } in
-    ap length (sym (spelled_by h chunk refl)) ∙ omega (arith, length-append (header_bytes h) chunk)
+    ap length (sym (encoded_by h chunk refl)) ∙ omega (arith, length-append (header_bytes h) chunk)
 
 header_in_front : (most : ℕ) (h : Header) (rest : List ℕ) → header_at most (header_bytes h) ≡ Ok h → header_in most (header_bytes h ++ rest) ≡ Ok h
 header_in_front most h rest e =
     let test : nat_lt (length (header_bytes h ++ rest)) 8 ≡ false = le-ltb _ _ (omega (arith, length-append (header_bytes h) rest)) in rw test e
 
 -- a spelled chunk stands whole at the front
-spelled_front : (most : ℕ) (chunk rest : List ℕ) → most < 2 ^ 23 → length chunk ≤ most → front_of most (spelling chunk ++ rest) ≡ Whole chunk
+spelled_front : (most : ℕ) (chunk rest : List ℕ) → most < 2 ^ 23 → length chunk ≤ most → front_of most (encoded_chunk chunk ++ rest) ≡ Whole chunk
 spelled_front most chunk rest small fits =
     let h : Header = record { version = 0; stored = length chunk; scheme = 0; plain = length chunk } in
-    let is : spelling chunk ++ rest ≡ header_bytes h ++ (chunk ++ rest) = ap (λ (x : List ℕ). x ++ rest) (sym (spelled_by h chunk refl)) ∙ append_assoc (header_bytes h) chunk rest in
+    let is : encoded_chunk chunk ++ rest ≡ header_bytes h ++ (chunk ++ rest) = ap (λ (x : List ℕ). x ++ rest) (sym (encoded_by h chunk refl)) ∙ append_assoc (header_bytes h) chunk rest in
     let header = header_in_front most h (chunk ++ rest) (header_read_back most h small refl refl (omega arith) fits) in
     let test : (length chunk == length chunk) ≡ true = eq-eqb (length chunk) (length chunk) refl in
-    front_whole most (spelling chunk ++ rest) chunk rest h (ap (header_in most) is ∙ header) (ap (drop 8) is) refl ∙ rw test refl
+    front_whole most (encoded_chunk chunk ++ rest) chunk rest h (ap (header_in most) is ∙ header) (ap (drop 8) is) refl ∙ rw test refl
 
 decodes_spelled : (most total : ℕ) (chunks : List (List ℕ)) → most < 2 ^ 23 → AllByRecursion (λ b. length b ≤ most) chunks → total + sum_by length chunks < 2 ^ 32
-    → Decodes most total (flat_map spelling chunks) chunks (Ok [])
+    → Decodes most total (flat_map encoded_chunk chunks) chunks (Ok [])
 decodes_spelled most total [] small fit sum = inl (front_few most [] (omega arith), refl)
 decodes_spelled most total (c ∷ cs) small fit sum =
     let more = sum_by-cons length c cs in
-    let behind : flat_map spelling cs ≡ drop (8 + length c) (spelling c ++ flat_map spelling cs) = sym (drop_at (spelling c) (flat_map spelling cs) (8 + length c) (spelled_len c)) in (
-      spelled_front most c (flat_map spelling cs) small fit.0,
+    let behind : flat_map encoded_chunk cs ≡ drop (8 + length c) (encoded_chunk c ++ flat_map encoded_chunk cs) = sym (drop_at (encoded_chunk c) (flat_map encoded_chunk cs) (8 + length c) (spelled_len c)) in (
+      spelled_front most c (flat_map encoded_chunk cs) small fit.0,
       omega (arith, more),
       subst (λ (b : List ℕ). Decodes most (total + length c) b cs (Ok [])) behind (decodes_spelled most (total + length c) cs small fit.1 (omega (arith, more))),
     )
 
 -- spelled chunks are a stream of them
-pub stream_of_spelled : (most : ℕ) (bytes : List ℕ) (chunks : List (List ℕ)) → most < 2 ^ 23 → AreSpelled most bytes chunks → IsStream most bytes chunks (Ok tt)
-stream_of_spelled most bytes chunks small are =
+pub stream_of_encoded : (most : ℕ) (bytes : List ℕ) (chunks : List (List ℕ)) → most < 2 ^ 23 → AreEncoded most bytes chunks → IsStream most bytes chunks (Ok tt)
+stream_of_encoded most bytes chunks small are =
     record {
       rest = Ok [];
-      decodes = subst (λ (b : List ℕ). Decodes most 0 b chunks (Ok [])) (sym are.spelled) (decodes_spelled most 0 chunks small are.fit (omega (arith, are.total)));
+      decodes = subst (λ (b : List ℕ). Decodes most 0 b chunks (Ok [])) (sym are.encoded) (decodes_spelled most 0 chunks small are.fit (omega (arith, are.total)));
       ends = refl;
     }
 
@@ -95,7 +95,7 @@ pub record Accepted (most : ℕ) (bytes : List ℕ) (h : Header) : Type 0 where
 accepted_back : (most : ℕ) (bytes : List ℕ) (h : Header) → header_at most bytes ≡ Ok h → Accepted most bytes h
 unfolding header_at
 accepted_back most bytes h e =
-    let a = not_ok (is_ident bytes) ChunkHeaderParse _ h e in
+    let a = not_ok (is_footer_magic bytes) ChunkHeaderParse _ h e in
     let b = by_ok (is_scheme (header_of bytes).scheme) (MalformedData Scheme) _ h a in
     let c = by_ok ((header_of bytes).version == 0) (MalformedData HeaderVersion) _ h b.1 in
     let d = by_ok (nat_le (header_of bytes).stored (2 * most)) (MalformedData StoredLength) _ h c.1 in
@@ -134,7 +134,7 @@ number_of_cells a b c = omega arith
 
 -- a whole chunk at the front of bytes is spelled there
 front_back : (most : ℕ) (bytes chunk : List ℕ) → ((i : ℕ) → get_or bytes i 0 < 256) → front_of most bytes ≡ Whole chunk
-    → (bytes ≡ spelling chunk ++ drop (8 + length chunk) bytes) × (length chunk ≤ most)
+    → (bytes ≡ encoded_chunk chunk ++ drop (8 + length chunk) bytes) × (length chunk ≤ most)
 front_back most bytes chunk small e =
     let within = whole_within most bytes chunk e in
     let b = behind_back (header_at most (take 8 bytes)) (drop 8 bytes) chunk (sym (front_at most bytes (omega arith)) ∙ e) in
@@ -154,7 +154,7 @@ front_back most bytes chunk small e =
     let is_scheme = ap (λ (x : Header). x.scheme) a.is in
     let size : length chunk ≡ h.stored = ap length (sym same) ∙ length-take-le h.stored (drop 8 bytes) b.within in
     let n : h.stored ≡ length chunk = sym size in
-    let spelled = front_is bytes h.stored small (record {
+    let encoded = front_is bytes h.stored small (record {
       version = sym version ∙ a.version;
       scheme = sym scheme ∙ is_scheme ∙ body.0;
       stored = sym stored ∙ is_stored;
@@ -163,7 +163,7 @@ front_back most bytes chunk small e =
     }) in
     let count : 8 + h.stored - 8 ≡ h.stored = omega arith in
     let part : slice_range bytes 8 (8 + h.stored) ≡ chunk = ap (λ (k : ℕ). take k (drop 8 bytes)) count ∙ same in (
-      spelled ∙ ap (λ (x : List ℕ). spelling x ++ drop (8 + h.stored) bytes) part ∙ ap (λ (k : ℕ). spelling chunk ++ drop (8 + k) bytes) n,
+      encoded ∙ ap (λ (x : List ℕ). encoded_chunk x ++ drop (8 + h.stored) bytes) part ∙ ap (λ (k : ℕ). encoded_chunk chunk ++ drop (8 + k) bytes) n,
       omega (arith, a.plain, is_plain, body.1, size),
     )
 
@@ -172,14 +172,14 @@ sum_more total c cs one (inl more) = omega (arith, sum_by-cons length c cs)
 sum_more total c cs one (inr none) = let last : sum_by length cs ≡ 0 = ap (sum_by length) none in omega (arith, last, sum_by-cons length c cs)
 
 decoded_spelled : (most total : ℕ) (bytes : List ℕ) (chunks : List (List ℕ)) → ((i : ℕ) → get_or bytes i 0 < 256) → Decodes most total bytes chunks (Ok [])
-    → (bytes ≡ flat_map spelling chunks) × AllByRecursion (λ b. length b ≤ most) chunks × ((total + sum_by length chunks < 2 ^ 32) ⊎ (chunks ≡ []))
+    → (bytes ≡ flat_map encoded_chunk chunks) × AllByRecursion (λ b. length b ≤ most) chunks × ((total + sum_by length chunks < 2 ^ 32) ⊎ (chunks ≡ []))
 decoded_spelled most total bytes [] small (inl d) = let none : bytes ≡ [] = cc d.1 in (none, tt, inr refl)
 decoded_spelled most total bytes [] small (inr (inl d)) = absurd (cc d.2)
 decoded_spelled most total bytes [] small (inr (inr d)) = absurd (cc d.3)
 decoded_spelled most total bytes (c ∷ cs) small d =
     let front = front_back most bytes c small d.0 in
     let rest = decoded_spelled most (total + length c) (drop (8 + length c) bytes) cs (λ i. subst (λ (n : ℕ). n < 256) (sym (get_or-drop (8 + length c) bytes i 0)) (small (8 + length c + i))) d.2 in
-    (front.0 ∙ ap (λ (x : List ℕ). spelling c ++ x) rest.0, (front.1, rest.1), inl (sum_more total c cs d.1 rest.2))
+    (front.0 ∙ ap (λ (x : List ℕ). encoded_chunk c ++ x) rest.0, (front.1, rest.1), inl (sum_more total c cs d.1 rest.2))
 
 total_small : (chunks : List (List ℕ)) → (0 + sum_by length chunks < 2 ^ 32) ⊎ (chunks ≡ []) → sum_by length chunks < 2 ^ 32
 total_small chunks (inl small) = omega arith
@@ -191,7 +191,7 @@ ended bytes chunks most (Ok (b ∷ bs)) e d = absurd (cc e)
 ended bytes chunks most (Err x) e d = absurd (cc e)
 
 -- a stream is its chunks as they are spelled
-pub spelled_of_stream : (most : ℕ) (bytes : List ℕ) (chunks : List (List ℕ)) → ((i : ℕ) → get_or bytes i 0 < 256) → IsStream most bytes chunks (Ok tt) → AreSpelled most bytes chunks
-spelled_of_stream most bytes chunks small is =
+pub encoded_of_stream : (most : ℕ) (bytes : List ℕ) (chunks : List (List ℕ)) → ((i : ℕ) → get_or bytes i 0 < 256) → IsStream most bytes chunks (Ok tt) → AreEncoded most bytes chunks
+encoded_of_stream most bytes chunks small is =
     let d = decoded_spelled most 0 bytes chunks small (ended bytes chunks most is.rest is.ends is.decodes) in
-    record { fit = d.1; total = total_small chunks d.2; spelled = d.0 }
+    record { fit = d.1; total = total_small chunks d.2; encoded = d.0 }

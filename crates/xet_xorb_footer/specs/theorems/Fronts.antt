@@ -1,4 +1,4 @@
--- What is read at the front of a field and of what is behind it, and where the bytes end inside a field.
+-- Reading a field and then what follows it, and bytes that end inside a field.
 use Rattle.std.proofs.Common.{◌≡◌, ◌∙◌, ℕ, zero, suc, ◌+◌, ◌-◌, ◌*◌, ◌≤◌, ◌<◌, ◌⊎◌, ◌==◌, nat_eq, Bool, true, false, cond, List, [], ◌∷◌, ◌++◌, Result, Ok, Err, ap, append_assoc, arith, drop, length, length-append, length-drop, inl, inr, min, refl, sym, take}
 use Rattle.std.proofs.Math.Nat.{mul-le-mul_left, mul-suc}
 use Rattle.std.proofs.Math.Seq.{drop-append_seam, take-append_seam}
@@ -11,7 +11,7 @@ use Rattle.xet_hash.specs.declared.error.StoreError.{StoreError}
 use Rattle.xet_hash.specs.declared.error.StoreError.TheVariants.{UnexpectedEof}
 use Rattle.xet_xorb_footer.specs.Items.{items_in}
 use Rattle.xet_codec.specs.Parsing.{◌>>=◌, Taken, bytes_at, number_at, times, wants}
-use Rattle.xet_xorb_footer.specs.Reading.{ident_at, number_is, version_at}
+use Rattle.xet_xorb_footer.specs.Reading.{magic_at, number_is, version_at}
 
 -- ---- whole fields
 
@@ -27,8 +27,8 @@ pub number_whole : (field more : List ℕ) → length field ≡ 4 → number_at 
 unfolding number_at
 number_whole field more len = rw (bytes_whole 4 field more len) refl
 
-pub ident_whole : (ident : List ℕ) (reason : Reason) (field more : List ℕ) → length field ≡ 7 → ident_at ident reason (field ++ more) ≡ (wants (pointwise nat_eq field ident) reason >>= λ _. Ok (tt, more))
-unfolding ident_at
+pub ident_whole : (ident : List ℕ) (reason : Reason) (field more : List ℕ) → length field ≡ 7 → magic_at ident reason (field ++ more) ≡ (wants (pointwise nat_eq field ident) reason >>= λ _. Ok (tt, more))
+unfolding magic_at
 ident_whole ident reason field more len = rw (bytes_whole 7 field more len) refl
 
 pub version_whole : (version : ℕ) (reason : Reason) (field more : List ℕ) → length field ≡ 1 → version_at version reason (field ++ more) ≡ (wants (pointwise nat_eq field (version ∷ [])) reason >>= λ _. Ok (tt, more))

@@ -1,15 +1,15 @@
--- A footer at the end of other bytes is read back.
+-- Round trip of a footer at the end of other bytes.
 use Rattle.std.proofs.Common.{◌≡◌, ◌∙◌, ℕ, ◌+◌, ◌-◌, ◌*◌, ◌^◌, ◌<◌, nat_le, true, List, ◌++◌, Ok, ap, append_assoc, arith, drop, length, length-append, refl, sym, take}
 use Rattle.std.proofs.Math.Seq.{drop-append_seam}
 use Rattle.std.proofs.lemmas.Bool.{le-leb}
 use Rattle.std.proofs.lemmas.Nat.{from_le_bytes-to_le_bytes_4}
 use Rattle.xet_xorb_footer.specs.declared.info.XorbObjectInfoV0.{XorbObjectInfoV0}
 use Rattle.xet_xorb_footer.specs.declared.info.XorbObjectInfoV1.{XorbObjectInfoV1}
-use Rattle.xet_xorb_footer.specs.Ends.{last_footer, told_length}
+use Rattle.xet_xorb_footer.specs.Ends.{last_footer, footer_length}
 use Rattle.xet_xorb_footer.specs.Laws.{IsStandard, IsStandardV0}
 use Rattle.xet_xorb_footer.specs.Reading.{footer_at}
 use Rattle.xet_codec.specs.Numbers.{number}
-use Rattle.xet_xorb_footer.specs.Spelled.{of_v0, text_v0, text_v1}
+use Rattle.xet_xorb_footer.specs.FooterEncoding.{of_v0, footer_bytes_v0, footer_bytes_v1}
 use Rattle.xet_xorb_footer.specs.theorems.Endings.{told_is}
 use Rattle.xet_xorb_footer.specs.theorems.Readback.{length_is_known, written_is_read}
 use Rattle.xet_xorb_footer.specs.theorems.ReadbackV0.{length_is_known_v0, written_is_read_v0}
@@ -19,7 +19,7 @@ behind : (front back : List ℕ) (n : ℕ) → n ≡ length front → drop n (fr
 behind front back n is = ap (λ (k : ℕ). drop k (front ++ back)) is ∙ drop-append_seam front back
 
 -- the last four bytes tell a number
-told_back : (front : List ℕ) (n : ℕ) → n < 2 ^ 32 → told_length (front ++ number n) ≡ Ok n
+told_back : (front : List ℕ) (n : ℕ) → n < 2 ^ 32 → footer_length (front ++ number n) ≡ Ok n
 told_back front n small =
     let all : List ℕ = front ++ number n in
     let len : length all ≡ length front + 4 = length-append front (number n) in
@@ -32,17 +32,17 @@ unfolding last_footer
 last_back info front text n len small read =
     let all : List ℕ = front ++ (text ++ number n) in
     let long : length all ≡ length front + (n + 4) = omega (arith, length-append front (text ++ number n), length-append text (number n)) in
-    let told : told_length all ≡ Ok n = ap told_length (sym (append_assoc front text (number n))) ∙ told_back (front ++ text) n small in
+    let told : footer_length all ≡ Ok n = ap footer_length (sym (append_assoc front text (number n))) ∙ told_back (front ++ text) n small in
     let enough : nat_le (n + 4) (length all) ≡ true = le-leb (n + 4) (length all) (omega arith) in
     let here : drop (length all - (n + 4)) all ≡ text ++ number n = behind front (text ++ number n) (length all - (n + 4)) (omega arith) in
     rw (told, enough, here, read) refl
 
-pub last_is_read : (i : XorbObjectInfoV1) (front : List ℕ) → IsStandard i → last_footer (front ++ (text_v1 i ++ number (92 + 40 * i.num_chunks))) ≡ Ok (i, 92 + 40 * i.num_chunks)
+pub last_is_read : (i : XorbObjectInfoV1) (front : List ℕ) → IsStandard i → last_footer (front ++ (footer_bytes_v1 i ++ number (92 + 40 * i.num_chunks))) ≡ Ok (i, 92 + 40 * i.num_chunks)
 last_is_read i front s =
     let n : ℕ = 92 + 40 * i.num_chunks in
-    last_back i front (text_v1 i) n (length_is_known i s) (omega (arith, s.few)) (written_is_read i (number n) s)
+    last_back i front (footer_bytes_v1 i) n (length_is_known i s) (omega (arith, s.few)) (written_is_read i (number n) s)
 
-pub last_is_read_v0 : (i : XorbObjectInfoV0) (front : List ℕ) → IsStandardV0 i → last_footer (front ++ (text_v0 i ++ number (60 + 36 * i.num_chunks))) ≡ Ok (of_v0 i, 60 + 36 * i.num_chunks)
+pub last_is_read_v0 : (i : XorbObjectInfoV0) (front : List ℕ) → IsStandardV0 i → last_footer (front ++ (footer_bytes_v0 i ++ number (60 + 36 * i.num_chunks))) ≡ Ok (of_v0 i, 60 + 36 * i.num_chunks)
 last_is_read_v0 i front s =
     let n : ℕ = 60 + 36 * i.num_chunks in
-    last_back (of_v0 i) front (text_v0 i) n (length_is_known_v0 i s) (omega (arith, s.few)) (written_is_read_v0 i (number n) s)
+    last_back (of_v0 i) front (footer_bytes_v0 i) n (length_is_known_v0 i s) (omega (arith, s.few)) (written_is_read_v0 i (number n) s)

@@ -1,4 +1,4 @@
--- A footer is read back from its text.
+-- Round trip of a footer of version 1.
 use Rattle.std.proofs.Common.{◌≡◌, ◌∙◌, ℕ, suc, ◌+◌, ◌*◌, ◌^◌, ◌<◌, ◌≤◌, List, [], ◌∷◌, ◌++◌, Ok, ap, append_assoc, arith, eq-eqb, length, length-append, refl, sym}
 use Rattle.std.proofs.lemmas.Bool.{le-leb}
 use Rattle.std.proofs.lemmas.Nat.{from_le_bytes-to_le_bytes_4}
@@ -10,10 +10,10 @@ use Rattle.xet_xorb_footer.specs.declared.info.XorbObjectInfoV1.{XorbObjectInfoV
 use Rattle.xet_xorb_footer.specs.Laws.{IsStandard}
 use Rattle.xet_codec.specs.Parsing.{◌>>=◌, bytes_at, number_at, times, wants}
 use Rattle.xet_xorb_footer.specs.Reading.{count_at, footer_at, number_is, rest_v1, version_of}
-use Rattle.xet_xorb_footer.specs.Spelled.{boundaries_ident, footer_ident, hashes_ident, most_chunks, text_v1}
+use Rattle.xet_xorb_footer.specs.FooterEncoding.{boundaries_magic, footer_magic, hashes_magic, max_chunks, footer_bytes_v1}
 use Rattle.xet_codec.specs.Numbers.{joined, number, numbers}
 use Rattle.xet_xorb_footer.specs.theorems.Fronts.{bytes_whole, ident_whole, number_is_whole, number_whole, version_whole}
-use Rattle.xet_xorb_footer.specs.theorems.Texts.{length_v1}
+use Rattle.xet_xorb_footer.specs.theorems.EncodedLengths.{length_v1}
 
 number_back : (n : ℕ) (more : List ℕ) → n < 2 ^ 32 → number_at (number n ++ more) ≡ Ok (n, more)
 number_back n more small = number_whole (number n) more refl ∙ ap (λ (k : ℕ). Ok (k, more)) (from_le_bytes-to_le_bytes_4 n small)
@@ -22,9 +22,9 @@ is_back : (n : ℕ) (reason : Reason) (more : List ℕ) → n < 2 ^ 32 → numbe
 is_back n reason more small =
     number_is_whole n reason (number n) more refl ∙ ap (λ (b : _). wants b reason >>= λ _. Ok (tt, more)) (eq-eqb (from_le_bytes w32 (number n)) n (from_le_bytes-to_le_bytes_4 n small))
 
-pub count_back : (n : ℕ) (more : List ℕ) → n ≤ most_chunks → count_at (number n ++ more) ≡ Ok (n, more)
+pub count_back : (n : ℕ) (more : List ℕ) → n ≤ max_chunks → count_at (number n ++ more) ≡ Ok (n, more)
 unfolding count_at
-count_back n more few = rw (number_back n more (omega arith), le-leb n most_chunks few) refl
+count_back n more few = rw (number_back n more (omega arith), le-leb n max_chunks few) refl
 
 pub hashes_back : (hs : List (List ℕ)) (more : List ℕ) → AllByRecursion (λ h. length h ≡ 32) hs → times (bytes_at 32) (length hs) (joined hs ++ more) ≡ Ok (hs, more)
 unfolding times
@@ -41,13 +41,13 @@ numbers_back (n ∷ ns) more all =
 -- the footer with these fields
 abbrev pub standard : List ℕ → ℕ → List (List ℕ) → List ℕ → List ℕ → List ℕ → XorbObjectInfoV1
 standard hash n hashes ends plain spare = record {
-  ident = footer_ident;
+  ident = footer_magic;
   version = 1;
   xorb_hash = hash;
-  ident_hash_section = hashes_ident;
+  ident_hash_section = hashes_magic;
   hashes_version = 0;
   chunk_hashes = hashes;
-  ident_boundary_section = boundaries_ident;
+  ident_boundary_section = boundaries_magic;
   boundaries_version = 1;
   chunk_boundary_offsets = ends;
   unpacked_chunk_offsets = plain;
@@ -62,28 +62,28 @@ abbrev text_end : ℕ → List ℕ → List ℕ → List ℕ
 text_end n spare more = number n ++ (number (52 + 40 * n) ++ (number (40 + 8 * n) ++ (spare ++ more)))
 
 abbrev text_middle : ℕ → List ℕ → List ℕ → List ℕ → List ℕ → List ℕ
-text_middle n ends plain spare more = boundaries_ident ++ ((1 ∷ []) ++ (number n ++ (numbers ends ++ (numbers plain ++ text_end n spare more))))
+text_middle n ends plain spare more = boundaries_magic ++ ((1 ∷ []) ++ (number n ++ (numbers ends ++ (numbers plain ++ text_end n spare more))))
 
 abbrev text_rest : List ℕ → ℕ → List (List ℕ) → List ℕ → List ℕ → List ℕ → List ℕ → List ℕ
-text_rest hash n hashes ends plain spare more = hash ++ (hashes_ident ++ ((0 ∷ []) ++ (number n ++ (joined hashes ++ text_middle n ends plain spare more))))
+text_rest hash n hashes ends plain spare more = hash ++ (hashes_magic ++ ((0 ∷ []) ++ (number n ++ (joined hashes ++ text_middle n ends plain spare more))))
 
-text_of : (hash : List ℕ) (n : ℕ) (hashes : List (List ℕ)) (ends plain spare more : List ℕ) → text_v1 (standard hash n hashes ends plain spare) ++ more ≡ footer_ident ++ ((1 ∷ []) ++ text_rest hash n hashes ends plain spare more)
-unfolding text_v1
+text_of : (hash : List ℕ) (n : ℕ) (hashes : List (List ℕ)) (ends plain spare more : List ℕ) → footer_bytes_v1 (standard hash n hashes ends plain spare) ++ more ≡ footer_magic ++ ((1 ∷ []) ++ text_rest hash n hashes ends plain spare more)
+unfolding footer_bytes_v1
 text_of hash n hashes ends plain spare more = simp append_assoc
 
-rest_back : (hash : List ℕ) (n : ℕ) (hashes : List (List ℕ)) (ends plain spare more : List ℕ) → length hash ≡ 32 → n ≤ most_chunks → length hashes ≡ n → length ends ≡ n → length plain ≡ n
+rest_back : (hash : List ℕ) (n : ℕ) (hashes : List (List ℕ)) (ends plain spare more : List ℕ) → length hash ≡ 32 → n ≤ max_chunks → length hashes ≡ n → length ends ≡ n → length plain ≡ n
     → AllByRecursion (λ h. length h ≡ 32) hashes → AllByRecursion (λ k. k < 2 ^ 32) ends → AllByRecursion (λ k. k < 2 ^ 32) plain → length spare ≡ 16
     → rest_v1 (text_rest hash n hashes ends plain spare more) ≡ Ok (standard hash n hashes ends plain spare, more)
 unfolding rest_v1
 rest_back hash n hashes ends plain spare more hash_len few hashes_len ends_len plain_len whole small_ends small_plain spare_len =
     let small : n < 2 ^ 32 = omega arith in
-    let e1 = bytes_whole 32 hash (hashes_ident ++ ((0 ∷ []) ++ (number n ++ (joined hashes ++ text_middle n ends plain spare more)))) hash_len in
-    let e2 = ident_whole hashes_ident reasons.HashesIdent hashes_ident ((0 ∷ []) ++ (number n ++ (joined hashes ++ text_middle n ends plain spare more))) refl in
+    let e1 = bytes_whole 32 hash (hashes_magic ++ ((0 ∷ []) ++ (number n ++ (joined hashes ++ text_middle n ends plain spare more)))) hash_len in
+    let e2 = ident_whole hashes_magic reasons.HashesIdent hashes_magic ((0 ∷ []) ++ (number n ++ (joined hashes ++ text_middle n ends plain spare more))) refl in
     let e3 = version_whole 0 reasons.HashesVersion (0 ∷ []) (number n ++ (joined hashes ++ text_middle n ends plain spare more)) refl in
     let e4 = count_back n (joined hashes ++ text_middle n ends plain spare more) few in
     let e5 : times (bytes_at 32) n (joined hashes ++ text_middle n ends plain spare more) ≡ Ok (hashes, text_middle n ends plain spare more) =
     ap (λ (k : ℕ). times (bytes_at 32) k (joined hashes ++ text_middle n ends plain spare more)) (sym hashes_len) ∙ hashes_back hashes (text_middle n ends plain spare more) whole in
-    let e6 = ident_whole boundaries_ident reasons.BoundariesIdent boundaries_ident ((1 ∷ []) ++ (number n ++ (numbers ends ++ (numbers plain ++ text_end n spare more)))) refl in
+    let e6 = ident_whole boundaries_magic reasons.BoundariesIdent boundaries_magic ((1 ∷ []) ++ (number n ++ (numbers ends ++ (numbers plain ++ text_end n spare more)))) refl in
     let e7 = version_whole 1 reasons.BoundariesVersion (1 ∷ []) (number n ++ (numbers ends ++ (numbers plain ++ text_end n spare more))) refl in
     let e8 = is_back n reasons.CountMismatch (numbers ends ++ (numbers plain ++ text_end n spare more)) small in
     let e9 : times number_at n (numbers ends ++ (numbers plain ++ text_end n spare more)) ≡ Ok (ends, numbers plain ++ text_end n spare more) =
@@ -96,9 +96,9 @@ rest_back hash n hashes ends plain spare more hash_len few hashes_len ends_len p
     let e14 = bytes_whole 16 spare more spare_len in
     rw (e1, e2, e3, e4, e5, e6, e7, e8, e9, e10, e11, e12, e13, e14) refl
 
-front_back : (rest : List ℕ) → footer_at (footer_ident ++ ((1 ∷ []) ++ rest)) ≡ rest_v1 rest
+front_back : (rest : List ℕ) → footer_at (footer_magic ++ ((1 ∷ []) ++ rest)) ≡ rest_v1 rest
 unfolding footer_at version_of
-front_back rest = rw (ident_whole footer_ident reasons.Ident footer_ident ((1 ∷ []) ++ rest) refl, bytes_whole 1 (1 ∷ []) rest refl) refl
+front_back rest = rw (ident_whole footer_magic reasons.Ident footer_magic ((1 ∷ []) ++ rest) refl, bytes_whole 1 (1 ∷ []) rest refl) refl
 
 -- it is the standard one of its fields
 pub same : (i : XorbObjectInfoV1) → IsStandard i → i ≡ standard i.xorb_hash i.num_chunks i.chunk_hashes i.chunk_boundary_offsets i.unpacked_chunk_offsets i.spare
@@ -106,10 +106,10 @@ same i s = λ j. record {
   ident = s.ident j;
   version = s.version j;
   xorb_hash = i.xorb_hash;
-  ident_hash_section = s.hashes_ident j;
+  ident_hash_section = s.hashes_magic j;
   hashes_version = s.hashes_version j;
   chunk_hashes = i.chunk_hashes;
-  ident_boundary_section = s.boundaries_ident j;
+  ident_boundary_section = s.boundaries_magic j;
   boundaries_version = s.boundaries_version j;
   chunk_boundary_offsets = i.chunk_boundary_offsets;
   unpacked_chunk_offsets = i.unpacked_chunk_offsets;
@@ -119,11 +119,11 @@ same i s = λ j. record {
   spare = i.spare;
 }
 
-pub written_is_read : (i : XorbObjectInfoV1) (more : List ℕ) → IsStandard i → footer_at (text_v1 i ++ more) ≡ Ok (i, more)
+pub written_is_read : (i : XorbObjectInfoV1) (more : List ℕ) → IsStandard i → footer_at (footer_bytes_v1 i ++ more) ≡ Ok (i, more)
 written_is_read i more s =
     let k : XorbObjectInfoV1 = standard i.xorb_hash i.num_chunks i.chunk_hashes i.chunk_boundary_offsets i.unpacked_chunk_offsets i.spare in
     let is : i ≡ k = same i s in
-    ap (λ (x : XorbObjectInfoV1). footer_at (text_v1 x ++ more)) is ∙ ap footer_at (text_of i.xorb_hash i.num_chunks i.chunk_hashes i.chunk_boundary_offsets i.unpacked_chunk_offsets i.spare more)
+    ap (λ (x : XorbObjectInfoV1). footer_at (footer_bytes_v1 x ++ more)) is ∙ ap footer_at (text_of i.xorb_hash i.num_chunks i.chunk_hashes i.chunk_boundary_offsets i.unpacked_chunk_offsets i.spare more)
     ∙ front_back (text_rest i.xorb_hash i.num_chunks i.chunk_hashes i.chunk_boundary_offsets i.unpacked_chunk_offsets i.spare more)
     ∙ rest_back i.xorb_hash i.num_chunks i.chunk_hashes i.chunk_boundary_offsets i.unpacked_chunk_offsets i.spare more s.hash s.few s.lists.hashes s.lists.stored s.lists.plain s.whole_hashes s.small_stored s.small_plain s.spare
     ∙ ap (λ (x : XorbObjectInfoV1). Ok (x, more)) (sym is)
@@ -132,7 +132,7 @@ pub length_joined : (hs : List (List ℕ)) → AllByRecursion (λ h. length h �
 length_joined [] all = refl
 length_joined (h ∷ hs) all = omega (arith, length-append h (joined hs), all.0, length_joined hs all.1)
 
-pub length_is_known : (i : XorbObjectInfoV1) → IsStandard i → length (text_v1 i) ≡ 92 + 40 * i.num_chunks
+pub length_is_known : (i : XorbObjectInfoV1) → IsStandard i → length (footer_bytes_v1 i) ≡ 92 + 40 * i.num_chunks
 length_is_known i s =
-    let all = length_v1 i (ap length s.ident) s.hash (ap length s.hashes_ident) (length_joined i.chunk_hashes s.whole_hashes) (ap length s.boundaries_ident) s.spare in
+    let all = length_v1 i (ap length s.ident) s.hash (ap length s.hashes_magic) (length_joined i.chunk_hashes s.whole_hashes) (ap length s.boundaries_magic) s.spare in
     omega (arith, all, s.lists.hashes, s.lists.stored, s.lists.plain)

@@ -28,8 +28,8 @@ reads-preserved g c =
             block_fed _ h.0 _ c.read_some.new.buf _ c.in_ok-count.count h.2 (c.in_ok-count.ensures.told (i.source_tells ∙ told)).next,
             λ tells. written_both _ _ _ h.0 piece (h.3 tells) (c.in_ok-write_piece.ensures.whole (i.sink_tells ∙ tells)),
           );
-      source_tells = c.in_ok-count.ensures.tells ∙ i.source_tells;
-      sink_tells = c.in_ok-write_piece.ensures.tells ∙ i.sink_tells;
-      source_later = omega (arith, c.in_ok-count.ensures.cause.later, i.source_later);
-      sink_later = omega (arith, c.in_ok-write_piece.ensures.cause.later, i.sink_later);
+      source_tells = c.in_ok-count.ensures.frame.tells ∙ i.source_tells;
+      sink_tells = c.in_ok-write_piece.ensures.frame.tells ∙ i.sink_tells;
+      source_later = omega (arith, c.in_ok-count.ensures.frame.later, i.source_later);
+      sink_later = omega (arith, c.in_ok-write_piece.ensures.frame.later, i.sink_later);
     }

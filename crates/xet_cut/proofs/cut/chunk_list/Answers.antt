@@ -7,8 +7,8 @@ use Rattle.xet_cut.proofs.cut.chunk_list.Goals as goal
 
 pub pieces-preserved : goal.pieces-preserved
 pieces-preserved c =
-    let step = cut_step member_of c.args.limits.now c.pieces.members.items c.pieces.rest.now c.piece_len.result (eqb-false _ _ (sym c.pieces-test.ensures))
-    c.piece_len.ensures.value c.piece_len.ensures.some in
+    let step = cut_step member_of c.args.limits.now c.pieces.members.items c.pieces.rest.now c.first_chunk_len.result (eqb-false _ _ (sym c.pieces-test.ensures))
+    c.first_chunk_len.ensures.value c.first_chunk_len.ensures.some in
     let push = c.in_ok-push.ensures.items in
     record {
       members = rw (push, c.compute_data_hash.ensures, c.split_at.ensures.front, c.split_at.ensures.back) (step ∙ c.pieces.invariant.members);

@@ -9,5 +9,5 @@ returns-then-not-lies_in-clause-refused g c = λ known.
     let members = c.members-found.result.now in
     let segment = c.args.segment.now in
     let there = (c.in_ok-verify_xorb.ensures.knows known).backed segment.xorb_hash members c.members-found.ensures in
-    let backed = subst (λ (f : Files). IsBacked f c.args.folder.now segment.xorb_hash members) c.in_ok-verify_xorb.ensures.same there in
+    let backed = subst (λ (f : Files). IsBacked f c.args.folder.now segment.xorb_hash members) c.in_ok-verify_xorb.ensures.frame.same there in
     SegmentFails.run members backed (λ lies. absurd (cc (subst (λ (b : Bool). IsTrue b) c.if-not-lies_in.true (c.lies_in.ensures.1 lies)))) refl

@@ -14,10 +14,10 @@ pub returns-in_err-parts-clause-refused : goal.returns-in_err-parts-clause-refus
 returns-in_err-parts-clause-refused g c =
     let files = g.D.Disk.files c.args.disk.now in
     let known = Knows (g.D.Disk.tells c.args.disk.now) files c.args.folder.now c.args.table.now in
-    let fails : StoreError → Type 0 = λ e. (stamp : ℕ) → ShardFails files c.args.folder.now (record { hash = c.args.hash.now; file = file c.args.bytes.now stamp }) e in
+    let fails : StoreError → Type 0 = λ e. (modified : ℕ) → ShardFails files c.args.folder.now (record { hash = c.args.hash.now; file = file c.args.bytes.now modified }) e in
     let count = g.D.Disk.faults c.args.disk.now in
     on_exit c.from_residual.result c.in_err-parts.field-0.0 (IsCheckRefusal known fails count count) c.from_residual.ensures.1
-    (read_refusal known fails count count c.args.bytes.now c.in_err-parts.field-0.0 (λ k refused stamp. ShardFails.grammar refused) c.in_err-parts.ensures.exact)
+    (read_refusal known fails count count c.args.bytes.now c.in_err-parts.field-0.0 (λ k refused modified. ShardFails.grammar refused) c.in_err-parts.ensures.exact)
 
 pub check_parts-requires-clause-total : goal.check_parts-requires-clause-total
 check_parts-requires-clause-total g c =

@@ -35,5 +35,5 @@ returns-else-lists_members-clause-refused g c = λ known.
     let members = c.members.result.now in
     let there = (c.in_ok-verify_xorb.ensures.knows known).backed c.hash-hash.result members c.members.ensures in
     let backed = subst (λ (h : List ℕ). IsBacked (g.D.Disk.files c.args.disk.now) c.args.folder.now h members) c.hash-hash.ensures
-    (subst (λ (f : Files). IsBacked f c.args.folder.now c.hash-hash.result members) c.in_ok-verify_xorb.ensures.same there) in
+    (subst (λ (f : Files). IsBacked f c.args.folder.now c.hash-hash.result members) c.in_ok-verify_xorb.ensures.frame.same there) in
     BlockFails.other members backed (λ same. absurd (cc (subst (λ (b : Bool). IsTrue b) c.if-lists_members.false (c.lists_members.ensures.1 (c.as_slice.ensures ∙ same))))) refl

@@ -59,9 +59,9 @@ loop-block-preserved g c =
           (λ h is. subst (λ (x : List ℕ). OfBlocks blocks x) (sym is) (among_map blocks index block c.loop-block-test.true c.block-item.is xorb_hash))
           c.args.table.now c.loop-block.table c.check_block.new.table i.grows done.grows;
       knows = λ k. done.knows (i.knows k);
-      same = done.same ∙ i.same;
-      tells = done.tells ∙ i.tells;
-      later = omega (arith, i.later, done.later);
+      same = done.frame.same ∙ i.same;
+      tells = done.frame.tells ∙ i.tells;
+      later = omega (arith, i.later, done.frame.later);
     }
 
 pub returns-clause-there : goal.returns-clause-there

@@ -2,7 +2,7 @@ use Rattle.std.proofs.Common.{◌∙◌, subst, arith}
 use Rattle.xet_io.specs.Disk.{Files}
 use Rattle.xet_shard_format.specs.Records.{file_hash}
 use Rattle.xet_folder.specs.Admission.{FileFails, FileHolds, FirstFails}
-use Rattle.xet_folder.specs.Contents.{IsFileRecord}
+use Rattle.xet_folder.specs.internal.Contents.{IsFileRecord}
 use Rattle.xet_folder.specs.Checks.{HasFile, Knows, OfFile, OfFiles}
 use Rattle.xet_shard_file.specs.Refusals.{IsCheckRefusal}
 use Rattle.xet_base.specs.theorems.Exits.{on_exit}
@@ -60,7 +60,7 @@ loop-file-preserved g c =
           (i.there later (later_then c.loop-file.table c.check_file.new.table later (later_of (OfFile file) c.loop-file.table c.check_file.new.table done.grows) then));
       grows = grows_then (OfFiles all) (OfFile file) (λ h of. (file, among_all all index file below is, of)) c.args.table.now c.loop-file.table c.check_file.new.table i.grows done.grows;
       knows = λ k. done.knows (i.knows k);
-      same = done.same ∙ i.same;
-      tells = done.tells ∙ i.tells;
-      later = omega (arith, i.later, done.later);
+      same = done.frame.same ∙ i.same;
+      tells = done.frame.tells ∙ i.tells;
+      later = omega (arith, i.later, done.frame.later);
     }

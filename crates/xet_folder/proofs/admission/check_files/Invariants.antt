@@ -3,7 +3,7 @@ use Rattle.std.specs.List.{AllByRecursion}
 use Rattle.xet_hash.specs.declared.error.StoreError.{StoreError}
 use Rattle.xet_folder.specs.Admission.{FileFails, FileHolds, FirstFails}
 use Rattle.xet_folder.specs.Checks.{Grows, HasFile, Knows, OfFiles}
-use Rattle.xet_folder.specs.Contents.{IsFileRecord}
+use Rattle.xet_folder.specs.internal.Contents.{IsFileRecord}
 use Rattle.xet_folder.specs.Xorbs.{Xorbs}
 use Rattle.xet_folder.proofs.Tables.{IsLater}
 use Rattle.xet_folder.proofs.admission.check_files.Given as goal

@@ -16,12 +16,12 @@ use Rattle.xet_folder.proofs.Tables.{blocks_later, grows_more, grows_then, later
 use Rattle.xet_folder.proofs.admission.check_parts.Goals as goal
 
 pub returns-then-ne-clause-refused : goal.returns-then-ne-clause-refused
-returns-then-ne-clause-refused g c = λ known stamp.
+returns-then-ne-clause-refused g c = λ known modified.
     let p : Parts = (c.args.parts.now.0.items, c.args.parts.now.1.items, c.args.parts.now.2) in
     ShardFails.name p c.requires.read (λ e. differ c.compute_data_hash.result c.args.hash.now (sym c.ne.ensures ∙ c.if-ne.true) (c.compute_data_hash.ensures ∙ e)) refl
 
 pub returns-then-ne-2-clause-refused : goal.returns-then-ne-2-clause-refused
-returns-then-ne-2-clause-refused g c = λ known stamp.
+returns-then-ne-2-clause-refused g c = λ known modified.
     let p : Parts = (c.args.parts.now.0.items, c.args.parts.now.1.items, c.args.parts.now.2) in
     let named = sym c.compute_data_hash.ensures ∙ same_hash c.compute_data_hash.result c.args.hash.now (sym c.ne.ensures ∙ c.if-ne.false) in
     ShardFails.keyed p c.requires.read named (λ e. differ c.args.parts.now.2.chunk_hash_hmac_key c.default.result (sym c.ne-2.ensures ∙ c.if-ne-2.true) (e ∙ sym c.default.ensures)) refl
@@ -43,12 +43,12 @@ returns-in_err-check_blocks-clause-refused g c =
     let plain = same_hash c.args.parts.now.2.chunk_hash_hmac_key c.default.result (sym c.ne-2.ensures ∙ c.if-ne-2.false) ∙ c.default.ensures in
     let Holds = BlockHolds files folder hash in
     let Fails = BlockFails files folder hash in
-    let ShardFailsSo : StoreError → Type 0 = λ e. (stamp : ℕ) → ShardFails files folder (record { hash = hash; file = file c.args.bytes.now stamp }) e in
+    let ShardFailsSo : StoreError → Type 0 = λ e. (modified : ℕ) → ShardFails files folder (record { hash = hash; file = file c.args.bytes.now modified }) e in
     let before = g.D.Disk.faults c.args.disk.now in
     let now = g.D.Disk.faults c.check_blocks.new.disk in
     on_exit c.from_residual.result c.in_err-check_blocks.field-0.0 (IsCheckRefusal known ShardFailsSo before now) c.from_residual.ensures.1
     (refusal_of known known (FirstFails Holds Fails c.deref.result.now) ShardFailsSo before now before (λ k. k)
-    (λ k e fails stamp. ShardFails.block p c.requires.read named plain (subst (λ (bs : List MDBXorbInfo). FirstFails Holds Fails bs e) c.deref.ensures.value fails))
+    (λ k e fails modified. ShardFails.block p c.requires.read named plain (subst (λ (bs : List MDBXorbInfo). FirstFails Holds Fails bs e) c.deref.ensures.value fails))
     (omega arith) c.in_err-check_blocks.field-0.0 c.in_err-check_blocks.ensures.refused)
 
 pub returns-in_err-check_files-clause-grows : goal.returns-in_err-check_files-clause-grows
@@ -72,16 +72,16 @@ returns-in_err-check_files-clause-refused g c =
     let named = sym c.compute_data_hash.ensures ∙ same_hash c.compute_data_hash.result hash (sym c.ne.ensures ∙ c.if-ne.false) in
     let plain = same_hash c.args.parts.now.2.chunk_hash_hmac_key c.default.result (sym c.ne-2.ensures ∙ c.if-ne-2.false) ∙ c.default.ensures in
     let blocks = c.in_ok-check_blocks.ensures in
-    let ShardFailsSo : StoreError → Type 0 = λ e. (stamp : ℕ) → ShardFails files folder (record { hash = hash; file = file c.args.bytes.now stamp }) e in
+    let ShardFailsSo : StoreError → Type 0 = λ e. (modified : ℕ) → ShardFails files folder (record { hash = hash; file = file c.args.bytes.now modified }) e in
     let now = g.D.Disk.faults c.check_files.new.disk in
     let hold : known → AllByRecursion (BlockHolds files folder hash) p.0 = λ k. subst (λ (bs : List MDBXorbInfo). AllByRecursion (BlockHolds files folder hash) bs) c.deref.ensures.value (blocks.holds k) in
     on_exit c.from_residual-in_err-check_files.result c.in_err-check_files.field-0.0 (IsCheckRefusal known ShardFailsSo (g.D.Disk.faults c.args.disk.now) now) c.from_residual-in_err-check_files.ensures.1
     (refusal_of known_here known (FirstFails (FileHolds here folder hash) (FileFails here folder hash) c.deref-2.result.now) ShardFailsSo (g.D.Disk.faults c.check_blocks.new.disk) now (g.D.Disk.faults c.args.disk.now)
     blocks.knows
-    (λ k e fails stamp. ShardFails.file p c.requires.read named plain (hold k)
-    (subst (λ (f : Files). FirstFails (FileHolds f folder hash) (FileFails f folder hash) p.1 e) blocks.same
+    (λ k e fails modified. ShardFails.file p c.requires.read named plain (hold k)
+    (subst (λ (f : Files). FirstFails (FileHolds f folder hash) (FileFails f folder hash) p.1 e) blocks.frame.same
     (subst (λ (fs : List MDBFileInfo). FirstFails (FileHolds here folder hash) (FileFails here folder hash) fs e) c.deref-2.ensures.value fails)))
-    blocks.later c.in_err-check_files.field-0.0 c.in_err-check_files.ensures.refused)
+    blocks.frame.later c.in_err-check_files.field-0.0 c.in_err-check_files.ensures.refused)
 
 pub returns-clause-there : goal.returns-clause-there
 returns-clause-there g c = λ p read.

@@ -1,7 +1,8 @@
 use Rattle.std.proofs.Common.{◌≡◌, ◌∙◌, ℕ, List, sym, subst, arith}
 use Rattle.xet_io.specs.Disk.{Files}
 use Rattle.xet_folder.specs.Admission.{FirstFails, SegmentFails, SegmentHolds}
-use Rattle.xet_folder.specs.Checks.{AddsRun, Has, Knows, OfSegments}
+use Rattle.xet_folder.specs.internal.Checks.{AddsRun}
+use Rattle.xet_folder.specs.Checks.{Has, Knows, OfSegments}
 use Rattle.xet_shard_file.specs.Refusals.{IsCheckRefusal}
 use Rattle.xet_folder.specs.Stored.{IsBacked}
 use Rattle.xet_folder.specs.Xorbs.{IsListed}
@@ -72,9 +73,9 @@ loop-segment-preserved g c =
           (λ h same. subst (λ (x : List ℕ). OfSegments segments x) (sym same) (among_map segments index segment below is (λ s. s.xorb_hash)))
           c.args.table.now c.loop-segment.table c.add_segment.new.table i.grows done.grows;
       knows = λ k. done.knows (i.knows k);
-      same = done.same ∙ i.same;
-      tells = done.tells ∙ i.tells;
-      later = omega (arith, i.later, done.later);
+      same = done.frame.same ∙ i.same;
+      tells = done.frame.tells ∙ i.tells;
+      later = omega (arith, i.later, done.frame.later);
     }
 
 pub returns-clause-joins : goal.returns-clause-joins

@@ -5,7 +5,7 @@ use Rattle.xet_base.specs.theorems.Elements.{all_both}
 use Rattle.xet_folder.specs.Admission.{ShardHolds}
 use Rattle.xet_folder.specs.Checks.{Knows, OfBytes}
 use Rattle.xet_folder.specs.Contents.{IsRecord, listed_of}
-use Rattle.xet_folder.specs.Gathering.{gathered, shard_file}
+use Rattle.xet_folder.specs.internal.Gathering.{gathered, shard_file}
 use Rattle.xet_folder.specs.Xorbs.{AreBacked, Records}
 use Rattle.xet_folder.proofs.Firsts.{firsts_hold}
 use Rattle.xet_folder.proofs.MoreShards.{contents_more}
@@ -13,15 +13,15 @@ use Rattle.xet_folder.proofs.Tables.{later_of, records_later}
 use Rattle.xet_folder.proofs.gathering.gather_shard.Goals as goal
 
 pub returns-clause-gathered : goal.returns-clause-gathered
-returns-clause-gathered g c = λ told shards stamp is.
+returns-clause-gathered g c = λ told shards modified is.
     let files = g.D.Disk.files c.args.disk.now in
     let folder = c.args.folder.now in
     let admitted = c.in_ok-files.ensures in
     let known : Knows (g.D.Disk.tells c.args.disk.now) files folder c.args.gathered.now.xorbs = record { told = told; backed = is.backed } in
-    let s = shard_file c.args.hash.now (file c.args.bytes.now stamp) in
+    let s = shard_file c.args.hash.now (file c.args.bytes.now modified) in
     record {
-      hold = all_both (ShardHolds files folder) shards (s ∷ []) is.hold (admitted.holds known stamp, tt);
-      backed = subst (λ (f : Files). AreBacked f folder c.admit_shard.new.table) admitted.same (admitted.knows known).backed;
+      hold = all_both (ShardHolds files folder) shards (s ∷ []) is.hold (admitted.holds known modified, tt);
+      backed = subst (λ (f : Files). AreBacked f folder c.admit_shard.new.table) admitted.frame.same (admitted.knows known).backed;
       contents = contents_more shards (gathered c.args.gathered.now) s c.admit_shard.new.table c.add_files.new.records c.push.new.self.items c.in_ok-files.files.items is.contents
           admitted.files admitted.grows admitted.there c.in_ok-add_files.ensures.added c.in_ok-push.ensures.items;
     }

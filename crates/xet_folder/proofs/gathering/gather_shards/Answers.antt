@@ -7,7 +7,7 @@ use Rattle.xet_folder.specs.declared.contents.Unadmitted.{Unadmitted}
 use Rattle.xet_folder.specs.Checks.{Knows}
 use Rattle.xet_folder.specs.Contents.{IsRecord}
 use Rattle.xet_shard_file.specs.Entries.{entry_of, is_valid}
-use Rattle.xet_folder.specs.Gathering.{EntryFails, IsGathered, IsStopped, ShardsFail, gathered, shard_file, with_valid}
+use Rattle.xet_folder.specs.internal.Gathering.{EntryFails, IsGathered, IsStopped, ShardsFail, gathered, shard_file, with_valid}
 use Rattle.xet_shard_file.specs.Names.{IsHash, shard_path}
 use Rattle.xet_shard_file.specs.Shards.{IsThere, ShardFile}
 use Rattle.xet_folder.specs.Xorbs.{AreBacked, Records}
@@ -47,9 +47,9 @@ loop-entry-preserved g c =
           (i.told told read same there);
       recorded = done.recorded i.recorded;
       hashes = done.hashes i.hashes;
-      same = done.same ∙ i.same;
-      tells = done.tells ∙ i.tells;
-      later = omega (arith, i.later, done.later);
+      same = done.frame.same ∙ i.same;
+      tells = done.frame.tells ∙ i.tells;
+      later = omega (arith, i.later, done.frame.later);
     }
 
 pub returns-in_err-gather_entry-clause-refused : goal.returns-in_err-gather_entry-clause-refused

@@ -2,7 +2,7 @@ use Rattle.std.proofs.Common.{◌≡◌, ◌≤◌, List, filter, map, take, tru
 use Rattle.std.specs.List.{All, AllByRecursion}
 use Rattle.xet_folder.specs.Contents.{IsRecord}
 use Rattle.xet_shard_file.specs.Entries.{entry_of, is_valid}
-use Rattle.xet_folder.specs.Gathering.{IsGathered, gathered}
+use Rattle.xet_folder.specs.internal.Gathering.{IsGathered, gathered}
 use Rattle.xet_shard_file.specs.Names.{IsHash}
 use Rattle.xet_shard_file.specs.Shards.{IsThere, ShardFile}
 use Rattle.xet_folder.proofs.gathering.gather_shards.Given as goal

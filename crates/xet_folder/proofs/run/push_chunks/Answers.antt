@@ -3,7 +3,8 @@ use Rattle.std.proofs.lemmas.List.{drop_all, take-append-le}
 use Rattle.std.specs.List.{concat}
 use Rattle.std.proofs.lemmas.List.Sums.{sum_by-cons}
 use Rattle.xet_hash.specs.Merkle.{total_len}
-use Rattle.xet_folder.specs.Runs.{Spells, stored_len}
+use Rattle.xet_folder.specs.internal.Runs.{Encodes}
+use Rattle.xet_folder.specs.Runs.{stored_len}
 use Rattle.xet_folder.specs.Plan.{range}
 use Rattle.xet_folder.specs.theorems.Placing.{Member}
 use Rattle.xet_folder.proofs.Ranges.{length-range}
@@ -18,8 +19,8 @@ returns-in_default-clause-refused c = inr (
       let m = c.loop-length-item.result in
       let here = left c.args.members.now c.loop-length.length-index m c.loop-length-test.true c.loop-length-item.is in
       let r = c.loop-length.invariant.told chunks spells in
-      let f = first_of (drop c.loop-length.place c.args.stored.now) m _ r.chunks (subst (λ (ms : List Member). Spells (drop c.loop-length.place c.args.stored.now) ms r.chunks) here r.spells) in
-      c.in_default.ensures.none refl f.chunk _ f.len f.spelled,
+      let f = first_of (drop c.loop-length.place c.args.stored.now) m _ r.chunks (subst (λ (ms : List Member). Encodes (drop c.loop-length.place c.args.stored.now) ms r.chunks) here r.spells) in
+      c.in_default.ensures.none refl f.chunk _ f.len f.encoded,
 )
 
 pub loop-length-preserved : goal.loop-length-preserved

@@ -14,5 +14,5 @@ returns-in_ok-insert-in-Stored-clause-there g c =
 pub returns-in_ok-insert-in-Stored-clause-knows : goal.returns-in_ok-insert-in-Stored-clause-knows
 returns-in_ok-insert-in-Stored-clause-knows g c =
     knows_more (g.D.Disk.tells c.args.disk.now) _ (g.D.Disk.files c.args.disk.now) _ c.args.folder.now c.args.table.now c.insert.new.self c.args.hash.now c.in-Stored.members
-    c.in_ok-members.ensures.tells c.in_ok-members.ensures.same c.in_ok-insert-in-Stored.ensures.added
+    c.in_ok-members.ensures.frame.tells c.in_ok-members.ensures.frame.same c.in_ok-insert-in-Stored.ensures.added
     (λ told. subst (λ (x : XorbFile). IsXorbFile (g.D.Disk.files c.args.disk.now) c.args.folder.now c.args.hash.now x) c.in-Stored.is (c.in_ok-members.ensures.told told))

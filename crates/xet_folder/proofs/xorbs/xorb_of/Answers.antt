@@ -1,5 +1,5 @@
 use Rattle.std.proofs.Common.{◌∙◌, ℕ, List, ap, refl}
-use Rattle.xet_folder.specs.Xorbs.{spans_from}
+use Rattle.xet_folder.specs.internal.Xorbs.{spans_from}
 use Rattle.xet_folder.proofs.Backing.{bytes_there, found_backed, found_below, none_stored}
 use Rattle.xet_folder.proofs.xorbs.xorb_of.Goals as goal
 

@@ -26,8 +26,8 @@ returns-clause-more c = λ files new lists.
     let more = lists_more files folder name (entry_of c.args.held.now) new ds lists c.in-Some-own_name.own.now own.1 (sym own.0) f (ap (λ f. option_map file_of_held f) c.in-Some.is) in
     let len : vec_len c.in-Some.file.bytes ≡ length c.in-Some.file.bytes.items = search rules in
     let text = c.new.ensures ∙ c.in_ok-from_str.ensures.ok in
-    let pushed : c.push.new.self.items ≡ ds ++ record { name = c.in-Some-own_name.own.now; length = length f.bytes; stamp = f.stamp } ∷ [] =
+    let pushed : c.push.new.self.items ≡ ds ++ record { name = c.in-Some-own_name.own.now; length = length f.bytes; modified = f.modified } ∷ [] =
     c.in_ok-push.ensures.items
-    ∙ ap (λ n. ds ++ record { name = n; length = c.len.result; stamp = f.stamp } ∷ []) text
-    ∙ ap (λ n. ds ++ record { name = c.in-Some-own_name.own.now; length = n; stamp = f.stamp } ∷ []) (c.len.ensures ∙ len) in
+    ∙ ap (λ n. ds ++ record { name = n; length = c.len.result; modified = f.modified } ∷ []) text
+    ∙ ap (λ n. ds ++ record { name = c.in-Some-own_name.own.now; length = n; modified = f.modified } ∷ []) (c.len.ensures ∙ len) in
     subst (λ (ds : List DiskEntry). Lists (insert files name (entry_of c.args.held.now)) folder ds) (sym pushed) more

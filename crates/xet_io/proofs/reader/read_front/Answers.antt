@@ -19,4 +19,5 @@ reads-preserved g c =
       same = search rules;
       tells = search rules;
       later = search rules;
+      lent = search rules;
     }

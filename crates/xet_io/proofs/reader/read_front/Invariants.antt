@@ -1,6 +1,7 @@
 use Rattle.std.proofs.Common.{◌≡◌, ◌≤◌, ◌-◌, true, Some, length}
 use Rattle.xet_io.proofs.Reading.{FillsPart}
 use Rattle.xet_io.proofs.reader.read_front.Given as goal
+use Rattle.xet_io.specs.Lent.{IsSameLent}
 
 abbrev pub invariant-reads : goal.invariant-reads
 invariant-reads g l = record {
@@ -10,6 +11,7 @@ invariant-reads g l = record {
   same : g.R.ReadAt.bytes l.reader ≡ g.R.ReadAt.bytes l.fn.reader;
   tells : g.R.ReadAt.tells l.reader ≡ g.R.ReadAt.tells l.fn.reader;
   later : g.R.ReadAt.faults l.fn.reader ≤ g.R.ReadAt.faults l.reader;
+  lent : IsSameLent (g.R.ReadAt.lent l.fn.reader) (g.R.ReadAt.lent l.reader);
 }
 
 abbrev pub decreases-reads : goal.decreases-reads

@@ -8,8 +8,8 @@ reads-preserved g c =
     record {
       room = search rules;
       read = λ told. reads_on _ _ _ c.reads.bytes.items c.read_more.new.bytes.items c.reads.filled c.in-Ok.count (i.read told) c.in-Ok.ensures.front (c.in-Ok.ensures.next (i.tells ∙ told));
-      tells = c.in-Ok.ensures.tells ∙ i.tells;
-      later = omega (arith, c.in-Ok.ensures.cause.later, i.later);
+      tells = c.in-Ok.ensures.frame.tells ∙ i.tells;
+      later = omega (arith, c.in-Ok.ensures.frame.later, i.later);
     }
 
 pub returns-in-Err-clause-told : goal.returns-in-Err-clause-told

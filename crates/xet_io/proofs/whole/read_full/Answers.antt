@@ -13,6 +13,6 @@ reads-preserved g c =
           ((c.in_ok-count.ensures.told (i.tells ∙ told)).next
           ∙ ap (λ (xs : List ℕ). xs ++ g.S.Source.left c.read_behind.new.source)
           (take-take c.in_ok-count.count _ (drop c.reads.filled c.read_behind.new.bytes) c.in_ok-count.ensures.bound.1));
-      tells = c.in_ok-count.ensures.tells ∙ i.tells;
-      later = omega (arith, c.in_ok-count.ensures.cause.later, i.later);
+      tells = c.in_ok-count.ensures.frame.tells ∙ i.tells;
+      later = omega (arith, c.in_ok-count.ensures.frame.later, i.later);
     }

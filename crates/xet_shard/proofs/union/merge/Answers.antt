@@ -1,7 +1,7 @@
 use Rattle.std.proofs.Common.{◌≡◌, ◌∙◌, ◌+◌, ◌++◌, ◌∷◌, Bor, List, ℕ, ap, drop, map, sym, subst}
 use Rattle.std.proofs.lemmas.List.{drop_all}
 use Rattle.std.proofs.lemmas.Result.{err_from_is_err_and}
-use Rattle.xet_shard.specs.Merging.{FirstAgrees, Rises, behind, not_below}
+use Rattle.xet_shard.specs.internal.Merging.{FirstAgrees, Rises, behind, not_below}
 use Rattle.xet_shard.specs.Union.{Agree}
 use Rattle.xet_shard.proofs.Merging.{agree_back, agree_first, agree_on, behind_rises, merged, merged_is, merged_rest, rest_rises}
 use Rattle.xet_shard_format.specs.theorems.Steps.{left}

@@ -1,5 +1,5 @@
 use Rattle.std.proofs.Common.{◌≡◌, ◌++◌, Bor, drop, map}
-use Rattle.xet_shard.specs.Merging.{Rises}
+use Rattle.xet_shard.specs.internal.Merging.{Rises}
 use Rattle.xet_shard.specs.Union.{Agree}
 use Rattle.xet_shard.proofs.Merging.{merged}
 use Rattle.xet_shard.proofs.union.merge.Given as goal

@@ -2,7 +2,7 @@ use Rattle.std.proofs.Common.{◌≡◌, ◌∙◌, ◌+◌, ◌++◌, true, fal
 use Rattle.std.specs.Ordering.{is_lt}
 use Rattle.std.proofs.lemmas.List.{append-nil, drop-drop, drop_all}
 use Rattle.xet_hash.specs.Order.{hash_cmp}
-use Rattle.xet_shard.specs.Merging.{below, not_below}
+use Rattle.xet_shard.specs.internal.Merging.{below, not_below}
 use Rattle.xet_shard.proofs.Merging.{below_high, below_low, ends, rest_high, rest_low}
 use Rattle.xet_shard_format.specs.theorems.Steps.{left}
 use Rattle.xet_shard.proofs.Uniting.{pushed_on}

@@ -1,5 +1,5 @@
 use Rattle.std.proofs.Common.{◌≡◌, ◌++◌, Bor, drop, map}
-use Rattle.xet_shard.specs.Merging.{below, not_below}
+use Rattle.xet_shard.specs.internal.Merging.{below, not_below}
 use Rattle.xet_shard.proofs.union.push_below.Given as goal
 
 abbrev pub invariant-loop-next : goal.invariant-loop-next

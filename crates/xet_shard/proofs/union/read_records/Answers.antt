@@ -23,9 +23,9 @@ returns-in_err-xorbs-clause-exact g c = λ told.
     let p = err_from_is_err_and c.from_residual-in_err-xorbs.result c.from_residual-in_err-xorbs.ensures.1 in
     rw (p.1, p.2)
     (records_end c.args.f.now (g.R.ReadAt.bytes c.args.reader.now) (λ (v : Vec MDBXorbInfo Global). v.items) records_of c.in_err-xorbs.field-0.0 c.in_ok-found.found.items (c.in_ok-found.ensures.exact told)
-    (subst (λ (bytes : List ℕ). GivesUnlessFault (λ (v : Vec MDBXorbInfo Global). v.items) (Err c.in_err-xorbs.field-0.0) (blocks_in c.args.f.now bytes)) c.in_ok-found.ensures.same (c.in_err-xorbs.ensures.exact (c.in_ok-found.ensures.tells ∙ told))))
+    (subst (λ (bytes : List ℕ). GivesUnlessFault (λ (v : Vec MDBXorbInfo Global). v.items) (Err c.in_err-xorbs.field-0.0) (blocks_in c.args.f.now bytes)) c.in_ok-found.ensures.frame.same (c.in_err-xorbs.ensures.exact (c.in_ok-found.ensures.frame.tells ∙ told))))
 
 pub returns-clause-exact : goal.returns-clause-exact
 returns-clause-exact g c = λ told.
     records_are c.args.f.now (g.R.ReadAt.bytes c.args.reader.now) c.in_ok-found.found.items c.in_ok-xorbs.xorbs.items (c.in_ok-found.ensures.exact told)
-    (ap (blocks_in c.args.f.now) (sym c.in_ok-found.ensures.same) ∙ c.in_ok-xorbs.ensures.exact (c.in_ok-found.ensures.tells ∙ told))
+    (ap (blocks_in c.args.f.now) (sym c.in_ok-found.ensures.frame.same) ∙ c.in_ok-xorbs.ensures.exact (c.in_ok-found.ensures.frame.tells ∙ told))

@@ -12,13 +12,13 @@ returns-in_err-text-clause-refused g c = λ told also.
     (not_united c.args.first.now.metadata c.args.second.now.metadata (both_in c.args.first.now.metadata (g.R.ReadAt.bytes c.args.reader.now) c.args.second.now.metadata (g.Q.ReadAt.bytes c.args.other.now)) both c.in_err-text.field-0.0
     (c.in_ok-ours.ensures.exact told also) c.in_err-text.ensures.refused)
 
-pub returns-in_err-write_text-clause-front : goal.returns-in_err-write_text-clause-front
-returns-in_err-write_text-clause-front g c = λ told also wrote.
+pub returns-in_err-write_bytes-clause-front : goal.returns-in_err-write_bytes-clause-front
+returns-in_err-write_bytes-clause-front g c = λ told also wrote.
     let both : Records × Records = ((c.in_ok-ours.ours.0.items, c.in_ok-ours.ours.1.items), (c.in_ok-ours.theirs.0.items, c.in_ok-ours.theirs.1.items)) in
-    let p = err_from_is_err_and c.from_residual-in_err-write_text.result c.from_residual-in_err-write_text.ensures.1 in
+    let p = err_from_is_err_and c.from_residual-in_err-write_bytes.result c.from_residual-in_err-write_bytes.ensures.1 in
     rw p.1
     (union_front (both_in c.args.first.now.metadata (g.R.ReadAt.bytes c.args.reader.now) c.args.second.now.metadata (g.Q.ReadAt.bytes c.args.other.now)) both c.args.first.now.metadata.shard_creation_timestamp c.args.second.now.metadata.shard_creation_timestamp
-    c.in_ok-text.info c.in_ok-text.text.items c.deref.result.now (g.W.Sink.written c.args.sink.now) (g.W.Sink.written c.write_text.new.sink) (c.in_ok-ours.ensures.exact told also) c.in_ok-text.ensures.text c.deref.ensures.value (c.in_err-write_text.ensures.front wrote))
+    c.in_ok-text.info c.in_ok-text.text.items c.deref.result.now (g.W.Sink.written c.args.sink.now) (g.W.Sink.written c.write_bytes.new.sink) (c.in_ok-ours.ensures.exact told also) c.in_ok-text.ensures.text c.deref.ensures.value (c.in_err-write_bytes.ensures.front wrote))
 
 pub returns-in_err-ours-clause-refusals : goal.returns-in_err-ours-clause-refusals
 returns-in_err-ours-clause-refusals g c =
@@ -32,8 +32,8 @@ returns-in_err-text-clause-refusals g c =
     let p = err_from_is_err_and c.from_residual-in_err-text.result c.from_residual-in_err-text.ensures.1 in
     rw (p.1, p.2) (text_union both c.args.first.now.metadata.shard_creation_timestamp c.args.second.now.metadata.shard_creation_timestamp c.in_err-text.field-0.0 c.in_err-text.ensures.refused)
 
-pub returns-in_err-write_text-clause-refusals : goal.returns-in_err-write_text-clause-refusals
-returns-in_err-write_text-clause-refusals g c =
-    let p = err_from_is_err_and c.from_residual-in_err-write_text.result c.from_residual-in_err-write_text.ensures.1 in
-    let e = c.in_err-write_text.field-0.0 in
-    rw (p.1, p.2) (export_union e (writing_export e c.in_err-write_text.ensures.refusals))
+pub returns-in_err-write_bytes-clause-refusals : goal.returns-in_err-write_bytes-clause-refusals
+returns-in_err-write_bytes-clause-refusals g c =
+    let p = err_from_is_err_and c.from_residual-in_err-write_bytes.result c.from_residual-in_err-write_bytes.ensures.1 in
+    let e = c.in_err-write_bytes.field-0.0 in
+    rw (p.1, p.2) (export_union e (writing_export e c.in_err-write_bytes.ensures.refusals))

@@ -20,5 +20,5 @@ returns-in_err-footer-clause-refused g c =
     (ends_refusal K F before now e c.in_err-footer.ensures.error (λ told bytes there len.
     let first = filled_is 0 (bytes_at files name) bytes c.fill.new.buf c.in_ok-fill.field-0 there c.if-not-branch.false (c.in_ok-fill.ensures.told told) in
     let last = filled_is (c.args.len - 200) (bytes_at files name) bytes c.fill-2.new.buf c.in_ok-fill-2.field-0 there c.if-not-branch-2.false
-    (subst (λ (fs : Files). FillsFrom (bytes_at fs name) (c.args.len - 200) c.fill-2.new.buf c.in_ok-fill-2.field-0) c.in_ok-fill.ensures.same (c.in_ok-fill-2.ensures.told (c.in_ok-fill.ensures.tells ∙ told))) in
+    (subst (λ (fs : Files). FillsFrom (bytes_at fs name) (c.args.len - 200) c.fill-2.new.buf c.in_ok-fill-2.field-0) c.in_ok-fill.ensures.frame.same (c.in_ok-fill-2.ensures.told (c.in_ok-fill.ensures.frame.tells ∙ told))) in
     sym (c.in_err-footer.ensures.exact bytes len (first ∙ ap (λ (n : ℕ). take n bytes) c.in_ok-fill.ensures.len) (last ∙ ap (λ (n : ℕ). take n (drop (c.args.len - 200) bytes)) c.in_ok-fill-2.ensures.len))))

@@ -1,7 +1,7 @@
 use Rattle.std.proofs.Common.{◌≡◌, ◌∙◌, List, sym, subst, rules}
 use Rattle.std.specs.Vec.Iter.{into_iter_items}
 use Rattle.xet_io.specs.declared.disk.DiskEntry.{DiskEntry}
-use Rattle.xet_shard_file.specs.Picking.{Picks}
+use Rattle.xet_shard_file.specs.internal.Picking.{Picks}
 use Rattle.xet_shard_file.proofs.ListedShards.{pick_one, picked}
 use Rattle.xet_shard_file.proofs.listing.named_shards.Goals as goal
 

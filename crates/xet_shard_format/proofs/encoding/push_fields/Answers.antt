@@ -1,11 +1,11 @@
 use Rattle.std.proofs.Common.{◌≡◌, ◌++◌, rules}
 use Rattle.std.specs.Int.{w32, to_le_bytes}
-use Rattle.xet_shard_format.specs.Rows.{row_text}
+use Rattle.xet_shard_format.specs.Rows.{row_bytes}
 use Rattle.xet_shard_format.specs.theorems.Bytes.{piece_before}
 use Rattle.xet_shard_format.proofs.encoding.push_fields.Goals as goal
 
 pub returns : goal.returns
-unfolding row_text
+unfolding row_bytes
 returns c =
     let e1 : c.extend_from_slice.new.self.items ≡ c.args.text.now.items ++ c.args.row.now.hash = search rules in
     let e2 : c.extend_from_slice-2.new.self.items ≡ c.extend_from_slice.new.self.items ++ to_le_bytes w32 c.args.row.now.a = search rules in

@@ -1,5 +1,5 @@
 use Rattle.std.proofs.Common.{◌++◌, ◌∙◌, ap}
-use Rattle.xet_shard_format.specs.Rows.{row, row_text}
+use Rattle.xet_shard_format.specs.Rows.{row, row_bytes}
 use Rattle.xet_shard_format.proofs.Growing.{fits_grow, rows_end, rows_grow}
 use Rattle.xet_shard_format.specs.theorems.Steps.{lent_at, none_lent}
 use Rattle.xet_shard_format.proofs.encoding.push_section.Goals as goal
@@ -15,4 +15,4 @@ loop-item-preserved g c =
 pub returns-clause-text : goal.returns-clause-text
 returns-clause-text g c =
     rows_end g.R.Record.rows_of c.loop-item.text.items c.push_row.new.text.items _ _ c.loop-item.item-index (none_lent g.T.Lends.lent c.args.records.now c.loop-item.item-index c.loop-item-test.false)
-    (c.in_ok-push_row.ensures.text ∙ ap (λ (r : _). c.loop-item.text.items ++ row_text r) (c.of_hash.ensures ∙ ap (λ (h : _). row h 0 0 0 0) c.marker.ensures)) c.loop-item.invariant.text
+    (c.in_ok-push_row.ensures.text ∙ ap (λ (r : _). c.loop-item.text.items ++ row_bytes r) (c.of_hash.ensures ∙ ap (λ (h : _). row h 0 0 0 0) c.marker.ensures)) c.loop-item.invariant.text

@@ -1,6 +1,6 @@
 use Rattle.std.proofs.Common.{◌≡◌, ◌++◌, drop, map}
 use Rattle.std.specs.List.{AllByRecursion}
-use Rattle.xet_shard_format.specs.Rows.{RowFits, rows_text}
+use Rattle.xet_shard_format.specs.Rows.{RowFits, rows_bytes}
 use Rattle.xet_shard_format.specs.Records.{section}
 use Rattle.xet_shard_format.proofs.encoding.push_section.Given as goal
 
@@ -10,6 +10,6 @@ invariant-loop-item g l =
     let lent = g.T.Lends.lent in
     let rows_of = g.R.Record.rows_of in
     record {
-      text : l.text.items ++ rows_text (section rows_of (drop l.item-index (map lent l.records))) ≡ l.fn.text.items ++ rows_text (section rows_of (map lent l.records));
+      text : l.text.items ++ rows_bytes (section rows_of (drop l.item-index (map lent l.records))) ≡ l.fn.text.items ++ rows_bytes (section rows_of (map lent l.records));
       fits : AllByRecursion RowFits (section rows_of (drop l.item-index (map lent l.records))) → AllByRecursion RowFits (section rows_of (map lent l.records));
     }

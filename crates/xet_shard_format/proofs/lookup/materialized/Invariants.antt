@@ -1,5 +1,5 @@
 use Rattle.std.proofs.Common.{◌≡◌, ◌+◌, drop, map}
-use Rattle.xet_shard_format.specs.Text.{materialized}
+use Rattle.xet_shard_format.specs.Encoding.{materialized}
 use Rattle.xet_shard_format.proofs.lookup.materialized.Given as goal
 
 abbrev pub invariant-loop-item : goal.invariant-loop-item

@@ -1,5 +1,5 @@
 use Rattle.std.proofs.Common.{◌≡◌, ◌+◌, drop, map}
-use Rattle.xet_shard_format.specs.Text.{stored}
+use Rattle.xet_shard_format.specs.Encoding.{stored}
 use Rattle.xet_shard_format.proofs.lookup.stored.Given as goal
 
 abbrev pub invariant-loop-item : goal.invariant-loop-item

@@ -1,6 +1,7 @@
 use Rattle.std.proofs.Common.{◌≡◌, ◌∙◌, IfSome, List, ℕ, subst, sym, ap}
 use Rattle.std.proofs.lemmas.Bool.{true≢false}
-use Rattle.xet_shard_format.specs.Names.{has_capitals, shard_name}
+use Rattle.xet_shard_format.specs.internal.Names.{has_capitals}
+use Rattle.xet_shard_format.specs.Names.{shard_name}
 use Rattle.xet_shard_format.proofs.Capitals.{encoded_small, found_is, text_is}
 use Rattle.xet_shard_format.proofs.names.parse_shard_filename.Goals as goal
 

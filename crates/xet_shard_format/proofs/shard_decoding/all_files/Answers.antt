@@ -1,7 +1,7 @@
 use Rattle.std.proofs.Common.{◌<◌, ◌^◌, arith, drop, length}
 use Rattle.std.proofs.lemmas.List.{length-drop}
 use Rattle.xet_shard_format.specs.Records.{IsFile, file_hash, file_head, file_rest, file_section}
-use Rattle.xet_shard_format.specs.Text.{materialized}
+use Rattle.xet_shard_format.specs.Encoding.{materialized}
 use Rattle.xet_shard_format.specs.Reading.{file_at, file_row_count}
 use Rattle.xet_shard_format.specs.theorems.Bytes.{IsBytes-drop}
 use Rattle.xet_shard_format.specs.theorems.Finding.{given_ok, section_few, section_fits}

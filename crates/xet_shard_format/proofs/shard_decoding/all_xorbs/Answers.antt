@@ -1,7 +1,7 @@
 use Rattle.std.proofs.Common.{◌<◌, ◌^◌, arith, drop, length}
 use Rattle.std.proofs.lemmas.List.{length-drop}
 use Rattle.xet_shard_format.specs.Records.{IsXorb, xorb_hash, xorb_head, xorb_rest, xorb_section}
-use Rattle.xet_shard_format.specs.Text.{stored}
+use Rattle.xet_shard_format.specs.Encoding.{stored}
 use Rattle.xet_shard_format.specs.Reading.{xorb_at, xorb_row_count}
 use Rattle.xet_shard_format.specs.theorems.Bytes.{IsBytes-drop}
 use Rattle.xet_shard_format.specs.theorems.Finding.{given_ok, section_few, section_fits}

@@ -82,7 +82,7 @@ returns-clause-sources_taken g c = elim c.if-not-is_empty.branch [
 ]
 
 pub returns-in_err-clean_source-clause-sources_later : goal.returns-in_err-clean_source-clause-sources_later
-returns-in_err-clean_source-clause-sources_later g c = later_first g.S.Source.faults c.args.sources.now c.index-sources-0.result c.clean_source.new.source c.clean_source.ensures.later
+returns-in_err-clean_source-clause-sources_later g c = later_first g.S.Source.faults c.args.sources.now c.index-sources-0.result c.clean_source.new.source c.clean_source.ensures.frame.later
 
 pub returns-clause-infos : goal.returns-clause-infos
 returns-clause-infos g c =
@@ -119,6 +119,6 @@ returns-clause-short g c =
 pub returns-clause-sources_later : goal.returns-clause-sources_later
 returns-clause-sources_later g c = elim c.if-not-is_empty.branch [
   | then-not-is_empty+in_ok-clean_source w ↦
-      subst (Later g.S.Source.faults c.args.sources.now) (sym w.sources-is) (later_first g.S.Source.faults c.args.sources.now w.index-sources-0.result w.clean_source.new.source w.clean_source.ensures.later)
+      subst (Later g.S.Source.faults c.args.sources.now) (sym w.sources-is) (later_first g.S.Source.faults c.args.sources.now w.index-sources-0.result w.clean_source.new.source w.clean_source.ensures.frame.later)
   | else-not-is_empty w ↦ subst (Later g.S.Source.faults c.args.sources.now) (sym w.sources-is) (later_same g.S.Source.faults c.args.sources.now)
 ]

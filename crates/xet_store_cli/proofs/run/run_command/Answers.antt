@@ -1,7 +1,8 @@
 use Rattle.std.proofs.Common.{◌≡◌, ◌∙◌, sym, subst, map, Option, Some}
 use Rattle.std.specs.Prelude.{string_bytes}
 use Rattle.xet_store_cli.specs.declared.words.Command.{Command}
-use Rattle.xet_store_cli.specs.Outcome.{Ended, EndedEarly, IsDue, early_outcome}
+use Rattle.xet_store_cli.specs.internal.Outcome.{Ended, EndedEarly}
+use Rattle.xet_store_cli.specs.Outcome.{IsDue, early_outcome}
 use Rattle.xet_store_cli.specs.Words.{command_of}
 use Rattle.xet_store_cli.proofs.Endings.{may_end_answer, may_end_words, reports_answer}
 use Rattle.xet_store_cli.proofs.Outcomes.{ended_early, ended_with, malformed_of}

@@ -2,7 +2,7 @@ use Rattle.std.proofs.Common.{◌≡◌, ◌∙◌, ◌-◌, ℕ, List, ◌++◌
 use Rattle.std.proofs.lemmas.Result.{on_ok_weaker}
 use Rattle.xet_store.specs.Ranges.{IsRange}
 use Rattle.xet_store_cli.specs.Report.{bytes_line}
-use Rattle.xet_store_cli.specs.Steps.{IsLineRead, hash_at}
+use Rattle.xet_store_cli.specs.internal.Steps.{IsLineRead, hash_at}
 use Rattle.xet_store_cli.proofs.Cleaned.{hash_read}
 use Rattle.xet_store_cli.proofs.session.push_range.Goals as goal
 

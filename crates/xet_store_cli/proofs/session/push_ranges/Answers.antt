@@ -1,7 +1,7 @@
 use Rattle.std.proofs.Common.{◌∙◌, ℕ, List, ◌++◌, append_assoc, take, ap, subst, sym}
 use Rattle.std.proofs.lemmas.List.{take_more}
 use Rattle.xet_store_cli.specs.declared.lines.FileRange.{FileRange}
-use Rattle.xet_store_cli.specs.Steps.{AreRead}
+use Rattle.xet_store_cli.specs.internal.Steps.{AreRead}
 use Rattle.xet_store_cli.proofs.Reading.{line_before, read_more, unchanged_then}
 use Rattle.xet_store_cli.proofs.session.push_ranges.Goals as goal
 

@@ -1,6 +1,6 @@
 use Rattle.std.proofs.Common.{◌≡◌, ℕ, List, ◌++◌, take}
 use Rattle.xet_store.specs.Ranges.{IsUnchanged}
-use Rattle.xet_store_cli.specs.Steps.{AreRead}
+use Rattle.xet_store_cli.specs.internal.Steps.{AreRead}
 use Rattle.xet_store_cli.proofs.session.push_ranges.Given as goal
 
 abbrev pub invariant-loop-range : goal.invariant-loop-range

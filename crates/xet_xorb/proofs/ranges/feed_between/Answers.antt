@@ -1,4 +1,4 @@
-use Rattle.std.proofs.Common.{◌≡◌, ◌∙◌, ◌++◌, ◌+◌, ◌⊎◌, List, arith, ap, length, Err, slice_range, subst, refl, true, ℕ}
+use Rattle.std.proofs.Common.{◌≡◌, ◌∙◌, ◌++◌, ◌+◌, ◌⊎◌, List, arith, ap, length, Err, slice_range, subst, refl, true, ℕ, rules}
 use Rattle.xet_hash.specs.declared.error.StoreError.{StoreError}
 use Rattle.xet_hash.specs.declared.error.StoreError.TheVariants.{Io}
 use Rattle.xet_hash.specs.declared.error.Place.TheVariants.{Input}
@@ -52,9 +52,10 @@ reads-preserved g c =
             (c.in_ok-read_exact.ensures.told (i.reader_tells ∙ told) (omega (arith, len, ap length i.same, c.min-count.ensures, size, c.reads-test.true))),
         λ told. written_after _ _ _ h.1 f.0 (h.4 told) (f.2 (i.sink_tells ∙ told)),
       );
-      same = c.in_ok-read_exact.ensures.same ∙ i.same;
-      reader_tells = c.in_ok-read_exact.ensures.tells ∙ i.reader_tells;
-      sink_tells = c.in_ok-feed.ensures.tells ∙ i.sink_tells;
-      reader_later = omega (arith, c.in_ok-read_exact.ensures.cause.later, i.reader_later);
-      sink_later = omega (arith, c.in_ok-feed.ensures.cause.later, i.sink_later);
+      same = c.in_ok-read_exact.ensures.frame.same ∙ i.same;
+      reader_tells = c.in_ok-read_exact.ensures.frame.tells ∙ i.reader_tells;
+      sink_tells = c.in_ok-feed.ensures.frame.tells ∙ i.sink_tells;
+      reader_later = omega (arith, c.in_ok-read_exact.ensures.frame.later, i.reader_later);
+      lent = search rules;
+      sink_later = omega (arith, c.in_ok-feed.ensures.frame.later, i.sink_later);
     }

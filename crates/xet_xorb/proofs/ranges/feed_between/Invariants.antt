@@ -2,6 +2,7 @@ use Rattle.std.proofs.Common.{◌≡◌, ◌≤◌, ◌-◌, ◌+◌, ◌++◌, 
 use Rattle.std.specs.List.{concat}
 use Rattle.xet_xorb_chunk.specs.Decoder.{Holds, fed_len, most_of, whole_of}
 use Rattle.xet_xorb.proofs.ranges.feed_between.Given as goal
+use Rattle.xet_io.specs.Lent.{IsSameLent}
 
 abbrev pub invariant-reads : goal.invariant-reads
 invariant-reads g l = record {
@@ -17,6 +18,7 @@ invariant-reads g l = record {
   reader_tells : g.R.ReadAt.tells l.reader ≡ g.R.ReadAt.tells l.fn.reader;
   sink_tells : g.W.Sink.tells l.w ≡ g.W.Sink.tells l.fn.w;
   reader_later : g.R.ReadAt.faults l.fn.reader ≤ g.R.ReadAt.faults l.reader;
+  lent : IsSameLent (g.R.ReadAt.lent l.fn.reader) (g.R.ReadAt.lent l.reader);
   sink_later : g.W.Sink.faults l.fn.w ≤ g.W.Sink.faults l.w;
 }
 

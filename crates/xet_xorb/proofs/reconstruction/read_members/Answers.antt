@@ -1,9 +1,9 @@
 use Rattle.std.proofs.Common.{◌+◌, ◌≤◌, ◌++◌, ◌∷◌, [], List, ap, arith, drop, length, rules, subst, sym, take, ℕ}
 use Rattle.std.proofs.lemmas.List.{length-map, take_rest}
 use Rattle.xet_hash.specs.Merkle.{member_of}
-use Rattle.xet_xorb_footer.specs.Spelled.{most_chunks}
+use Rattle.xet_xorb_footer.specs.FooterEncoding.{max_chunks}
 use Rattle.xet_base.specs.theorems.Exits.{exit_with}
-use Rattle.xet_xorb.specs.Copying.{IsNoCopy}
+use Rattle.xet_xorb.specs.internal.Copying.{IsNoCopy}
 use Rattle.xet_xorb.proofs.Rebuilt.{AreBytes, all_copied, copied_small, each_more, next_is, next_member, no_copy, too_many}
 use Rattle.xet_xorb.proofs.reconstruction.read_members.Goals as goal
 
@@ -11,7 +11,7 @@ pub returns-in_err-length-clause-refused : goal.returns-in_err-length-clause-ref
 returns-in_err-length-clause-refused c =
     let f = c.chunks.invariant.front in
     let raw = c.args.raw.now in
-    let few : length f.0 ≤ most_chunks = omega (arith, ap (λ (ms : List (List ℕ × ℕ)). length ms) f.2, length-map f.0 member_of, c.chunks.members.ok.0, c.chunks.invariant.few) in
+    let few : length f.0 ≤ max_chunks = omega (arith, ap (λ (ms : List (List ℕ × ℕ)). length ms) f.2, length-map f.0 member_of, c.chunks.members.ok.0, c.chunks.invariant.few) in
     exit_with (IsNoCopy c.args.max_chunk raw) _ _ c.from_residual.ensures.1 (no_copy c.args.max_chunk raw f.0 c.chunks.at _ _ f.1 (take_rest raw c.chunks.at) c.in_err-length.ensures.next few)
 
 pub returns-in_err-check_count-clause-refused : goal.returns-in_err-check_count-clause-refused

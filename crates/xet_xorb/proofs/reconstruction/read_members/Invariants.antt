@@ -1,14 +1,14 @@
 use Rattle.std.proofs.Common.{◌≡◌, ◌<◌, ◌≤◌, ◌^◌, ◌-◌, ℕ, List, length, vec_len}
 use Rattle.std.specs.List.{AllByRecursion}
 use Rattle.xet_hash.specs.Merkle.{members_of}
-use Rattle.xet_xorb_footer.specs.Spelled.{most_chunks}
-use Rattle.xet_xorb.specs.Copying.{AreInFront}
+use Rattle.xet_xorb_footer.specs.FooterEncoding.{max_chunks}
+use Rattle.xet_xorb.specs.internal.Copying.{AreInFront}
 use Rattle.xet_xorb.proofs.reconstruction.read_members.Given as goal
 
 abbrev pub invariant-chunks : goal.invariant-chunks
 invariant-chunks l = record {
   within : l.at ≤ length l.raw;
-  few : vec_len l.members ≤ most_chunks;
+  few : vec_len l.members ≤ max_chunks;
   each : AllByRecursion (λ m. m.1 < 2 ^ 24) l.members.items;
   front : (chunks : List (List ℕ)) × AreInFront l.max_chunk l.raw chunks l.at × (l.members.items ≡ members_of chunks);
 }

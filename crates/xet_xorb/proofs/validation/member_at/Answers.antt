@@ -29,7 +29,7 @@ returns-clause-found g c = λ bytes sees.
     let both = rw c.in-Some.is at (header.read bytes sees (omega arith)) in
     let read : c.in-Some.header ≡ take 8 (drop c.args.at bytes) = cc in
     let part = rw c.in-Some.is at (header.part bytes sees) in
-    let here : Sees _ _ bytes c.args.len c.header_at.new.block = record { told = header.tells ∙ sees.told; same = header.same ∙ sees.same; all = sees.all; part = part } in
+    let here : Sees _ _ bytes c.args.len c.header_at.new.block = record { told = header.frame.tells ∙ sees.told; same = header.frame.same ∙ sees.same; all = sees.all; part = part } in
     let whole : c.args.at + 8 + size.size ≤ length bytes = omega (arith, sees.all) in
     let digest = c.in_ok-digest.ensures.read bytes here (omega arith) in (
       take size.size (drop (c.args.at + 8) bytes),

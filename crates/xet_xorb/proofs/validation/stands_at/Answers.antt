@@ -18,9 +18,10 @@ pieces-preserved g c =
     let kept = c.in_ok-piece_stands_at.ensures in record {
       within = omega arith;
       room = inv.room;
-      same = kept.same ∙ inv.same;
-      tells = kept.tells ∙ inv.tells;
-      cause = record { later = omega (arith, inv.cause.later, kept.cause.later); rose = λ x. absurd x };
+      same = kept.frame.same ∙ inv.same;
+      tells = kept.frame.tells ∙ inv.tells;
+      cause = record { later = omega (arith, inv.cause.later, kept.frame.later); rose = λ x. absurd x };
+      lent = search rules;
       part = λ bytes sees.
           let here : Sees _ _ bytes c.args.len c.pieces.block = record { told = inv.tells ∙ sees.told; same = inv.same ∙ sees.same; all = sees.all; part = inv.part bytes sees } in
           (rw c.if-not-branch.false at (kept.part bytes here)) refl;

@@ -1,4 +1,4 @@
-use Rattle.std.proofs.Common.{◌∙◌, arith, refl}
+use Rattle.std.proofs.Common.{◌∙◌, arith, refl, rules}
 use Rattle.xet_codec.specs.Blocks.{Sees}
 use Rattle.xet_xorb.proofs.Checked.{next_stands, one_more, total_more}
 use Rattle.xet_xorb.proofs.validation.stored_members.Goals as goal
@@ -19,9 +19,10 @@ chunks-preserved g c =
     let kept = c.in_ok-member.ensures in record {
       size = rw items (omega (arith, total_more ms m, inv.size));
       within = rw c.in-Some.is at kept.within;
-      same = kept.same ∙ inv.same;
-      tells = kept.tells ∙ inv.tells;
-      cause = record { later = omega (arith, inv.cause.later, kept.cause.later); rose = λ x. absurd x };
+      same = kept.frame.same ∙ inv.same;
+      tells = kept.frame.tells ∙ inv.tells;
+      cause = record { later = omega (arith, inv.cause.later, kept.frame.later); rose = λ x. absurd x };
+      lent = search rules;
       part = λ bytes sees.
           let here : Sees _ _ bytes c.args.len c.chunks.block = record { told = inv.tells ∙ sees.told; same = inv.same ∙ sees.same; all = sees.all; part = inv.part bytes sees } in
           rw c.in-Some.is at (kept.part bytes here);

@@ -21,14 +21,14 @@ returns-in_err-bytes-clause-refusals g c = λ told.
     exit_with (λ (e : StoreError). (chunk_at c.args.max_chunk left ≡ Err e) ⊎ StopsReading e) _ _ c.from_residual-in_err-bytes.ensures.1
     (left_of
     (λ few. chunk_short c.args.max_chunk left c.in_ok-header.header (c.in_ok-header.ensures.header told) (omega (arith, few.1, ap length (c.in_ok-header.ensures.taken told), c.get_compressed_length.ensures)) ∙ ap (λ (e : StoreError). Err e) (sym few.0))
-    (c.in_err-bytes.ensures.refusals (c.in_ok-header.ensures.tells ∙ told)))
+    (c.in_err-bytes.ensures.refusals (c.in_ok-header.ensures.frame.tells ∙ told)))
 
 pub returns-in_err-check_body-clause-refusals : goal.returns-in_err-check_body-clause-refusals
 returns-in_err-check_body-clause-refusals g c = λ told.
     let left = g.R.Source.left c.args.r.now in
     let front =
     front_whole c.args.max_chunk left c.in_ok-bytes.bytes.items _ c.in_ok-header.header (c.in_ok-header.ensures.header told)
-    (sym (c.in_ok-header.ensures.taken told) ∙ c.in_ok-bytes.ensures.bytes (c.in_ok-header.ensures.tells ∙ told)) (omega (arith, c.in_ok-bytes.ensures.length, c.get_compressed_length.ensures, c.in_ok-bytes.bytes.ok.0)) in
+    (sym (c.in_ok-header.ensures.taken told) ∙ c.in_ok-bytes.ensures.bytes (c.in_ok-header.ensures.frame.tells ∙ told)) (omega (arith, c.in_ok-bytes.ensures.length, c.get_compressed_length.ensures, c.in_ok-bytes.bytes.ok.0)) in
     exit_with (λ (e : StoreError). (chunk_at c.args.max_chunk left ≡ Err e) ⊎ StopsReading e) _ _ c.from_residual-in_err-check_body.ensures.1
     (inl (ap chunk_in (front ∙ c.in_err-check_body.ensures.body c.in_ok-bytes.bytes.items)))
 
@@ -37,7 +37,7 @@ returns-clause-chunk g c = λ told.
     let left = g.R.Source.left c.args.r.now in
     let front =
     front_whole c.args.max_chunk left c.in_ok-bytes.bytes.items _ c.in_ok-header.header (c.in_ok-header.ensures.header told)
-    (sym (c.in_ok-header.ensures.taken told) ∙ c.in_ok-bytes.ensures.bytes (c.in_ok-header.ensures.tells ∙ told)) (omega (arith, c.in_ok-bytes.ensures.length, c.get_compressed_length.ensures, c.in_ok-bytes.bytes.ok.0)) in
+    (sym (c.in_ok-header.ensures.taken told) ∙ c.in_ok-bytes.ensures.bytes (c.in_ok-header.ensures.frame.tells ∙ told)) (omega (arith, c.in_ok-bytes.ensures.length, c.get_compressed_length.ensures, c.in_ok-bytes.bytes.ok.0)) in
     ap chunk_in (front ∙ c.in_ok-check_body.ensures.body c.in_ok-bytes.bytes.items)
 
 pub returns-in_err-header-clause-rest : goal.returns-in_err-header-clause-rest
@@ -51,7 +51,7 @@ returns-in_err-bytes-clause-rest g c = λ told.
     let left = g.R.Source.left c.args.r.now in
     let header = c.in_ok-header.header in
     let first = c.in_ok-header.ensures.taken told in
-    let tells = c.in_ok-header.ensures.tells ∙ told in
+    let tells = c.in_ok-header.ensures.frame.tells ∙ told in
     exit_with (TakesFailedChunk c.args.max_chunk left (g.R.Source.left c.take_bytes.new.r)) _ _ c.from_residual-in_err-bytes.ensures.1
     (chunk_of_body c.args.max_chunk left (g.R.Source.left c.deserialize_chunk_header.new.r) _ _ header (c.in_ok-header.ensures.header told) first (c.in_err-bytes.ensures.prefix tells)
     (λ check.
@@ -63,7 +63,7 @@ returns-in_err-check_body-clause-rest g c = λ told.
     let left = g.R.Source.left c.args.r.now in
     let header = c.in_ok-header.header in
     let first = c.in_ok-header.ensures.taken told in
-    let tells = c.in_ok-header.ensures.tells ∙ told in
+    let tells = c.in_ok-header.ensures.frame.tells ∙ told in
     exit_with (TakesFailedChunk c.args.max_chunk left (g.R.Source.left c.take_bytes.new.r)) _ _ c.from_residual-in_err-check_body.ensures.1
     (chunk_of_body c.args.max_chunk left (g.R.Source.left c.deserialize_chunk_header.new.r) _ _ header (c.in_ok-header.ensures.header told) first (c.in_ok-bytes.ensures.prefix tells)
     (λ _. body_left left _ c.in_ok-bytes.bytes.items _ header.stored first (c.in_ok-bytes.ensures.bytes tells) (omega (arith, c.in_ok-bytes.ensures.length, c.get_compressed_length.ensures, c.in_ok-bytes.bytes.ok.0))))

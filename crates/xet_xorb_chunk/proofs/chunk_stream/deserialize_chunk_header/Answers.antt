@@ -8,9 +8,9 @@ use Rattle.xet_xorb_chunk.proofs.Prefixes.{header_left, no_reading, prefix_of}
 use Rattle.xet_xorb_chunk.specs.theorems.Fronts.{header_told}
 use Rattle.xet_xorb_chunk.proofs.chunk_stream.deserialize_chunk_header.Goals as goal
 
-pub returns-clause-cause : goal.returns-clause-cause
-returns-clause-cause g c =
-    record { later = search rules; rose = λ e. absurd (no_failure c.parse_chunk_header.result Input c.parse_chunk_header.ensures.check e) }
+pub returns-clause-frame : goal.returns-clause-frame
+returns-clause-frame g c =
+    record { tells = search rules; later = search rules; rose = λ e. absurd (no_failure c.parse_chunk_header.result Input c.parse_chunk_header.ensures.check e) }
 
 pub returns-clause-refusals : goal.returns-clause-refusals
 returns-clause-refusals g c = λ told.

@@ -12,8 +12,8 @@ reads-preserved g c =
           block_taken _ _ _ c.reads.bytes.items _ c.resize.new.self.items c.fill_behind.new.bytes _ c.len-filled.result c.min.result c.in_ok-count.count _ (i.read told)
           (c.in_ok-count.ensures.front ∙ ap (take c.len-filled.result) c.deref_mut.ensures.value) c.in_ok-resize.ensures.items (search rules) (search rules)
           (c.in_ok-count.ensures.told (i.tells ∙ told)).taken (search rules) (search rules);
-      tells = c.in_ok-count.ensures.tells ∙ i.tells;
-      later = omega (arith, c.in_ok-count.ensures.cause.later, i.later);
+      tells = c.in_ok-count.ensures.frame.tells ∙ i.tells;
+      later = omega (arith, c.in_ok-count.ensures.frame.later, i.later);
     }
 
 pub returns-in_err-count-clause-prefix : goal.returns-in_err-count-clause-prefix

@@ -62,10 +62,10 @@ reads-preserved g c =
         λ told. block_fed _ h.0 _ c.read_some.new.buf _ c.in_ok-count.count (h.3 told) (c.in_ok-count.ensures.told (i.source_tells ∙ told)).next,
         λ told. written_after _ _ _ h.1 f.0 (h.4 told) (f.2 (i.sink_tells ∙ told)),
       );
-      source_tells = c.in_ok-count.ensures.tells ∙ i.source_tells;
-      sink_tells = c.in_ok-feed.ensures.tells ∙ i.sink_tells;
-      source_later = omega (arith, c.in_ok-count.ensures.cause.later, i.source_later);
-      sink_later = omega (arith, c.in_ok-feed.ensures.cause.later, i.sink_later);
+      source_tells = c.in_ok-count.ensures.frame.tells ∙ i.source_tells;
+      sink_tells = c.in_ok-feed.ensures.frame.tells ∙ i.sink_tells;
+      source_later = omega (arith, c.in_ok-count.ensures.frame.later, i.source_later);
+      sink_later = omega (arith, c.in_ok-feed.ensures.frame.later, i.sink_later);
     }
 
 pub returns-in_err-feed-clause-refusals : goal.returns-in_err-feed-clause-refusals

@@ -1,7 +1,7 @@
 use Rattle.std.proofs.Common.{◌∙◌, ◌+◌, drop, inl, length, sym, false, true}
 use Rattle.std.proofs.lemmas.Bool.{not-false, not-true}
 use Rattle.xet_codec.specs.Blocks.{RefusedBy}
-use Rattle.xet_xorb_footer.specs.Places.{checked_at}
+use Rattle.xet_xorb_footer.specs.internal.Places.{checked_at}
 use Rattle.xet_xorb_footer.proofs.Endings.{field_then}
 use Rattle.xet_base.specs.theorems.Exits.{exit_with}
 use Rattle.xet_xorb_footer.proofs.Placing.{checked_is, checked_short, short_refused}

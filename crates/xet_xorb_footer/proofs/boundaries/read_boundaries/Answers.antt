@@ -19,17 +19,17 @@ returns-in_err-ends-clause-refused g c = λ bytes told.
     let b = drop c.args.at bytes in
     let s1 = c.in_ok-count.ensures in
     exit_with (RefusedBy (boundaries b)) _ _ c.from_residual-in_err-ends.ensures.1
-    (unread_lists c.in_ok-count.count b _ c.in_err-ends.field-0.0 (s1.read bytes tells) (c.in_err-ends.ensures.refused bytes (sees_on tells s1.tells s1.same (s1.part bytes tells))))
+    (unread_lists c.in_ok-count.count b _ c.in_err-ends.field-0.0 (s1.read bytes tells) (c.in_err-ends.ensures.refused bytes (sees_on tells s1.frame.tells s1.frame.same (s1.part bytes tells))))
 
 pub returns-in_err-hashes-clause-refused : goal.returns-in_err-hashes-clause-refused
 returns-in_err-hashes-clause-refused g c = λ bytes told.
     let tells = sees_first c.new-block.result told (c.new-block.ensures bytes) in
     let b = drop c.args.at bytes in
     let s1 = c.in_ok-count.ensures in
-    let t1 = sees_on tells s1.tells s1.same (s1.part bytes tells) in
+    let t1 = sees_on tells s1.frame.tells s1.frame.same (s1.part bytes tells) in
     let s2 = c.in_ok-ends.ensures in
     exit_with (RefusedBy (boundaries b)) _ _ c.from_residual-in_err-hashes.ensures.1
-    (unread_tail c.in_ok-count.count (c.in_ok-ends.ends.items, c.in_ok-ends.plain.items) b _ _ c.in_err-hashes.field-0.0 (s1.read bytes tells) (s2.read bytes t1) (c.in_err-hashes.ensures.refused bytes (sees_on t1 s2.tells s2.same (s2.part bytes t1))))
+    (unread_tail c.in_ok-count.count (c.in_ok-ends.ends.items, c.in_ok-ends.plain.items) b _ _ c.in_err-hashes.field-0.0 (s1.read bytes tells) (s2.read bytes t1) (c.in_err-hashes.ensures.refused bytes (sees_on t1 s2.frame.tells s2.frame.same (s2.part bytes t1))))
 
 pub returns-clause-read : goal.returns-clause-read
 returns-clause-read g c = λ bytes told.
@@ -38,9 +38,9 @@ returns-clause-read g c = λ bytes told.
     let at = c.args.at in
     let b = drop at bytes in
     let s1 = c.in_ok-count.ensures in
-    let t1 = sees_on tells s1.tells s1.same (s1.part bytes tells) in
+    let t1 = sees_on tells s1.frame.tells s1.frame.same (s1.part bytes tells) in
     let s2 = c.in_ok-ends.ensures in
-    let t2 = sees_on t1 s2.tells s2.same (s2.part bytes t1) in
+    let t2 = sees_on t1 s2.frame.tells s2.frame.same (s2.part bytes t1) in
     let ends = c.in_ok-ends.ends.items in
     let plain = c.in_ok-ends.plain.items in
     let h = c.in_ok-hashes.hashes in

@@ -1,6 +1,6 @@
 use Rattle.std.proofs.Common.{◌≡◌, ◌+◌, ◌*◌, arith, drop}
 use Rattle.xet_codec.specs.Blocks.{RefusedBy}
-use Rattle.xet_xorb_footer.specs.Places.{lists_at}
+use Rattle.xet_xorb_footer.specs.internal.Places.{lists_at}
 use Rattle.xet_base.specs.theorems.Exits.{exit_with}
 use Rattle.xet_xorb_footer.proofs.Placing.{sees_on}
 use Rattle.xet_xorb_footer.proofs.Sections.{at_place, ends_unread, lists_are, plain_unread}
@@ -17,7 +17,7 @@ returns-in_err-plain-clause-refused g c = λ bytes tells.
     let b = drop c.args.at bytes in
     let s1 = c.in_ok-ends.ensures in
     exit_with (RefusedBy (lists_at n b)) _ _ c.from_residual-in_err-plain.ensures.1
-    (plain_unread n b _ c.in_ok-ends.ends.items c.in_err-plain.field-0.0 (s1.read bytes tells) (c.in_err-plain.ensures.refused bytes (sees_on tells s1.tells s1.same (s1.part bytes tells))))
+    (plain_unread n b _ c.in_ok-ends.ends.items c.in_err-plain.field-0.0 (s1.read bytes tells) (c.in_err-plain.ensures.refused bytes (sees_on tells s1.frame.tells s1.frame.same (s1.part bytes tells))))
 
 pub returns-clause-read : goal.returns-clause-read
 returns-clause-read g c = λ bytes tells.
@@ -27,9 +27,9 @@ returns-clause-read g c = λ bytes tells.
     let s1 = c.in_ok-ends.ensures in
     let end : at + 4 * n + 4 * n ≡ at + 8 * n = omega arith in
     at_place _ (c.in_ok-ends.ends.items, c.in_ok-plain.plain.items) bytes (at + 4 * n + 4 * n) (at + 8 * n)
-    (lists_are n b _ _ c.in_ok-ends.ends.items c.in_ok-plain.plain.items (s1.read bytes tells) (c.in_ok-plain.ensures.read bytes (sees_on tells s1.tells s1.same (s1.part bytes tells)))) end
+    (lists_are n b _ _ c.in_ok-ends.ends.items c.in_ok-plain.plain.items (s1.read bytes tells) (c.in_ok-plain.ensures.read bytes (sees_on tells s1.frame.tells s1.frame.same (s1.part bytes tells)))) end
 
 pub returns-clause-part : goal.returns-clause-part
 returns-clause-part g c = λ bytes tells.
     let s1 = c.in_ok-ends.ensures in
-    c.in_ok-plain.ensures.part bytes (sees_on tells s1.tells s1.same (s1.part bytes tells))
+    c.in_ok-plain.ensures.part bytes (sees_on tells s1.frame.tells s1.frame.same (s1.part bytes tells))

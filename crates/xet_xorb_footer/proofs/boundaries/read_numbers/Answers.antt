@@ -1,4 +1,4 @@
-use Rattle.std.proofs.Common.{◌≡◌, ◌∙◌, ◌+◌, ◌-◌, ◌*◌, ◌<◌, ◌≤◌, Ok, ap, arith, drop, inl, length, length-drop, min, refl, sym, ℕ}
+use Rattle.std.proofs.Common.{◌≡◌, ◌∙◌, ◌+◌, ◌-◌, ◌*◌, ◌<◌, ◌≤◌, Ok, ap, arith, drop, inl, length, length-drop, min, refl, sym, ℕ, rules}
 use Rattle.std.specs.Int.{w32, from_le_bytes}
 use Rattle.xet_codec.specs.Blocks.{RefusedBy}
 use Rattle.xet_codec.specs.Parsing.{number_at, times}
@@ -51,9 +51,10 @@ numbers-preserved g c =
       few = omega (arith, is, more, inv.few);
       place = omega (arith, more, inv.place);
       within = omega (arith, c.in_ok-load.ensures.within);
-      same = c.in_ok-load.ensures.same ∙ inv.same;
-      tells = c.in_ok-load.ensures.tells ∙ inv.tells;
-      later = omega (arith, c.in_ok-load.ensures.cause.later, inv.later);
+      same = c.in_ok-load.ensures.frame.same ∙ inv.same;
+      tells = c.in_ok-load.ensures.frame.tells ∙ inv.tells;
+      later = omega (arith, c.in_ok-load.ensures.frame.later, inv.later);
+      lent = search rules;
     }
 
 pub returns-clause-read : goal.returns-clause-read

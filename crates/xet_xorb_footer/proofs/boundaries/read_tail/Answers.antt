@@ -1,6 +1,6 @@
 use Rattle.std.proofs.Common.{◌≡◌, ◌∙◌, ◌+◌, List, Ok, ap, arith, drop, sym, ℕ}
 use Rattle.xet_codec.specs.Blocks.{RefusedBy}
-use Rattle.xet_xorb_footer.specs.Places.{tail_at}
+use Rattle.xet_xorb_footer.specs.internal.Places.{tail_at}
 use Rattle.xet_codec.specs.Parsing.{bytes_at}
 use Rattle.xet_xorb_footer.proofs.Endings.{field_then}
 use Rattle.xet_base.specs.theorems.Exits.{exit_with}
@@ -19,16 +19,16 @@ returns-in_err-hashes-clause-refused g c = λ bytes tells.
     let b = drop c.args.at bytes in
     let s1 = c.in_ok-expect_number.ensures in
     exit_with (RefusedBy (tail_at c.args.count b)) _ _ c.from_residual-in_err-hashes.ensures.1
-    (tail_hashes c.args.count b _ c.in_err-hashes.field-0.0 (s1.read bytes tells) (c.in_err-hashes.ensures.refused bytes (sees_on tells s1.tells s1.same (s1.part bytes tells))))
+    (tail_hashes c.args.count b _ c.in_err-hashes.field-0.0 (s1.read bytes tells) (c.in_err-hashes.ensures.refused bytes (sees_on tells s1.frame.tells s1.frame.same (s1.part bytes tells))))
 
 pub returns-in_err-expect_number-2-clause-refused : goal.returns-in_err-expect_number-2-clause-refused
 returns-in_err-expect_number-2-clause-refused g c = λ bytes tells.
     let at = c.args.at in
     let b = drop at bytes in
     let s1 = c.in_ok-expect_number.ensures in
-    let t1 = sees_on tells s1.tells s1.same (s1.part bytes tells) in
+    let t1 = sees_on tells s1.frame.tells s1.frame.same (s1.part bytes tells) in
     let s2 = c.in_ok-hashes.ensures in
-    let t2 = sees_on t1 s2.tells s2.same (s2.part bytes t1) in
+    let t2 = sees_on t1 s2.frame.tells s2.frame.same (s2.part bytes t1) in
     let sum : at + 4 + 4 ≡ at + 8 = omega arith in
     let h = c.in_ok-hashes.hashes in
     exit_with (RefusedBy (tail_at c.args.count b)) _ _ c.from_residual-in_err-expect_number-2.ensures.1
@@ -40,11 +40,11 @@ returns-in_err-load-clause-refused g c = λ bytes tells.
     let at = c.args.at in
     let b = drop at bytes in
     let s1 = c.in_ok-expect_number.ensures in
-    let t1 = sees_on tells s1.tells s1.same (s1.part bytes tells) in
+    let t1 = sees_on tells s1.frame.tells s1.frame.same (s1.part bytes tells) in
     let s2 = c.in_ok-hashes.ensures in
-    let t2 = sees_on t1 s2.tells s2.same (s2.part bytes t1) in
+    let t2 = sees_on t1 s2.frame.tells s2.frame.same (s2.part bytes t1) in
     let s3 = c.in_ok-expect_number-2.ensures in
-    let t3 = sees_on t2 s3.tells s3.same (s3.part bytes t2) in
+    let t3 = sees_on t2 s3.frame.tells s3.frame.same (s3.part bytes t2) in
     let sum : at + 4 + 4 ≡ at + 8 = omega arith in
     let more : at + 8 + 4 ≡ at + 12 = omega arith in
     let h = c.in_ok-hashes.hashes in
@@ -59,11 +59,11 @@ returns-clause-read g c = λ bytes tells.
     let at = c.args.at in
     let b = drop at bytes in
     let s1 = c.in_ok-expect_number.ensures in
-    let t1 = sees_on tells s1.tells s1.same (s1.part bytes tells) in
+    let t1 = sees_on tells s1.frame.tells s1.frame.same (s1.part bytes tells) in
     let s2 = c.in_ok-hashes.ensures in
-    let t2 = sees_on t1 s2.tells s2.same (s2.part bytes t1) in
+    let t2 = sees_on t1 s2.frame.tells s2.frame.same (s2.part bytes t1) in
     let s3 = c.in_ok-expect_number-2.ensures in
-    let t3 = sees_on t2 s3.tells s3.same (s3.part bytes t2) in
+    let t3 = sees_on t2 s3.frame.tells s3.frame.same (s3.part bytes t2) in
     let sum : at + 4 + 4 ≡ at + 8 = omega arith in
     let more : at + 8 + 4 ≡ at + 12 = omega arith in
     let end : at + 12 + 16 ≡ at + 28 = omega arith in
@@ -78,9 +78,9 @@ returns-clause-read g c = λ bytes tells.
 pub returns-clause-part : goal.returns-clause-part
 returns-clause-part g c = λ bytes tells.
     let s1 = c.in_ok-expect_number.ensures in
-    let t1 = sees_on tells s1.tells s1.same (s1.part bytes tells) in
+    let t1 = sees_on tells s1.frame.tells s1.frame.same (s1.part bytes tells) in
     let s2 = c.in_ok-hashes.ensures in
-    let t2 = sees_on t1 s2.tells s2.same (s2.part bytes t1) in
+    let t2 = sees_on t1 s2.frame.tells s2.frame.same (s2.part bytes t1) in
     let s3 = c.in_ok-expect_number-2.ensures in
-    let t3 = sees_on t2 s3.tells s3.same (s3.part bytes t2) in
+    let t3 = sees_on t2 s3.frame.tells s3.frame.same (s3.part bytes t2) in
     c.in_ok-load.ensures.part bytes t3

@@ -1,8 +1,9 @@
 use Rattle.std.proofs.Common.{◌≡◌, ◌≤◌, drop, length, true}
-use Rattle.xet_xorb_footer.specs.Machine.{IsSettled}
+use Rattle.xet_xorb_footer.specs.internal.Machine.{IsSettled}
 use Rattle.xet_codec.specs.Blocks.{IsPart}
 use Rattle.xet_xorb_footer.specs.Reader.{bytes_left, parts_of, rest_of}
 use Rattle.xet_xorb_footer.proofs.ends.read_fields_at.Given as goal
+use Rattle.xet_io.specs.Lent.{IsSameLent}
 
 abbrev pub invariant-fields : goal.invariant-fields
 invariant-fields g l = record {
@@ -13,6 +14,7 @@ invariant-fields g l = record {
   same : g.R.ReadAt.bytes l.reader ≡ g.R.ReadAt.bytes l.fn.reader;
   tells : g.R.ReadAt.tells l.reader ≡ g.R.ReadAt.tells l.fn.reader;
   later : g.R.ReadAt.faults l.fn.reader ≤ g.R.ReadAt.faults l.reader;
+  lent : IsSameLent (g.R.ReadAt.lent l.fn.reader) (g.R.ReadAt.lent l.reader);
 }
 
 abbrev pub decreases-fields : goal.decreases-fields

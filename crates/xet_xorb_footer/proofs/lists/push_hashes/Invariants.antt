@@ -1,5 +1,5 @@
 use Rattle.std.proofs.Common.{◌≡◌, ◌≤◌, ◌*◌, ◌-◌, ◌+◌, ◌++◌, length, vec_len}
-use Rattle.xet_xorb_footer.specs.Items.{hashes_in}
+use Rattle.xet_xorb_footer.specs.internal.Items.{hashes_in}
 use Rattle.xet_xorb_footer.proofs.lists.push_hashes.Given as goal
 
 abbrev pub invariant-loop-done : goal.invariant-loop-done

@@ -1,7 +1,7 @@
 use Rattle.std.proofs.Common.{◌≡◌, ◌≤◌, ◌+◌, ◌*◌, true, drop, length, ℕ}
-use Rattle.xet_xorb_footer.specs.Machine.{IsSettled}
+use Rattle.xet_xorb_footer.specs.internal.Machine.{IsSettled}
 use Rattle.xet_xorb_footer.specs.Reader.{bytes_left, parts_of, rest_of}
-use Rattle.xet_xorb_footer.specs.Spelled.{most_chunks}
+use Rattle.xet_xorb_footer.specs.FooterEncoding.{max_chunks}
 use Rattle.xet_xorb_footer.proofs.reading.read_fields.Given as goal
 
 abbrev pub invariant-fields : goal.invariant-fields
@@ -10,7 +10,7 @@ invariant-fields g l = record {
   count : g.R.Source.tells l.fn.source ≡ true → length (g.R.Source.left l.fn.source) ≡ l.count + length (g.R.Source.left l.source);
   prefix : g.R.Source.tells l.fn.source ≡ true → (n : ℕ) × (g.R.Source.left l.source ≡ drop n (g.R.Source.left l.fn.source));
   settled : IsSettled l.reader.next (parts_of l.reader);
-  left : l.count + bytes_left l.reader ≤ 92 + 40 * most_chunks;
+  left : l.count + bytes_left l.reader ≤ 92 + 40 * max_chunks;
   tells : g.R.Source.tells l.source ≡ g.R.Source.tells l.fn.source;
   later : g.R.Source.faults l.fn.source ≤ g.R.Source.faults l.source;
 }

@@ -6,7 +6,7 @@ use Rattle.xet_codec.specs.Written.{WritesPrefix, Moves}
 use Rattle.xet_base.specs.theorems.Exits.{exit_on}
 use Rattle.xet_codec.specs.theorems.Buffering.{on_ok, pad_behind, then, then_front}
 use Rattle.xet_xorb_footer.proofs.Texts.{end_v1, head_v1, middle_v1, parts_v1}
-use Rattle.xet_xorb_footer.specs.theorems.Texts.{length_v1}
+use Rattle.xet_xorb_footer.specs.theorems.EncodedLengths.{length_v1}
 use Rattle.xet_xorb_footer.proofs.writing.put_v1.Goals as goal
 
 pub returns-in_err-put_all-clause-front : goal.returns-in_err-put_all-clause-front
@@ -26,7 +26,7 @@ returns-in_err-put_hashes-clause-front g c = λ told.
     let count : List ℕ = c.to_le_bytes-count.result in
     let text = parts_v1 i c.as_bytes-hash.result.now count c.as_slice.result.now i.chunk_boundary_offsets i.unpacked_chunk_offsets c.to_le_bytes-hashes_at.result c.to_le_bytes-boundaries_at.result c.as_bytes-hash.ensures c.to_le_bytes-count.ensures c.as_slice.ensures refl refl c.to_le_bytes-hashes_at.ensures c.to_le_bytes-boundaries_at.ensures in
     let s1 = c.in_ok-put_all.ensures in
-    let t1 = s1.tells ∙ told in
+    let t1 = s1.frame.tells ∙ told in
     exit_on _ _ c.from_residual-in_err-put_hashes.ensures.1
     (subst (λ (t : List ℕ). WritesPrefix (g.W.Sink.written c.args.sink.now) (g.W.Sink.written c.put_hashes.new.sink) (h0 ++ t)) text
     (then_front h0 (head_v1 i c.as_bytes-hash.result.now count) _ (s1.moved told) (pad_behind _ (joined c.as_slice.result.now) (middle_v1 i count ++ (numbers i.chunk_boundary_offsets ++ (numbers i.unpacked_chunk_offsets ++ (end_v1 i count c.to_le_bytes-hashes_at.result c.to_le_bytes-boundaries_at.result)))) (c.in_err-put_hashes.ensures.front t1))))
@@ -38,9 +38,9 @@ returns-in_err-put_all-2-clause-front g c = λ told.
     let count : List ℕ = c.to_le_bytes-count.result in
     let text = parts_v1 i c.as_bytes-hash.result.now count c.as_slice.result.now i.chunk_boundary_offsets i.unpacked_chunk_offsets c.to_le_bytes-hashes_at.result c.to_le_bytes-boundaries_at.result c.as_bytes-hash.ensures c.to_le_bytes-count.ensures c.as_slice.ensures refl refl c.to_le_bytes-hashes_at.ensures c.to_le_bytes-boundaries_at.ensures in
     let s1 = c.in_ok-put_all.ensures in
-    let t1 = s1.tells ∙ told in
+    let t1 = s1.frame.tells ∙ told in
     let s2 = c.in_ok-put_hashes.ensures in
-    let t2 = s2.tells ∙ t1 in
+    let t2 = s2.frame.tells ∙ t1 in
     exit_on _ _ c.from_residual-in_err-put_all-2.ensures.1
     (subst (λ (t : List ℕ). WritesPrefix (g.W.Sink.written c.args.sink.now) (g.W.Sink.written c.put_all-2.new.sink) (h0 ++ t)) text
     (then_front h0 (head_v1 i c.as_bytes-hash.result.now count) _ (s1.moved told) (then_front _ (joined c.as_slice.result.now) _ (s2.moved t1) (pad_behind _ (middle_v1 i count) (numbers i.chunk_boundary_offsets ++ (numbers i.unpacked_chunk_offsets ++ (end_v1 i count c.to_le_bytes-hashes_at.result c.to_le_bytes-boundaries_at.result))) (c.in_err-put_all-2.ensures.front t2)))))
@@ -52,11 +52,11 @@ returns-in_err-put_numbers-clause-front g c = λ told.
     let count : List ℕ = c.to_le_bytes-count.result in
     let text = parts_v1 i c.as_bytes-hash.result.now count c.as_slice.result.now c.as_slice-2.result.now i.unpacked_chunk_offsets c.to_le_bytes-hashes_at.result c.to_le_bytes-boundaries_at.result c.as_bytes-hash.ensures c.to_le_bytes-count.ensures c.as_slice.ensures c.as_slice-2.ensures refl c.to_le_bytes-hashes_at.ensures c.to_le_bytes-boundaries_at.ensures in
     let s1 = c.in_ok-put_all.ensures in
-    let t1 = s1.tells ∙ told in
+    let t1 = s1.frame.tells ∙ told in
     let s2 = c.in_ok-put_hashes.ensures in
-    let t2 = s2.tells ∙ t1 in
+    let t2 = s2.frame.tells ∙ t1 in
     let s3 = c.in_ok-put_all-2.ensures in
-    let t3 = s3.tells ∙ t2 in
+    let t3 = s3.frame.tells ∙ t2 in
     exit_on _ _ c.from_residual-in_err-put_numbers.ensures.1
     (subst (λ (t : List ℕ). WritesPrefix (g.W.Sink.written c.args.sink.now) (g.W.Sink.written c.put_numbers.new.sink) (h0 ++ t)) text
     (then_front h0 (head_v1 i c.as_bytes-hash.result.now count) _ (s1.moved told) (then_front _ (joined c.as_slice.result.now) _ (s2.moved t1) (then_front _ (middle_v1 i count) _ (s3.moved t2) (pad_behind _ (numbers c.as_slice-2.result.now) (numbers i.unpacked_chunk_offsets ++ (end_v1 i count c.to_le_bytes-hashes_at.result c.to_le_bytes-boundaries_at.result)) (c.in_err-put_numbers.ensures.front t3))))))
@@ -68,13 +68,13 @@ returns-in_err-put_numbers-2-clause-front g c = λ told.
     let count : List ℕ = c.to_le_bytes-count.result in
     let text = parts_v1 i c.as_bytes-hash.result.now count c.as_slice.result.now c.as_slice-2.result.now c.as_slice-3.result.now c.to_le_bytes-hashes_at.result c.to_le_bytes-boundaries_at.result c.as_bytes-hash.ensures c.to_le_bytes-count.ensures c.as_slice.ensures c.as_slice-2.ensures c.as_slice-3.ensures c.to_le_bytes-hashes_at.ensures c.to_le_bytes-boundaries_at.ensures in
     let s1 = c.in_ok-put_all.ensures in
-    let t1 = s1.tells ∙ told in
+    let t1 = s1.frame.tells ∙ told in
     let s2 = c.in_ok-put_hashes.ensures in
-    let t2 = s2.tells ∙ t1 in
+    let t2 = s2.frame.tells ∙ t1 in
     let s3 = c.in_ok-put_all-2.ensures in
-    let t3 = s3.tells ∙ t2 in
+    let t3 = s3.frame.tells ∙ t2 in
     let s4 = c.in_ok-put_numbers.ensures in
-    let t4 = s4.tells ∙ t3 in
+    let t4 = s4.frame.tells ∙ t3 in
     exit_on _ _ c.from_residual-in_err-put_numbers-2.ensures.1
     (subst (λ (t : List ℕ). WritesPrefix (g.W.Sink.written c.args.sink.now) (g.W.Sink.written c.put_numbers-2.new.sink) (h0 ++ t)) text
     (then_front h0 (head_v1 i c.as_bytes-hash.result.now count) _ (s1.moved told) (then_front _ (joined c.as_slice.result.now) _ (s2.moved t1) (then_front _ (middle_v1 i count) _ (s3.moved t2) (then_front _ (numbers c.as_slice-2.result.now) _ (s4.moved t3) (pad_behind _ (numbers c.as_slice-3.result.now) (end_v1 i count c.to_le_bytes-hashes_at.result c.to_le_bytes-boundaries_at.result) (c.in_err-put_numbers-2.ensures.front t4)))))))
@@ -86,15 +86,15 @@ returns-clause-moved g c = λ told.
     let count : List ℕ = c.to_le_bytes-count.result in
     let text = parts_v1 i c.as_bytes-hash.result.now count c.as_slice.result.now c.as_slice-2.result.now c.as_slice-3.result.now c.to_le_bytes-hashes_at.result c.to_le_bytes-boundaries_at.result c.as_bytes-hash.ensures c.to_le_bytes-count.ensures c.as_slice.ensures c.as_slice-2.ensures c.as_slice-3.ensures c.to_le_bytes-hashes_at.ensures c.to_le_bytes-boundaries_at.ensures in
     let s1 = c.in_ok-put_all.ensures in
-    let t1 = s1.tells ∙ told in
+    let t1 = s1.frame.tells ∙ told in
     let s2 = c.in_ok-put_hashes.ensures in
-    let t2 = s2.tells ∙ t1 in
+    let t2 = s2.frame.tells ∙ t1 in
     let s3 = c.in_ok-put_all-2.ensures in
-    let t3 = s3.tells ∙ t2 in
+    let t3 = s3.frame.tells ∙ t2 in
     let s4 = c.in_ok-put_numbers.ensures in
-    let t4 = s4.tells ∙ t3 in
+    let t4 = s4.frame.tells ∙ t3 in
     let s5 = c.in_ok-put_numbers-2.ensures in
-    let t5 = s5.tells ∙ t4 in
+    let t5 = s5.frame.tells ∙ t4 in
     on_ok_weaker c.put_all-3.result
     (λ m. subst (λ (t : List ℕ). Moves (g.W.Sink.written c.args.sink.now) (g.W.Sink.written c.put_all-3.new.sink) (held_in c.put_all-3.new.self) (h0 ++ t)) text
     (then h0 (head_v1 i c.as_bytes-hash.result.now count) _ (s1.moved told) (then _ (joined c.as_slice.result.now) _ (s2.moved t1) (then _ (middle_v1 i count) _ (s3.moved t2) (then _ (numbers c.as_slice-2.result.now) _ (s4.moved t3) (then _ (numbers c.as_slice-3.result.now) (end_v1 i count c.to_le_bytes-hashes_at.result c.to_le_bytes-boundaries_at.result) (s5.moved t4) m))))))
@@ -107,15 +107,15 @@ returns-clause-front g c = λ told.
     let count : List ℕ = c.to_le_bytes-count.result in
     let text = parts_v1 i c.as_bytes-hash.result.now count c.as_slice.result.now c.as_slice-2.result.now c.as_slice-3.result.now c.to_le_bytes-hashes_at.result c.to_le_bytes-boundaries_at.result c.as_bytes-hash.ensures c.to_le_bytes-count.ensures c.as_slice.ensures c.as_slice-2.ensures c.as_slice-3.ensures c.to_le_bytes-hashes_at.ensures c.to_le_bytes-boundaries_at.ensures in
     let s1 = c.in_ok-put_all.ensures in
-    let t1 = s1.tells ∙ told in
+    let t1 = s1.frame.tells ∙ told in
     let s2 = c.in_ok-put_hashes.ensures in
-    let t2 = s2.tells ∙ t1 in
+    let t2 = s2.frame.tells ∙ t1 in
     let s3 = c.in_ok-put_all-2.ensures in
-    let t3 = s3.tells ∙ t2 in
+    let t3 = s3.frame.tells ∙ t2 in
     let s4 = c.in_ok-put_numbers.ensures in
-    let t4 = s4.tells ∙ t3 in
+    let t4 = s4.frame.tells ∙ t3 in
     let s5 = c.in_ok-put_numbers-2.ensures in
-    let t5 = s5.tells ∙ t4 in
+    let t5 = s5.frame.tells ∙ t4 in
     on_err_weaker c.put_all-3.result
     (λ m. subst (λ (t : List ℕ). WritesPrefix (g.W.Sink.written c.args.sink.now) (g.W.Sink.written c.put_all-3.new.sink) (h0 ++ t)) text
     (then_front h0 (head_v1 i c.as_bytes-hash.result.now count) _ (s1.moved told) (then_front _ (joined c.as_slice.result.now) _ (s2.moved t1) (then_front _ (middle_v1 i count) _ (s3.moved t2) (then_front _ (numbers c.as_slice-2.result.now) _ (s4.moved t3) (then_front _ (numbers c.as_slice-3.result.now) (end_v1 i count c.to_le_bytes-hashes_at.result c.to_le_bytes-boundaries_at.result) (s5.moved t4) m))))))
@@ -125,10 +125,10 @@ pub returns-clause-bytes : goal.returns-clause-bytes
 returns-clause-bytes g c =
     let i = c.args.info.now in
     let ident : length i.ident ≡ 7 = search rules in
-    let hashes_ident : length i.ident_hash_section ≡ 7 = search rules in
-    let boundaries_ident : length i.ident_boundary_section ≡ 7 = search rules in
+    let hashes_magic : length i.ident_hash_section ≡ 7 = search rules in
+    let boundaries_magic : length i.ident_boundary_section ≡ 7 = search rules in
     let spare : length i.spare ≡ 16 = search rules in
     let hash : length c.as_bytes-hash.result.now ≡ 32 = search rules in
     on_ok c.put_all-3.result
-    (length_v1 i ident (ap length (sym c.as_bytes-hash.ensures) ∙ hash) hashes_ident
-    (subst (λ (hs : List (List ℕ)). length (joined hs) ≡ 32 * length hs) c.as_slice.ensures c.in_ok-put_hashes.ensures.length) boundaries_ident spare)
+    (length_v1 i ident (ap length (sym c.as_bytes-hash.ensures) ∙ hash) hashes_magic
+    (subst (λ (hs : List (List ℕ)). length (joined hs) ≡ 32 * length hs) c.as_slice.ensures c.in_ok-put_hashes.ensures.length) boundaries_magic spare)

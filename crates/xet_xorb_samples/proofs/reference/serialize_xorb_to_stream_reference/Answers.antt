@@ -1,6 +1,6 @@
 use Rattle.std.proofs.Common.{◌≡◌, ◌∙◌, ◌+◌, ◌*◌, ◌<◌, ◌≤◌, ◌^◌, ℕ, List, ap, arith, length, subst, sym}
 use Rattle.xet_hash.specs.Merkle.{total_len}
-use Rattle.xet_xorb_footer.specs.Spelled.{most_chunks}
+use Rattle.xet_xorb_footer.specs.FooterEncoding.{max_chunks}
 use Rattle.xet_xorb.specs.Building.{no_spare}
 use Rattle.xet_xorb.specs.Footer.{V1, footer_v1}
 use Rattle.xet_xorb_samples.specs.Samples.{members_from, parts_from}
@@ -9,7 +9,7 @@ use Rattle.xet_xorb_samples.proofs.reference.serialize_xorb_to_stream_reference.
 
 pub new_footer-requires-clause-few : goal.new_footer-requires-clause-few
 new_footer-requires-clause-few g c =
-    subst (λ (x : List (List ℕ × ℕ)). length x ≤ most_chunks) (sym (c.deref.ensures.value ∙ c.in_ok-members.ensures.members)) (few_members c.args.bytes.now c.args.chunks.now c.requires)
+    subst (λ (x : List (List ℕ × ℕ)). length x ≤ max_chunks) (sym (c.deref.ensures.value ∙ c.in_ok-members.ensures.members)) (few_members c.args.bytes.now c.args.chunks.now c.requires)
 
 pub new_footer-requires-clause-bound : goal.new_footer-requires-clause-bound
 new_footer-requires-clause-bound g c =
@@ -27,7 +27,7 @@ returns-in_err-object-clause-front g c = λ told.
     let parts = parts_from 0 c.args.chunks.now c.args.bytes.now in
     let is : c.in_ok-info.info ≡ footer_v1 hash ms no_spare =
     c.in_ok-info.ensures.footer ∙ ap (λ (x : List (List ℕ × ℕ)). footer_v1 hash x no_spare) (c.deref.ensures.value ∙ c.in_ok-members.ensures.members) in
-    let f = c.in_err-object.ensures.front (c.in_ok-start.ensures.tells ∙ told) in
+    let f = c.in_err-object.ensures.front (c.in_ok-start.ensures.frame.tells ∙ told) in
     front_of_footer V1 hash ms parts no_spare _ _ _ _ f.0 (c.in_ok-start.ensures.written told) f.1 (footer_is c.in_ok-info.info hash ms no_spare is)
 
 pub returns-clause-object : goal.returns-clause-object
@@ -54,7 +54,7 @@ returns-clause-written g c = λ told.
     let parts = parts_from 0 c.args.chunks.now c.args.bytes.now in
     let is : c.in_ok-info.info ≡ footer_v1 hash ms no_spare =
     c.in_ok-info.ensures.footer ∙ ap (λ (x : List (List ℕ × ℕ)). footer_v1 hash x no_spare) (c.deref.ensures.value ∙ c.in_ok-members.ensures.members) in
-    let next = c.in_ok-object.ensures.written (c.in_ok-start.ensures.tells ∙ told) in
+    let next = c.in_ok-object.ensures.written (c.in_ok-start.ensures.frame.tells ∙ told) in
     whole_text V1 hash ms parts no_spare _ _ _ _ (c.in_ok-start.ensures.written told) next (footer_is c.in_ok-info.info hash ms no_spare is)
 
 pub returns-clause-front : goal.returns-clause-front
@@ -64,7 +64,7 @@ returns-clause-front g c = λ told.
     let parts = parts_from 0 c.args.chunks.now c.args.bytes.now in
     let is : c.in_ok-info.info ≡ footer_v1 hash ms no_spare =
     c.in_ok-info.ensures.footer ∙ ap (λ (x : List (List ℕ × ℕ)). footer_v1 hash x no_spare) (c.deref.ensures.value ∙ c.in_ok-members.ensures.members) in
-    let next = c.in_ok-object.ensures.written (c.in_ok-start.ensures.tells ∙ told) in
+    let next = c.in_ok-object.ensures.written (c.in_ok-start.ensures.frame.tells ∙ told) in
     whole_front _ _ _ (whole_text V1 hash ms parts no_spare _ _ _ _ (c.in_ok-start.ensures.written told) next (footer_is c.in_ok-info.info hash ms no_spare is))
 
 pub overflow_add-result : goal.overflow_add-result

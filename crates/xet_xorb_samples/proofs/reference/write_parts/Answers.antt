@@ -2,11 +2,11 @@ use Rattle.std.proofs.Common.{◌≡◌, ◌∙◌, ◌+◌, ◌≤◌, ◌^◌,
 use Rattle.std.specs.List.{flat_map}
 use Rattle.std.specs.Prelude.{slice_range}
 use Rattle.xet_hash.specs.declared.error.StoreError.{StoreError}
-use Rattle.xet_xorb_chunk.specs.Spelling.{spelling}
+use Rattle.xet_xorb_chunk.specs.ChunkEncoding.{encoded_chunk}
 use Rattle.xet_base.specs.theorems.Exits.{exit_with}
 use Rattle.xet_base.specs.theorems.Written.{written_both}
 use Rattle.xet_xorb_samples.specs.Samples.{parts_from}
-use Rattle.xet_xorb_samples.proofs.Cuts.{front_of_next, length-spelling, rise_next, rise_within, small_next, spelled_bound, spelled_next}
+use Rattle.xet_xorb_samples.proofs.Cuts.{front_of_next, length-encoded_chunk, rise_next, rise_within, small_next, spelled_bound, spelled_next}
 use Rattle.xet_xorb_samples.proofs.reference.write_parts.Goals as goal
 
 pub slice_bounds-serialize_chunk-end : goal.slice_bounds-serialize_chunk-end
@@ -22,7 +22,7 @@ returns-in_err-count-clause-front g c = λ told.
     let written = g.W.Sink.written in
     let bytes = c.args.bytes.now in
     let cs = c.args.chunks.now in
-    let all : List ℕ = flat_map spelling (parts_from 0 cs bytes) in
+    let all : List ℕ = flat_map encoded_chunk (parts_from 0 cs bytes) in
     let i = c.loop-chunk.invariant in
     let chunk = c.chunk-item.result in
     let f = c.in_err-count.ensures.front (i.tells ∙ told) in
@@ -35,7 +35,7 @@ overflow_add-count g c =
     let bytes = c.args.bytes.now in
     let cs = c.args.chunks.now in
     let i = c.loop-chunk.invariant in
-    let all : List ℕ = flat_map spelling (parts_from 0 cs bytes) in
+    let all : List ℕ = flat_map encoded_chunk (parts_from 0 cs bytes) in
     let chunk = c.chunk-item.result in
     let part : List ℕ = slice_range bytes c.loop-chunk.start chunk.1 in
     let split = spelled_next c.loop-chunk.start cs c.loop-chunk.chunk-index chunk bytes i.held.0 all (omega arith) c.chunk-item.is i.held.1 in
@@ -43,9 +43,9 @@ overflow_add-count g c =
       arith,
       i.held.2,
       ap length split,
-      length-append (i.held.0 ++ spelling part) (flat_map spelling (parts_from chunk.1 (drop (c.loop-chunk.chunk-index + 1) cs) bytes)),
-      length-append i.held.0 (spelling part),
-      length-spelling part,
+      length-append (i.held.0 ++ encoded_chunk part) (flat_map encoded_chunk (parts_from chunk.1 (drop (c.loop-chunk.chunk-index + 1) cs) bytes)),
+      length-append i.held.0 (encoded_chunk part),
+      length-encoded_chunk part,
       c.in_ok-count.ensures.count,
       spelled_bound 0 cs bytes c.requires.parts,
     )
@@ -58,16 +58,16 @@ loop-chunk-preserved g c =
     let at = c.loop-chunk.chunk-index in
     let chunk = c.chunk-item.result in
     let part : List ℕ = slice_range bytes c.loop-chunk.start chunk.1 in
-    let all : List ℕ = flat_map spelling (parts_from 0 cs bytes) in
+    let all : List ℕ = flat_map encoded_chunk (parts_from 0 cs bytes) in
     record {
       held = (
-        i.held.0 ++ spelling part,
+        i.held.0 ++ encoded_chunk part,
         spelled_next c.loop-chunk.start cs at chunk bytes i.held.0 all (omega arith) c.chunk-item.is i.held.1,
-        omega (arith, i.held.2, length-append i.held.0 (spelling part), length-spelling part, c.in_ok-count.ensures.count),
-        λ told. written_both _ _ _ i.held.0 (spelling part) (i.held.3 told) (c.in_ok-count.ensures.whole (i.tells ∙ told)),
+        omega (arith, i.held.2, length-append i.held.0 (encoded_chunk part), length-encoded_chunk part, c.in_ok-count.ensures.count),
+        λ told. written_both _ _ _ i.held.0 (encoded_chunk part) (i.held.3 told) (c.in_ok-count.ensures.whole (i.tells ∙ told)),
       );
       rise = (rise_next c.loop-chunk.start (length bytes) cs at chunk (omega arith) c.chunk-item.is i.rise).1;
       small = (small_next c.loop-chunk.start cs at chunk bytes (2 ^ 24) (omega arith) c.chunk-item.is i.small).1;
-      tells = c.in_ok-count.ensures.tells ∙ i.tells;
-      later = omega (arith, c.in_ok-count.ensures.cause.later, i.later);
+      tells = c.in_ok-count.ensures.frame.tells ∙ i.tells;
+      later = omega (arith, c.in_ok-count.ensures.frame.later, i.later);
     }

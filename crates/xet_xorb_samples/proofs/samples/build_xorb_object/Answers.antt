@@ -1,7 +1,7 @@
 use Rattle.std.proofs.Common.{◌≡◌, ◌∙◌, ◌+◌, ◌++◌, [], ◌∷◌, ℕ, List, ap, arith, length, refl, subst, sym}
 use Rattle.std.specs.List.{concat}
 use Rattle.xet_hash.specs.Merkle.{chunk_hash}
-use Rattle.xet_xorb_chunk.specs.Spelling.{spelling}
+use Rattle.xet_xorb_chunk.specs.ChunkEncoding.{encoded_chunk}
 use Rattle.xet_xorb_samples.specs.Samples.{AreCuts, AreSamples, HasSize, cuts_from}
 use Rattle.xet_xorb_samples.proofs.Cuts.{chunk_cuts, chunk_object, more_cuts, more_plain, more_stored}
 use Rattle.xet_xorb_samples.proofs.Drawn.{drawn_bound, more_samples, one_drawn, sample_parts}
@@ -33,8 +33,8 @@ draws-preserved g c =
     let before = g.G.Rng.stream c.draws.rng in
     let after = g.G.Rng.stream c.gen_random_bytes.new.rng in
     let one = one_drawn size before _ after c.draw.result bytes c.in_ok-bytes.ensures.size c.draw.ensures.drawn c.in_ok-bytes.ensures.drawn in
-    let stored : c.serialize_chunk.new.w ≡ c.draws.stored ++ spelling bytes =
-    c.in_ok-serialize_chunk.ensures.whole refl ∙ ap (λ (x : List ℕ). c.draws.stored ++ spelling x) c.deref.ensures.value in
+    let stored : c.serialize_chunk.new.w ≡ c.draws.stored ++ encoded_chunk bytes =
+    c.in_ok-serialize_chunk.ensures.whole refl ∙ ap (λ (x : List ℕ). c.draws.stored ++ encoded_chunk x) c.deref.ensures.value in
     let plain : c.extend_from_slice.new.self.items ≡ c.draws.plain.items ++ bytes =
     c.in_ok-extend_from_slice.ensures.items ∙ ap (λ (x : List ℕ). c.draws.plain.items ++ x) c.deref-in-draws.ensures.value in
     let whole : c.extend_from_slice.new.self.items ≡ concat (held.0 ++ bytes ∷ []) = more_plain held.0 bytes _ _ held.3 plain in
@@ -65,7 +65,7 @@ returns-clause-made g c =
       chunks = held.0;
       samples = samples;
       of_chunks = chunk_object held.0 c.deref-2.result.now c.in_ok-object.object (c.deref-2.ensures.value ∙ held.4) c.in_ok-object.ensures.object;
-      spelled = c.into_bytes.ensures ∙ held.2;
+      encoded = c.into_bytes.ensures ∙ held.2;
       joined = held.3;
       cut = held.4;
     }

@@ -1,6 +1,6 @@
 use Rattle.std.proofs.Common.{◌∙◌, ◌+◌, ◌*◌, ◌<◌, ◌≤◌, ◌^◌, ℕ, List, arith, length, subst, sym}
 use Rattle.xet_hash.specs.Merkle.{total_len}
-use Rattle.xet_xorb_footer.specs.Spelled.{most_chunks}
+use Rattle.xet_xorb_footer.specs.FooterEncoding.{max_chunks}
 use Rattle.xet_xorb_samples.proofs.Cuts.{few_members, fit_members}
 use Rattle.xet_xorb_samples.proofs.samples.cut_object.Goals as goal
 
@@ -13,7 +13,7 @@ xorb_hash-requires c =
 pub new_footer-requires-clause-few : goal.new_footer-requires-clause-few
 new_footer-requires-clause-few c =
     let held = c.requires in
-    subst (λ (x : List (List ℕ × ℕ)). length x ≤ most_chunks) (sym (c.deref-2.ensures.value ∙ c.in_ok-members.ensures.members)) (few_members held.0 c.args.cuts.now held.1)
+    subst (λ (x : List (List ℕ × ℕ)). length x ≤ max_chunks) (sym (c.deref-2.ensures.value ∙ c.in_ok-members.ensures.members)) (few_members held.0 c.args.cuts.now held.1)
 
 pub new_footer-requires-clause-bound : goal.new_footer-requires-clause-bound
 new_footer-requires-clause-bound c =

@@ -1,7 +1,8 @@
 use Rattle.std.proofs.Common.{◌≡◌, ◌∙◌, ◌++◌, [], ◌∷◌, ◌+◌, List, ap, length, subst, sym}
 use Rattle.xet_xorb_chunk.specs.declared.chunk.Chunk.{Chunk}
 use Rattle.xet_xorb_chunk.specs.Chunks.{chunk_of}
-use Rattle.xet_xorb_samples.specs.Samples.{AreSampleChunks, HasSize}
+use Rattle.xet_xorb_samples.specs.internal.Samples.{AreSampleChunks}
+use Rattle.xet_xorb_samples.specs.Samples.{HasSize}
 use Rattle.xet_xorb_samples.proofs.Drawn.{more_chunks, one_drawn}
 use Rattle.xet_xorb_samples.proofs.samples.random_chunks.Goals as goal
 

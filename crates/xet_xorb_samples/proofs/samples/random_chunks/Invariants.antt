@@ -1,4 +1,4 @@
-use Rattle.xet_xorb_samples.specs.Samples.{AreSampleChunks}
+use Rattle.xet_xorb_samples.specs.internal.Samples.{AreSampleChunks}
 use Rattle.xet_xorb_samples.proofs.samples.random_chunks.Given as goal
 
 abbrev pub invariant-draws : goal.invariant-draws

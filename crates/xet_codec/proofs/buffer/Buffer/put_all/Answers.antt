@@ -14,6 +14,6 @@ loop-piece-preserved g c =
     let i = c.loop-piece.invariant in
     record {
       moved = λ told. more (λ (p : Bor (List ℕ)). p.now) _ c.args.pieces.now c.loop-piece.piece-index (record { ref_ptr = (0, 0); now = [] }) _ c.loop-piece-test.true refl (i.moved told) (c.in_ok-put.ensures.moved (i.tells ∙ told));
-      tells = c.in_ok-put.ensures.tells ∙ i.tells;
-      later = omega (arith, c.in_ok-put.ensures.cause.later, i.later);
+      tells = c.in_ok-put.ensures.frame.tells ∙ i.tells;
+      later = omega (arith, c.in_ok-put.ensures.frame.later, i.later);
     }

@@ -16,6 +16,6 @@ loop-hash-preserved g c =
     record {
       moved = λ told. more (λ (h : List ℕ). h) _ c.args.hashes.now c.loop-hash.hash-index c.hash-item.result _ c.loop-hash-test.true (c.as_bytes.ensures ∙ c.hash-item.is) (i.moved told) (c.in_ok-put.ensures.moved (i.tells ∙ told));
       length = length_more 32 c.args.hashes.now c.loop-hash.hash-index c.hash-item.result c.as_bytes.result.now c.loop-hash-test.true (c.as_bytes.ensures ∙ c.hash-item.is) i.length whole;
-      tells = c.in_ok-put.ensures.tells ∙ i.tells;
-      later = omega (arith, c.in_ok-put.ensures.cause.later, i.later);
+      tells = c.in_ok-put.ensures.frame.tells ∙ i.tells;
+      later = omega (arith, c.in_ok-put.ensures.frame.later, i.later);
     }

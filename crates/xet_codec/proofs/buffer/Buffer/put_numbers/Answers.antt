@@ -15,6 +15,6 @@ loop-number-preserved g c =
     let i = c.loop-number.invariant in
     record {
       moved = λ told. more number _ c.args.list.now c.loop-number.number-index 0 _ c.loop-number-test.true c.to_le_bytes.ensures (i.moved told) (c.in_ok-put.ensures.moved (i.tells ∙ told));
-      tells = c.in_ok-put.ensures.tells ∙ i.tells;
-      later = omega (arith, c.in_ok-put.ensures.cause.later, i.later);
+      tells = c.in_ok-put.ensures.frame.tells ∙ i.tells;
+      later = omega (arith, c.in_ok-put.ensures.frame.later, i.later);
     }

@@ -3,10 +3,11 @@ use Rattle.std.proofs.lemmas.List.{length-take-le}
 use Rattle.std.proofs.lemmas.Result.{IfErr-weaker, on_ok_weaker}
 use Rattle.std.specs.List.{concat}
 use Rattle.xet_io.specs.Disk.{bytes_at}
-use Rattle.xet_folder.specs.Refusals.{IsRefusal}
+use Rattle.xet_folder.specs.internal.Refusals.{IsRefusal}
 use Rattle.xet_folder.specs.Names.{xorb_path}
 use Rattle.xet_folder.specs.Plan.{part, range}
-use Rattle.xet_folder.specs.Runs.{HasPlace, IsRunRefusal, Spells}
+use Rattle.xet_folder.specs.internal.Runs.{HasPlace, Encodes}
+use Rattle.xet_folder.specs.Runs.{IsRunRefusal}
 use Rattle.xet_folder.specs.Stored.{IsBacked}
 use Rattle.xet_folder.proofs.Placing.{has_touched, touched_range, touched_spelled}
 use Rattle.xet_folder.specs.theorems.Placing.{stored_is}
@@ -73,7 +74,7 @@ returns-clause-refused g c =
     let long : r.len ≤ length c.deref_mut.result.now = omega (arith, room, c.in_ok-grow.ensures.size) in
     let size = c.read_stored.auto.stored ∙ length-take-le r.len c.deref_mut.result.now long ∙ t.stored_in in
     let There : Type 0 = (g.D.Disk.tells c.args.disk.now ≡ true) × IsBacked files c.args.folder.now s.xorb_hash members in
-    let Form : Type 0 = (chunks : List (List ℕ)) × Spells c.read_stored.new.stored r.chunks.now chunks in
+    let Form : Type 0 = (chunks : List (List ℕ)) × Encodes c.read_stored.new.stored r.chunks.now chunks in
     let before = g.D.Disk.faults c.args.disk.now in
     let now = g.D.Disk.faults c.read_stored.new.disk in
     IfErr-weaker c.push_range.result (IsRefusal Form) (IsRunRefusal There before now)
@@ -98,8 +99,8 @@ returns-clause-run g c = λ told.
     let size = c.read_stored.auto.stored ∙ length-take-le r.len c.deref_mut.result.now long ∙ t.stored_in in
     on_ok_weaker c.push_range.result
     (λ ranged chunks stored same.
-    let spelled = touched_spelled files c.args.folder.now s members c.args.from c.args.to t.first r.skipped r.chunks.now c.requires.lies t.touches chunks stored same c.as_str.result.now r.at c.read_stored.new.stored path
+    let encoded = touched_spelled files c.args.folder.now s members c.args.from c.args.to t.first r.skipped r.chunks.now c.requires.lies t.touches chunks stored same c.as_str.result.now r.at c.read_stored.new.stored path
     t.stored_at size (c.in_ok-read_stored.ensures.told told) in
     let range_is = touched_range files c.args.folder.now s members c.args.from c.args.to t.first r.skipped r.chunks.now c.requires.lies t.touches chunks stored same in
-    ranged _ spelled ∙ ap (λ (l : List ℕ). c.self.inside.bytes.items ++ l) (sym range_is) ∙ ap (λ (l : List ℕ). l ++ range (concat (part s chunks)) c.args.from c.args.to) c.self.view_is)
+    ranged _ encoded ∙ ap (λ (l : List ℕ). c.self.inside.bytes.items ++ l) (sym range_is) ∙ ap (λ (l : List ℕ). l ++ range (concat (part s chunks)) c.args.from c.args.to) c.self.view_is)
     c.push_range.ensures.range

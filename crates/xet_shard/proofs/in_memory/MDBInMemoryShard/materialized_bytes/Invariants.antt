@@ -1,6 +1,6 @@
 use Rattle.std.proofs.Common.{◌≡◌, ◌+◌, ◌*◌, ◌≤◌, ◌<◌, ◌^◌, length}
 use Rattle.xet_shard_format.specs.Records.{file_section}
-use Rattle.xet_shard_format.specs.Text.{materialized}
+use Rattle.xet_shard_format.specs.Encoding.{materialized}
 use Rattle.xet_shard.proofs.in_memory.MDBInMemoryShard.materialized_bytes.Given as goal
 
 abbrev pub invariant-loop-file : goal.invariant-loop-file

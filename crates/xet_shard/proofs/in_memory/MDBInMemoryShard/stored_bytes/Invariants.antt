@@ -1,6 +1,6 @@
 use Rattle.std.proofs.Common.{◌≡◌, ◌+◌, ◌*◌, ◌≤◌, ◌^◌, length}
 use Rattle.xet_shard_format.specs.Records.{xorb_section}
-use Rattle.xet_shard_format.specs.Text.{stored}
+use Rattle.xet_shard_format.specs.Encoding.{stored}
 use Rattle.xet_shard.proofs.in_memory.MDBInMemoryShard.stored_bytes.Given as goal
 
 abbrev pub invariant-loop-block : goal.invariant-loop-block

@@ -1,7 +1,7 @@
 use Rattle.std.proofs.Common.{◌≡◌, ◌+◌, ◌≤◌, List, ℕ, nat_eq, take}
 use Rattle.std.specs.Cmp.Lexicographic.{pointwise}
 use Rattle.indexmap.specs.IndexMap.{get, spare}
-use Rattle.xet_shard.specs.LastPlaces.{noted}
+use Rattle.xet_shard.specs.internal.LastPlaces.{noted}
 use Rattle.xet_shard.proofs.in_memory.places.note_chunks.Given as goal
 
 abbrev pub invariant-loop-chunk : goal.invariant-loop-chunk

@@ -31,9 +31,9 @@ returns-then-branch-clause-exact g c = λ told.
       found.0,
       found.1,
       subst (λ (r : Result (Option (ℕ × FileDataSequenceEntry)) StoreError). GivesUnlessFault (λ x. x) c.run_in.result r)
-          (ap (λ (b : List ℕ). run_in f c.args.query.now c.args.row c.args.place b) c.in_ok-has_head.ensures.same
+          (ap (λ (b : List ℕ). run_in f c.args.query.now c.args.row c.args.place b) c.in_ok-has_head.ensures.frame.same
           ∙ told_by f c.args.query.now c.args.row c.args.place found.0 whole true some (found.2 ∙ ap (λ (b : Bool). Ok b) c.if-branch.true))
-          (c.run_in.ensures.exact (c.in_ok-has_head.ensures.tells ∙ told)),
+          (c.run_in.ensures.exact (c.in_ok-has_head.ensures.frame.tells ∙ told)),
     )
 
 pub returns-else-branch-clause-exact : goal.returns-else-branch-clause-exact

@@ -10,4 +10,4 @@ returns-in_err-text-clause-refusals g c =
     rw (p.1, p.2) (reading_export c.in_err-text.field-0.0 c.in_err-text.ensures.refusals)
 
 pub returns-clause-refusals : goal.returns-clause-refusals
-returns-clause-refusals g c = IfErr-weaker c.write_text.result IsWriteRefusal IsExportRefusal writing_export c.write_text.ensures.refusals
+returns-clause-refusals g c = IfErr-weaker c.write_bytes.result IsWriteRefusal IsExportRefusal writing_export c.write_bytes.ensures.refusals

@@ -42,6 +42,6 @@ returns-clause-exact g c = λ told.
       found.0,
       subst (λ (w : ℕ). Bisects (λ i. nat_lt i.0 w) (file_table f whole) found.0) c.word.ensures found.1,
       found_by f h whole found.0 items c.first_file.result found.2 few
-          (subst (λ (p : List (ℕ × ℕ) × List ℕ). GivesUnlessFault {X = Option MDBFileInfo} (λ x. x) c.first_file.result (first_file f h (rows_of (first_word h) p.0) p.1)) (λ i. (c.deref-2.ensures.value i, before.same i))
-          (c.first_file.ensures.exact (before.tells ∙ told))),
+          (subst (λ (p : List (ℕ × ℕ) × List ℕ). GivesUnlessFault {X = Option MDBFileInfo} (λ x. x) c.first_file.result (first_file f h (rows_of (first_word h) p.0) p.1)) (λ i. (c.deref-2.ensures.value i, before.frame.same i))
+          (c.first_file.ensures.exact (before.frame.tells ∙ told))),
     )

@@ -1,4 +1,4 @@
-use Rattle.std.proofs.Common.{◌≡◌, ◌∙◌, ◌<◌, ◌≤◌, ◌+◌, ◌-◌, ◌*◌, ◌/◌, ℕ, List, ap, arith, drop, length, sym}
+use Rattle.std.proofs.Common.{◌≡◌, ◌∙◌, ◌<◌, ◌≤◌, ◌+◌, ◌-◌, ◌*◌, ◌/◌, ℕ, List, ap, arith, drop, length, sym, rules}
 use Rattle.std.proofs.lemmas.Result.{err_from_is_err_and}
 use Rattle.xet_shard.specs.Bisection.{passes}
 use Rattle.xet_shard.proofs.Bisecting.{halved, slot_within}
@@ -28,9 +28,10 @@ halves-preserved-then-branch g c =
           ap (λ (n : ℕ). passes c.args.probe (drop (c.args.at + c.args.size * n) whole)) back ∙ ap (λ (b : List ℕ). passes c.args.probe (drop (c.args.at + c.args.size * m) b)) (sym i.same)
           ∙ sym (c.in_ok-passes_at.ensures.told (i.tells ∙ told) there) ∙ c.if-branch.true;
       after = i.after;
-      same = c.in_ok-passes_at.ensures.same ∙ i.same;
-      tells = c.in_ok-passes_at.ensures.tells ∙ i.tells;
-      later = omega (arith, c.in_ok-passes_at.ensures.cause.later, i.later);
+      same = c.in_ok-passes_at.ensures.frame.same ∙ i.same;
+      tells = c.in_ok-passes_at.ensures.frame.tells ∙ i.tells;
+      later = omega (arith, c.in_ok-passes_at.ensures.frame.later, i.later);
+      lent = search rules;
     }
 
 pub halves-preserved : goal.halves-preserved
@@ -46,9 +47,10 @@ halves-preserved g c =
       after = λ told le below.
           let there : c.args.at + c.args.size * m + 12 ≤ length (g.R.ReadAt.bytes c.halves.reader) = omega (arith, slot_within c.args.size m c.args.count lt, le, c.requires.item, ap length i.same) in
           ap (λ (b : List ℕ). passes c.args.probe (drop (c.args.at + c.args.size * m) b)) (sym i.same) ∙ sym (c.in_ok-passes_at.ensures.told (i.tells ∙ told) there) ∙ c.if-branch.false;
-      same = c.in_ok-passes_at.ensures.same ∙ i.same;
-      tells = c.in_ok-passes_at.ensures.tells ∙ i.tells;
-      later = omega (arith, c.in_ok-passes_at.ensures.cause.later, i.later);
+      same = c.in_ok-passes_at.ensures.frame.same ∙ i.same;
+      tells = c.in_ok-passes_at.ensures.frame.tells ∙ i.tells;
+      later = omega (arith, c.in_ok-passes_at.ensures.frame.later, i.later);
+      lent = search rules;
     }
 
 pub returns-clause-found : goal.returns-clause-found

@@ -1,6 +1,7 @@
 use Rattle.std.proofs.Common.{◌≡◌, ◌≤◌, ◌<◌, ◌+◌, ◌-◌, ◌*◌, true, false, drop, length}
 use Rattle.xet_shard.specs.Bisection.{passes}
 use Rattle.xet_shard.proofs.query.bisection.bisect.Given as goal
+use Rattle.xet_io.specs.Lent.{IsSameLent}
 
 abbrev pub invariant-halves : goal.invariant-halves
 invariant-halves g l = record {
@@ -11,6 +12,7 @@ invariant-halves g l = record {
   same : g.R.ReadAt.bytes l.reader ≡ g.R.ReadAt.bytes l.fn.reader;
   tells : g.R.ReadAt.tells l.reader ≡ g.R.ReadAt.tells l.fn.reader;
   later : g.R.ReadAt.faults l.fn.reader ≤ g.R.ReadAt.faults l.reader;
+  lent : IsSameLent (g.R.ReadAt.lent l.fn.reader) (g.R.ReadAt.lent l.reader);
 }
 
 abbrev pub decreases-halves : goal.decreases-halves

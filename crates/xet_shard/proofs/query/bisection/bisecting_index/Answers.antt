@@ -1,6 +1,7 @@
 use Rattle.std.proofs.Common.{◌∙◌, ◌+◌, ◌*◌, ◌≤◌, ap, arith, length, rules, drop, List, ℕ, subst}
 use Rattle.std.proofs.lemmas.Result.{err_from_is_err_and}
-use Rattle.xet_shard.specs.Bisection.{AnswersAt, in_table, passes, slots}
+use Rattle.xet_shard.specs.Bisection.{AnswersAt, in_table, passes}
+use Rattle.xet_shard.specs.internal.Bisection.{slots}
 use Rattle.xet_shard.proofs.Bisecting.{index_fails, index_found, index_past, some_index}
 use Rattle.xet_shard.proofs.query.bisection.bisecting_index.Goals as goal
 
@@ -15,8 +16,8 @@ returns-in-Some-clause-exact g c = λ told.
     let size = c.args.size in
     let n = c.args.count in
     let now = g.R.ReadAt.bytes c.reader_length.new.reader in
-    let same = c.in_ok-end.ensures.same in
-    let tells = c.in_ok-end.ensures.tells ∙ told in
+    let same = c.in_ok-end.ensures.frame.same in
+    let tells = c.in_ok-end.ensures.frame.tells ∙ told in
     let there : at + size * n ≤ length now = omega (arith, c.in_ok-end.ensures.told told, c.in-Some.ensures.some, ap length same) in
     subst (λ (b : List ℕ). AnswersAt (passes c.args.probe) (slots size n (drop at b)) (λ x. x) c.bisect.result (λ index. in_table at (size * n) b index)) same
     (index_found c.args.probe at size n now c.bisect.result there (c.bisect.ensures.found tells there) (c.bisect.ensures.fault tells there))

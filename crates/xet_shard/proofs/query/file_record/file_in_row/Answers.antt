@@ -23,5 +23,5 @@ returns-clause-exact g c = λ told.
     let row = c.from-row.ensures in
     let left = rows.left ∙ ap (λ (r : ℕ). c.args.count - r) row in
     subst (λ (r : Result MDBFileInfo StoreError). GivesUnlessFault (λ x. x) c.file_from.result r)
-    ((λ i. read_in_row file_after (c.args.at + 48 * row i) (left i) 0 (rows.same i)) ∙ from_row file_after whole c.args.at c.args.count c.args.row rows.few (omega (arith, rows.some, row)) there)
-    (c.file_from.ensures.exact (rows.tells ∙ told) (omega (arith, there, ap length rows.same, rows.left, row, rows.some)))
+    ((λ i. read_in_row file_after (c.args.at + 48 * row i) (left i) 0 (rows.frame.same i)) ∙ from_row file_after whole c.args.at c.args.count c.args.row rows.few (omega (arith, rows.some, row)) there)
+    (c.file_from.ensures.exact (rows.frame.tells ∙ told) (omega (arith, there, ap length rows.frame.same, rows.left, row, rows.some)))

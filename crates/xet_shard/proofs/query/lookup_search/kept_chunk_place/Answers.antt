@@ -24,8 +24,8 @@ returns-in_err-fill-clause-exact g c = λ told.
     let index = c.in_ok-index.index in
     let found = chunks_index f whole c.args.first index (c.in_ok-index.ensures.exact told) in
     let some : 0 < index = omega (arith, c.if-index-eq0.false) in
-    let there : f.chunk_lookup_offset + 16 * (index - 1) + 16 ≤ length (g.R.ReadAt.bytes c.bisecting_index.new.reader) = omega (arith, found.1, some, c.in_ok-index.ensures.within, ap length c.in_ok-index.ensures.same) in
-    (index, found.0, rw (p.1, p.2) (faulted (λ (place : Option (ℕ × ℕ)). place) c.in_err-fill.field-0.0 (chunk_place f c.args.first index whole) (c.in_err-fill.ensures.fault (c.in_ok-index.ensures.tells ∙ told) there)))
+    let there : f.chunk_lookup_offset + 16 * (index - 1) + 16 ≤ length (g.R.ReadAt.bytes c.bisecting_index.new.reader) = omega (arith, found.1, some, c.in_ok-index.ensures.within, ap length c.in_ok-index.ensures.frame.same) in
+    (index, found.0, rw (p.1, p.2) (faulted (λ (place : Option (ℕ × ℕ)). place) c.in_err-fill.field-0.0 (chunk_place f c.args.first index whole) (c.in_err-fill.ensures.fault (c.in_ok-index.ensures.frame.tells ∙ told) there)))
 
 pub returns-then-word-first-clause-exact : goal.returns-then-word-first-clause-exact
 returns-then-word-first-clause-exact g c = λ told.
@@ -34,8 +34,8 @@ returns-then-word-first-clause-exact g c = λ told.
     let index = c.in_ok-index.index in
     let found = chunks_index f whole c.args.first index (c.in_ok-index.ensures.exact told) in
     let some : 0 < index = omega (arith, c.if-index-eq0.false) in
-    let there : f.chunk_lookup_offset + 16 * (index - 1) + 16 ≤ length (g.R.ReadAt.bytes c.bisecting_index.new.reader) = omega (arith, found.1, some, c.in_ok-index.ensures.within, ap length c.in_ok-index.ensures.same) in
-    let read = c.in_ok-fill.ensures.told (c.in_ok-index.ensures.tells ∙ told) there ∙ ap (λ (b : List ℕ). take 16 (drop (f.chunk_lookup_offset + 16 * (index - 1)) b)) c.in_ok-index.ensures.same in
+    let there : f.chunk_lookup_offset + 16 * (index - 1) + 16 ≤ length (g.R.ReadAt.bytes c.bisecting_index.new.reader) = omega (arith, found.1, some, c.in_ok-index.ensures.within, ap length c.in_ok-index.ensures.frame.same) in
+    let read = c.in_ok-fill.ensures.told (c.in_ok-index.ensures.frame.tells ∙ told) there ∙ ap (λ (b : List ℕ). take 16 (drop (f.chunk_lookup_offset + 16 * (index - 1)) b)) c.in_ok-index.ensures.frame.same in
     (index, found.0, place_at_index f whole c.args.first index None c.requires found.1 (place_other f whole c.args.first index c.fill.new.buf c.word.result some c.in_ok-index.ensures.within read c.word.ensures c.if-word-first.true))
 
 pub returns-clause-exact : goal.returns-clause-exact
@@ -45,8 +45,8 @@ returns-clause-exact g c = λ told.
     let index = c.in_ok-index.index in
     let found = chunks_index f whole c.args.first index (c.in_ok-index.ensures.exact told) in
     let some : 0 < index = omega (arith, c.if-index-eq0.false) in
-    let there : f.chunk_lookup_offset + 16 * (index - 1) + 16 ≤ length (g.R.ReadAt.bytes c.bisecting_index.new.reader) = omega (arith, found.1, some, c.in_ok-index.ensures.within, ap length c.in_ok-index.ensures.same) in
-    let read = c.in_ok-fill.ensures.told (c.in_ok-index.ensures.tells ∙ told) there ∙ ap (λ (b : List ℕ). take 16 (drop (f.chunk_lookup_offset + 16 * (index - 1)) b)) c.in_ok-index.ensures.same in (
+    let there : f.chunk_lookup_offset + 16 * (index - 1) + 16 ≤ length (g.R.ReadAt.bytes c.bisecting_index.new.reader) = omega (arith, found.1, some, c.in_ok-index.ensures.within, ap length c.in_ok-index.ensures.frame.same) in
+    let read = c.in_ok-fill.ensures.told (c.in_ok-index.ensures.frame.tells ∙ told) there ∙ ap (λ (b : List ℕ). take 16 (drop (f.chunk_lookup_offset + 16 * (index - 1)) b)) c.in_ok-index.ensures.frame.same in (
       index,
       found.0,
       place_at_index f whole c.args.first index (Some (c.half_word.result, c.half_word-2.result)) c.requires found.1

@@ -2,7 +2,7 @@ use Rattle.std.specs.Prelude.{Vec}
 use Rattle.std.specs.Global.{Global}
 use Rattle.std.proofs.Common.{◌∙◌, ◌+◌, ◌*◌, ◌≤◌, ap, arith, drop, length, sym, take, List, ℕ}
 use Rattle.std.proofs.lemmas.Result.{err_from_is_err_and}
-use Rattle.xet_shard.specs.ReaderBytes.{piece_at}
+use Rattle.xet_shard.specs.internal.ReaderBytes.{piece_at}
 use Rattle.xet_shard.specs.Queries.{file_items_from}
 use Rattle.xet_shard.proofs.Faulting.{piece_there}
 use Rattle.xet_shard.proofs.OneRecord.{stops}
@@ -24,11 +24,11 @@ returns-in_err-bytes-clause-exact g c = λ told.
     let index = c.in_ok-index.index in
     let few = c.min-few.result in
     let found = files_index f whole c.args.first index (c.in_ok-index.ensures.exact told) in
-    let there : f.file_lookup_offset + 12 * index + 12 * few ≤ length now = omega (arith, found.1, c.in_ok-index.ensures.within, c.min-few.ensures, ap length c.in_ok-index.ensures.same) in (
+    let there : f.file_lookup_offset + 12 * index + 12 * few ≤ length now = omega (arith, found.1, c.in_ok-index.ensures.within, c.min-few.ensures, ap length c.in_ok-index.ensures.frame.same) in (
       index,
       found.0,
       rw (p.1, p.2) (stops (λ (v : Vec ℕ Global). v.items) (λ (v : Vec (ℕ × ℕ) Global). v.items) c.in_err-bytes.field-0.0 (take (12 * few) (drop (f.file_lookup_offset + 12 * index) now)) (piece_at (f.file_lookup_offset + 12 * index) (12 * few) now) (file_items_from f index whole)
-          (piece_there (f.file_lookup_offset + 12 * index) (12 * few) now there) (c.in_err-bytes.ensures.told (c.in_ok-index.ensures.tells ∙ told) there)),
+          (piece_there (f.file_lookup_offset + 12 * index) (12 * few) now there) (c.in_err-bytes.ensures.told (c.in_ok-index.ensures.frame.tells ∙ told) there)),
     )
 
 pub returns-in_err-items-clause-exact : goal.returns-in_err-items-clause-exact
@@ -46,6 +46,6 @@ returns-clause-exact g c = λ told.
     let few = c.min-few.result in
     let at = f.file_lookup_offset + 12 * index in
     let found = files_index f whole c.args.first index (c.in_ok-index.ensures.exact told) in
-    let there : at + 12 * few ≤ length now = omega (arith, found.1, c.in_ok-index.ensures.within, c.min-few.ensures, ap length c.in_ok-index.ensures.same) in
-    let read = c.deref.ensures.value ∙ sym (ok_is _ _ (sym (piece_there at (12 * few) now there) ∙ c.in_ok-bytes.ensures.told (c.in_ok-index.ensures.tells ∙ told) there)) ∙ ap (λ (b : List ℕ). take (12 * few) (drop at b)) c.in_ok-index.ensures.same in
+    let there : at + 12 * few ≤ length now = omega (arith, found.1, c.in_ok-index.ensures.within, c.min-few.ensures, ap length c.in_ok-index.ensures.frame.same) in
+    let read = c.deref.ensures.value ∙ sym (ok_is _ _ (sym (piece_there at (12 * few) now there) ∙ c.in_ok-bytes.ensures.told (c.in_ok-index.ensures.frame.tells ∙ told) there)) ∙ ap (λ (b : List ℕ). take (12 * few) (drop at b)) c.in_ok-index.ensures.frame.same in
     (index, found.0, files_from f whole index few c.deref.result.now c.in_ok-items.items.items c.requires found.1 c.in_ok-index.ensures.within c.min-few.ensures read c.in_ok-items.ensures)

@@ -25,8 +25,8 @@ returns-in_err-fill-clause-exact g c = λ told.
     let whole = g.R.ReadAt.bytes c.args.reader.now in
     let index = c.in_ok-index.index in
     let found = heads_index f whole c.args.row index (c.in_ok-index.ensures.exact told) in
-    let there : f.xorb_lookup_offset + 12 * index + 12 ≤ length (g.R.ReadAt.bytes c.bisecting_index.new.reader) = omega (arith, found.1, c.if-index-count.false, ap length c.in_ok-index.ensures.same) in
-    (index, found.0, rw (p.1, p.2) (faulted (λ (there : Bool). there) c.in_err-fill.field-0.0 (has_head f c.args.row index whole) (c.in_err-fill.ensures.fault (c.in_ok-index.ensures.tells ∙ told) there)))
+    let there : f.xorb_lookup_offset + 12 * index + 12 ≤ length (g.R.ReadAt.bytes c.bisecting_index.new.reader) = omega (arith, found.1, c.if-index-count.false, ap length c.in_ok-index.ensures.frame.same) in
+    (index, found.0, rw (p.1, p.2) (faulted (λ (there : Bool). there) c.in_err-fill.field-0.0 (has_head f c.args.row index whole) (c.in_err-fill.ensures.fault (c.in_ok-index.ensures.frame.tells ∙ told) there)))
 
 pub returns-clause-exact : goal.returns-clause-exact
 returns-clause-exact g c = λ told.
@@ -35,6 +35,6 @@ returns-clause-exact g c = λ told.
     let index = c.in_ok-index.index in
     let found = heads_index f whole c.args.row index (c.in_ok-index.ensures.exact told) in
     let lt : index < f.xorb_lookup_num_entry = omega (arith, c.if-index-count.false) in
-    let there : f.xorb_lookup_offset + 12 * index + 12 ≤ length (g.R.ReadAt.bytes c.bisecting_index.new.reader) = omega (arith, found.1, lt, ap length c.in_ok-index.ensures.same) in
-    let read = c.in_ok-fill.ensures.told (c.in_ok-index.ensures.tells ∙ told) there ∙ ap (λ (b : List ℕ). take 12 (drop (f.xorb_lookup_offset + 12 * index) b)) c.in_ok-index.ensures.same in
+    let there : f.xorb_lookup_offset + 12 * index + 12 ≤ length (g.R.ReadAt.bytes c.bisecting_index.new.reader) = omega (arith, found.1, lt, ap length c.in_ok-index.ensures.frame.same) in
+    let read = c.in_ok-fill.ensures.told (c.in_ok-index.ensures.frame.tells ∙ told) there ∙ ap (λ (b : List ℕ). take 12 (drop (f.xorb_lookup_offset + 12 * index) b)) c.in_ok-index.ensures.frame.same in
     (index, found.0, head_at_index f whole c.args.row index _ c.requires found.1 (head_read f whole c.args.row index c.fill.new.buf lt read ∙ ap (λ (n : ℕ). n == c.args.row) (sym c.half_word.ensures)))

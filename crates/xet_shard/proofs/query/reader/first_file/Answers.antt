@@ -1,4 +1,4 @@
-use Rattle.std.proofs.Common.{◌∙◌, [], ◌∷◌, ℕ, List, Option, Ok, Err, ap, arith, get_or, subst, sym}
+use Rattle.std.proofs.Common.{◌∙◌, [], ◌∷◌, ℕ, List, Option, Ok, Err, ap, arith, get_or, subst, sym, rules}
 use Rattle.std.proofs.lemmas.Result.{err_from_is_err_and}
 use Rattle.xet_shard_format.specs.declared.record.MDBFileInfo.{MDBFileInfo}
 use Rattle.xet_shard.specs.Queries.{first_file, rows_of}
@@ -33,9 +33,10 @@ loop-item-preserved g c =
     let i : ℕ × ℕ = get_or c.args.items.now c.loop-item.item-index (0, 0) in
     let whole = g.R.ReadAt.bytes c.args.reader.now in
     record {
-      same = c.in_ok-file.ensures.same ∙ c.loop-item.invariant.same;
-      tells = c.in_ok-file.ensures.tells ∙ c.loop-item.invariant.tells;
-      later = omega (arith, c.in_ok-file.ensures.cause.later, c.loop-item.invariant.later);
+      same = c.in_ok-file.ensures.frame.same ∙ c.loop-item.invariant.same;
+      tells = c.in_ok-file.ensures.frame.tells ∙ c.loop-item.invariant.tells;
+      later = omega (arith, c.in_ok-file.ensures.frame.later, c.loop-item.invariant.later);
+      lent = search rules;
       so_far = λ told.
           item_none c.args.f.now h (first_word h) whole c.args.items.now c.loop-item.item-index (0, 0) _ c.loop-item-test.true
           (ap (λ (b : List ℕ). first_file c.args.f.now h (rows_of (first_word h) (i ∷ [])) b) (sym c.loop-item.invariant.same) ∙ c.in_ok-file.ensures.exact (c.loop-item.invariant.tells ∙ told) ∙ ap (λ (x : Option MDBFileInfo). Ok x) c.in-None.is)

@@ -21,9 +21,9 @@ returns-in-Some-clause-exact g c = λ told.
       found.0,
       found.1,
       subst (λ (r : Result (Option (ℕ × FileDataSequenceEntry)) StoreError). GivesUnlessFault (λ x. x) c.run_in.result r)
-          (ap (λ (b : List ℕ). run_in f c.args.query.now c.in-Some.row c.in-Some.place b) c.in_ok-row.ensures.same
+          (ap (λ (b : List ℕ). run_in f c.args.query.now c.in-Some.row c.in-Some.place b) c.in_ok-row.ensures.frame.same
           ∙ run_by f c.args.query.now c.args.word found.0 whole (Some (c.in-Some.row, c.in-Some.place)) (found.2 ∙ ap (λ (place : Option (ℕ × ℕ)). Ok place) c.in-Some.is))
-          (c.run_in.ensures.exact (c.in_ok-row.ensures.tells ∙ told)),
+          (c.run_in.ensures.exact (c.in_ok-row.ensures.frame.tells ∙ told)),
     )
 
 pub returns-in-None-clause-exact : goal.returns-in-None-clause-exact

@@ -1,4 +1,4 @@
-use Rattle.std.proofs.Common.{◌∙◌, Err, List, ap, arith, drop, length, map, subst, sym, ℕ}
+use Rattle.std.proofs.Common.{◌∙◌, Err, List, ap, arith, drop, length, map, subst, sym, ℕ, rules}
 use Rattle.std.proofs.lemmas.Result.{err_from_is_err_and}
 use Rattle.xet_shard.specs.Queries.{kept_hash}
 use Rattle.xet_codec.specs.Parsing.{GivesUnlessFault}
@@ -44,9 +44,10 @@ loop-done-preserved g c =
     let block = block_is keep c.args.query.now n some.result c.args.count c.args.at c.args.end c.loop-done.to _ whole c.from.result same c.from.ensures (omega (arith, some.ensures.rows)) (omega arith) in
     let found = c.in_ok-found in
     record {
-      same = found.ensures.same ∙ same;
-      tells = found.ensures.tells ∙ c.loop-done.invariant.tells;
-      later = omega (arith, found.ensures.cause.later, c.loop-done.invariant.later);
+      same = found.ensures.frame.same ∙ same;
+      tells = found.ensures.frame.tells ∙ c.loop-done.invariant.tells;
+      later = omega (arith, found.ensures.frame.later, c.loop-done.invariant.later);
+      lent = search rules;
       so_far = λ told le.
           block_agrees (map keep c.args.query.now) c.args.end (rows_in c.args.count (drop c.args.at whole)) _ n c.loop-done.to some.result (c.loop-done.invariant.so_far told le) found.found found.next
           (sym block ∙ found.ensures.exact (c.loop-done.invariant.tells ∙ told) (omega (arith, le, ap length same, c.from.ensures, some.ensures.rows))) (omega (arith, found.ensures.within, c.if-found-some.false));

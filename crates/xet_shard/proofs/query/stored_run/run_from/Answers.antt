@@ -51,8 +51,8 @@ returns-clause-exact g c = λ told le.
     let rows = rows_in (c.args.count - 1) (drop (c.args.at + 48) whole) in
     let read = by_head ks place head c.args.at c.args.count whole c.requires.some c.requires.few le (c.in_ok-head.ensures.told told (omega (arith, le, c.requires.some))) in
     let room : head.b ≤ length rows = omega (arith, length-rows_in (c.args.count - 1) (drop (c.args.at + 48) whole), c.from.ensures, c.if-from-count.false) in
-    let same = c.in_ok-head.ensures.same in
+    let same = c.in_ok-head.ensures.frame.same in
     let here = rows_at_place head.b place (c.args.count - 1) (c.args.at + 48) whole (omega (arith, c.if-head-place.false)) (omega (arith, c.from.ensures, c.if-from-count.false)) in
     subst (λ (r : Result (Option (ℕ × FileDataSequenceEntry)) StoreError). GivesUnlessFault (λ x. x) c.run_of.result r)
     ((λ i. run_of ks place head (rows_in (head.b - place) (drop (c.args.at + 48 + 48 * c.from-2.ensures i) (same i)))) ∙ sym (read ∙ at_place ks place head rows room c.if-head-ne0.false c.if-head-ne0-2.false _ here))
-    (c.run_of.ensures.exact (c.in_ok-head.ensures.tells ∙ told) (omega (arith, le, ap length same, c.from-2.ensures, c.from.ensures, c.if-from-count.false, c.if-head-place.false)))
+    (c.run_of.ensures.exact (c.in_ok-head.ensures.frame.tells ∙ told) (omega (arith, le, ap length same, c.from-2.ensures, c.from.ensures, c.if-from-count.false, c.if-head-place.false)))

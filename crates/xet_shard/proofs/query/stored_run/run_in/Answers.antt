@@ -45,5 +45,5 @@ returns-clause-exact g c = λ told.
     let left = rows.left ∙ ap (λ (r : ℕ). count - r) row in
     counted {B = Run} (λ x. x) at f.file_lookup_offset count c.run_from.result (λ n. read_in_row read at n c.args.row whole) c.in_ok-count.ensures.exact
     (subst (λ (r : Result Run StoreError). GivesUnlessFault (λ x. x) c.run_from.result r)
-    ((λ i. read_in_row read (at + 48 * row i) (left i) 0 (rows.same i)) ∙ from_row read whole at count c.args.row rows.few (omega (arith, rows.some, row)) there)
-    (c.run_from.ensures.exact (rows.tells ∙ told) (omega (arith, there, ap length rows.same, rows.left, row, rows.some))))
+    ((λ i. read_in_row read (at + 48 * row i) (left i) 0 (rows.frame.same i)) ∙ from_row read whole at count c.args.row rows.few (omega (arith, rows.some, row)) there)
+    (c.run_from.ensures.exact (rows.frame.tells ∙ told) (omega (arith, there, ap length rows.frame.same, rows.left, row, rows.some))))

@@ -52,8 +52,8 @@ returns-in_err-more-clause-exact g c = λ told le.
     rw (p.1, p.2) (rest_fails c.args.place c.args.head.now (map keep c.args.query.now) (map keep c.in-Some.rest.now) c.kept_hash.result (rows_in n (drop c.args.at whole)) (rows_in (n - 1) (drop (c.args.at + 48) whole)) r
     (first_hash keep c.args.query.now c.in-Some.rest.now c.in-Some.first.now c.kept_hash.result c.in-Some.ensures.cases.0 c.kept_hash.ensures)
     (first_row n c.args.at whole r (omega (arith, c.requires.some)) (row.told told (omega (arith, le, c.requires.some)))) c.in_ok-to.to e same (sym c.in_ok-to.ensures.exact)
-    (subst (λ (b : List ℕ). GivesUnlessFault {X = ℕ × ℕ} (λ x. x) (Err e) (agreed (map keep c.in-Some.rest.now) c.args.head.now.c c.in_ok-to.to (rows_in (n - 1) (drop (c.args.at + 48) b)))) row.same
-    (c.in_err-more.ensures.exact (row.tells ∙ told) (omega (arith, le, ap length row.same, c.requires.some)))))
+    (subst (λ (b : List ℕ). GivesUnlessFault {X = ℕ × ℕ} (λ x. x) (Err e) (agreed (map keep c.in-Some.rest.now) c.args.head.now.c c.in_ok-to.to (rows_in (n - 1) (drop (c.args.at + 48) b)))) row.frame.same
+    (c.in_err-more.ensures.exact (row.frame.tells ∙ told) (omega (arith, le, ap length row.frame.same, c.requires.some)))))
 
 pub returns-clause-exact : goal.returns-clause-exact
 returns-clause-exact g c = λ told le.
@@ -67,5 +67,5 @@ returns-clause-exact g c = λ told le.
     rest_agrees c.args.place c.args.head.now (map keep c.args.query.now) (map keep c.in-Some.rest.now) c.kept_hash.result (rows_in n (drop c.args.at whole)) (rows_in (n - 1) (drop (c.args.at + 48) whole)) r
     (first_hash keep c.args.query.now c.in-Some.rest.now c.in-Some.first.now c.kept_hash.result c.in-Some.ensures.cases.0 c.kept_hash.ensures)
     (first_row n c.args.at whole r (omega (arith, c.requires.some)) (row.told told (omega (arith, le, c.requires.some)))) c.in_ok-to.to more.more more.end same (sym c.in_ok-to.ensures.exact)
-    (ap (λ (b : List ℕ). agreed (map keep c.in-Some.rest.now) c.args.head.now.c c.in_ok-to.to (rows_in (n - 1) (drop (c.args.at + 48) b))) (sym row.same) ∙ more.ensures.exact (row.tells ∙ told) (omega (arith, le, ap length row.same, c.requires.some)))
+    (ap (λ (b : List ℕ). agreed (map keep c.in-Some.rest.now) c.args.head.now.c c.in_ok-to.to (rows_in (n - 1) (drop (c.args.at + 48) b))) (sym row.frame.same) ∙ more.ensures.exact (row.frame.tells ∙ told) (omega (arith, le, ap length row.frame.same, c.requires.some)))
     ∙ ap (λ (s : FileDataSequenceEntry). Ok (Some (more.more + 1, s))) (sym c.new-segment.ensures)

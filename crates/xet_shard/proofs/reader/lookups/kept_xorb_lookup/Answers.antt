@@ -2,7 +2,7 @@ use Rattle.std.specs.Prelude.{Vec}
 use Rattle.std.specs.Global.{Global}
 use Rattle.std.proofs.Common.{ℕ, ◌*◌, ◌∙◌, ap}
 use Rattle.std.proofs.lemmas.Result.{err_from_is_err_and}
-use Rattle.xet_shard.specs.ReaderBytes.{piece_at}
+use Rattle.xet_shard.specs.internal.ReaderBytes.{piece_at}
 use Rattle.xet_shard.specs.Sections.{heads_in}
 use Rattle.xet_shard.proofs.PartLaws.{fails_on_whole, goes_on, xorbs_kept}
 use Rattle.xet_shard.proofs.reader.lookups.kept_xorb_lookup.Goals as goal

@@ -2,7 +2,7 @@ use Rattle.std.specs.Prelude.{Vec}
 use Rattle.std.specs.Global.{Global}
 use Rattle.xet_shard_format.specs.declared.record.MDBFileInfo.{MDBFileInfo}
 use Rattle.std.proofs.lemmas.Result.{err_from_is_err_and}
-use Rattle.std.proofs.Common.{Err, ◌<◌, ◌^◌, ◌∙◌, None, Ok, ap, length, sym, List, ℕ}
+use Rattle.std.proofs.Common.{Err, ◌<◌, ◌^◌, ◌∙◌, None, Ok, ap, length, sym, List, ℕ, rules}
 use Rattle.xet_shard_format.specs.Records.{AreRecords, IsFile, file_hash, file_head, file_rest, file_section}
 use Rattle.xet_shard_format.specs.Reading.{file_at}
 use Rattle.xet_shard.specs.Sections.{section_in}
@@ -34,8 +34,10 @@ returns-in-Ok-clause-few g c =
 pub returns-in-Ok-clause-refusals : goal.returns-in-Ok-clause-refusals
 returns-in-Ok-clause-refusals g c = refuses (λ v. v.items) c.records_at.result _ (a_section file_at a_file file_hash _ None _) c.records_at.ensures
 
-pub returns-in-Ok-clause-cause : goal.returns-in-Ok-clause-cause
-returns-in-Ok-clause-cause g c = cause_before (λ v. v.items) c.records_at.result _ _ _ (a_section file_at a_file file_hash _ None _) c.records_at.ensures c.in-Ok.ensures.cause.later
+pub returns-in-Ok-clause-frame : goal.returns-in-Ok-clause-frame
+returns-in-Ok-clause-frame g c =
+    let cause = cause_before (λ v. v.items) c.records_at.result _ _ _ (a_section file_at a_file file_hash _ None _) c.records_at.ensures c.in-Ok.ensures.frame.later in
+    record { same = search rules; tells = search rules; later = cause.later; rose = cause.rose; lent = search rules }
 
 pub returns-in-Err-clause-exact : goal.returns-in-Err-clause-exact
 returns-in-Err-clause-exact g c = λ told.

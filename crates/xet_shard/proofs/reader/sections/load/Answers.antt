@@ -17,10 +17,10 @@ returns-in_err-metadata-clause-exact g c = λ told len.
     let head = c.in_ok-read_header.ensures in
     let e = c.in_err-metadata.field-0.0 in
     rw (p.1, p.2) (info_ends (g.R.ReadAt.bytes c.args.reader.now) e (head.exact told len)
-    (subst (λ (b : List ℕ). GivesUnlessFault {X = MDBShardFileFooter} (λ f. f) (Err e) (footer_at b)) head.same (c.in_err-metadata.ensures.exact (head.tells ∙ told) (len ∙ ap length (sym head.same)))))
+    (subst (λ (b : List ℕ). GivesUnlessFault {X = MDBShardFileFooter} (λ f. f) (Err e) (footer_at b)) head.frame.same (c.in_err-metadata.ensures.exact (head.frame.tells ∙ told) (len ∙ ap length (sym head.frame.same)))))
 
 pub returns-clause-exact : goal.returns-clause-exact
 returns-clause-exact g c = λ told len.
     let head = c.in_ok-read_header.ensures in
     info_of (g.R.ReadAt.bytes c.args.reader.now) c.in_ok-metadata.metadata (head.exact told len)
-    (ap footer_at (sym head.same) ∙ c.in_ok-metadata.ensures.exact (head.tells ∙ told) (len ∙ ap length (sym head.same)))
+    (ap footer_at (sym head.frame.same) ∙ c.in_ok-metadata.ensures.exact (head.frame.tells ∙ told) (len ∙ ap length (sym head.frame.same)))

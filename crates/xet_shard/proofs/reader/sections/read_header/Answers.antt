@@ -1,4 +1,4 @@
-use Rattle.std.proofs.Common.{◌∙◌, arith}
+use Rattle.std.proofs.Common.{◌∙◌, arith, rules}
 use Rattle.xet_shard_format.specs.Ends.{header_of_first}
 use Rattle.xet_shard_format.specs.theorems.FirstLast.{header_from}
 use Rattle.xet_shard_format.specs.theorems.Refusing.{a_first, cause_before, gives_whole, gives_input_error}
@@ -13,5 +13,7 @@ returns-clause-exact g c = λ told len.
 pub returns-clause-refusals : goal.returns-clause-refusals
 returns-clause-refusals g c = gives_input_error c.header_of_first.result _ (a_first c.args.len c.fill.new.buf) c.header_of_first.ensures.exact
 
-pub returns-clause-cause : goal.returns-clause-cause
-returns-clause-cause g c = cause_before (λ _. tt) c.header_of_first.result _ _ _ (a_first c.args.len c.fill.new.buf) c.header_of_first.ensures.gives c.in_ok-fill.ensures.cause.later
+pub returns-clause-frame : goal.returns-clause-frame
+returns-clause-frame g c =
+    let cause = cause_before (λ _. tt) c.header_of_first.result _ _ _ (a_first c.args.len c.fill.new.buf) c.header_of_first.ensures.gives c.in_ok-fill.ensures.frame.later in
+    record { same = search rules; tells = search rules; later = cause.later; rose = cause.rose; lent = search rules }

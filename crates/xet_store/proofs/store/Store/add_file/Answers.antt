@@ -4,7 +4,8 @@ use Rattle.xet_shard.specs.Held.{held, with_last}
 use Rattle.xet_shard_format.specs.Records.{IsFile, file_hash, file_section}
 use Rattle.xet_folder.specs.Xorbs.{Records, found}
 use Rattle.xet_folder.specs.theorems.Tables.{found_here}
-use Rattle.xet_store.specs.Store.{IsNewFile, State}
+use Rattle.xet_store.specs.internal.Store.{IsNewFile}
+use Rattle.xet_store.specs.Store.{State}
 use Rattle.xet_store.specs.theorems.Keeping.{keeps_nothing}
 use Rattle.xet_store.proofs.Pending.{few_files, file_form}
 use Rattle.xet_store.proofs.Recording.{adds_at, keeps_recorded_at, record_kept, recorded_tables, sound_recorded_at}

@@ -78,8 +78,8 @@ invariant_of-self-in_err-put_xorb g c =
     let put : PutsXorb _ c.as_str.result.now h c.as_slice-2.result.now c.in_ok-members.members.items _ files (g.D.Disk.faults c.put_xorb.new.disk) = record {
       sound = c.self.invariant;
       same = c.as_str.ensures;
-      tells_same = c.put_xorb.ensures.tells;
-      later = c.put_xorb.ensures.later;
+      tells_same = c.put_xorb.ensures.frame.tells;
+      later = c.put_xorb.ensures.frame.later;
       none = sym c.in_default.ensures.value;
       xorbs = c.put_xorb.ensures.xorbs;
       shards = c.put_xorb.ensures.shards;
@@ -102,8 +102,8 @@ returns-in_err-put_xorb-clause-keeps g c =
     let put : PutsXorb _ c.as_str.result.now h c.as_slice-2.result.now c.in_ok-members.members.items _ files (g.D.Disk.faults c.put_xorb.new.disk) = record {
       sound = c.self.invariant;
       same = c.as_str.ensures;
-      tells_same = c.put_xorb.ensures.tells;
-      later = c.put_xorb.ensures.later;
+      tells_same = c.put_xorb.ensures.frame.tells;
+      later = c.put_xorb.ensures.frame.later;
       none = sym c.in_default.ensures.value;
       xorbs = c.put_xorb.ensures.xorbs;
       shards = c.put_xorb.ensures.shards;
@@ -142,8 +142,8 @@ invariant_of-self-in_err-add_xorb_block g c =
     let put : PutsXorb _ c.as_str.result.now h c.as_slice-2.result.now c.in_ok-members.members.items _ files (g.D.Disk.faults c.put_xorb.new.disk) = record {
       sound = c.self.invariant;
       same = c.as_str.ensures;
-      tells_same = c.put_xorb.ensures.tells;
-      later = c.put_xorb.ensures.later;
+      tells_same = c.put_xorb.ensures.frame.tells;
+      later = c.put_xorb.ensures.frame.later;
       none = sym c.in_default.ensures.value;
       xorbs = c.put_xorb.ensures.xorbs;
       shards = c.put_xorb.ensures.shards;
@@ -153,7 +153,7 @@ invariant_of-self-in_err-add_xorb_block g c =
           (backed_by_text files c.self.inside.folder h c.in_ok-built.built.serialized_data chunks c.requires.digests c.requires.small
           (raw_text c.in_ok-raw.raw chunks _ c.in_ok-raw.ensures.exact h c.hash-hash.ensures c.in_ok-built.built.serialized_data c.requires.digests c.requires.some c.in_ok-raw.ensures.members (c.in_ok-built.ensures.grammar refl))
           is_hash (there ∙ ap Some c.as_slice-2.ensures));
-      left = λ told. inr (record { there = c.in_ok-put_xorb.ensures.there told; stable = c.in_ok-put_xorb.ensures.stable told; temp = c.in_ok-put_xorb.ensures.temp told });
+      left = λ told. inr (record { there = c.in_ok-put_xorb.ensures.there told; durable = c.in_ok-put_xorb.ensures.durable told; temp = c.in_ok-put_xorb.ensures.temp told });
     } in
     unput_sound put c.reserve.ensures.entries refl refl c.in_err-add_xorb_block.ensures.kept
 
@@ -166,8 +166,8 @@ returns-in_err-add_xorb_block-clause-keeps g c =
     let put : PutsXorb _ c.as_str.result.now h c.as_slice-2.result.now c.in_ok-members.members.items _ files (g.D.Disk.faults c.put_xorb.new.disk) = record {
       sound = c.self.invariant;
       same = c.as_str.ensures;
-      tells_same = c.put_xorb.ensures.tells;
-      later = c.put_xorb.ensures.later;
+      tells_same = c.put_xorb.ensures.frame.tells;
+      later = c.put_xorb.ensures.frame.later;
       none = sym c.in_default.ensures.value;
       xorbs = c.put_xorb.ensures.xorbs;
       shards = c.put_xorb.ensures.shards;
@@ -177,7 +177,7 @@ returns-in_err-add_xorb_block-clause-keeps g c =
           (backed_by_text files c.self.inside.folder h c.in_ok-built.built.serialized_data chunks c.requires.digests c.requires.small
           (raw_text c.in_ok-raw.raw chunks _ c.in_ok-raw.ensures.exact h c.hash-hash.ensures c.in_ok-built.built.serialized_data c.requires.digests c.requires.some c.in_ok-raw.ensures.members (c.in_ok-built.ensures.grammar refl))
           is_hash (there ∙ ap Some c.as_slice-2.ensures));
-      left = λ told. inr (record { there = c.in_ok-put_xorb.ensures.there told; stable = c.in_ok-put_xorb.ensures.stable told; temp = c.in_ok-put_xorb.ensures.temp told });
+      left = λ told. inr (record { there = c.in_ok-put_xorb.ensures.there told; durable = c.in_ok-put_xorb.ensures.durable told; temp = c.in_ok-put_xorb.ensures.temp told });
     } in
     unput_keeps put c.reserve.ensures.entries refl refl c.in_err-add_xorb_block.ensures.kept _ c.self.view_is
 
@@ -195,8 +195,8 @@ invariant_of-self-2 g c =
     let put : PutsXorb _ c.as_str.result.now h c.as_slice-2.result.now c.in_ok-members.members.items _ files (g.D.Disk.faults c.put_xorb.new.disk) = record {
       sound = c.self.invariant;
       same = c.as_str.ensures;
-      tells_same = c.put_xorb.ensures.tells;
-      later = c.put_xorb.ensures.later;
+      tells_same = c.put_xorb.ensures.frame.tells;
+      later = c.put_xorb.ensures.frame.later;
       none = sym c.in_default.ensures.value;
       xorbs = c.put_xorb.ensures.xorbs;
       shards = c.put_xorb.ensures.shards;
@@ -206,7 +206,7 @@ invariant_of-self-2 g c =
           (backed_by_text files c.self.inside.folder h c.in_ok-built.built.serialized_data chunks c.requires.digests c.requires.small
           (raw_text c.in_ok-raw.raw chunks _ c.in_ok-raw.ensures.exact h c.hash-hash.ensures c.in_ok-built.built.serialized_data c.requires.digests c.requires.some c.in_ok-raw.ensures.members (c.in_ok-built.ensures.grammar refl))
           is_hash (there ∙ ap Some c.as_slice-2.ensures));
-      left = λ told. inr (record { there = c.in_ok-put_xorb.ensures.there told; stable = c.in_ok-put_xorb.ensures.stable told; temp = c.in_ok-put_xorb.ensures.temp told });
+      left = λ told. inr (record { there = c.in_ok-put_xorb.ensures.there told; durable = c.in_ok-put_xorb.ensures.durable told; temp = c.in_ok-put_xorb.ensures.temp told });
     } in
     let members = c.in_ok-members.members.items in
     let none : found c.self.inside.xorbs.entries h ≡ None = sym c.in_default.ensures.value in
@@ -224,8 +224,8 @@ returns g c =
     let put : PutsXorb _ c.as_str.result.now h c.as_slice-2.result.now c.in_ok-members.members.items _ files (g.D.Disk.faults c.put_xorb.new.disk) = record {
       sound = c.self.invariant;
       same = c.as_str.ensures;
-      tells_same = c.put_xorb.ensures.tells;
-      later = c.put_xorb.ensures.later;
+      tells_same = c.put_xorb.ensures.frame.tells;
+      later = c.put_xorb.ensures.frame.later;
       none = sym c.in_default.ensures.value;
       xorbs = c.put_xorb.ensures.xorbs;
       shards = c.put_xorb.ensures.shards;
@@ -235,7 +235,7 @@ returns g c =
           (backed_by_text files c.self.inside.folder h c.in_ok-built.built.serialized_data chunks c.requires.digests c.requires.small
           (raw_text c.in_ok-raw.raw chunks _ c.in_ok-raw.ensures.exact h c.hash-hash.ensures c.in_ok-built.built.serialized_data c.requires.digests c.requires.some c.in_ok-raw.ensures.members (c.in_ok-built.ensures.grammar refl))
           is_hash (there ∙ ap Some c.as_slice-2.ensures));
-      left = λ told. inr (record { there = c.in_ok-put_xorb.ensures.there told; stable = c.in_ok-put_xorb.ensures.stable told; temp = c.in_ok-put_xorb.ensures.temp told });
+      left = λ told. inr (record { there = c.in_ok-put_xorb.ensures.there told; durable = c.in_ok-put_xorb.ensures.durable told; temp = c.in_ok-put_xorb.ensures.temp told });
     } in
     let members = c.in_ok-members.members.items in
     let none : found c.self.inside.xorbs.entries h ≡ None = sym c.in_default.ensures.value in
@@ -243,7 +243,7 @@ returns g c =
     let exact = raw_block c.in_ok-raw.raw c.args.chunks.now _ c.in_ok-raw.ensures.exact h c.hash-hash.ensures c.in_ok-block.block members c.in_ok-members.ensures.members c.in_ok-block.ensures.copy in
     let pending = c.in_ok-add_xorb_block.ensures.added ∙ ap (λ (b : MDBXorbInfo). held (with_last record_of.xorb_hash c.self.inside.pending.blocks b) c.self.inside.pending.files) exact in
     record {
-      keeps = put_keeps put more pending c.in_ok-put_xorb.ensures.stable _ c.self.view_is;
+      keeps = put_keeps put more pending c.in_ok-put_xorb.ensures.durable _ c.self.view_is;
       records = search rules;
       shards = search rules;
       listed = (is_hash, listed_at c.self.inside.xorbs.entries _ h members more none ∙ ap Some c.in_ok-members.ensures.members);

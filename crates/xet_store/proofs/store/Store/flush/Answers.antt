@@ -33,8 +33,8 @@ invariant_of-self-in_err-put_shard g c =
     let put : PutsShard _ c.as_str.result.now h c.deref-3.result.now _ (g.D.Disk.files c.put_shard.new.disk) (g.D.Disk.faults c.put_shard.new.disk) = record {
       sound = c.self.invariant;
       same = c.as_str.ensures;
-      tells_same = c.put_shard.ensures.tells;
-      later = c.put_shard.ensures.later;
+      tells_same = c.put_shard.ensures.frame.tells;
+      later = c.put_shard.ensures.frame.later;
       new = not_listed _ _ h c.deref-2.ensures.value (sym c.contains.ensures.value ∙ c.if-contains.false);
       is_hash = (c.known_bytes.ensures.length, c.known_bytes.ensures.bytes);
       hash = c.compute_data_hash-hash.ensures ∙ ap shard_hash (c.deref.ensures.value ∙ sym c.deref-3.ensures.value);
@@ -55,8 +55,8 @@ returns-in_err-put_shard-clause-keeps g c =
     let put : PutsShard _ c.as_str.result.now h c.deref-3.result.now _ (g.D.Disk.files c.put_shard.new.disk) (g.D.Disk.faults c.put_shard.new.disk) = record {
       sound = c.self.invariant;
       same = c.as_str.ensures;
-      tells_same = c.put_shard.ensures.tells;
-      later = c.put_shard.ensures.later;
+      tells_same = c.put_shard.ensures.frame.tells;
+      later = c.put_shard.ensures.frame.later;
       new = not_listed _ _ h c.deref-2.ensures.value (sym c.contains.ensures.value ∙ c.if-contains.false);
       is_hash = (c.known_bytes.ensures.length, c.known_bytes.ensures.bytes);
       hash = c.compute_data_hash-hash.ensures ∙ ap shard_hash (c.deref.ensures.value ∙ sym c.deref-3.ensures.value);
@@ -77,8 +77,8 @@ returns-in_err-put_shard-clause-refused g c =
     let put : PutsShard _ c.as_str.result.now h c.deref-3.result.now _ (g.D.Disk.files c.put_shard.new.disk) (g.D.Disk.faults c.put_shard.new.disk) = record {
       sound = c.self.invariant;
       same = c.as_str.ensures;
-      tells_same = c.put_shard.ensures.tells;
-      later = c.put_shard.ensures.later;
+      tells_same = c.put_shard.ensures.frame.tells;
+      later = c.put_shard.ensures.frame.later;
       new = not_listed _ _ h c.deref-2.ensures.value (sym c.contains.ensures.value ∙ c.if-contains.false);
       is_hash = (c.known_bytes.ensures.length, c.known_bytes.ensures.bytes);
       hash = c.compute_data_hash-hash.ensures ∙ ap shard_hash (c.deref.ensures.value ∙ sym c.deref-3.ensures.value);
@@ -99,8 +99,8 @@ invariant_of-self-2 g c =
     let put : PutsShard _ c.as_str.result.now h c.deref-3.result.now _ (g.D.Disk.files c.put_shard.new.disk) (g.D.Disk.faults c.put_shard.new.disk) = record {
       sound = c.self.invariant;
       same = c.as_str.ensures;
-      tells_same = c.put_shard.ensures.tells;
-      later = c.put_shard.ensures.later;
+      tells_same = c.put_shard.ensures.frame.tells;
+      later = c.put_shard.ensures.frame.later;
       new = not_listed _ _ h c.deref-2.ensures.value (sym c.contains.ensures.value ∙ c.if-contains.false);
       is_hash = (c.known_bytes.ensures.length, c.known_bytes.ensures.bytes);
       hash = c.compute_data_hash-hash.ensures ∙ ap shard_hash (c.deref.ensures.value ∙ sym c.deref-3.ensures.value);
@@ -111,9 +111,9 @@ invariant_of-self-2 g c =
       shards = c.put_shard.ensures.shards;
       others = c.put_shard.ensures.others;
       foreign = c.put_shard.ensures.foreign;
-      left = λ told. inr (record { there = c.in_ok-put_shard.ensures.there told; stable = c.in_ok-put_shard.ensures.stable told; temp = c.in_ok-put_shard.ensures.temp told });
+      left = λ told. inr (record { there = c.in_ok-put_shard.ensures.there told; durable = c.in_ok-put_shard.ensures.durable told; temp = c.in_ok-put_shard.ensures.temp told });
     } in
-    put_sound put (c.push_reserved.ensures.items ∙ ap (λ (l : List (List ℕ)). l ++ h ∷ []) c.reserve.ensures.items) c.new.ensures (λ told. record { there = c.in_ok-put_shard.ensures.there told; stable = c.in_ok-put_shard.ensures.stable told; temp = c.in_ok-put_shard.ensures.temp told })
+    put_sound put (c.push_reserved.ensures.items ∙ ap (λ (l : List (List ℕ)). l ++ h ∷ []) c.reserve.ensures.items) c.new.ensures (λ told. record { there = c.in_ok-put_shard.ensures.there told; durable = c.in_ok-put_shard.ensures.durable told; temp = c.in_ok-put_shard.ensures.temp told })
 
 pub returns-clause-flushed : goal.returns-clause-flushed
 returns-clause-flushed g c =
@@ -121,8 +121,8 @@ returns-clause-flushed g c =
     let put : PutsShard _ c.as_str.result.now h c.deref-3.result.now _ (g.D.Disk.files c.put_shard.new.disk) (g.D.Disk.faults c.put_shard.new.disk) = record {
       sound = c.self.invariant;
       same = c.as_str.ensures;
-      tells_same = c.put_shard.ensures.tells;
-      later = c.put_shard.ensures.later;
+      tells_same = c.put_shard.ensures.frame.tells;
+      later = c.put_shard.ensures.frame.later;
       new = not_listed _ _ h c.deref-2.ensures.value (sym c.contains.ensures.value ∙ c.if-contains.false);
       is_hash = (c.known_bytes.ensures.length, c.known_bytes.ensures.bytes);
       hash = c.compute_data_hash-hash.ensures ∙ ap shard_hash (c.deref.ensures.value ∙ sym c.deref-3.ensures.value);
@@ -133,9 +133,9 @@ returns-clause-flushed g c =
       shards = c.put_shard.ensures.shards;
       others = c.put_shard.ensures.others;
       foreign = c.put_shard.ensures.foreign;
-      left = λ told. inr (record { there = c.in_ok-put_shard.ensures.there told; stable = c.in_ok-put_shard.ensures.stable told; temp = c.in_ok-put_shard.ensures.temp told });
+      left = λ told. inr (record { there = c.in_ok-put_shard.ensures.there told; durable = c.in_ok-put_shard.ensures.durable told; temp = c.in_ok-put_shard.ensures.temp told });
     } in
-    put_flushed put (c.push_reserved.ensures.items ∙ ap (λ (l : List (List ℕ)). l ++ h ∷ []) c.reserve.ensures.items) c.new.ensures (λ told. record { there = c.in_ok-put_shard.ensures.there told; stable = c.in_ok-put_shard.ensures.stable told; temp = c.in_ok-put_shard.ensures.temp told }) _ c.self.view_is
+    put_flushed put (c.push_reserved.ensures.items ∙ ap (λ (l : List (List ℕ)). l ++ h ∷ []) c.reserve.ensures.items) c.new.ensures (λ told. record { there = c.in_ok-put_shard.ensures.there told; durable = c.in_ok-put_shard.ensures.durable told; temp = c.in_ok-put_shard.ensures.temp told }) _ c.self.view_is
 
 pub returns-clause-keeps : goal.returns-clause-keeps
 returns-clause-keeps g c =
@@ -143,8 +143,8 @@ returns-clause-keeps g c =
     let put : PutsShard _ c.as_str.result.now h c.deref-3.result.now _ (g.D.Disk.files c.put_shard.new.disk) (g.D.Disk.faults c.put_shard.new.disk) = record {
       sound = c.self.invariant;
       same = c.as_str.ensures;
-      tells_same = c.put_shard.ensures.tells;
-      later = c.put_shard.ensures.later;
+      tells_same = c.put_shard.ensures.frame.tells;
+      later = c.put_shard.ensures.frame.later;
       new = not_listed _ _ h c.deref-2.ensures.value (sym c.contains.ensures.value ∙ c.if-contains.false);
       is_hash = (c.known_bytes.ensures.length, c.known_bytes.ensures.bytes);
       hash = c.compute_data_hash-hash.ensures ∙ ap shard_hash (c.deref.ensures.value ∙ sym c.deref-3.ensures.value);
@@ -155,6 +155,6 @@ returns-clause-keeps g c =
       shards = c.put_shard.ensures.shards;
       others = c.put_shard.ensures.others;
       foreign = c.put_shard.ensures.foreign;
-      left = λ told. inr (record { there = c.in_ok-put_shard.ensures.there told; stable = c.in_ok-put_shard.ensures.stable told; temp = c.in_ok-put_shard.ensures.temp told });
+      left = λ told. inr (record { there = c.in_ok-put_shard.ensures.there told; durable = c.in_ok-put_shard.ensures.durable told; temp = c.in_ok-put_shard.ensures.temp told });
     } in
-    put_keeps put (c.push_reserved.ensures.items ∙ ap (λ (l : List (List ℕ)). l ++ h ∷ []) c.reserve.ensures.items) c.new.ensures (λ told. record { there = c.in_ok-put_shard.ensures.there told; stable = c.in_ok-put_shard.ensures.stable told; temp = c.in_ok-put_shard.ensures.temp told }) _ c.self.view_is
+    put_keeps put (c.push_reserved.ensures.items ∙ ap (λ (l : List (List ℕ)). l ++ h ∷ []) c.reserve.ensures.items) c.new.ensures (λ told. record { there = c.in_ok-put_shard.ensures.there told; durable = c.in_ok-put_shard.ensures.durable told; temp = c.in_ok-put_shard.ensures.temp told }) _ c.self.view_is

@@ -2,7 +2,7 @@ use Rattle.std.proofs.Common.{◌≡◌, ◌∙◌, ◌-◌, ◌++◌, inl, inr,
 use Rattle.std.specs.List.{concat}
 use Rattle.xet_folder.specs.Plan.{Joins, range}
 use Rattle.xet_store.specs.Ranges.{IsOutside, IsRange}
-use Rattle.xet_store.specs.Reading.{IsStoredListed}
+use Rattle.xet_store.specs.internal.Reading.{IsStoredListed}
 use Rattle.xet_store.specs.Store.{State}
 use Rattle.xet_store.proofs.Reading.{is_range, plan_fits, plan_joins, rest_joins, rest_range, rest_within, sound_read}
 use Rattle.xet_store.proofs.store.Store.read_range.Goals as goal
@@ -21,10 +21,10 @@ pub read_plan-requires-clause-within : goal.read_plan-requires-clause-within
 read_plan-requires-clause-within g c = rest_within _ _ _ _ c.rest-before.ensures c.args.to (omega (arith, c.if-to-length.false, c.length.ensures))
 
 pub invariant_of-self : goal.invariant_of-self
-invariant_of-self g c = sound_read _ _ _ _ c.self.invariant c.read_plan.ensures.tells c.read_plan.ensures.same
+invariant_of-self g c = sound_read _ _ _ _ c.self.invariant c.read_plan.ensures.frame.tells c.read_plan.ensures.frame.same
 
 pub invariant_of-self-2 : goal.invariant_of-self-2
-invariant_of-self-2 g c = sound_read _ _ _ _ c.self.invariant c.read_plan.ensures.tells c.read_plan.ensures.same
+invariant_of-self-2 g c = sound_read _ _ _ _ c.self.invariant c.read_plan.ensures.frame.tells c.read_plan.ensures.frame.same
 
 pub returns-then-from-to-clause-refused : goal.returns-then-from-to-clause-refused
 returns-then-from-to-clause-refused g c =

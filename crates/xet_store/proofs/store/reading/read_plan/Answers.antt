@@ -5,7 +5,7 @@ use Rattle.xet_io.specs.Disk.{Files}
 use Rattle.xet_shard_format.specs.declared.record.FileDataSequenceEntry.{FileDataSequenceEntry as Segment}
 use Rattle.xet_folder.specs.Plan.{plan_bytes, range}
 use Rattle.xet_folder.specs.theorems.Rest.{left}
-use Rattle.xet_store.specs.Reading.{IsStoredListed, JoinsListed, LiesListed}
+use Rattle.xet_store.specs.internal.Reading.{IsStoredListed, JoinsListed, LiesListed}
 use Rattle.xet_store.proofs.Reading.{Goes, goes_more, part_size}
 use Rattle.xet_store.proofs.store.reading.read_plan.Goals as goal
 
@@ -35,7 +35,7 @@ loop-segment-preserved g c =
           (λ xs has. (c.in_ok-read_segment.ensures.range (i.tells ∙ told) xs (subst (λ (f : Files). IsStoredListed f c.args.folder.now xorbs s.xorb_hash xs) (sym i.same) has), part_size xorbs s xs lies has.1)) so_far in
           subst (λ (n : ℕ). Goes Has rest c.read_segment.new.reader n c.saturating_sub-to.result whole) (sym from)
           (subst (λ (n : ℕ). Goes Has rest c.read_segment.new.reader (c.loop-segment.from - s.unpacked_segment_bytes) n whole) (sym to) more);
-      same = c.in_ok-read_segment.ensures.same ∙ i.same;
-      tells = c.in_ok-read_segment.ensures.tells ∙ i.tells;
-      later = omega (arith, c.in_ok-read_segment.ensures.later);
+      same = c.in_ok-read_segment.ensures.frame.same ∙ i.same;
+      tells = c.in_ok-read_segment.ensures.frame.tells ∙ i.tells;
+      later = omega (arith, c.in_ok-read_segment.ensures.frame.later);
     }

@@ -1,7 +1,7 @@
 use Rattle.std.proofs.Common.{◌≡◌, ◌+◌, ◌-◌, ◌≤◌, ◌++◌, true, List, ℕ, length, drop}
 use Rattle.std.specs.List.{concat}
 use Rattle.xet_folder.specs.Plan.{Joins, plan_bytes, range}
-use Rattle.xet_store.specs.Reading.{IsStoredListed, JoinsListed}
+use Rattle.xet_store.specs.internal.Reading.{IsStoredListed, JoinsListed}
 use Rattle.xet_store.proofs.Reading.{Goes}
 use Rattle.xet_store.proofs.store.reading.read_plan.Given as goal
 

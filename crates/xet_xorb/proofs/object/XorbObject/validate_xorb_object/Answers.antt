@@ -2,7 +2,7 @@ use Rattle.std.proofs.Common.{◌≡◌, ◌∙◌, ◌<◌, ◌^◌, List, Ok, 
 use Rattle.xet_xorb_footer.specs.Ends.{last_footer}
 use Rattle.xet_codec.specs.Blocks.{Sees}
 use Rattle.xet_xorb.specs.declared.object.XorbObject.{XorbObject}
-use Rattle.xet_xorb.specs.Checking.{IsEnding}
+use Rattle.xet_xorb.specs.internal.Checking.{IsEnding}
 use Rattle.xet_xorb.specs.Validation.{IsValid, IsXorbOf}
 use Rattle.xet_xorb.proofs.Validated.{chunks_at, ending_at, hash_at, hash_size, hashed_of, is_valid, members_at, none_more, parts_of, some_more, valid_is_read}
 use Rattle.xet_xorb.proofs.object.XorbObject.validate_xorb_object.Goals as goal
@@ -19,7 +19,7 @@ returns-in_default-2-clause-none g c = λ told _ chunks x.
     let whole = rw c.in-Some.is at (c.in_ok-start.ensures.whole told) in
     let tells = rw c.in-Some.is at (c.in_ok-start.ensures.told told) in
     let are = chunks_at c.args.max_chunk start c.in-Some.told c.args.hash.now bytes chunks whole tells x in
-    let sees : Sees _ _ bytes _ _ = record { told = c.in_ok-start.ensures.tells ∙ told; same = c.in_ok-start.ensures.same; all = whole; part = c.new-block.ensures bytes } in
+    let sees : Sees _ _ bytes _ _ = record { told = c.in_ok-start.ensures.frame.tells ∙ told; same = c.in_ok-start.ensures.frame.same; all = whole; part = c.new-block.ensures bytes } in
     c.in_ok-members.ensures.none bytes sees (rw c.in_default-2.is refl) chunks are
 
 pub returns-then-not-branch-clause-none : goal.returns-then-not-branch-clause-none
@@ -31,7 +31,7 @@ returns-then-not-branch-clause-none g c = λ told _ chunks x.
     let ms = c.in-Some-2.members.items in
     let whole = rw c.in-Some.is at (c.in_ok-start.ensures.whole told) in
     let tells = rw c.in-Some.is at (c.in_ok-start.ensures.told told) in
-    let sees : Sees _ _ bytes _ _ = record { told = c.in_ok-start.ensures.tells ∙ told; same = c.in_ok-start.ensures.same; all = whole; part = c.new-block.ensures bytes } in
+    let sees : Sees _ _ bytes _ _ = record { told = c.in_ok-start.ensures.frame.tells ∙ told; same = c.in_ok-start.ensures.frame.same; all = whole; part = c.new-block.ensures bytes } in
     let have = rw c.in-Some-2.is at (c.in_ok-members.ensures.found bytes sees) in
     let is = members_at most start c.in-Some.told hash bytes ms chunks c.requires.most whole tells have x in
     let hashes = rw (c.if-not-branch.true, c.deref.ensures.value) at c.in_ok-have_hash.ensures.same in
@@ -47,7 +47,7 @@ returns-clause-valid g c = λ told.
     let ms = c.in-Some-2.members.items in
     let whole = rw c.in-Some.is at (c.in_ok-start.ensures.whole told) in
     let bound = rw c.in-Some.is at c.in_ok-start.ensures.bound in
-    let sees : Sees _ _ bytes _ _ = record { told = c.in_ok-start.ensures.tells ∙ told; same = c.in_ok-start.ensures.same; all = whole; part = c.new-block.ensures bytes } in
+    let sees : Sees _ _ bytes _ _ = record { told = c.in_ok-start.ensures.frame.tells ∙ told; same = c.in_ok-start.ensures.frame.same; all = whole; part = c.new-block.ensures bytes } in
     let have = rw c.in-Some-2.is at (c.in_ok-members.ensures.found bytes sees) in
     let part = rw c.in-Some-2.is at (c.in_ok-members.ensures.part bytes sees) in
     let hashes = rw (c.if-not-branch.false, c.deref.ensures.value) at c.in_ok-have_hash.ensures.same in
@@ -55,7 +55,7 @@ returns-clause-valid g c = λ told.
     let hashed = hashed_of most (take start bytes) ms have in
     let ends = rw c.deref-2.ensures.value at c.checked_object.ensures.found in
     let small : length bytes < 2 ^ 32 = omega (arith, whole, bound) in
-    let later : Sees _ _ bytes _ _ = record { told = c.in_ok-members.ensures.tells ∙ sees.told; same = c.in_ok-members.ensures.same ∙ sees.same; all = whole; part = part } in
+    let later : Sees _ _ bytes _ _ = record { told = c.in_ok-members.ensures.frame.tells ∙ sees.told; same = c.in_ok-members.ensures.frame.same ∙ sees.same; all = whole; part = part } in
     some_more (λ (o : XorbObject). IsEnding hash ms (drop start bytes) o) (λ (o : XorbObject). (chunks : List (List ℕ)) × IsValid most hash bytes chunks o) c.checked_object.result
     (λ o e. is_valid most start hash bytes ms o c.requires.most small have is.0 is.1 e) (ends bytes later hashed (hash_size ms hash hashed is.1))
 
@@ -76,13 +76,13 @@ returns-clause-none g c = λ told.
     let ms = c.in-Some-2.members.items in
     let whole = rw c.in-Some.is at (c.in_ok-start.ensures.whole told) in
     let tells = rw c.in-Some.is at (c.in_ok-start.ensures.told told) in
-    let sees : Sees _ _ bytes _ _ = record { told = c.in_ok-start.ensures.tells ∙ told; same = c.in_ok-start.ensures.same; all = whole; part = c.new-block.ensures bytes } in
+    let sees : Sees _ _ bytes _ _ = record { told = c.in_ok-start.ensures.frame.tells ∙ told; same = c.in_ok-start.ensures.frame.same; all = whole; part = c.new-block.ensures bytes } in
     let have = rw c.in-Some-2.is at (c.in_ok-members.ensures.found bytes sees) in
     let part = rw c.in-Some-2.is at (c.in_ok-members.ensures.part bytes sees) in
     let hashes = rw (c.if-not-branch.false, c.deref.ensures.value) at c.in_ok-have_hash.ensures.same in
     let hashed = hashed_of most (take start bytes) ms have in
     let none = rw c.deref-2.ensures.value at c.checked_object.ensures.none in
-    let later : Sees _ _ bytes _ _ = record { told = c.in_ok-members.ensures.tells ∙ sees.told; same = c.in_ok-members.ensures.same ∙ sees.same; all = whole; part = part } in
+    let later : Sees _ _ bytes _ _ = record { told = c.in_ok-members.ensures.frame.tells ∙ sees.told; same = c.in_ok-members.ensures.frame.same ∙ sees.same; all = whole; part = part } in
     none_more ((o : XorbObject) → IsEnding hash ms (drop start bytes) o → ⊥) ((chunks : List (List ℕ)) → IsXorbOf most hash bytes chunks → ⊥) c.checked_object.result
     (λ no chunks x.
     let e = ending_at most start c.in-Some.told hash bytes chunks whole tells x in

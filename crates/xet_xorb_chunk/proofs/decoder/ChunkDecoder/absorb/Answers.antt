@@ -17,7 +17,7 @@ returns-clause-fed g c =
     let next = ap (λ (x : List ℕ). x ++ drop n piece) none ∙ sym (take_rest piece n) in
     on_ok_weaker _
     (absorbed self.most self.passed _ _ (self.held.items ++ piece) _ _ _ told tells (written c.args.w.now) (written c.complete.new.w) (written c.pass_whole-2.new.w) next
-    (λ t. c.in_ok-taken.ensures.tells ∙ t) c.in_ok-taken.ensures.passed)
+    (λ t. c.in_ok-taken.ensures.frame.tells ∙ t) c.in_ok-taken.ensures.passed)
     c.pass_whole-2.ensures.fed
 
 pub returns-clause-refusals : goal.returns-clause-refusals
@@ -33,5 +33,5 @@ returns-clause-refusals g c =
     IfErr-weaker _ _ (Refuses self.most self.passed.total (self.held.items ++ piece) told (written c.args.w.now) (written c.pass_whole-2.new.w))
     (λ e r.
     absorbs_refusal self.most self.passed _ (self.held.items ++ piece) _ _ told tells (written c.args.w.now) (written c.complete.new.w) (written c.pass_whole-2.new.w) e next
-    (λ t. c.in_ok-taken.ensures.tells ∙ t) c.in_ok-taken.ensures.passed r)
+    (λ t. c.in_ok-taken.ensures.frame.tells ∙ t) c.in_ok-taken.ensures.passed r)
     c.pass_whole-2.ensures.refusals

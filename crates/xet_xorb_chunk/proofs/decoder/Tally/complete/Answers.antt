@@ -1,6 +1,7 @@
 use Rattle.std.proofs.Common.{◌≡◌, ◌∙◌, ◌++◌, ◌∷◌, [], List, Ok, Some, ap, drop, rules, slice_range, subst, sym, true, ℕ, ◌+◌}
 use Rattle.std.proofs.lemmas.List.{append-nil}
-use Rattle.xet_xorb_chunk.specs.Passing.{Gathers, Refuses, ShowsFront}
+use Rattle.xet_xorb_chunk.specs.internal.Passing.{Gathers}
+use Rattle.xet_xorb_chunk.specs.Passing.{Refuses, ShowsFront}
 use Rattle.xet_xorb_chunk.specs.Stream.{Fails, front_of}
 use Rattle.xet_base.specs.theorems.Exits.{exit_with}
 use Rattle.xet_xorb_chunk.proofs.Completed.{completes_none, completes_one, gather_refuses}

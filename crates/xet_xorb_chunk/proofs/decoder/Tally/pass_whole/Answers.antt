@@ -44,6 +44,6 @@ chunks-preserved g c =
         moves_append c.args.most c.args.self.now c.chunks.self c.pass.new.self _ _ _ p.0 (chunk ∷ []) p.1 one,
         λ told. written_after _ _ _ p.0 (chunk ∷ []) (p.2 told) (c.in_ok-pass.ensures.whole (i.tells ∙ told) ∙ ap (λ (x : List ℕ). g.W.Sink.written c.chunks.w ++ x) (sym (append-nil chunk))),
       );
-      tells = c.in_ok-pass.ensures.tells ∙ i.tells;
-      later = omega (arith, c.in_ok-pass.ensures.cause.later, i.later);
+      tells = c.in_ok-pass.ensures.frame.tells ∙ i.tells;
+      later = omega (arith, c.in_ok-pass.ensures.frame.later, i.later);
     }

@@ -1,5 +1,5 @@
 use Rattle.std.proofs.Common.{◌∙◌, ◌++◌, List, ap, drop, subst, sym, ℕ}
-use Rattle.xet_xorb_footer.specs.Joining.{Stops}
+use Rattle.xet_xorb_footer.specs.internal.Joining.{Stops}
 use Rattle.xet_base.specs.theorems.Exits.{exit_with}
 use Rattle.xet_xorb_footer.proofs.Joining.{filled, reads_as, reads_behind, stops_behind}
 use Rattle.xet_xorb_footer.proofs.decoder.Joined.complete.Goals as goal

@@ -1,5 +1,6 @@
 use Rattle.std.proofs.Common.{◌∙◌, Bool, ap, refl}
-use Rattle.xet_xorb_footer.specs.Joining.{Stops, wanted_next}
+use Rattle.xet_xorb_footer.specs.internal.Joining.{Stops}
+use Rattle.xet_xorb_footer.specs.Joining.{wanted_next}
 use Rattle.xet_xorb_footer.specs.Reader.{bytes_wanted}
 use Rattle.xet_base.specs.theorems.Exits.{exit_with}
 use Rattle.xet_xorb_footer.proofs.Joining.{behind_stops, field_read, field_stops}

@@ -1,6 +1,6 @@
 use Rattle.std.proofs.Common.{◌+◌, List, arith, drop, refl, slice_range, subst, sym, ℕ}
 use Rattle.std.proofs.lemmas.List.Folds.{drop_split}
-use Rattle.xet_xorb_footer.specs.Joining.{Stops}
+use Rattle.xet_xorb_footer.specs.internal.Joining.{Stops}
 use Rattle.xet_base.specs.theorems.Exits.{exit_with}
 use Rattle.xet_xorb_footer.proofs.Joining.{reads_as, reads_behind, reads_then, stops_behind, stops_then}
 use Rattle.xet_xorb_footer.proofs.decoder.Joined.take_whole.Goals as goal

@@ -1,5 +1,6 @@
 use Rattle.std.proofs.Common.{◌≤◌, ◌-◌, drop, length}
-use Rattle.xet_xorb_footer.specs.Joining.{IsReady, Reads}
+use Rattle.xet_xorb_footer.specs.Joining.{IsReady}
+use Rattle.xet_xorb_footer.specs.internal.Joining.{Reads}
 use Rattle.xet_xorb_footer.proofs.decoder.Joined.take_whole.Given as goal
 
 abbrev pub invariant-fields : goal.invariant-fields

@@ -1,7 +1,8 @@
 use Rattle.std.proofs.Common.{◌∙◌, ap}
 use Rattle.xet_xorb_footer.specs.declared.machine.Field.{Field}
 use Rattle.xet_xorb_footer.specs.declared.machine.Field.TheVariants as fields
-use Rattle.xet_xorb_footer.specs.Machine.{Parts, as_value, info_v0, rest}
+use Rattle.xet_xorb_footer.specs.Machine.{Parts, info_v0, rest}
+use Rattle.xet_xorb_footer.specs.internal.Machine.{as_value}
 use Rattle.xet_xorb_footer.specs.Reader.{parts_of}
 use Rattle.xet_xorb_footer.proofs.Starts.{starts_v0}
 use Rattle.xet_xorb_footer.proofs.machine.FooterReader.of_v0.Goals as goal

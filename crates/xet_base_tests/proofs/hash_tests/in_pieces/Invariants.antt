@@ -1,0 +1,6 @@
+use Rattle.std.proofs.Common.{◌≡◌, ◌+◌, length}
+use Rattle.xet_hash.specs.Hasher.{hashed_len}
+use Rattle.xet_base_tests.proofs.hash_tests.in_pieces.Given as goal
+
+abbrev pub invariant-pieces : goal.invariant-pieces
+invariant-pieces l = hashed_len l.hasher + length l.rest ≡ length l.bytes

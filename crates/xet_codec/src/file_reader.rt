@@ -1,0 +1,77 @@
+//! A file of a disk as a reader.
+
+ghost use Rattle.std.specs.Prelude.{◌≡◌, ◌<◌, ◌+◌, ◌↔◌, IsTrue};
+ghost use Rattle.xet_codec.specs.FileBytes.{bytes_of};
+
+use xet_io::{Disk, Failed, ReadAt, Refusal};
+
+/// A reader over one file of a disk that is lent to it. A name that is absent has no bytes. It counts the disk's
+/// failures, and beside them how often the disk was out of memory, which a reader can only answer as a failure.
+#[derive(Drop)]
+pub struct FileReader<'a, D: Disk> {
+    disk: &'a mut D,
+    name: &'a str,
+    shortages: u64,
+}
+
+impl<'a, D: Disk> FileReader<'a, D> {
+    /// A reader over the file of this name.
+    pub fn new(disk: &'a mut D, name: &'a str) -> FileReader<'a, D>
+        ensures same_disk { result.disk.ghost_name ≡ disk.entry.ghost_name }
+        ensures now { result.disk.now ≡ disk.old }
+        ensures name { result.name.now ≡ name.now }
+        ensures shortages { result.shortages ≡ 0 }
+    {
+        FileReader {
+            disk,
+            name,
+            shortages: 0,
+        }
+    }
+
+    /// Whether the disk was out of memory in a call of this reader.
+    pub fn was_out_of_memory(&self) -> bool
+        ensures { IsTrue result ↔ 0 < self.now.shortages }
+    {
+        self.shortages > 0
+    }
+}
+
+impl<'a, D: Disk> ReadAt for FileReader<'a, D> {
+    ghost tells = { λ r. D.tells r.disk.now };
+
+    ghost bytes = { λ r. bytes_of (D.files r.disk.now) r.name.now };
+
+    ghost faults = { λ r. D.faults r.disk.now + r.shortages };
+
+    ghost lent = { λ r. record {
+      disk = r.disk.ghost_name;
+      files = D.files r.disk.now;
+      tells = D.tells r.disk.now;
+      faults = D.faults r.disk.now;
+    } };
+
+    fn length(&mut self) -> Result<u64, Failed> {
+        match self.disk.stat(self.name) {
+            Ok(Some((length, _))) => Ok(length),
+            Ok(None) => Ok(0),
+            Err(Refusal::Failed) => Err(Failed),
+            Err(Refusal::OutOfMemory) => {
+                self.shortages = self.shortages.saturating_add(1);
+                Err(Failed)
+            }
+        }
+    }
+
+    fn read_at(&mut self, at: u64, buf: &mut [u8]) -> Result<usize, Failed> {
+        match self.disk.read_at(self.name, at, buf) {
+            Ok(Some(count)) => Ok(count),
+            Ok(None) => Ok(0),
+            Err(Refusal::Failed) => Err(Failed),
+            Err(Refusal::OutOfMemory) => {
+                self.shortages = self.shortages.saturating_add(1);
+                Err(Failed)
+            }
+        }
+    }
+}

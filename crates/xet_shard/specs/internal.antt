@@ -1,0 +1,4 @@
+pub mod Bisection
+pub mod LastPlaces
+pub mod Merging
+pub mod ReaderBytes

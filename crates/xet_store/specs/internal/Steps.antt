@@ -1,0 +1,24 @@
+-- The steps of cleaning one file, for private functions.
+use Rattle.std.specs.Prelude.{◌≡◌, ℕ, ◌<◌, Bool, true, List, length}
+use Rattle.std.specs.List.{AllByRecursion}
+use Rattle.xet_io.specs.Faults.{Rose}
+use Rattle.xet_hash.specs.declared.error.StoreError.{StoreError}
+use Rattle.xet_hash.specs.declared.error.StoreError.TheVariants.{Io, TooLarge, OutOfMemory}
+use Rattle.xet_hash.specs.declared.error.Place.TheVariants.{Source, Disk}
+use Rattle.xet_hash.specs.declared.error.What.TheVariants as what
+use Rattle.xet_store.specs.Store.{State}
+
+-- the errors of reading source 0 to its end, by what it had left and its counts of failures
+abbrev pub HasSourceReason : Bool → List ℕ → ℕ → ℕ → ℕ → StoreError → Type 0
+HasSourceReason tells left before now most (Io (Source i)) = (i ≡ 0) × Rose before now
+HasSourceReason tells left before now most (TooLarge (what.Source i)) = (i ≡ 0) × (tells ≡ true → most < length left)
+HasSourceReason tells left before now most OutOfMemory = Unit {0}
+HasSourceReason tells left before now most _ = ⊥
+
+-- the errors of cleaning source 0
+abbrev pub HasReasonOfOne : {S : Type 0} → (S → Bool) → (S → List ℕ) → (S → ℕ) → S → S → State → State → StoreError → Type 0
+HasReasonOfOne tells left faults old new before after (Io (Source i)) = (i ≡ 0) × Rose (faults old) (faults new)
+HasReasonOfOne tells left faults old new before after (Io Disk) = Rose before.faults after.faults
+HasReasonOfOne tells left faults old new before after (TooLarge (what.Source i)) = (i ≡ 0) × (tells old ≡ true → before.limits.max_source_bytes < length (left old))
+HasReasonOfOne tells left faults old new before after OutOfMemory = Unit {0}
+HasReasonOfOne tells left faults old new before after _ = ⊥

@@ -1,0 +1,20 @@
+-- The state of a session, and its invariant, for private functions.
+use Rattle.std.specs.Prelude.{◌≡◌, ◌≢◌, ◌⊎◌, ℕ, ◌<◌, ◌^◌, Bool, true, false, List, [], length, map, AllPairs, Any, Option, Some, IsSome, nat_eq}
+use Rattle.std.specs.Cmp.Lexicographic.{pointwise}
+use Rattle.std.specs.List.{AllByRecursion, IsAmong}
+use Rattle.std.specs.Option.{option_map}
+use Rattle.xet_hash.specs.Merkle.{total_len}
+use Rattle.xet_shard_format.specs.declared.record.MDBFileInfo.{MDBFileInfo}
+use Rattle.xet_folder.specs.Plan.{Joins}
+use Rattle.xet_folder.specs.Xorbs.{IsListed, Xorbs}
+use Rattle.xet_dedup.specs.Records.{IsRecordOf}
+
+-- A file can be recorded with this record: its plan resolves to the chunk list, not empty, of which it is the
+-- record.
+pub record IsNewFile (xorbs : Xorbs) (f : MDBFileInfo) : Type 0 where
+  pub members : List (List ℕ × ℕ)
+  pub joins : Joins (IsListed xorbs) (λ m. m.1) f.segments members
+  pub form : IsRecordOf members f
+  pub plain : AllByRecursion (λ s. s.xorb_flags ≡ 0) f.segments
+  pub some : 0 < length members
+  pub bound : total_len members < 2 ^ 64

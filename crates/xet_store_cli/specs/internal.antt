@@ -1,0 +1,4 @@
+pub mod Outcome
+pub mod Parsing
+pub mod Steps
+pub mod Stops

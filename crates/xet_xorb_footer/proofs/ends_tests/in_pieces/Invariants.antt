@@ -1,6 +1,0 @@
-use Rattle.std.proofs.Common.{◌≡◌, true}
-use Rattle.xet_xorb_footer.specs.Decoder.{whole_of}
-use Rattle.xet_xorb_footer.proofs.ends_tests.in_pieces.Given as goal
-
-abbrev pub invariant-loop-piece : goal.invariant-loop-piece
-invariant-loop-piece l = whole_of l.decoder ≡ true

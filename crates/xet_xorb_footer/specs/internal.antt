@@ -1,0 +1,5 @@
+pub mod Items
+pub mod Joining
+pub mod Machine
+pub mod Places
+pub mod Refusals

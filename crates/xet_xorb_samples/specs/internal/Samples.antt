@@ -1,0 +1,18 @@
+-- Xorbs of random chunks, and xorbs that are written from their parts, for private functions.
+use Rattle.std.specs.Prelude.{◌≡◌, ℕ, ◌+◌, ◌-◌, ◌*◌, ◌<◌, ◌≤◌, ◌^◌, List, [], ◌∷◌, ◌++◌, codes, decimal, length, map, pos, ◌+ℤ◌, slice_range}
+use Rattle.std.specs.List.{AllByRecursion, concat, flat_map}
+use Rattle.rand.specs.Draw.{Gives}
+use Rattle.rand.specs.Uniform.{DrawsBetween, canon}
+use Rattle.rand_core.specs.Stream.{Stream, fill_bytes, next_u32}
+use Rattle.xet_xorb_chunk.specs.declared.chunk.Chunk.{Chunk}
+use Rattle.xet_xorb_chunk.specs.Chunks.{chunk_of}
+use Rattle.xet_xorb_samples.specs.declared.samples.ChunkSize.{ChunkSize}
+use Rattle.xet_xorb_samples.specs.Samples.{AreSamples, Rise}
+
+-- The same as chunks in memory, which carry their own hashes.
+abbrev pub AreSampleChunks : ℕ → ChunkSize → Stream → List Chunk → Stream → Type 0
+AreSampleChunks n size before chunks after = (bytes : List (List ℕ)) × AreSamples n size before bytes after × (chunks ≡ map chunk_of bytes)
+
+-- The offsets do not fall.
+abbrev pub DoRise : List (List ℕ × ℕ) → Type 0
+DoRise cuts = (len : ℕ) × Rise 0 cuts len
