@@ -154,8 +154,8 @@ fn in_pieces(bytes: &[u8], lengths: &[usize]) -> DataHash {
     let mut hasher = DataHasher::new(DATA_KEY);
     let mut rest = bytes;
     'pieces: for length in lengths {
-        let (front, tail) = rest.split_at(rest.len().min(*length));
-        hasher.update(front);
+        let (prefix, tail) = rest.split_at(rest.len().min(*length));
+        hasher.update(prefix);
         rest = tail;
     }
     hasher.update(rest);

@@ -25,7 +25,7 @@ use xet_io::{MemoryDisk, SliceSource};
 use xet_store::{Cleaned, Store, clean_files};
 
 /// The maximum number of mebibytes of a file.
-const MOST: u64 = 1 << 12;
+const MAX: u64 = 1 << 12;
 
 /// The length of a range, in bytes: 1 MiB.
 const RANGE: u64 = 1 << 20;
@@ -75,7 +75,7 @@ fn read_words(rt: &HostRuntime) -> Option<(Phase, u64)> {
         _ => return None,
     };
     let number = words.next()?.as_str().parse::<u64>().ok()?;
-    if number > MOST {
+    if number > MAX {
         return None;
     }
     Some((phase, number))
@@ -91,7 +91,7 @@ fn run(alloc: Global, phase: Phase, mebibytes: u64) -> Result<u64, StoreError> {
 
 /// Generates a file, digests it if the phase says so, and returns the first word of the digest.
 fn run_digest(alloc: Global, phase: Phase, mebibytes: u64) -> Result<u64, StoreError> {
-    let file = generated(alloc, 7, (mebibytes.min(MOST) * RANGE) as usize)?;
+    let file = generated(alloc, 7, (mebibytes.min(MAX) * RANGE) as usize)?;
     let hash = match phase {
         Phase::Digest => compute_data_hash(&file),
         Phase::Define => definition::keyed_digest(&VERIFICATION_KEY, &file),
@@ -103,7 +103,7 @@ fn run_digest(alloc: Global, phase: Phase, mebibytes: u64) -> Result<u64, StoreE
 /// Runs the phases of a store, and returns the number of bytes that were read in ranges.
 fn run_store(alloc: Global, phase: Phase, mebibytes: u64) -> Result<u64, StoreError> {
     let limits = Limits::new(LimitSettings::shown(gear_table(0)))?;
-    let mebibytes = mebibytes.min(MOST);
+    let mebibytes = mebibytes.min(MAX);
     if phase == Phase::Write {
         return stored(alloc, limits, mebibytes).map(|_| 0);
     }
@@ -163,7 +163,7 @@ fn write(
     store: Store<MemoryDisk>,
     mebibytes: u64,
 ) -> Result<(Store<MemoryDisk>, MerkleHash), StoreError> {
-    match generated(alloc, 7, (mebibytes.min(MOST) * RANGE) as usize) {
+    match generated(alloc, 7, (mebibytes.min(MAX) * RANGE) as usize) {
         Ok(file) => flushed(clean_files(alloc, store, &mut [SliceSource::new(&file)], 1)),
         Err(error) => Err(StoreError::from(error)),
     }
@@ -200,7 +200,7 @@ fn read(
     mebibytes: u64,
 ) -> Result<u64, StoreError> {
     let mut bytes = 0u64;
-    for i in 0..mebibytes.min(MOST) {
+    for i in 0..mebibytes.min(MAX) {
         let range = store.read_range(hash, i * RANGE, (i + 1) * RANGE)?;
         bytes = bytes.saturating_add(range.len() as u64);
     }

@@ -32,7 +32,7 @@ const SPAN: u64 = 512;
 const MEBIBYTE: u64 = 1 << 20;
 
 /// The maximum number of mebibytes of a file, and of rounds.
-const MOST: u64 = 1 << 12;
+const MAX: u64 = 1 << 12;
 
 /// The number of chunks of a xorb.
 const CHUNKS: u64 = 8_192;
@@ -51,9 +51,9 @@ pub(crate) fn run_timed<R: Clock>(
     number: u64,
 ) -> Result<u64, StoreError> {
     match timed {
-        Timed::Scatter => time_scatter(clock, alloc, number.min(MOST)),
-        Timed::Merkle => time_merkle(clock, alloc, number.min(MOST)),
-        Timed::Nodes => Ok(time_nodes(clock, number.min(MOST))),
+        Timed::Scatter => time_scatter(clock, alloc, number.min(MAX)),
+        Timed::Merkle => time_merkle(clock, alloc, number.min(MAX)),
+        Timed::Nodes => Ok(time_nodes(clock, number.min(MAX))),
     }
 }
 
@@ -104,7 +104,7 @@ fn time_ranges<R: Clock>(
     hash: &MerkleHash,
     mebibytes: u64,
 ) -> Result<u64, StoreError> {
-    let room = (mebibytes.min(MOST) * MEBIBYTE).saturating_sub(SPAN).max(1);
+    let room = (mebibytes.min(MAX) * MEBIBYTE).saturating_sub(SPAN).max(1);
     let mut number = 7;
     let start = Instant::now(clock).ok();
     for _i in 0..RANGES {
@@ -116,22 +116,22 @@ fn time_ranges<R: Clock>(
 }
 
 /// The (hash, length) pairs of a xorb with chunks of 512 bytes.
-fn members(alloc: Global) -> Result<Vec<(MerkleHash, u64)>, StoreError>
-    ensures total { IfOk result (λ members. total_len members.items < 2 ^ 64) }
+fn leaves(alloc: Global) -> Result<Vec<(MerkleHash, u64)>, StoreError>
+    ensures total { IfOk result (λ leaves. total_len leaves.items < 2 ^ 64) }
 {
-    let mut members = Vec::with_capacity(alloc, CHUNKS as usize)?;
+    let mut leaves = Vec::with_capacity(alloc, CHUNKS as usize)?;
     for i in 0..CHUNKS {
-        members.push((compute_data_hash(&i.to_le_bytes()), 512))?;
+        leaves.push((compute_data_hash(&i.to_le_bytes()), 512))?;
     }
-    Ok(members)
+    Ok(leaves)
 }
 
 /// Times xorb hashes.
 fn time_merkle<R: Clock>(clock: &R, alloc: Global, rounds: u64) -> Result<u64, StoreError> {
-    let members = members(alloc)?;
+    let leaves = leaves(alloc)?;
     let start = Instant::now(clock).ok();
     for _i in 0..rounds {
-        xorb_hash(alloc, &members)?;
+        xorb_hash(alloc, &leaves)?;
     }
     Ok(since(clock, start))
 }

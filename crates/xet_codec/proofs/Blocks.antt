@@ -6,13 +6,13 @@ use Rattle.std.proofs.lemmas.List.Edits.{take-paste}
 use Rattle.std.specs.List.{copy_within}
 use borrow.Rule.Slice.PartMut.{post_of}
 use Rattle.xet_codec.specs.declared.block.Block.{Block}
-use Rattle.xet_codec.specs.Blocks.{Has, IsPart}
+use Rattle.xet_codec.specs.Blocks.{HasBytes, IsPart}
 
 -- a part of the first so many
 inner : (k n m : ℕ) (bytes : List ℕ) → k + n ≤ m → take n (drop k (take m bytes)) ≡ take n (drop k bytes)
 inner k n m bytes le = sym (drop-take k n (take m bytes)) ∙ ap (drop k) (take-take (k + n) m bytes le) ∙ drop-take k n bytes
 
-pub part_is : (b : Block) (bytes : List ℕ) (at n : ℕ) → IsPart b bytes → Has b at n → take n (drop (at - b.from) b.bytes.items) ≡ take n (drop at bytes)
+pub part_is : (b : Block) (bytes : List ℕ) (at n : ℕ) → IsPart b bytes → HasBytes b at n → take n (drop (at - b.from) b.bytes.items) ≡ take n (drop at bytes)
 part_is b bytes at n part has =
     let k : ℕ = at - b.from in
     let here : b.from + k ≡ at = omega (arith, has.from) in
@@ -20,7 +20,7 @@ part_is b bytes at n part has =
     ∙ ap (take n) (drop-drop k b.from bytes ∙ ap (λ (i : ℕ). drop i bytes) here)
 
 -- the bytes that are moved to the front
-pub kept_is : (b : Block) (bytes moved : List ℕ) (at n len : ℕ) → IsPart b bytes → Has b at n → at - b.from + n ≡ length b.bytes.items → len ≡ length b.bytes.items → moved ≡ copy_within b.bytes.items (at - b.from) len 0 → take n moved ≡ take n (drop at bytes)
+pub kept_is : (b : Block) (bytes moved : List ℕ) (at n len : ℕ) → IsPart b bytes → HasBytes b at n → at - b.from + n ≡ length b.bytes.items → len ≡ length b.bytes.items → moved ≡ copy_within b.bytes.items (at - b.from) len 0 → take n moved ≡ take n (drop at bytes)
 kept_is b bytes moved at n len part has to all_of is =
     let items : List ℕ = b.bytes.items in
     let k : ℕ = at - b.from in

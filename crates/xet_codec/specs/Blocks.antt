@@ -5,7 +5,7 @@ use Rattle.xet_hash.specs.declared.error.Place.TheVariants.{Input}
 use Rattle.xet_hash.specs.declared.error.StoreError.{StoreError}
 use Rattle.xet_hash.specs.declared.error.StoreError.TheVariants.{Io, OutOfMemory, UnexpectedEof}
 use Rattle.xet_codec.specs.declared.block.Block.{Block}
-use Rattle.xet_codec.specs.Parsing.{Taken}
+use Rattle.xet_codec.specs.Parsing.{Parsed}
 
 -- the reader is observable, and its bytes are these, `end` in number
 pub record Tells (tells : Bool) (seen bytes : List ℕ) (end : ℕ) : Type 0 where
@@ -18,7 +18,7 @@ pub record IsPart (b : Block) (bytes : List ℕ) : Type 0 where
   pub is : b.bytes.items ≡ take (length b.bytes.items) (drop b.from bytes)
 
 -- the block has the n bytes from offset `at`
-pub record Has (b : Block) (at n : ℕ) : Type 0 where
+pub record HasBytes (b : Block) (at n : ℕ) : Type 0 where
   pub from : b.from ≤ at
   pub to : at + n ≤ b.from + length b.bytes.items
 
@@ -34,5 +34,5 @@ abbrev pub EndsBefore : List ℕ → ℕ → ℕ → StoreError → Type 0
 EndsBefore bytes at n e = ((e ≡ UnexpectedEof) × (length (drop at bytes) < n)) ⊎ (e ≡ Io Input) ⊎ (e ≡ OutOfMemory)
 
 -- the error: parsing fails with it, the reader failed, or out of memory
-abbrev pub RefusedBy : {X : Type 0} → Taken X → StoreError → Type 0
+abbrev pub RefusedBy : {X : Type 0} → Parsed X → StoreError → Type 0
 RefusedBy read e = (read ≡ Err e) ⊎ (e ≡ Io Input) ⊎ (e ≡ OutOfMemory)

@@ -13,22 +13,22 @@ abbrev pub ◌>>=◌ : {A B : Type 0} → Result A StoreError → (A → Result 
 (Err e) >>= f = Err e
 
 -- what is parsed at the start of some bytes, and the bytes after it
-abbrev pub Taken : Type 0 → Type 0
-Taken X = Result (X × List ℕ) StoreError
+abbrev pub Parsed : Type 0 → Type 0
+Parsed X = Result (X × List ℕ) StoreError
 
 -- a check: if the test fails, the error has this reason
 abbrev pub wants : Bool → Reason → Result (Unit {0}) StoreError
 wants true reason = Ok tt
 wants false reason = Err (MalformedData reason)
 
-unfoldable pub bytes_at : ℕ → List ℕ → Taken (List ℕ)
-bytes_at n bytes = if nat_le n (length bytes) then Ok (take n bytes, drop n bytes) else Err UnexpectedEof
+unfoldable pub next_bytes : ℕ → List ℕ → Parsed (List ℕ)
+next_bytes n bytes = if nat_le n (length bytes) then Ok (take n bytes, drop n bytes) else Err UnexpectedEof
 
-unfoldable pub number_at : List ℕ → Taken ℕ
-number_at bytes = bytes_at 4 bytes >>= λ x. Ok (from_le_bytes w32 x.0, x.1)
+unfoldable pub number_at : List ℕ → Parsed ℕ
+number_at bytes = next_bytes 4 bytes >>= λ x. Ok (from_le_bytes w32 x.0, x.1)
 
 -- n items, one after the other
-unfoldable pub times : {X : Type 0} → (List ℕ → Taken X) → ℕ → List ℕ → Taken (List X)
+unfoldable pub times : {X : Type 0} → (List ℕ → Parsed X) → ℕ → List ℕ → Parsed (List X)
 times read zero bytes = Ok ([], bytes)
 times read (suc n) bytes = do
   x ← read bytes

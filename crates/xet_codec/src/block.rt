@@ -3,7 +3,7 @@
 ghost use Rattle.std.specs.Prelude.{◌≡◌, ◌≤◌, ◌<◌, ◌+◌, ◌^◌, ◌⊎◌, ◌↔◌, List, ℕ, true, IfErr, IsErrOf, IsTrue, OnOk, drop, length, take};
 ghost use Rattle.xet_hash.specs.declared.error.Place.TheVariants.{Input};
 ghost use Rattle.xet_hash.specs.declared.error.StoreError.TheVariants.{Io, OutOfMemory, UnexpectedEof};
-ghost use Rattle.xet_codec.specs.Blocks.{EndsBefore, Has, IsPart, Sees};
+ghost use Rattle.xet_codec.specs.Blocks.{EndsBefore, HasBytes, IsPart, Sees};
 ghost use Rattle.xet_io.specs.Frame.{ReadFrom};
 
 use crate::read_exact;
@@ -12,7 +12,7 @@ use xet_hash::StoreError;
 use xet_io::ReadAt;
 
 /// The minimum number of bytes that are read at once, if the reader has as many: 64 KiB.
-const LEAST: usize = 65536;
+const MIN: usize = 65536;
 
 /// Consecutive bytes of a reader, with their offset: 64 KiB, or more if one load needed more.
 #[derive(Drop)]
@@ -47,7 +47,7 @@ impl Block {
         count: usize,
     ) -> Result<(), StoreError>
         requires { at ≤ end }
-        ensures there { OnOk result (Has self.new at count) }
+        ensures there { OnOk result (HasBytes self.new at count) }
         ensures part { (bytes : List ℕ) → Sees (R.tells reader.old) (R.bytes reader.old) bytes end self.old → IsPart self.new bytes }
         ensures within { OnOk result (at + count ≤ end) }
         ensures refused { (bytes : List ℕ) → Sees (R.tells reader.old) (R.bytes reader.old) bytes end self.old → IfErr result (EndsBefore bytes at count) }
@@ -60,14 +60,14 @@ impl Block {
         if self.has(at, count) {
             return Ok(());
         }
-        let room = LEAST.max(count).max(self.bytes.len());
+        let room = MIN.max(count).max(self.bytes.len());
         let size = (end - at).min(room as u64) as usize;
         self.read(reader, at, size)
     }
 
     /// Whether the block has the `count` bytes from offset `at`.
     fn has(&self, at: u64, count: usize) -> bool
-        ensures { IsTrue result ↔ Has self.now at count }
+        ensures { IsTrue result ↔ HasBytes self.now at count }
     {
         if at < self.from {
             return false;
@@ -129,7 +129,7 @@ impl Block {
 
     /// The `count` bytes from offset `at`, which the block must have.
     pub fn part(&self, at: u64, count: usize) -> &[u8]
-        requires { Has self.now at count }
+        requires { HasBytes self.now at count }
         ensures value { (bytes : List ℕ) → IsPart self.now bytes → result.now ≡ take count (drop at bytes) }
         ensures len { length result.now ≡ count }
     {

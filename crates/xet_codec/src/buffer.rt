@@ -49,8 +49,8 @@ impl Buffer {
     /// longer than the buffer is then written directly.
     pub fn put<W: Sink>(&mut self, sink: &mut W, piece: &[u8]) -> Result<(), StoreError>
         ensures moved { W.tells sink.old ≡ true → OnOk result (Moves (W.written sink.old) (W.written sink.new) (held_in self.new) (held_in self.old ++ piece.now)) }
-        ensures front { W.tells sink.old ≡ true → OnErr result (WritesPrefix (W.written sink.old) (W.written sink.new) (held_in self.old ++ piece.now)) }
-        ensures refusals { IfErr result StopsWriting }
+        ensures prefix { W.tells sink.old ≡ true → OnErr result (WritesPrefix (W.written sink.old) (W.written sink.new) (held_in self.old ++ piece.now)) }
+        ensures errors { IfErr result StopsWriting }
         ensures frame { Called W.tells W.faults sink.old sink.new (IsErrOf result (Io Output)) }
     {
         self.make_room(sink, piece.len())?;
@@ -65,8 +65,8 @@ impl Buffer {
     /// Appends these slices, in order.
     pub fn put_all<W: Sink>(&mut self, sink: &mut W, pieces: &[&[u8]]) -> Result<(), StoreError>
         ensures moved { W.tells sink.old ≡ true → OnOk result (Moves (W.written sink.old) (W.written sink.new) (held_in self.new) (held_in self.old ++ flat_map (λ p. p.now) pieces.now)) }
-        ensures front { W.tells sink.old ≡ true → OnErr result (WritesPrefix (W.written sink.old) (W.written sink.new) (held_in self.old ++ flat_map (λ p. p.now) pieces.now)) }
-        ensures refusals { IfErr result StopsWriting }
+        ensures prefix { W.tells sink.old ≡ true → OnErr result (WritesPrefix (W.written sink.old) (W.written sink.new) (held_in self.old ++ flat_map (λ p. p.now) pieces.now)) }
+        ensures errors { IfErr result StopsWriting }
         ensures frame { Called W.tells W.faults sink.old sink.new (IsErrOf result (Io Output)) }
     {
         for piece in pieces {
@@ -78,8 +78,8 @@ impl Buffer {
     /// Appends these numbers, four bytes each, little-endian.
     pub fn put_numbers<W: Sink>(&mut self, sink: &mut W, list: &[u32]) -> Result<(), StoreError>
         ensures moved { W.tells sink.old ≡ true → OnOk result (Moves (W.written sink.old) (W.written sink.new) (held_in self.new) (held_in self.old ++ numbers list.now)) }
-        ensures front { W.tells sink.old ≡ true → OnErr result (WritesPrefix (W.written sink.old) (W.written sink.new) (held_in self.old ++ numbers list.now)) }
-        ensures refusals { IfErr result StopsWriting }
+        ensures prefix { W.tells sink.old ≡ true → OnErr result (WritesPrefix (W.written sink.old) (W.written sink.new) (held_in self.old ++ numbers list.now)) }
+        ensures errors { IfErr result StopsWriting }
         ensures frame { Called W.tells W.faults sink.old sink.new (IsErrOf result (Io Output)) }
     {
         for number in list {
@@ -96,8 +96,8 @@ impl Buffer {
     ) -> Result<(), StoreError>
         ensures moved { W.tells sink.old ≡ true → OnOk result (Moves (W.written sink.old) (W.written sink.new) (held_in self.new) (held_in self.old ++ joined hashes.now)) }
         ensures length { OnOk result (length (joined hashes.now) ≡ 32 * length hashes.now) }
-        ensures front { W.tells sink.old ≡ true → OnErr result (WritesPrefix (W.written sink.old) (W.written sink.new) (held_in self.old ++ joined hashes.now)) }
-        ensures refusals { IfErr result StopsWriting }
+        ensures prefix { W.tells sink.old ≡ true → OnErr result (WritesPrefix (W.written sink.old) (W.written sink.new) (held_in self.old ++ joined hashes.now)) }
+        ensures errors { IfErr result StopsWriting }
         ensures frame { Called W.tells W.faults sink.old sink.new (IsErrOf result (Io Output)) }
     {
         for hash in hashes {
@@ -110,8 +110,8 @@ impl Buffer {
     pub fn flush<W: Sink>(&mut self, sink: &mut W) -> Result<(), StoreError>
         ensures moved { W.tells sink.old ≡ true → OnOk result (W.written sink.new ≡ W.written sink.old ++ held_in self.old) }
         ensures empty { OnOk result (self.new.used ≡ 0) }
-        ensures front { W.tells sink.old ≡ true → OnErr result (WritesPrefix (W.written sink.old) (W.written sink.new) (held_in self.old)) }
-        ensures refusals { IfErr result StopsWriting }
+        ensures prefix { W.tells sink.old ≡ true → OnErr result (WritesPrefix (W.written sink.old) (W.written sink.new) (held_in self.old)) }
+        ensures errors { IfErr result StopsWriting }
         ensures frame { Called W.tells W.faults sink.old sink.new (IsErrOf result (Io Output)) }
     {
         write_piece(sink, &self.bytes[..self.used])?;
@@ -124,8 +124,8 @@ impl Buffer {
         ensures moved { W.tells sink.old ≡ true → OnOk result (Moves (W.written sink.old) (W.written sink.new) (held_in self.new) (held_in self.old)) }
         ensures room { OnOk result (len ≤ 2048 → self.new.used + len ≤ 2048) }
         ensures empty { OnOk result (2048 < len → self.new.used ≡ 0) }
-        ensures front { W.tells sink.old ≡ true → OnErr result (WritesPrefix (W.written sink.old) (W.written sink.new) (held_in self.old)) }
-        ensures refusals { IfErr result StopsWriting }
+        ensures prefix { W.tells sink.old ≡ true → OnErr result (WritesPrefix (W.written sink.old) (W.written sink.new) (held_in self.old)) }
+        ensures errors { IfErr result StopsWriting }
         ensures frame { Called W.tells W.faults sink.old sink.new (IsErrOf result (Io Output)) }
     {
         if len > ROOM - self.used {

@@ -16,4 +16,4 @@ pub use disk::store_error;
 pub use file_reader::FileReader;
 pub use numbers::{half_word, hash_at, word};
 pub use readers::{read_exact, reader_length};
-pub use streams::{MOST, copy_all, new_block, read_front, read_some, write_piece};
+pub use streams::{MAX, copy_all, new_block, read_prefix, read_some, write_piece};

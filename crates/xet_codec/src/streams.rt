@@ -13,7 +13,7 @@ use xet_hash::{Place, StoreError, What};
 use xet_io::{Refusal, Sink, Source, read_full, write_all};
 
 /// The maximum length of a source that is read to its end, in bytes.
-pub const MOST: usize = 1 << 63;
+pub const MAX: usize = 1 << 63;
 
 /// The maximum number of bytes of one read from such a source.
 const BLOCK: usize = 1 << 17;
@@ -31,8 +31,8 @@ pub fn new_block(alloc: Global) -> Result<Vec<u8>, StoreError>
 /// Writes all bytes of a slice. After an error a prefix of it was written.
 pub fn write_piece<W: Sink>(sink: &mut W, piece: &[u8]) -> Result<(), StoreError>
     ensures whole { W.tells sink.old ≡ true → OnOk result (W.written sink.new ≡ W.written sink.old ++ piece.now) }
-    ensures front { W.tells sink.old ≡ true → (n : ℕ) × (W.written sink.new ≡ W.written sink.old ++ take n piece.now) }
-    ensures refusals { IfErr result StopsWriting }
+    ensures prefix { W.tells sink.old ≡ true → (n : ℕ) × (W.written sink.new ≡ W.written sink.old ++ take n piece.now) }
+    ensures errors { IfErr result StopsWriting }
     ensures frame { Called W.tells W.faults sink.old sink.new (IsErrOf result (Io Output)) }
 {
     match write_all(sink, piece) {
@@ -46,7 +46,7 @@ pub fn write_piece<W: Sink>(sink: &mut W, piece: &[u8]) -> Result<(), StoreError
 pub fn read_some<R: Source>(source: &mut R, buf: &mut [u8]) -> Result<usize, StoreError>
     ensures told { R.tells source.old ≡ true → Reads (R.left source.old) buf.new result (R.left source.new) }
     ensures bound { IfOk result (λ count. count ≤ length buf.new) }
-    ensures refusals { IfErr result (λ e. e ≡ Io Input) }
+    ensures errors { IfErr result (λ e. e ≡ Io Input) }
     ensures frame { Called R.tells R.faults source.old source.new (IsErrOf result (Io Input)) }
 {
     match source.read(buf) {
@@ -57,10 +57,10 @@ pub fn read_some<R: Source>(source: &mut R, buf: &mut [u8]) -> Result<usize, Sto
 
 /// Reads until `buf` is full or the source ends, and returns how many bytes it took. The only error is
 /// `Io(Input)`.
-pub fn read_front<R: Source>(source: &mut R, buf: &mut [u8]) -> Result<usize, StoreError>
+pub fn read_prefix<R: Source>(source: &mut R, buf: &mut [u8]) -> Result<usize, StoreError>
     ensures told { R.tells source.old ≡ true → Fills (R.left source.old) buf.new result (R.left source.new) }
     ensures bound { IfOk result (λ count. count ≤ length buf.new) }
-    ensures refusals { IfErr result (λ e. e ≡ Io Input) }
+    ensures errors { IfErr result (λ e. e ≡ Io Input) }
     ensures frame { Called R.tells R.faults source.old source.new (IsErrOf result (Io Input)) }
 {
     match read_full(source, buf) {
@@ -81,8 +81,8 @@ pub fn copy_all<R: Source, W: Sink>(
     ensures count { R.tells r.old ≡ true → IfOk result (λ count. count ≡ length (R.left r.old)) }
     ensures end { R.tells r.old ≡ true → OnOk result (R.left r.new ≡ []) }
     ensures whole { R.tells r.old ≡ true → W.tells w.old ≡ true → OnOk result (W.written w.new ≡ W.written w.old ++ R.left r.old) }
-    ensures front { R.tells r.old ≡ true → W.tells w.old ≡ true → (n : ℕ) × (W.written w.new ≡ W.written w.old ++ take n (R.left r.old)) }
-    ensures refusals { R.tells r.old ≡ true → IfErr result (λ e. (e ≡ Io Input) ⊎ StopsWriting e) }
+    ensures prefix { R.tells r.old ≡ true → W.tells w.old ≡ true → (n : ℕ) × (W.written w.new ≡ W.written w.old ++ take n (R.left r.old)) }
+    ensures errors { R.tells r.old ≡ true → IfErr result (λ e. (e ≡ Io Input) ⊎ StopsWriting e) }
     ensures kinds { IfErr result (λ e. (e ≡ Io Input) ⊎ (StopsWriting e ⊎ PassesLimit e)) }
     ensures source { Called R.tells R.faults r.old r.new (IsErrOf result (Io Input)) }
     ensures sink { Called W.tells W.faults w.old w.new (IsErrOf result (Io Output)) }
@@ -93,7 +93,7 @@ pub fn copy_all<R: Source, W: Sink>(
         if count == 0 {
             return Ok(total as u64);
         }
-        if count > MOST - total {
+        if count > MAX - total {
             return Err(StoreError::TooLarge(What::Input));
         }
         write_piece(w, &block[..count])?;

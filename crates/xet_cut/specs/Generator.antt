@@ -8,12 +8,12 @@ unfoldable pub state : ℕ → ℕ → ℕ
 state seed zero = seed
 state seed (suc n) = (state seed n + 0x9E3779B97F4A7C15) % 2 ^ 64
 
-abbrev pub folded : ℕ → ℕ → ℕ
-folded z shift = bit_xor z (z / 2 ^ shift)
+abbrev pub xor_shifted : ℕ → ℕ → ℕ
+xor_shifted z shift = bit_xor z (z / 2 ^ shift)
 
 -- the output for a state
 unfoldable pub mixed : ℕ → ℕ
-mixed s = folded (folded (folded s 30 * 0xBF58476D1CE4E5B9 % 2 ^ 64) 27 * 0x94D049BB133111EB % 2 ^ 64) 31
+mixed s = xor_shifted (xor_shifted (xor_shifted s 30 * 0xBF58476D1CE4E5B9 % 2 ^ 64) 27 * 0x94D049BB133111EB % 2 ^ 64) 31
 
 -- output n of a seed, from 0
 abbrev pub output : ℕ → ℕ → ℕ

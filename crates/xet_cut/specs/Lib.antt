@@ -1,4 +1,4 @@
-pub mod Cut
+pub mod Chunking
 pub mod Generator
 pub mod Limits
 pub mod theorems

@@ -45,24 +45,24 @@ bad_field s = find (λ field. not (in_range s field)) fields
 -- all limits are in their ranges, bound by bound
 pub record AreInRange (s : LimitSettings) : Type 0 where
   pub target_power : IsTrue (is_power_of_two s.target_chunk)
-  pub target_least : 128 ≤ s.target_chunk
-  pub target_most : s.target_chunk ≤ 4194304
-  pub minimum_least : 1 ≤ s.minimum_chunk
-  pub minimum_most : s.minimum_chunk < s.maximum_chunk
-  pub maximum_most : s.maximum_chunk < 8388608
-  pub cut_bytes_least : s.maximum_chunk ≤ s.cut_bytes
-  pub cut_bytes_most : s.cut_bytes ≤ 2 ^ 30
-  pub cut_chunks_least : 1 ≤ s.cut_chunks
-  pub cut_chunks_most : s.cut_chunks ≤ 65536
-  pub shard_target_most : s.shard_target < 2 ^ 32
-  pub guard_window_least : 1 ≤ s.guard_window
-  pub guard_window_most : s.guard_window ≤ 65536
-  pub min_range_least : 1 ≤ s.min_range.1
-  pub low_factor_least : 1 ≤ s.low_factor.1
-  pub block_bytes_least : 1 ≤ s.block_bytes
-  pub block_bytes_most : s.block_bytes ≤ 2 ^ 30
-  pub source_least : 1 ≤ s.max_source_bytes
-  pub source_most : s.max_source_bytes ≤ 2 ^ 42
+  pub target_from : 128 ≤ s.target_chunk
+  pub target_to : s.target_chunk ≤ 4194304
+  pub minimum_from : 1 ≤ s.minimum_chunk
+  pub minimum_to : s.minimum_chunk < s.maximum_chunk
+  pub maximum_to : s.maximum_chunk < 8388608
+  pub cut_bytes_from : s.maximum_chunk ≤ s.cut_bytes
+  pub cut_bytes_to : s.cut_bytes ≤ 2 ^ 30
+  pub cut_chunks_from : 1 ≤ s.cut_chunks
+  pub cut_chunks_to : s.cut_chunks ≤ 65536
+  pub shard_target_to : s.shard_target < 2 ^ 32
+  pub guard_window_from : 1 ≤ s.guard_window
+  pub guard_window_to : s.guard_window ≤ 65536
+  pub min_range_from : 1 ≤ s.min_range.1
+  pub low_factor_from : 1 ≤ s.low_factor.1
+  pub block_bytes_from : 1 ≤ s.block_bytes
+  pub block_bytes_to : s.block_bytes ≤ 2 ^ 30
+  pub source_from : 1 ≤ s.max_source_bytes
+  pub source_to : s.max_source_bytes ≤ 2 ^ 42
   pub source_chunks : s.max_source_bytes / s.minimum_chunk < 2 ^ 30
   pub scheme_plain : IsTrue (is_plain_scheme s.scheme)
 

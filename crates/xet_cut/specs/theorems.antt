@@ -1,3 +1,3 @@
 pub mod GearHash
-pub mod PieceEnds
+pub mod ChunkEnds
 pub mod Ranges

@@ -1,10 +1,10 @@
 //! The limits of a store, and content-defined chunking: where the bytes of a file are split into chunks.
 #![tactic(auto)]
 
-mod cut;
+mod chunking;
 mod generator;
 mod limits;
 
-pub use cut::{chunk_lengths, chunk_list, first_chunk_len};
+pub use chunking::{chunk_lengths, chunk_list, first_chunk_len};
 pub use generator::{gear_table, generated};
 pub use limits::{LimitSettings, Limits};

@@ -5,7 +5,7 @@ use Rattle.std.specs.List.{AllByRecursion, sum_by}
 use Rattle.std.proofs.lemmas.Bool.{cases_lt, le-leb, leb-true}
 use Rattle.std.proofs.lemmas.List.{append-nil, drop-map, drop_all, drop_more, take_all, take_more, length-map, length-take-le, map-append, take-append-drop, take-map}
 use Rattle.std.proofs.lemmas.List.Sums.{sum_by-append, sum_by-cons}
-use Rattle.xet_xorb_chunk.specs.Chunks.{bytes_of, total}
+use Rattle.xet_xorb_chunk.specs.Chunks.{bytes_of_chunk, total}
 use Rattle.xet_xorb_chunk.specs.declared.chunk.Chunk.{Chunk}
 use Rattle.xet_cut.specs.declared.limits.LimitSettings.{LimitSettings}
 use Rattle.xet_dedup.specs.Packing.{fitting, pack_len}
@@ -48,30 +48,30 @@ fitting_start s room chunks e =
     let same : fitting room (s.cut_chunks - 0) chunks ≡ fitting s.cut_bytes s.cut_chunks chunks = ap (λ (n : ℕ). fitting room n chunks) all ∙ ap (λ (r : ℕ). fitting r s.cut_chunks chunks) e in
     omega (arith, same)
 
--- one more at place k, where at most `most` may be taken
-pub fitting_step : (bytes most k n : ℕ) (chunks : List Chunk) (d : Chunk) → k < length chunks → k < most → n ≡ length (get_or chunks k d).bytes → n ≤ bytes
-    → fitting bytes (most - k) (map bytes_of (drop k chunks)) ≡ suc (fitting (bytes - n) (most - (k + 1)) (map bytes_of (drop (k + 1) chunks)))
-fitting_step bytes most k n chunks d here less len fits =
+-- one more at place k, where at most `max_count` may be taken
+pub fitting_step : (bytes max_count k n : ℕ) (chunks : List Chunk) (d : Chunk) → k < length chunks → k < max_count → n ≡ length (get_or chunks k d).bytes → n ≤ bytes
+    → fitting bytes (max_count - k) (map bytes_of_chunk (drop k chunks)) ≡ suc (fitting (bytes - n) (max_count - (k + 1)) (map bytes_of_chunk (drop (k + 1) chunks)))
+fitting_step bytes max_count k n chunks d here less len fits =
     let c : Chunk = get_or chunks k d in
-    let later : most - k - 1 ≡ most - (k + 1) = omega arith in
-    let rest : List (List ℕ) = map bytes_of (drop (k + 1) chunks) in
-    fitting_more bytes (most - k) (map bytes_of (drop k chunks)) rest c.bytes (ap (map bytes_of) (drop_more chunks k d here)) (omega arith) (omega arith)
-    ∙ ap (λ (m : ℕ). suc (fitting (bytes - m) (most - k - 1) rest)) (sym len) ∙ ap (λ (m : ℕ). suc (fitting (bytes - n) m rest)) later
+    let later : max_count - k - 1 ≡ max_count - (k + 1) = omega arith in
+    let rest : List (List ℕ) = map bytes_of_chunk (drop (k + 1) chunks) in
+    fitting_more bytes (max_count - k) (map bytes_of_chunk (drop k chunks)) rest c.bytes (ap (map bytes_of_chunk) (drop_more chunks k d here)) (omega arith) (omega arith)
+    ∙ ap (λ (m : ℕ). suc (fitting (bytes - m) (max_count - k - 1) rest)) (sym len) ∙ ap (λ (m : ℕ). suc (fitting (bytes - n) m rest)) later
 
 -- none more at place k
-pub fitting_stop : (bytes most k : ℕ) (chunks : List Chunk) (d : Chunk) → k < length chunks → bytes < length (get_or chunks k d).bytes
-    → fitting bytes (most - k) (map bytes_of (drop k chunks)) ≡ 0
-fitting_stop bytes most k chunks d here long =
-    fitting_long bytes (most - k) (map bytes_of (drop k chunks)) (map bytes_of (drop (k + 1) chunks)) (get_or chunks k d).bytes (ap (map bytes_of) (drop_more chunks k d here)) long
+pub fitting_stop : (bytes max_count k : ℕ) (chunks : List Chunk) (d : Chunk) → k < length chunks → bytes < length (get_or chunks k d).bytes
+    → fitting bytes (max_count - k) (map bytes_of_chunk (drop k chunks)) ≡ 0
+fitting_stop bytes max_count k chunks d here long =
+    fitting_long bytes (max_count - k) (map bytes_of_chunk (drop k chunks)) (map bytes_of_chunk (drop (k + 1) chunks)) (get_or chunks k d).bytes (ap (map bytes_of_chunk) (drop_more chunks k d here)) long
 
 -- nor where so many are taken, or all
-pub fitting_end : (bytes most k : ℕ) (chunks : List Chunk) → min (length chunks) most ≤ k → fitting bytes (most - k) (map bytes_of (drop k chunks)) ≡ 0
-fitting_end bytes most k chunks past = elim (cases_lt k most) [
+pub fitting_end : (bytes max_count k : ℕ) (chunks : List Chunk) → min (length chunks) max_count ≤ k → fitting bytes (max_count - k) (map bytes_of_chunk (drop k chunks)) ≡ 0
+fitting_end bytes max_count k chunks past = elim (cases_lt k max_count) [
   | inl less ↦
-      ap (λ (l : List Chunk). fitting bytes (most - k) (map bytes_of l)) (drop_all k chunks (omega arith)) ∙ fitting_none bytes (most - k)
+      ap (λ (l : List Chunk). fitting bytes (max_count - k) (map bytes_of_chunk l)) (drop_all k chunks (omega arith)) ∙ fitting_none bytes (max_count - k)
   | inr done ↦
-      let none : most - k ≡ 0 = omega arith in
-      ap (λ (m : ℕ). fitting bytes m (map bytes_of (drop k chunks))) none ∙ fitting_full bytes (map bytes_of (drop k chunks))
+      let none : max_count - k ≡ 0 = omega arith in
+      ap (λ (m : ℕ). fitting bytes m (map bytes_of_chunk (drop k chunks))) none ∙ fitting_full bytes (map bytes_of_chunk (drop k chunks))
 ]
 
 -- the bytes of one chunk more

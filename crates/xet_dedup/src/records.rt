@@ -17,18 +17,18 @@ use xet_shard_format::{
 pub fn file_record(
     alloc: Global,
     hash: MerkleHash,
-    members: &[(MerkleHash, u64)],
+    leaves: &[(MerkleHash, u64)],
     plan: Vec<FileDataSequenceEntry>,
     sha256: Sha256,
 ) -> Result<MDBFileInfo, StoreError>
-    requires { hash ≡ file_hash members.now }
-    ensures exact { IfOk result (λ file. file ≡ file_record members.now plan.items (Some sha256)) }
+    requires { hash ≡ file_hash leaves.now }
+    ensures exact { IfOk result (λ file. file ≡ file_record leaves.now plan.items (Some sha256)) }
     ensures memory { IsOkUnless result StoreError.OutOfMemory }
 {
     if plan.len() > u32::MAX as usize {
         return Err(StoreError::OutOfMemory);
     }
-    let verification = range_hashes(alloc, &plan, members)?;
+    let verification = range_hashes(alloc, &plan, leaves)?;
     Ok(MDBFileInfo {
         metadata: FileDataSequenceHeader::new(hash, plan.len() as u32, true, true),
         segments: Items::from_vec(plan),
@@ -41,17 +41,17 @@ pub fn file_record(
 fn range_hashes(
     alloc: Global,
     plan: &[FileDataSequenceEntry],
-    members: &[(MerkleHash, u64)],
+    leaves: &[(MerkleHash, u64)],
 ) -> Result<Vec<FileVerificationEntry>, StoreError>
-    ensures ranges { IfOk result (λ ranges. ranges.items ≡ range_hashes plan.now members.now) }
+    ensures ranges { IfOk result (λ ranges. ranges.items ≡ range_hashes plan.now leaves.now) }
     ensures memory { IsOkUnless result StoreError.OutOfMemory }
 {
     let mut ranges = Vec::with_capacity(alloc, plan.len())?;
-    let mut rest = members;
+    let mut rest = leaves;
     for segment in plan {
         let run = run_len(segment).min(rest.len());
-        let (front, back) = rest.split_at(run);
-        let hashes = hashes_of(alloc, front)?;
+        let (prefix, back) = rest.split_at(run);
+        let hashes = hashes_of(alloc, prefix)?;
         ranges.push(FileVerificationEntry::new(range_hash_from_chunks(&hashes)))?;
         rest = back;
     }
@@ -68,12 +68,12 @@ fn run_len(segment: &FileDataSequenceEntry) -> usize
 }
 
 /// The hashes of a chunk list.
-fn hashes_of(alloc: Global, members: &[(MerkleHash, u64)]) -> Result<Vec<MerkleHash>, StoreError>
-    ensures hashes { IfOk result (λ hashes. hashes.items ≡ map (λ m. m.0) members.now) }
+fn hashes_of(alloc: Global, leaves: &[(MerkleHash, u64)]) -> Result<Vec<MerkleHash>, StoreError>
+    ensures hashes { IfOk result (λ hashes. hashes.items ≡ map (λ m. m.0) leaves.now) }
     ensures memory { IsOkUnless result StoreError.OutOfMemory }
 {
-    let mut hashes = Vec::with_capacity(alloc, members.len())?;
-    for (hash, _) in members {
+    let mut hashes = Vec::with_capacity(alloc, leaves.len())?;
+    for (hash, _) in leaves {
         hashes.push(*hash)?;
     }
     Ok(hashes)

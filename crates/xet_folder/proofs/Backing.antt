@@ -1,9 +1,9 @@
--- What backs the members of a xorb.
+-- What backs the leaves of a xorb.
 use Rattle.std.proofs.Common.{◌≡◌, ◌≢◌, ◌∙◌, ℕ, ◌+◌, ◌-◌, ◌<◌, ◌≤◌, ◌^◌, Bool, true, false, not, List, [], ◌∷◌, map, length, Option, Some, None, IfSome, IsNone, IsSome, is_some, refl, sym, ap, subst, arith, nat_eq}
 use Rattle.std.specs.Cmp.Lexicographic.{bytes_decides, pointwise}
 use Rattle.std.specs.List.{AllByRecursion}
 use Rattle.xet_io.specs.Disk.{Files, bytes_at}
-use Rattle.xet_hash.specs.Merkle.{members_of}
+use Rattle.xet_hash.specs.Merkle.{leaves_of}
 use Rattle.xet_xorb.specs.declared.object.XorbObject.{XorbObject}
 use Rattle.xet_xorb.specs.Footer.{V0, V1, Version, ends_from, footer_info}
 use Rattle.xet_xorb.specs.Validation.{IsValid, IsXorbOf}
@@ -37,7 +37,7 @@ fitting : (chunks : List (List ℕ)) → AllByRecursion (λ b. length b < 2 ^ 23
 fitting [] h = tt
 fitting (c ∷ cs) h = (let here = h.0 in omega arith, fitting cs h.1)
 
--- ends give the members back
+-- ends give the leaves back
 spans_back : (at : ℕ) (ms : List (List ℕ × ℕ)) → spans_from at (map (λ (m : List ℕ × ℕ). m.0) ms) (ends_from 8 at ms) ≡ ms
 unfolding ends_from
 spans_back at [] = refl
@@ -57,7 +57,7 @@ module _ (files : Files) (folder h bytes : List ℕ) (there : bytes_at files (xo
   -- a xorb under its name backs its chunks
   backed : (chunks : List (List ℕ)) (o : XorbObject) → IsValid 8388607 h bytes chunks o → IsBacked files folder h (spans_from 0 o.info.chunk_hashes o.info.chunk_boundary_offsets)
   backed chunks o v =
-      let ms = members_of chunks in
+      let ms = leaves_of chunks in
       let listed : spans_from 0 o.info.chunk_hashes o.info.chunk_boundary_offsets ≡ ms =
       ap (λ (o : XorbObject). spans_from 0 o.info.chunk_hashes o.info.chunk_boundary_offsets) v.listed ∙ spans_listed v.xorb.text.version h ms v.xorb.text.spare in
       record {
@@ -85,6 +85,6 @@ pub found_below : (h seen : List ℕ) (found : Option XorbObject) (o : XorbObjec
     → IfSome found (λ object. (chunks : List (List ℕ)) × IsValid 8388607 h seen chunks object) → ms ≡ spans_from 0 o.info.chunk_hashes o.info.chunk_boundary_offsets → stored_len ms < 2 ^ 32
 found_below h seen found o ms is valid spans =
     let v = subst (λ (x : Option XorbObject). IfSome x (λ object. (chunks : List (List ℕ)) × IsValid 8388607 h seen chunks object)) is valid in
-    let listed : ms ≡ members_of v.0 =
-    spans ∙ ap (λ (o : XorbObject). spans_from 0 o.info.chunk_hashes o.info.chunk_boundary_offsets) v.1.listed ∙ spans_listed v.1.xorb.text.version h (members_of v.0) v.1.xorb.text.spare in
+    let listed : ms ≡ leaves_of v.0 =
+    spans ∙ ap (λ (o : XorbObject). spans_from 0 o.info.chunk_hashes o.info.chunk_boundary_offsets) v.1.listed ∙ spans_listed v.1.xorb.text.version h (leaves_of v.0) v.1.xorb.text.spare in
     subst (λ (l : List (List ℕ × ℕ)). stored_len l < 2 ^ 32) (sym listed) (stored_below seen v.0 v.1.xorb.text)

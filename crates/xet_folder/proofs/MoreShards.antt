@@ -13,18 +13,18 @@ use Rattle.xet_hash.specs.declared.error.StoreError.{StoreError}
 use Rattle.xet_shard_format.specs.declared.record.MDBFileInfo.{MDBFileInfo}
 use Rattle.xet_shard_format.specs.declared.record.FileDataSequenceEntry.{FileDataSequenceEntry as Segment}
 use Rattle.xet_shard_format.specs.Names.{shard_name}
-use Rattle.xet_shard_format.specs.Reading.{Parts, all_of}
+use Rattle.xet_shard_format.specs.Reading.{ShardParts, all_of}
 use Rattle.xet_shard_format.specs.Records.{xorb_hash}
 use Rattle.xet_folder.specs.declared.contents.Contents.{Contents}
 use Rattle.xet_shard_file.specs.declared.listing.ShardEntry.{ShardEntry}
 use Rattle.xet_folder.specs.Admission.{FirstFails, Refuses, ShardFails, ShardHolds}
-use Rattle.xet_folder.specs.Checks.{Grows, Has, HasFile, HasShard, OfBytes, OfShard}
+use Rattle.xet_folder.specs.Checks.{Grows, IsInTable, HasXorbsOfFile, HasXorbsOfShard, OfBytes, OfShard}
 use Rattle.xet_folder.specs.Contents.{AreContents, HasContents, firsts, listed_in, listed_of}
 use Rattle.xet_shard_file.specs.Entries.{IsEntry, ListsShards, entry_of, is_valid}
-use Rattle.xet_folder.specs.internal.Gathering.{EntryFails, IsGathered, ShardsFail, shard_file, valid_bytes, with_firsts, with_valid}
+use Rattle.xet_folder.specs.internal.Gathering.{EntryFails, IsGathered, ShardsFail, as_shard_file, valid_bytes, with_firsts, with_valid}
 use Rattle.xet_shard_file.specs.Names.{shard_path}
 use Rattle.xet_shard_file.specs.Shards.{IsThere, Registers, ShardFile, is_expired}
-use Rattle.xet_folder.specs.Xorbs.{Records, Xorbs, found}
+use Rattle.xet_folder.specs.Xorbs.{FileRecords, Xorbs, found}
 use Rattle.xet_folder.proofs.Firsts.{firsts_more}
 use Rattle.xet_folder.proofs.Registering.{registered}
 use Rattle.xet_folder.proofs.Tables.{has_later, later_of}
@@ -42,21 +42,21 @@ one_of_all P [] x all (i, (below, is)) = absurd (omega (arith, below))
 one_of_all P (y ∷ xs) x all (zero, (below, is)) = subst P (sym is) all.0
 one_of_all P (y ∷ xs) x all (suc i, (below, is)) = one_of_all P xs x all.1 (i, (omega (arith, below), is))
 
-has_of_shard : (xorbs : Xorbs) (p : Parts) (h : List ℕ) → HasShard xorbs p → OfShard p h → Has xorbs h
-has_of_shard xorbs p h has (inl among) = of_all xorb_hash (Has xorbs) p.0 h has.blocks among
-has_of_shard xorbs p h has (inr (f, among, of)) = of_all (λ (s : Segment). s.xorb_hash) (Has xorbs) f.segments h (one_of_all (HasFile xorbs) p.1 f has.files among) of
+has_of_shard : (xorbs : Xorbs) (p : ShardParts) (h : List ℕ) → HasXorbsOfShard xorbs p → OfShard p h → IsInTable xorbs h
+has_of_shard xorbs p h has (inl among) = of_all xorb_hash (IsInTable xorbs) p.0 h has.blocks among
+has_of_shard xorbs p h has (inr (f, among, of)) = of_all (λ (s : Segment). s.xorb_hash) (IsInTable xorbs) f.segments h (one_of_all (HasXorbsOfFile xorbs) p.1 f has.files among) of
 
 -- a row that is found in a longer table was there, or is one of the new ones
-found_in : (Of : List ℕ → Type 0) (old added : Xorbs) (h : List ℕ) → AllByRecursion (λ row. Of row.0) added → Has (old ++ added) h → Has old h ⊎ Of h
+found_in : (Of : List ℕ → Type 0) (old added : Xorbs) (h : List ℕ) → AllByRecursion (λ row. Of row.0) added → IsInTable (old ++ added) h → IsInTable old h ⊎ Of h
 found_in Of [] [] h named has = absurd (cc has)
 found_in Of [] (r ∷ added) h named has = go (pointwise nat_eq h r.0) refl has (found_in Of [] added h named.1)
   where
-    go : (b : Bool) → pointwise nat_eq h r.0 ≡ b → IsSome (cond b (Some r.1) (found added h)) → (Has added h → Has [] h ⊎ Of h) → Has [] h ⊎ Of h
+    go : (b : Bool) → pointwise nat_eq h r.0 ≡ b → IsSome (cond b (Some r.1) (found added h)) → (IsInTable added h → IsInTable [] h ⊎ Of h) → IsInTable [] h ⊎ Of h
     go true same has rest = inr (subst Of (sym ((bytes_decides h r.0).0 same)) named.0)
     go false same has rest = rest has
 found_in Of (r ∷ old) added h named has = go (pointwise nat_eq h r.0) has (found_in Of old added h named)
   where
-    go : (b : Bool) → IsSome (cond b (Some r.1) (found (old ++ added) h)) → (Has (old ++ added) h → Has old h ⊎ Of h) → IsSome (cond b (Some r.1) (found old h)) ⊎ Of h
+    go : (b : Bool) → IsSome (cond b (Some r.1) (found (old ++ added) h)) → (IsInTable (old ++ added) h → IsInTable old h ⊎ Of h) → IsSome (cond b (Some r.1) (found old h)) ⊎ Of h
     go true has rest = inl has
     go false has rest = rest has
 
@@ -79,23 +79,23 @@ any_either P (z ∷ xs) y (suc k, x, below, at, holds) = go (any_either P xs y (
 
 -- ---- the contents of a shard more
 
-module _ (shards : List ShardFile) (old : Contents) (s : ShardFile) (xorbs : Xorbs) (records : Records) (hashes : List (List ℕ)) (files : List MDBFileInfo) (contents : AreContents shards old)
-    (read : (p : Parts) × (all_of s.file.bytes ≡ Ok p) × (files ≡ p.1)) (grows : Grows (OfBytes s.file.bytes) old.xorbs xorbs) (there : (p : Parts) → all_of s.file.bytes ≡ Ok p → HasShard xorbs p)
+module _ (shards : List ShardFile) (old : Contents) (s : ShardFile) (xorbs : Xorbs) (records : FileRecords) (hashes : List (List ℕ)) (files : List MDBFileInfo) (contents : AreContents shards old)
+    (read : (p : ShardParts) × (all_of s.file.bytes ≡ Ok p) × (files ≡ p.1)) (grows : Grows (OfBytes s.file.bytes) old.xorbs xorbs) (there : (p : ShardParts) → all_of s.file.bytes ≡ Ok p → HasXorbsOfShard xorbs p)
     (adds : records ≡ with_firsts old.records (listed_of files)) (registers : hashes ≡ old.shards ++ s.hash ∷ []) where
   listed_here : listed_in s.file.bytes ≡ listed_of files
-  listed_here = ap (λ (r : Result Parts StoreError). elim r as (λ _. Records) [ Ok p ↦ listed_of p.1 | Err e ↦ [] ]) read.1 ∙ ap listed_of (sym read.2)
+  listed_here = ap (λ (r : Result ShardParts StoreError). elim r as (λ _. FileRecords) [ Ok p ↦ listed_of p.1 | Err e ↦ [] ]) read.1 ∙ ap listed_of (sym read.2)
 
-  named_by : (h : List ℕ) → Has xorbs h → Any (λ f. OfBytes f.file.bytes h) (shards ++ s ∷ [])
-  named_by h has = go (found_in (OfBytes s.file.bytes) old.xorbs grows.added h grows.named (subst (λ (rows : Xorbs). Has rows h) grows.is has))
+  named_by : (h : List ℕ) → IsInTable xorbs h → Any (λ f. OfBytes f.file.bytes h) (shards ++ s ∷ [])
+  named_by h has = go (found_in (OfBytes s.file.bytes) old.xorbs grows.added h grows.named (subst (λ (rows : Xorbs). IsInTable rows h) grows.is has))
     where
-      go : Has old.xorbs h ⊎ OfBytes s.file.bytes h → Any (λ f. OfBytes f.file.bytes h) (shards ++ s ∷ [])
+      go : IsInTable old.xorbs h ⊎ OfBytes s.file.bytes h → Any (λ f. OfBytes f.file.bytes h) (shards ++ s ∷ [])
       go (inl before) = any_more (λ f. OfBytes f.file.bytes h) shards s ((contents.named h).0 before)
       go (inr of) = Any-push (λ f. OfBytes f.file.bytes h) shards s of
 
-  named_has : (h : List ℕ) → Any (λ f. OfBytes f.file.bytes h) (shards ++ s ∷ []) → Has xorbs h
+  named_has : (h : List ℕ) → Any (λ f. OfBytes f.file.bytes h) (shards ++ s ∷ []) → IsInTable xorbs h
   named_has h any = go (any_either (λ f. OfBytes f.file.bytes h) shards s any)
     where
-      go : Any (λ f. OfBytes f.file.bytes h) shards ⊎ OfBytes s.file.bytes h → Has xorbs h
+      go : Any (λ f. OfBytes f.file.bytes h) shards ⊎ OfBytes s.file.bytes h → IsInTable xorbs h
       go (inl before) = has_later old.xorbs xorbs h (later_of (OfBytes s.file.bytes) old.xorbs xorbs grows) ((contents.named h).1 before)
       go (inr (p, is, of)) = has_of_shard xorbs p h (there p is) of
 
@@ -103,9 +103,9 @@ module _ (shards : List ShardFile) (old : Contents) (s : ShardFile) (xorbs : Xor
   contents_more = record {
     registered = registers ∙ ap (λ (l : List (List ℕ)). l ++ s.hash ∷ []) contents.registered ∙ sym (map-append (λ (f : ShardFile). f.hash) shards (s ∷ []));
     named = λ h. (named_by h, named_has h);
-    records = adds ∙ ap (λ (rows : Records). with_firsts rows (listed_of files)) contents.records
+    records = adds ∙ ap (λ (rows : FileRecords). with_firsts rows (listed_of files)) contents.records
         ∙ ap (with_firsts (firsts (flat_map (λ (f : ShardFile). listed_in f.file.bytes) shards))) (sym listed_here)
-        ∙ sym (ap firsts (flat_map-append (λ (f : ShardFile). listed_in f.file.bytes) shards (s ∷ []) ∙ ap (λ (l : Records). flat_map (λ (f : ShardFile). listed_in f.file.bytes) shards ++ l) (append-nil (listed_in s.file.bytes)))
+        ∙ sym (ap firsts (flat_map-append (λ (f : ShardFile). listed_in f.file.bytes) shards (s ∷ []) ∙ ap (λ (l : FileRecords). flat_map (λ (f : ShardFile). listed_in f.file.bytes) shards ++ l) (append-nil (listed_in s.file.bytes)))
         ∙ firsts_more (flat_map (λ (f : ShardFile). listed_in f.file.bytes) shards) (listed_in s.file.bytes));
   }
 
@@ -142,27 +142,27 @@ fails_after Holds Fails (z ∷ xs) x ys e all here = inr (all.0, fails_after Hol
 module _ (files : Files) (folder : List ℕ) (now : ℕ) (entries : List ShardEntry) (read : List ShardFile) (same : map entry_of read ≡ entries) (there : All (IsThere files folder) read) (i : ℕ) (e : ShardEntry)
     (below : i < length entries) (is : e ≡ get_or entries i e) where
   abbrev this : ShardFile
-  this = get_or read i (shard_file e.hash (file [] e.modified))
+  this = get_or read i (as_shard_file e.hash (file [] e.modified))
 
   inside : i < length read
   inside = let long = sym (length-map read entry_of) ∙ ap (λ (es : List ShardEntry). length es) same in omega (arith, long, below)
 
   hash_is : this.hash ≡ e.hash
   hash_is =
-      ap (λ (x : ShardEntry). x.hash) (sym (is ∙ ap (λ (es : List ShardEntry). get_or es i e) (sym same) ∙ get_or-map entry_of read i (shard_file e.hash (file [] e.modified))))
+      ap (λ (x : ShardEntry). x.hash) (sym (is ∙ ap (λ (es : List ShardEntry). get_or es i e) (sym same) ∙ get_or-map entry_of read i (as_shard_file e.hash (file [] e.modified))))
 
   there_is : file_at files (shard_path folder e.hash) ≡ Some this.file
-  there_is = ap (λ (h : List ℕ). file_at files (shard_path folder h)) (sym hash_is) ∙ (there i (shard_file e.hash (file [] e.modified)) inside).there
+  there_is = ap (λ (h : List ℕ). file_at files (shard_path folder h)) (sym hash_is) ∙ (there i (as_shard_file e.hash (file [] e.modified)) inside).there
 
-  this_is : shard_file e.hash this.file ≡ this
-  this_is = ap (λ (h : List ℕ). shard_file h this.file) (sym hash_is)
+  this_is : as_shard_file e.hash this.file ≡ this
+  this_is = ap (λ (h : List ℕ). as_shard_file h this.file) (sym hash_is)
 
-  pub gathered_more : (old new : Contents) → ((shards : List ShardFile) (f : File) → file_at files (shard_path folder e.hash) ≡ Some f → IsGathered files folder shards old → IsGathered files folder (with_valid now shards (shard_file e.hash f)) new)
+  pub gathered_more : (old new : Contents) → ((shards : List ShardFile) (f : File) → file_at files (shard_path folder e.hash) ≡ Some f → IsGathered files folder shards old → IsGathered files folder (with_valid now shards (as_shard_file e.hash f)) new)
       → IsGathered files folder (filter (is_valid now) (take i read)) old → IsGathered files folder (filter (is_valid now) (take (i + 1) read)) new
   gathered_more old new step before =
       let shards : List ShardFile = filter (is_valid now) (take i read) in
       subst (λ (l : List ShardFile). IsGathered files folder l new)
-      (ap (with_valid now shards) this_is ∙ sym (filter_last now (take i read) this) ∙ ap (filter (is_valid now)) (sym (take_more read i (shard_file e.hash (file [] e.modified)) inside)))
+      (ap (with_valid now shards) this_is ∙ sym (filter_last now (take i read) this) ∙ ap (filter (is_valid now)) (sym (take_more read i (as_shard_file e.hash (file [] e.modified)) inside)))
       (step shards this.file there_is before)
 
   pub shards_fail : (x : StoreError) (name : List ℕ) → AllByRecursion (ShardHolds files folder) (filter (is_valid now) (take i read)) → EntryFails files folder now e.hash x name
@@ -171,7 +171,7 @@ module _ (files : Files) (folder : List ℕ) (now : ℕ) (entries : List ShardEn
       let f = fails this.file there_is in
       let here : ShardFails files folder this x × (name ≡ shard_name this.hash) = (subst (λ (s : ShardFile). ShardFails files folder s x) this_is f.1, f.2 ∙ ap shard_name (sym hash_is)) in
       let rest = drop (i + 1) read in
-      let whole : take i read ++ this ∷ rest ≡ read = ap (λ (l : List ShardFile). take i read ++ l) (sym (drop_more read i (shard_file e.hash (file [] e.modified)) inside)) ∙ take-append-drop i read in
+      let whole : take i read ++ this ∷ rest ≡ read = ap (λ (l : List ShardFile). take i read ++ l) (sym (drop_more read i (as_shard_file e.hash (file [] e.modified)) inside)) ∙ take-append-drop i read in
       let kept : filter (is_valid now) (this ∷ rest) ≡ this ∷ filter (is_valid now) rest = ap (λ (b : Bool). cond (not b) (this ∷ filter (is_valid now) rest) (filter (is_valid now) rest)) f.0 in
       let parts : filter (is_valid now) (take i read) ++ this ∷ filter (is_valid now) rest ≡ filter (is_valid now) read
       = ap (λ (l : List ShardFile). filter (is_valid now) (take i read) ++ l) (sym kept) ∙ sym (filter-append (is_valid now) (take i read) (this ∷ rest)) ∙ ap (filter (is_valid now)) whole in
@@ -185,7 +185,7 @@ gathered_all files folder now entries read c i same past is =
     subst (λ (l : List ShardFile). IsGathered files folder (filter (is_valid now) l) c) (take_all i read (omega (arith, long, past))) is
 
 pub gathered_none : (files : Files) (folder : List ℕ) → IsGathered files folder [] (record { shards = []; xorbs = []; records = [] })
-gathered_none files folder = record { hold = tt; backed = λ h members e. absurd (cc e); contents = contents_none }
+gathered_none files folder = record { hold = tt; backed = λ h leaves e. absurd (cc e); contents = contents_none }
 
 -- ---- what is listed is read
 
@@ -201,7 +201,7 @@ module _ (files : Files) (folder : List ℕ) where
       go : (o : Option File) → file_at files (shard_path folder e.hash) ≡ o → option_map (λ (f : File). f.modified) o ≡ Some e.modified → (s : ShardFile) × (entry_of s ≡ e) × IsThere files folder s
       go None at modified = absurd (cc modified)
       go (Some f) at modified =
-          let same : f.modified ≡ e.modified = cc modified in (shard_file e.hash f, (λ i. record { hash = e.hash; modified = same i }), record { named = is.named; there = at })
+          let same : f.modified ≡ e.modified = cc modified in (as_shard_file e.hash f, (λ i. record { hash = e.hash; modified = same i }), record { named = is.named; there = at })
 
   read_of : (entries : List ShardEntry) → AllByRecursion (IsEntry files folder) entries → IsReadOf entries
   read_of [] all = record { read = []; same = refl; there = tt }

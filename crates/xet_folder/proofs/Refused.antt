@@ -7,19 +7,19 @@ use Rattle.xet_hash.specs.declared.error.Place.TheVariants as place
 use Rattle.xet_codec.specs.Parsing.{Fails}
 use Rattle.xet_shard_format.specs.Reading.{all_of}
 use Rattle.xet_shard_format.specs.theorems.Refusing.{all_answers}
-use Rattle.xet_shard_file.specs.Refusals.{IsCheckRefusal, IsShardError}
+use Rattle.xet_shard_file.specs.Errors.{IsShardCheckError, IsShardError}
 use Rattle.xet_codec.specs.Stops.{HasDiskReason}
 use Rattle.xet_shard_file.specs.theorems.Exits.{rose_before}
 
 -- what a check refuses for, the call around it does
 pub refusal_of : (K L : Type 0) (F G : StoreError → Type 0) (before now earlier : ℕ) → (L → K) → (L → (e : StoreError) → F e → G e) → earlier ≤ before → (e : StoreError)
-    → IsCheckRefusal K F before now e → IsCheckRefusal L G earlier now e
+    → IsShardCheckError K F before now e → IsShardCheckError L G earlier now e
 refusal_of K L F G before now earlier known fails le (errors.Io place.Disk) r = rose_before before now earlier le r
 refusal_of K L F G before now earlier known fails le errors.OutOfMemory r = tt
 refusal_of K L F G before now earlier known fails le e r = λ l. fails l e (r (known l))
 
 -- what reading a shard refuses for, its check does
-pub read_refusal : (K : Type 0) (F : StoreError → Type 0) (before now : ℕ) (bytes : List ℕ) (e : StoreError) → (K → all_of bytes ≡ Err e → F e) → Fails e (all_of bytes) → IsCheckRefusal K F before now e
+pub read_refusal : (K : Type 0) (F : StoreError → Type 0) (before now : ℕ) (bytes : List ℕ) (e : StoreError) → (K → all_of bytes ≡ Err e → F e) → Fails e (all_of bytes) → IsShardCheckError K F before now e
 read_refusal K F before now bytes (errors.Io place.Disk) f fails = absurd ((all_answers bytes).refusal (errors.Io place.Disk) fails)
 read_refusal K F before now bytes errors.OutOfMemory f fails = tt
 read_refusal K F before now bytes e f fails = λ k. f k fails

@@ -10,7 +10,7 @@ use Rattle.xet_io.specs.Disk.{File, Files, file_at}
 use Rattle.xet_hash.specs.declared.error.StoreError.{StoreError}
 use Rattle.xet_shard_format.specs.declared.header_footer.MDBShardFileFooter.{MDBShardFileFooter}
 use Rattle.xet_codec.specs.Parsing.{◌>>=◌}
-use Rattle.xet_shard_format.specs.Reading.{footer_at, header_at}
+use Rattle.xet_shard_format.specs.Reading.{shard_footer_at, shard_header_at}
 use Rattle.xet_folder.specs.Admission.{Admits, ShardHolds}
 use Rattle.xet_shard_file.specs.declared.listing.ShardEntry.{ShardEntry}
 use Rattle.xet_shard_file.specs.Entries.{IsBefore, ListsShards, entry_of, is_valid}
@@ -99,7 +99,7 @@ admitted_later files folder now later shards since admits = record {
     there = All-filter (is_valid later) (IsThere files folder) shards admits.registers.there;
     valid = λ k d below. not_true _ (All-from_recursion (λ s. is_valid later s ≡ true) (filter (is_valid later) shards) (passing (is_valid later) shards) k d below);
     all = λ s is valid.
-        let among = admits.registers.all s is (past_before now later since (header_at s.file.bytes >>= λ _. footer_at s.file.bytes) valid) in
+        let among = admits.registers.all s is (past_before now later since (shard_header_at s.file.bytes >>= λ _. shard_footer_at s.file.bytes) valid) in
         left_in (is_valid later) shards s among.0 among.1.0 among.1.1 (ap not valid);
     order = AllPairs-filter ComesBefore (is_valid later) shards admits.registers.order;
   };

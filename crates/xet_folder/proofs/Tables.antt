@@ -10,12 +10,12 @@ use Rattle.xet_shard_format.specs.declared.record.MDBFileInfo.{MDBFileInfo}
 use Rattle.xet_shard_format.specs.declared.record.MDBXorbInfo.{MDBXorbInfo}
 use Rattle.xet_shard_format.specs.Records.{xorb_hash}
 use Rattle.xet_base.specs.theorems.Elements.{all_both}
-use Rattle.xet_folder.specs.Checks.{Grows, Has, HasFile, Knows}
+use Rattle.xet_folder.specs.Checks.{Grows, IsInTable, HasXorbsOfFile, Knows}
 use Rattle.xet_folder.specs.internal.Contents.{IsFileRecord}
 use Rattle.xet_folder.specs.Contents.{IsRecord, listed_of}
 use Rattle.xet_folder.specs.Plan.{Joins}
 use Rattle.xet_folder.specs.Stored.{IsBacked}
-use Rattle.xet_folder.specs.Xorbs.{IsListed, Records, Xorbs, found}
+use Rattle.xet_folder.specs.Xorbs.{IsListed, FileRecords, Xorbs, found}
 use Rattle.xet_folder.specs.theorems.Tables.{found_either, found_kept}
 
 pub none_of : {T U : Type 0} (f : T → U) (o : Option T) (p : Option U) → option_map f o ≡ p → is_some o ≡ false → p ≡ None
@@ -40,13 +40,13 @@ later_of Of old new g = record { added = g.added; is = g.is }
 pub later_then : (a b c : Xorbs) → IsLater a b → IsLater b c → IsLater a c
 later_then a b c one two = record { added = one.added ++ two.added; is = two.is ∙ ap (λ (rows : Xorbs). rows ++ two.added) one.is ∙ append_assoc a one.added two.added }
 
-pub listed_later : (old new : Xorbs) (h : List ℕ) (members : List (List ℕ × ℕ)) → IsLater old new → found old h ≡ Some members → found new h ≡ Some members
-listed_later old new h members later e = ap (λ (rows : Xorbs). found rows h) later.is ∙ found_kept old later.added h members e
+pub listed_later : (old new : Xorbs) (h : List ℕ) (leaves : List (List ℕ × ℕ)) → IsLater old new → found old h ≡ Some leaves → found new h ≡ Some leaves
+listed_later old new h leaves later e = ap (λ (rows : Xorbs). found rows h) later.is ∙ found_kept old later.added h leaves e
 
-pub has_later : (old new : Xorbs) (h : List ℕ) → IsLater old new → Has old h → Has new h
+pub has_later : (old new : Xorbs) (h : List ℕ) → IsLater old new → IsInTable old h → IsInTable new h
 has_later old new h later has = has_some (found old h) (found new h) (λ v e. listed_later old new h v later e) has
 
-pub found_some : (rows : Xorbs) (h : List ℕ) (v : List (List ℕ × ℕ)) → found rows h ≡ Some v → Has rows h
+pub found_some : (rows : Xorbs) (h : List ℕ) (v : List (List ℕ × ℕ)) → found rows h ≡ Some v → IsInTable rows h
 found_some rows h v e = subst (λ (o : Option (List (List ℕ × ℕ))). IsSome o) (sym e) refl
 
 pub grows_none : (Of : List ℕ → Type 0) (t : Xorbs) → Grows Of t t
@@ -67,25 +67,25 @@ grows_then P Q f a b c one two = record {
 }
 
 -- one row more
-pub knows_more : (tells tells2 : Bool) (files files2 : Files) (folder : List ℕ) (old new : Xorbs) (hash : List ℕ) (members : List (List ℕ × ℕ)) → tells2 ≡ tells → files2 ≡ files
-    → new ≡ old ++ (hash, members) ∷ [] → (tells ≡ true → IsBacked files folder hash members) → Knows tells files folder old → Knows tells2 files2 folder new
-knows_more tells tells2 files files2 folder old new hash members same_tells same_files is backs k = record {
+pub knows_more : (tells tells2 : Bool) (files files2 : Files) (folder : List ℕ) (old new : Xorbs) (hash : List ℕ) (leaves : List (List ℕ × ℕ)) → tells2 ≡ tells → files2 ≡ files
+    → new ≡ old ++ (hash, leaves) ∷ [] → (tells ≡ true → IsBacked files folder hash leaves) → Knows tells files folder old → Knows tells2 files2 folder new
+knows_more tells tells2 files files2 folder old new hash leaves same_tells same_files is backs k = record {
   told = same_tells ∙ k.told;
-  backed = λ h v e. subst (λ (f : Files). IsBacked f folder h v) (sym same_files) (go h v (found_either old hash h members v (ap (λ (rows : Xorbs). found rows h) (sym is) ∙ e)));
+  backed = λ h v e. subst (λ (f : Files). IsBacked f folder h v) (sym same_files) (go h v (found_either old hash h leaves v (ap (λ (rows : Xorbs). found rows h) (sym is) ∙ e)));
 }
   where
-    go : (h : List ℕ) (v : List (List ℕ × ℕ)) → (found old h ≡ Some v) ⊎ ((hash ≡ h) × (members ≡ v)) → IsBacked files folder h v
+    go : (h : List ℕ) (v : List (List ℕ × ℕ)) → (found old h ≡ Some v) ⊎ ((hash ≡ h) × (leaves ≡ v)) → IsBacked files folder h v
     go h v (inl e) = k.backed h v e
     go h v (inr e) = subst (λ (x : List ℕ). IsBacked files folder x v) e.0 (subst (λ (ms : List (List ℕ × ℕ)). IsBacked files folder hash ms) e.1 (backs k.told))
 
-all_later : (old new : Xorbs) (segments : List Segment) → IsLater old new → AllByRecursion (λ s. Has old s.xorb_hash) segments → AllByRecursion (λ s. Has new s.xorb_hash) segments
+all_later : (old new : Xorbs) (segments : List Segment) → IsLater old new → AllByRecursion (λ s. IsInTable old s.xorb_hash) segments → AllByRecursion (λ s. IsInTable new s.xorb_hash) segments
 all_later old new [] later has = tt
 all_later old new (s ∷ ss) later has = (has_later old new s.xorb_hash later has.0, all_later old new ss later has.1)
 
-pub has_file_later : (old new : Xorbs) (f : MDBFileInfo) → IsLater old new → HasFile old f → HasFile new f
+pub has_file_later : (old new : Xorbs) (f : MDBFileInfo) → IsLater old new → HasXorbsOfFile old f → HasXorbsOfFile new f
 has_file_later old new f later has = all_later old new f.segments later has
 
-pub blocks_later : (old new : Xorbs) (blocks : List MDBXorbInfo) → IsLater old new → AllByRecursion (λ b. Has old (xorb_hash b)) blocks → AllByRecursion (λ b. Has new (xorb_hash b)) blocks
+pub blocks_later : (old new : Xorbs) (blocks : List MDBXorbInfo) → IsLater old new → AllByRecursion (λ b. IsInTable old (xorb_hash b)) blocks → AllByRecursion (λ b. IsInTable new (xorb_hash b)) blocks
 blocks_later old new [] later has = tt
 blocks_later old new (b ∷ bs) later has = (has_later old new (xorb_hash b) later has.0, blocks_later old new bs later has.1)
 
@@ -95,9 +95,9 @@ joins_later old new [] out later none = none
 joins_later old new (s ∷ ss) out later (xs, rest, listed, lies, parts, more) = (xs, rest, listed_later old new s.xorb_hash xs later listed, lies, parts, joins_later old new ss rest later more)
 
 pub record_later : (old new : Xorbs) (r : List ℕ × MDBFileInfo) → IsLater old new → IsRecord old r → IsRecord new r
-record_later old new r later is = record { named = is.named; members = is.members; joins = joins_later old new r.1.segments is.members later is.joins; hash = is.hash; some = is.some; bound = is.bound }
+record_later old new r later is = record { named = is.named; leaves = is.leaves; joins = joins_later old new r.1.segments is.leaves later is.joins; hash = is.hash; some = is.some; bound = is.bound }
 
-pub records_later : (old new : Xorbs) (rs : Records) → IsLater old new → AllByRecursion (IsRecord old) rs → AllByRecursion (IsRecord new) rs
+pub records_later : (old new : Xorbs) (rs : FileRecords) → IsLater old new → AllByRecursion (IsRecord old) rs → AllByRecursion (IsRecord new) rs
 records_later old new [] later all = tt
 records_later old new (r ∷ rs) later all = (record_later old new r later all.0, records_later old new rs later all.1)
 

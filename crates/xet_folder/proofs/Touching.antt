@@ -7,17 +7,17 @@ use Rattle.xet_shard_format.specs.declared.record.FileDataSequenceEntry.{FileDat
 use Rattle.xet_folder.specs.Plan.{LiesIn, part}
 use Rattle.xet_folder.specs.internal.Runs.{IsTouched, Touches}
 use Rattle.xet_folder.specs.Runs.{stored_len}
-use Rattle.xet_folder.specs.theorems.Placing.{Member}
+use Rattle.xet_folder.specs.theorems.Placing.{Leaf}
 use Rattle.xet_folder.proofs.Placing.{piece, piece-piece}
 use Rattle.xet_folder.proofs.Sums.{sum_of_part, sum_rises}
 
 -- the bytes of the first chunks
-abbrev end_of : List Member → ℕ → ℕ
+abbrev end_of : List Leaf → ℕ → ℕ
 end_of ms k = total_len (take k ms)
 
 -- What the searches give for a range of a segment that lies in these chunks: how many chunks end at or before its begin, and
 -- how many reach its end.
-pub record Searched (s : Segment) (ms : List Member) (start from to first last : ℕ) : Type 0 where
+pub record Searched (s : Segment) (ms : List Leaf) (start from to first last : ℕ) : Type 0 where
   pub lies : LiesIn (λ m. m.1) s ms
   pub starts : start ≡ total_len (take s.chunk_index_start ms)
   pub order : from < to
@@ -30,20 +30,20 @@ pub record Searched (s : Segment) (ms : List Member) (start from to first last :
   pub least : (k : ℕ) → k < last → total_len (take k ms) < start + to
 
 -- a segment ends where its xorb does, or before
-pub lies_within : (s : Segment) (ms : List Member) (start to : ℕ) → LiesIn (λ m. m.1) s ms → start ≡ total_len (take s.chunk_index_start ms) → to ≤ s.unpacked_segment_bytes → start + to ≤ total_len ms
+pub lies_within : (s : Segment) (ms : List Leaf) (start to : ℕ) → LiesIn (λ m. m.1) s ms → start ≡ total_len (take s.chunk_index_start ms) → to ≤ s.unpacked_segment_bytes → start + to ≤ total_len ms
 lies_within s ms start to lies starts fits =
     let here : s.chunk_index_start + (s.chunk_index_end - s.chunk_index_start) ≡ s.chunk_index_end = let o = lies.some in omega arith in
     omega (
       arith,
-      sum_of_part (λ (m : Member). m.1) ms s.chunk_index_start (s.chunk_index_end - s.chunk_index_start),
+      sum_of_part (λ (m : Leaf). m.1) ms s.chunk_index_start (s.chunk_index_end - s.chunk_index_start),
       ap (λ (n : ℕ). end_of ms n) here,
       lies.bytes,
       starts,
-      sum_rises (λ (m : Member). m.1) ms s.chunk_index_end (length ms) lies.within,
-      ap (λ (l : List Member). total_len l) (take_all {A = Member} (length ms) ms (omega arith)),
+      sum_rises (λ (m : Leaf). m.1) ms s.chunk_index_end (length ms) lies.within,
+      ap (λ (l : List Leaf). total_len l) (take_all {A = Leaf} (length ms) ms (omega arith)),
     )
 
-module _ (s : Segment) (ms : List Member) (start from to first last : ℕ) (f : Searched s ms start from to first last) where
+module _ (s : Segment) (ms : List Leaf) (start from to first last : ℕ) (f : Searched s ms start from to first last) where
   abbrev a : ℕ
   a = s.chunk_index_start
 
@@ -51,10 +51,10 @@ module _ (s : Segment) (ms : List Member) (start from to first last : ℕ) (f : 
   b = s.chunk_index_end
 
   part_of : (i j : ℕ) → end_of ms i + total_len (piece i j ms) ≡ end_of ms (i + j)
-  part_of i j = sum_of_part (λ (m : Member). m.1) ms i j
+  part_of i j = sum_of_part (λ (m : Leaf). m.1) ms i j
 
   rises : (i j : ℕ) → i ≤ j → end_of ms i ≤ end_of ms j
-  rises i j le = sum_rises (λ (m : Member). m.1) ms i j le
+  rises i j le = sum_rises (λ (m : Leaf). m.1) ms i j le
 
   from_start : a ≤ first
   from_start = go (cases_lt first a)
@@ -83,14 +83,14 @@ module _ (s : Segment) (ms : List Member) (start from to first last : ℕ) (f : 
   starts_before = omega (arith, f.starts, rises a first from_start)
 
   pub stored_rises : stored_len (take first ms) ≤ stored_len (take last ms)
-  stored_rises = let lt = in_order in sum_rises (λ (m : Member). 8 + m.1) ms first last (omega arith)
+  stored_rises = let lt = in_order in sum_rises (λ (m : Leaf). 8 + m.1) ms first last (omega arith)
 
   -- pieces of the run are pieces of the whole
   in_whole : (at n : ℕ) → at + n ≤ b - a → piece at n (part s ms) ≡ piece (a + at) n ms
   in_whole at n le = piece-piece a (b - a) at n ms le
 
-  front_bytes : (n : ℕ) → n ≤ b - a → end_of ms a + total_len (take n (part s ms)) ≡ end_of ms (a + n)
-  front_bytes n le = omega (arith, part_of a n, ap (λ (l : List Member). total_len l) (take-take n (b - a) (drop a ms) le))
+  prefix_bytes : (n : ℕ) → n ≤ b - a → end_of ms a + total_len (take n (part s ms)) ≡ end_of ms (a + n)
+  prefix_bytes n le = omega (arith, part_of a n, ap (λ (l : List Leaf). total_len l) (take-take n (b - a) (drop a ms) le))
 
   touches : Touches (part s ms) from to (first - a) (end_of ms first - start) (piece first (last - first) ms)
   touches =
@@ -105,30 +105,30 @@ module _ (s : Segment) (ms : List Member) (start from to first last : ℕ) (f : 
         count = last - first;
         within = omega (arith, size_of);
         is = sym (in_whole (first - a) (last - first) (omega arith) ∙ ap (λ (n : ℕ). piece n (last - first) ms) at);
-        bytes = omega (arith, front_bytes (first - a) (omega arith), ap (λ (n : ℕ). end_of ms n) at, f.starts);
+        bytes = omega (arith, prefix_bytes (first - a) (omega arith), ap (λ (n : ℕ). end_of ms n) at, f.starts);
         before = omega (arith, f.before);
-        next = omega (arith, front_bytes (first - a + 1) (omega arith), ap (λ (n : ℕ). end_of ms n) after, f.next (first + 1) (omega arith) (omega (arith, f.lies.within)), f.starts);
+        next = omega (arith, prefix_bytes (first - a + 1) (omega arith), ap (λ (n : ℕ). end_of ms n) after, f.next (first + 1) (omega arith) (omega (arith, f.lies.within)), f.starts);
         reaches = let joined : first + (last - first) ≡ last = omega arith in omega (arith, part_of first (last - first), ap (λ (n : ℕ). end_of ms n) joined, f.reaches, starts_before);
         least = λ k below.
             let here : piece (first - a) k (part s ms) ≡ piece first k ms = in_whole (first - a) k (omega arith) ∙ ap (λ (n : ℕ). piece n k ms) at in
-            omega (arith, ap (λ (l : List Member). total_len l) here, part_of first k, f.least (first + k) (omega arith), starts_before);
+            omega (arith, ap (λ (l : List Leaf). total_len l) here, part_of first k, f.least (first + k) (omega arith), starts_before);
       }
 
   stored_of : stored_len (take last ms) - stored_len (take first ms) ≡ stored_len (piece first (last - first) ms)
   stored_of =
       let lt = in_order in
       let joined : first + (last - first) ≡ last = omega arith in
-      omega (arith, sum_of_part (λ (m : Member). 8 + m.1) ms first (last - first), ap (λ (n : ℕ). stored_len (take n ms)) joined)
+      omega (arith, sum_of_part (λ (m : Leaf). 8 + m.1) ms first (last - first), ap (λ (n : ℕ). stored_len (take n ms)) joined)
 
-  pub touched_is : (chunks : List Member) (skipped at len : ℕ) → chunks ≡ piece first (last - first) ms → skipped ≡ end_of ms first - start → at ≡ stored_len (take first ms)
+  pub touched_is : (chunks : List Leaf) (skipped at len : ℕ) → chunks ≡ piece first (last - first) ms → skipped ≡ end_of ms first - start → at ≡ stored_len (take first ms)
       → len ≡ stored_len (take last ms) - stored_len (take first ms) → stored_len (take last ms) < 2 ^ 32 → IsTouched s ms from to chunks skipped at len
   touched_is chunks skipped at len chunks_are skipped_is at_is len_is bound =
       let low = from_start in
       let same : a + (first - a) ≡ first = omega arith in
       record {
         first = first - a;
-        touches = subst (λ (n : ℕ). Touches (part s ms) from to (first - a) n chunks) (sym skipped_is) (subst (λ (l : List Member). Touches (part s ms) from to (first - a) (end_of ms first - start) l) (sym chunks_are) touches);
+        touches = subst (λ (n : ℕ). Touches (part s ms) from to (first - a) n chunks) (sym skipped_is) (subst (λ (l : List Leaf). Touches (part s ms) from to (first - a) (end_of ms first - start) l) (sym chunks_are) touches);
         stored_at = at_is ∙ ap (λ (n : ℕ). stored_len (take n ms)) (sym same);
-        stored_in = len_is ∙ stored_of ∙ ap (λ (l : List Member). stored_len l) (sym chunks_are);
+        stored_in = len_is ∙ stored_of ∙ ap (λ (l : List Leaf). stored_len l) (sym chunks_are);
         below = omega (arith, at_is, len_is, stored_rises, bound);
       }

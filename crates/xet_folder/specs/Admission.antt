@@ -12,7 +12,7 @@ use Rattle.xet_shard_format.specs.declared.record.MDBFileInfo.{MDBFileInfo}
 use Rattle.xet_shard_format.specs.declared.record.MDBXorbInfo.{MDBXorbInfo}
 use Rattle.xet_shard_format.specs.declared.record.XorbChunkSequenceEntry.{XorbChunkSequenceEntry}
 use Rattle.xet_shard_format.specs.Names.{shard_name}
-use Rattle.xet_shard_format.specs.Reading.{Parts, all_of}
+use Rattle.xet_shard_format.specs.Reading.{ShardParts, all_of}
 use Rattle.xet_shard_format.specs.Records as record_of
 use Rattle.xet_folder.specs.Names.{xorb_path}
 use Rattle.xet_folder.specs.Plan.{Joins, LiesIn}
@@ -29,11 +29,11 @@ abbrev pub shard_hash : List ℕ → List ℕ
 shard_hash bytes = chunk_hash bytes
 
 -- the hash and the length that an entry of a xorb record lists
-abbrev pub entry_member : XorbChunkSequenceEntry → List ℕ × ℕ
-entry_member c = (c.chunk_hash, c.unpacked_segment_bytes)
+abbrev pub entry_leaf : XorbChunkSequenceEntry → List ℕ × ℕ
+entry_leaf c = (c.chunk_hash, c.unpacked_segment_bytes)
 
-abbrev pub block_members : MDBXorbInfo → List (List ℕ × ℕ)
-block_members b = map entry_member b.chunks
+abbrev pub block_leaves : MDBXorbInfo → List (List ℕ × ℕ)
+block_leaves b = map entry_leaf b.chunks
 
 -- In a folder, for the shard with this hash:
 module _ (files : Files) (folder shard : List ℕ) where
@@ -44,37 +44,37 @@ module _ (files : Files) (folder shard : List ℕ) where
 
   -- A xorb record lists the hashes and lengths of the stored chunks.
   abbrev pub BlockHolds : MDBXorbInfo → Type 0
-  BlockHolds b = IsBacked files folder (record_of.xorb_hash b) (block_members b)
+  BlockHolds b = IsBacked files folder (record_of.xorb_hash b) (block_leaves b)
 
   pub data BlockFails (b : MDBXorbInfo) (e : StoreError) : Type 0 where
     xorb : XorbFails (record_of.xorb_hash b) e → BlockFails b e
-    other : (members : List (List ℕ × ℕ)) → IsBacked files folder (record_of.xorb_hash b) members → members ≢ block_members b → e ≡ InvalidShard shard OtherChunks → BlockFails b e
+    other : (leaves : List (List ℕ × ℕ)) → IsBacked files folder (record_of.xorb_hash b) leaves → leaves ≢ block_leaves b → e ≡ InvalidShard shard OtherChunks → BlockFails b e
 
   -- A segment lies in its stored xorb.
   pub record SegmentHolds (s : Segment) : Type 0 where
-    pub members : List (List ℕ × ℕ)
-    pub backed : IsBacked files folder s.xorb_hash members
-    pub lies : LiesIn (λ m. m.1) s members
+    pub leaves : List (List ℕ × ℕ)
+    pub backed : IsBacked files folder s.xorb_hash leaves
+    pub lies : LiesIn (λ m. m.1) s leaves
 
   pub data SegmentFails (s : Segment) (e : StoreError) : Type 0 where
     xorb : XorbFails s.xorb_hash e → SegmentFails s e
-    run : (members : List (List ℕ × ℕ)) → IsBacked files folder s.xorb_hash members → (LiesIn (λ m. m.1) s members → ⊥) → e ≡ InvalidShard shard MissingRun → SegmentFails s e
+    run : (leaves : List (List ℕ × ℕ)) → IsBacked files folder s.xorb_hash leaves → (LiesIn (λ m. m.1) s leaves → ⊥) → e ≡ InvalidShard shard MissingRun → SegmentFails s e
 
   -- A file's segments resolve to stored chunks, at least one, which give its file hash.
   pub record FileHolds (f : MDBFileInfo) : Type 0 where
-    pub members : List (List ℕ × ℕ)
-    pub joins : Joins (IsBacked files folder) (λ m. m.1) f.segments members
-    pub some : 0 < length members
-    pub hash : file_hash members ≡ record_of.file_hash f
+    pub leaves : List (List ℕ × ℕ)
+    pub joins : Joins (IsBacked files folder) (λ m. m.1) f.segments leaves
+    pub some : 0 < length leaves
+    pub hash : file_hash leaves ≡ record_of.file_hash f
 
   pub data FileFails (f : MDBFileInfo) (e : StoreError) : Type 0 where
     segments : FirstFails SegmentHolds SegmentFails f.segments e → FileFails f e
-    other : (members : List (List ℕ × ℕ)) → Joins (IsBacked files folder) (λ m. m.1) f.segments members → (members ≡ []) ⊎ (file_hash members ≢ record_of.file_hash f)
+    other : (leaves : List (List ℕ × ℕ)) → Joins (IsBacked files folder) (λ m. m.1) f.segments leaves → (leaves ≡ []) ⊎ (file_hash leaves ≢ record_of.file_hash f)
         → e ≡ InvalidShard shard OtherFileHash → FileFails f e
 
 -- The file is a well-formed shard without a key, named by its digest; its xorb records and its files hold.
 pub record ShardHolds (files : Files) (folder : List ℕ) (s : ShardFile) : Type 0 where
-  pub parts : Parts
+  pub parts : ShardParts
   pub read : all_of s.file.bytes ≡ Ok parts
   pub named : shard_hash s.file.bytes ≡ s.hash
   pub plain : parts.2.chunk_hash_hmac_key ≡ zero_hash
@@ -84,12 +84,12 @@ pub record ShardHolds (files : Files) (folder : List ℕ) (s : ShardFile) : Type
 -- The first check that fails: the bytes, the name, the key, the xorb records in order, the files in order.
 pub data ShardFails (files : Files) (folder : List ℕ) (s : ShardFile) (e : StoreError) : Type 0 where
   grammar : all_of s.file.bytes ≡ Err e → ShardFails files folder s e
-  name : (parts : Parts) → all_of s.file.bytes ≡ Ok parts → shard_hash s.file.bytes ≢ s.hash → e ≡ MalformedData ShardHash → ShardFails files folder s e
-  keyed : (parts : Parts) → all_of s.file.bytes ≡ Ok parts → shard_hash s.file.bytes ≡ s.hash → parts.2.chunk_hash_hmac_key ≢ zero_hash → e ≡ InvalidShard s.hash OtherChunks
+  name : (parts : ShardParts) → all_of s.file.bytes ≡ Ok parts → shard_hash s.file.bytes ≢ s.hash → e ≡ MalformedData ShardHash → ShardFails files folder s e
+  keyed : (parts : ShardParts) → all_of s.file.bytes ≡ Ok parts → shard_hash s.file.bytes ≡ s.hash → parts.2.chunk_hash_hmac_key ≢ zero_hash → e ≡ InvalidShard s.hash OtherChunks
       → ShardFails files folder s e
-  block : (parts : Parts) → all_of s.file.bytes ≡ Ok parts → shard_hash s.file.bytes ≡ s.hash → parts.2.chunk_hash_hmac_key ≡ zero_hash
+  block : (parts : ShardParts) → all_of s.file.bytes ≡ Ok parts → shard_hash s.file.bytes ≡ s.hash → parts.2.chunk_hash_hmac_key ≡ zero_hash
       → FirstFails (BlockHolds files folder s.hash) (BlockFails files folder s.hash) parts.0 e → ShardFails files folder s e
-  file : (parts : Parts) → all_of s.file.bytes ≡ Ok parts → shard_hash s.file.bytes ≡ s.hash → parts.2.chunk_hash_hmac_key ≡ zero_hash
+  file : (parts : ShardParts) → all_of s.file.bytes ≡ Ok parts → shard_hash s.file.bytes ≡ s.hash → parts.2.chunk_hash_hmac_key ≡ zero_hash
       → AllByRecursion (BlockHolds files folder s.hash) parts.0 → FirstFails (FileHolds files folder s.hash) (FileFails files folder s.hash) parts.1 e → ShardFails files folder s e
 
 -- The folder is valid at a time, with these unexpired shards. For *valid*, names say *admitted*.

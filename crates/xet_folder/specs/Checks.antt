@@ -5,7 +5,7 @@ use Rattle.xet_io.specs.Disk.{Files}
 use Rattle.xet_shard_format.specs.declared.record.FileDataSequenceEntry.{FileDataSequenceEntry as Segment}
 use Rattle.xet_shard_format.specs.declared.record.MDBFileInfo.{MDBFileInfo}
 use Rattle.xet_shard_format.specs.declared.record.MDBXorbInfo.{MDBXorbInfo}
-use Rattle.xet_shard_format.specs.Reading.{Parts, all_of}
+use Rattle.xet_shard_format.specs.Reading.{ShardParts, all_of}
 use Rattle.xet_shard_format.specs.Records as record_of
 use Rattle.xet_folder.specs.Xorbs.{AreBacked, Xorbs, found}
 
@@ -21,8 +21,8 @@ pub record Grows (Of : List ℕ → Type 0) (old new : Xorbs) : Type 0 where
   pub named : AllByRecursion (λ row. Of row.0) added
 
 -- a xorb is in the table
-abbrev pub Has : Xorbs → List ℕ → Type 0
-Has xorbs h = IsSome (found xorbs h)
+abbrev pub IsInTable : Xorbs → List ℕ → Type 0
+IsInTable xorbs h = IsSome (found xorbs h)
 
 -- the xorb h is named by one of these xorb records, and likewise by segments, files and shards
 abbrev pub OfBlocks : List MDBXorbInfo → List ℕ → Type 0
@@ -37,17 +37,17 @@ OfFile f h = OfSegments f.segments h
 abbrev pub OfFiles : List MDBFileInfo → List ℕ → Type 0
 OfFiles files h = (f : MDBFileInfo) × IsAmong files f × OfFile f h
 
-abbrev pub OfShard : Parts → List ℕ → Type 0
+abbrev pub OfShard : ShardParts → List ℕ → Type 0
 OfShard p h = OfBlocks p.0 h ⊎ OfFiles p.1 h
 
 abbrev pub OfBytes : List ℕ → List ℕ → Type 0
-OfBytes bytes h = (p : Parts) × (all_of bytes ≡ Ok p) × OfShard p h
+OfBytes bytes h = (p : ShardParts) × (all_of bytes ≡ Ok p) × OfShard p h
 
 -- each xorb that a file names is in the table
-abbrev pub HasFile : Xorbs → MDBFileInfo → Type 0
-HasFile xorbs f = AllByRecursion (λ s. Has xorbs s.xorb_hash) f.segments
+abbrev pub HasXorbsOfFile : Xorbs → MDBFileInfo → Type 0
+HasXorbsOfFile xorbs f = AllByRecursion (λ s. IsInTable xorbs s.xorb_hash) f.segments
 
 -- each xorb that a shard names is in the table
-pub record HasShard (xorbs : Xorbs) (p : Parts) : Type 0 where
-  pub blocks : AllByRecursion (λ b. Has xorbs (record_of.xorb_hash b)) p.0
-  pub files : AllByRecursion (HasFile xorbs) p.1
+pub record HasXorbsOfShard (xorbs : Xorbs) (p : ShardParts) : Type 0 where
+  pub blocks : AllByRecursion (λ b. IsInTable xorbs (record_of.xorb_hash b)) p.0
+  pub files : AllByRecursion (HasXorbsOfFile xorbs) p.1

@@ -15,20 +15,20 @@ use Rattle.xet_folder.specs.declared.contents.Contents.{Contents}
 use Rattle.xet_folder.specs.Admission.{Admits, Refuses}
 use Rattle.xet_folder.specs.Checks.{OfBytes}
 use Rattle.xet_folder.specs.Plan.{Joins}
-use Rattle.xet_shard_file.specs.Refusals.{IsBadShard}
+use Rattle.xet_shard_file.specs.Errors.{IsBadShard}
 use Rattle.xet_shard_file.specs.Shards.{ShardFile}
-use Rattle.xet_folder.specs.Xorbs.{IsListed, Records, Xorbs, found}
+use Rattle.xet_folder.specs.Xorbs.{IsListed, FileRecords, Xorbs, found}
 
 -- file records, each under its file hash
-abbrev pub listed_of : List MDBFileInfo → Records
+abbrev pub listed_of : List MDBFileInfo → FileRecords
 listed_of files = map (λ f. (record_of.file_hash f, f)) files
 
 -- the file records in a shard's bytes; none if these are not a shard
-abbrev pub listed_in : List ℕ → Records
+abbrev pub listed_in : List ℕ → FileRecords
 listed_in bytes = elim (all_of bytes) [ Ok p ↦ listed_of p.1 | Err e ↦ [] ]
 
 -- the first record of each hash
-unfoldable pub firsts : Records → Records
+unfoldable pub firsts : FileRecords → FileRecords
 firsts [] = []
 firsts (r ∷ rs) = r ∷ filter (λ q. not (pointwise nat_eq q.0 r.0)) (firsts rs)
 
@@ -36,11 +36,11 @@ firsts (r ∷ rs) = r ∷ filter (λ q. not (pointwise nat_eq q.0 r.0)) (firsts 
 -- file hash and have fewer than 2 ^ 64 bytes together.
 pub record IsRecord (xorbs : Xorbs) (r : List ℕ × MDBFileInfo) : Type 0 where
   pub named : record_of.file_hash r.1 ≡ r.0
-  pub members : List (List ℕ × ℕ)
-  pub joins : Joins (IsListed xorbs) (λ m. m.1) r.1.segments members
-  pub hash : file_hash members ≡ r.0
-  pub some : 0 < length members
-  pub bound : total_len members < 2 ^ 64
+  pub leaves : List (List ℕ × ℕ)
+  pub joins : Joins (IsListed xorbs) (λ m. m.1) r.1.segments leaves
+  pub hash : file_hash leaves ≡ r.0
+  pub some : 0 < length leaves
+  pub bound : total_len leaves < 2 ^ 64
 
 -- The contents of these shards: the shards are registered, the xorbs are those that they name, and the files
 -- are the first record of each hash.

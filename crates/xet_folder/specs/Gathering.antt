@@ -2,8 +2,8 @@
 use Rattle.std.specs.Prelude.{◌≡◌, ◌≢◌, ℕ, false, List, [], ◌∷◌, ◌++◌, Option, Some, None, Err, is_some, if◌then◌else◌}
 use Rattle.std.specs.List.{AllByRecursion}
 use Rattle.xet_shard_format.specs.declared.record.MDBFileInfo.{MDBFileInfo}
-use Rattle.xet_folder.specs.Xorbs.{Records, found}
+use Rattle.xet_folder.specs.Xorbs.{FileRecords, found}
 
 -- the rows, and one more unless its hash has a row
-abbrev pub with_first : Records → List ℕ × MDBFileInfo → Records
+abbrev pub with_first : FileRecords → List ℕ × MDBFileInfo → FileRecords
 with_first rows r = if is_some (found rows r.0) then rows else rows ++ r ∷ []

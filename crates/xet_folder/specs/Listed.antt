@@ -3,7 +3,7 @@ use Rattle.std.specs.Prelude.{◌≡◌, ℕ, false, List, length, Ok}
 use Rattle.std.specs.List.{IsAmong}
 use Rattle.xet_io.specs.Disk.{Files}
 use Rattle.xet_shard_format.specs.declared.record.MDBFileInfo.{MDBFileInfo}
-use Rattle.xet_shard_format.specs.Reading.{Parts, all_of}
+use Rattle.xet_shard_format.specs.Reading.{ShardParts, all_of}
 use Rattle.xet_folder.specs.Plan.{Joins}
 use Rattle.xet_shard_file.specs.Shards.{IsThere, ShardFile, is_expired}
 use Rattle.xet_folder.specs.Stored.{IsStored}
@@ -13,7 +13,7 @@ pub record Lists (files : Files) (folder : List ℕ) (now : ℕ) (f : MDBFileInf
   pub shard : ShardFile
   pub there : IsThere files folder shard
   pub valid : is_expired now shard.file.bytes ≡ false
-  pub parts : Parts
+  pub parts : ShardParts
   pub read : all_of shard.file.bytes ≡ Ok parts
   pub among : IsAmong parts.1 f
 

@@ -10,16 +10,16 @@ use Rattle.xet_folder.specs.Ends.{AreEnds}
 
 -- the stored length of chunks: each has a header of eight bytes
 abbrev pub stored_len : List (List ℕ × ℕ) → ℕ
-stored_len members = sum_by (λ m. 8 + m.1) members
+stored_len leaves = sum_by (λ m. 8 + m.1) leaves
 
 -- A xorb's chunks, which are stored in fewer than 2 ^ 32 bytes, and their boundary offsets.
-pub record HasEnds (members : List (List ℕ × ℕ)) (ends : List ℕ) : Type 0 where
-  pub bound : stored_len members < 2 ^ 32
-  pub are : AreEnds (λ m. m.1) members ends
+pub record HasEnds (leaves : List (List ℕ × ℕ)) (ends : List ℕ) : Type 0 where
+  pub bound : stored_len leaves < 2 ^ 32
+  pub are : AreEnds (λ m. m.1) leaves ends
 
 -- why a range of a xorb is not read; There says that the xorb is stored as it is listed
-abbrev pub IsRunRefusal : Type 0 → ℕ → ℕ → StoreError → Type 0
-IsRunRefusal There before now (Io Disk) = Rose before now
-IsRunRefusal There before now (MalformedData XorbText) = There → ⊥
-IsRunRefusal There before now OutOfMemory = Unit {0}
-IsRunRefusal There before now e = ⊥
+abbrev pub IsRunError : Type 0 → ℕ → ℕ → StoreError → Type 0
+IsRunError There before now (Io Disk) = Rose before now
+IsRunError There before now (MalformedData XorbText) = There → ⊥
+IsRunError There before now OutOfMemory = Unit {0}
+IsRunError There before now e = ⊥

@@ -19,19 +19,19 @@ found rows h = lookup (pointwise nat_eq h) rows
 
 -- the xorb h is listed with these chunks
 abbrev pub IsListed : Xorbs → List ℕ → List (List ℕ × ℕ) → Type 0
-IsListed xorbs h members = found xorbs h ≡ Some members
+IsListed xorbs h leaves = found xorbs h ≡ Some leaves
 
 -- the records of files, each under its file hash, in order of recording
-abbrev pub Records : Type 0
-Records = List (List ℕ × MDBFileInfo)
+abbrev pub FileRecords : Type 0
+FileRecords = List (List ℕ × MDBFileInfo)
 
 -- each xorb in a table is stored with the listed chunks
 abbrev pub AreBacked : Files → List ℕ → Xorbs → Type 0
-AreBacked files folder xorbs = (h : List ℕ) (members : List (List ℕ × ℕ)) → found xorbs h ≡ Some members → IsBacked files folder h members
+AreBacked files folder xorbs = (h : List ℕ) (leaves : List (List ℕ × ℕ)) → found xorbs h ≡ Some leaves → IsBacked files folder h leaves
 
 -- What was read of a xorb: no file; a file that is not a xorb of that hash whose chunks can be read; or the
 -- hashes and lengths of its chunks.
 abbrev pub IsXorbFile : Files → List ℕ → List ℕ → XorbFile → Type 0
 IsXorbFile files folder h Missing = bytes_at files (xorb_path folder h) ≡ None
 IsXorbFile files folder h Malformed = IsSome (bytes_at files (xorb_path folder h)) × ((chunks : List (List ℕ)) → IsStored files folder h chunks → ⊥)
-IsXorbFile files folder h (Stored members) = IsBacked files folder h members
+IsXorbFile files folder h (Stored leaves) = IsBacked files folder h leaves

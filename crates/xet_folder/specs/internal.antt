@@ -1,6 +1,6 @@
 pub mod Checks
 pub mod Contents
 pub mod Gathering
-pub mod Refusals
+pub mod Errors
 pub mod Runs
 pub mod Xorbs

@@ -6,19 +6,19 @@ ghost use Rattle.xet_folder.specs.Admission.{BlockFails, BlockHolds, FileFails, 
 ghost use Rattle.xet_folder.specs.internal.Contents.{IsFileRecord};
 ghost use Rattle.xet_folder.specs.Contents.{IsRecord, listed_of};
 ghost use Rattle.xet_folder.specs.internal.Checks.{AddsListed, AddsRun};
-ghost use Rattle.xet_folder.specs.Checks.{Grows, Has, HasFile, HasShard, Knows, OfBlocks, OfBytes, OfFile, OfFiles, OfSegments};
-ghost use Rattle.xet_shard_file.specs.Refusals.{IsCheckRefusal, IsShardError};
+ghost use Rattle.xet_folder.specs.Checks.{Grows, IsInTable, HasXorbsOfFile, HasXorbsOfShard, Knows, OfBlocks, OfBytes, OfFile, OfFiles, OfSegments};
+ghost use Rattle.xet_shard_file.specs.Errors.{IsShardCheckError, IsShardError};
 ghost use Rattle.xet_folder.specs.Plan.{Joins};
 ghost use Rattle.xet_folder.specs.Stored.{IsBacked};
 ghost use Rattle.xet_folder.specs.Xorbs.{IsListed};
 ghost use Rattle.xet_hash.specs.Merkle.{file_hash as hash_of_file, total_len};
 ghost use Rattle.xet_shard_format.specs.Records.{segment_bytes, xorb_hash};
-ghost use Rattle.xet_shard_format.specs.Reading.{Parts, all_of};
+ghost use Rattle.xet_shard_format.specs.Reading.{ShardParts, all_of};
 ghost use Rattle.xet_shard_format.specs.Encoding.{materialized};
 ghost use Rattle.xet_io.specs.Disk.{file};
 ghost use Rattle.xet_io.specs.Frame.{Unchanged};
 
-use crate::members::{lies_in, lists_members, run_of};
+use crate::leaves::{lies_in, lists_leaves, run_of};
 use crate::verifying::verify_xorb;
 use crate::xorbs::XorbTable;
 use std::alloc::Global;
@@ -40,13 +40,13 @@ pub fn admit_shard<D: Disk>(
     bytes: &[u8],
     table: &mut XorbTable,
 ) -> Result<Vec<MDBFileInfo>, StoreError>
-    ensures files { IfOk result (λ files. (p : Parts) × (all_of bytes.now ≡ Ok p) × (files.items ≡ p.1)) }
+    ensures files { IfOk result (λ files. (p : ShardParts) × (all_of bytes.now ≡ Ok p) × (files.items ≡ p.1)) }
     ensures recorded { IfOk result (λ files. AllByRecursion (IsRecord table.new) (listed_of files.items)) }
     ensures holds { OnOk result (Knows (D.tells disk.old) (D.files disk.old) folder.now table.old → (modified : ℕ) → ShardHolds (D.files disk.old) folder.now (record { hash = hash.now; file = file bytes.now modified })) }
-    ensures there { OnOk result ((p : Parts) → all_of bytes.now ≡ Ok p → HasShard table.new p) }
+    ensures there { OnOk result ((p : ShardParts) → all_of bytes.now ≡ Ok p → HasXorbsOfShard table.new p) }
     ensures grows { Grows (OfBytes bytes.now) table.old table.new }
     ensures knows { Knows (D.tells disk.old) (D.files disk.old) folder.now table.old → Knows (D.tells disk.new) (D.files disk.new) folder.now table.new }
-    ensures refused { IfErr result (IsCheckRefusal (Knows (D.tells disk.old) (D.files disk.old) folder.now table.old) (λ e. (modified : ℕ) → ShardFails (D.files disk.old) folder.now (record { hash = hash.now; file = file bytes.now modified }) e) (D.faults disk.old) (D.faults disk.new)) }
+    ensures refused { IfErr result (IsShardCheckError (Knows (D.tells disk.old) (D.files disk.old) folder.now table.old) (λ e. (modified : ℕ) → ShardFails (D.files disk.old) folder.now (record { hash = hash.now; file = file bytes.now modified }) e) (D.faults disk.old) (D.faults disk.new)) }
     ensures error { IfErr result (IsShardError hash.now) }
     ensures frame { Unchanged D.files D.tells D.faults disk.old disk.new }
 {
@@ -72,10 +72,10 @@ fn check_parts<D: Disk>(
     requires total { materialized parts.now.1.items < 2 ^ 64 }
     ensures holds { OnOk result (Knows (D.tells disk.old) (D.files disk.old) folder.now table.old → (modified : ℕ) → ShardHolds (D.files disk.old) folder.now (record { hash = hash.now; file = file bytes.now modified })) }
     ensures recorded { OnOk result (AllByRecursion (IsFileRecord table.new) parts.now.1.items) }
-    ensures there { OnOk result ((p : Parts) → all_of bytes.now ≡ Ok p → HasShard table.new p) }
+    ensures there { OnOk result ((p : ShardParts) → all_of bytes.now ≡ Ok p → HasXorbsOfShard table.new p) }
     ensures grows { Grows (OfBytes bytes.now) table.old table.new }
     ensures knows { Knows (D.tells disk.old) (D.files disk.old) folder.now table.old → Knows (D.tells disk.new) (D.files disk.new) folder.now table.new }
-    ensures refused { IfErr result (IsCheckRefusal (Knows (D.tells disk.old) (D.files disk.old) folder.now table.old) (λ e. (modified : ℕ) → ShardFails (D.files disk.old) folder.now (record { hash = hash.now; file = file bytes.now modified }) e) (D.faults disk.old) (D.faults disk.new)) }
+    ensures refused { IfErr result (IsShardCheckError (Knows (D.tells disk.old) (D.files disk.old) folder.now table.old) (λ e. (modified : ℕ) → ShardFails (D.files disk.old) folder.now (record { hash = hash.now; file = file bytes.now modified }) e) (D.faults disk.old) (D.faults disk.new)) }
     ensures error { IfErr result (IsShardError hash.now) }
     ensures frame { Unchanged D.files D.tells D.faults disk.old disk.new }
 {
@@ -100,16 +100,16 @@ fn check_block<D: Disk>(
     table: &mut XorbTable,
 ) -> Result<(), StoreError>
     ensures holds { OnOk result (Knows (D.tells disk.old) (D.files disk.old) folder.now table.old → BlockHolds (D.files disk.old) folder.now shard.now block.now) }
-    ensures there { OnOk result (Has table.new (xorb_hash block.now)) }
+    ensures there { OnOk result (IsInTable table.new (xorb_hash block.now)) }
     ensures grows { Grows (λ h. h ≡ xorb_hash block.now) table.old table.new }
     ensures knows { Knows (D.tells disk.old) (D.files disk.old) folder.now table.old → Knows (D.tells disk.new) (D.files disk.new) folder.now table.new }
-    ensures refused { IfErr result (IsCheckRefusal (Knows (D.tells disk.old) (D.files disk.old) folder.now table.old) (BlockFails (D.files disk.old) folder.now shard.now block.now) (D.faults disk.old) (D.faults disk.new)) }
+    ensures refused { IfErr result (IsShardCheckError (Knows (D.tells disk.old) (D.files disk.old) folder.now table.old) (BlockFails (D.files disk.old) folder.now shard.now block.now) (D.faults disk.old) (D.faults disk.new)) }
     ensures error { IfErr result (IsShardError shard.now) }
     ensures frame { Unchanged D.files D.tells D.faults disk.old disk.new }
 {
     let hash = block.hash();
     verify_xorb(disk, alloc, folder, shard, &hash, table)?;
-    if lists_members(block, table.members(&hash).as_slice()) {
+    if lists_leaves(block, table.leaves(&hash).as_slice()) {
         Ok(())
     } else {
         Err(StoreError::InvalidShard(*shard, Reason::OtherChunks))
@@ -126,10 +126,10 @@ fn check_blocks<D: Disk>(
     table: &mut XorbTable,
 ) -> Result<(), StoreError>
     ensures holds { OnOk result (Knows (D.tells disk.old) (D.files disk.old) folder.now table.old → AllByRecursion (BlockHolds (D.files disk.old) folder.now shard.now) blocks.now) }
-    ensures there { OnOk result (AllByRecursion (λ b. Has table.new (xorb_hash b)) blocks.now) }
+    ensures there { OnOk result (AllByRecursion (λ b. IsInTable table.new (xorb_hash b)) blocks.now) }
     ensures grows { Grows (OfBlocks blocks.now) table.old table.new }
     ensures knows { Knows (D.tells disk.old) (D.files disk.old) folder.now table.old → Knows (D.tells disk.new) (D.files disk.new) folder.now table.new }
-    ensures refused { IfErr result (IsCheckRefusal (Knows (D.tells disk.old) (D.files disk.old) folder.now table.old)
+    ensures refused { IfErr result (IsShardCheckError (Knows (D.tells disk.old) (D.files disk.old) folder.now table.old)
         (FirstFails (BlockHolds (D.files disk.old) folder.now shard.now) (BlockFails (D.files disk.old) folder.now shard.now) blocks.now) (D.faults disk.old) (D.faults disk.new)) }
     ensures error { IfErr result (IsShardError shard.now) }
     ensures frame { Unchanged D.files D.tells D.faults disk.old disk.new }
@@ -140,7 +140,7 @@ fn check_blocks<D: Disk>(
     Ok(())
 }
 
-/// Checks that a segment lies in its stored xorb, and appends the chunks that it names to `members`.
+/// Checks that a segment lies in its stored xorb, and appends the chunks that it names to `leaves`.
 fn add_segment<D: Disk>(
     disk: &mut D,
     alloc: Global,
@@ -148,25 +148,25 @@ fn add_segment<D: Disk>(
     shard: &MerkleHash,
     segment: &FileDataSequenceEntry,
     table: &mut XorbTable,
-    members: &mut Vec<(MerkleHash, u64)>,
+    leaves: &mut Vec<(MerkleHash, u64)>,
 ) -> Result<(), StoreError>
-    ensures adds { OnOk result (Knows (D.tells disk.old) (D.files disk.old) folder.now table.old → AddsRun (D.files disk.old) folder.now segment.now members.old.items members.new.items) }
-    ensures lists { OnOk result (AddsListed table.new segment.now members.old.items members.new.items) }
-    ensures total { OnOk result (total_len members.new.items ≡ total_len members.old.items + segment.now.unpacked_segment_bytes) }
-    ensures there { OnOk result (Has table.new segment.now.xorb_hash) }
+    ensures adds { OnOk result (Knows (D.tells disk.old) (D.files disk.old) folder.now table.old → AddsRun (D.files disk.old) folder.now segment.now leaves.old.items leaves.new.items) }
+    ensures lists { OnOk result (AddsListed table.new segment.now leaves.old.items leaves.new.items) }
+    ensures total { OnOk result (total_len leaves.new.items ≡ total_len leaves.old.items + segment.now.unpacked_segment_bytes) }
+    ensures there { OnOk result (IsInTable table.new segment.now.xorb_hash) }
     ensures grows { Grows (λ h. h ≡ segment.now.xorb_hash) table.old table.new }
     ensures knows { Knows (D.tells disk.old) (D.files disk.old) folder.now table.old → Knows (D.tells disk.new) (D.files disk.new) folder.now table.new }
-    ensures refused { IfErr result (IsCheckRefusal (Knows (D.tells disk.old) (D.files disk.old) folder.now table.old) (SegmentFails (D.files disk.old) folder.now shard.now segment.now) (D.faults disk.old) (D.faults disk.new)) }
+    ensures refused { IfErr result (IsShardCheckError (Knows (D.tells disk.old) (D.files disk.old) folder.now table.old) (SegmentFails (D.files disk.old) folder.now shard.now segment.now) (D.faults disk.old) (D.faults disk.new)) }
     ensures error { IfErr result (IsShardError shard.now) }
     ensures frame { Unchanged D.files D.tells D.faults disk.old disk.new }
 {
     let hash = segment.xorb_hash;
     verify_xorb(disk, alloc, folder, shard, &hash, table)?;
-    let found = table.members(&hash);
+    let found = table.leaves(&hash);
     if !lies_in(segment, found) {
         return Err(StoreError::InvalidShard(*shard, Reason::MissingRun));
     }
-    members.extend_from_slice(run_of(segment, found))?;
+    leaves.extend_from_slice(run_of(segment, found))?;
     Ok(())
 }
 
@@ -179,21 +179,21 @@ fn join_segments<D: Disk>(
     segments: &[FileDataSequenceEntry],
     table: &mut XorbTable,
 ) -> Result<Vec<(MerkleHash, u64)>, StoreError>
-    ensures joins { IfOk result (λ members. Knows (D.tells disk.old) (D.files disk.old) folder.now table.old → Joins (IsBacked (D.files disk.old) folder.now) (λ m. m.1) segments.now members.items) }
-    ensures listed { IfOk result (λ members. Joins (IsListed table.new) (λ m. m.1) segments.now members.items) }
-    ensures total { IfOk result (λ members. total_len members.items ≡ segment_bytes segments.now) }
-    ensures there { OnOk result (AllByRecursion (λ s. Has table.new s.xorb_hash) segments.now) }
+    ensures joins { IfOk result (λ leaves. Knows (D.tells disk.old) (D.files disk.old) folder.now table.old → Joins (IsBacked (D.files disk.old) folder.now) (λ m. m.1) segments.now leaves.items) }
+    ensures listed { IfOk result (λ leaves. Joins (IsListed table.new) (λ m. m.1) segments.now leaves.items) }
+    ensures total { IfOk result (λ leaves. total_len leaves.items ≡ segment_bytes segments.now) }
+    ensures there { OnOk result (AllByRecursion (λ s. IsInTable table.new s.xorb_hash) segments.now) }
     ensures grows { Grows (OfSegments segments.now) table.old table.new }
     ensures knows { Knows (D.tells disk.old) (D.files disk.old) folder.now table.old → Knows (D.tells disk.new) (D.files disk.new) folder.now table.new }
-    ensures refused { IfErr result (IsCheckRefusal (Knows (D.tells disk.old) (D.files disk.old) folder.now table.old) (FirstFails (SegmentHolds (D.files disk.old) folder.now shard.now) (SegmentFails (D.files disk.old) folder.now shard.now) segments.now) (D.faults disk.old) (D.faults disk.new)) }
+    ensures refused { IfErr result (IsShardCheckError (Knows (D.tells disk.old) (D.files disk.old) folder.now table.old) (FirstFails (SegmentHolds (D.files disk.old) folder.now shard.now) (SegmentFails (D.files disk.old) folder.now shard.now) segments.now) (D.faults disk.old) (D.faults disk.new)) }
     ensures error { IfErr result (IsShardError shard.now) }
     ensures frame { Unchanged D.files D.tells D.faults disk.old disk.new }
 {
-    let mut members = Vec::new(alloc);
+    let mut leaves = Vec::new(alloc);
     for segment in segments {
-        add_segment(disk, alloc, folder, shard, segment, table, &mut members)?;
+        add_segment(disk, alloc, folder, shard, segment, table, &mut leaves)?;
     }
-    Ok(members)
+    Ok(leaves)
 }
 
 /// Checks that a file record resolves to at least one stored chunk, and that the chunks give its file hash.
@@ -208,16 +208,16 @@ fn check_file<D: Disk>(
     requires { segment_bytes file.now.segments < 2 ^ 64 }
     ensures holds { OnOk result (Knows (D.tells disk.old) (D.files disk.old) folder.now table.old → FileHolds (D.files disk.old) folder.now shard.now file.now) }
     ensures recorded { OnOk result (IsFileRecord table.new file.now) }
-    ensures there { OnOk result (HasFile table.new file.now) }
+    ensures there { OnOk result (HasXorbsOfFile table.new file.now) }
     ensures grows { Grows (OfFile file.now) table.old table.new }
     ensures knows { Knows (D.tells disk.old) (D.files disk.old) folder.now table.old → Knows (D.tells disk.new) (D.files disk.new) folder.now table.new }
-    ensures refused { IfErr result (IsCheckRefusal (Knows (D.tells disk.old) (D.files disk.old) folder.now table.old) (FileFails (D.files disk.old) folder.now shard.now file.now) (D.faults disk.old) (D.faults disk.new)) }
+    ensures refused { IfErr result (IsShardCheckError (Knows (D.tells disk.old) (D.files disk.old) folder.now table.old) (FileFails (D.files disk.old) folder.now shard.now file.now) (D.faults disk.old) (D.faults disk.new)) }
     ensures error { IfErr result (IsShardError shard.now) }
     ensures frame { Unchanged D.files D.tells D.faults disk.old disk.new }
 {
     let segments = file.segments.as_slice();
-    let members = join_segments(disk, alloc, folder, shard, segments, table)?;
-    if has_file_hash(alloc, &members, &file.hash())? {
+    let leaves = join_segments(disk, alloc, folder, shard, segments, table)?;
+    if has_file_hash(alloc, &leaves, &file.hash())? {
         Ok(())
     } else {
         Err(StoreError::InvalidShard(*shard, Reason::OtherFileHash))
@@ -227,15 +227,15 @@ fn check_file<D: Disk>(
 /// Whether there is at least one chunk, and the chunks give this file hash.
 fn has_file_hash(
     alloc: Global,
-    members: &[(MerkleHash, u64)],
+    leaves: &[(MerkleHash, u64)],
     hash: &MerkleHash,
 ) -> Result<bool, StoreError>
-    requires { total_len members.now < 2 ^ 64 }
-    ensures has { IfOk result (λ has. IsTrue has ↔ ((0 < length members.now) × (hash_of_file members.now ≡ hash.now))) }
+    requires { total_len leaves.now < 2 ^ 64 }
+    ensures has { IfOk result (λ has. IsTrue has ↔ ((0 < length leaves.now) × (hash_of_file leaves.now ≡ hash.now))) }
     ensures memory { IsOkUnless result StoreError.OutOfMemory }
 {
-    let found = file_hash(alloc, members)?;
-    Ok(!members.is_empty() && found == *hash)
+    let found = file_hash(alloc, leaves)?;
+    Ok(!leaves.is_empty() && found == *hash)
 }
 
 /// Checks file records, in order.
@@ -250,10 +250,10 @@ fn check_files<D: Disk>(
     requires { materialized files.now < 2 ^ 64 }
     ensures holds { OnOk result (Knows (D.tells disk.old) (D.files disk.old) folder.now table.old → AllByRecursion (FileHolds (D.files disk.old) folder.now shard.now) files.now) }
     ensures recorded { OnOk result (AllByRecursion (IsFileRecord table.new) files.now) }
-    ensures there { OnOk result (AllByRecursion (HasFile table.new) files.now) }
+    ensures there { OnOk result (AllByRecursion (HasXorbsOfFile table.new) files.now) }
     ensures grows { Grows (OfFiles files.now) table.old table.new }
     ensures knows { Knows (D.tells disk.old) (D.files disk.old) folder.now table.old → Knows (D.tells disk.new) (D.files disk.new) folder.now table.new }
-    ensures refused { IfErr result (IsCheckRefusal (Knows (D.tells disk.old) (D.files disk.old) folder.now table.old) (FirstFails (FileHolds (D.files disk.old) folder.now shard.now) (FileFails (D.files disk.old) folder.now shard.now) files.now) (D.faults disk.old) (D.faults disk.new)) }
+    ensures refused { IfErr result (IsShardCheckError (Knows (D.tells disk.old) (D.files disk.old) folder.now table.old) (FirstFails (FileHolds (D.files disk.old) folder.now shard.now) (FileFails (D.files disk.old) folder.now shard.now) files.now) (D.faults disk.old) (D.faults disk.new)) }
     ensures error { IfErr result (IsShardError shard.now) }
     ensures frame { Unchanged D.files D.tells D.faults disk.old disk.new }
 {

@@ -29,9 +29,9 @@ pub struct RecordTable {
 }
 
 impl Model for RecordTable {
-    ghost use Rattle.xet_folder.specs.Xorbs.{Records};
+    ghost use Rattle.xet_folder.specs.Xorbs.{FileRecords};
 
-    ghost Value = { Records };
+    ghost Value = { FileRecords };
 
     ghost view = { λ t. t.rows.entries };
 }

@@ -5,11 +5,11 @@ ghost use Rattle.std.specs.List.{AllByRecursion};
 ghost use Rattle.std.specs.Option.{option_map};
 ghost use Rattle.xet_io.specs.Disk.{File, bytes_at, file, file_at};
 ghost use Rattle.xet_folder.specs.Admission.{ShardFails};
-ghost use Rattle.xet_shard_file.specs.Refusals.{IsCheckRefusal, EndsFail, IsShardError};
+ghost use Rattle.xet_shard_file.specs.Errors.{IsShardCheckError, EndsFail, IsShardError};
 ghost use Rattle.xet_folder.specs.Checks.{Knows};
 ghost use Rattle.xet_folder.specs.Contents.{IsRecord, listed_of};
 ghost use Rattle.xet_shard_file.specs.Entries.{entry_of, is_valid};
-ghost use Rattle.xet_folder.specs.internal.Gathering.{EntryFails, IsGathered, IsNamed, IsStopped, ShardsFail, gathered as contents, shard_file, valid_bytes, with_firsts, with_valid};
+ghost use Rattle.xet_folder.specs.internal.Gathering.{EntryFails, IsGathered, IsErrorOfShard, IsCollectError, ShardsFail, gathered as contents, as_shard_file, valid_bytes, with_firsts, with_valid};
 ghost use Rattle.xet_shard_file.specs.Names.{IsHash, shard_path};
 ghost use Rattle.xet_shard_file.specs.Shards.{IsThere, ShardFile, is_expired};
 ghost use Rattle.xet_io.specs.Frame.{Unchanged};
@@ -49,7 +49,7 @@ pub fn gather_shards<D: Disk>(
         → IsGathered (D.files disk.old) folder.now (filter (is_valid now) read) (contents g)) }
     ensures recorded { IfOk result (λ g. AllByRecursion (IsRecord g.xorbs) g.records) }
     ensures hashes { IfOk result (λ g. AllByRecursion IsHash g.shards.items) }
-    ensures refused { IfErr result (λ u. IsStopped (D.tells disk.old ≡ true)
+    ensures refused { IfErr result (λ u. IsCollectError (D.tells disk.old ≡ true)
         (λ e name. (read : List ShardFile) → map entry_of read ≡ entries.now → All (IsThere (D.files disk.old) folder.now) read → ShardsFail (D.files disk.old) folder.now (filter (is_valid now) read) e name)
         (D.faults disk.old) (D.faults disk.new) u.error u.name) }
     ensures frame { Unchanged D.files D.tells D.faults disk.old disk.new }
@@ -76,10 +76,10 @@ fn gather_entry<D: Disk>(
     gathered: &mut Gathered,
 ) -> Result<(), Unadmitted>
     ensures gathered { D.tells disk.old ≡ true → OnOk result ((shards : List ShardFile) (f : File) → file_at (D.files disk.old) (shard_path folder.now hash.now) ≡ Some f
-        → IsGathered (D.files disk.old) folder.now shards (contents gathered.old) → IsGathered (D.files disk.old) folder.now (with_valid now shards (shard_file hash.now f)) (contents gathered.new)) }
+        → IsGathered (D.files disk.old) folder.now shards (contents gathered.old) → IsGathered (D.files disk.old) folder.now (with_valid now shards (as_shard_file hash.now f)) (contents gathered.new)) }
     ensures recorded { OnOk result (AllByRecursion (IsRecord gathered.old.xorbs) gathered.old.records → AllByRecursion (IsRecord gathered.new.xorbs) gathered.new.records) }
     ensures hashes { OnOk result (AllByRecursion IsHash gathered.old.shards.items → AllByRecursion IsHash gathered.new.shards.items) }
-    ensures refused { IfErr result (λ u. IsStopped (Knows (D.tells disk.old) (D.files disk.old) folder.now gathered.old.xorbs) (EntryFails (D.files disk.old) folder.now now hash.now)
+    ensures refused { IfErr result (λ u. IsCollectError (Knows (D.tells disk.old) (D.files disk.old) folder.now gathered.old.xorbs) (EntryFails (D.files disk.old) folder.now now hash.now)
         (D.faults disk.old) (D.faults disk.new) u.error u.name) }
     ensures frame { Unchanged D.files D.tells D.faults disk.old disk.new }
 {
@@ -104,11 +104,11 @@ fn gather_shard<D: Disk>(
     gathered: &mut Gathered,
 ) -> Result<(), StoreError>
     ensures gathered { D.tells disk.old ≡ true → OnOk result ((shards : List ShardFile) (modified : ℕ) → IsGathered (D.files disk.old) folder.now shards (contents gathered.old)
-        → IsGathered (D.files disk.old) folder.now (shards ++ shard_file hash.now (file bytes.now modified) ∷ []) (contents gathered.new)) }
+        → IsGathered (D.files disk.old) folder.now (shards ++ as_shard_file hash.now (file bytes.now modified) ∷ []) (contents gathered.new)) }
     ensures recorded { OnOk result (AllByRecursion (IsRecord gathered.old.xorbs) gathered.old.records → AllByRecursion (IsRecord gathered.new.xorbs) gathered.new.records) }
     ensures hashes { OnOk result (AllByRecursion IsHash gathered.old.shards.items → AllByRecursion IsHash gathered.new.shards.items) }
-    ensures refused { IfErr result (IsCheckRefusal (Knows (D.tells disk.old) (D.files disk.old) folder.now gathered.old.xorbs)
-        (λ e. (modified : ℕ) → ShardFails (D.files disk.old) folder.now (shard_file hash.now (file bytes.now modified)) e) (D.faults disk.old) (D.faults disk.new)) }
+    ensures refused { IfErr result (IsShardCheckError (Knows (D.tells disk.old) (D.files disk.old) folder.now gathered.old.xorbs)
+        (λ e. (modified : ℕ) → ShardFails (D.files disk.old) folder.now (as_shard_file hash.now (file bytes.now modified)) e) (D.faults disk.old) (D.faults disk.new)) }
     ensures error { IfErr result (IsShardError hash.now) }
     ensures frame { Unchanged D.files D.tells D.faults disk.old disk.new }
 {
@@ -141,7 +141,7 @@ fn read_valid<D: Disk>(
 ) -> Result<Option<Vec<u8>>, StoreError>
     ensures told { D.tells disk.old ≡ true → IfOk result (λ found. (bytes : List ℕ) → bytes_at (D.files disk.old) (shard_path folder.now hash.now) ≡ Some bytes → option_map (λ b. b.items) found ≡ valid_bytes now bytes) }
     ensures frame { Unchanged D.files D.tells D.faults disk.old disk.new }
-    ensures refused { IfErr result (IsCheckRefusal (D.tells disk.old ≡ true) (EndsFail (bytes_at (D.files disk.old) (shard_path folder.now hash.now))) (D.faults disk.old) (D.faults disk.new)) }
+    ensures refused { IfErr result (IsShardCheckError (D.tells disk.old ≡ true) (EndsFail (bytes_at (D.files disk.old) (shard_path folder.now hash.now))) (D.faults disk.old) (D.faults disk.new)) }
     ensures error { IfErr result (IsShardError hash.now) }
 {
     let path = shard_path(alloc, folder, hash)?;
@@ -173,7 +173,7 @@ fn is_expired(bytes: &[u8], now: u64) -> bool
 /// The folder's error for an error of the shard with this hash. It has the file name of the shard, unless the
 /// disk failed or memory is out.
 fn unadmitted(alloc: Global, hash: &MerkleHash, error: StoreError) -> Unadmitted
-    ensures { IsNamed hash.now error result.error result.name }
+    ensures { IsErrorOfShard hash.now error result.error result.name }
 {
     match error {
         StoreError::OutOfMemory | StoreError::Io(Place::Disk) => Unadmitted { error, name: None },

@@ -3,16 +3,16 @@
 ghost use Rattle.std.specs.Prelude.{◌≡◌, ◌≤◌, ◌<◌, ◌+◌, ◌-◌, ◌^◌, ◌++◌, [], ℕ, List, true, length, take, drop, slice_range, IfErr, IfOk, IfSome, IsNone, IsOkUnless, OnErr, OnOk};
 ghost use Rattle.std.specs.List.{concat};
 ghost use Rattle.xet_io.specs.Disk.{FillsFrom, bytes_at};
-ghost use Rattle.xet_hash.specs.Merkle.{members_of, total_len};
-ghost use Rattle.xet_folder.specs.internal.Refusals.{IsRefusal};
+ghost use Rattle.xet_hash.specs.Merkle.{leaves_of, total_len};
+ghost use Rattle.xet_folder.specs.internal.Errors.{IsFormError};
 ghost use Rattle.xet_xorb_chunk.specs.ChunkEncoding.{encoded_chunk};
 ghost use Rattle.xet_folder.specs.Plan.{LiesIn, part, range};
 ghost use Rattle.xet_folder.specs.internal.Runs.{HasPlace, IsTouched, Encodes};
-ghost use Rattle.xet_folder.specs.Runs.{IsRunRefusal, stored_len};
+ghost use Rattle.xet_folder.specs.Runs.{IsRunError, stored_len};
 ghost use Rattle.xet_folder.specs.Stored.{IsBacked, IsStored};
 ghost use Rattle.xet_io.specs.Frame.{Unchanged};
 
-use crate::members::Members;
+use crate::leaves::Leaves;
 use crate::names::xorb_path;
 use std::alloc::Global;
 use std::marker::Model;
@@ -72,20 +72,20 @@ impl RunReader {
         disk: &mut D,
         folder: &str,
         segment: &FileDataSequenceEntry,
-        members: &Members,
+        leaves: &Leaves,
         from: u64,
         to: u64,
     ) -> Result<(), StoreError>
-        requires lies { LiesIn (λ m. m.1) segment.now members.now }
+        requires lies { LiesIn (λ m. m.1) segment.now leaves.now }
         requires some { from < to }
         requires within { to ≤ segment.now.unpacked_segment_bytes }
-        ensures run { D.tells disk.old ≡ true → OnOk result ((chunks : List (List ℕ)) → IsStored (D.files disk.old) folder.now segment.now.xorb_hash chunks → members_of chunks ≡ members.now → self.new ≡ self.old ++ range (concat (part segment.now chunks)) from to) }
+        ensures run { D.tells disk.old ≡ true → OnOk result ((chunks : List (List ℕ)) → IsStored (D.files disk.old) folder.now segment.now.xorb_hash chunks → leaves_of chunks ≡ leaves.now → self.new ≡ self.old ++ range (concat (part segment.now chunks)) from to) }
         ensures len { OnOk result (length self.new ≡ length self.old + (to - from)) }
         ensures kept { OnErr result (self.new ≡ self.old) }
-        ensures refused { IfErr result (IsRunRefusal ((D.tells disk.old ≡ true) × IsBacked (D.files disk.old) folder.now segment.now.xorb_hash members.now) (D.faults disk.old) (D.faults disk.new)) }
+        ensures refused { IfErr result (IsRunError ((D.tells disk.old ≡ true) × IsBacked (D.files disk.old) folder.now segment.now.xorb_hash leaves.now) (D.faults disk.old) (D.faults disk.new)) }
         ensures frame { Unchanged D.files D.tells D.faults disk.old disk.new }
     {
-        let touched = touched_part(segment, members, from, to);
+        let touched = touched_part(segment, leaves, from, to);
         let path = xorb_path(self.alloc, folder, &segment.xorb_hash)?;
         grow(&mut self.stored, touched.len)?;
         let stored = &mut self.stored[..touched.len];
@@ -115,25 +115,25 @@ struct Touched<'a> {
 /// The chunks that contain the bytes `from..to` of a segment, found by binary search.
 fn touched_part<'a>(
     segment: &FileDataSequenceEntry,
-    members: &'a Members,
+    leaves: &'a Leaves,
     from: u64,
     to: u64,
 ) -> Touched<'a>
-    requires lies { LiesIn (λ m. m.1) segment.now members.now }
+    requires lies { LiesIn (λ m. m.1) segment.now leaves.now }
     requires some { from < to }
     requires within { to ≤ segment.now.unpacked_segment_bytes }
-    ensures { IsTouched segment.now members.now from to result.chunks.now result.skipped result.at result.len }
+    ensures { IsTouched segment.now leaves.now from to result.chunks.now result.skipped result.at result.len }
 {
     let _bytes = segment.unpacked_segment_bytes;
-    let start = members.end(segment.chunk_index_start as usize);
-    let first = members.ended_by(start + from);
-    let last = members.reaching(start + to);
-    let at = members.stored_end(first);
+    let start = leaves.end(segment.chunk_index_start as usize);
+    let first = leaves.ended_by(start + from);
+    let last = leaves.reaching(start + to);
+    let at = leaves.stored_end(first);
     Touched {
-        chunks: &members.as_slice()[first..last],
-        skipped: members.end(first) - start,
+        chunks: &leaves.as_slice()[first..last],
+        skipped: leaves.end(first) - start,
         at,
-        len: (members.stored_end(last) - at) as usize,
+        len: (leaves.stored_end(last) - at) as usize,
     }
 }
 
@@ -159,7 +159,7 @@ fn read_stored<D: Disk>(
     requires some { 0 < length stored.old }
     requires fits { at + length stored.old < 2 ^ 64 }
     ensures told { D.tells disk.old ≡ true → OnOk result (FillsFrom (bytes_at (D.files disk.old) path.now) at stored.new true) }
-    ensures refused { IfErr result (IsRunRefusal ((D.tells disk.old ≡ true) × HasPlace (bytes_at (D.files disk.old) path.now) at (length stored.old)) (D.faults disk.old) (D.faults disk.new)) }
+    ensures refused { IfErr result (IsRunError ((D.tells disk.old ≡ true) × HasPlace (bytes_at (D.files disk.old) path.now) at (length stored.old)) (D.faults disk.old) (D.faults disk.new)) }
     ensures frame { Unchanged D.files D.tells D.faults disk.old disk.new }
 {
     match read_file_at(disk, path, at, stored) {
@@ -186,7 +186,7 @@ fn push_range(
     ensures range { OnOk result ((bytes : List (List ℕ)) → Encodes stored.now chunks.now bytes → out.new.items ≡ out.old.items ++ range (concat bytes) from to) }
     ensures len { OnOk result (length out.new.items ≡ length out.old.items + (to - from)) }
     ensures kept { OnErr result (out.new.items ≡ out.old.items) }
-    ensures refused { IfErr result (IsRefusal ((bytes : List (List ℕ)) × Encodes stored.now chunks.now bytes)) }
+    ensures refused { IfErr result (IsFormError ((bytes : List (List ℕ)) × Encodes stored.now chunks.now bytes)) }
 {
     let had = out.len();
     match push_chunks(out, stored, chunks, from, to) {
@@ -202,23 +202,23 @@ fn push_range(
 fn push_chunks(
     out: &mut Vec<u8>,
     stored: &[u8],
-    members: &[(MerkleHash, u64)],
+    leaves: &[(MerkleHash, u64)],
     from: u64,
     to: u64,
 ) -> Result<(), StoreError>
-    requires len { length stored.now ≡ stored_len members.now }
-    requires fits { total_len members.now < 2 ^ 32 }
+    requires len { length stored.now ≡ stored_len leaves.now }
+    requires fits { total_len leaves.now < 2 ^ 32 }
     requires order { from ≤ to }
-    requires within { to ≤ total_len members.now }
-    ensures range { OnOk result ((chunks : List (List ℕ)) → Encodes stored.now members.now chunks → out.new.items ≡ out.old.items ++ range (concat chunks) from to) }
+    requires within { to ≤ total_len leaves.now }
+    ensures range { OnOk result ((chunks : List (List ℕ)) → Encodes stored.now leaves.now chunks → out.new.items ≡ out.old.items ++ range (concat chunks) from to) }
     ensures len { OnOk result (length out.new.items ≡ length out.old.items + (to - from)) }
-    ensures front { take (length out.old.items) out.new.items ≡ out.old.items }
-    ensures refused { IfErr result (IsRefusal ((chunks : List (List ℕ)) × Encodes stored.now members.now chunks)) }
+    ensures prefix { take (length out.old.items) out.new.items ≡ out.old.items }
+    ensures refused { IfErr result (IsFormError ((chunks : List (List ℕ)) × Encodes stored.now leaves.now chunks)) }
 {
     let mut from = from;
     let mut to = to;
     let mut place = 0;
-    for (_, length) in members {
+    for (_, length) in leaves {
         let Some(bytes) = stored_chunk(stored, place, *length as u32) else {
             return Err(StoreError::MalformedData(Reason::XorbText));
         };

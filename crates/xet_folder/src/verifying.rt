@@ -2,8 +2,8 @@
 
 ghost use Rattle.std.specs.Prelude.{◌≡◌, ◌≤◌, Some, IfErr, OnOk};
 ghost use Rattle.xet_folder.specs.Admission.{XorbFails};
-ghost use Rattle.xet_folder.specs.Checks.{Grows, Has, Knows};
-ghost use Rattle.xet_shard_file.specs.Refusals.{IsCheckRefusal, IsShardError};
+ghost use Rattle.xet_folder.specs.Checks.{Grows, IsInTable, Knows};
+ghost use Rattle.xet_shard_file.specs.Errors.{IsShardCheckError, IsShardError};
 ghost use Rattle.xet_io.specs.Frame.{Unchanged};
 
 use crate::xorbs::{XorbFile, XorbTable, read_xorb};
@@ -22,10 +22,10 @@ pub fn verify_xorb<D: Disk>(
     hash: &MerkleHash,
     table: &mut XorbTable,
 ) -> Result<(), StoreError>
-    ensures there { OnOk result (Has table.new hash.now) }
+    ensures there { OnOk result (IsInTable table.new hash.now) }
     ensures grows { Grows (λ h. h ≡ hash.now) table.old table.new }
     ensures knows { Knows (D.tells disk.old) (D.files disk.old) folder.now table.old → Knows (D.tells disk.new) (D.files disk.new) folder.now table.new }
-    ensures refused { IfErr result (IsCheckRefusal (Knows (D.tells disk.old) (D.files disk.old) folder.now table.old) (XorbFails (D.files disk.old) folder.now shard.now hash.now) (D.faults disk.old) (D.faults disk.new)) }
+    ensures refused { IfErr result (IsShardCheckError (Knows (D.tells disk.old) (D.files disk.old) folder.now table.old) (XorbFails (D.files disk.old) folder.now shard.now hash.now) (D.faults disk.old) (D.faults disk.new)) }
     ensures error { IfErr result (IsShardError shard.now) }
     ensures frame { Unchanged D.files D.tells D.faults disk.old disk.new }
 {
@@ -33,8 +33,8 @@ pub fn verify_xorb<D: Disk>(
         return Ok(());
     }
     match read_xorb(disk, alloc, folder, hash)? {
-        XorbFile::Stored(members) => {
-            table.insert(*hash, members)?;
+        XorbFile::Stored(leaves) => {
+            table.insert(*hash, leaves)?;
             Ok(())
         }
         XorbFile::Missing => Err(StoreError::InvalidShard(*shard, Reason::MissingXorb)),

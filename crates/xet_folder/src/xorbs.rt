@@ -10,7 +10,7 @@ ghost use Rattle.xet_folder.specs.internal.Xorbs.{IsOverlong, spans_from};
 ghost use Rattle.xet_folder.specs.Xorbs.{IsXorbFile, found};
 ghost use Rattle.xet_io.specs.Frame.{Unchanged};
 
-use crate::members::Members;
+use crate::leaves::Leaves;
 use crate::names::xorb_path;
 use indexmap::IndexMap;
 use std::alloc::Global;
@@ -38,7 +38,7 @@ pub enum XorbFile {
     /// A file that is not a xorb with this hash, or that has a chunk too long to be read.
     Malformed,
     /// A xorb with this hash: its chunks.
-    Stored(Members),
+    Stored(Leaves),
 }
 
 /// Reads the file under the name of a xorb. Nothing is read of a file that is too long for a xorb. The error
@@ -88,7 +88,7 @@ fn xorb_of(alloc: Global, bytes: Vec<u8>, hash: &MerkleHash) -> Result<XorbFile,
             let hashes = object.info.chunk_hashes.as_slice();
             let ends = object.info.chunk_boundary_offsets.as_slice();
             let spans = spans_of(alloc, hashes, ends)?;
-            Ok(XorbFile::Stored(Members::from_vec(alloc, spans)?))
+            Ok(XorbFile::Stored(Leaves::from_vec(alloc, spans)?))
         }
         Ok(None) => Ok(XorbFile::Malformed),
         Err(_) => Err(StoreError::OutOfMemory),
@@ -120,7 +120,7 @@ fn spans_of(
 /// the hash, and the (hash, length) pairs of the chunks.
 #[derive(Drop)]
 pub struct XorbTable {
-    rows: IndexMap<MerkleHash, Members>,
+    rows: IndexMap<MerkleHash, Leaves>,
 }
 
 impl Model for XorbTable {
@@ -153,37 +153,37 @@ impl XorbTable {
     }
 
     /// The chunks of a xorb; none if it is not in the table.
-    pub fn get(&self, hash: &MerkleHash) -> Option<&Members>
-        ensures { option_map (λ members. members.now) result ≡ found self.now hash.now }
+    pub fn get(&self, hash: &MerkleHash) -> Option<&Leaves>
+        ensures { option_map (λ leaves. leaves.now) result ≡ found self.now hash.now }
     {
         self.rows.get(hash)
     }
 
     /// The chunks of a xorb that is in the table.
-    pub fn members(&self, hash: &MerkleHash) -> &Members
+    pub fn leaves(&self, hash: &MerkleHash) -> &Leaves
         requires { IsSome (found self.now hash.now) }
         ensures { found self.now hash.now ≡ Some result.now }
     {
         match self.rows.get(hash) {
-            Some(members) => members,
+            Some(leaves) => leaves,
             None => unreachable!(),
         }
     }
 
     /// Adds a xorb that is not in the table. The only error is `OutOfMemory`; then nothing has changed.
-    pub fn insert(&mut self, hash: MerkleHash, members: Members) -> Result<(), StoreError>
+    pub fn insert(&mut self, hash: MerkleHash, leaves: Leaves) -> Result<(), StoreError>
         requires { found self.old hash ≡ None }
-        ensures added { OnOk result (self.new ≡ self.old ++ (hash, members) ∷ []) }
+        ensures added { OnOk result (self.new ≡ self.old ++ (hash, leaves) ∷ []) }
         ensures kept { OnErr result (self.new ≡ self.old) }
         ensures memory { IsOkUnless result StoreError.OutOfMemory }
     {
         known_bytes(&hash);
-        self.rows.insert(hash, members)?;
+        self.rows.insert(hash, leaves)?;
         Ok(())
     }
 
     /// The rows, in order. No two have the same hash.
-    pub fn into_rows(self) -> IndexMap<MerkleHash, Members>
+    pub fn into_rows(self) -> IndexMap<MerkleHash, Leaves>
         ensures rows { result.entries ≡ self }
         ensures hashes { AllByRecursion (λ row. IsHash row.0) self }
         ensures differ { AllPairs (λ a b. a.0 ≢ b.0) self }

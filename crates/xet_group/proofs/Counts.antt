@@ -3,10 +3,10 @@ use Rattle.std.proofs.Common.{◌≡◌, ◌∙◌, ℕ, ◌+◌, ◌<◌, ◌�
 use Rattle.std.proofs.lemmas.Bool.{eqb-true, eqb-false, eq-eqb}
 use Rattle.std.proofs.lemmas.List.{at_drop_more, at_drop_all, get_or-set_other, get_or-set_same, length-set}
 use Rattle.std.proofs.lemmas.List.FromFn.{fill_by_all}
-use Rattle.xet_group.specs.Histogram.{IsTable, count_at, counted, table}
+use Rattle.xet_group.specs.Histogram.{IsTable, count_of, byte_counts, table}
 
 -- a table of these counts is the one that has them
-pub table_from : (counts : List (List ℕ)) (f : ℕ → ℕ → ℕ) → IsTable counts → ((g k : ℕ) → g < 4 → k < 9 → count_at counts g k ≡ f g k) → counts ≡ table f
+pub table_from : (counts : List (List ℕ)) (f : ℕ → ℕ → ℕ) → IsTable counts → ((g k : ℕ) → g < 4 → k < 9 → count_of counts g k ≡ f g k) → counts ≡ table f
 table_from counts f shape each =
     fill_by_all _ counts 4 [] shape.rows (λ g low. fill_by_all (f g) (get_or counts g []) 9 0 (shape.places g low) (λ k less. each g k low less))
 
@@ -14,15 +14,15 @@ table_from counts f shape each =
 abbrev pub one_at : ℕ → ℕ → ℕ → ℕ → ℕ
 one_at g' k' g k = if (g' == g) && (k' == k) then 1 else 0
 
--- the first byte is counted, and the rest
+-- the first byte is byte_counts, and the rest
 pub counted_step : (at : ℕ) (bytes : List ℕ) (i g k : ℕ) → i < length bytes
-    → counted at (drop i bytes) g k ≡ one_at (at % 4) (count_ones (get_or bytes i 0)) g k + counted (at + 1) (drop (i + 1) bytes) g k
-unfolding counted
-counted_step at bytes i g k here = at_drop_more (λ l. counted at l g k) bytes i 0 here
+    → byte_counts at (drop i bytes) g k ≡ one_at (at % 4) (count_ones (get_or bytes i 0)) g k + byte_counts (at + 1) (drop (i + 1) bytes) g k
+unfolding byte_counts
+counted_step at bytes i g k here = at_drop_more (λ l. byte_counts at l g k) bytes i 0 here
 
-pub counted_none : (at : ℕ) (bytes : List ℕ) (i g k : ℕ) → length bytes ≤ i → counted at (drop i bytes) g k ≡ 0
-unfolding counted
-counted_none at bytes i g k past = at_drop_all (λ l. counted at l g k) bytes i past
+pub counted_none : (at : ℕ) (bytes : List ℕ) (i g k : ℕ) → length bytes ≤ i → byte_counts at (drop i bytes) g k ≡ 0
+unfolding byte_counts
+counted_none at bytes i g k past = at_drop_all (λ l. byte_counts at l g k) bytes i past
 
 -- the table with another count at one place
 abbrev pub put : List (List ℕ) → ℕ → ℕ → ℕ → List (List ℕ)
@@ -49,27 +49,27 @@ row_one row k' k low false e = get_or-set_other row k' k _ 0 (λ q. eqb-false k'
 
 -- and so at a place of a table
 pub put_one : (counts : List (List ℕ)) (g' k' g k : ℕ) → IsTable counts → g' < 4 → k' < 9
-    → count_at (put counts g' k' (count_at counts g' k' + 1)) g k ≡ one_at g' k' g k + count_at counts g k
+    → count_of (put counts g' k' (count_of counts g' k' + 1)) g k ≡ one_at g' k' g k + count_of counts g k
 put_one counts g' k' g k shape lg lk = cell (g' == g) refl
   where
-    cell : (d : Bool) → (g' == g) ≡ d → count_at (put counts g' k' (count_at counts g' k' + 1)) g k ≡ (if d && (k' == k) then 1 else 0) + count_at counts g k
+    cell : (d : Bool) → (g' == g) ≡ d → count_of (put counts g' k' (count_of counts g' k' + 1)) g k ≡ (if d && (k' == k) then 1 else 0) + count_of counts g k
     cell true e =
-        subst (λ x. count_at (put counts g' k' (count_at counts g' k' + 1)) x k ≡ (if k' == k then 1 else 0) + count_at counts x k) (eqb-true g' g e)
+        subst (λ x. count_of (put counts g' k' (count_of counts g' k' + 1)) x k ≡ (if k' == k then 1 else 0) + count_of counts x k) (eqb-true g' g e)
         (ap (λ row. get_or row k 0) (get_or-set_same counts g' _ [] (omega (arith, shape.rows))) ∙ row_one (get_or counts g' []) k' k (omega (arith, shape.places g' lg)) (k' == k) refl)
     cell false e = ap (λ row. get_or row k 0) (get_or-set_other counts g' g _ [] (λ q. eqb-false g' g e (sym q))) ∙ omega arith
 
--- one more byte is counted, where what stands and what is left were kept
+-- one more byte is byte_counts, where what stands and what is left were kept
 pub one_counted : (counts : List (List ℕ)) (bytes : List ℕ) (at next i g k total : ℕ) → IsTable counts → count_ones (get_or bytes i 0) < 9 → i < length bytes → next ≡ at + 1
-    → count_at counts g k + counted at (drop i bytes) g k ≡ total
-    → count_at (put counts (at % 4) (count_ones (get_or bytes i 0)) (count_at counts (at % 4) (count_ones (get_or bytes i 0)) + 1)) g k + counted next (drop (i + 1) bytes) g k ≡ total
+    → count_of counts g k + byte_counts at (drop i bytes) g k ≡ total
+    → count_of (put counts (at % 4) (count_ones (get_or bytes i 0)) (count_of counts (at % 4) (count_ones (get_or bytes i 0)) + 1)) g k + byte_counts next (drop (i + 1) bytes) g k ≡ total
 one_counted counts bytes at next i g k total shape few here one kept =
     rw one
     (omega (arith, kept, put_one counts (at % 4) (count_ones (get_or bytes i 0)) g k shape (omega arith) few, counted_step at bytes i g k here))
 
 -- one more fits
 pub one_fits : (counts : List (List ℕ)) (bytes : List ℕ) (at i total : ℕ) → i < length bytes → total < 2 ^ 32
-    → count_at counts (at % 4) (count_ones (get_or bytes i 0)) + counted at (drop i bytes) (at % 4) (count_ones (get_or bytes i 0)) ≡ total
-    → count_at counts (at % 4) (count_ones (get_or bytes i 0)) + 1 < 2 ^ 32
+    → count_of counts (at % 4) (count_ones (get_or bytes i 0)) + byte_counts at (drop i bytes) (at % 4) (count_ones (get_or bytes i 0)) ≡ total
+    → count_of counts (at % 4) (count_ones (get_or bytes i 0)) + 1 < 2 ^ 32
 one_fits counts bytes at i total here fits kept =
     let g = at % 4 in
     let k = count_ones (get_or bytes i 0) in

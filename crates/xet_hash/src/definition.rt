@@ -59,8 +59,8 @@ fn subtree(key: &[u32; 8], flags: u32, last: u32, index: u64, bytes: &[u8], leve
     if bytes.len() <= half {
         return subtree(key, flags, last, index, bytes, below);
     }
-    let (front, back) = bytes.split_at(half);
-    let left = subtree(key, flags, 0, index, front, below);
+    let (prefix, back) = bytes.split_at(half);
+    let left = subtree(key, flags, 0, index, prefix, below);
     let right = subtree(key, flags, 0, index + chunk_count(below), back, below);
     parent(key, flags, last, &left, &right)
 }

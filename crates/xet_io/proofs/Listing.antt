@@ -9,7 +9,7 @@ use Rattle.std.proofs.lemmas.List.Elements.{All-nil, All-push}
 use Rattle.std.proofs.lemmas.List.Quantifiers.{Any-push, all_pairs_push}
 use Rattle.xet_io.specs.declared.disk.DiskEntry.{DiskEntry}
 use Rattle.xet_io.specs.Named.{in_folder, is_plain}
-use Rattle.xet_io.specs.Disk.{Files, Entry, File, file_of, file_at, stat_of, IsListed, Lists}
+use Rattle.xet_io.specs.Disk.{Files, Entry, File, file_of, file_at, stat_of, IsEntryOf, ListsFolder}
 use Rattle.xet_io.specs.theorems.Names.{either_name, get_here, get_other}
 
 any_longer : {X : Type 0} (P : X → Type 0) (xs ys : List X) → Any P xs → Any P (xs ++ ys)
@@ -19,7 +19,7 @@ same_own : (folder a b : List ℕ) → in_folder folder a ≡ in_folder folder b
 same_own folder a b is = let e = append_cancel_left folder _ _ is in cc e
 
 -- an empty disk has no files
-pub lists_none : (folder : List ℕ) → Lists empty folder []
+pub lists_none : (folder : List ℕ) → ListsFolder empty folder []
 lists_none folder = record {
   there = All-nil _;
   once = λ i j d before within. absurd (omega arith);
@@ -28,22 +28,22 @@ lists_none folder = record {
       absurd (cc (none, some));
 }
 
-module _ (files : Files) (folder name : List ℕ) (e : Entry) (new : get files name ≡ None) (ds : List DiskEntry) (lists : Lists files folder ds) where
+module _ (files : Files) (folder name : List ℕ) (e : Entry) (new : get files name ≡ None) (ds : List DiskEntry) (lists : ListsFolder files folder ds) where
   abbrev more : Files
   more = insert files name e
 
   -- what is listed has another name
-  apart : (d : DiskEntry) → IsListed files folder d → in_folder folder d.name ≢ name
+  apart : (d : DiskEntry) → IsEntryOf files folder d → in_folder folder d.name ≢ name
   apart d listed same =
       let none = ap (λ (o : Option Entry). stat_of (file_of o)) new in
       let some = subst (λ (n : List ℕ). stat_of (file_at files n) ≡ Some (d.length, d.modified)) same listed.1 in
       absurd (cc (none, some))
 
-  still_listed : (d : DiskEntry) → IsListed files folder d → IsListed more folder d
+  still_listed : (d : DiskEntry) → IsEntryOf files folder d → IsEntryOf more folder d
   still_listed d listed =
       (listed.0, ap (λ (o : Option Entry). stat_of (file_of o)) (get_other files name e (in_folder folder d.name) (apart d listed)) ∙ listed.1)
 
-  all_still : All (IsListed more folder) ds
+  all_still : All (IsEntryOf more folder) ds
   all_still k d within = still_listed (get_or ds k d) (lists.there k d within)
 
   -- a file of the folder under another name
@@ -52,7 +52,7 @@ module _ (files : Files) (folder name : List ℕ) (e : Entry) (new : get files n
       lists.all own plain (subst (λ (o : Option Entry). IsSome (file_of o)) (get_other files name e (in_folder folder own) other) some)
 
   -- the name adds no file to the folder
-  pub lists_same : ((own : List ℕ) → IsTrue (is_plain own) → in_folder folder own ≡ name → e.file ≡ None) → Lists more folder ds
+  pub lists_same : ((own : List ℕ) → IsTrue (is_plain own) → in_folder folder own ≡ name → e.file ≡ None) → ListsFolder more folder ds
   lists_same lacks = record {
     there = all_still;
     once = lists.once;
@@ -71,15 +71,15 @@ module _ (files : Files) (folder name : List ℕ) (e : Entry) (new : get files n
     abbrev one : DiskEntry
     one = record { name = own; length = length f.bytes; modified = f.modified }
 
-    one_listed : IsListed more folder one
+    one_listed : IsEntryOf more folder one
     one_listed = (
       plain,
       ap (λ (n : List ℕ). stat_of (file_at more n)) is ∙ ap (λ (o : Option Entry). stat_of (file_of o)) (get_here files name e) ∙ ap stat_of has,
     )
 
-    pub lists_more : Lists more folder (ds ++ one ∷ [])
+    pub lists_more : ListsFolder more folder (ds ++ one ∷ [])
     lists_more = record {
-      there = All-push (IsListed more folder) ds one all_still one_listed;
+      there = All-push (IsEntryOf more folder) ds one all_still one_listed;
       once = all_pairs_push (λ a b. a.name ≢ b.name) ds one lists.once
           (λ k d within same. apart (get_or ds k d) (lists.there k d within) (ap (in_folder folder) same ∙ is));
       all = λ name' plain' some. ⊎_elim

@@ -57,14 +57,14 @@ FillsFrom (Some bytes) at buffer true =
 FillsFrom (Some bytes) at buffer false = length bytes < at + length buffer
 
 -- the entry of a listed file: its own name, its length and its modification time
-abbrev pub IsListed : Files → List ℕ → DiskEntry → Type 0
-IsListed files folder e =
+abbrev pub IsEntryOf : Files → List ℕ → DiskEntry → Type 0
+IsEntryOf files folder e =
     IsTrue (is_plain e.name) × (stat_of (file_at files (in_folder folder e.name)) ≡ Some (e.length, e.modified))
 
 -- The files of a folder, in any order: each listed file exists with its length and modification time, none is
 -- listed twice, and each file of the folder is listed.
-pub record Lists (files : Files) (folder : List ℕ) (listed : List DiskEntry) : Type 0 where
-  pub there : All (IsListed files folder) listed
+pub record ListsFolder (files : Files) (folder : List ℕ) (listed : List DiskEntry) : Type 0 where
+  pub there : All (IsEntryOf files folder) listed
   pub once : AllPairs (λ a b. a.name ≢ b.name) listed
   pub all : (name : List ℕ) → IsTrue (is_plain name) → IsSome (file_at files (in_folder folder name))
       → Any (λ e. e.name ≡ name) listed

@@ -11,11 +11,11 @@ use Rattle.xet_io.specs.declared.held.HeldFile.{HeldFile}
 abbrev pub file_of_held : HeldFile → File
 file_of_held f = file f.bytes.items f.modified
 
-abbrev pub entry_of : Held → Entry
-entry_of held = entry (option_map file_of_held held.file) held.durable
+abbrev pub memory_entry : Held → Entry
+memory_entry held = entry (option_map file_of_held held.file) held.durable
 
-abbrev pub files_in : List (String Global × Held) → Files
-files_in names = from_entries (map (λ e. (string_bytes e.0, entry_of e.1)) names)
+abbrev pub memory_files_in : List (String Global × Held) → Files
+memory_files_in names = from_entries (map (λ e. (string_bytes e.0, memory_entry e.1)) names)
 
-abbrev pub files_of : BTreeMap (String Global) Held → Files
-files_of names = files_in names.entries
+abbrev pub memory_files : BTreeMap (String Global) Held → Files
+memory_files names = memory_files_in names.entries

@@ -2,8 +2,8 @@
 
 ghost use Rattle.std.specs.Prelude.{◌≡◌, ◌≢◌, ◌≤◌, ◌<◌, ◌+◌, ◌^◌, ℕ, Bool, true, length, take, drop, IfOk, IfSome, IsErrOf, OnOk, OnErr};
 ghost use Rattle.std.specs.Option.{option_map};
-ghost use Rattle.xet_io.specs.Disk.{Files, bytes_at, file_at, stat_of, FillsFrom, ReadsAt, Lists, Writes, Changes, synced, renamed, removed, IsPut, IsPutOrKept};
-ghost use Rattle.xet_io.specs.internal.Disk.{FillsFront};
+ghost use Rattle.xet_io.specs.Disk.{Files, bytes_at, file_at, stat_of, FillsFrom, ReadsAt, ListsFolder, Writes, Changes, synced, renamed, removed, IsPut, IsPutOrKept};
+ghost use Rattle.xet_io.specs.internal.Disk.{FillsPrefix};
 ghost use Rattle.xet_io.specs.Faults.{HasCause};
 ghost use Rattle.xet_io.specs.Frame.{Called, Queried};
 
@@ -51,7 +51,7 @@ pub trait Disk {
 
     /// The files of a folder, each once, in any order. A folder that does not exist has none.
     fn list(&mut self, alloc: Global, folder: &str) -> Result<Vec<DiskEntry>, Refusal>
-        ensures told { tells self.old ≡ true → IfOk result (λ listed. Lists (files self.old) folder.now listed.items) }
+        ensures told { tells self.old ≡ true → IfOk result (λ listed. ListsFolder (files self.old) folder.now listed.items) }
         ensures same { files self.new ≡ files self.old }
         ensures tells { tells self.new ≡ tells self.old }
         ensures cause { HasCause (faults self.old) (faults self.new) (IsErrOf result Refusal.Failed) };
@@ -143,7 +143,7 @@ fn fill_from_file<D: Disk>(
     buf: &mut [u8],
 ) -> Result<usize, Refusal>
     requires { at + length buf.old < 2 ^ 64 }
-    ensures told { D.tells disk.old ≡ true → IfOk result (FillsFront (bytes_at (D.files disk.old) name.now) at buf.new) }
+    ensures told { D.tells disk.old ≡ true → IfOk result (FillsPrefix (bytes_at (D.files disk.old) name.now) at buf.new) }
     ensures frame { Queried D.files D.tells D.faults disk.old disk.new (IsErrOf result Refusal.Failed) }
 {
     let mut filled = 0;
@@ -168,7 +168,7 @@ fn read_behind<D: Disk>(
     requires room { filled < length buf.old }
     requires fits { at + length buf.old < 2 ^ 64 }
     ensures told { D.tells disk.old ≡ true → IfOk result (ReadsAt (file_at (D.files disk.old) name.now) (at + filled) (drop filled buf.new)) }
-    ensures front { take filled buf.new ≡ take filled buf.old }
+    ensures prefix { take filled buf.new ≡ take filled buf.old }
     ensures bound { IfOk result (λ found. IfSome found (λ count. filled + count ≤ length buf.new)) }
     ensures frame { Queried D.files D.tells D.faults disk.old disk.new (IsErrOf result Refusal.Failed) }
 {

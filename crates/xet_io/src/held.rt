@@ -3,9 +3,9 @@
 ghost use Rattle.std.specs.Prelude.{◌≡◌, ◌≢◌, ℕ, false, List, None, IsTrue, IsSome, is_some, IfOk, IfErr, IfSome, OnOk, OnErr};
 ghost use Rattle.std.specs.Option.{option_map};
 ghost use Rattle.std.specs.FinMap.{get, insert, remove};
-ghost use Rattle.xet_io.specs.Disk.{Files, entry, file_at, Lists, synced, not_durable};
+ghost use Rattle.xet_io.specs.Disk.{Files, entry, file_at, ListsFolder, synced, not_durable};
 ghost use Rattle.xet_io.specs.Named.{in_folder, is_plain};
-ghost use Rattle.xet_io.specs.MemoryFiles.{files_of, file_of_held, entry_of};
+ghost use Rattle.xet_io.specs.MemoryFiles.{memory_files, file_of_held, memory_entry};
 
 use crate::disk::DiskEntry;
 use crate::fault::Refusal;
@@ -31,7 +31,7 @@ pub(crate) type Names = BTreeMap<String, Held>;
 
 /// The file of a name, if it exists.
 pub(crate) fn held_file<'a>(names: &'a Names, name: &str) -> Option<&'a HeldFile>
-    ensures { option_map (λ f. file_of_held f.now) result ≡ file_at (files_of names.now) name.now }
+    ensures { option_map (λ f. file_of_held f.now) result ≡ file_at (memory_files names.now) name.now }
 {
     match names.get(name) {
         Some(held) => held.file.as_ref(),
@@ -41,15 +41,15 @@ pub(crate) fn held_file<'a>(names: &'a Names, name: &str) -> Option<&'a HeldFile
 
 /// Whether a name has a file.
 pub(crate) fn is_there(names: &Names, name: &str) -> bool
-    ensures { result ≡ is_some (file_at (files_of names.now) name.now) }
+    ensures { result ≡ is_some (file_at (memory_files names.now) name.now) }
 {
     held_file(names, name).is_some()
 }
 
 /// Makes a file durable, and returns whether it exists.
 pub(crate) fn make_durable(names: &mut Names, name: &str) -> bool
-    ensures there { result ≡ is_some (file_at (files_of names.old) name.now) }
-    ensures synced { files_of names.new ≡ synced (files_of names.old) name.now }
+    ensures there { result ≡ is_some (file_at (memory_files names.old) name.now) }
+    ensures synced { memory_files names.new ≡ synced (memory_files names.old) name.now }
 {
     let Some(held) = names.get_mut(name) else {
         return false;
@@ -63,8 +63,8 @@ pub(crate) fn make_durable(names: &mut Names, name: &str) -> bool
 
 /// Makes a name not durable, and keeps its file, if any. Allocates only if the name has no entry.
 pub(crate) fn make_not_durable(names: &mut Names, alloc: Global, name: &str) -> Result<(), Refusal>
-    ensures not_durable { OnOk result (files_of names.new ≡ not_durable (files_of names.old) name.now) }
-    ensures kept { OnErr result (files_of names.new ≡ files_of names.old) }
+    ensures not_durable { OnOk result (memory_files names.new ≡ not_durable (memory_files names.old) name.now) }
+    ensures kept { OnErr result (memory_files names.new ≡ memory_files names.old) }
     ensures refused { IfErr result (λ e. e ≡ Refusal.OutOfMemory) }
 {
     let Some(held) = names.get_mut(name) else {
@@ -76,9 +76,9 @@ pub(crate) fn make_not_durable(names: &mut Names, alloc: Global, name: &str) -> 
 
 /// Makes sure that a name has an entry. Only this step of a rename may run out of memory.
 pub(crate) fn hold_name(names: &mut Names, alloc: Global, name: &str) -> Result<(), Refusal>
-    ensures held { OnOk result (IsSome (get (files_of names.new) name.now)) }
-    ensures others { (other : List ℕ) → other ≢ name.now → get (files_of names.new) other ≡ get (files_of names.old) other }
-    ensures kept { OnErr result (files_of names.new ≡ files_of names.old) }
+    ensures held { OnOk result (IsSome (get (memory_files names.new) name.now)) }
+    ensures others { (other : List ℕ) → other ≢ name.now → get (memory_files names.new) other ≡ get (memory_files names.old) other }
+    ensures kept { OnErr result (memory_files names.new ≡ memory_files names.old) }
     ensures refused { IfErr result (λ e. e ≡ Refusal.OutOfMemory) }
 {
     if names.contains_key(name) {
@@ -89,8 +89,8 @@ pub(crate) fn hold_name(names: &mut Names, alloc: Global, name: &str) -> Result<
 
 /// Adds an entry without a file, not durable.
 fn hold_absent(names: &mut Names, alloc: Global, name: &str) -> Result<(), Refusal>
-    ensures held { OnOk result (files_of names.new ≡ insert (files_of names.old) name.now (entry None false)) }
-    ensures kept { OnErr result (files_of names.new ≡ files_of names.old) }
+    ensures held { OnOk result (memory_files names.new ≡ insert (memory_files names.old) name.now (entry None false)) }
+    ensures kept { OnErr result (memory_files names.new ≡ memory_files names.old) }
     ensures refused { IfErr result (λ e. e ≡ Refusal.OutOfMemory) }
 {
     let key = String::from_str(alloc, name)?;
@@ -105,8 +105,8 @@ fn hold_absent(names: &mut Names, alloc: Global, name: &str) -> Result<(), Refus
 /// Moves the entry of `from` to `to`, which must have one.
 pub(crate) fn move_held(names: &mut Names, from: &str, to: &str)
     requires apart { from.now ≢ to.now }
-    requires held { IsSome (get (files_of names.old) to.now) }
-    ensures { IfSome (get (files_of names.old) from.now) (λ e. files_of names.new ≡ insert (remove (files_of names.old) from.now) to.now e) }
+    requires held { IsSome (get (memory_files names.old) to.now) }
+    ensures { IfSome (get (memory_files names.old) from.now) (λ e. memory_files names.new ≡ insert (remove (memory_files names.old) from.now) to.now e) }
 {
     if let Some(moved) = names.remove(from) {
         if let Some(place) = names.get_mut(to) {
@@ -121,7 +121,7 @@ pub(crate) fn list_folder(
     alloc: Global,
     folder: &str,
 ) -> Result<Vec<DiskEntry>, Refusal>
-    ensures told { IfOk result (λ listed. Lists (files_of names.now) folder.now listed.items) }
+    ensures told { IfOk result (λ listed. ListsFolder (memory_files names.now) folder.now listed.items) }
     ensures refused { IfErr result (λ e. e ≡ Refusal.OutOfMemory) }
 {
     let mut listed = Vec::new(alloc);
@@ -139,7 +139,7 @@ fn list_name(
     name: &str,
     held: &Held,
 ) -> Result<(), Refusal>
-    ensures more { OnOk result ((files : Files) → get files name.now ≡ None → Lists files folder.now listed.old.items → Lists (insert files name.now (entry_of held.now)) folder.now listed.new.items) }
+    ensures more { OnOk result ((files : Files) → get files name.now ≡ None → ListsFolder files folder.now listed.old.items → ListsFolder (insert files name.now (memory_entry held.now)) folder.now listed.new.items) }
     ensures refused { IfErr result (λ e. e ≡ Refusal.OutOfMemory) }
 {
     let Some(file) = &held.file else {

@@ -113,8 +113,8 @@ impl Source for OwnedSource {
     fn read(&mut self, buf: &mut [u8]) -> Result<usize, Failed> {
         let rest = &self.bytes[self.taken..];
         let count = rest.len().min(buf.len());
-        let (front, _) = rest.split_at(count);
-        buf[..count].copy_from_slice(front);
+        let (prefix, _) = rest.split_at(count);
+        buf[..count].copy_from_slice(prefix);
         self.taken += count;
         Ok(count)
     }

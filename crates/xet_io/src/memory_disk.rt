@@ -4,9 +4,9 @@
 ghost use Rattle.std.specs.Prelude.{◌≡◌, ◌+◌, ◌-◌, ◌^◌, ◌≤◌, ◌↔◌, min, true, [], length, IfOk, IfSome, IsTrue, OnOk, OnErr, IsErr, IsErrOf};
 ghost use Rattle.std.specs.Option.{option_map};
 ghost use Rattle.std.specs.FinMap.{empty};
-ghost use Rattle.xet_io.specs.Disk.{bytes_at, file_at, stat_of, ReadsAt, Lists, Changes, written, not_durable, synced, renamed, removed};
+ghost use Rattle.xet_io.specs.Disk.{bytes_at, file_at, stat_of, ReadsAt, ListsFolder, Changes, written, not_durable, synced, renamed, removed};
 ghost use Rattle.xet_io.specs.Faults.{HasCause, faults_after};
-ghost use Rattle.xet_io.specs.FailingCalls.{Calls, After, plan_of, fails_now, fails_after};
+ghost use Rattle.xet_io.specs.FailingCalls.{Calls, After, fail_plan_of, fails_now, fails_after};
 ghost use Rattle.xet_io.specs.declared.count.Op.TheVariants as op;
 
 use crate::count::{Count, Op, Plan};
@@ -37,10 +37,10 @@ impl Model for MemoryDisk {
 
     ghost coded = { memory_code };
 
-    ghost use Rattle.xet_io.specs.MemoryFiles.{files_of};
-    ghost use Rattle.xet_io.specs.FailingCalls.{plan_of};
+    ghost use Rattle.xet_io.specs.MemoryFiles.{memory_files};
+    ghost use Rattle.xet_io.specs.FailingCalls.{fail_plan_of};
 
-    ghost view = { λ d. record { files = files_of d.names; calls = d.count.calls; faults = d.count.faults; fails = plan_of d.count.plan } };
+    ghost view = { λ d. record { files = memory_files d.names; calls = d.count.calls; faults = d.count.faults; fails = fail_plan_of d.count.plan } };
 }
 
 impl MemoryDisk {
@@ -80,7 +80,7 @@ impl MemoryDisk {
         ensures files { result.files ≡ empty }
         ensures calls { result.calls ≡ 0 }
         ensures faults { result.faults ≡ 0 }
-        ensures fails { result.fails ≡ plan_of plan }
+        ensures fails { result.fails ≡ fail_plan_of plan }
     {
         MemoryDisk {
             alloc,
@@ -145,7 +145,7 @@ impl Disk for MemoryDisk {
     }
 
     fn list(&mut self, alloc: Global, folder: &str) -> Result<Vec<DiskEntry>, Refusal>
-        ensures told { IfOk result (λ listed. Lists self.old.files folder.now listed.items) }
+        ensures told { IfOk result (λ listed. ListsFolder self.old.files folder.now listed.items) }
         ensures same { self.new.files ≡ self.old.files }
         ensures counted { self.new.calls ≡ min (self.old.calls + 1) (2 ^ 64 - 1) }
         ensures failed { IsErrOf result Refusal.Failed ↔ IsTrue (fails_now self.old.fails op.List) }

@@ -1,7 +1,7 @@
 //! Reading a reader whole, or filling a buffer from it.
 
 ghost use Rattle.std.specs.Prelude.{◌≡◌, ◌≤◌, ◌<◌, ◌+◌, ◌^◌, true, length, drop, take, Some, IfOk, IsErr, IsErrOf};
-ghost use Rattle.xet_io.specs.internal.Disk.{FillsFront};
+ghost use Rattle.xet_io.specs.internal.Disk.{FillsPrefix};
 ghost use Rattle.xet_io.specs.Streams.{Fills, ReadsPart};
 ghost use Rattle.xet_io.specs.Frame.{ReadFrom};
 
@@ -18,7 +18,7 @@ pub fn read_whole<R: ReadAt>(alloc: Global, reader: &mut R) -> Result<Vec<u8>, R
         return Err(Refusal::Failed);
     };
     let mut bytes = vec![in alloc; 0; length as usize]?;
-    match read_front(reader, 0, &mut bytes) {
+    match read_prefix(reader, 0, &mut bytes) {
         Ok(filled) => {
             bytes.truncate(filled);
             Ok(bytes)
@@ -33,14 +33,14 @@ pub fn read_exact_at<R: ReadAt>(reader: &mut R, at: u64, buf: &mut [u8]) -> Resu
     ensures told { R.tells reader.old ≡ true → IfOk result (Fills (R.bytes reader.old) at buf.new) }
     ensures frame { ReadFrom R.bytes R.tells R.faults R.lent reader.old reader.new (IsErr result) }
 {
-    let filled = read_front(reader, at, buf)?;
+    let filled = read_prefix(reader, at, buf)?;
     Ok(filled == buf.len())
 }
 
 /// Reads the bytes from offset `at` until `buf` is full or they end, and returns how many.
-fn read_front<R: ReadAt>(reader: &mut R, at: u64, buf: &mut [u8]) -> Result<usize, Failed>
+fn read_prefix<R: ReadAt>(reader: &mut R, at: u64, buf: &mut [u8]) -> Result<usize, Failed>
     requires { at + length buf.old < 2 ^ 64 }
-    ensures told { R.tells reader.old ≡ true → IfOk result (FillsFront (Some (R.bytes reader.old)) at buf.new) }
+    ensures told { R.tells reader.old ≡ true → IfOk result (FillsPrefix (Some (R.bytes reader.old)) at buf.new) }
     ensures bound { IfOk result (λ filled. filled ≤ length buf.new) }
     ensures len { length buf.new ≡ length buf.old }
     ensures frame { ReadFrom R.bytes R.tells R.faults R.lent reader.old reader.new (IsErr result) }
@@ -66,7 +66,7 @@ fn read_on<R: ReadAt>(
     requires room { filled < length buf.old }
     requires place { at + length buf.old < 2 ^ 64 }
     ensures told { R.tells reader.old ≡ true → IfOk result (ReadsPart (R.bytes reader.old) (at + filled) (drop filled buf.new)) }
-    ensures front { take filled buf.new ≡ take filled buf.old }
+    ensures prefix { take filled buf.new ≡ take filled buf.old }
     ensures len { length buf.new ≡ length buf.old }
     ensures bound { IfOk result (λ count. filled + count ≤ length buf.new) }
     ensures frame { ReadFrom R.bytes R.tells R.faults R.lent reader.old reader.new (IsErr result) }

@@ -40,23 +40,23 @@ const FIRST_ROOM: usize = 1 << 16;
 const BESIDE: usize = 32;
 
 /// All bytes that are left in a source. A read takes at most `block` bytes, and goes directly into the vector
-/// returned if that has room. The error is `TooLong` if the source has more than `most` bytes. After an error
+/// returned if that has room. The error is `TooLong` if the source has more than `max_len` bytes. After an error
 /// a prefix of what was left was taken.
 pub fn read_all<S: Source>(
     alloc: Global,
     source: &mut S,
     block: usize,
-    most: usize,
+    max_len: usize,
 ) -> Result<Vec<u8>, Unread>
     requires block { 0 < block }
-    requires most { most ≤ 2 ^ 62 }
-    ensures told { S.tells source.old ≡ true → ReadsAll most (S.left source.old) result (S.left source.new) }
-    ensures short { IfOk result (λ bytes. length bytes.items ≤ most) }
+    requires max_len { max_len ≤ 2 ^ 62 }
+    ensures told { S.tells source.old ≡ true → ReadsAll max_len (S.left source.old) result (S.left source.new) }
+    ensures short { IfOk result (λ bytes. length bytes.items ≤ max_len) }
     ensures frame { Called S.tells S.faults source.old source.new (IsErrOf result Unread.Failed) }
 {
     let mut bytes = Vec::new(alloc);
     let mut filled = 0;
-    'reads: while filled <= most {
+    'reads: while filled <= max_len {
         match read_more(source, &mut bytes, filled, block) {
             Ok(0) => {
                 bytes.truncate(filled);
@@ -78,12 +78,12 @@ fn read_more<S: Source>(
     block: usize,
 ) -> Result<usize, Unread>
     requires bound { filled ≤ vec_len bytes.old }
-    requires most { filled ≤ 2 ^ 62 }
+    requires max_len { filled ≤ 2 ^ 62 }
     requires block { 0 < block }
     ensures next { S.tells source.old ≡ true → IfOk result (λ count. S.left source.old ≡ take count (drop filled bytes.new.items) ++ S.left source.new) }
     ensures ended { S.tells source.old ≡ true → IfOk result (λ count. count ≡ 0 → S.left source.new ≡ []) }
     ensures taken { S.tells source.old ≡ true → OnErr result ((n : ℕ) × (S.left source.new ≡ drop n (S.left source.old))) }
-    ensures front { OnOk result (take filled bytes.new.items ≡ take filled bytes.old.items) }
+    ensures prefix { OnOk result (take filled bytes.new.items ≡ take filled bytes.old.items) }
     ensures bound { IfOk result (λ count. filled + count ≤ vec_len bytes.new) }
     ensures kind { IfErr result (λ e. e ≢ Unread.TooLong) }
     ensures frame { Called S.tells S.faults source.old source.new (IsErrOf result Unread.Failed) }
@@ -104,10 +104,10 @@ fn read_more<S: Source>(
 
 /// Stores the bytes of the separate buffer after the others, if there are any, and returns how many.
 fn push_beside(bytes: &mut Vec<u8>, beside: &[u8]) -> Result<usize, Unread>
-    requires most { vec_len bytes.old ≤ 2 ^ 62 }
+    requires max_len { vec_len bytes.old ≤ 2 ^ 62 }
     requires few { length beside.now ≤ 32 }
     ensures put { IfOk result (λ count. (count ≡ length beside.now) × (vec_len bytes.old + count ≤ vec_len bytes.new) × (take count (drop (vec_len bytes.old) bytes.new.items) ≡ beside.now)) }
-    ensures front { OnOk result (take (vec_len bytes.old) bytes.new.items ≡ bytes.old.items) }
+    ensures prefix { OnOk result (take (vec_len bytes.old) bytes.new.items ≡ bytes.old.items) }
     ensures memory { IsOkUnless result Unread.OutOfMemory }
 {
     let count = beside.len();
@@ -148,7 +148,7 @@ fn read_behind<S: Source>(
     requires room { filled < length bytes.old }
     requires block { 0 < block }
     ensures told { S.tells source.old ≡ true → Reads (S.left source.old) (take block (drop filled bytes.new)) result (S.left source.new) }
-    ensures front { take filled bytes.new ≡ take filled bytes.old }
+    ensures prefix { take filled bytes.new ≡ take filled bytes.old }
     ensures bound { IfOk result (λ count. (filled + count ≤ length bytes.new) × (count ≤ block)) }
     ensures frame { Called S.tells S.faults source.old source.new (IsErr result) }
 {

@@ -9,9 +9,9 @@ use Rattle.xet_hash.specs.declared.error.StoreError.TheVariants as errors
 use Rattle.xet_shard_format.specs.declared.row.Row.{Row}
 use Rattle.xet_codec.specs.Parsing.{◌>>=◌, GivesUnlessFault}
 use Rattle.xet_shard_format.specs.Rows.{row_of, rows_in}
-use Rattle.xet_shard.specs.Runs.{agreed, chunk_end}
+use Rattle.xet_shard.specs.Runs.{agreed, end_of_chunk}
 use Rattle.xet_shard.proofs.Faulting.{fault_on}
-use Rattle.xet_shard_format.specs.theorems.RowList.{row_first, row_left, rows_drop, rows_front}
+use Rattle.xet_shard_format.specs.theorems.RowList.{row_first, row_left, rows_drop, rows_prefix}
 use Rattle.xet_shard.proofs.Running.{rest_all}
 use Rattle.xet_shard_format.specs.theorems.Steps.{left, lent_at}
 
@@ -73,7 +73,7 @@ agreed_cut zero [] end at rows = refl
 agreed_cut zero (h ∷ hs) end at rows = sym (plus_none (agreed (h ∷ hs) end at rows))
 agreed_cut (suc k) [] end at rows = rw (ne_eqb 0 (suc k) (omega arith)) refl
 agreed_cut (suc k) (h ∷ hs) end at [] = rw (ne_eqb 0 (suc k) (omega arith)) refl
-agreed_cut (suc k) (h ∷ hs) end at (r ∷ rows) = by (λ to. agreed_cut k hs end to rows) (pointwise nat_eq h r.hash) (chunk_end r at end)
+agreed_cut (suc k) (h ∷ hs) end at (r ∷ rows) = by (λ to. agreed_cut k hs end to rows) (pointwise nat_eq h r.hash) (end_of_chunk r at end)
   where
     one : Agreed → Agreed
     one x = x >>= λ n. Ok (suc n.0, n.1)
@@ -103,7 +103,7 @@ module _ (ks : List (List ℕ)) (end : ℕ) (rows : List Row) (total : Agreed) w
       let made : ℕ → Agreed = λ k. Ok (k, to) in
       sym so_far ∙ ap made e
 
-  pub row_agrees : (n to next : ℕ) (k : List ℕ) (r : Row) → drop n ks ≡ k ∷ drop (n + 1) ks → drop n rows ≡ r ∷ drop (n + 1) rows → pointwise nat_eq k r.hash ≡ true → chunk_end r to end ≡ Ok next → SoFar n to → SoFar (n + 1) next
+  pub row_agrees : (n to next : ℕ) (k : List ℕ) (r : Row) → drop n ks ≡ k ∷ drop (n + 1) ks → drop n rows ≡ r ∷ drop (n + 1) rows → pointwise nat_eq k r.hash ≡ true → end_of_chunk r to end ≡ Ok next → SoFar n to → SoFar (n + 1) next
   unfolding agreed
   row_agrees n to next k r is_k is_r same ends so_far =
       let others : Agreed = agreed (drop (n + 1) ks) end next (drop (n + 1) rows) in
@@ -116,7 +116,7 @@ module _ (ks : List (List ℕ)) (end : ℕ) (rows : List Row) (total : Agreed) w
       let first : agreed (drop n ks) end to (drop n rows) ≡ Ok (0, to) = (λ i. agreed (is_k i) end to (is_r i)) ∙ rw other refl in
       ends n to (sym (ap (plus n) first) ∙ so_far)
 
-  pub row_refused : (n to : ℕ) (e : StoreError) (k : List ℕ) (r : Row) → drop n ks ≡ k ∷ drop (n + 1) ks → drop n rows ≡ r ∷ drop (n + 1) rows → pointwise nat_eq k r.hash ≡ true → chunk_end r to end ≡ Err e → SoFar n to → total ≡ Err e
+  pub row_refused : (n to : ℕ) (e : StoreError) (k : List ℕ) (r : Row) → drop n ks ≡ k ∷ drop (n + 1) ks → drop n rows ≡ r ∷ drop (n + 1) rows → pointwise nat_eq k r.hash ≡ true → end_of_chunk r to end ≡ Err e → SoFar n to → total ≡ Err e
   unfolding agreed
   row_refused n to e k r is_k is_r same refused so_far =
       let first : agreed (drop n ks) end to (drop n rows) ≡ Err e = (λ i. agreed (is_k i) end to (is_r i)) ∙ rw (same, refused) refl in
@@ -154,7 +154,7 @@ module _ (ks : List (List ℕ)) (end : ℕ) (rows : List Row) (total : Agreed) w
 -- the rows of a block, among all of them
 pub block_rows : (some n count at : ℕ) (whole : List ℕ) → n + some ≤ count → rows_in some (drop (at + 48 * n) whole) ≡ take some (drop n (rows_in count (drop at whole)))
 block_rows some n count at whole le =
-    ap (rows_in some) (sym (drop-drop (48 * n) at whole)) ∙ rows_front some (count - n) (drop (48 * n) (drop at whole)) (omega arith) ∙ ap (take some) (rows_drop n count (drop at whole) (omega arith))
+    ap (rows_in some) (sym (drop-drop (48 * n) at whole)) ∙ rows_prefix some (count - n) (drop (48 * n) (drop at whole)) (omega arith) ∙ ap (take some) (rows_drop n count (drop at whole) (omega arith))
 
 -- ---- what the loop reads next
 
@@ -163,8 +163,8 @@ pub query_left : (keep : List ℕ → List ℕ) (query : List (List ℕ)) (n : �
 query_left keep query n q k below is kept = let at = lent_at keep query n q k below is kept in left (map keep query) n k at.0 at.1
 
 -- the next row, of the bytes from there on
-pub row_here : (n count : ℕ) (bytes front : List ℕ) (r : Row) → n < count → 48 * count ≤ length bytes → r ≡ row_of front → front ≡ take (length bytes - 48 * n) (drop (48 * n) bytes) → drop n (rows_in count bytes) ≡ r ∷ drop (n + 1) (rows_in count bytes)
-row_here n count bytes front r below long is e =
+pub row_here : (n count : ℕ) (bytes prefix : List ℕ) (r : Row) → n < count → 48 * count ≤ length bytes → r ≡ row_of prefix → prefix ≡ take (length bytes - 48 * n) (drop (48 * n) bytes) → drop n (rows_in count bytes) ≡ r ∷ drop (n + 1) (rows_in count bytes)
+row_here n count bytes prefix r below long is e =
     let here : r ≡ row_of (drop (48 * n) bytes) = is ∙ ap (λ (b : List ℕ). row_of b) e ∙ row_first (length bytes - 48 * n) (drop (48 * n) bytes) (omega (arith, long, below)) in
     row_left n count bytes below ∙ ap (λ (x : Row). x ∷ drop (n + 1) (rows_in count bytes)) (sym here)
 

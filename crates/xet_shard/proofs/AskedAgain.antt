@@ -15,10 +15,10 @@ use Rattle.xet_shard_format.specs.declared.record.XorbChunkSequenceEntry.{XorbCh
 use Rattle.xet_shard_format.specs.declared.row.Row.{Row}
 use Rattle.xet_shard.specs.Held.{record_of}
 use Rattle.xet_shard.specs.Bisection.{Bisects}
-use Rattle.xet_shard_format.specs.Lookups.{Lookups, chunk_items, chunks_from, file_items, heads_from, place_cmp, places_from, xorb_items}
-use Rattle.xet_shard.specs.Queries.{block_at, chunk_place, chunk_table, fewer_than_eight, file_after, file_in, file_items_from, file_table, first_file, found_file, found_run, has_head, kept_hash, last_of, place_before, query_word, read_in_row, rows_from, rows_of, run_in, run_of_word, shard_file, shard_run, shard_run_at, tells_row, told_run, xorb_table}
+use Rattle.xet_shard_format.specs.Lookups.{Lookups, chunk_items, chunks_from, file_items, heads_from, place_cmp, lookup_rows_from, xorb_items}
+use Rattle.xet_shard.specs.Queries.{block_at, chunk_place, chunk_table, fewer_than_eight, file_after, file_in, file_items_from, file_table, first_file, found_file, found_run, has_head, kept_hash, last_of, place_before, query_word, read_in_row, rows_from, rows_of, run_in, run_of_word, file_in_shard, shard_run, shard_run_at, tells_row, told_run, xorb_table}
 use Rattle.xet_codec.specs.Parsing.{◌>>=◌}
-use Rattle.xet_shard_format.specs.Reading.{file_at, file_row_count, xorb_at, xorb_row_count}
+use Rattle.xet_shard_format.specs.Reading.{file_record_at, file_row_count, xorb_at, xorb_row_count}
 use Rattle.xet_shard_format.specs.Records.{AreRecords, IsFile, IsXorb, file_hash, file_head, file_rest, file_rows, first_word, section, xorb_hash, xorb_head, xorb_rest, xorb_rows}
 use Rattle.xet_shard_format.specs.Rows.{rows_in}
 use Rattle.xet_shard.specs.Runs.{run_after, run_at}
@@ -146,8 +146,8 @@ module _ (f : MDBShardFileFooter) (bytes : List ℕ) (blocks : List MDBXorbInfo)
     pub read : RunsAt f bytes row block
     pub placed : block_at row 0 blocks ≡ Some block
 
-  places_stand : (at place : ℕ) (cs : List XorbChunkSequenceEntry) → Stands at → AllByRecursion (λ i. Stands (i.1)) (places_from at place cs)
-  unfolding places_from
+  places_stand : (at place : ℕ) (cs : List XorbChunkSequenceEntry) → Stands at → AllByRecursion (λ i. Stands (i.1)) (lookup_rows_from at place cs)
+  unfolding lookup_rows_from
   places_stand at place [] stands = tt
   places_stand at place (c ∷ cs) stands = (stands, places_stand at (place + 1) cs stands)
 
@@ -155,7 +155,7 @@ module _ (f : MDBShardFileFooter) (bytes : List ℕ) (blocks : List MDBXorbInfo)
   unfolding chunks_from
   chunks_stand at [] read placed = tt
   chunks_stand at (x ∷ xs) read placed =
-      all_both (λ (i : ℕ × ℕ × ℕ). Stands (i.1)) (places_from at 0 x.chunks) (chunks_from (at + length (xorb_rows x)) xs) (places_stand at 0 x.chunks (record { block = x; read = read.0; placed = placed.0 }))
+      all_both (λ (i : ℕ × ℕ × ℕ). Stands (i.1)) (lookup_rows_from at 0 x.chunks) (chunks_from (at + length (xorb_rows x)) xs) (places_stand at 0 x.chunks (record { block = x; read = read.0; placed = placed.0 }))
       (chunks_stand (at + length (xorb_rows x)) xs read.1 placed.1)
 
   last_stands : (word : ℕ) (items : List (ℕ × ℕ × ℕ)) → AllByRecursion (λ i. Stands (i.1)) items → (found : ℕ × ℕ) → last_of word items ≡ Some found → Stands (found.0)
@@ -194,7 +194,7 @@ module _ (w : Lookups) (s : Shard) (form : IsShard s) (fits : Fits s) where
   files_there : Each file_rows (λ r x. file_in foot r text ≡ Ok x) 0 s.files
   files_there =
       let p = text_placed w s form fits in
-      let all = section_takes file_at file_hash file_head file_rest IsFile files_reading (file_row_count foot) None (rows_in (file_row_count foot) (drop foot.file_info_offset text)) s.files (text_checked w s form fits).files in
+      let all = section_takes file_record_at file_hash file_head file_rest IsFile files_reading (file_row_count foot) None (rows_in (file_row_count foot) (drop foot.file_info_offset text)) s.files (text_checked w s form fits).files in
       let count = file_row_count foot in
       let one = row_read file_after file_head file_rest IsFile (λ x. x) (λ x rest form. ap (λ (r : Result (MDBFileInfo × List Row) StoreError). r >>= λ y. Ok y.0) (files_reading.again x rest form)) foot.file_info_offset count text p.few_files
       (omega (arith, p.xorbs, p.file_lookup, p.xorb_lookup, p.chunk_lookup, p.footer, p.end)) in
@@ -239,7 +239,7 @@ module _ (w : Lookups) (s : Shard) (form : IsShard s) (fits : Fits s) where
         rw kept (ap (file_among foot h text) rows ∙ among_eight foot h text (rows_of word items))
   ]
 
-  pub file_again : (h : List ℕ) (index : ℕ) → Bisects (λ i. nat_lt i.0 (first_word h)) (file_table foot text) index → found_file foot h index text ≡ shard_file s h
+  pub file_again : (h : List ℕ) (index : ℕ) → Bisects (λ i. nat_lt i.0 (first_word h)) (file_table foot text) index → found_file foot h index text ≡ file_in_shard s h
   file_again h index b = files_found h index b ∙ ap (λ (r : Result (Option MDBFileInfo) StoreError). fewer_than_eight (length (rows_of (first_word h) (file_items s.files))) >>= λ _. r) (first_again foot h text 0 s.files files_there)
 
   head_again : (row index : ℕ) → Bisects (λ i. nat_lt i.1 row) (xorb_table foot text) index → has_head foot row index text ≡ Ok (list_any (λ i. i.1 == row) (xorb_items s.blocks))

@@ -5,7 +5,7 @@ use Rattle.xet_hash.specs.declared.error.Reason.TheVariants.{SectionPlace}
 use Rattle.xet_hash.specs.declared.error.StoreError.{StoreError}
 use Rattle.xet_hash.specs.declared.error.StoreError.TheVariants as errors
 use Rattle.xet_codec.specs.Parsing.{◌>>=◌, GivesUnlessFault}
-use Rattle.xet_shard_format.specs.Reading.{footer_at, header_at}
+use Rattle.xet_shard_format.specs.Reading.{shard_footer_at, shard_header_at}
 use Rattle.xet_shard_format.specs.declared.header_footer.MDBShardFileFooter.{MDBShardFileFooter}
 use Rattle.xet_shard.specs.declared.info.MDBShardInfo.{MDBShardInfo}
 use Rattle.xet_shard.specs.internal.ReaderBytes.{piece_at, rows_at}
@@ -55,15 +55,15 @@ rows_many at count bytes le = rw (le-ltb count (2 ^ 32) le) refl
 
 -- ---- header and footer
 
-pub info_of : (bytes : List ℕ) (f : MDBShardFileFooter) → header_at bytes ≡ Ok tt → footer_at bytes ≡ Ok f → info_at bytes ≡ Ok (record { header = header; metadata = f })
+pub info_of : (bytes : List ℕ) (f : MDBShardFileFooter) → shard_header_at bytes ≡ Ok tt → shard_footer_at bytes ≡ Ok f → info_at bytes ≡ Ok (record { header = header; metadata = f })
 unfolding info_at
 info_of bytes f h g = rw (h, g) refl
 
-pub info_fails : (bytes : List ℕ) (e : StoreError) → GivesUnlessFault {X = Unit {0}} (λ _. tt) (Err e) (header_at bytes) → GivesUnlessFault {X = MDBShardInfo} (λ info. info) (Err e) (info_at bytes)
+pub info_fails : (bytes : List ℕ) (e : StoreError) → GivesUnlessFault {X = Unit {0}} (λ _. tt) (Err e) (shard_header_at bytes) → GivesUnlessFault {X = MDBShardInfo} (λ info. info) (Err e) (info_at bytes)
 unfolding info_at
-info_fails bytes e gives = fault_on {A = Unit {0}} (λ _. tt) (λ info. info) e (header_at bytes) _ gives
+info_fails bytes e gives = fault_on {A = Unit {0}} (λ _. tt) (λ info. info) e (shard_header_at bytes) _ gives
 
-pub info_ends : (bytes : List ℕ) (e : StoreError) → header_at bytes ≡ Ok tt → GivesUnlessFault {X = MDBShardFileFooter} (λ f. f) (Err e) (footer_at bytes) → GivesUnlessFault {X = MDBShardInfo} (λ info. info) (Err e) (info_at bytes)
+pub info_ends : (bytes : List ℕ) (e : StoreError) → shard_header_at bytes ≡ Ok tt → GivesUnlessFault {X = MDBShardFileFooter} (λ f. f) (Err e) (shard_footer_at bytes) → GivesUnlessFault {X = MDBShardInfo} (λ info. info) (Err e) (info_at bytes)
 unfolding info_at
 info_ends bytes e h gives =
-    gives_on {A = Unit {0}} (λ _. tt) (λ info. info) tt (header_at bytes) _ (Err e) h (fault_on {A = MDBShardFileFooter} (λ f. f) (λ info. info) e (footer_at bytes) _ gives)
+    gives_on {A = Unit {0}} (λ _. tt) (λ info. info) tt (shard_header_at bytes) _ (Err e) h (fault_on {A = MDBShardFileFooter} (λ f. f) (λ info. info) e (shard_footer_at bytes) _ gives)

@@ -10,14 +10,14 @@ use Rattle.xet_shard_format.specs.declared.record.MDBFileInfo.{MDBFileInfo}
 use Rattle.xet_shard_format.specs.declared.row.Row.{Row}
 use Rattle.xet_shard_format.specs.declared.record.MDBXorbInfo.{MDBXorbInfo}
 use Rattle.xet_shard_format.specs.declared.record.XorbChunkSequenceEntry.{XorbChunkSequenceEntry}
-use Rattle.xet_shard_format.specs.Lookups.{chunk_items, chunks_from, file_items, record_item_bytes, heads_from, record_items_bytes, place_cmp, chunk_item_bytes, places_from, chunk_items_bytes, xorb_items}
+use Rattle.xet_shard_format.specs.Lookups.{chunk_items, chunks_from, file_items, record_item_bytes, heads_from, record_items_bytes, place_cmp, chunk_item_bytes, lookup_rows_from, chunk_items_bytes, xorb_items}
 use Rattle.xet_shard_format.specs.Records.{chunk_row, file_hash, file_head, file_rest, file_section, first_word, section, xorb_hash, xorb_head, xorb_rest, xorb_rows, xorb_section}
 use Rattle.xet_shard_format.specs.Rows.{RowFits}
 use Rattle.xet_shard.specs.Sections.{heads_in, places_in}
 use Rattle.xet_shard_format.specs.Sorted.{put_in, sorted}
 use Rattle.xet_shard_format.specs.theorems.Bytes.{IsBytes, known_bytes}
 use Rattle.xet_shard_format.specs.theorems.Counts.{length-section}
-use Rattle.xet_base.specs.theorems.Elements.{all_back, all_both, all_front}
+use Rattle.xet_base.specs.theorems.Elements.{all_back, all_both, all_prefix}
 use Rattle.xet_shard_format.specs.theorems.SectionLaws.{section_cons}
 
 -- what fits into the bytes of an item
@@ -59,8 +59,8 @@ module _ {X : Type 0} (hash : X → List ℕ) (head : X → Row) (others : X →
       let word : first_word (hash x) < 2 ^ 64 = subst (λ (h : List ℕ). first_word h < 2 ^ 64) (hash_is x) (first_word_below (head x).hash (known_bytes (head x).hash all.0.hash.1)) in
       ((word, omega (arith, few, long)), heads_fit (at + length (rows x)) xs (all_back RowFits (rows x) (section rows xs) all) (omega (arith, few, long)))
 
-places_fit : (row place : ℕ) (cs : List XorbChunkSequenceEntry) → AllByRecursion RowFits (map chunk_row cs) → row < 2 ^ 32 → place + length cs ≤ 2 ^ 32 → AllByRecursion PlaceFits (places_from row place cs)
-unfolding places_from
+places_fit : (row place : ℕ) (cs : List XorbChunkSequenceEntry) → AllByRecursion RowFits (map chunk_row cs) → row < 2 ^ 32 → place + length cs ≤ 2 ^ 32 → AllByRecursion PlaceFits (lookup_rows_from row place cs)
+unfolding lookup_rows_from
 places_fit row place [] fits low few = tt
 places_fit row place (c ∷ cs) fits low few =
     ((first_word_below c.chunk_hash (known_bytes c.chunk_hash fits.0.hash.1), low, omega (arith, few)), places_fit row (place + 1) cs fits.1 low (omega (arith, few)))
@@ -71,8 +71,8 @@ chunks_fit at [] fits few = tt
 chunks_fit at (x ∷ xs) fits few =
     let all : AllByRecursion RowFits (xorb_rows x ++ xorb_section xs) = subst (AllByRecursion RowFits) (section_cons xorb_rows x xs) fits in
     let long = length-section xorb_rows x xs in
-    all_both PlaceFits (places_from at 0 x.chunks) (chunks_from (at + length (xorb_rows x)) xs)
-    (places_fit at 0 x.chunks (all_front RowFits (xorb_rest x) (xorb_section xs) all.1) (omega (arith, few, long)) (omega (arith, few, long, length-map x.chunks chunk_row)))
+    all_both PlaceFits (lookup_rows_from at 0 x.chunks) (chunks_from (at + length (xorb_rows x)) xs)
+    (places_fit at 0 x.chunks (all_prefix RowFits (xorb_rest x) (xorb_section xs) all.1) (omega (arith, few, long)) (omega (arith, few, long, length-map x.chunks chunk_row)))
     (chunks_fit (at + length (xorb_rows x)) xs (all_back RowFits (xorb_rows x) (xorb_section xs) all) (omega (arith, few, long)))
 
 put_all : {X : Type 0} (P : X → Type 0) (cmp : X → X → Ordering) (x : X) (xs : List X) → P x → AllByRecursion P xs → AllByRecursion P (put_in cmp x xs)

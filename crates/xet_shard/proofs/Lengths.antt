@@ -10,7 +10,7 @@ use Rattle.xet_shard_format.specs.RecordSizes.{file_record_size, xorb_record_siz
 use Rattle.xet_shard_format.specs.Lookups.{all_lookups, chunk_items, chunks_from, file_items, record_item_bytes, record_items_bytes, chunk_item_bytes, chunk_items_bytes, xorb_items}
 use Rattle.xet_shard_format.specs.Records.{chunk_row, file_hash, file_rows, file_section, xorb_hash, xorb_rows, xorb_section}
 use Rattle.xet_shard_format.specs.Rows.{rows_bytes}
-use Rattle.xet_shard_format.specs.Encoding.{Fits, Shard, footer_of, footer_text, full_shard_bytes, shard_bytes}
+use Rattle.xet_shard_format.specs.Encoding.{Fits, Shard, footer_of, shard_footer_bytes, full_shard_bytes, shard_bytes}
 use Rattle.xet_hash.specs.Order.{hash_cmp}
 use Rattle.xet_shard_format.specs.theorems.Bytes.{length-rows_bytes}
 use Rattle.xet_shard_format.specs.theorems.Counts.{chunk_count, chunks_in, length-heads_from, length-section}
@@ -24,7 +24,7 @@ length-full_shard_bytes : (s : Shard) → Fits s
     → length (full_shard_bytes s) ≡ 248 + 48 * length (file_section s.files) + 48 * length (xorb_section s.blocks) + 12 * length s.files + 12 * length s.blocks + 16 * length (chunk_items s.blocks)
 unfolding shard_bytes footer_of
 length-full_shard_bytes s fits =
-    let footer : List ℕ = footer_text (footer_of all_lookups s) in
+    let footer : List ℕ = shard_footer_bytes (footer_of all_lookups s) in
     let chunks : List ℕ = chunk_items_bytes (chunk_items s.blocks) in
     let xorbs : List ℕ = record_items_bytes (xorb_items s.blocks) in
     let files : List ℕ = record_items_bytes (file_items s.files) in

@@ -20,6 +20,6 @@ mod RisingTables
 mod Asking
 mod Keying
 mod Exporting
-mod RefusalKinds
+mod ErrorKinds
 mod Merging
 mod Uniting

@@ -11,7 +11,7 @@ use Rattle.std.proofs.lemmas.List.MinMax.{ranks_by}
 use Rattle.xet_hash.specs.theorems.Ties.{hash_tied}
 use Rattle.xet_hash.specs.Order.{hash_cmp}
 use Rattle.xet_shard.specs.Held.{record_of}
-use Rattle.xet_shard.specs.internal.Merging.{FirstAgrees, Rises, behind, below, not_below}
+use Rattle.xet_shard.specs.internal.Merging.{FirstAgrees, Rises, after_hash, below, not_below}
 use Rattle.xet_shard_format.specs.Records.{AreRecords}
 use Rattle.xet_shard_format.specs.Sorted.{put_in, sorted}
 use Rattle.xet_shard.specs.Union.{Agree, union}
@@ -84,9 +84,9 @@ module _ {X : Type 0} (hash : X → List ℕ) where
 
   unfoldable pub merged : List X → List X → List X
   merged [] ys = ys
-  merged (x ∷ xs) ys = below hash (hash x) ys ++ x ∷ merged xs (behind hash (hash x) (not_below hash (hash x) ys))
+  merged (x ∷ xs) ys = below hash (hash x) ys ++ x ∷ merged xs (after_hash hash (hash x) (not_below hash (hash x) ys))
 
-  pub merged_one : (x : X) (xs ys : List X) → merged (x ∷ xs) ys ≡ below hash (hash x) ys ++ x ∷ merged xs (behind hash (hash x) (not_below hash (hash x) ys))
+  pub merged_one : (x : X) (xs ys : List X) → merged (x ∷ xs) ys ≡ below hash (hash x) ys ++ x ∷ merged xs (after_hash hash (hash x) (not_below hash (hash x) ys))
   unfolding merged
   merged_one x xs ys = refl
 
@@ -110,41 +110,41 @@ module _ {X : Type 0} (hash : X → List ℕ) where
   unfolding not_below
   rest_high h y ys high = ap (λ (b : Bool). cond b (not_below hash h ys) (y ∷ ys)) high
 
-  pub behind_same : (h : List ℕ) (y : X) (ys : List X) → hash y ≡ h → behind hash h (y ∷ ys) ≡ ys
-  unfolding behind
+  pub behind_same : (h : List ℕ) (y : X) (ys : List X) → hash y ≡ h → after_hash hash h (y ∷ ys) ≡ ys
+  unfolding after_hash
   behind_same h y ys e = ap (λ (b : Bool). cond b ys (y ∷ ys)) ((bytes_decides (hash y) h).1 e)
 
-  pub behind_other : (h : List ℕ) (y : X) (ys : List X) → hash y ≢ h → behind hash h (y ∷ ys) ≡ y ∷ ys
-  unfolding behind
+  pub behind_other : (h : List ℕ) (y : X) (ys : List X) → hash y ≢ h → after_hash hash h (y ∷ ys) ≡ y ∷ ys
+  unfolding after_hash
   behind_other h y ys ne = ap (λ (b : Bool). cond b ys (y ∷ ys)) (not_same (hash y) h ne)
 
-  pub ends : (h : List ℕ) → (below hash h [] ≡ []) × (not_below hash h [] ≡ []) × (behind hash h [] ≡ [])
-  unfolding below not_below behind
+  pub ends : (h : List ℕ) → (below hash h [] ≡ []) × (not_below hash h [] ≡ []) × (after_hash hash h [] ≡ [])
+  unfolding below not_below after_hash
   ends h = (refl, refl, refl)
 
-  pub behind_nothing : (h : List ℕ) (ys : List X) → length ys ≡ 0 → ys ≡ behind hash h ys
-  behind_nothing h ys none = nil_from_length ys none ∙ sym (ends h).2 ∙ ap (behind hash h) (sym (nil_from_length ys none))
+  pub behind_nothing : (h : List ℕ) (ys : List X) → length ys ≡ 0 → ys ≡ after_hash hash h ys
+  behind_nothing h ys none = nil_from_length ys none ∙ sym (ends h).2 ∙ ap (after_hash hash h) (sym (nil_from_length ys none))
 
-  pub behind_first_other : (h : List ℕ) (ys : List X) (y : X) (rest : List X) → ys ≡ y ∷ rest → hash y ≢ h → ys ≡ behind hash h ys
-  behind_first_other h ys y rest is ne = is ∙ sym (behind_other h y rest ne) ∙ ap (behind hash h) (sym is)
+  pub behind_first_other : (h : List ℕ) (ys : List X) (y : X) (rest : List X) → ys ≡ y ∷ rest → hash y ≢ h → ys ≡ after_hash hash h ys
+  behind_first_other h ys y rest is ne = is ∙ sym (behind_other h y rest ne) ∙ ap (after_hash hash h) (sym is)
 
-  pub behind_first_same : (h : List ℕ) (ys : List X) (y : X) (rest : List X) → ys ≡ y ∷ rest → hash y ≡ h → rest ≡ behind hash h ys
-  behind_first_same h ys y rest is e = sym (behind_same h y rest e) ∙ ap (behind hash h) (sym is)
+  pub behind_first_same : (h : List ℕ) (ys : List X) (y : X) (rest : List X) → ys ≡ y ∷ rest → hash y ≡ h → rest ≡ after_hash hash h ys
+  behind_first_same h ys y rest is e = sym (behind_same h y rest e) ∙ ap (after_hash hash h) (sym is)
 
   merged_low : (x : X) (xs : List X) (y : X) (ys : List X) → lt y x ≡ true → merged (x ∷ xs) (y ∷ ys) ≡ y ∷ merged (x ∷ xs) ys
   unfolding merged
-  merged_low x xs y ys less = λ i. below_low (hash x) y ys less i ++ x ∷ merged xs (behind hash (hash x) (rest_low (hash x) y ys less i))
+  merged_low x xs y ys less = λ i. below_low (hash x) y ys less i ++ x ∷ merged xs (after_hash hash (hash x) (rest_low (hash x) y ys less i))
 
-  merged_high : (x : X) (xs : List X) (y : X) (ys : List X) → lt y x ≡ false → merged (x ∷ xs) (y ∷ ys) ≡ x ∷ merged xs (behind hash (hash x) (y ∷ ys))
+  merged_high : (x : X) (xs : List X) (y : X) (ys : List X) → lt y x ≡ false → merged (x ∷ xs) (y ∷ ys) ≡ x ∷ merged xs (after_hash hash (hash x) (y ∷ ys))
   unfolding merged
-  merged_high x xs y ys high = λ i. below_high (hash x) y ys high i ++ x ∷ merged xs (behind hash (hash x) (rest_high (hash x) y ys high i))
+  merged_high x xs y ys high = λ i. below_high (hash x) y ys high i ++ x ∷ merged xs (after_hash hash (hash x) (rest_high (hash x) y ys high i))
 
   merged_end : (x : X) (xs : List X) → merged (x ∷ xs) [] ≡ x ∷ merged xs []
   unfolding merged
   merged_end x xs = λ i. (ends (hash x)).0 i ++ x ∷ merged xs (at i)
     where
-      at : behind hash (hash x) (not_below hash (hash x) []) ≡ []
-      at = ap (behind hash (hash x)) (ends (hash x)).1 ∙ (ends (hash x)).2
+      at : after_hash hash (hash x) (not_below hash (hash x) []) ≡ []
+      at = ap (after_hash hash (hash x)) (ends (hash x)).1 ∙ (ends (hash x)).2
 
   -- ---- what is left
 
@@ -155,7 +155,7 @@ module _ {X : Type 0} (hash : X → List ℕ) where
     | inr f ↦ subst (AllByRecursion P) (sym (rest_high h y ys f)) all
   ]
 
-  pub all_behind : (P : X → Type 0) (h : List ℕ) (ys : List X) → AllByRecursion P ys → AllByRecursion P (behind hash h ys)
+  pub all_behind : (P : X → Type 0) (h : List ℕ) (ys : List X) → AllByRecursion P ys → AllByRecursion P (after_hash hash h ys)
   all_behind P h [] all = subst (AllByRecursion P) (sym (ends h).2) tt
   all_behind P h (y ∷ ys) all = elim (cases_Bool (pointwise nat_eq (hash y) h)) [
     | inl t ↦ subst (AllByRecursion P) (sym (behind_same h y ys ((bytes_decides (hash y) h).0 t))) all.1
@@ -169,7 +169,7 @@ module _ {X : Type 0} (hash : X → List ℕ) where
     | inr f ↦ subst (Rises hash) (sym (rest_high h y ys f)) r
   ]
 
-  pub behind_rises : (h : List ℕ) (ys : List X) → Rises hash ys → Rises hash (behind hash h ys)
+  pub behind_rises : (h : List ℕ) (ys : List X) → Rises hash ys → Rises hash (after_hash hash h ys)
   behind_rises h [] r = subst (Rises hash) (sym (ends h).2) tt
   behind_rises h (y ∷ ys) r = elim (cases_Bool (pointwise nat_eq (hash y) h)) [
     | inl t ↦ subst (Rises hash) (sym (behind_same h y ys ((bytes_decides (hash y) h).0 t))) r.1
@@ -211,8 +211,8 @@ module _ {X : Type 0} (hash : X → List ℕ) where
   sorted_rising [] r = refl
   sorted_rising (y ∷ ys) r = ap (put_in by y) (sorted_rising ys r.1) ∙ put_low y ys r.0
 
-  -- behind the first of another list, which is not below x, all are above x
-  all_above : (x y : X) (ys : List X) → Rises hash (y ∷ ys) → lt y x ≡ false → AllByRecursion (λ z. lt x z ≡ true) (behind hash (hash x) (y ∷ ys))
+  -- after_hash the first of another list, which is not below x, all are above x
+  all_above : (x y : X) (ys : List X) → Rises hash (y ∷ ys) → lt y x ≡ false → AllByRecursion (λ z. lt x z ≡ true) (after_hash hash (hash x) (y ∷ ys))
   all_above x y ys r high = elim (cases_Bool (pointwise nat_eq (hash y) (hash x))) [
     | inl t ↦ subst (AllByRecursion (λ z. lt x z ≡ true)) (sym (behind_same (hash x) y ys ((bytes_decides (hash y) (hash x)).0 t))) later
     | inr f ↦
@@ -227,14 +227,14 @@ module _ {X : Type 0} (hash : X → List ℕ) where
   above_others x xs zs all =
       same_filter (others (x ∷ xs)) (others xs) zs (all_each (λ z. lt x z ≡ true) (λ z. others (x ∷ xs) z ≡ others xs z) zs (λ z less. other_record x xs z (λ e. apart (hash x) (hash z) less (sym e))) all)
 
-  kept_behind : (x : X) (xs : List X) (y : X) (ys : List X) → Rises hash (y ∷ ys) → lt y x ≡ false → filter (others (x ∷ xs)) (y ∷ ys) ≡ filter (others xs) (behind hash (hash x) (y ∷ ys))
+  kept_behind : (x : X) (xs : List X) (y : X) (ys : List X) → Rises hash (y ∷ ys) → lt y x ≡ false → filter (others (x ∷ xs)) (y ∷ ys) ≡ filter (others xs) (after_hash hash (hash x) (y ∷ ys))
   kept_behind x xs y ys r high = elim (cases_Bool (pointwise nat_eq (hash y) (hash x))) [
     | inl t ↦
         let e : hash y ≡ hash x = (bytes_decides (hash y) (hash x)).0 t in
-        let rest : behind hash (hash x) (y ∷ ys) ≡ ys = behind_same (hash x) y ys e in
+        let rest : after_hash hash (hash x) (y ∷ ys) ≡ ys = behind_same (hash x) y ys e in
         skips (others (x ∷ xs)) y ys (this_record x xs y e) ∙ above_others x xs ys (subst (AllByRecursion (λ z. lt x z ≡ true)) rest (all_above x y ys r high)) ∙ ap (filter (others xs)) (sym rest)
     | inr f ↦
-        let rest : behind hash (hash x) (y ∷ ys) ≡ y ∷ ys = behind_other (hash x) y ys (λ e. true≢false (sym ((bytes_decides (hash y) (hash x)).1 e) ∙ f)) in
+        let rest : after_hash hash (hash x) (y ∷ ys) ≡ y ∷ ys = behind_other (hash x) y ys (λ e. true≢false (sym ((bytes_decides (hash y) (hash x)).1 e) ∙ f)) in
         above_others x xs (y ∷ ys) (subst (AllByRecursion (λ z. lt x z ≡ true)) rest (all_above x y ys r high)) ∙ ap (filter (others xs)) (sym rest)
   ]
 
@@ -251,10 +251,10 @@ module _ {X : Type 0} (hash : X → List ℕ) where
         ∙ sym (sorted_low y (x ∷ xs) (filter (others (x ∷ xs)) ys) first (all_filtered (λ z. lt y z ≡ true) (others (x ∷ xs)) ys s.0))
         ∙ ap (λ (l : List X). sorted by ((x ∷ xs) ++ l)) (sym kept)
     | inr f ↦
-        let rest : List X = behind hash (hash x) (y ∷ ys) in
-        merged_high x xs y ys f ∙ ap (λ (l : List X). x ∷ l) (merged_is xs (behind hash (hash x) (y ∷ ys)) r.1 (behind_rises (hash x) (y ∷ ys) s))
-        ∙ sym (sorted_low x [] (xs ++ filter (others xs) (behind hash (hash x) (y ∷ ys))) tt
-        (all_append (λ z. lt x z ≡ true) xs (filter (others xs) (behind hash (hash x) (y ∷ ys))) r.0 (all_filtered (λ z. lt x z ≡ true) (others xs) (behind hash (hash x) (y ∷ ys)) (all_above x y ys s f))))
+        let rest : List X = after_hash hash (hash x) (y ∷ ys) in
+        merged_high x xs y ys f ∙ ap (λ (l : List X). x ∷ l) (merged_is xs (after_hash hash (hash x) (y ∷ ys)) r.1 (behind_rises (hash x) (y ∷ ys) s))
+        ∙ sym (sorted_low x [] (xs ++ filter (others xs) (after_hash hash (hash x) (y ∷ ys))) tt
+        (all_append (λ z. lt x z ≡ true) xs (filter (others xs) (after_hash hash (hash x) (y ∷ ys))) r.0 (all_filtered (λ z. lt x z ≡ true) (others xs) (after_hash hash (hash x) (y ∷ ys)) (all_above x y ys s f))))
         ∙ ap (λ (l : List X). sorted by (x ∷ (xs ++ l))) (sym (kept_behind x xs y ys s f))
   ]
 
@@ -264,13 +264,13 @@ module _ {X : Type 0} (hash : X → List ℕ) where
 
   -- ---- records that agree
 
-  -- what holds of each record of the second list, up to x and behind, holds of all
-  all_again : (P : X → Type 0) (x : X) (ys : List X) → ((y : X) → lt y x ≡ true → P y) → ((y : X) → hash y ≡ hash x → P y) → AllByRecursion P (behind hash (hash x) (not_below hash (hash x) ys)) → AllByRecursion P ys
+  -- what holds of each record of the second list, up to x and after_hash, holds of all
+  all_again : (P : X → Type 0) (x : X) (ys : List X) → ((y : X) → lt y x ≡ true → P y) → ((y : X) → hash y ≡ hash x → P y) → AllByRecursion P (after_hash hash (hash x) (not_below hash (hash x) ys)) → AllByRecursion P ys
   all_again P x [] low same all = tt
   all_again P x (y ∷ ys) low same all = elim (cases_Bool (lt y x)) [
-    | inl t ↦ (low y t, all_again P x ys low same (subst (λ (l : List X). AllByRecursion P (behind hash (hash x) l)) (rest_low (hash x) y ys t) all))
+    | inl t ↦ (low y t, all_again P x ys low same (subst (λ (l : List X). AllByRecursion P (after_hash hash (hash x) l)) (rest_low (hash x) y ys t) all))
     | inr f ↦
-        let at : AllByRecursion P (behind hash (hash x) (y ∷ ys)) = subst (λ (l : List X). AllByRecursion P (behind hash (hash x) l)) (rest_high (hash x) y ys f) all in
+        let at : AllByRecursion P (after_hash hash (hash x) (y ∷ ys)) = subst (λ (l : List X). AllByRecursion P (after_hash hash (hash x) l)) (rest_high (hash x) y ys f) all in
         elim (cases_Bool (pointwise nat_eq (hash y) (hash x))) [
           | inl t ↦ let e : hash y ≡ hash x = (bytes_decides (hash y) (hash x)).0 t in (same y e, subst (AllByRecursion P) (behind_same (hash x) y ys e) at)
           | inr g ↦ subst (AllByRecursion P) (behind_other (hash x) y ys (λ e. true≢false (sym ((bytes_decides (hash y) (hash x)).1 e) ∙ g))) at
@@ -286,10 +286,10 @@ module _ {X : Type 0} (hash : X → List ℕ) where
         (here, all_each (λ z. lt y z ≡ true) (λ z. hash x ≡ hash z → x ≡ z) ys (λ z less e. absurd (apart (hash x) (hash z) (above (hash x) (hash y) (hash z) f less) e)) r.0)
   ]
 
-  pub agree_back : (x : X) (xs ys : List X) → Rises hash (x ∷ xs) → Rises hash ys → FirstAgrees hash x (not_below hash (hash x) ys) → Agree hash xs (behind hash (hash x) (not_below hash (hash x) ys)) → Agree hash (x ∷ xs) ys
+  pub agree_back : (x : X) (xs ys : List X) → Rises hash (x ∷ xs) → Rises hash ys → FirstAgrees hash x (not_below hash (hash x) ys) → Agree hash xs (after_hash hash (hash x) (not_below hash (hash x) ys)) → Agree hash (x ∷ xs) ys
   agree_back x xs ys r s first rest = (first_again x ys s first, each xs r.0 rest)
     where
-      each : (zs : List X) → AllByRecursion (λ z. lt x z ≡ true) zs → Agree hash zs (behind hash (hash x) (not_below hash (hash x) ys)) → Agree hash zs ys
+      each : (zs : List X) → AllByRecursion (λ z. lt x z ≡ true) zs → Agree hash zs (after_hash hash (hash x) (not_below hash (hash x) ys)) → Agree hash zs ys
       each [] all agree = tt
       each (z ∷ zs) all agree = (
         all_again (λ y. hash z ≡ hash y → z ≡ y) x ys
@@ -305,9 +305,9 @@ module _ {X : Type 0} (hash : X → List ℕ) where
   pub agree_first : (x : X) (xs ys : List X) → Agree hash (x ∷ xs) ys → FirstAgrees hash x (not_below hash (hash x) ys)
   agree_first x xs ys agree = first_of x (not_below hash (hash x) ys) (all_rest (λ y. hash x ≡ hash y → x ≡ y) (hash x) ys agree.0)
 
-  pub agree_on : (x : X) (xs ys : List X) → Agree hash (x ∷ xs) ys → Agree hash xs (behind hash (hash x) (not_below hash (hash x) ys))
+  pub agree_on : (x : X) (xs ys : List X) → Agree hash (x ∷ xs) ys → Agree hash xs (after_hash hash (hash x) (not_below hash (hash x) ys))
   agree_on x xs ys agree =
-      all_each (λ z. AllByRecursion (λ y. hash z ≡ hash y → z ≡ y) ys) (λ z. AllByRecursion (λ y. hash z ≡ hash y → z ≡ y) (behind hash (hash x) (not_below hash (hash x) ys))) xs
+      all_each (λ z. AllByRecursion (λ y. hash z ≡ hash y → z ≡ y) ys) (λ z. AllByRecursion (λ y. hash z ≡ hash y → z ≡ y) (after_hash hash (hash x) (not_below hash (hash x) ys))) xs
       (λ z all. all_behind (λ y. hash z ≡ hash y → z ≡ y) (hash x) (not_below hash (hash x) ys) (all_rest (λ y. hash z ≡ hash y → z ≡ y) (hash x) ys all)) agree.1
 
   -- ---- the form of records
@@ -337,7 +337,7 @@ module _ {X : Type 0} (hash : X → List ℕ) where
             r.0,
             r.1,
             r.2,
-            records_merged (Some (hash x)) xs (behind hash (hash x) (y ∷ ys)) r.3 (elim (cases_Bool (pointwise nat_eq (hash y) (hash x))) [
+            records_merged (Some (hash x)) xs (after_hash hash (hash x) (y ∷ ys)) r.3 (elim (cases_Bool (pointwise nat_eq (hash y) (hash x))) [
               | inl t ↦
                   let e : hash y ≡ hash x = (bytes_decides (hash y) (hash x)).0 t in
                   subst (AreRecords hash Form (Some (hash x))) (sym (behind_same (hash x) y ys e)) (subst (λ (h : List ℕ). AreRecords hash Form (Some h) ys) e s.3)

@@ -13,13 +13,13 @@ use Rattle.xet_shard_format.specs.declared.record.MDBFileInfo.{MDBFileInfo}
 use Rattle.xet_shard_format.specs.declared.row.Row.{Row}
 use Rattle.xet_shard.specs.Queries.{file_after, read_in_row, rows_from}
 use Rattle.xet_codec.specs.Parsing.{◌>>=◌, Gives, GivesUnlessFault, wants}
-use Rattle.xet_shard_format.specs.Reading.{ext_at, file_at, has_ext, hash_at, has_rows, hash_in, is_verified, row_at, rows_after_file, segment_at, times, verification_at}
+use Rattle.xet_shard_format.specs.Reading.{ext_at, file_record_at, has_ext, hash_row_at, has_rows, hash_in, is_verified, row_at, rows_after_file, segment_at, times_rows, verification_at}
 use Rattle.xet_shard_format.specs.Records.{flags_of}
 use Rattle.xet_shard_format.specs.Rows.{row_of, rows_in}
 use Rattle.xet_shard.proofs.Faulting.{fault_on}
 use Rattle.xet_shard_format.specs.theorems.Refusing.{IsAnswer, gives_whole}
 use Rattle.xet_shard_format.specs.theorems.RowLaws.{done}
-use Rattle.xet_shard_format.specs.theorems.RowList.{length-rows_in, rows_first, rows_front}
+use Rattle.xet_shard_format.specs.theorems.RowList.{length-rows_in, rows_first, rows_prefix}
 
 -- what was read, with so many of the rows after it
 abbrev cut : {X : Type 0} → ℕ → Result (X × List Row) StoreError → Result (X × List Row) StoreError
@@ -60,13 +60,13 @@ row_cut : (m : ℕ) (rows : List Row) → row_at (take (suc m) rows) ≡ cut m (
 row_cut m [] = refl
 row_cut m (r ∷ rows) = refl
 
-times_cut : {X : Type 0} (read : List Row → Result (X × List Row) StoreError) → LooksAtOne read → (n m : ℕ) (rows : List Row) → times read n (take (n + m) rows) ≡ cut m (times read n rows)
-unfolding times
+times_cut : {X : Type 0} (read : List Row → Result (X × List Row) StoreError) → LooksAtOne read → (n m : ℕ) (rows : List Row) → times_rows read n (take (n + m) rows) ≡ cut m (times_rows read n rows)
+unfolding times_rows
 times_cut read one zero m rows = let e : 0 + m ≡ m = omega arith in ap (λ (j : ℕ). done ([], take j rows)) e
 times_cut read one (suc n) m rows =
     let e : suc n + m ≡ suc (n + m) = omega arith in
-    ap (λ (j : ℕ). times read (suc n) (take j rows)) e ∙ after_cut (n + m) m (read (take (suc (n + m)) rows)) (read rows) (λ x. times read n x.1 >>= λ xs. Ok (x.0 ∷ xs.0, xs.1)) (one (n + m) rows) (λ x rest.
-    after_cut m m (times read n (take (n + m) rest)) (times read n rest) (λ xs. Ok (x ∷ xs.0, xs.1)) (times_cut read one n m rest) (λ xs others. refl))
+    ap (λ (j : ℕ). times_rows read (suc n) (take j rows)) e ∙ after_cut (n + m) m (read (take (suc (n + m)) rows)) (read rows) (λ x. times_rows read n x.1 >>= λ xs. Ok (x.0 ∷ xs.0, xs.1)) (one (n + m) rows) (λ x rest.
+    after_cut m m (times_rows read n (take (n + m) rest)) (times_rows read n rest) (λ xs. Ok (x ∷ xs.0, xs.1)) (times_cut read one n m rest) (λ xs others. refl))
 
 segment_cut : LooksAtOne segment_at
 unfolding segment_at
@@ -80,8 +80,8 @@ segment_cut m (r ∷ rows) = by (eqb r.a 0)
     by true = refl
     by false = refl
 
-hash_cut : LooksAtOne hash_at
-unfolding hash_at
+hash_cut : LooksAtOne hash_row_at
+unfolding hash_row_at
 hash_cut m [] = refl
 hash_cut m (r ∷ rows) = by (hash_in r)
   where
@@ -93,14 +93,14 @@ verification_cut : LooksAtOne verification_at
 unfolding verification_at
 verification_cut m rows =
     let made : List ℕ × List Row → Result (FileVerificationEntry × List Row) StoreError = λ h. Ok (record { range_hash = h.0 }, h.1) in
-    after_cut m m (hash_at (take (suc m) rows)) (hash_at rows) made (hash_cut m rows) (λ h rest. refl)
+    after_cut m m (hash_row_at (take (suc m) rows)) (hash_row_at rows) made (hash_cut m rows) (λ h rest. refl)
 
 ext_cut : (there : Bool) (rows : List Row) → ext_at there (take (cond there 1 0) rows) ≡ cut 0 (ext_at there rows)
 unfolding ext_at
 ext_cut false rows = refl
 ext_cut true rows =
     let made : List ℕ × List Row → Result (Option FileMetadataExt × List Row) StoreError = λ h. Ok (Some (record { sha256 = h.0 }), h.1) in
-    after_cut 0 0 (hash_at (take 1 rows)) (hash_at rows) made (hash_cut 0 rows) (λ h rest. refl)
+    after_cut 0 0 (hash_row_at (take 1 rows)) (hash_row_at rows) made (hash_cut 0 rows) (λ h rest. refl)
 
 -- so many rows are left, whether or not more are looked at
 room : (n : ℕ) (rows : List Row) → leb n (length (take n rows)) ≡ leb n (length rows)
@@ -112,19 +112,19 @@ room n rows = elim (cases_Bool (leb n (length rows))) [
 room_cut : {B : Type 0} (n : ℕ) (rows : List Row) (part all : Result (B × List Row) StoreError) → part ≡ cut 0 all → (has_rows n (take n rows) >>= λ _. part) ≡ cut 0 (has_rows n rows >>= λ _. all)
 room_cut n rows part all same = ap (λ (b : Bool). wants b SectionPlace >>= λ _. part) (room n rows) ∙ test_cut (leb n (length rows)) SectionPlace part all same
 
-file_cut : (head : Row) (rows : List Row) → file_at head (take (rows_after_file head) rows) ≡ cut 0 (file_at head rows)
-unfolding file_at
+file_cut : (head : Row) (rows : List Row) → file_record_at head (take (rows_after_file head) rows) ≡ cut 0 (file_record_at head rows)
+unfolding file_record_at
 file_cut head rows =
     let b : ℕ = cond (is_verified head.a) head.b 0 in
     let e : ℕ = cond (has_ext head.a) 1 0 in
     let made : List FileDataSequenceEntry → List FileVerificationEntry → Option FileMetadataExt → MDBFileInfo = λ ss vs m. record { metadata = record { file_hash = head.hash; file_flags = head.a; num_entries = head.b }; segments = ss; verification = vs; metadata_ext = m } in
     let last : List FileDataSequenceEntry → List FileVerificationEntry → Option FileMetadataExt × List Row → Result (MDBFileInfo × List Row) StoreError = λ ss vs m. Ok (made ss vs m.0, m.1) in
     let second : List FileDataSequenceEntry → List FileVerificationEntry × List Row → Result (MDBFileInfo × List Row) StoreError = λ ss vs. ext_at (has_ext head.a) vs.1 >>= last ss vs.0 in
-    let first : List FileDataSequenceEntry × List Row → Result (MDBFileInfo × List Row) StoreError = λ ss. times verification_at b ss.1 >>= second ss.0 in
+    let first : List FileDataSequenceEntry × List Row → Result (MDBFileInfo × List Row) StoreError = λ ss. times_rows verification_at b ss.1 >>= second ss.0 in
     room_cut (rows_after_file head) rows _ _ (test_cut (eqb head.a (flags_of (is_verified head.a) (has_ext head.a))) SectionEntry _ _
     (test_cut (eqb head.c 0) SectionEntry _ _ (test_cut (eqb head.d 0) SectionEntry _ _
-    (after_cut (b + e) 0 (times segment_at head.b (take (head.b + (b + e)) rows)) (times segment_at head.b rows) first (times_cut segment_at segment_cut head.b (b + e) rows) (λ ss rest.
-    after_cut e 0 (times verification_at b (take (b + e) rest)) (times verification_at b rest) (second ss) (times_cut verification_at verification_cut b e rest) (λ vs others.
+    (after_cut (b + e) 0 (times_rows segment_at head.b (take (head.b + (b + e)) rows)) (times_rows segment_at head.b rows) first (times_cut segment_at segment_cut head.b (b + e) rows) (λ ss rest.
+    after_cut e 0 (times_rows verification_at b (take (b + e) rest)) (times_rows verification_at b rest) (second ss) (times_cut verification_at verification_cut b e rest) (λ vs others.
     after_cut 0 0 (ext_at (has_ext head.a) (take e others)) (ext_at (has_ext head.a) others) (last ss vs) (ext_cut (has_ext head.a) others) (λ m left. refl)))))))
 
 alone_cut : {X : Type 0} (read : Result (X × List Row) StoreError) → alone (cut 0 read) ≡ alone read
@@ -132,7 +132,7 @@ alone_cut (Ok x) = refl
 alone_cut (Err e) = refl
 
 pub file_alone : (head : Row) (n : ℕ) (rows : List Row) → n ≡ rows_after_file head → file_after head (take n rows) ≡ file_after head rows
-file_alone head n rows e = ap (λ (k : ℕ). alone (file_at head (take k rows))) e ∙ ap (λ (r : Result (MDBFileInfo × List Row) StoreError). alone r) (file_cut head rows) ∙ alone_cut (file_at head rows)
+file_alone head n rows e = ap (λ (k : ℕ). alone (file_record_at head (take k rows))) e ∙ ap (λ (r : Result (MDBFileInfo × List Row) StoreError). alone r) (file_cut head rows) ∙ alone_cut (file_record_at head rows)
 
 -- ---- what was read of the rows after the head
 
@@ -149,7 +149,7 @@ stops {A} {B} {X} {Y} first then e x read whole there gives = subst (λ (r : Res
 pub rows_wanted : (n m k : ℕ) (piece bytes : List ℕ) → k ≡ min n m → piece ≡ take (48 * k) bytes → rows_in k piece ≡ take n (rows_in m bytes)
 rows_wanted n m k piece bytes e is =
     let some : k ≡ min n (length (rows_in m bytes)) = e ∙ ap (min n) (sym (length-rows_in m bytes)) in
-    ap (rows_in k) is ∙ rows_first k bytes ∙ rows_front k m bytes (omega (arith, e)) ∙ ap (λ (j : ℕ). take j (rows_in m bytes)) some ∙ take_min n (rows_in m bytes)
+    ap (rows_in k) is ∙ rows_first k bytes ∙ rows_prefix k m bytes (omega (arith, e)) ∙ ap (λ (j : ℕ). take j (rows_in m bytes)) some ∙ take_min n (rows_in m bytes)
 
 module _ {X : Type 0} (read : Row → List Row → Result X StoreError) (bytes : List ℕ) where
   -- in a section and in what is left of it from the row on

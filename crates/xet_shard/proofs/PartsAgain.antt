@@ -12,7 +12,7 @@ use Rattle.xet_shard_format.specs.declared.row.Row.{Row}
 use Rattle.xet_shard_format.specs.Lookups.{Lookups, chunk_items, file_items, record_item_bytes, record_items_bytes, left_in, chunk_item_bytes, chunk_items_bytes, xorb_items}
 use Rattle.xet_shard.specs.internal.ReaderBytes.{piece_at}
 use Rattle.xet_codec.specs.Parsing.{◌>>=◌}
-use Rattle.xet_shard_format.specs.Reading.{IsPlaced, Parts, all_of, file_at, file_row_count, footer_at, footer_in, header_at, lookup_at, places_at, section_at, totals_at, xorb_at, xorb_row_count}
+use Rattle.xet_shard_format.specs.Reading.{IsPlaced, ShardParts, all_of, file_record_at, file_row_count, shard_footer_at, footer_in, shard_header_at, lookup_at, places_at, section_at, totals_at, xorb_at, xorb_row_count}
 use Rattle.xet_shard_format.specs.Records.{file_hash, xorb_hash}
 use Rattle.xet_shard_format.specs.Rows.{rows_in}
 use Rattle.xet_codec.specs.Numbers.{word}
@@ -27,31 +27,31 @@ use Rattle.xet_shard_format.specs.theorems.WholeAgain.{all_again}
 use Rattle.xet_shard_format.specs.theorems.WholeTaken.{LeftIn, head_len, lookup_takes, place_len}
 
 -- what reading the whole has checked of each part
-pub record Checked (bytes : List ℕ) (p : Parts) : Type 0 where
-  pub header : header_at bytes ≡ Ok tt
-  pub footer : footer_at bytes ≡ Ok p.2
-  pub files : section_at file_at file_hash (file_row_count p.2) None (rows_in (file_row_count p.2) (drop p.2.file_info_offset bytes)) ≡ Ok p.1
+pub record Checked (bytes : List ℕ) (p : ShardParts) : Type 0 where
+  pub header : shard_header_at bytes ≡ Ok tt
+  pub footer : shard_footer_at bytes ≡ Ok p.2
+  pub files : section_at file_record_at file_hash (file_row_count p.2) None (rows_in (file_row_count p.2) (drop p.2.file_info_offset bytes)) ≡ Ok p.1
   pub blocks : section_at xorb_at xorb_hash (xorb_row_count p.2) None (rows_in (xorb_row_count p.2) (drop p.2.xorb_info_offset bytes)) ≡ Ok p.0
   pub heads : lookup_at bytes p.2.file_lookup_offset (12 * p.2.file_lookup_num_entry) (record_items_bytes (file_items p.1)) ≡ Ok tt
   pub xorbs : lookup_at bytes p.2.xorb_lookup_offset (12 * p.2.xorb_lookup_num_entry) (record_items_bytes (xorb_items p.0)) ≡ Ok tt
   pub chunks : lookup_at bytes p.2.chunk_lookup_offset (16 * p.2.chunk_lookup_num_entry) (chunk_items_bytes (chunk_items p.0)) ≡ Ok tt
 
-checked : (bytes : List ℕ) (p : Parts) → all_of bytes ≡ Ok p → Checked bytes p
+checked : (bytes : List ℕ) (p : ShardParts) → all_of bytes ≡ Ok p → Checked bytes p
 unfolding all_of
 checked bytes p e =
-    let h = bind_ok (header_at bytes) _ _ e in
-    let g = bind_ok (footer_at bytes) _ _ h.2 in
-    let fs = bind_ok (section_at file_at file_hash (file_row_count g.0) None (rows_in (file_row_count g.0) (drop g.0.file_info_offset bytes))) _ _ g.2 in
+    let h = bind_ok (shard_header_at bytes) _ _ e in
+    let g = bind_ok (shard_footer_at bytes) _ _ h.2 in
+    let fs = bind_ok (section_at file_record_at file_hash (file_row_count g.0) None (rows_in (file_row_count g.0) (drop g.0.file_info_offset bytes))) _ _ g.2 in
     let xs = bind_ok (section_at xorb_at xorb_hash (xorb_row_count g.0) None (rows_in (xorb_row_count g.0) (drop g.0.xorb_info_offset bytes))) _ _ fs.2 in
     let l1 = bind_ok (lookup_at bytes g.0.file_lookup_offset (12 * g.0.file_lookup_num_entry) (record_items_bytes (file_items fs.0))) _ _ xs.2 in
     let l2 = bind_ok (lookup_at bytes g.0.xorb_lookup_offset (12 * g.0.xorb_lookup_num_entry) (record_items_bytes (xorb_items xs.0))) _ _ l1.2 in
     let l3 = bind_ok (lookup_at bytes g.0.chunk_lookup_offset (16 * g.0.chunk_lookup_num_entry) (chunk_items_bytes (chunk_items xs.0))) _ _ l2.2 in
     let t = bind_ok (totals_at g.0 (materialized fs.0) (stored xs.0)) _ _ l3.2 in
-    let made : Parts = (xs.0, fs.0, g.0) in
-    subst (λ (q : Parts). Checked bytes q) (ok_is made p t.2) (record { header = h.1; footer = g.1; files = fs.1; blocks = xs.1; heads = l1.1; xorbs = l2.1; chunks = l3.1 })
+    let made : ShardParts = (xs.0, fs.0, g.0) in
+    subst (λ (q : ShardParts). Checked bytes q) (ok_is made p t.2) (record { header = h.1; footer = g.1; files = fs.1; blocks = xs.1; heads = l1.1; xorbs = l2.1; chunks = l3.1 })
 
-placed : (bytes : List ℕ) (f : MDBShardFileFooter) → footer_at bytes ≡ Ok f → IsPlaced (length bytes) f
-unfolding footer_at
+placed : (bytes : List ℕ) (f : MDBShardFileFooter) → shard_footer_at bytes ≡ Ok f → IsPlaced (length bytes) f
+unfolding shard_footer_at
 placed bytes f e =
     let end : List ℕ = drop (length bytes - 200) bytes in
     let a = wants_ok (eqb (word end 0) 1) _ _ _ e in
@@ -125,7 +125,7 @@ module _ (w : Lookups) (s : Shard) (form : IsShard s) (fits : Fits s) where
   info_again = info_of text foot text_checked.header text_checked.footer
 
   pub files_again : files_in foot text ≡ Ok s.files
-  files_again = let p = text_placed in ap (λ (r : Result ℕ StoreError). r >>= λ n. section_in file_at file_hash foot.file_info_offset n text) (count_whole foot.file_info_offset foot.xorb_info_offset p.xorbs) ∙ section_there file_at file_hash foot.file_info_offset (file_row_count foot) text s.files p.few_files (omega (arith, p.xorbs, p.file_lookup, p.xorb_lookup, p.chunk_lookup, p.footer, p.end)) text_checked.files
+  files_again = let p = text_placed in ap (λ (r : Result ℕ StoreError). r >>= λ n. section_in file_record_at file_hash foot.file_info_offset n text) (count_whole foot.file_info_offset foot.xorb_info_offset p.xorbs) ∙ section_there file_record_at file_hash foot.file_info_offset (file_row_count foot) text s.files p.few_files (omega (arith, p.xorbs, p.file_lookup, p.xorb_lookup, p.chunk_lookup, p.footer, p.end)) text_checked.files
 
   pub blocks_again : blocks_in foot text ≡ Ok s.blocks
   blocks_again = let p = text_placed in ap (λ (r : Result ℕ StoreError). r >>= λ n. section_in xorb_at xorb_hash foot.xorb_info_offset n text) (count_whole foot.xorb_info_offset foot.file_lookup_offset p.file_lookup) ∙ section_there xorb_at xorb_hash foot.xorb_info_offset (xorb_row_count foot) text s.blocks p.few_xorbs (omega (arith, p.file_lookup, p.xorb_lookup, p.chunk_lookup, p.footer, p.end)) text_checked.blocks

@@ -11,7 +11,7 @@ use Rattle.xet_shard_format.specs.declared.record.XorbChunkSequenceEntry.{XorbCh
 use Rattle.xet_shard_format.specs.declared.row.Row.{Row}
 use Rattle.xet_codec.specs.Parsing.{◌>>=◌}
 use Rattle.xet_shard_format.specs.Records.{IsXorb, StartAt, chunk_bytes, chunk_row, xorb_head, xorb_rest}
-use Rattle.xet_shard.specs.Runs.{agreed, agreeing, chunk_end, digests, head_segment, run_after, run_at, run_of, run_segment}
+use Rattle.xet_shard.specs.Runs.{agreed, agreeing, end_of_chunk, digests, head_segment, run_after, run_at, run_of, run_segment}
 use Rattle.xet_shard.proofs.Agreeing.{Agreed}
 use Rattle.xet_shard.proofs.Running.{agreeing-none}
 use Rattle.xet_shard_format.specs.theorems.SectionLaws.{chunk_again, chunk_total}
@@ -22,8 +22,8 @@ Chunks = List XorbChunkSequenceEntry
 abbrev Run : Type 0
 Run = Option (ℕ × FileDataSequenceEntry)
 
-chunk_ends : (c : XorbChunkSequenceEntry) (at end : ℕ) → c.chunk_byte_range_start ≡ at → at + c.unpacked_segment_bytes ≤ end → chunk_end (chunk_row c) at end ≡ Ok (at + c.unpacked_segment_bytes)
-unfolding chunk_end
+chunk_ends : (c : XorbChunkSequenceEntry) (at end : ℕ) → c.chunk_byte_range_start ≡ at → at + c.unpacked_segment_bytes ≤ end → end_of_chunk (chunk_row c) at end ≡ Ok (at + c.unpacked_segment_bytes)
+unfolding end_of_chunk
 chunk_ends c at end is le =
     let ends : c.chunk_byte_range_start + c.unpacked_segment_bytes ≡ at + c.unpacked_segment_bytes = ap (λ (n : ℕ). n + c.unpacked_segment_bytes) is in
     let room : c.chunk_byte_range_start + c.unpacked_segment_bytes ≤ end = omega (arith, le, ends) in
@@ -60,8 +60,8 @@ chunks_agree (h ∷ hs) end at (c ∷ cs) starts le =
     none : Agreed
     none = Ok (0, at)
 
-    by : (b : Bool) → chunk_end (chunk_row c) at end ≡ Ok next → agreed hs end next (map chunk_row cs) ≡ Ok (n, end_of next cs n)
-        → cond b (chunk_end (chunk_row c) at end >>= λ to. one (agreed hs end to (map chunk_row cs))) none ≡ Ok (cond b (suc n) 0, end_of at (c ∷ cs) (cond b (suc n) 0))
+    by : (b : Bool) → end_of_chunk (chunk_row c) at end ≡ Ok next → agreed hs end next (map chunk_row cs) ≡ Ok (n, end_of next cs n)
+        → cond b (end_of_chunk (chunk_row c) at end >>= λ to. one (agreed hs end to (map chunk_row cs))) none ≡ Ok (cond b (suc n) 0, end_of at (c ∷ cs) (cond b (suc n) 0))
     by true ends more =
         let e : next + chunk_bytes (take n cs) ≡ at + chunk_bytes (c ∷ take n cs) = omega (arith, chunk_total c (take n cs)) in
         let made : ℕ → Agreed = λ k. Ok (suc n, k) in

@@ -12,11 +12,11 @@ use Rattle.xet_shard_format.specs.declared.row.Row.{Row}
 use Rattle.xet_shard.specs.Queries.{read_in_row}
 use Rattle.xet_codec.specs.Parsing.{◌>>=◌, GivesUnlessFault}
 use Rattle.xet_shard_format.specs.Rows.{row_of, rows_in}
-use Rattle.xet_shard.specs.Runs.{agreed, chunk_end, head_segment, run_after, run_of}
+use Rattle.xet_shard.specs.Runs.{agreed, end_of_chunk, head_segment, run_after, run_of}
 use Rattle.xet_shard.proofs.Agreeing.{Agreed}
 use Rattle.xet_shard.proofs.Faulting.{fault_on}
 use Rattle.xet_shard.proofs.OneRecord.{at_head}
-use Rattle.xet_shard_format.specs.theorems.RowList.{rows_drop, rows_front, rows_next}
+use Rattle.xet_shard_format.specs.theorems.RowList.{rows_drop, rows_prefix, rows_next}
 
 abbrev Run : Type 0
 Run = Option (ℕ × FileDataSequenceEntry)
@@ -41,7 +41,7 @@ module _ (place : ℕ) (head : Row) where
     unfolding run_of agreed
     first_differs other = (λ i. run_of (is_k i) place head (is_r i)) ∙ rw other refl
 
-    pub first_refused : (e : StoreError) → pointwise nat_eq k r.hash ≡ true → chunk_end r r.a head.c ≡ Err e → run_of ks place head rows ≡ Err e
+    pub first_refused : (e : StoreError) → pointwise nat_eq k r.hash ≡ true → end_of_chunk r r.a head.c ≡ Err e → run_of ks place head rows ≡ Err e
     unfolding run_of agreed
     first_refused e same refused = (λ i. run_of (is_k i) place head (is_r i)) ∙ rw (same, refused) refl
 
@@ -49,7 +49,7 @@ module _ (place : ℕ) (head : Row) where
     with_more : ℕ × ℕ → Result Run StoreError
     with_more n = Ok (Some (n.0 + 1, head_segment head place (n.0 + 1) (n.1 - r.a)))
 
-    after_first : (to : ℕ) → pointwise nat_eq k r.hash ≡ true → chunk_end r r.a head.c ≡ Ok to → run_of ks place head rows ≡ (agreed qs head.c to others >>= with_more)
+    after_first : (to : ℕ) → pointwise nat_eq k r.hash ≡ true → end_of_chunk r r.a head.c ≡ Ok to → run_of ks place head rows ≡ (agreed qs head.c to others >>= with_more)
     unfolding run_of agreed with_more
     after_first to same ends = (λ i. run_of (is_k i) place head (is_r i)) ∙ rw (same, ends) (by (agreed qs head.c to others))
       where
@@ -62,12 +62,12 @@ module _ (place : ℕ) (head : Row) where
             rw (ne_eqb (suc n.0) 0 (omega arith)) (ap (λ (m : ℕ). Ok (made (m, n.1))) e)
         by (Err e) = refl
 
-    pub rest_fails : (to : ℕ) (e : StoreError) → pointwise nat_eq k r.hash ≡ true → chunk_end r r.a head.c ≡ Ok to → GivesUnlessFault {X = ℕ × ℕ} (λ x. x) (Err e) (agreed qs head.c to others)
+    pub rest_fails : (to : ℕ) (e : StoreError) → pointwise nat_eq k r.hash ≡ true → end_of_chunk r r.a head.c ≡ Ok to → GivesUnlessFault {X = ℕ × ℕ} (λ x. x) (Err e) (agreed qs head.c to others)
         → GivesUnlessFault {X = Run} (λ x. x) (Err e) (run_of ks place head rows)
     rest_fails to e same ends gives =
         subst (λ (x : Result Run StoreError). GivesUnlessFault {X = Run} (λ x. x) (Err e) x) (sym (after_first to same ends)) (fault_on {A = ℕ × ℕ} {B = Run} (λ x. x) (λ x. x) e (agreed qs head.c to others) with_more gives)
 
-    pub rest_agrees : (to more end : ℕ) → pointwise nat_eq k r.hash ≡ true → chunk_end r r.a head.c ≡ Ok to → agreed qs head.c to others ≡ Ok (more, end)
+    pub rest_agrees : (to more end : ℕ) → pointwise nat_eq k r.hash ≡ true → end_of_chunk r r.a head.c ≡ Ok to → agreed qs head.c to others ≡ Ok (more, end)
         → run_of ks place head rows ≡ Ok (Some (more + 1, head_segment head place (more + 1) (end - r.a)))
     unfolding with_more
     rest_agrees to more end same ends is = after_first to same ends ∙ ap (λ (x : Agreed). x >>= with_more) is
@@ -103,7 +103,7 @@ module _ (ks : List (List ℕ)) (place : ℕ) (head : Row) (rows : List Row) whe
 -- the rows from the place on, of those after the head
 pub rows_at_place : (b place n at : ℕ) (whole : List ℕ) → place ≤ b → b ≤ n → rows_in (b - place) (drop (at + 48 * place) whole) ≡ take (b - place) (drop place (rows_in n (drop at whole)))
 rows_at_place b place n at whole le room =
-    ap (rows_in (b - place)) (sym (drop-drop (48 * place) at whole)) ∙ rows_front (b - place) (n - place) (drop (48 * place) (drop at whole)) (omega arith) ∙ ap (take (b - place)) (rows_drop place n (drop at whole) (omega arith))
+    ap (rows_in (b - place)) (sym (drop-drop (48 * place) at whole)) ∙ rows_prefix (b - place) (n - place) (drop (48 * place) (drop at whole)) (omega arith) ∙ ap (take (b - place)) (rows_drop place n (drop at whole) (omega arith))
 
 -- the head is the first row
 pub by_head : (ks : List (List ℕ)) (place : ℕ) (head : Row) (at count : ℕ) (whole : List ℕ) → 0 < count → count < 2 ^ 32 → at + 48 * count ≤ length whole → head ≡ row_of (drop at whole)

@@ -43,9 +43,9 @@ pub record IsExport (lookups : Lookups) (read : Result Shard StoreError) (before
   pub text : after ≡ before ++ shard_bytes lookups shard
 
 -- After an error a prefix of it was written, and nothing if the shard's own bytes are malformed.
-abbrev pub HasFront : Lookups → Result Shard StoreError → List ℕ → List ℕ → Type 0
-HasFront lookups (Ok s) before after = (n : ℕ) × (after ≡ before ++ take n (shard_bytes lookups s))
-HasFront lookups (Err e) before after = after ≡ before
+abbrev pub HasPrefix : Lookups → Result Shard StoreError → List ℕ → List ℕ → Type 0
+HasPrefix lookups (Ok s) before after = (n : ℕ) × (after ≡ before ++ take n (shard_bytes lookups s))
+HasPrefix lookups (Err e) before after = after ≡ before
 
 -- the error of an export: out of memory, a failed reader or sink, or that of reading the shard's bytes
 abbrev pub IsUnwritten : {X : Type 0} → Result X StoreError → StoreError → Type 0
@@ -55,10 +55,10 @@ IsUnwritten read (Io Output) = Unit {0}
 IsUnwritten read e = read ≡ Err e
 
 -- the errors of an export: those of reading a shard, and a failed sink
-abbrev pub IsExportRefusal : StoreError → Type 0
-IsExportRefusal OutOfMemory = Unit {0}
-IsExportRefusal UnexpectedEof = Unit {0}
-IsExportRefusal (MalformedData reason) = Unit {0}
-IsExportRefusal (Io Input) = Unit {0}
-IsExportRefusal (Io Output) = Unit {0}
-IsExportRefusal e = ⊥
+abbrev pub IsExportError : StoreError → Type 0
+IsExportError OutOfMemory = Unit {0}
+IsExportError UnexpectedEof = Unit {0}
+IsExportError (MalformedData reason) = Unit {0}
+IsExportError (Io Input) = Unit {0}
+IsExportError (Io Output) = Unit {0}
+IsExportError e = ⊥

@@ -6,6 +6,6 @@ pub mod LastPlaces
 pub mod Queries
 pub mod Export
 pub mod Union
-pub mod WriteRefusals
+pub mod WriteErrors
 pub mod theorems
 pub mod internal

@@ -16,7 +16,7 @@ use Rattle.xet_shard_format.specs.declared.record.MDBXorbInfo.{MDBXorbInfo}
 use Rattle.xet_shard_format.specs.declared.row.Row.{Row}
 use Rattle.xet_shard_format.specs.Lookups.{chunk_items, file_items, xorb_items}
 use Rattle.xet_codec.specs.Parsing.{◌>>=◌, reaches, wants}
-use Rattle.xet_shard_format.specs.Reading.{IsShardRefusal, file_at, row_at}
+use Rattle.xet_shard_format.specs.Reading.{IsShardError, file_record_at, row_at}
 use Rattle.xet_shard_format.specs.Records.{file_hash, first_word, xorb_rows}
 use Rattle.xet_shard.specs.Held.{record_of}
 use Rattle.xet_shard_format.specs.Rows.{rows_in}
@@ -42,7 +42,7 @@ read_in_row read at count row bytes = do
 
 -- the file with this header, from the first rows after it
 abbrev pub file_after : Row → List Row → Result MDBFileInfo StoreError
-file_after head rows = file_at head rows >>= λ x. Ok x.0
+file_after head rows = file_record_at head rows >>= λ x. Ok x.0
 
 abbrev pub file_in : MDBShardFileFooter → ℕ → List ℕ → Result MDBFileInfo StoreError
 file_in f row bytes = row_count f.file_info_offset f.xorb_info_offset >>= λ count. read_in_row file_after f.file_info_offset count row bytes
@@ -151,14 +151,14 @@ told_run f (h ∷ hs) row place index bytes = do
   if there then run_in f (h ∷ hs) row place bytes else Ok None
 
 -- the errors of looking up a file
-abbrev pub IsFileRefusal : StoreError → Type 0
-IsFileRefusal TruncatedHashCollision = Unit {0}
-IsFileRefusal e = IsShardRefusal e
+abbrev pub IsFileError : StoreError → Type 0
+IsFileError TruncatedHashCollision = Unit {0}
+IsFileError e = IsShardError e
 
 -- ---- the same queries to a shard
 
-abbrev pub shard_file : Shard → List ℕ → Result (Option MDBFileInfo) StoreError
-shard_file s h = fewer_than_eight (length (rows_of (first_word h) (file_items s.files))) >>= λ _. Ok (record_of file_hash h s.files)
+abbrev pub file_in_shard : Shard → List ℕ → Result (Option MDBFileInfo) StoreError
+file_in_shard s h = fewer_than_eight (length (rows_of (first_word h) (file_items s.files))) >>= λ _. Ok (record_of file_hash h s.files)
 
 -- the xorb whose header is in a row
 unfoldable pub block_at : ℕ → ℕ → List MDBXorbInfo → Option MDBXorbInfo

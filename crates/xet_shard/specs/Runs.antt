@@ -38,8 +38,8 @@ run_at query block place =
     if count == 0 then None else Some (count, run_segment block place count)
 
 -- where the chunk in a row ends; it must start at `at`, and not pass `end`, the end of its xorb
-unfoldable pub chunk_end : Row → ℕ → ℕ → Result ℕ StoreError
-chunk_end r at end = do
+unfoldable pub end_of_chunk : Row → ℕ → ℕ → Result ℕ StoreError
+end_of_chunk r at end = do
   _ ← chunk_in r at
   _ ← wants (nat_le (r.a + r.b) end) SectionEntry
   Ok (r.a + r.b)
@@ -50,7 +50,7 @@ chunk_end r at end = do
 unfoldable pub agreed : List (List ℕ) → ℕ → ℕ → List Row → Result (ℕ × ℕ) StoreError
 agreed [] end at rows = Ok (0, at)
 agreed (h ∷ hs) end at [] = Ok (0, at)
-agreed (h ∷ hs) end at (r ∷ rows) = if pointwise nat_eq h r.hash then (chunk_end r at end >>= λ to. agreed hs end to rows >>= λ n. Ok (suc n.0, n.1)) else Ok (0, at)
+agreed (h ∷ hs) end at (r ∷ rows) = if pointwise nat_eq h r.hash then (end_of_chunk r at end >>= λ to. agreed hs end to rows >>= λ n. Ok (suc n.0, n.1)) else Ok (0, at)
 
 -- the segment of `count` chunks of the xorb with this header, from index `place` on
 abbrev pub head_segment : Row → ℕ → ℕ → ℕ → FileDataSequenceEntry

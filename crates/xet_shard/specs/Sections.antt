@@ -11,7 +11,7 @@ use Rattle.xet_shard_format.specs.declared.record.XorbChunkSequenceHeader.{XorbC
 use Rattle.xet_shard_format.specs.declared.row.Row.{Row}
 use Rattle.xet_shard_format.specs.Lookups.{chunk_items, xorb_items}
 use Rattle.xet_codec.specs.Parsing.{◌>>=◌, reaches, wants}
-use Rattle.xet_shard_format.specs.Reading.{file_at, footer_at, header_at, section_at, xorb_at}
+use Rattle.xet_shard_format.specs.Reading.{file_record_at, shard_footer_at, shard_header_at, section_at, xorb_at}
 use Rattle.xet_shard_format.specs.Records.{file_hash, xorb_hash, xorb_rows}
 use Rattle.xet_codec.specs.Numbers.{half_word, word}
 use Rattle.xet_shard_format.specs.Rows.{rows_in}
@@ -20,8 +20,8 @@ use Rattle.xet_shard_format.specs.Encoding.{header}
 -- header and footer
 unfoldable pub info_at : List ℕ → Result MDBShardInfo StoreError
 info_at bytes = do
-  _ ← header_at bytes
-  f ← footer_at bytes
+  _ ← shard_header_at bytes
+  f ← shard_footer_at bytes
   Ok (record { header = header; metadata = f })
 
 -- the records of the section of `count` rows at offset `at`
@@ -38,7 +38,7 @@ row_count from to = do
   Ok ((to - from) / 48)
 
 abbrev pub files_in : MDBShardFileFooter → List ℕ → Result (List MDBFileInfo) StoreError
-files_in f bytes = row_count f.file_info_offset f.xorb_info_offset >>= λ count. section_in file_at file_hash f.file_info_offset count bytes
+files_in f bytes = row_count f.file_info_offset f.xorb_info_offset >>= λ count. section_in file_record_at file_hash f.file_info_offset count bytes
 
 abbrev pub blocks_in : MDBShardFileFooter → List ℕ → Result (List MDBXorbInfo) StoreError
 blocks_in f bytes = row_count f.xorb_info_offset f.file_lookup_offset >>= λ count. section_in xorb_at xorb_hash f.xorb_info_offset count bytes

@@ -9,7 +9,7 @@ use Rattle.xet_hash.specs.declared.error.StoreError.TheVariants.{InvalidArgument
 use Rattle.xet_shard_format.specs.declared.header_footer.MDBShardFileFooter.{MDBShardFileFooter}
 use Rattle.xet_shard_format.specs.declared.record.MDBFileInfo.{MDBFileInfo}
 use Rattle.xet_shard_format.specs.declared.record.MDBXorbInfo.{MDBXorbInfo}
-use Rattle.xet_shard.specs.Export.{IsExportRefusal}
+use Rattle.xet_shard.specs.Export.{IsExportError}
 use Rattle.xet_shard.specs.Held.{by_hash, never, record_of}
 use Rattle.xet_shard_format.specs.Records.{file_hash, file_section, xorb_hash, xorb_section}
 use Rattle.xet_shard.specs.Sections.{blocks_in, files_in}
@@ -28,27 +28,27 @@ abbrev pub Agree : {X : Type 0} → (X → List ℕ) → List X → List X → T
 Agree hash xs ys = AllByRecursion (λ x. AllByRecursion (λ y. hash x ≡ hash y → x ≡ y) ys) xs
 
 -- the xorbs and the files of a shard
-abbrev pub Records : Type 0
-Records = List MDBXorbInfo × List MDBFileInfo
+abbrev pub ShardRecords : Type 0
+ShardRecords = List MDBXorbInfo × List MDBFileInfo
 
-unfoldable pub records_in : MDBShardFileFooter → List ℕ → Result Records StoreError
+unfoldable pub records_in : MDBShardFileFooter → List ℕ → Result ShardRecords StoreError
 records_in f bytes = do
   files ← files_in f bytes
   blocks ← blocks_in f bytes
   Ok (blocks, files)
 
 -- the records of two shards, those of the first read first
-unfoldable pub both_in : MDBShardFileFooter → List ℕ → MDBShardFileFooter → List ℕ → Result (Records × Records) StoreError
+unfoldable pub both_in : MDBShardFileFooter → List ℕ → MDBShardFileFooter → List ℕ → Result (ShardRecords × ShardRecords) StoreError
 both_in f bytes g others = do
   x ← records_in f bytes
   y ← records_in g others
   Ok (x, y)
 
-abbrev pub AgreeBoth : Records × Records → Type 0
+abbrev pub AgreeBoth : ShardRecords × ShardRecords → Type 0
 AgreeBoth p = Agree xorb_hash p.0.0 p.1.0 × Agree file_hash p.0.1 p.1.1
 
 -- The union of two shards: without a key and without an expiry, created at the later of two times.
-abbrev pub union_shard : Records × Records → ℕ → ℕ → Shard
+abbrev pub union_shard : ShardRecords × ShardRecords → ℕ → ℕ → Shard
 union_shard p creation other = shard (union xorb_hash p.0.0 p.1.0) (union file_hash p.0.1 p.1.1) zero_hash (max creation other) never
 
 -- the shard is keyed
@@ -56,13 +56,13 @@ abbrev pub IsKeyed : MDBShardFileFooter → Type 0
 IsKeyed f = f.chunk_hash_hmac_key ≢ zero_hash
 
 -- one of the sections has 2 ^ 32 rows or more
-abbrev pub HasTooMany : Shard → Type 0
-HasTooMany s = (2 ^ 32 ≤ length (file_section s.files)) ⊎ (2 ^ 32 ≤ length (xorb_section s.blocks))
+abbrev pub HasTooManyRows : Shard → Type 0
+HasTooManyRows s = (2 ^ 32 ≤ length (file_section s.files)) ⊎ (2 ^ 32 ≤ length (xorb_section s.blocks))
 
 -- The encoding of the union was written after the bytes that were there before; `ends` are its header and
 -- footer.
-pub record IsUnion (read : Result (Records × Records) StoreError) (creation other : ℕ) (ends : MDBShardInfo) (before after : List ℕ) : Type 0 where
-  pub both : Records × Records
+pub record IsUnion (read : Result (ShardRecords × ShardRecords) StoreError) (creation other : ℕ) (ends : MDBShardInfo) (before after : List ℕ) : Type 0 where
+  pub both : ShardRecords × ShardRecords
   pub found : read ≡ Ok both
   pub agree : AgreeBoth both
   pub form : IsShard (union_shard both creation other)
@@ -71,22 +71,22 @@ pub record IsUnion (read : Result (Records × Records) StoreError) (creation oth
   pub text : after ≡ before ++ full_shard_bytes (union_shard both creation other)
 
 -- After an error nothing was written, or a prefix of the union's encoding.
-abbrev pub HasUnionFront : Result (Records × Records) StoreError → ℕ → ℕ → List ℕ → List ℕ → Type 0
-HasUnionFront read creation other before after =
+abbrev pub HasUnionPrefix : Result (ShardRecords × ShardRecords) StoreError → ℕ → ℕ → List ℕ → List ℕ → Type 0
+HasUnionPrefix read creation other before after =
     (after ≡ before)
-    ⊎ ((both : Records × Records) × (n : ℕ) × (read ≡ Ok both) × AgreeBoth both × (after ≡ before ++ take n (full_shard_bytes (union_shard both creation other))))
+    ⊎ ((both : ShardRecords × ShardRecords) × (n : ℕ) × (read ≡ Ok both) × AgreeBoth both × (after ≡ before ++ take n (full_shard_bytes (union_shard both creation other))))
 
 -- the error of a union, and its cause
-abbrev pub IsNoUnion : MDBShardFileFooter → MDBShardFileFooter → Result (Records × Records) StoreError → StoreError → Type 0
+abbrev pub IsNoUnion : MDBShardFileFooter → MDBShardFileFooter → Result (ShardRecords × ShardRecords) StoreError → StoreError → Type 0
 IsNoUnion f g read OutOfMemory = Unit {0}
 IsNoUnion f g read (Io Input) = Unit {0}
 IsNoUnion f g read (Io Output) = Unit {0}
-IsNoUnion f g read InvalidArguments = IsKeyed f ⊎ IsKeyed g ⊎ ((both : Records × Records) × (read ≡ Ok both) × (AgreeBoth both → ⊥))
+IsNoUnion f g read InvalidArguments = IsKeyed f ⊎ IsKeyed g ⊎ ((both : ShardRecords × ShardRecords) × (read ≡ Ok both) × (AgreeBoth both → ⊥))
 IsNoUnion f g read e =
     (read ≡ Err e)
-    ⊎ ((e ≡ MalformedData SectionPlace) × (both : Records × Records) × (read ≡ Ok both) × AgreeBoth both × HasTooMany (union_shard both f.shard_creation_timestamp g.shard_creation_timestamp))
+    ⊎ ((e ≡ MalformedData SectionPlace) × (both : ShardRecords × ShardRecords) × (read ≡ Ok both) × AgreeBoth both × HasTooManyRows (union_shard both f.shard_creation_timestamp g.shard_creation_timestamp))
 
 -- the errors of a union: those of an export, and `InvalidArguments`
-abbrev pub IsUnionRefusal : StoreError → Type 0
-IsUnionRefusal InvalidArguments = Unit {0}
-IsUnionRefusal e = IsExportRefusal e
+abbrev pub IsUnionError : StoreError → Type 0
+IsUnionError InvalidArguments = Unit {0}
+IsUnionError e = IsExportError e

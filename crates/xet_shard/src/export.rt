@@ -3,10 +3,10 @@
 ghost use Rattle.std.specs.Prelude.{◌≡◌, ◌≢◌, ◌<◌, ◌+◌, ◌^◌, ℕ, [], None, true, min, IfErr, IfOk, IsErrOf, OnErr, OnOk, length, map};
 ghost use Rattle.xet_hash.specs.Hash.{zero_hash};
 ghost use Rattle.xet_io.specs.Faults.{HasCause};
-ghost use Rattle.xet_shard.specs.Export.{HasFront, IsExport, IsExportRefusal, IsUnwritten, exported, files_wanted, keyed_block, keyed_chunk};
+ghost use Rattle.xet_shard.specs.Export.{HasPrefix, IsExport, IsExportError, IsUnwritten, exported, files_wanted, keyed_block, keyed_chunk};
 ghost use Rattle.xet_shard.specs.Held.{never};
 ghost use Rattle.xet_codec.specs.Parsing.{GivesUnlessFault};
-ghost use Rattle.xet_shard_format.specs.Reading.{IsShardRefusal};
+ghost use Rattle.xet_shard_format.specs.Reading.{IsShardError};
 ghost use Rattle.xet_shard_format.specs.Records.{AreRecords, IsFile, IsXorb, file_hash, file_section, xorb_hash, xorb_section};
 ghost use Rattle.xet_shard_format.specs.Encoding.{shard};
 ghost use Rattle.xet_io.specs.Frame.{ReadFrom};
@@ -46,9 +46,9 @@ impl MDBShardInfo {
         requires key { key ≢ zero_hash }
         requires unkeyed { self.now.metadata.chunk_hash_hmac_key ≡ zero_hash }
         ensures written { R.tells reader.old ≡ true → W.tells sink.old ≡ true → OnOk result (IsExport (record { files = files; xorbs = xorb_lookup; chunks = chunk_lookup }) (exported files key valid_for now self.now.metadata (R.bytes reader.old)) (W.written sink.old) (W.written sink.new)) }
-        ensures front { R.tells reader.old ≡ true → W.tells sink.old ≡ true → OnErr result (HasFront (record { files = files; xorbs = xorb_lookup; chunks = chunk_lookup }) (exported files key valid_for now self.now.metadata (R.bytes reader.old)) (W.written sink.old) (W.written sink.new)) }
+        ensures prefix { R.tells reader.old ≡ true → W.tells sink.old ≡ true → OnErr result (HasPrefix (record { files = files; xorbs = xorb_lookup; chunks = chunk_lookup }) (exported files key valid_for now self.now.metadata (R.bytes reader.old)) (W.written sink.old) (W.written sink.new)) }
         ensures refused { R.tells reader.old ≡ true → IfErr result (IsUnwritten (exported files key valid_for now self.now.metadata (R.bytes reader.old))) }
-        ensures refusals { IfErr result IsExportRefusal }
+        ensures errors { IfErr result IsExportError }
         ensures input { HasCause (R.faults reader.old) (R.faults reader.new) (IsErrOf result (StoreError.Io Place.Input)) }
         ensures output { HasCause (W.faults sink.old) (W.faults sink.new) (IsErrOf result (StoreError.Io Place.Output)) }
         ensures same { R.bytes reader.new ≡ R.bytes reader.old }
@@ -77,7 +77,7 @@ fn keyed_bytes<R: ReadAt>(
 ) -> Result<Vec<u8>, StoreError>
     ensures text { R.tells reader.old ≡ true → IfOk result (λ text. IsExport (record { files = lookups.files; xorbs = lookups.xorbs; chunks = lookups.chunks }) (exported lookups.files key valid_for now f.now (R.bytes reader.old)) [] text.items) }
     ensures refused { R.tells reader.old ≡ true → IfErr result (IsUnwritten (exported lookups.files key valid_for now f.now (R.bytes reader.old))) }
-    ensures refusals { IfErr result IsShardRefusal }
+    ensures errors { IfErr result IsShardError }
     ensures frame { ReadFrom R.bytes R.tells R.faults R.lent reader.old reader.new (IsErrOf result (StoreError.Io Place.Input)) }
 {
     let (blocks, files) = keyed_records(alloc, reader, f, key, lookups.files)?;
@@ -102,7 +102,7 @@ fn keyed_records<R: ReadAt>(
     ensures files { IfOk result (λ x. AreRecords file_hash IsFile None x.1.items) }
     ensures few_blocks { IfOk result (λ x. length (xorb_section x.0.items) < 2 ^ 32) }
     ensures few_files { IfOk result (λ x. length (file_section x.1.items) < 2 ^ 32) }
-    ensures refusals { IfErr result IsShardRefusal }
+    ensures errors { IfErr result IsShardError }
     ensures frame { ReadFrom R.bytes R.tells R.faults R.lent reader.old reader.new (IsErrOf result (StoreError.Io Place.Input)) }
 {
     let found = wanted_files(alloc, reader, f, with_files)?;
@@ -121,7 +121,7 @@ fn wanted_files<R: ReadAt>(
     ensures exact { R.tells reader.old ≡ true → GivesUnlessFault (λ v. v.items) result (files_wanted with_files f.now (R.bytes reader.old)) }
     ensures form { IfOk result (λ v. AreRecords file_hash IsFile None v.items) }
     ensures few { IfOk result (λ v. length (file_section v.items) < 2 ^ 32) }
-    ensures refusals { IfErr result IsShardRefusal }
+    ensures errors { IfErr result IsShardError }
     ensures frame { ReadFrom R.bytes R.tells R.faults R.lent reader.old reader.new (IsErrOf result (StoreError.Io Place.Input)) }
 {
     if with_files {

@@ -5,7 +5,7 @@ ghost use Rattle.std.specs.List.{sum_by};
 ghost use Rattle.std.specs.Cmp.Lexicographic.{pointwise};
 ghost use Rattle.indexmap.specs.IndexMap.{get, values};
 ghost use Rattle.xet_shard.specs.Held.{DifferBy, Held, IsHeld, Keyed, by_hash, held_shard, held_size, nothing, with_last};
-ghost use Rattle.xet_shard.specs.WriteRefusals.{IsWriteRefusal};
+ghost use Rattle.xet_shard.specs.WriteErrors.{IsWriteError};
 ghost use Rattle.xet_shard_format.specs.RecordSizes.{file_record_size, xorb_record_size};
 ghost use Rattle.xet_shard_format.specs.Lookups.{all_lookups};
 ghost use Rattle.xet_shard_format.specs.Encoding.{Fits, IsShard, footer_of, full_shard_bytes, header};
@@ -143,12 +143,12 @@ impl MDBInMemoryShard {
     ) -> Result<MDBShardInfo, StoreError>
         ensures written { W.tells sink.old ≡ true → OnOk result (W.written sink.new ≡ W.written sink.old ++ full_shard_bytes (held_shard self.now creation expiry)) }
         // In every case a prefix of the encoding was written.
-        ensures front { W.tells sink.old ≡ true → (n : ℕ) × (W.written sink.new ≡ W.written sink.old ++ take n (full_shard_bytes (held_shard self.now creation expiry))) }
+        ensures prefix { W.tells sink.old ≡ true → (n : ℕ) × (W.written sink.new ≡ W.written sink.old ++ take n (full_shard_bytes (held_shard self.now creation expiry))) }
         ensures info { IfOk result (λ info. info ≡ record { header = header; metadata = footer_of all_lookups (held_shard self.now creation expiry) }) }
         ensures shard { OnOk result (IsShard (held_shard self.now creation expiry)) }
         ensures fits { OnOk result (Fits (held_shard self.now creation expiry)) }
         ensures size { OnOk result (length (full_shard_bytes (held_shard self.now creation expiry)) ≡ held_size self.now) }
-        ensures refusals { IfErr result IsWriteRefusal }
+        ensures errors { IfErr result IsWriteError }
         ensures frame { Called W.tells W.faults sink.old sink.new (IsErrOf result (StoreError.Io Place.Output)) }
     {
         let (text, info) = self.shard_bytes(alloc, creation, expiry)?;

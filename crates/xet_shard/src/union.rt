@@ -3,11 +3,11 @@
 ghost use Rattle.std.specs.Prelude.{◌≡◌, ◌≢◌, ◌⊎◌, ◌≤◌, ◌<◌, ◌^◌, ◌++◌, [], Ok, true, false, max, IfErr, IfOk, IsErrOf, IsFalse, IsTrue, OnErr, OnOk, length, map};
 ghost use Rattle.std.specs.List.{AllByRecursion};
 ghost use Rattle.xet_io.specs.Faults.{HasCause, Rose};
-ghost use Rattle.xet_shard.specs.internal.Merging.{AreOfShard, FirstAgrees, IsNoMerge, IsNoText, Rises, behind, below, not_below};
+ghost use Rattle.xet_shard.specs.internal.Merging.{AreOfShard, FirstAgrees, IsNoMerge, IsNoText, Rises, after_hash, below, not_below};
 ghost use Rattle.xet_codec.specs.Parsing.{GivesUnlessFault};
-ghost use Rattle.xet_shard_format.specs.Reading.{IsShardRefusal};
+ghost use Rattle.xet_shard_format.specs.Reading.{IsShardError};
 ghost use Rattle.xet_shard_format.specs.Records.{section};
-ghost use Rattle.xet_shard.specs.Union.{Agree, HasUnionFront, IsKeyed, IsNoUnion, IsUnion, IsUnionRefusal, both_in, records_in, union};
+ghost use Rattle.xet_shard.specs.Union.{Agree, HasUnionPrefix, IsKeyed, IsNoUnion, IsUnion, IsUnionError, both_in, records_in, union};
 ghost use Rattle.xet_io.specs.Frame.{ReadFrom};
 
 use crate::info::MDBShardInfo;
@@ -41,11 +41,11 @@ pub fn shard_set_union<R: ReadAt, Q: ReadAt, W: Sink>(
     ensures nothing { IsKeyed first.now.metadata ⊎ IsKeyed second.now.metadata → W.written sink.new ≡ W.written sink.old }
     ensures written { R.tells reader.old ≡ true → Q.tells other.old ≡ true → W.tells sink.old ≡ true
         → IfOk result (λ info. IsUnion (both_in first.now.metadata (R.bytes reader.old) second.now.metadata (Q.bytes other.old)) first.now.metadata.shard_creation_timestamp second.now.metadata.shard_creation_timestamp info (W.written sink.old) (W.written sink.new)) }
-    ensures front { R.tells reader.old ≡ true → Q.tells other.old ≡ true → W.tells sink.old ≡ true
-        → OnErr result (HasUnionFront (both_in first.now.metadata (R.bytes reader.old) second.now.metadata (Q.bytes other.old)) first.now.metadata.shard_creation_timestamp second.now.metadata.shard_creation_timestamp (W.written sink.old) (W.written sink.new)) }
+    ensures prefix { R.tells reader.old ≡ true → Q.tells other.old ≡ true → W.tells sink.old ≡ true
+        → OnErr result (HasUnionPrefix (both_in first.now.metadata (R.bytes reader.old) second.now.metadata (Q.bytes other.old)) first.now.metadata.shard_creation_timestamp second.now.metadata.shard_creation_timestamp (W.written sink.old) (W.written sink.new)) }
     ensures refused { R.tells reader.old ≡ true → Q.tells other.old ≡ true
         → IfErr result (IsNoUnion first.now.metadata second.now.metadata (both_in first.now.metadata (R.bytes reader.old) second.now.metadata (Q.bytes other.old))) }
-    ensures refusals { IfErr result IsUnionRefusal }
+    ensures errors { IfErr result IsUnionError }
     ensures input { IsErrOf result (StoreError.Io Place.Input) → Rose (R.faults reader.old) (R.faults reader.new) ⊎ Rose (Q.faults other.old) (Q.faults other.new) }
     ensures output { HasCause (W.faults sink.old) (W.faults sink.new) (IsErrOf result (StoreError.Io Place.Output)) }
     ensures later { (R.faults reader.old ≤ R.faults reader.new) × (Q.faults other.old ≤ Q.faults other.new) }
@@ -90,7 +90,7 @@ fn both_records<R: ReadAt, Q: ReadAt>(
         → GivesUnlessFault (λ p. ((p.0.0.items, p.0.1.items), (p.1.0.items, p.1.1.items))) result (both_in f.now (R.bytes reader.old) g.now (Q.bytes other.old)) }
     ensures first { IfOk result (λ p. AreOfShard (p.0.0.items, p.0.1.items)) }
     ensures second { IfOk result (λ p. AreOfShard (p.1.0.items, p.1.1.items)) }
-    ensures refusals { IfErr result IsShardRefusal }
+    ensures errors { IfErr result IsShardError }
     ensures input { IsErrOf result (StoreError.Io Place.Input) → Rose (R.faults reader.old) (R.faults reader.new) ⊎ Rose (Q.faults other.old) (Q.faults other.new) }
     ensures later { (R.faults reader.old ≤ R.faults reader.new) × (Q.faults other.old ≤ Q.faults other.new) }
     ensures same { (R.bytes reader.new ≡ R.bytes reader.old) × (Q.bytes other.new ≡ Q.bytes other.old) }
@@ -109,7 +109,7 @@ fn read_records<R: ReadAt>(
 ) -> Result<Records, StoreError>
     ensures exact { R.tells reader.old ≡ true → GivesUnlessFault (λ x. (x.0.items, x.1.items)) result (records_in f.now (R.bytes reader.old)) }
     ensures form { IfOk result (λ x. AreOfShard (x.0.items, x.1.items)) }
-    ensures refusals { IfErr result IsShardRefusal }
+    ensures errors { IfErr result IsShardError }
     ensures frame { ReadFrom R.bytes R.tells R.faults R.lent reader.old reader.new (IsErrOf result (StoreError.Io Place.Input)) }
 {
     let found = files(alloc, reader, f)?;
@@ -207,7 +207,7 @@ fn push_below<'a, R: Record>(
 /// The records without the first one, if that is `this`. `InvalidArguments` if it is another record with the
 /// same hash.
 fn behind<'a, R: Record>(this: &R, records: &'a [R]) -> Result<&'a [R], StoreError>
-    ensures rest { IfOk result (λ rest. rest.now ≡ behind R.hash_of (R.hash_of this.now) records.now) }
+    ensures rest { IfOk result (λ rest. rest.now ≡ after_hash R.hash_of (R.hash_of this.now) records.now) }
     ensures agrees { OnOk result (FirstAgrees R.hash_of this.now records.now) }
     ensures differs { OnErr result (FirstAgrees R.hash_of this.now records.now → ⊥) }
     ensures refused { IfErr result (λ e. e ≡ StoreError.InvalidArguments) }

@@ -1,7 +1,7 @@
 //! Encoding of a shard with all lookup tables, and writing to a sink.
 
 ghost use Rattle.std.specs.Prelude.{◌≡◌, ◌<◌, ◌+◌, ◌*◌, ◌^◌, ◌++◌, ℕ, IfErr, IfOk, IsErrOf, IsOkUnless, OnOk, None, cond, length, map, take, true};
-ghost use Rattle.xet_shard.specs.WriteRefusals.{IsWriteRefusal};
+ghost use Rattle.xet_shard.specs.WriteErrors.{IsWriteError};
 ghost use Rattle.xet_shard_format.specs.Records.{AreRecords, IsFile, IsXorb, file_hash, file_section, xorb_hash, xorb_section};
 ghost use Rattle.xet_shard_format.specs.Lookups.{all_lookups};
 ghost use Rattle.xet_shard_format.specs.Encoding.{Fits, IsShardEncoding, footer_of, full_shard_bytes, header, shard};
@@ -55,8 +55,8 @@ pub fn write_shard(
 /// `Io(Output)` if the sink failed, or `OutOfMemory`.
 pub(crate) fn write_bytes<W: Sink>(sink: &mut W, text: &[u8]) -> Result<(), StoreError>
     ensures whole { W.tells sink.old ≡ true → OnOk result (W.written sink.new ≡ W.written sink.old ++ text.now) }
-    ensures front { W.tells sink.old ≡ true → (n : ℕ) × (W.written sink.new ≡ W.written sink.old ++ take n text.now) }
-    ensures refusals { IfErr result IsWriteRefusal }
+    ensures prefix { W.tells sink.old ≡ true → (n : ℕ) × (W.written sink.new ≡ W.written sink.old ++ take n text.now) }
+    ensures errors { IfErr result IsWriteError }
     ensures frame { Called W.tells W.faults sink.old sink.new (IsErrOf result (StoreError.Io Place.Output)) }
 {
     match write_piece(sink, text) {

@@ -20,7 +20,7 @@ use Rattle.std.specs.declared.cmp.Ordering.TheVariants.{Less, Equal, Greater}
 use Rattle.hex.specs.Hex.{encode_lower, encode_with, lower_digits}
 use Rattle.xet_hash.specs.Hash.{shown_words}
 use Rattle.xet_io.specs.declared.disk.DiskEntry.{DiskEntry}
-use Rattle.xet_io.specs.Disk.{File, Files, IsListed, Lists, file_at, stat_of}
+use Rattle.xet_io.specs.Disk.{File, Files, IsEntryOf, ListsFolder, file_at, stat_of}
 use Rattle.xet_io.specs.Named.{in_folder, is_plain}
 use Rattle.xet_shard_format.specs.Names.{shard_name}
 use Rattle.xet_shard_file.specs.declared.listing.NamedShard.{NamedShard}
@@ -70,7 +70,7 @@ pub record IsNamed (files : Files) (folder : List ℕ) (n : NamedShard) : Type 0
   pub entry : IsEntry files folder n.entry
 
 module _ (files : Files) (folder : List ℕ) where
-  picked_there : (ds : List DiskEntry) (out : List NamedShard) → AllByRecursion (IsListed files folder) ds → Picks ds out → AllByRecursion (IsNamed files folder) out
+  picked_there : (ds : List DiskEntry) (out : List NamedShard) → AllByRecursion (IsEntryOf files folder) ds → Picks ds out → AllByRecursion (IsNamed files folder) out
   picked_there [] out listed none = subst (λ (l : List NamedShard). AllByRecursion (IsNamed files folder) l) (sym none) tt
   picked_there (d ∷ ds) out listed (inl (h, rest, is, name, adds, more)) =
       let at : stat_of (file_at files (shard_path folder h)) ≡ Some (d.length, d.modified) = subst (λ (n : List ℕ). stat_of (file_at files (in_folder folder n)) ≡ Some (d.length, d.modified)) name listed.0.1 in
@@ -184,10 +184,10 @@ before_of a b less apart name_a name_b =
 
 -- ---- the whole
 
-module _ (files : Files) (folder : List ℕ) (ds : List DiskEntry) (out sorted : List NamedShard) (lists : Lists files folder ds) (picks : Picks ds out) (moved : IsPermutation out sorted)
+module _ (files : Files) (folder : List ℕ) (ds : List DiskEntry) (out sorted : List NamedShard) (lists : ListsFolder files folder ds) (picks : Picks ds out) (moved : IsPermutation out sorted)
     (up : IsSorted name_order sorted) where
   all_named : All (IsNamed files folder) sorted
-  all_named = All-permutation (IsNamed files folder) out sorted moved (All-from_recursion (IsNamed files folder) out (picked_there files folder ds out (recursion_from_All (IsListed files folder) ds lists.there) picks))
+  all_named = All-permutation (IsNamed files folder) out sorted moved (All-from_recursion (IsNamed files folder) out (picked_there files folder ds out (recursion_from_All (IsEntryOf files folder) ds lists.there) picks))
 
   differ : (i j : ℕ) (d : NamedShard) → i < j → j < length sorted → (get_or sorted i d).name ≢ (get_or sorted j d).name
   differ i j d lt below e =

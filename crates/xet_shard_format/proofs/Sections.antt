@@ -23,40 +23,40 @@ record_fails record_at last rows r after e h m = fails_on e (record_at r after) 
 
 -- what was read before, and what is still read
 abbrev pub records_before : {X : Type 0} → List X → Result (List X) StoreError → Result (List X) StoreError
-records_before front read = read >>= λ xs. Ok (front ++ xs)
+records_before prefix read = read >>= λ xs. Ok (prefix ++ xs)
 
-regroup : {X : Type 0} (front : List X) (n : X) (read : Result (List X) StoreError) → records_before front (read >>= λ xs. Ok (n ∷ xs)) ≡ records_before (front ++ n ∷ []) read
-regroup front n (Ok xs) = ap Ok (simp append_assoc)
-regroup front n (Err f) = refl
+regroup : {X : Type 0} (prefix : List X) (n : X) (read : Result (List X) StoreError) → records_before prefix (read >>= λ xs. Ok (n ∷ xs)) ≡ records_before (prefix ++ n ∷ []) read
+regroup prefix n (Ok xs) = ap Ok (simp append_assoc)
+regroup prefix n (Err f) = refl
 
-pub section_goes_on : {X : Type 0} (record_at : Row → List Row → Result (X × List Row) StoreError) (hash : X → List ℕ) (front : List X) (count i : ℕ) (last : Option (List ℕ)) (rows : List Row) (y : X) (after : List Row) (total : Result (List X) StoreError)
-    → i < count → step_at record_at last rows ≡ Ok (Some y, after) → records_before front (section_at record_at hash (count - i) last rows) ≡ total
-    → records_before (front ++ y ∷ []) (section_at record_at hash (count - (i + 1)) (Some (hash y)) after) ≡ total
+pub section_goes_on : {X : Type 0} (record_at : Row → List Row → Result (X × List Row) StoreError) (hash : X → List ℕ) (prefix : List X) (count i : ℕ) (last : Option (List ℕ)) (rows : List Row) (y : X) (after : List Row) (total : Result (List X) StoreError)
+    → i < count → step_at record_at last rows ≡ Ok (Some y, after) → records_before prefix (section_at record_at hash (count - i) last rows) ≡ total
+    → records_before (prefix ++ y ∷ []) (section_at record_at hash (count - (i + 1)) (Some (hash y)) after) ≡ total
 unfolding section_at
-section_goes_on record_at hash front count i last rows y after total lt h so_far =
+section_goes_on record_at hash prefix count i last rows y after total lt h so_far =
     let k : count - i ≡ suc (count - (i + 1)) = omega arith in
-    let one : records_before front (section_at record_at hash (count - i) last rows) ≡ records_before (front ++ y ∷ []) (section_at record_at hash (count - (i + 1)) (Some (hash y)) after) = rw (k, h) (regroup front y (section_at record_at hash (count - (i + 1)) (Some (hash y)) after)) in
+    let one : records_before prefix (section_at record_at hash (count - i) last rows) ≡ records_before (prefix ++ y ∷ []) (section_at record_at hash (count - (i + 1)) (Some (hash y)) after) = rw (k, h) (regroup prefix y (section_at record_at hash (count - (i + 1)) (Some (hash y)) after)) in
     sym one ∙ so_far
 
-pub section_fails : {X : Type 0} (record_at : Row → List Row → Result (X × List Row) StoreError) (hash : X → List ℕ) (front : List X) (count i : ℕ) (last : Option (List ℕ)) (rows : List Row) (e : StoreError) (total : Result (List X) StoreError)
-    → i < count → Fails e (step_at record_at last rows) → records_before front (section_at record_at hash (count - i) last rows) ≡ total → Fails e total
+pub section_fails : {X : Type 0} (record_at : Row → List Row → Result (X × List Row) StoreError) (hash : X → List ℕ) (prefix : List X) (count i : ℕ) (last : Option (List ℕ)) (rows : List Row) (e : StoreError) (total : Result (List X) StoreError)
+    → i < count → Fails e (step_at record_at last rows) → records_before prefix (section_at record_at hash (count - i) last rows) ≡ total → Fails e total
 unfolding section_at
-section_fails record_at hash front count i last rows e total lt f so_far =
+section_fails record_at hash prefix count i last rows e total lt f so_far =
     let k : count - i ≡ suc (count - (i + 1)) = omega arith in
     fails_on e (step_at record_at last rows) total (λ h. sym so_far ∙ rw (k, h) refl) f
 
-pub section_done : {X : Type 0} (record_at : Row → List Row → Result (X × List Row) StoreError) (hash : X → List ℕ) (front : List X) (count i : ℕ) (last : Option (List ℕ)) (rows after : List Row) (total : Result (List X) StoreError)
-    → i < count → step_at record_at last rows ≡ Ok (None, after) → records_before front (section_at record_at hash (count - i) last rows) ≡ total → total ≡ Ok front
+pub section_done : {X : Type 0} (record_at : Row → List Row → Result (X × List Row) StoreError) (hash : X → List ℕ) (prefix : List X) (count i : ℕ) (last : Option (List ℕ)) (rows after : List Row) (total : Result (List X) StoreError)
+    → i < count → step_at record_at last rows ≡ Ok (None, after) → records_before prefix (section_at record_at hash (count - i) last rows) ≡ total → total ≡ Ok prefix
 unfolding section_at
-section_done record_at hash front count i last rows after total lt h so_far =
+section_done record_at hash prefix count i last rows after total lt h so_far =
     let k : count - i ≡ suc (count - (i + 1)) = omega arith in
-    let one : records_before front (section_at record_at hash (count - i) last rows) ≡ Ok front = rw (k, h) (ap Ok (append-nil front)) in
+    let one : records_before prefix (section_at record_at hash (count - i) last rows) ≡ Ok prefix = rw (k, h) (ap Ok (append-nil prefix)) in
     sym so_far ∙ one
 
-pub section_short : {X : Type 0} (record_at : Row → List Row → Result (X × List Row) StoreError) (hash : X → List ℕ) (front : List X) (count i : ℕ) (last : Option (List ℕ)) (rows : List Row) (total : Result (List X) StoreError)
-    → count ≤ i → records_before front (section_at record_at hash (count - i) last rows) ≡ total → total ≡ Err (MalformedData SectionPlace)
+pub section_short : {X : Type 0} (record_at : Row → List Row → Result (X × List Row) StoreError) (hash : X → List ℕ) (prefix : List X) (count i : ℕ) (last : Option (List ℕ)) (rows : List Row) (total : Result (List X) StoreError)
+    → count ≤ i → records_before prefix (section_at record_at hash (count - i) last rows) ≡ total → total ≡ Err (MalformedData SectionPlace)
 unfolding section_at
-section_short record_at hash front count i last rows total le so_far =
+section_short record_at hash prefix count i last rows total le so_far =
     let k : count - i ≡ 0 = omega arith in
-    let one : records_before front (section_at record_at hash (count - i) last rows) ≡ Err (MalformedData SectionPlace) = rw k refl in
+    let one : records_before prefix (section_at record_at hash (count - i) last rows) ≡ Err (MalformedData SectionPlace) = rw k refl in
     sym so_far ∙ one

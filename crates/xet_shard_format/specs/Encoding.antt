@@ -26,8 +26,8 @@ shard_header_bytes h = h.tag ++ (to_le_bytes w64 h.version ++ to_le_bytes w64 h.
 
 -- ---- footer
 
-abbrev pub footer_text : MDBShardFileFooter → List ℕ
-footer_text f =
+abbrev pub shard_footer_bytes : MDBShardFileFooter → List ℕ
+shard_footer_bytes f =
     to_le_bytes w64 f.version
     ++ (to_le_bytes w64 f.file_info_offset
     ++ (to_le_bytes w64 f.xorb_info_offset
@@ -99,7 +99,7 @@ shard_bytes w s =
     ++ (record_items_bytes (left_in w.files (file_items s.files))
     ++ (record_items_bytes (left_in w.xorbs (xorb_items s.blocks))
     ++ (chunk_items_bytes (left_in w.chunks (chunk_items s.blocks))
-    ++ footer_text (footer_of w s))))))
+    ++ shard_footer_bytes (footer_of w s))))))
 
 abbrev pub full_shard_bytes : Shard → List ℕ
 full_shard_bytes s = shard_bytes all_lookups s

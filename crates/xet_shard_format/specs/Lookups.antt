@@ -25,13 +25,13 @@ abbrev pub xorb_items : List MDBXorbInfo → List (ℕ × ℕ)
 xorb_items blocks = heads_from xorb_hash xorb_rows 0 blocks
 
 -- Chunks: first word, row of the xorb's header, and index in the xorb. The table is sorted by these three.
-unfoldable pub places_from : ℕ → ℕ → List XorbChunkSequenceEntry → List (ℕ × ℕ × ℕ)
-places_from at place [] = []
-places_from at place (c ∷ cs) = (first_word c.chunk_hash, at, place) ∷ places_from at (place + 1) cs
+unfoldable pub lookup_rows_from : ℕ → ℕ → List XorbChunkSequenceEntry → List (ℕ × ℕ × ℕ)
+lookup_rows_from at place [] = []
+lookup_rows_from at place (c ∷ cs) = (first_word c.chunk_hash, at, place) ∷ lookup_rows_from at (place + 1) cs
 
 unfoldable pub chunks_from : ℕ → List MDBXorbInfo → List (ℕ × ℕ × ℕ)
 chunks_from at [] = []
-chunks_from at (x ∷ xs) = places_from at 0 x.chunks ++ chunks_from (at + length (xorb_rows x)) xs
+chunks_from at (x ∷ xs) = lookup_rows_from at 0 x.chunks ++ chunks_from (at + length (xorb_rows x)) xs
 
 abbrev pub place_cmp : ℕ × ℕ × ℕ → ℕ × ℕ × ℕ → Ordering
 place_cmp x y = ordering_then (ordering_then (nat_cmp x.0 y.0) (nat_cmp x.1 y.1)) (nat_cmp x.2 y.2)

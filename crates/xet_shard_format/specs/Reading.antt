@@ -22,12 +22,12 @@ use Rattle.xet_shard_format.specs.Encoding.{Fits, IsShard, Shard, footer_of, mat
 use Rattle.xet_codec.specs.Parsing.{reaches, wants, ◌>>=◌}
 
 -- the errors of reading a shard
-abbrev pub IsShardRefusal : StoreError → Type 0
-IsShardRefusal OutOfMemory = Unit {0}
-IsShardRefusal UnexpectedEof = Unit {0}
-IsShardRefusal (MalformedData reason) = Unit {0}
-IsShardRefusal (Io place) = place ≡ Input
-IsShardRefusal e = ⊥
+abbrev pub IsShardError : StoreError → Type 0
+IsShardError OutOfMemory = Unit {0}
+IsShardError UnexpectedEof = Unit {0}
+IsShardError (MalformedData reason) = Unit {0}
+IsShardError (Io place) = place ≡ Input
+IsShardError e = ⊥
 
 -- ---- rows
 
@@ -36,11 +36,11 @@ row_at [] = Err (MalformedData SectionPlace)
 row_at (r ∷ rows) = Ok (r, rows)
 
 -- n values, read one after the other
-unfoldable pub times : {X : Type 0} → (List Row → Result (X × List Row) StoreError) → ℕ → List Row → Result (List X × List Row) StoreError
-times read zero rows = Ok ([], rows)
-times read (suc n) rows = do
+unfoldable pub times_rows : {X : Type 0} → (List Row → Result (X × List Row) StoreError) → ℕ → List Row → Result (List X × List Row) StoreError
+times_rows read zero rows = Ok ([], rows)
+times_rows read (suc n) rows = do
   x ← read rows
-  xs ← times read n x.1
+  xs ← times_rows read n x.1
   Ok (x.0 ∷ xs.0, xs.1)
 
 unfoldable pub segment_at : List Row → Result (FileDataSequenceEntry × List Row) StoreError
@@ -58,21 +58,21 @@ hash_in r = do
   _ ← wants (r.d == 0) SectionEntry
   Ok r.hash
 
-unfoldable pub hash_at : List Row → Result (List ℕ × List Row) StoreError
-hash_at rows = do
+unfoldable pub hash_row_at : List Row → Result (List ℕ × List Row) StoreError
+hash_row_at rows = do
   r ← row_at rows
   h ← hash_in r.0
   Ok (h, r.1)
 
 unfoldable pub verification_at : List Row → Result (FileVerificationEntry × List Row) StoreError
 verification_at rows = do
-  h ← hash_at rows
+  h ← hash_row_at rows
   Ok (record { range_hash = h.0 }, h.1)
 
 unfoldable pub ext_at : Bool → List Row → Result (Option FileMetadataExt × List Row) StoreError
 ext_at false rows = Ok (None, rows)
 ext_at true rows = do
-  h ← hash_at rows
+  h ← hash_row_at rows
   Ok (Some (record { sha256 = h.0 }), h.1)
 
 -- bits 31 and 30 of a number below 2 ^ 32
@@ -92,14 +92,14 @@ has_rows count rows = wants (nat_le count (length rows)) SectionPlace
 
 -- The file record whose header row was read. The checks: its rows lie within the section; then its header;
 -- then each entry, in order.
-unfoldable pub file_at : Row → List Row → Result (MDBFileInfo × List Row) StoreError
-file_at head rows = do
+unfoldable pub file_record_at : Row → List Row → Result (MDBFileInfo × List Row) StoreError
+file_record_at head rows = do
   _ ← has_rows (rows_after_file head) rows
   _ ← wants (head.a == flags_of (is_verified head.a) (has_ext head.a)) SectionEntry
   _ ← wants (head.c == 0) SectionEntry
   _ ← wants (head.d == 0) SectionEntry
-  segments ← times segment_at head.b rows
-  verification ← times verification_at (if is_verified head.a then head.b else 0) segments.1
+  segments ← times_rows segment_at head.b rows
+  verification ← times_rows verification_at (if is_verified head.a then head.b else 0) segments.1
   ext ← ext_at (has_ext head.a) verification.1
   Ok (record { metadata = record { file_hash = head.hash; file_flags = head.a; num_entries = head.b }; segments = segments.0; verification = verification.0; metadata_ext = ext.0 }, ext.1)
 
@@ -152,8 +152,8 @@ section_at record_at hash (suc n) last rows = do
 
 -- ---- header and footer
 
-unfoldable pub header_at : List ℕ → Result (Unit {0}) StoreError
-header_at bytes = do
+unfoldable pub shard_header_at : List ℕ → Result (Unit {0}) StoreError
+shard_header_at bytes = do
   _ ← reaches (nat_le 32 (length bytes))
   _ ← wants (pointwise nat_eq (take 32 bytes) tag) Tag
   _ ← reaches (nat_le 40 (length bytes))
@@ -189,7 +189,7 @@ file_row_count f = (f.xorb_info_offset - f.file_info_offset) / 48
 abbrev pub xorb_row_count : MDBShardFileFooter → ℕ
 xorb_row_count f = (f.file_lookup_offset - f.xorb_info_offset) / 48
 
--- Parts have no gaps, and the footer ends the bytes. A section has 1 to 2 ^ 32 - 1 rows.
+-- ShardParts have no gaps, and the footer ends the bytes. A section has 1 to 2 ^ 32 - 1 rows.
 unfoldable pub places_at : ℕ → MDBShardFileFooter → Result (Unit {0}) StoreError
 places_at len f = do
   _ ← wants (f.file_info_offset == 48) SectionPlace
@@ -218,8 +218,8 @@ pub record IsPlaced (len : ℕ) (f : MDBShardFileFooter) : Type 0 where
   pub footer : f.footer_offset ≡ f.chunk_lookup_offset + 16 * f.chunk_lookup_num_entry
   pub end : len ≡ f.footer_offset + 200
 
-unfoldable pub footer_at : List ℕ → Result MDBShardFileFooter StoreError
-footer_at bytes = do
+unfoldable pub shard_footer_at : List ℕ → Result MDBShardFileFooter StoreError
+shard_footer_at bytes = do
   let end = drop (length bytes - 200) bytes
   _ ← wants (word end 0 == 1) ShardVersion
   _ ← wants (pointwise nat_eq (take 48 (drop 120 end)) (replicate 48 0)) SectionPlace
@@ -228,7 +228,7 @@ footer_at bytes = do
 
 -- the footer, after the checks of the header
 abbrev pub ends_of : List ℕ → Result MDBShardFileFooter StoreError
-ends_of bytes = header_at bytes >>= λ _. footer_at bytes
+ends_of bytes = shard_header_at bytes >>= λ _. shard_footer_at bytes
 
 -- ---- lookup tables and totals
 
@@ -244,14 +244,14 @@ totals_at f bytes stored_bytes = do
 
 -- ---- a shard
 
-abbrev pub Parts : Type 0
-Parts = List MDBXorbInfo × List MDBFileInfo × MDBShardFileFooter
+abbrev pub ShardParts : Type 0
+ShardParts = List MDBXorbInfo × List MDBFileInfo × MDBShardFileFooter
 
-unfoldable pub all_of : List ℕ → Result Parts StoreError
+unfoldable pub all_of : List ℕ → Result ShardParts StoreError
 all_of bytes = do
-  _ ← header_at bytes
-  f ← footer_at bytes
-  files ← section_at file_at file_hash (file_row_count f) None (rows_in (file_row_count f) (drop f.file_info_offset bytes))
+  _ ← shard_header_at bytes
+  f ← shard_footer_at bytes
+  files ← section_at file_record_at file_hash (file_row_count f) None (rows_in (file_row_count f) (drop f.file_info_offset bytes))
   blocks ← section_at xorb_at xorb_hash (xorb_row_count f) None (rows_in (xorb_row_count f) (drop f.xorb_info_offset bytes))
   _ ← lookup_at bytes f.file_lookup_offset (12 * f.file_lookup_num_entry) (record_items_bytes (file_items files))
   _ ← lookup_at bytes f.xorb_lookup_offset (12 * f.xorb_lookup_num_entry) (record_items_bytes (xorb_items blocks))
@@ -259,11 +259,11 @@ all_of bytes = do
   _ ← totals_at f (materialized files) (stored blocks)
   Ok (blocks, files, f)
 
-abbrev pub shard_of : Parts → Shard
+abbrev pub shard_of : ShardParts → Shard
 shard_of p = record { blocks = p.0; files = p.1; key = p.2.chunk_hash_hmac_key; creation = p.2.shard_creation_timestamp; expiry = p.2.shard_key_expiry }
 
 -- What was read is a well-formed shard with its footer, and the bytes are its encoding.
-pub record IsRead (bytes : List ℕ) (p : Parts) : Type 0 where
+pub record IsRead (bytes : List ℕ) (p : ShardParts) : Type 0 where
   pub shard : IsShard (shard_of p)
   pub fits : Fits (shard_of p)
   pub lookups : Lookups
@@ -271,5 +271,5 @@ pub record IsRead (bytes : List ℕ) (p : Parts) : Type 0 where
   pub footer : p.2 ≡ footer_of lookups (shard_of p)
 
 -- what is read of the encoding of a shard
-abbrev pub parts_of : Lookups → Shard → Parts
-parts_of w s = (s.blocks, s.files, footer_of w s)
+abbrev pub shard_parts_of : Lookups → Shard → ShardParts
+shard_parts_of w s = (s.blocks, s.files, footer_of w s)

@@ -4,7 +4,7 @@ ghost use Rattle.std.specs.Prelude.{◌≡◌, ◌<◌, ◌^◌, ◌++◌, OnOk,
 ghost use Rattle.std.specs.List.{All, AllByRecursion};
 ghost use Rattle.xet_shard_format.specs.Rows.{RowFits, row_bytes, rows_bytes};
 ghost use Rattle.xet_shard_format.specs.Records.{ext_rows, file_rows, section, xorb_rows};
-ghost use Rattle.xet_shard_format.specs.Encoding.{footer_text, shard_header_bytes};
+ghost use Rattle.xet_shard_format.specs.Encoding.{shard_footer_bytes, shard_header_bytes};
 
 use crate::header_footer::{MDBShardFileFooter, MDBShardFileHeader};
 use crate::record::{FileMetadataExt, MDBFileInfo, MDBXorbInfo};
@@ -163,7 +163,7 @@ pub fn push_header(text: &mut Vec<u8>, header: &MDBShardFileHeader) -> Result<()
 
 /// Appends the encoding of a footer.
 pub fn push_footer(text: &mut Vec<u8>, f: &MDBShardFileFooter) -> Result<(), AllocError>
-    ensures { OnOk result (text.new.items ≡ text.old.items ++ footer_text f.now) }
+    ensures { OnOk result (text.new.items ≡ text.old.items ++ shard_footer_bytes f.now) }
 {
     text.extend_from_slice(&f.version.to_le_bytes())?;
     text.extend_from_slice(&f.file_info_offset.to_le_bytes())?;

@@ -3,7 +3,7 @@
 ghost use Rattle.std.specs.Prelude.{◌≡◌, ◌⊎◌, ◌≤◌, ◌+◌, ◌-◌, ◌*◌, ◌==◌, ℕ, IfErr, IfOk, List, OnOk, drop, length, min, take};
 ghost use Rattle.xet_shard_format.specs.Ends.{footer_of_last, header_of_first};
 ghost use Rattle.xet_codec.specs.Parsing.{Gives};
-ghost use Rattle.xet_shard_format.specs.Reading.{IsPlaced, ends_of, footer_at, footer_in, header_at, places_at};
+ghost use Rattle.xet_shard_format.specs.Reading.{IsPlaced, ends_of, shard_footer_at, footer_in, shard_header_at, places_at};
 
 use xet_codec::{hash_at, word};
 use xet_hash::{HMACKey, Reason, StoreError};
@@ -94,10 +94,10 @@ pub fn read_footer_of_ends(
 }
 
 /// Checks the header, and that there is room for a footer after it.
-#[tactic(auto, using(crate::specs::theorems::FirstLast::header_is))]
+#[tactic(auto, using(crate::specs::theorems::FirstLast::header_of_first_is))]
 pub fn header(bytes: &[u8]) -> Result<(), StoreError>
-    ensures gives { Gives (λ _. tt) result (header_at bytes.now) }
-    ensures exact { result ≡ header_at bytes.now }
+    ensures gives { Gives (λ _. tt) result (shard_header_at bytes.now) }
+    ensures exact { result ≡ shard_header_at bytes.now }
     ensures long { OnOk result (248 ≤ length bytes.now) }
 {
     header_of_first(bytes.len() as u64, bytes)?;
@@ -143,8 +143,8 @@ pub fn header_of_first(len: u64, first: &[u8]) -> Result<(), StoreError>
 #[tactic(auto, using(crate::specs::theorems::FirstLast::footer_is))]
 pub fn footer(bytes: &[u8]) -> Result<MDBShardFileFooter, StoreError>
     requires { 248 ≤ length bytes.now }
-    ensures gives { Gives (λ f. f) result (footer_at bytes.now) }
-    ensures exact { result ≡ footer_at bytes.now }
+    ensures gives { Gives (λ f. f) result (shard_footer_at bytes.now) }
+    ensures exact { result ≡ shard_footer_at bytes.now }
     ensures placed { IfOk result (IsPlaced (length bytes.now)) }
 {
     let (_, last) = bytes.split_at(bytes.len() - 200);

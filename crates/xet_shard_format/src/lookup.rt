@@ -3,7 +3,7 @@
 ghost use Rattle.std.specs.Prelude.{◌≡◌, ◌<◌, ◌^◌, ◌++◌, IfOk, OnOk, length, map};
 ghost use Rattle.xet_shard_format.specs.Records.{section, segment_bytes, xorb_section};
 ghost use Rattle.xet_shard_format.specs.Sorted.{sorted};
-ghost use Rattle.xet_shard_format.specs.Lookups.{chunk_items, chunks_from, flat_place, flat_places, heads_from, record_items_bytes, left_in, place_cmp, chunk_item_bytes, places_from, chunk_items_bytes};
+ghost use Rattle.xet_shard_format.specs.Lookups.{chunk_items, chunks_from, flat_place, flat_places, heads_from, record_items_bytes, left_in, place_cmp, chunk_item_bytes, lookup_rows_from, chunk_items_bytes};
 ghost use Rattle.xet_shard_format.specs.Encoding.{materialized, stored};
 
 use crate::record::{MDBFileInfo, MDBXorbInfo, XorbChunkSequenceEntry};
@@ -119,7 +119,7 @@ fn push_chunks(
     row: u32,
 ) -> Result<(), AllocError>
     requires { length chunks.now < 2 ^ 32 }
-    ensures { OnOk result (flat_places found.new.items ≡ flat_places found.old.items ++ places_from row 0 chunks.now) }
+    ensures { OnOk result (flat_places found.new.items ≡ flat_places found.old.items ++ lookup_rows_from row 0 chunks.now) }
 {
     let mut place: u32 = 0;
     for chunk in chunks {

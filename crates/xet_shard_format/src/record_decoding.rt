@@ -4,7 +4,7 @@ ghost use Rattle.std.specs.Prelude.{◌≡◌, ◌++◌, ◌∷◌, [], None, If
 ghost use Rattle.xet_hash.specs.declared.error.StoreError.TheVariants.{OutOfMemory};
 ghost use Rattle.xet_shard_format.specs.Records.{file_hash, flags_of, is_after, xorb_hash};
 ghost use Rattle.xet_codec.specs.Parsing.{Gives};
-ghost use Rattle.xet_shard_format.specs.Reading.{chunk_in, chunks_at, end_at, ext_at, file_at, has_ext, hash_at, hash_in, is_verified, rows_after_file, section_at, segment_at, step_at, times, verification_at, xorb_at};
+ghost use Rattle.xet_shard_format.specs.Reading.{chunk_in, chunks_at, end_at, ext_at, file_record_at, has_ext, hash_row_at, hash_in, is_verified, rows_after_file, section_at, segment_at, step_at, times_rows, verification_at, xorb_at};
 
 use crate::record::{
     FileDataSequenceEntry, FileDataSequenceHeader, FileMetadataExt, FileVerificationEntry,
@@ -54,9 +54,9 @@ fn hash_in(row: &Row) -> Result<DataHash, StoreError>
 }
 
 /// Reads the next row, whose four numbers must be 0, and returns its hash.
-#[tactic(auto, unfolding(crate::specs::Reading::hash_at))]
+#[tactic(auto, unfolding(crate::specs::Reading::hash_row_at))]
 fn hash_at(rows: &mut Rows) -> Result<DataHash, StoreError>
-    ensures { Gives (λ h. (h, rows.new)) result (hash_at rows.old) }
+    ensures { Gives (λ h. (h, rows.new)) result (hash_row_at rows.old) }
 {
     let row = rows.next()?;
     let hash = hash_in(&row)?;
@@ -92,7 +92,7 @@ fn segments(
     rows: &mut Rows,
     count: u32,
 ) -> Result<Vec<FileDataSequenceEntry>, StoreError>
-    ensures { Gives (λ v. (v.items, rows.new)) result (times segment_at count rows.old) }
+    ensures { Gives (λ v. (v.items, rows.new)) result (times_rows segment_at count rows.old) }
 {
     let mut found = Vec::with_capacity(alloc, count as usize)?;
     for _done in 0..count {
@@ -108,7 +108,7 @@ fn verifications(
     rows: &mut Rows,
     count: u32,
 ) -> Result<Vec<FileVerificationEntry>, StoreError>
-    ensures { Gives (λ v. (v.items, rows.new)) result (times verification_at count rows.old) }
+    ensures { Gives (λ v. (v.items, rows.new)) result (times_rows verification_at count rows.old) }
 {
     let mut found = Vec::with_capacity(alloc, count as usize)?;
     for _done in 0..count {
@@ -191,9 +191,9 @@ pub fn rows_after_file(head: &Row) -> u64
 }
 
 /// Reads the file record whose header row is `head`. Memory is reserved only for rows that exist.
-#[tactic(auto, unfolding(crate::specs::Reading::file_at))]
+#[tactic(auto, unfolding(crate::specs::Reading::file_record_at))]
 pub fn file(alloc: Global, head: &Row, rows: &mut Rows) -> Result<MDBFileInfo, StoreError>
-    ensures { Gives (λ f. (f, rows.new)) result (file_at head.now rows.old) }
+    ensures { Gives (λ f. (f, rows.new)) result (file_record_at head.now rows.old) }
 {
     if !rows.has(rows_after_file(head)) {
         return Err(StoreError::MalformedData(Reason::SectionPlace));

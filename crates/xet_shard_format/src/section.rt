@@ -7,7 +7,7 @@ ghost use Rattle.xet_shard_format.specs.declared.row.Row.{Row};
 ghost use Rattle.xet_shard_format.specs.Rows.{RowFits, rows_bytes};
 ghost use Rattle.xet_shard_format.specs.Records.{chunk_row, file_hash, file_rows, segment_row, verification_row, xorb_hash, xorb_rows};
 ghost use Rattle.xet_codec.specs.Parsing.{Gives};
-ghost use Rattle.xet_shard_format.specs.Reading.{file_at, xorb_at};
+ghost use Rattle.xet_shard_format.specs.Reading.{file_record_at, xorb_at};
 
 use crate::record::{
     FileDataSequenceEntry, FileMetadataExt, FileVerificationEntry, MDBFileInfo, MDBXorbInfo,
@@ -58,7 +58,7 @@ impl Record for MDBFileInfo {
 
     ghost rows_of = { file_rows };
 
-    ghost record_at = { file_at };
+    ghost record_at = { file_record_at };
 
     fn hash(&self) -> MerkleHash {
         self.metadata.file_hash

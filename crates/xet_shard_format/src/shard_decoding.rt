@@ -6,7 +6,7 @@ ghost use Rattle.xet_shard_format.specs.Records.{file_hash, file_section, sectio
 ghost use Rattle.xet_shard_format.specs.Lookups.{Lookups, chunk_items, heads_from, record_items_bytes, chunk_items_bytes};
 ghost use Rattle.xet_shard_format.specs.Encoding.{Fits, IsShard, Shard, materialized, shard_bytes, stored};
 ghost use Rattle.xet_codec.specs.Parsing.{Gives};
-ghost use Rattle.xet_shard_format.specs.Reading.{IsPlaced, IsRead, all_of, file_at, file_row_count, lookup_at, parts_of, section_at, totals_at, xorb_at, xorb_row_count};
+ghost use Rattle.xet_shard_format.specs.Reading.{IsPlaced, IsRead, all_of, file_record_at, file_row_count, lookup_at, shard_parts_of, section_at, totals_at, xorb_at, xorb_row_count};
 
 use crate::header_footer::{MDBShardFileFooter, footer, header};
 use crate::lookup::{materialized, push_heads, push_places, stored};
@@ -26,7 +26,7 @@ pub fn read_shard(alloc: Global, bytes: &[u8]) -> Result<Parts, StoreError>
     // What is read is a well-formed shard with its footer, and the bytes are its encoding.
     ensures found { IfOk result (λ x. IsRead bytes.now (x.0.items, x.1.items, x.2)) }
     // The encoding of a well-formed shard is read, unless memory is out.
-    ensures only { (w : Lookups) (s : Shard) → IsShard s → Fits s → bytes.now ≡ shard_bytes w s → Gives (λ x. (x.0.items, x.1.items, x.2)) result (Ok (parts_of w s)) }
+    ensures only { (w : Lookups) (s : Shard) → IsShard s → Fits s → bytes.now ≡ shard_bytes w s → Gives (λ x. (x.0.items, x.1.items, x.2)) result (Ok (shard_parts_of w s)) }
     // The error is that of the first check that fails, unless memory is out.
     ensures exact { Gives (λ x. (x.0.items, x.1.items, x.2)) result (all_of bytes.now) }
 {
@@ -74,7 +74,7 @@ fn all_files(
     f: &MDBShardFileFooter,
 ) -> Result<Vec<MDBFileInfo>, StoreError>
     requires { IsPlaced (length bytes.now) f.now }
-    ensures gives { Gives (λ v. v.items) result (section_at file_at file_hash (file_row_count f.now) None (rows_in (file_row_count f.now) (drop f.now.file_info_offset bytes.now))) }
+    ensures gives { Gives (λ v. v.items) result (section_at file_record_at file_hash (file_row_count f.now) None (rows_in (file_row_count f.now) (drop f.now.file_info_offset bytes.now))) }
     ensures few { IfOk result (λ v. length (file_section v.items) < 2 ^ 32) }
     ensures total { IfOk result (λ v. materialized v.items < 2 ^ 64) }
 {

@@ -19,9 +19,9 @@ fn an_empty_shard(rt: HostRuntime) -> Result<(), Fail> {
 
 #[test]
 fn a_header_without_its_last_byte(rt: HostRuntime) -> Result<(), Fail> {
-    let front =
+    let prefix =
         *b"XETSHARD\0\0\0\0\0\0\0\0\0\0\0\0\0\0\0\0\0\0\0\0\0\0\0\0\x02\0\0\0\0\0\0\0\xc8\0\0\0\0\0\0";
-    let read = read_shard(rt.alloc(), &front);
+    let read = read_shard(rt.alloc(), &prefix);
     assert!(rt; matches!(read, Err(StoreError::UnexpectedEof)));
     Ok(())
 }

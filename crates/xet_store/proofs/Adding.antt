@@ -7,198 +7,198 @@ use Rattle.std.proofs.lemmas.List.{append-nil, length-map}
 use Rattle.std.proofs.lemmas.List.Elements.{All-from_recursion}
 use Rattle.std.proofs.lemmas.List.Sums.{sum_by-cons}
 use Rattle.xet_io.specs.Disk.{Files, bytes_at}
-use Rattle.xet_hash.specs.Merkle.{chunk_hash, members_of, total_len, xorb_hash}
+use Rattle.xet_hash.specs.Merkle.{chunk_hash, leaves_of, total_len, xorb_hash}
 use Rattle.xet_xorb_chunk.specs.declared.chunk.Chunk.{Chunk}
-use Rattle.xet_xorb_chunk.specs.Chunks.{bytes_of, chunk_member, total}
+use Rattle.xet_xorb_chunk.specs.Chunks.{bytes_of_chunk, chunk_leaf, total}
 use Rattle.xet_xorb.specs.Xorb.{IsXorbEncoding}
-use Rattle.xet_xorb_chunk.specs.theorems.Grammar.{members_are, total-bytes}
+use Rattle.xet_xorb_chunk.specs.theorems.Grammar.{leaves_are, total-bytes}
 use Rattle.xet_xorb.specs.declared.raw.RawXorbData.{RawXorbData}
-use Rattle.xet_xorb.specs.Raw.{ArePartsOfXorb, raw_members, raw_of}
+use Rattle.xet_xorb.specs.Raw.{ArePartsOfXorb, raw_leaves, raw_of}
 use Rattle.xet_shard_format.specs.declared.record.MDBFileInfo.{MDBFileInfo}
 use Rattle.xet_shard_format.specs.declared.record.MDBXorbInfo.{MDBXorbInfo}
 use Rattle.xet_shard.specs.Held.{Held, IsHeld, held as the_held, with_last}
 use Rattle.xet_shard_format.specs.Records as record_of
 use Rattle.xet_shard.specs.theorems.Holding.{all_last}
-use Rattle.xet_folder.specs.Admission.{block_members}
+use Rattle.xet_folder.specs.Admission.{block_leaves}
 use Rattle.xet_folder.specs.Names.{IsForeign, xorb_path}
 use Rattle.xet_shard_file.specs.Names.{IsHash, shard_path}
 use Rattle.xet_shard_file.specs.Puts.{IsKeptOrDone}
 use Rattle.xet_folder.specs.Stored.{IsBacked}
 use Rattle.xet_folder.specs.Runs.{stored_len}
-use Rattle.xet_folder.specs.Xorbs.{IsListed, Records, Xorbs, found}
+use Rattle.xet_folder.specs.Xorbs.{IsListed, FileRecords, Xorbs, found}
 use Rattle.xet_folder.specs.theorems.Placing.{stored_is}
 use Rattle.xet_folder.specs.theorems.Tables.{found_either, found_here, found_kept}
 use Rattle.xet_store.specs.Cleaning.{HasXorb, IsDurable, Keeps, SameEntry}
 use Rattle.xet_dedup.specs.Records.{xorb_record}
-use Rattle.xet_store.specs.Tables.{Tables, tables, tables_of, with_members, with_xorb as with_xorb_of}
+use Rattle.xet_store.specs.Tables.{Tables, tables, tables_of, with_leaves, with_xorb as with_xorb_of}
 use Rattle.xet_folder.specs.Contents.{IsRecord}
 use Rattle.xet_store.specs.Store.{State, IsPendingFile, Sound}
 use Rattle.xet_base.specs.theorems.Elements.{all_more}
-use Rattle.xet_store.proofs.Pending.{entries_members}
+use Rattle.xet_store.proofs.Pending.{entries_leaves}
 use Rattle.xet_store.specs.theorems.Plans.{joins_more}
 use Rattle.xet_store.proofs.Rows.{differ_more, found_more}
 use Rattle.xet_store.specs.theorems.Rows.{is_some_either}
-use Rattle.xet_store.specs.theorems.Staying.{Members, Stays, admitted_stays, backed_still, changed, keeps_at, keeps_changed, keeps_refused, kept_or, found_nowhere, same_change, sound_refused, stays_xorb}
+use Rattle.xet_store.specs.theorems.Staying.{Leaves, StateStays, admitted_stays, backed_still, changed, keeps_at, keeps_changed, keeps_refused, kept_or, found_nowhere, same_change, sound_refused, stays_xorb}
 
 -- ---- what stands with more xorbs
 
-module _ (old new : Xorbs) (more : (h : List ℕ) (ms : Members) → IsListed old h ms → IsListed new h ms) where
-  pub records_more : (rs : Records) → AllByRecursion (IsRecord old) rs → AllByRecursion (IsRecord new) rs
+module _ (old new : Xorbs) (more : (h : List ℕ) (ms : Leaves) → IsListed old h ms → IsListed new h ms) where
+  pub records_more : (rs : FileRecords) → AllByRecursion (IsRecord old) rs → AllByRecursion (IsRecord new) rs
   records_more [] all = tt
   records_more (r ∷ rs) all = (
-    record { named = all.0.named; members = all.0.members; joins = joins_more (IsListed old) (IsListed new) (λ (m : List ℕ × ℕ). m.1) more r.1.segments all.0.members all.0.joins; hash = all.0.hash; some = all.0.some; bound = all.0.bound },
+    record { named = all.0.named; leaves = all.0.leaves; joins = joins_more (IsListed old) (IsListed new) (λ (m : List ℕ × ℕ). m.1) more r.1.segments all.0.leaves all.0.joins; hash = all.0.hash; some = all.0.some; bound = all.0.bound },
     records_more rs all.1,
   )
 
-  pub files_more : (rs : Records) (fs : List MDBFileInfo) → AllByRecursion (IsPendingFile old rs) fs → AllByRecursion (IsPendingFile new rs) fs
+  pub files_more : (rs : FileRecords) (fs : List MDBFileInfo) → AllByRecursion (IsPendingFile old rs) fs → AllByRecursion (IsPendingFile new rs) fs
   files_more rs [] all = tt
   files_more rs (f ∷ fs) all = (
-    record { recorded = all.0.recorded; members = all.0.members; joins = joins_more (IsListed old) (IsListed new) (λ (m : List ℕ × ℕ). m.1) more f.segments all.0.members all.0.joins; form = all.0.form },
+    record { recorded = all.0.recorded; leaves = all.0.leaves; joins = joins_more (IsListed old) (IsListed new) (λ (m : List ℕ × ℕ). m.1) more f.segments all.0.leaves all.0.joins; form = all.0.form },
     files_more rs fs all.1,
   )
 
--- ---- the xorb is listed with its members, and its record is pending
+-- ---- the xorb is listed with its leaves, and its record is pending
 
-module _ (s : State) (h : List ℕ) (members : Members) where
+module _ (s : State) (h : List ℕ) (leaves : Leaves) where
   abbrev listed_too : Xorbs
-  listed_too = s.xorbs ++ (h, members) ∷ []
+  listed_too = s.xorbs ++ (h, leaves) ∷ []
 
   abbrev pending_too : Held
-  pending_too = record { blocks = with_last record_of.xorb_hash s.pending.blocks (xorb_record h members); files = s.pending.files }
+  pending_too = record { blocks = with_last record_of.xorb_hash s.pending.blocks (xorb_record h leaves); files = s.pending.files }
 
   abbrev pub with_xorb : Bool → Files → ℕ → State
   with_xorb tells files faults = changed s tells files faults listed_too s.records s.shards pending_too
 
-  stays_listed : (k : List ℕ) (ms : Members) → IsListed s.xorbs k ms → IsListed listed_too k ms
-  stays_listed k ms l = found_kept s.xorbs ((h, members) ∷ []) k ms l
+  stays_listed : (k : List ℕ) (ms : Leaves) → IsListed s.xorbs k ms → IsListed listed_too k ms
+  stays_listed k ms l = found_kept s.xorbs ((h, leaves) ∷ []) k ms l
 
-  pub listed_new : found s.xorbs h ≡ None → IsListed listed_too h members
-  listed_new none = found_here s.xorbs h members none
+  pub listed_new : found s.xorbs h ≡ None → IsListed listed_too h leaves
+  listed_new none = found_here s.xorbs h leaves none
 
-  module _ (tells : Bool) (files : Files) (faults : ℕ) (stays : Stays s tells files faults) where
+  module _ (tells : Bool) (files : Files) (faults : ℕ) (stays : StateStays s tells files faults) where
     pub keeps_added : (s.tells ≡ true → IsDurable files (xorb_path s.folder h)) → Keeps s (with_xorb tells files faults)
-    keeps_added durable = keeps_changed s tells files faults stays listed_too s.records [] s.shards [] pending_too stays_listed (λ told k none is. this told k none (is_some_either s.xorbs h k members is)) (sym (append-nil s.records)) (sym (append-nil s.shards))
+    keeps_added durable = keeps_changed s tells files faults stays listed_too s.records [] s.shards [] pending_too stays_listed (λ told k none is. this told k none (is_some_either s.xorbs h k leaves is)) (sym (append-nil s.records)) (sym (append-nil s.shards))
       where
         this : s.tells ≡ true → (k : List ℕ) → found s.xorbs k ≡ None → IsSome (found s.xorbs k) ⊎ (h ≡ k) → IsDurable files (xorb_path s.folder k)
         this told k none (inl is) = found_nowhere (found s.xorbs k) none is
         this told k none (inr e) = subst (λ (x : List ℕ). IsDurable files (xorb_path s.folder x)) e (durable told)
 
-    pub sound_added : Sound s → found s.xorbs h ≡ None → IsHash h → IsHeld pending_too → (s.tells ≡ true → IsBacked files s.folder h members)
+    pub sound_added : Sound s → found s.xorbs h ≡ None → IsHash h → IsHeld pending_too → (s.tells ≡ true → IsBacked files s.folder h leaves)
         → (s.tells ≡ true → (k : List ℕ) → IsHash k → SameEntry s.files files (shard_path s.folder k)) → Sound (with_xorb tells files faults)
     sound_added sound none hash held here shards = record {
-      backed = λ told k ms listed. back (sym stays.tells_same ∙ told) k ms (found_either s.xorbs h k members ms listed);
+      backed = λ told k ms listed. back (sym stays.tells_same ∙ told) k ms (found_either s.xorbs h k leaves ms listed);
       recorded = records_more s.xorbs listed_too stays_listed s.records sound.recorded;
       kept = λ k f e. kept_or s tells files faults stays sound pending_too s.shards (λ x a. a) f (λ p. p) (sound.kept k f e);
       held = held;
-      blocks = all_last (λ b. IsListed listed_too (record_of.xorb_hash b) (block_members b)) record_of.xorb_hash s.pending.blocks (xorb_record h members)
-          (all_more (λ b. IsListed s.xorbs (record_of.xorb_hash b) (block_members b)) (λ b. IsListed listed_too (record_of.xorb_hash b) (block_members b)) s.pending.blocks
-          (λ b l. stays_listed (record_of.xorb_hash b) (block_members b) l) sound.blocks)
-          (listed_new none ∙ ap Some (sym (entries_members 0 members)));
+      blocks = all_last (λ b. IsListed listed_too (record_of.xorb_hash b) (block_leaves b)) record_of.xorb_hash s.pending.blocks (xorb_record h leaves)
+          (all_more (λ b. IsListed s.xorbs (record_of.xorb_hash b) (block_leaves b)) (λ b. IsListed listed_too (record_of.xorb_hash b) (block_leaves b)) s.pending.blocks
+          (λ b l. stays_listed (record_of.xorb_hash b) (block_leaves b) l) sound.blocks)
+          (listed_new none ∙ ap Some (sym (entries_leaves 0 leaves)));
       pending_files = files_more s.xorbs listed_too stays_listed s.records s.pending.files sound.pending_files;
-      admitted = λ told. admitted_stays s tells files faults stays sound listed_too (λ k is. found_more s.xorbs ((h, members) ∷ []) k is) shards (sym stays.tells_same ∙ told);
-      hashes = λ k is. hashed k (is_some_either s.xorbs h k members is);
+      admitted = λ told. admitted_stays s tells files faults stays sound listed_too (λ k is. found_more s.xorbs ((h, leaves) ∷ []) k is) shards (sym stays.tells_same ∙ told);
+      hashes = λ k is. hashed k (is_some_either s.xorbs h k leaves is);
       shards_hashes = sound.shards_hashes;
-      xorbs_differ = differ_more s.xorbs h members none sound.xorbs_differ;
+      xorbs_differ = differ_more s.xorbs h leaves none sound.xorbs_differ;
       records_differ = sound.records_differ;
     }
       where
-        back : s.tells ≡ true → (k : List ℕ) (ms : Members) → (found s.xorbs k ≡ Some ms) ⊎ ((h ≡ k) × (members ≡ ms)) → IsBacked files s.folder k ms
+        back : s.tells ≡ true → (k : List ℕ) (ms : Leaves) → (found s.xorbs k ≡ Some ms) ⊎ ((h ≡ k) × (leaves ≡ ms)) → IsBacked files s.folder k ms
         back told k ms (inl l) = backed_still s tells files faults stays sound told k ms l
-        back told k ms (inr p) = subst (λ (x : List ℕ). IsBacked files s.folder x ms) p.0 (subst (λ (m : Members). IsBacked files s.folder h m) p.1 (here told))
+        back told k ms (inr p) = subst (λ (x : List ℕ). IsBacked files s.folder x ms) p.0 (subst (λ (m : Leaves). IsBacked files s.folder h m) p.1 (here told))
 
         hashed : (k : List ℕ) → IsSome (found s.xorbs k) ⊎ (h ≡ k) → IsHash k
         hashed k (inl is) = sound.hashes k is
         hashed k (inr e) = subst IsHash e hash
 
 -- the same of lists by other names
-module _ (s : State) (h : List ℕ) (members : Members) (tells : Bool) (files : Files) (faults : ℕ) (stays : Stays s tells files faults) (sound : Sound s) {xorbs : Xorbs} {pending : Held}
-    (listed : xorbs ≡ s.xorbs ++ (h, members) ∷ []) (held : pending ≡ record { blocks = with_last record_of.xorb_hash s.pending.blocks (xorb_record h members); files = s.pending.files }) where
-  same_added : with_xorb s h members tells files faults ≡ changed s tells files faults xorbs s.records s.shards pending
+module _ (s : State) (h : List ℕ) (leaves : Leaves) (tells : Bool) (files : Files) (faults : ℕ) (stays : StateStays s tells files faults) (sound : Sound s) {xorbs : Xorbs} {pending : Held}
+    (listed : xorbs ≡ s.xorbs ++ (h, leaves) ∷ []) (held : pending ≡ record { blocks = with_last record_of.xorb_hash s.pending.blocks (xorb_record h leaves); files = s.pending.files }) where
+  same_added : with_xorb s h leaves tells files faults ≡ changed s tells files faults xorbs s.records s.shards pending
   same_added = same_change s tells files faults listed refl refl held
 
   pub keeps_added_at : (s.tells ≡ true → IsDurable files (xorb_path s.folder h)) → (t : State) → s ≡ t → Keeps t (changed s tells files faults xorbs s.records s.shards pending)
-  keeps_added_at durable t e = keeps_at s t (changed s tells files faults xorbs s.records s.shards pending) e (subst (λ (n : State). Keeps s n) same_added (keeps_added s h members tells files faults stays durable))
+  keeps_added_at durable t e = keeps_at s t (changed s tells files faults xorbs s.records s.shards pending) e (subst (λ (n : State). Keeps s n) same_added (keeps_added s h leaves tells files faults stays durable))
 
-  pub sound_added_at : found s.xorbs h ≡ None → IsHash h → IsHeld pending → (s.tells ≡ true → IsBacked files s.folder h members)
+  pub sound_added_at : found s.xorbs h ≡ None → IsHash h → IsHeld pending → (s.tells ≡ true → IsBacked files s.folder h leaves)
       → (s.tells ≡ true → (k : List ℕ) → IsHash k → SameEntry s.files files (shard_path s.folder k)) → Sound (changed s tells files faults xorbs s.records s.shards pending)
-  sound_added_at none hash held_form here files_same = subst Sound same_added (sound_added s h members tells files faults stays sound none hash (subst IsHeld held held_form) here files_same)
+  sound_added_at none hash held_form here files_same = subst Sound same_added (sound_added s h leaves tells files faults stays sound none hash (subst IsHeld held held_form) here files_same)
 
 -- what the store's table then lists
-pub listed_at : (old new : Xorbs) (h : List ℕ) (ms : Members) → new ≡ old ++ (h, ms) ∷ [] → found old h ≡ None → IsListed new h ms
+pub listed_at : (old new : Xorbs) (h : List ℕ) (ms : Leaves) → new ≡ old ++ (h, ms) ∷ [] → found old h ≡ None → IsListed new h ms
 listed_at old new h ms more none = ap (λ (l : Xorbs). found l h) more ∙ found_here old h ms none
 
 -- ---- the tables
 
-module _ (s : State) (h : List ℕ) (ms : Members) where
-  abbrev added_or : Option Members → Tables
+module _ (s : State) (h : List ℕ) (ms : Leaves) where
+  abbrev added_or : Option Leaves → Tables
   added_or o =
       if is_some o then tables_of s
       else tables (s.xorbs ++ (h, ms) ∷ []) s.records (the_held (with_last record_of.xorb_hash s.pending.blocks (xorb_record h ms)) s.pending.files)
 
   -- where the xorb is listed
-  pub tables_listed : (v : Members) → found s.xorbs h ≡ Some v → tables_of s ≡ with_members (tables_of s) h ms
+  pub tables_listed : (v : Leaves) → found s.xorbs h ≡ Some v → tables_of s ≡ with_leaves (tables_of s) h ms
   tables_listed v is = sym (ap added_or is)
 
   -- where it is added
   pub tables_added : found s.xorbs h ≡ None → (xorbs : Xorbs) (pending : Held) → xorbs ≡ s.xorbs ++ (h, ms) ∷ []
-      → pending ≡ the_held (with_last record_of.xorb_hash s.pending.blocks (xorb_record h ms)) s.pending.files → tables xorbs s.records pending ≡ with_members (tables_of s) h ms
+      → pending ≡ the_held (with_last record_of.xorb_hash s.pending.blocks (xorb_record h ms)) s.pending.files → tables xorbs s.records pending ≡ with_leaves (tables_of s) h ms
   tables_added none xorbs pending listed is = (λ i. tables (listed i) s.records (is i)) ∙ sym (ap added_or none)
 
 -- by its chunks
-pub tables_by_chunks : (t : Tables) (h : List ℕ) (ms : Members) (chunks : List Chunk) → AllByRecursion (λ c. c.hash ≡ chunk_hash c.bytes) chunks
-    → h ≡ xorb_hash (map chunk_member chunks) → ms ≡ map chunk_member chunks → with_members t h ms ≡ with_xorb_of t (map bytes_of chunks)
-tables_by_chunks t h ms chunks digests hash members =
-    let same : map chunk_member chunks ≡ members_of (map bytes_of chunks) = members_are chunks (All-from_recursion _ chunks digests) in
-    λ i. with_members t ((hash ∙ ap xorb_hash same) i) ((members ∙ same) i)
+pub tables_by_chunks : (t : Tables) (h : List ℕ) (ms : Leaves) (chunks : List Chunk) → AllByRecursion (λ c. c.hash ≡ chunk_hash c.bytes) chunks
+    → h ≡ xorb_hash (map chunk_leaf chunks) → ms ≡ map chunk_leaf chunks → with_leaves t h ms ≡ with_xorb_of t (map bytes_of_chunk chunks)
+tables_by_chunks t h ms chunks digests hash leaves =
+    let same : map chunk_leaf chunks ≡ leaves_of (map bytes_of_chunk chunks) = leaves_are chunks (All-from_recursion _ chunks digests) in
+    λ i. with_leaves t ((hash ∙ ap xorb_hash same) i) ((leaves ∙ same) i)
 
-all_readable : (chunks : List Chunk) → AllByRecursion (λ c. length c.bytes < 2 ^ 23) chunks → AllByRecursion (λ b. length b < 2 ^ 23) (map bytes_of chunks)
+all_readable : (chunks : List Chunk) → AllByRecursion (λ c. length c.bytes < 2 ^ 23) chunks → AllByRecursion (λ b. length b < 2 ^ 23) (map bytes_of_chunk chunks)
 all_readable [] h = tt
 all_readable (c ∷ cs) h = (h.0, all_readable cs h.1)
 
--- a xorb's text under its name is what backs the members of its chunks
+-- a xorb's text under its name is what backs the leaves of its chunks
 pub backed_by_text : (files : Files) (folder h text : List ℕ) (chunks : List Chunk) → AllByRecursion (λ c. c.hash ≡ chunk_hash c.bytes) chunks → AllByRecursion (λ c. length c.bytes < 2 ^ 23) chunks
-    → IsXorbEncoding text (map bytes_of chunks) → h ≡ xorb_hash (map chunk_member chunks) → bytes_at files (xorb_path folder h) ≡ Some text → IsBacked files folder h (map chunk_member chunks)
+    → IsXorbEncoding text (map bytes_of_chunk chunks) → h ≡ xorb_hash (map chunk_leaf chunks) → bytes_at files (xorb_path folder h) ≡ Some text → IsBacked files folder h (map chunk_leaf chunks)
 backed_by_text files folder h text chunks digests small is_text is_hash there =
-    let same : map chunk_member chunks ≡ members_of (map bytes_of chunks) = members_are chunks (All-from_recursion _ chunks digests) in record {
-      chunks = map bytes_of chunks;
+    let same : map chunk_leaf chunks ≡ leaves_of (map bytes_of_chunk chunks) = leaves_are chunks (All-from_recursion _ chunks digests) in record {
+      chunks = map bytes_of_chunk chunks;
       stored = record { bytes = text; there = there; text = is_text; readable = all_readable chunks small; hash = sym (is_hash ∙ ap xorb_hash same) };
       same = sym same;
     }
 
 -- the hash and the record of a raw xorb of chunks
 module _ (raw : RawXorbData) (chunks : List Chunk) (boundaries : List ℕ) (exact : raw ≡ raw_of chunks boundaries) (h : List ℕ) (hash : h ≡ raw.xorb_info.metadata.xorb_hash) where
-  pub raw_hash : h ≡ xorb_hash (map chunk_member chunks)
+  pub raw_hash : h ≡ xorb_hash (map chunk_leaf chunks)
   raw_hash = hash ∙ ap (λ (r : RawXorbData). r.xorb_info.metadata.xorb_hash) exact
 
-  pub raw_block : (block : MDBXorbInfo) (ms : Members) → ms ≡ map chunk_member chunks → block ≡ raw.xorb_info → block ≡ xorb_record h ms
+  pub raw_block : (block : MDBXorbInfo) (ms : Leaves) → ms ≡ map chunk_leaf chunks → block ≡ raw.xorb_info → block ≡ xorb_record h ms
   raw_block block ms same copied =
-      copied ∙ ap (λ (r : RawXorbData). r.xorb_info) exact ∙ ap (λ (x : List ℕ). xorb_record x (map chunk_member chunks)) (sym raw_hash) ∙ ap (xorb_record h) (sym same)
+      copied ∙ ap (λ (r : RawXorbData). r.xorb_info) exact ∙ ap (λ (x : List ℕ). xorb_record x (map chunk_leaf chunks)) (sym raw_hash) ∙ ap (xorb_record h) (sym same)
 
   -- its text is a xorb of their bytes
-  pub raw_text : (text : List ℕ) → AllByRecursion (λ c. c.hash ≡ chunk_hash c.bytes) chunks → 0 < length chunks → raw_members raw ≡ map chunk_member chunks
-      → (0 < length raw.parts → raw_members raw ≡ members_of raw.parts → raw.xorb_info.metadata.xorb_hash ≡ xorb_hash (members_of raw.parts) → IsXorbEncoding text raw.parts) → IsXorbEncoding text (map bytes_of chunks)
-  raw_text text digests some members is_text =
-      let parts : raw.parts ≡ map bytes_of chunks = ap (λ (r : RawXorbData). r.parts) exact in
-      let same : map chunk_member chunks ≡ members_of raw.parts = members_are chunks (All-from_recursion _ chunks digests) ∙ ap members_of (sym parts) in
-      let many : length raw.parts ≡ length chunks = ap length parts ∙ length-map chunks bytes_of in
-      subst (λ (l : List (List ℕ)). IsXorbEncoding text l) parts (is_text (omega arith) (members ∙ same) (sym hash ∙ raw_hash ∙ ap xorb_hash same))
+  pub raw_text : (text : List ℕ) → AllByRecursion (λ c. c.hash ≡ chunk_hash c.bytes) chunks → 0 < length chunks → raw_leaves raw ≡ map chunk_leaf chunks
+      → (0 < length raw.parts → raw_leaves raw ≡ leaves_of raw.parts → raw.xorb_info.metadata.xorb_hash ≡ xorb_hash (leaves_of raw.parts) → IsXorbEncoding text raw.parts) → IsXorbEncoding text (map bytes_of_chunk chunks)
+  raw_text text digests some leaves is_text =
+      let parts : raw.parts ≡ map bytes_of_chunk chunks = ap (λ (r : RawXorbData). r.parts) exact in
+      let same : map chunk_leaf chunks ≡ leaves_of raw.parts = leaves_are chunks (All-from_recursion _ chunks digests) ∙ ap leaves_of (sym parts) in
+      let many : length raw.parts ≡ length chunks = ap length parts ∙ length-map chunks bytes_of_chunk in
+      subst (λ (l : List (List ℕ)). IsXorbEncoding text l) parts (is_text (omega arith) (leaves ∙ same) (sym hash ∙ raw_hash ∙ ap xorb_hash same))
 
 -- chunks that a xorb may have
-pub parts_fit : (chunks : List Chunk) → AllByRecursion (λ c. length c.bytes < 2 ^ 23) chunks → length chunks ≤ 65536 → total chunks ≤ 2 ^ 30 → ArePartsOfXorb (map bytes_of chunks)
+pub parts_fit : (chunks : List Chunk) → AllByRecursion (λ c. length c.bytes < 2 ^ 23) chunks → length chunks ≤ 65536 → total chunks ≤ 2 ^ 30 → ArePartsOfXorb (map bytes_of_chunk chunks)
 parts_fit chunks small count bytes = record {
-  count = let many = length-map chunks bytes_of in omega arith;
+  count = let many = length-map chunks bytes_of_chunk in omega arith;
   small = small_parts chunks small;
   total = let all = total-bytes chunks in omega arith;
 }
   where
-    small_parts : (cs : List Chunk) → AllByRecursion (λ c. length c.bytes < 2 ^ 23) cs → AllByRecursion (λ p. length p < 2 ^ 24) (map bytes_of cs)
+    small_parts : (cs : List Chunk) → AllByRecursion (λ c. length c.bytes < 2 ^ 23) cs → AllByRecursion (λ p. length p < 2 ^ 24) (map bytes_of_chunk cs)
     small_parts [] all = tt
     small_parts (c ∷ cs) all = (let here = all.0 in omega arith, small_parts cs all.1)
 
 -- ---- a put of a xorb, in a folder by another name
 
 -- What it shows of the disk, done or not.
-pub record PutsXorb (s : State) (folder h text : List ℕ) (members : Members) (tells : Bool) (files : Files) (faults : ℕ) : Type 0 where
+pub record PutsXorb (s : State) (folder h text : List ℕ) (leaves : Leaves) (tells : Bool) (files : Files) (faults : ℕ) : Type 0 where
   pub sound : Sound s
   pub same : folder ≡ s.folder
   pub tells_same : tells ≡ s.tells
@@ -207,10 +207,10 @@ pub record PutsXorb (s : State) (folder h text : List ℕ) (members : Members) (
   pub xorbs : s.tells ≡ true → (k : List ℕ) → IsHash k → k ≢ h → SameEntry s.files files (xorb_path folder k)
   pub shards : s.tells ≡ true → (k : List ℕ) → IsHash k → SameEntry s.files files (shard_path folder k)
   pub foreign : s.tells ≡ true → (name : List ℕ) → IsForeign folder name → SameEntry s.files files name
-  pub backs : bytes_at files (xorb_path s.folder h) ≡ Some text → IsBacked files s.folder h members
+  pub backs : bytes_at files (xorb_path s.folder h) ≡ Some text → IsBacked files s.folder h leaves
   pub left : s.tells ≡ true → IsKeptOrDone s.files files (xorb_path folder h) text
 
-module _ {s : State} {folder h text : List ℕ} {members : Members} {tells : Bool} {files : Files} {faults : ℕ} (p : PutsXorb s folder h text members tells files faults) where
+module _ {s : State} {folder h text : List ℕ} {leaves : Leaves} {tells : Bool} {files : Files} {faults : ℕ} (p : PutsXorb s folder h text leaves tells files faults) where
   shards_here : s.tells ≡ true → (k : List ℕ) → IsHash k → SameEntry s.files files (shard_path s.folder k)
   shards_here told k is = subst (λ (f : List ℕ). SameEntry s.files files (shard_path f k)) p.same (p.shards told k is)
 
@@ -221,11 +221,11 @@ module _ {s : State} {folder h text : List ℕ} {members : Members} {tells : Boo
       go (inl e) = inl e
       go (inr done) = let b = p.backs done.there in inr (record { chunks = b.chunks; stored = b.stored; durable = done.durable })
 
-  xorb_stays : Stays s tells files faults
+  xorb_stays : StateStays s tells files faults
   xorb_stays = stays_xorb s folder h tells files faults p.sound p.same p.tells_same p.later p.none p.xorbs p.shards p.foreign left_here
 
   -- after an error
-  module _ {xorbs : Xorbs} {records : Records} {shards : List (List ℕ)} {pending : Held} (ex : xorbs ≡ s.xorbs) (er : records ≡ s.records) (es : shards ≡ s.shards) (ep : pending ≡ s.pending) where
+  module _ {xorbs : Xorbs} {records : FileRecords} {shards : List (List ℕ)} {pending : Held} (ex : xorbs ≡ s.xorbs) (er : records ≡ s.records) (es : shards ≡ s.shards) (ep : pending ≡ s.pending) where
     pub unput_sound : Sound (changed s tells files faults xorbs records shards pending)
     unput_sound = sound_refused s tells files faults xorb_stays p.sound (admitted_stays s tells files faults xorb_stays p.sound s.xorbs (λ k is. is) shards_here) ex er es ep
 
@@ -233,48 +233,48 @@ module _ {s : State} {folder h text : List ℕ} {members : Members} {tells : Boo
     unput_keeps t e = keeps_refused s tells files faults xorb_stays p.sound t e ex er es ep
 
   -- done
-  module _ {xorbs : Xorbs} {pending : Held} (listed : xorbs ≡ s.xorbs ++ (h, members) ∷ [])
-      (held : pending ≡ record { blocks = with_last record_of.xorb_hash s.pending.blocks (xorb_record h members); files = s.pending.files }) where
+  module _ {xorbs : Xorbs} {pending : Held} (listed : xorbs ≡ s.xorbs ++ (h, leaves) ∷ [])
+      (held : pending ≡ record { blocks = with_last record_of.xorb_hash s.pending.blocks (xorb_record h leaves); files = s.pending.files }) where
     pub put_sound : IsHash h → IsHeld pending → (s.tells ≡ true → bytes_at files (xorb_path folder h) ≡ Some text) → Sound (changed s tells files faults xorbs s.records s.shards pending)
-    put_sound is form there = sound_added_at s h members tells files faults xorb_stays p.sound listed held p.none is form
+    put_sound is form there = sound_added_at s h leaves tells files faults xorb_stays p.sound listed held p.none is form
         (λ told. p.backs (subst (λ (f : List ℕ). bytes_at files (xorb_path f h) ≡ Some text) p.same (there told))) shards_here
 
     pub put_keeps : (s.tells ≡ true → IsDurable files (xorb_path folder h)) → (t : State) → s ≡ t → Keeps t (changed s tells files faults xorbs s.records s.shards pending)
-    put_keeps durable t e = keeps_added_at s h members tells files faults xorb_stays p.sound listed held (λ told. subst (λ (f : List ℕ). IsDurable files (xorb_path f h)) p.same (durable told)) t e
+    put_keeps durable t e = keeps_added_at s h leaves tells files faults xorb_stays p.sound listed held (λ told. subst (λ (f : List ℕ). IsDurable files (xorb_path f h)) p.same (durable told)) t e
 
-    pub put_tables : (t : State) → s ≡ t → (chunks : List Chunk) → AllByRecursion (λ c. c.hash ≡ chunk_hash c.bytes) chunks → h ≡ xorb_hash (map chunk_member chunks)
-        → members ≡ map chunk_member chunks → tables xorbs s.records pending ≡ with_xorb_of (tables_of t) (map bytes_of chunks)
-    put_tables t e chunks digests is_hash is_members =
-        tables_added s h members p.none xorbs pending listed held ∙ tables_by_chunks (tables_of s) h members chunks digests is_hash is_members
-        ∙ ap (λ (x : State). with_xorb_of (tables_of x) (map bytes_of chunks)) e
+    pub put_tables : (t : State) → s ≡ t → (chunks : List Chunk) → AllByRecursion (λ c. c.hash ≡ chunk_hash c.bytes) chunks → h ≡ xorb_hash (map chunk_leaf chunks)
+        → leaves ≡ map chunk_leaf chunks → tables xorbs s.records pending ≡ with_xorb_of (tables_of t) (map bytes_of_chunk chunks)
+    put_tables t e chunks digests is_hash is_leaves =
+        tables_added s h leaves p.none xorbs pending listed held ∙ tables_by_chunks (tables_of s) h leaves chunks digests is_hash is_leaves
+        ∙ ap (λ (x : State). with_xorb_of (tables_of x) (map bytes_of_chunk chunks)) e
 
--- ---- the comparison with the members that are listed
+-- ---- the comparison with the leaves that are listed
 
-abbrev is_member : List ℕ × ℕ → List ℕ × ℕ → Bool
-is_member x y = pointwise nat_eq x.0 y.0 && nat_eq x.1 y.1
+abbrev is_leaf : List ℕ × ℕ → List ℕ × ℕ → Bool
+is_leaf x y = pointwise nat_eq x.0 y.0 && nat_eq x.1 y.1
 
--- lists of members that the test takes as equal are equal
-pub same_members : (xs ys : List (List ℕ × ℕ)) → pointwise is_member xs ys ≡ true → xs ≡ ys
-same_members [] [] e = refl
-same_members [] (y ∷ ys) e = absurd (cc e)
-same_members (x ∷ xs) [] e = absurd (cc e)
-same_members (x ∷ xs) (y ∷ ys) e =
-    let both = and_parts (is_member x y) (pointwise is_member xs ys) e in
+-- lists of leaves that the test takes as equal are equal
+pub same_leaves : (xs ys : List (List ℕ × ℕ)) → pointwise is_leaf xs ys ≡ true → xs ≡ ys
+same_leaves [] [] e = refl
+same_leaves [] (y ∷ ys) e = absurd (cc e)
+same_leaves (x ∷ xs) [] e = absurd (cc e)
+same_leaves (x ∷ xs) (y ∷ ys) e =
+    let both = and_parts (is_leaf x y) (pointwise is_leaf xs ys) e in
     let one = and_parts (pointwise nat_eq x.0 y.0) (nat_eq x.1 y.1) both.0 in
     let hashes : x.0 ≡ y.0 = (bytes_decides x.0 y.0).0 one.0 in
     let lengths : x.1 ≡ y.1 = eqb-true x.1 y.1 one.1 in
-    let rest : xs ≡ ys = same_members xs ys both.1 in
+    let rest : xs ≡ ys = same_leaves xs ys both.1 in
     λ i. (hashes i, lengths i) ∷ rest i
 
-total_of : (chunks : List Chunk) → total_len (map chunk_member chunks) ≡ total chunks
+total_of : (chunks : List Chunk) → total_len (map chunk_leaf chunks) ≡ total chunks
 total_of [] = refl
-total_of (c ∷ cs) = omega (arith, sum_by-cons (λ (m : List ℕ × ℕ). m.1) (chunk_member c) (map chunk_member cs), sum_by-cons (λ (d : Chunk). length d.bytes) c cs, total_of cs)
+total_of (c ∷ cs) = omega (arith, sum_by-cons (λ (m : List ℕ × ℕ). m.1) (chunk_leaf c) (map chunk_leaf cs), sum_by-cons (λ (d : Chunk). length d.bytes) c cs, total_of cs)
 
 -- a new xorb's chunks are stored in fewer than 2 ^ 32 bytes
-pub members_below : (ms : List (List ℕ × ℕ)) (chunks : List Chunk) → ms ≡ map chunk_member chunks → length chunks ≤ 65536 → total chunks ≤ 2 ^ 30 → stored_len ms < 2 ^ 32
-members_below ms chunks same count bytes =
+pub leaves_below : (ms : List (List ℕ × ℕ)) (chunks : List Chunk) → ms ≡ map chunk_leaf chunks → length chunks ≤ 65536 → total chunks ≤ 2 ^ 30 → stored_len ms < 2 ^ 32
+leaves_below ms chunks same count bytes =
     subst (λ (l : List (List ℕ × ℕ)). stored_len l < 2 ^ 32) (sym same)
-    (omega (arith, stored_is (map chunk_member chunks), total_of chunks, length-map chunks chunk_member))
+    (omega (arith, stored_is (map chunk_leaf chunks), total_of chunks, length-map chunks chunk_leaf))
 
 pub true_from : (b : Bool) → false ≡ not b → b ≡ true
 true_from true e = refl

@@ -14,14 +14,14 @@ use Rattle.xet_shard_format.specs.declared.record.MDBFileInfo.{MDBFileInfo}
 use Rattle.xet_shard.specs.Held.{Held, IsHeld, by_hash, held_shard, nothing}
 use Rattle.xet_shard_format.specs.Lookups.{all_lookups, chunk_items, file_items, record_items_bytes, chunk_items_bytes, xorb_items}
 use Rattle.xet_codec.specs.Parsing.{◌>>=◌}
-use Rattle.xet_shard_format.specs.Reading.{Parts, all_of, file_at as read_file, file_row_count, footer_at, header_at, lookup_at, parts_of, section_at, totals_at, xorb_at, xorb_row_count}
+use Rattle.xet_shard_format.specs.Reading.{ShardParts, all_of, file_record_at as read_file, file_row_count, shard_footer_at, shard_header_at, lookup_at, shard_parts_of, section_at, totals_at, xorb_at, xorb_row_count}
 use Rattle.xet_shard_format.specs.Records.{file_hash, xorb_hash}
 use Rattle.xet_shard_format.specs.Rows.{rows_in}
 use Rattle.xet_shard_format.specs.Sorted.{put_in, sorted}
 use Rattle.xet_shard_format.specs.Encoding.{Fits, IsShard, footer_of, full_shard_bytes, materialized, stored}
 use Rattle.xet_shard_format.specs.theorems.RowLaws.{bind_ok}
 use Rattle.xet_shard_format.specs.theorems.WholeAgain.{all_again}
-use Rattle.xet_folder.specs.Admission.{BlockHolds, FileHolds, ShardHolds, block_members, shard_hash}
+use Rattle.xet_folder.specs.Admission.{BlockHolds, FileHolds, ShardHolds, block_leaves, shard_hash}
 use Rattle.xet_folder.specs.Checks.{OfBytes, OfFile, OfShard}
 use Rattle.xet_folder.specs.Contents.{IsRecord}
 use Rattle.xet_folder.specs.Names.{IsForeign, xorb_path}
@@ -31,28 +31,28 @@ use Rattle.xet_folder.specs.Plan.{Joins}
 use Rattle.xet_shard_file.specs.Puts.{IsDone, IsKeptOrDone}
 use Rattle.xet_shard_file.specs.Shards.{is_expired, is_past}
 use Rattle.xet_folder.specs.Stored.{IsBacked}
-use Rattle.xet_folder.specs.Xorbs.{AreBacked, IsListed, Records, Xorbs, found}
+use Rattle.xet_folder.specs.Xorbs.{AreBacked, IsListed, FileRecords, Xorbs, found}
 use Rattle.xet_base.specs.theorems.Elements.{all_push, all_more}
 use Rattle.xet_store.specs.Cleaning.{HasWholeShard, Keeps, SameEntry}
-use Rattle.xet_store.specs.Flushing.{IsFlushed, IsUnflushed, KeepsOthers, pending_bytes}
+use Rattle.xet_store.specs.Flushing.{IsFlushed, IsUnflushed, KeepsOtherNames, pending_bytes}
 use Rattle.xet_store.specs.Separate.{Among}
 use Rattle.xet_store.specs.Store.{State, IsAdmitted, IsKept, IsPendingFile, Sound}
 use Rattle.xet_store.specs.theorems.Admitting.{SameXorb, admitted_still, admitted_with, backed_same, registered_still, this_registered}
 use Rattle.xet_store.specs.theorems.Plans.{joins_more}
 use Rattle.xet_store.specs.theorems.Rows.{among_last, among_more, among_sorted, from_among, is_some_found, to_among}
-use Rattle.xet_store.specs.theorems.Staying.{Stays, backed_still, changed, hash_cases, keeps_at, keeps_changed, keeps_refused, kept_still, found_nowhere, same_bytes_at, same_change, same_file_at, sound_refused, stays_shard}
+use Rattle.xet_store.specs.theorems.Staying.{StateStays, backed_still, changed, hash_cases, keeps_at, keeps_changed, keeps_refused, kept_still, found_nowhere, same_bytes_at, same_change, same_file_at, sound_refused, stays_shard}
 use Rattle.xet_store.specs.theorems.Whole.{found_has}
 
 -- ---- the moment of expiry of a shard that was read
 
-ok_footer : (q p : Parts) → ◌≡◌ {A = Result Parts StoreError} (Ok q) (Ok p) → q.2 ≡ p.2
-ok_footer q p e = let same : q ≡ p = cc in ap (λ (x : Parts). x.2) same
+ok_footer : (q p : ShardParts) → ◌≡◌ {A = Result ShardParts StoreError} (Ok q) (Ok p) → q.2 ≡ p.2
+ok_footer q p e = let same : q ≡ p = cc in ap (λ (x : ShardParts). x.2) same
 
-with_footer : (bytes : List ℕ) (p : Parts) → all_of bytes ≡ Ok p → (header_at bytes >>= λ _. footer_at bytes) ≡ Ok p.2
+with_footer : (bytes : List ℕ) (p : ShardParts) → all_of bytes ≡ Ok p → (shard_header_at bytes >>= λ _. shard_footer_at bytes) ≡ Ok p.2
 unfolding all_of
 with_footer bytes p e =
-    let head = bind_ok (header_at bytes) _ _ e in
-    let foot = bind_ok (footer_at bytes) _ _ head.2 in
+    let head = bind_ok (shard_header_at bytes) _ _ e in
+    let foot = bind_ok (shard_footer_at bytes) _ _ head.2 in
     let g : MDBShardFileFooter = foot.0 in
     let fs = bind_ok (section_at read_file file_hash (file_row_count g) None (rows_in (file_row_count g) (drop g.file_info_offset bytes))) _ _ foot.2 in
     let xs = bind_ok (section_at xorb_at xorb_hash (xorb_row_count g) None (rows_in (xorb_row_count g) (drop g.xorb_info_offset bytes))) _ _ fs.2 in
@@ -60,12 +60,12 @@ with_footer bytes p e =
     let l2 = bind_ok (lookup_at bytes g.xorb_lookup_offset (12 * g.xorb_lookup_num_entry) (record_items_bytes (xorb_items xs.0))) _ _ l1.2 in
     let l3 = bind_ok (lookup_at bytes g.chunk_lookup_offset (16 * g.chunk_lookup_num_entry) (chunk_items_bytes (chunk_items xs.0))) _ _ l2.2 in
     let t = bind_ok (totals_at g (materialized fs.0) (stored xs.0)) _ _ l3.2 in
-    let made : Parts = (xs.0, fs.0, g) in
-    ap (λ (r : Result (Unit {0}) StoreError). r >>= λ _. footer_at bytes) head.1 ∙ foot.1 ∙ ap Ok (ok_footer made p t.2)
+    let made : ShardParts = (xs.0, fs.0, g) in
+    ap (λ (r : Result (Unit {0}) StoreError). r >>= λ _. shard_footer_at bytes) head.1 ∙ foot.1 ∙ ap Ok (ok_footer made p t.2)
 
 -- a shard without expiry does not expire
 module _ (held : Held) (now : ℕ) (shard : IsShard (held_shard held now None)) (fits : Fits (held_shard held now None)) where
-  pub read_again : all_of (full_shard_bytes (held_shard held now None)) ≡ Ok (parts_of all_lookups (held_shard held now None))
+  pub read_again : all_of (full_shard_bytes (held_shard held now None)) ≡ Ok (shard_parts_of all_lookups (held_shard held now None))
   read_again = all_again all_lookups (held_shard held now None) shard fits
 
   never_past : (moment : ℕ) → moment < 2 ^ 64 → nat_lt (footer_of all_lookups (held_shard held now None)).shard_key_expiry moment ≡ false
@@ -75,7 +75,7 @@ module _ (held : Held) (now : ℕ) (shard : IsShard (held_shard held now None)) 
   -- at any moment
   pub never_expired : (moment : ℕ) → moment < 2 ^ 64 → is_expired moment (full_shard_bytes (held_shard held now None)) ≡ false
   never_expired moment below =
-      ap (is_past moment) (with_footer (full_shard_bytes (held_shard held now None)) (parts_of all_lookups (held_shard held now None)) read_again) ∙ never_past moment below
+      ap (is_past moment) (with_footer (full_shard_bytes (held_shard held now None)) (shard_parts_of all_lookups (held_shard held now None)) read_again) ∙ never_past moment below
 
   pub not_expired : is_expired now (full_shard_bytes (held_shard held now None)) ≡ false
   not_expired = never_expired now fits.creation
@@ -117,8 +117,8 @@ segments_listed xorbs [] out none = tt
 segments_listed xorbs (s ∷ ss) out (xs, rest, has, lies, parts, more) = (is_some_found xorbs s.xorb_hash xs has, segments_listed xorbs ss rest more)
 
 module _ (s : State) (sound : Sound s) (shard : IsShard (held_shard s.pending s.opened None)) (fits : Fits (held_shard s.pending s.opened None)) where
-  abbrev parts : Parts
-  parts = parts_of all_lookups (held_shard s.pending s.opened None)
+  abbrev parts : ShardParts
+  parts = shard_parts_of all_lookups (held_shard s.pending s.opened None)
 
   -- the record of each pending file
   pending_records : (fs : List MDBFileInfo) → AllByRecursion (IsPendingFile s.xorbs s.records) fs → AllByRecursion (λ f. IsRecord s.xorbs (file_hash f, f)) fs
@@ -128,14 +128,14 @@ module _ (s : State) (sound : Sound s) (shard : IsShard (held_shard s.pending s.
   files_recorded : AllByRecursion (λ f. IsRecord s.xorbs (file_hash f, f)) (by_hash file_hash s.pending.files)
   files_recorded = all_sorted _ (λ f. IsRecord s.xorbs (file_hash f, f)) s.pending.files (pending_records s.pending.files sound.pending_files)
 
-  blocks_listed : AllByRecursion (λ b. IsListed s.xorbs (xorb_hash b) (block_members b)) (by_hash xorb_hash s.pending.blocks)
-  blocks_listed = all_sorted _ (λ b. IsListed s.xorbs (xorb_hash b) (block_members b)) s.pending.blocks sound.blocks
+  blocks_listed : AllByRecursion (λ b. IsListed s.xorbs (xorb_hash b) (block_leaves b)) (by_hash xorb_hash s.pending.blocks)
+  blocks_listed = all_sorted _ (λ b. IsListed s.xorbs (xorb_hash b) (block_leaves b)) s.pending.blocks sound.blocks
 
   -- each xorb that it names is listed
   named_listed : (bytes : List ℕ) → bytes ≡ pending_bytes s → (x : List ℕ) → OfBytes bytes x → IsSome (found s.xorbs x)
-  named_listed bytes is x (p, read, of) = go (subst (λ (q : Parts). OfShard q x) same of)
+  named_listed bytes is x (p, read, of) = go (subst (λ (q : ShardParts). OfShard q x) same of)
     where
-      reads : ◌≡◌ {A = Result Parts StoreError} (Ok p) (Ok parts)
+      reads : ◌≡◌ {A = Result ShardParts StoreError} (Ok p) (Ok parts)
       reads = sym read ∙ ap all_of is ∙ read_again s.pending s.opened shard fits
 
       same : p ≡ parts
@@ -145,14 +145,14 @@ module _ (s : State) (sound : Sound s) (shard : IsShard (held_shard s.pending s.
       of_files [] f all a of = absurd a
       of_files (g ∷ fs) f all (inl e) of =
           let r = all.0 in
-          all_made (λ (t : Segment). t.xorb_hash) (λ h. IsSome (found s.xorbs h)) g.segments x (segments_listed s.xorbs g.segments r.members r.joins)
+          all_made (λ (t : Segment). t.xorb_hash) (λ h. IsSome (found s.xorbs h)) g.segments x (segments_listed s.xorbs g.segments r.leaves r.joins)
           (to_among (map (λ (t : Segment). t.xorb_hash) g.segments) x (subst (λ (y : MDBFileInfo). OfFile y x) (sym e) of))
       of_files (g ∷ fs) f all (inr a) of = of_files fs f all.1 a of
 
       go : OfShard parts x → IsSome (found s.xorbs x)
       go (inl block) =
           all_made xorb_hash (λ h. IsSome (found s.xorbs h)) (by_hash xorb_hash s.pending.blocks) x
-          (all_more (λ b. IsListed s.xorbs (xorb_hash b) (block_members b)) (λ b. IsSome (found s.xorbs (xorb_hash b))) (by_hash xorb_hash s.pending.blocks) (λ b l. is_some_found s.xorbs (xorb_hash b) (block_members b) l) blocks_listed)
+          (all_more (λ b. IsListed s.xorbs (xorb_hash b) (block_leaves b)) (λ b. IsSome (found s.xorbs (xorb_hash b))) (by_hash xorb_hash s.pending.blocks) (λ b l. is_some_found s.xorbs (xorb_hash b) (block_leaves b) l) blocks_listed)
           (to_among (map xorb_hash (by_hash xorb_hash s.pending.blocks)) x block)
       go (inr (f, among, of)) = of_files (by_hash file_hash s.pending.files) f files_recorded (to_among (by_hash file_hash s.pending.files) f among) of
 
@@ -165,9 +165,9 @@ module _ (s : State) (sound : Sound s) (shard : IsShard (held_shard s.pending s.
     read = ap all_of is ∙ read_again s.pending s.opened shard fits;
     named = ap shard_hash is ∙ sym hash;
     plain = refl;
-    blocks = all_more (λ b. IsListed s.xorbs (xorb_hash b) (block_members b)) (BlockHolds files s.folder h) (by_hash xorb_hash s.pending.blocks) (λ b l. backed (xorb_hash b) (block_members b) l) blocks_listed;
+    blocks = all_more (λ b. IsListed s.xorbs (xorb_hash b) (block_leaves b)) (BlockHolds files s.folder h) (by_hash xorb_hash s.pending.blocks) (λ b l. backed (xorb_hash b) (block_leaves b) l) blocks_listed;
     files_hold = all_more (λ f. IsRecord s.xorbs (file_hash f, f)) (FileHolds files s.folder h) (by_hash file_hash s.pending.files)
-        (λ f r. record { members = r.members; joins = joins_more (IsListed s.xorbs) (IsBacked files s.folder) (λ (m : List ℕ × ℕ). m.1) backed f.segments r.members r.joins; some = r.some; hash = r.hash }) files_recorded;
+        (λ f r. record { leaves = r.leaves; joins = joins_more (IsListed s.xorbs) (IsBacked files s.folder) (λ (m : List ℕ × ℕ). m.1) backed f.segments r.leaves r.joins; some = r.some; hash = r.hash }) files_recorded;
   }
 
 -- what a put leaves of a shard's file: it is as it was, or the whole shard
@@ -241,7 +241,7 @@ module _ (s : State) (h : List ℕ) (files : Files) (hash : IsHash h) (shard : I
         shard = record { hash = h; file = file.0 };
         there = record { named = hash; there = file.1 };
         valid = ap (λ (b : List ℕ). is_expired moment b) file.2 ∙ never_expired s.pending s.opened shard fits moment below;
-        parts = parts_of all_lookups (held_shard s.pending s.opened None);
+        parts = shard_parts_of all_lookups (held_shard s.pending s.opened None);
         read = ap all_of file.2 ∙ read_again s.pending s.opened shard fits;
         among = from_among (held_shard s.pending s.opened None).files f (among_sorted _ s.pending.files f (to_among s.pending.files f among));
       }
@@ -249,7 +249,7 @@ module _ (s : State) (h : List ℕ) (files : Files) (hash : IsHash h) (shard : I
 pub nothing_held : IsHeld nothing
 nothing_held = record { blocks = tt; files = tt; blocks_differ = tt; files_differ = tt; few_blocks = omega arith; few_files = omega arith }
 
-module _ (s : State) (h : List ℕ) (tells : Bool) (files : Files) (faults : ℕ) (stays : Stays s tells files faults) where
+module _ (s : State) (h : List ℕ) (tells : Bool) (files : Files) (faults : ℕ) (stays : StateStays s tells files faults) where
   abbrev pub with_shard : State
   with_shard = changed s tells files faults s.xorbs s.records (s.shards ++ h ∷ []) nothing
 
@@ -289,7 +289,7 @@ module _ (s : State) (h : List ℕ) (tells : Bool) (files : Files) (faults : ℕ
     }
 
 -- the same of lists by other names
-module _ (s : State) (h : List ℕ) (tells : Bool) (files : Files) (faults : ℕ) (stays : Stays s tells files faults) (sound : Sound s) {shards : List (List ℕ)} {pending : Held}
+module _ (s : State) (h : List ℕ) (tells : Bool) (files : Files) (faults : ℕ) (stays : StateStays s tells files faults) (sound : Sound s) {shards : List (List ℕ)} {pending : Held}
     (registered : shards ≡ s.shards ++ h ∷ []) (none : pending ≡ nothing) where
   same_flushed : changed s tells files faults s.xorbs s.records (s.shards ++ h ∷ []) nothing ≡ changed s tells files faults s.xorbs s.records shards pending
   same_flushed = same_change s tells files faults refl refl registered none
@@ -303,7 +303,7 @@ module _ (s : State) (h : List ℕ) (tells : Bool) (files : Files) (faults : ℕ
   sound_flushed_at hash shard fits there admitted = subst Sound same_flushed (sound_flushed s h tells files faults stays sound hash shard fits there admitted)
 
   pub is_flushed : IsHash h → IsShard (held_shard s.pending s.opened None) → Fits (held_shard s.pending s.opened None) → (t : State) → s ≡ t → h ≡ shard_hash (pending_bytes s)
-      → (s.tells ≡ true → IsDone files (shard_path s.folder h) (pending_bytes s)) → (s.tells ≡ true → KeepsOthers s.files files (shard_path s.folder h))
+      → (s.tells ≡ true → IsDone files (shard_path s.folder h) (pending_bytes s)) → (s.tells ≡ true → KeepsOtherNames s.files files (shard_path s.folder h))
       → IsFlushed t h (changed s tells files faults s.xorbs s.records shards pending)
   is_flushed is_hash shard fits t e hash done others = subst (λ (o : State). IsFlushed o h (changed s tells files faults s.xorbs s.records shards pending)) e
       (record {
@@ -321,8 +321,8 @@ module _ (s : State) (h : List ℕ) (tells : Bool) (files : Files) (faults : ℕ
 
 -- ---- after an error
 
-module _ (s : State) (h : List ℕ) (tells : Bool) (files : Files) (faults : ℕ) (hash : h ≡ shard_hash (pending_bytes s)) (others : s.tells ≡ true → KeepsOthers s.files files (shard_path s.folder h))
-    (whole : s.tells ≡ true → IsKeptOrDone s.files files (shard_path s.folder h) (pending_bytes s)) {xorbs : Xorbs} {records : Records} {shards : List (List ℕ)} {pending : Held} where
+module _ (s : State) (h : List ℕ) (tells : Bool) (files : Files) (faults : ℕ) (hash : h ≡ shard_hash (pending_bytes s)) (others : s.tells ≡ true → KeepsOtherNames s.files files (shard_path s.folder h))
+    (whole : s.tells ≡ true → IsKeptOrDone s.files files (shard_path s.folder h) (pending_bytes s)) {xorbs : Xorbs} {records : FileRecords} {shards : List (List ℕ)} {pending : Held} where
   pub unflushed_at : (t : State) → s ≡ t → xorbs ≡ s.xorbs → records ≡ s.records → shards ≡ s.shards → pending ≡ s.pending → IsUnflushed t (changed s tells files faults xorbs records shards pending)
   unflushed_at t e ex er es ep = subst (λ (o : State). IsUnflushed o (changed s tells files faults xorbs records shards pending)) e
       (record {
@@ -330,12 +330,12 @@ module _ (s : State) (h : List ℕ) (tells : Bool) (files : Files) (faults : ℕ
         registered = es;
         xorbs = ex;
         records = er;
-        others = λ told. subst (λ (k : List ℕ). KeepsOthers s.files files (shard_path s.folder k)) hash (others told);
+        others = λ told. subst (λ (k : List ℕ). KeepsOtherNames s.files files (shard_path s.folder k)) hash (others told);
         whole = λ told. subst (λ (k : List ℕ). IsKeptOrDone s.files files (shard_path s.folder k) (pending_bytes s)) hash (whole told);
       })
 
 -- before anything was put
-pub unput_at : (s : State) {xorbs : Xorbs} {records : Records} {shards : List (List ℕ)} {pending : Held} (t : State) → s ≡ t → xorbs ≡ s.xorbs → records ≡ s.records → shards ≡ s.shards → pending ≡ s.pending
+pub unput_at : (s : State) {xorbs : Xorbs} {records : FileRecords} {shards : List (List ℕ)} {pending : Held} (t : State) → s ≡ t → xorbs ≡ s.xorbs → records ≡ s.records → shards ≡ s.shards → pending ≡ s.pending
     → IsUnflushed t (changed s s.tells s.files s.faults xorbs records shards pending)
 unput_at s t e ex er es ep = unflushed_at s (shard_hash (pending_bytes s)) s.tells s.files s.faults refl (λ told other name temp. refl) (λ told. inl refl) t e ex er es ep
 
@@ -358,7 +358,7 @@ pub record PutsShard (s : State) (folder h text : List ℕ) (tells : Bool) (file
   pub fits : Fits (held_shard s.pending s.opened None)
   pub xorbs : s.tells ≡ true → (k : List ℕ) → IsHash k → SameEntry s.files files (xorb_path folder k)
   pub shards : s.tells ≡ true → (k : List ℕ) → IsHash k → k ≢ h → SameEntry s.files files (shard_path folder k)
-  pub others : s.tells ≡ true → KeepsOthers s.files files (shard_path folder h)
+  pub others : s.tells ≡ true → KeepsOtherNames s.files files (shard_path folder h)
   pub foreign : s.tells ≡ true → (name : List ℕ) → IsForeign folder name → SameEntry s.files files name
   pub left : s.tells ≡ true → IsKeptOrDone s.files files (shard_path folder h) text
 
@@ -372,19 +372,19 @@ module _ {s : State} {folder h text : List ℕ} {tells : Bool} {files : Files} {
   shards_here : s.tells ≡ true → (k : List ℕ) → IsHash k → k ≢ h → SameEntry s.files files (shard_path s.folder k)
   shards_here told k is apart = subst (λ (f : List ℕ). SameEntry s.files files (shard_path f k)) p.same (p.shards told k is apart)
 
-  others_here : s.tells ≡ true → KeepsOthers s.files files (shard_path s.folder h)
-  others_here told = subst (λ (f : List ℕ). KeepsOthers s.files files (shard_path f h)) p.same (p.others told)
+  others_here : s.tells ≡ true → KeepsOtherNames s.files files (shard_path s.folder h)
+  others_here told = subst (λ (f : List ℕ). KeepsOtherNames s.files files (shard_path f h)) p.same (p.others told)
 
   left_here : s.tells ≡ true → IsKeptOrDone s.files files (shard_path s.folder h) (pending_bytes s)
   left_here told =
       subst (λ (t : List ℕ). IsKeptOrDone s.files files (shard_path s.folder h) t) p.is (subst (λ (f : List ℕ). IsKeptOrDone s.files files (shard_path f h) text) p.same (p.left told))
 
-  put_stays : Stays s tells files faults
+  put_stays : StateStays s tells files faults
   put_stays =
       stays_shard s folder h tells files faults p.sound p.same p.tells_same p.later p.new p.xorbs p.shards p.foreign
       (left_there s h tells files faults p.sound p.is_hash hash_here p.shard p.fits xorbs_here left_here)
 
-  module _ {xorbs : Xorbs} {records : Records} {shards : List (List ℕ)} {pending : Held} (ex : xorbs ≡ s.xorbs) (er : records ≡ s.records) where
+  module _ {xorbs : Xorbs} {records : FileRecords} {shards : List (List ℕ)} {pending : Held} (ex : xorbs ≡ s.xorbs) (er : records ≡ s.records) where
     -- after an error
     module _ (es : shards ≡ s.shards) (ep : pending ≡ s.pending) where
       pub unput_sound : Sound (changed s tells files faults xorbs records shards pending)

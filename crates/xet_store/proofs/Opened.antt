@@ -8,14 +8,14 @@ use Rattle.xet_io.specs.Disk.{Files}
 use Rattle.xet_hash.specs.declared.error.StoreError.{StoreError}
 use Rattle.xet_shard_format.specs.declared.record.MDBFileInfo.{MDBFileInfo}
 use Rattle.xet_shard.specs.Held.{Held, IsHeld, nothing}
-use Rattle.xet_shard_format.specs.Reading.{Parts, all_of}
+use Rattle.xet_shard_format.specs.Reading.{ShardParts, all_of}
 use Rattle.xet_shard_format.specs.Records as record_of
 use Rattle.xet_folder.specs.declared.contents.Contents.{Contents}
-use Rattle.xet_folder.specs.Admission.{block_members}
+use Rattle.xet_folder.specs.Admission.{block_leaves}
 use Rattle.xet_folder.specs.Contents.{HasContents, IsRecord, listed_in, listed_of}
 use Rattle.xet_shard_file.specs.Names.{IsHash}
 use Rattle.xet_shard_file.specs.Shards.{IsThere, ShardFile, is_expired}
-use Rattle.xet_folder.specs.Xorbs.{AreBacked, IsListed, Records, Xorbs, found}
+use Rattle.xet_folder.specs.Xorbs.{AreBacked, IsListed, FileRecords, Xorbs, found}
 use Rattle.xet_folder.specs.theorems.Firsts.{found_firsts}
 use Rattle.xet_store.specs.Opening.{contents_of}
 use Rattle.xet_store.specs.Separate.{Among}
@@ -60,14 +60,14 @@ finds_file (g ∷ files) h f e = go (pointwise nat_eq h (record_of.file_hash g))
 
 -- the parts of a shard's bytes that list a record
 record FindsIn (bytes h : List ℕ) (f : MDBFileInfo) : Type 0 where
-  pub parts : Parts
+  pub parts : ShardParts
   pub read : all_of bytes ≡ Ok parts
   pub finds : found (listed_of parts.1) h ≡ Some f
 
 finds_in : (bytes h : List ℕ) (f : MDBFileInfo) → found (listed_in bytes) h ≡ Some f → FindsIn bytes h f
 finds_in bytes h f e = go (all_of bytes) refl e
   where
-    go : (r : Result Parts StoreError) → all_of bytes ≡ r → found (elim r as (λ _. Records) [ Ok p ↦ listed_of p.1 | Err e ↦ [] ]) h ≡ Some f → FindsIn bytes h f
+    go : (r : Result ShardParts StoreError) → all_of bytes ≡ r → found (elim r as (λ _. FileRecords) [ Ok p ↦ listed_of p.1 | Err e ↦ [] ]) h ≡ Some f → FindsIn bytes h f
     go (Ok p) read e = record { parts = p; read = read; finds = e }
     go (Err x) read e = absurd (cc e)
 
@@ -76,7 +76,7 @@ pub contents_kept : (files : Files) (folder : List ℕ) (now : ℕ) (c : Content
 contents_kept files folder now c has h f e =
     let shards = has.shards in
     let rows = flat_map (λ (s : ShardFile). listed_in s.file.bytes) shards in
-    let l = lists_record shards h f (sym (found_firsts rows h) ∙ ap (λ (rs : Records). found rs h) (sym has.contents.records) ∙ e) in
+    let l = lists_record shards h f (sym (found_firsts rows h) ∙ ap (λ (rs : FileRecords). found rs h) (sym has.contents.records) ∙ e) in
     let i = l.among.0 in
     let below = l.among.1.0 in
     let is = l.among.1.1 in
@@ -126,7 +126,7 @@ module _ (s : State) (c : Contents) (same : c ≡ contents_of s) (none : s.pendi
     recorded = subst (λ (x : Contents). AllByRecursion (IsRecord x.xorbs) x.records) same recorded;
     kept = λ h f e. inr (λ told. contents_kept s.files s.folder s.opened (contents_of s) (subst (λ (x : Contents). HasContents s.files s.folder s.opened x) same (has told)) h f e);
     held = subst IsHeld (sym none) nothing_held;
-    blocks = subst (λ (p : Held). AllByRecursion (λ b. IsListed s.xorbs (record_of.xorb_hash b) (block_members b)) p.blocks) (sym none) tt;
+    blocks = subst (λ (p : Held). AllByRecursion (λ b. IsListed s.xorbs (record_of.xorb_hash b) (block_leaves b)) p.blocks) (sym none) tt;
     pending_files = subst (λ (p : Held). AllByRecursion (IsPendingFile s.xorbs s.records) p.files) (sym none) tt;
     admitted = λ told. contents_admitted s.files s.folder s.opened (contents_of s) (subst (λ (x : Contents). HasContents s.files s.folder s.opened x) same (has told));
     hashes = λ h is. hash_of s.xorbs h (subst (λ (x : Contents). AllByRecursion (λ row. IsHash row.0) x.xorbs) same xorbs) is;

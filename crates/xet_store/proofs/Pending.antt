@@ -15,14 +15,14 @@ use Rattle.xet_shard_format.specs.declared.row.Row.{Row}
 use Rattle.xet_shard.specs.Held.{Held, held_size, with_last}
 use Rattle.xet_shard_format.specs.RecordSizes.{file_record_size, xorb_record_size}
 use Rattle.xet_shard_format.specs.Records.{IsFile, IsXorb, StartAt, chunk_bytes, chunk_row, end_row, ext_rows, file_hash, file_rows, file_section, flags_of, section, segment_row, verification_row, xorb_hash, xorb_rows, xorb_section}
-use Rattle.xet_folder.specs.Admission.{entry_member}
+use Rattle.xet_folder.specs.Admission.{entry_leaf}
 use Rattle.xet_dedup.specs.Records.{IsRecordOf, entries_from, range_hashes, run_len, xorb_record}
 
 -- ---- the record of a xorb
 
-pub entries_members : (at : ℕ) (ms : List (List ℕ × ℕ)) → map entry_member (entries_from at ms) ≡ ms
-entries_members at [] = refl
-entries_members at (m ∷ ms) = ap (λ (l : List (List ℕ × ℕ)). m ∷ l) (entries_members (at + m.1) ms)
+pub entries_leaves : (at : ℕ) (ms : List (List ℕ × ℕ)) → map entry_leaf (entries_from at ms) ≡ ms
+entries_leaves at [] = refl
+entries_leaves at (m ∷ ms) = ap (λ (l : List (List ℕ × ℕ)). m ∷ l) (entries_leaves (at + m.1) ms)
 
 pub entries_count : (at : ℕ) (ms : List (List ℕ × ℕ)) → length (entries_from at ms) ≡ length ms
 entries_count at [] = refl

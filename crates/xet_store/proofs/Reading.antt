@@ -6,14 +6,14 @@ use Rattle.std.specs.Cmp.Lexicographic.{pointwise}
 use Rattle.std.specs.List.{concat, sum_by}
 use Rattle.xet_io.specs.Disk.{Files}
 use Rattle.xet_hash.specs.Hash.{zero_hash}
-use Rattle.xet_hash.specs.Merkle.{member_of, members_of, total_len}
+use Rattle.xet_hash.specs.Merkle.{leaf_of, leaves_of, total_len}
 use Rattle.xet_shard_format.specs.declared.record.FileDataSequenceEntry.{FileDataSequenceEntry as Segment}
 use Rattle.xet_shard_format.specs.declared.record.MDBFileInfo.{MDBFileInfo}
 use Rattle.xet_folder.specs.Plan.{Joins, part, plan_bytes, range}
 use Rattle.xet_folder.specs.Recorded.{IsPlanRest}
 use Rattle.xet_folder.specs.Stored.{IsStored}
-use Rattle.xet_folder.specs.Xorbs.{IsListed, Records, Xorbs, found}
-use Rattle.xet_folder.specs.theorems.Placing.{Member, plain_joined}
+use Rattle.xet_folder.specs.Xorbs.{IsListed, FileRecords, Xorbs, found}
+use Rattle.xet_folder.specs.theorems.Placing.{Leaf, plain_joined}
 use Rattle.xet_folder.specs.theorems.Ranges.{range-append, range_past}
 use Rattle.xet_folder.specs.Contents.{IsRecord}
 use Rattle.xet_store.specs.Ranges.{IsRange}
@@ -23,15 +23,15 @@ use Rattle.xet_store.specs.theorems.Plans.{joins_bytes, joins_map, joins_more, j
 use Rattle.xet_store.specs.theorems.Staying.{changed}
 use Rattle.xet_store.specs.theorems.Whole.{found_has, mapped}
 
--- one xorb is listed with one list of members
-pub listed_once : (xorbs : Xorbs) (h : List ℕ) (ms ns : List Member) → IsListed xorbs h ms → IsListed xorbs h ns → ms ≡ ns
+-- one xorb is listed with one list of leaves
+pub listed_once : (xorbs : Xorbs) (h : List ℕ) (ms ns : List Leaf) → IsListed xorbs h ms → IsListed xorbs h ns → ms ≡ ns
 listed_once xorbs h ms ns a b = let both : Some ms ≡ Some ns = sym a ∙ b in cc
 
 -- the bytes of a segment's chunks
-pub part_size : (xorbs : Xorbs) (s : Segment) (chunks : List (List ℕ)) → LiesListed xorbs s → IsListed xorbs s.xorb_hash (members_of chunks) → s.unpacked_segment_bytes ≡ length (concat (part s chunks))
-part_size xorbs s chunks (members, listed, lies) here =
-    let same : members ≡ members_of chunks = listed_once xorbs s.xorb_hash members (members_of chunks) listed here in
-    lies.bytes ∙ ap (λ (ms : List Member). total_len (part s ms)) same ∙ ap (λ (ms : List Member). total_len ms) (part-map member_of s chunks) ∙ plain_joined (part s chunks)
+pub part_size : (xorbs : Xorbs) (s : Segment) (chunks : List (List ℕ)) → LiesListed xorbs s → IsListed xorbs s.xorb_hash (leaves_of chunks) → s.unpacked_segment_bytes ≡ length (concat (part s chunks))
+part_size xorbs s chunks (leaves, listed, lies) here =
+    let same : leaves ≡ leaves_of chunks = listed_once xorbs s.xorb_hash leaves (leaves_of chunks) listed here in
+    lies.bytes ∙ ap (λ (ms : List Leaf). total_len (part s ms)) same ∙ ap (λ (ms : List Leaf). total_len ms) (part-map leaf_of s chunks) ∙ plain_joined (part s chunks)
 
 -- What is left to read of a plan, which with what was read makes the whole.
 pub record Goes (Has : List ℕ → List (List ℕ) → Type 0) (plan : List Segment) (out : List ℕ) (from to : ℕ) (whole : List ℕ) : Type 0 where
@@ -73,8 +73,8 @@ pub record RestRange (Has : List ℕ → List (List ℕ) → Type 0) (rest : Lis
 
 module _ (plan : List Segment) (from before : ℕ) (rest : List Segment) (is : IsPlanRest plan from before rest) where
   pub rest_joins : (xorbs : Xorbs) → JoinsListed xorbs plan → JoinsListed xorbs rest
-  rest_joins xorbs (members, joins) =
-      let split = joins_split (IsListed xorbs) (λ (m : Member). m.1) plan is.first members joins in
+  rest_joins xorbs (leaves, joins) =
+      let split = joins_split (IsListed xorbs) (λ (m : Leaf). m.1) plan is.first leaves joins in
       subst (λ (l : List Segment). JoinsListed xorbs l) (sym is.is) (split.rest, split.joins)
 
   pub rest_within : (to : ℕ) → to ≤ plan_bytes plan → to - before ≤ plan_bytes rest
@@ -84,10 +84,10 @@ module _ (plan : List Segment) (from before : ℕ) (rest : List Segment) (is : I
   pub rest_range : (Has : List ℕ → List (List ℕ) → Type 0) (to : ℕ) (chunks : List (List ℕ)) → Joins Has length plan chunks → RestRange Has rest chunks before from to
   rest_range Has to chunks joins =
       let split = joins_split Has length plan is.first chunks joins in
-      let here : List ℕ = concat split.front in
+      let here : List ℕ = concat split.prefix in
       let tail : List ℕ = concat split.rest in
-      let long : length here ≡ before = sym (joined_bytes split.front) ∙ sym (joins_bytes Has length (take is.first plan) split.front split.before) ∙ sym is.bytes in
-      let joined : concat chunks ≡ here ++ tail = ap (λ (l : List (List ℕ)). concat l) split.is ∙ concat-append split.front split.rest in
+      let long : length here ≡ before = sym (joined_bytes split.prefix) ∙ sym (joins_bytes Has length (take is.first plan) split.prefix split.before) ∙ sym is.bytes in
+      let joined : concat chunks ≡ here ++ tail = ap (λ (l : List (List ℕ)). concat l) split.is ∙ concat-append split.prefix split.rest in
       record {
         left = split.rest;
         joins = subst (λ (l : List Segment). Joins Has length l split.rest) (sym is.is) split.joins;
@@ -99,7 +99,7 @@ module _ (plan : List Segment) (from before : ℕ) (rest : List Segment) (is : I
 -- ---- plans of a sound store
 
 -- a plan is that of a record, or empty
-planned : (records : Records) (h : List ℕ) (plan : List Segment) → plan_of records h ≡ Some plan → (plan ≡ []) ⊎ ((f : MDBFileInfo) × (found records h ≡ Some f) × (f.segments ≡ plan))
+planned : (records : FileRecords) (h : List ℕ) (plan : List Segment) → plan_of records h ≡ Some plan → (plan ≡ []) ⊎ ((f : MDBFileInfo) × (found records h ≡ Some f) × (f.segments ≡ plan))
 unfolding plan_of
 planned records h plan e = by_cases (pointwise nat_eq h zero_hash) refl
   where
@@ -113,7 +113,7 @@ module _ (s : State) (sound : Sound s) (h : List ℕ) (plan : List Segment) (has
     where
       go : (plan ≡ []) ⊎ ((f : MDBFileInfo) × (found s.records h ≡ Some f) × (f.segments ≡ plan)) → JoinsListed s.xorbs plan
       go (inl none) = subst (λ (l : List Segment). JoinsListed s.xorbs l) (sym none) ([], refl)
-      go (inr (f, there, is)) = let r = found_has (IsRecord s.xorbs) s.records h f sound.recorded there in subst (λ (l : List Segment). JoinsListed s.xorbs l) is (r.members, r.joins)
+      go (inr (f, there, is)) = let r = found_has (IsRecord s.xorbs) s.records h f sound.recorded there in subst (λ (l : List Segment). JoinsListed s.xorbs l) is (r.leaves, r.joins)
 
   pub plan_fits : plan_bytes plan < 2 ^ 64
   plan_fits = go (planned s.records h plan has)
@@ -126,8 +126,8 @@ module _ (s : State) (sound : Sound s) (h : List ℕ) (plan : List Segment) (has
   pub is_range : (from to : ℕ) (bytes : List ℕ) → s.tells ≡ true → ((chunks : List (List ℕ)) → Joins (IsStoredListed s.files s.folder s.xorbs) length plan chunks → bytes ≡ range (concat chunks) from to)
       → IsRange s h from to bytes
   is_range from to bytes told read =
-      let whole = joins_map member_of (IsListed s.xorbs) (IsStoredListed s.files s.folder s.xorbs) (λ (m : Member). m.1)
-      (λ k members listed. let b = sound.backed told k members listed in (b.chunks, (b.stored, listed ∙ ap Some (sym b.same)), b.same)) plan plan_joins.0 plan_joins.1 in
+      let whole = joins_map leaf_of (IsListed s.xorbs) (IsStoredListed s.files s.folder s.xorbs) (λ (m : Leaf). m.1)
+      (λ k leaves listed. let b = sound.backed told k leaves listed in (b.chunks, (b.stored, listed ∙ ap Some (sym b.same)), b.same)) plan plan_joins.0 plan_joins.1 in
       record {
         plan = plan;
         planned = has;

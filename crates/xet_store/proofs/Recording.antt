@@ -12,7 +12,7 @@ use Rattle.xet_base.specs.theorems.Elements.{all_push, all_more}
 use Rattle.xet_hash.specs.Merkle.{total_len}
 use Rattle.xet_folder.specs.Contents.{IsRecord}
 use Rattle.xet_folder.specs.Plan.{Joins}
-use Rattle.xet_folder.specs.Xorbs.{IsListed, Records, Xorbs, found}
+use Rattle.xet_folder.specs.Xorbs.{IsListed, FileRecords, Xorbs, found}
 use Rattle.xet_folder.specs.theorems.Tables.{found_either, found_here, found_kept}
 use Rattle.xet_store.specs.Cleaning.{Adds, Keeps}
 use Rattle.xet_dedup.specs.Records.{file_record}
@@ -32,7 +32,7 @@ differ a b unequal = go (pointwise nat_eq a b) refl
     go false e = refl
 
 module _ (s : State) (f : MDBFileInfo) where
-  abbrev recorded_too : Records
+  abbrev recorded_too : FileRecords
   recorded_too = s.records ++ (file_hash f, f) ∷ []
 
   abbrev pending_too : Held
@@ -71,14 +71,14 @@ module _ (s : State) (f : MDBFileInfo) where
     sound_recorded sound new held = record {
       backed = sound.backed;
       recorded = all_push _ s.records (file_hash f, f) sound.recorded
-          (record { named = refl; members = new.members; joins = new.joins; hash = sym (ap (λ (g : MDBFileInfo). file_hash g) new.form.is); some = new.some; bound = new.bound });
+          (record { named = refl; leaves = new.leaves; joins = new.joins; hash = sym (ap (λ (g : MDBFileInfo). file_hash g) new.form.is); some = new.some; bound = new.bound });
       kept = λ h g e. kept_recorded sound h g (found_either s.records (file_hash f) h f g e);
       held = held;
       blocks = sound.blocks;
       pending_files = all_last (IsPendingFile s.xorbs recorded_too) file_hash s.pending.files f
           (all_more (IsPendingFile s.xorbs s.records) (IsPendingFile s.xorbs recorded_too) s.pending.files
-          (λ g is. record { recorded = found_kept s.records ((file_hash f, f) ∷ []) (file_hash g) g is.recorded; members = is.members; joins = is.joins; form = is.form }) sound.pending_files)
-          (record { recorded = found_here s.records (file_hash f) f none; members = new.members; joins = new.joins; form = new.form });
+          (λ g is. record { recorded = found_kept s.records ((file_hash f, f) ∷ []) (file_hash g) g is.recorded; leaves = is.leaves; joins = is.joins; form = is.form }) sound.pending_files)
+          (record { recorded = found_here s.records (file_hash f) f none; leaves = new.leaves; joins = new.joins; form = new.form });
       admitted = sound.admitted;
       hashes = sound.hashes;
       shards_hashes = sound.shards_hashes;
@@ -91,7 +91,7 @@ module _ (s : State) (f : MDBFileInfo) where
         ((file_hash f, f) ∷ [], refl, differ_more [] (file_hash f) f refl differ_none, ((none, is_some_found ((file_hash f, f) ∷ []) (file_hash f) f (found_here [] (file_hash f) f refl)), tt))
 
 -- the same of lists by other names
-module _ (s : State) (f : MDBFileInfo) (sound : Sound s) (none : found s.records (file_hash f) ≡ None) {records : Records} {pending : Held}
+module _ (s : State) (f : MDBFileInfo) (sound : Sound s) (none : found s.records (file_hash f) ≡ None) {records : FileRecords} {pending : Held}
     (recorded : records ≡ s.records ++ (file_hash f, f) ∷ []) (held : pending ≡ record { blocks = s.pending.blocks; files = with_last file_hash s.pending.files f }) where
   same_recorded : with_file s f ≡ changed s s.tells s.files s.faults s.xorbs records s.shards pending
   same_recorded = same_change s s.tells s.files s.faults refl recorded refl held
@@ -103,7 +103,7 @@ module _ (s : State) (f : MDBFileInfo) (sound : Sound s) (none : found s.records
   sound_recorded_at new held_form = subst Sound same_recorded (sound_recorded s f none sound new (subst IsHeld held held_form))
 
   pub adds_at : (t : State) → s ≡ t → Adds t.records records (file_hash f ∷ [])
-  adds_at t e = subst (λ (o : State). Adds o.records records (file_hash f ∷ [])) e (subst (λ (r : Records). Adds s.records r (file_hash f ∷ [])) (sym recorded) (adds_one s f none))
+  adds_at t e = subst (λ (o : State). Adds o.records records (file_hash f ∷ [])) e (subst (λ (r : FileRecords). Adds s.records r (file_hash f ∷ [])) (sym recorded) (adds_one s f none))
 
   -- the tables
   pub recorded_tables : (t : State) → s ≡ t → tables s.xorbs records pending ≡ with_record (tables_of t) f
@@ -117,12 +117,12 @@ record_kept s t sound e f h same there =
     let is : is_some (found t.records (file_hash f)) ≡ true = ap (λ (x : State). is_some (found x.records (file_hash f))) (sym e) ∙ ap (λ (k : List ℕ). is_some (found s.records k)) (sym same) ∙ there in
     sym (ap (λ (b : Bool). if b then tables_of t else tables t.xorbs (t.records ++ (file_hash f, f) ∷ []) (the_held t.pending.blocks (with_last file_hash t.pending.files f))) is)
 
--- a record as it is made of a plan that joins to its members
+-- a record as it is made of a plan that joins to its leaves
 pub new_file : (xorbs : Xorbs) (ms : List (List ℕ × ℕ)) (plan : List Segment) (sha256 : Option (List ℕ)) (f : MDBFileInfo) → f ≡ file_record ms plan sha256 → Joins (IsListed xorbs) (λ m. m.1) plan ms
     → AllByRecursion (λ s. s.xorb_flags ≡ 0) plan → 0 < length ms → total_len ms < 2 ^ 64 → IsNewFile xorbs f
 new_file xorbs ms plan sha256 f exact joins plain some bound =
     let same : plan ≡ f.segments = sym (ap (λ (g : MDBFileInfo). g.segments) exact) in record {
-      members = ms;
+      leaves = ms;
       joins = subst (λ (p : List Segment). Joins (IsListed xorbs) (λ m. m.1) p ms) same joins;
       form = record { sha256 = sha256; is = exact ∙ ap (λ (p : List Segment). file_record ms p sha256) same };
       plain = subst (AllByRecursion (λ (s : Segment). s.xorb_flags ≡ 0)) same plain;
@@ -131,5 +131,5 @@ new_file xorbs ms plan sha256 f exact joins plain some bound =
     }
 
 -- no record more
-pub adds_nothing : (rs : Records) (h : List ℕ) → Adds rs rs (h ∷ [])
+pub adds_nothing : (rs : FileRecords) (h : List ℕ) → Adds rs rs (h ∷ [])
 adds_nothing rs h = ([], sym (append-nil rs), differ_none, tt)

@@ -10,11 +10,11 @@ use Rattle.xet_hash.specs.declared.error.StoreError.{StoreError}
 use Rattle.xet_hash.specs.declared.error.StoreError.TheVariants.{Io, TooLarge, OutOfMemory}
 use Rattle.xet_hash.specs.declared.error.Place.TheVariants.{Source, Disk}
 use Rattle.xet_hash.specs.declared.error.What.TheVariants as what
-use Rattle.xet_hash.specs.Merkle.{xorb_hash, file_hash, members_of}
+use Rattle.xet_hash.specs.Merkle.{xorb_hash, file_hash, leaves_of}
 use Rattle.xet_cut.specs.declared.limits.LimitSettings.{LimitSettings}
 use Rattle.xet_shard_format.specs.declared.record.FileDataSequenceEntry.{FileDataSequenceEntry as Segment}
 use Rattle.xet_store.specs.declared.info.XetFileInfo.{XetFileInfo}
-use Rattle.xet_cut.specs.Cut.{cut}
+use Rattle.xet_cut.specs.Chunking.{chunking}
 use Rattle.xet_folder.specs.Admission.{ShardHolds}
 use Rattle.xet_folder.specs.Checks.{OfBytes}
 use Rattle.xet_folder.specs.Names.{IsForeign, xorb_path}
@@ -22,13 +22,13 @@ use Rattle.xet_shard_file.specs.Names.{IsHash, shard_path}
 use Rattle.xet_dedup.specs.Packing.{packs}
 use Rattle.xet_folder.specs.Plan.{Joins}
 use Rattle.xet_folder.specs.Stored.{IsStored}
-use Rattle.xet_folder.specs.Xorbs.{IsListed, Records, found}
+use Rattle.xet_folder.specs.Xorbs.{IsListed, FileRecords, found}
 use Rattle.xet_store.specs.Store.{Differ, State, plan_of}
 use Rattle.xet_store.specs.Tables.{StoresPart, tables_of, with_files}
 
 -- the pointer record of a file: hash, length and SHA-256 (FIPS 180-4)
 abbrev pub info_of : LimitSettings → List ℕ → XetFileInfo
-info_of s bytes = record { hash = file_hash (members_of (cut s bytes)); file_size = length bytes; sha256 = Some (sha256 bytes) }
+info_of s bytes = record { hash = file_hash (leaves_of (chunking s bytes)); file_size = length bytes; sha256 = Some (sha256 bytes) }
 
 -- The lists are equally long, and P holds of what each observable source has left and the element at its
 -- index.
@@ -46,24 +46,24 @@ Later faults (s ∷ ss) [] = ⊥
 Later faults (s ∷ ss) (t ∷ ts) = (faults s ≤ faults t) × Later faults ss ts
 
 -- of each observable source, a prefix of what it had left was taken
-abbrev pub Taken : {S : Type 0} → (S → Bool) → (S → List ℕ) → List S → List S → Type 0
-Taken tells left [] [] = Unit {0}
-Taken tells left [] (t ∷ ts) = ⊥
-Taken tells left (s ∷ ss) [] = ⊥
-Taken tells left (s ∷ ss) (t ∷ ts) = (tells s ≡ true → (n : ℕ) × (left t ≡ drop n (left s))) × Taken tells left ss ts
+abbrev pub AreTaken : {S : Type 0} → (S → Bool) → (S → List ℕ) → List S → List S → Type 0
+AreTaken tells left [] [] = Unit {0}
+AreTaken tells left [] (t ∷ ts) = ⊥
+AreTaken tells left (s ∷ ss) [] = ⊥
+AreTaken tells left (s ∷ ss) (t ∷ ts) = (tells s ≡ true → (n : ℕ) × (left t ≡ drop n (left s))) × AreTaken tells left ss ts
 
 -- the chunks of each source
-abbrev pub cuts : {S : Type 0} → (S → List ℕ) → LimitSettings → List S → List (List (List ℕ))
-cuts left s sources = map (λ source. cut s (left source)) sources
+abbrev pub chunkings : {S : Type 0} → (S → List ℕ) → LimitSettings → List S → List (List (List ℕ))
+chunkings left s sources = map (λ source. chunking s (left source)) sources
 
 -- The session has a plan for the file of these chunks, and it resolves to these chunks as they are stored.
 abbrev pub HasFile : State → List (List ℕ) → Type 0
 HasFile s chunks =
-    (plan : List Segment) × (plan_of s.records (file_hash (members_of chunks)) ≡ Some plan) × Joins (IsStored s.files s.folder) length plan chunks
+    (plan : List Segment) × (plan_of s.records (file_hash (leaves_of chunks)) ≡ Some plan) × Joins (IsStored s.files s.folder) length plan chunks
 
 -- Each xorb into which the file's chunks are packed is stored under its hash, with exactly its chunks.
 abbrev pub IsPacked : Files → List ℕ → LimitSettings → List (List ℕ) → Type 0
-IsPacked files folder s chunks = AllByRecursion (λ pack. IsStored files folder (xorb_hash (members_of pack)) pack) (packs s chunks)
+IsPacked files folder s chunks = AllByRecursion (λ pack. IsStored files folder (xorb_hash (leaves_of pack)) pack) (packs s chunks)
 
 abbrev pub HasXorbs : State → List (List ℕ) → Type 0
 HasXorbs s chunks = IsPacked s.files s.folder s.limits chunks
@@ -105,8 +105,8 @@ pub record Keeps (old new : State) : Type 0 where
   pub limits : new.limits ≡ old.limits
   pub opened : new.opened ≡ old.opened
   pub later : old.faults ≤ new.faults
-  pub xorbs : (h : List ℕ) (members : List (List ℕ × ℕ)) → IsListed old.xorbs h members → IsListed new.xorbs h members
-  pub records : (added : Records) × (new.records ≡ old.records ++ added)
+  pub xorbs : (h : List ℕ) (leaves : List (List ℕ × ℕ)) → IsListed old.xorbs h leaves → IsListed new.xorbs h leaves
+  pub records : (added : FileRecords) × (new.records ≡ old.records ++ added)
   pub shards : (added : List (List ℕ)) × (new.shards ≡ old.shards ++ added)
   pub xorb_files : old.tells ≡ true → (h : List ℕ) → IsSome (found old.xorbs h) → SameEntry old.files new.files (xorb_path old.folder h)
   pub shard_files : old.tells ≡ true → AllByRecursion (λ h. SameEntry old.files new.files (shard_path old.folder h)) old.shards
@@ -118,15 +118,15 @@ pub record Keeps (old new : State) : Type 0 where
 
 -- New records follow the earlier ones, each under one of these hashes that had no record before. No two have
 -- the same hash.
-abbrev pub Adds : Records → Records → List (List ℕ) → Type 0
+abbrev pub Adds : FileRecords → FileRecords → List (List ℕ) → Type 0
 Adds old new hashes =
-    (added : Records) × (new ≡ old ++ added) × Differ added
+    (added : FileRecords) × (new ≡ old ++ added) × Differ added
     × AllByRecursion (λ r. (found old r.0 ≡ None) × IsSome (found (map (λ h. (h, r.1)) hashes) r.0)) added
 
 -- Each source has a file: of an observable source, the bytes that it had left. The results are those of these
 -- files, and the tables have these files added.
-abbrev pub Stores : {S : Type 0} → (S → Bool) → (S → List ℕ) → List S → State → State → List XetFileInfo → Type 0
-Stores tells left sources old new infos =
+abbrev pub StoresAll : {S : Type 0} → (S → Bool) → (S → List ℕ) → List S → State → State → List XetFileInfo → Type 0
+StoresAll tells left sources old new infos =
     (files : List (List ℕ)) × EachTold tells left (λ bytes file. file ≡ bytes) sources files × (infos ≡ map (info_of old.limits) files)
     × (tables_of new ≡ with_files old.limits (tables_of old) files)
 
@@ -142,11 +142,11 @@ RoseAt faults (s ∷ ss) [] i = ⊥
 RoseAt faults (s ∷ ss) (t ∷ ts) zero = Rose (faults s) (faults t)
 RoseAt faults (s ∷ ss) (t ∷ ts) (suc i) = RoseAt faults ss ts i
 
--- source i has more than `most` bytes left, if it is observable
+-- source i has more than `max_len` bytes left, if it is observable
 abbrev pub IsLongAt : {S : Type 0} → (S → Bool) → (S → List ℕ) → List S → ℕ → ℕ → Type 0
-IsLongAt tells left [] most i = ⊥
-IsLongAt tells left (s ∷ ss) most zero = tells s ≡ true → most < length (left s)
-IsLongAt tells left (s ∷ ss) most (suc i) = IsLongAt tells left ss most i
+IsLongAt tells left [] max_len i = ⊥
+IsLongAt tells left (s ∷ ss) max_len zero = tells s ≡ true → max_len < length (left s)
+IsLongAt tells left (s ∷ ss) max_len (suc i) = IsLongAt tells left ss max_len i
 
 -- the errors of cleaning, and when each is returned
 abbrev pub HasReason : {S : Type 0} → (S → Bool) → (S → List ℕ) → (S → ℕ) → List S → List S → State → State → StoreError → Type 0

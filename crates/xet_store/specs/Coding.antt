@@ -14,7 +14,7 @@ use Rattle.xet_shard_format.specs.declared.record.MDBFileInfo.{MDBFileInfo}
 use Rattle.xet_shard_format.specs.declared.record.MDBXorbInfo.{MDBXorbInfo}
 use Rattle.xet_shard_format.specs.declared.record.XorbChunkSequenceEntry.{XorbChunkSequenceEntry}
 use Rattle.xet_shard.specs.Held.{Held}
-use Rattle.xet_folder.specs.Xorbs.{Records, Xorbs}
+use Rattle.xet_folder.specs.Xorbs.{FileRecords, Xorbs}
 use Rattle.xet_store.specs.Store.{State}
 
 abbrev pub scheme_number : CompressionScheme → ℕ
@@ -105,8 +105,8 @@ verification_code = code_by Bytes bytes_code (λ v. v.range_hash) (λ h. record 
 abbrev pub ext_code : Coded FileMetadataExt
 ext_code = code_by Bytes bytes_code (λ m. m.sha256) (λ h. record { sha256 = h }) (λ _. refl)
 
-abbrev pub file_code : Coded MDBFileInfo
-file_code = code_by ((Bytes × Pair) × (List Segment × (List FileVerificationEntry × Option FileMetadataExt)))
+abbrev pub record_code : Coded MDBFileInfo
+record_code = code_by ((Bytes × Pair) × (List Segment × (List FileVerificationEntry × Option FileMetadataExt)))
     (coded× (coded× bytes_code pair_code) (coded× (coded_list segment_code) (coded× (coded_list verification_code) (coded_option ext_code))))
     (λ f. ((f.metadata.file_hash, (f.metadata.file_flags, f.metadata.num_entries)), (f.segments, (f.verification, f.metadata_ext))))
     (λ p. record {
@@ -117,14 +117,14 @@ file_code = code_by ((Bytes × Pair) × (List Segment × (List FileVerificationE
     })
     (λ _. refl)
 
-abbrev pub records_code : Coded Records
-records_code = coded_list (coded× bytes_code file_code)
+abbrev pub records_code : Coded FileRecords
+records_code = coded_list (coded× bytes_code record_code)
 
 abbrev pub held_code : Coded Held
-held_code = code_by (List MDBXorbInfo × List MDBFileInfo) (coded× (coded_list block_code) (coded_list file_code)) (λ h. (h.blocks, h.files)) (λ p. record { blocks = p.0; files = p.1 }) (λ _. refl)
+held_code = code_by (List MDBXorbInfo × List MDBFileInfo) (coded× (coded_list block_code) (coded_list record_code)) (λ h. (h.blocks, h.files)) (λ p. record { blocks = p.0; files = p.1 }) (λ _. refl)
 
 abbrev pub state_code : Coded State
-state_code = code_by ((Bool × (Files × ℕ)) × ((Bytes × (LimitSettings × ℕ)) × ((Xorbs × Records) × (List Bytes × Held))))
+state_code = code_by ((Bool × (Files × ℕ)) × ((Bytes × (LimitSettings × ℕ)) × ((Xorbs × FileRecords) × (List Bytes × Held))))
     (coded× (coded× coded_bool (coded× (map.code bytes_code entry_code) coded_ℕ)) (coded× (coded× bytes_code (coded× limits_code coded_ℕ)) (coded× (coded× xorbs_code records_code) (coded× (coded_list bytes_code) held_code))))
     (λ s. ((s.tells, (s.files, s.faults)), ((s.folder, (s.limits, s.opened)), ((s.xorbs, s.records), (s.shards, s.pending)))))
     (λ p. record {

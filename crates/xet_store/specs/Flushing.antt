@@ -18,8 +18,8 @@ abbrev pub pending_bytes : State → List ℕ
 pending_bytes s = full_shard_bytes (held_shard s.pending s.opened None)
 
 -- no name has changed but this one and its temporary one
-abbrev pub KeepsOthers : Files → Files → List ℕ → Type 0
-KeepsOthers old new name = (other : List ℕ) → other ≢ name → other ≢ temp_name name → SameEntry old new other
+abbrev pub KeepsOtherNames : Files → Files → List ℕ → Type 0
+KeepsOtherNames old new name = (other : List ℕ) → other ≢ name → other ≢ temp_name name → SameEntry old new other
 
 -- What was pending is in the shard of this hash, which is durable and the last registered one. So each file
 -- that was pending is listed at every time below 2 ^ 64. Nothing else changes.
@@ -28,7 +28,7 @@ pub record IsFlushed (old : State) (h : List ℕ) (new : State) : Type 0 where
   pub there : old.tells ≡ true → bytes_at new.files (shard_path old.folder h) ≡ Some (pending_bytes old)
   pub durable : old.tells ≡ true → IsDurable new.files (shard_path old.folder h)
   pub temp : old.tells ≡ true → get new.files (temp_name (shard_path old.folder h)) ≡ None
-  pub others : old.tells ≡ true → KeepsOthers old.files new.files (shard_path old.folder h)
+  pub others : old.tells ≡ true → KeepsOtherNames old.files new.files (shard_path old.folder h)
   pub lasts : old.tells ≡ true → (f : MDBFileInfo) → IsAmong old.pending.files f → (moment : ℕ) → moment < 2 ^ 64 → Lists new.files new.folder moment f
   pub registered : new.shards ≡ old.shards ++ h ∷ []
   pub nothing_pending : new.pending ≡ nothing
@@ -42,5 +42,5 @@ pub record IsUnflushed (old new : State) : Type 0 where
   pub registered : new.shards ≡ old.shards
   pub xorbs : new.xorbs ≡ old.xorbs
   pub records : new.records ≡ old.records
-  pub others : old.tells ≡ true → KeepsOthers old.files new.files (shard_path old.folder (shard_hash (pending_bytes old)))
+  pub others : old.tells ≡ true → KeepsOtherNames old.files new.files (shard_path old.folder (shard_hash (pending_bytes old)))
   pub whole : old.tells ≡ true → IsKeptOrDone old.files new.files (shard_path old.folder (shard_hash (pending_bytes old))) (pending_bytes old)

@@ -31,10 +31,10 @@ pub record IsUnchanged (old new : State) : Type 0 where
   pub later : old.faults ≤ new.faults
 
 -- the errors of reading a range, and when each is returned
-abbrev pub IsRangeRefusal : State → List ℕ → ℕ → ℕ → ℕ → StoreError → Type 0
-IsRangeRefusal s h from to after FileNotFound = plan_of s.records h ≡ None
-IsRangeRefusal s h from to after InvalidRange = IsOutside s h from to
-IsRangeRefusal s h from to after (Io Disk) = Rose s.faults after
-IsRangeRefusal s h from to after (MalformedData XorbText) = s.tells ≡ false
-IsRangeRefusal s h from to after OutOfMemory = Unit {0}
-IsRangeRefusal s h from to after e = ⊥
+abbrev pub IsRangeError : State → List ℕ → ℕ → ℕ → ℕ → StoreError → Type 0
+IsRangeError s h from to after FileNotFound = plan_of s.records h ≡ None
+IsRangeError s h from to after InvalidRange = IsOutside s h from to
+IsRangeError s h from to after (Io Disk) = Rose s.faults after
+IsRangeError s h from to after (MalformedData XorbText) = s.tells ≡ false
+IsRangeError s h from to after OutOfMemory = Unit {0}
+IsRangeError s h from to after e = ⊥

@@ -2,7 +2,7 @@
 use Rattle.std.specs.Prelude.{◌≡◌, ◌≢◌, ◌⊎◌, ℕ, ◌<◌, false, List, [], ◌∷◌, length, Some, IsSome}
 use Rattle.xet_io.specs.Disk.{Files}
 use Rattle.xet_hash.specs.Hash.{marker, zero_hash}
-use Rattle.xet_hash.specs.Merkle.{chunk_hash, xorb_hash, file_hash, members_of}
+use Rattle.xet_hash.specs.Merkle.{chunk_hash, xorb_hash, file_hash, leaves_of}
 use Rattle.xet_shard_format.specs.declared.record.MDBFileInfo.{MDBFileInfo}
 use Rattle.xet_folder.specs.Checks.{OfBytes}
 use Rattle.xet_folder.specs.Listed.{Lists}
@@ -40,7 +40,7 @@ IsNamed disk folder now h = (shard : ShardFile) × IsThere disk folder shard × 
 
 -- chunks of one of these files are packed into the xorb h
 abbrev pub IsPackOf : LimitSettings → List (List (List ℕ)) → List ℕ → Type 0
-IsPackOf s files h = (f : List (List ℕ)) × Among files f × (pack : List (List ℕ)) × Among (packs s f) pack × (xorb_hash (members_of pack) ≡ h)
+IsPackOf s files h = (f : List (List ℕ)) × Among files f × (pack : List (List ℕ)) × Among (packs s f) pack × (xorb_hash (leaves_of pack) ≡ h)
 
 -- The xorbs that are seen in a folder at a time, with these files: those that an unexpired shard names, and
 -- those into which the files are packed. What else is in the folder is not seen.
@@ -54,13 +54,13 @@ MetStored disk folder now s files b =
 
 -- the chunk list, as (hash, length) pairs, of a listed xorb
 abbrev pub MetXorb : State → List (List ℕ × ℕ) → Type 0
-MetXorb s members = (h : List ℕ) × IsListed s.xorbs h members
+MetXorb s leaves = (h : List ℕ) × IsListed s.xorbs h leaves
 
 -- the chunk list of a recorded file, or of one of these files that is not empty
 abbrev pub MetFile : State → List (List (List ℕ)) → List (List ℕ × ℕ) → Type 0
-MetFile s files members =
-    ((h : List ℕ) × (f : MDBFileInfo) × (found s.records h ≡ Some f) × Joins (IsListed s.xorbs) (λ m. m.1) f.segments members)
-    ⊎ ((f : List (List ℕ)) × Among files f × (0 < length f) × (members ≡ members_of f))
+MetFile s files leaves =
+    ((h : List ℕ) × (f : MDBFileInfo) × (found s.records h ≡ Some f) × Joins (IsListed s.xorbs) (λ m. m.1) f.segments leaves)
+    ⊎ ((f : List (List ℕ)) × Among files f × (0 < length f) × (leaves ≡ leaves_of f))
 
 -- No collisions among the data seen in a session and in these files, each given as its chunks.
 pub record Separate (s : State) (files : List (List (List ℕ))) : Type 0 where
@@ -70,13 +70,13 @@ pub record Separate (s : State) (files : List (List (List ℕ))) : Type 0 where
 
 -- the chunk list, not empty, of a file that a folder lists at a time, or of one of these files
 abbrev pub MetListed : Files → List ℕ → ℕ → List (List (List ℕ)) → List (List ℕ × ℕ) → Type 0
-MetListed disk folder now files members =
-    ((f : MDBFileInfo) × Lists disk folder now f × Joins (IsBacked disk folder) (λ m. m.1) f.segments members × (0 < length members))
-    ⊎ ((f : List (List ℕ)) × Among files f × (0 < length f) × (members ≡ members_of f))
+MetListed disk folder now files leaves =
+    ((f : MDBFileInfo) × Lists disk folder now f × Joins (IsBacked disk folder) (λ m. m.1) f.segments leaves × (0 < length leaves))
+    ⊎ ((f : List (List ℕ)) × Among files f × (0 < length f) × (leaves ≡ leaves_of f))
 
 -- the chunk list of a xorb that is seen in a folder
 abbrev pub MetBacked : Files → List ℕ → ℕ → LimitSettings → List (List (List ℕ)) → List (List ℕ × ℕ) → Type 0
-MetBacked disk folder now s files members = (h : List ℕ) × IsMet disk folder now s files h × IsBacked disk folder h members
+MetBacked disk folder now s files leaves = (h : List ℕ) × IsMet disk folder now s files h × IsBacked disk folder h leaves
 
 -- No collisions among the data seen in a folder at a time and in these files, each given as its chunks.
 pub record SeparateIn (disk : Files) (folder : List ℕ) (now : ℕ) (s : LimitSettings) (files : List (List (List ℕ))) : Type 0 where

@@ -1,11 +1,11 @@
 -- The steps of cleaning one file.
 use Rattle.std.specs.Prelude.{◌≡◌, ℕ, ◌<◌, Bool, true, List, length}
 use Rattle.std.specs.List.{AllByRecursion}
-use Rattle.xet_hash.specs.Merkle.{xorb_hash, members_of}
+use Rattle.xet_hash.specs.Merkle.{xorb_hash, leaves_of}
 use Rattle.xet_folder.specs.Xorbs.{IsListed}
 use Rattle.xet_dedup.specs.Packing.{packs}
 use Rattle.xet_store.specs.Store.{State}
 
 -- each xorb into which the file's chunks are packed is listed with its chunk list
 abbrev pub ListsXorbs : State → List (List ℕ) → Type 0
-ListsXorbs s chunks = AllByRecursion (λ pack. IsListed s.xorbs (xorb_hash (members_of pack)) (members_of pack)) (packs s.limits chunks)
+ListsXorbs s chunks = AllByRecursion (λ pack. IsListed s.xorbs (xorb_hash (leaves_of pack)) (leaves_of pack)) (packs s.limits chunks)

@@ -9,14 +9,14 @@ use Rattle.xet_shard_format.specs.declared.record.FileDataSequenceEntry.{FileDat
 use Rattle.xet_shard_format.specs.declared.record.MDBFileInfo.{MDBFileInfo}
 use Rattle.xet_shard.specs.Held.{Held, IsHeld}
 use Rattle.xet_shard_format.specs.Records as record_of
-use Rattle.xet_folder.specs.Admission.{Admits, block_members}
+use Rattle.xet_folder.specs.Admission.{Admits, block_leaves}
 use Rattle.xet_folder.specs.Checks.{OfBytes}
 use Rattle.xet_folder.specs.Listed.{Lists}
 use Rattle.xet_shard_file.specs.Names.{IsHash}
 use Rattle.xet_folder.specs.Plan.{Joins, plan_bytes}
 use Rattle.xet_folder.specs.Contents.{IsRecord}
 use Rattle.xet_shard_file.specs.Shards.{ShardFile}
-use Rattle.xet_folder.specs.Xorbs.{AreBacked, IsListed, Records, Xorbs, found}
+use Rattle.xet_folder.specs.Xorbs.{AreBacked, IsListed, FileRecords, Xorbs, found}
 use Rattle.xet_cut.specs.declared.limits.LimitSettings.{LimitSettings}
 use Rattle.xet_dedup.specs.Records.{IsRecordOf}
 
@@ -31,17 +31,17 @@ pub record State : Type 0 where
   pub limits : LimitSettings
   pub opened : ℕ
   pub xorbs : Xorbs
-  pub records : Records
+  pub records : FileRecords
   pub shards : List (List ℕ)
   pub pending : Held
 
 -- A pending record is the one recorded for its file, and its plan resolves to the chunk list of which it is
 -- the record.
-pub record IsPendingFile (xorbs : Xorbs) (records : Records) (f : MDBFileInfo) : Type 0 where
+pub record IsPendingFile (xorbs : Xorbs) (records : FileRecords) (f : MDBFileInfo) : Type 0 where
   pub recorded : found records (record_of.file_hash f) ≡ Some f
-  pub members : List (List ℕ × ℕ)
-  pub joins : Joins (IsListed xorbs) (λ m. m.1) f.segments members
-  pub form : IsRecordOf members f
+  pub leaves : List (List ℕ × ℕ)
+  pub joins : Joins (IsListed xorbs) (λ m. m.1) f.segments leaves
+  pub form : IsRecordOf leaves f
 
 -- A registered shard, unexpired at a time, lists the record.
 pub record IsKept (files : Files) (folder : List ℕ) (now : ℕ) (shards : List (List ℕ)) (f : MDBFileInfo) : Type 0 where
@@ -70,7 +70,7 @@ pub record Sound (s : State) : Type 0 where
   pub kept : (h : List ℕ) (f : MDBFileInfo) → found s.records h ≡ Some f
       → IsAmong s.pending.files f ⊎ (s.tells ≡ true → IsKept s.files s.folder s.opened s.shards f)
   pub held : IsHeld s.pending
-  pub blocks : AllByRecursion (λ b. IsListed s.xorbs (record_of.xorb_hash b) (block_members b)) s.pending.blocks
+  pub blocks : AllByRecursion (λ b. IsListed s.xorbs (record_of.xorb_hash b) (block_leaves b)) s.pending.blocks
   pub pending_files : AllByRecursion (IsPendingFile s.xorbs s.records) s.pending.files
   pub admitted : s.tells ≡ true → IsAdmitted s.files s.folder s.opened s.xorbs s.shards
   pub hashes : (h : List ℕ) → IsSome (found s.xorbs h) → IsHash h
@@ -79,9 +79,9 @@ pub record Sound (s : State) : Type 0 where
   pub records_differ : Differ s.records
 
 -- The reconstruction plan of a file. The empty file, whose hash is zero, has the empty plan.
-unfoldable pub plan_of : Records → List ℕ → Option (List Segment)
+unfoldable pub plan_of : FileRecords → List ℕ → Option (List Segment)
 plan_of records h = elim (pointwise nat_eq h zero_hash) [ true ↦ Some [] | false ↦ option_map (λ f. f.segments) (found records h) ]
 
 -- the hash and the length of each recorded file
-abbrev pub files_of : Records → List (List ℕ × ℕ)
-files_of records = map (λ r. (r.0, plan_bytes r.1.segments)) records
+abbrev pub recorded_files : FileRecords → List (List ℕ × ℕ)
+recorded_files records = map (λ r. (r.0, plan_bytes r.1.segments)) records

@@ -3,9 +3,9 @@
 ghost use Rattle.std.specs.Prelude.{◌≡◌, ◌≤◌, ◌<◌, ◌^◌, ◌∷◌, [], ℕ, List, true, drop, length, map, take, OnOk, OnErr, IfOk, IfErr, IsSome};
 ghost use Rattle.std.specs.List.{AllByRecursion};
 ghost use Rattle.xet_hash.specs.Merkle.{chunk_hash};
-ghost use Rattle.xet_xorb_chunk.specs.Chunks.{bytes_of, chunk_member, total};
-ghost use Rattle.xet_store.specs.Cleaning.{Adds, EachTold, HasFile, HasReason, HasXorbs, Keeps, Later, Stores, StoresSome, Taken, cuts, info_of};
-ghost use Rattle.xet_cut.specs.Cut.{cut};
+ghost use Rattle.xet_xorb_chunk.specs.Chunks.{bytes_of_chunk, chunk_leaf, total};
+ghost use Rattle.xet_store.specs.Cleaning.{Adds, EachTold, HasFile, HasReason, HasXorbs, Keeps, Later, StoresAll, StoresSome, AreTaken, chunkings, info_of};
+ghost use Rattle.xet_cut.specs.Chunking.{chunking};
 ghost use Rattle.xet_folder.specs.Plan.{Joins};
 ghost use Rattle.xet_codec.specs.Stops.{HasDiskReason};
 ghost use Rattle.xet_store.specs.Separate.{Apart, MetChunk, Separate};
@@ -27,7 +27,7 @@ use xet_dedup::{chunks_of, file_record, pack_len};
 use xet_hash::{MerkleHash, Place, StoreError, What, file_hash};
 use xet_io::{Disk, Source, Unread, read_all};
 use xet_shard_format::{FileDataSequenceEntry, Sha256};
-use xet_xorb_chunk::{Chunk, chunk_members};
+use xet_xorb_chunk::{Chunk, chunk_leaves};
 
 /// Reads each source to its end and stores its file, in order. Returns the session, and the pointer record of
 /// each file. Currently at most one source is allowed, and all work runs on the calling thread. After an
@@ -51,14 +51,14 @@ pub fn clean_files<D: Disk + Send, S: Source + Send>(
     // If disk and sources are observable: each source has a plan that resolves to its chunks, if there are no
     // collisions among the data seen; and each of its xorbs is stored, if there are none among the chunks
     // seen.
-    ensures files { session.tells ≡ true → AllByRecursion (λ s. S.tells s ≡ true) sources.old → Separate result.0 (cuts S.left session.limits sources.old)
-        → OnOk result.1 (AllByRecursion (HasFile result.0) (cuts S.left session.limits sources.old)) }
-    ensures xorbs { session.tells ≡ true → AllByRecursion (λ s. S.tells s ≡ true) sources.old → Apart chunk_hash (MetChunk result.0 (cuts S.left session.limits sources.old))
-        → OnOk result.1 (AllByRecursion (HasXorbs result.0) (cuts S.left session.limits sources.old)) }
+    ensures files { session.tells ≡ true → AllByRecursion (λ s. S.tells s ≡ true) sources.old → Separate result.0 (chunkings S.left session.limits sources.old)
+        → OnOk result.1 (AllByRecursion (HasFile result.0) (chunkings S.left session.limits sources.old)) }
+    ensures xorbs { session.tells ≡ true → AllByRecursion (λ s. S.tells s ≡ true) sources.old → Apart chunk_hash (MetChunk result.0 (chunkings S.left session.limits sources.old))
+        → OnOk result.1 (AllByRecursion (HasXorbs result.0) (chunkings S.left session.limits sources.old)) }
 
     // Each file of the result has a plan. If the sources are observable, each of their xorbs is listed.
     ensures recorded { IfOk result.1 (λ cleaned. AllByRecursion (λ info. IsSome (plan_of result.0.records info.hash)) cleaned.infos.items) }
-    ensures listed { AllByRecursion (λ s. S.tells s ≡ true) sources.old → OnOk result.1 (AllByRecursion (ListsXorbs result.0) (cuts S.left session.limits sources.old)) }
+    ensures listed { AllByRecursion (λ s. S.tells s ≡ true) sources.old → OnOk result.1 (AllByRecursion (ListsXorbs result.0) (chunkings S.left session.limits sources.old)) }
 
     // Whatever the result, nothing is taken away. New records follow the earlier ones, each under the hash of
     // a source. What is listed, recorded and pending is what was, with each source's file added in turn,
@@ -67,13 +67,13 @@ pub fn clean_files<D: Disk + Send, S: Source + Send>(
     ensures adds { IfOk result.1 (λ cleaned. Adds session.records result.0.records (map (λ info. info.hash) cleaned.infos.items)) }
     ensures err { OnErr result.1 (result.0.records ≡ session.records) }
     ensures shards { result.0.shards ≡ session.shards }
-    ensures stores { IfOk result.1 (λ cleaned. Stores S.tells S.left sources.old session result.0 cleaned.infos.items) }
+    ensures stores { IfOk result.1 (λ cleaned. StoresAll S.tells S.left sources.old session result.0 cleaned.infos.items) }
     ensures some { OnErr result.1 (StoresSome S.tells S.left sources.old session result.0) }
 
     // Each source is observable if and only if it was before. Whatever the result, a prefix of what it had
     // left was taken, and its count of failures has not fallen. An error has a reason.
     ensures sources_tell { map S.tells sources.new ≡ map S.tells sources.old }
-    ensures sources_taken { Taken S.tells S.left sources.old sources.new }
+    ensures sources_taken { AreTaken S.tells S.left sources.old sources.new }
     ensures sources_later { Later S.faults sources.old sources.new }
     ensures reason { IfErr result.1 (HasReason S.tells S.left S.faults sources.old sources.new session result.0) }
 {
@@ -94,15 +94,15 @@ fn clean_all<D: Disk + Send, S: Source + Send>(
     ensures read { OnOk result (AllByRecursion (λ s. S.tells s ≡ true → S.left s ≡ []) sources.new) }
     ensures short { OnOk result (AllByRecursion (λ s. S.tells s ≡ true → length (S.left s) ≤ session.old.limits.max_source_bytes) sources.old) }
     ensures recorded { IfOk result (λ cleaned. AllByRecursion (λ info. IsSome (plan_of session.new.records info.hash)) cleaned.infos.items) }
-    ensures listed { AllByRecursion (λ s. S.tells s ≡ true) sources.old → OnOk result (AllByRecursion (ListsXorbs session.new) (cuts S.left session.old.limits sources.old)) }
+    ensures listed { AllByRecursion (λ s. S.tells s ≡ true) sources.old → OnOk result (AllByRecursion (ListsXorbs session.new) (chunkings S.left session.old.limits sources.old)) }
     ensures keeps { Keeps session.old session.new }
     ensures adds { IfOk result (λ cleaned. Adds session.old.records session.new.records (map (λ info. info.hash) cleaned.infos.items)) }
     ensures err { OnErr result (session.new.records ≡ session.old.records) }
     ensures shards { session.new.shards ≡ session.old.shards }
-    ensures stores { IfOk result (λ cleaned. Stores S.tells S.left sources.old session.old session.new cleaned.infos.items) }
+    ensures stores { IfOk result (λ cleaned. StoresAll S.tells S.left sources.old session.old session.new cleaned.infos.items) }
     ensures some { OnErr result (StoresSome S.tells S.left sources.old session.old session.new) }
     ensures sources_tell { map S.tells sources.new ≡ map S.tells sources.old }
-    ensures sources_taken { Taken S.tells S.left sources.old sources.new }
+    ensures sources_taken { AreTaken S.tells S.left sources.old sources.new }
     ensures sources_later { Later S.faults sources.old sources.new }
     ensures reason { IfErr result (HasReason S.tells S.left S.faults sources.old sources.new session.old session.new) }
 {
@@ -124,13 +124,13 @@ fn clean_source<D: Disk + Send, S: Source + Send>(
     ensures keeps { Keeps session.old session.new }
     ensures recorded { IfOk result (λ info. IsSome (plan_of session.new.records info.hash)) }
     ensures adds { IfOk result (λ info. Adds session.old.records session.new.records (info.hash ∷ [])) }
-    ensures xorbs { S.tells source.old ≡ true → OnOk result (ListsXorbs session.new (cut session.old.limits (S.left source.old))) }
+    ensures xorbs { S.tells source.old ≡ true → OnOk result (ListsXorbs session.new (chunking session.old.limits (S.left source.old))) }
     ensures err { OnErr result (session.new.records ≡ session.old.records) }
     ensures shards { session.new.shards ≡ session.old.shards }
     ensures stores { IfOk result (λ info. (bytes : List ℕ) × (S.tells source.old ≡ true → bytes ≡ S.left source.old) × (info ≡ info_of session.old.limits bytes)
         × (tables_of session.new ≡ with_file session.old.limits (tables_of session.old) bytes)) }
     ensures some { OnErr result ((bytes : List ℕ) × (n : ℕ) × (S.tells source.old ≡ true → bytes ≡ S.left source.old)
-        × (tables_of session.new ≡ with_xorbs (tables_of session.old) (take n (packs session.old.limits (cut session.old.limits bytes))))) }
+        × (tables_of session.new ≡ with_xorbs (tables_of session.old) (take n (packs session.old.limits (chunking session.old.limits bytes))))) }
     ensures taken { S.tells source.old ≡ true → (n : ℕ) × (S.left source.new ≡ drop n (S.left source.old)) }
     ensures reason { IfErr result (HasReasonOfOne S.tells S.left S.faults source.old source.new session.old session.new) }
     ensures frame { Stays S.tells S.faults source.old source.new }
@@ -141,11 +141,11 @@ fn clean_source<D: Disk + Send, S: Source + Send>(
     let file_size = bytes.len() as u64;
     let sha256 = Sha256::from_bytes(sha2::Sha256::digest(&bytes).into());
     let chunks = chunks_of(alloc, &limits, bytes)?;
-    let members = chunk_members(alloc, &chunks)?;
-    let hash = file_hash(alloc, &members)?;
+    let leaves = chunk_leaves(alloc, &chunks)?;
+    let hash = file_hash(alloc, &leaves)?;
     if !chunks.is_empty() {
         let plan = add_xorbs(session, &chunks)?;
-        session.add_file(file_record(alloc, hash, &members, plan, sha256)?)?;
+        session.add_file(file_record(alloc, hash, &leaves, plan, sha256)?)?;
     }
     Ok(XetFileInfo {
         hash,
@@ -161,15 +161,15 @@ fn add_xorbs<D: Disk + Send>(
 ) -> Result<Vec<FileDataSequenceEntry>, StoreError>
     requires digests { AllByRecursion (λ c. c.hash ≡ chunk_hash c.bytes) chunks.now }
     requires fit { AllByRecursion (λ c. length c.bytes ≤ session.old.limits.maximum_chunk) chunks.now }
-    ensures joins { IfOk result (λ plan. Joins (IsListed session.new.xorbs) (λ m. m.1) plan.items (map chunk_member chunks.now)) }
+    ensures joins { IfOk result (λ plan. Joins (IsListed session.new.xorbs) (λ m. m.1) plan.items (map chunk_leaf chunks.now)) }
     ensures plain { IfOk result (λ plan. AllByRecursion (λ s. s.xorb_flags ≡ 0) plan.items) }
-    ensures listed { OnOk result (ListsXorbs session.new (map bytes_of chunks.now)) }
+    ensures listed { OnOk result (ListsXorbs session.new (map bytes_of_chunk chunks.now)) }
     ensures keeps { Keeps session.old session.new }
     ensures records { session.new.records ≡ session.old.records }
     ensures shards { session.new.shards ≡ session.old.shards }
-    ensures plan { IfOk result (λ plan. plan.items ≡ map whole_segment (packs session.old.limits (map bytes_of chunks.now))) }
-    ensures stores { OnOk result (tables_of session.new ≡ with_xorbs (tables_of session.old) (packs session.old.limits (map bytes_of chunks.now))) }
-    ensures some { OnErr result ((n : ℕ) × (tables_of session.new ≡ with_xorbs (tables_of session.old) (take n (packs session.old.limits (map bytes_of chunks.now))))) }
+    ensures plan { IfOk result (λ plan. plan.items ≡ map whole_segment (packs session.old.limits (map bytes_of_chunk chunks.now))) }
+    ensures stores { OnOk result (tables_of session.new ≡ with_xorbs (tables_of session.old) (packs session.old.limits (map bytes_of_chunk chunks.now))) }
+    ensures some { OnErr result ((n : ℕ) × (tables_of session.new ≡ with_xorbs (tables_of session.old) (take n (packs session.old.limits (map bytes_of_chunk chunks.now))))) }
     ensures reason { IfErr result (HasDiskReason session.old.faults session.new.faults) }
 {
     let limits = *session.limits();
@@ -210,8 +210,8 @@ fn read_source<S: Source>(
     ensures reason { IfErr result (HasSourceReason (S.tells source.old) (S.left source.old) (S.faults source.old) (S.faults source.new) limits.now.max_source_bytes) }
 {
     let block = limits.block_bytes() as usize;
-    let most = limits.max_source_bytes() as usize;
-    match read_all(alloc, source, block, most) {
+    let max_len = limits.max_source_bytes() as usize;
+    match read_all(alloc, source, block, max_len) {
         Ok(bytes) => Ok(bytes),
         Err(Unread::OutOfMemory) => Err(StoreError::OutOfMemory),
         Err(Unread::Failed) => Err(StoreError::Io(Place::Source(0))),

@@ -3,7 +3,7 @@
 ghost use Rattle.std.specs.Prelude.{◌≡◌, length, IfOk, IsOkUnless};
 ghost use Rattle.std.specs.Option.{option_map};
 ghost use Rattle.xet_folder.specs.Xorbs.{found};
-ghost use Rattle.xet_store.specs.Store.{Differ, files_of, plan_of};
+ghost use Rattle.xet_store.specs.Store.{Differ, recorded_files, plan_of};
 
 mod adding;
 mod flushing;
@@ -15,7 +15,7 @@ use std::alloc::Global;
 use std::marker::{Model, Send};
 use xet_base::Text;
 use xet_cut::Limits;
-use xet_folder::{Members, Plan, RecordedFile};
+use xet_folder::{Leaves, Plan, RecordedFile};
 use xet_hash::{MerkleHash, StoreError};
 use xet_io::Disk;
 use xet_shard::MDBInMemoryShard;
@@ -31,7 +31,7 @@ pub struct Store<D: Disk + Send> {
     /// The time of opening, in seconds since 1970.
     opened: u64,
     /// The hashes and lengths of each listed xorb's chunks.
-    xorbs: IndexMap<MerkleHash, Members>,
+    xorbs: IndexMap<MerkleHash, Leaves>,
     /// The record of each recorded file.
     records: IndexMap<MerkleHash, RecordedFile>,
     /// The hashes of the registered shards.
@@ -133,7 +133,7 @@ impl<D: Disk + Send> Store<D> {
     /// The hash and the length in bytes of each recorded file, in order of recording, each hash once. The
     /// empty file is never recorded. The only error is `OutOfMemory`.
     pub fn files(&self, alloc: Global) -> Result<Vec<(MerkleHash, u64)>, StoreError>
-        ensures files { IfOk result (λ files. files.items ≡ files_of self.now.records) }
+        ensures files { IfOk result (λ files. files.items ≡ recorded_files self.now.records) }
         ensures differ { IfOk result (λ files. Differ files.items) }
         ensures memory { IsOkUnless result StoreError.OutOfMemory }
     {

@@ -19,7 +19,7 @@ use Rattle.xet_cut.specs.Generator.{gear_table}
 use Rattle.xet_cut.specs.theorems.Ranges.{none_bad}
 use Rattle.xet_store_cli.specs.declared.words.Command.{Command}
 use Rattle.xet_store_cli.specs.Allowed.{AllowsInput}
-use Rattle.xet_store_cli.specs.Outcome.{most_input}
+use Rattle.xet_store_cli.specs.Outcome.{max_input}
 use Rattle.xet_store_cli.specs.Words.{command_of, gear_of, is_digits, is_target, number_of, pack_of, pack_settings, target_if, target_of, three_words}
 
 -- ---- numbers
@@ -105,7 +105,7 @@ gear_seed word n m = rw (other_bytes word (codes "zero") n, other_bytes word (co
 
 -- ---- limits
 
-allows_target : (n : ℕ) (gear : List ℕ) → IsTrue (is_target n) → most_input ≤ (pack_settings n gear).max_source_bytes
+allows_target : (n : ℕ) (gear : List ℕ) → IsTrue (is_target n) → max_input ≤ (pack_settings n gear).max_source_bytes
 allows_target n gear t =
     let range = and_parts (leb 128 n) (leb n 2097152) (and_parts (is_power_of_two n) (is_between 128 2097152 n) t).1 in
     let low : 128 ≤ n = leb-true 128 n range.0 in
@@ -148,24 +148,24 @@ pack_in_range target gear t =
     let chunks : most / (target / 8) < 2 ^ 30 = (div-lt_iff_lt-mul some).1 (omega arith) in
     none_bad (pack_settings target gear) record {
       target_power = parts.0;
-      target_least = low;
-      target_most = omega arith;
-      minimum_least = omega arith;
-      minimum_most = omega arith;
-      maximum_most = omega arith;
-      cut_bytes_least = omega arith;
-      cut_bytes_most = lit≤ tt;
-      cut_chunks_least = lit≤ tt;
-      cut_chunks_most = lit≤ tt;
-      shard_target_most = lit< tt;
-      guard_window_least = lit≤ tt;
-      guard_window_most = lit≤ tt;
-      min_range_least = lit≤ tt;
-      low_factor_least = lit≤ tt;
-      block_bytes_least = lit≤ tt;
-      block_bytes_most = lit≤ tt;
-      source_least = omega arith;
-      source_most = omega arith;
+      target_from = low;
+      target_to = omega arith;
+      minimum_from = omega arith;
+      minimum_to = omega arith;
+      maximum_to = omega arith;
+      cut_bytes_from = omega arith;
+      cut_bytes_to = lit≤ tt;
+      cut_chunks_from = lit≤ tt;
+      cut_chunks_to = lit≤ tt;
+      shard_target_to = lit< tt;
+      guard_window_from = lit≤ tt;
+      guard_window_to = lit≤ tt;
+      min_range_from = lit≤ tt;
+      low_factor_from = lit≤ tt;
+      block_bytes_from = lit≤ tt;
+      block_bytes_to = lit≤ tt;
+      source_from = omega arith;
+      source_to = omega arith;
       source_chunks = chunks;
       scheme_plain = refl;
     }

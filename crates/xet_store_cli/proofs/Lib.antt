@@ -4,7 +4,7 @@ mod Said
 mod Commands
 mod Lengths
 mod Outcomes
-mod Cuts
+mod Chunkings
 mod Cleaned
 mod Reading
 mod Settled

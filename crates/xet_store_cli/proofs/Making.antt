@@ -2,7 +2,7 @@
 use Rattle.std.proofs.Common.{◌≡◌, ◌≢◌, ◌⊎◌, inl, inr, ◌↔◌, ◌∙◌, ℕ, ◌<◌, ◌≤◌, ◌^◌, Bool, true, false, List, [], ◌∷◌, ◌++◌, length, map, filter, not, nat_eq, Option, Some, None, IfSome, IsSome, is_some, if◌then◌else◌, refl, sym, ap, subst, arith}
 use Rattle.std.specs.Cmp.Lexicographic.{pointwise}
 use Rattle.std.specs.List.{AllByRecursion, IsAmong}
-use Rattle.xet_hash.specs.Merkle.{members_of, xorb_hash}
+use Rattle.xet_hash.specs.Merkle.{leaves_of, xorb_hash}
 use Rattle.xet_io.specs.Disk.{Files}
 use Rattle.xet_shard_format.specs.declared.record.MDBFileInfo.{MDBFileInfo}
 use Rattle.xet_shard.specs.Held.{Held, held, nothing, with_last}
@@ -12,13 +12,13 @@ use Rattle.xet_folder.specs.Listed.{Lists}
 use Rattle.xet_folder.specs.Xorbs.{Xorbs, found}
 use Rattle.xet_cut.specs.declared.limits.LimitSettings.{LimitSettings}
 use Rattle.xet_store.specs.Cleaning.{Keeps}
-use Rattle.xet_cut.specs.Cut.{cut}
+use Rattle.xet_cut.specs.Chunking.{chunking}
 use Rattle.xet_store.specs.Flushing.{IsFlushed}
 use Rattle.xet_store.specs.Opening.{IsOpened}
 use Rattle.xet_dedup.specs.Packing.{packs}
 use Rattle.xet_store.specs.Ranges.{IsUnchanged}
 use Rattle.xet_store.specs.Store.{IsKept, Sound, State}
-use Rattle.xet_store.specs.Tables.{Tables, record_of_file, tables, tables_of, with_file, with_files, with_members, with_record, with_xorb, with_xorbs}
+use Rattle.xet_store.specs.Tables.{Tables, record_of_file, tables, tables_of, with_file, with_files, with_leaves, with_record, with_xorb, with_xorbs}
 use Rattle.xet_dedup.specs.Records.{xorb_record}
 use Rattle.xet_store.specs.Separate.{Among, IsPackOf}
 use Rattle.xet_store.specs.theorems.Rows.{among_last, from_among, is_some_either}
@@ -63,56 +63,56 @@ record_alone t f = go (is_some (found t.records (record_of.file_hash f))) refl
     go true e = rw (e) refl
     go false e = rw (e) refl
 
-one_xorb : (t : Tables) (h : List ℕ) (ms : List (List ℕ × ℕ)) → (with_members t h ms).records ≡ t.records
+one_xorb : (t : Tables) (h : List ℕ) (ms : List (List ℕ × ℕ)) → (with_leaves t h ms).records ≡ t.records
 one_xorb t h ms = go (is_some (found t.xorbs h)) refl
   where
-    go : (b : Bool) → is_some (found t.xorbs h) ≡ b → (with_members t h ms).records ≡ t.records
+    go : (b : Bool) → is_some (found t.xorbs h) ≡ b → (with_leaves t h ms).records ≡ t.records
     go true e = rw (e) refl
     go false e = rw (e) refl
 
 xorbs_alone : (t : Tables) (ps : List (List (List ℕ))) → (with_xorbs t ps).records ≡ t.records
 xorbs_alone t [] = refl
-xorbs_alone t (p ∷ ps) = xorbs_alone (with_xorb t p) ps ∙ one_xorb t (xorb_hash (members_of p)) (members_of p)
+xorbs_alone t (p ∷ ps) = xorbs_alone (with_xorb t p) ps ∙ one_xorb t (xorb_hash (leaves_of p)) (leaves_of p)
 
 -- ---- a xorb that is listed once files were stored was listed before, or the files are packed into it
 
-listed_of_member : (t : Tables) (k : List ℕ) (ms : List (List ℕ × ℕ)) (h : List ℕ) → IsSome (found (with_members t k ms).xorbs h) → IsSome (found t.xorbs h) ⊎ (k ≡ h)
-listed_of_member t k ms h is = go (is_some (found t.xorbs k)) is
+listed_of_leaf : (t : Tables) (k : List ℕ) (ms : List (List ℕ × ℕ)) (h : List ℕ) → IsSome (found (with_leaves t k ms).xorbs h) → IsSome (found t.xorbs h) ⊎ (k ≡ h)
+listed_of_leaf t k ms h is = go (is_some (found t.xorbs k)) is
   where
     go : (b : Bool) → IsSome (found (if b then t else tables (t.xorbs ++ (k, ms) ∷ []) t.records (held (with_last record_of.xorb_hash t.pending.blocks (xorb_record k ms)) t.pending.files)).xorbs h) → IsSome (found t.xorbs h) ⊎ (k ≡ h)
     go true there = inl there
     go false there = is_some_either t.xorbs k h ms there
 
 listed_of_packs : (t : Tables) (ps : List (List (List ℕ))) (h : List ℕ) → IsSome (found (with_xorbs t ps).xorbs h)
-    → IsSome (found t.xorbs h) ⊎ ((pack : List (List ℕ)) × Among ps pack × (xorb_hash (members_of pack) ≡ h))
+    → IsSome (found t.xorbs h) ⊎ ((pack : List (List ℕ)) × Among ps pack × (xorb_hash (leaves_of pack) ≡ h))
 listed_of_packs t [] h is = inl is
 listed_of_packs t (p ∷ ps) h is = go (listed_of_packs (with_xorb t p) ps h is)
   where
-    here : IsSome (found t.xorbs h) ⊎ (xorb_hash (members_of p) ≡ h) → IsSome (found t.xorbs h) ⊎ ((pack : List (List ℕ)) × Among (p ∷ ps) pack × (xorb_hash (members_of pack) ≡ h))
+    here : IsSome (found t.xorbs h) ⊎ (xorb_hash (leaves_of p) ≡ h) → IsSome (found t.xorbs h) ⊎ ((pack : List (List ℕ)) × Among (p ∷ ps) pack × (xorb_hash (leaves_of pack) ≡ h))
     here (inl before) = inl before
     here (inr e) = inr (p, inl refl, e)
 
-    go : IsSome (found (with_xorb t p).xorbs h) ⊎ ((pack : List (List ℕ)) × Among ps pack × (xorb_hash (members_of pack) ≡ h))
-        → IsSome (found t.xorbs h) ⊎ ((pack : List (List ℕ)) × Among (p ∷ ps) pack × (xorb_hash (members_of pack) ≡ h))
-    go (inl before) = here (listed_of_member t (xorb_hash (members_of p)) (members_of p) h before)
+    go : IsSome (found (with_xorb t p).xorbs h) ⊎ ((pack : List (List ℕ)) × Among ps pack × (xorb_hash (leaves_of pack) ≡ h))
+        → IsSome (found t.xorbs h) ⊎ ((pack : List (List ℕ)) × Among (p ∷ ps) pack × (xorb_hash (leaves_of pack) ≡ h))
+    go (inl before) = here (listed_of_leaf t (xorb_hash (leaves_of p)) (leaves_of p) h before)
     go (inr (pack, among, e)) = inr (pack, inr among, e)
 
 listed_of_file : (s : LimitSettings) (t : Tables) (bytes : List ℕ) (h : List ℕ) → IsSome (found (with_file s t bytes).xorbs h)
-    → IsSome (found t.xorbs h) ⊎ ((pack : List (List ℕ)) × Among (packs s (cut s bytes)) pack × (xorb_hash (members_of pack) ≡ h))
+    → IsSome (found t.xorbs h) ⊎ ((pack : List (List ℕ)) × Among (packs s (chunking s bytes)) pack × (xorb_hash (leaves_of pack) ≡ h))
 listed_of_file s t [] h is = inl is
 listed_of_file s t (b ∷ bs) h is =
-    let ps = packs s (cut s (b ∷ bs)) in
+    let ps = packs s (chunking s (b ∷ bs)) in
     listed_of_packs t ps h (subst (λ (x : Xorbs). IsSome (found x h)) (record_alone (with_xorbs t ps) (record_of_file s (b ∷ bs))) is)
 
-pub listed_of_files : (s : LimitSettings) (t : Tables) (files : List (List ℕ)) (h : List ℕ) → IsSome (found (with_files s t files).xorbs h) → IsSome (found t.xorbs h) ⊎ IsPackOf s (map (cut s) files) h
+pub listed_of_files : (s : LimitSettings) (t : Tables) (files : List (List ℕ)) (h : List ℕ) → IsSome (found (with_files s t files).xorbs h) → IsSome (found t.xorbs h) ⊎ IsPackOf s (map (chunking s) files) h
 listed_of_files s t [] h is = inl is
 listed_of_files s t (f ∷ fs) h is = go (listed_of_files s (with_file s t f) fs h is)
   where
-    here : IsSome (found t.xorbs h) ⊎ ((pack : List (List ℕ)) × Among (packs s (cut s f)) pack × (xorb_hash (members_of pack) ≡ h)) → IsSome (found t.xorbs h) ⊎ IsPackOf s (map (cut s) (f ∷ fs)) h
+    here : IsSome (found t.xorbs h) ⊎ ((pack : List (List ℕ)) × Among (packs s (chunking s f)) pack × (xorb_hash (leaves_of pack) ≡ h)) → IsSome (found t.xorbs h) ⊎ IsPackOf s (map (chunking s) (f ∷ fs)) h
     here (inl before) = inl before
-    here (inr (pack, of, e)) = inr (cut s f, inl refl, pack, of, e)
+    here (inr (pack, of, e)) = inr (chunking s f, inl refl, pack, of, e)
 
-    go : IsSome (found (with_file s t f).xorbs h) ⊎ IsPackOf s (map (cut s) fs) h → IsSome (found t.xorbs h) ⊎ IsPackOf s (map (cut s) (f ∷ fs)) h
+    go : IsSome (found (with_file s t f).xorbs h) ⊎ IsPackOf s (map (chunking s) fs) h → IsSome (found t.xorbs h) ⊎ IsPackOf s (map (chunking s) (f ∷ fs)) h
     go (inl before) = here (listed_of_file s t f h before)
     go (inr (g, among, pack, of, e)) = inr (g, inr among, pack, of, e)
 
@@ -127,7 +127,7 @@ record_pending t f none =
 file_pending : (s : LimitSettings) (t : Tables) (bytes : List ℕ) → bytes ≢ [] → found t.records (hash_of_file s bytes) ≡ None → IsAmong (with_file s t bytes).pending.files (record_of_file s bytes)
 file_pending s t [] some none = absurd (some refl)
 file_pending s t (b ∷ bs) some none =
-    let ps = packs s (cut s (b ∷ bs)) in
+    let ps = packs s (chunking s (b ∷ bs)) in
     record_pending (with_xorbs t ps) (record_of_file s (b ∷ bs)) (ap (λ rows. found rows (hash_of_file s (b ∷ bs))) (xorbs_alone t ps) ∙ none)
 
 -- and so it is listed, once nothing is pending

@@ -16,7 +16,7 @@ use Rattle.xet_store_cli.specs.declared.ending.Stop.TheVariants.{OutOfMemory, In
 use Rattle.xet_store_cli.specs.declared.words.Command.{Command}
 use Rattle.xet_store_cli.specs.declared.words.Command.TheVariants.{Pack}
 use Rattle.xet_store_cli.specs.Lines.{Line, first_bad, good_lines}
-use Rattle.xet_store_cli.specs.Outcome.{AreSeparate, EndsEarly, EndsOver, IsCutShort, IsDue, IsFaultless, IsStopped, IsStoppedSilent, Outcome, Prints, PrintsNothing, bad_line_text, by_lines, lines_said, most_input, outcome, pack_early, store_folder}
+use Rattle.xet_store_cli.specs.Outcome.{AreSeparate, EndsEarly, EndsOver, IsCutShort, IsDue, IsFaultless, IsStopped, IsStoppedSilent, Outcome, Prints, PrintsNothing, bad_line_text, by_lines, lines_said, max_input, outcome, pack_early, store_folder}
 use Rattle.xet_store_cli.specs.internal.Outcome.{Ended, EndedEarly}
 use Rattle.xet_store_cli.specs.internal.Outcome.Ended.{as_due, stopped}
 use Rattle.xet_store_cli.specs.Outcome.IsDue.{admitted, early, refused}
@@ -29,22 +29,22 @@ use Rattle.xet_store_cli.specs.Words.{command_of}
 use Rattle.xet_store_cli.proofs.Lengths.{short_said}
 use Rattle.xet_store_cli.proofs.Said.{good_parted}
 
-pub pack_too_long : (input : List ℕ) → most_input < length input → pack_early input ≡ Some (outcome 9 [])
+pub pack_too_long : (input : List ℕ) → max_input < length input → pack_early input ≡ Some (outcome 9 [])
 unfolding pack_early
-pack_too_long input long = rw (lt-ltb most_input (length input) long, pack_early) refl
+pack_too_long input long = rw (lt-ltb max_input (length input) long, pack_early) refl
 
-pack_short : (input : List ℕ) → length input ≤ most_input → pack_early input ≡ by_lines (first_bad (lines input)) (lines_said (lines input))
+pack_short : (input : List ℕ) → length input ≤ max_input → pack_early input ≡ by_lines (first_bad (lines input)) (lines_said (lines input))
 unfolding pack_early
-pack_short input short = rw (le-ltb most_input (length input) short, pack_early) refl
+pack_short input short = rw (le-ltb max_input (length input) short, pack_early) refl
 
-pub short_input : (input : List ℕ) → pack_early input ≡ None → length input ≤ most_input
-short_input input none = elim (cases_lt most_input (length input)) [
+pub short_input : (input : List ℕ) → pack_early input ≡ None → length input ≤ max_input
+short_input input none = elim (cases_lt max_input (length input)) [
   | inl long ↦ absurd (cc (sym (pack_too_long input long) ∙ none))
   | inr short ↦ short
 ]
 
 -- an input that was not read
-pub early_unread : (left rest : List ℕ) (u : Unread) → ReadsAll most_input left (Err u) rest → AnswersEarly left (Err (stop_of_unread u))
+pub early_unread : (left rest : List ℕ) (u : Unread) → ReadsAll max_input left (Err u) rest → AnswersEarly left (Err (stop_of_unread u))
 early_unread left rest unread.OutOfMemory h = tt
 early_unread left rest unread.Failed h = tt
 early_unread left rest unread.TooLong h = pack_too_long left h.0
@@ -54,7 +54,7 @@ abbrev by_outcome : Bool → Option Outcome
 by_outcome good = cond good None (Some (outcome 8 []))
 
 -- an input that was read
-module _ (input read : List ℕ) (same : read ≡ input) (short : length input ≤ most_input) where
+module _ (input read : List ℕ) (same : read ≡ input) (short : length input ≤ max_input) where
   -- with a bad line
   pub early_bad : (stop : Stop) → Says (lines read) (Err stop) → AnswersEarly input (Err stop)
   early_bad OutOfMemory h = tt
@@ -89,12 +89,12 @@ module _ (input read : List ℕ) (same : read ≡ input) (short : length input �
 -- ---- how a run is to end
 
 -- where an input may be as long as a source, the files of its good lines are short
-pub short_files : (s : LimitSettings) (input : List ℕ) (said : Said) → most_input ≤ s.max_source_bytes → IsSaid input said → are_short s said.files ≡ true
+pub short_files : (s : LimitSettings) (input : List ℕ) (said : Said) → max_input ≤ s.max_source_bytes → IsSaid input said → are_short s said.files ≡ true
 short_files s input said allowed is =
     subst (λ (x : Said). are_short s x.files ≡ true) is.parts (short_said s input (lines_said (lines input)) (le_trans (short_input input is.fine) allowed) is.good)
 
 -- and none is too large
-never_too_large : (s : LimitSettings) (input : List ℕ) (said : Said) → most_input ≤ s.max_source_bytes → IsSaid input said → are_short s said.files ≡ false → ⊥
+never_too_large : (s : LimitSettings) (input : List ℕ) (said : Said) → max_input ≤ s.max_source_bytes → IsSaid input said → are_short s said.files ≡ false → ⊥
 never_too_large s input said allowed is long = false≢true (sym long ∙ short_files s input said allowed is)
 
 -- files that are short stop no session as too large
@@ -126,7 +126,7 @@ module _ (s : LimitSettings) (input : List ℕ) (now : ℕ) (old new : Files) wh
   abbrev Reported : Bool → List Line → List ℕ → Type 0
   Reported tells said text = IsReport (AreSeparate tells new now s said) s said text
 
-  pub due_late : (said : Said) (r : Result (Vec ℕ Global) Stop) → most_input ≤ s.max_source_bytes → IsSaid input said → AnswersLate s said now old r
+  pub due_late : (said : Said) (r : Result (Vec ℕ Global) Stop) → max_input ≤ s.max_source_bytes → IsSaid input said → AnswersLate s said now old r
       → IfOk r (λ text. ForLines said (λ l. Reported true l text.items)) → Answers Due r
   due_late said (Ok t) allowed is (shards, admits) report = admitted is.fine s refl shards admits refl (report (lines_said (lines input)) is.parts)
   due_late said (Err OutOfMemory) allowed is h report = tt
@@ -149,7 +149,7 @@ by_input_early input TooLarge h = h
 by_input_early input BadRange h = h
 by_input_early input (BadLine n) h = h
 
-pub by_input_late : (tells : Bool) (s : LimitSettings) (input : List ℕ) (said : Said) (r : Result (Vec ℕ Global) Stop) → most_input ≤ s.max_source_bytes → IsSaid input said
+pub by_input_late : (tells : Bool) (s : LimitSettings) (input : List ℕ) (said : Said) (r : Result (Vec ℕ Global) Stop) → max_input ≤ s.max_source_bytes → IsSaid input said
     → IfErr r (IsLateStop tells s said) → AnswersByInput (pack_early input) r
 by_input_late tells s input said (Ok t) allowed is stop = is.fine
 by_input_late tells s input said (Err OutOfMemory) allowed is stop = tt

@@ -3,7 +3,7 @@ use Rattle.std.proofs.Common.{◌≡◌, ◌≢◌, ◌⊎◌, ◌∙◌, inl, i
 use Rattle.std.proofs.lemmas.Bool.{and_parts, false≢true}
 use Rattle.std.specs.List.{AllByRecursion, flat_map, list_all}
 use Rattle.std.specs.Option.{option_and_then}
-use Rattle.xet_hash.specs.Merkle.{chunk_hash, file_hash, members_of, xorb_hash}
+use Rattle.xet_hash.specs.Merkle.{chunk_hash, file_hash, leaves_of, xorb_hash}
 use Rattle.xet_folder.specs.Contents.{HasContents}
 use Rattle.xet_folder.specs.Listed.{JoinsTo, Lists}
 use Rattle.xet_folder.specs.Plan.{range}
@@ -11,7 +11,7 @@ use Rattle.xet_folder.specs.Xorbs.{IsListed, Xorbs, found}
 use Rattle.xet_cut.specs.declared.limits.LimitSettings.{LimitSettings}
 use Rattle.xet_store.specs.declared.info.XetFileInfo.{XetFileInfo}
 use Rattle.xet_store.specs.Cleaning.{HasFile, HasXorbs, IsPacked, Keeps, info_of}
-use Rattle.xet_cut.specs.Cut.{cut}
+use Rattle.xet_cut.specs.Chunking.{chunking}
 use Rattle.xet_cut.specs.Limits.{AreInRange}
 use Rattle.xet_store.specs.Opening.{contents_of}
 use Rattle.xet_dedup.specs.Packing.{packs}
@@ -33,23 +33,23 @@ use Rattle.xet_store_cli.specs.internal.Steps.{AreRead, IsLineRead, IsSettled, h
 use Rattle.xet_store_cli.specs.Stored.{IsRecorded, Records, Stores}
 use Rattle.xet_store_cli.proofs.Cleaned.{lines_of_infos}
 use Rattle.xet_store_cli.proofs.Making.{listed_of_files}
-use Rattle.xet_store_cli.proofs.Cuts.{concat_cut, cut_some}
+use Rattle.xet_store_cli.proofs.Chunkings.{concat_chunking, chunking_some}
 use Rattle.xet_store_cli.proofs.Ranged.{range_none}
 
 -- ---- ranges
 
-hash_numbered : (l : LimitSettings) (files : List (List ℕ)) (n : ℕ) (f : List ℕ) → numbered files n ≡ Some f → hash_at (map (info_of l) files) n ≡ file_hash (members_of (cut l f))
+hash_numbered : (l : LimitSettings) (files : List (List ℕ)) (n : ℕ) (f : List ℕ) → numbered files n ≡ Some f → hash_at (map (info_of l) files) n ≡ file_hash (leaves_of (chunking l f))
 hash_numbered l [] n f e = absurd (cc e)
 hash_numbered l (g ∷ gs) zero f e = absurd (cc e)
 hash_numbered l (g ∷ gs) (suc zero) f e =
-    let same : g ≡ f = cc e in ap (λ (b : List ℕ). file_hash (members_of (cut l b))) same
+    let same : g ≡ f = cc e in ap (λ (b : List ℕ). file_hash (leaves_of (chunking l b))) same
 hash_numbered l (g ∷ gs) (suc (suc n)) f e = hash_numbered l gs (suc n) f e
 
-all_numbered : (P : List (List ℕ) → Type 0) (l : LimitSettings) (files : List (List ℕ)) (n : ℕ) (f : List ℕ) → numbered files n ≡ Some f → AllByRecursion P (map (cut l) files) → P (cut l f)
+all_numbered : (P : List (List ℕ) → Type 0) (l : LimitSettings) (files : List (List ℕ)) (n : ℕ) (f : List ℕ) → numbered files n ≡ Some f → AllByRecursion P (map (chunking l) files) → P (chunking l f)
 all_numbered P l [] n f e all = absurd (cc e)
 all_numbered P l (g ∷ gs) zero f e all = absurd (cc e)
 all_numbered P l (g ∷ gs) (suc zero) f e all =
-    let same : g ≡ f = cc e in subst (λ (b : List ℕ). P (cut l b)) same all.0
+    let same : g ≡ f = cc e in subst (λ (b : List ℕ). P (chunking l b)) same all.0
 all_numbered P l (g ∷ gs) (suc (suc n)) f e all = all_numbered P l gs (suc n) f e all.1
 
 -- a good range's bytes
@@ -61,16 +61,16 @@ good_bytes files r f e good = ap (option_and_then (bytes_in r.from r.to)) e ∙ 
     by_test true is = refl
     by_test false is = absurd (false≢true is)
 
-module _ (s : State) (l : LimitSettings) (files : List (List ℕ)) (told : s.tells ≡ true) (fits : AreInRange l) (has : AllByRecursion (HasFile s) (map (cut l) files)) where
+module _ (s : State) (l : LimitSettings) (files : List (List ℕ)) (told : s.tells ≡ true) (fits : AreInRange l) (has : AllByRecursion (HasFile s) (map (chunking l) files)) where
   line_exact : (r : FileRange) (line : List ℕ) → is_some (range_bytes files r) ≡ true → IsLineRead s (map (info_of l) files) r line → line ≡ bytes_line (unwrap_or (range_bytes files r) [])
   line_exact r line good one = by_file (numbered files r.file) refl
     where
       by_file : (o : Option (List ℕ)) → numbered files r.file ≡ o → line ≡ bytes_line (unwrap_or (range_bytes files r) [])
       by_file None e = absurd (false≢true (sym (range_none files r e) ∙ good))
       by_file (Some f) e =
-          let is_range : IsRange s (file_hash (members_of (cut l f))) r.from r.to one.bytes = subst (λ (h : List ℕ). IsRange s h r.from r.to one.bytes) (hash_numbered l files r.file f e) (one.read told) in
+          let is_range : IsRange s (file_hash (leaves_of (chunking l f))) r.from r.to one.bytes = subst (λ (h : List ℕ). IsRange s h r.from r.to one.bytes) (hash_numbered l files r.file f e) (one.read told) in
           let read : one.bytes ≡ range f r.from r.to =
-          range_of_file s (cut l f) r.from r.to one.bytes (all_numbered (HasFile s) l files r.file f e has) is_range ∙ ap (λ (b : List ℕ). range b r.from r.to) (concat_cut l f fits) in
+          range_of_file s (chunking l f) r.from r.to one.bytes (all_numbered (HasFile s) l files r.file f e has) is_range ∙ ap (λ (b : List ℕ). range b r.from r.to) (concat_chunking l f fits) in
           one.is ∙ ap bytes_line (read ∙ ap (λ (o : Option (List ℕ)). unwrap_or o []) (sym (good_bytes files r f e good)))
 
   lines_exact : (rs : List FileRange) (text : List ℕ) → list_all (λ r. is_some (range_bytes files r)) rs ≡ true → AreRead s (map (info_of l) files) rs text
@@ -99,13 +99,13 @@ apart_in_state s now l files met apart = apart_less chunk_hash (MetStored s.file
     more b (inr given) = inr given
 
 -- each file of a state, as a fact about its bytes
-packed_all : (s : State) (l : LimitSettings) (files : List (List ℕ)) → s.limits ≡ l → AllByRecursion (HasXorbs s) (map (cut l) files)
-    → AllByRecursion (λ bytes. IsPacked s.files s.folder l (cut l bytes)) files
+packed_all : (s : State) (l : LimitSettings) (files : List (List ℕ)) → s.limits ≡ l → AllByRecursion (HasXorbs s) (map (chunking l) files)
+    → AllByRecursion (λ bytes. IsPacked s.files s.folder l (chunking l bytes)) files
 packed_all s l [] e all = tt
-packed_all s l (f ∷ fs) e all = (subst (λ (x : LimitSettings). IsPacked s.files s.folder x (cut l f)) e all.0, packed_all s l fs e all.1)
+packed_all s l (f ∷ fs) e all = (subst (λ (x : LimitSettings). IsPacked s.files s.folder x (chunking l f)) e all.0, packed_all s l fs e all.1)
 
 abbrev Listing : Xorbs → LimitSettings → List (List ℕ) → Type 0
-Listing xorbs l chunks = AllByRecursion (λ pack. IsListed xorbs (xorb_hash (members_of pack)) (members_of pack)) (packs l chunks)
+Listing xorbs l chunks = AllByRecursion (λ pack. IsListed xorbs (xorb_hash (leaves_of pack)) (leaves_of pack)) (packs l chunks)
 
 -- ---- after files were cleaned, and nothing is pending
 
@@ -117,14 +117,14 @@ pub record IsDone (first before after : State) (said : Said) : Type 0 where
   pub flushed : Sound after
   pub folder : first.folder ≡ store_folder
   pub fits : AreInRange first.limits
-  pub has : first.tells ≡ true → Separate before (map (cut first.limits) said.files) → AllByRecursion (HasFile before) (map (cut first.limits) said.files)
-  pub lists : AllByRecursion (ListsXorbs before) (map (cut first.limits) said.files)
+  pub has : first.tells ≡ true → Separate before (map (chunking first.limits) said.files) → AllByRecursion (HasFile before) (map (chunking first.limits) said.files)
+  pub lists : AllByRecursion (ListsXorbs before) (map (chunking first.limits) said.files)
   pub contents : first.tells ≡ true → HasContents first.files first.folder first.opened (contents_of first)
   pub tables : tables_of before ≡ with_files first.limits (tables_of first) said.files
 
 module _ (first before after : State) (said : Said) (done : IsDone first before after said) where
   abbrev chunked : List (List (List ℕ))
-  chunked = map (cut first.limits) said.files
+  chunked = map (chunking first.limits) said.files
 
   folder_after : after.folder ≡ store_folder
   folder_after = done.keeps.folder ∙ done.cleaned.folder ∙ done.folder
@@ -165,7 +165,7 @@ module _ (first before after : State) (said : Said) (done : IsDone first before 
           is = is ∙ ap (λ (i : List XetFileInfo). flat_map info_line i ++ ranges) told_infos ∙ ap (λ (t : List ℕ). t ++ ranges) (lines_of_infos first.limits said.files)
               ∙ ap (λ (x : Said). flat_map (file_line first.limits) x.files ++ ranges) (sym parts);
           exact = λ given.
-              let apart : SeparateIn after.files store_folder first.opened first.limits chunked = subst (λ (x : Said). SeparateIn after.files store_folder first.opened first.limits (map (cut first.limits) x.files)) parts given.1 in
+              let apart : SeparateIn after.files store_folder first.opened first.limits chunked = subst (λ (x : Said). SeparateIn after.files store_folder first.opened first.limits (map (chunking first.limits) x.files)) parts given.1 in
               lines_exact after first.limits said.files (done.keeps.tells ∙ done.cleaned.tells ∙ given.0) done.fits (each_after chunked given.0 (done.has given.0 (separates given.0 apart))) said.ranges ranges good read_of
               ∙ ap (λ (x : Said). flat_map (λ r. bytes_line (unwrap_or (range_bytes x.files r) [])) x.ranges) (sym parts);
           none = λ none. subst (λ (rs : List FileRange). AreRead after infos rs ranges) (ap (λ (x : Said). x.ranges) (sym parts) ∙ none) read;
@@ -175,7 +175,7 @@ module _ (first before after : State) (said : Said) (done : IsDone first before 
     stored_of : first.tells ≡ true → (lines : List Line) → parted lines ≡ said → Stores first.limits lines first.opened after.files
     stored_of told lines parts = λ apart.
         let of_said : Apart chunk_hash (MetStored after.files store_folder first.opened first.limits chunked) =
-        subst (λ (x : Said). Apart chunk_hash (MetStored after.files store_folder first.opened first.limits (map (cut first.limits) x.files))) parts apart in
+        subst (λ (x : Said). Apart chunk_hash (MetStored after.files store_folder first.opened first.limits (map (chunking first.limits) x.files))) parts apart in
         let of_folder : Apart chunk_hash (MetStored after.files after.folder first.opened first.limits chunked) =
         subst (λ (f : List ℕ). Apart chunk_hash (MetStored after.files f first.opened first.limits chunked)) (sym folder_after) of_said in
         let of_moment : Apart chunk_hash (MetStored after.files after.folder after.opened first.limits chunked) =
@@ -186,17 +186,17 @@ module _ (first before after : State) (said : Said) (done : IsDone first before 
         let limits_same : AllByRecursion (ListsXorbs after) chunked = subst (λ (l : LimitSettings). AllByRecursion (Listing after.xorbs l) chunked) (sym done.keeps.limits) xorbs_same in
         let all : AllByRecursion (HasXorbs after) chunked = xorbs_all after chunked done.flushed (done.keeps.tells ∙ done.cleaned.tells ∙ told) (apart_in_state after after.opened first.limits chunked met of_moment) chunked (λ c a. a) limits_same in
         let packed = packed_all after first.limits said.files (done.keeps.limits ∙ done.cleaned.limits) all in
-        let here : AllByRecursion (λ bytes. IsPacked after.files store_folder first.limits (cut first.limits bytes)) said.files =
-        subst (λ (f : List ℕ). AllByRecursion (λ bytes. IsPacked after.files f first.limits (cut first.limits bytes)) said.files) folder_after packed in
-        subst (λ (x : Said). AllByRecursion (λ bytes. IsPacked after.files store_folder first.limits (cut first.limits bytes)) x.files) (sym parts) here
+        let here : AllByRecursion (λ bytes. IsPacked after.files store_folder first.limits (chunking first.limits bytes)) said.files =
+        subst (λ (f : List ℕ). AllByRecursion (λ bytes. IsPacked after.files f first.limits (chunking first.limits bytes)) said.files) folder_after packed in
+        subst (λ (x : Said). AllByRecursion (λ bytes. IsPacked after.files store_folder first.limits (chunking first.limits bytes)) x.files) (sym parts) here
 
     -- what is recorded
-    record_one : first.tells ≡ true → SeparateIn after.files store_folder first.opened first.limits chunked → (bytes : List ℕ) → Among chunked (cut first.limits bytes) → HasFile before (cut first.limits bytes) → bytes ≢ []
+    record_one : first.tells ≡ true → SeparateIn after.files store_folder first.opened first.limits chunked → (bytes : List ℕ) → Among chunked (chunking first.limits bytes) → HasFile before (chunking first.limits bytes) → bytes ≢ []
         → IsRecorded first.limits after.files first.opened bytes
     record_one told apart bytes given there some =
-        let chunks = cut first.limits bytes in
+        let chunks = chunking first.limits bytes in
         let r = recorded_by_folder before after (done.cleaned.tells ∙ told) done.sound done.flushed done.keeps settled.records settled.nothing_pending chunks
-        (apart.lists.not_zero (members_of chunks) (inr (chunks, given, cut_some first.limits bytes done.fits some, refl))) there in
+        (apart.lists.not_zero (leaves_of chunks) (inr (chunks, given, chunking_some first.limits bytes done.fits some, refl))) there in
         let by_folder : Lists after.files store_folder after.opened r.0 = subst (λ (f : List ℕ). Lists after.files f after.opened r.0) folder_after r.1 in
         record {
           record_of_it = r.0;
@@ -205,15 +205,15 @@ module _ (first before after : State) (said : Said) (done : IsDone first before 
           joins = subst (λ (f : List ℕ). JoinsTo after.files f r.0 chunks) folder_after r.3;
         }
 
-    record_all : first.tells ≡ true → SeparateIn after.files store_folder first.opened first.limits chunked → (files : List (List ℕ)) → ((c : List (List ℕ)) → Among (map (cut first.limits) files) c → Among chunked c)
-        → AllByRecursion (HasFile before) (map (cut first.limits) files) → AllByRecursion (λ bytes. bytes ≢ [] → IsRecorded first.limits after.files first.opened bytes) files
+    record_all : first.tells ≡ true → SeparateIn after.files store_folder first.opened first.limits chunked → (files : List (List ℕ)) → ((c : List (List ℕ)) → Among (map (chunking first.limits) files) c → Among chunked c)
+        → AllByRecursion (HasFile before) (map (chunking first.limits) files) → AllByRecursion (λ bytes. bytes ≢ [] → IsRecorded first.limits after.files first.opened bytes) files
     record_all told apart [] given all = tt
     record_all told apart (f ∷ fs) given all =
-        (record_one told apart f (given (cut first.limits f) (inl refl)) all.0, record_all told apart fs (λ c a. given c (inr a)) all.1)
+        (record_one told apart f (given (chunking first.limits f) (inl refl)) all.0, record_all told apart fs (λ c a. given c (inr a)) all.1)
 
     recorded_of : first.tells ≡ true → (lines : List Line) → parted lines ≡ said → Records first.limits lines first.opened after.files
     recorded_of told lines parts = λ given.
-        let apart : SeparateIn after.files store_folder first.opened first.limits chunked = subst (λ (x : Said). SeparateIn after.files store_folder first.opened first.limits (map (cut first.limits) x.files)) parts given in
+        let apart : SeparateIn after.files store_folder first.opened first.limits chunked = subst (λ (x : Said). SeparateIn after.files store_folder first.opened first.limits (map (chunking first.limits) x.files)) parts given in
         let all = record_all told apart said.files (λ c a. a) (done.has told (separates told apart)) in
         subst (λ (x : Said). AllByRecursion (λ bytes. bytes ≢ [] → IsRecorded first.limits after.files first.opened bytes) x.files) (sym parts) all
 

@@ -4,7 +4,7 @@ use Rattle.std.specs.List.{list_all}
 use Rattle.xet_cut.specs.declared.limits.LimitSettings.{LimitSettings}
 use Rattle.xet_store_cli.specs.declared.words.Command.{Command}
 use Rattle.xet_store_cli.specs.declared.words.Command.TheVariants.{Pack}
-use Rattle.xet_store_cli.specs.Outcome.{most_input}
+use Rattle.xet_store_cli.specs.Outcome.{max_input}
 
 -- whether no file is longer than the limits allow a source to be
 abbrev pub are_short : LimitSettings → List (List ℕ) → Bool
@@ -12,4 +12,4 @@ are_short s files = list_all (λ bytes. nat_le (length bytes) s.max_source_bytes
 
 -- A source may be as long as the longest input.
 abbrev pub AllowsInput : Command → Type 0
-AllowsInput (Pack s) = most_input ≤ s.max_source_bytes
+AllowsInput (Pack s) = max_input ≤ s.max_source_bytes

@@ -76,11 +76,11 @@ ranges_of (FileLine bytes ∷ lines) = ranges_of lines
 ranges_of (RangeLine range ∷ lines) = range ∷ ranges_of lines
 
 -- the maximum number of file lines
-abbrev pub most_files : ℕ
-most_files = 1
+abbrev pub max_files : ℕ
+max_files = 1
 
 abbrev pub limited : List Line → Option (List Line)
-limited lines = if nat_le (length (files_of lines)) most_files then Some lines else None
+limited lines = if nat_le (length (files_of lines)) max_files then Some lines else None
 
 -- what the lines of an input say, if all are good: each that is not empty is a file line or a range line, and
 -- there are not too many file lines

@@ -7,7 +7,7 @@ use Rattle.xet_cut.specs.declared.limits.LimitSettings.{LimitSettings}
 use Rattle.xet_hash.specs.declared.error.StoreError.{StoreError}
 use Rattle.xet_folder.specs.Admission.{Admits, Refuses}
 use Rattle.xet_shard_file.specs.Shards.{ShardFile}
-use Rattle.xet_cut.specs.Cut.{cut}
+use Rattle.xet_cut.specs.Chunking.{chunking}
 use Rattle.xet_store.specs.Separate.{SeparateIn}
 use Rattle.xet_store_cli.specs.declared.words.Command.{Command}
 use Rattle.xet_store_cli.specs.declared.words.Command.TheVariants.{Pack}
@@ -24,8 +24,8 @@ abbrev pub outcome : ℕ → List ℕ → Outcome
 outcome status text = record { status = status; text = text }
 
 -- the maximum length of an input, in bytes
-abbrev pub most_input : ℕ
-most_input = 2 ^ 31
+abbrev pub max_input : ℕ
+max_input = 2 ^ 31
 
 abbrev pub bad_line_text : ℕ → List ℕ
 bad_line_text n = codes "bad line " ++ decimal n ++ 10 ∷ []
@@ -45,7 +45,7 @@ by_lines (Some n) lines = Some (outcome 3 (bad_line_text n))
 -- line that names no bytes of the file lines.
 unfoldable pub pack_early : List ℕ → Option Outcome
 pack_early input =
-    elim (nat_lt most_input (length input)) [ true ↦ Some (outcome 9 []) | false ↦ by_lines (first_bad (lines input)) (lines_said (lines input)) ]
+    elim (nat_lt max_input (length input)) [ true ↦ Some (outcome 9 []) | false ↦ by_lines (first_bad (lines input)) (lines_said (lines input)) ]
 
 abbrev pub early_outcome : Option Command → List ℕ → Option Outcome
 early_outcome None input = Some (outcome 2 [])
@@ -59,12 +59,12 @@ abbrev pub bad_shard_text : List ℕ → List ℕ
 bad_shard_text name = codes "bad shard " ++ name ++ 10 ∷ []
 
 -- the chunks of each file of these lines
-abbrev pub cuts_of : LimitSettings → List Line → List (List (List ℕ))
-cuts_of s said = map (cut s) (files_of said)
+abbrev pub chunkings_of : LimitSettings → List Line → List (List (List ℕ))
+chunkings_of s said = map (chunking s) (files_of said)
 
 -- The disk is observable, and there are no collisions among the data seen in its folder and in these lines.
 abbrev pub AreSeparate : Bool → Files → ℕ → LimitSettings → List Line → Type 0
-AreSeparate tells files now s said = (tells ≡ true) × SeparateIn files store_folder now s (cuts_of s said)
+AreSeparate tells files now s said = (tells ≡ true) × SeparateIn files store_folder now s (chunkings_of s said)
 
 -- The outcome that is due for a command at a time, over this input and a disk with the files `old`, which
 -- become `new`. If the input causes none, it is a report if the folder is valid, else the name of the shard
@@ -84,12 +84,12 @@ IsStopped status = (status ≡ 1) ⊎ (status ≡ 4) ⊎ (status ≡ 5) ⊎ (sta
 abbrev pub IsStoppedSilent : ℕ → Type 0
 IsStoppedSilent status = (status ≡ 1) ⊎ (status ≡ 4) ⊎ (status ≡ 6)
 
--- It is cut short while it prints if the output fails or runs out of memory.
+-- It is chunking short while it prints if the output fails or runs out of memory.
 abbrev pub IsCutShort : ℕ → Type 0
 IsCutShort status = (status ≡ 1) ⊎ (status ≡ 5)
 
 -- What a run with this outcome has printed, if the output is observable: the whole text; or, if there is a
--- text and the run was cut short, a prefix of it.
+-- text and the run was chunking short, a prefix of it.
 abbrev pub Prints : Bool → Outcome → List ℕ → List ℕ → ℕ → Type 0
 Prints tells o before after status =
     ((status ≡ o.status) × (tells ≡ true → after ≡ before ++ o.text))

@@ -5,15 +5,15 @@ use Rattle.std.specs.Fmt.{decimal}
 use Rattle.hex.specs.Hex.{encode_lower}
 use Rattle.sha2.specs.Sha256.{sha256}
 use Rattle.xet_hash.specs.Hash.{hash_text}
-use Rattle.xet_hash.specs.Merkle.{file_hash, members_of}
+use Rattle.xet_hash.specs.Merkle.{file_hash, leaves_of}
 use Rattle.xet_cut.specs.declared.limits.LimitSettings.{LimitSettings}
 use Rattle.xet_store.specs.declared.info.XetFileInfo.{XetFileInfo}
-use Rattle.xet_cut.specs.Cut.{cut}
+use Rattle.xet_cut.specs.Chunking.{chunking}
 use Rattle.xet_store_cli.specs.Lines.{Line, files_of, range_bytes, ranges_of}
 
 -- the file hash of these bytes, which is that of their chunks
 abbrev pub hash_of_file : LimitSettings → List ℕ → List ℕ
-hash_of_file s bytes = file_hash (members_of (cut s bytes))
+hash_of_file s bytes = file_hash (leaves_of (chunking s bytes))
 
 -- the line of a file: the text form of its hash, its length in decimal and its SHA-256 (FIPS 180-4) in
 -- hexadecimal, separated by spaces, and LF

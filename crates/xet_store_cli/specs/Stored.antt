@@ -5,7 +5,7 @@ use Rattle.std.specs.Str.Lines.{lines}
 use Rattle.xet_io.specs.Disk.{Files}
 use Rattle.xet_hash.specs.Merkle.{chunk_hash}
 use Rattle.xet_cut.specs.declared.limits.LimitSettings.{LimitSettings}
-use Rattle.xet_cut.specs.Cut.{cut}
+use Rattle.xet_cut.specs.Chunking.{chunking}
 use Rattle.xet_store.specs.Cleaning.{HasShard, HasXorb, IsPacked, IsDurable, SameEntry}
 use Rattle.xet_store.specs.Separate.{Apart, IsNamed, MetStored, SeparateIn}
 use Rattle.xet_store.specs.Tables.{record_of_file}
@@ -20,15 +20,15 @@ use Rattle.xet_store_cli.specs.declared.words.Command.{Command}
 use Rattle.xet_store_cli.specs.declared.words.Command.TheVariants.{Pack}
 use Rattle.xet_store_cli.specs.Words.{command_of}
 use Rattle.xet_store_cli.specs.Lines.{Line, files_of}
-use Rattle.xet_store_cli.specs.Outcome.{cuts_of, lines_said, store_folder}
+use Rattle.xet_store_cli.specs.Outcome.{chunkings_of, lines_said, store_folder}
 use Rattle.xet_store_cli.specs.Report.{hash_of_file}
 
 -- If there are no collisions among the chunks seen in the folder at a time and in these lines, each xorb into
 -- which a file's chunks are packed is stored under its hash.
 abbrev pub Stores : LimitSettings → List Line → ℕ → Files → Type 0
 Stores s said now files =
-    Apart chunk_hash (MetStored files store_folder now s (cuts_of s said))
-    → AllByRecursion (λ bytes. IsPacked files store_folder s (cut s bytes)) (files_of said)
+    Apart chunk_hash (MetStored files store_folder now s (chunkings_of s said))
+    → AllByRecursion (λ bytes. IsPacked files store_folder s (chunking s bytes)) (files_of said)
 
 unfoldable pub HasStoredBy : Command → List ℕ → ℕ → Files → Type 0
 HasStoredBy (Pack s) input now files = Stores s (lines_said (lines input)) now files
@@ -42,13 +42,13 @@ pub record IsRecorded (s : LimitSettings) (files : Files) (now : ℕ) (bytes : L
   pub record_of_it : MDBFileInfo
   pub lists : Lists files store_folder now record_of_it
   pub hash : record_of.file_hash record_of_it ≡ hash_of_file s bytes
-  pub joins : JoinsTo files store_folder record_of_it (cut s bytes)
+  pub joins : JoinsTo files store_folder record_of_it (chunking s bytes)
 
 -- If there are no collisions among the data seen in the folder and in these lines, each file that is not
 -- empty is recorded.
 abbrev pub Records : LimitSettings → List Line → ℕ → Files → Type 0
 Records s said now files =
-    SeparateIn files store_folder now s (cuts_of s said)
+    SeparateIn files store_folder now s (chunkings_of s said)
     → AllByRecursion (λ bytes. bytes ≢ [] → IsRecorded s files now bytes) (files_of said)
 
 unfoldable pub HasRecordedBy : Command → List ℕ → ℕ → Files → Type 0

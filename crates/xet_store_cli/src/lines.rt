@@ -16,7 +16,7 @@ use std::alloc::Global;
 use std::marker::Model;
 
 /// The maximum number of file lines.
-const MOST_FILES: usize = 1;
+const MAX_FILES: usize = 1;
 
 /// A range of the bytes of one of an input's files.
 #[derive(Clone, Copy, PartialEq, Eq, Debug)]
@@ -117,7 +117,7 @@ impl PackLines {
         ensures good { IfOk result (λ good. MatchBool good (and_file self.old bytes.items ≡ Some self.new) (and_file self.old bytes.items ≡ None)) }
         ensures memory { IsOkUnless result Stop.OutOfMemory }
     {
-        if self.files.len() >= MOST_FILES {
+        if self.files.len() >= MAX_FILES {
             return Ok(false);
         }
         self.files.push(bytes)?;
@@ -161,7 +161,7 @@ fn without_return(line: &[u8]) -> &[u8]
     ensures { result.now ≡ strip_carriage_return line.now }
 {
     match line {
-        [front @ .., b'\r'] => front,
+        [prefix @ .., b'\r'] => prefix,
         _ => line,
     }
 }

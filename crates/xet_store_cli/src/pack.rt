@@ -29,10 +29,10 @@ use xet_store::Store;
 const FOLDER: &str = "store";
 
 /// The maximum length of an input, in bytes.
-const MOST_INPUT: usize = 1 << 31;
+const MAX_INPUT: usize = 1 << 31;
 
 /// The maximum length of one read of the input, in bytes.
-const MOST_READ: usize = 1 << 31;
+const MAX_READ: usize = 1 << 31;
 
 /// Reads an input to its end, stores the files of its lines in the folder `store` of a disk, and returns the
 /// disk and the report of files and ranges, or why it stops. `now` is the time in seconds since 1970.
@@ -84,7 +84,7 @@ fn read_lines<I: Source>(alloc: Global, input: &mut I) -> Result<PackLines, Stop
     ensures read { I.tells input.old ≡ true → OnOk result (I.left input.new ≡ []) }
     ensures frame { Called I.tells I.faults input.old input.new (IsErrOf result Stop.Input) }
 {
-    let bytes = read_all(alloc, input, MOST_READ, MOST_INPUT)?;
+    let bytes = read_all(alloc, input, MAX_READ, MAX_INPUT)?;
     let lines = parse(alloc, &bytes)?;
     if !lines.are_good() {
         return Err(Stop::BadRange);

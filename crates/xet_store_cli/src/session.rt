@@ -5,7 +5,7 @@ ghost use Rattle.std.specs.List.{AllByRecursion, flat_map};
 ghost use Rattle.xet_io.specs.Faults.{HasCause};
 ghost use Rattle.xet_folder.specs.Contents.{HasContents};
 ghost use Rattle.xet_store.specs.Cleaning.{HasFile, Keeps, info_of};
-ghost use Rattle.xet_cut.specs.Cut.{cut};
+ghost use Rattle.xet_cut.specs.Chunking.{chunking};
 ghost use Rattle.xet_store.specs.Opening.{contents_of};
 ghost use Rattle.xet_store.specs.Ranges.{IsUnchanged};
 ghost use Rattle.xet_store.specs.Separate.{Separate};
@@ -66,9 +66,9 @@ fn clean_lines<D: Disk + Send>(
 ) -> (Store<D>, Result<Cleaned, Stop>)
     requires { length lines.now.files ≤ 1 }
     ensures infos { IfOk result.1 (λ cleaned. cleaned.infos.items ≡ map (info_of session.limits) lines.now.files) }
-    ensures files { session.tells ≡ true → Separate result.0 (map (cut session.limits) lines.now.files)
-        → OnOk result.1 (AllByRecursion (HasFile result.0) (map (cut session.limits) lines.now.files)) }
-    ensures listed { OnOk result.1 (AllByRecursion (ListsXorbs result.0) (map (cut session.limits) lines.now.files)) }
+    ensures files { session.tells ≡ true → Separate result.0 (map (chunking session.limits) lines.now.files)
+        → OnOk result.1 (AllByRecursion (HasFile result.0) (map (chunking session.limits) lines.now.files)) }
+    ensures listed { OnOk result.1 (AllByRecursion (ListsXorbs result.0) (map (chunking session.limits) lines.now.files)) }
     ensures stores { OnOk result.1 (tables_of result.0 ≡ with_files session.limits (tables_of session) lines.now.files) }
     ensures keeps { Keeps session result.0 }
     ensures stop { IfErr result.1 (IsSessionStop session.tells session.limits lines.now) }

@@ -55,7 +55,7 @@ fn reads_a_xorb(rt: HostRuntime) -> Result<(), Fail> {
     let mut disk = stored(alloc)?;
     let hash = compute_data_hash(b"abc");
     match read_xorb(&mut disk, alloc, "store", &hash)? {
-        XorbFile::Stored(members) => assert_eq!(rt; members.as_slice(), [(hash, 3)].as_slice()),
+        XorbFile::Stored(leaves) => assert_eq!(rt; leaves.as_slice(), [(hash, 3)].as_slice()),
         _ => assert!(rt; false),
     }
     Ok(())
@@ -96,11 +96,11 @@ fn store_both(disk: &mut MemoryDisk, alloc: Global) -> Result<MerkleHash, StoreE
         Chunk::new(Bytes::from_static(b"abc")),
         Chunk::new(Bytes::from_static(b"def")),
     ];
-    let members = [
+    let leaves = [
         (compute_data_hash(b"abc"), 3),
         (compute_data_hash(b"def"), 3),
     ];
-    let hash = xorb_hash(alloc, &members)?;
+    let hash = xorb_hash(alloc, &leaves)?;
     put_xorb(disk, alloc, "store", &hash, &xorb_bytes(alloc, &chunks)?)?;
     Ok(hash)
 }

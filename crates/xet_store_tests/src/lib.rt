@@ -6,7 +6,7 @@
 #[cfg(test)]
 mod cleaning_tests;
 #[cfg(test)]
-mod cut_tests;
+mod chunking_tests;
 #[cfg(test)]
 mod folder_tests;
 #[cfg(test)]

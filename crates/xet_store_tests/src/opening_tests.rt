@@ -81,7 +81,7 @@ fn refused(session: &mut Session, hash: &MerkleHash, from: u64, to: u64) -> Opti
 
 /// The errors of reading a reversed range of `abc`, one past its end, one of the empty file, and one of a
 /// file that is not recorded.
-fn refusals(
+fn errors(
     session: &mut Session,
     hashes: Result<[MerkleHash; 2], StoreError>,
 ) -> Result<[Option<StoreError>; 4], StoreError> {
@@ -98,7 +98,7 @@ fn refusals(
 /// Reopens the store: the errors of these four ranges.
 fn refuses_ranges(alloc: Global) -> Result<[Option<StoreError>; 4], StoreError> {
     let (mut session, hashes) = reopened(alloc)?;
-    let answer = refusals(&mut session, hashes);
+    let answer = errors(&mut session, hashes);
     session.close();
     answer
 }

@@ -4,11 +4,11 @@ use crate::xorbs::xorb_bytes;
 use bytes::Bytes;
 use std::alloc::Global;
 use std::test::Fail;
-use xet_folder::{Members, RunReader, XorbFile, lies_in, put_xorb, read_xorb};
+use xet_folder::{Leaves, RunReader, XorbFile, lies_in, put_xorb, read_xorb};
 use xet_hash::{MerkleHash, StoreError, compute_data_hash, xorb_hash};
 use xet_io::MemoryDisk;
 use xet_shard_format::FileDataSequenceEntry;
-use xet_xorb_chunk::{Chunk, chunk_members};
+use xet_xorb_chunk::{Chunk, chunk_leaves};
 
 /// Writes a xorb of three chunks, and returns its hash.
 fn put_three(alloc: Global, disk: &mut MemoryDisk) -> Result<MerkleHash, StoreError> {
@@ -17,8 +17,8 @@ fn put_three(alloc: Global, disk: &mut MemoryDisk) -> Result<MerkleHash, StoreEr
         Chunk::new(Bytes::from_static(b"defg")),
         Chunk::new(Bytes::from_static(b"hi")),
     ];
-    let members = chunk_members(alloc, &chunks)?;
-    let hash = xorb_hash(alloc, &members)?;
+    let leaves = chunk_leaves(alloc, &chunks)?;
+    let hash = xorb_hash(alloc, &leaves)?;
     let text = xorb_bytes(alloc, &chunks)?;
     put_xorb(disk, alloc, "store", &hash, &text)?;
     Ok(hash)
@@ -29,15 +29,15 @@ fn read_part(
     reader: &mut RunReader,
     disk: &mut MemoryDisk,
     segment: &FileDataSequenceEntry,
-    members: &Members,
+    leaves: &Leaves,
     from: u64,
     to: u64,
 ) -> Result<(), StoreError> {
     let size = u64::from(segment.unpacked_segment_bytes);
-    if from >= to || to > size || !lies_in(segment, members) {
+    if from >= to || to > size || !lies_in(segment, leaves) {
         return Err(StoreError::InvalidRange);
     }
-    reader.read_run(disk, "store", segment, members, from, to)
+    reader.read_run(disk, "store", segment, leaves, from, to)
 }
 
 /// Reads two ranges of the xorb, one after the other.
@@ -45,13 +45,13 @@ fn read_parts(
     alloc: Global,
     disk: &mut MemoryDisk,
     hash: MerkleHash,
-    members: &Members,
+    leaves: &Leaves,
 ) -> Result<Vec<u8>, StoreError> {
     let all = FileDataSequenceEntry::new(hash, 9, 0, 3);
     let last = FileDataSequenceEntry::new(hash, 6, 1, 3);
     let mut reader = RunReader::with_capacity(alloc, 8)?;
-    read_part(&mut reader, disk, &all, members, 2, 8)?;
-    read_part(&mut reader, disk, &last, members, 4, 6)?;
+    read_part(&mut reader, disk, &all, leaves, 2, 8)?;
+    read_part(&mut reader, disk, &last, leaves, 4, 6)?;
     Ok(reader.into_bytes())
 }
 
@@ -61,8 +61,8 @@ fn reads_parts_of_a_xorb(rt: HostRuntime) -> Result<(), Fail> {
     let mut disk = MemoryDisk::new(alloc);
     let hash = put_three(alloc, &mut disk)?;
     match read_xorb(&mut disk, alloc, "store", &hash)? {
-        XorbFile::Stored(members) => {
-            let read = read_parts(alloc, &mut disk, hash, &members)?;
+        XorbFile::Stored(leaves) => {
+            let read = read_parts(alloc, &mut disk, hash, &leaves)?;
             assert_eq!(rt; read.as_slice(), b"cdefghhi".as_slice());
         }
         _ => assert!(rt; false),

@@ -1,10 +1,10 @@
--- What the lists of a footer tell of the members that it is of.
+-- What the lists of a footer tell of the leaves that it is of.
 use Rattle.std.proofs.Common.{◌≡◌, ◌≢◌, ◌∙◌, ℕ, zero, suc, ◌+◌, ◌-◌, ◌<◌, ◌≤◌, ◌==◌, ◌&&◌, ◌||◌, nat_eq, nat_le, nat_lt, not, Bool, true, false, List, [], ◌∷◌, length, map, Ok, Result, cond, refl, sym, subst, ap, arith, slice_index}
 use Rattle.std.proofs.lemmas.Bool.{eq-eqb, eqb-true, le-leb, lt-ltb}
 use Rattle.std.proofs.lemmas.List.{length-map}
 use Rattle.std.specs.Cmp.Lexicographic.{bytes_decides, pointwise}
 use Rattle.xet_hash.specs.Hash.{zero_hash}
-use Rattle.xet_hash.specs.Merkle.{member_of, members_of}
+use Rattle.xet_hash.specs.Merkle.{leaf_of, leaves_of}
 use Rattle.xet_hash.specs.declared.error.Reason.TheVariants.{Incomplete, Offsets}
 use Rattle.xet_hash.specs.declared.error.StoreError.{StoreError}
 use Rattle.xet_xorb_footer.specs.declared.info.XorbObjectInfoV1.{XorbObjectInfoV1}
@@ -15,7 +15,7 @@ use Rattle.xet_xorb.specs.declared.object.XorbObject.{XorbObject}
 use Rattle.xet_xorb.specs.Laws.{AddUp, LengthsAddUp}
 use Rattle.xet_xorb.specs.Ranges.{listed_contents, listed_range}
 
--- how far so many members reach, if so many bytes stand before each one's own
+-- how far so many leaves reach, if so many bytes stand before each one's own
 abbrev pub reach : ℕ → ℕ → List (List ℕ × ℕ) → ℕ
 reach before zero ms = 0
 reach before (suc k) [] = 0
@@ -27,7 +27,7 @@ ends_at before at k [] here = absurd (omega arith)
 ends_at before at zero (m ∷ ms) here = omega arith
 ends_at before at (suc k) (m ∷ ms) here = ends_at before (at + (m.1 + before)) k ms (omega arith) ∙ omega arith
 
--- where so many members end
+-- where so many leaves end
 pub end_is : (before k : ℕ) (ms : List (List ℕ × ℕ)) → k ≤ length ms → end_of (ends_from before 0 ms) k ≡ reach before k ms
 end_is before zero ms few = refl
 end_is before (suc k) ms few = ends_at before 0 k ms (omega arith) ∙ omega arith
@@ -37,7 +37,7 @@ unfolding ends_from
 count-ends before at [] = refl
 count-ends before at (m ∷ ms) = omega (arith, count-ends before (at + (m.1 + before)) ms)
 
--- more members reach as far at least
+-- more leaves reach as far at least
 pub reach_rises : (before a b : ℕ) (ms : List (List ℕ × ℕ)) → a ≤ b → reach before a ms ≤ reach before b ms
 reach_rises before zero b ms more = omega arith
 reach_rises before (suc a) zero ms more = absurd (omega arith)
@@ -61,15 +61,15 @@ hash_is_not hash some = go (pointwise nat_eq hash zero_hash) refl
     go true e = absurd (some ((bytes_decides hash zero_hash).0 e))
     go false e = refl
 
--- A footer is complete, and lists so the ends of these members.
+-- A footer is complete, and lists so the ends of these leaves.
 pub record Lists (i : XorbObjectInfoV1) (ms : List (List ℕ × ℕ)) : Type 0 where
   pub done : complete i ≡ Ok tt
   pub count : i.num_chunks ≡ length ms
   pub ends : i.chunk_boundary_offsets ≡ ends_from 8 0 ms
 
--- the footer of some members is complete, unless its hash is zero
-pub lists_members : (version : Version) (hash : List ℕ) (ms : List (List ℕ × ℕ)) (spare : List ℕ) → 0 < length ms → hash ≢ zero_hash → Lists (footer_info version hash ms spare) ms
-lists_members version hash ms spare some other = go version
+-- the footer of some leaves is complete, unless its hash is zero
+pub lists_leaves : (version : Version) (hash : List ℕ) (ms : List (List ℕ × ℕ)) (spare : List ℕ) → 0 < length ms → hash ≢ zero_hash → Lists (footer_info version hash ms spare) ms
+lists_leaves version hash ms spare some other = go version
   where
     listed : (nat_lt 0 (length ms) && (length (ends_from 8 0 ms) == length ms) && (length (map (λ (m : List ℕ × ℕ). m.0) ms) == length ms)) ≡ true
     listed = and_is _ _ (and_is _ _ (lt-ltb 0 (length ms) some) (eq-eqb _ _ (count-ends 8 0 ms))) (eq-eqb _ _ (length-map ms (λ (m : List ℕ × ℕ). m.0)))
@@ -130,7 +130,7 @@ length_is i ms start end lists plain order few here =
         ap Ok none
     go false e r far = far
 
--- lengths add up over members that a footer lists
+-- lengths add up over leaves that a footer lists
 added : (o : XorbObject) (ms : List (List ℕ × ℕ)) (from at to : ℕ) → Lists o.info ms → o.info.unpacked_chunk_offsets ≡ ends_from 0 0 ms → from ≤ at → at < to → to ≤ length ms → AddUp o from at to
 added o ms from at to lists plain order some few =
     let sum : reach 0 to ms - reach 0 from ms ≡ (reach 0 at ms - reach 0 from ms) + (reach 0 to ms - reach 0 at ms) =
@@ -147,12 +147,12 @@ added_in : (version : Version) (hash : List ℕ) (ms : List (List ℕ × ℕ)) (
     → from ≤ at → at < to → to ≤ length ms → AddUp (object_of version hash ms spare) from at to
 added_in V0 hash ms spare from at to second other order some few = absurd (omega (arith, second))
 added_in V1 hash ms spare from at to second other order some few =
-    added (object_of V1 hash ms spare) ms from at to (lists_members V1 hash ms spare (omega arith) other) refl order some few
+    added (object_of V1 hash ms spare) ms from at to (lists_leaves V1 hash ms spare (omega arith) other) refl order some few
 
 pub lengths_add : LengthsAddUp
-lengths_add most hash bytes chunks o from at to valid other second order some few =
+lengths_add max_chunk hash bytes chunks o from at to valid other second order some few =
     let x = valid.xorb.text in
-    let ms = members_of chunks in
-    let many : length ms ≡ length chunks = length-map chunks member_of in
+    let ms = leaves_of chunks in
+    let many : length ms ≡ length chunks = length-map chunks leaf_of in
     let version = ap (λ (p : XorbObject). p.info.boundaries_version) (sym valid.listed) ∙ second in
     subst (λ (p : XorbObject). AddUp p from at to) (sym valid.listed) (added_in x.version hash ms x.spare from at to version other order some (omega arith))

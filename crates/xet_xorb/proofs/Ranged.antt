@@ -27,9 +27,9 @@ block_added bytes seen fed piece from at n m first same size is read =
     ap (λ (x : List ℕ). x ++ piece) is ∙ ap (λ (x : List ℕ). slice_range bytes from at ++ x) part ∙ sym (range_split bytes from at (at + n) first (omega arith))
 
 -- what was refused of the bytes up to a place is refused of all
-pub refused_between : (bytes fed : List ℕ) (from at to most : ℕ) (chunks : List (List ℕ)) (told : Type 0) (before now : List ℕ) (e : StoreError) → from ≤ at → at ≤ to → fed ≡ slice_range bytes from at
-    → RefusesMore most fed chunks told before now e → ((all : List (List ℕ)) × Decodes most 0 (slice_range bytes from to) all (Err e)) ⊎ (StopsWriting e ⊎ (e ≡ Io Input))
-refused_between bytes fed from at to most chunks told before now e first then is (inl r) =
+pub refused_between : (bytes fed : List ℕ) (from at to max_chunk : ℕ) (chunks : List (List ℕ)) (told : Type 0) (before now : List ℕ) (e : StoreError) → from ≤ at → at ≤ to → fed ≡ slice_range bytes from at
+    → RefusesMore max_chunk fed chunks told before now e → ((all : List (List ℕ)) × Decodes max_chunk 0 (slice_range bytes from to) all (Err e)) ⊎ (StopsWriting e ⊎ (e ≡ Io Input))
+refused_between bytes fed from at to max_chunk chunks told before now e first then is (inl r) =
     let whole : fed ++ slice_range bytes at to ≡ slice_range bytes from to = ap (λ (x : List ℕ). x ++ slice_range bytes at to) is ∙ sym (range_split bytes from at to first then) in
-    inl (chunks ++ r.0, subst (λ (b : List ℕ). Decodes most 0 b (chunks ++ r.0) (Err e)) whole (decodes_longer most 0 fed (slice_range bytes at to) (chunks ++ r.0) e r.1))
-refused_between bytes fed from at to most chunks told before now e first then is (inr r) = inr (inl r.0)
+    inl (chunks ++ r.0, subst (λ (b : List ℕ). Decodes max_chunk 0 b (chunks ++ r.0) (Err e)) whole (decodes_longer max_chunk 0 fed (slice_range bytes at to) (chunks ++ r.0) e r.1))
+refused_between bytes fed from at to max_chunk chunks told before now e first then is (inr r) = inr (inl r.0)

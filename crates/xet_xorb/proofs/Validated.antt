@@ -5,7 +5,7 @@ use Rattle.std.proofs.lemmas.List.{drop-drop, drop_at, length-drop, length-map, 
 use Rattle.std.proofs.lemmas.List.Sums.{sum_by-cons}
 use Rattle.std.proofs.lemmas.Nat.{from_le_bytes-to_le_bytes_4}
 use Rattle.std.specs.List.{flat_map}
-use Rattle.xet_hash.specs.Merkle.{member_of, members_of, total_len, xorb_hash}
+use Rattle.xet_hash.specs.Merkle.{leaf_of, leaves_of, total_len, xorb_hash}
 use Rattle.xet_xorb_footer.specs.declared.info.XorbObjectInfoV0.{XorbObjectInfoV0}
 use Rattle.xet_xorb_footer.specs.declared.info.XorbObjectInfoV1.{XorbObjectInfoV1}
 use Rattle.xet_xorb_footer.specs.Ends.{last_footer, footer_length}
@@ -17,21 +17,21 @@ use Rattle.xet_xorb_footer.specs.theorems.Readback.{length_joined}
 use Rattle.xet_xorb_footer.specs.theorems.EncodedLengths.{length_v0, length_v1}
 use Rattle.xet_xorb_chunk.specs.ChunkEncoding.{encoded_chunk}
 use Rattle.xet_xorb.specs.declared.object.XorbObject.{XorbObject}
-use Rattle.xet_xorb.specs.internal.Checking.{AreChunks, HaveMembers, IsEnding, ending}
-use Rattle.xet_xorb.specs.Footer.{Version, V0, V1, footer_info, footer_len, footer_text, footer_v0, footer_v1}
+use Rattle.xet_xorb.specs.internal.Checking.{AreChunks, HaveLeaves, IsEnding, ending}
+use Rattle.xet_xorb.specs.Footer.{Version, V0, V1, footer_info, footer_len, xorb_footer_bytes, standard_footer_v0, footer_v1}
 use Rattle.xet_xorb.specs.Object.{object_of}
 use Rattle.xet_xorb.specs.Validation.{IsValid, IsXorbOf}
 use Rattle.xet_xorb.specs.Xorb.{IsXorbEncoding, xorb_bytes}
 use Rattle.xet_xorb.proofs.Checked.{all_small, same_chunks}
-use Rattle.xet_xorb.specs.theorems.Digests.{AreHashed, length-xorb_hash, members_hashed}
-use Rattle.xet_xorb.specs.theorems.OfMembers.{length-ends, length-hashes, standard_v0, standard_v1, whole_hashes}
+use Rattle.xet_xorb.specs.theorems.Digests.{AreHashed, length-xorb_hash, leaves_hashed}
+use Rattle.xet_xorb.specs.theorems.OfLeaves.{length-ends, length-hashes, is_standard_v0, standard_v1, whole_hashes}
 
 -- ---- how long the parts are
 
 pub length-footer : (version : Version) (hash : List ℕ) (ms : List (List ℕ × ℕ)) (spare : List ℕ) → length hash ≡ 32 → AreHashed ms → length spare ≡ 16
-    → length (footer_text version hash ms spare) ≡ footer_len version (length ms)
+    → length (xorb_footer_bytes version hash ms spare) ≡ footer_len version (length ms)
 length-footer V0 hash ms spare size hashed sixteen =
-    let all = length_v0 (footer_v0 hash ms spare) refl size (length_joined (map (λ (m : List ℕ × ℕ). m.0) ms) (whole_hashes ms hashed)) sixteen in
+    let all = length_v0 (standard_footer_v0 hash ms spare) refl size (length_joined (map (λ (m : List ℕ × ℕ). m.0) ms) (whole_hashes ms hashed)) sixteen in
     omega (arith, all, length-hashes ms, length-ends 8 0 ms)
 length-footer V1 hash ms spare size hashed sixteen =
     let all = length_v1 (footer_v1 hash ms spare) refl size refl (length_joined (map (λ (m : List ℕ × ℕ). m.0) ms) (whole_hashes ms hashed)) refl sixteen in
@@ -40,13 +40,13 @@ length-footer V1 hash ms spare size hashed sixteen =
 pub length-ending : (version : Version) (hash : List ℕ) (ms : List (List ℕ × ℕ)) (spare : List ℕ) → length hash ≡ 32 → AreHashed ms → length spare ≡ 16
     → length (ending version hash ms spare) ≡ footer_len version (length ms) + 4
 length-ending version hash ms spare size hashed sixteen =
-    omega (arith, length-append (footer_text version hash ms spare) (number (footer_len version (length ms))), length-footer version hash ms spare size hashed sixteen)
+    omega (arith, length-append (xorb_footer_bytes version hash ms spare) (number (footer_len version (length ms))), length-footer version hash ms spare size hashed sixteen)
 
-pub length-spellings : (chunks : List (List ℕ)) → length (flat_map encoded_chunk chunks) ≡ total_len (members_of chunks) + 8 * length chunks
+pub length-encodings : (chunks : List (List ℕ)) → length (flat_map encoded_chunk chunks) ≡ total_len (leaves_of chunks) + 8 * length chunks
 unfolding encoded_chunk
-length-spellings [] = refl
-length-spellings (b ∷ bs) =
-    omega (arith, length-append (encoded_chunk b) (flat_map encoded_chunk bs), sum_by-cons (λ (m : List ℕ × ℕ). m.1) (member_of b) (members_of bs), length-spellings bs)
+length-encodings [] = refl
+length-encodings (b ∷ bs) =
+    omega (arith, length-append (encoded_chunk b) (flat_map encoded_chunk bs), sum_by-cons (λ (m : List ℕ × ℕ). m.1) (leaf_of b) (leaves_of bs), length-encodings bs)
 
 least : (version : Version) (n : ℕ) → 60 ≤ footer_len version n
 least V0 n = omega arith
@@ -68,10 +68,10 @@ regroup_v1 : (a b c d e f g h i j s : List ℕ) (v w x : ℕ) → a ++ (v ∷ (b
 regroup_v1 a b c d e f g h i j s v w x = simp append_assoc
 
 -- the spare bytes stand at a footer's end
-footer_with : (version : Version) (hash : List ℕ) (ms : List (List ℕ × ℕ)) (spare : List ℕ) → footer_text version hash ms spare ≡ footer_text version hash ms [] ++ spare
+footer_with : (version : Version) (hash : List ℕ) (ms : List (List ℕ × ℕ)) (spare : List ℕ) → xorb_footer_bytes version hash ms spare ≡ xorb_footer_bytes version hash ms [] ++ spare
 unfolding footer_bytes_v0 footer_bytes_v1
 footer_with V0 hash ms spare =
-    let i : XorbObjectInfoV0 = footer_v0 hash ms spare in
+    let i : XorbObjectInfoV0 = standard_footer_v0 hash ms spare in
     regroup_v0 i.ident i.xorb_hash (number i.num_chunks) (numbers i.chunk_boundary_offsets) (joined i.chunk_hashes) spare i.version
 footer_with V1 hash ms spare =
     let i : XorbObjectInfoV1 = footer_v1 hash ms spare in
@@ -103,16 +103,16 @@ told_of start told hash ms bytes object whole hashed size e =
 spare_of : (start told : ℕ) (hash : List ℕ) (ms : List (List ℕ × ℕ)) (bytes : List ℕ) (object : XorbObject) → start + told + 4 ≡ length bytes → AreHashed ms → length hash ≡ 32
     → (e : IsEnding hash ms (drop start bytes) object) → take 16 (drop (start + told - 16) bytes) ≡ e.spare
 spare_of start told hash ms bytes object whole hashed size e =
-    let front : List ℕ = footer_text e.version hash ms [] in
+    let prefix : List ℕ = xorb_footer_bytes e.version hash ms [] in
     let last : List ℕ = number (footer_len e.version (length ms)) in
     let is = told_of start told hash ms bytes object whole hashed size e in
     let enough = least e.version (length ms) in
-    let long : length front ≡ told - 16 =
-    omega (arith, length-footer e.version hash ms e.spare size hashed e.spare_len, ap length (footer_with e.version hash ms e.spare), length-append front e.spare, e.spare_len) in
-    let parts : drop start bytes ≡ front ++ (e.spare ++ last) = e.encoded ∙ ap (λ (t : List ℕ). t ++ last) (footer_with e.version hash ms e.spare) ∙ append_assoc front e.spare last in
+    let long : length prefix ≡ told - 16 =
+    omega (arith, length-footer e.version hash ms e.spare size hashed e.spare_len, ap length (footer_with e.version hash ms e.spare), length-append prefix e.spare, e.spare_len) in
+    let parts : drop start bytes ≡ prefix ++ (e.spare ++ last) = e.encoded ∙ ap (λ (t : List ℕ). t ++ last) (footer_with e.version hash ms e.spare) ∙ append_assoc prefix e.spare last in
     let place : start + (told - 16) ≡ start + told - 16 = omega arith in
     let here : drop (start + told - 16) bytes ≡ e.spare ++ last =
-    ap (λ (n : ℕ). drop n bytes) (sym place) ∙ sym (drop-drop (told - 16) start bytes) ∙ ap (drop (told - 16)) parts ∙ drop_at front (e.spare ++ last) (told - 16) long in
+    ap (λ (n : ℕ). drop n bytes) (sym place) ∙ sym (drop-drop (told - 16) start bytes) ∙ ap (drop (told - 16)) parts ∙ drop_at prefix (e.spare ++ last) (told - 16) long in
     ap (take 16) here ∙ take_at e.spare last 16 e.spare_len
 
 -- what is made with an ending's spare bytes stands there
@@ -127,31 +127,31 @@ ending_stands start told version hash ms bytes text spare object whole hashed si
 
 -- ---- a xorb is its parts
 
-length-members : (chunks : List (List ℕ)) → length (members_of chunks) ≡ length chunks
-length-members chunks = length-map chunks member_of
+length-leaves : (chunks : List (List ℕ)) → length (leaves_of chunks) ≡ length chunks
+length-leaves chunks = length-map chunks leaf_of
 
--- members of chunks are hashed, and so is their xorb
-pub hashed_of : (most : ℕ) (bytes : List ℕ) (ms : List (List ℕ × ℕ)) → HaveMembers most bytes ms → AreHashed ms
-hashed_of most bytes ms h = subst AreHashed (sym h.members) (members_hashed h.chunks)
+-- leaves of chunks are hashed, and so is their xorb
+pub hashed_of : (max_chunk : ℕ) (bytes : List ℕ) (ms : List (List ℕ × ℕ)) → HaveLeaves max_chunk bytes ms → AreHashed ms
+hashed_of max_chunk bytes ms h = subst AreHashed (sym h.leaves) (leaves_hashed h.chunks)
 
 pub hash_size : (ms : List (List ℕ × ℕ)) (hash : List ℕ) → AreHashed ms → xorb_hash ms ≡ hash → length hash ≡ 32
 hash_size ms hash hashed is = ap length (sym is) ∙ length-xorb_hash ms hashed
 
 -- stored chunks and an ending are a xorb
-pub is_valid : (most start : ℕ) (hash bytes : List ℕ) (ms : List (List ℕ × ℕ)) (object : XorbObject) → most < 2 ^ 23 → length bytes < 2 ^ 32 → HaveMembers most (take start bytes) ms → 0 < length ms → xorb_hash ms ≡ hash
-    → IsEnding hash ms (drop start bytes) object → (chunks : List (List ℕ)) × IsValid most hash bytes chunks object
+pub is_valid : (max_chunk start : ℕ) (hash bytes : List ℕ) (ms : List (List ℕ × ℕ)) (object : XorbObject) → max_chunk < 2 ^ 23 → length bytes < 2 ^ 32 → HaveLeaves max_chunk (take start bytes) ms → 0 < length ms → xorb_hash ms ≡ hash
+    → IsEnding hash ms (drop start bytes) object → (chunks : List (List ℕ)) × IsValid max_chunk hash bytes chunks object
 unfolding xorb_bytes
-is_valid most start hash bytes ms object small bound h some is e =
+is_valid max_chunk start hash bytes ms object small bound h some is e =
     let chunks : List (List ℕ) = h.chunks in
-    let own : xorb_hash (members_of chunks) ≡ hash = ap xorb_hash (sym h.members) ∙ is in
-    let last : ending e.version hash ms e.spare ≡ ending e.version (xorb_hash (members_of chunks)) (members_of chunks) e.spare =
-    ap (λ (x : List ℕ). ending e.version x ms e.spare) (sym own) ∙ ap (λ (x : List (List ℕ × ℕ)). ending e.version (xorb_hash (members_of chunks)) x e.spare) h.members in (
+    let own : xorb_hash (leaves_of chunks) ≡ hash = ap xorb_hash (sym h.leaves) ∙ is in
+    let last : ending e.version hash ms e.spare ≡ ending e.version (xorb_hash (leaves_of chunks)) (leaves_of chunks) e.spare =
+    ap (λ (x : List ℕ). ending e.version x ms e.spare) (sym own) ∙ ap (λ (x : List (List ℕ × ℕ)). ending e.version (xorb_hash (leaves_of chunks)) x e.spare) h.leaves in (
       chunks,
       record {
         xorb = record {
           text = record {
-            some = omega (arith, some, ap length h.members, length-members chunks);
-            small = all_small most chunks small h.are.fit;
+            some = omega (arith, some, ap length h.leaves, length-leaves chunks);
+            small = all_small max_chunk chunks small h.are.fit;
             bound = bound;
             version = e.version;
             spare = e.spare;
@@ -161,95 +161,95 @@ is_valid most start hash bytes ms object small bound h some is e =
           fit = h.are.fit;
           hashed = own;
         };
-        listed = e.listed ∙ ap (λ (x : List (List ℕ × ℕ)). object_of e.version hash x e.spare) h.members;
+        listed = e.listed ∙ ap (λ (x : List (List ℕ × ℕ)). object_of e.version hash x e.spare) h.leaves;
       },
     )
 
 -- the parts of a xorb: where the footer begins, its length, the stored chunks and the ending
-pub record HasParts (most : ℕ) (hash bytes : List ℕ) (chunks : List (List ℕ)) : Type 0 where
+pub record HasParts (max_chunk : ℕ) (hash bytes : List ℕ) (chunks : List (List ℕ)) : Type 0 where
   pub start : ℕ
   pub told : ℕ
   pub enough : 60 ≤ told
   pub whole : start + told + 4 ≡ length bytes
   pub tells : footer_length bytes ≡ Ok told
-  pub stored : AreChunks most (take start bytes) chunks
+  pub stored : AreChunks max_chunk (take start bytes) chunks
   pub object : XorbObject
-  pub ends : IsEnding hash (members_of chunks) (drop start bytes) object
+  pub ends : IsEnding hash (leaves_of chunks) (drop start bytes) object
 
 -- the last four bytes tell a number
-told_back : (front : List ℕ) (n : ℕ) → n < 2 ^ 32 → footer_length (front ++ number n) ≡ Ok n
-told_back front n small =
-    let all : List ℕ = front ++ number n in
-    let len : length all ≡ length front + 4 = length-append front (number n) in
-    let four : length all - 4 ≡ length front = omega arith in
-    let last : number n ≡ take 4 (drop (length all - 4) all) = sym (ap (λ (k : ℕ). take 4 (drop k all)) four ∙ ap (take 4) (drop-append_seam front (number n))) in
+told_back : (prefix : List ℕ) (n : ℕ) → n < 2 ^ 32 → footer_length (prefix ++ number n) ≡ Ok n
+told_back prefix n small =
+    let all : List ℕ = prefix ++ number n in
+    let len : length all ≡ length prefix + 4 = length-append prefix (number n) in
+    let four : length all - 4 ≡ length prefix = omega arith in
+    let last : number n ≡ take 4 (drop (length all - 4) all) = sym (ap (λ (k : ℕ). take 4 (drop k all)) four ∙ ap (take 4) (drop-append_seam prefix (number n))) in
     told_is (length all) all (number n) refl (omega arith) last ∙ ap Ok (from_le_bytes-to_le_bytes_4 n small)
 
-pub parts_of : (most : ℕ) (hash bytes : List ℕ) (chunks : List (List ℕ)) → IsXorbOf most hash bytes chunks → HasParts most hash bytes chunks
+pub parts_of : (max_chunk : ℕ) (hash bytes : List ℕ) (chunks : List (List ℕ)) → IsXorbOf max_chunk hash bytes chunks → HasParts max_chunk hash bytes chunks
 unfolding xorb_bytes
-parts_of most hash bytes chunks x =
-    let ms : List (List ℕ × ℕ) = members_of chunks in
+parts_of max_chunk hash bytes chunks x =
+    let ms : List (List ℕ × ℕ) = leaves_of chunks in
     let v : Version = x.text.version in
     let spare : List ℕ = x.text.spare in
-    let front : List ℕ = flat_map encoded_chunk chunks in
-    let foot : List ℕ = footer_text v hash ms spare in
+    let prefix : List ℕ = flat_map encoded_chunk chunks in
+    let foot : List ℕ = xorb_footer_bytes v hash ms spare in
     let n : ℕ = footer_len v (length ms) in
-    let hashed : AreHashed ms = members_hashed chunks in
+    let hashed : AreHashed ms = leaves_hashed chunks in
     let size : length hash ≡ 32 = hash_size ms hash hashed x.hashed in
-    let is : bytes ≡ front ++ ending v hash ms spare = x.text.encoded ∙ ap (λ (h : List ℕ). front ++ ending v h ms spare) x.hashed in
-    let long : length bytes ≡ length front + (n + 4) = omega (arith, ap length is, length-append front (ending v hash ms spare), length-ending v hash ms spare size hashed x.text.spare_len) in
-    let split : bytes ≡ (front ++ foot) ++ number n = is ∙ sym (append_assoc front foot (number n)) in
+    let is : bytes ≡ prefix ++ ending v hash ms spare = x.text.encoded ∙ ap (λ (h : List ℕ). prefix ++ ending v h ms spare) x.hashed in
+    let long : length bytes ≡ length prefix + (n + 4) = omega (arith, ap length is, length-append prefix (ending v hash ms spare), length-ending v hash ms spare size hashed x.text.spare_len) in
+    let split : bytes ≡ (prefix ++ foot) ++ number n = is ∙ sym (append_assoc prefix foot (number n)) in
     let bound = x.text.bound in
     record {
-      start = length front;
+      start = length prefix;
       told = n;
       enough = least v (length ms);
       whole = omega arith;
-      tells = ap footer_length split ∙ told_back (front ++ foot) n (omega arith);
-      stored = record { fit = x.fit; stored = ap (take (length front)) is ∙ take-append_seam front (ending v hash ms spare) };
+      tells = ap footer_length split ∙ told_back (prefix ++ foot) n (omega arith);
+      stored = record { fit = x.fit; stored = ap (take (length prefix)) is ∙ take-append_seam prefix (ending v hash ms spare) };
       object = object_of v hash ms spare;
       ends = record {
         version = v;
         spare = spare;
         spare_len = x.text.spare_len;
-        encoded = ap (drop (length front)) is ∙ drop-append_seam front (ending v hash ms spare);
+        encoded = ap (drop (length prefix)) is ∙ drop-append_seam prefix (ending v hash ms spare);
         listed = refl;
       };
     }
 
 -- ---- the last footer is read
 
--- how many members there are at most, and how far they go
+-- how many leaves there are at most, and how far they go
 sizes_of : (version : Version) (n stored len : ℕ) → len ≡ stored + (footer_len version n + 4) → 8 * n ≤ stored → len < 2 ^ 32 → n ≤ max_chunks
 sizes_of V0 n stored len whole each bound = omega arith
 sizes_of V1 n stored len whole each bound = omega arith
 
-last_of : (version : Version) (front hash : List ℕ) (ms : List (List ℕ × ℕ)) (spare : List ℕ) → length hash ≡ 32 → AreHashed ms → length ms ≤ max_chunks → total_len ms + 8 * length ms < 2 ^ 32 → length spare ≡ 16
-    → last_footer (front ++ ending version hash ms spare) ≡ Ok (footer_info version hash ms spare, footer_len version (length ms))
-last_of V0 front hash ms spare size hashed few fits sixteen = last_is_read_v0 (footer_v0 hash ms spare) front (standard_v0 hash ms spare size hashed few fits sixteen)
-last_of V1 front hash ms spare size hashed few fits sixteen = last_is_read (footer_v1 hash ms spare) front (standard_v1 hash ms spare size hashed few fits sixteen)
+last_of : (version : Version) (prefix hash : List ℕ) (ms : List (List ℕ × ℕ)) (spare : List ℕ) → length hash ≡ 32 → AreHashed ms → length ms ≤ max_chunks → total_len ms + 8 * length ms < 2 ^ 32 → length spare ≡ 16
+    → last_footer (prefix ++ ending version hash ms spare) ≡ Ok (footer_info version hash ms spare, footer_len version (length ms))
+last_of V0 prefix hash ms spare size hashed few fits sixteen = last_is_read_v0 (standard_footer_v0 hash ms spare) prefix (is_standard_v0 hash ms spare size hashed few fits sixteen)
+last_of V1 prefix hash ms spare size hashed few fits sixteen = last_is_read (footer_v1 hash ms spare) prefix (standard_v1 hash ms spare size hashed few fits sixteen)
 
-pub last_footer_is_read : (bytes : List ℕ) (chunks : List (List ℕ)) (x : IsXorbEncoding bytes chunks) (o : XorbObject) → o ≡ object_of x.version (xorb_hash (members_of chunks)) (members_of chunks) x.spare
+pub last_footer_is_read : (bytes : List ℕ) (chunks : List (List ℕ)) (x : IsXorbEncoding bytes chunks) (o : XorbObject) → o ≡ object_of x.version (xorb_hash (leaves_of chunks)) (leaves_of chunks) x.spare
     → last_footer bytes ≡ Ok (o.info, o.info_length)
 unfolding xorb_bytes
 last_footer_is_read bytes chunks x o is =
-    let ms : List (List ℕ × ℕ) = members_of chunks in
+    let ms : List (List ℕ × ℕ) = leaves_of chunks in
     let hash : List ℕ = xorb_hash ms in
-    let front : List ℕ = flat_map encoded_chunk chunks in
-    let hashed : AreHashed ms = members_hashed chunks in
+    let prefix : List ℕ = flat_map encoded_chunk chunks in
+    let hashed : AreHashed ms = leaves_hashed chunks in
     let size : length hash ≡ 32 = length-xorb_hash ms hashed in
     let bound = x.bound in
-    let stored : length front ≡ total_len ms + 8 * length ms = omega (arith, length-spellings chunks, length-members chunks) in
-    let long : length bytes ≡ length front + (footer_len x.version (length ms) + 4) =
-    omega (arith, ap length x.encoded, length-append front (ending x.version hash ms x.spare), length-ending x.version hash ms x.spare size hashed x.spare_len) in
-    let few : length ms ≤ max_chunks = sizes_of x.version (length ms) (length front) (length bytes) long (omega arith) bound in
-    ap last_footer x.encoded ∙ last_of x.version front hash ms x.spare size hashed few (omega arith) x.spare_len ∙ ap (λ (y : XorbObject). Ok (y.info, y.info_length)) (sym is)
+    let stored : length prefix ≡ total_len ms + 8 * length ms = omega (arith, length-encodings chunks, length-leaves chunks) in
+    let long : length bytes ≡ length prefix + (footer_len x.version (length ms) + 4) =
+    omega (arith, ap length x.encoded, length-append prefix (ending x.version hash ms x.spare), length-ending x.version hash ms x.spare size hashed x.spare_len) in
+    let few : length ms ≤ max_chunks = sizes_of x.version (length ms) (length prefix) (length bytes) long (omega arith) bound in
+    ap last_footer x.encoded ∙ last_of x.version prefix hash ms x.spare size hashed few (omega arith) x.spare_len ∙ ap (λ (y : XorbObject). Ok (y.info, y.info_length)) (sym is)
 
 -- a valid object is the last footer
-pub valid_is_read : (most : ℕ) (hash bytes : List ℕ) (object : XorbObject) → (chunks : List (List ℕ)) × IsValid most hash bytes chunks object → last_footer bytes ≡ Ok (object.info, object.info_length)
-valid_is_read most hash bytes object v =
+pub valid_is_read : (max_chunk : ℕ) (hash bytes : List ℕ) (object : XorbObject) → (chunks : List (List ℕ)) × IsValid max_chunk hash bytes chunks object → last_footer bytes ≡ Ok (object.info, object.info_length)
+valid_is_read max_chunk hash bytes object v =
     let x = v.1.xorb in
-    let ms : List (List ℕ × ℕ) = members_of v.0 in
+    let ms : List (List ℕ × ℕ) = leaves_of v.0 in
     last_footer_is_read bytes v.0 x.text object (v.1.listed ∙ ap (λ (h : List ℕ). object_of x.text.version h ms x.text.spare) (sym x.hashed))
 
 -- ---- what is refused
@@ -265,30 +265,30 @@ none_more P Q (Ok found) more h = λ none. more (h none)
 none_more P Q (Err e) more h = h
 
 -- where the footer of a xorb begins, if its length is told
-pub place_is : (most start told : ℕ) (hash bytes : List ℕ) (chunks : List (List ℕ)) → start + told + 4 ≡ length bytes → footer_length bytes ≡ Ok told → (p : HasParts most hash bytes chunks) → p.start ≡ start
-place_is most start told hash bytes chunks whole tells p =
+pub place_is : (max_chunk start told : ℕ) (hash bytes : List ℕ) (chunks : List (List ℕ)) → start + told + 4 ≡ length bytes → footer_length bytes ≡ Ok told → (p : HasParts max_chunk hash bytes chunks) → p.start ≡ start
+place_is max_chunk start told hash bytes chunks whole tells p =
     let both : Ok told ≡ Ok p.told = sym tells ∙ p.tells in
     let same : told ≡ p.told = cc in
     let all = p.whole in
     omega arith
 
 -- so its stored chunks and its ending are known
-pub chunks_at : (most start told : ℕ) (hash bytes : List ℕ) (chunks : List (List ℕ)) → start + told + 4 ≡ length bytes → footer_length bytes ≡ Ok told → IsXorbOf most hash bytes chunks → AreChunks most (take start bytes) chunks
-chunks_at most start told hash bytes chunks whole tells x =
-    let p = parts_of most hash bytes chunks x in
-    subst (λ (n : ℕ). AreChunks most (take n bytes) chunks) (place_is most start told hash bytes chunks whole tells p) p.stored
+pub chunks_at : (max_chunk start told : ℕ) (hash bytes : List ℕ) (chunks : List (List ℕ)) → start + told + 4 ≡ length bytes → footer_length bytes ≡ Ok told → IsXorbOf max_chunk hash bytes chunks → AreChunks max_chunk (take start bytes) chunks
+chunks_at max_chunk start told hash bytes chunks whole tells x =
+    let p = parts_of max_chunk hash bytes chunks x in
+    subst (λ (n : ℕ). AreChunks max_chunk (take n bytes) chunks) (place_is max_chunk start told hash bytes chunks whole tells p) p.stored
 
-pub ending_at : (most start told : ℕ) (hash bytes : List ℕ) (chunks : List (List ℕ)) → start + told + 4 ≡ length bytes → footer_length bytes ≡ Ok told → IsXorbOf most hash bytes chunks
-    → (object : XorbObject) × IsEnding hash (members_of chunks) (drop start bytes) object
-ending_at most start told hash bytes chunks whole tells x =
-    let p = parts_of most hash bytes chunks x in
-    (p.object, subst (λ (n : ℕ). IsEnding hash (members_of chunks) (drop n bytes) p.object) (place_is most start told hash bytes chunks whole tells p) p.ends)
+pub ending_at : (max_chunk start told : ℕ) (hash bytes : List ℕ) (chunks : List (List ℕ)) → start + told + 4 ≡ length bytes → footer_length bytes ≡ Ok told → IsXorbOf max_chunk hash bytes chunks
+    → (object : XorbObject) × IsEnding hash (leaves_of chunks) (drop start bytes) object
+ending_at max_chunk start told hash bytes chunks whole tells x =
+    let p = parts_of max_chunk hash bytes chunks x in
+    (p.object, subst (λ (n : ℕ). IsEnding hash (leaves_of chunks) (drop n bytes) p.object) (place_is max_chunk start told hash bytes chunks whole tells p) p.ends)
 
--- the members that were found are those of a xorb
-pub members_at : (most start told : ℕ) (hash bytes : List ℕ) (ms : List (List ℕ × ℕ)) (chunks : List (List ℕ)) → most < 2 ^ 23 → start + told + 4 ≡ length bytes → footer_length bytes ≡ Ok told
-    → HaveMembers most (take start bytes) ms → IsXorbOf most hash bytes chunks → ms ≡ members_of chunks
-members_at most start told hash bytes ms chunks small whole tells h x =
-    h.members ∙ ap members_of (same_chunks most (take start bytes) h.chunks chunks small h.are (chunks_at most start told hash bytes chunks whole tells x))
+-- the leaves that were found are those of a xorb
+pub leaves_at : (max_chunk start told : ℕ) (hash bytes : List ℕ) (ms : List (List ℕ × ℕ)) (chunks : List (List ℕ)) → max_chunk < 2 ^ 23 → start + told + 4 ≡ length bytes → footer_length bytes ≡ Ok told
+    → HaveLeaves max_chunk (take start bytes) ms → IsXorbOf max_chunk hash bytes chunks → ms ≡ leaves_of chunks
+leaves_at max_chunk start told hash bytes ms chunks small whole tells h x =
+    h.leaves ∙ ap leaves_of (same_chunks max_chunk (take start bytes) h.chunks chunks small h.are (chunks_at max_chunk start told hash bytes chunks whole tells x))
 
-pub hash_at : (most : ℕ) (hash bytes : List ℕ) (ms : List (List ℕ × ℕ)) (chunks : List (List ℕ)) → ms ≡ members_of chunks → IsXorbOf most hash bytes chunks → (0 < length ms) × (xorb_hash ms ≡ hash)
-hash_at most hash bytes ms chunks is x = (omega (arith, x.text.some, ap length is, length-members chunks), ap xorb_hash is ∙ x.hashed)
+pub hash_at : (max_chunk : ℕ) (hash bytes : List ℕ) (ms : List (List ℕ × ℕ)) (chunks : List (List ℕ)) → ms ≡ leaves_of chunks → IsXorbOf max_chunk hash bytes chunks → (0 < length ms) × (xorb_hash ms ≡ hash)
+hash_at max_chunk hash bytes ms chunks is x = (omega (arith, x.text.some, ap length is, length-leaves chunks), ap xorb_hash is ∙ x.hashed)

@@ -11,8 +11,8 @@ ends_from before at [] = []
 ends_from before at (m ∷ ms) = (at + (m.1 + before)) ∷ ends_from before (at + (m.1 + before)) ms
 
 -- The footer of version 0, without uncompressed boundary offsets.
-abbrev pub footer_v0 : List ℕ → List (List ℕ × ℕ) → List ℕ → XorbObjectInfoV0
-footer_v0 hash ms spare = record empty_v0 {
+abbrev pub standard_footer_v0 : List ℕ → List (List ℕ × ℕ) → List ℕ → XorbObjectInfoV0
+standard_footer_v0 hash ms spare = record empty_v0 {
   xorb_hash = hash;
   num_chunks = length ms;
   chunk_boundary_offsets = ends_from 8 0 ms;
@@ -39,12 +39,12 @@ pub data Version : Type 0 where
   V1 : Version
 
 -- The encoding of a footer, its value as it is read, and its length.
-abbrev pub footer_text : Version → List ℕ → List (List ℕ × ℕ) → List ℕ → List ℕ
-footer_text V0 hash ms spare = footer_bytes_v0 (footer_v0 hash ms spare)
-footer_text V1 hash ms spare = footer_bytes_v1 (footer_v1 hash ms spare)
+abbrev pub xorb_footer_bytes : Version → List ℕ → List (List ℕ × ℕ) → List ℕ → List ℕ
+xorb_footer_bytes V0 hash ms spare = footer_bytes_v0 (standard_footer_v0 hash ms spare)
+xorb_footer_bytes V1 hash ms spare = footer_bytes_v1 (footer_v1 hash ms spare)
 
 abbrev pub footer_info : Version → List ℕ → List (List ℕ × ℕ) → List ℕ → XorbObjectInfoV1
-footer_info V0 hash ms spare = of_v0 (footer_v0 hash ms spare)
+footer_info V0 hash ms spare = of_v0 (standard_footer_v0 hash ms spare)
 footer_info V1 hash ms spare = footer_v1 hash ms spare
 
 abbrev pub footer_len : Version → ℕ → ℕ

@@ -25,11 +25,11 @@ in_file len places = do
   Ok ends
 
 -- `stored`, read as a stream of chunks: their uncompressed bytes, or the error of the first check that fails.
-abbrev pub IsPlain : ℕ → List ℕ → Result (List ℕ) StoreError → Type 0
-IsPlain most stored (Ok plain) = (chunks : List (List ℕ)) × IsStream most stored chunks (Ok tt) × (plain ≡ concat chunks)
-IsPlain most stored (Err e) = (chunks : List (List ℕ)) × IsStream most stored chunks (Err e)
+abbrev pub IsUncompressed : ℕ → List ℕ → Result (List ℕ) StoreError → Type 0
+IsUncompressed max_chunk stored (Ok plain) = (chunks : List (List ℕ)) × IsStream max_chunk stored chunks (Ok tt) × (plain ≡ concat chunks)
+IsUncompressed max_chunk stored (Err e) = (chunks : List (List ℕ)) × IsStream max_chunk stored chunks (Err e)
 
 -- The same of the bytes between two offsets.
 abbrev pub ReadsPlain : ℕ → List ℕ → Result (ℕ × ℕ) StoreError → Result (List ℕ) StoreError → Type 0
-ReadsPlain most bytes (Ok ends) read = IsPlain most (slice_range bytes ends.0 ends.1) read
-ReadsPlain most bytes (Err e) read = read ≡ Err e
+ReadsPlain max_chunk bytes (Ok ends) read = IsUncompressed max_chunk (slice_range bytes ends.0 ends.1) read
+ReadsPlain max_chunk bytes (Err e) read = read ≡ Err e

@@ -5,7 +5,7 @@ use Rattle.xet_hash.specs.Merkle.{total_len, xorb_hash}
 use Rattle.xet_shard_format.specs.declared.record.MDBXorbInfo.{MDBXorbInfo}
 use Rattle.xet_shard_format.specs.declared.record.XorbChunkSequenceEntry.{XorbChunkSequenceEntry}
 use Rattle.xet_xorb_chunk.specs.declared.chunk.Chunk.{Chunk}
-use Rattle.xet_xorb_chunk.specs.Chunks.{bytes_of, chunk_member}
+use Rattle.xet_xorb_chunk.specs.Chunks.{bytes_of_chunk, chunk_leaf}
 use Rattle.xet_xorb.specs.declared.raw.RawXorbData.{RawXorbData}
 
 -- The recorded chunks: the first starts at offset `at`, and each other one where the one before it ends.
@@ -15,22 +15,22 @@ entries_from at (m ∷ ms) = record { chunk_hash = m.0; chunk_byte_range_start =
 
 -- The record of the xorb with this hash and these (hash, length) pairs.
 abbrev pub xorb_record : List ℕ → List (List ℕ × ℕ) → MDBXorbInfo
-xorb_record hash members = record {
-  metadata = record { xorb_hash = hash; xorb_flags = 0; num_entries = length members; num_bytes_in_xorb = total_len members; num_bytes_on_disk = 0 };
-  chunks = entries_from 0 members;
+xorb_record hash leaves = record {
+  metadata = record { xorb_hash = hash; xorb_flags = 0; num_entries = length leaves; num_bytes_in_xorb = total_len leaves; num_bytes_on_disk = 0 };
+  chunks = entries_from 0 leaves;
 }
 
 -- The raw xorb of these chunks, with the hashes that they carry.
 abbrev pub raw_of : List Chunk → List ℕ → RawXorbData
 raw_of chunks boundaries = record {
-  parts = map bytes_of chunks;
-  xorb_info = xorb_record (xorb_hash (map chunk_member chunks)) (map chunk_member chunks);
+  parts = map bytes_of_chunk chunks;
+  xorb_info = xorb_record (xorb_hash (map chunk_leaf chunks)) (map chunk_leaf chunks);
   file_boundaries = boundaries;
 }
 
 -- The (hash, length) pairs of the recorded chunks.
-abbrev pub raw_members : RawXorbData → List (List ℕ × ℕ)
-raw_members x = map (λ c. (c.chunk_hash, c.unpacked_segment_bytes)) x.xorb_info.chunks
+abbrev pub raw_leaves : RawXorbData → List (List ℕ × ℕ)
+raw_leaves x = map (λ c. (c.chunk_hash, c.unpacked_segment_bytes)) x.xorb_info.chunks
 
 -- Limits on the chunks of a xorb that is built: their number, and their sizes in bytes.
 pub record ArePartsOfXorb (parts : List (List ℕ)) : Type 0 where

@@ -1,18 +1,18 @@
 -- Bytes that are valid as a xorb of a given hash.
 use Rattle.std.specs.Prelude.{◌≡◌, ℕ, ◌≤◌, List, length}
 use Rattle.std.specs.List.{AllByRecursion}
-use Rattle.xet_hash.specs.Merkle.{members_of, xorb_hash}
+use Rattle.xet_hash.specs.Merkle.{leaves_of, xorb_hash}
 use Rattle.xet_xorb.specs.declared.object.XorbObject.{XorbObject}
 use Rattle.xet_xorb.specs.Object.{object_of}
 use Rattle.xet_xorb.specs.Xorb.{IsXorbEncoding}
 
--- `bytes` is a xorb of these chunks, each of at most `most` bytes, with this hash.
-pub record IsXorbOf (most : ℕ) (hash bytes : List ℕ) (chunks : List (List ℕ)) : Type 0 where
+-- `bytes` is a xorb of these chunks, each of at most `max_chunk` bytes, with this hash.
+pub record IsXorbOf (max_chunk : ℕ) (hash bytes : List ℕ) (chunks : List (List ℕ)) : Type 0 where
   pub text : IsXorbEncoding bytes chunks
-  pub fit : AllByRecursion (λ b. length b ≤ most) chunks
-  pub hashed : xorb_hash (members_of chunks) ≡ hash
+  pub fit : AllByRecursion (λ b. length b ≤ max_chunk) chunks
+  pub hashed : xorb_hash (leaves_of chunks) ≡ hash
 
 -- The same, and `object` is its footer with its length.
-pub record IsValid (most : ℕ) (hash bytes : List ℕ) (chunks : List (List ℕ)) (object : XorbObject) : Type 0 where
-  pub xorb : IsXorbOf most hash bytes chunks
-  pub listed : object ≡ object_of xorb.text.version hash (members_of chunks) xorb.text.spare
+pub record IsValid (max_chunk : ℕ) (hash bytes : List ℕ) (chunks : List (List ℕ)) (object : XorbObject) : Type 0 where
+  pub xorb : IsXorbOf max_chunk hash bytes chunks
+  pub listed : object ≡ object_of xorb.text.version hash (leaves_of chunks) xorb.text.spare

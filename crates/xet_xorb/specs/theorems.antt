@@ -1,3 +1,3 @@
 pub mod Digests
-pub mod OfMembers
+pub mod OfLeaves
 pub mod Determined

@@ -2,13 +2,13 @@
 
 ghost use Rattle.std.specs.Prelude.{◌≡◌, ◌⊎◌, ◌<◌, ◌≤◌, ◌+◌, ◌*◌, ◌^◌, ◌++◌, [], Err, true, IfErr, IfOk, IsOkUnless, OnOk, length, map};
 ghost use Rattle.std.specs.List.{AllByRecursion, flat_map};
-ghost use Rattle.xet_hash.specs.Merkle.{members_of, xorb_hash};
+ghost use Rattle.xet_hash.specs.Merkle.{leaves_of, xorb_hash};
 ghost use Rattle.xet_hash.specs.declared.error.StoreError.{StoreError};
 ghost use Rattle.xet_hash.specs.declared.error.StoreError.TheVariants.{OutOfMemory};
 ghost use Rattle.xet_xorb_chunk.specs.Scheme.{compressed};
 ghost use Rattle.xet_xorb_chunk.specs.ChunkEncoding.{encoded_chunk};
 ghost use Rattle.xet_xorb.specs.Building.{built_of, ending};
-ghost use Rattle.xet_xorb.specs.Raw.{IsRaw, raw_members};
+ghost use Rattle.xet_xorb.specs.Raw.{IsRaw, raw_leaves};
 ghost use Rattle.xet_xorb.specs.Xorb.{IsXorbEncoding};
 
 use crate::footers::new_footer;
@@ -50,7 +50,7 @@ impl SerializedXorbObject {
     ) -> Result<SerializedXorbObject, StoreError>
         requires { IsRaw xorb }
         ensures built { IfOk result (λ made. made ≡ built_of xorb footer) }
-        ensures grammar { footer ≡ true → 0 < length xorb.parts → raw_members xorb ≡ members_of xorb.parts → xorb.xorb_info.metadata.xorb_hash ≡ xorb_hash (members_of xorb.parts)
+        ensures grammar { footer ≡ true → 0 < length xorb.parts → raw_leaves xorb ≡ leaves_of xorb.parts → xorb.xorb_info.metadata.xorb_hash ≡ xorb_hash (leaves_of xorb.parts)
             → IfOk result (λ made. IsXorbEncoding made.serialized_data xorb.parts) }
         ensures memory { IsOkUnless result StoreError.OutOfMemory }
     {
@@ -80,10 +80,10 @@ impl SerializedXorbObject {
     ) -> Result<SerializedXorbObject, StoreError>
         requires { IsRaw xorb }
         ensures built { IfOk result (λ made. made ≡ built_of xorb footer) }
-        ensures grammar { footer ≡ true → 0 < length xorb.parts → raw_members xorb ≡ members_of xorb.parts → xorb.xorb_info.metadata.xorb_hash ≡ xorb_hash (members_of xorb.parts)
+        ensures grammar { footer ≡ true → 0 < length xorb.parts → raw_leaves xorb ≡ leaves_of xorb.parts → xorb.xorb_info.metadata.xorb_hash ≡ xorb_hash (leaves_of xorb.parts)
             → IfOk result (λ made. IsXorbEncoding made.serialized_data xorb.parts) }
         ensures scheme { (e : StoreError) → compressed scheme [] ≡ Err e → result ≡ Err e }
-        ensures refusals { IfErr result (λ e. (compressed scheme [] ≡ Err e) ⊎ (e ≡ OutOfMemory)) }
+        ensures errors { IfErr result (λ e. (compressed scheme [] ≡ Err e) ⊎ (e ≡ OutOfMemory)) }
     {
         scheme.compress_from_slice(&[])?;
         SerializedXorbObject::from_xorb(alloc, xorb, footer)
@@ -119,30 +119,30 @@ fn write_ending(
     sink: &mut MemorySink,
 ) -> Result<(), StoreError>
     requires { IsRaw xorb.now }
-    ensures written { OnOk result (sink.new ≡ sink.old ++ ending footer xorb.now.xorb_info.metadata.xorb_hash (raw_members xorb.now)) }
+    ensures written { OnOk result (sink.new ≡ sink.old ++ ending footer xorb.now.xorb_info.metadata.xorb_hash (raw_leaves xorb.now)) }
     ensures memory { IsOkUnless result StoreError.OutOfMemory }
 {
     if !footer {
         return Ok(());
     }
-    let members = listed_members(alloc, &xorb.xorb_info)?;
-    let info = new_footer(alloc, &xorb.hash(), &members, [0; 16])?;
+    let leaves = listed_leaves(alloc, &xorb.xorb_info)?;
+    let info = new_footer(alloc, &xorb.hash(), &leaves, [0; 16])?;
     XorbObject::serialize_given_info(sink, info)?;
     Ok(())
 }
 
 /// The (hash, length) pair of each recorded chunk. The only error is `OutOfMemory`.
-fn listed_members(
+fn listed_leaves(
     alloc: Global,
     xorb_info: &MDBXorbInfo,
 ) -> Result<Vec<(MerkleHash, u64)>, StoreError>
-    ensures members { IfOk result (λ members. members.items ≡ map (λ c. (c.chunk_hash, c.unpacked_segment_bytes)) xorb_info.now.chunks) }
+    ensures leaves { IfOk result (λ leaves. leaves.items ≡ map (λ c. (c.chunk_hash, c.unpacked_segment_bytes)) xorb_info.now.chunks) }
     ensures memory { IsOkUnless result StoreError.OutOfMemory }
 {
     let chunks = xorb_info.chunks.as_slice();
-    let mut members = Vec::with_capacity(alloc, chunks.len())?;
+    let mut leaves = Vec::with_capacity(alloc, chunks.len())?;
     for chunk in chunks {
-        members.push((chunk.chunk_hash, u64::from(chunk.unpacked_segment_bytes)))?;
+        leaves.push((chunk.chunk_hash, u64::from(chunk.unpacked_segment_bytes)))?;
     }
-    Ok(members)
+    Ok(leaves)
 }

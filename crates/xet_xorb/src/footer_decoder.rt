@@ -2,9 +2,9 @@
 
 ghost use Rattle.std.specs.Prelude.{◌≡◌, ◌↔◌, ◌++◌, [], List, ℕ, Ok, Err, true, IfErr, IfOk, IsOk, IsTrue, OnOk};
 ghost use Rattle.xet_hash.specs.declared.error.StoreError.TheVariants.{UnexpectedEof};
-ghost use Rattle.xet_xorb_footer.specs.Decoder.{Holds, Refuses, whole_of};
+ghost use Rattle.xet_xorb_footer.specs.Decoder.{WasFedFooter, FailsPart, is_footer_intact};
 ghost use Rattle.xet_xorb_footer.specs.Ends.{whole_footer};
-ghost use Rattle.xet_xorb_footer.specs.Joining.{IsWholeRefusal};
+ghost use Rattle.xet_xorb_footer.specs.Joining.{IsWholeError};
 
 use crate::object::XorbObject;
 use std::alloc::Global;
@@ -28,8 +28,8 @@ impl Model for FooterDecoder {
 impl FooterDecoder {
     /// A decoder to which nothing was fed. Does not allocate.
     pub fn new(alloc: Global) -> FooterDecoder
-        ensures whole { whole_of result ≡ true }
-        ensures holds { Holds result [] }
+        ensures whole { is_footer_intact result ≡ true }
+        ensures holds { WasFedFooter result [] }
     {
         FooterDecoder {
             decoder: xet_xorb_footer::FooterDecoder::new(alloc),
@@ -38,7 +38,7 @@ impl FooterDecoder {
 
     /// Whether no call has failed. A decoder that has failed must not be used further.
     pub fn is_whole(&self) -> bool
-        ensures { result ≡ whole_of self.now }
+        ensures { result ≡ is_footer_intact self.now }
     {
         self.decoder.is_whole()
     }
@@ -49,11 +49,11 @@ impl FooterDecoder {
     /// fourth byte of a wrong length, `TrailingBytes` with the first byte after the length. The other error
     /// is `OutOfMemory`.
     pub fn feed(&mut self, piece: &[u8]) -> Result<(), StoreError>
-        requires { whole_of self.old ≡ true }
-        ensures fed { OnOk result ((bytes : List ℕ) → Holds self.old bytes → Holds self.new (bytes ++ piece.now)) }
-        ensures refused { IfErr result (Refuses self.old piece.now) }
-        ensures kinds { IfErr result IsWholeRefusal }
-        ensures whole { IsTrue (whole_of self.new) ↔ IsOk result }
+        requires { is_footer_intact self.old ≡ true }
+        ensures fed { OnOk result ((bytes : List ℕ) → WasFedFooter self.old bytes → WasFedFooter self.new (bytes ++ piece.now)) }
+        ensures refused { IfErr result (FailsPart self.old piece.now) }
+        ensures kinds { IfErr result IsWholeError }
+        ensures whole { IsTrue (is_footer_intact self.new) ↔ IsOk result }
     {
         self.decoder.feed(piece)
     }
@@ -61,9 +61,9 @@ impl FooterDecoder {
     /// Ends the input, and returns the footer with its length. Fails with `UnexpectedEof` if the input ended
     /// before the end of the length.
     pub fn finish(self) -> Result<XorbObject, StoreError>
-        requires { whole_of self ≡ true }
-        ensures read { IfOk result (λ o. (bytes : List ℕ) → Holds self bytes → whole_footer bytes ≡ Ok (o.info, o.info_length)) }
-        ensures refused { IfErr result (λ e. (bytes : List ℕ) → Holds self bytes → whole_footer bytes ≡ Err e) }
+        requires { is_footer_intact self ≡ true }
+        ensures read { IfOk result (λ o. (bytes : List ℕ) → WasFedFooter self bytes → whole_footer bytes ≡ Ok (o.info, o.info_length)) }
+        ensures refused { IfErr result (λ e. (bytes : List ℕ) → WasFedFooter self bytes → whole_footer bytes ≡ Err e) }
         ensures kinds { IfErr result (λ e. e ≡ UnexpectedEof) }
     {
         let (info, info_length) = self.decoder.finish()?;

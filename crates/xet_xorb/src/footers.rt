@@ -3,7 +3,7 @@
 ghost use Rattle.std.specs.Prelude.{◌≡◌, ◌≤◌, ◌<◌, ◌+◌, ◌*◌, ◌^◌, IfOk, IsOkUnless, length, map};
 ghost use Rattle.xet_hash.specs.Merkle.{total_len};
 ghost use Rattle.xet_xorb_footer.specs.FooterEncoding.{HasLists, HasShortLists, max_chunks};
-ghost use Rattle.xet_xorb.specs.Footer.{ends_from, footer_v0, footer_v1};
+ghost use Rattle.xet_xorb.specs.Footer.{ends_from, standard_footer_v0, footer_v1};
 
 use std::alloc::Global;
 use xet_hash::{MerkleHash, StoreError};
@@ -16,42 +16,42 @@ const HEADER_LENGTH: u64 = 8;
 /// `OutOfMemory`.
 pub(crate) fn stored_ends(
     alloc: Global,
-    members: &[(MerkleHash, u64)],
+    leaves: &[(MerkleHash, u64)],
 ) -> Result<Vec<u32>, StoreError>
-    requires { total_len members.now + 8 * length members.now < 2 ^ 32 }
-    ensures ends { IfOk result (λ ends. ends.items ≡ ends_from 8 0 members.now) }
+    requires { total_len leaves.now + 8 * length leaves.now < 2 ^ 32 }
+    ensures ends { IfOk result (λ ends. ends.items ≡ ends_from 8 0 leaves.now) }
     ensures memory { IsOkUnless result StoreError.OutOfMemory }
 {
-    ends_with(alloc, members, HEADER_LENGTH)
+    ends_with(alloc, leaves, HEADER_LENGTH)
 }
 
 /// Uncompressed boundary offsets: the end of each chunk among the uncompressed bytes. The only error is
 /// `OutOfMemory`.
 pub(crate) fn plain_ends(
     alloc: Global,
-    members: &[(MerkleHash, u64)],
+    leaves: &[(MerkleHash, u64)],
 ) -> Result<Vec<u32>, StoreError>
-    requires { total_len members.now < 2 ^ 32 }
-    ensures ends { IfOk result (λ ends. ends.items ≡ ends_from 0 0 members.now) }
+    requires { total_len leaves.now < 2 ^ 32 }
+    ensures ends { IfOk result (λ ends. ends.items ≡ ends_from 0 0 leaves.now) }
     ensures memory { IsOkUnless result StoreError.OutOfMemory }
 {
-    ends_with(alloc, members, 0)
+    ends_with(alloc, leaves, 0)
 }
 
 /// The end of each chunk, if `before` bytes precede the bytes of each. The only error is `OutOfMemory`.
 fn ends_with(
     alloc: Global,
-    members: &[(MerkleHash, u64)],
+    leaves: &[(MerkleHash, u64)],
     before: u64,
 ) -> Result<Vec<u32>, StoreError>
-    requires { total_len members.now + before * length members.now < 2 ^ 32 }
-    ensures ends { IfOk result (λ ends. ends.items ≡ ends_from before 0 members.now) }
+    requires { total_len leaves.now + before * length leaves.now < 2 ^ 32 }
+    ensures ends { IfOk result (λ ends. ends.items ≡ ends_from before 0 leaves.now) }
     ensures memory { IsOkUnless result StoreError.OutOfMemory }
 {
-    let mut ends = Vec::with_capacity(alloc, members.len())?;
+    let mut ends = Vec::with_capacity(alloc, leaves.len())?;
     let mut end: u64 = 0;
-    for member in members {
-        end += member.1 + before;
+    for leaf in leaves {
+        end += leaf.1 + before;
         ends.push(end as u32)?;
     }
     Ok(ends)
@@ -60,14 +60,14 @@ fn ends_with(
 /// The hash of each pair. The only error is `OutOfMemory`.
 pub(crate) fn hashes_of(
     alloc: Global,
-    members: &[(MerkleHash, u64)],
+    leaves: &[(MerkleHash, u64)],
 ) -> Result<Vec<MerkleHash>, StoreError>
-    ensures hashes { IfOk result (λ hashes. hashes.items ≡ map (λ m. m.0) members.now) }
+    ensures hashes { IfOk result (λ hashes. hashes.items ≡ map (λ m. m.0) leaves.now) }
     ensures memory { IsOkUnless result StoreError.OutOfMemory }
 {
-    let mut hashes = Vec::with_capacity(alloc, members.len())?;
-    for member in members {
-        hashes.push(member.0)?;
+    let mut hashes = Vec::with_capacity(alloc, leaves.len())?;
+    for leaf in leaves {
+        hashes.push(leaf.0)?;
     }
     Ok(hashes)
 }
@@ -77,19 +77,19 @@ pub(crate) fn hashes_of(
 pub fn new_footer(
     alloc: Global,
     hash: &MerkleHash,
-    members: &[(MerkleHash, u64)],
+    leaves: &[(MerkleHash, u64)],
     spare: [u8; 16],
 ) -> Result<XorbObjectInfoV1, StoreError>
-    requires few { length members.now ≤ max_chunks }
-    requires bound { total_len members.now + 8 * length members.now < 2 ^ 32 }
-    ensures footer { IfOk result (λ footer. footer ≡ footer_v1 hash.now members.now spare) }
+    requires few { length leaves.now ≤ max_chunks }
+    requires bound { total_len leaves.now + 8 * length leaves.now < 2 ^ 32 }
+    ensures footer { IfOk result (λ footer. footer ≡ footer_v1 hash.now leaves.now spare) }
     ensures lists { IfOk result HasLists }
     ensures short { IfOk result HasShortLists }
     ensures memory { IsOkUnless result StoreError.OutOfMemory }
 {
-    let hashes = hashes_of(alloc, members)?;
-    let stored = stored_ends(alloc, members)?;
-    let plain = plain_ends(alloc, members)?;
+    let hashes = hashes_of(alloc, leaves)?;
+    let stored = stored_ends(alloc, leaves)?;
+    let plain = plain_ends(alloc, leaves)?;
     Ok(XorbObjectInfoV1::from_lists(*hash, hashes, stored, plain, spare))
 }
 
@@ -98,17 +98,17 @@ pub fn new_footer(
 pub(crate) fn new_footer_v0(
     alloc: Global,
     hash: &MerkleHash,
-    members: &[(MerkleHash, u64)],
+    leaves: &[(MerkleHash, u64)],
     spare: [u8; 16],
 ) -> Result<XorbObjectInfoV0, StoreError>
-    requires few { length members.now ≤ max_chunks }
-    requires bound { total_len members.now + 8 * length members.now < 2 ^ 32 }
-    ensures footer { IfOk result (λ footer. footer ≡ footer_v0 hash.now members.now spare) }
+    requires few { length leaves.now ≤ max_chunks }
+    requires bound { total_len leaves.now + 8 * length leaves.now < 2 ^ 32 }
+    ensures footer { IfOk result (λ footer. footer ≡ standard_footer_v0 hash.now leaves.now spare) }
     ensures hashes { IfOk result (λ footer. length footer.chunk_hashes ≤ max_chunks) }
     ensures stored { IfOk result (λ footer. length footer.chunk_boundary_offsets ≤ max_chunks) }
     ensures memory { IsOkUnless result StoreError.OutOfMemory }
 {
-    let hashes = hashes_of(alloc, members)?;
-    let stored = stored_ends(alloc, members)?;
+    let hashes = hashes_of(alloc, leaves)?;
+    let stored = stored_ends(alloc, leaves)?;
     Ok(XorbObjectInfoV0::from_lists(*hash, stored, hashes, spare))
 }

@@ -5,7 +5,7 @@ ghost use Rattle.xet_hash.specs.declared.error.Place.TheVariants.{Input, Output}
 ghost use Rattle.xet_hash.specs.declared.error.Reason.TheVariants.{InfoLength, ListLength};
 ghost use Rattle.xet_hash.specs.declared.error.StoreError.TheVariants.{Io, MalformedData, OutOfMemory, UnexpectedEof};
 ghost use Rattle.xet_xorb_footer.specs.Ends.{last_footer, footer_length};
-ghost use Rattle.xet_xorb_footer.specs.Refusals.{IsFooterRefusal};
+ghost use Rattle.xet_xorb_footer.specs.Errors.{IsFooterError};
 ghost use Rattle.xet_xorb_footer.specs.FooterEncoding.{HasLists, HasShortLists, empty_v1, length_of, footer_bytes_v1};
 ghost use Rattle.xet_codec.specs.Numbers.{number};
 ghost use Rattle.xet_io.specs.Frame.{Called, ReadFrom};
@@ -75,7 +75,7 @@ impl XorbObject {
     pub fn deserialize<R: ReadAt>(alloc: Global, reader: &mut R) -> Result<XorbObject, StoreError>
         ensures read { R.tells reader.old ≡ true → IfOk result (λ o. last_footer (R.bytes reader.old) ≡ Ok (o.info, o.info_length)) }
         ensures refused { R.tells reader.old ≡ true → IfErr result (λ e. (last_footer (R.bytes reader.old) ≡ Err e) ⊎ (e ≡ Io Input) ⊎ (e ≡ OutOfMemory)) }
-        ensures kinds { IfErr result (λ e. IsFooterRefusal e ⊎ (e ≡ MalformedData InfoLength)) }
+        ensures kinds { IfErr result (λ e. IsFooterError e ⊎ (e ≡ MalformedData InfoLength)) }
         ensures frame { ReadFrom R.bytes R.tells R.faults R.lent reader.old reader.new (IsErrOf result (Io Input)) }
     {
         let (info, info_length) = last_footer(alloc, reader)?;
@@ -97,7 +97,7 @@ impl XorbObject {
         ensures lists { (HasLists info → ⊥) → IsErrOf result (MalformedData ListLength) }
         ensures written { W.tells sink.old ≡ true → OnOk result (W.written sink.new ≡ W.written sink.old ++ (footer_bytes_v1 info ++ number (length_of info))) }
         ensures nothing { W.tells sink.old ≡ true → IsErrOf result (MalformedData ListLength) → W.written sink.new ≡ W.written sink.old }
-        ensures front { W.tells sink.old ≡ true → (n : ℕ) × (W.written sink.new ≡ W.written sink.old ++ take n (footer_bytes_v1 info ++ number (length_of info))) }
+        ensures prefix { W.tells sink.old ≡ true → (n : ℕ) × (W.written sink.new ≡ W.written sink.old ++ take n (footer_bytes_v1 info ++ number (length_of info))) }
         ensures refused { IfErr result (λ e. (e ≡ Io Output) ⊎ (e ≡ OutOfMemory) ⊎ ((e ≡ MalformedData ListLength) × (HasLists info → ⊥))) }
         ensures frame { Called W.tells W.faults sink.old sink.new (IsErrOf result (Io Output)) }
     {

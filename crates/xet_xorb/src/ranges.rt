@@ -6,7 +6,7 @@ ghost use Rattle.xet_hash.specs.declared.error.Place.TheVariants.{Input, Output}
 ghost use Rattle.xet_hash.specs.declared.error.Reason.TheVariants.{Offsets};
 ghost use Rattle.xet_hash.specs.declared.error.StoreError.{StoreError};
 ghost use Rattle.xet_hash.specs.declared.error.StoreError.TheVariants.{Io, UnexpectedEof};
-ghost use Rattle.xet_xorb_chunk.specs.Decoder.{Holds, fed_len, most_of, whole_of};
+ghost use Rattle.xet_xorb_chunk.specs.Decoder.{WasFed, fed_len, max_chunk_of, is_intact};
 ghost use Rattle.xet_xorb_chunk.specs.Checks.{IsCheck};
 ghost use Rattle.xet_codec.specs.Stops.{StopsReading, StopsWriting};
 ghost use Rattle.xet_xorb_chunk.specs.Stream.{Decodes};
@@ -37,7 +37,7 @@ impl XorbObject {
         reader: &mut R,
         max_chunk: u32,
     ) -> Result<Vec<u8>, StoreError>
-        requires most { max_chunk < 2 ^ 23 }
+        requires max_chunk { max_chunk < 2 ^ 23 }
         ensures bytes { R.tells reader.old ≡ true → IfOk result (λ plain. ReadsPlain max_chunk (R.bytes reader.old) (in_file (length (R.bytes reader.old)) (listed_contents self.now.info)) (Ok plain.items)) }
         ensures listed { (e : StoreError) → listed_contents self.now.info ≡ Err e → IsErrOf result e }
         ensures refused { R.tells reader.old ≡ true → IfErr result (λ e. ReadsPlain max_chunk (R.bytes reader.old) (in_file (length (R.bytes reader.old)) (listed_contents self.now.info)) (Err e) ⊎ StopsReading e) }
@@ -61,7 +61,7 @@ impl XorbObject {
         end: u32,
         max_chunk: u32,
     ) -> Result<Vec<u8>, StoreError>
-        requires most { max_chunk < 2 ^ 23 }
+        requires max_chunk { max_chunk < 2 ^ 23 }
         ensures bytes { R.tells reader.old ≡ true → IfOk result (λ plain. ReadsPlain max_chunk (R.bytes reader.old) (in_file (length (R.bytes reader.old)) (listed_range self.now.info start end)) (Ok plain.items)) }
         ensures listed { (e : StoreError) → listed_range self.now.info start end ≡ Err e → IsErrOf result e }
         ensures refused { R.tells reader.old ≡ true → IfErr result (λ e. ReadsPlain max_chunk (R.bytes reader.old) (in_file (length (R.bytes reader.old)) (listed_range self.now.info start end)) (Err e) ⊎ StopsReading e) }
@@ -94,7 +94,7 @@ fn read_plain<R: ReadAt>(
     to: u32,
     max_chunk: u32,
 ) -> Result<Vec<u8>, StoreError>
-    requires most { max_chunk < 2 ^ 23 }
+    requires max_chunk { max_chunk < 2 ^ 23 }
     requires order { from ≤ to }
     ensures bytes { R.tells reader.old ≡ true → IfOk result (λ plain. ReadsPlain max_chunk (R.bytes reader.old) (in_file (length (R.bytes reader.old)) (Ok (from, to))) (Ok plain.items)) }
     ensures refused { R.tells reader.old ≡ true → IfErr result (λ e. ReadsPlain max_chunk (R.bytes reader.old) (in_file (length (R.bytes reader.old)) (Ok (from, to))) (Err e) ⊎ StopsReading e) }
@@ -140,16 +140,16 @@ fn feed_between<R: ReadAt, W: Sink>(
     to: u64,
     block: &mut [u8],
 ) -> Result<(), StoreError>
-    requires whole { whole_of decoder.old ≡ true }
-    requires new { Holds decoder.old [] [] }
+    requires whole { is_intact decoder.old ≡ true }
+    requires new { WasFed decoder.old [] [] }
     requires len { fed_len decoder.old ≡ 0 }
     requires block { from < to → 0 < length block.old }
     requires order { from ≤ to }
     requires bound { to < 2 ^ 32 }
-    ensures fed { R.tells reader.old ≡ true → to ≤ length (R.bytes reader.old) → OnOk result ((chunks : List (List ℕ)) × Holds decoder.new (slice_range (R.bytes reader.old) from to) chunks × (W.tells w.old ≡ true → W.written w.new ≡ W.written w.old ++ concat chunks)) }
-    ensures whole { OnOk result (whole_of decoder.new ≡ true) }
-    ensures most { most_of decoder.new ≡ most_of decoder.old }
-    ensures refused { R.tells reader.old ≡ true → to ≤ length (R.bytes reader.old) → IfErr result (λ e. ((chunks : List (List ℕ)) × Decodes (most_of decoder.old) 0 (slice_range (R.bytes reader.old) from to) chunks (Err e)) ⊎ (StopsWriting e ⊎ (e ≡ Io Input))) }
+    ensures fed { R.tells reader.old ≡ true → to ≤ length (R.bytes reader.old) → OnOk result ((chunks : List (List ℕ)) × WasFed decoder.new (slice_range (R.bytes reader.old) from to) chunks × (W.tells w.old ≡ true → W.written w.new ≡ W.written w.old ++ concat chunks)) }
+    ensures whole { OnOk result (is_intact decoder.new ≡ true) }
+    ensures max_chunk { max_chunk_of decoder.new ≡ max_chunk_of decoder.old }
+    ensures refused { R.tells reader.old ≡ true → to ≤ length (R.bytes reader.old) → IfErr result (λ e. ((chunks : List (List ℕ)) × Decodes (max_chunk_of decoder.old) 0 (slice_range (R.bytes reader.old) from to) chunks (Err e)) ⊎ (StopsWriting e ⊎ (e ≡ Io Input))) }
     ensures kinds { IfErr result (λ e. IsCheck e ⊎ (StopsWriting e ⊎ (e ≡ Io Input))) }
     ensures reader { ReadFrom R.bytes R.tells R.faults R.lent reader.old reader.new (IsErrOf result (Io Input)) }
     ensures sink { Called W.tells W.faults w.old w.new (IsErrOf result (Io Output)) }

@@ -4,15 +4,15 @@ ghost use Rattle.std.specs.Prelude.{◌≡◌, ◌<◌, ◌^◌, [], IfOk, IsOkU
 ghost use Rattle.std.specs.List.{concat};
 ghost use Rattle.xet_hash.specs.Merkle.{total_len};
 ghost use Rattle.xet_shard_format.specs.Records.{chunk_bytes};
-ghost use Rattle.xet_xorb_chunk.specs.Chunks.{bytes_of, chunk_member};
-ghost use Rattle.xet_xorb.specs.Raw.{ArePartsOfXorb, IsRaw, raw_members, raw_of, xorb_record};
+ghost use Rattle.xet_xorb_chunk.specs.Chunks.{bytes_of_chunk, chunk_leaf};
+ghost use Rattle.xet_xorb.specs.Raw.{ArePartsOfXorb, IsRaw, raw_leaves, raw_of, xorb_record};
 
 use bytes::Bytes;
 use std::alloc::Global;
 use xet_base::Items;
 use xet_hash::{MerkleHash, StoreError, xorb_hash};
 use xet_shard_format::{MDBXorbInfo, XorbChunkSequenceEntry, XorbChunkSequenceHeader};
-use xet_xorb_chunk::{Chunk, chunk_members};
+use xet_xorb_chunk::{Chunk, chunk_leaves};
 
 /// A xorb before it is encoded: the bytes of its chunks, and its record.
 #[derive(Debug, Drop)]
@@ -45,17 +45,17 @@ impl RawXorbData {
         chunks: &[Chunk],
         file_boundaries: Vec<usize>,
     ) -> Result<RawXorbData, StoreError>
-        requires { ArePartsOfXorb (map bytes_of chunks.now) }
+        requires { ArePartsOfXorb (map bytes_of_chunk chunks.now) }
         ensures exact { IfOk result (λ raw. raw ≡ raw_of chunks.now file_boundaries.items) }
-        ensures members { IfOk result (λ raw. raw_members raw ≡ map chunk_member chunks.now) }
+        ensures leaves { IfOk result (λ raw. raw_leaves raw ≡ map chunk_leaf chunks.now) }
         ensures raw { IfOk result IsRaw }
         ensures memory { IsOkUnless result StoreError.OutOfMemory }
     {
-        let members = chunk_members(alloc, chunks)?;
-        let hash = xorb_hash(alloc, &members)?;
+        let leaves = chunk_leaves(alloc, chunks)?;
+        let hash = xorb_hash(alloc, &leaves)?;
         Ok(RawXorbData {
             parts: Items::from_vec(parts_of(alloc, chunks)?),
-            xorb_info: xorb_record(alloc, hash, &members)?,
+            xorb_info: xorb_record(alloc, hash, &leaves)?,
             file_boundaries: Items::from_vec(file_boundaries),
         })
     }
@@ -104,7 +104,7 @@ pub fn raw_xorb_to_vec(alloc: Global, xorb: &RawXorbData) -> Result<Vec<u8>, Sto
 
 /// The bytes of each chunk, shared with it.
 fn parts_of(alloc: Global, chunks: &[Chunk]) -> Result<Vec<Bytes>, StoreError>
-    ensures parts { IfOk result (λ parts. parts.items ≡ map bytes_of chunks.now) }
+    ensures parts { IfOk result (λ parts. parts.items ≡ map bytes_of_chunk chunks.now) }
     ensures memory { IsOkUnless result StoreError.OutOfMemory }
 {
     let mut parts = Vec::with_capacity(alloc, chunks.len())?;
@@ -131,22 +131,22 @@ fn shared(alloc: Global, parts: &[Bytes]) -> Result<Vec<Bytes>, StoreError>
 pub fn xorb_record(
     alloc: Global,
     hash: MerkleHash,
-    members: &[(MerkleHash, u64)],
+    leaves: &[(MerkleHash, u64)],
 ) -> Result<MDBXorbInfo, StoreError>
-    requires count { length members.now < 2 ^ 32 }
-    requires bytes { total_len members.now < 2 ^ 32 }
-    ensures exact { IfOk result (λ block. block ≡ xorb_record hash members.now) }
+    requires count { length leaves.now < 2 ^ 32 }
+    requires bytes { total_len leaves.now < 2 ^ 32 }
+    ensures exact { IfOk result (λ block. block ≡ xorb_record hash leaves.now) }
     ensures memory { IsOkUnless result StoreError.OutOfMemory }
 {
-    let mut entries = Vec::with_capacity(alloc, members.len())?;
+    let mut entries = Vec::with_capacity(alloc, leaves.len())?;
     let mut start = 0;
-    for (chunk, bytes) in members {
+    for (chunk, bytes) in leaves {
         let bytes = *bytes as u32;
         entries.push(XorbChunkSequenceEntry::new(*chunk, bytes, start))?;
         start += bytes;
     }
     Ok(MDBXorbInfo {
-        metadata: XorbChunkSequenceHeader::new(hash, members.len() as u32, start),
+        metadata: XorbChunkSequenceHeader::new(hash, leaves.len() as u32, start),
         chunks: Items::from_vec(entries),
     })
 }

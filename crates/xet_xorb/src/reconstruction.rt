@@ -10,7 +10,7 @@ ghost use Rattle.xet_xorb_footer.specs.FooterEncoding.{HasLists, HasShortLists, 
 ghost use Rattle.xet_codec.specs.Numbers.{number};
 ghost use Rattle.xet_xorb_chunk.specs.Checks.{IsCheck};
 ghost use Rattle.xet_codec.specs.Stops.{StopsWriting};
-ghost use Rattle.xet_xorb.specs.Building.{IsNoRebuild, IsRebuildCheck, Rebuilds, RebuildsFront};
+ghost use Rattle.xet_xorb.specs.Building.{IsNoRebuild, IsRebuildCheck, Rebuilds, RebuildsPrefix};
 ghost use Rattle.xet_xorb.specs.internal.Copying.{IsCopied, IsNoCopy, ShowsNext};
 ghost use Rattle.xet_io.specs.Frame.{Called};
 
@@ -38,29 +38,29 @@ pub fn reconstruct_xorb_with_footer<W: Sink>(
     raw: &[u8],
     max_chunk: u32,
 ) -> Result<(XorbObject, MerkleHash), StoreError>
-    requires most { max_chunk < 2 ^ 23 }
+    requires max_chunk { max_chunk < 2 ^ 23 }
     requires bound { length raw.now < 2 ^ 32 }
     ensures rebuilt { IfOk result (Rebuilds max_chunk raw.now (W.tells sink.old ≡ true) (W.written sink.old) (W.written sink.new)) }
     ensures refused { IfErr result (IsNoRebuild max_chunk raw.now) }
     ensures nothing { W.tells sink.old ≡ true → IfErr result (λ e. IsRebuildCheck e → W.written sink.new ≡ W.written sink.old) }
-    ensures front { W.tells sink.old ≡ true → OnErr result (RebuildsFront max_chunk raw.now (W.written sink.old) (W.written sink.new)) }
+    ensures prefix { W.tells sink.old ≡ true → OnErr result (RebuildsPrefix max_chunk raw.now (W.written sink.old) (W.written sink.new)) }
     ensures frame { Called W.tells W.faults sink.old sink.new (IsErrOf result (Io Output)) }
 {
-    let (members, end) = read_members(alloc, raw, max_chunk)?;
-    let hash = xorb_hash(alloc, &members)?;
-    let footer = new_footer(alloc, &hash, &members, [0; 16])?;
+    let (leaves, end) = read_leaves(alloc, raw, max_chunk)?;
+    let hash = xorb_hash(alloc, &leaves)?;
+    let footer = new_footer(alloc, &hash, &leaves, [0; 16])?;
     let object = write_with_footer(sink, &raw[..end], footer)?;
     Ok((object, hash))
 }
 
 /// Hashes the stored chunks. Returns their (hash, length) pairs, and the offset at which they end: the end of
 /// `raw`, or the start of a footer.
-fn read_members(
+fn read_leaves(
     alloc: Global,
     raw: &[u8],
     max_chunk: u32,
 ) -> Result<(Vec<(MerkleHash, u64)>, usize), StoreError>
-    requires most { max_chunk < 2 ^ 23 }
+    requires max_chunk { max_chunk < 2 ^ 23 }
     requires bound { length raw.now < 2 ^ 32 }
     ensures copied { IfOk result (λ read. IsCopied max_chunk raw.now read.0.items read.1) }
     ensures few { IfOk result (λ read. length read.0.items ≤ max_chunks) }
@@ -70,16 +70,16 @@ fn read_members(
     ensures refused { IfErr result (IsNoCopy max_chunk raw.now) }
     ensures kinds { IfErr result (λ e. IsRebuildCheck e ⊎ (e ≡ OutOfMemory)) }
 {
-    let mut members = Vec::new(alloc);
+    let mut leaves = Vec::new(alloc);
     let mut at = 0;
     'chunks: while let Some(length) = next_chunk(&raw[at..], max_chunk)? {
-        check_count(members.len())?;
+        check_count(leaves.len())?;
         let start = at + XORB_CHUNK_HEADER_LENGTH;
         let end = start + length;
-        members.push((compute_data_hash(&raw[start..end]), length as u64))?;
+        leaves.push((compute_data_hash(&raw[start..end]), length as u64))?;
         at = end;
     }
-    Ok((members, at))
+    Ok((leaves, at))
 }
 
 /// Fails with `MalformedData(ChunkCount)` if a footer cannot list one chunk more than `count`.
@@ -122,7 +122,7 @@ fn write_with_footer<W: Sink>(
     requires lists { HasLists footer }
     ensures object { IfOk result (λ object. object ≡ record { info = footer; info_length = length_of footer }) }
     ensures written { W.tells sink.old ≡ true → OnOk result (W.written sink.new ≡ W.written sink.old ++ (stored.now ++ (footer_bytes_v1 footer ++ number (length_of footer)))) }
-    ensures front { W.tells sink.old ≡ true → (n : ℕ) × (W.written sink.new ≡ W.written sink.old ++ take n (stored.now ++ (footer_bytes_v1 footer ++ number (length_of footer)))) }
+    ensures prefix { W.tells sink.old ≡ true → (n : ℕ) × (W.written sink.new ≡ W.written sink.old ++ take n (stored.now ++ (footer_bytes_v1 footer ++ number (length_of footer)))) }
     ensures refused { IfErr result StopsWriting }
     ensures frame { Called W.tells W.faults sink.old sink.new (IsErrOf result (Io Output)) }
 {
@@ -134,7 +134,7 @@ fn write_with_footer<W: Sink>(
 /// Writes stored chunks. Errors: `Io(Output)` and `OutOfMemory`, with a prefix of the bytes written.
 fn write_stored<W: Sink>(sink: &mut W, stored: &[u8]) -> Result<(), StoreError>
     ensures written { W.tells sink.old ≡ true → OnOk result (W.written sink.new ≡ W.written sink.old ++ stored.now) }
-    ensures front { W.tells sink.old ≡ true → (n : ℕ) × (W.written sink.new ≡ W.written sink.old ++ take n stored.now) }
+    ensures prefix { W.tells sink.old ≡ true → (n : ℕ) × (W.written sink.new ≡ W.written sink.old ++ take n stored.now) }
     ensures refused { IfErr result StopsWriting }
     ensures frame { Called W.tells W.faults sink.old sink.new (IsErrOf result (Io Output)) }
 {

@@ -4,12 +4,12 @@ ghost use Rattle.std.specs.Prelude.{◌≡◌, ◌≤◌, ◌<◌, ◌+◌, ◌*
 ghost use Rattle.std.specs.List.{AllByRecursion};
 ghost use Rattle.xet_hash.specs.declared.error.Place.TheVariants.{Input};
 ghost use Rattle.xet_hash.specs.declared.error.StoreError.TheVariants.{Io};
-ghost use Rattle.xet_hash.specs.Merkle.{chunk_hash, member_of, total_len, xorb_hash};
+ghost use Rattle.xet_hash.specs.Merkle.{chunk_hash, leaf_of, total_len, xorb_hash};
 ghost use Rattle.xet_xorb_footer.specs.Ends.{last_footer, footer_length};
-ghost use Rattle.xet_codec.specs.Blocks.{Has, IsPart, Sees};
+ghost use Rattle.xet_codec.specs.Blocks.{HasBytes, IsPart, Sees};
 ghost use Rattle.xet_xorb_footer.specs.FooterEncoding.{HasShortLists, max_chunks, footer_bytes_v0, footer_bytes_v1};
 ghost use Rattle.xet_codec.specs.Stops.{StopsReading};
-ghost use Rattle.xet_xorb.specs.internal.Checking.{AreChunks, HaveMembers, IsEnding, StandsAt, ending, header_of};
+ghost use Rattle.xet_xorb.specs.internal.Checking.{AreChunks, HaveLeaves, IsEnding, IsStoredAt, ending, encoded_header};
 ghost use Rattle.xet_xorb.specs.Footer.{Version, footer_info, footer_len};
 ghost use Rattle.xet_xorb.specs.Validation.{IsValid, IsXorbOf};
 ghost use Rattle.xet_io.specs.Frame.{ReadFrom};
@@ -57,11 +57,11 @@ impl XorbObject {
         hash: &MerkleHash,
         max_chunk: u32,
     ) -> Result<Option<XorbObject>, StoreError>
-        requires most { max_chunk < 2 ^ 23 }
+        requires max_chunk { max_chunk < 2 ^ 23 }
         ensures valid { R.tells reader.old ≡ true → IfOk result (λ found. IfSome found (λ object. (chunks : List (List ℕ)) × IsValid max_chunk hash.now (R.bytes reader.old) chunks object)) }
         ensures read { R.tells reader.old ≡ true → IfOk result (λ found. IfSome found (λ object. last_footer (R.bytes reader.old) ≡ Ok (object.info, object.info_length))) }
         ensures none { R.tells reader.old ≡ true → IfOk result (λ found. IsNone found → (chunks : List (List ℕ)) → IsXorbOf max_chunk hash.now (R.bytes reader.old) chunks → ⊥) }
-        ensures refusals { IfErr result StopsReading }
+        ensures errors { IfErr result StopsReading }
         ensures frame { ReadFrom R.bytes R.tells R.faults R.lent reader.old reader.new (IsErrOf result (Io Input)) }
     {
         let Some((start, told)) = footer_place(reader)? else {
@@ -69,13 +69,13 @@ impl XorbObject {
         };
         let len = start + told as u64 + LENGTH_SIZE;
         let mut block = Block::new(alloc);
-        let Some(members) = stored_members(alloc, reader, &mut block, start, len, max_chunk)? else {
+        let Some(leaves) = stored_leaves(alloc, reader, &mut block, start, len, max_chunk)? else {
             return Ok(None);
         };
-        if !have_hash(alloc, &members, hash)? {
+        if !have_hash(alloc, &leaves, hash)? {
             return Ok(None);
         }
-        checked_object(alloc, reader, &mut block, start, told, hash, &members)
+        checked_object(alloc, reader, &mut block, start, told, hash, &leaves)
     }
 }
 
@@ -87,7 +87,7 @@ fn footer_place<R: ReadAt>(reader: &mut R) -> Result<Option<(u64, u32)>, StoreEr
     ensures whole { R.tells reader.old ≡ true → IfOk result (λ found. IfSome found (λ place. place.0 + place.1 + 4 ≡ length (R.bytes reader.old))) }
     ensures told { R.tells reader.old ≡ true → IfOk result (λ found. IfSome found (λ place. footer_length (R.bytes reader.old) ≡ Ok place.1)) }
     ensures none { R.tells reader.old ≡ true → IfOk result (λ found. IsNone found → length (R.bytes reader.old) < 2 ^ 32 → (n : ℕ) → 60 ≤ n → n + 4 ≤ length (R.bytes reader.old) → footer_length (R.bytes reader.old) ≡ Ok n → ⊥) }
-    ensures refusals { IfErr result StopsReading }
+    ensures errors { IfErr result StopsReading }
     ensures frame { ReadFrom R.bytes R.tells R.faults R.lent reader.old reader.new (IsErrOf result (Io Input)) }
 {
     let length = reader_length(reader)?;
@@ -109,7 +109,7 @@ fn footer_place<R: ReadAt>(reader: &mut R) -> Result<Option<(u64, u32)>, StoreEr
 /// The (hash, length) pairs of the chunks that are stored in the first `end` of `len` bytes, each of at most
 /// `max_chunk` bytes. None if these bytes are anything but stored chunks. Errors: `Io(Input)` and
 /// `OutOfMemory`.
-fn stored_members<R: ReadAt>(
+fn stored_leaves<R: ReadAt>(
     alloc: Global,
     reader: &mut R,
     block: &mut Block,
@@ -117,32 +117,32 @@ fn stored_members<R: ReadAt>(
     len: u64,
     max_chunk: u32,
 ) -> Result<Option<Vec<(MerkleHash, u64)>>, StoreError>
-    requires most { max_chunk < 2 ^ 23 }
+    requires max_chunk { max_chunk < 2 ^ 23 }
     requires end { end ≤ len }
     requires len { len < 2 ^ 32 }
-    ensures size { IfOk result (λ found. IfSome found (λ members. total_len members.items + 8 * length members.items ≡ end)) }
-    ensures found { (bytes : List ℕ) → Sees (R.tells reader.old) (R.bytes reader.old) bytes len block.old → IfOk result (λ found. IfSome found (λ members. HaveMembers max_chunk (take end bytes) members.items)) }
+    ensures size { IfOk result (λ found. IfSome found (λ leaves. total_len leaves.items + 8 * length leaves.items ≡ end)) }
+    ensures found { (bytes : List ℕ) → Sees (R.tells reader.old) (R.bytes reader.old) bytes len block.old → IfOk result (λ found. IfSome found (λ leaves. HaveLeaves max_chunk (take end bytes) leaves.items)) }
     ensures none { (bytes : List ℕ) → Sees (R.tells reader.old) (R.bytes reader.old) bytes len block.old → IfOk result (λ found. IsNone found → (chunks : List (List ℕ)) → AreChunks max_chunk (take end bytes) chunks → ⊥) }
     ensures part { (bytes : List ℕ) → Sees (R.tells reader.old) (R.bytes reader.old) bytes len block.old → IfOk result (λ found. IfSome found (λ _. IsPart block.new bytes)) }
-    ensures refusals { IfErr result StopsReading }
+    ensures errors { IfErr result StopsReading }
     ensures frame { ReadFrom R.bytes R.tells R.faults R.lent reader.old reader.new (IsErrOf result (Io Input)) }
 {
-    let mut members = Vec::new(alloc);
+    let mut leaves = Vec::new(alloc);
     let mut at: u64 = 0;
     'chunks: while at < end {
-        let Some(member) = member_at(reader, block, at, end, len, max_chunk)? else {
+        let Some(leaf) = leaf_at(reader, block, at, end, len, max_chunk)? else {
             return Ok(None);
         };
-        at += HEADER_SIZE + member.1;
-        members.push(member)?;
+        at += HEADER_SIZE + leaf.1;
+        leaves.push(leaf)?;
     }
-    Ok(Some(members))
+    Ok(Some(leaves))
 }
 
 /// The (hash, length) pair of the chunk that is stored at offset `at` of `len` bytes. None if there is no
 /// chunk of at most `max_chunk` bytes that ends at offset `end` or before. Errors: `Io(Input)` and
 /// `OutOfMemory`.
-fn member_at<R: ReadAt>(
+fn leaf_at<R: ReadAt>(
     reader: &mut R,
     block: &mut Block,
     at: u64,
@@ -150,15 +150,15 @@ fn member_at<R: ReadAt>(
     len: u64,
     max_chunk: u32,
 ) -> Result<Option<(MerkleHash, u64)>, StoreError>
-    requires most { max_chunk < 2 ^ 23 }
+    requires max_chunk { max_chunk < 2 ^ 23 }
     requires place { at ≤ end }
     requires end { end ≤ len }
     requires len { len < 2 ^ 32 }
-    ensures within { IfOk result (λ found. IfSome found (λ member. at + (8 + member.1) ≤ end)) }
-    ensures found { (bytes : List ℕ) → Sees (R.tells reader.old) (R.bytes reader.old) bytes len block.old → IfOk result (λ found. IfSome found (λ member. (chunk : List ℕ) × StandsAt max_chunk bytes at end chunk × (member ≡ member_of chunk))) }
-    ensures none { (bytes : List ℕ) → Sees (R.tells reader.old) (R.bytes reader.old) bytes len block.old → IfOk result (λ found. IsNone found → (chunk : List ℕ) → StandsAt max_chunk bytes at end chunk → ⊥) }
+    ensures within { IfOk result (λ found. IfSome found (λ leaf. at + (8 + leaf.1) ≤ end)) }
+    ensures found { (bytes : List ℕ) → Sees (R.tells reader.old) (R.bytes reader.old) bytes len block.old → IfOk result (λ found. IfSome found (λ leaf. (chunk : List ℕ) × IsStoredAt max_chunk bytes at end chunk × (leaf ≡ leaf_of chunk))) }
+    ensures none { (bytes : List ℕ) → Sees (R.tells reader.old) (R.bytes reader.old) bytes len block.old → IfOk result (λ found. IsNone found → (chunk : List ℕ) → IsStoredAt max_chunk bytes at end chunk → ⊥) }
     ensures part { (bytes : List ℕ) → Sees (R.tells reader.old) (R.bytes reader.old) bytes len block.old → IfOk result (λ found. IfSome found (λ _. IsPart block.new bytes)) }
-    ensures refusals { IfErr result StopsReading }
+    ensures errors { IfErr result StopsReading }
     ensures frame { ReadFrom R.bytes R.tells R.faults R.lent reader.old reader.new (IsErrOf result (Io Input)) }
 {
     let room = end - at;
@@ -191,7 +191,7 @@ fn header_at<R: ReadAt>(
     requires { at ≤ len }
     ensures read { (bytes : List ℕ) → Sees (R.tells reader.old) (R.bytes reader.old) bytes len block.old → at + 8 ≤ len → IfOk result (λ header. header ≡ Some (take 8 (drop at bytes))) }
     ensures part { (bytes : List ℕ) → Sees (R.tells reader.old) (R.bytes reader.old) bytes len block.old → IfOk result (λ header. IfSome header (λ _. IsPart block.new bytes)) }
-    ensures refusals { IfErr result StopsReading }
+    ensures errors { IfErr result StopsReading }
     ensures frame { ReadFrom R.bytes R.tells R.faults R.lent reader.old reader.new (IsErrOf result (Io Input)) }
 {
     if !load(reader, block, at, len, 8)? {
@@ -207,8 +207,8 @@ fn header_at<R: ReadAt>(
 fn chunk_size(header: [u8; 8], max_chunk: u32) -> Option<u32>
     requires { max_chunk < 2 ^ 23 }
     ensures fits { IfSome result (λ n. n ≤ max_chunk) }
-    ensures found { IfSome result (λ n. header ≡ header_of n) }
-    ensures none { IsNone result → (n : ℕ) → n ≤ max_chunk → header ≡ header_of n → ⊥ }
+    ensures found { IfSome result (λ n. header ≡ encoded_header n) }
+    ensures none { IsNone result → (n : ℕ) → n ≤ max_chunk → header ≡ encoded_header n → ⊥ }
 {
     let [version, a, b, c, scheme, d, e, f] = header;
     let stored = u32::from_le_bytes([a, b, c, 0]);
@@ -231,7 +231,7 @@ fn digest_at<R: ReadAt>(
     requires { at ≤ len }
     ensures read { (bytes : List ℕ) → Sees (R.tells reader.old) (R.bytes reader.old) bytes len block.old → at + size ≤ len → IfOk result (λ digest. digest ≡ Some (chunk_hash (take size (drop at bytes)))) }
     ensures part { (bytes : List ℕ) → Sees (R.tells reader.old) (R.bytes reader.old) bytes len block.old → IfOk result (λ digest. IfSome digest (λ _. IsPart block.new bytes)) }
-    ensures refusals { IfErr result StopsReading }
+    ensures errors { IfErr result StopsReading }
     ensures frame { ReadFrom R.bytes R.tells R.faults R.lent reader.old reader.new (IsErrOf result (Io Input)) }
 {
     if !load(reader, block, at, len, size)? {
@@ -251,10 +251,10 @@ fn load<R: ReadAt>(
     count: usize,
 ) -> Result<bool, StoreError>
     requires { at ≤ len }
-    ensures there { IfOk result (λ there. IsTrue there → Has block.new at count) }
+    ensures there { IfOk result (λ there. IsTrue there → HasBytes block.new at count) }
     ensures part { (bytes : List ℕ) → Sees (R.tells reader.old) (R.bytes reader.old) bytes len block.old → IfOk result (λ there. IsTrue there → IsPart block.new bytes) }
     ensures whole { (bytes : List ℕ) → Sees (R.tells reader.old) (R.bytes reader.old) bytes len block.old → at + count ≤ len → IfOk result (λ there. there ≡ true) }
-    ensures refusals { IfErr result StopsReading }
+    ensures errors { IfErr result StopsReading }
     ensures frame { ReadFrom R.bytes R.tells R.faults R.lent reader.old reader.new (IsErrOf result (Io Input)) }
 {
     match block.load(reader, at, len, count) {
@@ -268,15 +268,15 @@ fn load<R: ReadAt>(
 /// `OutOfMemory`.
 fn have_hash(
     alloc: Global,
-    members: &[(MerkleHash, u64)],
+    leaves: &[(MerkleHash, u64)],
     hash: &MerkleHash,
 ) -> Result<bool, StoreError>
-    requires { total_len members.now < 2 ^ 64 }
-    ensures same { IfOk result (λ same. IsTrue same ↔ ((0 < length members.now) × (xorb_hash members.now ≡ hash.now))) }
+    requires { total_len leaves.now < 2 ^ 64 }
+    ensures same { IfOk result (λ same. IsTrue same ↔ ((0 < length leaves.now) × (xorb_hash leaves.now ≡ hash.now))) }
     ensures memory { IsOkUnless result StoreError.OutOfMemory }
 {
-    let found = xorb_hash(alloc, members)?;
-    Ok(!members.is_empty() && found == *hash)
+    let found = xorb_hash(alloc, leaves)?;
+    Ok(!leaves.is_empty() && found == *hash)
 }
 
 /// The footer of `told` bytes at offset `start`, with its length. None unless it is the footer of a xorb with
@@ -288,21 +288,21 @@ fn checked_object<R: ReadAt>(
     start: u64,
     told: u32,
     hash: &MerkleHash,
-    members: &[(MerkleHash, u64)],
+    leaves: &[(MerkleHash, u64)],
 ) -> Result<Option<XorbObject>, StoreError>
     requires some { 60 ≤ told }
     requires bound { start + told + 4 < 2 ^ 32 }
-    requires size { total_len members.now + 8 * length members.now ≡ start }
-    ensures found { (bytes : List ℕ) → Sees (R.tells reader.old) (R.bytes reader.old) bytes (start + told + 4) block.old → AllByRecursion (λ m. length m.0 ≡ 32) members.now → length hash.now ≡ 32 → IfOk result (λ found. IfSome found (IsEnding hash.now members.now (drop start bytes))) }
-    ensures none { (bytes : List ℕ) → Sees (R.tells reader.old) (R.bytes reader.old) bytes (start + told + 4) block.old → AllByRecursion (λ m. length m.0 ≡ 32) members.now → length hash.now ≡ 32 → IfOk result (λ found. IsNone found → (object : _) → IsEnding hash.now members.now (drop start bytes) object → ⊥) }
-    ensures refusals { IfErr result StopsReading }
+    requires size { total_len leaves.now + 8 * length leaves.now ≡ start }
+    ensures found { (bytes : List ℕ) → Sees (R.tells reader.old) (R.bytes reader.old) bytes (start + told + 4) block.old → AllByRecursion (λ m. length m.0 ≡ 32) leaves.now → length hash.now ≡ 32 → IfOk result (λ found. IfSome found (IsEnding hash.now leaves.now (drop start bytes))) }
+    ensures none { (bytes : List ℕ) → Sees (R.tells reader.old) (R.bytes reader.old) bytes (start + told + 4) block.old → AllByRecursion (λ m. length m.0 ≡ 32) leaves.now → length hash.now ≡ 32 → IfOk result (λ found. IsNone found → (object : _) → IsEnding hash.now leaves.now (drop start bytes) object → ⊥) }
+    ensures errors { IfErr result StopsReading }
     ensures frame { ReadFrom R.bytes R.tells R.faults R.lent reader.old reader.new (IsErrOf result (Io Input)) }
 {
     let mut spare = [0; 16];
     if !fill(reader, start + told as u64 - SPARE_SIZE, &mut spare)? {
         return Ok(None);
     }
-    let Some((info, text)) = ending_of(alloc, hash, members, told, spare)? else {
+    let Some((info, text)) = ending_of(alloc, hash, leaves, told, spare)? else {
         return Ok(None);
     };
     let len = start + told as u64 + LENGTH_SIZE;
@@ -320,24 +320,24 @@ fn checked_object<R: ReadAt>(
 fn ending_of(
     alloc: Global,
     hash: &MerkleHash,
-    members: &[(MerkleHash, u64)],
+    leaves: &[(MerkleHash, u64)],
     told: u32,
     spare: [u8; 16],
 ) -> Result<Option<(XorbObjectInfoV1, Vec<u8>)>, StoreError>
-    requires { total_len members.now + 8 * length members.now + told + 4 < 2 ^ 32 }
-    ensures found { IfOk result (λ found. IfSome found (λ made. (version : Version) × (told ≡ footer_len version (length members.now)) × (made.0 ≡ footer_info version hash.now members.now spare) × (made.1.items ≡ ending version hash.now members.now spare))) }
-    ensures none { IfOk result (λ found. IsNone found → (version : Version) → told ≡ footer_len version (length members.now) → ⊥) }
+    requires { total_len leaves.now + 8 * length leaves.now + told + 4 < 2 ^ 32 }
+    ensures found { IfOk result (λ found. IfSome found (λ made. (version : Version) × (told ≡ footer_len version (length leaves.now)) × (made.0 ≡ footer_info version hash.now leaves.now spare) × (made.1.items ≡ ending version hash.now leaves.now spare))) }
+    ensures none { IfOk result (λ found. IsNone found → (version : Version) → told ≡ footer_len version (length leaves.now) → ⊥) }
     ensures memory { IsOkUnless result StoreError.OutOfMemory }
 {
-    let count = members.len() as u64;
+    let count = leaves.len() as u64;
     if told as u64 == EMPTY_V1 + EACH_V1 * count {
-        let info = new_footer(alloc, hash, members, spare)?;
+        let info = new_footer(alloc, hash, leaves, spare)?;
         let mut text = text_of(alloc, &info)?;
         text.extend_from_slice(&told.to_le_bytes())?;
         return Ok(Some((info, text)));
     }
     if told as u64 == EMPTY_V0 + EACH_V0 * count {
-        let info = new_footer_v0(alloc, hash, members, spare)?;
+        let info = new_footer_v0(alloc, hash, leaves, spare)?;
         let mut text = text_of_v0(alloc, &info)?;
         text.extend_from_slice(&told.to_le_bytes())?;
         return Ok(Some((XorbObjectInfoV1::from_v0(info), text)));
@@ -384,7 +384,7 @@ fn stands_at<R: ReadAt>(
 ) -> Result<bool, StoreError>
     requires { at ≤ len }
     ensures found { (bytes : List ℕ) → Sees (R.tells reader.old) (R.bytes reader.old) bytes len block.old → IfOk result (λ same. IsTrue same ↔ (text.now ≡ take (length text.now) (drop at bytes))) }
-    ensures refusals { IfErr result StopsReading }
+    ensures errors { IfErr result StopsReading }
     ensures frame { ReadFrom R.bytes R.tells R.faults R.lent reader.old reader.new (IsErrOf result (Io Input)) }
 {
     if len - at < text.len() as u64 {
@@ -413,7 +413,7 @@ fn piece_stands_at<R: ReadAt>(
     requires { at + length piece.now ≤ len }
     ensures found { (bytes : List ℕ) → Sees (R.tells reader.old) (R.bytes reader.old) bytes len block.old → IfOk result (λ same. IsTrue same ↔ (piece.now ≡ take (length piece.now) (drop at bytes))) }
     ensures part { (bytes : List ℕ) → Sees (R.tells reader.old) (R.bytes reader.old) bytes len block.old → IfOk result (λ same. IsTrue same → IsPart block.new bytes) }
-    ensures refusals { IfErr result StopsReading }
+    ensures errors { IfErr result StopsReading }
     ensures frame { ReadFrom R.bytes R.tells R.faults R.lent reader.old reader.new (IsErrOf result (Io Input)) }
 {
     let there = load(reader, block, at, len, piece.len())?;
@@ -426,7 +426,7 @@ fn fill<R: ReadAt>(reader: &mut R, at: u64, buf: &mut [u8]) -> Result<bool, Stor
     ensures whole { R.tells reader.old ≡ true → at + length buf.old ≤ length (R.bytes reader.old) → IfOk result (λ whole. whole ≡ true) }
     ensures read { R.tells reader.old ≡ true → at + length buf.old ≤ length (R.bytes reader.old) → IfOk result (λ _. buf.new ≡ take (length buf.old) (drop at (R.bytes reader.old))) }
     ensures len { length buf.new ≡ length buf.old }
-    ensures refusals { IfErr result (λ e. e ≡ Io Input) }
+    ensures errors { IfErr result (λ e. e ≡ Io Input) }
     ensures frame { ReadFrom R.bytes R.tells R.faults R.lent reader.old reader.new (IsErrOf result (Io Input)) }
 {
     match read_exact(reader, at, buf) {

@@ -5,9 +5,9 @@ use Rattle.std.proofs.lemmas.List.Sums.{sum_by-cons}
 use Rattle.std.specs.List.{All, sum_by}
 use Rattle.xet_hash.specs.Merkle.{total_len}
 use Rattle.xet_xorb_chunk.specs.declared.chunk.Chunk.{Chunk}
-use Rattle.xet_xorb_chunk.specs.Chunks.{chunk_member, total}
+use Rattle.xet_xorb_chunk.specs.Chunks.{chunk_leaf, total}
 
-pub total-members : (chunks : List Chunk) → total_len (map chunk_member chunks) ≡ total chunks
-total-members [] = refl
-total-members (c ∷ cs) =
-    omega (arith, sum_by-cons (λ (m : List ℕ × ℕ). m.1) (chunk_member c) (map chunk_member cs), sum_by-cons (λ (c : Chunk). length c.bytes) c cs, total-members cs)
+pub total-leaves : (chunks : List Chunk) → total_len (map chunk_leaf chunks) ≡ total chunks
+total-leaves [] = refl
+total-leaves (c ∷ cs) =
+    omega (arith, sum_by-cons (λ (m : List ℕ × ℕ). m.1) (chunk_leaf c) (map chunk_leaf cs), sum_by-cons (λ (c : Chunk). length c.bytes) c cs, total-leaves cs)

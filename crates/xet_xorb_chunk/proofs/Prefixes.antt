@@ -11,15 +11,15 @@ use Rattle.xet_xorb_chunk.specs.Checks.{IsCheck}
 use Rattle.xet_codec.specs.Stops.{StopsReading, StopsWriting}
 use Rattle.xet_xorb_chunk.specs.Taking.{TakesFailedChunk, TakesFailedHeader, TakesPrefix, header_in}
 
-pub prefix_of : (left front rest : List ℕ) → left ≡ front ++ rest → TakesPrefix left rest
-prefix_of left front rest e = (length front, sym (ap (drop (length front)) e ∙ drop_at front rest (length front) refl))
+pub taken_prefix : (left prefix rest : List ℕ) → left ≡ prefix ++ rest → TakesPrefix left rest
+taken_prefix left prefix rest e = (length prefix, sym (ap (drop (length prefix)) e ∙ drop_at prefix rest (length prefix) refl))
 
 -- a prefix, and then another
 pub prefix_then : (left middle rest : List ℕ) → TakesPrefix left middle → TakesPrefix middle rest → TakesPrefix left rest
 prefix_then left middle rest (n, first) (m, next) = (n + m, next ∙ ap (drop m) first ∙ drop-drop m n left)
 
 pub fills_prefix : (left buffer rest : List ℕ) (r : Result ℕ StoreError) → Fills left buffer r rest → TakesPrefix left rest
-fills_prefix left buffer rest (Ok count) fills = prefix_of left (take count buffer) rest fills.taken
+fills_prefix left buffer rest (Ok count) fills = taken_prefix left (take count buffer) rest fills.taken
 fills_prefix left buffer rest (Err e) taken = taken
 
 -- the bytes of a header were read, or ended
@@ -57,19 +57,19 @@ no_writing e (inl same) (inr input) = cc (sym same ∙ input)
 no_writing e (inr same) (inl check) = cc (subst IsCheck same check)
 no_writing e (inr same) (inr input) = cc (sym same ∙ input)
 
-no_header : (most : ℕ) (left : List ℕ) (e : StoreError) (h : Header) → (header_in most left ≡ Err e) ⊎ StopsReading e → header_in most left ≡ Ok h → IsCheck e → ⊥
-no_header most left e h (inl fails) ok check = cc (sym fails ∙ ok)
-no_header most left e h (inr stops) ok check = no_reading e stops check
+no_header : (max_chunk : ℕ) (left : List ℕ) (e : StoreError) (h : Header) → (header_in max_chunk left ≡ Err e) ⊎ StopsReading e → header_in max_chunk left ≡ Ok h → IsCheck e → ⊥
+no_header max_chunk left e h (inl fails) ok check = cc (sym fails ∙ ok)
+no_header max_chunk left e h (inr stops) ok check = no_reading e stops check
 
 -- a chunk whose header is refused
-pub chunk_of_header : (most : ℕ) (left rest : List ℕ) (e : StoreError) → (header_in most left ≡ Err e) ⊎ StopsReading e → TakesFailedHeader most left rest e → TakesFailedChunk most left rest e
-chunk_of_header most left rest e why takes = record { prefix = takes.prefix; header = takes.header; body = λ h ok check. absurd (no_header most left e h why ok check) }
+pub chunk_of_header : (max_chunk : ℕ) (left rest : List ℕ) (e : StoreError) → (header_in max_chunk left ≡ Err e) ⊎ StopsReading e → TakesFailedHeader max_chunk left rest e → TakesFailedChunk max_chunk left rest e
+chunk_of_header max_chunk left rest e why takes = record { consumed = takes.consumed; header = takes.header; body = λ h ok check. absurd (no_header max_chunk left e h why ok check) }
 
 -- a chunk whose body is refused
-pub chunk_of_body : (most : ℕ) (left middle rest : List ℕ) (e : StoreError) (header : Header) → header_in most left ≡ Ok header → middle ≡ drop 8 left → TakesPrefix middle rest
-    → (IsCheck e → rest ≡ drop (8 + header.stored) left) → TakesFailedChunk most left rest e
-chunk_of_body most left middle rest e header ok first next body = record {
-  prefix = prefix_then left middle rest (8, first) next;
+pub chunk_of_body : (max_chunk : ℕ) (left middle rest : List ℕ) (e : StoreError) (header : Header) → header_in max_chunk left ≡ Ok header → middle ≡ drop 8 left → TakesPrefix middle rest
+    → (IsCheck e → rest ≡ drop (8 + header.stored) left) → TakesFailedChunk max_chunk left rest e
+chunk_of_body max_chunk left middle rest e header ok first next body = record {
+  consumed = prefix_then left middle rest (8, first) next;
   header = λ fails. absurd (cc (sym ok ∙ fails));
   body = λ h again check.
       let same : header ≡ h = cc (sym ok ∙ again) in

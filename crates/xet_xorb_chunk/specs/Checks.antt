@@ -18,12 +18,12 @@ is_chunk_check reason = false
 
 -- Whether this is the error of a check: the bytes end inside a chunk, begin like a footer, are malformed, or
 -- are compressed under a scheme that is not supported.
-abbrev pub is_check : StoreError → Bool
-is_check UnexpectedEof = true
-is_check ChunkHeaderParse = true
-is_check (MalformedData reason) = is_chunk_check reason
-is_check (CompressionError scheme) = true
-is_check e = false
+abbrev pub is_stream_check : StoreError → Bool
+is_stream_check UnexpectedEof = true
+is_stream_check ChunkHeaderParse = true
+is_stream_check (MalformedData reason) = is_chunk_check reason
+is_stream_check (CompressionError scheme) = true
+is_stream_check e = false
 
 abbrev pub IsCheck : StoreError → Type 0
-IsCheck e = is_check e ≡ true
+IsCheck e = is_stream_check e ≡ true

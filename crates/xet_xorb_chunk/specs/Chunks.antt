@@ -8,12 +8,12 @@ use Rattle.xet_xorb_chunk.specs.declared.chunk.Chunk.{Chunk}
 abbrev pub chunk_of : List ℕ → Chunk
 chunk_of bytes = record { hash = chunk_hash bytes; bytes = bytes }
 
-abbrev pub bytes_of : Chunk → List ℕ
-bytes_of c = c.bytes
+abbrev pub bytes_of_chunk : Chunk → List ℕ
+bytes_of_chunk c = c.bytes
 
 -- The (hash, length) pair of a chunk, with the hash that it carries.
-abbrev pub chunk_member : Chunk → List ℕ × ℕ
-chunk_member c = (c.hash, length c.bytes)
+abbrev pub chunk_leaf : Chunk → List ℕ × ℕ
+chunk_leaf c = (c.hash, length c.bytes)
 
 -- Number of bytes of all chunks.
 abbrev pub total : List Chunk → ℕ

@@ -15,16 +15,16 @@ pub record Header : Type 0 where
   pub plain : ℕ
 
 -- The number in the three bytes from offset `at` on.
-abbrev pub number_at : ℕ → List ℕ → ℕ
-number_at at bytes = from_le_bytes w32 (take 3 (drop at bytes) ++ 0 ∷ [])
+abbrev pub le24_at : ℕ → List ℕ → ℕ
+le24_at at bytes = from_le_bytes w32 (take 3 (drop at bytes) ++ 0 ∷ [])
 
 -- The fields of eight bytes, without any check.
 abbrev pub header_of : List ℕ → Header
 header_of bytes = record {
   version = slice_index bytes 0;
-  stored = number_at 1 bytes;
+  stored = le24_at 1 bytes;
   scheme = slice_index bytes 4;
-  plain = number_at 5 bytes;
+  plain = le24_at 5 bytes;
 }
 
 -- The encoding of a header, eight bytes.
@@ -35,20 +35,20 @@ abbrev pub is_scheme : ℕ → Bool
 is_scheme n = (n == 0) || (n == 1) || (n == 2) || (n == 99)
 
 -- A check: the next result if it holds, otherwise its error.
-abbrev pub wants : {X : Type 0} → Bool → StoreError → Result X StoreError → Result X StoreError
-wants holds error next = if holds then next else Err error
+abbrev pub checked_then : {X : Type 0} → Bool → StoreError → Result X StoreError → Result X StoreError
+checked_then holds error next = if holds then next else Err error
 
 abbrev pub is_footer_magic : List ℕ → Bool
 is_footer_magic bytes = pointwise nat_eq (take 7 bytes) (codes "XETBLOB")
 
--- Parses eight bytes as the header of a chunk of at most `most` bytes; the error is that of the first check
+-- Parses eight bytes as the header of a chunk of at most `max_chunk` bytes; the error is that of the first check
 -- that fails. The bytes must not begin with the magic of a footer, the scheme must be known, the version 0,
--- the compressed length at most 2 * most, and the uncompressed length at most `most`.
+-- the compressed length at most 2 * most, and the uncompressed length at most `max_chunk`.
 unfoldable pub header_at : ℕ → List ℕ → Result Header StoreError
-header_at most bytes =
+header_at max_chunk bytes =
     if is_footer_magic bytes then Err ChunkHeaderParse
-    else wants (is_scheme (header_of bytes).scheme) (MalformedData Scheme)
-    (wants ((header_of bytes).version == 0) (MalformedData HeaderVersion)
-    (wants (nat_le (header_of bytes).stored (2 * most)) (MalformedData StoredLength)
-    (wants (nat_le (header_of bytes).plain most) (MalformedData PlainLength)
+    else checked_then (is_scheme (header_of bytes).scheme) (MalformedData Scheme)
+    (checked_then ((header_of bytes).version == 0) (MalformedData HeaderVersion)
+    (checked_then (nat_le (header_of bytes).stored (2 * max_chunk)) (MalformedData StoredLength)
+    (checked_then (nat_le (header_of bytes).plain max_chunk) (MalformedData PlainLength)
     (Ok (header_of bytes)))))

@@ -8,11 +8,11 @@ use Rattle.xet_xorb_chunk.specs.declared.scheme.CompressionScheme.{CompressionSc
 use Rattle.xet_xorb_chunk.specs.declared.scheme.CompressionScheme.TheVariants.{Auto, ByteGrouping4LZ4, LZ4, None}
 
 -- The scheme's number in a chunk header.
-abbrev pub number_of : CompressionScheme → ℕ
-number_of None = 0
-number_of LZ4 = 1
-number_of ByteGrouping4LZ4 = 2
-number_of Auto = 99
+abbrev pub scheme_number : CompressionScheme → ℕ
+scheme_number None = 0
+scheme_number LZ4 = 1
+scheme_number ByteGrouping4LZ4 = 2
+scheme_number Auto = 99
 
 -- The scheme with this number.
 abbrev pub scheme_of : ℕ → Result CompressionScheme StoreError

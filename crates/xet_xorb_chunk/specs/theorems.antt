@@ -1,5 +1,5 @@
-pub mod Front
-pub mod Fronts
+pub mod Prefix
+pub mod Prefixes
 pub mod Grammar
 pub mod Headers
 pub mod More

@@ -2,7 +2,7 @@
 
 ghost use Rattle.std.specs.Prelude.{◌≡◌, IfOk, IsOkUnless, map};
 ghost use Rattle.xet_hash.specs.Merkle.{total_len};
-ghost use Rattle.xet_xorb_chunk.specs.Chunks.{chunk_member, chunk_of, total};
+ghost use Rattle.xet_xorb_chunk.specs.Chunks.{chunk_leaf, chunk_of, total};
 
 use bytes::Bytes;
 use std::alloc::Global;
@@ -53,14 +53,14 @@ impl AsSlice<u8> for Chunk {
 
 /// The (hash, length) pair of each chunk: the hash that it carries, and its length in bytes. The only error
 /// is `OutOfMemory`.
-pub fn chunk_members(alloc: Global, chunks: &[Chunk]) -> Result<Vec<(MerkleHash, u64)>, StoreError>
-    ensures members { IfOk result (λ members. members.items ≡ map chunk_member chunks.now) }
-    ensures total { IfOk result (λ members. total_len members.items ≡ total chunks.now) }
+pub fn chunk_leaves(alloc: Global, chunks: &[Chunk]) -> Result<Vec<(MerkleHash, u64)>, StoreError>
+    ensures leaves { IfOk result (λ leaves. leaves.items ≡ map chunk_leaf chunks.now) }
+    ensures total { IfOk result (λ leaves. total_len leaves.items ≡ total chunks.now) }
     ensures memory { IsOkUnless result StoreError.OutOfMemory }
 {
-    let mut members = Vec::with_capacity(alloc, chunks.len())?;
+    let mut leaves = Vec::with_capacity(alloc, chunks.len())?;
     for chunk in chunks {
-        members.push((chunk.hash, chunk.bytes.len() as u64))?;
+        leaves.push((chunk.hash, chunk.bytes.len() as u64))?;
     }
-    Ok(members)
+    Ok(leaves)
 }

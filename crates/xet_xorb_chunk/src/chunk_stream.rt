@@ -10,7 +10,7 @@ ghost use Rattle.xet_codec.specs.Stops.{StopsReading, StopsWriting};
 ghost use Rattle.xet_xorb_chunk.specs.Scheme.{compressed};
 ghost use Rattle.xet_xorb_chunk.specs.ChunkEncoding.{encoded_chunk};
 ghost use Rattle.xet_xorb_chunk.specs.Stream.{chunk_at};
-ghost use Rattle.xet_xorb_chunk.specs.Taking.{TakesFailedChunk, TakesFailedHeader, TakesPrefix, WritesChunk, WritesFront, header_in};
+ghost use Rattle.xet_xorb_chunk.specs.Taking.{TakesFailedChunk, TakesFailedHeader, TakesPrefix, WritesChunk, WritesChunkPrefix, header_in};
 ghost use Rattle.xet_io.specs.Frame.{Called};
 
 use crate::header::{
@@ -18,7 +18,7 @@ use crate::header::{
 };
 use crate::scheme::CompressionScheme;
 use std::alloc::Global;
-use xet_codec::{read_front, write_piece};
+use xet_codec::{read_prefix, write_piece};
 use xet_hash::StoreError;
 use xet_io::{Sink, Source};
 
@@ -39,10 +39,10 @@ pub fn serialize_chunk<W: Sink>(
     requires { length chunk.now < 2 ^ 24 }
     ensures count { IfOk result (λ count. count ≡ 8 + length chunk.now) }
     ensures whole { W.tells w.old ≡ true → OnOk result (W.written w.new ≡ W.written w.old ++ encoded_chunk chunk.now) }
-    ensures front { W.tells w.old ≡ true → OnErr result ((n : ℕ) × (W.written w.new ≡ W.written w.old ++ take n (encoded_chunk chunk.now))) }
+    ensures prefix { W.tells w.old ≡ true → OnErr result ((n : ℕ) × (W.written w.new ≡ W.written w.old ++ take n (encoded_chunk chunk.now))) }
     ensures refused { (e : StoreError) → compressed scheme chunk.now ≡ Err e → result ≡ Err e }
     ensures nothing { W.tells w.old ≡ true → (e : StoreError) → compressed scheme chunk.now ≡ Err e → W.written w.new ≡ W.written w.old }
-    ensures refusals { IfErr result (λ e. (compressed scheme chunk.now ≡ Err e) ⊎ StopsWriting e) }
+    ensures errors { IfErr result (λ e. (compressed scheme chunk.now ≡ Err e) ⊎ StopsWriting e) }
     ensures frame { Called W.tells W.faults w.old w.new (IsErrOf result (Io Output)) }
 {
     scheme.compress_from_slice(chunk)?;
@@ -65,12 +65,12 @@ pub fn deserialize_chunk_header<R: Source>(
     ensures header { R.tells r.old ≡ true → IfOk result (λ header. header_in max_chunk (R.left r.old) ≡ Ok header) }
     ensures taken { R.tells r.old ≡ true → OnOk result (R.left r.new ≡ drop 8 (R.left r.old)) }
     ensures rest { R.tells r.old ≡ true → IfErr result (TakesFailedHeader max_chunk (R.left r.old) (R.left r.new)) }
-    ensures refusals { R.tells r.old ≡ true → IfErr result (λ e. (header_in max_chunk (R.left r.old) ≡ Err e) ⊎ StopsReading e) }
+    ensures errors { R.tells r.old ≡ true → IfErr result (λ e. (header_in max_chunk (R.left r.old) ≡ Err e) ⊎ StopsReading e) }
     ensures kinds { IfErr result (λ e. IsCheck e ⊎ StopsReading e) }
     ensures frame { Called R.tells R.faults r.old r.new (IsErrOf result (Io Input)) }
 {
     let mut bytes = [0; 8];
-    let count = read_front(r, &mut bytes)?;
+    let count = read_prefix(r, &mut bytes)?;
     if count < bytes.len() {
         return Err(StoreError::UnexpectedEof);
     }
@@ -82,9 +82,9 @@ fn take_bytes<R: Source>(alloc: Global, r: &mut R, wanted: usize) -> Result<Vec<
     requires { wanted < 2 ^ 32 }
     ensures bytes { R.tells r.old ≡ true → IfOk result (λ bytes. R.left r.old ≡ bytes.items ++ R.left r.new) }
     ensures length { IfOk result (λ bytes. vec_len bytes ≡ wanted) }
-    ensures prefix { R.tells r.old ≡ true → TakesPrefix (R.left r.old) (R.left r.new) }
+    ensures consumed { R.tells r.old ≡ true → TakesPrefix (R.left r.old) (R.left r.new) }
     ensures ended { R.tells r.old ≡ true → IfErr result (λ e. IsCheck e → R.left r.new ≡ []) }
-    ensures refusals { R.tells r.old ≡ true → IfErr result (λ e. ((e ≡ UnexpectedEof) × (length (R.left r.old) < wanted)) ⊎ StopsReading e) }
+    ensures errors { R.tells r.old ≡ true → IfErr result (λ e. ((e ≡ UnexpectedEof) × (length (R.left r.old) < wanted)) ⊎ StopsReading e) }
     ensures kinds { IfErr result (λ e. IsCheck e ⊎ StopsReading e) }
     ensures frame { Called R.tells R.faults r.old r.new (IsErrOf result (Io Input)) }
 {
@@ -109,12 +109,12 @@ fn fill_behind<R: Source>(
 ) -> Result<usize, StoreError>
     requires { filled ≤ length bytes.old }
     ensures told { R.tells source.old ≡ true → Fills (R.left source.old) (drop filled bytes.new) result (R.left source.new) }
-    ensures front { take filled bytes.new ≡ take filled bytes.old }
+    ensures prefix { take filled bytes.new ≡ take filled bytes.old }
     ensures bound { IfOk result (λ count. filled + count ≤ length bytes.new) }
-    ensures refusals { IfErr result (λ e. e ≡ Io Input) }
+    ensures errors { IfErr result (λ e. e ≡ Io Input) }
     ensures frame { Called R.tells R.faults source.old source.new (IsErrOf result (Io Input)) }
 {
-    read_front(source, &mut bytes[filled..])
+    read_prefix(source, &mut bytes[filled..])
 }
 
 /// Reads the next chunk of a source. It may have at most `max_chunk` bytes, which is below 2^23. Returns its
@@ -133,7 +133,7 @@ pub fn deserialize_chunk<R: Source>(
     ensures sizes { IfOk result (λ read. (read.1 ≡ 8 + length read.0.items) × (read.2 ≡ length read.0.items)) }
     ensures taken { R.tells r.old ≡ true → IfOk result (λ read. R.left r.new ≡ drop read.1 (R.left r.old)) }
     ensures rest { R.tells r.old ≡ true → IfErr result (TakesFailedChunk max_chunk (R.left r.old) (R.left r.new)) }
-    ensures refusals { R.tells r.old ≡ true → IfErr result (λ e. (chunk_at max_chunk (R.left r.old) ≡ Err e) ⊎ StopsReading e) }
+    ensures errors { R.tells r.old ≡ true → IfErr result (λ e. (chunk_at max_chunk (R.left r.old) ≡ Err e) ⊎ StopsReading e) }
     ensures kinds { IfErr result (λ e. IsCheck e ⊎ StopsReading e) }
     ensures frame { Called R.tells R.faults r.old r.new (IsErrOf result (Io Input)) }
 {
@@ -157,15 +157,15 @@ pub fn deserialize_chunk_to_writer<R: Source, W: Sink>(
 ) -> Result<(usize, u32), StoreError>
     requires { max_chunk < 2 ^ 23 }
     ensures whole { R.tells r.old ≡ true → W.tells w.old ≡ true → OnOk result (WritesChunk max_chunk (R.left r.old) (W.written w.old) (W.written w.new)) }
-    ensures front { R.tells r.old ≡ true → W.tells w.old ≡ true → OnErr result (WritesFront max_chunk (R.left r.old) (W.written w.old) (W.written w.new)) }
+    ensures prefix { R.tells r.old ≡ true → W.tells w.old ≡ true → OnErr result (WritesChunkPrefix max_chunk (R.left r.old) (W.written w.old) (W.written w.new)) }
     ensures nothing { W.tells w.old ≡ true → IfErr result (λ e. IsCheck e ⊎ (e ≡ Io Input) → W.written w.new ≡ W.written w.old) }
     ensures sizes { IfOk result (λ read. read.0 ≡ 8 + read.1) }
     ensures plain { R.tells r.old ≡ true → IfOk result (λ read. IfOk (chunk_at max_chunk (R.left r.old)) (λ chunk. read.1 ≡ length chunk)) }
     ensures written { W.tells w.old ≡ true → IfOk result (λ read. length (W.written w.new) ≡ length (W.written w.old) + read.1) }
     ensures taken { R.tells r.old ≡ true → IfOk result (λ read. R.left r.new ≡ drop read.0 (R.left r.old)) }
-    ensures prefix { R.tells r.old ≡ true → TakesPrefix (R.left r.old) (R.left r.new) }
+    ensures consumed { R.tells r.old ≡ true → TakesPrefix (R.left r.old) (R.left r.new) }
     ensures rest { R.tells r.old ≡ true → IfErr result (λ e. StopsWriting e ⊎ TakesFailedChunk max_chunk (R.left r.old) (R.left r.new) e) }
-    ensures refusals { R.tells r.old ≡ true → IfErr result (λ e. (chunk_at max_chunk (R.left r.old) ≡ Err e) ⊎ (StopsReading e ⊎ StopsWriting e)) }
+    ensures errors { R.tells r.old ≡ true → IfErr result (λ e. (chunk_at max_chunk (R.left r.old) ≡ Err e) ⊎ (StopsReading e ⊎ StopsWriting e)) }
     ensures kinds { IfErr result (λ e. IsCheck e ⊎ (StopsReading e ⊎ StopsWriting e)) }
     ensures source { Called R.tells R.faults r.old r.new (IsErrOf result (Io Input)) }
     ensures sink { Called W.tells W.faults w.old w.new (IsErrOf result (Io Output)) }

@@ -6,7 +6,7 @@ ghost use Rattle.xet_hash.specs.declared.error.Place.TheVariants.{Output};
 ghost use Rattle.xet_xorb_chunk.specs.Header.{header_at, header_bytes, header_of, is_footer_magic};
 ghost use Rattle.xet_xorb_chunk.specs.Checks.{IsCheck};
 ghost use Rattle.xet_codec.specs.Stops.{StopsWriting};
-ghost use Rattle.xet_xorb_chunk.specs.Scheme.{number_of, scheme_of};
+ghost use Rattle.xet_xorb_chunk.specs.Scheme.{scheme_number, scheme_of};
 ghost use Rattle.xet_xorb_chunk.specs.Stream.{Fails, Whole, body_of};
 ghost use Rattle.xet_io.specs.Frame.{Called};
 
@@ -46,7 +46,7 @@ impl XorbChunkHeader {
         requires stored { compressed < 2 ^ 24 }
         requires plain { uncompressed < 2 ^ 24 }
         requires chosen { scheme ≢ CompressionScheme.Auto }
-        ensures { result ≡ record { version = 0; stored = compressed; scheme = number_of scheme; plain = uncompressed } }
+        ensures { result ≡ record { version = 0; stored = compressed; scheme = scheme_number scheme; plain = uncompressed } }
     {
         XorbChunkHeader {
             version: 0,
@@ -75,7 +75,7 @@ impl XorbChunkHeader {
     /// Sets the scheme, which must not be `Auto`.
     pub fn set_compression_scheme(&mut self, scheme: CompressionScheme)
         requires { scheme ≢ CompressionScheme.Auto }
-        ensures { self.new ≡ record self.old { scheme = number_of scheme } }
+        ensures { self.new ≡ record self.old { scheme = scheme_number scheme } }
     {
         self.scheme = scheme.number();
     }
@@ -139,8 +139,8 @@ impl Default for XorbChunkHeader {
 /// written. Does not allocate, but the sink may.
 pub fn write_chunk_header<W: Sink>(w: &mut W, header: &XorbChunkHeader) -> Result<(), StoreError>
     ensures whole { W.tells w.old ≡ true → OnOk result (W.written w.new ≡ W.written w.old ++ header_bytes header.now) }
-    ensures front { W.tells w.old ≡ true → (n : ℕ) × (W.written w.new ≡ W.written w.old ++ take n (header_bytes header.now)) }
-    ensures refusals { IfErr result StopsWriting }
+    ensures prefix { W.tells w.old ≡ true → (n : ℕ) × (W.written w.new ≡ W.written w.old ++ take n (header_bytes header.now)) }
+    ensures errors { IfErr result StopsWriting }
     ensures frame { Called W.tells W.faults w.old w.new (IsErrOf result (Io Output)) }
 {
     write_piece(w, &bytes_of_header(header))

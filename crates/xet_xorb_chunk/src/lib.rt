@@ -2,7 +2,7 @@
 #![tactic(auto)]
 
 mod chunk;
-mod chunk_front;
+mod chunk_prefix;
 mod chunk_stream;
 mod constants;
 mod decoder;
@@ -12,8 +12,8 @@ mod scheme;
 mod segment;
 mod stream;
 
-pub use chunk::{Chunk, chunk_members};
-pub use chunk_front::chunk_len;
+pub use chunk::{Chunk, chunk_leaves};
+pub use chunk_prefix::chunk_len;
 pub use chunk_stream::{
     deserialize_chunk, deserialize_chunk_header, deserialize_chunk_to_writer, serialize_chunk,
 };

@@ -7,7 +7,7 @@ ghost use Rattle.xet_hash.specs.declared.error.StoreError.{StoreError};
 ghost use Rattle.xet_hash.specs.declared.error.StoreError.TheVariants.{Io};
 ghost use Rattle.xet_hash.specs.declared.error.Place.TheVariants.{Input, Output};
 ghost use Rattle.xet_codec.specs.Stops.{PassesLimit, StopsWriting};
-ghost use Rattle.xet_xorb_chunk.specs.Scheme.{compressed, decompressed, number_of, resolved, scheme_name, scheme_named, scheme_of};
+ghost use Rattle.xet_xorb_chunk.specs.Scheme.{compressed, decompressed, scheme_number, resolved, scheme_name, scheme_named, scheme_of};
 ghost use Rattle.xet_io.specs.Frame.{Called};
 
 use std::alloc::Global;
@@ -46,7 +46,7 @@ impl CompressionScheme {
 
     /// The scheme's number in a chunk header.
     pub(crate) fn number(self) -> u8
-        ensures { result ≡ number_of self }
+        ensures { result ≡ scheme_number self }
     {
         self as u8
     }
@@ -102,9 +102,9 @@ impl CompressionScheme {
         ensures count { R.tells r.old ≡ true → IfOk result (λ count. count ≡ length (R.left r.old)) }
         ensures end { R.tells r.old ≡ true → OnOk result (R.left r.new ≡ []) }
         ensures whole { R.tells r.old ≡ true → W.tells w.old ≡ true → OnOk result (W.written w.new ≡ W.written w.old ++ R.left r.old) }
-        ensures front { R.tells r.old ≡ true → W.tells w.old ≡ true → (n : ℕ) × (W.written w.new ≡ W.written w.old ++ take n (R.left r.old)) }
+        ensures prefix { R.tells r.old ≡ true → W.tells w.old ≡ true → (n : ℕ) × (W.written w.new ≡ W.written w.old ++ take n (R.left r.old)) }
         ensures nothing { W.tells w.old ≡ true → (e : StoreError) → decompressed self.now [] ≡ Err e → W.written w.new ≡ W.written w.old }
-        ensures refusals { R.tells r.old ≡ true → IfErr result (λ e. (decompressed self.now [] ≡ Err e) ⊎ ((e ≡ Io Input) ⊎ StopsWriting e)) }
+        ensures errors { R.tells r.old ≡ true → IfErr result (λ e. (decompressed self.now [] ≡ Err e) ⊎ ((e ≡ Io Input) ⊎ StopsWriting e)) }
         ensures kinds { IfErr result (λ e. (decompressed self.now [] ≡ Err e) ⊎ ((e ≡ Io Input) ⊎ (StopsWriting e ⊎ PassesLimit e))) }
         ensures source { Called R.tells R.faults r.old r.new (IsErrOf result (Io Input)) }
         ensures sink { Called W.tells W.faults w.old w.new (IsErrOf result (Io Output)) }

@@ -11,9 +11,9 @@ use Rattle.xet_hash.specs.declared.error.StoreError.TheVariants.{Io, MalformedDa
 use Rattle.xet_xorb_footer.specs.declared.info.XorbObjectInfoV1.{XorbObjectInfoV1}
 use Rattle.xet_xorb_footer.specs.Ends.{last_footer, footer_length}
 use Rattle.xet_xorb_footer.specs.declared.machine.Field.{Field}
-use Rattle.xet_xorb_footer.specs.Machine.{Parts, info_of, rest}
+use Rattle.xet_xorb_footer.specs.Machine.{FooterParts, footer_info, rest}
 use Rattle.xet_xorb_footer.specs.internal.Machine.{as_value}
-use Rattle.xet_codec.specs.Parsing.{◌>>=◌, Taken, wants}
+use Rattle.xet_codec.specs.Parsing.{◌>>=◌, Parsed, wants}
 use Rattle.xet_xorb_footer.specs.Reading.{footer_at}
 
 pub told_short : (bytes : List ℕ) → length bytes < 4 → footer_length bytes ≡ Err UnexpectedEof
@@ -33,13 +33,13 @@ pub field_then : (n at : ℕ) (field bytes : List ℕ) → field ≡ take n (dro
 field_then n at field bytes is = sym (take-append-drop n (drop at bytes)) ∙ ap (λ (b : List ℕ). b ++ drop n (drop at bytes)) (sym is) ∙ ap (λ (b : List ℕ). field ++ b) (drop-drop n at bytes)
 
 -- a field is refused
-pub field_refused : (f : Field) (p : Parts) (n at : ℕ) (field bytes : List ℕ) (e : StoreError) → field ≡ take n (drop at bytes) → (e ≡ OutOfMemory) ⊎ ((more : List ℕ) → rest f p (field ++ more) ≡ Err e)
+pub field_refused : (f : Field) (p : FooterParts) (n at : ℕ) (field bytes : List ℕ) (e : StoreError) → field ≡ take n (drop at bytes) → (e ≡ OutOfMemory) ⊎ ((more : List ℕ) → rest f p (field ++ more) ≡ Err e)
     → (rest f p (drop at bytes) ≡ Err e) ⊎ (e ≡ Io Input) ⊎ (e ≡ OutOfMemory)
 field_refused f p n at field bytes e is (inl memory) = inr (inr memory)
 field_refused f p n at field bytes e is (inr fails) = inl (ap (λ (b : List ℕ). rest f p b) (field_then n at field bytes is) ∙ fails (drop (at + n) bytes))
 
 -- the footer itself, and what is behind it
-behind_it : ℕ → Taken XorbObjectInfoV1 → Result (XorbObjectInfoV1 × ℕ) StoreError
+behind_it : ℕ → Parsed XorbObjectInfoV1 → Result (XorbObjectInfoV1 × ℕ) StoreError
 behind_it n read = read >>= λ x. wants (length x.1 == 4) InfoLength >>= λ _. Ok (x.0, n)
 
 begins : (len n : ℕ) (bytes : List ℕ) → len ≡ length bytes → footer_length bytes ≡ Ok n → n + 4 ≤ len → last_footer bytes ≡ behind_it n (footer_at (drop (len - (n + 4)) bytes))
@@ -49,26 +49,26 @@ begins len n bytes same told le =
     let here : length bytes - (n + 4) ≡ len - (n + 4) = ap (λ (k : ℕ). k - (n + 4)) (sym same) in
     rw (told, enough, here) refl
 
-pub last_refused : (len n : ℕ) (bytes : List ℕ) (read : Taken Parts) (e : StoreError) → len ≡ length bytes → footer_length bytes ≡ Ok n → n + 4 ≤ len → as_value info_of read ≡ footer_at (drop (len - (n + 4)) bytes) → read ≡ Err e
+pub last_refused : (len n : ℕ) (bytes : List ℕ) (read : Parsed FooterParts) (e : StoreError) → len ≡ length bytes → footer_length bytes ≡ Ok n → n + 4 ≤ len → as_value footer_info read ≡ footer_at (drop (len - (n + 4)) bytes) → read ≡ Err e
     → last_footer bytes ≡ Err e
 unfolding behind_it
-last_refused len n bytes read e same told le is err = begins len n bytes same told le ∙ ap (behind_it n) (sym is ∙ ap (as_value info_of) err)
+last_refused len n bytes read e same told le is err = begins len n bytes same told le ∙ ap (behind_it n) (sym is ∙ ap (as_value footer_info) err)
 
 -- it was read up to a place
-reached : (len n to : ℕ) (bytes : List ℕ) (read : Taken Parts) (p : Parts) → len ≡ length bytes → footer_length bytes ≡ Ok n → n + 4 ≤ len → as_value info_of read ≡ footer_at (drop (len - (n + 4)) bytes)
-    → read ≡ Ok (p, drop to bytes) → last_footer bytes ≡ (wants ((len - to) == 4) InfoLength >>= λ _. Ok (info_of p, n))
+reached : (len n to : ℕ) (bytes : List ℕ) (read : Parsed FooterParts) (p : FooterParts) → len ≡ length bytes → footer_length bytes ≡ Ok n → n + 4 ≤ len → as_value footer_info read ≡ footer_at (drop (len - (n + 4)) bytes)
+    → read ≡ Ok (p, drop to bytes) → last_footer bytes ≡ (wants ((len - to) == 4) InfoLength >>= λ _. Ok (footer_info p, n))
 unfolding behind_it
 reached len n to bytes read p same told le is ok =
     let left : length (drop to bytes) ≡ len - to = length-drop to bytes ∙ ap (λ (k : ℕ). k - to) (sym same) in
-    begins len n bytes same told le ∙ ap (behind_it n) (sym is ∙ ap (as_value info_of) ok) ∙ ap (λ (k : ℕ). wants (k == 4) InfoLength >>= λ _. Ok (info_of p, n)) left
+    begins len n bytes same told le ∙ ap (behind_it n) (sym is ∙ ap (as_value footer_info) ok) ∙ ap (λ (k : ℕ). wants (k == 4) InfoLength >>= λ _. Ok (footer_info p, n)) left
 
-pub last_wrong : (len n to : ℕ) (bytes : List ℕ) (read : Taken Parts) (p : Parts) → len ≡ length bytes → footer_length bytes ≡ Ok n → n + 4 ≤ len → as_value info_of read ≡ footer_at (drop (len - (n + 4)) bytes)
+pub last_wrong : (len n to : ℕ) (bytes : List ℕ) (read : Parsed FooterParts) (p : FooterParts) → len ≡ length bytes → footer_length bytes ≡ Ok n → n + 4 ≤ len → as_value footer_info read ≡ footer_at (drop (len - (n + 4)) bytes)
     → read ≡ Ok (p, drop to bytes) → ((len - to) == 4) ≡ false → last_footer bytes ≡ Err (MalformedData InfoLength)
-last_wrong len n to bytes read p same told le is ok off = reached len n to bytes read p same told le is ok ∙ ap (λ (b : Bool). wants b InfoLength >>= λ _. Ok (info_of p, n)) off
+last_wrong len n to bytes read p same told le is ok off = reached len n to bytes read p same told le is ok ∙ ap (λ (b : Bool). wants b InfoLength >>= λ _. Ok (footer_info p, n)) off
 
-pub last_is : (len n to : ℕ) (bytes : List ℕ) (read : Taken Parts) (p : Parts) → len ≡ length bytes → footer_length bytes ≡ Ok n → n + 4 ≤ len → as_value info_of read ≡ footer_at (drop (len - (n + 4)) bytes)
-    → read ≡ Ok (p, drop to bytes) → ((len - to) == 4) ≡ true → last_footer bytes ≡ Ok (info_of p, n)
-last_is len n to bytes read p same told le is ok fits = reached len n to bytes read p same told le is ok ∙ ap (λ (b : Bool). wants b InfoLength >>= λ _. Ok (info_of p, n)) fits
+pub last_is : (len n to : ℕ) (bytes : List ℕ) (read : Parsed FooterParts) (p : FooterParts) → len ≡ length bytes → footer_length bytes ≡ Ok n → n + 4 ≤ len → as_value footer_info read ≡ footer_at (drop (len - (n + 4)) bytes)
+    → read ≡ Ok (p, drop to bytes) → ((len - to) == 4) ≡ true → last_footer bytes ≡ Ok (footer_info p, n)
+last_is len n to bytes read p same told le is ok fits = reached len n to bytes read p same told le is ok ∙ ap (λ (b : Bool). wants b InfoLength >>= λ _. Ok (footer_info p, n)) fits
 
 -- ---- the same, as calls refuse
 
@@ -76,12 +76,12 @@ pub untold : {P : Type 0} (bytes : List ℕ) (e : StoreError) → (footer_length
 untold bytes e (inl is) = inl (last_untold bytes e is)
 untold bytes e (inr fault) = inr (inl fault)
 
-pub unread : {P : Type 0} (len n : ℕ) (bytes seen : List ℕ) (read : List ℕ → Taken Parts) (e : StoreError) → seen ≡ bytes → len ≡ length bytes → footer_length bytes ≡ Ok n → n + 4 ≤ len
-    → ((b : List ℕ) → as_value info_of (read b) ≡ footer_at b) → (read (drop (len - (n + 4)) seen) ≡ Err e) ⊎ P → (last_footer bytes ≡ Err e) ⊎ P
+pub unread : {P : Type 0} (len n : ℕ) (bytes seen : List ℕ) (read : List ℕ → Parsed FooterParts) (e : StoreError) → seen ≡ bytes → len ≡ length bytes → footer_length bytes ≡ Ok n → n + 4 ≤ len
+    → ((b : List ℕ) → as_value footer_info (read b) ≡ footer_at b) → (read (drop (len - (n + 4)) seen) ≡ Err e) ⊎ P → (last_footer bytes ≡ Err e) ⊎ P
 unread len n bytes seen read e is same told le reads (inl err) =
     inl (last_refused len n bytes (read (drop (len - (n + 4)) bytes)) e same told le (reads (drop (len - (n + 4)) bytes)) (ap (λ (b : List ℕ). read (drop (len - (n + 4)) b)) (sym is) ∙ err))
 unread len n bytes seen read e is same told le reads (inr other) = inr other
 
 -- what was read of bytes that did not change
-pub seen_at : (at to : ℕ) (bytes seen : List ℕ) (read : List ℕ → Taken Parts) (p : Parts) → seen ≡ bytes → read (drop at seen) ≡ Ok (p, drop to seen) → read (drop at bytes) ≡ Ok (p, drop to bytes)
+pub seen_at : (at to : ℕ) (bytes seen : List ℕ) (read : List ℕ → Parsed FooterParts) (p : FooterParts) → seen ≡ bytes → read (drop at seen) ≡ Ok (p, drop to seen) → read (drop at bytes) ≡ Ok (p, drop to bytes)
 seen_at at to bytes seen read p is ok = ap (λ (b : List ℕ). read (drop at b)) (sym is) ∙ ok ∙ ap (λ (b : List ℕ). Ok (p, drop to b)) is

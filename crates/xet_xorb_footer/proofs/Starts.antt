@@ -4,14 +4,14 @@ use Rattle.std.specs.Cmp.Lexicographic.{pointwise}
 use Rattle.xet_hash.specs.declared.error.Reason.TheVariants as reasons
 use Rattle.xet_hash.specs.declared.error.StoreError.{StoreError}
 use Rattle.xet_xorb_footer.specs.declared.machine.Field.TheVariants as fields
-use Rattle.xet_xorb_footer.specs.Machine.{Parts, info_of, info_v0, rest, rest_behind_version, rest_boundaries_magic, rest_boundaries_version, rest_boundary_offset, rest_count, rest_count_again, rest_count_last, rest_ends_v0, rest_ends_v1, rest_hash, rest_hashes_magic, rest_hashes_offset, rest_hashes_v0, rest_hashes_v1, rest_hashes_version, rest_magic, rest_plain, rest_spare, rest_version}
+use Rattle.xet_xorb_footer.specs.Machine.{FooterParts, footer_info, info_v0, rest, rest_behind_version, rest_boundaries_magic, rest_boundaries_version, rest_boundary_offset, rest_count, rest_count_again, rest_count_last, rest_ends_v0, rest_ends_v1, rest_hash, rest_hashes_magic, rest_hashes_offset, rest_hashes_v0, rest_hashes_v1, rest_hashes_version, rest_magic, rest_plain, rest_spare, rest_version}
 use Rattle.xet_xorb_footer.specs.internal.Machine.{as_value, started}
-use Rattle.xet_codec.specs.Parsing.{◌>>=◌, Taken, bytes_at, number_at, times, wants}
+use Rattle.xet_codec.specs.Parsing.{◌>>=◌, Parsed, next_bytes, number_at, times, wants}
 use Rattle.xet_xorb_footer.specs.Reading.{count_at, footer_at, footer_v0, magic_at, number_is, rest_v0, rest_v1, version_at, version_of}
 use Rattle.xet_xorb_footer.specs.FooterEncoding.{boundaries_magic, footer_magic, hashes_magic, of_v0}
-use Rattle.xet_xorb_footer.specs.theorems.Fronts.{bind_bind, onward}
+use Rattle.xet_xorb_footer.specs.theorems.Prefixes.{bind_bind, onward}
 
-pub as_value_twice : {X Y Z : Type 0} (make : X → Y) (again : Y → Z) (read : Taken X) → as_value again (as_value make read) ≡ as_value (λ x. again (make x)) read
+pub as_value_twice : {X Y Z : Type 0} (make : X → Y) (again : Y → Z) (read : Parsed X) → as_value again (as_value make read) ≡ as_value (λ x. again (make x)) read
 as_value_twice make again (Ok x) = refl
 as_value_twice make again (Err e) = refl
 
@@ -20,193 +20,193 @@ no_less n = omega arith
 
 -- ---- each field, with an empty list where one is read
 
-abbrev read_spare : {X : Type 0} → (Parts → X) → Parts → List ℕ → Taken X
-read_spare make q bytes = bytes_at 16 bytes >>= λ x. Ok (make (record q { spare = x.0 }), x.1)
+abbrev read_spare : {X : Type 0} → (FooterParts → X) → FooterParts → List ℕ → Parsed X
+read_spare make q bytes = next_bytes 16 bytes >>= λ x. Ok (make (record q { spare = x.0 }), x.1)
 
-on_spare : {X : Type 0} (make : Parts → X) (q : Parts) (bytes : List ℕ) → as_value make (rest_spare q bytes) ≡ read_spare make q bytes
+on_spare : {X : Type 0} (make : FooterParts → X) (q : FooterParts) (bytes : List ℕ) → as_value make (rest_spare q bytes) ≡ read_spare make q bytes
 unfolding rest_spare
-on_spare make q bytes = bind_bind (bytes_at 16 bytes) (λ x. Ok (record q { spare = x.0 }, x.1)) (λ x. Ok (make x.0, x.1))
+on_spare make q bytes = bind_bind (next_bytes 16 bytes) (λ x. Ok (record q { spare = x.0 }, x.1)) (λ x. Ok (make x.0, x.1))
 
-abbrev read_hashes_v0 : {X : Type 0} → (Parts → X) → Parts → List ℕ → Taken X
-read_hashes_v0 make q bytes = times (bytes_at 32) q.count bytes >>= λ x. read_spare make (record q { hashes = x.0 }) x.1
+abbrev read_hashes_v0 : {X : Type 0} → (FooterParts → X) → FooterParts → List ℕ → Parsed X
+read_hashes_v0 make q bytes = times (next_bytes 32) q.count bytes >>= λ x. read_spare make (record q { hashes = x.0 }) x.1
 
-on_hashes_v0 : {X : Type 0} (make : Parts → X) (q : Parts) (bytes : List ℕ) → as_value make (rest_hashes_v0 (record q { hashes = [] }) bytes) ≡ read_hashes_v0 make q bytes
+on_hashes_v0 : {X : Type 0} (make : FooterParts → X) (q : FooterParts) (bytes : List ℕ) → as_value make (rest_hashes_v0 (record q { hashes = [] }) bytes) ≡ read_hashes_v0 make q bytes
 unfolding rest_hashes_v0
 on_hashes_v0 make q bytes =
-    ap (λ (n : ℕ). as_value make (times (bytes_at 32) n bytes >>= (λ x. rest_spare (record q { hashes = x.0 }) x.1))) (no_less q.count)
-    ∙ bind_bind (times (bytes_at 32) q.count bytes) (λ x. rest_spare (record q { hashes = x.0 }) x.1) (λ x. Ok (make x.0, x.1))
-    ∙ onward (times (bytes_at 32) q.count bytes) (λ x. as_value make (rest_spare (record q { hashes = x.0 }) x.1)) (λ x. read_spare make (record q { hashes = x.0 }) x.1) (λ x. on_spare make (record q { hashes = x.0 }) x.1)
+    ap (λ (n : ℕ). as_value make (times (next_bytes 32) n bytes >>= (λ x. rest_spare (record q { hashes = x.0 }) x.1))) (no_less q.count)
+    ∙ bind_bind (times (next_bytes 32) q.count bytes) (λ x. rest_spare (record q { hashes = x.0 }) x.1) (λ x. Ok (make x.0, x.1))
+    ∙ onward (times (next_bytes 32) q.count bytes) (λ x. as_value make (rest_spare (record q { hashes = x.0 }) x.1)) (λ x. read_spare make (record q { hashes = x.0 }) x.1) (λ x. on_spare make (record q { hashes = x.0 }) x.1)
 
-abbrev read_ends_v0 : {X : Type 0} → (Parts → X) → Parts → List ℕ → Taken X
+abbrev read_ends_v0 : {X : Type 0} → (FooterParts → X) → FooterParts → List ℕ → Parsed X
 read_ends_v0 make q bytes = times number_at q.count bytes >>= λ x. read_hashes_v0 make (record q { ends = x.0 }) x.1
 
-on_ends_v0 : {X : Type 0} (make : Parts → X) (q : Parts) (bytes : List ℕ) → as_value make (rest_ends_v0 (record q { ends = []; hashes = [] }) bytes) ≡ read_ends_v0 make q bytes
+on_ends_v0 : {X : Type 0} (make : FooterParts → X) (q : FooterParts) (bytes : List ℕ) → as_value make (rest_ends_v0 (record q { ends = []; hashes = [] }) bytes) ≡ read_ends_v0 make q bytes
 unfolding rest_ends_v0
 on_ends_v0 make q bytes =
     ap (λ (n : ℕ). as_value make (times number_at n bytes >>= (λ x. rest_hashes_v0 (record (record q { ends = x.0 }) { hashes = [] }) x.1))) (no_less q.count)
     ∙ bind_bind (times number_at q.count bytes) (λ x. rest_hashes_v0 (record (record q { ends = x.0 }) { hashes = [] }) x.1) (λ x. Ok (make x.0, x.1))
     ∙ onward (times number_at q.count bytes) (λ x. as_value make (rest_hashes_v0 (record (record q { ends = x.0 }) { hashes = [] }) x.1)) (λ x. read_hashes_v0 make (record q { ends = x.0 }) x.1) (λ x. on_hashes_v0 make (record q { ends = x.0 }) x.1)
 
-abbrev read_count_v0 : {X : Type 0} → (Parts → X) → Parts → List ℕ → Taken X
+abbrev read_count_v0 : {X : Type 0} → (FooterParts → X) → FooterParts → List ℕ → Parsed X
 read_count_v0 make q bytes = count_at bytes >>= λ x. read_ends_v0 make (record q { is_v1 = false; count = x.0 }) x.1
 
-on_count_v0 : {X : Type 0} (make : Parts → X) (q : Parts) (bytes : List ℕ) → as_value make (rest_count (record q { is_v1 = false; ends = []; hashes = [] }) bytes) ≡ read_count_v0 make q bytes
+on_count_v0 : {X : Type 0} (make : FooterParts → X) (q : FooterParts) (bytes : List ℕ) → as_value make (rest_count (record q { is_v1 = false; ends = []; hashes = [] }) bytes) ≡ read_count_v0 make q bytes
 unfolding rest_count
 on_count_v0 make q bytes =
     bind_bind (count_at bytes) (λ x. rest_ends_v0 (record (record q { is_v1 = false; count = x.0 }) { ends = []; hashes = [] }) x.1) (λ x. Ok (make x.0, x.1))
     ∙ onward (count_at bytes) (λ x. as_value make (rest_ends_v0 (record (record q { is_v1 = false; count = x.0 }) { ends = []; hashes = [] }) x.1)) (λ x. read_ends_v0 make (record q { is_v1 = false; count = x.0 }) x.1) (λ x. on_ends_v0 make (record q { is_v1 = false; count = x.0 }) x.1)
 
-abbrev read_hash_v0 : {X : Type 0} → (Parts → X) → Parts → List ℕ → Taken X
-read_hash_v0 make q bytes = bytes_at 32 bytes >>= λ x. read_count_v0 make (record q { hash = x.0 }) x.1
+abbrev read_hash_v0 : {X : Type 0} → (FooterParts → X) → FooterParts → List ℕ → Parsed X
+read_hash_v0 make q bytes = next_bytes 32 bytes >>= λ x. read_count_v0 make (record q { hash = x.0 }) x.1
 
-on_hash_v0 : {X : Type 0} (make : Parts → X) (q : Parts) (bytes : List ℕ) → as_value make (rest_hash (record q { is_v1 = false; ends = []; hashes = [] }) bytes) ≡ read_hash_v0 make q bytes
+on_hash_v0 : {X : Type 0} (make : FooterParts → X) (q : FooterParts) (bytes : List ℕ) → as_value make (rest_hash (record q { is_v1 = false; ends = []; hashes = [] }) bytes) ≡ read_hash_v0 make q bytes
 unfolding rest_hash
 on_hash_v0 make q bytes =
-    bind_bind (bytes_at 32 bytes) (λ x. rest_count (record (record q { hash = x.0 }) { is_v1 = false; ends = []; hashes = [] }) x.1) (λ x. Ok (make x.0, x.1))
-    ∙ onward (bytes_at 32 bytes) (λ x. as_value make (rest_count (record (record q { hash = x.0 }) { is_v1 = false; ends = []; hashes = [] }) x.1)) (λ x. read_count_v0 make (record q { hash = x.0 }) x.1) (λ x. on_count_v0 make (record q { hash = x.0 }) x.1)
+    bind_bind (next_bytes 32 bytes) (λ x. rest_count (record (record q { hash = x.0 }) { is_v1 = false; ends = []; hashes = [] }) x.1) (λ x. Ok (make x.0, x.1))
+    ∙ onward (next_bytes 32 bytes) (λ x. as_value make (rest_count (record (record q { hash = x.0 }) { is_v1 = false; ends = []; hashes = [] }) x.1)) (λ x. read_count_v0 make (record q { hash = x.0 }) x.1) (λ x. on_count_v0 make (record q { hash = x.0 }) x.1)
 
-abbrev read_boundary_offset : {X : Type 0} → (Parts → X) → Parts → List ℕ → Taken X
+abbrev read_boundary_offset : {X : Type 0} → (FooterParts → X) → FooterParts → List ℕ → Parsed X
 read_boundary_offset make q bytes = number_is (40 + 8 * q.count) reasons.BoundaryOffset bytes >>= λ x. read_spare make q x.1
 
-on_boundary_offset : {X : Type 0} (make : Parts → X) (q : Parts) (bytes : List ℕ) → as_value make (rest_boundary_offset q bytes) ≡ read_boundary_offset make q bytes
+on_boundary_offset : {X : Type 0} (make : FooterParts → X) (q : FooterParts) (bytes : List ℕ) → as_value make (rest_boundary_offset q bytes) ≡ read_boundary_offset make q bytes
 unfolding rest_boundary_offset
 on_boundary_offset make q bytes =
     bind_bind (number_is (40 + 8 * q.count) reasons.BoundaryOffset bytes) (λ x. rest_spare q x.1) (λ x. Ok (make x.0, x.1))
     ∙ onward (number_is (40 + 8 * q.count) reasons.BoundaryOffset bytes) (λ x. as_value make (rest_spare q x.1)) (λ x. read_spare make q x.1) (λ x. on_spare make q x.1)
 
-abbrev read_hashes_offset : {X : Type 0} → (Parts → X) → Parts → List ℕ → Taken X
+abbrev read_hashes_offset : {X : Type 0} → (FooterParts → X) → FooterParts → List ℕ → Parsed X
 read_hashes_offset make q bytes = number_is (52 + 40 * q.count) reasons.HashesOffset bytes >>= λ x. read_boundary_offset make q x.1
 
-on_hashes_offset : {X : Type 0} (make : Parts → X) (q : Parts) (bytes : List ℕ) → as_value make (rest_hashes_offset q bytes) ≡ read_hashes_offset make q bytes
+on_hashes_offset : {X : Type 0} (make : FooterParts → X) (q : FooterParts) (bytes : List ℕ) → as_value make (rest_hashes_offset q bytes) ≡ read_hashes_offset make q bytes
 unfolding rest_hashes_offset
 on_hashes_offset make q bytes =
     bind_bind (number_is (52 + 40 * q.count) reasons.HashesOffset bytes) (λ x. rest_boundary_offset q x.1) (λ x. Ok (make x.0, x.1))
     ∙ onward (number_is (52 + 40 * q.count) reasons.HashesOffset bytes) (λ x. as_value make (rest_boundary_offset q x.1)) (λ x. read_boundary_offset make q x.1) (λ x. on_boundary_offset make q x.1)
 
-abbrev read_count_last : {X : Type 0} → (Parts → X) → Parts → List ℕ → Taken X
+abbrev read_count_last : {X : Type 0} → (FooterParts → X) → FooterParts → List ℕ → Parsed X
 read_count_last make q bytes = number_is q.count reasons.CountMismatch bytes >>= λ x. read_hashes_offset make q x.1
 
-on_count_last : {X : Type 0} (make : Parts → X) (q : Parts) (bytes : List ℕ) → as_value make (rest_count_last q bytes) ≡ read_count_last make q bytes
+on_count_last : {X : Type 0} (make : FooterParts → X) (q : FooterParts) (bytes : List ℕ) → as_value make (rest_count_last q bytes) ≡ read_count_last make q bytes
 unfolding rest_count_last
 on_count_last make q bytes =
     bind_bind (number_is q.count reasons.CountMismatch bytes) (λ x. rest_hashes_offset q x.1) (λ x. Ok (make x.0, x.1))
     ∙ onward (number_is q.count reasons.CountMismatch bytes) (λ x. as_value make (rest_hashes_offset q x.1)) (λ x. read_hashes_offset make q x.1) (λ x. on_hashes_offset make q x.1)
 
-abbrev read_plain : {X : Type 0} → (Parts → X) → Parts → List ℕ → Taken X
+abbrev read_plain : {X : Type 0} → (FooterParts → X) → FooterParts → List ℕ → Parsed X
 read_plain make q bytes = times number_at q.count bytes >>= λ x. read_count_last make (record q { plain = x.0 }) x.1
 
-on_plain : {X : Type 0} (make : Parts → X) (q : Parts) (bytes : List ℕ) → as_value make (rest_plain (record q { plain = [] }) bytes) ≡ read_plain make q bytes
+on_plain : {X : Type 0} (make : FooterParts → X) (q : FooterParts) (bytes : List ℕ) → as_value make (rest_plain (record q { plain = [] }) bytes) ≡ read_plain make q bytes
 unfolding rest_plain
 on_plain make q bytes =
     ap (λ (n : ℕ). as_value make (times number_at n bytes >>= (λ x. rest_count_last (record q { plain = x.0 }) x.1))) (no_less q.count)
     ∙ bind_bind (times number_at q.count bytes) (λ x. rest_count_last (record q { plain = x.0 }) x.1) (λ x. Ok (make x.0, x.1))
     ∙ onward (times number_at q.count bytes) (λ x. as_value make (rest_count_last (record q { plain = x.0 }) x.1)) (λ x. read_count_last make (record q { plain = x.0 }) x.1) (λ x. on_count_last make (record q { plain = x.0 }) x.1)
 
-abbrev read_ends_v1 : {X : Type 0} → (Parts → X) → Parts → List ℕ → Taken X
+abbrev read_ends_v1 : {X : Type 0} → (FooterParts → X) → FooterParts → List ℕ → Parsed X
 read_ends_v1 make q bytes = times number_at q.count bytes >>= λ x. read_plain make (record q { ends = x.0 }) x.1
 
-on_ends_v1 : {X : Type 0} (make : Parts → X) (q : Parts) (bytes : List ℕ) → as_value make (rest_ends_v1 (record q { ends = []; plain = [] }) bytes) ≡ read_ends_v1 make q bytes
+on_ends_v1 : {X : Type 0} (make : FooterParts → X) (q : FooterParts) (bytes : List ℕ) → as_value make (rest_ends_v1 (record q { ends = []; plain = [] }) bytes) ≡ read_ends_v1 make q bytes
 unfolding rest_ends_v1
 on_ends_v1 make q bytes =
     ap (λ (n : ℕ). as_value make (times number_at n bytes >>= (λ x. rest_plain (record (record q { ends = x.0 }) { plain = [] }) x.1))) (no_less q.count)
     ∙ bind_bind (times number_at q.count bytes) (λ x. rest_plain (record (record q { ends = x.0 }) { plain = [] }) x.1) (λ x. Ok (make x.0, x.1))
     ∙ onward (times number_at q.count bytes) (λ x. as_value make (rest_plain (record (record q { ends = x.0 }) { plain = [] }) x.1)) (λ x. read_plain make (record q { ends = x.0 }) x.1) (λ x. on_plain make (record q { ends = x.0 }) x.1)
 
-abbrev read_count_again : {X : Type 0} → (Parts → X) → Parts → List ℕ → Taken X
+abbrev read_count_again : {X : Type 0} → (FooterParts → X) → FooterParts → List ℕ → Parsed X
 read_count_again make q bytes = number_is q.count reasons.CountMismatch bytes >>= λ x. read_ends_v1 make (record q { is_v1 = true }) x.1
 
-on_count_again : {X : Type 0} (make : Parts → X) (q : Parts) (bytes : List ℕ) → as_value make (rest_count_again (record q { is_v1 = true; ends = []; plain = [] }) bytes) ≡ read_count_again make q bytes
+on_count_again : {X : Type 0} (make : FooterParts → X) (q : FooterParts) (bytes : List ℕ) → as_value make (rest_count_again (record q { is_v1 = true; ends = []; plain = [] }) bytes) ≡ read_count_again make q bytes
 unfolding rest_count_again
 on_count_again make q bytes =
     bind_bind (number_is q.count reasons.CountMismatch bytes) (λ x. rest_ends_v1 (record (record q { is_v1 = true }) { ends = []; plain = [] }) x.1) (λ x. Ok (make x.0, x.1))
     ∙ onward (number_is q.count reasons.CountMismatch bytes) (λ x. as_value make (rest_ends_v1 (record (record q { is_v1 = true }) { ends = []; plain = [] }) x.1)) (λ x. read_ends_v1 make (record q { is_v1 = true }) x.1) (λ x. on_ends_v1 make (record q { is_v1 = true }) x.1)
 
-abbrev read_boundaries_version : {X : Type 0} → (Parts → X) → Parts → List ℕ → Taken X
+abbrev read_boundaries_version : {X : Type 0} → (FooterParts → X) → FooterParts → List ℕ → Parsed X
 read_boundaries_version make q bytes = version_at 1 reasons.BoundariesVersion bytes >>= λ x. read_count_again make q x.1
 
-on_boundaries_version : {X : Type 0} (make : Parts → X) (q : Parts) (bytes : List ℕ) → as_value make (rest_boundaries_version (record q { is_v1 = true; ends = []; plain = [] }) bytes) ≡ read_boundaries_version make q bytes
+on_boundaries_version : {X : Type 0} (make : FooterParts → X) (q : FooterParts) (bytes : List ℕ) → as_value make (rest_boundaries_version (record q { is_v1 = true; ends = []; plain = [] }) bytes) ≡ read_boundaries_version make q bytes
 unfolding rest_boundaries_version
 on_boundaries_version make q bytes =
     bind_bind (version_at 1 reasons.BoundariesVersion bytes) (λ x. rest_count_again (record q { is_v1 = true; ends = []; plain = [] }) x.1) (λ x. Ok (make x.0, x.1))
     ∙ onward (version_at 1 reasons.BoundariesVersion bytes) (λ x. as_value make (rest_count_again (record q { is_v1 = true; ends = []; plain = [] }) x.1)) (λ x. read_count_again make q x.1) (λ x. on_count_again make q x.1)
 
-abbrev read_boundaries_ident : {X : Type 0} → (Parts → X) → Parts → List ℕ → Taken X
+abbrev read_boundaries_ident : {X : Type 0} → (FooterParts → X) → FooterParts → List ℕ → Parsed X
 read_boundaries_ident make q bytes = magic_at boundaries_magic reasons.BoundariesIdent bytes >>= λ x. read_boundaries_version make q x.1
 
-on_boundaries_ident : {X : Type 0} (make : Parts → X) (q : Parts) (bytes : List ℕ) → as_value make (rest_boundaries_magic (record q { is_v1 = true; ends = []; plain = [] }) bytes) ≡ read_boundaries_ident make q bytes
+on_boundaries_ident : {X : Type 0} (make : FooterParts → X) (q : FooterParts) (bytes : List ℕ) → as_value make (rest_boundaries_magic (record q { is_v1 = true; ends = []; plain = [] }) bytes) ≡ read_boundaries_ident make q bytes
 unfolding rest_boundaries_magic
 on_boundaries_ident make q bytes =
     bind_bind (magic_at boundaries_magic reasons.BoundariesIdent bytes) (λ x. rest_boundaries_version (record q { is_v1 = true; ends = []; plain = [] }) x.1) (λ x. Ok (make x.0, x.1))
     ∙ onward (magic_at boundaries_magic reasons.BoundariesIdent bytes) (λ x. as_value make (rest_boundaries_version (record q { is_v1 = true; ends = []; plain = [] }) x.1)) (λ x. read_boundaries_version make q x.1) (λ x. on_boundaries_version make q x.1)
 
-abbrev read_hashes_v1 : {X : Type 0} → (Parts → X) → Parts → List ℕ → Taken X
-read_hashes_v1 make q bytes = times (bytes_at 32) q.count bytes >>= λ x. read_boundaries_ident make (record q { hashes = x.0 }) x.1
+abbrev read_hashes_v1 : {X : Type 0} → (FooterParts → X) → FooterParts → List ℕ → Parsed X
+read_hashes_v1 make q bytes = times (next_bytes 32) q.count bytes >>= λ x. read_boundaries_ident make (record q { hashes = x.0 }) x.1
 
-on_hashes_v1 : {X : Type 0} (make : Parts → X) (q : Parts) (bytes : List ℕ) → as_value make (rest_hashes_v1 (record q { is_v1 = true; hashes = []; ends = []; plain = [] }) bytes) ≡ read_hashes_v1 make q bytes
+on_hashes_v1 : {X : Type 0} (make : FooterParts → X) (q : FooterParts) (bytes : List ℕ) → as_value make (rest_hashes_v1 (record q { is_v1 = true; hashes = []; ends = []; plain = [] }) bytes) ≡ read_hashes_v1 make q bytes
 unfolding rest_hashes_v1
 on_hashes_v1 make q bytes =
-    ap (λ (n : ℕ). as_value make (times (bytes_at 32) n bytes >>= (λ x. rest_boundaries_magic (record (record q { hashes = x.0 }) { is_v1 = true; ends = []; plain = [] }) x.1))) (no_less q.count)
-    ∙ bind_bind (times (bytes_at 32) q.count bytes) (λ x. rest_boundaries_magic (record (record q { hashes = x.0 }) { is_v1 = true; ends = []; plain = [] }) x.1) (λ x. Ok (make x.0, x.1))
-    ∙ onward (times (bytes_at 32) q.count bytes) (λ x. as_value make (rest_boundaries_magic (record (record q { hashes = x.0 }) { is_v1 = true; ends = []; plain = [] }) x.1)) (λ x. read_boundaries_ident make (record q { hashes = x.0 }) x.1) (λ x. on_boundaries_ident make (record q { hashes = x.0 }) x.1)
+    ap (λ (n : ℕ). as_value make (times (next_bytes 32) n bytes >>= (λ x. rest_boundaries_magic (record (record q { hashes = x.0 }) { is_v1 = true; ends = []; plain = [] }) x.1))) (no_less q.count)
+    ∙ bind_bind (times (next_bytes 32) q.count bytes) (λ x. rest_boundaries_magic (record (record q { hashes = x.0 }) { is_v1 = true; ends = []; plain = [] }) x.1) (λ x. Ok (make x.0, x.1))
+    ∙ onward (times (next_bytes 32) q.count bytes) (λ x. as_value make (rest_boundaries_magic (record (record q { hashes = x.0 }) { is_v1 = true; ends = []; plain = [] }) x.1)) (λ x. read_boundaries_ident make (record q { hashes = x.0 }) x.1) (λ x. on_boundaries_ident make (record q { hashes = x.0 }) x.1)
 
-abbrev read_count_v1 : {X : Type 0} → (Parts → X) → Parts → List ℕ → Taken X
+abbrev read_count_v1 : {X : Type 0} → (FooterParts → X) → FooterParts → List ℕ → Parsed X
 read_count_v1 make q bytes = count_at bytes >>= λ x. read_hashes_v1 make (record q { count = x.0 }) x.1
 
-on_count_v1 : {X : Type 0} (make : Parts → X) (q : Parts) (bytes : List ℕ) → as_value make (rest_count (record q { is_v1 = true; hashes = []; ends = []; plain = [] }) bytes) ≡ read_count_v1 make q bytes
+on_count_v1 : {X : Type 0} (make : FooterParts → X) (q : FooterParts) (bytes : List ℕ) → as_value make (rest_count (record q { is_v1 = true; hashes = []; ends = []; plain = [] }) bytes) ≡ read_count_v1 make q bytes
 unfolding rest_count
 on_count_v1 make q bytes =
     bind_bind (count_at bytes) (λ x. rest_hashes_v1 (record (record q { count = x.0 }) { is_v1 = true; hashes = []; ends = []; plain = [] }) x.1) (λ x. Ok (make x.0, x.1))
     ∙ onward (count_at bytes) (λ x. as_value make (rest_hashes_v1 (record (record q { count = x.0 }) { is_v1 = true; hashes = []; ends = []; plain = [] }) x.1)) (λ x. read_hashes_v1 make (record q { count = x.0 }) x.1) (λ x. on_hashes_v1 make (record q { count = x.0 }) x.1)
 
-abbrev read_hashes_version : {X : Type 0} → (Parts → X) → Parts → List ℕ → Taken X
+abbrev read_hashes_version : {X : Type 0} → (FooterParts → X) → FooterParts → List ℕ → Parsed X
 read_hashes_version make q bytes = version_at 0 reasons.HashesVersion bytes >>= λ x. read_count_v1 make q x.1
 
-on_hashes_version : {X : Type 0} (make : Parts → X) (q : Parts) (bytes : List ℕ) → as_value make (rest_hashes_version (record q { is_v1 = true; hashes = []; ends = []; plain = [] }) bytes) ≡ read_hashes_version make q bytes
+on_hashes_version : {X : Type 0} (make : FooterParts → X) (q : FooterParts) (bytes : List ℕ) → as_value make (rest_hashes_version (record q { is_v1 = true; hashes = []; ends = []; plain = [] }) bytes) ≡ read_hashes_version make q bytes
 unfolding rest_hashes_version
 on_hashes_version make q bytes =
     bind_bind (version_at 0 reasons.HashesVersion bytes) (λ x. rest_count (record q { is_v1 = true; hashes = []; ends = []; plain = [] }) x.1) (λ x. Ok (make x.0, x.1))
     ∙ onward (version_at 0 reasons.HashesVersion bytes) (λ x. as_value make (rest_count (record q { is_v1 = true; hashes = []; ends = []; plain = [] }) x.1)) (λ x. read_count_v1 make q x.1) (λ x. on_count_v1 make q x.1)
 
-abbrev read_hashes_ident : {X : Type 0} → (Parts → X) → Parts → List ℕ → Taken X
+abbrev read_hashes_ident : {X : Type 0} → (FooterParts → X) → FooterParts → List ℕ → Parsed X
 read_hashes_ident make q bytes = magic_at hashes_magic reasons.HashesIdent bytes >>= λ x. read_hashes_version make q x.1
 
-on_hashes_ident : {X : Type 0} (make : Parts → X) (q : Parts) (bytes : List ℕ) → as_value make (rest_hashes_magic (record q { is_v1 = true; hashes = []; ends = []; plain = [] }) bytes) ≡ read_hashes_ident make q bytes
+on_hashes_ident : {X : Type 0} (make : FooterParts → X) (q : FooterParts) (bytes : List ℕ) → as_value make (rest_hashes_magic (record q { is_v1 = true; hashes = []; ends = []; plain = [] }) bytes) ≡ read_hashes_ident make q bytes
 unfolding rest_hashes_magic
 on_hashes_ident make q bytes =
     bind_bind (magic_at hashes_magic reasons.HashesIdent bytes) (λ x. rest_hashes_version (record q { is_v1 = true; hashes = []; ends = []; plain = [] }) x.1) (λ x. Ok (make x.0, x.1))
     ∙ onward (magic_at hashes_magic reasons.HashesIdent bytes) (λ x. as_value make (rest_hashes_version (record q { is_v1 = true; hashes = []; ends = []; plain = [] }) x.1)) (λ x. read_hashes_version make q x.1) (λ x. on_hashes_version make q x.1)
 
-abbrev read_hash_v1 : {X : Type 0} → (Parts → X) → Parts → List ℕ → Taken X
-read_hash_v1 make q bytes = bytes_at 32 bytes >>= λ x. read_hashes_ident make (record q { hash = x.0 }) x.1
+abbrev read_hash_v1 : {X : Type 0} → (FooterParts → X) → FooterParts → List ℕ → Parsed X
+read_hash_v1 make q bytes = next_bytes 32 bytes >>= λ x. read_hashes_ident make (record q { hash = x.0 }) x.1
 
-on_hash_v1 : {X : Type 0} (make : Parts → X) (q : Parts) (bytes : List ℕ) → as_value make (rest_hash (record q { is_v1 = true; hashes = []; ends = []; plain = [] }) bytes) ≡ read_hash_v1 make q bytes
+on_hash_v1 : {X : Type 0} (make : FooterParts → X) (q : FooterParts) (bytes : List ℕ) → as_value make (rest_hash (record q { is_v1 = true; hashes = []; ends = []; plain = [] }) bytes) ≡ read_hash_v1 make q bytes
 unfolding rest_hash
 on_hash_v1 make q bytes =
-    bind_bind (bytes_at 32 bytes) (λ x. rest_hashes_magic (record (record q { hash = x.0 }) { is_v1 = true; hashes = []; ends = []; plain = [] }) x.1) (λ x. Ok (make x.0, x.1))
-    ∙ onward (bytes_at 32 bytes) (λ x. as_value make (rest_hashes_magic (record (record q { hash = x.0 }) { is_v1 = true; hashes = []; ends = []; plain = [] }) x.1)) (λ x. read_hashes_ident make (record q { hash = x.0 }) x.1) (λ x. on_hashes_ident make (record q { hash = x.0 }) x.1)
+    bind_bind (next_bytes 32 bytes) (λ x. rest_hashes_magic (record (record q { hash = x.0 }) { is_v1 = true; hashes = []; ends = []; plain = [] }) x.1) (λ x. Ok (make x.0, x.1))
+    ∙ onward (next_bytes 32 bytes) (λ x. as_value make (rest_hashes_magic (record (record q { hash = x.0 }) { is_v1 = true; hashes = []; ends = []; plain = [] }) x.1)) (λ x. read_hashes_ident make (record q { hash = x.0 }) x.1) (λ x. on_hashes_ident make (record q { hash = x.0 }) x.1)
 
 -- ---- what the definitions read
 
-pub hash_is_v0 : (q : Parts) (bytes : List ℕ) → as_value info_v0 (rest_hash (record q { is_v1 = false; hashes = []; ends = [] }) bytes) ≡ rest_v0 bytes
+pub hash_is_v0 : (q : FooterParts) (bytes : List ℕ) → as_value info_v0 (rest_hash (record q { is_v1 = false; hashes = []; ends = [] }) bytes) ≡ rest_v0 bytes
 unfolding rest_v0
 hash_is_v0 q bytes = on_hash_v0 info_v0 q bytes
 
-hash_is_either_v0 : (q : Parts) (bytes : List ℕ) → as_value info_of (rest_hash (record q { is_v1 = false; hashes = []; ends = [] }) bytes) ≡ as_value of_v0 (rest_v0 bytes)
+hash_is_either_v0 : (q : FooterParts) (bytes : List ℕ) → as_value footer_info (rest_hash (record q { is_v1 = false; hashes = []; ends = [] }) bytes) ≡ as_value of_v0 (rest_v0 bytes)
 hash_is_either_v0 q bytes =
-    let p : Parts = record q { is_v1 = false; hashes = []; ends = [] } in
-    on_hash_v0 info_of q bytes ∙ sym (on_hash_v0 (λ x. of_v0 (info_v0 x)) q bytes) ∙ sym (as_value_twice info_v0 of_v0 (rest_hash p bytes)) ∙ ap (as_value of_v0) (hash_is_v0 q bytes)
+    let p : FooterParts = record q { is_v1 = false; hashes = []; ends = [] } in
+    on_hash_v0 footer_info q bytes ∙ sym (on_hash_v0 (λ x. of_v0 (info_v0 x)) q bytes) ∙ sym (as_value_twice info_v0 of_v0 (rest_hash p bytes)) ∙ ap (as_value of_v0) (hash_is_v0 q bytes)
 
-hash_is_v1 : (q : Parts) (bytes : List ℕ) → as_value info_of (rest_hash (record q { is_v1 = true; hashes = []; ends = []; plain = [] }) bytes) ≡ rest_v1 bytes
+hash_is_v1 : (q : FooterParts) (bytes : List ℕ) → as_value footer_info (rest_hash (record q { is_v1 = true; hashes = []; ends = []; plain = [] }) bytes) ≡ rest_v1 bytes
 unfolding rest_v1
-hash_is_v1 q bytes = on_hash_v1 info_of q bytes
+hash_is_v1 q bytes = on_hash_v1 footer_info q bytes
 
 either_behind : (b : Bool) (version bytes : List ℕ)
-    → as_value info_of (cond b (rest_hash (record (started true) { is_v1 = true }) bytes) (wants (pointwise nat_eq version (0 ∷ [])) reasons.Version >>= λ _. rest_hash (record (started true) { is_v1 = false }) bytes))
+    → as_value footer_info (cond b (rest_hash (record (started true) { is_v1 = true }) bytes) (wants (pointwise nat_eq version (0 ∷ [])) reasons.Version >>= λ _. rest_hash (record (started true) { is_v1 = false }) bytes))
     ≡ cond b (rest_v1 bytes) (wants (pointwise nat_eq version (0 ∷ [])) reasons.Version >>= λ _. rest_v0 bytes >>= λ x. Ok (of_v0 x.0, x.1))
 either_behind true version bytes = hash_is_v1 (started true) bytes
 either_behind false version bytes =
     let w : Result (Unit {0}) StoreError = wants (pointwise nat_eq version (0 ∷ [])) reasons.Version in
-    bind_bind w (λ _. rest_hash (started true) bytes) (λ x. Ok (info_of x.0, x.1)) ∙ onward w (λ _. as_value info_of (rest_hash (started true) bytes)) (λ _. as_value of_v0 (rest_v0 bytes)) (λ _. hash_is_either_v0 (started true) bytes)
+    bind_bind w (λ _. rest_hash (started true) bytes) (λ x. Ok (footer_info x.0, x.1)) ∙ onward w (λ _. as_value footer_info (rest_hash (started true) bytes)) (λ _. as_value of_v0 (rest_v0 bytes)) (λ _. hash_is_either_v0 (started true) bytes)
 
 only_behind : (version bytes : List ℕ) → as_value info_v0 (rest_behind_version (started false) version bytes) ≡ (wants (pointwise nat_eq version (0 ∷ [])) reasons.Version >>= λ _. rest_v0 bytes)
 only_behind version bytes =
@@ -214,21 +214,21 @@ only_behind version bytes =
     bind_bind w (λ _. rest_hash (started false) bytes) (λ x. Ok (info_v0 x.0, x.1)) ∙ onward w (λ _. as_value info_v0 (rest_hash (started false) bytes)) (λ _. rest_v0 bytes) (λ _. hash_is_v0 (started false) bytes)
 
 -- ident and version, and what is behind them
-behind_version : {X : Type 0} (make : Parts → X) (p : Parts) (f : List ℕ × List ℕ → Taken X) → ((version bytes : List ℕ) → as_value make (rest_behind_version p version bytes) ≡ f (version, bytes)) → (bytes : List ℕ)
+behind_version : {X : Type 0} (make : FooterParts → X) (p : FooterParts) (f : List ℕ × List ℕ → Parsed X) → ((version bytes : List ℕ) → as_value make (rest_behind_version p version bytes) ≡ f (version, bytes)) → (bytes : List ℕ)
     → as_value make (rest_magic p bytes) ≡ (version_of bytes >>= f)
 unfolding rest_magic rest_version version_of
 behind_version make p f same bytes =
     let first = magic_at footer_magic reasons.Ident bytes in
-    let second : Unit {0} × List ℕ → Taken (List ℕ) = λ x. bytes_at 1 x.1 in
+    let second : Unit {0} × List ℕ → Parsed (List ℕ) = λ x. next_bytes 1 x.1 in
     bind_bind first (λ x. rest_version p x.1) (λ x. Ok (make x.0, x.1))
     ∙ onward first (λ x. as_value make (rest_version p x.1)) (λ x. second x >>= f)
     (λ x. bind_bind (second x) (λ y. rest_behind_version p y.0 y.1) (λ z. Ok (make z.0, z.1)) ∙ onward (second x) (λ y. as_value make (rest_behind_version p y.0 y.1)) f (λ y. same y.0 y.1))
     ∙ sym (bind_bind first second f)
 
-pub starts_either : (bytes : List ℕ) → as_value info_of (rest fields.Ident (started true) bytes) ≡ footer_at bytes
+pub starts_either : (bytes : List ℕ) → as_value footer_info (rest fields.Ident (started true) bytes) ≡ footer_at bytes
 unfolding rest footer_at
 starts_either bytes =
-    behind_version info_of (started true)
+    behind_version footer_info (started true)
     (λ version. cond (pointwise nat_eq version.0 (1 ∷ [])) (rest_v1 version.1) (wants (pointwise nat_eq version.0 (0 ∷ [])) reasons.Version >>= λ _. rest_v0 version.1 >>= λ x. Ok (of_v0 x.0, x.1)))
     (λ version rest. either_behind (pointwise nat_eq version (1 ∷ [])) version rest) bytes
 

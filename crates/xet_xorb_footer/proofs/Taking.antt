@@ -4,11 +4,11 @@ use Rattle.std.specs.Result.{IfErr, IfOk, IsErrOf, OnOk}
 use Rattle.xet_hash.specs.declared.error.StoreError.{StoreError}
 use Rattle.xet_hash.specs.declared.error.StoreError.TheVariants as errors
 use Rattle.xet_xorb_footer.specs.declared.machine.Field.{Field}
-use Rattle.xet_xorb_footer.specs.internal.Machine.{IsSettled, Next, step}
-use Rattle.xet_xorb_footer.specs.Machine.{Parts, rest, room_of, wanted_of}
+use Rattle.xet_xorb_footer.specs.internal.Machine.{IsIncomplete, Next, step}
+use Rattle.xet_xorb_footer.specs.Machine.{FooterParts, rest, room_of, wanted_of}
 use Rattle.xet_codec.specs.Parsing.{Fails, Gives}
-use Rattle.xet_xorb_footer.specs.internal.Refusals.{IsFailedCheck}
-use Rattle.xet_xorb_footer.specs.Refusals.{IsRefusal}
+use Rattle.xet_xorb_footer.specs.internal.Errors.{IsFailedCheck}
+use Rattle.xet_xorb_footer.specs.Errors.{IsBytesError}
 use Rattle.xet_xorb_footer.proofs.Known.{step_refused, step_room, step_settled}
 use Rattle.xet_xorb_footer.proofs.Steps.{behind, rest_step}
 
@@ -29,12 +29,12 @@ fails_by errors.BadFilename read f = inr f
 fails_by (errors.CompressionError number) read f = inr f
 fails_by (errors.BadLimits field) read f = inr f
 
-pub taken : {U : Type 0} (f n : Field) (p q : Parts) (field : List ℕ) (r : Result U StoreError) → length field ≡ wanted_of f p → Gives (λ _. (n, q)) r (step f p field)
+pub taken : {U : Type 0} (f n : Field) (p q : FooterParts) (field : List ℕ) (r : Result U StoreError) → length field ≡ wanted_of f p → Gives (λ _. (n, q)) r (step f p field)
     → OnOk r ((more : List ℕ) → rest f p (field ++ more) ≡ rest n q more)
 taken f n p q field (Ok u) len gives = λ more. rest_step f p field more len ∙ ap (λ (s : Next). behind s more) gives
 taken f n p q field (Err e) len gives = tt
 
-pub refused : {U : Type 0} (f n : Field) (p q : Parts) (field : List ℕ) (r : Result U StoreError) → length field ≡ wanted_of f p → Gives (λ _. (n, q)) r (step f p field)
+pub refused : {U : Type 0} (f n : Field) (p q : FooterParts) (field : List ℕ) (r : Result U StoreError) → length field ≡ wanted_of f p → Gives (λ _. (n, q)) r (step f p field)
     → IfErr r (λ e. (e ≡ errors.OutOfMemory) ⊎ ((more : List ℕ) → rest f p (field ++ more) ≡ Err e))
 refused f n p q field (Ok u) len gives = tt
 refused f n p q field (Err e) len gives = by (fails_by e (step f p field) gives)
@@ -43,20 +43,20 @@ refused f n p q field (Err e) len gives = by (fails_by e (step f p field) gives)
     by (inl memory) = inl memory
     by (inr is) = inr (λ more. rest_step f p field more len ∙ ap (λ (s : Next). behind s more) is)
 
-refusal_of : (e : StoreError) → IsFailedCheck e → IsRefusal e
+refusal_of : (e : StoreError) → IsFailedCheck e → IsBytesError e
 refusal_of (errors.MalformedData reason) is = is
 refusal_of e is = absurd is
 
-pub kinds : {U : Type 0} (f n : Field) (p q : Parts) (field : List ℕ) (r : Result U StoreError) → Gives (λ _. (n, q)) r (step f p field) → IfErr r IsRefusal
+pub kinds : {U : Type 0} (f n : Field) (p q : FooterParts) (field : List ℕ) (r : Result U StoreError) → Gives (λ _. (n, q)) r (step f p field) → IfErr r IsBytesError
 kinds f n p q field (Ok u) gives = tt
 kinds f n p q field (Err e) gives = by (fails_by e (step f p field) gives)
   where
-    by : (e ≡ errors.OutOfMemory) ⊎ (step f p field ≡ Err e) → IsRefusal e
-    by (inl memory) = subst IsRefusal (sym memory) tt
+    by : (e ≡ errors.OutOfMemory) ⊎ (step f p field ≡ Err e) → IsBytesError e
+    by (inl memory) = subst IsBytesError (sym memory) tt
     by (inr is) = refusal_of e (subst (λ (s : Next). IfErr s IsFailedCheck) is (step_refused f p field))
 
 -- a field that is there does not end before its end
-pub unended : {U : Type 0} (f n : Field) (p q : Parts) (field : List ℕ) (r : Result U StoreError) → Gives (λ _. (n, q)) r (step f p field) → IsErrOf r errors.UnexpectedEof → ⊥
+pub unended : {U : Type 0} (f n : Field) (p q : FooterParts) (field : List ℕ) (r : Result U StoreError) → Gives (λ _. (n, q)) r (step f p field) → IsErrOf r errors.UnexpectedEof → ⊥
 unended f n p q field (Ok u) gives ended = cc
 unended f n p q field (Err e) gives ended = by (fails_by e (step f p field) gives)
   where
@@ -67,10 +67,10 @@ unended f n p q field (Err e) gives ended = by (fails_by e (step f p field) give
     by (inl memory) = let both : errors.OutOfMemory ≡ errors.UnexpectedEof = sym memory ∙ same in cc
     by (inr is) = subst IsFailedCheck same (subst (λ (s : Next). IfErr s IsFailedCheck) is (step_refused f p field))
 
-pub settled : {U : Type 0} (f n : Field) (p q : Parts) (field : List ℕ) (r : Result U StoreError) → Gives (λ _. (n, q)) r (step f p field) → OnOk r (IsSettled n q)
-settled f n p q field (Ok u) gives = subst (λ (s : Next). IfOk s (λ x. IsSettled x.0 x.1)) gives (step_settled f p field)
+pub settled : {U : Type 0} (f n : Field) (p q : FooterParts) (field : List ℕ) (r : Result U StoreError) → Gives (λ _. (n, q)) r (step f p field) → OnOk r (IsIncomplete n q)
+settled f n p q field (Ok u) gives = subst (λ (s : Next). IfOk s (λ x. IsIncomplete x.0 x.1)) gives (step_settled f p field)
 settled f n p q field (Err e) gives = tt
 
-pub left : {U : Type 0} (f n : Field) (p q : Parts) (field : List ℕ) (r : Result U StoreError) → length field ≡ wanted_of f p → Gives (λ _. (n, q)) r (step f p field) → OnOk r (length field + room_of n q ≤ room_of f p)
+pub left : {U : Type 0} (f n : Field) (p q : FooterParts) (field : List ℕ) (r : Result U StoreError) → length field ≡ wanted_of f p → Gives (λ _. (n, q)) r (step f p field) → OnOk r (length field + room_of n q ≤ room_of f p)
 left f n p q field (Ok u) len gives = subst (λ (k : ℕ). k + room_of n q ≤ room_of f p) (sym len) (subst (λ (s : Next). IfOk s (λ x. wanted_of f p + room_of x.0 x.1 ≤ room_of f p)) gives (step_room f p field))
 left f n p q field (Err e) len gives = tt

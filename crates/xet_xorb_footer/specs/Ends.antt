@@ -4,7 +4,7 @@ use Rattle.std.specs.Int.{w32, from_le_bytes}
 use Rattle.xet_hash.specs.declared.error.Reason.TheVariants.{BoundariesIdent, BoundariesVersion, BoundaryOffset, CountMismatch, InfoLength, TrailingBytes}
 use Rattle.xet_hash.specs.declared.error.StoreError.{StoreError}
 use Rattle.xet_xorb_footer.specs.declared.info.XorbObjectInfoV1.{XorbObjectInfoV1}
-use Rattle.xet_codec.specs.Parsing.{◌>>=◌, Taken, bytes_at, number_at, times, wants, reaches}
+use Rattle.xet_codec.specs.Parsing.{◌>>=◌, Parsed, next_bytes, number_at, times, wants, reaches}
 use Rattle.xet_xorb_footer.specs.Reading.{count_at, footer_at, magic_at, number_is, version_at}
 use Rattle.xet_xorb_footer.specs.FooterEncoding.{boundaries_magic, empty_v1}
 
@@ -35,7 +35,7 @@ whole_footer bytes = do
   Ok (x.0, n.0)
 
 -- The boundary section of a footer of version 1 and what follows it, as a footer without hashes.
-unfoldable pub boundaries : List ℕ → Taken XorbObjectInfoV1
+unfoldable pub boundaries : List ℕ → Parsed XorbObjectInfoV1
 boundaries bytes = do
   section ← magic_at boundaries_magic BoundariesIdent bytes
   version ← version_at 1 BoundariesVersion section.1
@@ -45,7 +45,7 @@ boundaries bytes = do
   again ← number_is n.0 CountMismatch plain.1
   hashes ← number_at again.1
   place ← number_is (40 + 8 * n.0) BoundaryOffset hashes.1
-  spare ← bytes_at 16 place.1
+  spare ← next_bytes 16 place.1
   Ok (
     record empty_v1 {
       chunk_boundary_offsets = ends.0;
@@ -60,7 +60,7 @@ boundaries bytes = do
 
 -- The same of the footer before the last four bytes. The number that starts 24 bytes before the end gives the
 -- section's offset, in bytes before these four.
-unfoldable pub last_boundaries : List ℕ → Taken XorbObjectInfoV1
+unfoldable pub last_boundaries : List ℕ → Parsed XorbObjectInfoV1
 last_boundaries bytes = do
   _ ← reaches (nat_le 24 (length bytes))
   _ ← reaches (nat_le (number_before 24 bytes + 4) (length bytes))

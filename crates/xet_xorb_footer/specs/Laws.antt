@@ -34,7 +34,7 @@ LengthIsKnown = (i : XorbObjectInfoV1) → IsStandard i → length (footer_bytes
 
 -- A footer that is followed by its length, at the end of other bytes.
 abbrev pub LastIsRead : Type 0
-LastIsRead = (i : XorbObjectInfoV1) (front : List ℕ) → IsStandard i → last_footer (front ++ (footer_bytes_v1 i ++ number (92 + 40 * i.num_chunks))) ≡ Ok (i, 92 + 40 * i.num_chunks)
+LastIsRead = (i : XorbObjectInfoV1) (prefix : List ℕ) → IsStandard i → last_footer (prefix ++ (footer_bytes_v1 i ++ number (92 + 40 * i.num_chunks))) ≡ Ok (i, 92 + 40 * i.num_chunks)
 
 -- ---- Version 0
 
@@ -57,4 +57,4 @@ abbrev pub LengthIsKnownV0 : Type 0
 LengthIsKnownV0 = (i : XorbObjectInfoV0) → IsStandardV0 i → length (footer_bytes_v0 i) ≡ 60 + 36 * i.num_chunks
 
 abbrev pub LastIsReadV0 : Type 0
-LastIsReadV0 = (i : XorbObjectInfoV0) (front : List ℕ) → IsStandardV0 i → last_footer (front ++ (footer_bytes_v0 i ++ number (60 + 36 * i.num_chunks))) ≡ Ok (of_v0 i, 60 + 36 * i.num_chunks)
+LastIsReadV0 = (i : XorbObjectInfoV0) (prefix : List ℕ) → IsStandardV0 i → last_footer (prefix ++ (footer_bytes_v0 i ++ number (60 + 36 * i.num_chunks))) ≡ Ok (of_v0 i, 60 + 36 * i.num_chunks)

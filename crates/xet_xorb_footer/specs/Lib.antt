@@ -3,7 +3,7 @@ pub mod Reading
 pub mod Items
 pub mod Machine
 pub mod Reader
-pub mod Refusals
+pub mod Errors
 pub mod Laws
 pub mod Ends
 pub mod Joining

@@ -7,12 +7,12 @@ use Rattle.xet_xorb_footer.specs.declared.info.XorbObjectInfoV0.{XorbObjectInfoV
 use Rattle.xet_xorb_footer.specs.declared.info.XorbObjectInfoV1.{XorbObjectInfoV1}
 use Rattle.xet_xorb_footer.specs.declared.machine.Field.{Field}
 use Rattle.xet_xorb_footer.specs.declared.machine.Field.TheVariants as fields
-use Rattle.xet_codec.specs.Parsing.{◌>>=◌, Taken, bytes_at, number_at, times, wants}
+use Rattle.xet_codec.specs.Parsing.{◌>>=◌, Parsed, next_bytes, number_at, times, wants}
 use Rattle.xet_xorb_footer.specs.Reading.{count_at, magic_at, number_is, version_at}
 use Rattle.xet_xorb_footer.specs.FooterEncoding.{boundaries_magic, footer_magic, hashes_magic, max_chunks, of_v0}
 
 -- The fields read so far, and whether version 1 is accepted.
-pub record Parts : Type 0 where
+pub record FooterParts : Type 0 where
   pub either : Bool
   pub is_v1 : Bool
   pub hash : List ℕ
@@ -23,10 +23,10 @@ pub record Parts : Type 0 where
   pub spare : List ℕ
 
 -- The footers with these fields.
-abbrev pub info_v0 : Parts → XorbObjectInfoV0
+abbrev pub info_v0 : FooterParts → XorbObjectInfoV0
 info_v0 p = record { ident = footer_magic; version = 0; xorb_hash = p.hash; num_chunks = p.count; chunk_boundary_offsets = p.ends; chunk_hashes = p.hashes; spare = p.spare }
 
-abbrev pub info_v1 : Parts → XorbObjectInfoV1
+abbrev pub info_v1 : FooterParts → XorbObjectInfoV1
 info_v1 p = record {
   ident = footer_magic;
   version = 1;
@@ -44,17 +44,17 @@ info_v1 p = record {
   spare = p.spare;
 }
 
-abbrev pub info_of : Parts → XorbObjectInfoV1
-info_of p = if p.is_v1 then info_v1 p else of_v0 (info_v0 p)
+abbrev pub footer_info : FooterParts → XorbObjectInfoV1
+footer_info p = if p.is_v1 then info_v1 p else of_v0 (info_v0 p)
 
 -- ---- Fields
 
 -- Number of items in the next field of a list that has the items `xs` so far: at most 64.
-abbrev pub block_of : {X : Type 0} → Parts → List X → ℕ
+abbrev pub block_of : {X : Type 0} → FooterParts → List X → ℕ
 block_of p xs = min 64 (p.count - length xs)
 
 -- Size of a field, in bytes.
-abbrev pub wanted_of : Field → Parts → ℕ
+abbrev pub wanted_of : Field → FooterParts → ℕ
 wanted_of fields.Ident p = 7
 wanted_of fields.Version p = 1
 wanted_of fields.Hash p = 32
@@ -77,116 +77,116 @@ wanted_of fields.Done p = 0
 
 -- ---- All fields from one on
 
-unfoldable pub rest_spare : Parts → List ℕ → Taken Parts
+unfoldable pub rest_spare : FooterParts → List ℕ → Parsed FooterParts
 rest_spare p bytes = do
-  x ← bytes_at 16 bytes
+  x ← next_bytes 16 bytes
   Ok (record p { spare = x.0 }, x.1)
 
 -- Version 0.
-unfoldable pub rest_hashes_v0 : Parts → List ℕ → Taken Parts
+unfoldable pub rest_hashes_v0 : FooterParts → List ℕ → Parsed FooterParts
 rest_hashes_v0 p bytes = do
-  x ← times (bytes_at 32) (p.count - length p.hashes) bytes
+  x ← times (next_bytes 32) (p.count - length p.hashes) bytes
   rest_spare (record p { hashes = p.hashes ++ x.0 }) x.1
 
-unfoldable pub rest_ends_v0 : Parts → List ℕ → Taken Parts
+unfoldable pub rest_ends_v0 : FooterParts → List ℕ → Parsed FooterParts
 rest_ends_v0 p bytes = do
   x ← times number_at (p.count - length p.ends) bytes
   rest_hashes_v0 (record p { ends = p.ends ++ x.0 }) x.1
 
 -- Version 1.
-unfoldable pub rest_boundary_offset : Parts → List ℕ → Taken Parts
+unfoldable pub rest_boundary_offset : FooterParts → List ℕ → Parsed FooterParts
 rest_boundary_offset p bytes = do
   x ← number_is (40 + 8 * p.count) reasons.BoundaryOffset bytes
   rest_spare p x.1
 
-unfoldable pub rest_hashes_offset : Parts → List ℕ → Taken Parts
+unfoldable pub rest_hashes_offset : FooterParts → List ℕ → Parsed FooterParts
 rest_hashes_offset p bytes = do
   x ← number_is (52 + 40 * p.count) reasons.HashesOffset bytes
   rest_boundary_offset p x.1
 
-unfoldable pub rest_count_last : Parts → List ℕ → Taken Parts
+unfoldable pub rest_count_last : FooterParts → List ℕ → Parsed FooterParts
 rest_count_last p bytes = do
   x ← number_is p.count reasons.CountMismatch bytes
   rest_hashes_offset p x.1
 
-unfoldable pub rest_plain : Parts → List ℕ → Taken Parts
+unfoldable pub rest_plain : FooterParts → List ℕ → Parsed FooterParts
 rest_plain p bytes = do
   x ← times number_at (p.count - length p.plain) bytes
   rest_count_last (record p { plain = p.plain ++ x.0 }) x.1
 
-unfoldable pub rest_ends_v1 : Parts → List ℕ → Taken Parts
+unfoldable pub rest_ends_v1 : FooterParts → List ℕ → Parsed FooterParts
 rest_ends_v1 p bytes = do
   x ← times number_at (p.count - length p.ends) bytes
   rest_plain (record p { ends = p.ends ++ x.0 }) x.1
 
-abbrev pub rest_ends : Parts → List ℕ → Taken Parts
+abbrev pub rest_ends : FooterParts → List ℕ → Parsed FooterParts
 rest_ends p bytes = if p.is_v1 then rest_ends_v1 p bytes else rest_ends_v0 p bytes
 
-unfoldable pub rest_count_again : Parts → List ℕ → Taken Parts
+unfoldable pub rest_count_again : FooterParts → List ℕ → Parsed FooterParts
 rest_count_again p bytes = do
   x ← number_is p.count reasons.CountMismatch bytes
   rest_ends p x.1
 
-unfoldable pub rest_boundaries_version : Parts → List ℕ → Taken Parts
+unfoldable pub rest_boundaries_version : FooterParts → List ℕ → Parsed FooterParts
 rest_boundaries_version p bytes = do
   x ← version_at 1 reasons.BoundariesVersion bytes
   rest_count_again p x.1
 
-unfoldable pub rest_boundaries_magic : Parts → List ℕ → Taken Parts
+unfoldable pub rest_boundaries_magic : FooterParts → List ℕ → Parsed FooterParts
 rest_boundaries_magic p bytes = do
   x ← magic_at boundaries_magic reasons.BoundariesIdent bytes
   rest_boundaries_version p x.1
 
-unfoldable pub rest_hashes_v1 : Parts → List ℕ → Taken Parts
+unfoldable pub rest_hashes_v1 : FooterParts → List ℕ → Parsed FooterParts
 rest_hashes_v1 p bytes = do
-  x ← times (bytes_at 32) (p.count - length p.hashes) bytes
+  x ← times (next_bytes 32) (p.count - length p.hashes) bytes
   rest_boundaries_magic (record p { hashes = p.hashes ++ x.0 }) x.1
 
 -- Either version.
-abbrev pub rest_hashes : Parts → List ℕ → Taken Parts
+abbrev pub rest_hashes : FooterParts → List ℕ → Parsed FooterParts
 rest_hashes p bytes = if p.is_v1 then rest_hashes_v1 p bytes else rest_hashes_v0 p bytes
 
-abbrev pub rest_lists : Parts → List ℕ → Taken Parts
+abbrev pub rest_lists : FooterParts → List ℕ → Parsed FooterParts
 rest_lists p bytes = if p.is_v1 then rest_hashes_v1 p bytes else rest_ends_v0 p bytes
 
-unfoldable pub rest_count : Parts → List ℕ → Taken Parts
+unfoldable pub rest_count : FooterParts → List ℕ → Parsed FooterParts
 rest_count p bytes = do
   x ← count_at bytes
   rest_lists (record p { count = x.0 }) x.1
 
-unfoldable pub rest_hashes_version : Parts → List ℕ → Taken Parts
+unfoldable pub rest_hashes_version : FooterParts → List ℕ → Parsed FooterParts
 rest_hashes_version p bytes = do
   x ← version_at 0 reasons.HashesVersion bytes
   rest_count p x.1
 
-unfoldable pub rest_hashes_magic : Parts → List ℕ → Taken Parts
+unfoldable pub rest_hashes_magic : FooterParts → List ℕ → Parsed FooterParts
 rest_hashes_magic p bytes = do
   x ← magic_at hashes_magic reasons.HashesIdent bytes
   rest_hashes_version p x.1
 
-abbrev pub rest_behind_hash : Parts → List ℕ → Taken Parts
+abbrev pub rest_behind_hash : FooterParts → List ℕ → Parsed FooterParts
 rest_behind_hash p bytes = if p.is_v1 then rest_hashes_magic p bytes else rest_count p bytes
 
-unfoldable pub rest_hash : Parts → List ℕ → Taken Parts
+unfoldable pub rest_hash : FooterParts → List ℕ → Parsed FooterParts
 rest_hash p bytes = do
-  x ← bytes_at 32 bytes
+  x ← next_bytes 32 bytes
   rest_behind_hash (record p { hash = x.0 }) x.1
 
-abbrev pub rest_behind_version : Parts → List ℕ → List ℕ → Taken Parts
+abbrev pub rest_behind_version : FooterParts → List ℕ → List ℕ → Parsed FooterParts
 rest_behind_version p version bytes = if p.either && pointwise nat_eq version (1 ∷ []) then rest_hash (record p { is_v1 = true }) bytes else (wants (pointwise nat_eq version (0 ∷ [])) reasons.Version >>= λ _. rest_hash (record p { is_v1 = false }) bytes)
 
-unfoldable pub rest_version : Parts → List ℕ → Taken Parts
+unfoldable pub rest_version : FooterParts → List ℕ → Parsed FooterParts
 rest_version p bytes = do
-  x ← bytes_at 1 bytes
+  x ← next_bytes 1 bytes
   rest_behind_version p x.0 x.1
 
-unfoldable pub rest_magic : Parts → List ℕ → Taken Parts
+unfoldable pub rest_magic : FooterParts → List ℕ → Parsed FooterParts
 rest_magic p bytes = do
   x ← magic_at footer_magic reasons.Ident bytes
   rest_version p x.1
 
 -- What reading gives from a field on.
-unfoldable pub rest : Field → Parts → List ℕ → Taken Parts
+unfoldable pub rest : Field → FooterParts → List ℕ → Parsed FooterParts
 rest fields.Ident p bytes = rest_magic p bytes
 rest fields.Version p bytes = rest_version p bytes
 rest fields.Hash p bytes = rest_hash p bytes
@@ -208,11 +208,11 @@ rest fields.Done p bytes = Ok (p, bytes)
 -- ---- Number of bytes left
 
 -- Maximum number of bytes after the boundary offsets.
-abbrev pub room_behind_ends : Parts → ℕ
+abbrev pub room_behind_ends : FooterParts → ℕ
 room_behind_ends p = if p.is_v1 then 28 + 4 * p.count else 16 + 32 * p.count
 
 -- Maximum number of bytes from a field on.
-abbrev pub room_of : Field → Parts → ℕ
+abbrev pub room_of : Field → FooterParts → ℕ
 room_of fields.Ident p = 92 + 40 * max_chunks
 room_of fields.Version p = 85 + 40 * max_chunks
 room_of fields.Hash p = 84 + 40 * max_chunks

@@ -2,4 +2,4 @@ pub mod Items
 pub mod Joining
 pub mod Machine
 pub mod Places
-pub mod Refusals
+pub mod Errors

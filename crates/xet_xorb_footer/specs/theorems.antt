@@ -1,5 +1,5 @@
 pub mod Endings
-pub mod Fronts
+pub mod Prefixes
 pub mod LastRead
 pub mod Readback
 pub mod EncodedLengths

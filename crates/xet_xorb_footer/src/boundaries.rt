@@ -8,7 +8,7 @@ ghost use Rattle.xet_codec.specs.Blocks.{IsPart, RefusedBy, Sees, Tells};
 ghost use Rattle.xet_xorb_footer.specs.internal.Places.{checked_at, head_at, lists_at, tail_at};
 ghost use Rattle.xet_codec.specs.Parsing.{number_at, times};
 ghost use Rattle.xet_xorb_footer.specs.Reading.{number_is};
-ghost use Rattle.xet_xorb_footer.specs.Refusals.{IsFooterRefusal, is_check};
+ghost use Rattle.xet_xorb_footer.specs.Errors.{IsFooterError, is_footer_check};
 ghost use Rattle.xet_xorb_footer.specs.FooterEncoding.{max_chunks};
 ghost use Rattle.xet_io.specs.Frame.{ReadFrom};
 
@@ -42,7 +42,7 @@ impl XorbObjectInfoV1 {
         ensures within { R.tells reader.old ≡ true → IfOk result (λ x. length (R.bytes reader.old) - (number_before 24 (R.bytes reader.old) + 4) + x.1 ≤ length (R.bytes reader.old)) }
         ensures count { IfOk result (λ x. x.1 ≡ 40 + 8 * x.0.num_chunks) }
         ensures refused { R.tells reader.old ≡ true → IfErr result (λ e. (last_boundaries (R.bytes reader.old) ≡ Err e) ⊎ (e ≡ Io Input) ⊎ (e ≡ OutOfMemory)) }
-        ensures kinds { IfErr result IsFooterRefusal }
+        ensures kinds { IfErr result IsFooterError }
         ensures frame { ReadFrom R.bytes R.tells R.faults R.lent reader.old reader.new (IsErrOf result (Io Input)) }
     {
         let end = reader_length(reader)?;
@@ -65,7 +65,7 @@ fn read_number<R: ReadAt>(
     ensures part { (bytes : List ℕ) → Sees (R.tells reader.old) (R.bytes reader.old) bytes end block.old → OnOk result (IsPart block.new bytes) }
     ensures within { OnOk result (at + 4 ≤ end) }
     ensures refused { (bytes : List ℕ) → Sees (R.tells reader.old) (R.bytes reader.old) bytes end block.old → IfErr result (RefusedBy (number_at (drop at bytes))) }
-    ensures kinds { IfErr result IsFooterRefusal }
+    ensures kinds { IfErr result IsFooterError }
     ensures frame { ReadFrom R.bytes R.tells R.faults R.lent reader.old reader.new (IsErrOf result (Io Input)) }
 {
     block.load(reader, at, end, 4)?;
@@ -82,12 +82,12 @@ fn expect_number<R: ReadAt>(
     reason: Reason,
 ) -> Result<(), StoreError>
     requires within { at ≤ end }
-    requires check { is_check reason ≡ true }
+    requires check { is_footer_check reason ≡ true }
     ensures read { (bytes : List ℕ) → Sees (R.tells reader.old) (R.bytes reader.old) bytes end block.old → OnOk result (number_is wanted reason (drop at bytes) ≡ Ok (tt, drop (at + 4) bytes)) }
     ensures part { (bytes : List ℕ) → Sees (R.tells reader.old) (R.bytes reader.old) bytes end block.old → OnOk result (IsPart block.new bytes) }
     ensures within { OnOk result (at + 4 ≤ end) }
     ensures refused { (bytes : List ℕ) → Sees (R.tells reader.old) (R.bytes reader.old) bytes end block.old → IfErr result (RefusedBy (number_is wanted reason (drop at bytes))) }
-    ensures kinds { IfErr result IsFooterRefusal }
+    ensures kinds { IfErr result IsFooterError }
     ensures frame { ReadFrom R.bytes R.tells R.faults R.lent reader.old reader.new (IsErrOf result (Io Input)) }
 {
     if read_number(reader, block, at, end)? != wanted {
@@ -107,12 +107,12 @@ fn expect_bytes<R: ReadAt>(
 ) -> Result<(), StoreError>
     requires within { at ≤ end }
     requires few { length wanted.now ≤ 7 }
-    requires check { is_check reason ≡ true }
+    requires check { is_footer_check reason ≡ true }
     ensures read { (bytes : List ℕ) → Sees (R.tells reader.old) (R.bytes reader.old) bytes end block.old → OnOk result (checked_at (length wanted.now) wanted.now reason (drop at bytes) ≡ Ok (tt, drop (at + length wanted.now) bytes)) }
     ensures part { (bytes : List ℕ) → Sees (R.tells reader.old) (R.bytes reader.old) bytes end block.old → OnOk result (IsPart block.new bytes) }
     ensures within { OnOk result (at + length wanted.now ≤ end) }
     ensures refused { (bytes : List ℕ) → Sees (R.tells reader.old) (R.bytes reader.old) bytes end block.old → IfErr result (RefusedBy (checked_at (length wanted.now) wanted.now reason (drop at bytes))) }
-    ensures kinds { IfErr result IsFooterRefusal }
+    ensures kinds { IfErr result IsFooterError }
     ensures frame { ReadFrom R.bytes R.tells R.faults R.lent reader.old reader.new (IsErrOf result (Io Input)) }
 {
     block.load(reader, at, end, wanted.len())?;
@@ -137,7 +137,7 @@ fn read_numbers<R: ReadAt>(
     ensures part { (bytes : List ℕ) → Sees (R.tells reader.old) (R.bytes reader.old) bytes end block.old → OnOk result (IsPart block.new bytes) }
     ensures within { OnOk result (at + 4 * count ≤ end) }
     ensures refused { (bytes : List ℕ) → Sees (R.tells reader.old) (R.bytes reader.old) bytes end block.old → IfErr result (RefusedBy (times number_at count (drop at bytes))) }
-    ensures kinds { IfErr result IsFooterRefusal }
+    ensures kinds { IfErr result IsFooterError }
     ensures frame { ReadFrom R.bytes R.tells R.faults R.lent reader.old reader.new (IsErrOf result (Io Input)) }
 {
     if end - at < 4 * count as u64 {
@@ -167,7 +167,7 @@ fn read_head<R: ReadAt>(
     ensures within { OnOk result (at + 12 ≤ end) }
     ensures few { IfOk result (λ n. n ≤ max_chunks) }
     ensures refused { (bytes : List ℕ) → Sees (R.tells reader.old) (R.bytes reader.old) bytes end block.old → IfErr result (RefusedBy (head_at (drop at bytes))) }
-    ensures kinds { IfErr result IsFooterRefusal }
+    ensures kinds { IfErr result IsFooterError }
     ensures frame { ReadFrom R.bytes R.tells R.faults R.lent reader.old reader.new (IsErrOf result (Io Input)) }
 {
     expect_bytes(
@@ -200,7 +200,7 @@ fn read_lists<R: ReadAt>(
     ensures part { (bytes : List ℕ) → Sees (R.tells reader.old) (R.bytes reader.old) bytes end block.old → OnOk result (IsPart block.new bytes) }
     ensures within { OnOk result (at + 8 * count ≤ end) }
     ensures refused { (bytes : List ℕ) → Sees (R.tells reader.old) (R.bytes reader.old) bytes end block.old → IfErr result (RefusedBy (lists_at count (drop at bytes))) }
-    ensures kinds { IfErr result IsFooterRefusal }
+    ensures kinds { IfErr result IsFooterError }
     ensures frame { ReadFrom R.bytes R.tells R.faults R.lent reader.old reader.new (IsErrOf result (Io Input)) }
 {
     let ends = read_numbers(alloc, reader, block, at, end, count)?;
@@ -223,7 +223,7 @@ fn read_tail<R: ReadAt>(
     ensures part { (bytes : List ℕ) → Sees (R.tells reader.old) (R.bytes reader.old) bytes end block.old → OnOk result (IsPart block.new bytes) }
     ensures within { OnOk result (at + 28 ≤ end) }
     ensures refused { (bytes : List ℕ) → Sees (R.tells reader.old) (R.bytes reader.old) bytes end block.old → IfErr result (RefusedBy (tail_at count (drop at bytes))) }
-    ensures kinds { IfErr result IsFooterRefusal }
+    ensures kinds { IfErr result IsFooterError }
     ensures frame { ReadFrom R.bytes R.tells R.faults R.lent reader.old reader.new (IsErrOf result (Io Input)) }
 {
     expect_number(reader, block, at, end, count, Reason::CountMismatch)?;
@@ -254,7 +254,7 @@ fn read_boundaries<R: ReadAt>(
     ensures within { IfOk result (λ i. at + (40 + 8 * i.num_chunks) ≤ end) }
     ensures few { IfOk result (λ i. i.num_chunks ≤ max_chunks) }
     ensures refused { (bytes : List ℕ) → Tells (R.tells reader.old) (R.bytes reader.old) bytes end → IfErr result (RefusedBy (boundaries (drop at bytes))) }
-    ensures kinds { IfErr result IsFooterRefusal }
+    ensures kinds { IfErr result IsFooterError }
     ensures frame { ReadFrom R.bytes R.tells R.faults R.lent reader.old reader.new (IsErrOf result (Io Input)) }
 {
     let mut block = Block::new(alloc);
@@ -278,7 +278,7 @@ fn boundaries_start<R: ReadAt>(reader: &mut R, end: u64) -> Result<u64, StoreErr
     ensures place { (bytes : List ℕ) → Tells (R.tells reader.old) (R.bytes reader.old) bytes end → IfOk result (λ at. at ≡ length bytes - (number_before 24 bytes + 4)) }
     ensures within { IfOk result (λ at. at ≤ end) }
     ensures refused { (bytes : List ℕ) → Tells (R.tells reader.old) (R.bytes reader.old) bytes end → IfErr result (RefusedBy (last_boundaries bytes)) }
-    ensures kinds { IfErr result IsFooterRefusal }
+    ensures kinds { IfErr result IsFooterError }
     ensures frame { ReadFrom R.bytes R.tells R.faults R.lent reader.old reader.new (IsErrOf result (Io Input)) }
 {
     if end < 24 {

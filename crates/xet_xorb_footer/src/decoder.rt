@@ -26,8 +26,8 @@ impl Joined {
     ghost use Rattle.std.specs.Prelude.{◌≡◌, ◌≤◌, ◌<◌, ◌+◌, ◌++◌, [], List, ℕ, false, IfErr, IfOk, OnOk, drop, length};
     ghost use Rattle.std.specs.Int.{w32, from_le_bytes};
     ghost use Rattle.xet_xorb_footer.specs.Ends.{whole_footer};
-    ghost use Rattle.xet_xorb_footer.specs.Joining.{IsReady, IsWholeRefusal, joined_wanted, rest_whole};
-    ghost use Rattle.xet_xorb_footer.specs.internal.Joining.{Reads, Stops};
+    ghost use Rattle.xet_xorb_footer.specs.Joining.{IsReady, IsWholeError, joined_wanted, rest_whole};
+    ghost use Rattle.xet_xorb_footer.specs.internal.Joining.{ReadsUpTo, Stops};
     ghost use Rattle.xet_xorb_footer.specs.Reader.{bytes_wanted};
 
     /// Nothing was read. Does not allocate.
@@ -61,10 +61,10 @@ impl Joined {
     fn take(&mut self, field: &[u8]) -> Result<(), StoreError>
         requires ready { IsReady self.old }
         requires len { length field.now ≡ joined_wanted self.old }
-        ensures read { OnOk result (Reads self.old self.new field.now []) }
+        ensures read { OnOk result (ReadsUpTo self.old self.new field.now []) }
         ensures ready { OnOk result (IsReady self.new) }
         ensures refused { IfErr result (Stops self.old field.now) }
-        ensures kinds { IfErr result IsWholeRefusal }
+        ensures kinds { IfErr result IsWholeError }
     {
         if self.ended {
             return Err(StoreError::MalformedData(Reason::TrailingBytes));
@@ -83,10 +83,10 @@ impl Joined {
         requires ended { self.old.ended ≡ false }
         requires whole { bytes_wanted self.old.footer ≡ 0 }
         requires len { length field.now ≡ 4 }
-        ensures read { OnOk result (Reads self.old self.new field.now []) }
+        ensures read { OnOk result (ReadsUpTo self.old self.new field.now []) }
         ensures ready { OnOk result (IsReady self.new) }
         ensures refused { IfErr result (Stops self.old field.now) }
-        ensures kinds { IfErr result IsWholeRefusal }
+        ensures kinds { IfErr result IsWholeError }
     {
         if number_of(field) != self.count {
             return Err(StoreError::MalformedData(Reason::InfoLength));
@@ -100,11 +100,11 @@ impl Joined {
     fn take_whole(&mut self, piece: &[u8]) -> Result<usize, StoreError>
         requires { IsReady self.old }
         ensures within { IfOk result (λ n. n ≤ length piece.now) }
-        ensures read { IfOk result (λ n. Reads self.old self.new piece.now (drop n piece.now)) }
+        ensures read { IfOk result (λ n. ReadsUpTo self.old self.new piece.now (drop n piece.now)) }
         ensures short { IfOk result (λ n. length (drop n piece.now) < joined_wanted self.new) }
         ensures ready { OnOk result (IsReady self.new) }
         ensures refused { IfErr result (Stops self.old piece.now) }
-        ensures kinds { IfErr result IsWholeRefusal }
+        ensures kinds { IfErr result IsWholeError }
     {
         let mut at = 0;
         'fields: while piece.len() - at >= self.wanted() {
@@ -121,12 +121,12 @@ impl Joined {
         requires ready { IsReady self.old }
         requires short { length held.old.items < joined_wanted self.old }
         ensures within { IfOk result (λ n. n ≤ length piece.now) }
-        ensures read { IfOk result (λ n. Reads self.old self.new (held.old.items ++ piece.now) (held.new.items ++ drop n piece.now)) }
+        ensures read { IfOk result (λ n. ReadsUpTo self.old self.new (held.old.items ++ piece.now) (held.new.items ++ drop n piece.now)) }
         ensures short { OnOk result (length held.new.items < joined_wanted self.new) }
         ensures rest { IfOk result (λ n. n < length piece.now → held.new.items ≡ []) }
         ensures ready { OnOk result (IsReady self.new) }
         ensures refused { IfErr result (Stops self.old (held.old.items ++ piece.now)) }
-        ensures kinds { IfErr result IsWholeRefusal }
+        ensures kinds { IfErr result IsWholeError }
     {
         let wanted = self.wanted();
         let added = piece.len().min(wanted - held.len());
@@ -156,15 +156,15 @@ pub struct FooterDecoder {
 impl FooterDecoder {
     ghost use Rattle.std.specs.Prelude.{◌≡◌, ◌<◌, ◌⊎◌, ◌↔◌, ◌++◌, [], List, ℕ, Err, Ok, true, false, IfErr, IfOk, IsOk, IsTrue, OnOk};
     ghost use Rattle.xet_hash.specs.declared.error.StoreError.TheVariants.{UnexpectedEof};
-    ghost use Rattle.xet_xorb_footer.specs.Decoder.{Holds, Refuses, whole_of};
+    ghost use Rattle.xet_xorb_footer.specs.Decoder.{WasFedFooter, FailsPart, is_footer_intact};
     ghost use Rattle.xet_xorb_footer.specs.Ends.{whole_footer};
-    ghost use Rattle.xet_xorb_footer.specs.Joining.{IsReady, IsWholeRefusal, joined_wanted};
-    ghost use Rattle.xet_xorb_footer.specs.internal.Joining.{Reads, Stops};
+    ghost use Rattle.xet_xorb_footer.specs.Joining.{IsReady, IsWholeError, joined_wanted};
+    ghost use Rattle.xet_xorb_footer.specs.internal.Joining.{ReadsUpTo, Stops};
 
     /// A decoder to which nothing was fed. Does not allocate.
     pub fn new(alloc: Global) -> FooterDecoder
-        ensures whole { whole_of result ≡ true }
-        ensures holds { Holds result [] }
+        ensures whole { is_footer_intact result ≡ true }
+        ensures holds { WasFedFooter result [] }
     {
         FooterDecoder {
             joined: Joined::new(alloc),
@@ -175,7 +175,7 @@ impl FooterDecoder {
 
     /// Whether no call has failed. A decoder that has failed must not be used further.
     pub fn is_whole(&self) -> bool
-        ensures { result ≡ whole_of self.now }
+        ensures { result ≡ is_footer_intact self.now }
     {
         self.whole
     }
@@ -186,11 +186,11 @@ impl FooterDecoder {
     /// fourth byte of a wrong length, `TrailingBytes` with the first byte after the length. The other error
     /// is `OutOfMemory`.
     pub fn feed(&mut self, piece: &[u8]) -> Result<(), StoreError>
-        requires { whole_of self.old ≡ true }
-        ensures fed { OnOk result ((bytes : List ℕ) → Holds self.old bytes → Holds self.new (bytes ++ piece.now)) }
-        ensures refused { IfErr result (Refuses self.old piece.now) }
-        ensures kinds { IfErr result IsWholeRefusal }
-        ensures whole { IsTrue (whole_of self.new) ↔ IsOk result }
+        requires { is_footer_intact self.old ≡ true }
+        ensures fed { OnOk result ((bytes : List ℕ) → WasFedFooter self.old bytes → WasFedFooter self.new (bytes ++ piece.now)) }
+        ensures refused { IfErr result (FailsPart self.old piece.now) }
+        ensures kinds { IfErr result IsWholeError }
+        ensures whole { IsTrue (is_footer_intact self.new) ↔ IsOk result }
     {
         self.whole = false;
         self.absorb(piece)?;
@@ -203,11 +203,11 @@ impl FooterDecoder {
         requires refused { self.old.whole ≡ false }
         requires ready { IsReady self.old.joined }
         requires short { length self.old.held.items < joined_wanted self.old.joined }
-        ensures read { OnOk result (Reads self.old.joined self.new.joined (self.old.held.items ++ piece.now) self.new.held.items) }
+        ensures read { OnOk result (ReadsUpTo self.old.joined self.new.joined (self.old.held.items ++ piece.now) self.new.held.items) }
         ensures ready { OnOk result (IsReady self.new.joined) }
         ensures short { OnOk result (length self.new.held.items < joined_wanted self.new.joined) }
         ensures stopped { IfErr result (Stops self.old.joined (self.old.held.items ++ piece.now)) }
-        ensures kinds { IfErr result IsWholeRefusal }
+        ensures kinds { IfErr result IsWholeError }
         ensures whole { self.new.whole ≡ false }
     {
         if self.held.is_empty() {
@@ -225,11 +225,11 @@ impl FooterDecoder {
         requires refused { self.old.whole ≡ false }
         requires ready { IsReady self.old.joined }
         requires empty { self.old.held.items ≡ [] }
-        ensures read { OnOk result (Reads self.old.joined self.new.joined piece.now self.new.held.items) }
+        ensures read { OnOk result (ReadsUpTo self.old.joined self.new.joined piece.now self.new.held.items) }
         ensures ready { OnOk result (IsReady self.new.joined) }
         ensures short { OnOk result (length self.new.held.items < joined_wanted self.new.joined) }
         ensures stopped { IfErr result (Stops self.old.joined piece.now) }
-        ensures kinds { IfErr result IsWholeRefusal }
+        ensures kinds { IfErr result IsWholeError }
         ensures whole { self.new.whole ≡ false }
     {
         let taken = self.joined.take_whole(piece)?;
@@ -240,9 +240,9 @@ impl FooterDecoder {
     /// Ends the input. Returns the footer and its length in bytes. Fails with `UnexpectedEof` if the input
     /// ended before the end of the length.
     pub fn finish(self) -> Result<(XorbObjectInfoV1, u32), StoreError>
-        requires { whole_of self ≡ true }
-        ensures read { IfOk result (λ x. (bytes : List ℕ) → Holds self bytes → whole_footer bytes ≡ Ok (x.0, x.1)) }
-        ensures refused { IfErr result (λ e. (bytes : List ℕ) → Holds self bytes → whole_footer bytes ≡ Err e) }
+        requires { is_footer_intact self ≡ true }
+        ensures read { IfOk result (λ x. (bytes : List ℕ) → WasFedFooter self bytes → whole_footer bytes ≡ Ok (x.0, x.1)) }
+        ensures refused { IfErr result (λ e. (bytes : List ℕ) → WasFedFooter self bytes → whole_footer bytes ≡ Err e) }
         ensures kinds { IfErr result (λ e. e ≡ UnexpectedEof) }
     {
         if !self.joined.ended {

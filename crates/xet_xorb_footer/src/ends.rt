@@ -5,10 +5,10 @@ ghost use Rattle.xet_hash.specs.declared.error.Place.TheVariants.{Input};
 ghost use Rattle.xet_hash.specs.declared.error.Reason.TheVariants.{InfoLength};
 ghost use Rattle.xet_hash.specs.declared.error.StoreError.TheVariants.{Io, MalformedData, OutOfMemory, UnexpectedEof};
 ghost use Rattle.xet_xorb_footer.specs.Ends.{last_footer, footer_length};
-ghost use Rattle.xet_xorb_footer.specs.internal.Machine.{IsSettled};
+ghost use Rattle.xet_xorb_footer.specs.internal.Machine.{IsIncomplete};
 ghost use Rattle.xet_codec.specs.Blocks.{IsPart, RefusedBy, Sees};
-ghost use Rattle.xet_xorb_footer.specs.Reader.{bytes_left, bytes_wanted, parts_of, rest_of};
-ghost use Rattle.xet_xorb_footer.specs.Refusals.{IsFooterRefusal};
+ghost use Rattle.xet_xorb_footer.specs.Reader.{bytes_left, bytes_wanted, footer_parts_of, rest_of};
+ghost use Rattle.xet_xorb_footer.specs.Errors.{IsFooterError};
 ghost use Rattle.xet_io.specs.Frame.{ReadFrom};
 
 use crate::info::XorbObjectInfoV1;
@@ -44,7 +44,7 @@ pub fn last_footer<R: ReadAt>(
 ) -> Result<(XorbObjectInfoV1, u32), StoreError>
     ensures read { R.tells reader.old ≡ true → IfOk result (λ x. last_footer (R.bytes reader.old) ≡ Ok (x.0, x.1)) }
     ensures refused { R.tells reader.old ≡ true → IfErr result (λ e. (last_footer (R.bytes reader.old) ≡ Err e) ⊎ (e ≡ Io Input) ⊎ (e ≡ OutOfMemory)) }
-    ensures kinds { IfErr result (λ e. IsFooterRefusal e ⊎ (e ≡ MalformedData InfoLength)) }
+    ensures kinds { IfErr result (λ e. IsFooterError e ⊎ (e ≡ MalformedData InfoLength)) }
     ensures frame { ReadFrom R.bytes R.tells R.faults R.lent reader.old reader.new (IsErrOf result (Io Input)) }
 {
     let len = reader_length(reader)?;
@@ -74,7 +74,7 @@ fn footer_before<R: ReadAt>(
 ) -> Result<(XorbObjectInfoV1, u32), StoreError>
     ensures read { R.tells reader.old ≡ true → len ≡ length (R.bytes reader.old) → IfOk result (λ x. last_footer (R.bytes reader.old) ≡ Ok (x.0, x.1)) }
     ensures refused { R.tells reader.old ≡ true → len ≡ length (R.bytes reader.old) → IfErr result (λ e. (last_footer (R.bytes reader.old) ≡ Err e) ⊎ (e ≡ Io Input) ⊎ (e ≡ OutOfMemory)) }
-    ensures kinds { IfErr result (λ e. IsFooterRefusal e ⊎ (e ≡ MalformedData InfoLength)) }
+    ensures kinds { IfErr result (λ e. IsFooterError e ⊎ (e ≡ MalformedData InfoLength)) }
     ensures frame { ReadFrom R.bytes R.tells R.faults R.lent reader.old reader.new (IsErrOf result (Io Input)) }
 {
     let told = number_at_end(reader, len)?;
@@ -99,12 +99,12 @@ fn read_fields_at<R: ReadAt>(
     at: u64,
     end: u64,
 ) -> Result<u64, StoreError>
-    requires settled { IsSettled footer.old.next (parts_of footer.old) }
+    requires settled { IsIncomplete footer.old.next (footer_parts_of footer.old) }
     requires within { at ≤ end }
-    ensures read { R.tells reader.old ≡ true → end ≡ length (R.bytes reader.old) → IfOk result (λ to. rest_of footer.old (drop at (R.bytes reader.old)) ≡ Ok (parts_of footer.new, drop to (R.bytes reader.old))) }
+    ensures read { R.tells reader.old ≡ true → end ≡ length (R.bytes reader.old) → IfOk result (λ to. rest_of footer.old (drop at (R.bytes reader.old)) ≡ Ok (footer_parts_of footer.new, drop to (R.bytes reader.old))) }
     ensures within { IfOk result (λ to. to ≤ end) }
     ensures refused { R.tells reader.old ≡ true → end ≡ length (R.bytes reader.old) → IfErr result (λ e. (rest_of footer.old (drop at (R.bytes reader.old)) ≡ Err e) ⊎ (e ≡ Io Input) ⊎ (e ≡ OutOfMemory)) }
-    ensures kinds { IfErr result IsFooterRefusal }
+    ensures kinds { IfErr result IsFooterError }
     ensures frame { ReadFrom R.bytes R.tells R.faults R.lent reader.old reader.new (IsErrOf result (Io Input)) }
 {
     let mut block = Block::new(alloc);
@@ -128,10 +128,10 @@ fn read_field_at<R: ReadAt>(
     ensures part { (bytes : List ℕ) → Sees (R.tells reader.old) (R.bytes reader.old) bytes end block.old → OnOk result (IsPart block.new bytes) }
     ensures within { IfOk result (λ to. to ≤ end) }
     ensures wanted { IfOk result (λ to. to ≡ at + bytes_wanted footer.old) }
-    ensures settled { OnOk result (IsSettled footer.new.next (parts_of footer.new)) }
+    ensures settled { OnOk result (IsIncomplete footer.new.next (footer_parts_of footer.new)) }
     ensures left { OnOk result (bytes_wanted footer.old + bytes_left footer.new ≤ bytes_left footer.old) }
     ensures refused { (bytes : List ℕ) → Sees (R.tells reader.old) (R.bytes reader.old) bytes end block.old → IfErr result (RefusedBy (rest_of footer.old (drop at bytes))) }
-    ensures kinds { IfErr result IsFooterRefusal }
+    ensures kinds { IfErr result IsFooterError }
     ensures frame { ReadFrom R.bytes R.tells R.faults R.lent reader.old reader.new (IsErrOf result (Io Input)) }
 {
     let wanted = footer.wanted();

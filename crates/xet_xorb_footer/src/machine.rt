@@ -81,20 +81,20 @@ pub(crate) struct FooterReader {
 impl FooterReader {
     ghost use Rattle.std.specs.Prelude.{◌≡◌, ◌≤◌, ◌⊎◌, ℕ, ◌+◌, ◌-◌, ◌*◌, List, ◌++◌, Err, IfErr, IsErrOf, OnOk, length, min, nat_lt};
     ghost use Rattle.xet_hash.specs.declared.error.StoreError.TheVariants.{OutOfMemory, UnexpectedEof};
-    ghost use Rattle.xet_xorb_footer.specs.internal.Machine.{IsSettled, as_value, behind_ends, ends_v0, ends_v1, expects, expects_number, hashes_v0, hashes_v1, next_count, next_ends, next_hash, next_hashes, next_plain, next_spare, next_version, plain_v1, started, step};
-    ghost use Rattle.xet_xorb_footer.specs.Machine.{block_of, info_of, info_v0};
-    ghost use Rattle.xet_xorb_footer.specs.Reader.{bytes_left, bytes_wanted, parts_of, rest_of};
+    ghost use Rattle.xet_xorb_footer.specs.internal.Machine.{IsIncomplete, as_value, behind_ends, ends_v0, ends_v1, expects, expects_number, hashes_v0, hashes_v1, next_count, next_ends, next_hash, next_hashes, next_plain, next_spare, next_version, plain_v1, started, step};
+    ghost use Rattle.xet_xorb_footer.specs.Machine.{block_of, footer_info, info_v0};
+    ghost use Rattle.xet_xorb_footer.specs.Reader.{bytes_left, bytes_wanted, footer_parts_of, rest_of};
     ghost use Rattle.xet_xorb_footer.specs.Reading.{footer_at, footer_v0, rest_v0};
     ghost use Rattle.xet_codec.specs.Parsing.{Gives};
-    ghost use Rattle.xet_xorb_footer.specs.Refusals.{IsRefusal};
+    ghost use Rattle.xet_xorb_footer.specs.Errors.{IsBytesError};
     ghost use Rattle.xet_xorb_footer.specs.FooterEncoding.{max_chunks};
 
     /// Reads a footer of either version. `available` is the number of bytes known to be available. If the
     /// lists fit into them, they are reserved once, as soon as the number of chunks is read. Otherwise they
     /// grow.
     pub(crate) fn of_either(alloc: Global, available: u64) -> FooterReader
-        ensures rest { (bytes : List ℕ) → as_value info_of (rest_of result bytes) ≡ footer_at bytes }
-        ensures settled { IsSettled result.next (parts_of result) }
+        ensures rest { (bytes : List ℕ) → as_value footer_info (rest_of result bytes) ≡ footer_at bytes }
+        ensures settled { IsIncomplete result.next (footer_parts_of result) }
         ensures left { bytes_left result ≤ 92 + 40 * max_chunks }
     {
         FooterReader::started(alloc, true, Field::Ident, available)
@@ -103,7 +103,7 @@ impl FooterReader {
     /// Reads a footer of version 0.
     pub(crate) fn of_v0(alloc: Global) -> FooterReader
         ensures rest { (bytes : List ℕ) → as_value info_v0 (rest_of result bytes) ≡ footer_v0 bytes }
-        ensures settled { IsSettled result.next (parts_of result) }
+        ensures settled { IsIncomplete result.next (footer_parts_of result) }
         ensures left { bytes_left result ≤ 92 + 40 * max_chunks }
     {
         FooterReader::started(alloc, false, Field::Ident, 0)
@@ -112,7 +112,7 @@ impl FooterReader {
     /// Reads what follows the magic and the version in a footer of version 0.
     pub(crate) fn of_rest_v0(alloc: Global) -> FooterReader
         ensures rest { (bytes : List ℕ) → as_value info_v0 (rest_of result bytes) ≡ rest_v0 bytes }
-        ensures settled { IsSettled result.next (parts_of result) }
+        ensures settled { IsIncomplete result.next (footer_parts_of result) }
         ensures left { bytes_left result ≤ 92 + 40 * max_chunks }
     {
         FooterReader::started(alloc, false, Field::Hash, 0)
@@ -121,7 +121,7 @@ impl FooterReader {
     /// Nothing was read, and `next` is the first field.
     fn started(alloc: Global, either: bool, next: Field, available: u64) -> FooterReader
         ensures next { result.next ≡ next }
-        ensures parts { parts_of result ≡ started either }
+        ensures parts { footer_parts_of result ≡ started either }
     {
         FooterReader {
             next,
@@ -139,7 +139,7 @@ impl FooterReader {
 
     /// The footer, once it is complete.
     pub(crate) fn into_v0(self) -> XorbObjectInfoV0
-        ensures { result ≡ info_v0 (parts_of self) }
+        ensures { result ≡ info_v0 (footer_parts_of self) }
     {
         let spare = self.spare;
         XorbObjectInfoV0 {
@@ -155,7 +155,7 @@ impl FooterReader {
 
     /// The footer of either version, once it is complete, as one of version 1.
     pub(crate) fn into_v1(self) -> XorbObjectInfoV1
-        ensures { result ≡ info_of (parts_of self) }
+        ensures { result ≡ footer_info (footer_parts_of self) }
     {
         if !self.is_v1 {
             return XorbObjectInfoV1::from_v0(self.into_v0());
@@ -208,9 +208,9 @@ impl FooterReader {
         requires { length field.now ≡ bytes_wanted self.old }
         ensures taken { OnOk result ((more : List ℕ) → rest_of self.old (field.now ++ more) ≡ rest_of self.new more) }
         ensures refused { IfErr result (λ e. (e ≡ OutOfMemory) ⊎ ((more : List ℕ) → rest_of self.old (field.now ++ more) ≡ Err e)) }
-        ensures kinds { IfErr result IsRefusal }
+        ensures kinds { IfErr result IsBytesError }
         ensures whole { IsErrOf result UnexpectedEof → ⊥ }
-        ensures settled { OnOk result (IsSettled self.new.next (parts_of self.new)) }
+        ensures settled { OnOk result (IsIncomplete self.new.next (footer_parts_of self.new)) }
         ensures left { OnOk result (length field.now + bytes_left self.new ≤ bytes_left self.old) }
     {
         self.step(field)
@@ -220,7 +220,7 @@ impl FooterReader {
     #[tactic(auto, unfolding(crate::specs::internal::Machine::step))]
     fn step(&mut self, field: &[u8]) -> Result<(), StoreError>
         requires { length field.now ≡ bytes_wanted self.old }
-        ensures { Gives (λ _. (self.new.next, parts_of self.new)) result (step self.old.next (parts_of self.old) field.now) }
+        ensures { Gives (λ _. (self.new.next, footer_parts_of self.new)) result (step self.old.next (footer_parts_of self.old) field.now) }
     {
         let count = self.count as u64;
         match self.next {
@@ -279,7 +279,7 @@ impl FooterReader {
         reason: Reason,
         next: Field,
     ) -> Result<(), StoreError>
-        ensures { Gives (λ _. (self.new.next, parts_of self.new)) result (expects field.now wanted.now reason next (parts_of self.old)) }
+        ensures { Gives (λ _. (self.new.next, footer_parts_of self.new)) result (expects field.now wanted.now reason next (footer_parts_of self.old)) }
     {
         if field != wanted {
             return Err(StoreError::MalformedData(reason));
@@ -297,7 +297,7 @@ impl FooterReader {
         next: Field,
     ) -> Result<(), StoreError>
         requires { length field.now ≡ 4 }
-        ensures { Gives (λ _. (self.new.next, parts_of self.new)) result (expects_number field.now wanted reason next (parts_of self.old)) }
+        ensures { Gives (λ _. (self.new.next, footer_parts_of self.new)) result (expects_number field.now wanted reason next (footer_parts_of self.old)) }
     {
         if number_of(field) as u64 != wanted {
             return Err(StoreError::MalformedData(reason));
@@ -307,7 +307,7 @@ impl FooterReader {
     }
 
     fn take_version(&mut self, field: &[u8]) -> Result<(), StoreError>
-        ensures { Gives (λ _. (self.new.next, parts_of self.new)) result (next_version (parts_of self.old) field.now) }
+        ensures { Gives (λ _. (self.new.next, footer_parts_of self.new)) result (next_version (footer_parts_of self.old) field.now) }
     {
         if self.either && field == [1].as_slice() {
             self.is_v1 = true;
@@ -320,7 +320,7 @@ impl FooterReader {
 
     fn take_hash(&mut self, field: &[u8]) -> Result<(), StoreError>
         requires { length field.now ≡ 32 }
-        ensures { Gives (λ _. (self.new.next, parts_of self.new)) result (next_hash (parts_of self.old) field.now) }
+        ensures { Gives (λ _. (self.new.next, footer_parts_of self.new)) result (next_hash (footer_parts_of self.old) field.now) }
     {
         self.hash = hash_of(field);
         self.next = if self.is_v1 {
@@ -334,7 +334,7 @@ impl FooterReader {
     /// Checks the number of chunks, and reserves the lists.
     fn take_count(&mut self, field: &[u8]) -> Result<(), StoreError>
         requires { length field.now ≡ 4 }
-        ensures { Gives (λ _. (self.new.next, parts_of self.new)) result (next_count (parts_of self.old) field.now) }
+        ensures { Gives (λ _. (self.new.next, footer_parts_of self.new)) result (next_count (footer_parts_of self.old) field.now) }
     {
         let count = number_of(field);
         if count > MAX_CHUNKS {
@@ -354,7 +354,7 @@ impl FooterReader {
     /// than there are bytes. A chunk takes 40 bytes in version 1, and 36 in version 0.
     fn reserve(&mut self) -> Result<(), AllocError>
         ensures next { self.new.next ≡ self.old.next }
-        ensures parts { parts_of self.new ≡ parts_of self.old }
+        ensures parts { footer_parts_of self.new ≡ footer_parts_of self.old }
     {
         let count = self.count as usize;
         let each = if self.is_v1 { 40 } else { 36 };
@@ -370,8 +370,8 @@ impl FooterReader {
     }
 
     fn take_hashes(&mut self, field: &[u8]) -> Result<(), StoreError>
-        requires { length field.now ≡ 32 * block_of (parts_of self.old) self.old.hashes.items }
-        ensures { Gives (λ _. (self.new.next, parts_of self.new)) result (next_hashes (parts_of self.old) field.now) }
+        requires { length field.now ≡ 32 * block_of (footer_parts_of self.old) self.old.hashes.items }
+        ensures { Gives (λ _. (self.new.next, footer_parts_of self.new)) result (next_hashes (footer_parts_of self.old) field.now) }
     {
         let count = self.block(self.hashes.len());
         push_hashes(&mut self.hashes, field, count)?;
@@ -384,8 +384,8 @@ impl FooterReader {
     }
 
     fn take_ends(&mut self, field: &[u8]) -> Result<(), StoreError>
-        requires { length field.now ≡ 4 * block_of (parts_of self.old) self.old.ends.items }
-        ensures { Gives (λ _. (self.new.next, parts_of self.new)) result (next_ends (parts_of self.old) field.now) }
+        requires { length field.now ≡ 4 * block_of (footer_parts_of self.old) self.old.ends.items }
+        ensures { Gives (λ _. (self.new.next, footer_parts_of self.new)) result (next_ends (footer_parts_of self.old) field.now) }
     {
         let count = self.block(self.ends.len());
         push_numbers(&mut self.ends, field, count)?;
@@ -394,8 +394,8 @@ impl FooterReader {
     }
 
     fn take_plain(&mut self, field: &[u8]) -> Result<(), StoreError>
-        requires { length field.now ≡ 4 * block_of (parts_of self.old) self.old.plain.items }
-        ensures { Gives (λ _. (self.new.next, parts_of self.new)) result (next_plain (parts_of self.old) field.now) }
+        requires { length field.now ≡ 4 * block_of (footer_parts_of self.old) self.old.plain.items }
+        ensures { Gives (λ _. (self.new.next, footer_parts_of self.new)) result (next_plain (footer_parts_of self.old) field.now) }
     {
         let count = self.block(self.plain.len());
         push_numbers(&mut self.plain, field, count)?;
@@ -405,7 +405,7 @@ impl FooterReader {
 
     fn take_spare(&mut self, field: &[u8]) -> Result<(), StoreError>
         requires { length field.now ≡ 16 }
-        ensures { Gives (λ _. (self.new.next, parts_of self.new)) result (next_spare (parts_of self.old) field.now) }
+        ensures { Gives (λ _. (self.new.next, footer_parts_of self.new)) result (next_spare (footer_parts_of self.old) field.now) }
     {
         self.spare.copy_from_slice(field);
         self.next = Field::Done;
@@ -421,7 +421,7 @@ impl FooterReader {
 
     /// The next field when the uncompressed boundary offsets are due.
     fn plain_v1(&self) -> Field
-        ensures { result ≡ plain_v1 (parts_of self.now) }
+        ensures { result ≡ plain_v1 (footer_parts_of self.now) }
     {
         if self.lacks(self.plain.len()) {
             Field::PlainEnds
@@ -432,7 +432,7 @@ impl FooterReader {
 
     /// The next field of version 1 when the boundary offsets are due.
     fn ends_v1(&self) -> Field
-        ensures { result ≡ ends_v1 (parts_of self.now) }
+        ensures { result ≡ ends_v1 (footer_parts_of self.now) }
     {
         if self.lacks(self.ends.len()) {
             Field::Ends
@@ -443,7 +443,7 @@ impl FooterReader {
 
     /// The next field when the boundary offsets are due.
     fn behind_ends(&self) -> Field
-        ensures { result ≡ behind_ends (parts_of self.now) }
+        ensures { result ≡ behind_ends (footer_parts_of self.now) }
     {
         if self.is_v1 {
             self.ends_v1()
@@ -454,7 +454,7 @@ impl FooterReader {
 
     /// The next field of version 1 when the chunk hashes are due.
     fn hashes_v1(&self) -> Field
-        ensures { result ≡ hashes_v1 (parts_of self.now) }
+        ensures { result ≡ hashes_v1 (footer_parts_of self.now) }
     {
         if self.lacks(self.hashes.len()) {
             Field::Hashes
@@ -465,7 +465,7 @@ impl FooterReader {
 
     /// The next field of version 0 when the chunk hashes are due.
     fn hashes_v0(&self) -> Field
-        ensures { result ≡ hashes_v0 (parts_of self.now) }
+        ensures { result ≡ hashes_v0 (footer_parts_of self.now) }
     {
         if self.lacks(self.hashes.len()) {
             Field::Hashes
@@ -476,7 +476,7 @@ impl FooterReader {
 
     /// The next field of version 0 when the boundary offsets are due.
     fn ends_v0(&self) -> Field
-        ensures { result ≡ ends_v0 (parts_of self.now) }
+        ensures { result ≡ ends_v0 (footer_parts_of self.now) }
     {
         if self.lacks(self.ends.len()) {
             Field::Ends

@@ -3,17 +3,17 @@
 ghost use Rattle.std.specs.Prelude.{◌≡◌, ◌≤◌, ◌+◌, ◌*◌, ◌⊎◌, ℕ, [], Ok, Err, true, IfErr, IfOk, IsErrOf, OnOk, drop, length};
 ghost use Rattle.xet_hash.specs.declared.error.Place.TheVariants.{Input};
 ghost use Rattle.xet_hash.specs.declared.error.StoreError.TheVariants.{Io, OutOfMemory, UnexpectedEof};
-ghost use Rattle.xet_xorb_footer.specs.internal.Machine.{IsSettled};
-ghost use Rattle.xet_xorb_footer.specs.Reader.{bytes_left, bytes_wanted, parts_of, rest_of};
+ghost use Rattle.xet_xorb_footer.specs.internal.Machine.{IsIncomplete};
+ghost use Rattle.xet_xorb_footer.specs.Reader.{bytes_left, bytes_wanted, footer_parts_of, rest_of};
 ghost use Rattle.xet_xorb_footer.specs.Reading.{footer_at, footer_v0, rest_v0};
-ghost use Rattle.xet_xorb_footer.specs.Refusals.{IsFooterRefusal};
+ghost use Rattle.xet_xorb_footer.specs.Errors.{IsFooterError};
 ghost use Rattle.xet_xorb_footer.specs.FooterEncoding.{max_chunks};
 ghost use Rattle.xet_io.specs.Frame.{Called};
 
 use crate::info::{XorbObjectInfoV0, XorbObjectInfoV1};
 use crate::machine::FooterReader;
 use std::alloc::Global;
-use xet_codec::read_front;
+use xet_codec::read_prefix;
 use xet_hash::StoreError;
 use xet_io::Source;
 
@@ -35,9 +35,9 @@ impl XorbObjectInfoV1 {
         ensures read { R.tells source.old ≡ true → IfOk result (λ x. footer_at (R.left source.old) ≡ Ok (x.0, R.left source.new)) }
         ensures count { R.tells source.old ≡ true → IfOk result (λ x. length (R.left source.old) ≡ x.1 + length (R.left source.new)) }
         ensures refused { R.tells source.old ≡ true → IfErr result (λ e. (footer_at (R.left source.old) ≡ Err e) ⊎ (e ≡ Io Input) ⊎ (e ≡ OutOfMemory)) }
-        ensures prefix { R.tells source.old ≡ true → (n : ℕ) × (R.left source.new ≡ drop n (R.left source.old)) }
+        ensures consumed { R.tells source.old ≡ true → (n : ℕ) × (R.left source.new ≡ drop n (R.left source.old)) }
         ensures ended { R.tells source.old ≡ true → IsErrOf result UnexpectedEof → R.left source.new ≡ [] }
-        ensures kinds { IfErr result IsFooterRefusal }
+        ensures kinds { IfErr result IsFooterError }
         ensures frame { Called R.tells R.faults source.old source.new (IsErrOf result (Io Input)) }
     {
         let mut reader = FooterReader::of_either(alloc, 0);
@@ -56,9 +56,9 @@ impl XorbObjectInfoV0 {
         ensures read { R.tells source.old ≡ true → IfOk result (λ x. footer_v0 (R.left source.old) ≡ Ok (x.0, R.left source.new)) }
         ensures count { R.tells source.old ≡ true → IfOk result (λ x. length (R.left source.old) ≡ x.1 + length (R.left source.new)) }
         ensures refused { R.tells source.old ≡ true → IfErr result (λ e. (footer_v0 (R.left source.old) ≡ Err e) ⊎ (e ≡ Io Input) ⊎ (e ≡ OutOfMemory)) }
-        ensures prefix { R.tells source.old ≡ true → (n : ℕ) × (R.left source.new ≡ drop n (R.left source.old)) }
+        ensures consumed { R.tells source.old ≡ true → (n : ℕ) × (R.left source.new ≡ drop n (R.left source.old)) }
         ensures ended { R.tells source.old ≡ true → IsErrOf result UnexpectedEof → R.left source.new ≡ [] }
-        ensures kinds { IfErr result IsFooterRefusal }
+        ensures kinds { IfErr result IsFooterError }
         ensures frame { Called R.tells R.faults source.old source.new (IsErrOf result (Io Input)) }
     {
         let mut reader = FooterReader::of_v0(alloc);
@@ -75,9 +75,9 @@ impl XorbObjectInfoV0 {
         ensures read { R.tells source.old ≡ true → IfOk result (λ x. rest_v0 (R.left source.old) ≡ Ok (x.0, R.left source.new)) }
         ensures count { R.tells source.old ≡ true → IfOk result (λ x. length (R.left source.old) ≡ x.1 + length (R.left source.new)) }
         ensures refused { R.tells source.old ≡ true → IfErr result (λ e. (rest_v0 (R.left source.old) ≡ Err e) ⊎ (e ≡ Io Input) ⊎ (e ≡ OutOfMemory)) }
-        ensures prefix { R.tells source.old ≡ true → (n : ℕ) × (R.left source.new ≡ drop n (R.left source.old)) }
+        ensures consumed { R.tells source.old ≡ true → (n : ℕ) × (R.left source.new ≡ drop n (R.left source.old)) }
         ensures ended { R.tells source.old ≡ true → IsErrOf result UnexpectedEof → R.left source.new ≡ [] }
-        ensures kinds { IfErr result IsFooterRefusal }
+        ensures kinds { IfErr result IsFooterError }
         ensures frame { Called R.tells R.faults source.old source.new (IsErrOf result (Io Input)) }
     {
         let mut reader = FooterReader::of_rest_v0(alloc);
@@ -88,14 +88,14 @@ impl XorbObjectInfoV0 {
 
 /// Reads all remaining fields, and returns their number of bytes.
 fn read_fields<R: Source>(reader: &mut FooterReader, source: &mut R) -> Result<u32, StoreError>
-    requires settled { IsSettled reader.old.next (parts_of reader.old) }
+    requires settled { IsIncomplete reader.old.next (footer_parts_of reader.old) }
     requires left { bytes_left reader.old ≤ 92 + 40 * max_chunks }
-    ensures read { R.tells source.old ≡ true → OnOk result (rest_of reader.old (R.left source.old) ≡ Ok (parts_of reader.new, R.left source.new)) }
+    ensures read { R.tells source.old ≡ true → OnOk result (rest_of reader.old (R.left source.old) ≡ Ok (footer_parts_of reader.new, R.left source.new)) }
     ensures count { R.tells source.old ≡ true → IfOk result (λ n. length (R.left source.old) ≡ n + length (R.left source.new)) }
     ensures refused { R.tells source.old ≡ true → IfErr result (λ e. (rest_of reader.old (R.left source.old) ≡ Err e) ⊎ (e ≡ Io Input) ⊎ (e ≡ OutOfMemory)) }
-    ensures prefix { R.tells source.old ≡ true → (n : ℕ) × (R.left source.new ≡ drop n (R.left source.old)) }
+    ensures consumed { R.tells source.old ≡ true → (n : ℕ) × (R.left source.new ≡ drop n (R.left source.old)) }
     ensures ended { R.tells source.old ≡ true → IsErrOf result UnexpectedEof → R.left source.new ≡ [] }
-    ensures kinds { IfErr result IsFooterRefusal }
+    ensures kinds { IfErr result IsFooterError }
     ensures frame { Called R.tells R.faults source.old source.new (IsErrOf result (Io Input)) }
 {
     let mut block = [0; BLOCK];
@@ -117,17 +117,17 @@ fn read_field<R: Source>(
     ensures taken { R.tells source.old ≡ true → OnOk result (rest_of reader.old (R.left source.old) ≡ rest_of reader.new (R.left source.new)) }
     ensures count { R.tells source.old ≡ true → IfOk result (λ n. length (R.left source.old) ≡ n + length (R.left source.new)) }
     ensures wanted { IfOk result (λ n. n ≡ bytes_wanted reader.old) }
-    ensures settled { OnOk result (IsSettled reader.new.next (parts_of reader.new)) }
+    ensures settled { OnOk result (IsIncomplete reader.new.next (footer_parts_of reader.new)) }
     ensures left { IfOk result (λ n. n + bytes_left reader.new ≤ bytes_left reader.old) }
     ensures refused { R.tells source.old ≡ true → IfErr result (λ e. (rest_of reader.old (R.left source.old) ≡ Err e) ⊎ (e ≡ Io Input) ⊎ (e ≡ OutOfMemory)) }
-    ensures prefix { R.tells source.old ≡ true → (n : ℕ) × (R.left source.new ≡ drop n (R.left source.old)) }
+    ensures consumed { R.tells source.old ≡ true → (n : ℕ) × (R.left source.new ≡ drop n (R.left source.old)) }
     ensures ended { R.tells source.old ≡ true → IsErrOf result UnexpectedEof → R.left source.new ≡ [] }
-    ensures kinds { IfErr result IsFooterRefusal }
+    ensures kinds { IfErr result IsFooterError }
     ensures frame { Called R.tells R.faults source.old source.new (IsErrOf result (Io Input)) }
 {
     let wanted = reader.wanted();
     let (field, _) = block.split_at_mut(wanted);
-    let count = read_front(source, field)?;
+    let count = read_prefix(source, field)?;
     if count < wanted {
         return Err(StoreError::UnexpectedEof);
     }

@@ -23,7 +23,7 @@ impl XorbObjectInfoV0 {
         ensures written { W.tells sink.old ≡ true → OnOk result (W.written sink.new ≡ W.written sink.old ++ footer_bytes_v0 self.now) }
         ensures bytes { IfOk result (λ n. n ≡ length (footer_bytes_v0 self.now)) }
         ensures length { IfOk result (λ n. n ≡ length_of_v0 self.now) }
-        ensures front { W.tells sink.old ≡ true → (n : ℕ) × (W.written sink.new ≡ W.written sink.old ++ take n (footer_bytes_v0 self.now)) }
+        ensures prefix { W.tells sink.old ≡ true → (n : ℕ) × (W.written sink.new ≡ W.written sink.old ++ take n (footer_bytes_v0 self.now)) }
         ensures refused { IfErr result StopsWriting }
         ensures frame { Called W.tells W.faults sink.old sink.new (IsErrOf result (Io Output)) }
     {
@@ -45,8 +45,8 @@ fn put_v0<W: Sink>(
 ) -> Result<(), StoreError>
     ensures moved { W.tells sink.old ≡ true → OnOk result (Moves (W.written sink.old) (W.written sink.new) (held_in buffer.new) (held_in buffer.old ++ footer_bytes_v0 info.now)) }
     ensures bytes { OnOk result (length (footer_bytes_v0 info.now) ≡ length_of_v0 info.now) }
-    ensures front { W.tells sink.old ≡ true → OnErr result (WritesPrefix (W.written sink.old) (W.written sink.new) (held_in buffer.old ++ footer_bytes_v0 info.now)) }
-    ensures refusals { IfErr result StopsWriting }
+    ensures prefix { W.tells sink.old ≡ true → OnErr result (WritesPrefix (W.written sink.old) (W.written sink.new) (held_in buffer.old ++ footer_bytes_v0 info.now)) }
+    ensures errors { IfErr result StopsWriting }
     ensures frame { Called W.tells W.faults sink.old sink.new (IsErrOf result (Io Output)) }
 {
     let count = info.num_chunks.to_le_bytes();
@@ -75,7 +75,7 @@ impl XorbObjectInfoV1 {
         ensures bytes { IfOk result (λ n. n ≡ length (footer_bytes_v1 self.now)) }
         ensures length { IfOk result (λ n. n ≡ length_of self.now) }
         ensures nothing { W.tells sink.old ≡ true → IsErrOf result (MalformedData ListLength) → W.written sink.new ≡ W.written sink.old }
-        ensures front { W.tells sink.old ≡ true → (n : ℕ) × (W.written sink.new ≡ W.written sink.old ++ take n (footer_bytes_v1 self.now)) }
+        ensures prefix { W.tells sink.old ≡ true → (n : ℕ) × (W.written sink.new ≡ W.written sink.old ++ take n (footer_bytes_v1 self.now)) }
         ensures refused { IfErr result (λ e. (e ≡ Io Output) ⊎ (e ≡ OutOfMemory) ⊎ ((e ≡ MalformedData ListLength) × (HasLists self.now → ⊥))) }
         ensures frame { Called W.tells W.faults sink.old sink.new (IsErrOf result (Io Output)) }
     {
@@ -101,8 +101,8 @@ fn has_lists(info: &XorbObjectInfoV1) -> bool
 fn write_v1<W: Sink>(info: &XorbObjectInfoV1, sink: &mut W) -> Result<(), StoreError>
     ensures written { W.tells sink.old ≡ true → OnOk result (W.written sink.new ≡ W.written sink.old ++ footer_bytes_v1 info.now) }
     ensures bytes { OnOk result (length (footer_bytes_v1 info.now) ≡ length_of info.now) }
-    ensures front { W.tells sink.old ≡ true → (n : ℕ) × (W.written sink.new ≡ W.written sink.old ++ take n (footer_bytes_v1 info.now)) }
-    ensures refusals { IfErr result StopsWriting }
+    ensures prefix { W.tells sink.old ≡ true → (n : ℕ) × (W.written sink.new ≡ W.written sink.old ++ take n (footer_bytes_v1 info.now)) }
+    ensures errors { IfErr result StopsWriting }
     ensures frame { Called W.tells W.faults sink.old sink.new (IsErrOf result (Io Output)) }
 {
     let mut buffer = Buffer::new();
@@ -119,8 +119,8 @@ fn put_v1<W: Sink>(
 ) -> Result<(), StoreError>
     ensures moved { W.tells sink.old ≡ true → OnOk result (Moves (W.written sink.old) (W.written sink.new) (held_in buffer.new) (held_in buffer.old ++ footer_bytes_v1 info.now)) }
     ensures bytes { OnOk result (length (footer_bytes_v1 info.now) ≡ length_of info.now) }
-    ensures front { W.tells sink.old ≡ true → OnErr result (WritesPrefix (W.written sink.old) (W.written sink.new) (held_in buffer.old ++ footer_bytes_v1 info.now)) }
-    ensures refusals { IfErr result StopsWriting }
+    ensures prefix { W.tells sink.old ≡ true → OnErr result (WritesPrefix (W.written sink.old) (W.written sink.new) (held_in buffer.old ++ footer_bytes_v1 info.now)) }
+    ensures errors { IfErr result StopsWriting }
     ensures frame { Called W.tells W.faults sink.old sink.new (IsErrOf result (Io Output)) }
 {
     let count = info.num_chunks.to_le_bytes();

@@ -6,16 +6,16 @@ use Rattle.std.proofs.lemmas.List.Sums.{sum_by-cons}
 use Rattle.std.specs.List.{AllByRecursion, concat, sum_by}
 use Rattle.rand_core.specs.Stream.{Stream, fill_bytes}
 use Rattle.xet_xorb_chunk.specs.declared.chunk.Chunk.{Chunk}
-use Rattle.xet_xorb_chunk.specs.Chunks.{bytes_of, chunk_of}
+use Rattle.xet_xorb_chunk.specs.Chunks.{bytes_of_chunk, chunk_of}
 use Rattle.xet_xorb_samples.specs.declared.samples.ChunkSize.{ChunkSize}
 use Rattle.xet_xorb_samples.specs.declared.samples.ChunkSize.TheVariants.{Fixed, Random}
 use Rattle.xet_xorb.specs.Raw.{ArePartsOfXorb}
 use Rattle.xet_xorb_samples.specs.internal.Samples.{AreSampleChunks}
-use Rattle.xet_xorb_samples.specs.Samples.{AreSamples, DrawsChunk, DrawsChunks, DrawsSize, FitXorb, HasSize, most_of}
-use Rattle.xet_xorb_samples.proofs.Cuts.{length-concat}
+use Rattle.xet_xorb_samples.specs.Samples.{AreSamples, DrawsChunk, DrawsChunks, DrawsSize, FitXorb, HasSize, max_size}
+use Rattle.xet_xorb_samples.proofs.Boundaries.{length-concat}
 use Rattle.xet_base.specs.theorems.Elements.{all_push}
 
-pub bytes_back : (bytes : List (List ℕ)) → map bytes_of (map chunk_of bytes) ≡ bytes
+pub bytes_back : (bytes : List (List ℕ)) → map bytes_of_chunk (map chunk_of bytes) ≡ bytes
 bytes_back [] = refl
 bytes_back (b ∷ bs) = ap (λ (x : List (List ℕ)). b ∷ x) (bytes_back bs)
 
@@ -50,15 +50,15 @@ more_chunks n size start before after chunks next s h one =
     (s.0 ++ next ∷ [], more_samples n size start before after s.0 next s.1 h one, ap (λ (x : List Chunk). x ++ chunk_of next ∷ []) s.2 ∙ sym (map-append chunk_of s.0 (next ∷ [])))
 
 -- no chunk is longer than the size says
-within : (size : ChunkSize) (n : ℕ) → HasSize size n → n ≤ most_of size
-within (Random least most) n h = h.1
+within : (size : ChunkSize) (n : ℕ) → HasSize size n → n ≤ max_size size
+within (Random min max) n h = h.1
 within (Fixed k) n h = omega (arith, h)
 
-all_small : (size : ChunkSize) (bound : ℕ) (bytes : List (List ℕ)) → most_of size < bound → AllByRecursion (λ c. HasSize size (length c)) bytes → AllByRecursion (λ p. length p < bound) bytes
+all_small : (size : ChunkSize) (bound : ℕ) (bytes : List (List ℕ)) → max_size size < bound → AllByRecursion (λ c. HasSize size (length c)) bytes → AllByRecursion (λ p. length p < bound) bytes
 all_small size bound [] fit h = tt
 all_small size bound (b ∷ bs) fit h = (omega (arith, fit, within size (length b) h.0), all_small size bound bs fit h.1)
 
-sum_within : (size : ChunkSize) (bytes : List (List ℕ)) → AllByRecursion (λ c. HasSize size (length c)) bytes → sum_by length bytes ≤ length bytes * most_of size
+sum_within : (size : ChunkSize) (bytes : List (List ℕ)) → AllByRecursion (λ c. HasSize size (length c)) bytes → sum_by length bytes ≤ length bytes * max_size size
 sum_within size [] h = omega arith
 sum_within size (b ∷ bs) h = omega (arith, sum_by-cons length b bs, within size (length b) h.0, sum_within size bs h.1)
 
@@ -67,17 +67,17 @@ sample_parts n size before after bytes fit s = record {
   count = omega (arith, fit.count, s.count);
   small = all_small size (2 ^ 24) bytes fit.small s.sizes;
   total =
-      let whole : length bytes * most_of size ≡ n * most_of size = ap (λ (k : ℕ). k * most_of size) s.count in
+      let whole : length bytes * max_size size ≡ n * max_size size = ap (λ (k : ℕ). k * max_size size) s.count in
       omega (arith, fit.total, whole, sum_within size bytes s.sizes);
 }
 
-pub chunk_parts : (n : ℕ) (size : ChunkSize) (before after : Stream) (chunks : List Chunk) → FitXorb n size → AreSampleChunks n size before chunks after → ArePartsOfXorb (map bytes_of chunks)
+pub chunk_parts : (n : ℕ) (size : ChunkSize) (before after : Stream) (chunks : List Chunk) → FitXorb n size → AreSampleChunks n size before chunks after → ArePartsOfXorb (map bytes_of_chunk chunks)
 chunk_parts n size before after chunks fit s =
-    subst ArePartsOfXorb (sym (ap (map bytes_of) s.2 ∙ bytes_back s.0)) (sample_parts n size before after s.0 fit s.1)
+    subst ArePartsOfXorb (sym (ap (map bytes_of_chunk) s.2 ∙ bytes_back s.0)) (sample_parts n size before after s.0 fit s.1)
 
 -- what was drawn so far has room
 pub drawn_bound : (n k : ℕ) (size : ChunkSize) (before after : Stream) (chunks : List (List ℕ)) (plain : List ℕ) → FitXorb n size → k ≤ n → AreSamples k size before chunks after → plain ≡ concat chunks → length plain ≤ 2 ^ 30
 drawn_bound n k size before after chunks plain fit few s are =
-    let whole : length chunks * most_of size ≡ k * most_of size = ap (λ (m : ℕ). m * most_of size) s.count in
-    let below : k * most_of size ≤ n * most_of size = mul-le-mul_right (most_of size) few in
+    let whole : length chunks * max_size size ≡ k * max_size size = ap (λ (m : ℕ). m * max_size size) s.count in
+    let below : k * max_size size ≤ n * max_size size = mul-le-mul_right (max_size size) few in
     omega (arith, fit.total, below, whole, sum_within size chunks s.sizes, length-concat chunks, ap length are)

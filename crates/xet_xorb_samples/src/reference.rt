@@ -12,7 +12,7 @@ ghost use Rattle.xet_xorb.specs.Building.{built, built_of, no_spare};
 ghost use Rattle.xet_xorb.specs.Footer.{V1};
 ghost use Rattle.xet_xorb.specs.Object.{object_of};
 ghost use Rattle.xet_xorb.specs.Raw.{IsRaw};
-ghost use Rattle.xet_xorb_samples.specs.Samples.{AreAlike, AreCuts, members_from, parts_from};
+ghost use Rattle.xet_xorb_samples.specs.Samples.{AreAlike, AreBoundaries, leaves_from, parts_from};
 ghost use Rattle.xet_xorb_samples.specs.internal.Samples.{DoRise};
 ghost use Rattle.xet_xorb.specs.Xorb.{xorb_bytes};
 ghost use Rattle.xet_io.specs.Frame.{Called};
@@ -25,28 +25,28 @@ use xet_xorb::{RawXorbData, SerializedXorbObject, XorbObject, new_footer, raw_xo
 use xet_xorb_chunk::{CompressionScheme, XORB_CHUNK_HEADER_LENGTH, serialize_chunk};
 
 /// Bytes that a chunk adds to a xorb besides its content: header, hash, and two boundary offsets.
-const MOST_PER_CHUNK: usize = 48;
+const MAX_PER_CHUNK: usize = 48;
 
 /// Length of a footer without chunks, and of the length after it.
 const EMPTY_FOOTER: usize = 96;
 
 /// The (hash, length) pairs of chunks that are given by their hashes and end offsets. The only error is
 /// `OutOfMemory`.
-pub(crate) fn cut_members(
+pub(crate) fn boundary_leaves(
     alloc: Global,
     chunks: &[(MerkleHash, u32)],
 ) -> Result<Vec<(MerkleHash, u64)>, StoreError>
     requires { DoRise chunks.now }
-    ensures members { IfOk result (λ members. members.items ≡ members_from 0 chunks.now) }
+    ensures leaves { IfOk result (λ leaves. leaves.items ≡ leaves_from 0 chunks.now) }
     ensures memory { IsOkUnless result StoreError.OutOfMemory }
 {
-    let mut members = Vec::with_capacity(alloc, chunks.len())?;
+    let mut leaves = Vec::with_capacity(alloc, chunks.len())?;
     let mut start: u32 = 0;
     for chunk in chunks {
-        members.push((chunk.0, (chunk.1 - start) as u64))?;
+        leaves.push((chunk.0, (chunk.1 - start) as u64))?;
         start = chunk.1;
     }
-    Ok(members)
+    Ok(leaves)
 }
 
 /// Writes the parts of `bytes` between the offsets as stored chunks, and returns the number of bytes written.
@@ -58,11 +58,11 @@ fn write_parts<W: Sink>(
     chunks: &[(MerkleHash, u32)],
     scheme: CompressionScheme,
 ) -> Result<usize, StoreError>
-    requires { AreCuts bytes.now chunks.now }
+    requires { AreBoundaries bytes.now chunks.now }
     ensures count { IfOk result (λ count. count ≡ length (flat_map encoded_chunk (parts_from 0 chunks.now bytes.now))) }
     ensures written { W.tells sink.old ≡ true → OnOk result (W.written sink.new ≡ W.written sink.old ++ flat_map encoded_chunk (parts_from 0 chunks.now bytes.now)) }
-    ensures front { W.tells sink.old ≡ true → OnErr result ((n : ℕ) × (W.written sink.new ≡ W.written sink.old ++ take n (flat_map encoded_chunk (parts_from 0 chunks.now bytes.now)))) }
-    ensures refusals { IfErr result (λ e. (compressed scheme [] ≡ Err e) ⊎ StopsWriting e) }
+    ensures prefix { W.tells sink.old ≡ true → OnErr result ((n : ℕ) × (W.written sink.new ≡ W.written sink.old ++ take n (flat_map encoded_chunk (parts_from 0 chunks.now bytes.now)))) }
+    ensures errors { IfErr result (λ e. (compressed scheme [] ≡ Err e) ⊎ StopsWriting e) }
     ensures frame { Called W.tells W.faults sink.old sink.new (IsErrOf result (Io Output)) }
 {
     let mut count = 0;
@@ -90,20 +90,20 @@ pub fn serialize_xorb_to_stream_reference<W: Sink>(
     chunks: &[(MerkleHash, u32)],
     scheme: CompressionScheme,
 ) -> Result<(XorbObject, usize, u64), StoreError>
-    requires { AreCuts bytes.now chunks.now }
-    ensures object { IfOk result (λ made. made.0 ≡ object_of V1 hash.now (members_from 0 chunks.now) no_spare) }
-    ensures count { IfOk result (λ made. made.1 ≡ length (xorb_bytes V1 hash.now (members_from 0 chunks.now) (parts_from 0 chunks.now bytes.now) no_spare)) }
+    requires { AreBoundaries bytes.now chunks.now }
+    ensures object { IfOk result (λ made. made.0 ≡ object_of V1 hash.now (leaves_from 0 chunks.now) no_spare) }
+    ensures count { IfOk result (λ made. made.1 ≡ length (xorb_bytes V1 hash.now (leaves_from 0 chunks.now) (parts_from 0 chunks.now bytes.now) no_spare)) }
     ensures start { IfOk result (λ made. made.2 ≡ length (flat_map encoded_chunk (parts_from 0 chunks.now bytes.now))) }
-    ensures written { W.tells sink.old ≡ true → OnOk result (W.written sink.new ≡ W.written sink.old ++ xorb_bytes V1 hash.now (members_from 0 chunks.now) (parts_from 0 chunks.now bytes.now) no_spare) }
-    ensures front { W.tells sink.old ≡ true → (n : ℕ) × (W.written sink.new ≡ W.written sink.old ++ take n (xorb_bytes V1 hash.now (members_from 0 chunks.now) (parts_from 0 chunks.now bytes.now) no_spare)) }
+    ensures written { W.tells sink.old ≡ true → OnOk result (W.written sink.new ≡ W.written sink.old ++ xorb_bytes V1 hash.now (leaves_from 0 chunks.now) (parts_from 0 chunks.now bytes.now) no_spare) }
+    ensures prefix { W.tells sink.old ≡ true → (n : ℕ) × (W.written sink.new ≡ W.written sink.old ++ take n (xorb_bytes V1 hash.now (leaves_from 0 chunks.now) (parts_from 0 chunks.now bytes.now) no_spare)) }
     ensures nothing { W.tells sink.old ≡ true → (e : StoreError) → compressed scheme [] ≡ Err e → W.written sink.new ≡ W.written sink.old }
     ensures scheme { (e : StoreError) → compressed scheme [] ≡ Err e → result ≡ Err e }
-    ensures refusals { IfErr result (λ e. (compressed scheme [] ≡ Err e) ⊎ StopsWriting e) }
+    ensures errors { IfErr result (λ e. (compressed scheme [] ≡ Err e) ⊎ StopsWriting e) }
     ensures frame { Called W.tells W.faults sink.old sink.new (IsErrOf result (Io Output)) }
 {
     scheme.compress_from_slice(&[])?;
-    let members = cut_members(alloc, chunks)?;
-    let info = new_footer(alloc, hash, &members, [0; 16])?;
+    let leaves = boundary_leaves(alloc, chunks)?;
+    let info = new_footer(alloc, hash, &leaves, [0; 16])?;
     let start = write_parts(sink, bytes, chunks, scheme)?;
     let (object, footer) = XorbObject::serialize_given_info(sink, info)?;
     Ok((object, start + footer, start as u64))
@@ -114,7 +114,7 @@ fn xorb_length(bytes: &[u8], chunks: &[(MerkleHash, u32)]) -> usize
     requires { length chunks.now ≤ 65536 }
     ensures { result ≡ length bytes.now + 48 * length chunks.now + 96 }
 {
-    bytes.len() + MOST_PER_CHUNK * chunks.len() + EMPTY_FOOTER
+    bytes.len() + MAX_PER_CHUNK * chunks.len() + EMPTY_FOOTER
 }
 
 /// The xorb that `serialize_xorb_to_stream_reference` writes, in memory. The schemes that compress fail with
@@ -126,10 +126,10 @@ pub fn serialized_xorb_object_from_components(
     chunks: Vec<(MerkleHash, u32)>,
     scheme: CompressionScheme,
 ) -> Result<SerializedXorbObject, StoreError>
-    requires { AreCuts bytes.items chunks.items }
-    ensures built { IfOk result (λ made. made ≡ built hash.now (members_from 0 chunks.items) (parts_from 0 chunks.items bytes.items) true) }
+    requires { AreBoundaries bytes.items chunks.items }
+    ensures built { IfOk result (λ made. made ≡ built hash.now (leaves_from 0 chunks.items) (parts_from 0 chunks.items bytes.items) true) }
     ensures scheme { (e : StoreError) → compressed scheme [] ≡ Err e → result ≡ Err e }
-    ensures refusals { IfErr result (λ e. (compressed scheme [] ≡ Err e) ⊎ (e ≡ OutOfMemory)) }
+    ensures errors { IfErr result (λ e. (compressed scheme [] ≡ Err e) ⊎ (e ≡ OutOfMemory)) }
 {
     scheme.compress_from_slice(&[])?;
     let room = Vec::with_capacity(alloc, xorb_length(&bytes, &chunks))?;
@@ -167,7 +167,7 @@ pub fn verify_serialized_xorb_object(
     requires { IsRaw xorb.now }
     ensures verified { IfOk result (λ same. IsTrue same ↔ AreAlike serialized.now (built_of xorb.now true)) }
     ensures scheme { (e : StoreError) → compressed scheme [] ≡ Err e → result ≡ Err e }
-    ensures refusals { IfErr result (λ e. (compressed scheme [] ≡ Err e) ⊎ (e ≡ OutOfMemory)) }
+    ensures errors { IfErr result (λ e. (compressed scheme [] ≡ Err e) ⊎ (e ≡ OutOfMemory)) }
 {
     scheme.compress_from_slice(&[])?;
     let chunks = xorb.xorb_info.chunks_and_boundaries(alloc)?;
@@ -193,7 +193,7 @@ pub fn build_and_verify_xorb_object(
     requires { IsRaw xorb }
     ensures built { IfOk result (λ made. made ≡ built_of xorb true) }
     ensures scheme { (e : StoreError) → compressed scheme [] ≡ Err e → result ≡ Err e }
-    ensures refusals { IfErr result (λ e. (compressed scheme [] ≡ Err e) ⊎ (e ≡ OutOfMemory)) }
+    ensures errors { IfErr result (λ e. (compressed scheme [] ≡ Err e) ⊎ (e ≡ OutOfMemory)) }
 {
     scheme.compress_from_slice(&[])?;
     let serialized = SerializedXorbObject::from_xorb(alloc, xorb.clone(alloc)?, true)?;

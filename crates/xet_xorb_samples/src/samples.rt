@@ -11,10 +11,10 @@ ghost use Rattle.xet_xorb.specs.Building.{no_spare};
 ghost use Rattle.xet_xorb.specs.Footer.{V1};
 ghost use Rattle.xet_xorb.specs.Object.{object_of};
 ghost use Rattle.xet_xorb.specs.Raw.{IsRaw, raw_of};
-ghost use Rattle.xet_xorb_samples.specs.Samples.{AreCuts, AreSamples, DrawsSize, FitXorb, HasSize, IsOrdered, IsSampleOf, members_from, most_of, size_text};
+ghost use Rattle.xet_xorb_samples.specs.Samples.{AreBoundaries, AreSamples, DrawsSize, FitXorb, HasSize, IsOrdered, IsSampleOf, leaves_from, max_size, size_text};
 ghost use Rattle.xet_xorb_samples.specs.internal.Samples.{AreSampleChunks};
 
-use crate::reference::cut_members;
+use crate::reference::boundary_leaves;
 use bytes::Bytes;
 use rand::{Rng, RngExt};
 use std::alloc::Global;
@@ -35,11 +35,11 @@ pub enum ChunkSize {
 
 impl ChunkSize {
     /// The maximum length.
-    fn most(self) -> u32
-        ensures { result ≡ most_of self }
+    fn max(self) -> u32
+        ensures { result ≡ max_size self }
     {
         match self {
-            ChunkSize::Random(_, most) => most,
+            ChunkSize::Random(_, max) => max,
             ChunkSize::Fixed(size) => size,
         }
     }
@@ -51,7 +51,7 @@ impl ChunkSize {
         ensures drawn { DrawsSize self (G.stream rng.old) result (G.stream rng.new) }
     {
         match self {
-            ChunkSize::Random(least, most) => rng.random_range(least..=most),
+            ChunkSize::Random(min, max) => rng.random_range(min..=max),
             ChunkSize::Fixed(size) => size,
         }
     }
@@ -62,7 +62,7 @@ impl fmt::Display for ChunkSize {
 
     fn fmt<W: fmt::Write>(&self, f: &mut fmt::Formatter<W>) -> fmt::Result {
         match self {
-            ChunkSize::Random(least, most) => write!(f, "[{least}, {most}]"),
+            ChunkSize::Random(min, max) => write!(f, "[{least}, {most}]"),
             ChunkSize::Fixed(size) => write!(f, "{size}"),
         }
     }
@@ -134,35 +134,35 @@ pub fn build_xorb_object<G: Rng>(
 ) -> Result<(XorbObject, Vec<u8>, Vec<u8>, Vec<(MerkleHash, u32)>), StoreError>
     requires { FitXorb num_chunks size }
     ensures made { IfOk result (λ made. IsSampleOf num_chunks size (G.stream rng.old) (G.stream rng.new) made.0 made.1.items made.2.items made.3.items) }
-    ensures cuts { IfOk result (λ made. AreCuts made.2.items made.3.items) }
+    ensures boundaries { IfOk result (λ made. AreBoundaries made.2.items made.3.items) }
     ensures scheme { (e : StoreError) → compressed scheme [] ≡ Err e → result ≡ Err e }
-    ensures refusals { IfErr result (λ e. (compressed scheme [] ≡ Err e) ⊎ (e ≡ OutOfMemory)) }
+    ensures errors { IfErr result (λ e. (compressed scheme [] ≡ Err e) ⊎ (e ≡ OutOfMemory)) }
 {
     scheme.compress_from_slice(&[])?;
-    let room = num_chunks as usize * size.most() as usize;
+    let room = num_chunks as usize * size.max() as usize;
     let header_bytes = num_chunks as usize * XORB_CHUNK_HEADER_LENGTH;
     let mut stored = MemorySink::from_vec(Vec::with_capacity(alloc, room + header_bytes)?);
     let mut plain = Vec::with_capacity(alloc, room)?;
-    let mut cuts = Vec::with_capacity(alloc, num_chunks as usize)?;
+    let mut boundaries = Vec::with_capacity(alloc, num_chunks as usize)?;
     'draws: for _ in 0..num_chunks {
         let bytes = gen_random_bytes(alloc, size.draw(rng), rng)?;
         serialize_chunk(&bytes, &mut stored, scheme)?;
         plain.extend_from_slice(&bytes)?;
-        cuts.push((compute_data_hash(&bytes), plain.len() as u32))?;
+        boundaries.push((compute_data_hash(&bytes), plain.len() as u32))?;
     }
-    let object = cut_object(alloc, &cuts)?;
-    Ok((object, stored.into_bytes(), plain, cuts))
+    let object = boundary_object(alloc, &boundaries)?;
+    Ok((object, stored.into_bytes(), plain, boundaries))
 }
 
 /// The footer, with its length, of the xorb with these chunks, given by their hashes and end offsets. Its
 /// hash is the one that these give. The only error is `OutOfMemory`.
-fn cut_object(alloc: Global, cuts: &[(MerkleHash, u32)]) -> Result<XorbObject, StoreError>
-    requires { (bytes : List ℕ) × AreCuts bytes cuts.now }
-    ensures object { IfOk result (λ object. object ≡ object_of V1 (xorb_hash (members_from 0 cuts.now)) (members_from 0 cuts.now) no_spare) }
+fn boundary_object(alloc: Global, boundaries: &[(MerkleHash, u32)]) -> Result<XorbObject, StoreError>
+    requires { (bytes : List ℕ) × AreBoundaries bytes boundaries.now }
+    ensures object { IfOk result (λ object. object ≡ object_of V1 (xorb_hash (leaves_from 0 boundaries.now)) (leaves_from 0 boundaries.now) no_spare) }
     ensures memory { IsOkUnless result StoreError.OutOfMemory }
 {
-    let members = cut_members(alloc, cuts)?;
-    let hash = xorb_hash(alloc, &members)?;
-    let info = new_footer(alloc, &hash, &members, [0; 16])?;
+    let leaves = boundary_leaves(alloc, boundaries)?;
+    let hash = xorb_hash(alloc, &leaves)?;
+    let info = new_footer(alloc, &hash, &leaves, [0; 16])?;
     Ok(XorbObject::from_info(info))
 }

@@ -12,7 +12,7 @@ use xet_xorb::*;
 use xet_xorb_samples::*;
 
 /// Maximum chunk size, in bytes.
-const MOST: u32 = 200_000;
+const MAX: u32 = 200_000;
 
 /// A reader that counts its reads, and the bytes that they returned.
 #[derive(Drop)]
@@ -46,7 +46,7 @@ fn xorb_of(alloc: Global, lengths: &[u32]) -> Result<(Vec<u8>, MerkleHash), Stor
     let mut rng = Pcg64::seed_from_u64(14);
     let mut stored = MemorySink::new(alloc);
     for length in lengths {
-        let chunk = gen_random_bytes(alloc, (*length).min(MOST), &mut rng)?;
+        let chunk = gen_random_bytes(alloc, (*length).min(MAX), &mut rng)?;
         serialize_chunk(&chunk, &mut stored, CompressionScheme::None)?;
     }
     let raw = stored.bytes();
@@ -54,7 +54,7 @@ fn xorb_of(alloc: Global, lengths: &[u32]) -> Result<(Vec<u8>, MerkleHash), Stor
         return Err(StoreError::InvalidArguments);
     }
     let mut sink = MemorySink::new(alloc);
-    let (_, hash) = reconstruct_xorb_with_footer(alloc, &mut sink, raw, MOST)?;
+    let (_, hash) = reconstruct_xorb_with_footer(alloc, &mut sink, raw, MAX)?;
     Ok((sink.into_bytes(), hash))
 }
 
@@ -70,7 +70,7 @@ fn validated(
         reads: 0,
         given: 0,
     };
-    let count = match XorbObject::validate_xorb_object(alloc, &mut reader, hash, MOST)? {
+    let count = match XorbObject::validate_xorb_object(alloc, &mut reader, hash, MAX)? {
         Some(object) => object.info.num_chunks,
         None => 0,
     };

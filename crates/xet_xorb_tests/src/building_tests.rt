@@ -37,9 +37,9 @@ fn one_chunk(rt: HostRuntime) -> Result<(), Fail> {
     assert_eq!(rt; whole.hash.as_bytes(), &HASH_OF_ABC);
     assert!(rt; whole.footer_start == Some(11));
     assert!(rt; (whole.raw_num_bytes, whole.num_chunks) == (3, 1));
-    let front = SerializedXorbObject::from_xorb(alloc, raw_xorb(alloc)?, false)?;
-    assert_eq!(rt; front.serialized_data.as_slice(), CHUNK_OF_ABC.as_slice());
-    assert!(rt; front.footer_start.is_none());
+    let prefix = SerializedXorbObject::from_xorb(alloc, raw_xorb(alloc)?, false)?;
+    assert_eq!(rt; prefix.serialized_data.as_slice(), CHUNK_OF_ABC.as_slice());
+    assert!(rt; prefix.footer_start.is_none());
     Ok(())
 }
 

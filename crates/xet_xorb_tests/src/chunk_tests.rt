@@ -193,7 +193,7 @@ fn stream_of(alloc: Global, count: usize) -> Result<Vec<u8>, AllocError> {
 }
 
 /// The first `len` bytes, or all if there are fewer.
-fn front(bytes: &[u8], len: usize) -> &[u8] {
+fn prefix(bytes: &[u8], len: usize) -> &[u8] {
     &bytes[..bytes.len().min(len)]
 }
 
@@ -204,7 +204,7 @@ fn streams(rt: HostRuntime) -> Result<(), Fail> {
     assert!(rt; bytes.len() == 3_024);
     let (plain, places) = deserialize_chunks(
         alloc,
-        &mut SliceSource::new(front(&bytes, 1_008)),
+        &mut SliceSource::new(prefix(&bytes, 1_008)),
         1_000,
     )?;
     assert_eq!(rt; plain.as_slice(), &bytes[8..1_008]);
@@ -218,7 +218,7 @@ fn streams(rt: HostRuntime) -> Result<(), Fail> {
     assert!(rt; plain.is_empty());
     assert_eq!(rt; places.as_slice(), [0].as_slice());
     for cut in [1_010, 1_026] {
-        let mut source = SliceSource::new(front(&bytes, cut));
+        let mut source = SliceSource::new(prefix(&bytes, cut));
         assert_eq!(rt;
             deserialize_chunks(alloc, &mut source, 1_000).err(),
             Some(StoreError::UnexpectedEof)
@@ -247,14 +247,14 @@ fn pieces(rt: HostRuntime) -> Result<(), Fail> {
     let bytes = stream_of(alloc, 3)?;
     assert!(rt; bytes.len() == 3_024);
     for size in [1, 7, 8, 9, 1_008, 1_500, 4_000] {
-        let (stored, places) = decoded(alloc, front(&bytes, 1_008), size)?;
+        let (stored, places) = decoded(alloc, prefix(&bytes, 1_008), size)?;
         assert!(rt; stored == 1_008);
         assert_eq!(rt; places.as_slice(), [0, 1_000].as_slice());
         let (stored, _) = decoded(alloc, &bytes, size)?;
         assert!(rt; stored == 3_024);
         for cut in [1_010, 1_026] {
             assert_eq!(rt;
-                decoded(alloc, front(&bytes, cut), size).err(),
+                decoded(alloc, prefix(&bytes, cut), size).err(),
                 Some(StoreError::UnexpectedEof)
             );
         }

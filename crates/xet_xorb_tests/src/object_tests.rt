@@ -16,9 +16,9 @@ fn empty_footer(alloc: Global) -> Result<Vec<u8>, StoreError> {
 
 /// Decodes a footer and its length, fed in two parts.
 fn in_two_pieces(alloc: Global, bytes: &[u8]) -> Result<XorbObject, StoreError> {
-    let (front, back) = bytes.split_at(bytes.len() / 2);
+    let (prefix, back) = bytes.split_at(bytes.len() / 2);
     let mut decoder = FooterDecoder::new(alloc);
-    decoder.feed(front)?;
+    decoder.feed(prefix)?;
     decoder.feed(back)?;
     decoder.finish()
 }

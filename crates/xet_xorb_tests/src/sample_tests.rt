@@ -2,7 +2,7 @@
 
 ghost use Rattle.std.specs.Prelude.{IfOk};
 ghost use Rattle.xet_xorb.specs.Raw.{IsRaw};
-ghost use Rattle.xet_xorb_samples.specs.Samples.{AreCuts};
+ghost use Rattle.xet_xorb_samples.specs.Samples.{AreBoundaries};
 
 use rand_core::SeedableRng;
 use rand_pcg::Pcg64;
@@ -92,7 +92,7 @@ fn three_chunks_are_built(rt: HostRuntime) -> Result<(), Fail> {
 /// the length of their footer.
 fn sampled(alloc: Global) -> Result<(usize, usize, Vec<u32>, u32, u32), StoreError> {
     let mut rng = Pcg64::seed_from_u64(8);
-    let (object, stored, plain, cuts) = build_xorb_object(
+    let (object, stored, plain, boundaries) = build_xorb_object(
         alloc,
         3,
         ChunkSize::Fixed(10),
@@ -100,7 +100,7 @@ fn sampled(alloc: Global) -> Result<(usize, usize, Vec<u32>, u32, u32), StoreErr
         &mut rng,
     )?;
     let mut ends = Vec::new(alloc);
-    for cut in &cuts {
+    for cut in &boundaries {
         ends.push(cut.1)?;
     }
     Ok((
@@ -127,17 +127,17 @@ fn written_like(
     object: &XorbObject,
     stored: &[u8],
     plain: &[u8],
-    cuts: &[(MerkleHash, u32)],
+    boundaries: &[(MerkleHash, u32)],
 ) -> Result<(bool, bool, bool, usize, u64), StoreError>
-    requires { AreCuts plain.now cuts.now }
+    requires { AreBoundaries plain.now boundaries.now }
 {
     let hash = object.info.xorb_hash;
     let bytes = Vec::from_slice(alloc, plain)?;
-    let places = Vec::from_slice(alloc, cuts)?;
+    let places = Vec::from_slice(alloc, boundaries)?;
     let whole = serialized_xorb_object_from_components(alloc, &hash, bytes, places, SCHEME)?;
     let mut sink = MemorySink::new(alloc);
     let (made, count, start) = serialize_xorb_to_stream_reference(
-        alloc, &mut sink, &hash, plain, cuts, SCHEME,
+        alloc, &mut sink, &hash, plain, boundaries, SCHEME,
     )?;
     Ok((
         made == *object,
@@ -151,14 +151,14 @@ fn written_like(
 /// `written_like` of a sample.
 fn written(alloc: Global) -> Result<(bool, bool, bool, usize, u64), StoreError> {
     let mut rng = Pcg64::seed_from_u64(9);
-    let (object, stored, plain, cuts) = build_xorb_object(
+    let (object, stored, plain, boundaries) = build_xorb_object(
         alloc,
         3,
         ChunkSize::Fixed(10),
         SCHEME,
         &mut rng,
     )?;
-    written_like(alloc, &object, &stored, &plain, &cuts)
+    written_like(alloc, &object, &stored, &plain, &boundaries)
 }
 
 #[test]
@@ -171,9 +171,9 @@ fn samples_are_written(rt: HostRuntime) -> Result<(), Fail> {
 fn refused_by_sink(alloc: Global, fail_at: u64) -> (Option<StoreError>, usize) {
     let mut sink = FailingSink::new(alloc, fail_at);
     let hash = MerkleHash::default();
-    let cuts = [(hash, 2), (hash, 3)];
+    let boundaries = [(hash, 2), (hash, 3)];
     let written = serialize_xorb_to_stream_reference(
-        alloc, &mut sink, &hash, b"abc", &cuts, SCHEME,
+        alloc, &mut sink, &hash, b"abc", &boundaries, SCHEME,
     );
     (written.err(), sink.bytes().len())
 }

@@ -12,15 +12,15 @@ use xet_xorb::*;
 use xet_xorb_samples::*;
 
 /// Maximum chunk size: 16 KiB.
-const MOST: u32 = 16_384;
+const MAX: u32 = 16_384;
 
 /// The length of the next chunk: the given one, or a random one from 1 byte to 16 KiB.
 fn next_length(length: Option<u32>, rng: &mut Pcg64) -> u32
     ensures { result ≤ 16384 }
 {
     match length {
-        Some(length) => length.min(MOST),
-        None => 1 + rng.next_u32() % MOST,
+        Some(length) => length.min(MAX),
+        None => 1 + rng.next_u32() % MAX,
     }
 }
 
@@ -45,7 +45,7 @@ fn written(
 /// Decodes a stream that is fed in parts of `size` bytes: its uncompressed bytes, and the number of offsets.
 fn in_pieces(alloc: Global, stored: &[u8], size: usize) -> Result<(Vec<u8>, usize), StoreError> {
     let mut sink = MemorySink::new(alloc);
-    let mut decoder = ChunkDecoder::new(alloc, MOST);
+    let mut decoder = ChunkDecoder::new(alloc, MAX);
     let mut at = 0;
     'pieces: while at < stored.len() {
         let end = stored.len().min(at.saturating_add(size.max(1)));
@@ -59,7 +59,7 @@ fn in_pieces(alloc: Global, stored: &[u8], size: usize) -> Result<(Vec<u8>, usiz
 /// Whether a stream is read back, from a source and in parts: as many chunks with the same bytes.
 fn is_read_back(alloc: Global, count: u32, length: Option<u32>) -> Result<bool, StoreError> {
     let (stored, plain) = written(alloc, count, length)?;
-    let (whole, places) = deserialize_chunks(alloc, &mut SliceSource::new(&stored), MOST)?;
+    let (whole, places) = deserialize_chunks(alloc, &mut SliceSource::new(&stored), MAX)?;
     let (fed, count_fed) = in_pieces(alloc, &stored, 10_000)?;
     let counted = places.len() == count as usize + 1 && count_fed == places.len();
     Ok(counted && whole == plain && fed == plain)

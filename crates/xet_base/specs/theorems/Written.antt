@@ -4,8 +4,8 @@ use Rattle.std.proofs.Math.Seq.{take-append-add}
 use Rattle.std.proofs.lemmas.List.{take-append-le, take_min}
 
 -- a front of the first is one of both
-pub front_of_first : (xs ys : List ℕ) (n : ℕ) → (m : ℕ) × (take n xs ≡ take m (xs ++ ys))
-front_of_first xs ys n =
+pub prefix_of_first : (xs ys : List ℕ) (n : ℕ) → (m : ℕ) × (take n xs ≡ take m (xs ++ ys))
+prefix_of_first xs ys n =
     (min n (length xs), sym (take_min n xs) ∙ sym (take-append-le (min n (length xs)) xs ys (omega arith)))
 
 -- a piece was written, and then a front of another

@@ -41,8 +41,8 @@ then {w0} {w1} {w2} {h1} {h2} h0 p q a b =
       held = b.held ∙ ap (drop b.count) held ∙ drop_twice a.count b.count x q ∙ ap (drop (min a.count (length x) + b.count)) (append_assoc h0 p q);
     }
 
-pub then_front : {w0 w1 w2 h1 : List ℕ} (h0 p q : List ℕ) → Moves w0 w1 h1 (h0 ++ p) → WritesPrefix w1 w2 (h1 ++ q) → WritesPrefix w0 w2 (h0 ++ (p ++ q))
-then_front {w0} {w1} {w2} {h1} h0 p q a b =
+pub then_prefix : {w0 w1 w2 h1 : List ℕ} (h0 p q : List ℕ) → Moves w0 w1 h1 (h0 ++ p) → WritesPrefix w1 w2 (h1 ++ q) → WritesPrefix w0 w2 (h0 ++ (p ++ q))
+then_prefix {w0} {w1} {w2} {h1} h0 p q a b =
     let x : List ℕ = h0 ++ p in
     let held : h1 ++ q ≡ drop a.count x ++ q = ap (λ (t : List ℕ). t ++ q) a.held in
     record {
@@ -62,8 +62,8 @@ direct {w0} {w1} {w2} {h0} {h1} p a none e =
       held = none ∙ sym (drop-length (h0 ++ p));
     }
 
-pub direct_front : {w0 w1 w2 h0 h1 p : List ℕ} → Moves w0 w1 h1 h0 → h1 ≡ [] → WritesPrefix w1 w2 p → WritesPrefix w0 w2 (h0 ++ p)
-direct_front {w0} {w1} {w2} {h0} {h1} {p} a none f =
+pub direct_prefix : {w0 w1 w2 h0 h1 p : List ℕ} → Moves w0 w1 h1 h0 → h1 ≡ [] → WritesPrefix w1 w2 p → WritesPrefix w0 w2 (h0 ++ p)
+direct_prefix {w0} {w1} {w2} {h0} {h1} {p} a none f =
     let all : take a.count h0 ≡ h0 = sym (append-nil (take a.count h0)) ∙ ap (λ (t : List ℕ). take a.count h0 ++ t) (sym none ∙ a.held) ∙ take-append-drop a.count h0 in
     record {
       count = length h0 + f.count;
@@ -83,9 +83,9 @@ flushed {w0} {w1} {w2} {h1} h0 t none a e =
           ∙ ap (λ (y : List ℕ). w0 ++ y) (take-append-drop a.count (h0 ++ t) ∙ x ∙ sym (take-length t)),
     )
 
-pub flushed_front : {w0 w1 w2 h1 : List ℕ} (h0 t : List ℕ) → h0 ≡ [] → Moves w0 w1 h1 (h0 ++ t) → WritesPrefix w1 w2 h1 → (n : ℕ) × (w2 ≡ w0 ++ take n t)
-flushed_front {w0} {w1} {w2} {h1} h0 t none a f =
-    let all = then_front h0 t [] a (subst (λ (h : List ℕ). WritesPrefix w1 w2 h) (sym (append-nil h1)) f) in
+pub flushed_prefix : {w0 w1 w2 h1 : List ℕ} (h0 t : List ℕ) → h0 ≡ [] → Moves w0 w1 h1 (h0 ++ t) → WritesPrefix w1 w2 h1 → (n : ℕ) × (w2 ≡ w0 ++ take n t)
+flushed_prefix {w0} {w1} {w2} {h1} h0 t none a f =
+    let all = then_prefix h0 t [] a (subst (λ (h : List ℕ). WritesPrefix w1 w2 h) (sym (append-nil h1)) f) in
     let x : h0 ++ (t ++ []) ≡ t = ap (λ (h : List ℕ). h ++ (t ++ [])) none ∙ append-nil t in
     (all.count, all.written ∙ ap (λ (y : List ℕ). w0 ++ take all.count y) x)
 

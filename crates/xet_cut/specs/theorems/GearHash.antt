@@ -3,7 +3,7 @@ use Rattle.std.proofs.Common.{◌≡◌, ◌∙◌, ℕ, ◌+◌, ◌-◌, ◌*�
 use Rattle.std.proofs.lemmas.List.{take-append-drop, drop_all, drop-append-le, take_more, drop-drop, length-take, length-take-le}
 use Rattle.std.proofs.lemmas.Bool.{cases_lt}
 use Rattle.std.proofs.lemmas.Nat.{mul-mod_first, pow-add}
-use Rattle.xet_cut.specs.Cut.{gear_hash, last_bytes}
+use Rattle.xet_cut.specs.Chunking.{gear_hash, last_bytes}
 
 gear_hash-lt : (gear bs : List ℕ) → gear_hash gear bs < 2 ^ 64
 unfolding gear_hash
@@ -14,8 +14,8 @@ mod_mul_add : (a p f : ℕ) → (a % 2 ^ 64 * p + f) % 2 ^ 64 ≡ (a * p + f) % 
 mod_mul_add a p f = omega (arith, mul-mod_first a p (2 ^ 64))
 
 -- what a further byte adds at the front
-with_front : (g p q s t : ℕ) → (g * (p * q) + (s * q + t) % 2 ^ 64) % 2 ^ 64 ≡ ((g * p + s) * q + t) % 2 ^ 64
-with_front g p q s t = omega arith
+with_prefix : (g p q s t : ℕ) → (g * (p * q) + (s * q + t) % 2 ^ 64) % 2 ^ 64 ≡ ((g * p + s) * q + t) % 2 ^ 64
+with_prefix g p q s t = omega arith
 
 -- bytes that follow shift the sum of those before
 gear_hash-append : (gear xs ys : List ℕ) → gear_hash gear (xs ++ ys) ≡ (gear_hash gear xs * 2 ^ length ys + gear_hash gear ys) % 2 ^ 64
@@ -28,7 +28,7 @@ gear_hash-append gear (x ∷ xs) ys =
     let s : ℕ = gear_hash gear xs in
     let t : ℕ = gear_hash gear ys in
     let both : 2 ^ length (xs ++ ys) ≡ p * q = ap (λ (n : ℕ). 2 ^ n) (length-append xs ys) ∙ pow-add 2 (length xs) (length ys) in
-    rw (both, gear_hash-append gear xs ys) (with_front g p q s t ∙ sym (mod_mul_add (g * p + s) q t))
+    rw (both, gear_hash-append gear xs ys) (with_prefix g p q s t ∙ sym (mod_mul_add (g * p + s) q t))
 
 pub gear_hash_none : (gear bs : List ℕ) (start : ℕ) → 0 ≡ gear_hash gear (drop start (take start bs))
 unfolding gear_hash

@@ -12,12 +12,12 @@ use Rattle.xet_folder.specs.declared.gathering.Gathered.{Gathered}
 use Rattle.xet_folder.specs.Admission.{FirstFails, ShardFails, ShardHolds}
 use Rattle.xet_folder.specs.Contents.{AreContents}
 use Rattle.xet_shard_file.specs.Names.{shard_path}
-use Rattle.xet_shard_file.specs.Refusals.{IsBadShard}
+use Rattle.xet_shard_file.specs.Errors.{IsBadShard}
 use Rattle.xet_shard_file.specs.Shards.{ShardFile, is_expired}
-use Rattle.xet_folder.specs.Xorbs.{AreBacked, Records}
+use Rattle.xet_folder.specs.Xorbs.{AreBacked, FileRecords}
 use Rattle.xet_folder.specs.Gathering.{with_first}
 
-abbrev pub with_firsts : Records → Records → Records
+abbrev pub with_firsts : FileRecords → FileRecords → FileRecords
 with_firsts rows [] = rows
 with_firsts rows (r ∷ rs) = with_firsts (with_first rows r) rs
 
@@ -31,8 +31,8 @@ pub record IsGathered (files : Files) (folder : List ℕ) (shards : List ShardFi
   pub backed : AreBacked files folder c.xorbs
   pub contents : AreContents shards c
 
-abbrev pub shard_file : List ℕ → File → ShardFile
-shard_file hash f = record { hash = hash; file = f }
+abbrev pub as_shard_file : List ℕ → File → ShardFile
+as_shard_file hash f = record { hash = hash; file = f }
 
 -- the shards, and one more if it is unexpired
 abbrev pub with_valid : ℕ → List ShardFile → ShardFile → List ShardFile
@@ -43,24 +43,24 @@ abbrev pub valid_bytes : ℕ → List ℕ → Option (List ℕ)
 valid_bytes now bytes = if is_expired now bytes then None else Some bytes
 
 -- The folder's error for an error of a shard. An error of a check has the file name of the shard.
-abbrev pub IsNamed : List ℕ → StoreError → StoreError → Option (List ℕ) → Type 0
-IsNamed hash e given (Some name) = (given ≡ e) × (e ≢ Io Disk) × (e ≢ OutOfMemory) × (name ≡ shard_name hash)
-IsNamed hash e OutOfMemory None = Unit {0}
-IsNamed hash e given None = (given ≡ Io Disk) × (e ≡ Io Disk)
+abbrev pub IsErrorOfShard : List ℕ → StoreError → StoreError → Option (List ℕ) → Type 0
+IsErrorOfShard hash e given (Some name) = (given ≡ e) × (e ≢ Io Disk) × (e ≢ OutOfMemory) × (name ≡ shard_name hash)
+IsErrorOfShard hash e OutOfMemory None = Unit {0}
+IsErrorOfShard hash e given None = (given ≡ Io Disk) × (e ≡ Io Disk)
 
 -- why collecting stops: the disk failed, memory is out, or a check failed in the shard with a file name; if
 -- Known, Fails holds of it
-abbrev pub IsStopped : Type 0 → (StoreError → List ℕ → Type 0) → ℕ → ℕ → StoreError → Option (List ℕ) → Type 0
-IsStopped Known Fails before after (Io Disk) None = Rose before after
-IsStopped Known Fails before after OutOfMemory None = Unit {0}
-IsStopped Known Fails before after e (Some name) = IsBadShard e name × (Known → Fails e name)
-IsStopped Known Fails before after e None = ⊥
+abbrev pub IsCollectError : Type 0 → (StoreError → List ℕ → Type 0) → ℕ → ℕ → StoreError → Option (List ℕ) → Type 0
+IsCollectError Known Fails before after (Io Disk) None = Rose before after
+IsCollectError Known Fails before after OutOfMemory None = Unit {0}
+IsCollectError Known Fails before after e (Some name) = IsBadShard e name × (Known → Fails e name)
+IsCollectError Known Fails before after e None = ⊥
 
 -- the shard with this hash, if there is one, is unexpired and fails with this error
 abbrev pub EntryFails : Files → List ℕ → ℕ → List ℕ → StoreError → List ℕ → Type 0
 EntryFails files folder now hash e name =
     (f : File) → file_at files (shard_path folder hash) ≡ Some f
-    → (is_expired now f.bytes ≡ false) × ShardFails files folder (shard_file hash f) e × (name ≡ shard_name hash)
+    → (is_expired now f.bytes ≡ false) × ShardFails files folder (as_shard_file hash f) e × (name ≡ shard_name hash)
 
 -- the first of these shards that does not hold, and how it fails
 abbrev pub ShardsFail : Files → List ℕ → List ShardFile → StoreError → List ℕ → Type 0

@@ -1,7 +1,7 @@
 -- Byte ranges of stored xorbs, for private functions.
 use Rattle.std.specs.Prelude.{◌≡◌, ℕ, ◌+◌, ◌-◌, ◌<◌, ◌≤◌, ◌^◌, List, length, take, drop, Option, Some}
 use Rattle.std.specs.List.{flat_map, sum_by}
-use Rattle.xet_hash.specs.Merkle.{members_of, total_len}
+use Rattle.xet_hash.specs.Merkle.{leaves_of, total_len}
 use Rattle.xet_shard_format.specs.declared.record.FileDataSequenceEntry.{FileDataSequenceEntry as Segment}
 use Rattle.xet_xorb_chunk.specs.ChunkEncoding.{encoded_chunk}
 use Rattle.xet_folder.specs.Plan.{part}
@@ -21,10 +21,10 @@ pub record Touches (run : List (List ℕ × ℕ)) (from to first skipped : ℕ) 
 
 -- What a range of a segment touches: these chunks of its xorb. They follow `skipped` bytes of the segment,
 -- and are stored at offset `at` of the xorb's file, in `len` bytes.
-pub record IsTouched (s : Segment) (members : List (List ℕ × ℕ)) (from to : ℕ) (chunks : List (List ℕ × ℕ)) (skipped at len : ℕ) : Type 0 where
+pub record IsTouched (s : Segment) (leaves : List (List ℕ × ℕ)) (from to : ℕ) (chunks : List (List ℕ × ℕ)) (skipped at len : ℕ) : Type 0 where
   pub first : ℕ
-  pub touches : Touches (part s members) from to first skipped chunks
-  pub stored_at : at ≡ stored_len (take (s.chunk_index_start + first) members)
+  pub touches : Touches (part s leaves) from to first skipped chunks
+  pub stored_at : at ≡ stored_len (take (s.chunk_index_start + first) leaves)
   pub stored_in : len ≡ stored_len chunks
   pub below : at + len < 2 ^ 32
 
@@ -35,6 +35,6 @@ pub record HasPlace (file : Option (List ℕ)) (at size : ℕ) : Type 0 where
   pub reaches : at + size ≤ length bytes
 
 -- The bytes are the encoding of these chunks, and the chunks have these hashes and lengths.
-pub record Encodes (bytes : List ℕ) (members : List (List ℕ × ℕ)) (chunks : List (List ℕ)) : Type 0 where
-  pub same : members_of chunks ≡ members
+pub record Encodes (bytes : List ℕ) (leaves : List (List ℕ × ℕ)) (chunks : List (List ℕ)) : Type 0 where
+  pub same : leaves_of chunks ≡ leaves
   pub encoded : bytes ≡ flat_map encoded_chunk chunks

@@ -4,17 +4,17 @@ use Rattle.std.proofs.lemmas.List.Elements.{All-from_recursion, recursion_from_A
 use Rattle.std.specs.List.{All, AllByRecursion}
 use Rattle.xet_io.specs.Disk.{Files}
 use Rattle.xet_hash.specs.Hash.{zero_hash}
-use Rattle.xet_hash.specs.Merkle.{file_hash, members_of}
+use Rattle.xet_hash.specs.Merkle.{file_hash, leaves_of}
 use Rattle.xet_hash.specs.declared.error.StoreError.{StoreError}
 use Rattle.xet_shard_format.specs.declared.record.FileDataSequenceEntry.{FileDataSequenceEntry as Segment}
 use Rattle.xet_shard_format.specs.declared.record.MDBFileInfo.{MDBFileInfo}
 use Rattle.xet_shard_format.specs.declared.record.MDBXorbInfo.{MDBXorbInfo}
 use Rattle.xet_shard_format.specs.Names.{shard_name}
-use Rattle.xet_shard_format.specs.Reading.{Parts}
+use Rattle.xet_shard_format.specs.Reading.{ShardParts}
 use Rattle.xet_shard_format.specs.Records as record_of
 use Rattle.xet_xorb.specs.theorems.Determined.{bytes_determine}
 use Rattle.xet_xorb.specs.Xorb.{IsXorbEncoding}
-use Rattle.xet_folder.specs.Admission.{Admits, BlockFails, BlockHolds, FileFails, FileHolds, FirstFails, Refuses, SegmentFails, SegmentHolds, ShardFails, ShardHolds, XorbFails, block_members}
+use Rattle.xet_folder.specs.Admission.{Admits, BlockFails, BlockHolds, FileFails, FileHolds, FirstFails, Refuses, SegmentFails, SegmentHolds, ShardFails, ShardHolds, XorbFails, block_leaves}
 use Rattle.xet_folder.specs.Plan.{Joins, LiesIn, part}
 use Rattle.xet_shard_file.specs.Shards.{ShardFile}
 use Rattle.xet_folder.specs.Stored.{IsBacked, IsStored}
@@ -38,12 +38,12 @@ module _ (files : Files) (folder : List ℕ) where
   stored_once h cs ds s t =
       let same : s.bytes ≡ t.bytes = cc (s.there, t.there) in bytes_determine t.bytes cs ds (subst (λ (bytes : List ℕ). IsXorbEncoding bytes cs) same s.text) t.text
 
-  -- and backed by one list of members
+  -- and backed by one list of leaves
   backed_once : (h : List ℕ) (ms ns : List (List ℕ × ℕ)) → IsBacked files folder h ms → IsBacked files folder h ns → ms ≡ ns
-  backed_once h ms ns b c = sym b.same ∙ ap members_of (stored_once h b.chunks c.chunks b.stored c.stored) ∙ c.same
+  backed_once h ms ns b c = sym b.same ∙ ap leaves_of (stored_once h b.chunks c.chunks b.stored c.stored) ∙ c.same
 
-  members_once : (segments : List Segment) (out other : List (List ℕ × ℕ)) → Joins (IsBacked files folder) (λ m. m.1) segments out → Joins (IsBacked files folder) (λ m. m.1) segments other → out ≡ other
-  members_once segments out other a b = joins_once (IsBacked files folder) (λ m. m.1) backed_once segments out other a b
+  leaves_once : (segments : List Segment) (out other : List (List ℕ × ℕ)) → Joins (IsBacked files folder) (λ m. m.1) segments out → Joins (IsBacked files folder) (λ m. m.1) segments other → out ≡ other
+  leaves_once segments out other a b = joins_once (IsBacked files folder) (λ m. m.1) backed_once segments out other a b
 
   module _ (shard : List ℕ) (e : StoreError) where
     xorb_not : (h : List ℕ) (ms : List (List ℕ × ℕ)) → IsBacked files folder h ms → XorbFails files folder shard h e → ⊥
@@ -51,8 +51,8 @@ module _ (files : Files) (folder : List ℕ) where
     xorb_not h ms b (XorbFails.text some never is) = never b.chunks b.stored
 
     block_not : (b : MDBXorbInfo) → BlockHolds files folder shard b → BlockFails files folder shard b e → ⊥
-    block_not b holds (BlockFails.xorb f) = xorb_not (record_of.xorb_hash b) (block_members b) holds f
-    block_not b holds (BlockFails.other ms backed differ is) = differ (backed_once (record_of.xorb_hash b) ms (block_members b) backed holds)
+    block_not b holds (BlockFails.xorb f) = xorb_not (record_of.xorb_hash b) (block_leaves b) holds f
+    block_not b holds (BlockFails.other ms backed differ is) = differ (backed_once (record_of.xorb_hash b) ms (block_leaves b) backed holds)
 
     segment_not : (s : Segment) (ms : List (List ℕ × ℕ)) → IsBacked files folder s.xorb_hash ms → LiesIn (λ m. m.1) s ms → SegmentFails files folder shard s e → ⊥
     segment_not s ms b lies (SegmentFails.xorb f) = xorb_not s.xorb_hash ms b f
@@ -65,26 +65,26 @@ module _ (files : Files) (folder : List ℕ) where
     segments_not (s ∷ ss) out (xs, rest, has, lies, parts, more) (inr f) = segments_not ss rest more f.1
 
     file_not : (f : MDBFileInfo) → FileHolds files folder shard f → FileFails files folder shard f e → ⊥
-    file_not f holds (FileFails.segments fails) = segments_not f.segments holds.members holds.joins fails
+    file_not f holds (FileFails.segments fails) = segments_not f.segments holds.leaves holds.joins fails
     file_not f holds (FileFails.other ms joins (inl none) is) =
-        let empty : holds.members ≡ [] = members_once f.segments holds.members ms holds.joins joins ∙ none in
+        let empty : holds.leaves ≡ [] = leaves_once f.segments holds.leaves ms holds.joins joins ∙ none in
         let some : 0 < length {A = List ℕ × ℕ} [] = subst (λ (l : List (List ℕ × ℕ)). 0 < length l) empty holds.some in
         absurd (omega arith)
-    file_not f holds (FileFails.other ms joins (inr differ) is) = differ (ap file_hash (members_once f.segments ms holds.members joins holds.joins) ∙ holds.hash)
+    file_not f holds (FileFails.other ms joins (inr differ) is) = differ (ap file_hash (leaves_once f.segments ms holds.leaves joins holds.joins) ∙ holds.hash)
 
   shard_not : (s : ShardFile) (e : StoreError) → ShardHolds files folder s → ShardFails files folder s e → ⊥
   shard_not s e holds (ShardFails.grammar refused) = let bad = sym holds.read ∙ refused in cc bad
   shard_not s e holds (ShardFails.name p read differ is) = differ holds.named
   shard_not s e holds (ShardFails.keyed p read named keyed is) =
-      let same : holds.parts ≡ p = cc (holds.read, read) in keyed (subst (λ (q : Parts). q.2.chunk_hash_hmac_key ≡ zero_hash) same holds.plain)
+      let same : holds.parts ≡ p = cc (holds.read, read) in keyed (subst (λ (q : ShardParts). q.2.chunk_hash_hmac_key ≡ zero_hash) same holds.plain)
   shard_not s e holds (ShardFails.block p read named plain first) =
       let same : holds.parts ≡ p = cc (holds.read, read) in
       first_not (BlockHolds files folder s.hash) (BlockHolds files folder s.hash) (BlockFails files folder s.hash) e (block_not s.hash e) p.0
-      (subst (λ (q : Parts). AllByRecursion (BlockHolds files folder s.hash) q.0) same holds.blocks) first
+      (subst (λ (q : ShardParts). AllByRecursion (BlockHolds files folder s.hash) q.0) same holds.blocks) first
   shard_not s e holds (ShardFails.file p read named plain blocks first) =
       let same : holds.parts ≡ p = cc (holds.read, read) in
       first_not (FileHolds files folder s.hash) (FileHolds files folder s.hash) (FileFails files folder s.hash) e (file_not s.hash e) p.1
-      (subst (λ (q : Parts). AllByRecursion (FileHolds files folder s.hash) q.1) same holds.files_hold) first
+      (subst (λ (q : ShardParts). AllByRecursion (FileHolds files folder s.hash) q.1) same holds.files_hold) first
 
   -- a folder that is admitted is not refused
   pub not_both : (now : ℕ) (shards : List ShardFile) (e : StoreError) (name : List ℕ) → Admits files folder now shards → Refuses files folder now e name → ⊥

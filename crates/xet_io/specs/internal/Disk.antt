@@ -4,7 +4,7 @@ use Rattle.std.specs.Option.{option_map}
 use Rattle.std.specs.FinMap.{get, insert, remove}
 
 -- The buffer starts with a file's bytes from an offset on, as many as there are or as fit.
-abbrev pub FillsFront : Option (List ℕ) → ℕ → List ℕ → ℕ → Type 0
-FillsFront None at buffer filled = filled ≡ 0
-FillsFront (Some bytes) at buffer filled =
+abbrev pub FillsPrefix : Option (List ℕ) → ℕ → List ℕ → ℕ → Type 0
+FillsPrefix None at buffer filled = filled ≡ 0
+FillsPrefix (Some bytes) at buffer filled =
     (filled ≡ min (length buffer) (length bytes - at)) × (take filled buffer ≡ take filled (drop at bytes))

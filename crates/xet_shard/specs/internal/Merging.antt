@@ -8,7 +8,7 @@ use Rattle.xet_hash.specs.declared.error.StoreError.{StoreError}
 use Rattle.xet_hash.specs.declared.error.StoreError.TheVariants.{InvalidArguments, MalformedData, OutOfMemory}
 use Rattle.xet_hash.specs.declared.error.Reason.TheVariants.{SectionPlace}
 use Rattle.xet_shard_format.specs.Records.{AreRecords, IsFile, IsXorb, file_hash, file_section, xorb_hash, xorb_section}
-use Rattle.xet_shard.specs.Union.{AgreeBoth, HasTooMany, Records, union_shard}
+use Rattle.xet_shard.specs.Union.{AgreeBoth, HasTooManyRows, ShardRecords, union_shard}
 
 -- each hash is above those before it
 abbrev pub Rises : {X : Type 0} → (X → List ℕ) → List X → Type 0
@@ -25,9 +25,9 @@ not_below hash h [] = []
 not_below hash h (y ∷ ys) = if is_lt (hash_cmp (hash y) h) then not_below hash h ys else y ∷ ys
 
 -- the list without its first record, if that has this hash
-unfoldable pub behind : {X : Type 0} → (X → List ℕ) → List ℕ → List X → List X
-behind hash h [] = []
-behind hash h (y ∷ ys) = if pointwise nat_eq (hash y) h then ys else y ∷ ys
+unfoldable pub after_hash : {X : Type 0} → (X → List ℕ) → List ℕ → List X → List X
+after_hash hash h [] = []
+after_hash hash h (y ∷ ys) = if pointwise nat_eq (hash y) h then ys else y ∷ ys
 
 -- the first record of a list is x, if it has the same hash
 abbrev pub FirstAgrees : {X : Type 0} → (X → List ℕ) → X → List X → Type 0
@@ -43,7 +43,7 @@ IsNoMerge Agree e = ⊥
 -- ---- shards
 
 -- the records of a well-formed shard
-pub record AreOfShard (p : Records) : Type 0 where
+pub record AreOfShard (p : ShardRecords) : Type 0 where
   pub blocks : AreRecords xorb_hash IsXorb None p.0
   pub files : AreRecords file_hash IsFile None p.1
   pub few_blocks : length (xorb_section p.0) < 2 ^ 32
@@ -51,8 +51,8 @@ pub record AreOfShard (p : Records) : Type 0 where
 
 -- the errors of encoding a union: out of memory, two different records with the same hash, or else too many
 -- rows
-abbrev pub IsNoText : Records × Records → ℕ → ℕ → StoreError → Type 0
+abbrev pub IsNoText : ShardRecords × ShardRecords → ℕ → ℕ → StoreError → Type 0
 IsNoText p creation other OutOfMemory = Unit {0}
 IsNoText p creation other InvalidArguments = AgreeBoth p → ⊥
-IsNoText p creation other (MalformedData reason) = (reason ≡ SectionPlace) × AgreeBoth p × HasTooMany (union_shard p creation other)
+IsNoText p creation other (MalformedData reason) = (reason ≡ SectionPlace) × AgreeBoth p × HasTooManyRows (union_shard p creation other)
 IsNoText p creation other e = ⊥

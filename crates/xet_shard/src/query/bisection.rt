@@ -3,7 +3,7 @@
 ghost use Rattle.std.specs.Prelude.{◌≡◌, ◌≤◌, ◌<◌, ◌+◌, ◌*◌, ◌^◌, true, drop, length, IfErr, IfOk, IsErrOf};
 ghost use Rattle.xet_shard.specs.Bisection.{AnswersAt, Bisects, in_table, passes};
 ghost use Rattle.xet_shard.specs.internal.Bisection.{slots};
-ghost use Rattle.xet_shard_format.specs.Reading.{IsShardRefusal};
+ghost use Rattle.xet_shard_format.specs.Reading.{IsShardError};
 ghost use Rattle.xet_io.specs.Frame.{ReadFrom};
 
 use crate::reader::byte_ranges::{fill, within};
@@ -51,7 +51,7 @@ pub fn bisecting_index<R: ReadAt>(
     ensures exact { R.tells reader.old ≡ true → AnswersAt (passes probe) (slots size count (drop at (R.bytes reader.old))) (λ index. index) result (λ index. in_table at (size * count) (R.bytes reader.old) index) }
     ensures within { IfOk result (λ index. index ≤ count) }
     ensures inside { IfOk result (λ index. at + size * count < 2 ^ 64) }
-    ensures refusals { IfErr result IsShardRefusal }
+    ensures errors { IfErr result IsShardError }
     ensures frame { ReadFrom R.bytes R.tells R.faults R.lent reader.old reader.new (IsErrOf result (StoreError.Io Place.Input)) }
 {
     let end = reader_length(reader)?;
@@ -74,7 +74,7 @@ fn bisect<R: ReadAt>(
     ensures found { R.tells reader.old ≡ true → at + size * count ≤ length (R.bytes reader.old) → IfOk result (λ index. Bisects (passes probe) (slots size count (drop at (R.bytes reader.old))) index) }
     ensures fault { R.tells reader.old ≡ true → at + size * count ≤ length (R.bytes reader.old) → IfErr result (λ e. e ≡ StoreError.Io Place.Input) }
     ensures within { IfOk result (λ index. index ≤ count) }
-    ensures refusals { IfErr result IsShardRefusal }
+    ensures errors { IfErr result IsShardError }
     ensures frame { ReadFrom R.bytes R.tells R.faults R.lent reader.old reader.new (IsErrOf result (StoreError.Io Place.Input)) }
 {
     let mut low = 0;
@@ -95,7 +95,7 @@ fn passes_at<R: ReadAt>(reader: &mut R, at: u64, probe: Probe) -> Result<bool, S
     requires { at + 12 < 2 ^ 64 }
     ensures told { R.tells reader.old ≡ true → at + 12 ≤ length (R.bytes reader.old) → IfOk result (λ passed. passed ≡ passes probe (drop at (R.bytes reader.old))) }
     ensures fault { R.tells reader.old ≡ true → at + 12 ≤ length (R.bytes reader.old) → IfErr result (λ e. e ≡ StoreError.Io Place.Input) }
-    ensures refusals { IfErr result IsShardRefusal }
+    ensures errors { IfErr result IsShardError }
     ensures frame { ReadFrom R.bytes R.tells R.faults R.lent reader.old reader.new (IsErrOf result (StoreError.Io Place.Input)) }
 {
     let mut item = [0; 12];

@@ -3,7 +3,7 @@
 ghost use Rattle.std.specs.Prelude.{◌≡◌, ◌≤◌, ◌<◌, ◌+◌, ◌*◌, ◌^◌, IfErr, IfOk, IsErrOf, length, take, true};
 ghost use Rattle.xet_shard.specs.Queries.{file_after, read_in_row};
 ghost use Rattle.xet_codec.specs.Parsing.{GivesUnlessFault};
-ghost use Rattle.xet_shard_format.specs.Reading.{IsShardRefusal};
+ghost use Rattle.xet_shard_format.specs.Reading.{IsShardError};
 ghost use Rattle.xet_shard_format.specs.Records.{IsFile};
 ghost use Rattle.xet_shard_format.specs.Rows.{rows_in};
 ghost use Rattle.xet_io.specs.Frame.{ReadFrom};
@@ -28,7 +28,7 @@ pub fn file_in_row<R: ReadAt>(
 ) -> Result<MDBFileInfo, StoreError>
     ensures exact { R.tells reader.old ≡ true → GivesUnlessFault (λ x. x) result (read_in_row file_after at count row (R.bytes reader.old)) }
     ensures form { IfOk result IsFile }
-    ensures refusals { IfErr result IsShardRefusal }
+    ensures errors { IfErr result IsShardError }
     ensures frame { ReadFrom R.bytes R.tells R.faults R.lent reader.old reader.new (IsErrOf result (StoreError.Io Place.Input)) }
 {
     let row = u64::from(row);
@@ -49,7 +49,7 @@ fn file_from<R: ReadAt>(
     requires inside { at + 48 * count < 2 ^ 64 }
     ensures exact { R.tells reader.old ≡ true → at + 48 * count ≤ length (R.bytes reader.old) → GivesUnlessFault (λ x. x) result (read_in_row file_after at count 0 (R.bytes reader.old)) }
     ensures form { IfOk result IsFile }
-    ensures refusals { IfErr result IsShardRefusal }
+    ensures errors { IfErr result IsShardError }
     ensures frame { ReadFrom R.bytes R.tells R.faults R.lent reader.old reader.new (IsErrOf result (StoreError.Io Place.Input)) }
 {
     let head = row_there(reader, at)?;
@@ -63,7 +63,7 @@ fn file_of(alloc: Global, head: &Row, bytes: &[u8], count: u32) -> Result<MDBFil
     requires { 48 * count ≤ length bytes.now }
     ensures gives { GivesUnlessFault (λ x. x) result (file_after head.now (rows_in count bytes.now)) }
     ensures form { IfOk result IsFile }
-    ensures refusals { IfErr result IsShardRefusal }
+    ensures errors { IfErr result IsShardError }
     ensures fault { IsErrOf result (StoreError.Io Place.Input) → ⊥ }
 {
     let mut rows = Rows::new(bytes, count);

@@ -6,7 +6,7 @@ ghost use Rattle.xet_shard.specs.Bisection.{AnswersAt};
 ghost use Rattle.xet_shard_format.specs.Lookups.{flat_places};
 ghost use Rattle.xet_shard.specs.Queries.{chunk_place, chunk_table, file_items_from, file_table, has_head, last_of, xorb_table};
 ghost use Rattle.xet_codec.specs.Parsing.{GivesUnlessFault};
-ghost use Rattle.xet_shard_format.specs.Reading.{IsShardRefusal};
+ghost use Rattle.xet_shard_format.specs.Reading.{IsShardError};
 ghost use Rattle.xet_io.specs.Frame.{ReadFrom};
 
 use crate::query::bisection::{Probe, bisecting_index};
@@ -29,7 +29,7 @@ pub fn file_items<R: ReadAt>(
     first: u64,
 ) -> Result<Vec<Head>, StoreError>
     ensures exact { R.tells reader.old ≡ true → AnswersAt (λ i. nat_lt i.0 first) (file_table f.now (R.bytes reader.old)) (λ v. v.items) result (λ index. file_items_from f.now index (R.bytes reader.old)) }
-    ensures refusals { IfErr result IsShardRefusal }
+    ensures errors { IfErr result IsShardError }
     ensures frame { ReadFrom R.bytes R.tells R.faults R.lent reader.old reader.new (IsErrOf result (StoreError.Io Place.Input)) }
 {
     if f.file_lookup_num_entry == 0 {
@@ -48,7 +48,7 @@ pub fn chunk_place<R: ReadAt>(
     first: u64,
 ) -> Result<Option<(u32, u32)>, StoreError>
     ensures exact { R.tells reader.old ≡ true → AnswersAt (λ i. nat_le i.0 first) (chunk_table f.now (R.bytes reader.old)) (λ place. place) result (λ index. chunk_place f.now first index (R.bytes reader.old)) }
-    ensures refusals { IfErr result IsShardRefusal }
+    ensures errors { IfErr result IsShardError }
     ensures frame { ReadFrom R.bytes R.tells R.faults R.lent reader.old reader.new (IsErrOf result (StoreError.Io Place.Input)) }
 {
     if f.chunk_lookup_num_entry == 0 {
@@ -66,7 +66,7 @@ pub fn has_head<R: ReadAt>(
     row: u32,
 ) -> Result<bool, StoreError>
     ensures exact { R.tells reader.old ≡ true → AnswersAt (λ i. nat_lt i.1 row) (xorb_table f.now (R.bytes reader.old)) (λ there. there) result (λ index. has_head f.now row index (R.bytes reader.old)) }
-    ensures refusals { IfErr result IsShardRefusal }
+    ensures errors { IfErr result IsShardError }
     ensures frame { ReadFrom R.bytes R.tells R.faults R.lent reader.old reader.new (IsErrOf result (StoreError.Io Place.Input)) }
 {
     if f.xorb_lookup_num_entry == 0 {
@@ -85,7 +85,7 @@ fn kept_file_items<R: ReadAt>(
 ) -> Result<Vec<Head>, StoreError>
     requires { f.now.file_lookup_num_entry ≢ 0 }
     ensures exact { R.tells reader.old ≡ true → AnswersAt (λ i. nat_lt i.0 first) (file_table f.now (R.bytes reader.old)) (λ v. v.items) result (λ index. file_items_from f.now index (R.bytes reader.old)) }
-    ensures refusals { IfErr result IsShardRefusal }
+    ensures errors { IfErr result IsShardError }
     ensures frame { ReadFrom R.bytes R.tells R.faults R.lent reader.old reader.new (IsErrOf result (StoreError.Io Place.Input)) }
 {
     let at = f.file_lookup_offset;
@@ -106,7 +106,7 @@ fn made_chunk_place<R: ReadAt>(
 ) -> Result<Option<(u32, u32)>, StoreError>
     requires { f.now.chunk_lookup_num_entry ≡ 0 }
     ensures exact { R.tells reader.old ≡ true → GivesUnlessFault (λ place. place) result (chunk_place f.now first 0 (R.bytes reader.old)) }
-    ensures refusals { IfErr result IsShardRefusal }
+    ensures errors { IfErr result IsShardError }
     ensures frame { ReadFrom R.bytes R.tells R.faults R.lent reader.old reader.new (IsErrOf result (StoreError.Io Place.Input)) }
 {
     let items = made_chunk_lookup(alloc, reader, f)?;
@@ -121,7 +121,7 @@ fn kept_chunk_place<R: ReadAt>(
 ) -> Result<Option<(u32, u32)>, StoreError>
     requires { f.now.chunk_lookup_num_entry ≢ 0 }
     ensures exact { R.tells reader.old ≡ true → AnswersAt (λ i. nat_le i.0 first) (chunk_table f.now (R.bytes reader.old)) (λ place. place) result (λ index. chunk_place f.now first index (R.bytes reader.old)) }
-    ensures refusals { IfErr result IsShardRefusal }
+    ensures errors { IfErr result IsShardError }
     ensures frame { ReadFrom R.bytes R.tells R.faults R.lent reader.old reader.new (IsErrOf result (StoreError.Io Place.Input)) }
 {
     let at = f.chunk_lookup_offset;
@@ -147,7 +147,7 @@ fn made_head<R: ReadAt>(
 ) -> Result<bool, StoreError>
     requires { f.now.xorb_lookup_num_entry ≡ 0 }
     ensures exact { R.tells reader.old ≡ true → GivesUnlessFault (λ there. there) result (has_head f.now row 0 (R.bytes reader.old)) }
-    ensures refusals { IfErr result IsShardRefusal }
+    ensures errors { IfErr result IsShardError }
     ensures frame { ReadFrom R.bytes R.tells R.faults R.lent reader.old reader.new (IsErrOf result (StoreError.Io Place.Input)) }
 {
     let items = made_xorb_lookup(alloc, reader, f)?;
@@ -162,7 +162,7 @@ fn kept_head<R: ReadAt>(
 ) -> Result<bool, StoreError>
     requires { f.now.xorb_lookup_num_entry ≢ 0 }
     ensures exact { R.tells reader.old ≡ true → AnswersAt (λ i. nat_lt i.1 row) (xorb_table f.now (R.bytes reader.old)) (λ there. there) result (λ index. has_head f.now row index (R.bytes reader.old)) }
-    ensures refusals { IfErr result IsShardRefusal }
+    ensures errors { IfErr result IsShardError }
     ensures frame { ReadFrom R.bytes R.tells R.faults R.lent reader.old reader.new (IsErrOf result (StoreError.Io Place.Input)) }
 {
     let at = f.xorb_lookup_offset;

@@ -2,9 +2,9 @@
 
 ghost use Rattle.std.specs.Prelude.{◌≡◌, ◌==◌, ◌∷◌, [], true, IfErr, IsErrOf, filter, length, IfOk, nat_le, nat_lt};
 ghost use Rattle.xet_shard.specs.Bisection.{AnswersAt};
-ghost use Rattle.xet_shard.specs.Queries.{IsFileRefusal, file_in, first_file, found_file, found_run, rows_of, run_in, run_of_word, told_run, chunk_table, file_table, query_word, xorb_table};
+ghost use Rattle.xet_shard.specs.Queries.{IsFileError, file_in, first_file, found_file, found_run, rows_of, run_in, run_of_word, told_run, chunk_table, file_table, query_word, xorb_table};
 ghost use Rattle.xet_codec.specs.Parsing.{GivesUnlessFault};
-ghost use Rattle.xet_shard_format.specs.Reading.{IsShardRefusal};
+ghost use Rattle.xet_shard_format.specs.Reading.{IsShardError};
 ghost use Rattle.xet_shard_format.specs.Records.{first_word};
 ghost use Rattle.xet_io.specs.Frame.{ReadFrom};
 
@@ -32,7 +32,7 @@ impl MDBShardInfo {
         hash: &MerkleHash,
     ) -> Result<Option<MDBFileInfo>, StoreError>
         ensures exact { R.tells reader.old ≡ true → AnswersAt (λ i. nat_lt i.0 (first_word hash.now)) (file_table self.now.metadata (R.bytes reader.old)) (λ file. file) result (λ index. found_file self.now.metadata hash.now index (R.bytes reader.old)) }
-        ensures refusals { IfErr result IsFileRefusal }
+        ensures errors { IfErr result IsFileError }
         ensures frame { ReadFrom R.bytes R.tells R.faults R.lent reader.old reader.new (IsErrOf result (StoreError.Io Place.Input)) }
     {
         let items = file_items(alloc, reader, &self.metadata, hash.word(0))?;
@@ -56,7 +56,7 @@ impl MDBShardInfo {
         query: &[MerkleHash],
     ) -> Result<Option<(usize, FileDataSequenceEntry)>, StoreError>
         ensures exact { R.tells reader.old ≡ true → AnswersAt (λ i. nat_le i.0 (query_word self.now.metadata query.now)) (chunk_table self.now.metadata (R.bytes reader.old)) (λ run. run) result (λ index. found_run self.now.metadata query.now index (R.bytes reader.old)) }
-        ensures refusals { IfErr result IsShardRefusal }
+        ensures errors { IfErr result IsShardError }
         ensures frame { ReadFrom R.bytes R.tells R.faults R.lent reader.old reader.new (IsErrOf result (StoreError.Io Place.Input)) }
     {
         match query.first() {
@@ -83,7 +83,7 @@ impl MDBShardInfo {
         place: u32,
     ) -> Result<Option<(usize, FileDataSequenceEntry)>, StoreError>
         ensures exact { R.tells reader.old ≡ true → AnswersAt (λ i. nat_lt i.1 row) (xorb_table self.now.metadata (R.bytes reader.old)) (λ run. run) result (λ index. told_run self.now.metadata query.now row place index (R.bytes reader.old)) }
-        ensures refusals { IfErr result IsShardRefusal }
+        ensures errors { IfErr result IsShardError }
         ensures frame { ReadFrom R.bytes R.tells R.faults R.lent reader.old reader.new (IsErrOf result (StoreError.Io Place.Input)) }
     {
         if query.is_empty() {
@@ -113,7 +113,7 @@ fn first_file<R: ReadAt>(
     items: &[Head],
 ) -> Result<Option<MDBFileInfo>, StoreError>
     ensures exact { R.tells reader.old ≡ true → GivesUnlessFault (λ x. x) result (first_file f.now hash.now (rows_of (first_word hash.now) items.now) (R.bytes reader.old)) }
-    ensures refusals { IfErr result IsShardRefusal }
+    ensures errors { IfErr result IsShardError }
     ensures frame { ReadFrom R.bytes R.tells R.faults R.lent reader.old reader.new (IsErrOf result (StoreError.Io Place.Input)) }
 {
     for item in items {
@@ -134,7 +134,7 @@ fn file_of<R: ReadAt>(
     item: Head,
 ) -> Result<Option<MDBFileInfo>, StoreError>
     ensures exact { R.tells reader.old ≡ true → GivesUnlessFault (λ x. x) result (first_file f.now hash.now (rows_of (first_word hash.now) (item ∷ [])) (R.bytes reader.old)) }
-    ensures refusals { IfErr result IsShardRefusal }
+    ensures errors { IfErr result IsShardError }
     ensures frame { ReadFrom R.bytes R.tells R.faults R.lent reader.old reader.new (IsErrOf result (StoreError.Io Place.Input)) }
 {
     if item.0 != hash.word(0) {
@@ -157,7 +157,7 @@ fn run_of_word<R: ReadAt>(
     word: u64,
 ) -> Result<Option<(usize, FileDataSequenceEntry)>, StoreError>
     ensures exact { R.tells reader.old ≡ true → AnswersAt (λ i. nat_le i.0 word) (chunk_table info.now.metadata (R.bytes reader.old)) (λ x. x) result (λ index. run_of_word info.now.metadata query.now word index (R.bytes reader.old)) }
-    ensures refusals { IfErr result IsShardRefusal }
+    ensures errors { IfErr result IsShardError }
     ensures frame { ReadFrom R.bytes R.tells R.faults R.lent reader.old reader.new (IsErrOf result (StoreError.Io Place.Input)) }
 {
     match chunk_place(alloc, reader, &info.metadata, word)? {
@@ -174,7 +174,7 @@ fn file_in<R: ReadAt>(
     row: u32,
 ) -> Result<MDBFileInfo, StoreError>
     ensures exact { R.tells reader.old ≡ true → GivesUnlessFault (λ x. x) result (file_in f.now row (R.bytes reader.old)) }
-    ensures refusals { IfErr result IsShardRefusal }
+    ensures errors { IfErr result IsShardError }
     ensures frame { ReadFrom R.bytes R.tells R.faults R.lent reader.old reader.new (IsErrOf result (StoreError.Io Place.Input)) }
 {
     let count = row_count(f.file_info_offset, f.xorb_info_offset)?;

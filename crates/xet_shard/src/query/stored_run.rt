@@ -3,9 +3,9 @@
 ghost use Rattle.std.specs.Prelude.{◌≡◌, ◌≤◌, ◌<◌, ◌+◌, ◌-◌, ◌*◌, ◌^◌, true, drop, length, map, IfErr, IfOk, IsErrOf};
 ghost use Rattle.xet_shard.specs.Queries.{kept_hash, read_in_row, run_in};
 ghost use Rattle.xet_codec.specs.Parsing.{GivesUnlessFault};
-ghost use Rattle.xet_shard_format.specs.Reading.{IsShardRefusal};
+ghost use Rattle.xet_shard_format.specs.Reading.{IsShardError};
 ghost use Rattle.xet_shard_format.specs.Rows.{row_of, rows_in};
-ghost use Rattle.xet_shard.specs.Runs.{agreed, chunk_end, run_after, run_of};
+ghost use Rattle.xet_shard.specs.Runs.{agreed, end_of_chunk, run_after, run_of};
 ghost use Rattle.xet_io.specs.Frame.{ReadFrom};
 
 use crate::query::run::kept_hash;
@@ -33,7 +33,7 @@ pub fn run_in<R: ReadAt>(
     place: u32,
 ) -> Result<Option<(usize, FileDataSequenceEntry)>, StoreError>
     ensures exact { R.tells reader.old ≡ true → GivesUnlessFault (λ x. x) result (run_in f.now query.now row place (R.bytes reader.old)) }
-    ensures refusals { IfErr result IsShardRefusal }
+    ensures errors { IfErr result IsShardError }
     ensures frame { ReadFrom R.bytes R.tells R.faults R.lent reader.old reader.new (IsErrOf result (StoreError.Io Place.Input)) }
 {
     let at = f.xorb_info_offset;
@@ -59,7 +59,7 @@ fn run_from<R: ReadAt>(
     requires few { count < 2 ^ 32 }
     requires inside { at + 48 * count < 2 ^ 64 }
     ensures exact { R.tells reader.old ≡ true → at + 48 * count ≤ length (R.bytes reader.old) → GivesUnlessFault (λ x. x) result (read_in_row (run_after (map (kept_hash key.now) query.now) place) at count 0 (R.bytes reader.old)) }
-    ensures refusals { IfErr result IsShardRefusal }
+    ensures errors { IfErr result IsShardError }
     ensures frame { ReadFrom R.bytes R.tells R.faults R.lent reader.old reader.new (IsErrOf result (StoreError.Io Place.Input)) }
 {
     let head = row_there(reader, at)?;
@@ -89,7 +89,7 @@ fn run_of<R: ReadAt>(
     requires some { place < head.now.b }
     requires inside { at + 48 * (head.now.b - place) < 2 ^ 64 }
     ensures exact { R.tells reader.old ≡ true → at + 48 * (head.now.b - place) ≤ length (R.bytes reader.old) → GivesUnlessFault (λ x. x) result (run_of (map (kept_hash key.now) query.now) place head.now (rows_in (head.now.b - place) (drop at (R.bytes reader.old)))) }
-    ensures refusals { IfErr result IsShardRefusal }
+    ensures errors { IfErr result IsShardError }
     ensures frame { ReadFrom R.bytes R.tells R.faults R.lent reader.old reader.new (IsErrOf result (StoreError.Io Place.Input)) }
 {
     let Some((first, rest)) = query.split_first() else {
@@ -124,7 +124,7 @@ fn agreed<R: ReadAt>(
     ensures exact { R.tells reader.old ≡ true → at + 48 * count ≤ length (R.bytes reader.old) → GivesUnlessFault (λ x. x) result (agreed (map (kept_hash key.now) query.now) end from (rows_in count (drop at (R.bytes reader.old)))) }
     ensures within { IfOk result (λ n. n.0 ≤ count) }
     ensures behind { IfOk result (λ n. from ≤ n.1) }
-    ensures refusals { IfErr result IsShardRefusal }
+    ensures errors { IfErr result IsShardError }
     ensures frame { ReadFrom R.bytes R.tells R.faults R.lent reader.old reader.new (IsErrOf result (StoreError.Io Place.Input)) }
 {
     let mut done: u32 = 0;
@@ -175,7 +175,7 @@ fn agreed_block<R: ReadAt>(
     ensures exact { R.tells reader.old ≡ true → at + 48 * count ≤ length (R.bytes reader.old) → GivesUnlessFault (λ x. x) result (agreed (map (kept_hash key.now) query.now) end from (rows_in count (drop at (R.bytes reader.old)))) }
     ensures within { IfOk result (λ n. n.0 ≤ count) }
     ensures behind { IfOk result (λ n. from ≤ n.1) }
-    ensures refusals { IfErr result IsShardRefusal }
+    ensures errors { IfErr result IsShardError }
     ensures frame { ReadFrom R.bytes R.tells R.faults R.lent reader.old reader.new (IsErrOf result (StoreError.Io Place.Input)) }
 {
     let bytes = bytes_at(alloc, reader, at, 48 * u64::from(count))?;
@@ -211,9 +211,9 @@ fn agreed_rows(
 }
 
 /// Where the chunk in a row ends. It must start at `at`, and not pass `end`.
-#[tactic(auto, unfolding(crate::specs::Runs::chunk_end, xet_shard_format::specs::Reading::chunk_in))]
+#[tactic(auto, unfolding(crate::specs::Runs::end_of_chunk, xet_shard_format::specs::Reading::chunk_in))]
 fn chunk_end(row: &Row, at: u32, end: u32) -> Result<u32, StoreError>
-    ensures exact { result ≡ chunk_end row.now at end }
+    ensures exact { result ≡ end_of_chunk row.now at end }
     ensures behind { IfOk result (λ to. at ≤ to) }
     ensures refused { IfErr result (λ e. e ≡ StoreError.MalformedData Reason.SectionEntry) }
 {

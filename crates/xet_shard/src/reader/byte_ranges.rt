@@ -4,7 +4,7 @@ ghost use Rattle.std.specs.Prelude.{◌≡◌, ◌≤◌, ◌<◌, ◌+◌, ◌-
 ghost use Rattle.xet_shard.specs.internal.ReaderBytes.{piece_at, rows_at};
 ghost use Rattle.xet_shard.specs.Queries.{rows_from};
 ghost use Rattle.xet_codec.specs.Parsing.{GivesUnlessFault, IsInputError};
-ghost use Rattle.xet_shard_format.specs.Reading.{IsShardRefusal};
+ghost use Rattle.xet_shard_format.specs.Reading.{IsShardError};
 ghost use Rattle.xet_shard_format.specs.Rows.{row_of};
 ghost use Rattle.xet_io.specs.Frame.{ReadFrom};
 
@@ -20,7 +20,7 @@ pub fn fill<R: ReadAt>(reader: &mut R, at: u64, buf: &mut [u8]) -> Result<(), St
     ensures told { R.tells reader.old ≡ true → at + length buf.old ≤ length (R.bytes reader.old) → OnOk result (buf.new ≡ take (length buf.old) (drop at (R.bytes reader.old))) }
     ensures fault { R.tells reader.old ≡ true → at + length buf.old ≤ length (R.bytes reader.old) → IfErr result (λ e. e ≡ StoreError.Io Place.Input) }
     ensures len { length buf.new ≡ length buf.old }
-    ensures refusals { IfErr result IsShardRefusal }
+    ensures errors { IfErr result IsShardError }
     ensures input { IfErr result IsInputError }
     ensures frame { ReadFrom R.bytes R.tells R.faults R.lent reader.old reader.new (IsErrOf result (StoreError.Io Place.Input)) }
 {
@@ -41,7 +41,7 @@ pub fn piece<R: ReadAt>(
 ) -> Result<Vec<u8>, StoreError>
     ensures told { R.tells reader.old ≡ true → GivesUnlessFault (λ v. v.items) result (piece_at at (size * count) (R.bytes reader.old)) }
     ensures long { IfOk result (λ v. length v.items ≡ size * count) }
-    ensures refusals { IfErr result IsShardRefusal }
+    ensures errors { IfErr result IsShardError }
     ensures frame { ReadFrom R.bytes R.tells R.faults R.lent reader.old reader.new (IsErrOf result (StoreError.Io Place.Input)) }
 {
     let end = reader_length(reader)?;
@@ -74,7 +74,7 @@ pub fn bytes_at<R: ReadAt>(
     requires { at + len < 2 ^ 64 }
     ensures told { R.tells reader.old ≡ true → at + len ≤ length (R.bytes reader.old) → GivesUnlessFault (λ v. v.items) result (piece_at at len (R.bytes reader.old)) }
     ensures long { IfOk result (λ v. length v.items ≡ len) }
-    ensures refusals { IfErr result IsShardRefusal }
+    ensures errors { IfErr result IsShardError }
     ensures frame { ReadFrom R.bytes R.tells R.faults R.lent reader.old reader.new (IsErrOf result (StoreError.Io Place.Input)) }
 {
     let mut bytes = vec![in alloc; 0; len as usize]?;
@@ -93,7 +93,7 @@ pub fn rows_at<R: ReadAt>(
     ensures told { R.tells reader.old ≡ true → GivesUnlessFault (λ v. v.items) result (rows_at at count (R.bytes reader.old)) }
     ensures few { IfOk result (λ v. count < 2 ^ 32) }
     ensures long { IfOk result (λ v. length v.items ≡ 48 * count) }
-    ensures refusals { IfErr result IsShardRefusal }
+    ensures errors { IfErr result IsShardError }
     ensures frame { ReadFrom R.bytes R.tells R.faults R.lent reader.old reader.new (IsErrOf result (StoreError.Io Place.Input)) }
 {
     if count >= 1 << 32 {
@@ -117,7 +117,7 @@ pub fn rows_from<R: ReadAt>(
     ensures few { OnOk result (count < 2 ^ 32) }
     ensures inside { OnOk result (at + 48 * count < 2 ^ 64) }
     ensures reached { R.tells reader.old ≡ true → OnOk result (at + 48 * count ≤ length (R.bytes reader.old)) }
-    ensures refusals { IfErr result IsShardRefusal }
+    ensures errors { IfErr result IsShardError }
     ensures frame { ReadFrom R.bytes R.tells R.faults R.lent reader.old reader.new (IsErrOf result (StoreError.Io Place.Input)) }
 {
     if count >= 1 << 32 || row >= count {
@@ -135,7 +135,7 @@ pub fn row_there<R: ReadAt>(reader: &mut R, at: u64) -> Result<Row, StoreError>
     requires { at + 48 < 2 ^ 64 }
     ensures told { R.tells reader.old ≡ true → at + 48 ≤ length (R.bytes reader.old) → IfOk result (λ r. r ≡ row_of (drop at (R.bytes reader.old))) }
     ensures fault { R.tells reader.old ≡ true → at + 48 ≤ length (R.bytes reader.old) → IfErr result (λ e. e ≡ StoreError.Io Place.Input) }
-    ensures refusals { IfErr result IsShardRefusal }
+    ensures errors { IfErr result IsShardError }
     ensures frame { ReadFrom R.bytes R.tells R.faults R.lent reader.old reader.new (IsErrOf result (StoreError.Io Place.Input)) }
 {
     let mut bytes = [0; 48];

@@ -4,7 +4,7 @@ ghost use Rattle.std.specs.Prelude.{◌≡◌, ◌≢◌, true, IfErr, IsErrOf};
 ghost use Rattle.xet_shard_format.specs.Lookups.{flat_places};
 ghost use Rattle.xet_shard.specs.Queries.{file_items_from};
 ghost use Rattle.xet_codec.specs.Parsing.{GivesUnlessFault};
-ghost use Rattle.xet_shard_format.specs.Reading.{IsShardRefusal};
+ghost use Rattle.xet_shard_format.specs.Reading.{IsShardError};
 ghost use Rattle.xet_shard.specs.Sections.{chunk_lookup_in, xorb_lookup_in};
 ghost use Rattle.xet_io.specs.Frame.{ReadFrom};
 
@@ -28,7 +28,7 @@ impl MDBShardInfo {
         reader: &mut R,
     ) -> Result<Vec<(u64, u32)>, StoreError>
         ensures exact { R.tells reader.old ≡ true → GivesUnlessFault (λ v. v.items) result (xorb_lookup_in self.now.metadata (R.bytes reader.old)) }
-        ensures refusals { IfErr result IsShardRefusal }
+        ensures errors { IfErr result IsShardError }
         ensures frame { ReadFrom R.bytes R.tells R.faults R.lent reader.old reader.new (IsErrOf result (StoreError.Io Place.Input)) }
     {
         if self.metadata.xorb_lookup_num_entry == 0 {
@@ -47,7 +47,7 @@ impl MDBShardInfo {
         reader: &mut R,
     ) -> Result<Vec<(u64, (u32, u32))>, StoreError>
         ensures exact { R.tells reader.old ≡ true → GivesUnlessFault (λ v. flat_places v.items) result (chunk_lookup_in self.now.metadata (R.bytes reader.old)) }
-        ensures refusals { IfErr result IsShardRefusal }
+        ensures errors { IfErr result IsShardError }
         ensures frame { ReadFrom R.bytes R.tells R.faults R.lent reader.old reader.new (IsErrOf result (StoreError.Io Place.Input)) }
     {
         if self.metadata.chunk_lookup_num_entry == 0 {
@@ -66,7 +66,7 @@ pub fn made_file_lookup<R: ReadAt>(
 ) -> Result<Vec<Head>, StoreError>
     requires { f.now.file_lookup_num_entry ≡ 0 }
     ensures exact { R.tells reader.old ≡ true → GivesUnlessFault (λ v. v.items) result (file_items_from f.now 0 (R.bytes reader.old)) }
-    ensures refusals { IfErr result IsShardRefusal }
+    ensures errors { IfErr result IsShardError }
     ensures frame { ReadFrom R.bytes R.tells R.faults R.lent reader.old reader.new (IsErrOf result (StoreError.Io Place.Input)) }
 {
     let all = files(alloc, reader, f)?;
@@ -82,7 +82,7 @@ pub fn made_xorb_lookup<R: ReadAt>(
 ) -> Result<Vec<Head>, StoreError>
     requires { f.now.xorb_lookup_num_entry ≡ 0 }
     ensures exact { R.tells reader.old ≡ true → GivesUnlessFault (λ v. v.items) result (xorb_lookup_in f.now (R.bytes reader.old)) }
-    ensures refusals { IfErr result IsShardRefusal }
+    ensures errors { IfErr result IsShardError }
     ensures frame { ReadFrom R.bytes R.tells R.faults R.lent reader.old reader.new (IsErrOf result (StoreError.Io Place.Input)) }
 {
     let found = blocks(alloc, reader, f)?;
@@ -98,7 +98,7 @@ fn kept_xorb_lookup<R: ReadAt>(
 ) -> Result<Vec<Head>, StoreError>
     requires { f.now.xorb_lookup_num_entry ≢ 0 }
     ensures exact { R.tells reader.old ≡ true → GivesUnlessFault (λ v. v.items) result (xorb_lookup_in f.now (R.bytes reader.old)) }
-    ensures refusals { IfErr result IsShardRefusal }
+    ensures errors { IfErr result IsShardError }
     ensures frame { ReadFrom R.bytes R.tells R.faults R.lent reader.old reader.new (IsErrOf result (StoreError.Io Place.Input)) }
 {
     let count = f.xorb_lookup_num_entry;
@@ -115,7 +115,7 @@ pub fn made_chunk_lookup<R: ReadAt>(
 ) -> Result<Vec<ChunkPlace>, StoreError>
     requires { f.now.chunk_lookup_num_entry ≡ 0 }
     ensures exact { R.tells reader.old ≡ true → GivesUnlessFault (λ v. flat_places v.items) result (chunk_lookup_in f.now (R.bytes reader.old)) }
-    ensures refusals { IfErr result IsShardRefusal }
+    ensures errors { IfErr result IsShardError }
     ensures frame { ReadFrom R.bytes R.tells R.faults R.lent reader.old reader.new (IsErrOf result (StoreError.Io Place.Input)) }
 {
     let found = blocks(alloc, reader, f)?;
@@ -131,7 +131,7 @@ fn kept_chunk_lookup<R: ReadAt>(
 ) -> Result<Vec<ChunkPlace>, StoreError>
     requires { f.now.chunk_lookup_num_entry ≢ 0 }
     ensures exact { R.tells reader.old ≡ true → GivesUnlessFault (λ v. flat_places v.items) result (chunk_lookup_in f.now (R.bytes reader.old)) }
-    ensures refusals { IfErr result IsShardRefusal }
+    ensures errors { IfErr result IsShardError }
     ensures frame { ReadFrom R.bytes R.tells R.faults R.lent reader.old reader.new (IsErrOf result (StoreError.Io Place.Input)) }
 {
     let count = f.chunk_lookup_num_entry;

@@ -2,7 +2,7 @@
 
 ghost use Rattle.std.specs.Prelude.{◌≡◌, ◌≤◌, ◌<◌, ◌+◌, ◌-◌, ◌*◌, ◌^◌, min, None, true, length, IfErr, IfOk, IsErrOf, OnOk};
 ghost use Rattle.xet_codec.specs.Parsing.{GivesUnlessFault, IsInputError, IsUnlessFault};
-ghost use Rattle.xet_shard_format.specs.Reading.{IsShardRefusal, footer_at, header_at};
+ghost use Rattle.xet_shard_format.specs.Reading.{IsShardError, shard_footer_at, shard_header_at};
 ghost use Rattle.xet_shard_format.specs.Records.{AreRecords, IsFile, IsXorb, file_hash, file_section, xorb_hash, xorb_section};
 ghost use Rattle.xet_shard.specs.Sections.{block_heads_in, blocks_in, files_in, info_at, key_of, row_count};
 ghost use Rattle.xet_io.specs.Frame.{ReadFrom};
@@ -29,7 +29,7 @@ impl MDBShardInfo {
     /// `Io(Input)` if the reader failed.
     pub fn load_from_reader<R: ReadAt>(reader: &mut R) -> Result<MDBShardInfo, StoreError>
         ensures exact { R.tells reader.old ≡ true → IsUnlessFault result (info_at (R.bytes reader.old)) }
-        ensures refusals { IfErr result IsInputError }
+        ensures errors { IfErr result IsInputError }
         ensures frame { ReadFrom R.bytes R.tells R.faults R.lent reader.old reader.new (IsErrOf result (StoreError.Io Place.Input)) }
     {
         let len = reader_length(reader)?;
@@ -44,7 +44,7 @@ impl MDBShardInfo {
         reader: &mut R,
     ) -> Result<Vec<MDBFileInfo>, StoreError>
         ensures exact { R.tells reader.old ≡ true → GivesUnlessFault (λ v. v.items) result (files_in self.now.metadata (R.bytes reader.old)) }
-        ensures refusals { IfErr result IsShardRefusal }
+        ensures errors { IfErr result IsShardError }
         ensures frame { ReadFrom R.bytes R.tells R.faults R.lent reader.old reader.new (IsErrOf result (StoreError.Io Place.Input)) }
     {
         files(alloc, reader, &self.metadata)
@@ -58,7 +58,7 @@ impl MDBShardInfo {
         reader: &mut R,
     ) -> Result<Vec<MDBXorbInfo>, StoreError>
         ensures exact { R.tells reader.old ≡ true → GivesUnlessFault (λ v. v.items) result (blocks_in self.now.metadata (R.bytes reader.old)) }
-        ensures refusals { IfErr result IsShardRefusal }
+        ensures errors { IfErr result IsShardError }
         ensures frame { ReadFrom R.bytes R.tells R.faults R.lent reader.old reader.new (IsErrOf result (StoreError.Io Place.Input)) }
     {
         blocks(alloc, reader, &self.metadata)
@@ -72,7 +72,7 @@ impl MDBShardInfo {
         reader: &mut R,
     ) -> Result<Vec<(XorbChunkSequenceHeader, u64)>, StoreError>
         ensures exact { R.tells reader.old ≡ true → GivesUnlessFault (λ v. v.items) result (block_heads_in self.now.metadata (R.bytes reader.old)) }
-        ensures refusals { IfErr result IsShardRefusal }
+        ensures errors { IfErr result IsShardError }
         ensures frame { ReadFrom R.bytes R.tells R.faults R.lent reader.old reader.new (IsErrOf result (StoreError.Io Place.Input)) }
     {
         let found = blocks(alloc, reader, &self.metadata)?;
@@ -136,7 +136,7 @@ pub fn files<R: ReadAt>(
     ensures exact { R.tells reader.old ≡ true → GivesUnlessFault (λ v. v.items) result (files_in f.now (R.bytes reader.old)) }
     ensures form { IfOk result (λ v. AreRecords file_hash IsFile None v.items) }
     ensures few { IfOk result (λ v. length (file_section v.items) < 2 ^ 32) }
-    ensures refusals { IfErr result IsShardRefusal }
+    ensures errors { IfErr result IsShardError }
     ensures frame { ReadFrom R.bytes R.tells R.faults R.lent reader.old reader.new (IsErrOf result (StoreError.Io Place.Input)) }
 {
     let count = row_count(f.file_info_offset, f.xorb_info_offset)?;
@@ -155,7 +155,7 @@ pub fn blocks<R: ReadAt>(
     ensures exact { R.tells reader.old ≡ true → GivesUnlessFault (λ v. v.items) result (blocks_in f.now (R.bytes reader.old)) }
     ensures form { IfOk result (λ v. AreRecords xorb_hash IsXorb None v.items) }
     ensures few { IfOk result (λ v. length (xorb_section v.items) < 2 ^ 32) }
-    ensures refusals { IfErr result IsShardRefusal }
+    ensures errors { IfErr result IsShardError }
     ensures frame { ReadFrom R.bytes R.tells R.faults R.lent reader.old reader.new (IsErrOf result (StoreError.Io Place.Input)) }
 {
     let count = row_count(f.xorb_info_offset, f.file_lookup_offset)?;
@@ -168,7 +168,7 @@ pub fn blocks<R: ReadAt>(
 /// Reads the header and the footer of a shard of `len` bytes.
 fn load<R: ReadAt>(reader: &mut R, len: u64) -> Result<MDBShardInfo, StoreError>
     ensures exact { R.tells reader.old ≡ true → len ≡ length (R.bytes reader.old) → GivesUnlessFault (λ info. info) result (info_at (R.bytes reader.old)) }
-    ensures refusals { IfErr result IsInputError }
+    ensures errors { IfErr result IsInputError }
     ensures frame { ReadFrom R.bytes R.tells R.faults R.lent reader.old reader.new (IsErrOf result (StoreError.Io Place.Input)) }
 {
     read_header(reader, len)?;
@@ -181,9 +181,9 @@ fn load<R: ReadAt>(reader: &mut R, len: u64) -> Result<MDBShardInfo, StoreError>
 
 /// Checks the header of a shard of `len` bytes, and that there is room for a footer after it.
 fn read_header<R: ReadAt>(reader: &mut R, len: u64) -> Result<(), StoreError>
-    ensures exact { R.tells reader.old ≡ true → len ≡ length (R.bytes reader.old) → GivesUnlessFault (λ _. tt) result (header_at (R.bytes reader.old)) }
+    ensures exact { R.tells reader.old ≡ true → len ≡ length (R.bytes reader.old) → GivesUnlessFault (λ _. tt) result (shard_header_at (R.bytes reader.old)) }
     ensures long { OnOk result (248 ≤ len) }
-    ensures refusals { IfErr result IsInputError }
+    ensures errors { IfErr result IsInputError }
     ensures frame { ReadFrom R.bytes R.tells R.faults R.lent reader.old reader.new (IsErrOf result (StoreError.Io Place.Input)) }
 {
     let mut room = [0; 48];
@@ -195,8 +195,8 @@ fn read_header<R: ReadAt>(reader: &mut R, len: u64) -> Result<(), StoreError>
 /// Reads the footer of a shard of `len` bytes.
 fn read_footer<R: ReadAt>(reader: &mut R, len: u64) -> Result<MDBShardFileFooter, StoreError>
     requires { 248 ≤ len }
-    ensures exact { R.tells reader.old ≡ true → len ≡ length (R.bytes reader.old) → GivesUnlessFault (λ f. f) result (footer_at (R.bytes reader.old)) }
-    ensures refusals { IfErr result IsInputError }
+    ensures exact { R.tells reader.old ≡ true → len ≡ length (R.bytes reader.old) → GivesUnlessFault (λ f. f) result (shard_footer_at (R.bytes reader.old)) }
+    ensures errors { IfErr result IsInputError }
     ensures frame { ReadFrom R.bytes R.tells R.faults R.lent reader.old reader.new (IsErrOf result (StoreError.Io Place.Input)) }
 {
     let mut last = [0; 200];

@@ -3,7 +3,7 @@
 ghost use Rattle.std.specs.Prelude.{◌≡◌, IfErr, IfOk, IsErrOf, Ok, true};
 ghost use Rattle.xet_shard_format.specs.Lookups.{Lookups};
 ghost use Rattle.xet_codec.specs.Parsing.{GivesUnlessFault};
-ghost use Rattle.xet_shard_format.specs.Reading.{IsRead, IsShardRefusal, all_of, parts_of};
+ghost use Rattle.xet_shard_format.specs.Reading.{IsRead, IsShardError, all_of, shard_parts_of};
 ghost use Rattle.xet_shard_format.specs.Encoding.{Fits, IsShard, Shard, shard_bytes};
 ghost use Rattle.xet_io.specs.Frame.{ReadFrom};
 
@@ -25,10 +25,10 @@ impl MDBShardInfo {
         ensures found { R.tells reader.old ≡ true → IfOk result (λ x. IsRead (R.bytes reader.old) (x.0.items, x.1.items, x.2)) }
         // The encoding of a well-formed shard is read, unless memory is out or the reader failed.
         ensures only { R.tells reader.old ≡ true → (w : Lookups) (s : Shard) → IsShard s → Fits s → R.bytes reader.old ≡ shard_bytes w s
-            → GivesUnlessFault (λ x. (x.0.items, x.1.items, x.2)) result (Ok (parts_of w s)) }
+            → GivesUnlessFault (λ x. (x.0.items, x.1.items, x.2)) result (Ok (shard_parts_of w s)) }
         // The error is that of the first check that fails, unless memory is out or the reader failed.
         ensures exact { R.tells reader.old ≡ true → GivesUnlessFault (λ x. (x.0.items, x.1.items, x.2)) result (all_of (R.bytes reader.old)) }
-        ensures refusals { IfErr result IsShardRefusal }
+        ensures errors { IfErr result IsShardError }
         ensures frame { ReadFrom R.bytes R.tells R.faults R.lent reader.old reader.new (IsErrOf result (StoreError.Io Place.Input)) }
     {
         match read_whole(alloc, reader) {

@@ -2,7 +2,7 @@
 use Rattle.std.proofs.Common.{◌≡◌, ◌⊎◌, inl, inr, ◌≤◌, ℕ, Bool, true, false, List, length, take, drop, Option, Some, Result, Ok, Err, sym, ap, subst}
 use Rattle.xet_hash.specs.declared.error.StoreError.{StoreError}
 use Rattle.xet_codec.specs.Parsing.{◌>>=◌}
-use Rattle.xet_shard_format.specs.Reading.{all_of, ends_of, footer_at, header_at}
+use Rattle.xet_shard_format.specs.Reading.{all_of, ends_of, shard_footer_at, shard_header_at}
 use Rattle.xet_shard_file.specs.Shards.{is_expired, is_past}
 
 -- an error of the ends is the whole's, and what has it does not expire
@@ -13,7 +13,7 @@ first_error e (Err d) f rest is = let same : d ≡ e = cc is in ap Err same
 
 pub ends_fail : (bytes : List ℕ) (e : StoreError) → ends_of bytes ≡ Err e → all_of bytes ≡ Err e
 unfolding all_of
-ends_fail bytes e is = first_error e (header_at bytes) (footer_at bytes) _ is
+ends_fail bytes e is = first_error e (shard_header_at bytes) (shard_footer_at bytes) _ is
 
 pub ends_stay : (now : ℕ) (bytes : List ℕ) (e : StoreError) → ends_of bytes ≡ Err e → is_expired now bytes ≡ false
 ends_stay now bytes e is = ap (is_past now) is

@@ -8,7 +8,7 @@ use Rattle.xet_shard_format.specs.declared.record.MDBFileInfo.{MDBFileInfo}
 use Rattle.xet_shard_format.specs.declared.record.MDBXorbInfo.{MDBXorbInfo}
 use Rattle.xet_shard_format.specs.declared.record.XorbChunkSequenceEntry.{XorbChunkSequenceEntry}
 use Rattle.xet_shard_format.specs.Records.{chunk_row, end_row, file_hash, file_head, file_rest, file_rows, file_section, section, xorb_hash, xorb_head, xorb_rest, xorb_rows, xorb_section}
-use Rattle.xet_shard_format.specs.Lookups.{Lookups, chunk_items, chunks_from, file_items, heads_from, left_in, place_cmp, places_from, xorb_items}
+use Rattle.xet_shard_format.specs.Lookups.{Lookups, chunk_items, chunks_from, file_items, heads_from, left_in, place_cmp, lookup_rows_from, xorb_items}
 use Rattle.xet_shard_format.specs.Encoding.{Shard, footer_of, footer_with, materialized, stored}
 use Rattle.xet_shard_format.specs.theorems.SectionLaws.{section_cons}
 use Rattle.xet_shard_format.specs.theorems.Sorting.{length-sorted}
@@ -18,8 +18,8 @@ unfolding heads_from
 length-heads_from hash rows at [] = refl
 length-heads_from hash rows at (x ∷ xs) = ap suc (length-heads_from hash rows (at + length (rows x)) xs)
 
-length-places_from : (at place : ℕ) (cs : List XorbChunkSequenceEntry) → length (places_from at place cs) ≡ length cs
-unfolding places_from
+length-places_from : (at place : ℕ) (cs : List XorbChunkSequenceEntry) → length (lookup_rows_from at place cs) ≡ length cs
+unfolding lookup_rows_from
 length-places_from at place [] = refl
 length-places_from at place (c ∷ cs) = ap suc (length-places_from at (place + 1) cs)
 
@@ -46,7 +46,7 @@ unfolding chunks_from
 chunks_in at [] = refl
 chunks_in at (x ∷ xs) =
     let split : length (chunks_from at (x ∷ xs)) ≡ length x.chunks + length (chunks_from (at + length (xorb_rows x)) xs) =
-    length-append (places_from at 0 x.chunks) (chunks_from (at + length (xorb_rows x)) xs) ∙ ap (λ (k : ℕ). k + length (chunks_from (at + length (xorb_rows x)) xs)) (length-places_from at 0 x.chunks) in
+    length-append (lookup_rows_from at 0 x.chunks) (chunks_from (at + length (xorb_rows x)) xs) ∙ ap (λ (k : ℕ). k + length (chunks_from (at + length (xorb_rows x)) xs)) (length-places_from at 0 x.chunks) in
     omega (arith, split, length-section xorb_rows x xs, chunks_in (at + length (xorb_rows x)) xs, length-map x.chunks chunk_row)
 
 pub chunk_count : (blocks : List MDBXorbInfo) → length (chunk_items blocks) + length blocks + 1 ≡ length (xorb_section blocks)

@@ -14,7 +14,7 @@ use Rattle.xet_shard_format.specs.Records.{ext_rows, file_rows, file_section, se
 use Rattle.xet_shard_format.specs.Lookups.{all_lookups}
 use Rattle.xet_shard_format.specs.Encoding.{Fits, IsShard, IsShardEncoding, Shard, full_shard_bytes, materialized, stored}
 use Rattle.xet_shard_format.specs.theorems.SectionLaws.{section_cons}
-use Rattle.xet_base.specs.theorems.Elements.{all_back, all_front}
+use Rattle.xet_base.specs.theorems.Elements.{all_back, all_prefix}
 
 segment_bytes_below : (segments : List FileDataSequenceEntry) → AllByRecursion RowFits (map segment_row segments) → segment_bytes segments ≤ 2 ^ 32 * length segments
 segment_bytes_below [] fits = omega arith
@@ -23,7 +23,7 @@ segment_bytes_below (s ∷ segments) fits =
 
 file_bytes_below : (f : MDBFileInfo) → AllByRecursion RowFits (file_rows f) → segment_bytes f.segments ≤ 2 ^ 32 * length (file_rows f)
 file_bytes_below f fits =
-    omega (arith, segment_bytes_below f.segments (all_front RowFits (map segment_row f.segments) _ fits.1), length-map f.segments segment_row, length-append (map segment_row f.segments) (map verification_row f.verification ++ ext_rows f.metadata_ext))
+    omega (arith, segment_bytes_below f.segments (all_prefix RowFits (map segment_row f.segments) _ fits.1), length-map f.segments segment_row, length-append (map segment_row f.segments) (map verification_row f.verification ++ ext_rows f.metadata_ext))
 
 xorb_bytes_below : (x : MDBXorbInfo) → AllByRecursion RowFits (xorb_rows x) → x.metadata.num_bytes_in_xorb ≤ 2 ^ 32 * length (xorb_rows x)
 xorb_bytes_below x fits = omega (arith, fits.0.c)
@@ -37,7 +37,7 @@ sum_below rows bytes each (x ∷ xs) fits =
     omega (
       arith,
       sum_by-cons bytes x xs,
-      each x (all_front RowFits (rows x) (section rows xs) all),
+      each x (all_prefix RowFits (rows x) (section rows xs) all),
       sum_below rows bytes each xs (all_back RowFits (rows x) (section rows xs) all),
       ap length (section_cons rows x xs),
       length-append (rows x) (section rows xs),

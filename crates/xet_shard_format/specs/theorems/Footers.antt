@@ -8,8 +8,8 @@ use Rattle.std.proofs.lemmas.List.{take_at, drop_at, take-append-drop, length-ap
 use Rattle.std.proofs.lemmas.Nat.{from_le_bytes-to_le_bytes_8}
 use Rattle.xet_shard_format.specs.declared.header_footer.MDBShardFileFooter.{MDBShardFileFooter}
 use Rattle.xet_codec.specs.Numbers.{word}
-use Rattle.xet_shard_format.specs.Encoding.{footer_text, header, shard_header_bytes, tag}
-use Rattle.xet_shard_format.specs.Reading.{IsPlaced, file_row_count, footer_in, header_at, places_at, xorb_row_count}
+use Rattle.xet_shard_format.specs.Encoding.{shard_footer_bytes, header, shard_header_bytes, tag}
+use Rattle.xet_shard_format.specs.Reading.{IsPlaced, file_row_count, footer_in, shard_header_at, places_at, xorb_row_count}
 use Rattle.xet_shard_format.specs.theorems.RowLaws.{wants_ok, wants_last, reaches_ok, reaches_last}
 use Rattle.xet_shard_format.specs.theorems.Bytes.{IsBytes, glue, word_back}
 
@@ -18,8 +18,8 @@ word_then bytes at tail fits le e = (λ i. word_back bytes at fits le i ++ e i) 
 
 -- ---- header
 
-pub header_takes : (bytes : List ℕ) (u : Unit {0}) → IsBytes bytes → header_at bytes ≡ Ok u → (bytes ≡ shard_header_bytes header ++ drop 48 bytes) × (248 ≤ length bytes)
-unfolding header_at
+pub header_takes : (bytes : List ℕ) (u : Unit {0}) → IsBytes bytes → shard_header_at bytes ≡ Ok u → (bytes ≡ shard_header_bytes header ++ drop 48 bytes) × (248 ≤ length bytes)
+unfolding shard_header_at
 header_takes bytes u fits e =
     let a = reaches_ok (leb 32 (length bytes)) _ _ e in
     let b = wants_ok (pointwise nat_eq (take 32 bytes) tag) _ _ _ a.1 in
@@ -33,15 +33,15 @@ header_takes bytes u fits e =
     let t0 : tag ++ (to_le_bytes w64 2 ++ (to_le_bytes w64 200 ++ drop 48 bytes)) ≡ bytes = (λ i. sym ((bytes_decides (take 32 bytes) tag).0 b.0) i ++ t32 i) ∙ take-append-drop 32 bytes in
     (sym t0, long)
 
-pub header_again : (rest : List ℕ) → 200 ≤ length rest → header_at (shard_header_bytes header ++ rest) ≡ Ok tt
-unfolding header_at
+pub header_again : (rest : List ℕ) → 200 ≤ length rest → shard_header_at (shard_header_bytes header ++ rest) ≡ Ok tt
+unfolding shard_header_at
 header_again rest long =
     let len : length (shard_header_bytes header ++ rest) ≡ 48 + length rest = length-append (shard_header_bytes header) rest in
     rw (le-leb 32 (length (shard_header_bytes header ++ rest)) (omega arith), le-leb 40 (length (shard_header_bytes header ++ rest)) (omega arith), le-leb 48 (length (shard_header_bytes header ++ rest)) (omega arith), le-leb 248 (length (shard_header_bytes header ++ rest)) (omega arith)) refl
 
 -- ---- footer
 
-pub footer_back : (bytes : List ℕ) → IsBytes bytes → length bytes ≡ 200 → take 48 (drop 120 bytes) ≡ replicate 48 0 → footer_text (footer_in bytes) ≡ bytes
+pub footer_back : (bytes : List ℕ) → IsBytes bytes → length bytes ≡ 200 → take 48 (drop 120 bytes) ≡ replicate 48 0 → shard_footer_bytes (footer_in bytes) ≡ bytes
 unfolding footer_in
 footer_back bytes fits len zeros =
     let t192 : to_le_bytes w64 (word bytes 192) ≡ drop 192 bytes = word_back bytes 192 fits (omega arith) ∙ take_all 8 (drop 192 bytes) (omega (arith, length-drop 192 bytes)) in
@@ -86,15 +86,15 @@ after_key f = to_le_bytes w64 f.shard_creation_timestamp ++ (to_le_bytes w64 f.s
 past : (f : MDBShardFileFooter) (k : ℕ) → length f.chunk_hash_hmac_key ≡ 32 → drop (32 + k) (f.chunk_hash_hmac_key ++ after_key f) ≡ drop k (after_key f)
 past f k len = sym (drop-drop k 32 (f.chunk_hash_hmac_key ++ after_key f)) ∙ ap (drop k) (drop_at f.chunk_hash_hmac_key (after_key f) 32 len)
 
-pub zeros_again : (f : MDBShardFileFooter) → length f.chunk_hash_hmac_key ≡ 32 → take 48 (drop 120 (footer_text f)) ≡ replicate 48 0
+pub zeros_again : (f : MDBShardFileFooter) → length f.chunk_hash_hmac_key ≡ 32 → take 48 (drop 120 (shard_footer_bytes f)) ≡ replicate 48 0
 zeros_again f len = ap (take 48) (past f 16 len)
 
-pub length-footer_text : (f : MDBShardFileFooter) → length f.chunk_hash_hmac_key ≡ 32 → length (footer_text f) ≡ 200
+pub length-footer_text : (f : MDBShardFileFooter) → length f.chunk_hash_hmac_key ≡ 32 → length (shard_footer_bytes f) ≡ 200
 length-footer_text f len =
     let key : length (f.chunk_hash_hmac_key ++ after_key f) ≡ 128 = length-append f.chunk_hash_hmac_key (after_key f) ∙ omega (arith, len) in
     omega (arith, key)
 
-pub footer_again : (f : MDBShardFileFooter) → FooterFits f → footer_in (footer_text f) ≡ f
+pub footer_again : (f : MDBShardFileFooter) → FooterFits f → footer_in (shard_footer_bytes f) ≡ f
 unfolding footer_in
 footer_again f fits =
     let back = λ (n : ℕ) (lt : n < 2 ^ 64). from_le_bytes-to_le_bytes_8 n lt in

@@ -16,9 +16,9 @@ use Rattle.xet_shard_format.specs.Records.{file_hash, flags_of, is_after, xorb_h
 use Rattle.xet_codec.specs.Numbers.{word}
 use Rattle.xet_shard_format.specs.Encoding.{tag}
 use Rattle.xet_shard_format.specs.Ends.{footer_of_last, header_of_first}
-use Rattle.xet_shard_format.specs.theorems.FirstLast.{footer_is, header_is}
+use Rattle.xet_shard_format.specs.theorems.FirstLast.{footer_is, header_of_first_is}
 use Rattle.xet_codec.specs.Parsing.{Fails, Gives, GivesUnlessFault, IsInputError, IsUnlessFault, reaches, wants, ◌>>=◌}
-use Rattle.xet_shard_format.specs.Reading.{IsShardRefusal, Parts, all_of, chunk_in, chunks_at, end_at, ext_at, file_at, file_row_count, footer_at, footer_in, has_ext, is_verified, xorb_row_count, hash_at, hash_in, header_at, lookup_at, places_at, row_at, rows_after_file, section_at, segment_at, step_at, times, totals_at, verification_at, xorb_at}
+use Rattle.xet_shard_format.specs.Reading.{IsShardError, ShardParts, all_of, chunk_in, chunks_at, end_at, ext_at, file_record_at, file_row_count, shard_footer_at, footer_in, has_ext, is_verified, xorb_row_count, hash_row_at, hash_in, shard_header_at, lookup_at, places_at, row_at, rows_after_file, section_at, segment_at, step_at, times_rows, totals_at, verification_at, xorb_at}
 
 abbrev pub IsOfBytes : StoreError → Type 0
 IsOfBytes errors.UnexpectedEof = Unit {0}
@@ -63,10 +63,10 @@ a_row : (rows : List Row) → IsAnswer (row_at rows)
 a_row [] = fails (errors.MalformedData SectionPlace) tt
 a_row (r ∷ rows) = fine (r, rows)
 
-some_times : {X : Type 0} (read : List Row → Result (X × List Row) StoreError) → ((rows : List Row) → IsAnswer (read rows)) → (n : ℕ) (rows : List Row) → IsAnswer (times read n rows)
-unfolding times
+some_times : {X : Type 0} (read : List Row → Result (X × List Row) StoreError) → ((rows : List Row) → IsAnswer (read rows)) → (n : ℕ) (rows : List Row) → IsAnswer (times_rows read n rows)
+unfolding times_rows
 some_times read each zero rows = fine _
-some_times read each (suc n) rows = both (read rows) _ (each rows) (λ x. both (times read n x.1) _ (some_times read each n x.1) (λ xs. fine _))
+some_times read each (suc n) rows = both (read rows) _ (each rows) (λ x. both (times_rows read n x.1) _ (some_times read each n x.1) (λ xs. fine _))
 
 a_segment : (rows : List Row) → IsAnswer (segment_at rows)
 unfolding segment_at
@@ -76,26 +76,26 @@ a_hash_in : (r : Row) → IsAnswer (hash_in r)
 unfolding hash_in
 a_hash_in r = test (r.a == 0) _ _ (test (r.b == 0) _ _ (test (r.c == 0) _ _ (test (r.d == 0) _ _ (fine _))))
 
-a_hash : (rows : List Row) → IsAnswer (hash_at rows)
-unfolding hash_at
+a_hash : (rows : List Row) → IsAnswer (hash_row_at rows)
+unfolding hash_row_at
 a_hash rows = both (row_at rows) _ (a_row rows) (λ r. both (hash_in r.0) _ (a_hash_in r.0) (λ _. fine _))
 
 a_verification : (rows : List Row) → IsAnswer (verification_at rows)
 unfolding verification_at
-a_verification rows = both (hash_at rows) _ (a_hash rows) (λ _. fine _)
+a_verification rows = both (hash_row_at rows) _ (a_hash rows) (λ _. fine _)
 
 an_ext : (there : Bool) (rows : List Row) → IsAnswer (ext_at there rows)
 unfolding ext_at
 an_ext false rows = fine _
-an_ext true rows = both (hash_at rows) _ (a_hash rows) (λ _. fine _)
+an_ext true rows = both (hash_row_at rows) _ (a_hash rows) (λ _. fine _)
 
-pub a_file : (head : Row) (rows : List Row) → IsAnswer (file_at head rows)
-unfolding file_at
+pub a_file : (head : Row) (rows : List Row) → IsAnswer (file_record_at head rows)
+unfolding file_record_at
 a_file head rows =
     let checks : ℕ = if is_verified head.a then head.b else 0 in
     test (nat_le (rows_after_file head) (length rows)) _ _ (test (head.a == flags_of (is_verified head.a) (has_ext head.a)) _ _ (test (head.c == 0) _ _ (test (head.d == 0) _ _
-    (both (times segment_at head.b rows) _ (some_times segment_at a_segment head.b rows) (λ segments.
-    both (times verification_at checks segments.1) _ (some_times verification_at a_verification checks segments.1) (λ verification.
+    (both (times_rows segment_at head.b rows) _ (some_times segment_at a_segment head.b rows) (λ segments.
+    both (times_rows verification_at checks segments.1) _ (some_times verification_at a_verification checks segments.1) (λ verification.
     both (ext_at (has_ext head.a) verification.1) _ (an_ext (has_ext head.a) verification.1) (λ _. fine _)))))))
 
 a_chunk : (r : Row) (at : ℕ) → IsAnswer (chunk_in r at)
@@ -141,8 +141,8 @@ a_first len first =
     reach (nat_le 32 len) _ (test (pointwise nat_eq (take 32 first) tag) _ _ (reach (nat_le 40 len) _ (test (word first 32 == 2) _ _
     (reach (nat_le 48 len) _ (test (word first 40 == 200) _ _ (reached (nat_le 248 len)))))))
 
-a_header : (bytes : List ℕ) → IsAnswer (header_at bytes)
-a_header bytes = subst IsAnswer (header_is bytes) (a_first (length bytes) bytes)
+a_header : (bytes : List ℕ) → IsAnswer (shard_header_at bytes)
+a_header bytes = subst IsAnswer (header_of_first_is bytes) (a_first (length bytes) bytes)
 
 some_places : (len : ℕ) (f : MDBShardFileFooter) → IsAnswer (places_at len f)
 unfolding places_at
@@ -159,7 +159,7 @@ a_last len last =
     test (word last 0 == 1) _ _ (test (pointwise nat_eq (take 48 (drop 120 last)) (replicate 48 0)) _ _
     (both (places_at len (footer_in last)) _ (some_places len (footer_in last)) (λ _. fine _)))
 
-a_footer : (bytes : List ℕ) → IsAnswer (footer_at bytes)
+a_footer : (bytes : List ℕ) → IsAnswer (shard_footer_at bytes)
 a_footer bytes = subst IsAnswer (footer_is bytes) (a_last (length bytes) (drop (length bytes - 200) bytes))
 
 a_lookup : (bytes : List ℕ) (at len : ℕ) (text : List ℕ) → IsAnswer (lookup_at bytes at len text)
@@ -173,8 +173,8 @@ some_totals f bytes stored = test (f.stored_bytes_on_disk == 0) _ _ (test (f.mat
 pub all_answers : (bytes : List ℕ) → IsAnswer (all_of bytes)
 unfolding all_of
 all_answers bytes =
-    both (header_at bytes) _ (a_header bytes) (λ _. both (footer_at bytes) _ (a_footer bytes) (λ f.
-    both (section_at file_at file_hash (file_row_count f) None _) _ (a_section file_at a_file file_hash (file_row_count f) None _) (λ files.
+    both (shard_header_at bytes) _ (a_header bytes) (λ _. both (shard_footer_at bytes) _ (a_footer bytes) (λ f.
+    both (section_at file_record_at file_hash (file_row_count f) None _) _ (a_section file_record_at a_file file_hash (file_row_count f) None _) (λ files.
     both (section_at xorb_at xorb_hash (xorb_row_count f) None _) _ (a_section xorb_at a_xorb xorb_hash (xorb_row_count f) None _) (λ blocks.
     both (lookup_at bytes _ _ _) _ (a_lookup bytes _ _ _) (λ _. both (lookup_at bytes _ _ _) _ (a_lookup bytes _ _ _) (λ _. both (lookup_at bytes _ _ _) _ (a_lookup bytes _ _ _) (λ _.
     both (totals_at f _ _) _ (some_totals f _ _) (λ _. fine _))))))))
@@ -210,10 +210,10 @@ pub gives_whole : {X Y : Type 0} (view : X → Y) (result : Result X StoreError)
 gives_whole {X} {Y} view result read whole answers same gives =
     subst (λ (r : Result Y StoreError). GivesUnlessFault view result r) same (gives_unless view result read answers gives)
 
-pub gives_all : {X : Type 0} (view : X → Parts) (result : Result X StoreError) (bytes whole : List ℕ) → bytes ≡ whole → Gives view result (all_of bytes) → GivesUnlessFault view result (all_of whole)
+pub gives_all : {X : Type 0} (view : X → ShardParts) (result : Result X StoreError) (bytes whole : List ℕ) → bytes ≡ whole → Gives view result (all_of bytes) → GivesUnlessFault view result (all_of whole)
 gives_all view result bytes whole same gives = gives_whole view result (all_of bytes) (all_of whole) (all_answers bytes) (ap all_of same) gives
 
-allowed : {Y : Type 0} (e : StoreError) (read : Result Y StoreError) → IsAnswer read → Fails e read → IsShardRefusal e
+allowed : {Y : Type 0} (e : StoreError) (read : Result Y StoreError) → IsAnswer read → Fails e read → IsShardError e
 allowed errors.OutOfMemory read answers fails = tt
 allowed (errors.Io place) read answers fails = absurd (of_bytes (errors.Io place) read answers fails)
 allowed errors.UnexpectedEof read answers fails = tt
@@ -231,7 +231,7 @@ allowed (errors.CompressionError number) read answers fails = of_bytes (errors.C
 allowed (errors.BadLimits field) read answers fails = of_bytes (errors.BadLimits field) read answers fails
 
 -- which refusals a shard's bytes have
-pub refuses : {X Y : Type 0} (view : X → Y) (result : Result X StoreError) (read : Result Y StoreError) → IsAnswer read → Gives view result read → IfErr result IsShardRefusal
+pub refuses : {X Y : Type 0} (view : X → Y) (result : Result X StoreError) (read : Result Y StoreError) → IsAnswer read → Gives view result read → IfErr result IsShardError
 refuses view (Ok x) read answers gives = tt
 refuses view (Err e) read answers gives = allowed e read answers gives
 

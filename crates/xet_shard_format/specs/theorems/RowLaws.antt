@@ -13,7 +13,7 @@ use Rattle.xet_hash.specs.declared.error.StoreError.{StoreError}
 use Rattle.xet_hash.specs.declared.error.Reason.{Reason}
 use Rattle.xet_shard_format.specs.Rows.{row}
 use Rattle.xet_shard_format.specs.Records.{IsFile, ext_rows, file_head, file_rest, flags_of, segment_row, verification_row}
-use Rattle.xet_shard_format.specs.Reading.{ext_at, file_at, has_ext, hash_at, hash_in, is_verified, row_at, rows_after_file, segment_at, times, verification_at}
+use Rattle.xet_shard_format.specs.Reading.{ext_at, file_record_at, has_ext, hash_row_at, hash_in, is_verified, row_at, rows_after_file, segment_at, times_rows, verification_at}
 use Rattle.xet_codec.specs.Parsing.{reaches, wants, ◌>>=◌}
 
 -- ---- tools
@@ -57,44 +57,44 @@ pub row_is : (r : Row) (a b c d : ℕ) → r.a ≡ a → r.b ≡ b → r.c ≡ c
 row_is r a b c d ea eb ec ed = λ i. row r.hash (ea i) (eb i) (ec i) (ed i)
 
 -- what a reader of a text, a list of rows of a value that is in form, is to meet
-pub record Reads {X : Type 0} (read : List Row → Result (X × List Row) StoreError) (text : X → List Row) (Form : X → Type 0) : Type 0 where
+pub record ReadsRows {X : Type 0} (read : List Row → Result (X × List Row) StoreError) (text : X → List Row) (Form : X → Type 0) : Type 0 where
   pub takes : (rows : List Row) (x : X) (rest : List Row) → read rows ≡ Ok (x, rest) → (rows ≡ text x ++ rest) × Form x
   pub again : (x : X) (rest : List Row) → Form x → read (text x ++ rest) ≡ Ok (x, rest)
 
 -- ---- things one after the other
 
-pub times_takes : {X : Type 0} (read : List Row → Result (X × List Row) StoreError) (one : X → Row) (Form : X → Type 0) (each : Reads read (λ x. one x ∷ []) Form) (n : ℕ) (rows : List Row) (xs : List X) (rest : List Row)
-    → times read n rows ≡ Ok (xs, rest) → (rows ≡ map one xs ++ rest) × (length xs ≡ n) × AllByRecursion Form xs
-unfolding times
+pub times_takes : {X : Type 0} (read : List Row → Result (X × List Row) StoreError) (one : X → Row) (Form : X → Type 0) (each : ReadsRows read (λ x. one x ∷ []) Form) (n : ℕ) (rows : List Row) (xs : List X) (rest : List Row)
+    → times_rows read n rows ≡ Ok (xs, rest) → (rows ≡ map one xs ++ rest) × (length xs ≡ n) × AllByRecursion Form xs
+unfolding times_rows
 times_takes {X} read one Form each zero rows xs rest e =
     subst (λ (y : List X × List Row). (rows ≡ map one y.0 ++ y.1) × (length y.0 ≡ 0) × AllByRecursion Form y.0) (ok_is ([], rows) (xs, rest) e) (refl, refl, tt)
 times_takes {X} read one Form each (suc n) rows xs rest e =
-    let a = bind_ok (read rows) (λ x. times read n x.1 >>= λ ys. Ok (x.0 ∷ ys.0, ys.1)) (xs, rest) e in
-    let b = bind_ok (times read n a.0.1) (λ ys. Ok (a.0.0 ∷ ys.0, ys.1)) (xs, rest) a.2 in
+    let a = bind_ok (read rows) (λ x. times_rows read n x.1 >>= λ ys. Ok (x.0 ∷ ys.0, ys.1)) (xs, rest) e in
+    let b = bind_ok (times_rows read n a.0.1) (λ ys. Ok (a.0.0 ∷ ys.0, ys.1)) (xs, rest) a.2 in
     let first = each.takes rows a.0.0 a.0.1 a.1 in
     let second = times_takes read one Form each n a.0.1 b.0.0 b.0.1 b.1 in
     subst (λ (y : List X × List Row). (rows ≡ map one y.0 ++ y.1) × (length y.0 ≡ suc n) × AllByRecursion Form y.0) (ok_is (a.0.0 ∷ b.0.0, b.0.1) (xs, rest) b.2)
     (first.0 ∙ ap (λ (rs : List Row). one a.0.0 ∷ rs) second.0, ap suc second.1, (first.1, second.2))
 
-pub times_again : {X : Type 0} (read : List Row → Result (X × List Row) StoreError) (one : X → Row) (Form : X → Type 0) (each : Reads read (λ x. one x ∷ []) Form) (xs : List X) (rest : List Row)
-    → AllByRecursion Form xs → times read (length xs) (map one xs ++ rest) ≡ Ok (xs, rest)
-unfolding times
+pub times_again : {X : Type 0} (read : List Row → Result (X × List Row) StoreError) (one : X → Row) (Form : X → Type 0) (each : ReadsRows read (λ x. one x ∷ []) Form) (xs : List X) (rest : List Row)
+    → AllByRecursion Form xs → times_rows read (length xs) (map one xs ++ rest) ≡ Ok (xs, rest)
+unfolding times_rows
 times_again read one Form each [] rest f = refl
 times_again read one Form each (x ∷ xs) rest f = rw (each.again x (map one xs ++ rest) f.0, times_again read one Form each xs rest f.1) refl
 
 -- ---- rows of files
 
-abbrev pub IsPlain : FileDataSequenceEntry → Type 0
-IsPlain s = s.xorb_flags ≡ 0
+abbrev pub HasNoFlags : FileDataSequenceEntry → Type 0
+HasNoFlags s = s.xorb_flags ≡ 0
 
-pub segments_read : Reads segment_at (λ s. segment_row s ∷ []) IsPlain
+pub segments_read : ReadsRows segment_at (λ s. segment_row s ∷ []) HasNoFlags
 unfolding segment_at
 segments_read = record {
   takes = λ rows x rest e.
       let a = bind_ok (row_at rows) _ _ e in
       let b = wants_ok (eqb a.0.0.a 0) _ _ _ a.2 in
       let made : FileDataSequenceEntry = record { xorb_hash = a.0.0.hash; xorb_flags = a.0.0.a; unpacked_segment_bytes = a.0.0.b; chunk_index_start = a.0.0.c; chunk_index_end = a.0.0.d } in
-      subst (λ (y : FileDataSequenceEntry × List Row). (rows ≡ (segment_row y.0 ∷ []) ++ y.1) × IsPlain y.0) (ok_is (made, a.0.1) (x, rest) b.1)
+      subst (λ (y : FileDataSequenceEntry × List Row). (rows ≡ (segment_row y.0 ∷ []) ++ y.1) × HasNoFlags y.0) (ok_is (made, a.0.1) (x, rest) b.1)
       (row_ok rows a.0 a.1, eqb-true _ _ b.0);
   again = λ x rest plain. rw (eq-eqb x.xorb_flags 0 plain) refl;
 }
@@ -113,9 +113,9 @@ unfolding hash_in
 hash_again h = refl
 
 verification_takes : (rows : List Row) (v : FileVerificationEntry) (rest : List Row) → verification_at rows ≡ Ok (v, rest) → rows ≡ verification_row v ∷ rest
-unfolding verification_at hash_at
+unfolding verification_at hash_row_at
 verification_takes rows v rest e =
-    let a = bind_ok (hash_at rows) _ _ e in
+    let a = bind_ok (hash_row_at rows) _ _ e in
     let b = bind_ok (row_at rows) _ _ a.1 in
     let c = bind_ok (hash_in b.0.0) _ _ b.2 in
     let made : FileVerificationEntry = record { range_hash = a.0.0 } in
@@ -123,18 +123,18 @@ verification_takes rows v rest e =
     subst (λ (y : FileVerificationEntry × List Row). rows ≡ verification_row y.0 ∷ y.1) (ok_is (made, a.0.1) (v, rest) a.2)
     (subst (λ (y : List ℕ × List Row). rows ≡ row y.0 0 0 0 0 ∷ y.1) same (row_ok rows b.0 b.1 ∙ ap (λ (r : Row). r ∷ b.0.1) (hash_takes b.0.0 c.0 c.1)))
 
-pub verifications_read : Reads verification_at (λ v. verification_row v ∷ []) (λ _. Unit {0})
-unfolding verification_at hash_at
+pub verifications_read : ReadsRows verification_at (λ v. verification_row v ∷ []) (λ _. Unit {0})
+unfolding verification_at hash_row_at
 verifications_read = record {
   takes = λ rows x rest e. (verification_takes rows x rest e, tt);
   again = λ x rest any. rw (hash_again x.range_hash) refl;
 }
 
 ext_takes : (wanted : Bool) (rows : List Row) (m : Option FileMetadataExt) (rest : List Row) → ext_at wanted rows ≡ Ok (m, rest) → (rows ≡ ext_rows m ++ rest) × (is_some m ≡ wanted)
-unfolding ext_at hash_at
+unfolding ext_at hash_row_at
 ext_takes false rows m rest e = subst (λ (y : Option FileMetadataExt × List Row). (rows ≡ ext_rows y.0 ++ y.1) × (is_some y.0 ≡ false)) (ok_is (None, rows) (m, rest) e) (refl, refl)
 ext_takes true rows m rest e =
-    let a = bind_ok (hash_at rows) _ _ e in
+    let a = bind_ok (hash_row_at rows) _ _ e in
     let b = bind_ok (row_at rows) _ _ a.1 in
     let c = bind_ok (hash_in b.0.0) _ _ b.2 in
     let made : FileMetadataExt = record { sha256 = a.0.0 } in
@@ -143,7 +143,7 @@ ext_takes true rows m rest e =
     (subst (λ (y : List ℕ × List Row). rows ≡ row y.0 0 0 0 0 ∷ y.1) same (row_ok rows b.0 b.1 ∙ ap (λ (r : Row). r ∷ b.0.1) (hash_takes b.0.0 c.0 c.1)), refl)
 
 ext_again : (m : Option FileMetadataExt) (rest : List Row) → ext_at (is_some m) (ext_rows m ++ rest) ≡ Ok (m, rest)
-unfolding ext_at hash_at
+unfolding ext_at hash_row_at
 ext_again None rest = refl
 ext_again (Some m) rest = rw (hash_again m.sha256) refl
 
@@ -168,18 +168,18 @@ ext_count : (m : Option FileMetadataExt) → cond (is_some m) 1 0 ≡ length (ex
 ext_count None = refl
 ext_count (Some m) = refl
 
-pub file_takes : (head : Row) (rows : List Row) (f : MDBFileInfo) (rest : List Row) → file_at head rows ≡ Ok (f, rest) → (head ≡ file_head f) × (rows ≡ file_rest f ++ rest) × IsFile f
-unfolding file_at
+pub file_takes : (head : Row) (rows : List Row) (f : MDBFileInfo) (rest : List Row) → file_record_at head rows ≡ Ok (f, rest) → (head ≡ file_head f) × (rows ≡ file_rest f ++ rest) × IsFile f
+unfolding file_record_at
 file_takes head rows f rest e =
     let z = wants_ok (leb (rows_after_file head) (length rows)) _ _ _ e in
     let a = wants_ok (eqb head.a (flags_of (is_verified head.a) (has_ext head.a))) _ _ _ z.1 in
     let c = wants_ok (eqb head.c 0) _ _ _ a.1 in
     let d = wants_ok (eqb head.d 0) _ _ _ c.1 in
-    let ss = bind_ok (times segment_at head.b rows) _ _ d.1 in
-    let vs = bind_ok (times verification_at (cond (is_verified head.a) head.b 0) ss.0.1) _ _ ss.2 in
+    let ss = bind_ok (times_rows segment_at head.b rows) _ _ d.1 in
+    let vs = bind_ok (times_rows verification_at (cond (is_verified head.a) head.b 0) ss.0.1) _ _ ss.2 in
     let m = bind_ok (ext_at (has_ext head.a) vs.0.1) _ _ vs.2 in
     let made : MDBFileInfo = record { metadata = record { file_hash = head.hash; file_flags = head.a; num_entries = head.b }; segments = ss.0.0; verification = vs.0.0; metadata_ext = m.0.0 } in
-    let st = times_takes segment_at segment_row IsPlain segments_read head.b rows ss.0.0 ss.0.1 ss.1 in
+    let st = times_takes segment_at segment_row HasNoFlags segments_read head.b rows ss.0.0 ss.0.1 ss.1 in
     let vt = times_takes verification_at verification_row (λ _. Unit {0}) verifications_read (cond (is_verified head.a) head.b 0) ss.0.1 vs.0.0 vs.0.1 vs.1 in
     let mt = ext_takes (has_ext head.a) vs.0.1 m.0.0 m.0.1 m.1 in
     let text : rows ≡ file_rest made ++ m.0.1 =
@@ -195,8 +195,8 @@ file_takes head rows f rest e =
     subst (λ (y : MDBFileInfo × List Row). (head ≡ file_head y.0) × (rows ≡ file_rest y.0 ++ y.1) × IsFile y.0) (ok_is (made, m.0.1) (f, rest) m.2)
     (row_is head _ _ 0 0 refl refl (eqb-true _ _ c.0) (eqb-true _ _ d.0), text, form)
 
-pub file_again : (f : MDBFileInfo) (rest : List Row) → IsFile f → file_at (file_head f) (file_rest f ++ rest) ≡ Ok (f, rest)
-unfolding file_at
+pub file_again : (f : MDBFileInfo) (rest : List Row) → IsFile f → file_record_at (file_head f) (file_rest f ++ rest) ≡ Ok (f, rest)
+unfolding file_record_at
 file_again f rest form =
     let vi : is_verified f.metadata.file_flags ≡ form.verified = ap (λ (n : ℕ). is_verified n) form.flags ∙ verified_again form.verified (is_some f.metadata_ext) in
     let ei : has_ext f.metadata.file_flags ≡ is_some f.metadata_ext = ap (λ (n : ℕ). has_ext n) form.flags ∙ has_ext_again form.verified (is_some f.metadata_ext) in
@@ -204,8 +204,8 @@ file_again f rest form =
     let count : cond form.verified f.metadata.num_entries 0 ≡ length f.verification = ap (λ (n : ℕ). cond form.verified n 0) form.counted ∙ sym form.verifications in
     let regrouped : file_rest f ++ rest ≡ map segment_row f.segments ++ (map verification_row f.verification ++ (ext_rows f.metadata_ext ++ rest)) =
     append_assoc (map segment_row f.segments) (map verification_row f.verification ++ ext_rows f.metadata_ext) rest ∙ ap (λ (rs : List Row). map segment_row f.segments ++ rs) (append_assoc (map verification_row f.verification) (ext_rows f.metadata_ext) rest) in
-    let ss : times segment_at f.metadata.num_entries (file_rest f ++ rest) ≡ Ok (f.segments, map verification_row f.verification ++ (ext_rows f.metadata_ext ++ rest)) =
-    ap (λ (n : ℕ). times segment_at n (file_rest f ++ rest)) form.counted ∙ ap (times segment_at (length f.segments)) regrouped ∙ times_again segment_at segment_row IsPlain segments_read f.segments _ form.plain in
+    let ss : times_rows segment_at f.metadata.num_entries (file_rest f ++ rest) ≡ Ok (f.segments, map verification_row f.verification ++ (ext_rows f.metadata_ext ++ rest)) =
+    ap (λ (n : ℕ). times_rows segment_at n (file_rest f ++ rest)) form.counted ∙ ap (times_rows segment_at (length f.segments)) regrouped ∙ times_again segment_at segment_row HasNoFlags segments_read f.segments _ form.plain in
     let checks : cond (is_verified f.metadata.file_flags) f.metadata.num_entries 0 ≡ length f.verification = ap (λ (b : Bool). cond b f.metadata.num_entries 0) vi ∙ count in
     let extra : cond (has_ext f.metadata.file_flags) 1 0 ≡ length (ext_rows f.metadata_ext) = ap (λ (b : Bool). cond b 1 0) ei ∙ ext_count f.metadata_ext in
     let room : leb (rows_after_file (file_head f)) (length (file_rest f ++ rest)) ≡ true =

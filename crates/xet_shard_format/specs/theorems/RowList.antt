@@ -43,11 +43,11 @@ rows_drop (suc r) (suc n) bytes le =
     (λ i. rows_in (e i) (drop (d i) bytes)) ∙ ap (rows_in (n - r)) (sym (drop-drop (48 * r) 48 bytes)) ∙ rows_drop r n (drop 48 bytes) (omega arith)
 
 -- the first rows are the front of more
-pub rows_front : (n m : ℕ) (bytes : List ℕ) → n ≤ m → rows_in n bytes ≡ take n (rows_in m bytes)
+pub rows_prefix : (n m : ℕ) (bytes : List ℕ) → n ≤ m → rows_in n bytes ≡ take n (rows_in m bytes)
 unfolding rows_in
-rows_front zero m bytes le = refl
-rows_front (suc n) zero bytes le = absurd (omega arith)
-rows_front (suc n) (suc m) bytes le = ap (λ (rs : List Row). row_of bytes ∷ rs) (rows_front n m (drop 48 bytes) (omega arith))
+rows_prefix zero m bytes le = refl
+rows_prefix (suc n) zero bytes le = absurd (omega arith)
+rows_prefix (suc n) (suc m) bytes le = ap (λ (rs : List Row). row_of bytes ∷ rs) (rows_prefix n m (drop 48 bytes) (omega arith))
 
 -- what is left, from a row on
 pub row_left : (i n : ℕ) (bytes : List ℕ) → i < n → drop i (rows_in n bytes) ≡ row_of (drop (48 * i) bytes) ∷ drop (i + 1) (rows_in n bytes)

@@ -14,7 +14,7 @@ use Rattle.xet_hash.specs.declared.error.StoreError.{StoreError}
 use Rattle.xet_shard_format.specs.Rows.{row}
 use Rattle.xet_hash.specs.Hash.{marker}
 use Rattle.xet_shard_format.specs.Records.{AreRecords, IsFile, IsXorb, StartAt, chunk_bytes, chunk_row, end_row, file_hash, file_head, file_rest, is_after, section, xorb_hash, xorb_head, xorb_rest}
-use Rattle.xet_shard_format.specs.Reading.{chunk_in, chunks_at, end_at, file_at, hash_in, row_at, section_at, step_at, xorb_at}
+use Rattle.xet_shard_format.specs.Reading.{chunk_in, chunks_at, end_at, file_record_at, hash_in, row_at, section_at, step_at, xorb_at}
 use Rattle.xet_codec.specs.Parsing.{◌>>=◌}
 use Rattle.xet_shard_format.specs.theorems.RowLaws.{chosen, bind_ok, wants_ok, wants_last, done, ok_is, row_ok, row_is, hash_takes, file_takes, file_again}
 
@@ -99,7 +99,7 @@ pub record Reading {X : Type 0} (record_at : Row → List Row → Result (X × L
   pub takes : (r : Row) (rows : List Row) (x : X) (rest : List Row) → record_at r rows ≡ Ok (x, rest) → (r ≡ head x) × (rows ≡ others x ++ rest) × Form x
   pub again : (x : X) (rest : List Row) → Form x → record_at (head x) (others x ++ rest) ≡ Ok (x, rest)
 
-pub files_reading : Reading file_at file_hash file_head file_rest IsFile
+pub files_reading : Reading file_record_at file_hash file_head file_rest IsFile
 files_reading = record { hash_is = λ x. refl; takes = file_takes; again = file_again }
 
 pub xorbs_reading : Reading xorb_at xorb_hash xorb_head xorb_rest IsXorb

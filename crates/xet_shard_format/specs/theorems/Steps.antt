@@ -11,7 +11,7 @@ use Rattle.xet_shard_format.specs.declared.record.XorbChunkSequenceEntry.{XorbCh
 use Rattle.xet_shard_format.specs.Rows.{row}
 use Rattle.xet_codec.specs.Numbers.{word}
 use Rattle.xet_shard_format.specs.Records.{first_word, section, xorb_rows}
-use Rattle.xet_shard_format.specs.Lookups.{chunks_from, record_item_bytes, heads_from, record_items_bytes, places_from}
+use Rattle.xet_shard_format.specs.Lookups.{chunks_from, record_item_bytes, heads_from, record_items_bytes, lookup_rows_from}
 use Rattle.xet_shard_format.specs.theorems.SectionLaws.{section_cons}
 
 -- the record that an element lends, among all of them
@@ -46,12 +46,12 @@ pub rows_step : {X : Type 0} (rows : X → List Row) (xs : List X) (i : ℕ) (x 
 rows_step rows xs i x below is = ap length (section_left rows xs i x below is) ∙ length-append (rows x) (section rows (drop (i + 1) xs))
 
 pub places_step : (row place : ℕ) (cs : List XorbChunkSequenceEntry) (i : ℕ) (c : XorbChunkSequenceEntry) → i < length cs → c ≡ get_or cs i c
-    → places_from row place (drop i cs) ≡ (first_word c.chunk_hash, row, place) ∷ places_from row (place + 1) (drop (i + 1) cs)
-unfolding places_from
-places_step row place cs i c lt is = ap (places_from row place) (left cs i c lt is)
+    → lookup_rows_from row place (drop i cs) ≡ (first_word c.chunk_hash, row, place) ∷ lookup_rows_from row (place + 1) (drop (i + 1) cs)
+unfolding lookup_rows_from
+places_step row place cs i c lt is = ap (lookup_rows_from row place) (left cs i c lt is)
 
 pub chunks_step : (at : ℕ) (xs : List MDBXorbInfo) (i : ℕ) (x : MDBXorbInfo) → i < length xs → x ≡ get_or xs i x
-    → chunks_from at (drop i xs) ≡ places_from at 0 x.chunks ++ chunks_from (at + length (xorb_rows x)) (drop (i + 1) xs)
+    → chunks_from at (drop i xs) ≡ lookup_rows_from at 0 x.chunks ++ chunks_from (at + length (xorb_rows x)) (drop (i + 1) xs)
 unfolding chunks_from
 chunks_step at xs i x lt is = ap (chunks_from at) (left xs i x lt is)
 
@@ -60,17 +60,17 @@ pub onto : {X : Type 0} (found : List X) (x : X) (rest total whole : List X) →
 onto found x rest total whole e so_far = append_assoc found (x ∷ []) rest ∙ ap (λ (t : List _). found ++ t) (sym e) ∙ so_far
 
 pub places_more : (found total : List (ℕ × ℕ × ℕ)) (row place : ℕ) (cs : List XorbChunkSequenceEntry) (i : ℕ) (c : XorbChunkSequenceEntry) → i < length cs → c ≡ get_or cs i c
-    → found ++ places_from row place (drop i cs) ≡ total → (found ++ (first_word c.chunk_hash, row, place) ∷ []) ++ places_from row (place + 1) (drop (i + 1) cs) ≡ total
-places_more found total row place cs i c lt is so_far = onto found (first_word c.chunk_hash, row, place) (places_from row (place + 1) (drop (i + 1) cs)) total _ (places_step row place cs i c lt is) so_far
+    → found ++ lookup_rows_from row place (drop i cs) ≡ total → (found ++ (first_word c.chunk_hash, row, place) ∷ []) ++ lookup_rows_from row (place + 1) (drop (i + 1) cs) ≡ total
+places_more found total row place cs i c lt is so_far = onto found (first_word c.chunk_hash, row, place) (lookup_rows_from row (place + 1) (drop (i + 1) cs)) total _ (places_step row place cs i c lt is) so_far
 
-pub places_end : (found total : List (ℕ × ℕ × ℕ)) (row place : ℕ) (cs : List XorbChunkSequenceEntry) (i : ℕ) → length cs ≤ i → found ++ places_from row place (drop i cs) ≡ total → found ≡ total
-unfolding places_from
-places_end found total row place cs i le so_far = sym (append-nil found) ∙ ap (λ (ys : List XorbChunkSequenceEntry). found ++ places_from row place ys) (sym (drop_all i cs le)) ∙ so_far
+pub places_end : (found total : List (ℕ × ℕ × ℕ)) (row place : ℕ) (cs : List XorbChunkSequenceEntry) (i : ℕ) → length cs ≤ i → found ++ lookup_rows_from row place (drop i cs) ≡ total → found ≡ total
+unfolding lookup_rows_from
+places_end found total row place cs i le so_far = sym (append-nil found) ∙ ap (λ (ys : List XorbChunkSequenceEntry). found ++ lookup_rows_from row place ys) (sym (drop_all i cs le)) ∙ so_far
 
 pub chunks_more : (found total : List (ℕ × ℕ × ℕ)) (row : ℕ) (xs : List MDBXorbInfo) (i : ℕ) (x : MDBXorbInfo) → i < length xs → x ≡ get_or xs i x
-    → found ++ chunks_from row (drop i xs) ≡ total → (found ++ places_from row 0 x.chunks) ++ chunks_from (row + length (xorb_rows x)) (drop (i + 1) xs) ≡ total
+    → found ++ chunks_from row (drop i xs) ≡ total → (found ++ lookup_rows_from row 0 x.chunks) ++ chunks_from (row + length (xorb_rows x)) (drop (i + 1) xs) ≡ total
 chunks_more found total row xs i x lt is so_far =
-    append_assoc found (places_from row 0 x.chunks) (chunks_from (row + length (xorb_rows x)) (drop (i + 1) xs)) ∙ ap (λ (t : List (ℕ × ℕ × ℕ)). found ++ t) (sym (chunks_step row xs i x lt is)) ∙ so_far
+    append_assoc found (lookup_rows_from row 0 x.chunks) (chunks_from (row + length (xorb_rows x)) (drop (i + 1) xs)) ∙ ap (λ (t : List (ℕ × ℕ × ℕ)). found ++ t) (sym (chunks_step row xs i x lt is)) ∙ so_far
 
 pub chunks_end : (found total : List (ℕ × ℕ × ℕ)) (row : ℕ) (xs : List MDBXorbInfo) (i : ℕ) → length xs ≤ i → found ++ chunks_from row (drop i xs) ≡ total → found ≡ total
 unfolding chunks_from
@@ -96,7 +96,7 @@ heads_grow {X} hash rows text text1 text2 total row n word xs i x lt is e1 e2 ew
     (λ j. two j ++ record_items_bytes (heads_from hash rows (row + en j) (drop (i + 1) xs))) ∙ heads_more hash rows text total row xs i x lt is so_far
 
 pub chunks_grow : (found found1 total : List (ℕ × ℕ × ℕ)) (row n : ℕ) (xs : List MDBXorbInfo) (i : ℕ) (x : MDBXorbInfo) → i < length xs → x ≡ get_or xs i x
-    → found1 ≡ found ++ places_from row 0 x.chunks → n ≡ length (xorb_rows x) → found ++ chunks_from row (drop i xs) ≡ total → found1 ++ chunks_from (row + n) (drop (i + 1) xs) ≡ total
+    → found1 ≡ found ++ lookup_rows_from row 0 x.chunks → n ≡ length (xorb_rows x) → found ++ chunks_from row (drop i xs) ≡ total → found1 ++ chunks_from (row + n) (drop (i + 1) xs) ≡ total
 chunks_grow found found1 total row n xs i x lt is e en so_far = (λ j. e j ++ chunks_from (row + en j) (drop (i + 1) xs)) ∙ chunks_more found total row xs i x lt is so_far
 
 -- the sum of what is left, from the element at i on

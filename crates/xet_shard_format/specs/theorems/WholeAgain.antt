@@ -15,8 +15,8 @@ use Rattle.xet_shard_format.specs.Rows.{RowFits, rows_in, rows_bytes}
 use Rattle.xet_codec.specs.Numbers.{word}
 use Rattle.xet_shard_format.specs.Records.{IsFile, IsXorb, file_hash, file_head, file_rest, file_section, xorb_hash, xorb_head, xorb_rest, xorb_section}
 use Rattle.xet_shard_format.specs.Lookups.{Lookups, chunk_items, file_items, record_item_bytes, record_items_bytes, left_in, chunk_item_bytes, chunk_items_bytes, xorb_items}
-use Rattle.xet_shard_format.specs.Encoding.{Fits, IsShard, Shard, footer_of, footer_text, header, shard_header_bytes, materialized, shard_bytes, stored}
-use Rattle.xet_shard_format.specs.Reading.{IsPlaced, all_of, file_at, file_row_count, footer_at, footer_in, header_at, lookup_at, section_at, totals_at, Parts, parts_of, shard_of, xorb_at, xorb_row_count}
+use Rattle.xet_shard_format.specs.Encoding.{Fits, IsShard, Shard, footer_of, shard_footer_bytes, header, shard_header_bytes, materialized, shard_bytes, stored}
+use Rattle.xet_shard_format.specs.Reading.{IsPlaced, all_of, file_record_at, file_row_count, shard_footer_at, footer_in, shard_header_at, lookup_at, section_at, totals_at, ShardParts, shard_parts_of, shard_of, xorb_at, xorb_row_count}
 use Rattle.xet_shard_format.specs.theorems.SectionLaws.{files_reading, xorbs_reading, section_again}
 use Rattle.xet_shard_format.specs.theorems.Bytes.{rows_again, length-rows_bytes}
 use Rattle.xet_shard_format.specs.theorems.Footers.{header_again, footer_again, FooterFits, zeros_again, length-footer_text, places_again}
@@ -30,8 +30,8 @@ left_le false xs n le = omega arith
 
 -- ---- the footer
 
-footer_at_again : (bytes : List ℕ) (f : MDBShardFileFooter) → drop (length bytes - 200) bytes ≡ footer_text f → FooterFits f → f.version ≡ 1 → IsPlaced (length bytes) f → footer_at bytes ≡ Ok f
-unfolding footer_at
+footer_at_again : (bytes : List ℕ) (f : MDBShardFileFooter) → drop (length bytes - 200) bytes ≡ shard_footer_bytes f → FooterFits f → f.version ≡ 1 → IsPlaced (length bytes) f → shard_footer_at bytes ≡ Ok f
+unfolding shard_footer_at
 footer_at_again bytes f e fits v p =
     let is : footer_in (drop (length bytes - 200) bytes) ≡ f = ap footer_in e ∙ footer_again f fits in
     let version : eqb (word (drop (length bytes - 200) bytes) 0) 1 ≡ true = eq-eqb _ _ (sym (first_word_is (drop (length bytes - 200) bytes)) ∙ ap (λ (g : MDBShardFileFooter). g.version) is ∙ v) in
@@ -46,8 +46,8 @@ count_after a n = let diff : a + 48 * n - a ≡ 48 * n = omega arith in ap (λ (
 
 -- ---- all
 
-read_again : (bytes : List ℕ) (f : MDBShardFileFooter) (files : List MDBFileInfo) (blocks : List MDBXorbInfo) → header_at bytes ≡ Ok tt → footer_at bytes ≡ Ok f
-    → section_at file_at file_hash (file_row_count f) None (rows_in (file_row_count f) (drop f.file_info_offset bytes)) ≡ Ok files
+read_again : (bytes : List ℕ) (f : MDBShardFileFooter) (files : List MDBFileInfo) (blocks : List MDBXorbInfo) → shard_header_at bytes ≡ Ok tt → shard_footer_at bytes ≡ Ok f
+    → section_at file_record_at file_hash (file_row_count f) None (rows_in (file_row_count f) (drop f.file_info_offset bytes)) ≡ Ok files
     → section_at xorb_at xorb_hash (xorb_row_count f) None (rows_in (xorb_row_count f) (drop f.xorb_info_offset bytes)) ≡ Ok blocks
     → lookup_at bytes f.file_lookup_offset (12 * f.file_lookup_num_entry) (record_items_bytes (file_items files)) ≡ Ok tt
     → lookup_at bytes f.xorb_lookup_offset (12 * f.xorb_lookup_num_entry) (record_items_bytes (xorb_items blocks)) ≡ Ok tt
@@ -77,9 +77,9 @@ no_count : {X : Type 0} (k : ℕ) (w : Bool) (xs : List X) → w ≡ false → k
 no_count k true xs e = absurd (true≢false e)
 no_count k false xs e = grind arith
 
-spelled_again : (bytes : List ℕ) (f : MDBShardFileFooter) (s : Shard) (w : Lookups) → IsShard s → Fits s → bytes ≡ shard_bytes w s → f ≡ footer_of w s → all_of bytes ≡ Ok (s.blocks, s.files, f)
+encoded_again : (bytes : List ℕ) (f : MDBShardFileFooter) (s : Shard) (w : Lookups) → IsShard s → Fits s → bytes ≡ shard_bytes w s → f ≡ footer_of w s → all_of bytes ≡ Ok (s.blocks, s.files, f)
 unfolding shard_bytes footer_of
-spelled_again bytes f s w form fits text footer =
+encoded_again bytes f s w form fits text footer =
     let e0 : f.file_info_offset ≡ 48 = ap (λ (g : MDBShardFileFooter). g.file_info_offset) footer in
     let e1 : f.xorb_info_offset ≡ 48 + 48 * length (file_section s.files) = ap (λ (g : MDBShardFileFooter). g.xorb_info_offset) footer in
     let e2 : f.file_lookup_offset ≡ 48 + 48 * length (file_section s.files) + 48 * length (xorb_section s.blocks) = ap (λ (g : MDBShardFileFooter). g.file_lookup_offset) footer in
@@ -139,13 +139,13 @@ spelled_again bytes f s w form fits text footer =
       footer_offset = omega (arith, form.few_files, form.few_blocks, sa, sb, sc);
     } in
     let at_end : length bytes - 200 ≡ f.footer_offset = omega (arith, whole) in
-    let end : drop (length bytes - 200) bytes ≡ footer_text f = ap (λ (k : ℕ). drop k bytes) at_end ∙ d5 ∙ ap footer_text (sym footer) in
+    let end : drop (length bytes - 200) bytes ≡ shard_footer_bytes f = ap (λ (k : ℕ). drop k bytes) at_end ∙ d5 ∙ ap shard_footer_bytes (sym footer) in
     let long : 200 ≤ length (drop 48 bytes) = omega (arith, length-drop 48 bytes, whole, e5) in
-    let head : header_at bytes ≡ Ok tt = ap header_at (text ∙ ap (λ (t : List ℕ). shard_header_bytes header ++ t) (sym d0)) ∙ header_again (drop 48 bytes) long in
+    let head : shard_header_at bytes ≡ Ok tt = ap shard_header_at (text ∙ ap (λ (t : List ℕ). shard_header_bytes header ++ t) (sym d0)) ∙ header_again (drop 48 bytes) long in
     read_again bytes f s.files s.blocks head
     (footer_at_again bytes f end (subst FooterFits (sym footer) ff) (ap (λ (g : MDBShardFileFooter). g.version) footer) placed)
-    (section_placed file_at file_hash bytes f.file_info_offset (length (file_section s.files)) (file_row_count f) (file_section s.files) _ s.files (ap (λ (k : ℕ). drop k bytes) e0 ∙ d0) fits.files refl cf
-    (section_again file_at file_hash file_head file_rest IsFile files_reading (length (file_section s.files)) None s.files (rows_le file_head file_rest s.files) form.files))
+    (section_placed file_record_at file_hash bytes f.file_info_offset (length (file_section s.files)) (file_row_count f) (file_section s.files) _ s.files (ap (λ (k : ℕ). drop k bytes) e0 ∙ d0) fits.files refl cf
+    (section_again file_record_at file_hash file_head file_rest IsFile files_reading (length (file_section s.files)) None s.files (rows_le file_head file_rest s.files) form.files))
     (section_placed xorb_at xorb_hash bytes f.xorb_info_offset (length (xorb_section s.blocks)) (xorb_row_count f) (xorb_section s.blocks) _ s.blocks d1 fits.blocks refl cx
     (section_again xorb_at xorb_hash xorb_head xorb_rest IsXorb xorbs_reading (length (xorb_section s.blocks)) None s.blocks (rows_le xorb_head xorb_rest s.blocks) form.blocks))
     (lookup_again record_item_bytes w.files (file_items s.files) bytes f.file_lookup_offset (12 * f.file_lookup_num_entry) (take_next bytes f.file_lookup_offset (12 * f.file_lookup_num_entry) _ _ d2 (omega (arith, la, na))) (λ e. ap (λ (k : ℕ). 12 * k) na ∙ no_count 12 w.files (file_items s.files) e))
@@ -154,10 +154,10 @@ spelled_again bytes f s w form fits text footer =
     (totals_again f (materialized s.files) (stored s.blocks) (ap (λ (g : MDBShardFileFooter). g.stored_bytes_on_disk) footer) (ap (λ (g : MDBShardFileFooter). g.materialized_bytes) footer) (ap (λ (g : MDBShardFileFooter). g.stored_bytes) footer))
 
 pub all_again : (w : Lookups) (s : Shard) → IsShard s → Fits s → all_of (shard_bytes w s) ≡ Ok (s.blocks, s.files, footer_of w s)
-all_again w s form fits = spelled_again (shard_bytes w s) (footer_of w s) s w form fits refl refl
+all_again w s form fits = encoded_again (shard_bytes w s) (footer_of w s) s w form fits refl refl
 
 -- ---- two shards of one text
 
-pub same_shard : (w v : Lookups) (s t : Shard) → parts_of w s ≡ parts_of v t → s ≡ t
+pub same_shard : (w v : Lookups) (s t : Shard) → shard_parts_of w s ≡ shard_parts_of v t → s ≡ t
 unfolding footer_of
-same_shard w v s t e = ap (λ (p : Parts). shard_of p) e
+same_shard w v s t e = ap (λ (p : ShardParts). shard_of p) e

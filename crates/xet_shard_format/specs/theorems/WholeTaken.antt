@@ -15,8 +15,8 @@ use Rattle.xet_shard_format.specs.Rows.{RowFits, rows_in, rows_bytes}
 use Rattle.xet_codec.specs.Numbers.{word}
 use Rattle.xet_shard_format.specs.Records.{IsFile, IsXorb, file_hash, file_head, file_rest, file_section, xorb_hash, xorb_head, xorb_rest, xorb_section}
 use Rattle.xet_shard_format.specs.Lookups.{Lookups, chunk_items, file_items, record_item_bytes, record_items_bytes, left_in, chunk_item_bytes, chunk_items_bytes, xorb_items}
-use Rattle.xet_shard_format.specs.Encoding.{Shard, footer_of, footer_text, header, shard_header_bytes, materialized, shard_bytes, stored}
-use Rattle.xet_shard_format.specs.Reading.{IsPlaced, IsRead, Parts, all_of, file_at, file_row_count, footer_at, footer_in, header_at, lookup_at, places_at, section_at, totals_at, xorb_at, xorb_row_count}
+use Rattle.xet_shard_format.specs.Encoding.{Shard, footer_of, shard_footer_bytes, header, shard_header_bytes, materialized, shard_bytes, stored}
+use Rattle.xet_shard_format.specs.Reading.{IsPlaced, IsRead, ShardParts, all_of, file_record_at, file_row_count, shard_footer_at, footer_in, shard_header_at, lookup_at, places_at, section_at, totals_at, xorb_at, xorb_row_count}
 use Rattle.xet_shard_format.specs.theorems.RowList.{length-rows_in}
 use Rattle.xet_shard_format.specs.theorems.RowLaws.{chosen, bind_ok, wants_ok, wants_last, ok_is}
 use Rattle.xet_shard_format.specs.theorems.SectionLaws.{files_reading, xorbs_reading, section_takes}
@@ -77,18 +77,18 @@ head_len i = refl
 pub place_len : (i : ℕ × ℕ × ℕ) → length (chunk_item_bytes i) ≡ 16
 place_len i = refl
 
-pub record Ended (bytes : List ℕ) (f : MDBShardFileFooter) : Type 0 where
+pub record EndsInFooter (bytes : List ℕ) (f : MDBShardFileFooter) : Type 0 where
   pub is : f ≡ footer_in (drop (length bytes - 200) bytes)
   pub version : f.version ≡ 1
   pub placed : IsPlaced (length bytes) f
-  pub text : footer_text f ≡ drop (length bytes - 200) bytes
+  pub text : shard_footer_bytes f ≡ drop (length bytes - 200) bytes
 
 pub first_word_is : (bytes : List ℕ) → (footer_in bytes).version ≡ word bytes 0
 unfolding footer_in
 first_word_is bytes = refl
 
-pub footer_takes : (bytes : List ℕ) (f : MDBShardFileFooter) → IsBytes bytes → 248 ≤ length bytes → footer_at bytes ≡ Ok f → Ended bytes f
-unfolding footer_at
+pub footer_takes : (bytes : List ℕ) (f : MDBShardFileFooter) → IsBytes bytes → 248 ≤ length bytes → shard_footer_at bytes ≡ Ok f → EndsInFooter bytes f
+unfolding shard_footer_at
 footer_takes bytes f fits long e =
     let end : List ℕ = drop (length bytes - 200) bytes in
     let a = wants_ok (eqb (word (drop (length bytes - 200) bytes) 0) 1) _ _ _ e in
@@ -101,7 +101,7 @@ footer_takes bytes f fits long e =
       is = sym is;
       version = ap (λ (g : MDBShardFileFooter). g.version) (sym is) ∙ first_word_is (drop (length bytes - 200) bytes) ∙ eqb-true _ _ a.0;
       placed = subst (λ (g : MDBShardFileFooter). IsPlaced (length bytes) g) is (places_take _ _ c.0 c.1);
-      text = ap footer_text (sym is) ∙ back;
+      text = ap shard_footer_bytes (sym is) ∙ back;
     }
 
 totals_take : (f : MDBShardFileFooter) (m s : ℕ) (u : Unit {0}) → totals_at f m s ≡ Ok u → (f.stored_bytes_on_disk ≡ 0) × (f.materialized_bytes ≡ m) × (f.stored_bytes ≡ s)
@@ -148,9 +148,9 @@ footer_is f g e1 e2 e3 e4 e5 e6 e7 e8 e9 e10 e11 e12 e13 e14 e15 e16 = λ i. rec
 }
 
 read_parts : (bytes : List ℕ) (files : List MDBFileInfo) (blocks : List MDBXorbInfo) (f : MDBShardFileFooter) → IsBytes bytes → (bytes ≡ shard_header_bytes header ++ drop 48 bytes) × (248 ≤ length bytes)
-    → section_at file_at file_hash (file_row_count f) None (rows_in (file_row_count f) (drop f.file_info_offset bytes)) ≡ Ok files
+    → section_at file_record_at file_hash (file_row_count f) None (rows_in (file_row_count f) (drop f.file_info_offset bytes)) ≡ Ok files
     → section_at xorb_at xorb_hash (xorb_row_count f) None (rows_in (xorb_row_count f) (drop f.xorb_info_offset bytes)) ≡ Ok blocks
-    → Ended bytes f
+    → EndsInFooter bytes f
     → (u1 : Unit {0}) → lookup_at bytes f.file_lookup_offset (12 * f.file_lookup_num_entry) (record_items_bytes (file_items files)) ≡ Ok u1
     → (u2 : Unit {0}) → lookup_at bytes f.xorb_lookup_offset (12 * f.xorb_lookup_num_entry) (record_items_bytes (xorb_items blocks)) ≡ Ok u2
     → (u3 : Unit {0}) → lookup_at bytes f.chunk_lookup_offset (16 * f.chunk_lookup_num_entry) (chunk_items_bytes (chunk_items blocks)) ≡ Ok u3
@@ -159,7 +159,7 @@ read_parts : (bytes : List ℕ) (files : List MDBFileInfo) (blocks : List MDBXor
 unfolding shard_bytes footer_of footer_in
 read_parts bytes files blocks f fits h fe xe end u1 l1 u2 l2 u3 l3 totals =
     let p = end.placed in
-    let fs = section_takes file_at file_hash file_head file_rest IsFile files_reading (file_row_count f) None (rows_in (file_row_count f) (drop f.file_info_offset bytes)) files fe in
+    let fs = section_takes file_record_at file_hash file_head file_rest IsFile files_reading (file_row_count f) None (rows_in (file_row_count f) (drop f.file_info_offset bytes)) files fe in
     let xs = section_takes xorb_at xorb_hash xorb_head xorb_rest IsXorb xorbs_reading (xorb_row_count f) None (rows_in (xorb_row_count f) (drop f.xorb_info_offset bytes)) blocks xe in
     let lt : f.footer_offset < length bytes = omega (arith, p.end) in
     let frows = rows_placed bytes f.file_info_offset (file_row_count f) f.xorb_info_offset (file_section files) fits (sym p.xorbs) (omega (arith, p.end, p.footer, p.chunk_lookup, p.xorb_lookup, p.file_lookup)) fs.0 in
@@ -183,7 +183,7 @@ read_parts bytes files blocks f fits h fe xe end u1 l1 u2 l2 u3 l3 totals =
     c.count
     refl refl refl totals.0 totals.1 totals.2
     (omega (arith, p.files, p.xorbs, p.file_lookup, p.xorb_lookup, p.chunk_lookup, p.footer, frows.1, xrows.1, a.count, b.count, c.count)) in
-    let tail : drop f.footer_offset bytes ≡ footer_text (footer_of which s) = ap (λ (k : ℕ). drop k bytes) (sym at_end) ∙ sym end.text ∙ ap footer_text footer in
+    let tail : drop f.footer_offset bytes ≡ shard_footer_bytes (footer_of which s) = ap (λ (k : ℕ). drop k bytes) (sym at_end) ∙ sym end.text ∙ ap shard_footer_bytes footer in
     let e5 = tc ∙ ap (λ (t : List ℕ). flat_map chunk_item_bytes (left_in c.stands (chunk_items blocks)) ++ t) tail in
     let e4 = tb ∙ ap (λ (t : List ℕ). flat_map record_item_bytes (left_in b.stands (xorb_items blocks)) ++ t) e5 in
     let e3 = ta ∙ ap (λ (t : List ℕ). flat_map record_item_bytes (left_in a.stands (file_items files)) ++ t) e4 in
@@ -210,19 +210,19 @@ read_parts bytes files blocks f fits h fe xe end u1 l1 u2 l2 u3 l3 totals =
       footer = footer;
     }
 
-pub all_takes : (bytes : List ℕ) (p : Parts) → IsBytes bytes → all_of bytes ≡ Ok p → IsRead bytes p
+pub all_takes : (bytes : List ℕ) (p : ShardParts) → IsBytes bytes → all_of bytes ≡ Ok p → IsRead bytes p
 unfolding all_of
 all_takes bytes p fits e =
-    let h = bind_ok (header_at bytes) _ _ e in
-    let g = bind_ok (footer_at bytes) _ _ h.2 in
+    let h = bind_ok (shard_header_at bytes) _ _ e in
+    let g = bind_ok (shard_footer_at bytes) _ _ h.2 in
     let f : MDBShardFileFooter = g.0 in
-    let fs = bind_ok (section_at file_at file_hash (file_row_count g.0) None (rows_in (file_row_count g.0) (drop g.0.file_info_offset bytes))) _ _ g.2 in
+    let fs = bind_ok (section_at file_record_at file_hash (file_row_count g.0) None (rows_in (file_row_count g.0) (drop g.0.file_info_offset bytes))) _ _ g.2 in
     let xs = bind_ok (section_at xorb_at xorb_hash (xorb_row_count g.0) None (rows_in (xorb_row_count g.0) (drop g.0.xorb_info_offset bytes))) _ _ fs.2 in
     let l1 = bind_ok (lookup_at bytes g.0.file_lookup_offset (12 * g.0.file_lookup_num_entry) (record_items_bytes (file_items fs.0))) _ _ xs.2 in
     let l2 = bind_ok (lookup_at bytes g.0.xorb_lookup_offset (12 * g.0.xorb_lookup_num_entry) (record_items_bytes (xorb_items xs.0))) _ _ l1.2 in
     let l3 = bind_ok (lookup_at bytes g.0.chunk_lookup_offset (16 * g.0.chunk_lookup_num_entry) (chunk_items_bytes (chunk_items xs.0))) _ _ l2.2 in
     let t = bind_ok (totals_at g.0 (materialized fs.0) (stored xs.0)) _ _ l3.2 in
-    let made : Parts = (xs.0, fs.0, g.0) in
-    subst (λ (q : Parts). IsRead bytes q) (ok_is made p t.2)
+    let made : ShardParts = (xs.0, fs.0, g.0) in
+    subst (λ (q : ShardParts). IsRead bytes q) (ok_is made p t.2)
     (read_parts bytes fs.0 xs.0 g.0 fits (header_takes bytes h.0 fits h.1) fs.1 xs.1 (footer_takes bytes g.0 fits (header_takes bytes h.0 fits h.1).1 g.1)
     l1.0 l1.1 l2.0 l2.1 l3.0 l3.1 (totals_take g.0 (materialized fs.0) (stored xs.0) t.0 t.1))

@@ -10,10 +10,10 @@ use Rattle.xet_store.specs.Store.{State}
 
 -- the errors of reading source 0 to its end, by what it had left and its counts of failures
 abbrev pub HasSourceReason : Bool → List ℕ → ℕ → ℕ → ℕ → StoreError → Type 0
-HasSourceReason tells left before now most (Io (Source i)) = (i ≡ 0) × Rose before now
-HasSourceReason tells left before now most (TooLarge (what.Source i)) = (i ≡ 0) × (tells ≡ true → most < length left)
-HasSourceReason tells left before now most OutOfMemory = Unit {0}
-HasSourceReason tells left before now most _ = ⊥
+HasSourceReason tells left before now max_len (Io (Source i)) = (i ≡ 0) × Rose before now
+HasSourceReason tells left before now max_len (TooLarge (what.Source i)) = (i ≡ 0) × (tells ≡ true → max_len < length left)
+HasSourceReason tells left before now max_len OutOfMemory = Unit {0}
+HasSourceReason tells left before now max_len _ = ⊥
 
 -- the errors of cleaning source 0
 abbrev pub HasReasonOfOne : {S : Type 0} → (S → Bool) → (S → List ℕ) → (S → ℕ) → S → S → State → State → StoreError → Type 0

@@ -12,9 +12,9 @@ use Rattle.xet_dedup.specs.Records.{IsRecordOf}
 -- A file can be recorded with this record: its plan resolves to the chunk list, not empty, of which it is the
 -- record.
 pub record IsNewFile (xorbs : Xorbs) (f : MDBFileInfo) : Type 0 where
-  pub members : List (List ℕ × ℕ)
-  pub joins : Joins (IsListed xorbs) (λ m. m.1) f.segments members
-  pub form : IsRecordOf members f
+  pub leaves : List (List ℕ × ℕ)
+  pub joins : Joins (IsListed xorbs) (λ m. m.1) f.segments leaves
+  pub form : IsRecordOf leaves f
   pub plain : AllByRecursion (λ s. s.xorb_flags ≡ 0) f.segments
-  pub some : 0 < length members
-  pub bound : total_len members < 2 ^ 64
+  pub some : 0 < length leaves
+  pub bound : total_len leaves < 2 ^ 64

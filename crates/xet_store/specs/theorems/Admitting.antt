@@ -75,8 +75,8 @@ module _ (old new : Files) (folder : List ℕ) where
   pub stored_same : (h : List ℕ) (chunks : List (List ℕ)) → SameXorb h → IsStored old folder h chunks → IsStored new folder h chunks
   stored_same h chunks same s = record { bytes = s.bytes; there = same ∙ s.there; text = s.text; readable = s.readable; hash = s.hash }
 
-  pub backed_same : (h : List ℕ) (members : List (List ℕ × ℕ)) → SameXorb h → IsBacked old folder h members → IsBacked new folder h members
-  backed_same h members same b = record { chunks = b.chunks; stored = stored_same h b.chunks same b.stored; same = b.same }
+  pub backed_same : (h : List ℕ) (leaves : List (List ℕ × ℕ)) → SameXorb h → IsBacked old folder h leaves → IsBacked new folder h leaves
+  backed_same h leaves same b = record { chunks = b.chunks; stored = stored_same h b.chunks same b.stored; same = b.same }
 
   blocks_same : (shard : List ℕ) (blocks : List MDBXorbInfo) → ((h : List ℕ) → OfBlocks blocks h → SameXorb h) → AllByRecursion (BlockHolds old folder shard) blocks
       → AllByRecursion (BlockHolds new folder shard) blocks
@@ -98,8 +98,8 @@ module _ (old new : Files) (folder : List ℕ) where
   files_same shard [] same all = tt
   files_same shard (f ∷ fs) same all = (
     record {
-      members = all.0.members;
-      joins = joins_same f.segments all.0.members (λ h of. same h (f, among_first f fs, of)) all.0.joins;
+      leaves = all.0.leaves;
+      joins = joins_same f.segments all.0.leaves (λ h of. same h (f, among_first f fs, of)) all.0.joins;
       some = all.0.some;
       hash = all.0.hash;
     },

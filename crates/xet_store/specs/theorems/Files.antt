@@ -3,28 +3,28 @@ use Rattle.std.proofs.Common.{Result, Ok, Err, OnOk, IfOk, ◌≡◌, ◌≢◌,
 use Rattle.std.specs.List.{AllByRecursion}
 use Rattle.std.specs.Cmp.Lexicographic.{pointwise}
 use Rattle.xet_hash.specs.Hash.{zero_hash}
-use Rattle.xet_hash.specs.Merkle.{chunk_hash, file_hash, members_of, xorb_hash}
+use Rattle.xet_hash.specs.Merkle.{chunk_hash, file_hash, leaves_of, xorb_hash}
 use Rattle.xet_hash.specs.declared.error.StoreError.{StoreError}
 use Rattle.xet_base.specs.Pieces.{pieces_after}
 use Rattle.xet_cut.specs.declared.limits.LimitSettings.{LimitSettings}
 use Rattle.xet_store.specs.declared.info.XetFileInfo.{XetFileInfo}
 use Rattle.xet_store.specs.declared.info.Cleaned.{Cleaned}
-use Rattle.xet_cut.specs.Cut.{cut}
+use Rattle.xet_cut.specs.Chunking.{chunking}
 use Rattle.xet_dedup.specs.Packing.{packs, pack_len}
 use Rattle.xet_shard_format.specs.declared.record.FileDataSequenceEntry.{FileDataSequenceEntry as Segment}
 use Rattle.xet_shard_format.specs.declared.record.MDBFileInfo.{MDBFileInfo}
 use Rattle.xet_folder.specs.Plan.{Joins}
 use Rattle.xet_folder.specs.Stored.{IsStored}
-use Rattle.xet_folder.specs.Xorbs.{IsListed, Records, found}
+use Rattle.xet_folder.specs.Xorbs.{IsListed, FileRecords, found}
 use Rattle.xet_store.specs.Store.{State, Sound, plan_of}
 use Rattle.xet_store.specs.Separate.{Among, Apart, MetChunk, Separate}
-use Rattle.xet_store.specs.Cleaning.{HasFile, HasXorbs, EachTold, info_of, cuts}
+use Rattle.xet_store.specs.Cleaning.{HasFile, HasXorbs, EachTold, info_of, chunkings}
 use Rattle.xet_store.specs.Steps.{ListsXorbs}
 use Rattle.xet_store.specs.theorems.Plans.{among_take}
 use Rattle.xet_store.specs.theorems.Whole.{has_file, mapped, same_chunks, same_key}
 
 -- no other file than the empty one has a plan that is not recorded
-plan_found : (records : Records) (h : List ℕ) → h ≢ zero_hash → plan_of records h ≡ option_map (λ f. f.segments) (found records h)
+plan_found : (records : FileRecords) (h : List ℕ) → h ≢ zero_hash → plan_of records h ≡ option_map (λ f. f.segments) (found records h)
 unfolding plan_of
 plan_found records h d = by_cases (pointwise nat_eq h zero_hash) refl
   where
@@ -33,7 +33,7 @@ plan_found records h d = by_cases (pointwise nat_eq h zero_hash) refl
     by_cases false t = rw (t, plan_of) refl
 
 -- what is recorded has a plan
-pub plan_some : (records : Records) (h : List ℕ) → IsSome (found records h) → IsSome (plan_of records h)
+pub plan_some : (records : FileRecords) (h : List ℕ) → IsSome (found records h) → IsSome (plan_of records h)
 unfolding plan_of
 plan_some records h is = by_cases (pointwise nat_eq h zero_hash) refl
   where
@@ -46,7 +46,7 @@ plan_some records h is = by_cases (pointwise nat_eq h zero_hash) refl
     by_cases false t = rw (t, plan_of) (some (found records h) is)
 
 -- and so has the empty file
-pub plan_empty : (records : Records) → IsSome (plan_of records zero_hash)
+pub plan_empty : (records : FileRecords) → IsSome (plan_of records zero_hash)
 unfolding plan_of
 plan_empty records = refl
 
@@ -56,28 +56,28 @@ taken (Some x) h = (x, refl)
 
 -- a file that is recorded
 pub recorded_file : (s : State) (files : List (List (List ℕ))) (chunks : List (List ℕ)) → Sound s → s.tells ≡ true → Separate s files → Among files chunks
-    → IsSome (plan_of s.records (file_hash (members_of chunks))) → HasFile s chunks
+    → IsSome (plan_of s.records (file_hash (leaves_of chunks))) → HasFile s chunks
 unfolding plan_of
 recorded_file s files [] sound tells apart given there = ([], refl, refl)
 recorded_file s files (b ∷ bs) sound tells apart given there =
     let some : 0 < length (b ∷ bs) = omega arith in
-    let h = file_hash (members_of (b ∷ bs)) in
-    let d : h ≢ zero_hash = apart.lists.not_zero (members_of (b ∷ bs)) (inr (b ∷ bs, given, some, refl)) in
+    let h = file_hash (leaves_of (b ∷ bs)) in
+    let d : h ≢ zero_hash = apart.lists.not_zero (leaves_of (b ∷ bs)) (inr (b ∷ bs, given, some, refl)) in
     let p = taken (plan_of s.records h) there in
     let r = mapped (λ (f : MDBFileInfo). f.segments) (found s.records h) p.0 (sym (plan_found s.records h d) ∙ p.1) in
     (p.0, p.1, subst (λ (plan : List Segment). Joins (IsStored s.files s.folder) length plan (b ∷ bs)) r.2 (has_file s files (b ∷ bs) r.0 sound tells apart given some r.1))
 
 -- each source's file
 pub files_all : {S : Type 0} (tells : S → Bool) (left : S → List ℕ) (limits : LimitSettings) (s : State) (files : List (List (List ℕ))) → Sound s → s.tells ≡ true → Separate s files
-    → (sources : List S) (infos : List XetFileInfo) → AllByRecursion (λ source. tells source ≡ true) sources → ((c : List (List ℕ)) → Among (cuts left limits sources) c → Among files c)
+    → (sources : List S) (infos : List XetFileInfo) → AllByRecursion (λ source. tells source ≡ true) sources → ((c : List (List ℕ)) → Among (chunkings left limits sources) c → Among files c)
     → EachTold tells left (λ bytes info. info ≡ info_of limits bytes) sources infos → AllByRecursion (λ info. IsSome (plan_of s.records info.hash)) infos
-    → AllByRecursion (HasFile s) (cuts left limits sources)
+    → AllByRecursion (HasFile s) (chunkings left limits sources)
 files_all tells left limits s files sound told apart [] infos all given each there = tt
 files_all tells left limits s files sound told apart (x ∷ xs) [] all given each there = absurd each
 files_all tells left limits s files sound told apart (x ∷ xs) (i ∷ is) all given each there =
     let same : i ≡ info_of limits (left x) = each.0 all.0 in
-    let one : IsSome (plan_of s.records (file_hash (members_of (cut limits (left x))))) = subst (λ (n : XetFileInfo). IsSome (plan_of s.records n.hash)) same there.0 in
-    (recorded_file s files (cut limits (left x)) sound told apart (given (cut limits (left x)) (inl refl)) one, files_all tells left limits s files sound told apart xs is all.1 (λ c a. given c (inr a)) each.1 there.1)
+    let one : IsSome (plan_of s.records (file_hash (leaves_of (chunking limits (left x))))) = subst (λ (n : XetFileInfo). IsSome (plan_of s.records n.hash)) same there.0 in
+    (recorded_file s files (chunking limits (left x)) sound told apart (given (chunking limits (left x)) (inl refl)) one, files_all tells left limits s files sound told apart xs is all.1 (λ c a. given c (inr a)) each.1 there.1)
 
 -- an element of a piece is one of the list
 among_pieces : {X : Type 0} (f : List X → ℕ) (k : ℕ) (xs : List X) (p : List X) (x : X) → Among (pieces_after f k xs) p → Among p x → Among xs x
@@ -90,12 +90,12 @@ among_pieces f (suc k) (y ∷ ys) p x h a = inr (among_pieces f k ys p x h a)
 -- Listed blocks of a file's chunks are stored with exactly these.
 blocks_stored : (s : State) (files : List (List (List ℕ))) (chunks : List (List ℕ)) → Sound s → s.tells ≡ true → Apart chunk_hash (MetChunk s files) → Among files chunks
     → (blocks : List (List (List ℕ))) → ((p : List (List ℕ)) → Among blocks p → (b : List ℕ) → Among p b → Among chunks b)
-    → AllByRecursion (λ block. IsListed s.xorbs (xorb_hash (members_of block)) (members_of block)) blocks
-    → AllByRecursion (λ block. IsStored s.files s.folder (xorb_hash (members_of block)) block) blocks
+    → AllByRecursion (λ block. IsListed s.xorbs (xorb_hash (leaves_of block)) (leaves_of block)) blocks
+    → AllByRecursion (λ block. IsStored s.files s.folder (xorb_hash (leaves_of block)) block) blocks
 blocks_stored s files chunks sound tells apart given [] within listed = tt
 blocks_stored s files chunks sound tells apart given (p ∷ ps) within listed =
-    let h = xorb_hash (members_of p) in
-    let back = sound.backed tells h (members_of p) listed.0 in
+    let h = xorb_hash (leaves_of p) in
+    let back = sound.backed tells h (leaves_of p) listed.0 in
     let is : IsSome (found s.xorbs h) = subst (λ (o : Option (List (List ℕ × ℕ))). IsSome o) (sym listed.0) refl in
     let same : back.chunks ≡ p = same_chunks (MetChunk s files) apart back.chunks p (λ b a. inl (h, back.chunks, (is, back.stored), a)) (λ b a. inr (chunks, given, within p (inl refl) b a)) back.same in
     (subst (λ (c : List (List ℕ)). IsStored s.files s.folder h c) same back.stored, blocks_stored s files chunks sound tells apart given ps (λ q a. within q (inr a)) listed.1)
@@ -111,10 +111,10 @@ xorbs_all s files sound tells apart (c ∷ cs) given listed = (
 
 -- where the result is Ok: each source's file
 pub files_on_ok : {S : Type 0} (tells : S → Bool) (left : S → List ℕ) (limits : LimitSettings) (s : State) (sources : List S) (r : Result Cleaned StoreError)
-    → Sound s → s.tells ≡ true → AllByRecursion (λ source. tells source ≡ true) sources → Separate s (cuts left limits sources)
+    → Sound s → s.tells ≡ true → AllByRecursion (λ source. tells source ≡ true) sources → Separate s (chunkings left limits sources)
     → IfOk r (λ c. EachTold tells left (λ bytes info. info ≡ info_of limits bytes) sources c.infos.items) → IfOk r (λ c. AllByRecursion (λ info. IsSome (plan_of s.records info.hash)) c.infos.items)
-    → OnOk r (AllByRecursion (HasFile s) (cuts left limits sources))
-files_on_ok tells left limits s sources (Ok c) sound told all apart each there = files_all tells left limits s (cuts left limits sources) sound told apart sources c.infos.items all (λ f a. a) each there
+    → OnOk r (AllByRecursion (HasFile s) (chunkings left limits sources))
+files_on_ok tells left limits s sources (Ok c) sound told all apart each there = files_all tells left limits s (chunkings left limits sources) sound told apart sources c.infos.items all (λ f a. a) each there
 files_on_ok tells left limits s sources (Err e) sound told all apart each there = tt
 
 -- and each source's xorbs

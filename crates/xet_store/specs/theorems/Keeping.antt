@@ -5,13 +5,13 @@ use Rattle.xet_io.specs.Disk.{Entry, file_at}
 use Rattle.xet_folder.specs.Admission.{ShardHolds}
 use Rattle.xet_folder.specs.Names.{IsForeign, xorb_path}
 use Rattle.xet_shard_file.specs.Names.{shard_path}
-use Rattle.xet_folder.specs.Xorbs.{Records, found}
+use Rattle.xet_folder.specs.Xorbs.{FileRecords, found}
 use Rattle.xet_store.specs.Cleaning.{HasWholeShard, HasXorb, IsDurable, Keeps, SameEntry}
 use Rattle.xet_store.specs.Separate.{Among}
 use Rattle.xet_store.specs.Store.{State}
 use Rattle.xet_store.specs.theorems.Admitting.{holds_same, stored_same}
 use Rattle.xet_store.specs.theorems.Rows.{among_more, is_some_found}
-use Rattle.xet_store.specs.theorems.Staying.{Members, all_among, keeps_stays, same_bytes_at, same_file_at, stays_same}
+use Rattle.xet_store.specs.theorems.Staying.{Leaves, all_among, keeps_stays, same_bytes_at, same_file_at, stays_same}
 
 -- no call at all
 pub keeps_nothing : (s : State) → Keeps s s
@@ -33,7 +33,7 @@ keeps_counted s n later = keeps_stays s s.tells s.files n (record {
 pub listed_still : (a b : State) → Keeps a b → (k : List ℕ) → IsSome (found a.xorbs k) → IsSome (found b.xorbs k)
 listed_still a b keeps k is = go (found a.xorbs k) refl is
   where
-    go : (o : Option Members) → found a.xorbs k ≡ o → IsSome o → IsSome (found b.xorbs k)
+    go : (o : Option Leaves) → found a.xorbs k ≡ o → IsSome o → IsSome (found b.xorbs k)
     go None e bad = absurd (cc bad)
     go (Some m) e ok = is_some_found b.xorbs k m (keeps.xorbs k m e)
 
@@ -48,8 +48,8 @@ keeps_then a b c x y = record {
   limits = y.limits ∙ x.limits;
   opened = y.opened ∙ x.opened;
   later = omega (arith, x.later, y.later);
-  xorbs = λ k members listed. y.xorbs k members (x.xorbs k members listed);
-  records = (x.records.0 ++ y.records.0, y.records.1 ∙ ap (λ (l : Records). l ++ y.records.0) x.records.1 ∙ append_assoc a.records x.records.0 y.records.0);
+  xorbs = λ k leaves listed. y.xorbs k leaves (x.xorbs k leaves listed);
+  records = (x.records.0 ++ y.records.0, y.records.1 ∙ ap (λ (l : FileRecords). l ++ y.records.0) x.records.1 ∙ append_assoc a.records x.records.0 y.records.0);
   shards = (x.shards.0 ++ y.shards.0, y.shards.1 ∙ ap (λ (l : List (List ℕ)). l ++ y.shards.0) x.shards.1 ∙ append_assoc a.shards x.shards.0 y.shards.0);
   xorb_files = λ told k is. moved_xorb k (y.xorb_files (x.tells ∙ told) k (listed_still a b x k is)) ∙ x.xorb_files told k is;
   shard_files = λ told.
@@ -66,7 +66,7 @@ keeps_then a b c x y = record {
     moved_xorb : (k : List ℕ) → SameEntry b.files c.files (xorb_path b.folder k) → SameEntry b.files c.files (xorb_path a.folder k)
     moved_xorb k same = subst (λ (f : List ℕ). SameEntry b.files c.files (xorb_path f k)) x.folder same
 
-    newly : (k : List ℕ) → a.tells ≡ true → found a.xorbs k ≡ None → (o : Option Members) → found b.xorbs k ≡ o → IsSome (found c.xorbs k) → IsDurable c.files (xorb_path a.folder k)
+    newly : (k : List ℕ) → a.tells ≡ true → found a.xorbs k ≡ None → (o : Option Leaves) → found b.xorbs k ≡ o → IsSome (found c.xorbs k) → IsDurable c.files (xorb_path a.folder k)
     newly k told none None e is = subst (λ (f : List ℕ). IsDurable c.files (xorb_path f k)) x.folder (y.listed_files (x.tells ∙ told) k e is)
     newly k told none (Some m) e is =
         let there : IsSome (found b.xorbs k) = is_some_found b.xorbs k m e in

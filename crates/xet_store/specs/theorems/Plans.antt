@@ -100,24 +100,24 @@ joins_bytes P len (s ∷ ss) out (xs, rest, has, lies, parts, more) =
 
 -- so those of a recorded plan fit
 pub record_bytes : (xorbs : Xorbs) (r : List ℕ × MDBFileInfo) → IsRecord xorbs r → plan_bytes r.1.segments < 2 ^ 64
-record_bytes xorbs r is = let same = joins_bytes (IsListed xorbs) (λ m. m.1) r.1.segments is.members is.joins in omega (arith, same, is.bound)
+record_bytes xorbs r is = let same = joins_bytes (IsListed xorbs) (λ m. m.1) r.1.segments is.leaves is.joins in omega (arith, same, is.bound)
 
 -- What a plan's first segments and the others join to, which together is what it joins to.
 pub record SplitsAt {X : Type 0} (P : List ℕ → List X → Type 0) (len : X → ℕ) (plan : List Segment) (k : ℕ) (out : List X) : Type 0 where
-  pub front : List X
+  pub prefix : List X
   pub rest : List X
-  pub is : out ≡ front ++ rest
-  pub before : Joins P len (take k plan) front
+  pub is : out ≡ prefix ++ rest
+  pub before : Joins P len (take k plan) prefix
   pub joins : Joins P len (drop k plan) rest
 
 pub joins_split : {X : Type 0} (P : List ℕ → List X → Type 0) (len : X → ℕ) (plan : List Segment) (k : ℕ) (out : List X) → Joins P len plan out → SplitsAt P len plan k out
-joins_split P len plan zero out j = record { front = []; rest = out; is = refl; before = refl; joins = j }
-joins_split P len [] (suc k) out j = record { front = []; rest = out; is = refl; before = refl; joins = j }
+joins_split P len plan zero out j = record { prefix = []; rest = out; is = refl; before = refl; joins = j }
+joins_split P len [] (suc k) out j = record { prefix = []; rest = out; is = refl; before = refl; joins = j }
 joins_split P len (s ∷ ss) (suc k) out (xs, rest, has, lies, parts, more) =
     let later = joins_split P len ss k rest more in record {
-      front = part s xs ++ later.front;
+      prefix = part s xs ++ later.prefix;
       rest = later.rest;
-      is = parts ∙ ap (λ (l : List _). part s xs ++ l) later.is ∙ sym (append_assoc (part s xs) later.front later.rest);
-      before = (xs, later.front, has, lies, refl, later.before);
+      is = parts ∙ ap (λ (l : List _). part s xs ++ l) later.is ∙ sym (append_assoc (part s xs) later.prefix later.rest);
+      before = (xs, later.prefix, has, lies, refl, later.before);
       joins = later.joins;
     }

@@ -7,13 +7,13 @@ use Rattle.std.specs.List.{IsAmong, concat}
 use Rattle.xet_io.specs.Disk.{Files, bytes_at, file_at}
 use Rattle.xet_hash.specs.declared.error.StoreError.{StoreError}
 use Rattle.xet_hash.specs.Hash.{zero_hash}
-use Rattle.xet_hash.specs.Merkle.{chunk_hash, file_hash, members_of, xorb_hash}
+use Rattle.xet_hash.specs.Merkle.{chunk_hash, file_hash, leaves_of, xorb_hash}
 use Rattle.xet_shard_format.specs.declared.header_footer.MDBShardFileFooter.{MDBShardFileFooter}
 use Rattle.xet_shard_format.specs.declared.record.FileDataSequenceEntry.{FileDataSequenceEntry as Segment}
 use Rattle.xet_shard_format.specs.declared.record.MDBFileInfo.{MDBFileInfo}
 use Rattle.xet_shard.specs.Held.{Held, nothing}
 use Rattle.xet_codec.specs.Parsing.{◌>>=◌}
-use Rattle.xet_shard_format.specs.Reading.{footer_at, header_at}
+use Rattle.xet_shard_format.specs.Reading.{shard_footer_at, shard_header_at}
 use Rattle.xet_shard_format.specs.Records as record_of
 use Rattle.xet_folder.specs.theorems.Agreeing.{joins_once, stored_once}
 use Rattle.xet_folder.specs.theorems.Rest.{among_map}
@@ -24,7 +24,7 @@ use Rattle.xet_folder.specs.Names.{xorb_path}
 use Rattle.xet_folder.specs.Plan.{Joins, range}
 use Rattle.xet_shard_file.specs.Shards.{IsThere, ShardFile, is_expired, is_past}
 use Rattle.xet_folder.specs.Stored.{IsBacked, IsStored}
-use Rattle.xet_folder.specs.Xorbs.{IsListed, Records, found}
+use Rattle.xet_folder.specs.Xorbs.{IsListed, FileRecords, found}
 use Rattle.xet_cut.specs.declared.limits.LimitSettings.{LimitSettings}
 use Rattle.xet_store.specs.Cleaning.{HasFile, IsDurable, Keeps, SameEntry}
 use Rattle.xet_store.specs.Opening.{contents_of}
@@ -52,7 +52,7 @@ module _ {X : Type 0} (P : List ℕ → List X → Type 0) (len : X → ℕ) whe
   joins_has (t ∷ ts) out s (xs, rest, has, lies, parts, more) (inr a) = joins_has ts rest s more a
 
 -- a plan is that of a record, or the empty file's
-plan_either : (records : Records) (h : List ℕ) (plan : List Segment) → plan_of records h ≡ Some plan → ((h ≡ zero_hash) × (plan ≡ [])) ⊎ ((f : MDBFileInfo) × (found records h ≡ Some f) × (f.segments ≡ plan))
+plan_either : (records : FileRecords) (h : List ℕ) (plan : List Segment) → plan_of records h ≡ Some plan → ((h ≡ zero_hash) × (plan ≡ [])) ⊎ ((f : MDBFileInfo) × (found records h ≡ Some f) × (f.segments ≡ plan))
 unfolding plan_of
 plan_either records h plan e = by_cases (pointwise nat_eq h zero_hash) refl
   where
@@ -69,18 +69,18 @@ module _ (s : State) (sound : Sound s) where
   record_listed : (h : List ℕ) (f : MDBFileInfo) → found s.records h ≡ Some f → (t : Segment) → Among f.segments t → IsSome (found s.xorbs t.xorb_hash)
   record_listed h f e t a =
       let r = found_has (IsRecord s.xorbs) s.records h f sound.recorded e in
-      let listed = joins_has (IsListed s.xorbs) (λ (m : List ℕ × ℕ). m.1) f.segments r.members t r.joins a in
+      let listed = joins_has (IsListed s.xorbs) (λ (m : List ℕ × ℕ). m.1) f.segments r.leaves t r.joins a in
       is_some_found s.xorbs t.xorb_hash listed.0 listed.1
 
   listed_once : (h : List ℕ) (xs ys : List (List ℕ × ℕ)) → IsListed s.xorbs h xs → IsListed s.xorbs h ys → xs ≡ ys
   listed_once h xs ys a b =
       let same : ◌≡◌ {A = Option (List (List ℕ × ℕ))} (Some xs) (Some ys) = sym a ∙ b in cc same
 
-  -- and a record's segments join to members, not none
-  record_some : (h : List ℕ) (f : MDBFileInfo) → found s.records h ≡ Some f → (members : List (List ℕ × ℕ)) → Joins (IsListed s.xorbs) (λ m. m.1) f.segments members → 0 < length members
-  record_some h f e members j =
+  -- and a record's segments join to leaves, not none
+  record_some : (h : List ℕ) (f : MDBFileInfo) → found s.records h ≡ Some f → (leaves : List (List ℕ × ℕ)) → Joins (IsListed s.xorbs) (λ m. m.1) f.segments leaves → 0 < length leaves
+  record_some h f e leaves j =
       let r = found_has (IsRecord s.xorbs) s.records h f sound.recorded e in
-      let same : r.members ≡ members = joins_once (IsListed s.xorbs) (λ (m : List ℕ × ℕ). m.1) listed_once f.segments r.members members r.joins j in
+      let same : r.leaves ≡ leaves = joins_once (IsListed s.xorbs) (λ (m : List ℕ × ℕ). m.1) listed_once f.segments r.leaves leaves r.joins j in
       subst (λ (ms : List (List ℕ × ℕ)). 0 < length ms) same r.some
 
   plan_listed : (h : List ℕ) (plan : List Segment) → plan_of s.records h ≡ Some plan → (t : Segment) → Among plan t → IsSome (found s.xorbs t.xorb_hash)
@@ -112,7 +112,7 @@ module _ (old new : Files) (folder : List ℕ) where
 
 -- a shard that is valid at a moment was valid at each earlier one
 valid_before : (bytes : List ℕ) (now later : ℕ) → now ≤ later → is_expired later bytes ≡ false → is_expired now bytes ≡ false
-valid_before bytes now later earlier = go (header_at bytes >>= λ _. footer_at bytes)
+valid_before bytes now later earlier = go (shard_header_at bytes >>= λ _. shard_footer_at bytes)
   where
     go : (r : Result MDBShardFileFooter StoreError) → is_past later r ≡ false → is_past now r ≡ false
     go (Ok footer) valid = le-ltb footer.shard_key_expiry now (le_trans earlier (ltb-false footer.shard_key_expiry later valid))
@@ -174,7 +174,7 @@ module _ (old : State) (contents : HasContents old.files old.folder old.opened (
 
         go : (o : Option (List (List ℕ × ℕ))) → found old.xorbs h ≡ o → IsNamed old.files old.folder old.opened h ⊎ IsDurable new.files (xorb_path old.folder h)
         go None e = inr (keeps.listed_files told h e listed)
-        go (Some members) e = inl (listed_named h (is_some_found old.xorbs h members e))
+        go (Some leaves) e = inl (listed_named h (is_some_found old.xorbs h leaves e))
 
 module _ (old new : State) (told : old.tells ≡ true) (contents : HasContents old.files old.folder old.opened (contents_of old)) (keeps : Keeps old new) (later : ℕ) (since : old.opened ≤ later)
     (f : MDBFileInfo) (l : Lists old.files old.folder later f) where
@@ -211,10 +211,10 @@ module _ (before after : State) (told : before.tells ≡ true) where
   stored_stays keeps h chunks listed stored = subst (λ (folder : List ℕ). IsStored after.files folder h chunks) (sym keeps.folder)
       (stored_same before.files after.files before.folder h chunks (same_bytes_at before.files after.files (xorb_path before.folder h) (keeps.xorb_files told h listed)) stored)
 
-  backed_stays : Sound before → Keeps before after → (h : List ℕ) (members : List (List ℕ × ℕ)) → IsListed before.xorbs h members → IsBacked after.files after.folder h members
-  backed_stays sound keeps h members listed =
-      let b = sound.backed told h members listed in
-      record { chunks = b.chunks; stored = stored_stays keeps h b.chunks (is_some_found before.xorbs h members listed) b.stored; same = b.same }
+  backed_stays : Sound before → Keeps before after → (h : List ℕ) (leaves : List (List ℕ × ℕ)) → IsListed before.xorbs h leaves → IsBacked after.files after.folder h leaves
+  backed_stays sound keeps h leaves listed =
+      let b = sound.backed told h leaves listed in
+      record { chunks = b.chunks; stored = stored_stays keeps h b.chunks (is_some_found before.xorbs h leaves listed) b.stored; same = b.same }
 
   -- what a plan joins to stays
   plan_stays : Sound before → Keeps before after → (h : List ℕ) (plan : List Segment) → plan_of before.records h ≡ Some plan → (chunks : List (List ℕ))
@@ -225,7 +225,7 @@ module _ (before after : State) (told : before.tells ≡ true) where
   -- A session that has a file has it after the flush.
   pub has_file_stays : Sound before → Keeps before after → after.records ≡ before.records → (chunks : List (List ℕ)) → HasFile before chunks → HasFile after chunks
   has_file_stays sound keeps same chunks (plan, planned, joins) =
-      (plan, ap (λ (rs : Records). plan_of rs (file_hash (members_of chunks))) same ∙ planned, plan_stays sound keeps (file_hash (members_of chunks)) plan planned chunks joins)
+      (plan, ap (λ (rs : FileRecords). plan_of rs (file_hash (leaves_of chunks))) same ∙ planned, plan_stays sound keeps (file_hash (leaves_of chunks)) plan planned chunks joins)
 
 -- where nothing is pending, a registered shard lists each recorded file
 kept_now : (s : State) → s.tells ≡ true → Sound s → s.pending ≡ nothing → (h : List ℕ) (f : MDBFileInfo) → found s.records h ≡ Some f → IsKept s.files s.folder s.opened s.shards f
@@ -240,7 +240,7 @@ kept_now s told sound none h f e = go (sound.kept h f e)
 module _ (before after : State) (told : before.tells ≡ true) (sound : Sound before) (flushed : Sound after) (keeps : Keeps before after) (same : after.records ≡ before.records)
     (none : after.pending ≡ nothing) where
   recorded_kept : (h : List ℕ) (f : MDBFileInfo) → found before.records h ≡ Some f → IsKept after.files after.folder after.opened after.shards f
-  recorded_kept h f e = kept_now after (keeps.tells ∙ told) flushed none h f (ap (λ (rs : Records). found rs h) same ∙ e)
+  recorded_kept h f e = kept_now after (keeps.tells ∙ told) flushed none h f (ap (λ (rs : FileRecords). found rs h) same ∙ e)
 
   -- Where digests separate what is met in the folder, they separate what the session showed before its flush: each
   -- xorb that it lists is met.
@@ -249,7 +249,7 @@ module _ (before after : State) (told : before.tells ≡ true) (sound : Sound be
   separate_by_folder s files all_met apart = record {
     chunks = apart_less chunk_hash (MetStored after.files after.folder after.opened s files) (MetChunk before files) met_chunk apart.chunks;
     xorbs = apart_less xorb_hash (MetBacked after.files after.folder after.opened s files) (MetXorb before)
-        (λ members met. (met.0, all_met met.0 (is_some_found before.xorbs met.0 members met.1), backed_stays before after told sound keeps met.0 members met.1)) apart.xorbs;
+        (λ leaves met. (met.0, all_met met.0 (is_some_found before.xorbs met.0 leaves met.1), backed_stays before after told sound keeps met.0 leaves met.1)) apart.xorbs;
     lists = apart_less file_hash (MetListed after.files after.folder after.opened files) (MetFile before files) met_file apart.lists;
   }
     where
@@ -257,20 +257,20 @@ module _ (before after : State) (told : before.tells ≡ true) (sound : Sound be
       met_chunk b (inl (h, c, has, among)) = inl (h, c, all_met h has.0, stored_stays before after told keeps h c has.0 has.1, among)
       met_chunk b (inr given) = inr given
 
-      met_file : (members : List (List ℕ × ℕ)) → MetFile before files members → MetListed after.files after.folder after.opened files members
-      met_file members (inl (h, f, recorded, joins)) =
+      met_file : (leaves : List (List ℕ × ℕ)) → MetFile before files leaves → MetListed after.files after.folder after.opened files leaves
+      met_file leaves (inl (h, f, recorded, joins)) =
           let k = recorded_kept h f recorded in
-          let moved = joins_named (IsListed before.xorbs) (λ (m : List ℕ × ℕ). m.1) (IsBacked after.files after.folder) f.segments members (λ s a ms listed. backed_stays before after told sound keeps s.xorb_hash ms listed) joins in
-          inl (f, k.lists, moved, record_some before sound h f recorded members joins)
-      met_file members (inr given) = inr given
+          let moved = joins_named (IsListed before.xorbs) (λ (m : List ℕ × ℕ). m.1) (IsBacked after.files after.folder) f.segments leaves (λ s a ms listed. backed_stays before after told sound keeps s.xorb_hash ms listed) joins in
+          inl (f, k.lists, moved, record_some before sound h f recorded leaves joins)
+      met_file leaves (inr given) = inr given
 
   -- A file that the session has is listed by its folder after the flush.
-  pub recorded_by_folder : (chunks : List (List ℕ)) → file_hash (members_of chunks) ≢ zero_hash → HasFile before chunks
-      → (f : MDBFileInfo) × Lists after.files after.folder after.opened f × (record_of.file_hash f ≡ file_hash (members_of chunks)) × JoinsTo after.files after.folder f chunks
+  pub recorded_by_folder : (chunks : List (List ℕ)) → file_hash (leaves_of chunks) ≢ zero_hash → HasFile before chunks
+      → (f : MDBFileInfo) × Lists after.files after.folder after.opened f × (record_of.file_hash f ≡ file_hash (leaves_of chunks)) × JoinsTo after.files after.folder f chunks
   recorded_by_folder chunks other (plan, planned, joins) = go (plan_either before.records h plan planned)
     where
       h : List ℕ
-      h = file_hash (members_of chunks)
+      h = file_hash (leaves_of chunks)
 
       go : ((h ≡ zero_hash) × (plan ≡ [])) ⊎ ((f : MDBFileInfo) × (found before.records h ≡ Some f) × (f.segments ≡ plan))
           → (f : MDBFileInfo) × Lists after.files after.folder after.opened f × (record_of.file_hash f ≡ h) × JoinsTo after.files after.folder f chunks
@@ -283,7 +283,7 @@ module _ (before after : State) (told : before.tells ≡ true) (sound : Sound be
 -- ---- ranges
 
 -- A range that is read of a file that a store has is that range of its bytes.
-pub range_of_file : (s : State) (chunks : List (List ℕ)) (from to : ℕ) (bytes : List ℕ) → HasFile s chunks → IsRange s (file_hash (members_of chunks)) from to bytes
+pub range_of_file : (s : State) (chunks : List (List ℕ)) (from to : ℕ) (bytes : List ℕ) → HasFile s chunks → IsRange s (file_hash (leaves_of chunks)) from to bytes
     → bytes ≡ range (concat chunks) from to
 range_of_file s chunks from to bytes (plan, planned, joins) r =
     let plans : ◌≡◌ {A = Option (List Segment)} (Some r.plan) (Some plan) = sym r.planned ∙ planned in

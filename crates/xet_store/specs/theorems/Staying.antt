@@ -9,18 +9,18 @@ use Rattle.xet_shard.specs.Held.{Held}
 use Rattle.xet_folder.specs.Names.{IsForeign, xorb_path}
 use Rattle.xet_shard_file.specs.Names.{IsHash, shard_path}
 use Rattle.xet_folder.specs.Stored.{IsBacked}
-use Rattle.xet_folder.specs.Xorbs.{IsListed, Records, Xorbs, found}
+use Rattle.xet_folder.specs.Xorbs.{IsListed, FileRecords, Xorbs, found}
 use Rattle.xet_store.specs.Cleaning.{HasWholeShard, HasXorb, IsDurable, Keeps, SameEntry}
 use Rattle.xet_store.specs.Separate.{Among}
 use Rattle.xet_store.specs.Store.{State, IsAdmitted, IsKept, Sound}
 use Rattle.xet_store.specs.theorems.Admitting.{admitted_still, backed_same}
 use Rattle.xet_store.specs.theorems.Rows.{apart_found, from_among, is_some_found, to_among}
 
-abbrev pub Members : Type 0
-Members = List (List ℕ × ℕ)
+abbrev pub Leaves : Type 0
+Leaves = List (List ℕ × ℕ)
 
 -- the state with another disk and other lists
-abbrev pub changed : State → Bool → Files → ℕ → Xorbs → Records → List (List ℕ) → Held → State
+abbrev pub changed : State → Bool → Files → ℕ → Xorbs → FileRecords → List (List ℕ) → Held → State
 changed s tells files faults xorbs records shards pending = record {
   tells = tells;
   files = files;
@@ -34,7 +34,7 @@ changed s tells files faults xorbs records shards pending = record {
   pending = pending;
 }
 
-pub same_change : (s : State) (tells : Bool) (files : Files) (faults : ℕ) {x1 x2 : Xorbs} {r1 r2 : Records} {s1 s2 : List (List ℕ)} {p1 p2 : Held}
+pub same_change : (s : State) (tells : Bool) (files : Files) (faults : ℕ) {x1 x2 : Xorbs} {r1 r2 : FileRecords} {s1 s2 : List (List ℕ)} {p1 p2 : Held}
     → x2 ≡ x1 → r2 ≡ r1 → s2 ≡ s1 → p2 ≡ p1 → changed s tells files faults x1 r1 s1 p1 ≡ changed s tells files faults x2 r2 s2 p2
 same_change s tells files faults x r h p = λ i. changed s tells files faults (sym x i) (sym r i) (sym h i) (sym p i)
 
@@ -47,7 +47,7 @@ same_bytes_at old new name same = ap (λ (o : Option Entry). option_map (λ (f :
 
 -- A disk has what a store has put there still, and other files that are not a store's; under other names of xorbs and
 -- shards it has what it had, or a xorb of that hash, or a whole shard, which a crash keeps.
-pub record Stays (s : State) (tells : Bool) (files : Files) (faults : ℕ) : Type 0 where
+pub record StateStays (s : State) (tells : Bool) (files : Files) (faults : ℕ) : Type 0 where
   pub tells_same : tells ≡ s.tells
   pub later : s.faults ≤ faults
   pub xorb_files : s.tells ≡ true → (h : List ℕ) → IsSome (found s.xorbs h) → SameEntry s.files files (xorb_path s.folder h)
@@ -66,7 +66,7 @@ all_among P [] x all a = absurd a
 all_among P (y ∷ xs) x all (inl is) = subst P is all.0
 all_among P (y ∷ xs) x all (inr a) = all_among P xs x all.1 a
 
-pub stays_same : (s : State) → Stays s s.tells s.files s.faults
+pub stays_same : (s : State) → StateStays s s.tells s.files s.faults
 stays_same s = record {
   tells_same = refl;
   later = omega arith;
@@ -95,7 +95,7 @@ module _ (s : State) (folder h : List ℕ) (tells : Bool) (files : Files) (fault
       → (s.tells ≡ true → (k : List ℕ) → IsHash k → k ≢ h → SameEntry s.files files (xorb_path folder k))
       → (s.tells ≡ true → (k : List ℕ) → IsHash k → SameEntry s.files files (shard_path folder k))
       → (s.tells ≡ true → (name : List ℕ) → IsForeign folder name → SameEntry s.files files name)
-      → (s.tells ≡ true → SameEntry s.files files (xorb_path s.folder h) ⊎ HasXorb files s.folder h) → Stays s tells files faults
+      → (s.tells ≡ true → SameEntry s.files files (xorb_path s.folder h) ⊎ HasXorb files s.folder h) → StateStays s tells files faults
   stays_xorb none xorbs shards foreign here = record {
     tells_same = tells_same;
     later = later;
@@ -112,7 +112,7 @@ module _ (s : State) (folder h : List ℕ) (tells : Bool) (files : Files) (fault
       → (s.tells ≡ true → (k : List ℕ) → IsHash k → SameEntry s.files files (xorb_path folder k))
       → (s.tells ≡ true → (k : List ℕ) → IsHash k → k ≢ h → SameEntry s.files files (shard_path folder k))
       → (s.tells ≡ true → (name : List ℕ) → IsForeign folder name → SameEntry s.files files name)
-      → (s.tells ≡ true → SameEntry s.files files (shard_path s.folder h) ⊎ HasWholeShard (changed s tells files faults s.xorbs s.records s.shards s.pending) h) → Stays s tells files faults
+      → (s.tells ≡ true → SameEntry s.files files (shard_path s.folder h) ⊎ HasWholeShard (changed s tells files faults s.xorbs s.records s.shards s.pending) h) → StateStays s tells files faults
   stays_shard new xorbs shards foreign here = record {
     tells_same = tells_same;
     later = later;
@@ -127,14 +127,14 @@ module _ (s : State) (folder h : List ℕ) (tells : Bool) (files : Files) (fault
   }
 
 -- a xorb is listed or it is not
-pub found_nowhere : {G : Type 0} (xorbs : Option Members) → xorbs ≡ None → IsSome xorbs → G
+pub found_nowhere : {G : Type 0} (xorbs : Option Leaves) → xorbs ≡ None → IsSome xorbs → G
 found_nowhere None none is = absurd (cc is)
 found_nowhere (Some m) none is = absurd (cc none)
 
 -- ---- what then stands
 
-module _ (s : State) (tells : Bool) (files : Files) (faults : ℕ) (stays : Stays s tells files faults) where
-  pub keeps_changed : (xorbs : Xorbs) (records added : Records) (shards more : List (List ℕ)) (pending : Held) → ((h : List ℕ) (ms : Members) → IsListed s.xorbs h ms → IsListed xorbs h ms)
+module _ (s : State) (tells : Bool) (files : Files) (faults : ℕ) (stays : StateStays s tells files faults) where
+  pub keeps_changed : (xorbs : Xorbs) (records added : FileRecords) (shards more : List (List ℕ)) (pending : Held) → ((h : List ℕ) (ms : Leaves) → IsListed s.xorbs h ms → IsListed xorbs h ms)
       → (s.tells ≡ true → (h : List ℕ) → found s.xorbs h ≡ None → IsSome (found xorbs h) → IsDurable files (xorb_path s.folder h))
       → records ≡ s.records ++ added → shards ≡ s.shards ++ more → Keeps s (changed s tells files faults xorbs records shards pending)
   keeps_changed xorbs records added shards more pending listed durable recorded registered = record {
@@ -154,7 +154,7 @@ module _ (s : State) (tells : Bool) (files : Files) (faults : ℕ) (stays : Stay
     foreign = stays.foreign;
   }
     where
-      some : (x : List ℕ) (o : Option Members) → found s.xorbs x ≡ o → IsSome o → IsSome (found xorbs x)
+      some : (x : List ℕ) (o : Option Leaves) → found s.xorbs x ≡ o → IsSome o → IsSome (found xorbs x)
       some x None e bad = absurd (cc bad)
       some x (Some m) e ok = is_some_found xorbs x m (listed x m e)
 
@@ -172,7 +172,7 @@ module _ (s : State) (tells : Bool) (files : Files) (faults : ℕ) (stays : Stay
   xorb_same told h is = same_bytes_at s.files files (xorb_path s.folder h) (stays.xorb_files told h is)
 
   module _ (sound : Sound s) where
-    pub backed_still : s.tells ≡ true → (h : List ℕ) (ms : Members) → IsListed s.xorbs h ms → IsBacked files s.folder h ms
+    pub backed_still : s.tells ≡ true → (h : List ℕ) (ms : Leaves) → IsListed s.xorbs h ms → IsBacked files s.folder h ms
     backed_still told h ms listed = backed_same s.files files s.folder h ms (xorb_same told h (is_some_found s.xorbs h ms listed)) (sound.backed told h ms listed)
 
     -- what a registered shard keeps
@@ -231,13 +231,13 @@ keeps_at s t n e k = subst (λ (x : State). Keeps x n) e k
 
 -- ---- the same of lists by other names
 
-module _ (s : State) (tells : Bool) (files : Files) (faults : ℕ) (stays : Stays s tells files faults) (sound : Sound s) {x : Xorbs} {r : Records} {h : List (List ℕ)} {p : Held} where
+module _ (s : State) (tells : Bool) (files : Files) (faults : ℕ) (stays : StateStays s tells files faults) (sound : Sound s) {x : Xorbs} {r : FileRecords} {h : List (List ℕ)} {p : Held} where
   pub sound_refused : (s.tells ≡ true → IsAdmitted files s.folder s.opened s.xorbs s.shards) → x ≡ s.xorbs → r ≡ s.records → h ≡ s.shards → p ≡ s.pending → Sound (changed s tells files faults x r h p)
   sound_refused admitted ex er eh ep = subst Sound (same_change s tells files faults ex er eh ep) (sound_stays s tells files faults stays sound admitted)
 
   pub keeps_refused : (t : State) → s ≡ t → x ≡ s.xorbs → r ≡ s.records → h ≡ s.shards → p ≡ s.pending → Keeps t (changed s tells files faults x r h p)
   keeps_refused t e ex er eh ep = keeps_at s t (changed s tells files faults x r h p) e (subst (λ (n : State). Keeps s n) (same_change s tells files faults ex er eh ep) (keeps_stays s tells files faults stays))
 
-pub keeps_unchanged : (s t : State) → Sound s → s ≡ t → {x : Xorbs} {r : Records} {h : List (List ℕ)} {p : Held} → x ≡ s.xorbs → r ≡ s.records → h ≡ s.shards → p ≡ s.pending
+pub keeps_unchanged : (s t : State) → Sound s → s ≡ t → {x : Xorbs} {r : FileRecords} {h : List (List ℕ)} {p : Held} → x ≡ s.xorbs → r ≡ s.records → h ≡ s.shards → p ≡ s.pending
     → Keeps t (changed s s.tells s.files s.faults x r h p)
 keeps_unchanged s t sound e ex er eh ep = keeps_refused s s.tells s.files s.faults (stays_same s) sound t e ex er eh ep

@@ -2,7 +2,7 @@
 use Rattle.std.proofs.Common.{◌≡◌, inl, inr, ◌∙◌, ℕ, suc, ◌<◌, Bool, true, false, cond, List, [], ◌∷◌, length, Option, Some, None, IsSome, option_map, refl, sym, ap, subst, arith, nat_eq}
 use Rattle.std.specs.List.{AllByRecursion}
 use Rattle.std.specs.Cmp.Lexicographic.{pointwise, bytes_decides}
-use Rattle.xet_hash.specs.Merkle.{chunk_hash, file_hash, member_of, members_of}
+use Rattle.xet_hash.specs.Merkle.{chunk_hash, file_hash, leaf_of, leaves_of}
 use Rattle.xet_shard_format.specs.declared.record.MDBFileInfo.{MDBFileInfo}
 use Rattle.xet_folder.specs.Plan.{Joins}
 use Rattle.xet_folder.specs.Stored.{IsStored}
@@ -28,15 +28,15 @@ found_has {X} P (y ∷ ys) h x all e = go (pointwise nat_eq h y.0) refl e (λ at
         subst P whole all.0
     go false t at later = later at
 
--- equal members of met chunks are those of equal chunks
+-- equal leaves of met chunks are those of equal chunks
 pub same_chunks : (Met : List ℕ → Type 0) → Apart chunk_hash Met → (xs ys : List (List ℕ)) → ((b : List ℕ) → Among xs b → Met b) → ((b : List ℕ) → Among ys b → Met b)
-    → members_of xs ≡ members_of ys → xs ≡ ys
+    → leaves_of xs ≡ leaves_of ys → xs ≡ ys
 same_chunks Met apart [] [] mx my e = refl
-same_chunks Met apart [] (y ∷ ys) mx my e = let l : 0 ≡ suc (length (members_of ys)) = ap length e in absurd (omega arith)
-same_chunks Met apart (x ∷ xs) [] mx my e = let l : suc (length (members_of xs)) ≡ 0 = ap length e in absurd (omega arith)
+same_chunks Met apart [] (y ∷ ys) mx my e = let l : 0 ≡ suc (length (leaves_of ys)) = ap length e in absurd (omega arith)
+same_chunks Met apart (x ∷ xs) [] mx my e = let l : suc (length (leaves_of xs)) ≡ 0 = ap length e in absurd (omega arith)
 same_chunks Met apart (x ∷ xs) (y ∷ ys) mx my e =
-    let whole : (chunk_hash x, length x) ∷ members_of xs ≡ (chunk_hash y, length y) ∷ members_of ys = e in
-    let tails : members_of xs ≡ members_of ys = cc in
+    let whole : (chunk_hash x, length x) ∷ leaves_of xs ≡ (chunk_hash y, length y) ∷ leaves_of ys = e in
+    let tails : leaves_of xs ≡ leaves_of ys = cc in
     let pair : (chunk_hash x, length x) ≡ (chunk_hash y, length y) = cc in
     let heads : chunk_hash x ≡ chunk_hash y = ap (λ (p : List ℕ × ℕ). p.0) pair in
     let here : x ≡ y = apart.same x y (mx x (inl refl)) (my y (inl refl)) heads in
@@ -50,13 +50,13 @@ mapped f (Some x) y e = (x, refl, cc e)
 
 pub has_file : (s : State) (files : List (List (List ℕ))) (chunks : List (List ℕ)) (f : MDBFileInfo)
     → Sound s → s.tells ≡ true → Separate s files → Among files chunks → 0 < length chunks
-    → found s.records (file_hash (members_of chunks)) ≡ Some f → Joins (IsStored s.files s.folder) length f.segments chunks
+    → found s.records (file_hash (leaves_of chunks)) ≡ Some f → Joins (IsStored s.files s.folder) length f.segments chunks
 has_file s files chunks f sound tells apart given some there =
-    let r = found_has (IsRecord s.xorbs) s.records (file_hash (members_of chunks)) f sound.recorded there in
-    let ms = r.members in
-    let list : ms ≡ members_of chunks = apart.lists.same ms (members_of chunks) (inl (file_hash (members_of chunks), f, there, r.joins)) (inr (chunks, given, some, refl)) r.hash in
-    let whole = joins_map member_of (IsListed s.xorbs) (HasChunks s) (λ (m : List ℕ × ℕ). m.1)
-    (λ h members listed. let b = sound.backed tells h members listed in (b.chunks, (subst (λ (o : Option (List (List ℕ × ℕ))). IsSome o) (sym listed) refl, b.stored), b.same)) f.segments ms r.joins in
+    let r = found_has (IsRecord s.xorbs) s.records (file_hash (leaves_of chunks)) f sound.recorded there in
+    let ms = r.leaves in
+    let list : ms ≡ leaves_of chunks = apart.lists.same ms (leaves_of chunks) (inl (file_hash (leaves_of chunks), f, there, r.joins)) (inr (chunks, given, some, refl)) r.hash in
+    let whole = joins_map leaf_of (IsListed s.xorbs) (HasChunks s) (λ (m : List ℕ × ℕ). m.1)
+    (λ h leaves listed. let b = sound.backed tells h leaves listed in (b.chunks, (subst (λ (o : Option (List (List ℕ × ℕ))). IsSome o) (sym listed) refl, b.stored), b.same)) f.segments ms r.joins in
     let same : whole.0 ≡ chunks = same_chunks (MetChunk s files) apart.chunks whole.0 chunks
     (λ b a. let from = joins_among (HasChunks s) length f.segments whole.0 b whole.1 a in inl (from.0, from.1, from.2, from.3)) (λ b a. inr (chunks, given, a)) (whole.2 ∙ list) in
     subst (λ (l : List (List ℕ)). Joins (IsStored s.files s.folder) length f.segments l) same (joins_more (HasChunks s) (IsStored s.files s.folder) length (λ h c x. x.1) f.segments whole.0 whole.1)

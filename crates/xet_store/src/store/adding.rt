@@ -5,7 +5,7 @@ ghost use Rattle.std.specs.List.{AllByRecursion};
 ghost use Rattle.xet_hash.specs.Merkle.{chunk_hash, xorb_hash};
 ghost use Rattle.xet_shard.specs.Held.{held_size};
 ghost use Rattle.xet_shard_format.specs.Records.{file_hash};
-ghost use Rattle.xet_xorb_chunk.specs.Chunks.{bytes_of, chunk_member, total};
+ghost use Rattle.xet_xorb_chunk.specs.Chunks.{bytes_of_chunk, chunk_leaf, total};
 ghost use Rattle.xet_codec.specs.Stops.{HasDiskReason};
 ghost use Rattle.xet_folder.specs.Xorbs.{IsListed, found};
 ghost use Rattle.xet_store.specs.Cleaning.{Adds, Keeps};
@@ -14,14 +14,14 @@ ghost use Rattle.xet_store.specs.Tables.{tables_of, with_record, with_xorb};
 
 use crate::store::Store;
 use std::marker::Send;
-use xet_folder::{Members, RecordedFile, put_xorb};
+use xet_folder::{Leaves, RecordedFile, put_xorb};
 use xet_hash::{MerkleHash, StoreError};
 use xet_io::Disk;
 use xet_shard::MDBInMemoryShard;
 use xet_shard_file::known_bytes;
 use xet_shard_format::MDBFileInfo;
 use xet_xorb::{RawXorbData, SerializedXorbObject};
-use xet_xorb_chunk::{Chunk, chunk_members};
+use xet_xorb_chunk::{Chunk, chunk_leaves};
 
 impl<D: Disk + Send> Store<D> {
     /// Stores these chunks as a xorb and lists it, unless a xorb of its hash is listed, and returns the hash.
@@ -36,28 +36,28 @@ impl<D: Disk + Send> Store<D> {
         requires bytes { total chunks.now ≤ 2 ^ 30 }
         ensures keeps { Keeps self.old self.new }
         ensures records { self.new.records ≡ self.old.records }
-        ensures listed { IfOk result (λ h. (h ≡ xorb_hash (map chunk_member chunks.now)) × IsListed self.new.xorbs h (map chunk_member chunks.now)) }
+        ensures listed { IfOk result (λ h. (h ≡ xorb_hash (map chunk_leaf chunks.now)) × IsListed self.new.xorbs h (map chunk_leaf chunks.now)) }
         ensures shards { self.new.shards ≡ self.old.shards }
-        ensures stores { OnOk result (tables_of self.new ≡ with_xorb (tables_of self.old) (map bytes_of chunks.now)) }
+        ensures stores { OnOk result (tables_of self.new ≡ with_xorb (tables_of self.old) (map bytes_of_chunk chunks.now)) }
         ensures kept { OnErr result (tables_of self.new ≡ tables_of self.old) }
         ensures reason { IfErr result (HasDiskReason self.old.faults self.new.faults) }
     {
-        let members = chunk_members(self.alloc, chunks)?;
+        let leaves = chunk_leaves(self.alloc, chunks)?;
         let raw = RawXorbData::from_chunks(self.alloc, chunks, Vec::new(self.alloc))?;
         let hash = raw.hash();
         if let Some(listed) = self.xorbs.get(&hash) {
-            if listed.as_slice() != members.as_slice() {
+            if listed.as_slice() != leaves.as_slice() {
                 return Err(StoreError::OutOfMemory);
             }
             return Ok(hash);
         }
-        if hash == MerkleHash::marker() || !has_room(&self.pending, 1 + members.len() as u64) {
+        if hash == MerkleHash::marker() || !has_room(&self.pending, 1 + leaves.len() as u64) {
             return Err(StoreError::OutOfMemory);
         }
         known_bytes(&hash);
         let block = raw.xorb_info.copy(self.alloc)?;
         let built = SerializedXorbObject::from_xorb(self.alloc, raw, true)?;
-        let listed = Members::from_vec(self.alloc, members)?;
+        let listed = Leaves::from_vec(self.alloc, leaves)?;
         self.xorbs.reserve(1)?;
         put_xorb(
             &mut self.disk,

@@ -4,9 +4,9 @@ ghost use Rattle.std.specs.Prelude.{◌≡◌, ◌≤◌, ◌<◌, ◌+◌, ◌-
 ghost use Rattle.std.specs.List.{concat};
 ghost use Rattle.std.specs.Option.{option_map};
 ghost use Rattle.xet_folder.specs.Plan.{Joins, part, plan_bytes, range};
-ghost use Rattle.xet_folder.specs.Runs.{IsRunRefusal};
+ghost use Rattle.xet_folder.specs.Runs.{IsRunError};
 ghost use Rattle.xet_folder.specs.Xorbs.{AreBacked};
-ghost use Rattle.xet_store.specs.Ranges.{IsOutside, IsRange, IsRangeRefusal, IsUnchanged};
+ghost use Rattle.xet_store.specs.Ranges.{IsOutside, IsRange, IsRangeError, IsUnchanged};
 ghost use Rattle.xet_store.specs.internal.Reading.{IsStoredListed, JoinsListed, LiesListed};
 ghost use Rattle.xet_store.specs.Store.{plan_of};
 ghost use Rattle.xet_io.specs.Frame.{Unchanged};
@@ -14,7 +14,7 @@ ghost use Rattle.xet_io.specs.Frame.{Unchanged};
 use crate::store::{Store, plan_in};
 use indexmap::IndexMap;
 use std::marker::Send;
-use xet_folder::{Members, RunReader};
+use xet_folder::{Leaves, RunReader};
 use xet_hash::{MerkleHash, Reason, StoreError};
 use xet_io::Disk;
 use xet_shard_format::FileDataSequenceEntry;
@@ -35,7 +35,7 @@ impl<D: Disk + Send> Store<D> {
         ensures length { IfOk result (λ bytes. length bytes.items ≡ to - from) }
         ensures missing { plan_of self.old.records hash.now ≡ None → IsErrOf result StoreError.FileNotFound }
         ensures outside { IsOutside self.old hash.now from to → IsErrOf result StoreError.InvalidRange }
-        ensures refused { IfErr result (IsRangeRefusal self.old hash.now from to self.new.faults) }
+        ensures refused { IfErr result (IsRangeError self.old hash.now from to self.new.faults) }
         ensures unchanged { IsUnchanged self.old self.new }
     {
         let Some(plan) = plan_in(&self.records, hash) else {
@@ -64,7 +64,7 @@ impl<D: Disk + Send> Store<D> {
 fn read_plan<D: Disk>(
     disk: &mut D,
     folder: &str,
-    xorbs: &IndexMap<MerkleHash, Members>,
+    xorbs: &IndexMap<MerkleHash, Leaves>,
     plan: &[FileDataSequenceEntry],
     from: u64,
     to: u64,
@@ -75,7 +75,7 @@ fn read_plan<D: Disk>(
     requires within { to ≤ plan_bytes plan.now }
     ensures range { D.tells disk.old ≡ true → OnOk result ((chunks : List (List ℕ)) → Joins (IsStoredListed (D.files disk.old) folder.now xorbs.now.entries) length plan.now chunks → reader.new ≡ reader.old ++ range (concat chunks) from to) }
     ensures len { OnOk result (length reader.new ≡ length reader.old + (to - from)) }
-    ensures refused { IfErr result (IsRunRefusal ((D.tells disk.old ≡ true) × AreBacked (D.files disk.old) folder.now xorbs.now.entries) (D.faults disk.old) (D.faults disk.new)) }
+    ensures refused { IfErr result (IsRunError ((D.tells disk.old ≡ true) × AreBacked (D.files disk.old) folder.now xorbs.now.entries) (D.faults disk.old) (D.faults disk.new)) }
     ensures frame { Unchanged D.files D.tells D.faults disk.old disk.new }
 {
     let mut from = from;
@@ -96,7 +96,7 @@ fn read_plan<D: Disk>(
 fn read_segment<D: Disk>(
     disk: &mut D,
     folder: &str,
-    xorbs: &IndexMap<MerkleHash, Members>,
+    xorbs: &IndexMap<MerkleHash, Leaves>,
     segment: &FileDataSequenceEntry,
     from: u64,
     to: u64,
@@ -105,15 +105,15 @@ fn read_segment<D: Disk>(
     requires { LiesListed xorbs.now.entries segment.now }
     ensures range { D.tells disk.old ≡ true → OnOk result ((chunks : List (List ℕ)) → IsStoredListed (D.files disk.old) folder.now xorbs.now.entries segment.now.xorb_hash chunks → reader.new ≡ reader.old ++ range (concat (part segment.now chunks)) from to) }
     ensures len { OnOk result (length reader.new ≡ length reader.old + (min to segment.now.unpacked_segment_bytes - min from segment.now.unpacked_segment_bytes)) }
-    ensures refused { IfErr result (IsRunRefusal ((D.tells disk.old ≡ true) × AreBacked (D.files disk.old) folder.now xorbs.now.entries) (D.faults disk.old) (D.faults disk.new)) }
+    ensures refused { IfErr result (IsRunError ((D.tells disk.old ≡ true) × AreBacked (D.files disk.old) folder.now xorbs.now.entries) (D.faults disk.old) (D.faults disk.new)) }
     ensures frame { Unchanged D.files D.tells D.faults disk.old disk.new }
 {
     let end = to.min(u64::from(segment.unpacked_segment_bytes));
     if from >= end {
         return Ok(());
     }
-    let Some(members) = xorbs.get(&segment.xorb_hash) else {
+    let Some(leaves) = xorbs.get(&segment.xorb_hash) else {
         return Err(StoreError::MalformedData(Reason::XorbText));
     };
-    reader.read_run(disk, folder, segment, members, from, end)
+    reader.read_run(disk, folder, segment, leaves, from, end)
 }

@@ -2,13 +2,13 @@
 use Rattle.std.specs.Prelude.{◌≡◌, ℕ, nat_lt, Bool, List, [], ◌∷◌, ◌++◌, length, Option, Some, None, is_some, Result, Ok, Err, if◌then◌else◌}
 use Rattle.std.specs.List.{list_all}
 use Rattle.std.specs.Option.{option_map}
-use Rattle.xet_store_cli.specs.Lines.{Line, line_of, most_files}
+use Rattle.xet_store_cli.specs.Lines.{Line, line_of, max_files}
 use Rattle.xet_store_cli.specs.Lines.Line.{FileLine, RangeLine}
 use Rattle.xet_store_cli.specs.Parsing.{Said}
 
 abbrev pub and_file : Said → List ℕ → Option Said
 and_file said bytes =
-    if nat_lt (length said.files) most_files then Some (record { files = said.files ++ bytes ∷ []; ranges = said.ranges }) else None
+    if nat_lt (length said.files) max_files then Some (record { files = said.files ++ bytes ∷ []; ranges = said.ranges }) else None
 
 abbrev pub and_line : Said → Option Line → Option Said
 and_line said None = None

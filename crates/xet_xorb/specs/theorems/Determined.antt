@@ -5,7 +5,7 @@ use Rattle.std.specs.List.{flat_map, AllByRecursion}
 use Rattle.xet_codec.specs.Numbers.{number}
 use Rattle.xet_xorb_footer.specs.FooterEncoding.{footer_bytes_v0, footer_bytes_v1}
 use Rattle.xet_xorb_chunk.specs.ChunkEncoding.{encoded_chunk}
-use Rattle.xet_xorb.specs.Footer.{Version, V0, V1, footer_len, footer_text}
+use Rattle.xet_xorb.specs.Footer.{Version, V0, V1, footer_len, xorb_footer_bytes}
 use Rattle.xet_xorb.specs.Xorb.{IsXorbEncoding, xorb_bytes}
 
 -- a number below 2 ^ 24 is determined by its three bytes
@@ -44,14 +44,14 @@ all_chunks (c ∷ cs) (d ∷ ds) s t sc sd fs ft e =
     ap (λ (x : List ℕ). x ∷ cs) parts.0 ∙ ap (λ (xs : List (List ℕ)). d ∷ xs) rest
 
 -- what stands behind the chunks begins as a footer
-footer_begins : (version : Version) (hash : List ℕ) (ms : List (List ℕ × ℕ)) (spare more : List ℕ) → BeginsWith 88 (footer_text version hash ms spare ++ more)
+footer_begins : (version : Version) (hash : List ℕ) (ms : List (List ℕ × ℕ)) (spare more : List ℕ) → BeginsWith 88 (xorb_footer_bytes version hash ms spare ++ more)
 unfolding footer_bytes_v0 footer_bytes_v1
 footer_begins V0 hash ms spare more = (_, refl)
 footer_begins V1 hash ms spare more = (_, refl)
 
 text_parts : (version : Version) (hash : List ℕ) (ms : List (List ℕ × ℕ)) (cs : List (List ℕ)) (spare : List ℕ) → (s : List ℕ) × BeginsWith 88 s × (xorb_bytes version hash ms cs spare ≡ flat_map encoded_chunk cs ++ s)
 unfolding xorb_bytes
-text_parts version hash ms cs spare = (footer_text version hash ms spare ++ number (footer_len version (length ms)), footer_begins version hash ms spare _, refl)
+text_parts version hash ms cs spare = (xorb_footer_bytes version hash ms spare ++ number (footer_len version (length ms)), footer_begins version hash ms spare _, refl)
 
 pub bytes_determine : (bytes : List ℕ) (cs ds : List (List ℕ)) → IsXorbEncoding bytes cs → IsXorbEncoding bytes ds → cs ≡ ds
 bytes_determine bytes cs ds x y =

@@ -3,22 +3,22 @@ use Rattle.std.proofs.Common.{◌≡◌, ℕ, zero, suc, ◌*◌, List, [], ◌�
 use Rattle.std.specs.List.{AllByRecursion}
 use Rattle.std.specs.Prelude.{nat_le, Bool}
 use Rattle.std.specs.Int.{w32, to_le_bytes}
-use Rattle.xet_hash.specs.Blake3.{bytes_of, keyed_digest}
-use Rattle.xet_hash.specs.Merkle.{hash_of_first, members_of, next_level, node_of, reduced, root_level, xorb_hash}
+use Rattle.xet_hash.specs.Blake3.{output_bytes, keyed_digest}
+use Rattle.xet_hash.specs.Merkle.{hash_of_first, leaves_of, next_level, node_of, reduced, root_level, xorb_hash}
 use Rattle.xet_base.specs.Pieces.{pieces}
 
-length-bytes_of : (h : List ℕ) (n : ℕ) → length (bytes_of h n) ≡ 4 * n
-unfolding bytes_of
+length-bytes_of : (h : List ℕ) (n : ℕ) → length (output_bytes h n) ≡ 4 * n
+unfolding output_bytes
 length-bytes_of h zero = refl
 length-bytes_of h (suc n) =
     let word : length (to_le_bytes w32 (slice_index h n)) ≡ 4 = refl in
-    omega (arith, length-append (bytes_of h n) (to_le_bytes w32 (slice_index h n)), length-bytes_of h n)
+    omega (arith, length-append (output_bytes h n) (to_le_bytes w32 (slice_index h n)), length-bytes_of h n)
 
 pub length-keyed_digest : (key bytes : List ℕ) → length (keyed_digest key bytes) ≡ 32
 unfolding keyed_digest
 length-keyed_digest key bytes = length-bytes_of _ 8
 
--- each member's hash has 32 bytes
+-- each leaf's hash has 32 bytes
 abbrev pub AreHashed : List (List ℕ × ℕ) → Type 0
 AreHashed ms = AllByRecursion (λ m. length m.0 ≡ 32) ms
 
@@ -43,6 +43,6 @@ first_hashed (m ∷ ms) h = h.0
 pub length-xorb_hash : (ms : List (List ℕ × ℕ)) → AreHashed ms → length (xorb_hash ms) ≡ 32
 length-xorb_hash ms h = first_hashed (root_level ms) (reduced_hashed (length ms) ms h)
 
-pub members_hashed : (chunks : List (List ℕ)) → AreHashed (members_of chunks)
-members_hashed [] = tt
-members_hashed (b ∷ bs) = (length-keyed_digest _ b, members_hashed bs)
+pub leaves_hashed : (chunks : List (List ℕ)) → AreHashed (leaves_of chunks)
+leaves_hashed [] = tt
+leaves_hashed (b ∷ bs) = (length-keyed_digest _ b, leaves_hashed bs)

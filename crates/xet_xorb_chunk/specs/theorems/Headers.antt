@@ -33,52 +33,52 @@ known n s e = known_by (n == 0) (n == 1) (n == 2) (n == 99) s e
 pub unknown : (n : ℕ) (error : StoreError) → scheme_of n ≡ Err error → (is_scheme n ≡ false) × (error ≡ MalformedData Scheme)
 unknown n error e = unknown_by (n == 0) (n == 1) (n == 2) (n == 99) error e
 
-pub refused_ident : (most : ℕ) (bytes : List ℕ) → is_footer_magic bytes ≡ true → header_at most bytes ≡ Err ChunkHeaderParse
+pub refused_ident : (max_chunk : ℕ) (bytes : List ℕ) → is_footer_magic bytes ≡ true → header_at max_chunk bytes ≡ Err ChunkHeaderParse
 unfolding header_at
-refused_ident most bytes i = rw i refl
+refused_ident max_chunk bytes i = rw i refl
 
-pub refused_scheme : (most : ℕ) (bytes : List ℕ) (h : Header) (error : StoreError) → is_footer_magic bytes ≡ false → h ≡ header_of bytes → scheme_of h.scheme ≡ Err error
-    → header_at most bytes ≡ Err error
+pub refused_scheme : (max_chunk : ℕ) (bytes : List ℕ) (h : Header) (error : StoreError) → is_footer_magic bytes ≡ false → h ≡ header_of bytes → scheme_of h.scheme ≡ Err error
+    → header_at max_chunk bytes ≡ Err error
 unfolding header_at
-refused_scheme most bytes h error i is s =
+refused_scheme max_chunk bytes h error i is s =
     let u = unknown h.scheme error s in
     let no : is_scheme (header_of bytes).scheme ≡ false = ap (λ (x : Header). is_scheme x.scheme) (sym is) ∙ u.0 in
     rw (i, no, u.1) refl
 
-pub refused_version : (most : ℕ) (bytes : List ℕ) (h : Header) (s : CompressionScheme) → is_footer_magic bytes ≡ false → h ≡ header_of bytes → scheme_of h.scheme ≡ Ok s
-    → h.version ≢ 0 → header_at most bytes ≡ Err (MalformedData HeaderVersion)
+pub refused_version : (max_chunk : ℕ) (bytes : List ℕ) (h : Header) (s : CompressionScheme) → is_footer_magic bytes ≡ false → h ≡ header_of bytes → scheme_of h.scheme ≡ Ok s
+    → h.version ≢ 0 → header_at max_chunk bytes ≡ Err (MalformedData HeaderVersion)
 unfolding header_at
-refused_version most bytes h s i is k v =
+refused_version max_chunk bytes h s i is k v =
     let yes : is_scheme (header_of bytes).scheme ≡ true = ap (λ (x : Header). is_scheme x.scheme) (sym is) ∙ known h.scheme s k in
     let no : ((header_of bytes).version == 0) ≡ false = ap (λ (x : Header). x.version == 0) (sym is) ∙ ne_eqb h.version 0 v in
     rw (i, yes, no) refl
 
-pub refused_stored : (most : ℕ) (bytes : List ℕ) (h : Header) (s : CompressionScheme) → is_footer_magic bytes ≡ false → h ≡ header_of bytes → scheme_of h.scheme ≡ Ok s
-    → h.version ≡ 0 → 2 * most < h.stored → header_at most bytes ≡ Err (MalformedData StoredLength)
+pub refused_stored : (max_chunk : ℕ) (bytes : List ℕ) (h : Header) (s : CompressionScheme) → is_footer_magic bytes ≡ false → h ≡ header_of bytes → scheme_of h.scheme ≡ Ok s
+    → h.version ≡ 0 → 2 * max_chunk < h.stored → header_at max_chunk bytes ≡ Err (MalformedData StoredLength)
 unfolding header_at
-refused_stored most bytes h s i is k v l =
+refused_stored max_chunk bytes h s i is k v l =
     let yes : is_scheme (header_of bytes).scheme ≡ true = ap (λ (x : Header). is_scheme x.scheme) (sym is) ∙ known h.scheme s k in
     let zero : ((header_of bytes).version == 0) ≡ true = ap (λ (x : Header). x.version == 0) (sym is) ∙ eq-eqb h.version 0 v in
-    let no : nat_le (header_of bytes).stored (2 * most) ≡ false = ap (λ (x : Header). nat_le x.stored (2 * most)) (sym is) ∙ lt-leb h.stored (2 * most) l in
+    let no : nat_le (header_of bytes).stored (2 * max_chunk) ≡ false = ap (λ (x : Header). nat_le x.stored (2 * max_chunk)) (sym is) ∙ lt-leb h.stored (2 * max_chunk) l in
     rw (i, yes, zero, no) refl
 
-pub refused_plain : (most : ℕ) (bytes : List ℕ) (h : Header) (s : CompressionScheme) → is_footer_magic bytes ≡ false → h ≡ header_of bytes → scheme_of h.scheme ≡ Ok s
-    → h.version ≡ 0 → h.stored ≤ 2 * most → most < h.plain → header_at most bytes ≡ Err (MalformedData PlainLength)
+pub refused_plain : (max_chunk : ℕ) (bytes : List ℕ) (h : Header) (s : CompressionScheme) → is_footer_magic bytes ≡ false → h ≡ header_of bytes → scheme_of h.scheme ≡ Ok s
+    → h.version ≡ 0 → h.stored ≤ 2 * max_chunk → max_chunk < h.plain → header_at max_chunk bytes ≡ Err (MalformedData PlainLength)
 unfolding header_at
-refused_plain most bytes h s i is k v l p =
+refused_plain max_chunk bytes h s i is k v l p =
     let yes : is_scheme (header_of bytes).scheme ≡ true = ap (λ (x : Header). is_scheme x.scheme) (sym is) ∙ known h.scheme s k in
     let zero : ((header_of bytes).version == 0) ≡ true = ap (λ (x : Header). x.version == 0) (sym is) ∙ eq-eqb h.version 0 v in
-    let fits : nat_le (header_of bytes).stored (2 * most) ≡ true = ap (λ (x : Header). nat_le x.stored (2 * most)) (sym is) ∙ le-leb h.stored (2 * most) l in
-    let no : nat_le (header_of bytes).plain most ≡ false = ap (λ (x : Header). nat_le x.plain most) (sym is) ∙ lt-leb h.plain most p in
+    let fits : nat_le (header_of bytes).stored (2 * max_chunk) ≡ true = ap (λ (x : Header). nat_le x.stored (2 * max_chunk)) (sym is) ∙ le-leb h.stored (2 * max_chunk) l in
+    let no : nat_le (header_of bytes).plain max_chunk ≡ false = ap (λ (x : Header). nat_le x.plain max_chunk) (sym is) ∙ lt-leb h.plain max_chunk p in
     rw (i, yes, zero, fits, no) refl
 
 -- bytes that pass the checks
-pub accepted : (most : ℕ) (bytes : List ℕ) (h : Header) → is_footer_magic bytes ≡ false → h ≡ header_of bytes → is_scheme h.scheme ≡ true
-    → h.version ≡ 0 → h.stored ≤ 2 * most → h.plain ≤ most → header_at most bytes ≡ Ok h
+pub accepted : (max_chunk : ℕ) (bytes : List ℕ) (h : Header) → is_footer_magic bytes ≡ false → h ≡ header_of bytes → is_scheme h.scheme ≡ true
+    → h.version ≡ 0 → h.stored ≤ 2 * max_chunk → h.plain ≤ max_chunk → header_at max_chunk bytes ≡ Ok h
 unfolding header_at
-accepted most bytes h i is k v l p =
+accepted max_chunk bytes h i is k v l p =
     let yes : is_scheme (header_of bytes).scheme ≡ true = ap (λ (x : Header). is_scheme x.scheme) (sym is) ∙ k in
     let zero : ((header_of bytes).version == 0) ≡ true = ap (λ (x : Header). x.version == 0) (sym is) ∙ eq-eqb h.version 0 v in
-    let fits : nat_le (header_of bytes).stored (2 * most) ≡ true = ap (λ (x : Header). nat_le x.stored (2 * most)) (sym is) ∙ le-leb h.stored (2 * most) l in
-    let small : nat_le (header_of bytes).plain most ≡ true = ap (λ (x : Header). nat_le x.plain most) (sym is) ∙ le-leb h.plain most p in
+    let fits : nat_le (header_of bytes).stored (2 * max_chunk) ≡ true = ap (λ (x : Header). nat_le x.stored (2 * max_chunk)) (sym is) ∙ le-leb h.stored (2 * max_chunk) l in
+    let small : nat_le (header_of bytes).plain max_chunk ≡ true = ap (λ (x : Header). nat_le x.plain max_chunk) (sym is) ∙ le-leb h.plain max_chunk p in
     rw (i, yes, zero, fits, small) (ap (λ (x : Header). Ok x) (sym is))

@@ -10,7 +10,7 @@ abbrev pub IsTotal : Joined → List ℕ → ℕ → Type 0
 IsTotal j bytes total = j.ended ≡ false → total ≡ j.count + length bytes
 
 -- Between the states `old` and `new`, `bytes` was read up to `rest`.
-pub record Reads (old new : Joined) (bytes rest : List ℕ) : Type 0 where
+pub record ReadsUpTo (old new : Joined) (bytes rest : List ℕ) : Type 0 where
   pub moved : (more : List ℕ) (total : ℕ) → IsTotal old (bytes ++ more) total → rest_whole old total (bytes ++ more) ≡ rest_whole new total (rest ++ more)
   pub count : new.ended ≡ false → (old.ended ≡ false) × (new.count + length rest ≡ old.count + length bytes)
 

@@ -9,86 +9,86 @@ use Rattle.xet_hash.specs.Hash.{zero_hash}
 use Rattle.xet_xorb_footer.specs.declared.machine.Field.{Field}
 use Rattle.xet_xorb_footer.specs.declared.machine.Field.TheVariants as fields
 use Rattle.xet_xorb_footer.specs.internal.Items.{hashes_in, numbers_in}
-use Rattle.xet_codec.specs.Parsing.{◌>>=◌, Taken, wants}
+use Rattle.xet_codec.specs.Parsing.{◌>>=◌, Parsed, wants}
 use Rattle.xet_xorb_footer.specs.FooterEncoding.{boundaries_magic, footer_magic, hashes_magic, max_chunks}
-use Rattle.xet_xorb_footer.specs.Machine.{Parts, block_of}
+use Rattle.xet_xorb_footer.specs.Machine.{FooterParts, block_of}
 
 -- If the field is one of a list, the list is incomplete.
-abbrev pub IsSettled : Field → Parts → Type 0
-IsSettled fields.Hashes p = length p.hashes < p.count
-IsSettled fields.Ends p = length p.ends < p.count
-IsSettled fields.PlainEnds p = length p.plain < p.count
-IsSettled f p = Unit {0}
+abbrev pub IsIncomplete : Field → FooterParts → Type 0
+IsIncomplete fields.Hashes p = length p.hashes < p.count
+IsIncomplete fields.Ends p = length p.ends < p.count
+IsIncomplete fields.PlainEnds p = length p.plain < p.count
+IsIncomplete f p = Unit {0}
 
 -- The field `here` while the list is incomplete, then the field `behind`.
-abbrev pub lacks : {X : Type 0} → Parts → List X → Field → Field → Field
+abbrev pub lacks : {X : Type 0} → FooterParts → List X → Field → Field → Field
 lacks p xs here behind = if nat_lt (length xs) p.count then here else behind
 
-abbrev pub plain_v1 : Parts → Field
+abbrev pub plain_v1 : FooterParts → Field
 plain_v1 p = lacks p p.plain fields.PlainEnds fields.CountLast
 
-abbrev pub ends_v1 : Parts → Field
+abbrev pub ends_v1 : FooterParts → Field
 ends_v1 p = lacks p p.ends fields.Ends (plain_v1 p)
 
-abbrev pub hashes_v1 : Parts → Field
+abbrev pub hashes_v1 : FooterParts → Field
 hashes_v1 p = lacks p p.hashes fields.Hashes fields.BoundariesIdent
 
-abbrev pub hashes_v0 : Parts → Field
+abbrev pub hashes_v0 : FooterParts → Field
 hashes_v0 p = lacks p p.hashes fields.Hashes fields.Spare
 
-abbrev pub ends_v0 : Parts → Field
+abbrev pub ends_v0 : FooterParts → Field
 ends_v0 p = lacks p p.ends fields.Ends (hashes_v0 p)
 
 abbrev pub Next : Type 0
-Next = Result (Field × Parts) StoreError
+Next = Result (Field × FooterParts) StoreError
 
-abbrev pub expects : List ℕ → List ℕ → Reason → Field → Parts → Next
+abbrev pub expects : List ℕ → List ℕ → Reason → Field → FooterParts → Next
 expects field ident reason next p = wants (pointwise nat_eq field ident) reason >>= λ _. Ok (next, p)
 
-abbrev pub expects_number : List ℕ → ℕ → Reason → Field → Parts → Next
+abbrev pub expects_number : List ℕ → ℕ → Reason → Field → FooterParts → Next
 expects_number field n reason next p = wants (from_le_bytes w32 field == n) reason >>= λ _. Ok (next, p)
 
-abbrev pub next_version : Parts → List ℕ → Next
+abbrev pub next_version : FooterParts → List ℕ → Next
 next_version p field = if p.either && pointwise nat_eq field (1 ∷ []) then Ok (fields.Hash, record p { is_v1 = true }) else expects field (0 ∷ []) reasons.Version fields.Hash (record p { is_v1 = false })
 
-abbrev pub next_hash : Parts → List ℕ → Next
+abbrev pub next_hash : FooterParts → List ℕ → Next
 next_hash p field = Ok (if p.is_v1 then fields.HashesIdent else fields.Count, record p { hash = field })
 
-abbrev pub behind_count : Parts → Field
+abbrev pub behind_count : FooterParts → Field
 behind_count p = if p.is_v1 then hashes_v1 p else ends_v0 p
 
-abbrev pub next_count : Parts → List ℕ → Next
+abbrev pub next_count : FooterParts → List ℕ → Next
 next_count p field = wants (nat_le (from_le_bytes w32 field) max_chunks) reasons.ChunkCount >>= λ _. Ok (behind_count (record p { count = from_le_bytes w32 field }), record p { count = from_le_bytes w32 field })
 
-abbrev pub behind_hashes : Parts → Field
+abbrev pub behind_hashes : FooterParts → Field
 behind_hashes p = if p.is_v1 then hashes_v1 p else hashes_v0 p
 
-abbrev pub more_hashes : Parts → List ℕ → Parts
+abbrev pub more_hashes : FooterParts → List ℕ → FooterParts
 more_hashes p field = record p { hashes = p.hashes ++ hashes_in (block_of p p.hashes) field }
 
-abbrev pub next_hashes : Parts → List ℕ → Next
+abbrev pub next_hashes : FooterParts → List ℕ → Next
 next_hashes p field = Ok (behind_hashes (more_hashes p field), more_hashes p field)
 
-abbrev pub behind_ends : Parts → Field
+abbrev pub behind_ends : FooterParts → Field
 behind_ends p = if p.is_v1 then ends_v1 p else ends_v0 p
 
-abbrev pub more_ends : Parts → List ℕ → Parts
+abbrev pub more_ends : FooterParts → List ℕ → FooterParts
 more_ends p field = record p { ends = p.ends ++ numbers_in (block_of p p.ends) field }
 
-abbrev pub next_ends : Parts → List ℕ → Next
+abbrev pub next_ends : FooterParts → List ℕ → Next
 next_ends p field = Ok (behind_ends (more_ends p field), more_ends p field)
 
-abbrev pub more_plain : Parts → List ℕ → Parts
+abbrev pub more_plain : FooterParts → List ℕ → FooterParts
 more_plain p field = record p { plain = p.plain ++ numbers_in (block_of p p.plain) field }
 
-abbrev pub next_plain : Parts → List ℕ → Next
+abbrev pub next_plain : FooterParts → List ℕ → Next
 next_plain p field = Ok (plain_v1 (more_plain p field), more_plain p field)
 
-abbrev pub next_spare : Parts → List ℕ → Next
+abbrev pub next_spare : FooterParts → List ℕ → Next
 next_spare p field = Ok (fields.Done, record p { spare = field })
 
 -- The state after a field, or the error of its check.
-unfoldable pub step : Field → Parts → List ℕ → Next
+unfoldable pub step : Field → FooterParts → List ℕ → Next
 step fields.Ident p field = expects field footer_magic reasons.Ident fields.Version p
 step fields.Version p field = next_version p field
 step fields.Hash p field = next_hash p field
@@ -108,9 +108,9 @@ step fields.Spare p field = next_spare p field
 step fields.Done p field = Ok (fields.Done, p)
 
 -- The value read, converted.
-abbrev pub as_value : {X Y : Type 0} → (X → Y) → Taken X → Taken Y
+abbrev pub as_value : {X Y : Type 0} → (X → Y) → Parsed X → Parsed Y
 as_value make read = read >>= λ x. Ok (make x.0, x.1)
 
 -- Nothing was read.
-abbrev pub started : Bool → Parts
+abbrev pub started : Bool → FooterParts
 started either = record { either = either; is_v1 = false; hash = zero_hash; count = 0; hashes = []; ends = []; plain = []; spare = replicate 16 0 }

@@ -10,5 +10,5 @@ pub told_is : (len : ℕ) (bytes last : List ℕ) → len ≡ length bytes → 4
 unfolding footer_length
 told_is len bytes last e le is =
     let enough : nat_le 4 (length bytes) ≡ true = le-leb 4 (length bytes) (omega arith) in
-    let front : take 4 (drop (length bytes - 4) bytes) ≡ last = ap (λ (n : ℕ). take 4 (drop (n - 4) bytes)) (sym e) ∙ sym is in
-    rw (enough, front) refl
+    let prefix : take 4 (drop (length bytes - 4) bytes) ≡ last = ap (λ (n : ℕ). take 4 (drop (n - 4) bytes)) (sym e) ∙ sym is in
+    rw (enough, prefix) refl

@@ -15,34 +15,34 @@ use Rattle.xet_xorb_footer.specs.theorems.Readback.{length_is_known, written_is_
 use Rattle.xet_xorb_footer.specs.theorems.ReadbackV0.{length_is_known_v0, written_is_read_v0}
 
 -- what is behind so many bytes
-behind : (front back : List ℕ) (n : ℕ) → n ≡ length front → drop n (front ++ back) ≡ back
-behind front back n is = ap (λ (k : ℕ). drop k (front ++ back)) is ∙ drop-append_seam front back
+behind : (prefix back : List ℕ) (n : ℕ) → n ≡ length prefix → drop n (prefix ++ back) ≡ back
+behind prefix back n is = ap (λ (k : ℕ). drop k (prefix ++ back)) is ∙ drop-append_seam prefix back
 
 -- the last four bytes tell a number
-told_back : (front : List ℕ) (n : ℕ) → n < 2 ^ 32 → footer_length (front ++ number n) ≡ Ok n
-told_back front n small =
-    let all : List ℕ = front ++ number n in
-    let len : length all ≡ length front + 4 = length-append front (number n) in
-    let last : number n ≡ take 4 (drop (length all - 4) all) = sym (ap (take 4) (behind front (number n) (length all - 4) (omega arith))) in
+told_back : (prefix : List ℕ) (n : ℕ) → n < 2 ^ 32 → footer_length (prefix ++ number n) ≡ Ok n
+told_back prefix n small =
+    let all : List ℕ = prefix ++ number n in
+    let len : length all ≡ length prefix + 4 = length-append prefix (number n) in
+    let last : number n ≡ take 4 (drop (length all - 4) all) = sym (ap (take 4) (behind prefix (number n) (length all - 4) (omega arith))) in
     told_is (length all) all (number n) refl (omega arith) last ∙ ap Ok (from_le_bytes-to_le_bytes_4 n small)
 
 -- a text of so many bytes, which is read as a footer
-last_back : (info : XorbObjectInfoV1) (front text : List ℕ) (n : ℕ) → length text ≡ n → n < 2 ^ 32 → footer_at (text ++ number n) ≡ Ok (info, number n) → last_footer (front ++ (text ++ number n)) ≡ Ok (info, n)
+last_back : (info : XorbObjectInfoV1) (prefix text : List ℕ) (n : ℕ) → length text ≡ n → n < 2 ^ 32 → footer_at (text ++ number n) ≡ Ok (info, number n) → last_footer (prefix ++ (text ++ number n)) ≡ Ok (info, n)
 unfolding last_footer
-last_back info front text n len small read =
-    let all : List ℕ = front ++ (text ++ number n) in
-    let long : length all ≡ length front + (n + 4) = omega (arith, length-append front (text ++ number n), length-append text (number n)) in
-    let told : footer_length all ≡ Ok n = ap footer_length (sym (append_assoc front text (number n))) ∙ told_back (front ++ text) n small in
+last_back info prefix text n len small read =
+    let all : List ℕ = prefix ++ (text ++ number n) in
+    let long : length all ≡ length prefix + (n + 4) = omega (arith, length-append prefix (text ++ number n), length-append text (number n)) in
+    let told : footer_length all ≡ Ok n = ap footer_length (sym (append_assoc prefix text (number n))) ∙ told_back (prefix ++ text) n small in
     let enough : nat_le (n + 4) (length all) ≡ true = le-leb (n + 4) (length all) (omega arith) in
-    let here : drop (length all - (n + 4)) all ≡ text ++ number n = behind front (text ++ number n) (length all - (n + 4)) (omega arith) in
+    let here : drop (length all - (n + 4)) all ≡ text ++ number n = behind prefix (text ++ number n) (length all - (n + 4)) (omega arith) in
     rw (told, enough, here, read) refl
 
-pub last_is_read : (i : XorbObjectInfoV1) (front : List ℕ) → IsStandard i → last_footer (front ++ (footer_bytes_v1 i ++ number (92 + 40 * i.num_chunks))) ≡ Ok (i, 92 + 40 * i.num_chunks)
-last_is_read i front s =
+pub last_is_read : (i : XorbObjectInfoV1) (prefix : List ℕ) → IsStandard i → last_footer (prefix ++ (footer_bytes_v1 i ++ number (92 + 40 * i.num_chunks))) ≡ Ok (i, 92 + 40 * i.num_chunks)
+last_is_read i prefix s =
     let n : ℕ = 92 + 40 * i.num_chunks in
-    last_back i front (footer_bytes_v1 i) n (length_is_known i s) (omega (arith, s.few)) (written_is_read i (number n) s)
+    last_back i prefix (footer_bytes_v1 i) n (length_is_known i s) (omega (arith, s.few)) (written_is_read i (number n) s)
 
-pub last_is_read_v0 : (i : XorbObjectInfoV0) (front : List ℕ) → IsStandardV0 i → last_footer (front ++ (footer_bytes_v0 i ++ number (60 + 36 * i.num_chunks))) ≡ Ok (of_v0 i, 60 + 36 * i.num_chunks)
-last_is_read_v0 i front s =
+pub last_is_read_v0 : (i : XorbObjectInfoV0) (prefix : List ℕ) → IsStandardV0 i → last_footer (prefix ++ (footer_bytes_v0 i ++ number (60 + 36 * i.num_chunks))) ≡ Ok (of_v0 i, 60 + 36 * i.num_chunks)
+last_is_read_v0 i prefix s =
     let n : ℕ = 60 + 36 * i.num_chunks in
-    last_back (of_v0 i) front (footer_bytes_v0 i) n (length_is_known_v0 i s) (omega (arith, s.few)) (written_is_read_v0 i (number n) s)
+    last_back (of_v0 i) prefix (footer_bytes_v0 i) n (length_is_known_v0 i s) (omega (arith, s.few)) (written_is_read_v0 i (number n) s)

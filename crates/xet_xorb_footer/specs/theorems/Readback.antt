@@ -8,11 +8,11 @@ use Rattle.xet_hash.specs.declared.error.Reason.{Reason}
 use Rattle.xet_hash.specs.declared.error.Reason.TheVariants as reasons
 use Rattle.xet_xorb_footer.specs.declared.info.XorbObjectInfoV1.{XorbObjectInfoV1}
 use Rattle.xet_xorb_footer.specs.Laws.{IsStandard}
-use Rattle.xet_codec.specs.Parsing.{◌>>=◌, bytes_at, number_at, times, wants}
+use Rattle.xet_codec.specs.Parsing.{◌>>=◌, next_bytes, number_at, times, wants}
 use Rattle.xet_xorb_footer.specs.Reading.{count_at, footer_at, number_is, rest_v1, version_of}
 use Rattle.xet_xorb_footer.specs.FooterEncoding.{boundaries_magic, footer_magic, hashes_magic, max_chunks, footer_bytes_v1}
 use Rattle.xet_codec.specs.Numbers.{joined, number, numbers}
-use Rattle.xet_xorb_footer.specs.theorems.Fronts.{bytes_whole, ident_whole, number_is_whole, number_whole, version_whole}
+use Rattle.xet_xorb_footer.specs.theorems.Prefixes.{bytes_whole, ident_whole, number_is_whole, number_whole, version_whole}
 use Rattle.xet_xorb_footer.specs.theorems.EncodedLengths.{length_v1}
 
 number_back : (n : ℕ) (more : List ℕ) → n < 2 ^ 32 → number_at (number n ++ more) ≡ Ok (n, more)
@@ -26,7 +26,7 @@ pub count_back : (n : ℕ) (more : List ℕ) → n ≤ max_chunks → count_at (
 unfolding count_at
 count_back n more few = rw (number_back n more (omega arith), le-leb n max_chunks few) refl
 
-pub hashes_back : (hs : List (List ℕ)) (more : List ℕ) → AllByRecursion (λ h. length h ≡ 32) hs → times (bytes_at 32) (length hs) (joined hs ++ more) ≡ Ok (hs, more)
+pub hashes_back : (hs : List (List ℕ)) (more : List ℕ) → AllByRecursion (λ h. length h ≡ 32) hs → times (next_bytes 32) (length hs) (joined hs ++ more) ≡ Ok (hs, more)
 unfolding times
 hashes_back [] more all = refl
 hashes_back (h ∷ hs) more all = rw (append_assoc h (joined hs) more, bytes_whole 32 h (joined hs ++ more) all.0, hashes_back hs more all.1) refl
@@ -81,8 +81,8 @@ rest_back hash n hashes ends plain spare more hash_len few hashes_len ends_len p
     let e2 = ident_whole hashes_magic reasons.HashesIdent hashes_magic ((0 ∷ []) ++ (number n ++ (joined hashes ++ text_middle n ends plain spare more))) refl in
     let e3 = version_whole 0 reasons.HashesVersion (0 ∷ []) (number n ++ (joined hashes ++ text_middle n ends plain spare more)) refl in
     let e4 = count_back n (joined hashes ++ text_middle n ends plain spare more) few in
-    let e5 : times (bytes_at 32) n (joined hashes ++ text_middle n ends plain spare more) ≡ Ok (hashes, text_middle n ends plain spare more) =
-    ap (λ (k : ℕ). times (bytes_at 32) k (joined hashes ++ text_middle n ends plain spare more)) (sym hashes_len) ∙ hashes_back hashes (text_middle n ends plain spare more) whole in
+    let e5 : times (next_bytes 32) n (joined hashes ++ text_middle n ends plain spare more) ≡ Ok (hashes, text_middle n ends plain spare more) =
+    ap (λ (k : ℕ). times (next_bytes 32) k (joined hashes ++ text_middle n ends plain spare more)) (sym hashes_len) ∙ hashes_back hashes (text_middle n ends plain spare more) whole in
     let e6 = ident_whole boundaries_magic reasons.BoundariesIdent boundaries_magic ((1 ∷ []) ++ (number n ++ (numbers ends ++ (numbers plain ++ text_end n spare more)))) refl in
     let e7 = version_whole 1 reasons.BoundariesVersion (1 ∷ []) (number n ++ (numbers ends ++ (numbers plain ++ text_end n spare more))) refl in
     let e8 = is_back n reasons.CountMismatch (numbers ends ++ (numbers plain ++ text_end n spare more)) small in
@@ -96,9 +96,9 @@ rest_back hash n hashes ends plain spare more hash_len few hashes_len ends_len p
     let e14 = bytes_whole 16 spare more spare_len in
     rw (e1, e2, e3, e4, e5, e6, e7, e8, e9, e10, e11, e12, e13, e14) refl
 
-front_back : (rest : List ℕ) → footer_at (footer_magic ++ ((1 ∷ []) ++ rest)) ≡ rest_v1 rest
+prefix_back : (rest : List ℕ) → footer_at (footer_magic ++ ((1 ∷ []) ++ rest)) ≡ rest_v1 rest
 unfolding footer_at version_of
-front_back rest = rw (ident_whole footer_magic reasons.Ident footer_magic ((1 ∷ []) ++ rest) refl, bytes_whole 1 (1 ∷ []) rest refl) refl
+prefix_back rest = rw (ident_whole footer_magic reasons.Ident footer_magic ((1 ∷ []) ++ rest) refl, bytes_whole 1 (1 ∷ []) rest refl) refl
 
 -- it is the standard one of its fields
 pub same : (i : XorbObjectInfoV1) → IsStandard i → i ≡ standard i.xorb_hash i.num_chunks i.chunk_hashes i.chunk_boundary_offsets i.unpacked_chunk_offsets i.spare
@@ -124,7 +124,7 @@ written_is_read i more s =
     let k : XorbObjectInfoV1 = standard i.xorb_hash i.num_chunks i.chunk_hashes i.chunk_boundary_offsets i.unpacked_chunk_offsets i.spare in
     let is : i ≡ k = same i s in
     ap (λ (x : XorbObjectInfoV1). footer_at (footer_bytes_v1 x ++ more)) is ∙ ap footer_at (text_of i.xorb_hash i.num_chunks i.chunk_hashes i.chunk_boundary_offsets i.unpacked_chunk_offsets i.spare more)
-    ∙ front_back (text_rest i.xorb_hash i.num_chunks i.chunk_hashes i.chunk_boundary_offsets i.unpacked_chunk_offsets i.spare more)
+    ∙ prefix_back (text_rest i.xorb_hash i.num_chunks i.chunk_hashes i.chunk_boundary_offsets i.unpacked_chunk_offsets i.spare more)
     ∙ rest_back i.xorb_hash i.num_chunks i.chunk_hashes i.chunk_boundary_offsets i.unpacked_chunk_offsets i.spare more s.hash s.few s.lists.hashes s.lists.stored s.lists.plain s.whole_hashes s.small_stored s.small_plain s.spare
     ∙ ap (λ (x : XorbObjectInfoV1). Ok (x, more)) (sym is)
 

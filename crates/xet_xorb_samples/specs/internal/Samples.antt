@@ -15,4 +15,4 @@ AreSampleChunks n size before chunks after = (bytes : List (List ℕ)) × AreSam
 
 -- The offsets do not fall.
 abbrev pub DoRise : List (List ℕ × ℕ) → Type 0
-DoRise cuts = (len : ℕ) × Rise 0 cuts len
+DoRise boundaries = (len : ℕ) × Rise 0 boundaries len

@@ -1,17 +1,17 @@
 use Rattle.std.proofs.Common.{◌∙◌, ◌+◌, ◌++◌, List, ap, arith, length, length-append, sym, take, ℕ}
 use Rattle.std.proofs.lemmas.List.{length-take-le}
-use Rattle.xet_base.specs.theorems.Written.{block_fed, front_of_first, written_both, written_then}
+use Rattle.xet_base.specs.theorems.Written.{block_fed, prefix_of_first, written_both, written_then}
 use Rattle.xet_codec.proofs.streams.copy_all.Goals as goal
 
-pub returns-in_err-write_piece-clause-front : goal.returns-in_err-write_piece-clause-front
-returns-in_err-write_piece-clause-front g c = λ told tells.
+pub returns-in_err-write_piece-clause-prefix : goal.returns-in_err-write_piece-clause-prefix
+returns-in_err-write_piece-clause-prefix g c = λ told tells.
     let i = c.reads.invariant in
     let h = i.copied told in
     let piece : List ℕ = take c.in_ok-count.count c.read_some.new.buf in
     let rest = g.R.Source.left c.read_some.new.source in
     let whole = block_fed _ h.0 _ c.read_some.new.buf _ c.in_ok-count.count h.2 (c.in_ok-count.ensures.told (i.source_tells ∙ told)).next in
-    let f = c.in_err-write_piece.ensures.front (i.sink_tells ∙ tells) in
-    let m = front_of_first (h.0 ++ piece) rest (length h.0 + f.0) in
+    let f = c.in_err-write_piece.ensures.prefix (i.sink_tells ∙ tells) in
+    let m = prefix_of_first (h.0 ++ piece) rest (length h.0 + f.0) in
     (m.0, written_then _ _ _ h.0 piece f.0 (h.3 tells) f.1 ∙ ap (λ (x : List ℕ). g.W.Sink.written c.args.w.now ++ x) (m.1 ∙ ap (take m.0) (sym whole)))
 
 pub reads-preserved : goal.reads-preserved

@@ -1,12 +1,12 @@
 use Rattle.std.proofs.Common.{map, arith}
-use Rattle.xet_xorb_chunk.specs.Chunks.{bytes_of}
+use Rattle.xet_xorb_chunk.specs.Chunks.{bytes_of_chunk}
 use Rattle.xet_dedup.proofs.Fitting.{fitting_end, fitting_start, fitting_step, fitting_stop, total_more}
 use Rattle.xet_dedup.proofs.packing.pack_len.Goals as goal
 
 pub chunks-init : goal.chunks-init
 chunks-init c = record {
   within = omega arith;
-  value = fitting_start c.args.limits.now c.cut_bytes-room.result (map bytes_of c.args.chunks.now) c.cut_bytes-room.ensures.value;
+  value = fitting_start c.args.limits.now c.cut_bytes-room.result (map bytes_of_chunk c.args.chunks.now) c.cut_bytes-room.ensures.value;
   bytes = omega arith;
 }
 

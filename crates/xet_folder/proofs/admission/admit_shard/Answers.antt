@@ -3,7 +3,7 @@ use Rattle.xet_io.specs.Disk.{file}
 use Rattle.xet_hash.specs.declared.error.StoreError.{StoreError}
 use Rattle.xet_shard_format.specs.theorems.Fitting.{materialized_below}
 use Rattle.xet_folder.specs.Admission.{ShardFails}
-use Rattle.xet_shard_file.specs.Refusals.{IsCheckRefusal, IsShardError}
+use Rattle.xet_shard_file.specs.Errors.{IsShardCheckError, IsShardError}
 use Rattle.xet_folder.specs.Checks.{Knows}
 use Rattle.xet_base.specs.theorems.Exits.{on_exit}
 use Rattle.xet_folder.proofs.Refused.{read_error, read_refusal}
@@ -16,7 +16,7 @@ returns-in_err-parts-clause-refused g c =
     let known = Knows (g.D.Disk.tells c.args.disk.now) files c.args.folder.now c.args.table.now in
     let fails : StoreError → Type 0 = λ e. (modified : ℕ) → ShardFails files c.args.folder.now (record { hash = c.args.hash.now; file = file c.args.bytes.now modified }) e in
     let count = g.D.Disk.faults c.args.disk.now in
-    on_exit c.from_residual.result c.in_err-parts.field-0.0 (IsCheckRefusal known fails count count) c.from_residual.ensures.1
+    on_exit c.from_residual.result c.in_err-parts.field-0.0 (IsShardCheckError known fails count count) c.from_residual.ensures.1
     (read_refusal known fails count count c.args.bytes.now c.in_err-parts.field-0.0 (λ k refused modified. ShardFails.grammar refused) c.in_err-parts.ensures.exact)
 
 pub check_parts-requires-clause-total : goal.check_parts-requires-clause-total

@@ -2,8 +2,8 @@ use Rattle.std.proofs.Common.{◌≡◌, ◌∙◌, ℕ, List, sym, subst, arith
 use Rattle.xet_io.specs.Disk.{Files}
 use Rattle.xet_shard_format.specs.Records.{xorb_hash}
 use Rattle.xet_folder.specs.Admission.{BlockFails, BlockHolds, FirstFails}
-use Rattle.xet_folder.specs.Checks.{Has, Knows, OfBlocks}
-use Rattle.xet_shard_file.specs.Refusals.{IsCheckRefusal}
+use Rattle.xet_folder.specs.Checks.{IsInTable, Knows, OfBlocks}
+use Rattle.xet_shard_file.specs.Errors.{IsShardCheckError}
 use Rattle.xet_base.specs.theorems.Exits.{on_exit}
 use Rattle.xet_folder.proofs.Refused.{refusal_of}
 use Rattle.xet_folder.proofs.Rest.{all_done}
@@ -30,7 +30,7 @@ returns-in_err-check_block-clause-refused g c =
     let now = g.D.Disk.faults c.check_block.new.disk in
     let Holds = BlockHolds files folder shard in
     let Fails = BlockFails files folder shard in
-    on_exit c.from_residual.result c.in_err-check_block.field-0.0 (IsCheckRefusal known (FirstFails Holds Fails c.args.blocks.now) (g.D.Disk.faults c.args.disk.now) now) c.from_residual.ensures.1
+    on_exit c.from_residual.result c.in_err-check_block.field-0.0 (IsShardCheckError known (FirstFails Holds Fails c.args.blocks.now) (g.D.Disk.faults c.args.disk.now) now) c.from_residual.ensures.1
     (refusal_of known_here known (BlockFails here folder shard block) (FirstFails Holds Fails c.args.blocks.now) (g.D.Disk.faults c.loop-block.disk) now (g.D.Disk.faults c.args.disk.now)
     i.knows
     (λ k e fails. fails_here c.args.blocks.now c.loop-block.block-index block c.loop-block-test.true c.block-item.is Holds Fails e (subst (λ (f : Files). BlockFails f folder shard block e) i.same fails) (i.fails k e))
@@ -53,7 +53,7 @@ loop-block-preserved g c =
     record {
       holds = λ k. all_left blocks index block c.loop-block-test.true c.block-item.is Holds (holds k) (i.holds k);
       fails = λ k e. fails_left blocks index block c.loop-block-test.true c.block-item.is Holds Fails e (holds k) (i.fails k e);
-      there = λ later is. all_left blocks index block c.loop-block-test.true c.block-item.is (λ b. Has later (xorb_hash b)) (has_later c.check_block.new.table later (xorb_hash block) is done.there)
+      there = λ later is. all_left blocks index block c.loop-block-test.true c.block-item.is (λ b. IsInTable later (xorb_hash b)) (has_later c.check_block.new.table later (xorb_hash block) is done.there)
           (i.there later (later_then c.loop-block.table c.check_block.new.table later (later_of (λ h. h ≡ xorb_hash block) c.loop-block.table c.check_block.new.table done.grows) is));
       grows = grows_then (OfBlocks blocks) (λ h. h ≡ xorb_hash block)
           (λ h is. subst (λ (x : List ℕ). OfBlocks blocks x) (sym is) (among_map blocks index block c.loop-block-test.true c.block-item.is xorb_hash))
@@ -66,4 +66,4 @@ loop-block-preserved g c =
 
 pub returns-clause-there : goal.returns-clause-there
 returns-clause-there g c =
-    all_done (λ b. Has c.loop-block.table (xorb_hash b)) c.args.blocks.now c.loop-block.block-index c.loop-block-test.false (c.loop-block.invariant.there c.loop-block.table (later_none c.loop-block.table))
+    all_done (λ b. IsInTable c.loop-block.table (xorb_hash b)) c.args.blocks.now c.loop-block.block-index c.loop-block-test.false (c.loop-block.invariant.there c.loop-block.table (later_none c.loop-block.table))

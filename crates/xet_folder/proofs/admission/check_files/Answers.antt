@@ -3,8 +3,8 @@ use Rattle.xet_io.specs.Disk.{Files}
 use Rattle.xet_shard_format.specs.Records.{file_hash}
 use Rattle.xet_folder.specs.Admission.{FileFails, FileHolds, FirstFails}
 use Rattle.xet_folder.specs.internal.Contents.{IsFileRecord}
-use Rattle.xet_folder.specs.Checks.{HasFile, Knows, OfFile, OfFiles}
-use Rattle.xet_shard_file.specs.Refusals.{IsCheckRefusal}
+use Rattle.xet_folder.specs.Checks.{HasXorbsOfFile, Knows, OfFile, OfFiles}
+use Rattle.xet_shard_file.specs.Errors.{IsShardCheckError}
 use Rattle.xet_base.specs.theorems.Exits.{on_exit}
 use Rattle.xet_folder.proofs.Refused.{refusal_of}
 use Rattle.xet_folder.specs.theorems.Rest.{all_left, among_all, fails_here, fails_left}
@@ -29,7 +29,7 @@ returns-in_err-check_file-clause-refused g c =
     let now = g.D.Disk.faults c.check_file.new.disk in
     let Holds = FileHolds files folder shard in
     let Fails = FileFails files folder shard in
-    on_exit c.from_residual.result c.in_err-check_file.field-0.0 (IsCheckRefusal known (FirstFails Holds Fails c.args.files.now) (g.D.Disk.faults c.args.disk.now) now) c.from_residual.ensures.1
+    on_exit c.from_residual.result c.in_err-check_file.field-0.0 (IsShardCheckError known (FirstFails Holds Fails c.args.files.now) (g.D.Disk.faults c.args.disk.now) now) c.from_residual.ensures.1
     (refusal_of known_here known (FileFails here folder shard file) (FirstFails Holds Fails c.args.files.now) (g.D.Disk.faults c.loop-file.disk) now (g.D.Disk.faults c.args.disk.now)
     i.knows
     (λ k e fails. fails_here c.args.files.now c.loop-file.file-index file c.loop-file-test.true c.file-item.is Holds Fails e (subst (λ (f : Files). FileFails f folder shard file e) i.same fails) (i.fails k e))
@@ -56,7 +56,7 @@ loop-file-preserved g c =
       fails = λ k e. fails_left all index file below is Holds Fails e (holds k) (i.fails k e);
       recorded = λ later then. all_left all index file below is (IsFileRecord later) (record_later c.check_file.new.table later (file_hash file, file) then done.recorded)
           (i.recorded later (later_then c.loop-file.table c.check_file.new.table later (later_of (OfFile file) c.loop-file.table c.check_file.new.table done.grows) then));
-      there = λ later then. all_left all index file below is (HasFile later) (has_file_later c.check_file.new.table later file then done.there)
+      there = λ later then. all_left all index file below is (HasXorbsOfFile later) (has_file_later c.check_file.new.table later file then done.there)
           (i.there later (later_then c.loop-file.table c.check_file.new.table later (later_of (OfFile file) c.loop-file.table c.check_file.new.table done.grows) then));
       grows = grows_then (OfFiles all) (OfFile file) (λ h of. (file, among_all all index file below is, of)) c.args.table.now c.loop-file.table c.check_file.new.table i.grows done.grows;
       knows = λ k. done.knows (i.knows k);

@@ -2,7 +2,7 @@ use Rattle.std.proofs.Common.{◌≡◌, ◌≤◌, drop}
 use Rattle.std.specs.List.{AllByRecursion}
 use Rattle.xet_hash.specs.declared.error.StoreError.{StoreError}
 use Rattle.xet_folder.specs.Admission.{FileFails, FileHolds, FirstFails}
-use Rattle.xet_folder.specs.Checks.{Grows, HasFile, Knows, OfFiles}
+use Rattle.xet_folder.specs.Checks.{Grows, HasXorbsOfFile, Knows, OfFiles}
 use Rattle.xet_folder.specs.internal.Contents.{IsFileRecord}
 use Rattle.xet_folder.specs.Xorbs.{Xorbs}
 use Rattle.xet_folder.proofs.Tables.{IsLater}
@@ -17,7 +17,7 @@ invariant-loop-file g l =
       holds : known → AllByRecursion Holds (drop l.file-index l.files) → AllByRecursion Holds l.files;
       fails : known → (e : StoreError) → FirstFails Holds (FileFails files l.folder l.shard) (drop l.file-index l.files) e → FirstFails Holds (FileFails files l.folder l.shard) l.files e;
       recorded : (later : Xorbs) → IsLater l.table later → AllByRecursion (IsFileRecord later) (drop l.file-index l.files) → AllByRecursion (IsFileRecord later) l.files;
-      there : (later : Xorbs) → IsLater l.table later → AllByRecursion (HasFile later) (drop l.file-index l.files) → AllByRecursion (HasFile later) l.files;
+      there : (later : Xorbs) → IsLater l.table later → AllByRecursion (HasXorbsOfFile later) (drop l.file-index l.files) → AllByRecursion (HasXorbsOfFile later) l.files;
       grows : Grows (OfFiles l.files) l.fn.table l.table;
       knows : known → Knows (g.D.Disk.tells l.disk) (g.D.Disk.files l.disk) l.folder l.table;
       same : g.D.Disk.files l.disk ≡ files;

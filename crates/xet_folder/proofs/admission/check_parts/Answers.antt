@@ -4,11 +4,11 @@ use Rattle.xet_io.specs.Disk.{Files, file}
 use Rattle.xet_hash.specs.declared.error.StoreError.{StoreError}
 use Rattle.xet_shard_format.specs.declared.record.MDBFileInfo.{MDBFileInfo}
 use Rattle.xet_shard_format.specs.declared.record.MDBXorbInfo.{MDBXorbInfo}
-use Rattle.xet_shard_format.specs.Reading.{Parts}
+use Rattle.xet_shard_format.specs.Reading.{ShardParts}
 use Rattle.xet_shard_format.specs.Records.{xorb_hash}
 use Rattle.xet_folder.specs.Admission.{BlockFails, BlockHolds, FileFails, FileHolds, FirstFails, ShardFails}
-use Rattle.xet_folder.specs.Checks.{Has, HasFile, HasShard, Knows, OfBlocks, OfBytes, OfFiles}
-use Rattle.xet_shard_file.specs.Refusals.{IsCheckRefusal}
+use Rattle.xet_folder.specs.Checks.{IsInTable, HasXorbsOfFile, HasXorbsOfShard, Knows, OfBlocks, OfBytes, OfFiles}
+use Rattle.xet_shard_file.specs.Errors.{IsShardCheckError}
 use Rattle.xet_folder.proofs.Backing.{differ, same_hash}
 use Rattle.xet_base.specs.theorems.Exits.{on_exit}
 use Rattle.xet_folder.proofs.Refused.{refusal_of}
@@ -17,24 +17,24 @@ use Rattle.xet_folder.proofs.admission.check_parts.Goals as goal
 
 pub returns-then-ne-clause-refused : goal.returns-then-ne-clause-refused
 returns-then-ne-clause-refused g c = λ known modified.
-    let p : Parts = (c.args.parts.now.0.items, c.args.parts.now.1.items, c.args.parts.now.2) in
+    let p : ShardParts = (c.args.parts.now.0.items, c.args.parts.now.1.items, c.args.parts.now.2) in
     ShardFails.name p c.requires.read (λ e. differ c.compute_data_hash.result c.args.hash.now (sym c.ne.ensures ∙ c.if-ne.true) (c.compute_data_hash.ensures ∙ e)) refl
 
 pub returns-then-ne-2-clause-refused : goal.returns-then-ne-2-clause-refused
 returns-then-ne-2-clause-refused g c = λ known modified.
-    let p : Parts = (c.args.parts.now.0.items, c.args.parts.now.1.items, c.args.parts.now.2) in
+    let p : ShardParts = (c.args.parts.now.0.items, c.args.parts.now.1.items, c.args.parts.now.2) in
     let named = sym c.compute_data_hash.ensures ∙ same_hash c.compute_data_hash.result c.args.hash.now (sym c.ne.ensures ∙ c.if-ne.false) in
     ShardFails.keyed p c.requires.read named (λ e. differ c.args.parts.now.2.chunk_hash_hmac_key c.default.result (sym c.ne-2.ensures ∙ c.if-ne-2.true) (e ∙ sym c.default.ensures)) refl
 
 pub returns-in_err-check_blocks-clause-grows : goal.returns-in_err-check_blocks-clause-grows
 returns-in_err-check_blocks-clause-grows g c =
-    let p : Parts = (c.args.parts.now.0.items, c.args.parts.now.1.items, c.args.parts.now.2) in
+    let p : ShardParts = (c.args.parts.now.0.items, c.args.parts.now.1.items, c.args.parts.now.2) in
     grows_more (OfBlocks c.deref.result.now) (OfBytes c.args.bytes.now) (λ h of. (p, c.requires.read, inl (subst (λ (bs : List MDBXorbInfo). OfBlocks bs h) c.deref.ensures.value of)))
     c.args.table.now c.check_blocks.new.table c.in_err-check_blocks.ensures.grows
 
 pub returns-in_err-check_blocks-clause-refused : goal.returns-in_err-check_blocks-clause-refused
 returns-in_err-check_blocks-clause-refused g c =
-    let p : Parts = (c.args.parts.now.0.items, c.args.parts.now.1.items, c.args.parts.now.2) in
+    let p : ShardParts = (c.args.parts.now.0.items, c.args.parts.now.1.items, c.args.parts.now.2) in
     let folder = c.args.folder.now in
     let hash = c.args.hash.now in
     let files = g.D.Disk.files c.args.disk.now in
@@ -46,14 +46,14 @@ returns-in_err-check_blocks-clause-refused g c =
     let ShardFailsSo : StoreError → Type 0 = λ e. (modified : ℕ) → ShardFails files folder (record { hash = hash; file = file c.args.bytes.now modified }) e in
     let before = g.D.Disk.faults c.args.disk.now in
     let now = g.D.Disk.faults c.check_blocks.new.disk in
-    on_exit c.from_residual.result c.in_err-check_blocks.field-0.0 (IsCheckRefusal known ShardFailsSo before now) c.from_residual.ensures.1
+    on_exit c.from_residual.result c.in_err-check_blocks.field-0.0 (IsShardCheckError known ShardFailsSo before now) c.from_residual.ensures.1
     (refusal_of known known (FirstFails Holds Fails c.deref.result.now) ShardFailsSo before now before (λ k. k)
     (λ k e fails modified. ShardFails.block p c.requires.read named plain (subst (λ (bs : List MDBXorbInfo). FirstFails Holds Fails bs e) c.deref.ensures.value fails))
     (omega arith) c.in_err-check_blocks.field-0.0 c.in_err-check_blocks.ensures.refused)
 
 pub returns-in_err-check_files-clause-grows : goal.returns-in_err-check_files-clause-grows
 returns-in_err-check_files-clause-grows g c =
-    let p : Parts = (c.args.parts.now.0.items, c.args.parts.now.1.items, c.args.parts.now.2) in
+    let p : ShardParts = (c.args.parts.now.0.items, c.args.parts.now.1.items, c.args.parts.now.2) in
     grows_then (OfBytes c.args.bytes.now) (OfFiles c.deref-2.result.now) (λ h of. (p, c.requires.read, inr (subst (λ (fs : List MDBFileInfo). OfFiles fs h) c.deref-2.ensures.value of)))
     c.args.table.now c.check_blocks.new.table c.check_files.new.table
     (grows_more (OfBlocks c.deref.result.now) (OfBytes c.args.bytes.now) (λ h of. (p, c.requires.read, inl (subst (λ (bs : List MDBXorbInfo). OfBlocks bs h) c.deref.ensures.value of)))
@@ -62,7 +62,7 @@ returns-in_err-check_files-clause-grows g c =
 
 pub returns-in_err-check_files-clause-refused : goal.returns-in_err-check_files-clause-refused
 returns-in_err-check_files-clause-refused g c =
-    let p : Parts = (c.args.parts.now.0.items, c.args.parts.now.1.items, c.args.parts.now.2) in
+    let p : ShardParts = (c.args.parts.now.0.items, c.args.parts.now.1.items, c.args.parts.now.2) in
     let folder = c.args.folder.now in
     let hash = c.args.hash.now in
     let files = g.D.Disk.files c.args.disk.now in
@@ -75,7 +75,7 @@ returns-in_err-check_files-clause-refused g c =
     let ShardFailsSo : StoreError → Type 0 = λ e. (modified : ℕ) → ShardFails files folder (record { hash = hash; file = file c.args.bytes.now modified }) e in
     let now = g.D.Disk.faults c.check_files.new.disk in
     let hold : known → AllByRecursion (BlockHolds files folder hash) p.0 = λ k. subst (λ (bs : List MDBXorbInfo). AllByRecursion (BlockHolds files folder hash) bs) c.deref.ensures.value (blocks.holds k) in
-    on_exit c.from_residual-in_err-check_files.result c.in_err-check_files.field-0.0 (IsCheckRefusal known ShardFailsSo (g.D.Disk.faults c.args.disk.now) now) c.from_residual-in_err-check_files.ensures.1
+    on_exit c.from_residual-in_err-check_files.result c.in_err-check_files.field-0.0 (IsShardCheckError known ShardFailsSo (g.D.Disk.faults c.args.disk.now) now) c.from_residual-in_err-check_files.ensures.1
     (refusal_of known_here known (FirstFails (FileHolds here folder hash) (FileFails here folder hash) c.deref-2.result.now) ShardFailsSo (g.D.Disk.faults c.check_blocks.new.disk) now (g.D.Disk.faults c.args.disk.now)
     blocks.knows
     (λ k e fails modified. ShardFails.file p c.requires.read named plain (hold k)
@@ -85,19 +85,19 @@ returns-in_err-check_files-clause-refused g c =
 
 pub returns-clause-there : goal.returns-clause-there
 returns-clause-there g c = λ p read.
-    let q : Parts = (c.args.parts.now.0.items, c.args.parts.now.1.items, c.args.parts.now.2) in
+    let q : ShardParts = (c.args.parts.now.0.items, c.args.parts.now.1.items, c.args.parts.now.2) in
     let same : q ≡ p = cc (c.requires.read, read) in
     let later = later_of (OfFiles c.deref-2.result.now) c.check_blocks.new.table c.check_files.new.table c.in_ok-check_files.ensures.grows in
-    subst (λ (x : Parts). HasShard c.check_files.new.table x) same
+    subst (λ (x : ShardParts). HasXorbsOfShard c.check_files.new.table x) same
     (record {
-      blocks = subst (λ (bs : List MDBXorbInfo). AllByRecursion (λ b. Has c.check_files.new.table (xorb_hash b)) bs) c.deref.ensures.value
+      blocks = subst (λ (bs : List MDBXorbInfo). AllByRecursion (λ b. IsInTable c.check_files.new.table (xorb_hash b)) bs) c.deref.ensures.value
           (blocks_later c.check_blocks.new.table c.check_files.new.table c.deref.result.now later c.in_ok-check_blocks.ensures.there);
-      files = subst (λ (fs : List MDBFileInfo). AllByRecursion (HasFile c.check_files.new.table) fs) c.deref-2.ensures.value c.in_ok-check_files.ensures.there;
+      files = subst (λ (fs : List MDBFileInfo). AllByRecursion (HasXorbsOfFile c.check_files.new.table) fs) c.deref-2.ensures.value c.in_ok-check_files.ensures.there;
     })
 
 pub returns-clause-grows : goal.returns-clause-grows
 returns-clause-grows g c =
-    let p : Parts = (c.args.parts.now.0.items, c.args.parts.now.1.items, c.args.parts.now.2) in
+    let p : ShardParts = (c.args.parts.now.0.items, c.args.parts.now.1.items, c.args.parts.now.2) in
     grows_then (OfBytes c.args.bytes.now) (OfFiles c.deref-2.result.now) (λ h of. (p, c.requires.read, inr (subst (λ (fs : List MDBFileInfo). OfFiles fs h) c.deref-2.ensures.value of)))
     c.args.table.now c.check_blocks.new.table c.check_files.new.table
     (grows_more (OfBlocks c.deref.result.now) (OfBytes c.args.bytes.now) (λ h of. (p, c.requires.read, inl (subst (λ (bs : List MDBXorbInfo). OfBlocks bs h) c.deref.ensures.value of)))

@@ -7,10 +7,10 @@ use Rattle.xet_folder.specs.declared.contents.Unadmitted.{Unadmitted}
 use Rattle.xet_folder.specs.Checks.{Knows}
 use Rattle.xet_folder.specs.Contents.{IsRecord}
 use Rattle.xet_shard_file.specs.Entries.{entry_of, is_valid}
-use Rattle.xet_folder.specs.internal.Gathering.{EntryFails, IsGathered, IsStopped, ShardsFail, gathered, shard_file, with_valid}
+use Rattle.xet_folder.specs.internal.Gathering.{EntryFails, IsGathered, IsCollectError, ShardsFail, gathered, as_shard_file, with_valid}
 use Rattle.xet_shard_file.specs.Names.{IsHash, shard_path}
 use Rattle.xet_shard_file.specs.Shards.{IsThere, ShardFile}
-use Rattle.xet_folder.specs.Xorbs.{AreBacked, Records}
+use Rattle.xet_folder.specs.Xorbs.{AreBacked, FileRecords}
 use Rattle.xet_folder.proofs.MoreShards.{gathered_all, gathered_more, gathered_none, shards_fail}
 use Rattle.xet_base.specs.theorems.Exits.{on_exit}
 use Rattle.xet_folder.proofs.Stopping.{stopped_earlier}
@@ -23,7 +23,7 @@ loop-entry-init g c =
     = λ i. record { shards = sym c.new.ensures.items i; xorbs = sym c.new-2.ensures i; records = sym c.new-3.ensures i } in
     record {
       told = λ told read same there. subst (λ (x : Contents). IsGathered files c.args.folder.now [] x) none (gathered_none files c.args.folder.now);
-      recorded = subst (λ (rows : Records). AllByRecursion (IsRecord c.new-2.result) rows) (sym c.new-3.ensures) tt;
+      recorded = subst (λ (rows : FileRecords). AllByRecursion (IsRecord c.new-2.result) rows) (sym c.new-3.ensures) tt;
       hashes = subst (λ (hs : List (List ℕ)). AllByRecursion IsHash hs) (sym c.new.ensures.items) tt;
       same = refl;
       tells = refl;
@@ -42,7 +42,7 @@ loop-entry-preserved g c =
           gathered_more files folder c.args.now c.args.entries.now read same there c.loop-entry.entry-index c.entry-item.result c.loop-entry-test.true c.entry-item.is (gathered c.loop-entry.gathered) (gathered c.gather_entry.new.gathered)
           (subst
           (λ (fs : Files). (shards : List ShardFile) (f : File) → file_at fs (shard_path folder c.entry-item.result.hash) ≡ Some f → IsGathered fs folder shards (gathered c.loop-entry.gathered)
-          → IsGathered fs folder (with_valid c.args.now shards (shard_file c.entry-item.result.hash f)) (gathered c.gather_entry.new.gathered))
+          → IsGathered fs folder (with_valid c.args.now shards (as_shard_file c.entry-item.result.hash f)) (gathered c.gather_entry.new.gathered))
           i.same (done.gathered (i.tells ∙ told)))
           (i.told told read same there);
       recorded = done.recorded i.recorded;
@@ -65,7 +65,7 @@ returns-in_err-gather_entry-clause-refused g c =
     let before = g.D.Disk.faults c.args.disk.now in
     let now = g.D.Disk.faults c.gather_entry.new.disk in
     let G : StoreError → List ℕ → Type 0 = λ e name. (read : List ShardFile) → map entry_of read ≡ c.args.entries.now → All (IsThere files folder) read → ShardsFail files folder (filter (is_valid c.args.now) read) e name in
-    on_exit c.from_residual.result c.in_err-gather_entry.field-0.0 (λ (u : Unadmitted). IsStopped L G before now u.error u.name) c.from_residual.ensures.1
+    on_exit c.from_residual.result c.in_err-gather_entry.field-0.0 (λ (u : Unadmitted). IsCollectError L G before now u.error u.name) c.from_residual.ensures.1
     (stopped_earlier K L (EntryFails here folder c.args.now entry.hash) G (g.D.Disk.faults c.loop-entry.disk) now before c.in_err-gather_entry.field-0.0.error c.in_err-gather_entry.field-0.0.name
     (λ told name fails read same there.
     let before = i.told told read same there in

@@ -1,4 +1,4 @@
-use Rattle.xet_shard_file.specs.Refusals.{IsShardError}
+use Rattle.xet_shard_file.specs.Errors.{IsShardError}
 use Rattle.xet_base.specs.theorems.Exits.{on_exit}
 use Rattle.xet_folder.proofs.gathering.read_valid.Goals as goal
 

@@ -14,7 +14,7 @@ reads-preserved g c =
           let same = ap (λ (files : Files). file_at files c.args.name.now) i.same in
           let read = subst (λ (found : Option ℕ). ReadsAt (file_at (g.D.Disk.files c.reads.disk) c.args.name.now) (c.args.at + c.reads.filled) (drop c.reads.filled c.read_behind.new.buf) found)
           c.in-Ok-Some.field-0-is (c.in-Ok-Some.ensures.told (i.tells ∙ told)) in
-          fills_more file c.args.at c.reads.buf c.read_behind.new.buf c.reads.filled count c.in-Ok-Some.ensures.front (i.read told) (rw same at read);
+          fills_more file c.args.at c.reads.buf c.read_behind.new.buf c.reads.filled count c.in-Ok-Some.ensures.prefix (i.read told) (rw same at read);
       same = search rules;
       tells = search rules;
       later = search rules;

@@ -1,7 +1,7 @@
 use Rattle.std.proofs.Common.{true, Option, is_some, ap, sym, ◌∙◌}
 use Rattle.xet_io.specs.declared.held.Held.{Held}
 use Rattle.xet_io.specs.Disk.{File, Entry, file_of}
-use Rattle.xet_io.specs.MemoryFiles.{files_of, entry_of}
+use Rattle.xet_io.specs.MemoryFiles.{memory_files, memory_entry}
 use Rattle.xet_io.proofs.Changes.{synced_absent, synced_none, synced_some, file_of_entry, insert_same}
 use Rattle.xet_io.proofs.HeldNames.{Names, there, has_file, no_entry, held_entry, write_held}
 use Rattle.xet_io.proofs.held.make_durable.Goals as goal
@@ -14,14 +14,14 @@ returns-in_default-clause-there c =
 pub returns-in_default-clause-synced : goal.returns-in_default-clause-synced
 returns-in_default-clause-synced c =
     let absent = ap (λ (e : Option Entry). file_of e) (no_entry c.args.names.now c.args.name.now c.in_default.ensures.value) in
-    ap (λ (m : Names). files_of m) c.get_mut.follows.holds-at-none ∙ sym (synced_absent (files_of c.args.names.now) c.args.name.now absent)
+    ap (λ (m : Names). memory_files m) c.get_mut.follows.holds-at-none ∙ sym (synced_absent (memory_files c.args.names.now) c.args.name.now absent)
 
 pub returns-then-is_none-clause-there : goal.returns-then-is_none-clause-there
 returns-then-is_none-clause-there c =
     let names = c.args.names.now in
     let held = c.in-Some.held.now in
     let here = held_entry names c.args.name.now held c.in-Some.ensures.value in
-    sym (ap (λ (f : Option File). is_some f) (file_of_entry (files_of names) c.args.name.now (entry_of held) here) ∙ has_file held ∙ c.if-is_none.ensures)
+    sym (ap (λ (f : Option File). is_some f) (file_of_entry (memory_files names) c.args.name.now (memory_entry held) here) ∙ has_file held ∙ c.if-is_none.ensures)
 
 pub returns-then-is_none-clause-synced : goal.returns-then-is_none-clause-synced
 returns-then-is_none-clause-synced c =
@@ -30,15 +30,15 @@ returns-then-is_none-clause-synced c =
     let held = c.in-Some.held.now in
     let here = held_entry names name held c.in-Some.ensures.value in
     write_held names (c.get_mut.follows.lender held) name held (c.get_mut.follows.holds held) (there names name held c.in-Some.ensures.value)
-    ∙ insert_same (files_of names) name (entry_of held) here
-    ∙ sym (synced_none (files_of names) name (entry_of held) here (has_file held ∙ c.if-is_none.ensures))
+    ∙ insert_same (memory_files names) name (memory_entry held) here
+    ∙ sym (synced_none (memory_files names) name (memory_entry held) here (has_file held ∙ c.if-is_none.ensures))
 
 pub returns-clause-there : goal.returns-clause-there
 returns-clause-there c =
     let names = c.args.names.now in
     let held = c.in-Some.held.now in
     let here = held_entry names c.args.name.now held c.in-Some.ensures.value in
-    sym (ap (λ (f : Option File). is_some f) (file_of_entry (files_of names) c.args.name.now (entry_of held) here) ∙ has_file held ∙ c.if-is_none.ensures)
+    sym (ap (λ (f : Option File). is_some f) (file_of_entry (memory_files names) c.args.name.now (memory_entry held) here) ∙ has_file held ∙ c.if-is_none.ensures)
 
 pub returns-clause-synced : goal.returns-clause-synced
 returns-clause-synced c =
@@ -48,4 +48,4 @@ returns-clause-synced c =
     let durable : Held = record { file = held.file; durable = true } in
     let here = held_entry names name held c.in-Some.ensures.value in
     write_held names (c.get_mut.follows.lender durable) name durable (c.get_mut.follows.holds durable) (there names name held c.in-Some.ensures.value)
-    ∙ sym (synced_some (files_of names) name (entry_of held) here (has_file held ∙ c.if-is_none.ensures))
+    ∙ sym (synced_some (memory_files names) name (memory_entry held) here (has_file held ∙ c.if-is_none.ensures))

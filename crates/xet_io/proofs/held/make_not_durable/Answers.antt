@@ -2,7 +2,7 @@ use Rattle.std.proofs.Common.{false, None, Option, ap, sym, ◌∙◌}
 use Rattle.xet_io.specs.declared.held.Held.{Held}
 use Rattle.xet_io.specs.Disk.{Entry, File, entry, file_of}
 use Rattle.std.specs.FinMap.{insert}
-use Rattle.xet_io.specs.MemoryFiles.{files_of, entry_of}
+use Rattle.xet_io.specs.MemoryFiles.{memory_files, memory_entry}
 use Rattle.xet_io.proofs.Changes.{on_ok, file_of_entry}
 use Rattle.xet_io.proofs.HeldNames.{Names, there, no_entry, held_entry, write_held}
 use Rattle.xet_io.proofs.held.make_not_durable.Goals as goal
@@ -15,7 +15,7 @@ returns-clause-not_durable c =
     let loose : Held = record { file = held.file; durable = false } in
     let here = held_entry names name held c.in-Some.ensures.value in
     write_held names (c.get_mut.follows.lender loose) name loose (c.get_mut.follows.holds loose) (there names name held c.in-Some.ensures.value)
-    ∙ sym (ap (λ (f : Option File). insert (files_of names) name (entry f false)) (file_of_entry (files_of names) name (entry_of held) here))
+    ∙ sym (ap (λ (f : Option File). insert (memory_files names) name (entry f false)) (file_of_entry (memory_files names) name (memory_entry held) here))
 
 pub returns-in_default-clause-not_durable : goal.returns-in_default-clause-not_durable
 returns-in_default-clause-not_durable c =
@@ -23,5 +23,5 @@ returns-in_default-clause-not_durable c =
     let name = c.args.name.now in
     let absent = ap (λ (e : Option Entry). file_of e) (no_entry names name c.in_default.ensures.value) in
     on_ok c.hold_absent.result (λ held.
-    held ∙ ap (λ (m : Names). insert (files_of m) name (entry None false)) c.get_mut.follows.holds-at-none
-    ∙ sym (ap (λ (f : Option File). insert (files_of names) name (entry f false)) absent)) c.hold_absent.ensures.held
+    held ∙ ap (λ (m : Names). insert (memory_files m) name (entry None false)) c.get_mut.follows.holds-at-none
+    ∙ sym (ap (λ (f : Option File). insert (memory_files names) name (entry f false)) absent)) c.hold_absent.ensures.held

@@ -9,7 +9,7 @@ reads-preserved g c =
     record {
       room = search rules;
       read = λ told.
-          reads_on _ _ _ _ c.read_behind.new.bytes c.reads.filled c.in_ok-count.count (i.read told) c.in_ok-count.ensures.front
+          reads_on _ _ _ _ c.read_behind.new.bytes c.reads.filled c.in_ok-count.count (i.read told) c.in_ok-count.ensures.prefix
           ((c.in_ok-count.ensures.told (i.tells ∙ told)).next
           ∙ ap (λ (xs : List ℕ). xs ++ g.S.Source.left c.read_behind.new.source)
           (take-take c.in_ok-count.count _ (drop c.reads.filled c.read_behind.new.bytes) c.in_ok-count.ensures.bound.1));

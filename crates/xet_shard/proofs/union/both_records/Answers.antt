@@ -3,17 +3,17 @@ use Rattle.std.specs.Global.{Global}
 use Rattle.std.proofs.lemmas.Result.{err_from_is_err_and}
 use Rattle.xet_shard_format.specs.declared.record.MDBFileInfo.{MDBFileInfo}
 use Rattle.xet_shard_format.specs.declared.record.MDBXorbInfo.{MDBXorbInfo}
-use Rattle.xet_shard.specs.Union.{Records}
+use Rattle.xet_shard.specs.Union.{ShardRecords}
 use Rattle.xet_shard.proofs.Uniting.{both_are, both_end, both_fail}
 use Rattle.xet_shard.proofs.union.both_records.Goals as goal
 
 abbrev Read : Type 0
 Read = Vec MDBXorbInfo Global × Vec MDBFileInfo Global
 
-abbrev records_of : Read → Records
+abbrev records_of : Read → ShardRecords
 records_of x = (x.0.items, x.1.items)
 
-abbrev both_of : Read × Read → Records × Records
+abbrev both_of : Read × Read → ShardRecords × ShardRecords
 both_of p = (records_of p.0, records_of p.1)
 
 pub returns-in_err-ours-clause-exact : goal.returns-in_err-ours-clause-exact

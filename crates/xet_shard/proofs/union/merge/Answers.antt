@@ -1,7 +1,7 @@
 use Rattle.std.proofs.Common.{◌≡◌, ◌∙◌, ◌+◌, ◌++◌, ◌∷◌, Bor, List, ℕ, ap, drop, map, sym, subst}
 use Rattle.std.proofs.lemmas.List.{drop_all}
 use Rattle.std.proofs.lemmas.Result.{err_from_is_err_and}
-use Rattle.xet_shard.specs.internal.Merging.{FirstAgrees, Rises, behind, not_below}
+use Rattle.xet_shard.specs.internal.Merging.{FirstAgrees, Rises, after_hash, not_below}
 use Rattle.xet_shard.specs.Union.{Agree}
 use Rattle.xet_shard.proofs.Merging.{agree_back, agree_first, agree_on, behind_rises, merged, merged_is, merged_rest, rest_rises}
 use Rattle.xet_shard_format.specs.theorems.Steps.{left}
@@ -18,7 +18,7 @@ loop-this-preserved g c =
     let inv = c.loop-this.invariant in
     let e = left c.args.ours.now c.loop-this.this-index x c.loop-this-test.true c.this-item.is in
     let others : c.in_ok-others.others.now ≡ not_below hash (hash x) rest = c.in_ok-others.ensures.rest ∙ ap (λ (h : List ℕ). not_below hash h rest) c.hash.ensures in
-    let next : c.in_ok-rest.rest.now ≡ behind hash (hash x) (not_below hash (hash x) rest) = c.in_ok-rest.ensures.rest ∙ ap (behind hash (hash x)) others in
+    let next : c.in_ok-rest.rest.now ≡ after_hash hash (hash x) (not_below hash (hash x) rest) = c.in_ok-rest.ensures.rest ∙ ap (after_hash hash (hash x)) others in
     let ours : Rises hash (x ∷ later) = subst (Rises hash) e inv.ours in
     record {
       ours = ours.1;

@@ -6,11 +6,11 @@ use Rattle.xet_shard_format.specs.declared.record.MDBFileInfo.{MDBFileInfo}
 use Rattle.xet_shard_format.specs.declared.record.MDBXorbInfo.{MDBXorbInfo}
 use Rattle.xet_codec.specs.Parsing.{GivesUnlessFault}
 use Rattle.xet_shard.specs.Sections.{blocks_in}
-use Rattle.xet_shard.specs.Union.{Records}
+use Rattle.xet_shard.specs.Union.{ShardRecords}
 use Rattle.xet_shard.proofs.Uniting.{records_are, records_end, records_fail}
 use Rattle.xet_shard.proofs.union.read_records.Goals as goal
 
-abbrev records_of : Vec MDBXorbInfo Global × Vec MDBFileInfo Global → Records
+abbrev records_of : Vec MDBXorbInfo Global × Vec MDBFileInfo Global → ShardRecords
 records_of x = (x.0.items, x.1.items)
 
 pub returns-in_err-found-clause-exact : goal.returns-in_err-found-clause-exact

@@ -1,39 +1,39 @@
 use Rattle.std.proofs.lemmas.Result.{err_from_is_err_and}
-use Rattle.xet_shard.specs.Union.{Records, both_in}
-use Rattle.xet_shard.proofs.RefusalKinds.{export_union, reading_export, text_union, writing_export}
-use Rattle.xet_shard.proofs.Uniting.{not_united, union_front}
+use Rattle.xet_shard.specs.Union.{ShardRecords, both_in}
+use Rattle.xet_shard.proofs.ErrorKinds.{export_union, reading_export, text_union, writing_export}
+use Rattle.xet_shard.proofs.Uniting.{not_united, union_prefix}
 use Rattle.xet_shard.proofs.union.shard_set_union.Goals as goal
 
 pub returns-in_err-text-clause-refused : goal.returns-in_err-text-clause-refused
 returns-in_err-text-clause-refused g c = λ told also.
-    let both : Records × Records = ((c.in_ok-ours.ours.0.items, c.in_ok-ours.ours.1.items), (c.in_ok-ours.theirs.0.items, c.in_ok-ours.theirs.1.items)) in
+    let both : ShardRecords × ShardRecords = ((c.in_ok-ours.ours.0.items, c.in_ok-ours.ours.1.items), (c.in_ok-ours.theirs.0.items, c.in_ok-ours.theirs.1.items)) in
     let p = err_from_is_err_and c.from_residual-in_err-text.result c.from_residual-in_err-text.ensures.1 in
     rw (p.1, p.2)
     (not_united c.args.first.now.metadata c.args.second.now.metadata (both_in c.args.first.now.metadata (g.R.ReadAt.bytes c.args.reader.now) c.args.second.now.metadata (g.Q.ReadAt.bytes c.args.other.now)) both c.in_err-text.field-0.0
     (c.in_ok-ours.ensures.exact told also) c.in_err-text.ensures.refused)
 
-pub returns-in_err-write_bytes-clause-front : goal.returns-in_err-write_bytes-clause-front
-returns-in_err-write_bytes-clause-front g c = λ told also wrote.
-    let both : Records × Records = ((c.in_ok-ours.ours.0.items, c.in_ok-ours.ours.1.items), (c.in_ok-ours.theirs.0.items, c.in_ok-ours.theirs.1.items)) in
+pub returns-in_err-write_bytes-clause-prefix : goal.returns-in_err-write_bytes-clause-prefix
+returns-in_err-write_bytes-clause-prefix g c = λ told also wrote.
+    let both : ShardRecords × ShardRecords = ((c.in_ok-ours.ours.0.items, c.in_ok-ours.ours.1.items), (c.in_ok-ours.theirs.0.items, c.in_ok-ours.theirs.1.items)) in
     let p = err_from_is_err_and c.from_residual-in_err-write_bytes.result c.from_residual-in_err-write_bytes.ensures.1 in
     rw p.1
-    (union_front (both_in c.args.first.now.metadata (g.R.ReadAt.bytes c.args.reader.now) c.args.second.now.metadata (g.Q.ReadAt.bytes c.args.other.now)) both c.args.first.now.metadata.shard_creation_timestamp c.args.second.now.metadata.shard_creation_timestamp
-    c.in_ok-text.info c.in_ok-text.text.items c.deref.result.now (g.W.Sink.written c.args.sink.now) (g.W.Sink.written c.write_bytes.new.sink) (c.in_ok-ours.ensures.exact told also) c.in_ok-text.ensures.text c.deref.ensures.value (c.in_err-write_bytes.ensures.front wrote))
+    (union_prefix (both_in c.args.first.now.metadata (g.R.ReadAt.bytes c.args.reader.now) c.args.second.now.metadata (g.Q.ReadAt.bytes c.args.other.now)) both c.args.first.now.metadata.shard_creation_timestamp c.args.second.now.metadata.shard_creation_timestamp
+    c.in_ok-text.info c.in_ok-text.text.items c.deref.result.now (g.W.Sink.written c.args.sink.now) (g.W.Sink.written c.write_bytes.new.sink) (c.in_ok-ours.ensures.exact told also) c.in_ok-text.ensures.text c.deref.ensures.value (c.in_err-write_bytes.ensures.prefix wrote))
 
-pub returns-in_err-ours-clause-refusals : goal.returns-in_err-ours-clause-refusals
-returns-in_err-ours-clause-refusals g c =
+pub returns-in_err-ours-clause-errors : goal.returns-in_err-ours-clause-errors
+returns-in_err-ours-clause-errors g c =
     let p = err_from_is_err_and c.from_residual.result c.from_residual.ensures.1 in
     let e = c.in_err-ours.field-0.0 in
-    rw (p.1, p.2) (export_union e (reading_export e c.in_err-ours.ensures.refusals))
+    rw (p.1, p.2) (export_union e (reading_export e c.in_err-ours.ensures.errors))
 
-pub returns-in_err-text-clause-refusals : goal.returns-in_err-text-clause-refusals
-returns-in_err-text-clause-refusals g c =
-    let both : Records × Records = ((c.in_ok-ours.ours.0.items, c.in_ok-ours.ours.1.items), (c.in_ok-ours.theirs.0.items, c.in_ok-ours.theirs.1.items)) in
+pub returns-in_err-text-clause-errors : goal.returns-in_err-text-clause-errors
+returns-in_err-text-clause-errors g c =
+    let both : ShardRecords × ShardRecords = ((c.in_ok-ours.ours.0.items, c.in_ok-ours.ours.1.items), (c.in_ok-ours.theirs.0.items, c.in_ok-ours.theirs.1.items)) in
     let p = err_from_is_err_and c.from_residual-in_err-text.result c.from_residual-in_err-text.ensures.1 in
     rw (p.1, p.2) (text_union both c.args.first.now.metadata.shard_creation_timestamp c.args.second.now.metadata.shard_creation_timestamp c.in_err-text.field-0.0 c.in_err-text.ensures.refused)
 
-pub returns-in_err-write_bytes-clause-refusals : goal.returns-in_err-write_bytes-clause-refusals
-returns-in_err-write_bytes-clause-refusals g c =
+pub returns-in_err-write_bytes-clause-errors : goal.returns-in_err-write_bytes-clause-errors
+returns-in_err-write_bytes-clause-errors g c =
     let p = err_from_is_err_and c.from_residual-in_err-write_bytes.result c.from_residual-in_err-write_bytes.ensures.1 in
     let e = c.in_err-write_bytes.field-0.0 in
-    rw (p.1, p.2) (export_union e (writing_export e c.in_err-write_bytes.ensures.refusals))
+    rw (p.1, p.2) (export_union e (writing_export e c.in_err-write_bytes.ensures.errors))

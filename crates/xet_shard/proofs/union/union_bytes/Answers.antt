@@ -6,7 +6,7 @@ use Rattle.xet_shard_format.specs.Lookups.{all_lookups}
 use Rattle.xet_shard.specs.internal.Merging.{Rises}
 use Rattle.xet_shard_format.specs.Records.{IsFile, IsXorb, file_hash, file_rows, file_section, xorb_hash, xorb_rows, xorb_section}
 use Rattle.xet_shard_format.specs.Encoding.{Fits, Shard, footer_of, full_shard_bytes, header, shard}
-use Rattle.xet_shard.specs.Union.{Agree, Records, union, union_shard}
+use Rattle.xet_shard.specs.Union.{Agree, ShardRecords, union, union_shard}
 use Rattle.xet_shard.proofs.Merging.{records_rise}
 use Rattle.xet_shard.proofs.Uniting.{union_few, union_is_shard}
 use Rattle.xet_shard.proofs.union.union_bytes.Goals as goal
@@ -43,7 +43,7 @@ is_few-requires-else-not-is_few c =
 
 pub returns-clause-text : goal.returns-clause-text
 returns-clause-text c =
-    let p : Records × Records = ((c.args.ours.now.0.items, c.args.ours.now.1.items), (c.args.theirs.now.0.items, c.args.theirs.now.1.items)) in
+    let p : ShardRecords × ShardRecords = ((c.args.ours.now.0.items, c.args.ours.now.1.items), (c.args.theirs.now.0.items, c.args.theirs.now.1.items)) in
     let s : Shard = union_shard p c.args.creation c.args.other in
     let files : map file_now c.in_ok-found.found.items ≡ union file_hash p.0.1 p.1.1 = c.in_ok-found.ensures.union ∙ (λ i. union file_hash (c.deref-3.ensures.value i) (c.deref-4.ensures.value i)) in
     let blocks : map xorb_now c.in_ok-xorbs.xorbs.items ≡ union xorb_hash p.0.0 p.1.0 = c.in_ok-xorbs.ensures.union ∙ (λ i. union xorb_hash (c.deref.ensures.value i) (c.deref-2.ensures.value i)) in

@@ -1,7 +1,7 @@
 use Rattle.std.proofs.Common.{◌∙◌, ◌++◌, ap, arith, length}
 use Rattle.std.proofs.lemmas.List.{length-map}
 use Rattle.xet_shard_format.specs.Records.{chunk_row, xorb_rows}
-use Rattle.xet_shard_format.specs.Lookups.{flat_places, places_from}
+use Rattle.xet_shard_format.specs.Lookups.{flat_places, lookup_rows_from}
 use Rattle.xet_shard_format.specs.theorems.Steps.{chunks_end, chunks_grow, lent_at, none_lent, rows_step}
 use Rattle.xet_shard_format.proofs.lookup.places.Goals as goal
 
@@ -26,7 +26,7 @@ loop-item-preserved g c =
     record {
       row = omega (arith, c.loop-item.invariant.row, c.num_rows-row.ensures, rows_step xorb_rows _ c.loop-item.item-index c.lend-block.result.now at.0 at.1);
       so_far = chunks_grow (flat_places c.loop-item.found.items) (flat_places c.push_chunks.new.found.items) _ c.loop-item.row c.num_rows-row.result _ c.loop-item.item-index c.lend-block.result.now at.0 at.1
-          (c.in_ok-push_chunks.ensures ∙ ap (λ (cs : _). flat_places c.loop-item.found.items ++ places_from c.loop-item.row 0 cs) c.as_slice.ensures) c.num_rows-row.ensures c.loop-item.invariant.so_far;
+          (c.in_ok-push_chunks.ensures ∙ ap (λ (cs : _). flat_places c.loop-item.found.items ++ lookup_rows_from c.loop-item.row 0 cs) c.as_slice.ensures) c.num_rows-row.ensures c.loop-item.invariant.so_far;
     }
 
 pub returns : goal.returns

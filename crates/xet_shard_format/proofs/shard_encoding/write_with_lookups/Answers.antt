@@ -2,7 +2,7 @@ use Rattle.std.proofs.Common.{◌++◌, ◌∙◌, ap, map}
 use Rattle.xet_shard_format.specs.Rows.{rows_bytes}
 use Rattle.xet_shard_format.specs.Records.{file_section, xorb_section}
 use Rattle.xet_shard_format.specs.Lookups.{Lookups, chunk_items, file_items, record_items_bytes, left_in, chunk_items_bytes, xorb_items}
-use Rattle.xet_shard_format.specs.Encoding.{footer_text, header, shard_header_bytes, shard, shard_bytes}
+use Rattle.xet_shard_format.specs.Encoding.{shard_footer_bytes, header, shard_header_bytes, shard, shard_bytes}
 use Rattle.xet_shard_format.specs.theorems.Bytes.{piece_before}
 use Rattle.xet_shard_format.specs.theorems.Counts.{footer_counted}
 use Rattle.xet_shard_format.specs.theorems.Fitting.{materialized_below, stored_below}
@@ -24,7 +24,7 @@ returns-clause-text g c =
     let n = c.count-all.ensures in
     let m = c.standing-counts.ensures in
     let f = footer_counted w s (m.file_rows ∙ n.file_rows) (m.xorb_rows ∙ n.xorb_rows) m.files m.xorbs m.chunks n.files n.xorbs n.chunks c.materialized.ensures c.stored.ensures in
-    let e7 = c.in_ok-push_footer.ensures ∙ ap (λ f. c.push_standing_places.new.text.items ++ footer_text f) (c.footer-footer.ensures ∙ f) in
+    let e7 = c.in_ok-push_footer.ensures ∙ ap (λ f. c.push_standing_places.new.text.items ++ shard_footer_bytes f) (c.footer-footer.ensures ∙ f) in
     let e6 = piece_before c.push_standing_heads-2.new.text.items c.push_standing_places.new.text.items _ (chunk_items_bytes (left_in w.chunks (chunk_items blocks))) _ c.in_ok-push_standing_places.ensures e7 in
     let e5 = piece_before c.push_standing_heads.new.text.items c.push_standing_heads-2.new.text.items _ (record_items_bytes (left_in w.xorbs (xorb_items blocks))) _ c.in_ok-push_standing_heads-2.ensures e6 in
     let e4 = piece_before c.push_section-2.new.text.items c.push_standing_heads.new.text.items _ (record_items_bytes (left_in w.files (file_items files))) _ c.in_ok-push_standing_heads.ensures e5 in

@@ -3,7 +3,7 @@ use Rattle.std.specs.List.{AllByRecursion}
 use Rattle.std.proofs.lemmas.Bool.{eqb-true}
 use Rattle.xet_hash.specs.Merkle.{xorb_hash}
 use Rattle.xet_xorb_chunk.specs.declared.chunk.Chunk.{Chunk}
-use Rattle.xet_xorb_chunk.specs.Chunks.{bytes_of, chunk_member}
+use Rattle.xet_xorb_chunk.specs.Chunks.{bytes_of_chunk, chunk_leaf}
 use Rattle.xet_base.specs.theorems.Elements.{all_push, all_drop, all_more, all_take}
 use Rattle.xet_cut.specs.declared.limits.LimitSettings.{LimitSettings}
 use Rattle.xet_shard_format.specs.declared.record.FileDataSequenceEntry.{FileDataSequenceEntry as Segment}
@@ -32,14 +32,14 @@ xorbs-init g c =
 pub pack_len-count-requires-clause-fit : goal.pack_len-count-requires-clause-fit
 pack_len-count-requires-clause-fit g c =
     let l = c.limits.result.now in
-    all_more (λ (x : Chunk). length x.bytes ≤ l.maximum_chunk) (λ (x : Chunk). length x.bytes ≤ l.cut_bytes) c.xorbs.rest.now (λ x h. omega (arith, h, c.known.ensures.cut_bytes_least)) c.xorbs.invariant.fit
+    all_more (λ (x : Chunk). length x.bytes ≤ l.maximum_chunk) (λ (x : Chunk). length x.bytes ≤ l.cut_bytes) c.xorbs.rest.now (λ x h. omega (arith, h, c.known.ensures.cut_bytes_from)) c.xorbs.invariant.fit
 
 pub add_xorb-requires-clause-small : goal.add_xorb-requires-clause-small
 add_xorb-requires-clause-small g c = λ κs met.
     let l = c.limits.result.now in
     let P = λ (x : Chunk). length x.bytes ≤ l.maximum_chunk in
-    let pack = subst (AllByRecursion P) {x = take c.pack_len-count.result c.xorbs.rest.now} {y = c.split_at.result.0.now} (sym {b = take c.pack_len-count.result c.xorbs.rest.now} c.split_at.ensures.front) (all_take P c.pack_len-count.result c.xorbs.rest.now c.xorbs.invariant.fit) in
-    all_more P (λ (x : Chunk). length x.bytes < 8388608) c.split_at.result.0.now (λ x h. omega (arith, h, c.known.ensures.maximum_most)) pack
+    let pack = subst (AllByRecursion P) {x = take c.pack_len-count.result c.xorbs.rest.now} {y = c.split_at.result.0.now} (sym {b = take c.pack_len-count.result c.xorbs.rest.now} c.split_at.ensures.prefix) (all_take P c.pack_len-count.result c.xorbs.rest.now c.xorbs.invariant.fit) in
+    all_more P (λ (x : Chunk). length x.bytes < 8388608) c.split_at.result.0.now (λ x h. omega (arith, h, c.known.ensures.maximum_to)) pack
 
 pub returns-in_err-hash-clause-keeps : goal.returns-in_err-hash-clause-keeps
 returns-in_err-hash-clause-keeps g c = keeps_then c.args.session.now c.xorbs.session c.add_xorb.new.self c.xorbs.invariant.keeps c.add_xorb.ensures.keeps
@@ -50,7 +50,7 @@ returns-in_err-hash-clause-shards g c = c.add_xorb.ensures.shards ∙ c.xorbs.in
 pub returns-in_err-hash-clause-some : goal.returns-in_err-hash-clause-some
 returns-in_err-hash-clause-some g c =
     let done = packed_some (tables_of c.args.session.now) (tables_of c.xorbs.session) c.limits.result.now c.xorbs.plan.items c.xorbs.rest.now c.args.chunks.now c.xorbs.invariant.packed in
-    on_err _ (some_by c.limits.result.now c.args.session.now.limits (map bytes_of c.args.chunks.now) (tables_of c.args.session.now) (tables_of c.add_xorb.new.self) c.limits.ensures
+    on_err _ (some_by c.limits.result.now c.args.session.now.limits (map bytes_of_chunk c.args.chunks.now) (tables_of c.args.session.now) (tables_of c.add_xorb.new.self) c.limits.ensures
     (done.0, c.in_err-hash.ensures.kept ∙ done.1))
 
 pub returns-in_err-push-clause-keeps : goal.returns-in_err-push-clause-keeps
@@ -68,18 +68,18 @@ returns-in_err-push-clause-some g c =
     let chunks = c.args.chunks.now in
     let segment = c.whole_xorb.result in
     let before = c.xorbs.invariant in
-    let front : c.split_at.result.0.now ≡ take n rest = c.split_at.ensures.front in
+    let prefix : c.split_at.result.0.now ≡ take n rest = c.split_at.ensures.prefix in
     let tail = c.split_at.result.1.now in
     let back : drop n rest ≡ tail = sym c.split_at.ensures.back in
-    let listed = subst (λ (p : List Chunk). (c.in_ok-hash.hash ≡ xorb_hash (map chunk_member p)) × IsListed new c.in_ok-hash.hash (map chunk_member p)) front c.in_ok-hash.ensures.listed in
+    let listed = subst (λ (p : List Chunk). (c.in_ok-hash.hash ≡ xorb_hash (map chunk_leaf p)) × IsListed new c.in_ok-hash.hash (map chunk_leaf p)) prefix c.in_ok-hash.ensures.listed in
     let is_hash : segment.xorb_hash ≡ c.in_ok-hash.hash = ap (λ (s : Segment). s.xorb_hash) c.whole_xorb.ensures in
-    let is : segment ≡ segment_of segment.xorb_hash (take n rest) = c.whole_xorb.ensures ∙ (λ i. segment_of (sym is_hash i) (front i)) in
+    let is : segment ≡ segment_of segment.xorb_hash (take n rest) = c.whole_xorb.ensures ∙ (λ i. segment_of (sym is_hash i) (prefix i)) in
     let packed = packed_more (tables_of c.args.session.now) (tables_of c.xorbs.session) (tables_of c.add_xorb.new.self) l c.xorbs.plan.items rest chunks n segment c.add_xorb.ensures.keeps.xorbs before.digests
     c.pack_len-count.ensures.value c.pack_len-count.ensures.some c.pack_len-count.ensures.bound
-    (is_hash ∙ listed.0) (subst (λ (h : List ℕ). IsListed new h (map chunk_member (take n rest))) (sym is_hash) listed.1)
-    is (c.in_ok-hash.ensures.stores ∙ ap (λ (p : List Chunk). with_xorb (tables_of c.xorbs.session) (map bytes_of p)) front) before.packed in
+    (is_hash ∙ listed.0) (subst (λ (h : List ℕ). IsListed new h (map chunk_leaf (take n rest))) (sym is_hash) listed.1)
+    is (c.in_ok-hash.ensures.stores ∙ ap (λ (p : List Chunk). with_xorb (tables_of c.xorbs.session) (map bytes_of_chunk p)) prefix) before.packed in
     let done = packed_some (tables_of c.args.session.now) (tables_of c.add_xorb.new.self) l (c.xorbs.plan.items ++ segment ∷ []) (drop n rest) chunks packed in
-    on_err _ (some_by l c.args.session.now.limits (map bytes_of chunks) (tables_of c.args.session.now) (tables_of c.add_xorb.new.self) c.limits.ensures done)
+    on_err _ (some_by l c.args.session.now.limits (map bytes_of_chunk chunks) (tables_of c.args.session.now) (tables_of c.add_xorb.new.self) c.limits.ensures done)
 
 pub xorbs-preserved : goal.xorbs-preserved
 xorbs-preserved g c =
@@ -90,16 +90,16 @@ xorbs-preserved g c =
     let chunks = c.args.chunks.now in
     let segment = c.whole_xorb.result in
     let before = c.xorbs.invariant in
-    let front : c.split_at.result.0.now ≡ take n rest = c.split_at.ensures.front in
+    let prefix : c.split_at.result.0.now ≡ take n rest = c.split_at.ensures.prefix in
     let tail = c.split_at.result.1.now in
     let back : drop n rest ≡ tail = sym c.split_at.ensures.back in
-    let listed = subst (λ (p : List Chunk). (c.in_ok-hash.hash ≡ xorb_hash (map chunk_member p)) × IsListed new c.in_ok-hash.hash (map chunk_member p)) front c.in_ok-hash.ensures.listed in
+    let listed = subst (λ (p : List Chunk). (c.in_ok-hash.hash ≡ xorb_hash (map chunk_leaf p)) × IsListed new c.in_ok-hash.hash (map chunk_leaf p)) prefix c.in_ok-hash.ensures.listed in
     let is_hash : segment.xorb_hash ≡ c.in_ok-hash.hash = ap (λ (s : Segment). s.xorb_hash) c.whole_xorb.ensures in
-    let is : segment ≡ segment_of segment.xorb_hash (take n rest) = c.whole_xorb.ensures ∙ (λ i. segment_of (sym is_hash i) (front i)) in
+    let is : segment ≡ segment_of segment.xorb_hash (take n rest) = c.whole_xorb.ensures ∙ (λ i. segment_of (sym is_hash i) (prefix i)) in
     let packed = packed_more (tables_of c.args.session.now) (tables_of c.xorbs.session) (tables_of c.add_xorb.new.self) l c.xorbs.plan.items rest chunks n segment c.add_xorb.ensures.keeps.xorbs before.digests
     c.pack_len-count.ensures.value c.pack_len-count.ensures.some c.pack_len-count.ensures.bound
-    (is_hash ∙ listed.0) (subst (λ (h : List ℕ). IsListed new h (map chunk_member (take n rest))) (sym is_hash) listed.1)
-    is (c.in_ok-hash.ensures.stores ∙ ap (λ (p : List Chunk). with_xorb (tables_of c.xorbs.session) (map bytes_of p)) front) before.packed in
+    (is_hash ∙ listed.0) (subst (λ (h : List ℕ). IsListed new h (map chunk_leaf (take n rest))) (sym is_hash) listed.1)
+    is (c.in_ok-hash.ensures.stores ∙ ap (λ (p : List Chunk). with_xorb (tables_of c.xorbs.session) (map bytes_of_chunk p)) prefix) before.packed in
     record {
       packed = subst (λ (r : List Chunk). Packed (tables_of c.args.session.now) (tables_of c.add_xorb.new.self) l c.push.new.self.items r chunks) {x = drop n rest} {y = tail} back
           (subst (λ (plan : List Segment). Packed (tables_of c.args.session.now) (tables_of c.add_xorb.new.self) l plan (drop n rest) chunks) {x = c.xorbs.plan.items ++ segment ∷ []} {y = c.push.new.self.items}
@@ -118,16 +118,16 @@ returns-clause-joins g c = let done = packed_all (tables_of c.args.session.now) 
 pub returns-clause-plan : goal.returns-clause-plan
 returns-clause-plan g c =
     let done = packed_all (tables_of c.args.session.now) (tables_of c.xorbs.session) c.limits.result.now c.xorbs.plan.items c.xorbs.rest.now c.args.chunks.now (eqb-true _ _ (sym c.xorbs-test.ensures)) c.xorbs.invariant.packed in
-    done.segments ∙ ap (λ (l : LimitSettings). map whole_segment (packs l (map bytes_of c.args.chunks.now))) c.limits.ensures
+    done.segments ∙ ap (λ (l : LimitSettings). map whole_segment (packs l (map bytes_of_chunk c.args.chunks.now))) c.limits.ensures
 
 pub returns-clause-stores : goal.returns-clause-stores
 returns-clause-stores g c =
     let done = packed_all (tables_of c.args.session.now) (tables_of c.xorbs.session) c.limits.result.now c.xorbs.plan.items c.xorbs.rest.now c.args.chunks.now (eqb-true _ _ (sym c.xorbs-test.ensures)) c.xorbs.invariant.packed in
-    done.tables ∙ ap (λ (l : LimitSettings). with_xorbs (tables_of c.args.session.now) (packs l (map bytes_of c.args.chunks.now))) c.limits.ensures
+    done.tables ∙ ap (λ (l : LimitSettings). with_xorbs (tables_of c.args.session.now) (packs l (map bytes_of_chunk c.args.chunks.now))) c.limits.ensures
 
 pub returns-clause-listed : goal.returns-clause-listed
 returns-clause-listed g c =
     let s = c.xorbs.session in
     let chunks = c.args.chunks.now in
     let done = packed_all (tables_of c.args.session.now) (tables_of c.xorbs.session) c.limits.result.now c.xorbs.plan.items c.xorbs.rest.now c.args.chunks.now (eqb-true _ _ (sym c.xorbs-test.ensures)) c.xorbs.invariant.packed in
-    subst (λ (l : LimitSettings). AllByRecursion (IsPackListed s.xorbs) (packs l (map bytes_of chunks))) (c.limits.ensures ∙ sym c.xorbs.invariant.keeps.limits) done.listed
+    subst (λ (l : LimitSettings). AllByRecursion (IsPackListed s.xorbs) (packs l (map bytes_of_chunk chunks))) (c.limits.ensures ∙ sym c.xorbs.invariant.keeps.limits) done.listed

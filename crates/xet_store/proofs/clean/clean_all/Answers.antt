@@ -3,7 +3,7 @@ use Rattle.std.specs.Global.{Global}
 use Rattle.std.specs.List.{AllByRecursion}
 use Rattle.std.proofs.lemmas.Bool.{eqb-false, eqb-true}
 use Rattle.std.proofs.lemmas.List.{nil_from_length}
-use Rattle.xet_store.specs.Cleaning.{EachTold, Keeps, Later, Stores, Taken, cuts, info_of}
+use Rattle.xet_store.specs.Cleaning.{EachTold, Keeps, Later, StoresAll, AreTaken, chunkings, info_of}
 use Rattle.xet_store.specs.declared.info.XetFileInfo.{XetFileInfo}
 use Rattle.xet_store.specs.Steps.{ListsXorbs}
 use Rattle.xet_store.specs.Store.{State}
@@ -34,10 +34,10 @@ returns-clause-listed g c = λ all.
     let left = g.S.Source.left in
     elim c.if-not-is_empty.branch [
       | then-not-is_empty+in_ok-clean_source w ↦
-          subst (λ (s : State). AllByRecursion (ListsXorbs s) (cuts left l sources)) (sym w.session-is)
+          subst (λ (s : State). AllByRecursion (ListsXorbs s) (chunkings left l sources)) (sym w.session-is)
           (listed_one g.S.Source.tells left l w.clean_source.new.session sources w.index-sources-0.result c.requires.one all w.in_ok-clean_source.ensures.xorbs)
       | else-not-is_empty w ↦
-          subst (λ (x : List _). AllByRecursion (ListsXorbs c.if-not-is_empty.session) (cuts left l x)) (sym (nil_from_length sources (eqb-true _ _ (sym w.if-not-is_empty.ensures)))) tt
+          subst (λ (x : List _). AllByRecursion (ListsXorbs c.if-not-is_empty.session) (chunkings left l x)) (sym (nil_from_length sources (eqb-true _ _ (sym w.if-not-is_empty.ensures)))) tt
     ]
 
 pub returns-clause-keeps : goal.returns-clause-keeps
@@ -58,13 +58,13 @@ returns-clause-stores g c =
           let info = w.in_ok-clean_source.field-0 in
           let items : c.if-not-is_empty.infos.items ≡ info ∷ [] =
           ap (λ (v : Vec XetFileInfo Global). v.items) w.infos-is ∙ w.push_reserved.ensures.items ∙ ap (λ (l : List XetFileInfo). l ++ info ∷ []) c.in_ok-infos.ensures.items in
-          let stored : Stores tells left sources first w.clean_source.new.session (info ∷ []) =
+          let stored : StoresAll tells left sources first w.clean_source.new.session (info ∷ []) =
           stores_one tells left sources w.index-sources-0.result first w.clean_source.new.session info c.requires.one (some_of _ (eqb-false _ _ (sym w.if-not-is_empty.ensures))) w.in_ok-clean_source.ensures.stores in
-          subst (λ (l : List XetFileInfo). Stores tells left sources first after l) (sym items) (subst (λ (s : State). Stores tells left sources first s (info ∷ [])) (sym w.session-is) stored)
+          subst (λ (l : List XetFileInfo). StoresAll tells left sources first after l) (sym items) (subst (λ (s : State). StoresAll tells left sources first s (info ∷ [])) (sym w.session-is) stored)
       | else-not-is_empty w ↦
           let items : c.if-not-is_empty.infos.items ≡ [] = ap (λ (v : Vec XetFileInfo Global). v.items) w.infos-is ∙ c.in_ok-infos.ensures.items in
-          let stored : Stores tells left sources first first [] = stores_none tells left sources first (eqb-true _ _ (sym w.if-not-is_empty.ensures)) in
-          subst (λ (l : List XetFileInfo). Stores tells left sources first after l) (sym items) (subst (λ (s : State). Stores tells left sources first s []) (sym w.session-is) stored)
+          let stored : StoresAll tells left sources first first [] = stores_none tells left sources first (eqb-true _ _ (sym w.if-not-is_empty.ensures)) in
+          subst (λ (l : List XetFileInfo). StoresAll tells left sources first after l) (sym items) (subst (λ (s : State). StoresAll tells left sources first s []) (sym w.session-is) stored)
     ]
 
 pub returns-in_err-infos-clause-sources_taken : goal.returns-in_err-infos-clause-sources_taken
@@ -76,9 +76,9 @@ returns-in_err-clean_source-clause-sources_taken g c = taken_first g.S.Source.te
 pub returns-clause-sources_taken : goal.returns-clause-sources_taken
 returns-clause-sources_taken g c = elim c.if-not-is_empty.branch [
   | then-not-is_empty+in_ok-clean_source w ↦
-      subst (Taken g.S.Source.tells g.S.Source.left c.args.sources.now) (sym w.sources-is)
+      subst (AreTaken g.S.Source.tells g.S.Source.left c.args.sources.now) (sym w.sources-is)
       (taken_first g.S.Source.tells g.S.Source.left c.args.sources.now w.index-sources-0.result w.clean_source.new.source w.clean_source.ensures.taken)
-  | else-not-is_empty w ↦ subst (Taken g.S.Source.tells g.S.Source.left c.args.sources.now) (sym w.sources-is) (taken_same g.S.Source.tells g.S.Source.left c.args.sources.now)
+  | else-not-is_empty w ↦ subst (AreTaken g.S.Source.tells g.S.Source.left c.args.sources.now) (sym w.sources-is) (taken_same g.S.Source.tells g.S.Source.left c.args.sources.now)
 ]
 
 pub returns-in_err-clean_source-clause-sources_later : goal.returns-in_err-clean_source-clause-sources_later

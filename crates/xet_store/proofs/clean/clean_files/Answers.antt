@@ -1,5 +1,5 @@
 use Rattle.std.proofs.Common.{◌∙◌}
-use Rattle.xet_store.specs.Cleaning.{cuts}
+use Rattle.xet_store.specs.Cleaning.{chunkings}
 use Rattle.xet_store.specs.theorems.Files.{files_on_ok, xorbs_on_ok}
 use Rattle.xet_store.proofs.clean.clean_files.Goals as goal
 
@@ -10,5 +10,5 @@ returns-clause-files g c = λ tells all apart.
 
 pub returns-clause-xorbs : goal.returns-clause-xorbs
 returns-clause-xorbs g c = λ tells all apart.
-    xorbs_on_ok c.clean_all-result.new.session (cuts g.S.Source.left c.args.session.limits c.args.sources.now) c.clean_all-result.result c.known.ensures (c.clean_all-result.ensures.keeps.tells ∙ tells) apart
+    xorbs_on_ok c.clean_all-result.new.session (chunkings g.S.Source.left c.args.session.limits c.args.sources.now) c.clean_all-result.result c.known.ensures (c.clean_all-result.ensures.keeps.tells ∙ tells) apart
     (c.clean_all-result.ensures.listed all)

@@ -21,15 +21,15 @@ pub returns-in-Ok-clause-bytes : goal.returns-in-Ok-clause-bytes
 returns-in-Ok-clause-bytes c =
     let line = c.args.line.now in
     let test : pointwise eqb line (codes "file") ≡ false = ap (pointwise eqb line) (sym c.as_slice.ensures) ∙ sym c.eq.ensures ∙ c.if-eq.false in
-    let prefix = c.in-Some.ensures.cases in
-    sym (file_digits line (Ok c.in-Ok.bytes.items) test prefix.0 (ap decode_of (sym prefix.1) ∙ c.in-Ok.ensures.ok))
+    let consumed = c.in-Some.ensures.cases in
+    sym (file_digits line (Ok c.in-Ok.bytes.items) test consumed.0 (ap decode_of (sym consumed.1) ∙ c.in-Ok.ensures.ok))
 
 pub returns-else-is_out_of_memory-clause-bytes : goal.returns-else-is_out_of_memory-clause-bytes
 returns-else-is_out_of_memory-clause-bytes c =
     let line = c.args.line.now in
     let test : pointwise eqb line (codes "file") ≡ false = ap (pointwise eqb line) (sym c.as_slice.ensures) ∙ sym c.eq.ensures ∙ c.if-eq.false in
-    let prefix = c.in-Some.ensures.cases in
+    let consumed = c.in-Some.ensures.cases in
     elim c.in-Err.ensures.err [
       | inl memory ↦ absurd (false≢true (c.if-is_out_of_memory.ensures.1 memory))
-      | inr refused ↦ sym (file_digits line (Err c.in-Err.error) test prefix.0 (ap decode_of (sym prefix.1) ∙ refused))
+      | inr refused ↦ sym (file_digits line (Err c.in-Err.error) test consumed.0 (ap decode_of (sym consumed.1) ∙ refused))
     ]

@@ -2,8 +2,8 @@ use Rattle.std.proofs.Common.{◌≡◌, ◌∙◌, ℕ, true, List, map, ap, su
 use Rattle.std.proofs.lemmas.Result.{IfErr-at_err, IfOk-at_ok}
 use Rattle.std.specs.List.{AllByRecursion}
 use Rattle.xet_store.specs.declared.info.Cleaned.{Cleaned}
-use Rattle.xet_store.specs.Cleaning.{EachTold, HasFile, Stores, info_of}
-use Rattle.xet_cut.specs.Cut.{cut}
+use Rattle.xet_store.specs.Cleaning.{EachTold, HasFile, StoresAll, info_of}
+use Rattle.xet_cut.specs.Chunking.{chunking}
 use Rattle.xet_store.specs.Separate.{Separate}
 use Rattle.xet_store.specs.Steps.{ListsXorbs}
 use Rattle.xet_store.specs.Tables.{tables_of, with_files}
@@ -30,8 +30,8 @@ returns-in-Ok-cleaned-clause-files g c = λ told.
     let l = c.args.session.limits in
     let sources = c.deref_mut.result.now in
     let files : sources ≡ c.args.lines.now.files = c.deref_mut.ensures.value ∙ c.in-Ok.ensures.sources in
-    subst (λ (fs : List (List ℕ)). Separate s (map (cut l) fs) → AllByRecursion (HasFile s) (map (cut l) fs)) files
-    (λ apart. IfOk-at_ok (λ (x : Cleaned). AllByRecursion (HasFile s) (map (cut l) sources)) c.in-Ok-cleaned.is (c.clean_files-session.ensures.files told (all_tell sources) apart))
+    subst (λ (fs : List (List ℕ)). Separate s (map (chunking l) fs) → AllByRecursion (HasFile s) (map (chunking l) fs)) files
+    (λ apart. IfOk-at_ok (λ (x : Cleaned). AllByRecursion (HasFile s) (map (chunking l) sources)) c.in-Ok-cleaned.is (c.clean_files-session.ensures.files told (all_tell sources) apart))
 
 pub returns-in-Ok-cleaned-clause-listed : goal.returns-in-Ok-cleaned-clause-listed
 returns-in-Ok-cleaned-clause-listed g c =
@@ -39,8 +39,8 @@ returns-in-Ok-cleaned-clause-listed g c =
     let l = c.args.session.limits in
     let sources = c.deref_mut.result.now in
     let files : sources ≡ c.args.lines.now.files = c.deref_mut.ensures.value ∙ c.in-Ok.ensures.sources in
-    subst (λ (fs : List (List ℕ)). AllByRecursion (ListsXorbs s) (map (cut l) fs)) files
-    (IfOk-at_ok (λ (x : Cleaned). AllByRecursion (ListsXorbs s) (map (cut l) sources)) c.in-Ok-cleaned.is (c.clean_files-session.ensures.listed (all_tell sources)))
+    subst (λ (fs : List (List ℕ)). AllByRecursion (ListsXorbs s) (map (chunking l) fs)) files
+    (IfOk-at_ok (λ (x : Cleaned). AllByRecursion (ListsXorbs s) (map (chunking l) sources)) c.in-Ok-cleaned.is (c.clean_files-session.ensures.listed (all_tell sources)))
 
 pub returns-in-Ok-cleaned-clause-stores : goal.returns-in-Ok-cleaned-clause-stores
 returns-in-Ok-cleaned-clause-stores g c =
@@ -48,7 +48,7 @@ returns-in-Ok-cleaned-clause-stores g c =
     let s = c.clean_files-session.result.0 in
     let sources = c.deref_mut.result.now in
     let files : sources ≡ c.args.lines.now.files = c.deref_mut.ensures.value ∙ c.in-Ok.ensures.sources in
-    let read = IfOk-at_ok (λ (x : Cleaned). Stores (λ (f : List ℕ). true) (λ (f : List ℕ). f) sources first s x.infos.items) c.in-Ok-cleaned.is c.clean_files-session.ensures.stores in
+    let read = IfOk-at_ok (λ (x : Cleaned). StoresAll (λ (f : List ℕ). true) (λ (f : List ℕ). f) sources first s x.infos.items) c.in-Ok-cleaned.is c.clean_files-session.ensures.stores in
     read.3 ∙ ap (with_files first.limits (tables_of first)) (files_told sources read.0 read.1 ∙ files)
 
 pub returns-clause-stop : goal.returns-clause-stop

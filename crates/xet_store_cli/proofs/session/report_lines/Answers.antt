@@ -4,7 +4,7 @@ use Rattle.std.proofs.lemmas.Result.{IfOk-at_ok, on_ok_weaker}
 use Rattle.std.specs.List.{AllByRecursion}
 use Rattle.xet_store.specs.declared.info.Cleaned.{Cleaned}
 use Rattle.xet_store.specs.Cleaning.{HasFile, info_of}
-use Rattle.xet_cut.specs.Cut.{cut}
+use Rattle.xet_cut.specs.Chunking.{chunking}
 use Rattle.xet_store.specs.Steps.{ListsXorbs}
 use Rattle.xet_store.specs.Tables.{tables_of, with_files}
 use Rattle.xet_store.specs.theorems.Keeping.{keeps_then}
@@ -40,8 +40,8 @@ done g c =
       flushed = c.known-in-Ok.ensures;
       folder = c.requires.folder;
       fits = rw c.limits.ensures at c.known.ensures;
-      has = λ told apart. IfOk-at_ok (λ (x : Cleaned). AllByRecursion (HasFile before) (map (cut l) files)) c.in-Ok.is (c.clean_lines-session.ensures.files told apart);
-      lists = IfOk-at_ok (λ (x : Cleaned). AllByRecursion (ListsXorbs before) (map (cut l) files)) c.in-Ok.is c.clean_lines-session.ensures.listed;
+      has = λ told apart. IfOk-at_ok (λ (x : Cleaned). AllByRecursion (HasFile before) (map (chunking l) files)) c.in-Ok.is (c.clean_lines-session.ensures.files told apart);
+      lists = IfOk-at_ok (λ (x : Cleaned). AllByRecursion (ListsXorbs before) (map (chunking l) files)) c.in-Ok.is c.clean_lines-session.ensures.listed;
       contents = c.requires.contents;
       tables = IfOk-at_ok (λ (x : Cleaned). tables_of before ≡ with_files l (tables_of c.args.session) files) c.in-Ok.is c.clean_lines-session.ensures.stores;
     }

@@ -1,10 +1,10 @@
 use Rattle.std.proofs.Common.{ap, arith, length}
-use Rattle.xet_xorb.specs.theorems.OfMembers.{length-ends, length-hashes}
+use Rattle.xet_xorb.specs.theorems.OfLeaves.{length-ends, length-hashes}
 use Rattle.xet_xorb.proofs.footers.new_footer.Goals as goal
 
 pub returns-clause-lists : goal.returns-clause-lists
 returns-clause-lists c =
-    let ms = c.args.members.now in
+    let ms = c.args.leaves.now in
     let hashes = ap length c.in_ok-hashes.ensures.hashes in
     let stored = ap length c.in_ok-stored.ensures.ends in
     let plain = ap length c.in_ok-plain.ensures.ends in
@@ -16,7 +16,7 @@ returns-clause-lists c =
 
 pub returns-clause-short : goal.returns-clause-short
 returns-clause-short c =
-    let ms = c.args.members.now in
+    let ms = c.args.leaves.now in
     let hashes = ap length c.in_ok-hashes.ensures.hashes in
     let stored = ap length c.in_ok-stored.ensures.ends in
     let plain = ap length c.in_ok-plain.ensures.ends in

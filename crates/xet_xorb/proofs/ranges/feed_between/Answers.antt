@@ -19,14 +19,14 @@ returns-in_err-feed-clause-refused g c = λ told len.
     let at = c.reads.at in
     let n = c.min-count.result in
     let piece : List ℕ = c.read_exact.new.buf in
-    let size = c.split_at_mut-piece.ensures.front_len in
+    let size = c.split_at_mut-piece.ensures.prefix_len in
     let read = c.in_ok-read_exact.ensures.told (i.reader_tells ∙ told) (omega (arith, len, ap length i.same, c.min-count.ensures, size, c.reads-test.true)) in
     let fed = block_added bytes seen h.0 piece c.args.from at n _ i.after i.same size (h.3 told len) read in
-    exit_with (λ (e : StoreError). ((x : List (List ℕ)) × Decodes c.args.decoder.now.most 0 (slice_range bytes c.args.from c.args.to) x (Err e)) ⊎ (StopsWriting e ⊎ (e ≡ Io Input))) _ _
+    exit_with (λ (e : StoreError). ((x : List (List ℕ)) × Decodes c.args.decoder.now.max_chunk 0 (slice_range bytes c.args.from c.args.to) x (Err e)) ⊎ (StopsWriting e ⊎ (e ≡ Io Input))) _ _
     c.from_residual-in_err-feed.ensures.1
-    (refused_between bytes (h.0 ++ piece) c.args.from (at + n) c.args.to c.args.decoder.now.most h.1 _ _ _ _ (omega (arith, i.after)) (omega (arith, c.min-count.ensures, c.reads-test.true)) fed
-    (subst (λ (m : ℕ). RefusesMore m (h.0 ++ piece) h.1 (g.W.Sink.tells c.reads.w ≡ true) (g.W.Sink.written c.reads.w) (g.W.Sink.written c.feed.new.w) c.in_err-feed.field-0.0) i.most
-    (c.in_err-feed.ensures.refusals h.0 h.1 h.2)))
+    (refused_between bytes (h.0 ++ piece) c.args.from (at + n) c.args.to c.args.decoder.now.max_chunk h.1 _ _ _ _ (omega (arith, i.after)) (omega (arith, c.min-count.ensures, c.reads-test.true)) fed
+    (subst (λ (m : ℕ). RefusesMore m (h.0 ++ piece) h.1 (g.W.Sink.tells c.reads.w ≡ true) (g.W.Sink.written c.reads.w) (g.W.Sink.written c.feed.new.w) c.in_err-feed.field-0.0) i.max_chunk
+    (c.in_err-feed.ensures.errors h.0 h.1 h.2)))
 
 pub reads-preserved : goal.reads-preserved
 reads-preserved g c =
@@ -37,10 +37,10 @@ reads-preserved g c =
     let at = c.reads.at in
     let n = c.min-count.result in
     let piece : List ℕ = c.read_exact.new.buf in
-    let size = c.split_at_mut-piece.ensures.front_len in
+    let size = c.split_at_mut-piece.ensures.prefix_len in
     record {
       whole = c.in_ok-feed.ensures.whole.1 refl;
-      most = c.in_ok-feed.ensures.most ∙ i.most;
+      max_chunk = c.in_ok-feed.ensures.max_chunk ∙ i.max_chunk;
       after = omega (arith, i.after);
       within = omega (arith, c.min-count.ensures, c.reads-test.true);
       count = omega (arith, i.count, c.in_ok-feed.ensures.len, c.in_ok-read_exact.ensures.len, size);

@@ -5,12 +5,12 @@ use Rattle.xet_xorb.proofs.validation.checked_object.Goals as goal
 
 pub returns-in_default-clause-none : goal.returns-in_default-clause-none
 returns-in_default-clause-none g c = λ bytes sees hashed size _ object e.
-    c.in_ok-info.ensures.none (rw c.in_default.is refl) e.version (told_of c.args.start c.args.told c.args.hash.now c.args.members.now bytes object sees.all hashed size e)
+    c.in_ok-info.ensures.none (rw c.in_default.is refl) e.version (told_of c.args.start c.args.told c.args.hash.now c.args.leaves.now bytes object sees.all hashed size e)
 
 pub returns-then-not-branch-2-clause-none : goal.returns-then-not-branch-2-clause-none
 returns-then-not-branch-2-clause-none g c = λ bytes sees hashed size _ object e.
     let hash = c.args.hash.now in
-    let ms = c.args.members.now in
+    let ms = c.args.leaves.now in
     let text = c.deref.result.now in
     let fill = c.in_ok-fill.ensures in
     let read = fill.read sees.told (omega (arith, sees.all, ap length sees.same)) ∙ ap (λ (b : List ℕ). take 16 (drop (c.args.start + c.args.told - 16) b)) sees.same in
@@ -25,7 +25,7 @@ returns-then-not-branch-2-clause-none g c = λ bytes sees hashed size _ object e
 pub returns-clause-found : goal.returns-clause-found
 returns-clause-found g c = λ bytes sees hashed size.
     let hash = c.args.hash.now in
-    let ms = c.args.members.now in
+    let ms = c.args.leaves.now in
     let text = c.deref.result.now in
     let fill = c.in_ok-fill.ensures in
     let made = rw c.in-Some.is at c.in_ok-info.ensures.found in

@@ -1,6 +1,6 @@
 use Rattle.std.proofs.Common.{◌∙◌, ap, arith, rules, take}
 use Rattle.xet_xorb_chunk.proofs.Blocks.{block_taken}
-use Rattle.xet_xorb_chunk.proofs.Prefixes.{prefix_of, prefix_then}
+use Rattle.xet_xorb_chunk.proofs.Prefixes.{taken_prefix, prefix_then}
 use Rattle.xet_xorb_chunk.proofs.chunk_stream.take_bytes.Goals as goal
 
 pub reads-preserved : goal.reads-preserved
@@ -10,15 +10,15 @@ reads-preserved g c =
       within = search rules;
       read = λ told.
           block_taken _ _ _ c.reads.bytes.items _ c.resize.new.self.items c.fill_behind.new.bytes _ c.len-filled.result c.min.result c.in_ok-count.count _ (i.read told)
-          (c.in_ok-count.ensures.front ∙ ap (take c.len-filled.result) c.deref_mut.ensures.value) c.in_ok-resize.ensures.items (search rules) (search rules)
+          (c.in_ok-count.ensures.prefix ∙ ap (take c.len-filled.result) c.deref_mut.ensures.value) c.in_ok-resize.ensures.items (search rules) (search rules)
           (c.in_ok-count.ensures.told (i.tells ∙ told)).taken (search rules) (search rules);
       tells = c.in_ok-count.ensures.frame.tells ∙ i.tells;
       later = omega (arith, c.in_ok-count.ensures.frame.later, i.later);
     }
 
-pub returns-in_err-count-clause-prefix : goal.returns-in_err-count-clause-prefix
-returns-in_err-count-clause-prefix g c = λ told.
+pub returns-in_err-count-clause-consumed : goal.returns-in_err-count-clause-consumed
+returns-in_err-count-clause-consumed g c = λ told.
     let i = c.reads.invariant in
     let left = g.R.Source.left c.args.r.now in
     let middle = g.R.Source.left c.reads.r in
-    prefix_then left middle (g.R.Source.left c.fill_behind.new.source) (prefix_of left c.reads.bytes.items middle (i.read told)) (c.in_err-count.ensures.told (i.tells ∙ told))
+    prefix_then left middle (g.R.Source.left c.fill_behind.new.source) (taken_prefix left c.reads.bytes.items middle (i.read told)) (c.in_err-count.ensures.told (i.tells ∙ told))

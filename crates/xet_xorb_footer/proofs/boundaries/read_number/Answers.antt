@@ -3,7 +3,7 @@ use Rattle.xet_codec.specs.Blocks.{RefusedBy}
 use Rattle.xet_codec.specs.Parsing.{number_at}
 use Rattle.xet_xorb_footer.proofs.Endings.{field_then}
 use Rattle.xet_base.specs.theorems.Exits.{exit_with}
-use Rattle.xet_xorb_footer.specs.theorems.Fronts.{number_short}
+use Rattle.xet_xorb_footer.specs.theorems.Prefixes.{number_short}
 use Rattle.xet_xorb_footer.proofs.Placing.{number_there, short_refused}
 use Rattle.xet_xorb_footer.proofs.boundaries.read_number.Goals as goal
 

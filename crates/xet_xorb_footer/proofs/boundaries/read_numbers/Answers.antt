@@ -4,7 +4,7 @@ use Rattle.xet_codec.specs.Blocks.{RefusedBy}
 use Rattle.xet_codec.specs.Parsing.{number_at, times}
 use Rattle.xet_xorb_footer.proofs.Endings.{field_then}
 use Rattle.xet_base.specs.theorems.Exits.{exit_with}
-use Rattle.xet_xorb_footer.specs.theorems.Fronts.{a_number, times_short}
+use Rattle.xet_xorb_footer.specs.theorems.Prefixes.{a_number, times_short}
 use Rattle.xet_xorb_footer.proofs.Placing.{behind_all, behind_more, behind_refused, pushed, sees_on}
 use Rattle.xet_xorb_footer.proofs.boundaries.read_numbers.Goals as goal
 

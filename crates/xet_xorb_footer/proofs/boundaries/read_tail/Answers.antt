@@ -1,10 +1,10 @@
 use Rattle.std.proofs.Common.{◌≡◌, ◌∙◌, ◌+◌, List, Ok, ap, arith, drop, sym, ℕ}
 use Rattle.xet_codec.specs.Blocks.{RefusedBy}
 use Rattle.xet_xorb_footer.specs.internal.Places.{tail_at}
-use Rattle.xet_codec.specs.Parsing.{bytes_at}
+use Rattle.xet_codec.specs.Parsing.{next_bytes}
 use Rattle.xet_xorb_footer.proofs.Endings.{field_then}
 use Rattle.xet_base.specs.theorems.Exits.{exit_with}
-use Rattle.xet_xorb_footer.specs.theorems.Fronts.{bytes_short}
+use Rattle.xet_xorb_footer.specs.theorems.Prefixes.{bytes_short}
 use Rattle.xet_xorb_footer.proofs.Placing.{short_refused, sees_on}
 use Rattle.xet_xorb_footer.proofs.Sections.{at_place, tail_count, tail_hashes, tail_is, tail_offset, tail_short}
 use Rattle.xet_xorb_footer.proofs.boundaries.read_tail.Goals as goal
@@ -52,7 +52,7 @@ returns-in_err-load-clause-refused g c = λ bytes tells.
     exit_with (RefusedBy (tail_at c.args.count b)) _ _ c.from_residual-in_err-load.ensures.1
     (tail_short c.args.count h b (drop (at + 4) bytes) (drop (at + 8) bytes) (drop (at + 12) bytes) e (s1.read bytes tells) (at_place _ h bytes (at + 4 + 4) (at + 8) (s2.read bytes t1) sum)
     (at_place _ tt bytes (at + 8 + 4) (at + 12) (s3.read bytes t2) more)
-    (short_refused (bytes_at 16) bytes (at + 12) 16 e (bytes_short 16) (c.in_err-load.ensures.refused bytes t3)))
+    (short_refused (next_bytes 16) bytes (at + 12) 16 e (bytes_short 16) (c.in_err-load.ensures.refused bytes t3)))
 
 pub returns-clause-read : goal.returns-clause-read
 returns-clause-read g c = λ bytes tells.

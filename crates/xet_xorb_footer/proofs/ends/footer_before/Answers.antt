@@ -5,7 +5,7 @@ use Rattle.xet_hash.specs.declared.error.StoreError.{StoreError}
 use Rattle.xet_hash.specs.declared.error.StoreError.TheVariants.{Io, OutOfMemory}
 use Rattle.xet_xorb_footer.specs.declared.info.XorbObjectInfoV1.{XorbObjectInfoV1}
 use Rattle.xet_xorb_footer.specs.Ends.{last_footer}
-use Rattle.xet_xorb_footer.specs.Reader.{parts_of, rest_of}
+use Rattle.xet_xorb_footer.specs.Reader.{footer_parts_of, rest_of}
 use Rattle.xet_xorb_footer.proofs.Endings.{last_beyond, last_is, last_wrong, seen_at, unread, untold}
 use Rattle.xet_base.specs.theorems.Exits.{exit_with}
 use Rattle.xet_xorb_footer.proofs.ends.footer_before.Goals as goal
@@ -35,7 +35,7 @@ returns-then-len-to-ne-LENGTH_SIZE-clause-refused g c = λ told len.
     let n = c.in_ok-told.told in
     let at : ℕ = c.args.len - (n + 4) in
     let r = c.of_either-footer.result in
-    inl (last_wrong c.args.len n c.in_ok-to.to bytes _ (parts_of c.read_fields_at.new.footer) len (c.in_ok-told.ensures.read told len) (omega arith) (c.of_either-footer.ensures.rest _)
+    inl (last_wrong c.args.len n c.in_ok-to.to bytes _ (footer_parts_of c.read_fields_at.new.footer) len (c.in_ok-told.ensures.read told len) (omega arith) (c.of_either-footer.ensures.rest _)
     (seen_at at c.in_ok-to.to bytes seen (rest_of r) _ same (c.in_ok-to.ensures.read (c.in_ok-told.ensures.frame.tells ∙ told) (len ∙ ap length (sym same))))
     (ne_eqb _ _ c.if-len-to-ne-LENGTH_SIZE.true))
 
@@ -47,7 +47,7 @@ returns-clause-read g c = λ told len.
     let n = c.in_ok-told.told in
     let at : ℕ = c.args.len - (n + 4) in
     let r = c.of_either-footer.result in
-    last_is c.args.len n c.in_ok-to.to bytes _ (parts_of c.read_fields_at.new.footer) len (c.in_ok-told.ensures.read told len) (omega arith) (c.of_either-footer.ensures.rest _)
+    last_is c.args.len n c.in_ok-to.to bytes _ (footer_parts_of c.read_fields_at.new.footer) len (c.in_ok-told.ensures.read told len) (omega arith) (c.of_either-footer.ensures.rest _)
     (seen_at at c.in_ok-to.to bytes seen (rest_of r) _ same (c.in_ok-to.ensures.read (c.in_ok-told.ensures.frame.tells ∙ told) (len ∙ ap length (sym same))))
     (eq-eqb _ _ c.if-len-to-ne-LENGTH_SIZE.false)
     ∙ ap (λ (i : XorbObjectInfoV1). Ok (i, n)) (sym c.into_v1.ensures)

@@ -1,5 +1,5 @@
 use Rattle.std.proofs.Common.{◌≡◌, ◌∙◌, arith}
-use Rattle.xet_xorb_footer.specs.Reader.{bytes_wanted, parts_of}
+use Rattle.xet_xorb_footer.specs.Reader.{bytes_wanted, footer_parts_of}
 use Rattle.xet_xorb_footer.proofs.Known.{nothing_wanted}
 use Rattle.xet_xorb_footer.proofs.Shorts.{whole}
 use Rattle.xet_xorb_footer.proofs.ends.read_fields_at.Goals as goal
@@ -8,4 +8,4 @@ pub returns-clause-read : goal.returns-clause-read
 returns-clause-read g c = λ told end.
     let r = c.fields.footer in
     let none : bytes_wanted r ≡ 0 = omega arith in
-    c.fields.invariant.taken told end ∙ whole r.next (parts_of r) _ (nothing_wanted r.next (parts_of r) c.fields.invariant.settled none)
+    c.fields.invariant.taken told end ∙ whole r.next (footer_parts_of r) _ (nothing_wanted r.next (footer_parts_of r) c.fields.invariant.settled none)

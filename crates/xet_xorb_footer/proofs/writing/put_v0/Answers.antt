@@ -4,23 +4,23 @@ use Rattle.xet_codec.specs.Held.{held_in}
 use Rattle.xet_codec.specs.Numbers.{joined, numbers}
 use Rattle.xet_codec.specs.Written.{WritesPrefix, Moves}
 use Rattle.xet_base.specs.theorems.Exits.{exit_on}
-use Rattle.xet_codec.specs.theorems.Buffering.{on_ok, pad_behind, then, then_front}
+use Rattle.xet_codec.specs.theorems.Buffering.{on_ok, pad_behind, then, then_prefix}
 use Rattle.xet_xorb_footer.proofs.Texts.{head_v0, parts_v0}
 use Rattle.xet_xorb_footer.specs.theorems.EncodedLengths.{length_v0}
 use Rattle.xet_xorb_footer.proofs.writing.put_v0.Goals as goal
 
-pub returns-in_err-put_all-clause-front : goal.returns-in_err-put_all-clause-front
-returns-in_err-put_all-clause-front g c = λ told.
+pub returns-in_err-put_all-clause-prefix : goal.returns-in_err-put_all-clause-prefix
+returns-in_err-put_all-clause-prefix g c = λ told.
     let i = c.args.info.now in
     let h0 : List ℕ = held_in c.args.buffer.now in
     let head : List ℕ = head_v0 i c.as_bytes.result.now c.to_le_bytes-count.result in
     let text = parts_v0 i c.as_bytes.result.now c.to_le_bytes-count.result i.chunk_boundary_offsets i.chunk_hashes c.as_bytes.ensures c.to_le_bytes-count.ensures refl refl in
     exit_on _ _ c.from_residual.ensures.1
     (subst (λ (t : List ℕ). WritesPrefix (g.W.Sink.written c.args.sink.now) (g.W.Sink.written c.put_all.new.sink) (h0 ++ t)) text
-    (pad_behind h0 head (numbers i.chunk_boundary_offsets ++ (joined i.chunk_hashes ++ i.spare)) (c.in_err-put_all.ensures.front told)))
+    (pad_behind h0 head (numbers i.chunk_boundary_offsets ++ (joined i.chunk_hashes ++ i.spare)) (c.in_err-put_all.ensures.prefix told)))
 
-pub returns-in_err-put_numbers-clause-front : goal.returns-in_err-put_numbers-clause-front
-returns-in_err-put_numbers-clause-front g c = λ told.
+pub returns-in_err-put_numbers-clause-prefix : goal.returns-in_err-put_numbers-clause-prefix
+returns-in_err-put_numbers-clause-prefix g c = λ told.
     let i = c.args.info.now in
     let h0 : List ℕ = held_in c.args.buffer.now in
     let head : List ℕ = head_v0 i c.as_bytes.result.now c.to_le_bytes-count.result in
@@ -28,10 +28,10 @@ returns-in_err-put_numbers-clause-front g c = λ told.
     let s1 = c.in_ok-put_all.ensures in
     exit_on _ _ c.from_residual-in_err-put_numbers.ensures.1
     (subst (λ (t : List ℕ). WritesPrefix (g.W.Sink.written c.args.sink.now) (g.W.Sink.written c.put_numbers.new.sink) (h0 ++ t)) text
-    (then_front h0 head _ (s1.moved told) (pad_behind _ (numbers c.as_slice.result.now) (joined i.chunk_hashes ++ i.spare) (c.in_err-put_numbers.ensures.front (s1.frame.tells ∙ told)))))
+    (then_prefix h0 head _ (s1.moved told) (pad_behind _ (numbers c.as_slice.result.now) (joined i.chunk_hashes ++ i.spare) (c.in_err-put_numbers.ensures.prefix (s1.frame.tells ∙ told)))))
 
-pub returns-in_err-put_hashes-clause-front : goal.returns-in_err-put_hashes-clause-front
-returns-in_err-put_hashes-clause-front g c = λ told.
+pub returns-in_err-put_hashes-clause-prefix : goal.returns-in_err-put_hashes-clause-prefix
+returns-in_err-put_hashes-clause-prefix g c = λ told.
     let i = c.args.info.now in
     let h0 : List ℕ = held_in c.args.buffer.now in
     let head : List ℕ = head_v0 i c.as_bytes.result.now c.to_le_bytes-count.result in
@@ -40,8 +40,8 @@ returns-in_err-put_hashes-clause-front g c = λ told.
     let s2 = c.in_ok-put_numbers.ensures in
     exit_on _ _ c.from_residual-in_err-put_hashes.ensures.1
     (subst (λ (t : List ℕ). WritesPrefix (g.W.Sink.written c.args.sink.now) (g.W.Sink.written c.put_hashes.new.sink) (h0 ++ t)) text
-    (then_front h0 head _ (s1.moved told)
-    (then_front _ (numbers c.as_slice.result.now) _ (s2.moved (s1.frame.tells ∙ told)) (pad_behind _ (joined c.as_slice-2.result.now) i.spare (c.in_err-put_hashes.ensures.front (s2.frame.tells ∙ s1.frame.tells ∙ told))))))
+    (then_prefix h0 head _ (s1.moved told)
+    (then_prefix _ (numbers c.as_slice.result.now) _ (s2.moved (s1.frame.tells ∙ told)) (pad_behind _ (joined c.as_slice-2.result.now) i.spare (c.in_err-put_hashes.ensures.prefix (s2.frame.tells ∙ s1.frame.tells ∙ told))))))
 
 pub returns-clause-moved : goal.returns-clause-moved
 returns-clause-moved g c = λ told.
@@ -57,8 +57,8 @@ returns-clause-moved g c = λ told.
     (then h0 head _ (s1.moved told) (then _ (numbers c.as_slice.result.now) _ (s2.moved (s1.frame.tells ∙ told)) (then _ (joined c.as_slice-2.result.now) i.spare (s3.moved (s2.frame.tells ∙ s1.frame.tells ∙ told)) m))))
     (c.put.ensures.moved (s3.frame.tells ∙ s2.frame.tells ∙ s1.frame.tells ∙ told))
 
-pub returns-clause-front : goal.returns-clause-front
-returns-clause-front g c = λ told.
+pub returns-clause-prefix : goal.returns-clause-prefix
+returns-clause-prefix g c = λ told.
     let i = c.args.info.now in
     let h0 : List ℕ = held_in c.args.buffer.now in
     let head : List ℕ = head_v0 i c.as_bytes.result.now c.to_le_bytes-count.result in
@@ -68,8 +68,8 @@ returns-clause-front g c = λ told.
     let s3 = c.in_ok-put_hashes.ensures in
     on_err_weaker c.put.result
     (λ m. subst (λ (t : List ℕ). WritesPrefix (g.W.Sink.written c.args.sink.now) (g.W.Sink.written c.put.new.sink) (h0 ++ t)) text
-    (then_front h0 head _ (s1.moved told) (then_front _ (numbers c.as_slice.result.now) _ (s2.moved (s1.frame.tells ∙ told)) (then_front _ (joined c.as_slice-2.result.now) i.spare (s3.moved (s2.frame.tells ∙ s1.frame.tells ∙ told)) m))))
-    (c.put.ensures.front (s3.frame.tells ∙ s2.frame.tells ∙ s1.frame.tells ∙ told))
+    (then_prefix h0 head _ (s1.moved told) (then_prefix _ (numbers c.as_slice.result.now) _ (s2.moved (s1.frame.tells ∙ told)) (then_prefix _ (joined c.as_slice-2.result.now) i.spare (s3.moved (s2.frame.tells ∙ s1.frame.tells ∙ told)) m))))
+    (c.put.ensures.prefix (s3.frame.tells ∙ s2.frame.tells ∙ s1.frame.tells ∙ told))
 
 pub returns-clause-bytes : goal.returns-clause-bytes
 returns-clause-bytes g c =

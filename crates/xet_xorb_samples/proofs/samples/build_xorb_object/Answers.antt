@@ -2,8 +2,8 @@ use Rattle.std.proofs.Common.{◌≡◌, ◌∙◌, ◌+◌, ◌++◌, [], ◌�
 use Rattle.std.specs.List.{concat}
 use Rattle.xet_hash.specs.Merkle.{chunk_hash}
 use Rattle.xet_xorb_chunk.specs.ChunkEncoding.{encoded_chunk}
-use Rattle.xet_xorb_samples.specs.Samples.{AreCuts, AreSamples, HasSize, cuts_from}
-use Rattle.xet_xorb_samples.proofs.Cuts.{chunk_cuts, chunk_object, more_cuts, more_plain, more_stored}
+use Rattle.xet_xorb_samples.specs.Samples.{AreBoundaries, AreSamples, HasSize, chunk_boundaries}
+use Rattle.xet_xorb_samples.proofs.Boundaries.{boundaries_of_chunks, chunk_object, more_boundaries, more_plain, more_stored}
 use Rattle.xet_xorb_samples.proofs.Drawn.{drawn_bound, more_samples, one_drawn, sample_parts}
 use Rattle.xet_xorb_samples.proofs.samples.build_xorb_object.Goals as goal
 
@@ -40,20 +40,20 @@ draws-preserved g c =
     let whole : c.extend_from_slice.new.self.items ≡ concat (held.0 ++ bytes ∷ []) = more_plain held.0 bytes _ _ held.3 plain in
     let hash : c.compute_data_hash.result ≡ chunk_hash bytes = c.compute_data_hash.ensures ∙ ap chunk_hash c.deref-in-draws-2.ensures.value in
     let end : c.len.result ≡ 0 + length (concat (held.0 ++ bytes ∷ [])) = omega (arith, ap length whole, c.len.ensures, c.extend_from_slice.new.self.ok.0) in
-    let cuts : c.push.new.self.items ≡ cuts_from 0 (held.0 ++ bytes ∷ []) =
-    c.in_ok-push.ensures.items ∙ ap (λ (h : List ℕ). c.draws.cuts.items ++ (h, c.len.result) ∷ []) hash
-    ∙ ap (λ (n : ℕ). c.draws.cuts.items ++ (chunk_hash bytes, n) ∷ []) end
-    ∙ ap (λ (x : List (List ℕ × ℕ)). x ++ (chunk_hash bytes, 0 + length (concat (held.0 ++ bytes ∷ []))) ∷ []) held.4 ∙ sym (more_cuts 0 held.0 bytes) in
-    (held.0 ++ bytes ∷ [], more_samples c.draws.counter size start before after held.0 bytes held.1 sized one, more_stored held.0 bytes _ _ held.2 stored, whole, cuts)
+    let boundaries : c.push.new.self.items ≡ chunk_boundaries 0 (held.0 ++ bytes ∷ []) =
+    c.in_ok-push.ensures.items ∙ ap (λ (h : List ℕ). c.draws.boundaries.items ++ (h, c.len.result) ∷ []) hash
+    ∙ ap (λ (n : ℕ). c.draws.boundaries.items ++ (chunk_hash bytes, n) ∷ []) end
+    ∙ ap (λ (x : List (List ℕ × ℕ)). x ++ (chunk_hash bytes, 0 + length (concat (held.0 ++ bytes ∷ []))) ∷ []) held.4 ∙ sym (more_boundaries 0 held.0 bytes) in
+    (held.0 ++ bytes ∷ [], more_samples c.draws.counter size start before after held.0 bytes held.1 sized one, more_stored held.0 bytes _ _ held.2 stored, whole, boundaries)
 
-pub cut_object-requires : goal.cut_object-requires
-cut_object-requires g c =
+pub boundary_object-requires : goal.boundary_object-requires
+boundary_object-requires g c =
     let held = c.draws.invariant in
     let start = g.G.Rng.stream c.args.rng.now in
     let last = g.G.Rng.stream c.draws.rng in
     let samples : AreSamples c.args.num_chunks c.args.size start held.0 last = subst (λ (n : ℕ). AreSamples n c.args.size start held.0 last) (omega arith) held.1 in
-    let cuts = chunk_cuts held.0 (sample_parts c.args.num_chunks c.args.size start last held.0 c.requires samples) in
-    (concat held.0, subst (AreCuts (concat held.0)) (sym (c.deref-2.ensures.value ∙ held.4)) cuts)
+    let boundaries = boundaries_of_chunks held.0 (sample_parts c.args.num_chunks c.args.size start last held.0 c.requires samples) in
+    (concat held.0, subst (AreBoundaries (concat held.0)) (sym (c.deref-2.ensures.value ∙ held.4)) boundaries)
 
 pub returns-clause-made : goal.returns-clause-made
 returns-clause-made g c =
@@ -70,11 +70,11 @@ returns-clause-made g c =
       cut = held.4;
     }
 
-pub returns-clause-cuts : goal.returns-clause-cuts
-returns-clause-cuts g c =
+pub returns-clause-boundaries : goal.returns-clause-boundaries
+returns-clause-boundaries g c =
     let held = c.draws.invariant in
     let start = g.G.Rng.stream c.args.rng.now in
     let last = g.G.Rng.stream c.draws.rng in
     let samples : AreSamples c.args.num_chunks c.args.size start held.0 last = subst (λ (n : ℕ). AreSamples n c.args.size start held.0 last) (omega arith) held.1 in
-    let cuts = chunk_cuts held.0 (sample_parts c.args.num_chunks c.args.size start last held.0 c.requires samples) in
-    subst (λ (x : List ℕ). AreCuts x c.draws.cuts.items) (sym held.3) (subst (AreCuts (concat held.0)) (sym held.4) cuts)
+    let boundaries = boundaries_of_chunks held.0 (sample_parts c.args.num_chunks c.args.size start last held.0 c.requires samples) in
+    subst (λ (x : List ℕ). AreBoundaries x c.draws.boundaries.items) (sym held.3) (subst (AreBoundaries (concat held.0)) (sym held.4) boundaries)

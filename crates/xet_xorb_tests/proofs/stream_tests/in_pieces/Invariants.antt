@@ -1,10 +1,10 @@
 use Rattle.std.proofs.Common.{◌≡◌, ◌≤◌, ◌-◌, length, true}
-use Rattle.xet_xorb_chunk.specs.Decoder.{fed_len, whole_of}
+use Rattle.xet_xorb_chunk.specs.Decoder.{fed_len, is_intact}
 use Rattle.xet_xorb_tests.proofs.stream_tests.in_pieces.Given as goal
 
 abbrev pub invariant-pieces : goal.invariant-pieces
 invariant-pieces l = record {
-  whole : whole_of l.decoder ≡ true;
+  whole : is_intact l.decoder ≡ true;
   within : l.at ≤ length l.stored;
   fed : fed_len l.decoder ≡ l.at;
 }

@@ -1,13 +1,13 @@
 use Rattle.std.proofs.Common.{◌≡◌, ◌∙◌, List, arith, length, rules, ℕ}
 use Rattle.xet_base.specs.theorems.Exits.{exit_on}
-use Rattle.xet_codec.specs.theorems.Joining.{ends, length_more, more}
+use Rattle.xet_codec.specs.theorems.Joining.{group_ends, length_more, more}
 use Rattle.xet_codec.proofs.buffer.Buffer.put_hashes.Goals as goal
 
-pub returns-in_err-put-clause-front : goal.returns-in_err-put-clause-front
-returns-in_err-put-clause-front g c = λ told.
+pub returns-in_err-put-clause-prefix : goal.returns-in_err-put-clause-prefix
+returns-in_err-put-clause-prefix g c = λ told.
     let i = c.loop-hash.invariant in
     exit_on _ _ c.from_residual.ensures.1
-    (ends (λ (h : List ℕ). h) _ c.args.hashes.now c.loop-hash.hash-index c.hash-item.result _ c.loop-hash-test.true (c.as_bytes.ensures ∙ c.hash-item.is) (i.moved told) (c.in_err-put.ensures.front (i.tells ∙ told)))
+    (group_ends (λ (h : List ℕ). h) _ c.args.hashes.now c.loop-hash.hash-index c.hash-item.result _ c.loop-hash-test.true (c.as_bytes.ensures ∙ c.hash-item.is) (i.moved told) (c.in_err-put.ensures.prefix (i.tells ∙ told)))
 
 pub loop-hash-preserved : goal.loop-hash-preserved
 loop-hash-preserved g c =

@@ -1,7 +1,7 @@
 use Rattle.std.proofs.Common.{◌≡◌, ◌+◌, ◌%◌, ◌<◌, ◌^◌, drop, ap, get_or, count_ones, add-zero, arith, refl}
 use Rattle.std.proofs.lemmas.Nat.{ones-le}
 use Rattle.xet_group.proofs.Counts.{counted_none, one_counted, one_fits, put_shape, table_from}
-use Rattle.xet_group.specs.Histogram.{count_at, counted}
+use Rattle.xet_group.specs.Histogram.{count_of, byte_counts}
 use Rattle.xet_group.proofs.predictor.BG4Predictor.add_data_reference.Goals as goal
 
 pub loop-i-init : goal.loop-i-init
@@ -18,7 +18,7 @@ overflow_add-self-in-loop-i c =
     let g = (c.args.offset % 4 + c.loop-i.i) % 4 in
     let k = count_ones (get_or c.args.b.now c.loop-i.i 0) in
     let less : g < 4 = omega arith in
-    let total : count_at c.self.inside.counts g k + counted (c.args.offset % 4) c.args.b.now g k < 2 ^ 32 = rw c.self.view_is (c.requires g k less (few c)) in
+    let total : count_of c.self.inside.counts g k + byte_counts (c.args.offset % 4) c.args.b.now g k < 2 ^ 32 = rw c.self.view_is (c.requires g k less (few c)) in
     record { fits = one_fits c.loop-i.self-inside.counts c.args.b.now (c.args.offset % 4 + c.loop-i.i) c.loop-i.i _ c.loop-i-test.true total (c.loop-i.invariant.counts g k less (few c)) }
 
 pub loop-i-preserved : goal.loop-i-preserved
@@ -31,7 +31,7 @@ loop-i-preserved c = record {
 
 pub returns : goal.returns
 returns c =
-    table_from c.loop-i.self-inside.counts (λ g k. count_at c.args.self.now g k + counted (c.args.offset % 4) c.args.b.now g k) c.loop-i.invariant.shape (λ g k low less.
-    let rest : counted (c.args.offset % 4 + c.loop-i.i) (drop c.loop-i.i c.args.b.now) g k ≡ 0 = counted_none (c.args.offset % 4 + c.loop-i.i) c.args.b.now c.loop-i.i g k c.loop-i-test.false in
-    let same : count_at c.self.inside.counts g k ≡ count_at c.args.self.now g k = ap (λ t. count_at t g k) c.self.view_is in
+    table_from c.loop-i.self-inside.counts (λ g k. count_of c.args.self.now g k + byte_counts (c.args.offset % 4) c.args.b.now g k) c.loop-i.invariant.shape (λ g k low less.
+    let rest : byte_counts (c.args.offset % 4 + c.loop-i.i) (drop c.loop-i.i c.args.b.now) g k ≡ 0 = counted_none (c.args.offset % 4 + c.loop-i.i) c.args.b.now c.loop-i.i g k c.loop-i-test.false in
+    let same : count_of c.self.inside.counts g k ≡ count_of c.args.self.now g k = ap (λ t. count_of t g k) c.self.view_is in
     omega (arith, rest, same, c.loop-i.invariant.counts g k low less))

@@ -7,8 +7,8 @@ pub returns-in-Ok-clause-exact : goal.returns-in-Ok-clause-exact
 returns-in-Ok-clause-exact g c = λ told.
     gives_all _ c.read_shard.result c.deref.result.now (g.R.ReadAt.bytes c.args.reader.now) (c.deref.ensures.value ∙ c.in-Ok.ensures.told told) c.read_shard.ensures.exact
 
-pub returns-in-Ok-clause-refusals : goal.returns-in-Ok-clause-refusals
-returns-in-Ok-clause-refusals g c = refuses _ c.read_shard.result (all_of c.deref.result.now) (all_answers c.deref.result.now) c.read_shard.ensures.exact
+pub returns-in-Ok-clause-errors : goal.returns-in-Ok-clause-errors
+returns-in-Ok-clause-errors g c = refuses _ c.read_shard.result (all_of c.deref.result.now) (all_answers c.deref.result.now) c.read_shard.ensures.exact
 
 pub returns-in-Ok-clause-frame : goal.returns-in-Ok-clause-frame
 returns-in-Ok-clause-frame g c =

@@ -8,4 +8,4 @@ pub returns-clause-exact : goal.returns-clause-exact
 returns-clause-exact g c = λ told.
     let same = c.in_ok-len.ensures.frame.same in
     subst (λ (b : List ℕ). IsUnlessFault c.load.result (info_at b)) same
-    (is_unless_fault c.load.result _ (c.load.ensures.exact (c.in_ok-len.ensures.frame.tells ∙ told) (c.in_ok-len.ensures.told told ∙ ap length (sym same))) c.load.ensures.refusals)
+    (is_unless_fault c.load.result _ (c.load.ensures.exact (c.in_ok-len.ensures.frame.tells ∙ told) (c.in_ok-len.ensures.told told ∙ ap length (sym same))) c.load.ensures.errors)

@@ -31,8 +31,8 @@ returns-in-Ok-clause-few g c =
     given_ok (λ v. v.items) c.records_at.result _ (λ blocks. length (xorb_section blocks) < 2 ^ 32)
     (λ blocks e. section_few xorb_at xorb_hash xorb_head xorb_rest IsXorb xorbs_reading c.in_ok-count.count c.deref.result.now blocks e c.in-Ok.ensures.few) c.records_at.ensures
 
-pub returns-in-Ok-clause-refusals : goal.returns-in-Ok-clause-refusals
-returns-in-Ok-clause-refusals g c = refuses (λ v. v.items) c.records_at.result _ (a_section xorb_at a_xorb xorb_hash _ None _) c.records_at.ensures
+pub returns-in-Ok-clause-errors : goal.returns-in-Ok-clause-errors
+returns-in-Ok-clause-errors g c = refuses (λ v. v.items) c.records_at.result _ (a_section xorb_at a_xorb xorb_hash _ None _) c.records_at.ensures
 
 pub returns-in-Ok-clause-frame : goal.returns-in-Ok-clause-frame
 returns-in-Ok-clause-frame g c =

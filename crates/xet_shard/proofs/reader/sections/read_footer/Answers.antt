@@ -10,8 +10,8 @@ returns-clause-exact g c = λ told len.
     gives_whole (λ f. f) c.footer_of_last.result (footer_of_last c.args.len c.fill.new.buf) _ (a_last c.args.len c.fill.new.buf)
     (footer_from c.args.len bytes c.fill.new.buf len (c.in_ok-fill.ensures.told told (omega (arith, len, c.requires)))) c.footer_of_last.ensures.gives
 
-pub returns-clause-refusals : goal.returns-clause-refusals
-returns-clause-refusals g c = gives_input_error c.footer_of_last.result _ (a_last c.args.len c.fill.new.buf) c.footer_of_last.ensures.exact
+pub returns-clause-errors : goal.returns-clause-errors
+returns-clause-errors g c = gives_input_error c.footer_of_last.result _ (a_last c.args.len c.fill.new.buf) c.footer_of_last.ensures.exact
 
 pub returns-clause-frame : goal.returns-clause-frame
 returns-clause-frame g c =

@@ -2,7 +2,7 @@ use Rattle.std.proofs.Common.{◌≡◌, ◌∙◌, ◌<◌, ◌^◌, length, tr
 use Rattle.xet_shard_format.specs.declared.record.MDBFileInfo.{MDBFileInfo}
 use Rattle.xet_shard.specs.Held.{held, with_last}
 use Rattle.xet_shard_format.specs.Records.{IsFile, file_hash, file_section}
-use Rattle.xet_folder.specs.Xorbs.{Records, found}
+use Rattle.xet_folder.specs.Xorbs.{FileRecords, found}
 use Rattle.xet_folder.specs.theorems.Tables.{found_here}
 use Rattle.xet_store.specs.internal.Store.{IsNewFile}
 use Rattle.xet_store.specs.Store.{State}
@@ -30,13 +30,13 @@ pub returns-in_err-reserve-clause-keeps : goal.returns-in_err-reserve-clause-kee
 returns-in_err-reserve-clause-keeps g c = keeps_unchanged _ _ c.self.invariant c.self.view_is refl c.reserve.ensures.entries refl refl
 
 pub add_file_reconstruction_info-requires-clause-form : goal.add_file_reconstruction_info-requires-clause-form
-add_file_reconstruction_info-requires-clause-form g c = subst IsFile (sym c.in_ok-copy.ensures.copy) (file_form c.requires.members c.args.file c.requires.form c.requires.plain)
+add_file_reconstruction_info-requires-clause-form g c = subst IsFile (sym c.in_ok-copy.ensures.copy) (file_form c.requires.leaves c.args.file c.requires.form c.requires.plain)
 
 pub add_file_reconstruction_info-requires-clause-few : goal.add_file_reconstruction_info-requires-clause-few
 add_file_reconstruction_info-requires-clause-few g c =
     let fits : c.has_room.result ≡ true = search rules in
     subst (λ (f : MDBFileInfo). length (file_section (with_last file_hash c.self.inside.pending.files f)) < 2 ^ 32) (sym c.in_ok-copy.ensures.copy)
-    (few_files c.self.inside.pending c.requires.members c.args.file c.requires.form (omega (arith, c.has_room.ensures.0 fits, c.from.ensures)))
+    (few_files c.self.inside.pending c.requires.leaves c.args.file c.requires.form (omega (arith, c.has_room.ensures.0 fits, c.from.ensures)))
 
 pub returns-in_err-add_file_reconstruction_info-clause-keeps : goal.returns-in_err-add_file_reconstruction_info-clause-keeps
 returns-in_err-add_file_reconstruction_info-clause-keeps g c =
@@ -58,7 +58,7 @@ pub returns-clause-there : goal.returns-clause-there
 returns-clause-there g c =
     let none = absent_at c.self.inside.records _ _ c.hash-hash.ensures (sym c.if-contains_key.false ∙ c.contains_key.ensures) in
     let more = recorded_at c.self.inside.records _ _ c.reserve.new.self.entries _ _ c.args.file c.hash-hash.ensures c.in_ok-recorded.ensures.file none c.reserve.ensures.entries c.in_ok-insert.ensures.entries in
-    is_some_found c.insert.new.self.entries (file_hash c.args.file) c.args.file (ap (λ (rows : Records). found rows (file_hash c.args.file)) more ∙ found_here c.self.inside.records.entries (file_hash c.args.file) c.args.file none)
+    is_some_found c.insert.new.self.entries (file_hash c.args.file) c.args.file (ap (λ (rows : FileRecords). found rows (file_hash c.args.file)) more ∙ found_here c.self.inside.records.entries (file_hash c.args.file) c.args.file none)
 
 pub returns-clause-adds : goal.returns-clause-adds
 returns-clause-adds g c =

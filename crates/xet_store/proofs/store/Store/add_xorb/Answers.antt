@@ -1,6 +1,6 @@
 use Rattle.std.proofs.Common.{◌≡◌, ◌∙◌, ℕ, List, length, map, inr, Some, None, true, refl, sym, ap, subst, rules, arith}
 use Rattle.xet_hash.specs.Merkle.{xorb_hash}
-use Rattle.xet_xorb_chunk.specs.Chunks.{chunk_member}
+use Rattle.xet_xorb_chunk.specs.Chunks.{chunk_leaf}
 use Rattle.xet_shard_format.specs.declared.record.MDBXorbInfo.{MDBXorbInfo}
 use Rattle.xet_shard.specs.Held.{Held, held, with_last}
 use Rattle.xet_shard_format.specs.Records as record_of
@@ -9,15 +9,15 @@ use Rattle.xet_folder.specs.Xorbs.{Xorbs, found}
 use Rattle.xet_store.specs.Store.{State}
 use Rattle.xet_store.specs.Tables.{tables, tables_of}
 use Rattle.xet_store.proofs.Answering.{on_err}
-use Rattle.xet_store.proofs.Adding.{PutsXorb, backed_by_text, listed_at, members_below, parts_fit, put_keeps, put_sound, put_tables, raw_block, raw_hash, raw_text, same_members, tables_by_chunks, tables_listed, true_from, unput_keeps, unput_sound}
+use Rattle.xet_store.proofs.Adding.{PutsXorb, backed_by_text, listed_at, leaves_below, parts_fit, put_keeps, put_sound, put_tables, raw_block, raw_hash, raw_text, same_leaves, tables_by_chunks, tables_listed, true_from, unput_keeps, unput_sound}
 use Rattle.xet_store.specs.theorems.Keeping.{keeps_nothing}
 use Rattle.xet_store.proofs.Pending.{few_blocks_of, xorb_form_of}
 use Rattle.xet_store.proofs.Rows.{recorded_at}
 use Rattle.xet_store.specs.theorems.Staying.{keeps_unchanged}
 use Rattle.xet_store.proofs.store.Store.add_xorb.Goals as goal
 
-pub returns-in_err-members-clause-keeps : goal.returns-in_err-members-clause-keeps
-returns-in_err-members-clause-keeps g c = keeps_nothing c.args.self.now
+pub returns-in_err-leaves-clause-keeps : goal.returns-in_err-leaves-clause-keeps
+returns-in_err-leaves-clause-keeps g c = keeps_nothing c.args.self.now
 
 pub from_chunks-requires : goal.from_chunks-requires
 from_chunks-requires g c = parts_fit c.args.chunks.now c.requires.small c.requires.count c.requires.bytes
@@ -38,7 +38,7 @@ pub returns-in_err-block-clause-keeps : goal.returns-in_err-block-clause-keeps
 returns-in_err-block-clause-keeps g c = keeps_nothing c.args.self.now
 
 pub from_vec-requires : goal.from_vec-requires
-from_vec-requires g c = members_below c.in_ok-members.members.items c.args.chunks.now c.in_ok-members.ensures.members c.requires.count c.requires.bytes
+from_vec-requires g c = leaves_below c.in_ok-leaves.leaves.items c.args.chunks.now c.in_ok-leaves.ensures.leaves c.requires.count c.requires.bytes
 
 pub returns-in_err-listed-clause-keeps : goal.returns-in_err-listed-clause-keeps
 returns-in_err-listed-clause-keeps g c = keeps_nothing c.args.self.now
@@ -49,18 +49,18 @@ returns-in_err-built-clause-keeps g c = keeps_nothing c.args.self.now
 pub returns-in-Some-clause-listed : goal.returns-in-Some-clause-listed
 returns-in-Some-clause-listed g c =
     let h = c.hash-hash.result in
-    let is_hash : h ≡ xorb_hash (map chunk_member c.args.chunks.now) = raw_hash c.in_ok-raw.raw c.args.chunks.now _ c.in_ok-raw.ensures.exact h c.hash-hash.ensures in
-    let same = same_members c.as_slice.result.now c.as_slice-in-Some.result.now (true_from _ (sym c.if-ne.false ∙ c.ne.ensures)) in
-    let members = sym c.as_slice.ensures ∙ same ∙ c.as_slice-in-Some.ensures.value ∙ c.in_ok-members.ensures.members in
-    (is_hash, ap (λ (s : State). found s.xorbs h) (sym c.self.view_is) ∙ sym c.in-Some.ensures.value ∙ ap Some members)
+    let is_hash : h ≡ xorb_hash (map chunk_leaf c.args.chunks.now) = raw_hash c.in_ok-raw.raw c.args.chunks.now _ c.in_ok-raw.ensures.exact h c.hash-hash.ensures in
+    let same = same_leaves c.as_slice.result.now c.as_slice-in-Some.result.now (true_from _ (sym c.if-ne.false ∙ c.ne.ensures)) in
+    let leaves = sym c.as_slice.ensures ∙ same ∙ c.as_slice-in-Some.ensures.value ∙ c.in_ok-leaves.ensures.leaves in
+    (is_hash, ap (λ (s : State). found s.xorbs h) (sym c.self.view_is) ∙ sym c.in-Some.ensures.value ∙ ap Some leaves)
 
 pub returns-in-Some-clause-stores : goal.returns-in-Some-clause-stores
 returns-in-Some-clause-stores g c =
     let h = c.hash-hash.result in
     let chunks = c.args.chunks.now in
-    let is_hash : h ≡ xorb_hash (map chunk_member chunks) = raw_hash c.in_ok-raw.raw chunks _ c.in_ok-raw.ensures.exact h c.hash-hash.ensures in
-    tables_listed c.args.self.now h (map chunk_member chunks) c.in-Some.listed.now (ap (λ (s : State). found s.xorbs h) (sym c.self.view_is) ∙ sym c.in-Some.ensures.value)
-    ∙ tables_by_chunks (tables_of c.args.self.now) h (map chunk_member chunks) chunks c.requires.digests is_hash refl
+    let is_hash : h ≡ xorb_hash (map chunk_leaf chunks) = raw_hash c.in_ok-raw.raw chunks _ c.in_ok-raw.ensures.exact h c.hash-hash.ensures in
+    tables_listed c.args.self.now h (map chunk_leaf chunks) c.in-Some.listed.now (ap (λ (s : State). found s.xorbs h) (sym c.self.view_is) ∙ sym c.in-Some.ensures.value)
+    ∙ tables_by_chunks (tables_of c.args.self.now) h (map chunk_leaf chunks) chunks c.requires.digests is_hash refl
 
 pub returns-in_err-reserve-clause-keeps : goal.returns-in_err-reserve-clause-keeps
 returns-in_err-reserve-clause-keeps g c = keeps_unchanged _ _ c.self.invariant c.self.view_is c.reserve.ensures.entries refl refl refl
@@ -74,8 +74,8 @@ invariant_of-self-in_err-put_xorb g c =
     let h = c.hash-hash.result in
     let chunks = c.args.chunks.now in
     let files = g.D.Disk.files c.put_xorb.new.disk in
-    let is_hash : h ≡ xorb_hash (map chunk_member chunks) = raw_hash c.in_ok-raw.raw chunks _ c.in_ok-raw.ensures.exact h c.hash-hash.ensures in
-    let put : PutsXorb _ c.as_str.result.now h c.as_slice-2.result.now c.in_ok-members.members.items _ files (g.D.Disk.faults c.put_xorb.new.disk) = record {
+    let is_hash : h ≡ xorb_hash (map chunk_leaf chunks) = raw_hash c.in_ok-raw.raw chunks _ c.in_ok-raw.ensures.exact h c.hash-hash.ensures in
+    let put : PutsXorb _ c.as_str.result.now h c.as_slice-2.result.now c.in_ok-leaves.leaves.items _ files (g.D.Disk.faults c.put_xorb.new.disk) = record {
       sound = c.self.invariant;
       same = c.as_str.ensures;
       tells_same = c.put_xorb.ensures.frame.tells;
@@ -85,9 +85,9 @@ invariant_of-self-in_err-put_xorb g c =
       shards = c.put_xorb.ensures.shards;
       foreign = c.put_xorb.ensures.foreign;
       backs = λ there.
-          subst (λ (m : List (List ℕ × ℕ)). IsBacked files c.self.inside.folder h m) (sym c.in_ok-members.ensures.members)
+          subst (λ (m : List (List ℕ × ℕ)). IsBacked files c.self.inside.folder h m) (sym c.in_ok-leaves.ensures.leaves)
           (backed_by_text files c.self.inside.folder h c.in_ok-built.built.serialized_data chunks c.requires.digests c.requires.small
-          (raw_text c.in_ok-raw.raw chunks _ c.in_ok-raw.ensures.exact h c.hash-hash.ensures c.in_ok-built.built.serialized_data c.requires.digests c.requires.some c.in_ok-raw.ensures.members (c.in_ok-built.ensures.grammar refl))
+          (raw_text c.in_ok-raw.raw chunks _ c.in_ok-raw.ensures.exact h c.hash-hash.ensures c.in_ok-built.built.serialized_data c.requires.digests c.requires.some c.in_ok-raw.ensures.leaves (c.in_ok-built.ensures.grammar refl))
           is_hash (there ∙ ap Some c.as_slice-2.ensures));
       left = c.in_err-put_xorb.ensures.refused;
     } in
@@ -98,8 +98,8 @@ returns-in_err-put_xorb-clause-keeps g c =
     let h = c.hash-hash.result in
     let chunks = c.args.chunks.now in
     let files = g.D.Disk.files c.put_xorb.new.disk in
-    let is_hash : h ≡ xorb_hash (map chunk_member chunks) = raw_hash c.in_ok-raw.raw chunks _ c.in_ok-raw.ensures.exact h c.hash-hash.ensures in
-    let put : PutsXorb _ c.as_str.result.now h c.as_slice-2.result.now c.in_ok-members.members.items _ files (g.D.Disk.faults c.put_xorb.new.disk) = record {
+    let is_hash : h ≡ xorb_hash (map chunk_leaf chunks) = raw_hash c.in_ok-raw.raw chunks _ c.in_ok-raw.ensures.exact h c.hash-hash.ensures in
+    let put : PutsXorb _ c.as_str.result.now h c.as_slice-2.result.now c.in_ok-leaves.leaves.items _ files (g.D.Disk.faults c.put_xorb.new.disk) = record {
       sound = c.self.invariant;
       same = c.as_str.ensures;
       tells_same = c.put_xorb.ensures.frame.tells;
@@ -109,9 +109,9 @@ returns-in_err-put_xorb-clause-keeps g c =
       shards = c.put_xorb.ensures.shards;
       foreign = c.put_xorb.ensures.foreign;
       backs = λ there.
-          subst (λ (m : List (List ℕ × ℕ)). IsBacked files c.self.inside.folder h m) (sym c.in_ok-members.ensures.members)
+          subst (λ (m : List (List ℕ × ℕ)). IsBacked files c.self.inside.folder h m) (sym c.in_ok-leaves.ensures.leaves)
           (backed_by_text files c.self.inside.folder h c.in_ok-built.built.serialized_data chunks c.requires.digests c.requires.small
-          (raw_text c.in_ok-raw.raw chunks _ c.in_ok-raw.ensures.exact h c.hash-hash.ensures c.in_ok-built.built.serialized_data c.requires.digests c.requires.some c.in_ok-raw.ensures.members (c.in_ok-built.ensures.grammar refl))
+          (raw_text c.in_ok-raw.raw chunks _ c.in_ok-raw.ensures.exact h c.hash-hash.ensures c.in_ok-built.built.serialized_data c.requires.digests c.requires.some c.in_ok-raw.ensures.leaves (c.in_ok-built.ensures.grammar refl))
           is_hash (there ∙ ap Some c.as_slice-2.ensures));
       left = c.in_err-put_xorb.ensures.refused;
     } in
@@ -128,8 +128,8 @@ add_xorb_block-requires-clause-form g c =
 pub add_xorb_block-requires-clause-few : goal.add_xorb_block-requires-clause-few
 add_xorb_block-requires-clause-few g c =
     let fits : c.has_room.result ≡ true = search rules in
-    let count : c.len.result ≡ length c.in_ok-members.members.items = omega (arith, c.len.ensures, c.in_ok-members.members.ok) in
-    let exact = raw_block c.in_ok-raw.raw c.args.chunks.now _ c.in_ok-raw.ensures.exact c.hash-hash.result c.hash-hash.ensures c.in_ok-block.block c.in_ok-members.members.items c.in_ok-members.ensures.members
+    let count : c.len.result ≡ length c.in_ok-leaves.leaves.items = omega (arith, c.len.ensures, c.in_ok-leaves.leaves.ok) in
+    let exact = raw_block c.in_ok-raw.raw c.args.chunks.now _ c.in_ok-raw.ensures.exact c.hash-hash.result c.hash-hash.ensures c.in_ok-block.block c.in_ok-leaves.leaves.items c.in_ok-leaves.ensures.leaves
     c.in_ok-block.ensures.copy in
     few_blocks_of _ _ _ exact c.self.inside.pending c.len.result count (omega (arith, c.has_room.ensures.0 fits))
 
@@ -138,8 +138,8 @@ invariant_of-self-in_err-add_xorb_block g c =
     let h = c.hash-hash.result in
     let chunks = c.args.chunks.now in
     let files = g.D.Disk.files c.put_xorb.new.disk in
-    let is_hash : h ≡ xorb_hash (map chunk_member chunks) = raw_hash c.in_ok-raw.raw chunks _ c.in_ok-raw.ensures.exact h c.hash-hash.ensures in
-    let put : PutsXorb _ c.as_str.result.now h c.as_slice-2.result.now c.in_ok-members.members.items _ files (g.D.Disk.faults c.put_xorb.new.disk) = record {
+    let is_hash : h ≡ xorb_hash (map chunk_leaf chunks) = raw_hash c.in_ok-raw.raw chunks _ c.in_ok-raw.ensures.exact h c.hash-hash.ensures in
+    let put : PutsXorb _ c.as_str.result.now h c.as_slice-2.result.now c.in_ok-leaves.leaves.items _ files (g.D.Disk.faults c.put_xorb.new.disk) = record {
       sound = c.self.invariant;
       same = c.as_str.ensures;
       tells_same = c.put_xorb.ensures.frame.tells;
@@ -149,9 +149,9 @@ invariant_of-self-in_err-add_xorb_block g c =
       shards = c.put_xorb.ensures.shards;
       foreign = c.put_xorb.ensures.foreign;
       backs = λ there.
-          subst (λ (m : List (List ℕ × ℕ)). IsBacked files c.self.inside.folder h m) (sym c.in_ok-members.ensures.members)
+          subst (λ (m : List (List ℕ × ℕ)). IsBacked files c.self.inside.folder h m) (sym c.in_ok-leaves.ensures.leaves)
           (backed_by_text files c.self.inside.folder h c.in_ok-built.built.serialized_data chunks c.requires.digests c.requires.small
-          (raw_text c.in_ok-raw.raw chunks _ c.in_ok-raw.ensures.exact h c.hash-hash.ensures c.in_ok-built.built.serialized_data c.requires.digests c.requires.some c.in_ok-raw.ensures.members (c.in_ok-built.ensures.grammar refl))
+          (raw_text c.in_ok-raw.raw chunks _ c.in_ok-raw.ensures.exact h c.hash-hash.ensures c.in_ok-built.built.serialized_data c.requires.digests c.requires.some c.in_ok-raw.ensures.leaves (c.in_ok-built.ensures.grammar refl))
           is_hash (there ∙ ap Some c.as_slice-2.ensures));
       left = λ told. inr (record { there = c.in_ok-put_xorb.ensures.there told; durable = c.in_ok-put_xorb.ensures.durable told; temp = c.in_ok-put_xorb.ensures.temp told });
     } in
@@ -162,8 +162,8 @@ returns-in_err-add_xorb_block-clause-keeps g c =
     let h = c.hash-hash.result in
     let chunks = c.args.chunks.now in
     let files = g.D.Disk.files c.put_xorb.new.disk in
-    let is_hash : h ≡ xorb_hash (map chunk_member chunks) = raw_hash c.in_ok-raw.raw chunks _ c.in_ok-raw.ensures.exact h c.hash-hash.ensures in
-    let put : PutsXorb _ c.as_str.result.now h c.as_slice-2.result.now c.in_ok-members.members.items _ files (g.D.Disk.faults c.put_xorb.new.disk) = record {
+    let is_hash : h ≡ xorb_hash (map chunk_leaf chunks) = raw_hash c.in_ok-raw.raw chunks _ c.in_ok-raw.ensures.exact h c.hash-hash.ensures in
+    let put : PutsXorb _ c.as_str.result.now h c.as_slice-2.result.now c.in_ok-leaves.leaves.items _ files (g.D.Disk.faults c.put_xorb.new.disk) = record {
       sound = c.self.invariant;
       same = c.as_str.ensures;
       tells_same = c.put_xorb.ensures.frame.tells;
@@ -173,9 +173,9 @@ returns-in_err-add_xorb_block-clause-keeps g c =
       shards = c.put_xorb.ensures.shards;
       foreign = c.put_xorb.ensures.foreign;
       backs = λ there.
-          subst (λ (m : List (List ℕ × ℕ)). IsBacked files c.self.inside.folder h m) (sym c.in_ok-members.ensures.members)
+          subst (λ (m : List (List ℕ × ℕ)). IsBacked files c.self.inside.folder h m) (sym c.in_ok-leaves.ensures.leaves)
           (backed_by_text files c.self.inside.folder h c.in_ok-built.built.serialized_data chunks c.requires.digests c.requires.small
-          (raw_text c.in_ok-raw.raw chunks _ c.in_ok-raw.ensures.exact h c.hash-hash.ensures c.in_ok-built.built.serialized_data c.requires.digests c.requires.some c.in_ok-raw.ensures.members (c.in_ok-built.ensures.grammar refl))
+          (raw_text c.in_ok-raw.raw chunks _ c.in_ok-raw.ensures.exact h c.hash-hash.ensures c.in_ok-built.built.serialized_data c.requires.digests c.requires.some c.in_ok-raw.ensures.leaves (c.in_ok-built.ensures.grammar refl))
           is_hash (there ∙ ap Some c.as_slice-2.ensures));
       left = λ told. inr (record { there = c.in_ok-put_xorb.ensures.there told; durable = c.in_ok-put_xorb.ensures.durable told; temp = c.in_ok-put_xorb.ensures.temp told });
     } in
@@ -191,8 +191,8 @@ invariant_of-self-2 g c =
     let h = c.hash-hash.result in
     let chunks = c.args.chunks.now in
     let files = g.D.Disk.files c.put_xorb.new.disk in
-    let is_hash : h ≡ xorb_hash (map chunk_member chunks) = raw_hash c.in_ok-raw.raw chunks _ c.in_ok-raw.ensures.exact h c.hash-hash.ensures in
-    let put : PutsXorb _ c.as_str.result.now h c.as_slice-2.result.now c.in_ok-members.members.items _ files (g.D.Disk.faults c.put_xorb.new.disk) = record {
+    let is_hash : h ≡ xorb_hash (map chunk_leaf chunks) = raw_hash c.in_ok-raw.raw chunks _ c.in_ok-raw.ensures.exact h c.hash-hash.ensures in
+    let put : PutsXorb _ c.as_str.result.now h c.as_slice-2.result.now c.in_ok-leaves.leaves.items _ files (g.D.Disk.faults c.put_xorb.new.disk) = record {
       sound = c.self.invariant;
       same = c.as_str.ensures;
       tells_same = c.put_xorb.ensures.frame.tells;
@@ -202,16 +202,16 @@ invariant_of-self-2 g c =
       shards = c.put_xorb.ensures.shards;
       foreign = c.put_xorb.ensures.foreign;
       backs = λ there.
-          subst (λ (m : List (List ℕ × ℕ)). IsBacked files c.self.inside.folder h m) (sym c.in_ok-members.ensures.members)
+          subst (λ (m : List (List ℕ × ℕ)). IsBacked files c.self.inside.folder h m) (sym c.in_ok-leaves.ensures.leaves)
           (backed_by_text files c.self.inside.folder h c.in_ok-built.built.serialized_data chunks c.requires.digests c.requires.small
-          (raw_text c.in_ok-raw.raw chunks _ c.in_ok-raw.ensures.exact h c.hash-hash.ensures c.in_ok-built.built.serialized_data c.requires.digests c.requires.some c.in_ok-raw.ensures.members (c.in_ok-built.ensures.grammar refl))
+          (raw_text c.in_ok-raw.raw chunks _ c.in_ok-raw.ensures.exact h c.hash-hash.ensures c.in_ok-built.built.serialized_data c.requires.digests c.requires.some c.in_ok-raw.ensures.leaves (c.in_ok-built.ensures.grammar refl))
           is_hash (there ∙ ap Some c.as_slice-2.ensures));
       left = λ told. inr (record { there = c.in_ok-put_xorb.ensures.there told; durable = c.in_ok-put_xorb.ensures.durable told; temp = c.in_ok-put_xorb.ensures.temp told });
     } in
-    let members = c.in_ok-members.members.items in
+    let leaves = c.in_ok-leaves.leaves.items in
     let none : found c.self.inside.xorbs.entries h ≡ None = sym c.in_default.ensures.value in
-    let more = recorded_at c.self.inside.xorbs h h c.reserve.new.self.entries _ _ members refl c.in_ok-listed.ensures.pairs none c.reserve.ensures.entries c.in_ok-insert.ensures.entries in
-    let exact = raw_block c.in_ok-raw.raw c.args.chunks.now _ c.in_ok-raw.ensures.exact h c.hash-hash.ensures c.in_ok-block.block members c.in_ok-members.ensures.members c.in_ok-block.ensures.copy in
+    let more = recorded_at c.self.inside.xorbs h h c.reserve.new.self.entries _ _ leaves refl c.in_ok-listed.ensures.pairs none c.reserve.ensures.entries c.in_ok-insert.ensures.entries in
+    let exact = raw_block c.in_ok-raw.raw c.args.chunks.now _ c.in_ok-raw.ensures.exact h c.hash-hash.ensures c.in_ok-block.block leaves c.in_ok-leaves.ensures.leaves c.in_ok-block.ensures.copy in
     let pending = c.in_ok-add_xorb_block.ensures.added ∙ ap (λ (b : MDBXorbInfo). held (with_last record_of.xorb_hash c.self.inside.pending.blocks b) c.self.inside.pending.files) exact in
     put_sound put more pending (c.known_bytes.ensures.length, c.known_bytes.ensures.bytes) c.known.ensures c.in_ok-put_xorb.ensures.there
 
@@ -220,8 +220,8 @@ returns g c =
     let h = c.hash-hash.result in
     let chunks = c.args.chunks.now in
     let files = g.D.Disk.files c.put_xorb.new.disk in
-    let is_hash : h ≡ xorb_hash (map chunk_member chunks) = raw_hash c.in_ok-raw.raw chunks _ c.in_ok-raw.ensures.exact h c.hash-hash.ensures in
-    let put : PutsXorb _ c.as_str.result.now h c.as_slice-2.result.now c.in_ok-members.members.items _ files (g.D.Disk.faults c.put_xorb.new.disk) = record {
+    let is_hash : h ≡ xorb_hash (map chunk_leaf chunks) = raw_hash c.in_ok-raw.raw chunks _ c.in_ok-raw.ensures.exact h c.hash-hash.ensures in
+    let put : PutsXorb _ c.as_str.result.now h c.as_slice-2.result.now c.in_ok-leaves.leaves.items _ files (g.D.Disk.faults c.put_xorb.new.disk) = record {
       sound = c.self.invariant;
       same = c.as_str.ensures;
       tells_same = c.put_xorb.ensures.frame.tells;
@@ -231,23 +231,23 @@ returns g c =
       shards = c.put_xorb.ensures.shards;
       foreign = c.put_xorb.ensures.foreign;
       backs = λ there.
-          subst (λ (m : List (List ℕ × ℕ)). IsBacked files c.self.inside.folder h m) (sym c.in_ok-members.ensures.members)
+          subst (λ (m : List (List ℕ × ℕ)). IsBacked files c.self.inside.folder h m) (sym c.in_ok-leaves.ensures.leaves)
           (backed_by_text files c.self.inside.folder h c.in_ok-built.built.serialized_data chunks c.requires.digests c.requires.small
-          (raw_text c.in_ok-raw.raw chunks _ c.in_ok-raw.ensures.exact h c.hash-hash.ensures c.in_ok-built.built.serialized_data c.requires.digests c.requires.some c.in_ok-raw.ensures.members (c.in_ok-built.ensures.grammar refl))
+          (raw_text c.in_ok-raw.raw chunks _ c.in_ok-raw.ensures.exact h c.hash-hash.ensures c.in_ok-built.built.serialized_data c.requires.digests c.requires.some c.in_ok-raw.ensures.leaves (c.in_ok-built.ensures.grammar refl))
           is_hash (there ∙ ap Some c.as_slice-2.ensures));
       left = λ told. inr (record { there = c.in_ok-put_xorb.ensures.there told; durable = c.in_ok-put_xorb.ensures.durable told; temp = c.in_ok-put_xorb.ensures.temp told });
     } in
-    let members = c.in_ok-members.members.items in
+    let leaves = c.in_ok-leaves.leaves.items in
     let none : found c.self.inside.xorbs.entries h ≡ None = sym c.in_default.ensures.value in
-    let more = recorded_at c.self.inside.xorbs h h c.reserve.new.self.entries _ _ members refl c.in_ok-listed.ensures.pairs none c.reserve.ensures.entries c.in_ok-insert.ensures.entries in
-    let exact = raw_block c.in_ok-raw.raw c.args.chunks.now _ c.in_ok-raw.ensures.exact h c.hash-hash.ensures c.in_ok-block.block members c.in_ok-members.ensures.members c.in_ok-block.ensures.copy in
+    let more = recorded_at c.self.inside.xorbs h h c.reserve.new.self.entries _ _ leaves refl c.in_ok-listed.ensures.pairs none c.reserve.ensures.entries c.in_ok-insert.ensures.entries in
+    let exact = raw_block c.in_ok-raw.raw c.args.chunks.now _ c.in_ok-raw.ensures.exact h c.hash-hash.ensures c.in_ok-block.block leaves c.in_ok-leaves.ensures.leaves c.in_ok-block.ensures.copy in
     let pending = c.in_ok-add_xorb_block.ensures.added ∙ ap (λ (b : MDBXorbInfo). held (with_last record_of.xorb_hash c.self.inside.pending.blocks b) c.self.inside.pending.files) exact in
     record {
       keeps = put_keeps put more pending c.in_ok-put_xorb.ensures.durable _ c.self.view_is;
       records = search rules;
       shards = search rules;
-      listed = (is_hash, listed_at c.self.inside.xorbs.entries _ h members more none ∙ ap Some c.in_ok-members.ensures.members);
-      stores = put_tables put more pending _ c.self.view_is chunks c.requires.digests is_hash c.in_ok-members.ensures.members;
+      listed = (is_hash, listed_at c.self.inside.xorbs.entries _ h leaves more none ∙ ap Some c.in_ok-leaves.ensures.leaves);
+      stores = put_tables put more pending _ c.self.view_is chunks c.requires.digests is_hash c.in_ok-leaves.ensures.leaves;
       kept = tt;
       reason = search rules;
     }

@@ -1,33 +1,33 @@
 use Rattle.std.proofs.Common.{◌∙◌, ◌+◌, ◌++◌, List, ap, length, take, ℕ}
 use Rattle.xet_xorb_footer.specs.FooterEncoding.{length_of, footer_bytes_v1}
 use Rattle.xet_codec.specs.Numbers.{number}
-use Rattle.xet_base.specs.theorems.Written.{front_of_first, written_then}
+use Rattle.xet_base.specs.theorems.Written.{prefix_of_first, written_then}
 use Rattle.xet_xorb.proofs.object.XorbObject.serialize_given_info.Goals as goal
 
-pub returns-in_err-count-clause-front : goal.returns-in_err-count-clause-front
-returns-in_err-count-clause-front g c = λ told.
+pub returns-in_err-count-clause-prefix : goal.returns-in_err-count-clause-prefix
+returns-in_err-count-clause-prefix g c = λ told.
     let i = c.args.info in
-    let f = c.in_err-count.ensures.front told in
-    let m = front_of_first (footer_bytes_v1 i) (number (length_of i)) f.0 in
+    let f = c.in_err-count.ensures.prefix told in
+    let m = prefix_of_first (footer_bytes_v1 i) (number (length_of i)) f.0 in
     (m.0, f.1 ∙ ap (λ (x : List ℕ). g.W.Sink.written c.args.sink.now ++ x) m.1)
 
-pub returns-in-Ok-clause-front : goal.returns-in-Ok-clause-front
-returns-in-Ok-clause-front g c = λ told.
+pub returns-in-Ok-clause-prefix : goal.returns-in-Ok-clause-prefix
+returns-in-Ok-clause-prefix g c = λ told.
     let text : List ℕ = footer_bytes_v1 c.args.info in
-    let f = c.write_all.ensures.front (c.in_ok-count.ensures.frame.tells ∙ told) in
+    let f = c.write_all.ensures.prefix (c.in_ok-count.ensures.frame.tells ∙ told) in
     let number_is = c.to_le_bytes.ensures ∙ ap number c.in_ok-count.ensures.length in
     (length text + f.0, written_then _ _ _ text c.to_le_bytes.result f.0 (c.in_ok-count.ensures.written told) f.1 ∙ ap (λ (x : List ℕ). g.W.Sink.written c.args.sink.now ++ take (length text + f.0) (text ++ x)) number_is)
 
-pub returns-in-Err-Failed-clause-front : goal.returns-in-Err-Failed-clause-front
-returns-in-Err-Failed-clause-front g c = λ told.
+pub returns-in-Err-Failed-clause-prefix : goal.returns-in-Err-Failed-clause-prefix
+returns-in-Err-Failed-clause-prefix g c = λ told.
     let text : List ℕ = footer_bytes_v1 c.args.info in
-    let f = c.write_all.ensures.front (c.in_ok-count.ensures.frame.tells ∙ told) in
+    let f = c.write_all.ensures.prefix (c.in_ok-count.ensures.frame.tells ∙ told) in
     let number_is = c.to_le_bytes.ensures ∙ ap number c.in_ok-count.ensures.length in
     (length text + f.0, written_then _ _ _ text c.to_le_bytes.result f.0 (c.in_ok-count.ensures.written told) f.1 ∙ ap (λ (x : List ℕ). g.W.Sink.written c.args.sink.now ++ take (length text + f.0) (text ++ x)) number_is)
 
-pub returns-clause-front : goal.returns-clause-front
-returns-clause-front g c = λ told.
+pub returns-clause-prefix : goal.returns-clause-prefix
+returns-clause-prefix g c = λ told.
     let text : List ℕ = footer_bytes_v1 c.args.info in
-    let f = c.write_all.ensures.front (c.in_ok-count.ensures.frame.tells ∙ told) in
+    let f = c.write_all.ensures.prefix (c.in_ok-count.ensures.frame.tells ∙ told) in
     let number_is = c.to_le_bytes.ensures ∙ ap number c.in_ok-count.ensures.length in
     (length text + f.0, written_then _ _ _ text c.to_le_bytes.result f.0 (c.in_ok-count.ensures.written told) f.1 ∙ ap (λ (x : List ℕ). g.W.Sink.written c.args.sink.now ++ take (length text + f.0) (text ++ x)) number_is)

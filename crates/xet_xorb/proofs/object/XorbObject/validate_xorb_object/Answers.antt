@@ -4,7 +4,7 @@ use Rattle.xet_codec.specs.Blocks.{Sees}
 use Rattle.xet_xorb.specs.declared.object.XorbObject.{XorbObject}
 use Rattle.xet_xorb.specs.internal.Checking.{IsEnding}
 use Rattle.xet_xorb.specs.Validation.{IsValid, IsXorbOf}
-use Rattle.xet_xorb.proofs.Validated.{chunks_at, ending_at, hash_at, hash_size, hashed_of, is_valid, members_at, none_more, parts_of, some_more, valid_is_read}
+use Rattle.xet_xorb.proofs.Validated.{chunks_at, ending_at, hash_at, hash_size, hashed_of, is_valid, leaves_at, none_more, parts_of, some_more, valid_is_read}
 use Rattle.xet_xorb.proofs.object.XorbObject.validate_xorb_object.Goals as goal
 
 pub returns-in_default-clause-none : goal.returns-in_default-clause-none
@@ -20,72 +20,72 @@ returns-in_default-2-clause-none g c = λ told _ chunks x.
     let tells = rw c.in-Some.is at (c.in_ok-start.ensures.told told) in
     let are = chunks_at c.args.max_chunk start c.in-Some.told c.args.hash.now bytes chunks whole tells x in
     let sees : Sees _ _ bytes _ _ = record { told = c.in_ok-start.ensures.frame.tells ∙ told; same = c.in_ok-start.ensures.frame.same; all = whole; part = c.new-block.ensures bytes } in
-    c.in_ok-members.ensures.none bytes sees (rw c.in_default-2.is refl) chunks are
+    c.in_ok-leaves.ensures.none bytes sees (rw c.in_default-2.is refl) chunks are
 
 pub returns-then-not-branch-clause-none : goal.returns-then-not-branch-clause-none
 returns-then-not-branch-clause-none g c = λ told _ chunks x.
-    let most = c.args.max_chunk in
+    let max_chunk = c.args.max_chunk in
     let hash = c.args.hash.now in
     let bytes = g.R.ReadAt.bytes c.args.reader.now in
     let start = c.in-Some.start in
-    let ms = c.in-Some-2.members.items in
+    let ms = c.in-Some-2.leaves.items in
     let whole = rw c.in-Some.is at (c.in_ok-start.ensures.whole told) in
     let tells = rw c.in-Some.is at (c.in_ok-start.ensures.told told) in
     let sees : Sees _ _ bytes _ _ = record { told = c.in_ok-start.ensures.frame.tells ∙ told; same = c.in_ok-start.ensures.frame.same; all = whole; part = c.new-block.ensures bytes } in
-    let have = rw c.in-Some-2.is at (c.in_ok-members.ensures.found bytes sees) in
-    let is = members_at most start c.in-Some.told hash bytes ms chunks c.requires.most whole tells have x in
+    let have = rw c.in-Some-2.is at (c.in_ok-leaves.ensures.found bytes sees) in
+    let is = leaves_at max_chunk start c.in-Some.told hash bytes ms chunks c.requires.max_chunk whole tells have x in
     let hashes = rw (c.if-not-branch.true, c.deref.ensures.value) at c.in_ok-have_hash.ensures.same in
-    let no : false ≡ true = hashes.1 (hash_at most hash bytes ms chunks is x) in
+    let no : false ≡ true = hashes.1 (hash_at max_chunk hash bytes ms chunks is x) in
     cc
 
 pub returns-clause-valid : goal.returns-clause-valid
 returns-clause-valid g c = λ told.
-    let most = c.args.max_chunk in
+    let max_chunk = c.args.max_chunk in
     let hash = c.args.hash.now in
     let bytes = g.R.ReadAt.bytes c.args.reader.now in
     let start = c.in-Some.start in
-    let ms = c.in-Some-2.members.items in
+    let ms = c.in-Some-2.leaves.items in
     let whole = rw c.in-Some.is at (c.in_ok-start.ensures.whole told) in
     let bound = rw c.in-Some.is at c.in_ok-start.ensures.bound in
     let sees : Sees _ _ bytes _ _ = record { told = c.in_ok-start.ensures.frame.tells ∙ told; same = c.in_ok-start.ensures.frame.same; all = whole; part = c.new-block.ensures bytes } in
-    let have = rw c.in-Some-2.is at (c.in_ok-members.ensures.found bytes sees) in
-    let part = rw c.in-Some-2.is at (c.in_ok-members.ensures.part bytes sees) in
+    let have = rw c.in-Some-2.is at (c.in_ok-leaves.ensures.found bytes sees) in
+    let part = rw c.in-Some-2.is at (c.in_ok-leaves.ensures.part bytes sees) in
     let hashes = rw (c.if-not-branch.false, c.deref.ensures.value) at c.in_ok-have_hash.ensures.same in
     let is = hashes.0 refl in
-    let hashed = hashed_of most (take start bytes) ms have in
+    let hashed = hashed_of max_chunk (take start bytes) ms have in
     let ends = rw c.deref-2.ensures.value at c.checked_object.ensures.found in
     let small : length bytes < 2 ^ 32 = omega (arith, whole, bound) in
-    let later : Sees _ _ bytes _ _ = record { told = c.in_ok-members.ensures.frame.tells ∙ sees.told; same = c.in_ok-members.ensures.frame.same ∙ sees.same; all = whole; part = part } in
-    some_more (λ (o : XorbObject). IsEnding hash ms (drop start bytes) o) (λ (o : XorbObject). (chunks : List (List ℕ)) × IsValid most hash bytes chunks o) c.checked_object.result
-    (λ o e. is_valid most start hash bytes ms o c.requires.most small have is.0 is.1 e) (ends bytes later hashed (hash_size ms hash hashed is.1))
+    let later : Sees _ _ bytes _ _ = record { told = c.in_ok-leaves.ensures.frame.tells ∙ sees.told; same = c.in_ok-leaves.ensures.frame.same ∙ sees.same; all = whole; part = part } in
+    some_more (λ (o : XorbObject). IsEnding hash ms (drop start bytes) o) (λ (o : XorbObject). (chunks : List (List ℕ)) × IsValid max_chunk hash bytes chunks o) c.checked_object.result
+    (λ o e. is_valid max_chunk start hash bytes ms o c.requires.max_chunk small have is.0 is.1 e) (ends bytes later hashed (hash_size ms hash hashed is.1))
 
 pub returns-clause-read : goal.returns-clause-read
 returns-clause-read g c = λ told.
-    let most = c.args.max_chunk in
+    let max_chunk = c.args.max_chunk in
     let hash = c.args.hash.now in
     let bytes = g.R.ReadAt.bytes c.args.reader.now in
-    some_more (λ (o : XorbObject). (chunks : List (List ℕ)) × IsValid most hash bytes chunks o) (λ (o : XorbObject). last_footer bytes ≡ Ok (o.info, o.info_length)) c.checked_object.result
-    (λ o v. valid_is_read most hash bytes o v) (returns-clause-valid g c told)
+    some_more (λ (o : XorbObject). (chunks : List (List ℕ)) × IsValid max_chunk hash bytes chunks o) (λ (o : XorbObject). last_footer bytes ≡ Ok (o.info, o.info_length)) c.checked_object.result
+    (λ o v. valid_is_read max_chunk hash bytes o v) (returns-clause-valid g c told)
 
 pub returns-clause-none : goal.returns-clause-none
 returns-clause-none g c = λ told.
-    let most = c.args.max_chunk in
+    let max_chunk = c.args.max_chunk in
     let hash = c.args.hash.now in
     let bytes = g.R.ReadAt.bytes c.args.reader.now in
     let start = c.in-Some.start in
-    let ms = c.in-Some-2.members.items in
+    let ms = c.in-Some-2.leaves.items in
     let whole = rw c.in-Some.is at (c.in_ok-start.ensures.whole told) in
     let tells = rw c.in-Some.is at (c.in_ok-start.ensures.told told) in
     let sees : Sees _ _ bytes _ _ = record { told = c.in_ok-start.ensures.frame.tells ∙ told; same = c.in_ok-start.ensures.frame.same; all = whole; part = c.new-block.ensures bytes } in
-    let have = rw c.in-Some-2.is at (c.in_ok-members.ensures.found bytes sees) in
-    let part = rw c.in-Some-2.is at (c.in_ok-members.ensures.part bytes sees) in
+    let have = rw c.in-Some-2.is at (c.in_ok-leaves.ensures.found bytes sees) in
+    let part = rw c.in-Some-2.is at (c.in_ok-leaves.ensures.part bytes sees) in
     let hashes = rw (c.if-not-branch.false, c.deref.ensures.value) at c.in_ok-have_hash.ensures.same in
-    let hashed = hashed_of most (take start bytes) ms have in
+    let hashed = hashed_of max_chunk (take start bytes) ms have in
     let none = rw c.deref-2.ensures.value at c.checked_object.ensures.none in
-    let later : Sees _ _ bytes _ _ = record { told = c.in_ok-members.ensures.frame.tells ∙ sees.told; same = c.in_ok-members.ensures.frame.same ∙ sees.same; all = whole; part = part } in
-    none_more ((o : XorbObject) → IsEnding hash ms (drop start bytes) o → ⊥) ((chunks : List (List ℕ)) → IsXorbOf most hash bytes chunks → ⊥) c.checked_object.result
+    let later : Sees _ _ bytes _ _ = record { told = c.in_ok-leaves.ensures.frame.tells ∙ sees.told; same = c.in_ok-leaves.ensures.frame.same ∙ sees.same; all = whole; part = part } in
+    none_more ((o : XorbObject) → IsEnding hash ms (drop start bytes) o → ⊥) ((chunks : List (List ℕ)) → IsXorbOf max_chunk hash bytes chunks → ⊥) c.checked_object.result
     (λ no chunks x.
-    let e = ending_at most start c.in-Some.told hash bytes chunks whole tells x in
-    let is = members_at most start c.in-Some.told hash bytes ms chunks c.requires.most whole tells have x in
+    let e = ending_at max_chunk start c.in-Some.told hash bytes chunks whole tells x in
+    let is = leaves_at max_chunk start c.in-Some.told hash bytes ms chunks c.requires.max_chunk whole tells have x in
     no e.0 (subst (λ (l : List (List ℕ × ℕ)). IsEnding hash l (drop start bytes) e.0) (sym is) e.1))
     (none bytes later hashed (hash_size ms hash hashed (hashes.0 refl).1))

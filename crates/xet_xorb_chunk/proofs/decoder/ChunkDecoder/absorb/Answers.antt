@@ -1,7 +1,7 @@
 use Rattle.std.proofs.Common.{◌≡◌, ◌∙◌, ◌++◌, List, ap, arith, drop, sym, true, ℕ}
 use Rattle.std.proofs.lemmas.List.{take_rest}
 use Rattle.std.proofs.lemmas.Result.{IfErr-weaker, on_ok_weaker}
-use Rattle.xet_xorb_chunk.specs.Passing.{Refuses}
+use Rattle.xet_xorb_chunk.specs.Passing.{FailsPassing}
 use Rattle.xet_xorb_chunk.proofs.Absorbed.{absorbed, absorbs_refusal}
 use Rattle.xet_xorb_chunk.proofs.decoder.ChunkDecoder.absorb.Goals as goal
 
@@ -16,12 +16,12 @@ returns-clause-fed g c =
     let none = c.in_ok-taken.ensures.rest.1 (omega (arith, c.in_ok-taken.ensures.within)) in
     let next = ap (λ (x : List ℕ). x ++ drop n piece) none ∙ sym (take_rest piece n) in
     on_ok_weaker _
-    (absorbed self.most self.passed _ _ (self.held.items ++ piece) _ _ _ told tells (written c.args.w.now) (written c.complete.new.w) (written c.pass_whole-2.new.w) next
+    (absorbed self.max_chunk self.passed _ _ (self.held.items ++ piece) _ _ _ told tells (written c.args.w.now) (written c.complete.new.w) (written c.pass_whole-2.new.w) next
     (λ t. c.in_ok-taken.ensures.frame.tells ∙ t) c.in_ok-taken.ensures.passed)
     c.pass_whole-2.ensures.fed
 
-pub returns-clause-refusals : goal.returns-clause-refusals
-returns-clause-refusals g c =
+pub returns-clause-errors : goal.returns-clause-errors
+returns-clause-errors g c =
     let self = c.args.self.now in
     let piece = c.args.piece.now in
     let n = c.in_ok-taken.taken in
@@ -30,8 +30,8 @@ returns-clause-refusals g c =
     let written = g.W.Sink.written in
     let none = c.in_ok-taken.ensures.rest.1 (omega (arith, c.in_ok-taken.ensures.within)) in
     let next = ap (λ (x : List ℕ). x ++ drop n piece) none ∙ sym (take_rest piece n) in
-    IfErr-weaker _ _ (Refuses self.most self.passed.total (self.held.items ++ piece) told (written c.args.w.now) (written c.pass_whole-2.new.w))
+    IfErr-weaker _ _ (FailsPassing self.max_chunk self.passed.total (self.held.items ++ piece) told (written c.args.w.now) (written c.pass_whole-2.new.w))
     (λ e r.
-    absorbs_refusal self.most self.passed _ (self.held.items ++ piece) _ _ told tells (written c.args.w.now) (written c.complete.new.w) (written c.pass_whole-2.new.w) e next
+    absorbs_refusal self.max_chunk self.passed _ (self.held.items ++ piece) _ _ told tells (written c.args.w.now) (written c.complete.new.w) (written c.pass_whole-2.new.w) e next
     (λ t. c.in_ok-taken.ensures.frame.tells ∙ t) c.in_ok-taken.ensures.passed r)
-    c.pass_whole-2.ensures.refusals
+    c.pass_whole-2.ensures.errors

@@ -1,50 +1,50 @@
 use Rattle.std.proofs.Common.{◌≡◌, ◌∙◌, ◌++◌, ◌∷◌, [], List, Ok, Some, ap, drop, rules, slice_range, subst, sym, true, ℕ, ◌+◌}
 use Rattle.std.proofs.lemmas.List.{append-nil}
 use Rattle.xet_xorb_chunk.specs.internal.Passing.{Gathers}
-use Rattle.xet_xorb_chunk.specs.Passing.{Refuses, ShowsFront}
-use Rattle.xet_xorb_chunk.specs.Stream.{Fails, front_of}
+use Rattle.xet_xorb_chunk.specs.Passing.{FailsPassing, ShowsPrefix}
+use Rattle.xet_xorb_chunk.specs.Stream.{Fails, prefix_of}
 use Rattle.xet_base.specs.theorems.Exits.{exit_with}
 use Rattle.xet_xorb_chunk.proofs.Completed.{completes_none, completes_one, gather_refuses}
-use Rattle.xet_xorb_chunk.specs.theorems.Fronts.{front_few}
+use Rattle.xet_xorb_chunk.specs.theorems.Prefixes.{prefix_few}
 use Rattle.xet_xorb_chunk.proofs.Gathered.{fails_ahead}
-use Rattle.xet_xorb_chunk.specs.theorems.Passed.{moves_one, refuses_front, refuses_pass}
+use Rattle.xet_xorb_chunk.specs.theorems.Passed.{moves_one, refuses_prefix, refuses_pass}
 use Rattle.xet_xorb_chunk.proofs.decoder.Tally.complete.Goals as goal
 
-pub returns-in_err-taken-clause-refusals : goal.returns-in_err-taken-clause-refusals
-returns-in_err-taken-clause-refusals g c =
+pub returns-in_err-taken-clause-errors : goal.returns-in_err-taken-clause-errors
+returns-in_err-taken-clause-errors g c =
     let told = g.W.Sink.tells c.args.w.now ≡ true in
     let written = g.W.Sink.written c.args.w.now in
-    exit_with (Refuses c.args.most c.args.self.now.total (c.args.held.now.items ++ c.args.piece.now) told written written) _ _ c.from_residual.ensures.1
-    (gather_refuses c.args.most c.args.self.now.total (c.args.held.now.items ++ c.args.piece.now) told written _ c.in_err-taken.ensures.refusals)
+    exit_with (FailsPassing c.args.max_chunk c.args.self.now.total (c.args.held.now.items ++ c.args.piece.now) told written written) _ _ c.from_residual.ensures.1
+    (gather_refuses c.args.max_chunk c.args.self.now.total (c.args.held.now.items ++ c.args.piece.now) told written _ c.in_err-taken.ensures.errors)
 
-pub returns-in_err-len-clause-refusals : goal.returns-in_err-len-clause-refusals
-returns-in_err-len-clause-refusals g c =
+pub returns-in_err-len-clause-errors : goal.returns-in_err-len-clause-errors
+returns-in_err-len-clause-errors g c =
     let told = g.W.Sink.tells c.args.w.now ≡ true in
     let written = g.W.Sink.written c.args.w.now in
-    let fails = subst (λ (b : List ℕ). front_of c.args.most b ≡ Fails c.in_err-len.field-0.0) c.deref.ensures.value c.in_err-len.ensures.front in
-    exit_with (Refuses c.args.most c.args.self.now.total (c.args.held.now.items ++ c.args.piece.now) told written written) _ _ c.from_residual-in_err-len.ensures.1
-    (refuses_front c.args.most c.args.self.now.total _ told written _ (fails_ahead c.args.most c.args.held.now.items c.args.piece.now _ _ _ c.in_ok-taken.ensures.bytes fails))
+    let fails = subst (λ (b : List ℕ). prefix_of c.args.max_chunk b ≡ Fails c.in_err-len.field-0.0) c.deref.ensures.value c.in_err-len.ensures.prefix in
+    exit_with (FailsPassing c.args.max_chunk c.args.self.now.total (c.args.held.now.items ++ c.args.piece.now) told written written) _ _ c.from_residual-in_err-len.ensures.1
+    (refuses_prefix c.args.max_chunk c.args.self.now.total _ told written _ (fails_ahead c.args.max_chunk c.args.held.now.items c.args.piece.now _ _ _ c.in_ok-taken.ensures.bytes fails))
 
 pub returns-in_default-clause-passed : goal.returns-in_default-clause-passed
 returns-in_default-clause-passed g c =
-    ([], completes_none c.args.most c.args.self.now c.args.held.now.items _ c.args.piece.now _ c.in_ok-taken.ensures.bytes, λ told. sym (append-nil (g.W.Sink.written c.args.w.now)))
+    ([], completes_none c.args.max_chunk c.args.self.now c.args.held.now.items _ c.args.piece.now _ c.in_ok-taken.ensures.bytes, λ told. sym (append-nil (g.W.Sink.written c.args.w.now)))
 
-pub returns-in_err-pass-clause-refusals : goal.returns-in_err-pass-clause-refusals
-returns-in_err-pass-clause-refusals g c =
+pub returns-in_err-pass-clause-errors : goal.returns-in_err-pass-clause-errors
+returns-in_err-pass-clause-errors g c =
     let piece = c.args.piece.now in
     let old = c.args.held.now.items in
     let held = c.deref-2.result.now in
     let n = c.in_ok-taken.taken in
     let len = c.in-Some.len in
     let is = c.deref-2.ensures.value in
-    let shows = subst (λ (b : List ℕ). ShowsFront c.args.most b (Ok (Some len))) (c.deref.ensures.value ∙ sym is) (rw c.in-Some.is at c.in_ok-len.ensures.front) in
-    let gathers = subst (λ (b : List ℕ). Gathers c.args.most b piece n) (sym is) (c.in_ok-taken.ensures.gathered c.requires.short) in
-    let whole = completes_one c.args.most old held piece n len (is ∙ c.in_ok-taken.ensures.bytes) shows gathers in
+    let shows = subst (λ (b : List ℕ). ShowsPrefix c.args.max_chunk b (Ok (Some len))) (c.deref.ensures.value ∙ sym is) (rw c.in-Some.is at c.in_ok-len.ensures.prefix) in
+    let gathers = subst (λ (b : List ℕ). Gathers c.args.max_chunk b piece n) (sym is) (c.in_ok-taken.ensures.gathered c.requires.short) in
+    let whole = completes_one c.args.max_chunk old held piece n len (is ∙ c.in_ok-taken.ensures.bytes) shows gathers in
     let told = g.W.Sink.tells c.args.w.now ≡ true in
     let written = g.W.Sink.written in
-    exit_with (Refuses c.args.most c.args.self.now.total (old ++ piece) told (written c.args.w.now) (written c.pass.new.w)) _ _ c.from_residual-in_err-pass.ensures.1
-    (refuses_pass c.args.most c.args.self.now.total (old ++ piece) (slice_range held 8 (8 + len)) told (written c.args.w.now) (written c.pass.new.w) _ whole.front
-    c.in_err-pass.ensures.refusals)
+    exit_with (FailsPassing c.args.max_chunk c.args.self.now.total (old ++ piece) told (written c.args.w.now) (written c.pass.new.w)) _ _ c.from_residual-in_err-pass.ensures.1
+    (refuses_pass c.args.max_chunk c.args.self.now.total (old ++ piece) (slice_range held 8 (8 + len)) told (written c.args.w.now) (written c.pass.new.w) _ whole.prefix
+    c.in_err-pass.ensures.errors)
 
 pub returns-clause-passed : goal.returns-clause-passed
 returns-clause-passed g c =
@@ -54,14 +54,14 @@ returns-clause-passed g c =
     let n = c.in_ok-taken.taken in
     let len = c.in-Some.len in
     let is = c.deref-2.ensures.value in
-    let shows = subst (λ (b : List ℕ). ShowsFront c.args.most b (Ok (Some len))) (c.deref.ensures.value ∙ sym is) (rw c.in-Some.is at c.in_ok-len.ensures.front) in
-    let gathers = subst (λ (b : List ℕ). Gathers c.args.most b piece n) (sym is) (c.in_ok-taken.ensures.gathered c.requires.short) in
-    let whole = completes_one c.args.most old held piece n len (is ∙ c.in_ok-taken.ensures.bytes) shows gathers in
+    let shows = subst (λ (b : List ℕ). ShowsPrefix c.args.max_chunk b (Ok (Some len))) (c.deref.ensures.value ∙ sym is) (rw c.in-Some.is at c.in_ok-len.ensures.prefix) in
+    let gathers = subst (λ (b : List ℕ). Gathers c.args.max_chunk b piece n) (sym is) (c.in_ok-taken.ensures.gathered c.requires.short) in
+    let whole = completes_one c.args.max_chunk old held piece n len (is ∙ c.in_ok-taken.ensures.bytes) shows gathers in
     let chunk : List ℕ = slice_range held 8 (8 + len) in
     let written = g.W.Sink.written in
     let rest : c.clear.new.self.items ++ drop n piece ≡ drop n piece = ap (λ (x : List ℕ). x ++ drop n piece) c.clear.ensures.items in (
       chunk ∷ [],
-      moves_one c.args.most c.args.self.now c.pass.new.self (old ++ piece) _ chunk whole.front c.in_ok-pass.ensures.total.0 c.in_ok-pass.ensures.total.1 (rest ∙ whole.behind) whole.within
+      moves_one c.args.max_chunk c.args.self.now c.pass.new.self (old ++ piece) _ chunk whole.prefix c.in_ok-pass.ensures.total.0 c.in_ok-pass.ensures.total.1 (rest ∙ whole.behind) whole.within
           c.in_ok-pass.ensures.counts c.in_ok-pass.ensures.stored,
       λ told. c.in_ok-pass.ensures.whole told ∙ ap (λ (x : List ℕ). written c.args.w.now ++ x) (sym (append-nil chunk)),
     )
@@ -69,4 +69,4 @@ returns-clause-passed g c =
 pub returns-clause-rest : goal.returns-clause-rest
 returns-clause-rest g c =
     let none = c.clear.ensures.items in
-    (ap (front_of c.args.most) none ∙ front_few c.args.most [] (search rules), λ some. none)
+    (ap (prefix_of c.args.max_chunk) none ∙ prefix_few c.args.max_chunk [] (search rules), λ some. none)

@@ -1,13 +1,13 @@
 use Rattle.std.proofs.Common.{◌≤◌, ◌-◌, drop, length}
 use Rattle.xet_xorb_footer.specs.Joining.{IsReady}
-use Rattle.xet_xorb_footer.specs.internal.Joining.{Reads}
+use Rattle.xet_xorb_footer.specs.internal.Joining.{ReadsUpTo}
 use Rattle.xet_xorb_footer.proofs.decoder.Joined.take_whole.Given as goal
 
 abbrev pub invariant-fields : goal.invariant-fields
 invariant-fields l = record {
   within : l.at ≤ length l.piece;
   ready : IsReady l.self;
-  read : Reads l.fn.self l.self l.piece (drop l.at l.piece);
+  read : ReadsUpTo l.fn.self l.self l.piece (drop l.at l.piece);
 }
 
 abbrev pub decreases-fields : goal.decreases-fields

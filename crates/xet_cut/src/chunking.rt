@@ -1,0 +1,74 @@
+//! Content-defined chunking of bytes that are all in memory.
+
+ghost use Rattle.std.specs.Prelude.{◌≡◌, ◌<◌, ◌≤◌, IfOk, IsOkUnless, length, map};
+ghost use Rattle.xet_hash.specs.Merkle.{leaves_of, total_len};
+ghost use Rattle.xet_cut.specs.Chunking.{chunking, mask, first_chunk_len};
+
+use crate::limits::Limits;
+use std::alloc::Global;
+use xet_hash::{MerkleHash, StoreError, compute_data_hash};
+
+/// The length of the first chunk of these bytes, or 0 if there are none.
+pub fn first_chunk_len(limits: &Limits, bytes: &[u8]) -> usize
+    ensures value { result ≡ first_chunk_len limits.now bytes.now }
+    ensures some { 0 < length bytes.now → 0 < result }
+    ensures bound { result ≤ length bytes.now }
+{
+    let gear = limits.gear();
+    let mask = mask(limits.target_chunk());
+    let minimum = limits.minimum_chunk() as usize;
+    let end = bytes.len().min(limits.maximum_chunk() as usize);
+    let start = minimum.saturating_sub(64);
+    let mut sum = 0u64;
+    for i in start..end {
+        sum = (sum << 1).wrapping_add(gear[bytes[i] as usize]);
+        if i + 1 >= minimum && sum & mask == 0 {
+            return i + 1;
+        }
+    }
+    end
+}
+
+/// The mask for a power of two `target`: `target - 1` shifted left until its top bit is bit 63.
+fn mask(target: u32) -> u64
+    requires { 2 ≤ target }
+    ensures { result ≡ mask target }
+{
+    let shift = (1u128 << 64) / u128::from(target);
+    u64::from(target - 1) * (shift as u64)
+}
+
+/// The lengths of the chunks of these bytes. The only error is out of memory.
+pub fn chunk_lengths(alloc: Global, limits: &Limits, bytes: &[u8]) -> Result<Vec<usize>, StoreError>
+    ensures lengths { IfOk result (λ lengths. lengths.items ≡ map length (chunking limits.now bytes.now)) }
+    ensures memory { IsOkUnless result StoreError.OutOfMemory }
+{
+    let mut lengths = Vec::new(alloc);
+    let mut rest = bytes;
+    'pieces: while !rest.is_empty() {
+        let (piece, tail) = rest.split_at(first_chunk_len(limits, rest));
+        lengths.push(piece.len())?;
+        rest = tail;
+    }
+    Ok(lengths)
+}
+
+/// The chunk list of these bytes: the hash and the length of each chunk. The only error is out of memory.
+pub fn chunk_list(
+    alloc: Global,
+    limits: &Limits,
+    bytes: &[u8],
+) -> Result<Vec<(MerkleHash, u64)>, StoreError>
+    ensures leaves { IfOk result (λ leaves. leaves.items ≡ leaves_of (chunking limits.now bytes.now)) }
+    ensures total { IfOk result (λ leaves. total_len leaves.items ≡ length bytes.now) }
+    ensures memory { IsOkUnless result StoreError.OutOfMemory }
+{
+    let mut leaves = Vec::new(alloc);
+    let mut rest = bytes;
+    'pieces: while !rest.is_empty() {
+        let (piece, tail) = rest.split_at(first_chunk_len(limits, rest));
+        leaves.push((compute_data_hash(piece), piece.len() as u64))?;
+        rest = tail;
+    }
+    Ok(leaves)
+}

@@ -1,5 +1,0 @@
-use Rattle.std.proofs.Common.{◌≡◌, map, take}
-use Rattle.xet_xorb.proofs.building.listed_members.Given as goal
-
-abbrev pub invariant-loop-chunk : goal.invariant-loop-chunk
-invariant-loop-chunk l = l.members.items ≡ map (λ c. (c.chunk_hash, c.unpacked_segment_bytes)) (take l.chunk-index l.chunks)
