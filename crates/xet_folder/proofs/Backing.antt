@@ -59,10 +59,10 @@ module _ (files : Files) (folder h bytes : List ℕ) (there : bytes_at files (xo
   backed chunks o v =
       let ms = leaves_of chunks in
       let listed : spans_from 0 o.info.chunk_hashes o.info.chunk_boundary_offsets ≡ ms =
-      ap (λ (o : XorbObject). spans_from 0 o.info.chunk_hashes o.info.chunk_boundary_offsets) v.listed ∙ spans_listed v.xorb.text.version h ms v.xorb.text.spare in
+      ap (λ (o : XorbObject). spans_from 0 o.info.chunk_hashes o.info.chunk_boundary_offsets) v.listed ∙ spans_listed v.xorb.encoding.version h ms v.xorb.encoding.spare in
       record {
         chunks = chunks;
-        stored = record { bytes = bytes; there = there; text = v.xorb.text; readable = readable chunks v.xorb.fit; hash = v.xorb.hashed };
+        stored = record { bytes = bytes; there = there; encoding = v.xorb.encoding; readable = readable chunks v.xorb.fit; hash = v.xorb.hashed };
         same = sym listed;
       }
 
@@ -78,7 +78,7 @@ module _ (files : Files) (folder h bytes : List ℕ) (there : bytes_at files (xo
       → (chunks : List (List ℕ)) → IsStored files folder h chunks → ⊥
   none_stored seen found all is never chunks s =
       let same : s.bytes ≡ seen = cc (s.there, there) ∙ sym all in
-      never (ap is_some is) chunks (record { text = subst (λ (b : List ℕ). IsXorbEncoding b chunks) same s.text; fit = fitting chunks s.readable; hashed = s.hash })
+      never (ap is_some is) chunks (record { encoding = subst (λ (b : List ℕ). IsXorbEncoding b chunks) same s.encoding; fit = fitting chunks s.readable; hashed = s.hash })
 
 -- a valid xorb's chunks are stored in fewer than 2 ^ 32 bytes
 pub found_below : (h seen : List ℕ) (found : Option XorbObject) (o : XorbObject) (ms : List (List ℕ × ℕ)) → found ≡ Some o
@@ -86,5 +86,5 @@ pub found_below : (h seen : List ℕ) (found : Option XorbObject) (o : XorbObjec
 found_below h seen found o ms is valid spans =
     let v = subst (λ (x : Option XorbObject). IfSome x (λ object. (chunks : List (List ℕ)) × IsValid 8388607 h seen chunks object)) is valid in
     let listed : ms ≡ leaves_of v.0 =
-    spans ∙ ap (λ (o : XorbObject). spans_from 0 o.info.chunk_hashes o.info.chunk_boundary_offsets) v.1.listed ∙ spans_listed v.1.xorb.text.version h (leaves_of v.0) v.1.xorb.text.spare in
-    subst (λ (l : List (List ℕ × ℕ)). stored_len l < 2 ^ 32) (sym listed) (stored_below seen v.0 v.1.xorb.text)
+    spans ∙ ap (λ (o : XorbObject). spans_from 0 o.info.chunk_hashes o.info.chunk_boundary_offsets) v.1.listed ∙ spans_listed v.1.xorb.encoding.version h (leaves_of v.0) v.1.xorb.encoding.spare in
+    subst (λ (l : List (List ℕ × ℕ)). stored_len l < 2 ^ 32) (sym listed) (stored_below seen v.0 v.1.xorb.encoding)

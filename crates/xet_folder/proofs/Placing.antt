@@ -58,9 +58,9 @@ record IsPlace (bytes before here : List ℕ) : Type 0 where
 
 place_in : (bytes : List ℕ) (chunks : List (List ℕ)) (at count : ℕ) → IsXorbEncoding bytes chunks → IsPlace bytes (flat_map encoded_chunk (take at chunks)) (flat_map encoded_chunk (piece at count chunks))
 unfolding xorb_bytes
-place_in bytes chunks at count text =
+place_in bytes chunks at count encoding =
     let ms = leaves_of chunks in
-    let foot : List ℕ = xorb_footer_bytes text.version (xorb_hash ms) ms text.spare ++ number (footer_len text.version (length ms)) in
+    let foot : List ℕ = xorb_footer_bytes encoding.version (xorb_hash ms) ms encoding.spare ++ number (footer_len encoding.version (length ms)) in
     let rest : List (List ℕ) = drop count (drop at chunks) in
     let two : flat_map encoded_chunk chunks ≡ flat_map encoded_chunk (take at chunks) ++ flat_map encoded_chunk (drop at chunks) =
     ap (λ (l : List (List ℕ)). flat_map encoded_chunk l) (sym (take-append-drop at chunks)) ∙ flat_map-append encoded_chunk (take at chunks) (drop at chunks) in
@@ -68,7 +68,7 @@ place_in bytes chunks at count text =
     ap (λ (l : List (List ℕ)). flat_map encoded_chunk l) (sym (take-append-drop count (drop at chunks))) ∙ flat_map-append encoded_chunk (piece at count chunks) rest in
     record {
       after = flat_map encoded_chunk rest ++ foot;
-      is = text.encoded ∙ ap (λ (l : List ℕ). l ++ foot) (two ∙ ap (λ (l : List ℕ). flat_map encoded_chunk (take at chunks) ++ l) three)
+      is = encoding.encoded ∙ ap (λ (l : List ℕ). l ++ foot) (two ∙ ap (λ (l : List ℕ). flat_map encoded_chunk (take at chunks) ++ l) three)
           ∙ regroup (flat_map encoded_chunk (take at chunks)) (flat_map encoded_chunk (piece at count chunks)) (flat_map encoded_chunk rest) foot;
     }
 
@@ -80,10 +80,10 @@ place_slice bytes before here at len p low size = ap (λ (l : List ℕ). take le
 
 -- a xorb's chunks are stored in fewer bytes than it has
 pub stored_below : (bytes : List ℕ) (chunks : List (List ℕ)) → IsXorbEncoding bytes chunks → stored_len (leaves_of chunks) < 2 ^ 32
-stored_below bytes chunks text =
-    let all = place_in bytes chunks 0 (length chunks) text in
+stored_below bytes chunks encoding =
+    let all = place_in bytes chunks 0 (length chunks) encoding in
     let whole : piece 0 (length chunks) chunks ≡ chunks = take_all (length chunks) chunks (omega arith) in
-    omega (arith, place_reaches _ _ _ all, text.bound, stored_joined chunks, ap (λ (l : List (List ℕ)). length (flat_map encoded_chunk l)) whole)
+    omega (arith, place_reaches _ _ _ all, encoding.bound, stored_joined chunks, ap (λ (l : List (List ℕ)). length (flat_map encoded_chunk l)) whole)
 
 -- ---- what a range touches
 
@@ -117,14 +117,14 @@ module _ (files : Files) (folder : List ℕ) (s : Segment) (leaves : List Leaf) 
   place : IsPlace stored.bytes (flat_map encoded_chunk (take (s.chunk_index_start + first) chunks)) (flat_map encoded_chunk touched_chunks)
   place =
       subst (λ (l : List (List ℕ)). IsPlace stored.bytes (flat_map encoded_chunk (take (s.chunk_index_start + first) chunks)) (flat_map encoded_chunk l)) (sym in_xorb)
-      (place_in stored.bytes chunks (s.chunk_index_start + first) t.count stored.text)
+      (place_in stored.bytes chunks (s.chunk_index_start + first) t.count stored.encoding)
 
   reaches : stored_len (take (s.chunk_index_start + first) leaves) + stored_len touched ≤ length stored.bytes
   reaches = omega (arith, place_reaches _ _ _ place, before_len, touched_len)
 
   -- the xorb's file has the touched chunks, below 2 ^ 32 bytes
   pub touched_below : stored_len (take (s.chunk_index_start + first) leaves) + stored_len touched < 2 ^ 32
-  touched_below = let bound = stored.text.bound in omega (arith, reaches)
+  touched_below = let bound = stored.encoding.bound in omega (arith, reaches)
 
   pub has_touched : (path : List ℕ) (at len : ℕ) → path ≡ xorb_path folder s.xorb_hash → at ≡ stored_len (take (s.chunk_index_start + first) leaves) → len ≡ stored_len touched → HasPlace (bytes_at files path) at len
   has_touched path at len path_is at_is len_is = record { bytes = stored.bytes; there = ap (bytes_at files) path_is ∙ stored.there; reaches = omega (arith, reaches) }

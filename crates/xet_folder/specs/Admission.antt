@@ -40,7 +40,7 @@ module _ (files : Files) (folder shard : List ℕ) where
   -- The xorb's file does not exist, or it is not a xorb of that hash whose chunks can be read.
   pub data XorbFails (h : List ℕ) (e : StoreError) : Type 0 where
     missing : bytes_at files (xorb_path folder h) ≡ None → e ≡ InvalidShard shard MissingXorb → XorbFails h e
-    text : IsSome (bytes_at files (xorb_path folder h)) → ((chunks : List (List ℕ)) → IsStored files folder h chunks → ⊥) → e ≡ MalformedData XorbText → XorbFails h e
+    encoding : IsSome (bytes_at files (xorb_path folder h)) → ((chunks : List (List ℕ)) → IsStored files folder h chunks → ⊥) → e ≡ MalformedData XorbText → XorbFails h e
 
   -- A xorb record lists the hashes and lengths of the stored chunks.
   abbrev pub BlockHolds : MDBXorbInfo → Type 0

@@ -23,12 +23,12 @@ pub fn put_xorb<D: Disk>(
     alloc: Global,
     folder: &str,
     hash: &MerkleHash,
-    text: &[u8],
+    encoding: &[u8],
 ) -> Result<(), StoreError>
-    ensures there { D.tells disk.old ≡ true → OnOk result (bytes_at (D.files disk.new) (xorb_path folder.now hash.now) ≡ Some text.now) }
+    ensures there { D.tells disk.old ≡ true → OnOk result (bytes_at (D.files disk.new) (xorb_path folder.now hash.now) ≡ Some encoding.now) }
     ensures durable { D.tells disk.old ≡ true → OnOk result (option_map (λ e. e.durable) (get (D.files disk.new) (xorb_path folder.now hash.now)) ≡ Some true) }
     ensures temp { D.tells disk.old ≡ true → OnOk result (get (D.files disk.new) (temp_name (xorb_path folder.now hash.now)) ≡ None) }
-    ensures refused { D.tells disk.old ≡ true → OnErr result (IsKeptOrDone (D.files disk.old) (D.files disk.new) (xorb_path folder.now hash.now) text.now) }
+    ensures refused { D.tells disk.old ≡ true → OnErr result (IsKeptOrDone (D.files disk.old) (D.files disk.new) (xorb_path folder.now hash.now) encoding.now) }
     ensures xorbs { D.tells disk.old ≡ true → (h : List ℕ) → IsHash h → h ≢ hash.now → get (D.files disk.new) (xorb_path folder.now h) ≡ get (D.files disk.old) (xorb_path folder.now h) }
     ensures shards { D.tells disk.old ≡ true → (h : List ℕ) → IsHash h → get (D.files disk.new) (shard_path folder.now h) ≡ get (D.files disk.old) (shard_path folder.now h) }
     ensures others { D.tells disk.old ≡ true → (other : List ℕ) → other ≢ xorb_path folder.now hash.now → other ≢ temp_name (xorb_path folder.now hash.now) → get (D.files disk.new) other ≡ get (D.files disk.old) other }
@@ -38,7 +38,7 @@ pub fn put_xorb<D: Disk>(
 {
     known_bytes(hash);
     let path = xorb_path(alloc, folder, hash)?;
-    put_named_file(disk, alloc, path.as_str(), text)
+    put_named_file(disk, alloc, path.as_str(), encoding)
 }
 
 /// Writes the bytes of a shard under its name, durable. After an error, the file under that name is as it
@@ -49,12 +49,12 @@ pub fn put_shard<D: Disk>(
     alloc: Global,
     folder: &str,
     hash: &MerkleHash,
-    text: &[u8],
+    encoding: &[u8],
 ) -> Result<(), StoreError>
-    ensures there { D.tells disk.old ≡ true → OnOk result (bytes_at (D.files disk.new) (shard_path folder.now hash.now) ≡ Some text.now) }
+    ensures there { D.tells disk.old ≡ true → OnOk result (bytes_at (D.files disk.new) (shard_path folder.now hash.now) ≡ Some encoding.now) }
     ensures durable { D.tells disk.old ≡ true → OnOk result (option_map (λ e. e.durable) (get (D.files disk.new) (shard_path folder.now hash.now)) ≡ Some true) }
     ensures temp { D.tells disk.old ≡ true → OnOk result (get (D.files disk.new) (temp_name (shard_path folder.now hash.now)) ≡ None) }
-    ensures refused { D.tells disk.old ≡ true → OnErr result (IsKeptOrDone (D.files disk.old) (D.files disk.new) (shard_path folder.now hash.now) text.now) }
+    ensures refused { D.tells disk.old ≡ true → OnErr result (IsKeptOrDone (D.files disk.old) (D.files disk.new) (shard_path folder.now hash.now) encoding.now) }
     ensures xorbs { D.tells disk.old ≡ true → (h : List ℕ) → IsHash h → get (D.files disk.new) (xorb_path folder.now h) ≡ get (D.files disk.old) (xorb_path folder.now h) }
     ensures shards { D.tells disk.old ≡ true → (h : List ℕ) → IsHash h → h ≢ hash.now → get (D.files disk.new) (shard_path folder.now h) ≡ get (D.files disk.old) (shard_path folder.now h) }
     ensures others { D.tells disk.old ≡ true → (other : List ℕ) → other ≢ shard_path folder.now hash.now → other ≢ temp_name (shard_path folder.now hash.now) → get (D.files disk.new) other ≡ get (D.files disk.old) other }
@@ -63,5 +63,5 @@ pub fn put_shard<D: Disk>(
     ensures reason { IfErr result (HasDiskReason (D.faults disk.old) (D.faults disk.new)) }
 {
     known_bytes(hash);
-    put_shard_file(disk, alloc, folder, hash, text)
+    put_shard_file(disk, alloc, folder, hash, encoding)
 }

@@ -25,7 +25,7 @@ use Rattle.xet_shard.specs.Runs.{run_after, run_at}
 use Rattle.xet_shard_format.specs.Encoding.{Fits, IsShard, Shard, footer_of, shard_bytes}
 use Rattle.xet_base.specs.theorems.Elements.{all_both}
 use Rattle.xet_shard.proofs.ItemsAgain.{sorted_all}
-use Rattle.xet_shard.proofs.PartsAgain.{chunks_again, text_checked, text_placed, xorbs_again, chunk_table_again, file_table_again, files_again, xorb_table_again}
+use Rattle.xet_shard.proofs.PartsAgain.{chunks_again, encoding_checked, encoding_placed, xorbs_again, chunk_table_again, file_table_again, files_again, xorb_table_again}
 use Rattle.xet_shard.proofs.PartLaws.{count_whole, files_made}
 use Rattle.xet_shard_format.specs.theorems.RowList.{length-rows_in, rows_drop}
 use Rattle.xet_shard.proofs.RunsAgain.{run_taken}
@@ -185,97 +185,97 @@ module _ (f : MDBShardFileFooter) (bytes : List ℕ) (blocks : List MDBXorbInfo)
 -- ---- the questions to a text
 
 module _ (w : Lookups) (s : Shard) (form : IsShard s) (fits : Fits s) where
-  abbrev text : List ℕ
-  text = shard_bytes w s
+  abbrev encoding : List ℕ
+  encoding = shard_bytes w s
 
   abbrev foot : MDBShardFileFooter
   foot = footer_of w s
 
-  files_there : Each file_rows (λ r x. file_in foot r text ≡ Ok x) 0 s.files
+  files_there : Each file_rows (λ r x. file_in foot r encoding ≡ Ok x) 0 s.files
   files_there =
-      let p = text_placed w s form fits in
-      let all = section_takes file_record_at file_hash file_head file_rest IsFile files_reading (file_row_count foot) None (rows_in (file_row_count foot) (drop foot.file_info_offset text)) s.files (text_checked w s form fits).files in
+      let p = encoding_placed w s form fits in
+      let all = section_takes file_record_at file_hash file_head file_rest IsFile files_reading (file_row_count foot) None (rows_in (file_row_count foot) (drop foot.file_info_offset encoding)) s.files (encoding_checked w s form fits).files in
       let count = file_row_count foot in
-      let one = row_read file_after file_head file_rest IsFile (λ x. x) (λ x rest form. ap (λ (r : Result (MDBFileInfo × List Row) StoreError). r >>= λ y. Ok y.0) (files_reading.again x rest form)) foot.file_info_offset count text p.few_files
+      let one = row_read file_after file_head file_rest IsFile (λ x. x) (λ x rest form. ap (λ (r : Result (MDBFileInfo × List Row) StoreError). r >>= λ y. Ok y.0) (files_reading.again x rest form)) foot.file_info_offset count encoding p.few_files
       (omega (arith, p.xorbs, p.file_lookup, p.xorb_lookup, p.chunk_lookup, p.footer, p.end)) in
-      subst (λ (r : Result ℕ StoreError). Each file_rows (λ k x. (r >>= λ n. read_in_row file_after foot.file_info_offset n k text) ≡ Ok x) 0 s.files) (sym (count_whole foot.file_info_offset foot.xorb_info_offset p.xorbs))
-      (each_there file_hash file_head file_rest IsFile (λ k x. read_in_row file_after foot.file_info_offset count k text ≡ Ok x) count (rows_in count (drop foot.file_info_offset text)) one 0 None s.files all.0
-      (omega (arith, ap length all.0, length-rows_in count (drop foot.file_info_offset text))) all.1)
+      subst (λ (r : Result ℕ StoreError). Each file_rows (λ k x. (r >>= λ n. read_in_row file_after foot.file_info_offset n k encoding) ≡ Ok x) 0 s.files) (sym (count_whole foot.file_info_offset foot.xorb_info_offset p.xorbs))
+      (each_there file_hash file_head file_rest IsFile (λ k x. read_in_row file_after foot.file_info_offset count k encoding ≡ Ok x) count (rows_in count (drop foot.file_info_offset encoding)) one 0 None s.files all.0
+      (omega (arith, ap length all.0, length-rows_in count (drop foot.file_info_offset encoding))) all.1)
 
-  blocks_there : Each xorb_rows (RunsAt foot text) 0 s.blocks
+  blocks_there : Each xorb_rows (RunsAt foot encoding) 0 s.blocks
   blocks_there =
-      let p = text_placed w s form fits in
-      let all = section_takes xorb_at xorb_hash xorb_head xorb_rest IsXorb xorbs_reading (xorb_row_count foot) None (rows_in (xorb_row_count foot) (drop foot.xorb_info_offset text)) s.blocks (text_checked w s form fits).blocks in
+      let p = encoding_placed w s form fits in
+      let all = section_takes xorb_at xorb_hash xorb_head xorb_rest IsXorb xorbs_reading (xorb_row_count foot) None (rows_in (xorb_row_count foot) (drop foot.xorb_info_offset encoding)) s.blocks (encoding_checked w s form fits).blocks in
       let count = xorb_row_count foot in
       let counted = count_whole foot.xorb_info_offset foot.file_lookup_offset p.file_lookup in
-      let one : (row : ℕ) (x : MDBXorbInfo) (rest : List Row) → row < count → drop row (rows_in count (drop foot.xorb_info_offset text)) ≡ xorb_head x ∷ (xorb_rest x ++ rest) → IsXorb x → RunsAt foot text row x =
+      let one : (row : ℕ) (x : MDBXorbInfo) (rest : List Row) → row < count → drop row (rows_in count (drop foot.xorb_info_offset encoding)) ≡ xorb_head x ∷ (xorb_rest x ++ rest) → IsXorb x → RunsAt foot encoding row x =
       λ row x rest below is form query place.
       let ks : List (List ℕ) = map (kept_hash foot.chunk_hash_hmac_key) query in
-      ap (λ (r : Result ℕ StoreError). r >>= λ n. read_in_row (run_after ks place) foot.xorb_info_offset n row text) counted
-      ∙ row_read (run_after ks place) xorb_head xorb_rest IsXorb (λ x. run_at ks x place) (λ x rest form. run_taken ks place x rest form) foot.xorb_info_offset count text p.few_xorbs
+      ap (λ (r : Result ℕ StoreError). r >>= λ n. read_in_row (run_after ks place) foot.xorb_info_offset n row encoding) counted
+      ∙ row_read (run_after ks place) xorb_head xorb_rest IsXorb (λ x. run_at ks x place) (λ x rest form. run_taken ks place x rest form) foot.xorb_info_offset count encoding p.few_xorbs
       (omega (arith, p.file_lookup, p.xorb_lookup, p.chunk_lookup, p.footer, p.end)) row x rest below is form in
-      each_there xorb_hash xorb_head xorb_rest IsXorb (RunsAt foot text) count (rows_in count (drop foot.xorb_info_offset text)) one 0 None s.blocks all.0 (omega (arith, ap length all.0, length-rows_in count (drop foot.xorb_info_offset text))) all.1
+      each_there xorb_hash xorb_head xorb_rest IsXorb (RunsAt foot encoding) count (rows_in count (drop foot.xorb_info_offset encoding)) one 0 None s.blocks all.0 (omega (arith, ap length all.0, length-rows_in count (drop foot.xorb_info_offset encoding))) all.1
 
   key_again : foot.chunk_hash_hmac_key ≡ s.key
   unfolding footer_of
   key_again = refl
 
   -- the items of the files of a word, by an index that bisects the table
-  files_found : (h : List ℕ) (index : ℕ) → Bisects (λ i. nat_lt i.0 (first_word h)) (file_table foot text) index → found_file foot h index text ≡ file_among foot h text (rows_of (first_word h) (file_items s.files))
+  files_found : (h : List ℕ) (index : ℕ) → Bisects (λ i. nat_lt i.0 (first_word h)) (file_table foot encoding) index → found_file foot h index encoding ≡ file_among foot h encoding (rows_of (first_word h) (file_items s.files))
   unfolding found_file
   files_found h index b = elim (cases_Bool (eqb foot.file_lookup_num_entry 0)) [
     | inl none ↦
-        let made : file_items_from foot index text ≡ Ok (file_items s.files) = sym (files_made foot index text (eqb-true _ _ none)) ∙ ap (λ (r : Result (List MDBFileInfo) StoreError). r >>= λ files. Ok (file_items files)) (files_again w s form fits) in
+        let made : file_items_from foot index encoding ≡ Ok (file_items s.files) = sym (files_made foot index encoding (eqb-true _ _ none)) ∙ ap (λ (r : Result (List MDBFileInfo) StoreError). r >>= λ files. Ok (file_items files)) (files_again w s form fits) in
         rw made refl
     | inr some ↦
-        let p = text_placed w s form fits in
+        let p = encoding_placed w s form fits in
         let ne : foot.file_lookup_num_entry ≢ 0 = eqb-false _ _ some in
         let items : List (ℕ × ℕ) = file_items s.files in
         let word : ℕ = first_word h in
-        let there : file_table foot text ≡ items = file_table_again w s form fits ne in
-        let kept : file_items_from foot index text ≡ Ok (take 8 (drop index items)) = files_at_index foot text index (take 8 (drop index items)) ne (omega (arith, p.xorb_lookup, p.chunk_lookup, p.footer, p.end)) (ap (λ (is : List (ℕ × ℕ)). take 8 (drop index is)) there) in
+        let there : file_table foot encoding ≡ items = file_table_again w s form fits ne in
+        let kept : file_items_from foot index encoding ≡ Ok (take 8 (drop index items)) = files_at_index foot encoding index (take 8 (drop index items)) ne (omega (arith, p.xorb_lookup, p.chunk_lookup, p.footer, p.end)) (ap (λ (is : List (ℕ × ℕ)). take 8 (drop index is)) there) in
         let here : Bisects (λ i. nat_lt i.0 word) items index = subst (λ (is : List (ℕ × ℕ)). Bisects (λ i. nat_lt i.0 word) is index) there b in
         let rows : rows_of word (take 8 (drop index items)) ≡ take 8 (rows_of word items) = ap (map (λ (i : ℕ × ℕ). i.1)) (equal_from (λ (i : ℕ × ℕ). i.0) word 0 8 index items (file_words_rise s.files fits.files form.files) here) ∙ map_take 8 (filter (λ i. i.0 == word) items) in
-        rw kept (ap (file_among foot h text) rows ∙ among_eight foot h text (rows_of word items))
+        rw kept (ap (file_among foot h encoding) rows ∙ among_eight foot h encoding (rows_of word items))
   ]
 
-  pub file_again : (h : List ℕ) (index : ℕ) → Bisects (λ i. nat_lt i.0 (first_word h)) (file_table foot text) index → found_file foot h index text ≡ file_in_shard s h
-  file_again h index b = files_found h index b ∙ ap (λ (r : Result (Option MDBFileInfo) StoreError). fewer_than_eight (length (rows_of (first_word h) (file_items s.files))) >>= λ _. r) (first_again foot h text 0 s.files files_there)
+  pub file_again : (h : List ℕ) (index : ℕ) → Bisects (λ i. nat_lt i.0 (first_word h)) (file_table foot encoding) index → found_file foot h index encoding ≡ file_in_shard s h
+  file_again h index b = files_found h index b ∙ ap (λ (r : Result (Option MDBFileInfo) StoreError). fewer_than_eight (length (rows_of (first_word h) (file_items s.files))) >>= λ _. r) (first_again foot h encoding 0 s.files files_there)
 
-  head_again : (row index : ℕ) → Bisects (λ i. nat_lt i.1 row) (xorb_table foot text) index → has_head foot row index text ≡ Ok (list_any (λ i. i.1 == row) (xorb_items s.blocks))
+  head_again : (row index : ℕ) → Bisects (λ i. nat_lt i.1 row) (xorb_table foot encoding) index → has_head foot row index encoding ≡ Ok (list_any (λ i. i.1 == row) (xorb_items s.blocks))
   head_again row index b = elim (cases_Bool (eqb foot.xorb_lookup_num_entry 0)) [
-    | inl none ↦ sym (heads_of_all foot text row index (eqb-true _ _ none)) ∙ ap (λ (r : Result (List (ℕ × ℕ)) StoreError). r >>= λ items. Ok (list_any (λ i. i.1 == row) items)) (xorbs_again w s form fits)
+    | inl none ↦ sym (heads_of_all foot encoding row index (eqb-true _ _ none)) ∙ ap (λ (r : Result (List (ℕ × ℕ)) StoreError). r >>= λ items. Ok (list_any (λ i. i.1 == row) items)) (xorbs_again w s form fits)
     | inr some ↦
-        let p = text_placed w s form fits in
+        let p = encoding_placed w s form fits in
         let ne : foot.xorb_lookup_num_entry ≢ 0 = eqb-false _ _ some in
         let there = xorb_table_again w s form fits ne in
-        head_at_index foot text row index _ ne (omega (arith, p.chunk_lookup, p.footer, p.end))
+        head_at_index foot encoding row index _ ne (omega (arith, p.chunk_lookup, p.footer, p.end))
         (ap (tells_row row index) there ∙ row_told row 0 index (xorb_items s.blocks) (xorb_rows_rise s.blocks) (subst (λ (is : List (ℕ × ℕ)). Bisects (λ i. nat_lt i.1 row) is index) there b))
   ]
 
-  pub told_run_again : (query : List (List ℕ)) (row place index : ℕ) → Bisects (λ i. nat_lt i.1 row) (xorb_table foot text) index → told_run foot query row place index text ≡ Ok (elim query [ [] ↦ None | h ∷ hs ↦ shard_run_at s (h ∷ hs) row place ])
+  pub told_run_again : (query : List (List ℕ)) (row place index : ℕ) → Bisects (λ i. nat_lt i.1 row) (xorb_table foot encoding) index → told_run foot query row place index encoding ≡ Ok (elim query [ [] ↦ None | h ∷ hs ↦ shard_run_at s (h ∷ hs) row place ])
   unfolding told_run
   told_run_again [] row place index b = refl
   told_run_again (h ∷ hs) row place index b =
-      let read = told_again foot (h ∷ hs) row place text 0 s.blocks blocks_there in
+      let read = told_again foot (h ∷ hs) row place encoding 0 s.blocks blocks_there in
       rw (head_again row index b) (read ∙ ap (λ (key : List ℕ). Ok (elim (block_at row 0 s.blocks) [ None ↦ None | Some block ↦ run_at (map (kept_hash key) (h ∷ hs)) block place ])) key_again)
 
-  chunk_again : (word index : ℕ) → Bisects (λ i. nat_le i.0 word) (chunk_table foot text) index → chunk_place foot word index text ≡ Ok (last_of word (chunk_items s.blocks))
+  chunk_again : (word index : ℕ) → Bisects (λ i. nat_le i.0 word) (chunk_table foot encoding) index → chunk_place foot word index encoding ≡ Ok (last_of word (chunk_items s.blocks))
   chunk_again word index b = elim (cases_Bool (eqb foot.chunk_lookup_num_entry 0)) [
-    | inl none ↦ sym (chunks_of_all foot text word index (eqb-true _ _ none)) ∙ ap (λ (r : Result (List (ℕ × ℕ × ℕ)) StoreError). r >>= λ items. Ok (last_of word items)) (chunks_again w s form fits)
+    | inl none ↦ sym (chunks_of_all foot encoding word index (eqb-true _ _ none)) ∙ ap (λ (r : Result (List (ℕ × ℕ × ℕ)) StoreError). r >>= λ items. Ok (last_of word items)) (chunks_again w s form fits)
     | inr some ↦
-        let p = text_placed w s form fits in
+        let p = encoding_placed w s form fits in
         let ne : foot.chunk_lookup_num_entry ≢ 0 = eqb-false _ _ some in
         let there = chunk_table_again w s form fits ne in
-        place_at_index foot text word index _ ne (omega (arith, p.footer, p.end))
+        place_at_index foot encoding word index _ ne (omega (arith, p.footer, p.end))
         (ap (place_before word index) there ∙ last_before word 0 index (chunk_items s.blocks) (chunk_words_rise s.blocks) (subst (λ (is : List (ℕ × ℕ × ℕ)). Bisects (λ i. nat_le i.0 word) is index) there b))
   ]
 
-  pub run_again : (query : List (List ℕ)) (index : ℕ) → Bisects (λ i. nat_le i.0 (query_word foot query)) (chunk_table foot text) index → found_run foot query index text ≡ Ok (shard_run s query)
+  pub run_again : (query : List (List ℕ)) (index : ℕ) → Bisects (λ i. nat_le i.0 (query_word foot query)) (chunk_table foot encoding) index → found_run foot query index encoding ≡ Ok (shard_run s query)
   unfolding found_run run_of_word shard_run
   run_again [] index b = refl
   run_again (h ∷ hs) index b =
       let placed = placed_in s.blocks 0 s.blocks (λ r le. refl) in
-      let all = sorted_all (λ (i : ℕ × ℕ × ℕ). Stands foot text s.blocks (i.1)) place_cmp (chunks_from 0 s.blocks) (chunks_stand foot text s.blocks 0 s.blocks blocks_there placed) in
-      rw (chunk_again (query_word foot (h ∷ hs)) index b) (place_again foot text s.blocks (h ∷ hs) s.key (first_word (kept_hash foot.chunk_hash_hmac_key h)) (chunk_items s.blocks) key_again all
+      let all = sorted_all (λ (i : ℕ × ℕ × ℕ). Stands foot encoding s.blocks (i.1)) place_cmp (chunks_from 0 s.blocks) (chunks_stand foot encoding s.blocks 0 s.blocks blocks_there placed) in
+      rw (chunk_again (query_word foot (h ∷ hs)) index b) (place_again foot encoding s.blocks (h ∷ hs) s.key (first_word (kept_hash foot.chunk_hash_hmac_key h)) (chunk_items s.blocks) key_again all
       ∙ ap (λ (key : List ℕ). Ok (elim (last_of (first_word (kept_hash key h)) (chunk_items s.blocks)) [ None ↦ None | Some found ↦ shard_run_at s (h ∷ hs) found.0 found.1 ])) key_again)

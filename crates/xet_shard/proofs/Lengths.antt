@@ -14,10 +14,10 @@ use Rattle.xet_shard_format.specs.Encoding.{Fits, Shard, footer_of, shard_footer
 use Rattle.xet_hash.specs.Order.{hash_cmp}
 use Rattle.xet_shard_format.specs.theorems.Bytes.{length-rows_bytes}
 use Rattle.xet_shard_format.specs.theorems.Counts.{chunk_count, chunks_in, length-heads_from, length-section}
-use Rattle.xet_shard_format.specs.theorems.Footers.{length-footer_text}
+use Rattle.xet_shard_format.specs.theorems.Footers.{length-footer_bytes}
 use Rattle.xet_shard.proofs.Rising.{rows_sorted}
 use Rattle.xet_shard_format.specs.theorems.Sorting.{length-sorted}
-use Rattle.xet_shard_format.specs.theorems.WholeTaken.{head_len, length-items_text, place_len}
+use Rattle.xet_shard_format.specs.theorems.WholeTaken.{head_len, length-items_encoding, place_len}
 
 -- header and footer, 48 bytes a row, and 12 or 16 an item
 length-full_shard_bytes : (s : Shard) → Fits s
@@ -38,12 +38,12 @@ length-full_shard_bytes s fits =
       length-append chunks footer,
       length-rows_bytes (file_section s.files) fits.files,
       length-rows_bytes (xorb_section s.blocks) fits.blocks,
-      length-items_text record_item_bytes 12 head_len (file_items s.files),
-      length-items_text record_item_bytes 12 head_len (xorb_items s.blocks),
-      length-items_text chunk_item_bytes 16 place_len (chunk_items s.blocks),
+      length-items_encoding record_item_bytes 12 head_len (file_items s.files),
+      length-items_encoding record_item_bytes 12 head_len (xorb_items s.blocks),
+      length-items_encoding chunk_item_bytes 16 place_len (chunk_items s.blocks),
       length-heads_from file_hash file_rows 0 s.files,
       length-heads_from xorb_hash xorb_rows 0 s.blocks,
-      length-footer_text (footer_of all_lookups s) fits.key.0,
+      length-footer_bytes (footer_of all_lookups s) fits.key.0,
     )
 
 -- the rows and the items of records, and the row at the end

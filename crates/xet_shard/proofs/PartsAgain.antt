@@ -65,9 +65,9 @@ unfolding section_in
 section_there record_at hash at count bytes xs few le e = rw (lt-ltb count (2 ^ 32) few, le-leb (at + 48 * count) (length bytes) le) e
 
 -- the items of a look-up that stands
-stands : {I : Type 0} (text : I → List ℕ) (items : List I) (n : ℕ) (piece : List ℕ) → n ≢ 0 → LeftIn text items n piece → (n ≡ length items) × (piece ≡ flat_map text items)
-stands {I} text items n piece ne left =
-    elim (left.stands) as (λ b. n ≡ length (left_in b items) → piece ≡ flat_map text (left_in b items) → (n ≡ length items) × (piece ≡ flat_map text items)) [
+stands : {I : Type 0} (encoding : I → List ℕ) (items : List I) (n : ℕ) (piece : List ℕ) → n ≢ 0 → LeftIn encoding items n piece → (n ≡ length items) × (piece ≡ flat_map encoding items)
+stands {I} encoding items n piece ne left =
+    elim (left.stands) as (λ b. n ≡ length (left_in b items) → piece ≡ flat_map encoding (left_in b items) → (n ≡ length items) × (piece ≡ flat_map encoding items)) [
       | true ↦ λ e is. (e, is)
       | false ↦ λ e is. absurd (ne e)
     ] left.count left.is
@@ -109,47 +109,47 @@ chunks_there bytes f blocks p again whole e =
 -- ---- the parts of a text
 
 module _ (w : Lookups) (s : Shard) (form : IsShard s) (fits : Fits s) where
-  abbrev text : List ℕ
-  text = shard_bytes w s
+  abbrev encoding : List ℕ
+  encoding = shard_bytes w s
 
   abbrev foot : MDBShardFileFooter
   foot = footer_of w s
 
-  pub text_checked : Checked text (s.blocks, s.files, foot)
-  text_checked = checked text (s.blocks, s.files, foot) (all_again w s form fits)
+  pub encoding_checked : Checked encoding (s.blocks, s.files, foot)
+  encoding_checked = checked encoding (s.blocks, s.files, foot) (all_again w s form fits)
 
-  pub text_placed : IsPlaced (length text) foot
-  text_placed = placed text foot text_checked.footer
+  pub encoding_placed : IsPlaced (length encoding) foot
+  encoding_placed = placed encoding foot encoding_checked.footer
 
-  pub info_again : info_at text ≡ Ok (record { header = header; metadata = foot })
-  info_again = info_of text foot text_checked.header text_checked.footer
+  pub info_again : info_at encoding ≡ Ok (record { header = header; metadata = foot })
+  info_again = info_of encoding foot encoding_checked.header encoding_checked.footer
 
-  pub files_again : files_in foot text ≡ Ok s.files
-  files_again = let p = text_placed in ap (λ (r : Result ℕ StoreError). r >>= λ n. section_in file_record_at file_hash foot.file_info_offset n text) (count_whole foot.file_info_offset foot.xorb_info_offset p.xorbs) ∙ section_there file_record_at file_hash foot.file_info_offset (file_row_count foot) text s.files p.few_files (omega (arith, p.xorbs, p.file_lookup, p.xorb_lookup, p.chunk_lookup, p.footer, p.end)) text_checked.files
+  pub files_again : files_in foot encoding ≡ Ok s.files
+  files_again = let p = encoding_placed in ap (λ (r : Result ℕ StoreError). r >>= λ n. section_in file_record_at file_hash foot.file_info_offset n encoding) (count_whole foot.file_info_offset foot.xorb_info_offset p.xorbs) ∙ section_there file_record_at file_hash foot.file_info_offset (file_row_count foot) encoding s.files p.few_files (omega (arith, p.xorbs, p.file_lookup, p.xorb_lookup, p.chunk_lookup, p.footer, p.end)) encoding_checked.files
 
-  pub blocks_again : blocks_in foot text ≡ Ok s.blocks
-  blocks_again = let p = text_placed in ap (λ (r : Result ℕ StoreError). r >>= λ n. section_in xorb_at xorb_hash foot.xorb_info_offset n text) (count_whole foot.xorb_info_offset foot.file_lookup_offset p.file_lookup) ∙ section_there xorb_at xorb_hash foot.xorb_info_offset (xorb_row_count foot) text s.blocks p.few_xorbs (omega (arith, p.file_lookup, p.xorb_lookup, p.chunk_lookup, p.footer, p.end)) text_checked.blocks
+  pub blocks_again : blocks_in foot encoding ≡ Ok s.blocks
+  blocks_again = let p = encoding_placed in ap (λ (r : Result ℕ StoreError). r >>= λ n. section_in xorb_at xorb_hash foot.xorb_info_offset n encoding) (count_whole foot.xorb_info_offset foot.file_lookup_offset p.file_lookup) ∙ section_there xorb_at xorb_hash foot.xorb_info_offset (xorb_row_count foot) encoding s.blocks p.few_xorbs (omega (arith, p.file_lookup, p.xorb_lookup, p.chunk_lookup, p.footer, p.end)) encoding_checked.blocks
 
   -- a table that stands
-  pub file_table_again : foot.file_lookup_num_entry ≢ 0 → file_table foot text ≡ file_items s.files
+  pub file_table_again : foot.file_lookup_num_entry ≢ 0 → file_table foot encoding ≡ file_items s.files
   file_table_again ne =
-      let p = text_placed in
+      let p = encoding_placed in
       let at = foot.file_lookup_offset in
       let n = foot.file_lookup_num_entry in
-      reached_is (nat_le (at + 12 * n) (length text)) (file_table foot text) (file_items s.files)
-      (heads_there text (file_items s.files) at n (in_table at (12 * n) text (file_table foot text)) (λ z. absurd (ne z)) (λ _. heads_kept at n text) (omega (arith, p.xorb_lookup, p.chunk_lookup, p.footer, p.end))
-      (heads_again (file_items s.files) (file_items_fit s.files fits.files form.few_files)) text_checked.heads)
+      reached_is (nat_le (at + 12 * n) (length encoding)) (file_table foot encoding) (file_items s.files)
+      (heads_there encoding (file_items s.files) at n (in_table at (12 * n) encoding (file_table foot encoding)) (λ z. absurd (ne z)) (λ _. heads_kept at n encoding) (omega (arith, p.xorb_lookup, p.chunk_lookup, p.footer, p.end))
+      (heads_again (file_items s.files) (file_items_fit s.files fits.files form.few_files)) encoding_checked.heads)
 
-  pub xorbs_again : xorb_lookup_in foot text ≡ Ok (xorb_items s.blocks)
-  xorbs_again = xorbs_there text foot s.blocks text_placed (heads_again (xorb_items s.blocks) (xorb_items_fit s.blocks fits.blocks form.few_blocks)) blocks_again text_checked.xorbs
+  pub xorbs_again : xorb_lookup_in foot encoding ≡ Ok (xorb_items s.blocks)
+  xorbs_again = xorbs_there encoding foot s.blocks encoding_placed (heads_again (xorb_items s.blocks) (xorb_items_fit s.blocks fits.blocks form.few_blocks)) blocks_again encoding_checked.xorbs
 
-  pub xorb_table_again : foot.xorb_lookup_num_entry ≢ 0 → xorb_table foot text ≡ xorb_items s.blocks
+  pub xorb_table_again : foot.xorb_lookup_num_entry ≢ 0 → xorb_table foot encoding ≡ xorb_items s.blocks
   unfolding xorb_lookup_in
-  xorb_table_again ne = reached_is (nat_le (foot.xorb_lookup_offset + 12 * foot.xorb_lookup_num_entry) (length text)) (xorb_table foot text) (xorb_items s.blocks) (chosen_second foot.xorb_lookup_num_entry _ _ ne ∙ xorbs_again)
+  xorb_table_again ne = reached_is (nat_le (foot.xorb_lookup_offset + 12 * foot.xorb_lookup_num_entry) (length encoding)) (xorb_table foot encoding) (xorb_items s.blocks) (chosen_second foot.xorb_lookup_num_entry _ _ ne ∙ xorbs_again)
 
-  pub chunks_again : chunk_lookup_in foot text ≡ Ok (chunk_items s.blocks)
-  chunks_again = chunks_there text foot s.blocks text_placed (places_again (chunk_items s.blocks) (chunk_items_fit s.blocks fits.blocks form.few_blocks)) blocks_again text_checked.chunks
+  pub chunks_again : chunk_lookup_in foot encoding ≡ Ok (chunk_items s.blocks)
+  chunks_again = chunks_there encoding foot s.blocks encoding_placed (places_again (chunk_items s.blocks) (chunk_items_fit s.blocks fits.blocks form.few_blocks)) blocks_again encoding_checked.chunks
 
-  pub chunk_table_again : foot.chunk_lookup_num_entry ≢ 0 → chunk_table foot text ≡ chunk_items s.blocks
+  pub chunk_table_again : foot.chunk_lookup_num_entry ≢ 0 → chunk_table foot encoding ≡ chunk_items s.blocks
   unfolding chunk_lookup_in
-  chunk_table_again ne = reached_is (nat_le (foot.chunk_lookup_offset + 16 * foot.chunk_lookup_num_entry) (length text)) (chunk_table foot text) (chunk_items s.blocks) (chosen_second foot.chunk_lookup_num_entry _ _ ne ∙ chunks_again)
+  chunk_table_again ne = reached_is (nat_le (foot.chunk_lookup_offset + 16 * foot.chunk_lookup_num_entry) (length encoding)) (chunk_table foot encoding) (chunk_items s.blocks) (chosen_second foot.chunk_lookup_num_entry _ _ ne ∙ chunks_again)

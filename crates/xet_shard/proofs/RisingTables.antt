@@ -15,7 +15,7 @@ use Rattle.xet_shard_format.specs.declared.row.Row.{Row}
 use Rattle.xet_shard.specs.Bisection.{Bisects}
 use Rattle.xet_shard_format.specs.Lookups.{chunk_items, chunks_from, file_items, heads_from, place_cmp, xorb_items}
 use Rattle.xet_shard_format.specs.Records.{AreRecords, IsFile, file_hash, file_head, file_rest, file_section, first_word, section, xorb_hash, xorb_rows}
-use Rattle.xet_shard_format.specs.Rows.{IsHash, RowFits}
+use Rattle.xet_shard_format.specs.Rows.{IsHashBytes, RowFits}
 use Rattle.xet_shard_format.specs.Sorted.{put_in, sorted}
 use Rattle.xet_shard_format.specs.theorems.Bytes.{IsBytes, known_bytes}
 use Rattle.xet_base.specs.theorems.Elements.{all_back}
@@ -175,12 +175,12 @@ module _ {X : Type 0} (hash : X → List ℕ) (head : X → Row) (others : X →
   abbrev rows : X → List Row
   rows x = head x ∷ others x
 
-  words_after : (at : ℕ) (last : List ℕ) (xs : List X) → IsHash last → AllByRecursion RowFits (section rows xs) → AreRecords hash Form (Some last) xs → Rises (λ i. i.0) (first_word last) (heads_from hash rows at xs)
+  words_after : (at : ℕ) (last : List ℕ) (xs : List X) → IsHashBytes last → AllByRecursion RowFits (section rows xs) → AreRecords hash Form (Some last) xs → Rises (λ i. i.0) (first_word last) (heads_from hash rows at xs)
   unfolding heads_from
   words_after at last [] known fits form = tt
   words_after at last (x ∷ xs) known fits form =
       let all : AllByRecursion RowFits (rows x ++ section rows xs) = subst (AllByRecursion RowFits) (section_cons rows x xs) fits in
-      let here : IsHash (hash x) = subst IsHash (hash_is x) all.0.hash in (
+      let here : IsHashBytes (hash x) = subst IsHashBytes (hash_is x) all.0.hash in (
         words_rise last (hash x) (omega (arith, known.0)) (omega (arith, here.0)) (known_bytes last known.1) (known_bytes (hash x) here.1) form.0,
         words_after (at + length (rows x)) (hash x) xs here (all_back RowFits (rows x) (section rows xs) all) form.3,
       )
@@ -190,7 +190,7 @@ module _ {X : Type 0} (hash : X → List ℕ) (head : X → Row) (others : X →
   words_in_order at [] fits form = tt
   words_in_order at (x ∷ xs) fits form =
       let all : AllByRecursion RowFits (rows x ++ section rows xs) = subst (AllByRecursion RowFits) (section_cons rows x xs) fits in
-      (omega arith, words_after (at + length (rows x)) (hash x) xs (subst IsHash (hash_is x) all.0.hash) (all_back RowFits (rows x) (section rows xs) all) form.3)
+      (omega arith, words_after (at + length (rows x)) (hash x) xs (subst IsHashBytes (hash_is x) all.0.hash) (all_back RowFits (rows x) (section rows xs) all) form.3)
 
 pub file_words_rise : (files : List MDBFileInfo) → AllByRecursion RowFits (file_section files) → AreRecords file_hash IsFile None files → Rises (λ i. i.0) 0 (file_items files)
 file_words_rise files fits form = words_in_order file_hash file_head file_rest (λ x i. (file_head x).hash) IsFile 0 files fits form

@@ -97,10 +97,10 @@ module _ {B X : Type 0} (now : B → X) (hash : X → List ℕ) where
 -- ---- how it ends
 
 -- a front of it is written
-pub union_prefix : (read : Result (ShardRecords × ShardRecords) StoreError) (p : ShardRecords × ShardRecords) (creation other : ℕ) (info : MDBShardInfo) (text lent before after : List ℕ)
-    → read ≡ Ok p → IsUnion (Ok p) creation other info [] text → lent ≡ text → (n : ℕ) × (after ≡ before ++ take n lent) → HasUnionPrefix read creation other before after
-union_prefix read p creation other info text lent before after e u lends wrote =
-    inr (u.both, wrote.0, e ∙ u.found, u.agree, wrote.1 ∙ ap (λ (t : List ℕ). before ++ take wrote.0 t) (lends ∙ u.text))
+pub union_prefix : (read : Result (ShardRecords × ShardRecords) StoreError) (p : ShardRecords × ShardRecords) (creation other : ℕ) (info : MDBShardInfo) (encoding lent before after : List ℕ)
+    → read ≡ Ok p → IsUnion (Ok p) creation other info [] encoding → lent ≡ encoding → (n : ℕ) × (after ≡ before ++ take n lent) → HasUnionPrefix read creation other before after
+union_prefix read p creation other info encoding lent before after e u lends wrote =
+    inr (u.both, wrote.0, e ∙ u.found, u.agree, wrote.1 ∙ ap (λ (t : List ℕ). before ++ take wrote.0 t) (lends ∙ u.encoding))
 
 -- the records have no union, or it is too large
 pub not_united : (f g : MDBShardFileFooter) (read : Result (ShardRecords × ShardRecords) StoreError) (p : ShardRecords × ShardRecords) (e : StoreError) → read ≡ Ok p → IsNoText p f.shard_creation_timestamp g.shard_creation_timestamp e → IsNoUnion f g read e

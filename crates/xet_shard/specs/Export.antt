@@ -40,7 +40,7 @@ pub record IsExport (lookups : Lookups) (read : Result Shard StoreError) (before
   pub found : read ≡ Ok shard
   pub form : IsShard shard
   pub fits : Fits shard
-  pub text : after ≡ before ++ shard_bytes lookups shard
+  pub encoding : after ≡ before ++ shard_bytes lookups shard
 
 -- After an error a prefix of it was written, and nothing if the shard's own bytes are malformed.
 abbrev pub HasPrefix : Lookups → Result Shard StoreError → List ℕ → List ℕ → Type 0

@@ -68,7 +68,7 @@ pub record IsUnion (read : Result (ShardRecords × ShardRecords) StoreError) (cr
   pub form : IsShard (union_shard both creation other)
   pub fits : Fits (union_shard both creation other)
   pub info : ends ≡ record { header = header; metadata = footer_of all_lookups (union_shard both creation other) }
-  pub text : after ≡ before ++ full_shard_bytes (union_shard both creation other)
+  pub encoding : after ≡ before ++ full_shard_bytes (union_shard both creation other)
 
 -- After an error nothing was written, or a prefix of the union's encoding.
 abbrev pub HasUnionPrefix : Result (ShardRecords × ShardRecords) StoreError → ℕ → ℕ → List ℕ → List ℕ → Type 0

@@ -60,8 +60,8 @@ impl MDBShardInfo {
             xorbs: xorb_lookup,
             chunks: chunk_lookup,
         };
-        let text = keyed_bytes(alloc, reader, &self.metadata, lookups, key, valid_for, now)?;
-        write_bytes(sink, &text)
+        let encoding = keyed_bytes(alloc, reader, &self.metadata, lookups, key, valid_for, now)?;
+        write_bytes(sink, &encoding)
     }
 }
 
@@ -75,17 +75,17 @@ fn keyed_bytes<R: ReadAt>(
     valid_for: u64,
     now: u64,
 ) -> Result<Vec<u8>, StoreError>
-    ensures text { R.tells reader.old ≡ true → IfOk result (λ text. IsExport (record { files = lookups.files; xorbs = lookups.xorbs; chunks = lookups.chunks }) (exported lookups.files key valid_for now f.now (R.bytes reader.old)) [] text.items) }
+    ensures encoding { R.tells reader.old ≡ true → IfOk result (λ encoding. IsExport (record { files = lookups.files; xorbs = lookups.xorbs; chunks = lookups.chunks }) (exported lookups.files key valid_for now f.now (R.bytes reader.old)) [] encoding.items) }
     ensures refused { R.tells reader.old ≡ true → IfErr result (IsUnwritten (exported lookups.files key valid_for now f.now (R.bytes reader.old))) }
     ensures errors { IfErr result IsShardError }
     ensures frame { ReadFrom R.bytes R.tells R.faults R.lent reader.old reader.new (IsErrOf result (StoreError.Io Place.Input)) }
 {
     let (blocks, files) = keyed_records(alloc, reader, f, key, lookups.files)?;
     let expiry = now.saturating_add(valid_for);
-    let (text, _) = write_with_lookups::<MDBXorbInfo, MDBFileInfo>(
+    let (encoding, _) = write_with_lookups::<MDBXorbInfo, MDBFileInfo>(
         alloc, lookups, &blocks, &files, key, now, expiry,
     )?;
-    Ok(text)
+    Ok(encoding)
 }
 
 /// The xorbs with keyed chunk hashes, and the files if `with_files`.

@@ -151,8 +151,8 @@ impl MDBInMemoryShard {
         ensures errors { IfErr result IsWriteError }
         ensures frame { Called W.tells W.faults sink.old sink.new (IsErrOf result (StoreError.Io Place.Output)) }
     {
-        let (text, info) = self.shard_bytes(alloc, creation, expiry)?;
-        write_bytes(sink, &text)?;
+        let (encoding, info) = self.shard_bytes(alloc, creation, expiry)?;
+        write_bytes(sink, &encoding)?;
         Ok(info)
     }
 
@@ -164,7 +164,7 @@ impl MDBInMemoryShard {
         creation: u64,
         expiry: Option<u64>,
     ) -> Result<(Vec<u8>, MDBShardInfo), StoreError>
-        ensures text { IfOk result (λ x. x.0.items ≡ full_shard_bytes (held_shard self.now creation expiry)) }
+        ensures encoding { IfOk result (λ x. x.0.items ≡ full_shard_bytes (held_shard self.now creation expiry)) }
         ensures info { IfOk result (λ x. x.1 ≡ record { header = header; metadata = footer_of all_lookups (held_shard self.now creation expiry) }) }
         ensures shard { OnOk result (IsShard (held_shard self.now creation expiry)) }
         ensures fits { OnOk result (Fits (held_shard self.now creation expiry)) }

@@ -59,14 +59,14 @@ pub fn shard_set_union<R: ReadAt, Q: ReadAt, W: Sink>(
         return Err(StoreError::InvalidArguments);
     }
     let (ours, theirs) = both_records(alloc, &first.metadata, reader, &second.metadata, other)?;
-    let (text, info) = union_bytes(
+    let (encoding, info) = union_bytes(
         alloc,
         &ours,
         &theirs,
         first.metadata.shard_creation_timestamp,
         second.metadata.shard_creation_timestamp,
     )?;
-    write_bytes(sink, &text)?;
+    write_bytes(sink, &encoding)?;
     Ok(info)
 }
 
@@ -128,7 +128,7 @@ fn union_bytes(
 ) -> Result<(Vec<u8>, MDBShardInfo), StoreError>
     requires ours { AreOfShard (ours.now.0.items, ours.now.1.items) }
     requires theirs { AreOfShard (theirs.now.0.items, theirs.now.1.items) }
-    ensures text { IfOk result (λ x. IsUnion (Ok ((ours.now.0.items, ours.now.1.items), (theirs.now.0.items, theirs.now.1.items))) creation other x.1 [] x.0.items) }
+    ensures encoding { IfOk result (λ x. IsUnion (Ok ((ours.now.0.items, ours.now.1.items), (theirs.now.0.items, theirs.now.1.items))) creation other x.1 [] x.0.items) }
     ensures refused { IfErr result (IsNoText ((ours.now.0.items, ours.now.1.items), (theirs.now.0.items, theirs.now.1.items)) creation other) }
 {
     let xorbs = merge::<MDBXorbInfo>(alloc, &ours.0, &theirs.0)?;

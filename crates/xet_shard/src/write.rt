@@ -30,7 +30,7 @@ pub fn write_shard(
 ) -> Result<(Vec<u8>, MDBShardInfo), StoreError>
     requires few_files { length (file_section (map (λ f. f.now) files.now)) < 2 ^ 32 }
     requires few_blocks { length (xorb_section (map (λ x. x.now) blocks.now)) < 2 ^ 32 }
-    ensures text { IfOk result (λ x. x.0.items ≡ full_shard_bytes (shard (map (λ x. x.now) blocks.now) (map (λ f. f.now) files.now) key creation expiry)) }
+    ensures encoding { IfOk result (λ x. x.0.items ≡ full_shard_bytes (shard (map (λ x. x.now) blocks.now) (map (λ f. f.now) files.now) key creation expiry)) }
     ensures info { IfOk result (λ x. x.1 ≡ record { header = header; metadata = footer_of all_lookups (shard (map (λ x. x.now) blocks.now) (map (λ f. f.now) files.now) key creation expiry) }) }
     ensures fits { OnOk result (Fits (shard (map (λ x. x.now) blocks.now) (map (λ f. f.now) files.now) key creation expiry)) }
     // If the records are well formed and their hashes ascend, the bytes are a shard.
@@ -38,7 +38,7 @@ pub fn write_shard(
         → IfOk result (λ x. IsShardEncoding x.0.items (shard (map (λ x. x.now) blocks.now) (map (λ f. f.now) files.now) key creation expiry)) }
     ensures memory { IsOkUnless result StoreError.OutOfMemory }
 {
-    let (text, metadata) = write_with_lookups::<&MDBXorbInfo, &MDBFileInfo>(
+    let (encoding, metadata) = write_with_lookups::<&MDBXorbInfo, &MDBFileInfo>(
         alloc,
         ALL_LOOKUPS,
         blocks,
@@ -48,18 +48,18 @@ pub fn write_shard(
         expiry,
     )?;
     let header = HEADER;
-    Ok((text, MDBShardInfo { header, metadata }))
+    Ok((encoding, MDBShardInfo { header, metadata }))
 }
 
 /// Writes the bytes of a shard to a sink. In every case a prefix of them was written. The error is
 /// `Io(Output)` if the sink failed, or `OutOfMemory`.
-pub(crate) fn write_bytes<W: Sink>(sink: &mut W, text: &[u8]) -> Result<(), StoreError>
-    ensures whole { W.tells sink.old ≡ true → OnOk result (W.written sink.new ≡ W.written sink.old ++ text.now) }
-    ensures prefix { W.tells sink.old ≡ true → (n : ℕ) × (W.written sink.new ≡ W.written sink.old ++ take n text.now) }
+pub(crate) fn write_bytes<W: Sink>(sink: &mut W, encoding: &[u8]) -> Result<(), StoreError>
+    ensures whole { W.tells sink.old ≡ true → OnOk result (W.written sink.new ≡ W.written sink.old ++ encoding.now) }
+    ensures prefix { W.tells sink.old ≡ true → (n : ℕ) × (W.written sink.new ≡ W.written sink.old ++ take n encoding.now) }
     ensures errors { IfErr result IsWriteError }
     ensures frame { Called W.tells W.faults sink.old sink.new (IsErrOf result (StoreError.Io Place.Output)) }
 {
-    match write_piece(sink, text) {
+    match write_piece(sink, encoding) {
         Ok(()) => Ok(()),
         Err(error) => Err(error),
     }

@@ -23,12 +23,12 @@ pub fn put_shard_file<D: Disk>(
     alloc: Global,
     folder: &str,
     hash: &MerkleHash,
-    text: &[u8],
+    encoding: &[u8],
 ) -> Result<(), StoreError>
-    ensures there { D.tells disk.old ≡ true → OnOk result (bytes_at (D.files disk.new) (shard_path folder.now hash.now) ≡ Some text.now) }
+    ensures there { D.tells disk.old ≡ true → OnOk result (bytes_at (D.files disk.new) (shard_path folder.now hash.now) ≡ Some encoding.now) }
     ensures durable { D.tells disk.old ≡ true → OnOk result (option_map (λ e. e.durable) (get (D.files disk.new) (shard_path folder.now hash.now)) ≡ Some true) }
     ensures temp { D.tells disk.old ≡ true → OnOk result (get (D.files disk.new) (temp_name (shard_path folder.now hash.now)) ≡ None) }
-    ensures refused { D.tells disk.old ≡ true → OnErr result (IsKeptOrDone (D.files disk.old) (D.files disk.new) (shard_path folder.now hash.now) text.now) }
+    ensures refused { D.tells disk.old ≡ true → OnErr result (IsKeptOrDone (D.files disk.old) (D.files disk.new) (shard_path folder.now hash.now) encoding.now) }
     ensures shards { D.tells disk.old ≡ true → (h : List ℕ) → IsHash h → h ≢ hash.now → get (D.files disk.new) (shard_path folder.now h) ≡ get (D.files disk.old) (shard_path folder.now h) }
     ensures others { D.tells disk.old ≡ true → (other : List ℕ) → other ≢ shard_path folder.now hash.now → other ≢ temp_name (shard_path folder.now hash.now) → get (D.files disk.new) other ≡ get (D.files disk.old) other }
     ensures frame { Stays D.tells D.faults disk.old disk.new }
@@ -36,7 +36,7 @@ pub fn put_shard_file<D: Disk>(
 {
     known_bytes(hash);
     let path = shard_path(alloc, folder, hash)?;
-    put_named_file(disk, alloc, path.as_str(), text)
+    put_named_file(disk, alloc, path.as_str(), encoding)
 }
 
 /// Writes bytes under a name, durably, through the temporary file `name` followed by `_temp`, and leaves no
@@ -46,19 +46,19 @@ pub fn put_named_file<D: Disk>(
     disk: &mut D,
     alloc: Global,
     name: &str,
-    text: &[u8],
+    encoding: &[u8],
 ) -> Result<(), StoreError>
-    ensures there { D.tells disk.old ≡ true → OnOk result (bytes_at (D.files disk.new) name.now ≡ Some text.now) }
+    ensures there { D.tells disk.old ≡ true → OnOk result (bytes_at (D.files disk.new) name.now ≡ Some encoding.now) }
     ensures durable { D.tells disk.old ≡ true → OnOk result (option_map (λ e. e.durable) (get (D.files disk.new) name.now) ≡ Some true) }
     ensures temp { D.tells disk.old ≡ true → OnOk result (get (D.files disk.new) (temp_name name.now) ≡ None) }
-    ensures refused { D.tells disk.old ≡ true → OnErr result (IsKeptOrDone (D.files disk.old) (D.files disk.new) name.now text.now) }
+    ensures refused { D.tells disk.old ≡ true → OnErr result (IsKeptOrDone (D.files disk.old) (D.files disk.new) name.now encoding.now) }
     ensures others { D.tells disk.old ≡ true → (other : List ℕ) → other ≢ name.now → other ≢ temp_name name.now → get (D.files disk.new) other ≡ get (D.files disk.old) other }
     ensures frame { Stays D.tells D.faults disk.old disk.new }
     ensures reason { IfErr result (HasDiskReason (D.faults disk.old) (D.faults disk.new)) }
 {
     let mut temp = String::from_str(alloc, name)?;
     temp.push_str("_temp")?;
-    match put_file(disk, temp.as_str(), name, text) {
+    match put_file(disk, temp.as_str(), name, encoding) {
         Ok(()) => Ok(()),
         Err(refusal) => Err(store_error(refusal)),
     }

@@ -7,7 +7,7 @@ use Rattle.xet_shard_format.specs.declared.record.MDBFileInfo.{MDBFileInfo}
 use Rattle.xet_shard_format.specs.declared.record.MDBXorbInfo.{MDBXorbInfo}
 use Rattle.xet_shard_format.specs.declared.header_footer.MDBShardFileFooter.{MDBShardFileFooter}
 use Rattle.xet_shard_format.specs.declared.header_footer.MDBShardFileHeader.{MDBShardFileHeader}
-use Rattle.xet_shard_format.specs.Rows.{IsHash, RowFits, rows_bytes}
+use Rattle.xet_shard_format.specs.Rows.{IsHashBytes, RowFits, rows_bytes}
 use Rattle.xet_shard_format.specs.Records.{AreRecords, IsFile, IsXorb, file_hash, file_section, segment_bytes, xorb_hash, xorb_section}
 use Rattle.xet_shard_format.specs.Lookups.{Lookups, all_lookups, chunk_items, file_items, record_items_bytes, left_in, chunk_items_bytes, xorb_items}
 
@@ -115,7 +115,7 @@ pub record IsShard (s : Shard) : Type 0 where
 pub record Fits (s : Shard) : Type 0 where
   pub files : AllByRecursion RowFits (file_section s.files)
   pub blocks : AllByRecursion RowFits (xorb_section s.blocks)
-  pub key : IsHash s.key
+  pub key : IsHashBytes s.key
   pub creation : s.creation < 2 ^ 64
   pub expiry : s.expiry < 2 ^ 64
 
@@ -124,4 +124,4 @@ pub record IsShardEncoding (bytes : List ℕ) (s : Shard) : Type 0 where
   pub shard : IsShard s
   pub fits : Fits s
   pub lookups : Lookups
-  pub text : bytes ≡ shard_bytes lookups s
+  pub encoding : bytes ≡ shard_bytes lookups s

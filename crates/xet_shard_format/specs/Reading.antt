@@ -232,9 +232,9 @@ ends_of bytes = shard_header_at bytes >>= λ _. shard_footer_at bytes
 
 -- ---- lookup tables and totals
 
--- A lookup table, `len` bytes at offset `at`, is omitted, or it has the bytes `text`.
+-- A lookup table, `len` bytes at offset `at`, is omitted, or it has the bytes `encoding`.
 unfoldable pub lookup_at : List ℕ → ℕ → ℕ → List ℕ → Result (Unit {0}) StoreError
-lookup_at bytes at len text = if len == 0 then Ok tt else wants (pointwise nat_eq (take len (drop at bytes)) text) Lookup
+lookup_at bytes at len encoding = if len == 0 then Ok tt else wants (pointwise nat_eq (take len (drop at bytes)) encoding) Lookup
 
 unfoldable pub totals_at : MDBShardFileFooter → ℕ → ℕ → Result (Unit {0}) StoreError
 totals_at f bytes stored_bytes = do
@@ -267,7 +267,7 @@ pub record IsRead (bytes : List ℕ) (p : ShardParts) : Type 0 where
   pub shard : IsShard (shard_of p)
   pub fits : Fits (shard_of p)
   pub lookups : Lookups
-  pub text : bytes ≡ shard_bytes lookups (shard_of p)
+  pub encoding : bytes ≡ shard_bytes lookups (shard_of p)
   pub footer : p.2 ≡ footer_of lookups (shard_of p)
 
 -- what is read of the encoding of a shard

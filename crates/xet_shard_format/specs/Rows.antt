@@ -24,12 +24,12 @@ rows_in zero bytes = []
 rows_in (suc n) bytes = row_of bytes ∷ rows_in n (drop 48 bytes)
 
 -- a hash is 32 bytes
-abbrev pub IsHash : List ℕ → Type 0
-IsHash h = (length h ≡ 32) × All (λ b. b < 256) h
+abbrev pub IsHashBytes : List ℕ → Type 0
+IsHashBytes h = (length h ≡ 32) × All (λ b. b < 256) h
 
 -- The fields of a row fit in their bytes.
 pub record RowFits (r : Row) : Type 0 where
-  pub hash : IsHash r.hash
+  pub hash : IsHashBytes r.hash
   pub a : r.a < 2 ^ 32
   pub b : r.b < 2 ^ 32
   pub c : r.c < 2 ^ 32

@@ -15,22 +15,22 @@ use xet_hash::DataHash;
 
 /// Appends the section of these records: their rows, and the end row.
 pub fn push_section<R: Record, T: Lends<R>>(
-    text: &mut Vec<u8>,
+    encoding: &mut Vec<u8>,
     records: &[T],
 ) -> Result<(), AllocError>
-    ensures text { OnOk result (text.new.items ≡ text.old.items ++ rows_bytes (section R.rows_of (map T.lent records.now))) }
+    ensures encoding { OnOk result (encoding.new.items ≡ encoding.old.items ++ rows_bytes (section R.rows_of (map T.lent records.now))) }
     ensures fits { OnOk result (AllByRecursion RowFits (section R.rows_of (map T.lent records.now))) }
 {
     for item in records {
-        item.lend().push(text)?;
+        item.lend().push(encoding)?;
     }
-    push_row(text, &Row::of_hash(DataHash::marker()))?;
+    push_row(encoding, &Row::of_hash(DataHash::marker()))?;
     Ok(())
 }
 
 /// Appends the rows of a file record.
-pub fn push_file(text: &mut Vec<u8>, file: &MDBFileInfo) -> Result<(), AllocError>
-    ensures text { OnOk result (text.new.items ≡ text.old.items ++ rows_bytes (file_rows file.now)) }
+pub fn push_file(encoding: &mut Vec<u8>, file: &MDBFileInfo) -> Result<(), AllocError>
+    ensures encoding { OnOk result (encoding.new.items ≡ encoding.old.items ++ rows_bytes (file_rows file.now)) }
     ensures fits { OnOk result (AllByRecursion RowFits (file_rows file.now)) }
 {
     let head = Row {
@@ -40,16 +40,16 @@ pub fn push_file(text: &mut Vec<u8>, file: &MDBFileInfo) -> Result<(), AllocErro
         c: 0,
         d: 0,
     };
-    push_row(text, &head)?;
-    push_entries(text, file.segments.as_slice())?;
-    push_entries(text, file.verification.as_slice())?;
-    push_ext(text, &file.metadata_ext)?;
+    push_row(encoding, &head)?;
+    push_entries(encoding, file.segments.as_slice())?;
+    push_entries(encoding, file.verification.as_slice())?;
+    push_ext(encoding, &file.metadata_ext)?;
     Ok(())
 }
 
 /// Appends the rows of a xorb record.
-pub fn push_xorb(text: &mut Vec<u8>, block: &MDBXorbInfo) -> Result<(), AllocError>
-    ensures text { OnOk result (text.new.items ≡ text.old.items ++ rows_bytes (xorb_rows block.now)) }
+pub fn push_xorb(encoding: &mut Vec<u8>, block: &MDBXorbInfo) -> Result<(), AllocError>
+    ensures encoding { OnOk result (encoding.new.items ≡ encoding.old.items ++ rows_bytes (xorb_rows block.now)) }
     ensures fits { OnOk result (AllByRecursion RowFits (xorb_rows block.now)) }
 {
     let head = Row {
@@ -59,54 +59,54 @@ pub fn push_xorb(text: &mut Vec<u8>, block: &MDBXorbInfo) -> Result<(), AllocErr
         c: block.metadata.num_bytes_in_xorb,
         d: block.metadata.num_bytes_on_disk,
     };
-    push_row(text, &head)?;
-    push_entries(text, block.chunks.as_slice())?;
+    push_row(encoding, &head)?;
+    push_entries(encoding, block.chunks.as_slice())?;
     Ok(())
 }
 
 /// Appends the metadata row of a file, if it has one.
-fn push_ext(text: &mut Vec<u8>, ext: &Option<FileMetadataExt>) -> Result<(), AllocError>
-    ensures text { OnOk result (text.new.items ≡ text.old.items ++ rows_bytes (ext_rows ext.now)) }
+fn push_ext(encoding: &mut Vec<u8>, ext: &Option<FileMetadataExt>) -> Result<(), AllocError>
+    ensures encoding { OnOk result (encoding.new.items ≡ encoding.old.items ++ rows_bytes (ext_rows ext.now)) }
     ensures fits { OnOk result (AllByRecursion RowFits (ext_rows ext.now)) }
 {
     if let Some(m) = ext {
         let row = Row::of_hash(DataHash::from_bytes(*m.sha256.as_bytes()));
-        push_row(text, &row)?;
+        push_row(encoding, &row)?;
     }
     Ok(())
 }
 
 /// Appends the rows of these entries.
-fn push_entries<E: Entry>(text: &mut Vec<u8>, entries: &[E]) -> Result<(), AllocError>
-    ensures text { OnOk result (text.new.items ≡ text.old.items ++ rows_bytes (map E.row_of entries.now)) }
+fn push_entries<E: Entry>(encoding: &mut Vec<u8>, entries: &[E]) -> Result<(), AllocError>
+    ensures encoding { OnOk result (encoding.new.items ≡ encoding.old.items ++ rows_bytes (map E.row_of entries.now)) }
     ensures fits { OnOk result (AllByRecursion RowFits (map E.row_of entries.now)) }
 {
     for entry in entries {
-        push_row(text, &entry.row())?;
+        push_row(encoding, &entry.row())?;
     }
     Ok(())
 }
 
 /// Appends the encoding of a row.
-fn push_row(text: &mut Vec<u8>, row: &Row) -> Result<(), AllocError>
-    ensures text { OnOk result (text.new.items ≡ text.old.items ++ row_bytes row.now) }
+fn push_row(encoding: &mut Vec<u8>, row: &Row) -> Result<(), AllocError>
+    ensures encoding { OnOk result (encoding.new.items ≡ encoding.old.items ++ row_bytes row.now) }
     ensures fits { RowFits row.now }
 {
     known_row(row);
-    push_fields(text, row)?;
+    push_fields(encoding, row)?;
     Ok(())
 }
 
 /// Appends the fields of a row.
 #[tactic(auto, unfolding(crate::specs::Rows::row_bytes))]
-fn push_fields(text: &mut Vec<u8>, row: &Row) -> Result<(), AllocError>
-    ensures { OnOk result (text.new.items ≡ text.old.items ++ row_bytes row.now) }
+fn push_fields(encoding: &mut Vec<u8>, row: &Row) -> Result<(), AllocError>
+    ensures { OnOk result (encoding.new.items ≡ encoding.old.items ++ row_bytes row.now) }
 {
-    text.extend_from_slice(row.hash.as_bytes())?;
-    text.extend_from_slice(&row.a.to_le_bytes())?;
-    text.extend_from_slice(&row.b.to_le_bytes())?;
-    text.extend_from_slice(&row.c.to_le_bytes())?;
-    text.extend_from_slice(&row.d.to_le_bytes())?;
+    encoding.extend_from_slice(row.hash.as_bytes())?;
+    encoding.extend_from_slice(&row.a.to_le_bytes())?;
+    encoding.extend_from_slice(&row.b.to_le_bytes())?;
+    encoding.extend_from_slice(&row.c.to_le_bytes())?;
+    encoding.extend_from_slice(&row.d.to_le_bytes())?;
     Ok(())
 }
 
@@ -152,35 +152,35 @@ fn known_slice(bytes: &[u8])
 }
 
 /// Appends the encoding of a header.
-pub fn push_header(text: &mut Vec<u8>, header: &MDBShardFileHeader) -> Result<(), AllocError>
-    ensures { OnOk result (text.new.items ≡ text.old.items ++ shard_header_bytes header.now) }
+pub fn push_header(encoding: &mut Vec<u8>, header: &MDBShardFileHeader) -> Result<(), AllocError>
+    ensures { OnOk result (encoding.new.items ≡ encoding.old.items ++ shard_header_bytes header.now) }
 {
-    text.extend_from_slice(&header.tag)?;
-    text.extend_from_slice(&header.version.to_le_bytes())?;
-    text.extend_from_slice(&header.footer_size.to_le_bytes())?;
+    encoding.extend_from_slice(&header.tag)?;
+    encoding.extend_from_slice(&header.version.to_le_bytes())?;
+    encoding.extend_from_slice(&header.footer_size.to_le_bytes())?;
     Ok(())
 }
 
 /// Appends the encoding of a footer.
-pub fn push_footer(text: &mut Vec<u8>, f: &MDBShardFileFooter) -> Result<(), AllocError>
-    ensures { OnOk result (text.new.items ≡ text.old.items ++ shard_footer_bytes f.now) }
+pub fn push_footer(encoding: &mut Vec<u8>, f: &MDBShardFileFooter) -> Result<(), AllocError>
+    ensures { OnOk result (encoding.new.items ≡ encoding.old.items ++ shard_footer_bytes f.now) }
 {
-    text.extend_from_slice(&f.version.to_le_bytes())?;
-    text.extend_from_slice(&f.file_info_offset.to_le_bytes())?;
-    text.extend_from_slice(&f.xorb_info_offset.to_le_bytes())?;
-    text.extend_from_slice(&f.file_lookup_offset.to_le_bytes())?;
-    text.extend_from_slice(&f.file_lookup_num_entry.to_le_bytes())?;
-    text.extend_from_slice(&f.xorb_lookup_offset.to_le_bytes())?;
-    text.extend_from_slice(&f.xorb_lookup_num_entry.to_le_bytes())?;
-    text.extend_from_slice(&f.chunk_lookup_offset.to_le_bytes())?;
-    text.extend_from_slice(&f.chunk_lookup_num_entry.to_le_bytes())?;
-    text.extend_from_slice(f.chunk_hash_hmac_key.as_bytes())?;
-    text.extend_from_slice(&f.shard_creation_timestamp.to_le_bytes())?;
-    text.extend_from_slice(&f.shard_key_expiry.to_le_bytes())?;
-    text.extend_from_slice(&[0; 48])?;
-    text.extend_from_slice(&f.stored_bytes_on_disk.to_le_bytes())?;
-    text.extend_from_slice(&f.materialized_bytes.to_le_bytes())?;
-    text.extend_from_slice(&f.stored_bytes.to_le_bytes())?;
-    text.extend_from_slice(&f.footer_offset.to_le_bytes())?;
+    encoding.extend_from_slice(&f.version.to_le_bytes())?;
+    encoding.extend_from_slice(&f.file_info_offset.to_le_bytes())?;
+    encoding.extend_from_slice(&f.xorb_info_offset.to_le_bytes())?;
+    encoding.extend_from_slice(&f.file_lookup_offset.to_le_bytes())?;
+    encoding.extend_from_slice(&f.file_lookup_num_entry.to_le_bytes())?;
+    encoding.extend_from_slice(&f.xorb_lookup_offset.to_le_bytes())?;
+    encoding.extend_from_slice(&f.xorb_lookup_num_entry.to_le_bytes())?;
+    encoding.extend_from_slice(&f.chunk_lookup_offset.to_le_bytes())?;
+    encoding.extend_from_slice(&f.chunk_lookup_num_entry.to_le_bytes())?;
+    encoding.extend_from_slice(f.chunk_hash_hmac_key.as_bytes())?;
+    encoding.extend_from_slice(&f.shard_creation_timestamp.to_le_bytes())?;
+    encoding.extend_from_slice(&f.shard_key_expiry.to_le_bytes())?;
+    encoding.extend_from_slice(&[0; 48])?;
+    encoding.extend_from_slice(&f.stored_bytes_on_disk.to_le_bytes())?;
+    encoding.extend_from_slice(&f.materialized_bytes.to_le_bytes())?;
+    encoding.extend_from_slice(&f.stored_bytes.to_le_bytes())?;
+    encoding.extend_from_slice(&f.footer_offset.to_le_bytes())?;
     Ok(())
 }

@@ -20,17 +20,17 @@ pub type ChunkPlace = (u64, (u32, u32));
 
 /// Appends the lookup table of these records. The caller ensures that their section has fewer than 2^32 rows.
 pub fn push_heads<R: Record, T: Lends<R>>(
-    text: &mut Vec<u8>,
+    encoding: &mut Vec<u8>,
     records: &[T],
 ) -> Result<(), AllocError>
     requires { length (section R.rows_of (map T.lent records.now)) < 2 ^ 32 }
-    ensures { OnOk result (text.new.items ≡ text.old.items ++ record_items_bytes (heads_from R.hash_of R.rows_of 0 (map T.lent records.now))) }
+    ensures { OnOk result (encoding.new.items ≡ encoding.old.items ++ record_items_bytes (heads_from R.hash_of R.rows_of 0 (map T.lent records.now))) }
 {
     let mut row: u32 = 0;
     for item in records {
         let record = item.lend();
-        text.extend_from_slice(&record.hash().word(0).to_le_bytes())?;
-        text.extend_from_slice(&row.to_le_bytes())?;
+        encoding.extend_from_slice(&record.hash().word(0).to_le_bytes())?;
+        encoding.extend_from_slice(&row.to_le_bytes())?;
         row += record.num_rows();
     }
     Ok(())
@@ -38,15 +38,15 @@ pub fn push_heads<R: Record, T: Lends<R>>(
 
 /// Appends the lookup table of these records if `stands`; otherwise it is omitted.
 pub fn push_standing_heads<R: Record, T: Lends<R>>(
-    text: &mut Vec<u8>,
+    encoding: &mut Vec<u8>,
     stands: bool,
     records: &[T],
 ) -> Result<(), AllocError>
     requires { length (section R.rows_of (map T.lent records.now)) < 2 ^ 32 }
-    ensures { OnOk result (text.new.items ≡ text.old.items ++ record_items_bytes (left_in stands (heads_from R.hash_of R.rows_of 0 (map T.lent records.now)))) }
+    ensures { OnOk result (encoding.new.items ≡ encoding.old.items ++ record_items_bytes (left_in stands (heads_from R.hash_of R.rows_of 0 (map T.lent records.now)))) }
 {
     if stands {
-        push_heads::<R, T>(text, records)
+        push_heads::<R, T>(encoding, records)
     } else {
         Ok(())
     }
@@ -55,15 +55,15 @@ pub fn push_standing_heads<R: Record, T: Lends<R>>(
 /// Appends the chunk lookup table of these xorbs if `stands`; otherwise it is omitted.
 pub fn push_standing_places<T: Lends<MDBXorbInfo>>(
     alloc: Global,
-    text: &mut Vec<u8>,
+    encoding: &mut Vec<u8>,
     stands: bool,
     blocks: &[T],
 ) -> Result<(), AllocError>
     requires { length (xorb_section (map T.lent blocks.now)) < 2 ^ 32 }
-    ensures { OnOk result (text.new.items ≡ text.old.items ++ chunk_items_bytes (left_in stands (chunk_items (map T.lent blocks.now)))) }
+    ensures { OnOk result (encoding.new.items ≡ encoding.old.items ++ chunk_items_bytes (left_in stands (chunk_items (map T.lent blocks.now)))) }
 {
     if stands {
-        push_places::<T>(alloc, text, blocks)
+        push_places::<T>(alloc, encoding, blocks)
     } else {
         Ok(())
     }
@@ -72,15 +72,15 @@ pub fn push_standing_places<T: Lends<MDBXorbInfo>>(
 /// Appends the chunk lookup table of these xorbs, sorted by word, row and index.
 pub fn push_places<T: Lends<MDBXorbInfo>>(
     alloc: Global,
-    text: &mut Vec<u8>,
+    encoding: &mut Vec<u8>,
     blocks: &[T],
 ) -> Result<(), AllocError>
     requires { length (xorb_section (map T.lent blocks.now)) < 2 ^ 32 }
-    ensures { OnOk result (text.new.items ≡ text.old.items ++ chunk_items_bytes (chunk_items (map T.lent blocks.now))) }
+    ensures { OnOk result (encoding.new.items ≡ encoding.old.items ++ chunk_items_bytes (chunk_items (map T.lent blocks.now))) }
 {
     let places = chunk_places(alloc, blocks)?;
     for place in &places {
-        push_place(text, place)?;
+        push_place(encoding, place)?;
     }
     Ok(())
 }
@@ -138,12 +138,12 @@ fn in_order(mut places: Vec<ChunkPlace>) -> Result<Vec<ChunkPlace>, AllocError>
 }
 
 /// Appends the encoding of an item of the chunk lookup table.
-fn push_place(text: &mut Vec<u8>, place: &ChunkPlace) -> Result<(), AllocError>
-    ensures { OnOk result (text.new.items ≡ text.old.items ++ chunk_item_bytes (flat_place place.now)) }
+fn push_place(encoding: &mut Vec<u8>, place: &ChunkPlace) -> Result<(), AllocError>
+    ensures { OnOk result (encoding.new.items ≡ encoding.old.items ++ chunk_item_bytes (flat_place place.now)) }
 {
-    text.extend_from_slice(&place.0.to_le_bytes())?;
-    text.extend_from_slice(&place.1.0.to_le_bytes())?;
-    text.extend_from_slice(&place.1.1.to_le_bytes())?;
+    encoding.extend_from_slice(&place.0.to_le_bytes())?;
+    encoding.extend_from_slice(&place.1.0.to_le_bytes())?;
+    encoding.extend_from_slice(&place.1.1.to_le_bytes())?;
     Ok(())
 }
 

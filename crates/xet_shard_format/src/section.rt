@@ -48,8 +48,8 @@ pub trait Record: Drop {
         ensures { Gives (λ r. (r, rows.new)) result (record_at head.now rows.old) };
 
     /// Appends the encoding of its rows.
-    fn push(&self, text: &mut Vec<u8>) -> Result<(), AllocError>
-        ensures text { OnOk result (text.new.items ≡ text.old.items ++ rows_bytes (rows_of self.now)) }
+    fn push(&self, encoding: &mut Vec<u8>) -> Result<(), AllocError>
+        ensures encoding { OnOk result (encoding.new.items ≡ encoding.old.items ++ rows_bytes (rows_of self.now)) }
         ensures fits { OnOk result (AllByRecursion RowFits (rows_of self.now)) };
 }
 
@@ -86,8 +86,8 @@ impl Record for MDBFileInfo {
         record_decoding::file(alloc, head, rows)
     }
 
-    fn push(&self, text: &mut Vec<u8>) -> Result<(), AllocError> {
-        encoding::push_file(text, self)
+    fn push(&self, encoding: &mut Vec<u8>) -> Result<(), AllocError> {
+        encoding::push_file(encoding, self)
     }
 }
 
@@ -117,8 +117,8 @@ impl Record for MDBXorbInfo {
         record_decoding::xorb(alloc, head, rows)
     }
 
-    fn push(&self, text: &mut Vec<u8>) -> Result<(), AllocError> {
-        encoding::push_xorb(text, self)
+    fn push(&self, encoding: &mut Vec<u8>) -> Result<(), AllocError> {
+        encoding::push_xorb(encoding, self)
     }
 }
 

@@ -128,9 +128,9 @@ fn check_heads<R: Record>(
     if len == 0 {
         return Ok(());
     }
-    let mut text = Vec::new(alloc);
-    push_heads::<R, R>(&mut text, records)?;
-    check_lookup(bytes, at, len, &text)
+    let mut encoding = Vec::new(alloc);
+    push_heads::<R, R>(&mut encoding, records)?;
+    check_lookup(bytes, at, len, &encoding)
 }
 
 /// Checks that the chunk lookup table, `len` bytes at offset `at`, is omitted or complete.
@@ -149,23 +149,23 @@ fn check_places(
     if len == 0 {
         return Ok(());
     }
-    let mut text = Vec::new(alloc);
-    push_places::<MDBXorbInfo>(alloc, &mut text, blocks)?;
-    check_lookup(bytes, at, len, &text)
+    let mut encoding = Vec::new(alloc);
+    push_places::<MDBXorbInfo>(alloc, &mut encoding, blocks)?;
+    check_lookup(bytes, at, len, &encoding)
 }
 
-/// Checks that the `len` bytes at offset `at` are `text`, or that `len` is 0.
+/// Checks that the `len` bytes at offset `at` are `encoding`, or that `len` is 0.
 #[tactic(auto, unfolding(crate::specs::Reading::lookup_at))]
-fn check_lookup(bytes: &[u8], at: u64, len: u64, text: &[u8]) -> Result<(), StoreError>
+fn check_lookup(bytes: &[u8], at: u64, len: u64, encoding: &[u8]) -> Result<(), StoreError>
     requires { at + len ≤ length bytes.now }
-    ensures { Gives (λ _. tt) result (lookup_at bytes.now at len text.now) }
+    ensures { Gives (λ _. tt) result (lookup_at bytes.now at len encoding.now) }
 {
     if len == 0 {
         return Ok(());
     }
     let (_, rest) = bytes.split_at(at as usize);
     let (piece, _) = rest.split_at(len as usize);
-    if piece != text {
+    if piece != encoding {
         return Err(StoreError::MalformedData(Reason::Lookup));
     }
     Ok(())

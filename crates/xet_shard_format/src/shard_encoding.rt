@@ -60,7 +60,7 @@ pub fn write_with_lookups<B: Lends<MDBXorbInfo>, F: Lends<MDBFileInfo>>(
 ) -> Result<(Vec<u8>, MDBShardFileFooter), StoreError>
     requires few_files { length (file_section (map F.lent files.now)) < 2 ^ 32 }
     requires few_blocks { length (xorb_section (map B.lent blocks.now)) < 2 ^ 32 }
-    ensures text { IfOk result (λ x. x.0.items ≡ shard_bytes (record { files = lookups.files; xorbs = lookups.xorbs; chunks = lookups.chunks }) (shard (map B.lent blocks.now) (map F.lent files.now) key creation expiry)) }
+    ensures encoding { IfOk result (λ x. x.0.items ≡ shard_bytes (record { files = lookups.files; xorbs = lookups.xorbs; chunks = lookups.chunks }) (shard (map B.lent blocks.now) (map F.lent files.now) key creation expiry)) }
     ensures footer { IfOk result (λ x. x.1 ≡ footer_of (record { files = lookups.files; xorbs = lookups.xorbs; chunks = lookups.chunks }) (shard (map B.lent blocks.now) (map F.lent files.now) key creation expiry)) }
     ensures fits { OnOk result (Fits (shard (map B.lent blocks.now) (map F.lent files.now) key creation expiry)) }
     ensures memory { IsOkUnless result StoreError.OutOfMemory }
@@ -68,13 +68,13 @@ pub fn write_with_lookups<B: Lends<MDBXorbInfo>, F: Lends<MDBFileInfo>>(
     known_hash(&key);
     let all = count::<B, F>(blocks, files);
     let counts = all.standing(lookups);
-    let mut text = Vec::with_capacity(alloc, counts.footer_offset() as usize + 200)?;
-    push_header(&mut text, &HEADER)?;
-    push_section::<MDBFileInfo, F>(&mut text, files)?;
-    push_section::<MDBXorbInfo, B>(&mut text, blocks)?;
-    push_standing_heads::<MDBFileInfo, F>(&mut text, lookups.files, files)?;
-    push_standing_heads::<MDBXorbInfo, B>(&mut text, lookups.xorbs, blocks)?;
-    push_standing_places::<B>(alloc, &mut text, lookups.chunks, blocks)?;
+    let mut encoding = Vec::with_capacity(alloc, counts.footer_offset() as usize + 200)?;
+    push_header(&mut encoding, &HEADER)?;
+    push_section::<MDBFileInfo, F>(&mut encoding, files)?;
+    push_section::<MDBXorbInfo, B>(&mut encoding, blocks)?;
+    push_standing_heads::<MDBFileInfo, F>(&mut encoding, lookups.files, files)?;
+    push_standing_heads::<MDBXorbInfo, B>(&mut encoding, lookups.xorbs, blocks)?;
+    push_standing_places::<B>(alloc, &mut encoding, lookups.chunks, blocks)?;
     let footer = counts.footer(
         key,
         creation,
@@ -82,8 +82,8 @@ pub fn write_with_lookups<B: Lends<MDBXorbInfo>, F: Lends<MDBFileInfo>>(
         materialized::<F>(files),
         stored::<B>(blocks),
     );
-    push_footer(&mut text, &footer)?;
-    Ok((text, footer))
+    push_footer(&mut encoding, &footer)?;
+    Ok((encoding, footer))
 }
 
 /// Counts the rows and the lookup items of the shard of these records, with all lookup tables.

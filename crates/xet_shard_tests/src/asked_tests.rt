@@ -42,12 +42,12 @@ fn shard_of_files(alloc: Global, eight: bool) -> Result<Vec<u8>, StoreError> {
     let g = file_of(alloc, 6);
     let h = file_of(alloc, 7);
     let key = HMACKey::default();
-    let (text, _) = if eight {
+    let (encoding, _) = if eight {
         write_shard(alloc, &[], &[&a, &b, &c, &d, &e, &f, &g, &h], key, 0, 0)?
     } else {
         write_shard(alloc, &[], &[&a, &b, &c, &d, &e, &f, &g], key, 0, 0)?
     };
-    Ok(text)
+    Ok(encoding)
 }
 
 /// The result of a query for a run.
@@ -55,8 +55,8 @@ type Run = Option<(usize, FileDataSequenceEntry)>;
 
 /// What queries to the shard of `abc` in these bytes return: the file's number of segments, the run of its
 /// chunk, and the runs at row 0 and at row 1.
-fn answers(alloc: Global, text: &[u8]) -> Result<(Option<usize>, Run, Run, Run), StoreError> {
-    let mut reader = SliceReader::new(text);
+fn answers(alloc: Global, encoding: &[u8]) -> Result<(Option<usize>, Run, Run, Run), StoreError> {
+    let mut reader = SliceReader::new(encoding);
     let info = MDBShardInfo::load_from_reader(&mut reader)?;
     let chunk = compute_data_hash(b"abc");
     let hash = file_hash(alloc, &[(chunk, 3)])?;
@@ -83,19 +83,19 @@ fn wanted() -> (Option<usize>, Run, Run, Run) {
 #[test]
 fn what_stands_is_found(rt: HostRuntime) -> Result<(), Fail> {
     let alloc = rt.alloc();
-    let (text, _) = shard_of_abc(alloc)?;
-    assert_eq!(rt; answers(alloc, &text)?, wanted());
+    let (encoding, _) = shard_of_abc(alloc)?;
+    assert_eq!(rt; answers(alloc, &encoding)?, wanted());
     Ok(())
 }
 
 #[test]
 fn what_stands_is_found_without_the_look_ups(rt: HostRuntime) -> Result<(), Fail> {
     let alloc = rt.alloc();
-    let (text, _) = shard_of_abc(alloc)?;
-    if text.len() != 672 {
+    let (encoding, _) = shard_of_abc(alloc)?;
+    if encoding.len() != 672 {
         return Err(StoreError::UnexpectedEof.into());
     }
-    let other = without_lookups(alloc, &text)?;
+    let other = without_lookups(alloc, &encoding)?;
     assert_eq!(rt; answers(alloc, &other)?, wanted());
     Ok(())
 }
@@ -103,8 +103,8 @@ fn what_stands_is_found_without_the_look_ups(rt: HostRuntime) -> Result<(), Fail
 #[test]
 fn a_first_word_alone_is_no_run(rt: HostRuntime) -> Result<(), Fail> {
     let alloc = rt.alloc();
-    let (text, info) = shard_of_abc(alloc)?;
-    let mut reader = SliceReader::new(&text);
+    let (encoding, info) = shard_of_abc(alloc)?;
+    let mut reader = SliceReader::new(&encoding);
     let mut bytes = *compute_data_hash(b"abc").as_bytes();
     bytes[31] = 0;
     let query = [MerkleHash::from_bytes(bytes)];
@@ -116,8 +116,8 @@ fn a_first_word_alone_is_no_run(rt: HostRuntime) -> Result<(), Fail> {
 #[test]
 fn seven_files_of_a_first_word_are_told_apart(rt: HostRuntime) -> Result<(), Fail> {
     let alloc = rt.alloc();
-    let text = shard_of_files(alloc, false)?;
-    let mut reader = SliceReader::new(&text);
+    let encoding = shard_of_files(alloc, false)?;
+    let mut reader = SliceReader::new(&encoding);
     let info = MDBShardInfo::load_from_reader(&mut reader)?;
     let file = info.get_file_reconstruction_info(alloc, &mut reader, &hash_of(6))?;
     assert_eq!(rt; file.map(|file| file.hash()), Some(hash_of(6)));
@@ -129,8 +129,8 @@ fn seven_files_of_a_first_word_are_told_apart(rt: HostRuntime) -> Result<(), Fai
 #[test]
 fn eight_files_of_a_first_word_are_refused(rt: HostRuntime) -> Result<(), Fail> {
     let alloc = rt.alloc();
-    let text = shard_of_files(alloc, true)?;
-    let mut reader = SliceReader::new(&text);
+    let encoding = shard_of_files(alloc, true)?;
+    let mut reader = SliceReader::new(&encoding);
     let info = MDBShardInfo::load_from_reader(&mut reader)?;
     let file = info.get_file_reconstruction_info(alloc, &mut reader, &hash_of(6));
     assert_eq!(rt; file.err(), Some(StoreError::TruncatedHashCollision));

@@ -59,8 +59,8 @@ fn shard_of_file(alloc: Global, bytes: &[u8]) -> Result<Written, StoreError> {
 #[test]
 fn chunks_are_hashed_under_the_key(rt: HostRuntime) -> Result<(), Fail> {
     let alloc = rt.alloc();
-    let text = keyed(alloc, &shard_of_abc(alloc)?, true)?;
-    let (blocks, files, footer) = read_shard(alloc, &text)?;
+    let encoding = keyed(alloc, &shard_of_abc(alloc)?, true)?;
+    let (blocks, files, footer) = read_shard(alloc, &encoding)?;
     let key = HMACKey::from_bytes([1; 32]);
     assert_eq!(rt; (blocks.len(), files.len()), (1, 1));
     assert_eq!(rt; footer.chunk_hash_hmac_key, key);
@@ -81,8 +81,8 @@ fn chunks_are_hashed_under_the_key(rt: HostRuntime) -> Result<(), Fail> {
 #[test]
 fn a_keyed_shard_is_asked_by_plain_hashes(rt: HostRuntime) -> Result<(), Fail> {
     let alloc = rt.alloc();
-    let text = keyed(alloc, &shard_of_abc(alloc)?, true)?;
-    let mut reader = SliceReader::new(&text);
+    let encoding = keyed(alloc, &shard_of_abc(alloc)?, true)?;
+    let mut reader = SliceReader::new(&encoding);
     let info = MDBShardInfo::load_from_reader(&mut reader)?;
     let chunk = compute_data_hash(b"abc");
     let run = info.chunk_hash_dedup_query(alloc, &mut reader, &[chunk])?;
@@ -94,9 +94,9 @@ fn a_keyed_shard_is_asked_by_plain_hashes(rt: HostRuntime) -> Result<(), Fail> {
 fn files_and_look_ups_are_left_out(rt: HostRuntime) -> Result<(), Fail> {
     let alloc = rt.alloc();
     let shard = shard_of_abc(alloc)?;
-    let text = keyed(alloc, &shard, false)?;
-    assert_eq!(rt; (shard.0.len(), text.len()), (672, 440));
-    let (blocks, files, _) = read_shard(alloc, &text)?;
+    let encoding = keyed(alloc, &shard, false)?;
+    assert_eq!(rt; (shard.0.len(), encoding.len()), (672, 440));
+    let (blocks, files, _) = read_shard(alloc, &encoding)?;
     assert_eq!(rt; (blocks.len(), files.len()), (1, 0));
     Ok(())
 }
@@ -106,16 +106,16 @@ fn a_union_has_each_file_once(rt: HostRuntime) -> Result<(), Fail> {
     let alloc = rt.alloc();
     let abc = shard_of_abc(alloc)?;
     let abd = shard_of(alloc, b"abd")?;
-    let text = union(alloc, &abc, &abd)?;
-    let (blocks, files, _) = read_shard(alloc, &text)?;
-    assert_eq!(rt; (text.len(), blocks.len(), files.len()), (1_000, 2, 2));
+    let encoding = union(alloc, &abc, &abd)?;
+    let (blocks, files, _) = read_shard(alloc, &encoding)?;
+    assert_eq!(rt; (encoding.len(), blocks.len(), files.len()), (1_000, 2, 2));
     assert_eq!(rt; union(alloc, &abc, &abc)?.len(), 672);
     Ok(())
 }
 
 /// The file name of the shard with these bytes.
-fn name_of(alloc: Global, text: &[u8]) -> Result<String, StoreError> {
-    shard_file_name(alloc, &compute_data_hash(text))
+fn name_of(alloc: Global, encoding: &[u8]) -> Result<String, StoreError> {
+    shard_file_name(alloc, &compute_data_hash(encoding))
 }
 
 /// The names of the empty shard and of the union of those of `abc` and `abd`. The expected ones were computed
@@ -140,9 +140,9 @@ fn names_of_the_empty_shard_and_of_a_union(rt: HostRuntime) -> Result<(), Fail> 
 fn there_is_no_union_with_a_keyed_shard(rt: HostRuntime) -> Result<(), Fail> {
     let alloc = rt.alloc();
     let abc = shard_of_abc(alloc)?;
-    let text = keyed(alloc, &abc, true)?;
-    let info = MDBShardInfo::load_from_reader(&mut SliceReader::new(&text))?;
-    let none = union(alloc, &abc, &(text, info));
+    let encoding = keyed(alloc, &abc, true)?;
+    let info = MDBShardInfo::load_from_reader(&mut SliceReader::new(&encoding))?;
+    let none = union(alloc, &abc, &(encoding, info));
     assert_eq!(rt; none.err(), Some(StoreError::InvalidArguments));
     Ok(())
 }

@@ -10,10 +10,10 @@ use xet_io::SliceReader;
 use xet_shard::*;
 
 /// The same shard without its lookup tables, which are the 40 bytes before the footer.
-pub(crate) fn without_lookups(alloc: Global, text: &[u8]) -> Result<Vec<u8>, StoreError>
-    requires { length text.now ≡ 672 }
+pub(crate) fn without_lookups(alloc: Global, encoding: &[u8]) -> Result<Vec<u8>, StoreError>
+    requires { length encoding.now ≡ 672 }
 {
-    let (sections, rest) = text.split_at(432);
+    let (sections, rest) = encoding.split_at(432);
     let (_, footer) = rest.split_at(40);
     let (places, rest) = footer.split_at(24);
     let (_, rest) = rest.split_at(48);
@@ -32,8 +32,8 @@ pub(crate) fn without_lookups(alloc: Global, text: &[u8]) -> Result<Vec<u8>, Sto
 #[test]
 fn are_found(rt: HostRuntime) -> Result<(), Fail> {
     let alloc = rt.alloc();
-    let (text, written) = shard_of_abc(alloc)?;
-    let mut reader = SliceReader::new(&text);
+    let (encoding, written) = shard_of_abc(alloc)?;
+    let mut reader = SliceReader::new(&encoding);
     let info = MDBShardInfo::load_from_reader(&mut reader)?;
     let chunk = compute_data_hash(b"abc");
     let head = XorbChunkSequenceHeader::new(chunk, 1, 3);
@@ -71,11 +71,11 @@ fn lookups_are_of(
 #[test]
 fn are_found_without_the_lookups(rt: HostRuntime) -> Result<(), Fail> {
     let alloc = rt.alloc();
-    let (text, _) = shard_of_abc(alloc)?;
-    if text.len() != 672 {
+    let (encoding, _) = shard_of_abc(alloc)?;
+    if encoding.len() != 672 {
         return Err(StoreError::UnexpectedEof.into());
     }
-    let other = without_lookups(alloc, &text)?;
+    let other = without_lookups(alloc, &encoding)?;
     let mut reader = SliceReader::new(&other);
     let info = MDBShardInfo::load_from_reader(&mut reader)?;
     let lookups = lookups_are_of(alloc, &info, &mut reader, compute_data_hash(b"abc"))?;
@@ -86,8 +86,8 @@ fn are_found_without_the_lookups(rt: HostRuntime) -> Result<(), Fail> {
 #[test]
 fn are_refused_past_the_end(rt: HostRuntime) -> Result<(), Fail> {
     let alloc = rt.alloc();
-    let (text, mut info) = shard_of_abc(alloc)?;
-    let mut reader = SliceReader::new(&text);
+    let (encoding, mut info) = shard_of_abc(alloc)?;
+    let mut reader = SliceReader::new(&encoding);
     info.metadata.chunk_lookup_num_entry = u64::MAX;
     let chunks = matches!(
         info.read_all_truncated_hashes(alloc, &mut reader),

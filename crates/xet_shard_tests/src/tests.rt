@@ -7,10 +7,10 @@ use xet_shard::*;
 #[test]
 fn an_empty_shard(rt: HostRuntime) -> Result<(), Fail> {
     let alloc = rt.alloc();
-    let (text, info) = write_shard(alloc, &[], &[], HMACKey::default(), 0, 0)?;
-    assert!(rt; text.len() == 344);
+    let (encoding, info) = write_shard(alloc, &[], &[], HMACKey::default(), 0, 0)?;
+    assert!(rt; encoding.len() == 344);
     assert!(rt; info.metadata.footer_offset == 144);
-    let (blocks, files, footer) = read_shard(alloc, &text)?;
+    let (blocks, files, footer) = read_shard(alloc, &encoding)?;
     assert!(rt; blocks.is_empty());
     assert!(rt; files.is_empty());
     assert!(rt; footer == info.metadata);

@@ -156,12 +156,12 @@ all_readable [] h = tt
 all_readable (c ∷ cs) h = (h.0, all_readable cs h.1)
 
 -- a xorb's text under its name is what backs the leaves of its chunks
-pub backed_by_text : (files : Files) (folder h text : List ℕ) (chunks : List Chunk) → AllByRecursion (λ c. c.hash ≡ chunk_hash c.bytes) chunks → AllByRecursion (λ c. length c.bytes < 2 ^ 23) chunks
-    → IsXorbEncoding text (map bytes_of_chunk chunks) → h ≡ xorb_hash (map chunk_leaf chunks) → bytes_at files (xorb_path folder h) ≡ Some text → IsBacked files folder h (map chunk_leaf chunks)
-backed_by_text files folder h text chunks digests small is_text is_hash there =
+pub backed_by_encoding : (files : Files) (folder h encoding : List ℕ) (chunks : List Chunk) → AllByRecursion (λ c. c.hash ≡ chunk_hash c.bytes) chunks → AllByRecursion (λ c. length c.bytes < 2 ^ 23) chunks
+    → IsXorbEncoding encoding (map bytes_of_chunk chunks) → h ≡ xorb_hash (map chunk_leaf chunks) → bytes_at files (xorb_path folder h) ≡ Some encoding → IsBacked files folder h (map chunk_leaf chunks)
+backed_by_encoding files folder h encoding chunks digests small is_text is_hash there =
     let same : map chunk_leaf chunks ≡ leaves_of (map bytes_of_chunk chunks) = leaves_are chunks (All-from_recursion _ chunks digests) in record {
       chunks = map bytes_of_chunk chunks;
-      stored = record { bytes = text; there = there; text = is_text; readable = all_readable chunks small; hash = sym (is_hash ∙ ap xorb_hash same) };
+      stored = record { bytes = encoding; there = there; encoding = is_text; readable = all_readable chunks small; hash = sym (is_hash ∙ ap xorb_hash same) };
       same = sym same;
     }
 
@@ -175,13 +175,13 @@ module _ (raw : RawXorbData) (chunks : List Chunk) (boundaries : List ℕ) (exac
       copied ∙ ap (λ (r : RawXorbData). r.xorb_info) exact ∙ ap (λ (x : List ℕ). xorb_record x (map chunk_leaf chunks)) (sym raw_hash) ∙ ap (xorb_record h) (sym same)
 
   -- its text is a xorb of their bytes
-  pub raw_text : (text : List ℕ) → AllByRecursion (λ c. c.hash ≡ chunk_hash c.bytes) chunks → 0 < length chunks → raw_leaves raw ≡ map chunk_leaf chunks
-      → (0 < length raw.parts → raw_leaves raw ≡ leaves_of raw.parts → raw.xorb_info.metadata.xorb_hash ≡ xorb_hash (leaves_of raw.parts) → IsXorbEncoding text raw.parts) → IsXorbEncoding text (map bytes_of_chunk chunks)
-  raw_text text digests some leaves is_text =
+  pub raw_encoding : (encoding : List ℕ) → AllByRecursion (λ c. c.hash ≡ chunk_hash c.bytes) chunks → 0 < length chunks → raw_leaves raw ≡ map chunk_leaf chunks
+      → (0 < length raw.parts → raw_leaves raw ≡ leaves_of raw.parts → raw.xorb_info.metadata.xorb_hash ≡ xorb_hash (leaves_of raw.parts) → IsXorbEncoding encoding raw.parts) → IsXorbEncoding encoding (map bytes_of_chunk chunks)
+  raw_encoding encoding digests some leaves is_text =
       let parts : raw.parts ≡ map bytes_of_chunk chunks = ap (λ (r : RawXorbData). r.parts) exact in
       let same : map chunk_leaf chunks ≡ leaves_of raw.parts = leaves_are chunks (All-from_recursion _ chunks digests) ∙ ap leaves_of (sym parts) in
       let many : length raw.parts ≡ length chunks = ap length parts ∙ length-map chunks bytes_of_chunk in
-      subst (λ (l : List (List ℕ)). IsXorbEncoding text l) parts (is_text (omega arith) (leaves ∙ same) (sym hash ∙ raw_hash ∙ ap xorb_hash same))
+      subst (λ (l : List (List ℕ)). IsXorbEncoding encoding l) parts (is_text (omega arith) (leaves ∙ same) (sym hash ∙ raw_hash ∙ ap xorb_hash same))
 
 -- chunks that a xorb may have
 pub parts_fit : (chunks : List Chunk) → AllByRecursion (λ c. length c.bytes < 2 ^ 23) chunks → length chunks ≤ 65536 → total chunks ≤ 2 ^ 30 → ArePartsOfXorb (map bytes_of_chunk chunks)
@@ -198,7 +198,7 @@ parts_fit chunks small count bytes = record {
 -- ---- a put of a xorb, in a folder by another name
 
 -- What it shows of the disk, done or not.
-pub record PutsXorb (s : State) (folder h text : List ℕ) (leaves : Leaves) (tells : Bool) (files : Files) (faults : ℕ) : Type 0 where
+pub record PutsXorb (s : State) (folder h encoding : List ℕ) (leaves : Leaves) (tells : Bool) (files : Files) (faults : ℕ) : Type 0 where
   pub sound : Sound s
   pub same : folder ≡ s.folder
   pub tells_same : tells ≡ s.tells
@@ -207,17 +207,17 @@ pub record PutsXorb (s : State) (folder h text : List ℕ) (leaves : Leaves) (te
   pub xorbs : s.tells ≡ true → (k : List ℕ) → IsHash k → k ≢ h → SameEntry s.files files (xorb_path folder k)
   pub shards : s.tells ≡ true → (k : List ℕ) → IsHash k → SameEntry s.files files (shard_path folder k)
   pub foreign : s.tells ≡ true → (name : List ℕ) → IsForeign folder name → SameEntry s.files files name
-  pub backs : bytes_at files (xorb_path s.folder h) ≡ Some text → IsBacked files s.folder h leaves
-  pub left : s.tells ≡ true → IsKeptOrDone s.files files (xorb_path folder h) text
+  pub backs : bytes_at files (xorb_path s.folder h) ≡ Some encoding → IsBacked files s.folder h leaves
+  pub left : s.tells ≡ true → IsKeptOrDone s.files files (xorb_path folder h) encoding
 
-module _ {s : State} {folder h text : List ℕ} {leaves : Leaves} {tells : Bool} {files : Files} {faults : ℕ} (p : PutsXorb s folder h text leaves tells files faults) where
+module _ {s : State} {folder h encoding : List ℕ} {leaves : Leaves} {tells : Bool} {files : Files} {faults : ℕ} (p : PutsXorb s folder h encoding leaves tells files faults) where
   shards_here : s.tells ≡ true → (k : List ℕ) → IsHash k → SameEntry s.files files (shard_path s.folder k)
   shards_here told k is = subst (λ (f : List ℕ). SameEntry s.files files (shard_path f k)) p.same (p.shards told k is)
 
   left_here : s.tells ≡ true → SameEntry s.files files (xorb_path s.folder h) ⊎ HasXorb files s.folder h
-  left_here told = go (subst (λ (f : List ℕ). IsKeptOrDone s.files files (xorb_path f h) text) p.same (p.left told))
+  left_here told = go (subst (λ (f : List ℕ). IsKeptOrDone s.files files (xorb_path f h) encoding) p.same (p.left told))
     where
-      go : IsKeptOrDone s.files files (xorb_path s.folder h) text → SameEntry s.files files (xorb_path s.folder h) ⊎ HasXorb files s.folder h
+      go : IsKeptOrDone s.files files (xorb_path s.folder h) encoding → SameEntry s.files files (xorb_path s.folder h) ⊎ HasXorb files s.folder h
       go (inl e) = inl e
       go (inr done) = let b = p.backs done.there in inr (record { chunks = b.chunks; stored = b.stored; durable = done.durable })
 
@@ -235,9 +235,9 @@ module _ {s : State} {folder h text : List ℕ} {leaves : Leaves} {tells : Bool}
   -- done
   module _ {xorbs : Xorbs} {pending : Held} (listed : xorbs ≡ s.xorbs ++ (h, leaves) ∷ [])
       (held : pending ≡ record { blocks = with_last record_of.xorb_hash s.pending.blocks (xorb_record h leaves); files = s.pending.files }) where
-    pub put_sound : IsHash h → IsHeld pending → (s.tells ≡ true → bytes_at files (xorb_path folder h) ≡ Some text) → Sound (changed s tells files faults xorbs s.records s.shards pending)
+    pub put_sound : IsHash h → IsHeld pending → (s.tells ≡ true → bytes_at files (xorb_path folder h) ≡ Some encoding) → Sound (changed s tells files faults xorbs s.records s.shards pending)
     put_sound is form there = sound_added_at s h leaves tells files faults xorb_stays p.sound listed held p.none is form
-        (λ told. p.backs (subst (λ (f : List ℕ). bytes_at files (xorb_path f h) ≡ Some text) p.same (there told))) shards_here
+        (λ told. p.backs (subst (λ (f : List ℕ). bytes_at files (xorb_path f h) ≡ Some encoding) p.same (there told))) shards_here
 
     pub put_keeps : (s.tells ≡ true → IsDurable files (xorb_path folder h)) → (t : State) → s ≡ t → Keeps t (changed s tells files faults xorbs s.records s.shards pending)
     put_keeps durable t e = keeps_added_at s h leaves tells files faults xorb_stays p.sound listed held (λ told. subst (λ (f : List ℕ). IsDurable files (xorb_path f h)) p.same (durable told)) t e

@@ -157,10 +157,10 @@ module _ (s : State) (sound : Sound s) (shard : IsShard (held_shard s.pending s.
       go (inr (f, among, of)) = of_files (by_hash file_hash s.pending.files) f files_recorded (to_among (by_hash file_hash s.pending.files) f among) of
 
   -- where the listed xorbs are stored, it holds
-  text_holds : (files : Files) (h : List ℕ) (file : File) → AreBacked files s.folder s.xorbs → h ≡ shard_hash (pending_bytes s) → file.bytes ≡ pending_bytes s
+  encoding_holds : (files : Files) (h : List ℕ) (file : File) → AreBacked files s.folder s.xorbs → h ≡ shard_hash (pending_bytes s) → file.bytes ≡ pending_bytes s
       → ShardHolds files s.folder (record { hash = h; file = file })
   unfolding footer_of
-  text_holds files h file backed hash is = record {
+  encoding_holds files h file backed hash is = record {
     parts = parts;
     read = ap all_of is ∙ read_again s.pending s.opened shard fits;
     named = ap shard_hash is ∙ sym hash;
@@ -180,7 +180,7 @@ module _ (s : State) (h : List ℕ) (tells : Bool) (files : Files) (faults : ℕ
   pub whole_there : s.tells ≡ true → IsDone files (shard_path s.folder h) (pending_bytes s) → HasWholeShard (changed s tells files faults s.xorbs s.records s.shards s.pending) h
   whole_there told done =
       let f = file_there files (shard_path s.folder h) (pending_bytes s) done.there in record {
-        shard = record { file = f.0; there = f.1; durable = done.durable; holds = text_holds s sound shard fits files h f.0 (backed_after told) hash f.2 };
+        shard = record { file = f.0; there = f.1; durable = done.durable; holds = encoding_holds s sound shard fits files h f.0 (backed_after told) hash f.2 };
         listed = named_listed s sound shard fits (f.0).bytes f.2;
       }
 
@@ -201,8 +201,8 @@ module _ (s : State) (h : List ℕ) (tells : Bool) (files : Files) (faults : ℕ
     others_same : s.tells ≡ true → (k : List ℕ) → IsHash k → k ≢ h → file_at files (shard_path s.folder k) ≡ file_at s.files (shard_path s.folder k)
     others_same told k is apart = same_file_at s.files files (shard_path s.folder k) (others told k is apart)
 
-    valid_text : (file : File) → file.bytes ≡ pending_bytes s → is_expired s.opened file.bytes ≡ false
-    valid_text file is = ap (is_expired s.opened) is ∙ not_expired s.pending s.opened shard fits
+    valid_encoding : (file : File) → file.bytes ≡ pending_bytes s → is_expired s.opened file.bytes ≡ false
+    valid_encoding file is = ap (is_expired s.opened) is ∙ not_expired s.pending s.opened shard fits
 
     -- with the shard registered
     pub admitted_put : s.tells ≡ true → IsDone files (shard_path s.folder h) (pending_bytes s) → IsAdmitted files s.folder s.opened s.xorbs (s.shards ++ h ∷ [])
@@ -210,9 +210,9 @@ module _ (s : State) (h : List ℕ) (tells : Bool) (files : Files) (faults : ℕ
     admitted_put told done =
         let f = file_there files (shard_path s.folder h) (pending_bytes s) done.there in
         let w = whole_there told done in
-        let still = registered_still s.files files s.folder s.opened s.xorbs s.xorbs s.shards (λ k is. is) (xorbs_same told) (sound.admitted told) h f.0 is_hash f.1 (valid_text f.0 f.2) w.shard.holds w.listed (others_same told) in
-        let this = this_registered s.files files s.folder s.opened s.xorbs s.xorbs s.shards (λ k is. is) (xorbs_same told) (sound.admitted told) h f.0 is_hash f.1 (valid_text f.0 f.2) w.shard.holds w.listed (others_same told) in
-        admitted_with s.files files s.folder s.opened s.xorbs s.xorbs s.shards (λ k is. is) (xorbs_same told) (sound.admitted told) h f.0 is_hash f.1 (valid_text f.0 f.2) w.shard.holds w.listed (others_same told)
+        let still = registered_still s.files files s.folder s.opened s.xorbs s.xorbs s.shards (λ k is. is) (xorbs_same told) (sound.admitted told) h f.0 is_hash f.1 (valid_encoding f.0 f.2) w.shard.holds w.listed (others_same told) in
+        let this = this_registered s.files files s.folder s.opened s.xorbs s.xorbs s.shards (λ k is. is) (xorbs_same told) (sound.admitted told) h f.0 is_hash f.1 (valid_encoding f.0 f.2) w.shard.holds w.listed (others_same told) in
+        admitted_with s.files files s.folder s.opened s.xorbs s.xorbs s.shards (λ k is. is) (xorbs_same told) (sound.admitted told) h f.0 is_hash f.1 (valid_encoding f.0 f.2) w.shard.holds w.listed (others_same told)
         (s.shards ++ h ∷ []) (all_push _ s.shards h still this)
 
     -- and where it is not
@@ -227,8 +227,8 @@ module _ (s : State) (h : List ℕ) (tells : Bool) (files : Files) (faults : ℕ
         go (inr done) =
             let f = file_there files (shard_path s.folder h) (pending_bytes s) done.there in
             let w = whole_there told done in
-            let still = registered_still s.files files s.folder s.opened s.xorbs s.xorbs s.shards (λ k is. is) (xorbs_same told) (sound.admitted told) h f.0 is_hash f.1 (valid_text f.0 f.2) w.shard.holds w.listed (others_same told) in
-            admitted_with s.files files s.folder s.opened s.xorbs s.xorbs s.shards (λ k is. is) (xorbs_same told) (sound.admitted told) h f.0 is_hash f.1 (valid_text f.0 f.2) w.shard.holds w.listed (others_same told) s.shards still
+            let still = registered_still s.files files s.folder s.opened s.xorbs s.xorbs s.shards (λ k is. is) (xorbs_same told) (sound.admitted told) h f.0 is_hash f.1 (valid_encoding f.0 f.2) w.shard.holds w.listed (others_same told) in
+            admitted_with s.files files s.folder s.opened s.xorbs s.xorbs s.shards (λ k is. is) (xorbs_same told) (sound.admitted told) h f.0 is_hash f.1 (valid_encoding f.0 f.2) w.shard.holds w.listed (others_same told) s.shards still
 
 -- ---- the shard is registered, and nothing is pending
 
@@ -345,24 +345,24 @@ nothing_done s = unput_at s s refl refl refl refl refl
 -- ---- a put of the shard, in a folder by another name
 
 -- What it shows of the disk, done or not.
-pub record PutsShard (s : State) (folder h text : List ℕ) (tells : Bool) (files : Files) (faults : ℕ) : Type 0 where
+pub record PutsShard (s : State) (folder h encoding : List ℕ) (tells : Bool) (files : Files) (faults : ℕ) : Type 0 where
   pub sound : Sound s
   pub same : folder ≡ s.folder
   pub tells_same : tells ≡ s.tells
   pub later : s.faults ≤ faults
   pub new : Among s.shards h → ⊥
   pub is_hash : IsHash h
-  pub hash : h ≡ shard_hash text
-  pub is : text ≡ pending_bytes s
+  pub hash : h ≡ shard_hash encoding
+  pub is : encoding ≡ pending_bytes s
   pub shard : IsShard (held_shard s.pending s.opened None)
   pub fits : Fits (held_shard s.pending s.opened None)
   pub xorbs : s.tells ≡ true → (k : List ℕ) → IsHash k → SameEntry s.files files (xorb_path folder k)
   pub shards : s.tells ≡ true → (k : List ℕ) → IsHash k → k ≢ h → SameEntry s.files files (shard_path folder k)
   pub others : s.tells ≡ true → KeepsOtherNames s.files files (shard_path folder h)
   pub foreign : s.tells ≡ true → (name : List ℕ) → IsForeign folder name → SameEntry s.files files name
-  pub left : s.tells ≡ true → IsKeptOrDone s.files files (shard_path folder h) text
+  pub left : s.tells ≡ true → IsKeptOrDone s.files files (shard_path folder h) encoding
 
-module _ {s : State} {folder h text : List ℕ} {tells : Bool} {files : Files} {faults : ℕ} (p : PutsShard s folder h text tells files faults) where
+module _ {s : State} {folder h encoding : List ℕ} {tells : Bool} {files : Files} {faults : ℕ} (p : PutsShard s folder h encoding tells files faults) where
   hash_here : h ≡ shard_hash (pending_bytes s)
   hash_here = p.hash ∙ ap shard_hash p.is
 
@@ -377,7 +377,7 @@ module _ {s : State} {folder h text : List ℕ} {tells : Bool} {files : Files} {
 
   left_here : s.tells ≡ true → IsKeptOrDone s.files files (shard_path s.folder h) (pending_bytes s)
   left_here told =
-      subst (λ (t : List ℕ). IsKeptOrDone s.files files (shard_path s.folder h) t) p.is (subst (λ (f : List ℕ). IsKeptOrDone s.files files (shard_path f h) text) p.same (p.left told))
+      subst (λ (t : List ℕ). IsKeptOrDone s.files files (shard_path s.folder h) t) p.is (subst (λ (f : List ℕ). IsKeptOrDone s.files files (shard_path f h) encoding) p.same (p.left told))
 
   put_stays : StateStays s tells files faults
   put_stays =
@@ -397,9 +397,9 @@ module _ {s : State} {folder h text : List ℕ} {tells : Bool} {files : Files} {
       unput_refused t e = unflushed_at s h tells files faults hash_here others_here left_here t e ex er es ep
 
   -- done
-  module _ {shards : List (List ℕ)} {pending : Held} (registered : shards ≡ s.shards ++ h ∷ []) (none : pending ≡ nothing) (done : s.tells ≡ true → IsDone files (shard_path folder h) text) where
+  module _ {shards : List (List ℕ)} {pending : Held} (registered : shards ≡ s.shards ++ h ∷ []) (none : pending ≡ nothing) (done : s.tells ≡ true → IsDone files (shard_path folder h) encoding) where
     done_here : s.tells ≡ true → IsDone files (shard_path s.folder h) (pending_bytes s)
-    done_here told = subst (λ (t : List ℕ). IsDone files (shard_path s.folder h) t) p.is (subst (λ (f : List ℕ). IsDone files (shard_path f h) text) p.same (done told))
+    done_here told = subst (λ (t : List ℕ). IsDone files (shard_path s.folder h) t) p.is (subst (λ (f : List ℕ). IsDone files (shard_path f h) encoding) p.same (done told))
 
     pub put_sound : Sound (changed s tells files faults s.xorbs s.records shards pending)
     put_sound = sound_flushed_at s h tells files faults put_stays p.sound registered none p.is_hash p.shard p.fits (λ told. (done_here told).there)

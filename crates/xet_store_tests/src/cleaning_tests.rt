@@ -1,6 +1,6 @@
 //! Tests of cleaning and flushing. What a session shows is collected first, and then compared at once.
 
-use crate::folders::{Listed, hash_of, read_listed, text_of};
+use crate::folders::{Listed, hash_of, read_listed, encoding_of};
 use crate::session::{Session, bytes_of};
 use std::alloc::Global;
 use std::test::Fail;
@@ -23,8 +23,8 @@ fn made(
 
 /// Whether a pointer record has the hash and the length of `abc`.
 fn is_abc(alloc: Global, info: &XetFileInfo) -> Result<bool, StoreError> {
-    let text = info.hash.hex(alloc)?;
-    Ok(text.as_str() == ABC && info.file_size == 3)
+    let encoding = info.hash.hex(alloc)?;
+    Ok(encoding.as_str() == ABC && info.file_size == 3)
 }
 
 /// Whether a session of the file `abc` alone has a plan of one whole xorb for it, and lists nothing else.
@@ -40,10 +40,10 @@ fn plans_abc(session: &Session, info: &XetFileInfo) -> Result<bool, StoreError> 
 }
 
 /// Whether these are the bytes of the xorb of `abc`, except for its hashes.
-fn is_xorb_of_abc(text: &[u8]) -> bool {
-    text.len() == 147
-        && text.starts_with(&[0, 3, 0, 0, 0, 3, 0, 0, 0x61, 0x62, 0x63])
-        && text.ends_with(&[0x84, 0, 0, 0])
+fn is_xorb_of_abc(encoding: &[u8]) -> bool {
+    encoding.len() == 147
+        && encoding.starts_with(&[0, 3, 0, 0, 0, 3, 0, 0, 0x61, 0x62, 0x63])
+        && encoding.ends_with(&[0x84, 0, 0, 0])
 }
 
 /// Whether the pointer record and the plan of `abc` are right.
@@ -61,8 +61,8 @@ fn records_abc(
 /// Whether the xorb of `abc` is right.
 fn stores_abc(alloc: Global, disk: &MemoryDisk) -> Result<bool, StoreError> {
     let name = xorb_path(alloc, "store", &compute_data_hash(b"abc"))?;
-    let text = bytes_of(alloc, disk, name.as_str())?;
-    Ok(is_xorb_of_abc(&text))
+    let encoding = bytes_of(alloc, disk, name.as_str())?;
+    Ok(is_xorb_of_abc(&encoding))
 }
 
 /// Joins a result of two values and a result of one.
@@ -188,15 +188,15 @@ fn flushes_twice(
 }
 
 /// The bytes of a shard that was flushed, and whether its name is that of its digest.
-fn flushed_text(
+fn flushed_encoding(
     alloc: Global,
     disk: &MemoryDisk,
     flushed: Result<(MerkleHash, bool), StoreError>,
 ) -> Result<(Vec<u8>, bool, bool), StoreError> {
     let (shard, idle) = flushed?;
-    let text = text_of(alloc, disk, &shard)?;
-    let named = compute_data_hash(&text) == shard;
-    Ok((text, named, idle))
+    let encoding = encoding_of(alloc, disk, &shard)?;
+    let named = compute_data_hash(&encoding) == shard;
+    Ok((encoding, named, idle))
 }
 
 /// Cleans `abc` and flushes: the bytes of the shard, whether its name is that of its digest, and whether
@@ -205,7 +205,7 @@ fn flushes_abc(alloc: Global) -> Result<(Vec<u8>, bool, bool), StoreError> {
     let (mut session, info) = made(alloc, b"abc")?;
     let flushed = flushes_twice(&mut session, hash_of(&info));
     let disk = session.into_disk();
-    flushed_text(alloc, &disk, flushed)
+    flushed_encoding(alloc, &disk, flushed)
 }
 
 /// Whether only `abc` is listed, and the offset of the footer.
@@ -219,16 +219,16 @@ fn is_only_abc(alloc: Global, listed: &Listed) -> Result<(bool, u64), StoreError
 }
 
 /// Whether these bytes are a shard of `abc` alone, and the offset of its footer.
-fn lists_abc(alloc: Global, text: &[u8]) -> Result<(bool, u64), StoreError> {
-    let listed = read_listed(alloc, text)?;
+fn lists_abc(alloc: Global, encoding: &[u8]) -> Result<(bool, u64), StoreError> {
+    let listed = read_listed(alloc, encoding)?;
     is_only_abc(alloc, &listed)
 }
 
 #[test]
 fn flushes_what_is_pending(rt: HostRuntime) -> Result<(), Fail> {
     let alloc = rt.alloc();
-    let (text, named, idle) = flushes_abc(alloc)?;
-    assert_eq!(rt; (text.len(), named, idle), (672, true, true));
-    assert_eq!(rt; lists_abc(alloc, &text)?, (true, 472));
+    let (encoding, named, idle) = flushes_abc(alloc)?;
+    assert_eq!(rt; (encoding.len(), named, idle), (672, true, true));
+    assert_eq!(rt; lists_abc(alloc, &encoding)?, (true, 472));
     Ok(())
 }

@@ -18,9 +18,9 @@ use xet_xorb_chunk::Chunk;
 /// A disk on which the xorb of `abc` is stored.
 fn stored(alloc: Global) -> Result<MemoryDisk, StoreError> {
     let chunks = [Chunk::new(Bytes::from_static(b"abc"))];
-    let text = xorb_bytes(alloc, &chunks)?;
+    let encoding = xorb_bytes(alloc, &chunks)?;
     let mut disk = MemoryDisk::new(alloc);
-    put_xorb(&mut disk, alloc, "store", &compute_data_hash(b"abc"), &text)?;
+    put_xorb(&mut disk, alloc, "store", &compute_data_hash(b"abc"), &encoding)?;
     Ok(disk)
 }
 

@@ -67,13 +67,13 @@ pub fn put_changed(
     at: usize,
     number: u64,
 ) -> Result<MerkleHash, StoreError> {
-    let mut bytes = text_of(alloc, disk, shard)?;
+    let mut bytes = encoding_of(alloc, disk, shard)?;
     change(&mut bytes, at, number);
     put_shard(alloc, disk, &bytes)
 }
 
 /// The bytes of a shard.
-pub fn text_of(
+pub fn encoding_of(
     alloc: Global,
     disk: &MemoryDisk,
     shard: &MerkleHash,
@@ -100,8 +100,8 @@ fn change(bytes: &mut Vec<u8>, at: usize, number: u64) {
 }
 
 /// What the bytes of a shard list.
-pub fn read_listed(alloc: Global, text: &[u8]) -> Result<Listed, StoreError> {
-    let (blocks, files, footer) = read_shard(alloc, text)?;
+pub fn read_listed(alloc: Global, encoding: &[u8]) -> Result<Listed, StoreError> {
+    let (blocks, files, footer) = read_shard(alloc, encoding)?;
     let mut listed = Listed {
         xorbs: Vec::new(alloc),
         files: Vec::new(alloc),

@@ -1,6 +1,6 @@
 //! Tests of stores that are opened over the files of another store.
 
-use crate::folders::{CREATION, EXPIRY, Flushed, put_changed, text_of, written};
+use crate::folders::{CREATION, EXPIRY, Flushed, put_changed, encoding_of, written};
 use crate::session::{NOW, Session, Unopened, bytes_of, put_bytes, refusal, remove};
 use std::alloc::Global;
 use std::test::Fail;
@@ -235,24 +235,24 @@ fn a_changed_byte_of_a_xorb(rt: HostRuntime) -> Result<(), Fail> {
 }
 
 /// The bytes of a shard that was written.
-fn written_text(
+fn written_encoding(
     alloc: Global,
     disk: &MemoryDisk,
     abc: Result<Flushed, StoreError>,
 ) -> Result<Vec<u8>, StoreError> {
-    text_of(alloc, disk, &abc?.shard)
+    encoding_of(alloc, disk, &abc?.shard)
 }
 
 /// The bytes of the shard of `abc`.
 fn shard_of_abc(alloc: Global) -> Result<Vec<u8>, StoreError> {
     let (disk, abc) = written(alloc, MemoryDisk::new(alloc), b"abc")?;
-    written_text(alloc, &disk, abc)
+    written_encoding(alloc, &disk, abc)
 }
 
 /// Writes bytes under the name of the shard whose hash is zero.
-fn put_zeros(alloc: Global, disk: &mut MemoryDisk, text: &[u8]) -> Result<(), StoreError> {
+fn put_zeros(alloc: Global, disk: &mut MemoryDisk, encoding: &[u8]) -> Result<(), StoreError> {
     let name = shard_path(alloc, "store", &MerkleHash::default())?;
-    put_bytes(disk, name.as_str(), text)
+    put_bytes(disk, name.as_str(), encoding)
 }
 
 /// The error, and whether it comes with the name for the hash zero.
@@ -271,9 +271,9 @@ fn told_zeros(
 /// Opens a folder in which the shard of `abc` has the name for the hash zero: the error, and whether it comes
 /// with that name.
 fn opens_renamed(alloc: Global) -> Result<Option<(StoreError, bool)>, StoreError> {
-    let text = shard_of_abc(alloc)?;
+    let encoding = shard_of_abc(alloc)?;
     let mut disk = MemoryDisk::new(alloc);
-    let put = put_zeros(alloc, &mut disk, &text);
+    let put = put_zeros(alloc, &mut disk, &encoding);
     told_zeros(put, refusal(alloc, disk))
 }
 
@@ -298,17 +298,17 @@ fn older_xorb(alloc: Global, hash: MerkleHash) -> Result<Vec<u8>, StoreError> {
     let stored = Vec::from_slice(alloc, b"\x00\x03\x00\x00\x00\x03\x00\x00abc")?;
     let mut sink = MemorySink::from_vec(stored);
     write_footer(alloc, hash, &mut sink)?;
-    let mut text = sink.into_bytes();
-    text.extend_from_slice(&96u32.to_le_bytes())?;
-    Ok(text)
+    let mut encoding = sink.into_bytes();
+    encoding.extend_from_slice(&96u32.to_le_bytes())?;
+    Ok(encoding)
 }
 
 /// Replaces the xorb of `abc` by one with a footer of version 0.
 fn put_older_xorb(alloc: Global, disk: &mut MemoryDisk) -> Result<(), StoreError> {
     let hash = compute_data_hash(b"abc");
-    let text = older_xorb(alloc, hash)?;
+    let encoding = older_xorb(alloc, hash)?;
     let name = xorb_path(alloc, "store", &hash)?;
-    put_bytes(disk, name.as_str(), &text)
+    put_bytes(disk, name.as_str(), &encoding)
 }
 
 /// Whether `abc` is read after its xorb was replaced.

@@ -19,8 +19,8 @@ fn put_three(alloc: Global, disk: &mut MemoryDisk) -> Result<MerkleHash, StoreEr
     ];
     let leaves = chunk_leaves(alloc, &chunks)?;
     let hash = xorb_hash(alloc, &leaves)?;
-    let text = xorb_bytes(alloc, &chunks)?;
-    put_xorb(disk, alloc, "store", &hash, &text)?;
+    let encoding = xorb_bytes(alloc, &chunks)?;
+    put_xorb(disk, alloc, "store", &hash, &encoding)?;
     Ok(hash)
 }
 

@@ -76,9 +76,9 @@ ending_is hash ms info is =
     ap (λ (i : _). footer_bytes_v1 i ++ number (length_of i)) is ∙ ap (λ (n : ℕ). footer_bytes_v1 (footer_v1 hash ms no_spare) ++ number n) (told_of_leaves hash ms no_spare)
 
 -- parts that have their digests and their hash are a xorb
-pub parts_text : (parts : List (List ℕ)) → ArePartsOfXorb parts → 0 < length parts → IsXorbEncoding (flat_map encoded_chunk parts ++ ending true (xorb_hash (leaves_of parts)) (leaves_of parts)) parts
+pub parts_encoding : (parts : List (List ℕ)) → ArePartsOfXorb parts → 0 < length parts → IsXorbEncoding (flat_map encoded_chunk parts ++ ending true (xorb_hash (leaves_of parts)) (leaves_of parts)) parts
 unfolding xorb_bytes
-parts_text parts are some =
+parts_encoding parts are some =
     let ms : List (List ℕ × ℕ) = leaves_of parts in
     let hash : List ℕ = xorb_hash ms in
     let hashed = leaves_hashed parts in
@@ -111,11 +111,11 @@ built_is x footer s raw bytes hash plain count start =
     λ i. record { serialized_data = bytes i; hash = hash i; raw_num_bytes = all i; num_chunks = count i; footer_start = start i }
 
 -- with a footer, and with the digests of its parts, it is a xorb
-pub built_text : (x : RawXorbData) (footer : Bool) (s : SerializedXorbObject) → IsRaw x → s ≡ built_of x footer → footer ≡ true → 0 < length x.parts → raw_leaves x ≡ leaves_of x.parts
+pub built_encoding : (x : RawXorbData) (footer : Bool) (s : SerializedXorbObject) → IsRaw x → s ≡ built_of x footer → footer ≡ true → 0 < length x.parts → raw_leaves x ≡ leaves_of x.parts
     → x.xorb_info.metadata.xorb_hash ≡ xorb_hash (leaves_of x.parts) → IsXorbEncoding s.serialized_data x.parts
-built_text x footer s raw built with some leaves hash =
+built_encoding x footer s raw built with some leaves hash =
     let bytes : s.serialized_data ≡ flat_map encoded_chunk x.parts ++ ending true (xorb_hash (leaves_of x.parts)) (leaves_of x.parts) =
     ap (λ (t : SerializedXorbObject). t.serialized_data) built ∙ ap (λ (f : Bool). flat_map encoded_chunk x.parts ++ ending f x.xorb_info.metadata.xorb_hash (raw_leaves x)) with
     ∙ ap (λ (h : List ℕ). flat_map encoded_chunk x.parts ++ ending true h (raw_leaves x)) hash
     ∙ ap (λ (ms : List (List ℕ × ℕ)). flat_map encoded_chunk x.parts ++ ending true (xorb_hash (leaves_of x.parts)) ms) leaves in
-    subst (λ (b : List ℕ). IsXorbEncoding b x.parts) (sym bytes) (parts_text x.parts raw.parts some)
+    subst (λ (b : List ℕ). IsXorbEncoding b x.parts) (sym bytes) (parts_encoding x.parts raw.parts some)

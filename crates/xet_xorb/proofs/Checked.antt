@@ -156,31 +156,31 @@ same_chunks max_chunk bytes cs ds small c d =
 -- ---- bytes that are compared piece by piece
 
 -- the next piece of a text
-piece_is : (done size : ℕ) (text piece : List ℕ) → done + size ≤ length text → piece ≡ slice_range text done (done + size) → (piece ≡ take size (drop done text)) × (length piece ≡ size)
-piece_is done size text piece room is =
+piece_is : (done size : ℕ) (encoding piece : List ℕ) → done + size ≤ length encoding → piece ≡ slice_range encoding done (done + size) → (piece ≡ take size (drop done encoding)) × (length piece ≡ size)
+piece_is done size encoding piece room is =
     let count : done + size - done ≡ size = omega arith in
-    let here : piece ≡ take size (drop done text) = is ∙ ap (λ (n : ℕ). take n (drop done text)) count in
-    (here, ap length here ∙ length-take-le size (drop done text) (omega (arith, length-drop done text)))
+    let here : piece ≡ take size (drop done encoding) = is ∙ ap (λ (n : ℕ). take n (drop done encoding)) count in
+    (here, ap length here ∙ length-take-le size (drop done encoding) (omega (arith, length-drop done encoding)))
 
 -- one more piece is the same
-pub piece_more : (at done size : ℕ) (text bytes piece : List ℕ) → done + size ≤ length text → piece ≡ slice_range text done (done + size)
-    → take done text ≡ take done (drop at bytes) → piece ≡ take (length piece) (drop (at + done) bytes) → take (done + size) text ≡ take (done + size) (drop at bytes)
-piece_more at done size text bytes piece room is kept equal =
-    let p = piece_is done size text piece room is in
+pub piece_more : (at done size : ℕ) (encoding bytes piece : List ℕ) → done + size ≤ length encoding → piece ≡ slice_range encoding done (done + size)
+    → take done encoding ≡ take done (drop at bytes) → piece ≡ take (length piece) (drop (at + done) bytes) → take (done + size) encoding ≡ take (done + size) (drop at bytes)
+piece_more at done size encoding bytes piece room is kept equal =
+    let p = piece_is done size encoding piece room is in
     let behind : drop done (drop at bytes) ≡ drop (at + done) bytes = drop-drop done at bytes in
-    let next : take size (drop done text) ≡ take size (drop done (drop at bytes)) =
+    let next : take size (drop done encoding) ≡ take size (drop done (drop at bytes)) =
     sym p.0 ∙ equal ∙ ap (λ (n : ℕ). take n (drop (at + done) bytes)) p.1 ∙ ap (take size) (sym behind) in
-    take_two done size text ∙ ap (λ (t : List ℕ). t ++ take size (drop done text)) kept ∙ ap (λ (t : List ℕ). take done (drop at bytes) ++ t) next ∙ sym (take_two done size (drop at bytes))
+    take_two done size encoding ∙ ap (λ (t : List ℕ). t ++ take size (drop done encoding)) kept ∙ ap (λ (t : List ℕ). take done (drop at bytes) ++ t) next ∙ sym (take_two done size (drop at bytes))
 
 -- each piece of the same bytes is the same
-pub piece_same : (at done size : ℕ) (text bytes piece : List ℕ) → done + size ≤ length text → piece ≡ slice_range text done (done + size)
-    → text ≡ take (length text) (drop at bytes) → piece ≡ take (length piece) (drop (at + done) bytes)
-piece_same at done size text bytes piece room is equal =
-    let p = piece_is done size text piece room is in
-    let more : ℕ = length text - done in
-    let all : done + more ≡ length text = omega arith in
+pub piece_same : (at done size : ℕ) (encoding bytes piece : List ℕ) → done + size ≤ length encoding → piece ≡ slice_range encoding done (done + size)
+    → encoding ≡ take (length encoding) (drop at bytes) → piece ≡ take (length piece) (drop (at + done) bytes)
+piece_same at done size encoding bytes piece room is equal =
+    let p = piece_is done size encoding piece room is in
+    let more : ℕ = length encoding - done in
+    let all : done + more ≡ length encoding = omega arith in
     let behind : drop done (drop at bytes) ≡ drop (at + done) bytes = drop-drop done at bytes in
-    let rest : drop done text ≡ take more (drop done (drop at bytes)) =
+    let rest : drop done encoding ≡ take more (drop done (drop at bytes)) =
     ap (drop done) (equal ∙ ap (λ (n : ℕ). take n (drop at bytes)) (sym all)) ∙ drop-take done more (drop at bytes) in
     let here : piece ≡ take size (drop (at + done) bytes) = p.0 ∙ ap (take size) rest ∙ take-take size more (drop done (drop at bytes)) (omega arith) ∙ ap (take size) behind in
     here ∙ ap (λ (n : ℕ). take n (drop (at + done) bytes)) (sym p.1)

@@ -151,7 +151,7 @@ added_in V1 hash ms spare from at to second other order some few =
 
 pub lengths_add : LengthsAddUp
 lengths_add max_chunk hash bytes chunks o from at to valid other second order some few =
-    let x = valid.xorb.text in
+    let x = valid.xorb.encoding in
     let ms = leaves_of chunks in
     let many : length ms ≡ length chunks = length-map chunks leaf_of in
     let version = ap (λ (p : XorbObject). p.info.boundaries_version) (sym valid.listed) ∙ second in

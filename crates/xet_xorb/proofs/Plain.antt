@@ -140,14 +140,14 @@ read_is max_chunk bytes chunks start end places read small x fit order are reads
 
 valid_lists : (max_chunk : ℕ) (hash bytes : List ℕ) (chunks : List (List ℕ)) (o : XorbObject) → IsValid max_chunk hash bytes chunks o → hash ≢ zero_hash → Lists o.info (leaves_of chunks)
 valid_lists max_chunk hash bytes chunks o valid other =
-    let x = valid.xorb.text in
+    let x = valid.xorb.encoding in
     let many : length (leaves_of chunks) ≡ length chunks = length-map chunks leaf_of in
     subst (λ (p : XorbObject). Lists p.info (leaves_of chunks)) (sym valid.listed) (lists_leaves x.version hash (leaves_of chunks) x.spare (omega (arith, x.some)) other)
 
 pub ranges_are : RangesAreChunks
 ranges_are max_chunk hash bytes chunks o start end read small valid other some few reads =
     let many : length (leaves_of chunks) ≡ length chunks = length-map chunks leaf_of in
-    read_is max_chunk bytes chunks start end (listed_range o.info start end) read small valid.xorb.text valid.xorb.fit (omega arith)
+    read_is max_chunk bytes chunks start end (listed_range o.info start end) read small valid.xorb.encoding valid.xorb.fit (omega arith)
     (range_is o.info (leaves_of chunks) start end (valid_lists max_chunk hash bytes chunks o valid other) some (omega arith)) reads
 
 pub contents_are_read : ContentsAreChunks
@@ -155,4 +155,4 @@ contents_are_read max_chunk hash bytes chunks o read small valid other reads =
     let many : length (leaves_of chunks) ≡ length chunks = length-map chunks leaf_of in
     let places = contents_are o.info (leaves_of chunks) (valid_lists max_chunk hash bytes chunks o valid other) ∙ ap (λ (k : ℕ). Ok (0, reach 8 k (leaves_of chunks))) many in
     let all : slice_range chunks 0 (length chunks) ≡ chunks = take_all (length chunks - 0) chunks (omega arith) in
-    read_is max_chunk bytes chunks 0 (length chunks) (listed_contents o.info) read small valid.xorb.text valid.xorb.fit (omega arith) places reads ∙ ap (λ (t : List (List ℕ)). Ok (concat t)) all
+    read_is max_chunk bytes chunks 0 (length chunks) (listed_contents o.info) read small valid.xorb.encoding valid.xorb.fit (omega arith) places reads ∙ ap (λ (t : List (List ℕ)). Ok (concat t)) all

@@ -21,7 +21,7 @@ use Rattle.xet_xorb_chunk.specs.theorems.More.{behind_all, behind_few, body_whol
 use Rattle.xet_xorb_chunk.specs.theorems.Passed.{decodes_after, passes_append}
 use Rattle.xet_xorb_chunk.specs.theorems.Readback.{encoded_of_stream}
 use Rattle.xet_xorb.specs.declared.object.XorbObject.{XorbObject}
-use Rattle.xet_xorb.specs.Building.{ending, no_spare, object_for, text_of}
+use Rattle.xet_xorb.specs.Building.{ending, no_spare, object_for, encoding_of}
 use Rattle.xet_xorb.specs.internal.Copying.{AreBefore, IsCopied, IsNoCopy, ShowsNext}
 use Rattle.xet_xorb.specs.Footer.{V1, footer_v1}
 use Rattle.xet_xorb.specs.Object.{object_of}
@@ -196,10 +196,10 @@ copied_small max_chunk raw chunks at leaves f bound kept =
 -- ---- the whole
 
 -- what is written of them is their xorb
-pub text_is : (max_chunk : ℕ) (raw : List ℕ) (leaves : List (List ℕ × ℕ)) (at : ℕ) (hash : List ℕ) (info : XorbObjectInfoV1) (c : IsCopied max_chunk raw leaves at) → hash ≡ xorb_hash leaves → info ≡ footer_v1 hash leaves no_spare
-    → take at raw ++ (footer_bytes_v1 info ++ number (length_of info)) ≡ text_of c.chunks
+pub encoding_is : (max_chunk : ℕ) (raw : List ℕ) (leaves : List (List ℕ × ℕ)) (at : ℕ) (hash : List ℕ) (info : XorbObjectInfoV1) (c : IsCopied max_chunk raw leaves at) → hash ≡ xorb_hash leaves → info ≡ footer_v1 hash leaves no_spare
+    → take at raw ++ (footer_bytes_v1 info ++ number (length_of info)) ≡ encoding_of c.chunks
 unfolding xorb_bytes
-text_is max_chunk raw leaves at hash info c digest is =
+encoding_is max_chunk raw leaves at hash info c digest is =
     let chunks : List (List ℕ) = c.chunks in
     let stored : List ℕ = flat_map encoded_chunk chunks in
     ap (λ (x : List ℕ). x ++ (footer_bytes_v1 info ++ number (length_of info))) c.encoded ∙ ap (λ (x : List ℕ). stored ++ x) (ending_is hash leaves info is)
@@ -225,8 +225,8 @@ short_chunks [] all = tt
 short_chunks (c ∷ cs) all = (all.0, short_chunks cs all.1)
 
 -- the text of short chunks is of the grammar
-pub rebuilt_is_xorb : (chunks : List (List ℕ)) (leaves : List (List ℕ × ℕ)) → leaves ≡ leaves_of chunks → AllByRecursion (λ m. m.1 < 2 ^ 24) leaves → 0 < length chunks → length (text_of chunks) < 2 ^ 32
-    → IsXorbEncoding (text_of chunks) chunks
+pub rebuilt_is_xorb : (chunks : List (List ℕ)) (leaves : List (List ℕ × ℕ)) → leaves ≡ leaves_of chunks → AllByRecursion (λ m. m.1 < 2 ^ 24) leaves → 0 < length chunks → length (encoding_of chunks) < 2 ^ 32
+    → IsXorbEncoding (encoding_of chunks) chunks
 rebuilt_is_xorb chunks leaves are each some bound = record {
   some = some;
   small = short_chunks chunks (subst (λ (l : List (List ℕ × ℕ)). AllByRecursion (λ m. m.1 < 2 ^ 24) l) are each);

@@ -79,12 +79,12 @@ footer_with V1 hash ms spare =
     (number i.hashes_section_offset_from_end) (number i.boundary_section_offset_from_end) spare i.version i.hashes_version i.boundaries_version
 
 -- what was made is what stands there
-pub ending_found : (start told : ℕ) (version : Version) (hash : List ℕ) (ms : List (List ℕ × ℕ)) (bytes text spare : List ℕ) (info : XorbObjectInfoV1) → start + told + 4 ≡ length bytes → AreHashed ms → length hash ≡ 32
-    → length spare ≡ 16 → told ≡ footer_len version (length ms) → info ≡ footer_info version hash ms spare → text ≡ ending version hash ms spare → text ≡ take (length text) (drop start bytes)
+pub ending_found : (start told : ℕ) (version : Version) (hash : List ℕ) (ms : List (List ℕ × ℕ)) (bytes encoding spare : List ℕ) (info : XorbObjectInfoV1) → start + told + 4 ≡ length bytes → AreHashed ms → length hash ≡ 32
+    → length spare ≡ 16 → told ≡ footer_len version (length ms) → info ≡ footer_info version hash ms spare → encoding ≡ ending version hash ms spare → encoding ≡ take (length encoding) (drop start bytes)
     → IsEnding hash ms (drop start bytes) (record { info = info; info_length = told })
-ending_found start told version hash ms bytes text spare info whole hashed size sixteen is_told is_info is_text stands =
-    let long : length text ≡ told + 4 = omega (arith, ap length is_text, length-ending version hash ms spare size hashed sixteen) in
-    let all : take (length text) (drop start bytes) ≡ drop start bytes = take_all (length text) (drop start bytes) (omega (arith, length-drop start bytes)) in
+ending_found start told version hash ms bytes encoding spare info whole hashed size sixteen is_told is_info is_text stands =
+    let long : length encoding ≡ told + 4 = omega (arith, ap length is_text, length-ending version hash ms spare size hashed sixteen) in
+    let all : take (length encoding) (drop start bytes) ≡ drop start bytes = take_all (length encoding) (drop start bytes) (omega (arith, length-drop start bytes)) in
     record {
       version = version;
       spare = spare;
@@ -116,13 +116,13 @@ spare_of start told hash ms bytes object whole hashed size e =
     ap (take 16) here ∙ take_at e.spare last 16 e.spare_len
 
 -- what is made with an ending's spare bytes stands there
-pub ending_stands : (start told : ℕ) (version : Version) (hash : List ℕ) (ms : List (List ℕ × ℕ)) (bytes text spare : List ℕ) (object : XorbObject) → start + told + 4 ≡ length bytes → AreHashed ms → length hash ≡ 32
-    → spare ≡ take 16 (drop (start + told - 16) bytes) → told ≡ footer_len version (length ms) → text ≡ ending version hash ms spare → IsEnding hash ms (drop start bytes) object → text ≡ take (length text) (drop start bytes)
-ending_stands start told version hash ms bytes text spare object whole hashed size read is_told is_text e =
+pub ending_stands : (start told : ℕ) (version : Version) (hash : List ℕ) (ms : List (List ℕ × ℕ)) (bytes encoding spare : List ℕ) (object : XorbObject) → start + told + 4 ≡ length bytes → AreHashed ms → length hash ≡ 32
+    → spare ≡ take 16 (drop (start + told - 16) bytes) → told ≡ footer_len version (length ms) → encoding ≡ ending version hash ms spare → IsEnding hash ms (drop start bytes) object → encoding ≡ take (length encoding) (drop start bytes)
+ending_stands start told version hash ms bytes encoding spare object whole hashed size read is_told is_text e =
     let same : version ≡ e.version = same_version version e.version (length ms) (sym is_told ∙ told_of start told hash ms bytes object whole hashed size e) in
     let spares : spare ≡ e.spare = read ∙ spare_of start told hash ms bytes object whole hashed size e in
-    let is : text ≡ drop start bytes = is_text ∙ ap (λ (v : Version). ending v hash ms spare) same ∙ ap (ending e.version hash ms) spares ∙ sym e.encoded in
-    let all : take (length text) (drop start bytes) ≡ drop start bytes = take_all (length text) (drop start bytes) (omega (arith, ap length is)) in
+    let is : encoding ≡ drop start bytes = is_text ∙ ap (λ (v : Version). ending v hash ms spare) same ∙ ap (ending e.version hash ms) spares ∙ sym e.encoded in
+    let all : take (length encoding) (drop start bytes) ≡ drop start bytes = take_all (length encoding) (drop start bytes) (omega (arith, ap length is)) in
     is ∙ sym all
 
 -- ---- a xorb is its parts
@@ -149,7 +149,7 @@ is_valid max_chunk start hash bytes ms object small bound h some is e =
       chunks,
       record {
         xorb = record {
-          text = record {
+          encoding = record {
             some = omega (arith, some, ap length h.leaves, length-leaves chunks);
             small = all_small max_chunk chunks small h.are.fit;
             bound = bound;
@@ -189,17 +189,17 @@ pub parts_of : (max_chunk : ℕ) (hash bytes : List ℕ) (chunks : List (List �
 unfolding xorb_bytes
 parts_of max_chunk hash bytes chunks x =
     let ms : List (List ℕ × ℕ) = leaves_of chunks in
-    let v : Version = x.text.version in
-    let spare : List ℕ = x.text.spare in
+    let v : Version = x.encoding.version in
+    let spare : List ℕ = x.encoding.spare in
     let prefix : List ℕ = flat_map encoded_chunk chunks in
     let foot : List ℕ = xorb_footer_bytes v hash ms spare in
     let n : ℕ = footer_len v (length ms) in
     let hashed : AreHashed ms = leaves_hashed chunks in
     let size : length hash ≡ 32 = hash_size ms hash hashed x.hashed in
-    let is : bytes ≡ prefix ++ ending v hash ms spare = x.text.encoded ∙ ap (λ (h : List ℕ). prefix ++ ending v h ms spare) x.hashed in
-    let long : length bytes ≡ length prefix + (n + 4) = omega (arith, ap length is, length-append prefix (ending v hash ms spare), length-ending v hash ms spare size hashed x.text.spare_len) in
+    let is : bytes ≡ prefix ++ ending v hash ms spare = x.encoding.encoded ∙ ap (λ (h : List ℕ). prefix ++ ending v h ms spare) x.hashed in
+    let long : length bytes ≡ length prefix + (n + 4) = omega (arith, ap length is, length-append prefix (ending v hash ms spare), length-ending v hash ms spare size hashed x.encoding.spare_len) in
     let split : bytes ≡ (prefix ++ foot) ++ number n = is ∙ sym (append_assoc prefix foot (number n)) in
-    let bound = x.text.bound in
+    let bound = x.encoding.bound in
     record {
       start = length prefix;
       told = n;
@@ -211,7 +211,7 @@ parts_of max_chunk hash bytes chunks x =
       ends = record {
         version = v;
         spare = spare;
-        spare_len = x.text.spare_len;
+        spare_len = x.encoding.spare_len;
         encoded = ap (drop (length prefix)) is ∙ drop-append_seam prefix (ending v hash ms spare);
         listed = refl;
       };
@@ -250,7 +250,7 @@ pub valid_is_read : (max_chunk : ℕ) (hash bytes : List ℕ) (object : XorbObje
 valid_is_read max_chunk hash bytes object v =
     let x = v.1.xorb in
     let ms : List (List ℕ × ℕ) = leaves_of v.0 in
-    last_footer_is_read bytes v.0 x.text object (v.1.listed ∙ ap (λ (h : List ℕ). object_of x.text.version h ms x.text.spare) (sym x.hashed))
+    last_footer_is_read bytes v.0 x.encoding object (v.1.listed ∙ ap (λ (h : List ℕ). object_of x.encoding.version h ms x.encoding.spare) (sym x.hashed))
 
 -- ---- what is refused
 
@@ -291,4 +291,4 @@ leaves_at max_chunk start told hash bytes ms chunks small whole tells h x =
     h.leaves ∙ ap leaves_of (same_chunks max_chunk (take start bytes) h.chunks chunks small h.are (chunks_at max_chunk start told hash bytes chunks whole tells x))
 
 pub hash_at : (max_chunk : ℕ) (hash bytes : List ℕ) (ms : List (List ℕ × ℕ)) (chunks : List (List ℕ)) → ms ≡ leaves_of chunks → IsXorbOf max_chunk hash bytes chunks → (0 < length ms) × (xorb_hash ms ≡ hash)
-hash_at max_chunk hash bytes ms chunks is x = (omega (arith, x.text.some, ap length is, length-leaves chunks), ap xorb_hash is ∙ x.hashed)
+hash_at max_chunk hash bytes ms chunks is x = (omega (arith, x.encoding.some, ap length is, length-leaves chunks), ap xorb_hash is ∙ x.hashed)

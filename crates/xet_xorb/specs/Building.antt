@@ -55,8 +55,8 @@ pub record AreCopied (max_chunk : ℕ) (raw : List ℕ) (chunks : List (List ℕ
   pub few : length chunks ≤ max_chunks
 
 -- The xorb of these chunks, and its footer with its length.
-abbrev pub text_of : List (List ℕ) → List ℕ
-text_of chunks = xorb_bytes V1 (xorb_hash (leaves_of chunks)) (leaves_of chunks) chunks no_spare
+abbrev pub encoding_of : List (List ℕ) → List ℕ
+encoding_of chunks = xorb_bytes V1 (xorb_hash (leaves_of chunks)) (leaves_of chunks) chunks no_spare
 
 abbrev pub object_for : List (List ℕ) → XorbObject
 object_for chunks = object_of V1 (xorb_hash (leaves_of chunks)) (leaves_of chunks) no_spare
@@ -66,8 +66,8 @@ object_for chunks = object_of V1 (xorb_hash (leaves_of chunks)) (leaves_of chunk
 abbrev pub Rebuilds : ℕ → List ℕ → Type 0 → List ℕ → List ℕ → XorbObject × List ℕ → Type 0
 Rebuilds max_chunk raw told before now made =
     (chunks : List (List ℕ)) × AreCopied max_chunk raw chunks × (made.0 ≡ object_for chunks) × (made.1 ≡ xorb_hash (leaves_of chunks))
-    × (0 < length chunks → length (text_of chunks) < 2 ^ 32 → IsXorbEncoding (text_of chunks) chunks)
-    × (told → now ≡ before ++ text_of chunks)
+    × (0 < length chunks → length (encoding_of chunks) < 2 ^ 32 → IsXorbEncoding (encoding_of chunks) chunks)
+    × (told → now ≡ before ++ encoding_of chunks)
 
 -- The first check of the stored chunks that fails, after no more chunks than a footer can list. A footer is
 -- no failure.
@@ -95,4 +95,4 @@ IsRebuildCheck e = IsCheck e ⊎ (e ≡ MalformedData ChunkCount)
 -- Nothing was written, or a prefix of the xorb.
 abbrev pub RebuildsPrefix : ℕ → List ℕ → List ℕ → List ℕ → Type 0
 RebuildsPrefix max_chunk raw before now =
-    (now ≡ before) ⊎ ((chunks : List (List ℕ)) × (n : ℕ) × AreCopied max_chunk raw chunks × (now ≡ before ++ take n (text_of chunks)))
+    (now ≡ before) ⊎ ((chunks : List (List ℕ)) × (n : ℕ) × AreCopied max_chunk raw chunks × (now ≡ before ++ take n (encoding_of chunks)))

@@ -8,11 +8,11 @@ use Rattle.xet_xorb.specs.Xorb.{IsXorbEncoding}
 
 -- `bytes` is a xorb of these chunks, each of at most `max_chunk` bytes, with this hash.
 pub record IsXorbOf (max_chunk : ℕ) (hash bytes : List ℕ) (chunks : List (List ℕ)) : Type 0 where
-  pub text : IsXorbEncoding bytes chunks
+  pub encoding : IsXorbEncoding bytes chunks
   pub fit : AllByRecursion (λ b. length b ≤ max_chunk) chunks
   pub hashed : xorb_hash (leaves_of chunks) ≡ hash
 
 -- The same, and `object` is its footer with its length.
 pub record IsValid (max_chunk : ℕ) (hash bytes : List ℕ) (chunks : List (List ℕ)) (object : XorbObject) : Type 0 where
   pub xorb : IsXorbOf max_chunk hash bytes chunks
-  pub listed : object ≡ object_of xorb.text.version hash (leaves_of chunks) xorb.text.spare
+  pub listed : object ≡ object_of xorb.encoding.version hash (leaves_of chunks) xorb.encoding.spare

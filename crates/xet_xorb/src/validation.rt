@@ -302,11 +302,11 @@ fn checked_object<R: ReadAt>(
     if !fill(reader, start + told as u64 - SPARE_SIZE, &mut spare)? {
         return Ok(None);
     }
-    let Some((info, text)) = ending_of(alloc, hash, leaves, told, spare)? else {
+    let Some((info, encoding)) = ending_of(alloc, hash, leaves, told, spare)? else {
         return Ok(None);
     };
     let len = start + told as u64 + LENGTH_SIZE;
-    if !stands_at(reader, block, start, len, &text)? {
+    if !stands_at(reader, block, start, len, &encoding)? {
         return Ok(None);
     }
     Ok(Some(XorbObject {
@@ -332,24 +332,24 @@ fn ending_of(
     let count = leaves.len() as u64;
     if told as u64 == EMPTY_V1 + EACH_V1 * count {
         let info = new_footer(alloc, hash, leaves, spare)?;
-        let mut text = text_of(alloc, &info)?;
-        text.extend_from_slice(&told.to_le_bytes())?;
-        return Ok(Some((info, text)));
+        let mut encoding = encoding_of(alloc, &info)?;
+        encoding.extend_from_slice(&told.to_le_bytes())?;
+        return Ok(Some((info, encoding)));
     }
     if told as u64 == EMPTY_V0 + EACH_V0 * count {
         let info = new_footer_v0(alloc, hash, leaves, spare)?;
-        let mut text = text_of_v0(alloc, &info)?;
-        text.extend_from_slice(&told.to_le_bytes())?;
-        return Ok(Some((XorbObjectInfoV1::from_v0(info), text)));
+        let mut encoding = text_of_v0(alloc, &info)?;
+        encoding.extend_from_slice(&told.to_le_bytes())?;
+        return Ok(Some((XorbObjectInfoV1::from_v0(info), encoding)));
     }
     Ok(None)
 }
 
 /// The encoding of a footer of version 1. Every error is returned as `OutOfMemory`: a sink in memory has no
 /// other, and the caller passes complete lists.
-fn text_of(alloc: Global, info: &XorbObjectInfoV1) -> Result<Vec<u8>, StoreError>
+fn encoding_of(alloc: Global, info: &XorbObjectInfoV1) -> Result<Vec<u8>, StoreError>
     requires { HasShortLists info.now }
-    ensures text { IfOk result (λ text. text.items ≡ footer_bytes_v1 info.now) }
+    ensures encoding { IfOk result (λ encoding. encoding.items ≡ footer_bytes_v1 info.now) }
     ensures memory { IsOkUnless result StoreError.OutOfMemory }
 {
     let mut sink = MemorySink::new(alloc);
@@ -364,7 +364,7 @@ fn text_of(alloc: Global, info: &XorbObjectInfoV1) -> Result<Vec<u8>, StoreError
 fn text_of_v0(alloc: Global, info: &XorbObjectInfoV0) -> Result<Vec<u8>, StoreError>
     requires hashes { length info.now.chunk_hashes ≤ max_chunks }
     requires stored { length info.now.chunk_boundary_offsets ≤ max_chunks }
-    ensures text { IfOk result (λ text. text.items ≡ footer_bytes_v0 info.now) }
+    ensures encoding { IfOk result (λ encoding. encoding.items ≡ footer_bytes_v0 info.now) }
     ensures memory { IsOkUnless result StoreError.OutOfMemory }
 {
     let mut sink = MemorySink::new(alloc);
@@ -374,26 +374,26 @@ fn text_of_v0(alloc: Global, info: &XorbObjectInfoV0) -> Result<Vec<u8>, StoreEr
     }
 }
 
-/// Whether the bytes `text` are at offset `at` of `len` bytes. Errors: `Io(Input)` and `OutOfMemory`.
+/// Whether the bytes `encoding` are at offset `at` of `len` bytes. Errors: `Io(Input)` and `OutOfMemory`.
 fn stands_at<R: ReadAt>(
     reader: &mut R,
     block: &mut Block,
     at: u64,
     len: u64,
-    text: &[u8],
+    encoding: &[u8],
 ) -> Result<bool, StoreError>
     requires { at ≤ len }
-    ensures found { (bytes : List ℕ) → Sees (R.tells reader.old) (R.bytes reader.old) bytes len block.old → IfOk result (λ same. IsTrue same ↔ (text.now ≡ take (length text.now) (drop at bytes))) }
+    ensures found { (bytes : List ℕ) → Sees (R.tells reader.old) (R.bytes reader.old) bytes len block.old → IfOk result (λ same. IsTrue same ↔ (encoding.now ≡ take (length encoding.now) (drop at bytes))) }
     ensures errors { IfErr result StopsReading }
     ensures frame { ReadFrom R.bytes R.tells R.faults R.lent reader.old reader.new (IsErrOf result (Io Input)) }
 {
-    if len - at < text.len() as u64 {
+    if len - at < encoding.len() as u64 {
         return Ok(false);
     }
     let mut done = 0;
-    'pieces: while done < text.len() {
-        let size = PIECE.min(text.len() - done);
-        let piece = &text[done..done + size];
+    'pieces: while done < encoding.len() {
+        let size = PIECE.min(encoding.len() - done);
+        let piece = &encoding[done..done + size];
         if !piece_stands_at(reader, block, at + done as u64, len, piece)? {
             return Ok(false);
         }

@@ -1,4 +1,4 @@
-mod Texts
+mod Encodings
 mod Listing
 mod Steps
 mod Shorts

@@ -159,18 +159,18 @@ prefix_of_footer version hash ms parts spare before middle now footer n first ne
       ∙ ap (λ (x : List ℕ). before ++ take (length (flat_map encoded_chunk parts) + n) (flat_map encoded_chunk parts ++ x)) is,
 )
 
-pub whole_text : (version : Version) (hash : List ℕ) (ms : List (List ℕ × ℕ)) (parts : List (List ℕ)) (spare before middle now footer : List ℕ)
+pub whole_encoding : (version : Version) (hash : List ℕ) (ms : List (List ℕ × ℕ)) (parts : List (List ℕ)) (spare before middle now footer : List ℕ)
     → middle ≡ before ++ flat_map encoded_chunk parts → now ≡ middle ++ footer → footer ≡ xorb_footer_bytes version hash ms spare ++ number (footer_len version (length ms))
     → now ≡ before ++ xorb_bytes version hash ms parts spare
 unfolding xorb_bytes
-whole_text version hash ms parts spare before middle now footer first next is =
+whole_encoding version hash ms parts spare before middle now footer first next is =
     written_both before middle now (flat_map encoded_chunk parts) footer first next ∙ ap (λ (x : List ℕ). before ++ (flat_map encoded_chunk parts ++ x)) is
 
 -- how long it is
-pub length-text : (hash : List ℕ) (ms : List (List ℕ × ℕ)) (parts : List (List ℕ)) (spare : List ℕ)
+pub length-encoding : (hash : List ℕ) (ms : List (List ℕ × ℕ)) (parts : List (List ℕ)) (spare : List ℕ)
     → length (xorb_bytes V1 hash ms parts spare) ≡ length (flat_map encoded_chunk parts) + (length (footer_bytes_v1 (footer_v1 hash ms spare)) + 4)
 unfolding xorb_bytes
-length-text hash ms parts spare =
+length-encoding hash ms parts spare =
     omega (
       arith,
       length-append (flat_map encoded_chunk parts) (footer_bytes_v1 (footer_v1 hash ms spare) ++ number (footer_len V1 (length ms))),
@@ -193,15 +193,15 @@ object_is info hash ms spare object is made =
     made ∙ ap (λ (x : XorbObjectInfoV1). record { info = x; info_length = length_of x }) is
     ∙ ap (λ (n : ℕ). record { info = footer_v1 hash ms spare; info_length = n }) (length_of-new hash ms spare)
 
-pub text_count : (info : XorbObjectInfoV1) (hash : List ℕ) (ms : List (List ℕ × ℕ)) (parts : List (List ℕ)) (spare : List ℕ) (start footer : ℕ) → info ≡ footer_v1 hash ms spare
+pub encoding_count : (info : XorbObjectInfoV1) (hash : List ℕ) (ms : List (List ℕ × ℕ)) (parts : List (List ℕ)) (spare : List ℕ) (start footer : ℕ) → info ≡ footer_v1 hash ms spare
     → start ≡ length (flat_map encoded_chunk parts) → footer ≡ length_of info + 4 → length_of info ≡ length (footer_bytes_v1 info) → start + footer ≡ length (xorb_bytes V1 hash ms parts spare)
-text_count info hash ms parts spare start footer is before behind whole =
+encoding_count info hash ms parts spare start footer is before behind whole =
     let same : length (footer_bytes_v1 info) ≡ length (footer_bytes_v1 (footer_v1 hash ms spare)) = ap (λ (x : XorbObjectInfoV1). length (footer_bytes_v1 x)) is in
-    omega (arith, before, behind, whole, same, length-text hash ms parts spare)
+    omega (arith, before, behind, whole, same, length-encoding hash ms parts spare)
 
 -- the whole is a front of itself
-pub whole_prefix : (before text now : List ℕ) → now ≡ before ++ text → (n : ℕ) × (now ≡ before ++ take n text)
-whole_prefix before text now is = (length text, is ∙ ap (λ (x : List ℕ). before ++ x) (sym (take-length text)))
+pub whole_prefix : (before encoding now : List ℕ) → now ≡ before ++ encoding → (n : ℕ) × (now ≡ before ++ take n encoding)
+whole_prefix before encoding now is = (length encoding, is ∙ ap (λ (x : List ℕ). before ++ x) (sym (take-length encoding)))
 
 -- the leaves of cuts are few, and so are their bytes
 pub few_leaves : (bytes : List ℕ) (cs : List (List ℕ × ℕ)) → AreBoundaries bytes cs → length (leaves_from 0 cs) ≤ max_chunks
@@ -257,8 +257,8 @@ pub components_are : (hash : List ℕ) (ms : List (List ℕ × ℕ)) (parts : Li
     → plain ≡ sum_by length parts → count ≡ length parts → start ≡ length (flat_map encoded_chunk parts)
     → record { serialized_data = bytes; hash = hash; raw_num_bytes = plain; num_chunks = count; footer_start = Some start } ≡ built hash ms parts true
 unfolding xorb_bytes
-components_are hash ms parts bytes plain count start text plain_is count_is start_is =
-    λ i. record { serialized_data = text i; hash = hash; raw_num_bytes = plain_is i; num_chunks = count_is i; footer_start = Some (start_is i) }
+components_are hash ms parts bytes plain count start encoding plain_is count_is start_is =
+    λ i. record { serialized_data = encoding i; hash = hash; raw_num_bytes = plain_is i; num_chunks = count_is i; footer_start = Some (start_is i) }
 
 raw_total : (parts : List (List ℕ)) (cs : List XorbChunkSequenceEntry) → map length parts ≡ map (λ c. c.unpacked_segment_bytes) cs → sum_by length parts ≡ chunk_bytes cs
 raw_total [] [] listed = refl

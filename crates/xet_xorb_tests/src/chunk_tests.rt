@@ -39,8 +39,8 @@ fn scheme_texts(rt: HostRuntime) -> Result<(), Fail> {
         ("  LZ4 ", CompressionScheme::LZ4),
         ("BG4-LZ4", CompressionScheme::ByteGrouping4LZ4),
     ];
-    for (text, scheme) in table {
-        assert_eq!(rt; CompressionScheme::from_str(text)?, scheme);
+    for (encoding, scheme) in table {
+        assert_eq!(rt; CompressionScheme::from_str(encoding)?, scheme);
     }
     assert_eq!(rt;
         CompressionScheme::from_str("zstd").err(),

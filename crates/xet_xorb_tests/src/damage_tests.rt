@@ -8,8 +8,8 @@ use xet_io::SliceReader;
 use xet_xorb::*;
 
 /// The result of reading the footer at the end of these bytes.
-fn answer(alloc: Global, text: &[u8]) -> &'static str {
-    let mut reader = SliceReader::new(text);
+fn answer(alloc: Global, encoding: &[u8]) -> &'static str {
+    let mut reader = SliceReader::new(encoding);
     match XorbObject::deserialize(alloc, &mut reader) {
         Ok(_) => "read",
         Err(StoreError::UnexpectedEof) => "end",
@@ -41,9 +41,9 @@ fn answers_of_changes(alloc: Global) -> Result<Vec<(usize, &'static str)>, Store
     let mut found: Vec<(usize, &'static str)> = Vec::new(alloc);
     let mut last = "";
     for at in 0..XORB_OF_ABC.len() {
-        let mut text = XORB_OF_ABC;
-        text[at] = !text[at];
-        let now = answer(alloc, &text);
+        let mut encoding = XORB_OF_ABC;
+        encoding[at] = !encoding[at];
+        let now = answer(alloc, &encoding);
         if now != last {
             found.push((at, now))?;
             last = now;

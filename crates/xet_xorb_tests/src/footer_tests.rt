@@ -84,11 +84,11 @@ fn converted(rt: HostRuntime) -> Result<(), Fail> {
 /// The error of reading the footer of one chunk with this byte at this offset, if there is one.
 fn refusal(
     alloc: Global,
-    text: &[u8],
+    encoding: &[u8],
     place: usize,
     byte: u8,
 ) -> Result<Option<StoreError>, StoreError> {
-    let mut damaged = Vec::from_slice(alloc, text)?;
+    let mut damaged = Vec::from_slice(alloc, encoding)?;
     if place < damaged.len() {
         damaged[place] = byte;
     }
@@ -121,9 +121,9 @@ fn damaged(rt: HostRuntime) -> Result<(), Fail> {
             Some(StoreError::MalformedData(reason))
         );
     }
-    let mut text = sink.into_bytes();
-    text.truncate(131);
-    let cut = XorbObjectInfoV1::deserialize(alloc, &mut SliceSource::new(&text));
+    let mut encoding = sink.into_bytes();
+    encoding.truncate(131);
+    let cut = XorbObjectInfoV1::deserialize(alloc, &mut SliceSource::new(&encoding));
     assert_eq!(rt; cut.err(), Some(StoreError::UnexpectedEof));
     Ok(())
 }

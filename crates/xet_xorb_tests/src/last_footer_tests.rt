@@ -10,7 +10,7 @@ use xet_io::{MemorySink, SliceReader};
 use xet_xorb_footer::*;
 
 /// The footer of no chunks, followed by this length.
-fn text(alloc: Global, told: u32) -> Result<Vec<u8>, StoreError> {
+fn encoding(alloc: Global, told: u32) -> Result<Vec<u8>, StoreError> {
     let mut sink = MemorySink::new(alloc);
     XorbObjectInfoV1::default(alloc).serialize(&mut sink)?;
     let mut bytes = sink.into_bytes();
@@ -39,7 +39,7 @@ fn in_pieces(alloc: Global, bytes: &[u8], size: usize) -> Result<(u8, u32), Stor
 #[test]
 fn an_empty_footer_at_the_end(rt: HostRuntime) -> Result<(), Fail> {
     let alloc = rt.alloc();
-    let bytes = text(alloc, 92)?;
+    let bytes = encoding(alloc, 92)?;
     assert!(rt; footer_length(&mut SliceReader::new(&bytes))? == 92);
     assert!(rt; at_end(alloc, &bytes)? == (1, 92));
     assert!(rt; in_pieces(alloc, &bytes, 1)? == (1, 92));
@@ -48,7 +48,7 @@ fn an_empty_footer_at_the_end(rt: HostRuntime) -> Result<(), Fail> {
 }
 
 /// The footer of 2,000 chunks, which is longer than a block, followed by its length.
-fn long_text(alloc: Global) -> Result<Vec<u8>, StoreError> {
+fn long_encoding(alloc: Global) -> Result<Vec<u8>, StoreError> {
     let hashes = vec![in alloc; compute_data_hash(b"abc"); 2000]?;
     let ends = vec![in alloc; 11; 2000]?;
     let plain = vec![in alloc; 3; 2000]?;
@@ -64,7 +64,7 @@ fn long_text(alloc: Global) -> Result<Vec<u8>, StoreError> {
 #[test]
 fn a_footer_of_two_blocks(rt: HostRuntime) -> Result<(), Fail> {
     let alloc = rt.alloc();
-    let bytes = long_text(alloc)?;
+    let bytes = long_encoding(alloc)?;
     assert!(rt; at_end(alloc, &bytes)? == (1, 80092));
     Ok(())
 }
@@ -97,7 +97,7 @@ fn boundaries_alone(rt: HostRuntime) -> Result<(), Fail> {
 #[test]
 fn boundaries_of_no_chunks(rt: HostRuntime) -> Result<(), Fail> {
     let alloc = rt.alloc();
-    let bytes = text(alloc, 92)?;
+    let bytes = encoding(alloc, 92)?;
     let (found, count) = XorbObjectInfoV1::deserialize_only_boundaries_section(
         alloc,
         &mut SliceReader::new(&bytes),
@@ -112,17 +112,17 @@ fn boundaries_of_no_chunks(rt: HostRuntime) -> Result<(), Fail> {
 #[test]
 fn refused_ends(rt: HostRuntime) -> Result<(), Fail> {
     let alloc = rt.alloc();
-    let shorter = text(alloc, 91)?;
+    let shorter = encoding(alloc, 91)?;
     let wrong = Some(StoreError::MalformedData(Reason::InfoLength));
     assert_eq!(rt; in_pieces(alloc, &shorter, 40).err(), wrong);
     let ident = Some(StoreError::MalformedData(Reason::Ident));
     assert_eq!(rt; at_end(alloc, &shorter).err(), ident);
-    let longer = text(alloc, 93)?;
+    let longer = encoding(alloc, 93)?;
     assert_eq!(rt;
         at_end(alloc, &longer).err(),
         Some(StoreError::UnexpectedEof)
     );
-    let mut bytes = text(alloc, 92)?;
+    let mut bytes = encoding(alloc, 92)?;
     bytes.push(0)?;
     let trailing = Some(StoreError::MalformedData(Reason::TrailingBytes));
     assert_eq!(rt; in_pieces(alloc, &bytes, 96).err(), trailing);

@@ -36,7 +36,7 @@ module _ (files : Files) (folder : List ℕ) where
   -- a xorb is stored with one list of chunks
   pub stored_once : (h : List ℕ) (cs ds : List (List ℕ)) → IsStored files folder h cs → IsStored files folder h ds → cs ≡ ds
   stored_once h cs ds s t =
-      let same : s.bytes ≡ t.bytes = cc (s.there, t.there) in bytes_determine t.bytes cs ds (subst (λ (bytes : List ℕ). IsXorbEncoding bytes cs) same s.text) t.text
+      let same : s.bytes ≡ t.bytes = cc (s.there, t.there) in bytes_determine t.bytes cs ds (subst (λ (bytes : List ℕ). IsXorbEncoding bytes cs) same s.encoding) t.encoding
 
   -- and backed by one list of leaves
   backed_once : (h : List ℕ) (ms ns : List (List ℕ × ℕ)) → IsBacked files folder h ms → IsBacked files folder h ns → ms ≡ ns
@@ -48,7 +48,7 @@ module _ (files : Files) (folder : List ℕ) where
   module _ (shard : List ℕ) (e : StoreError) where
     xorb_not : (h : List ℕ) (ms : List (List ℕ × ℕ)) → IsBacked files folder h ms → XorbFails files folder shard h e → ⊥
     xorb_not h ms b (XorbFails.missing none is) = let bad = sym b.stored.there ∙ none in cc bad
-    xorb_not h ms b (XorbFails.text some never is) = never b.chunks b.stored
+    xorb_not h ms b (XorbFails.encoding some never is) = never b.chunks b.stored
 
     block_not : (b : MDBXorbInfo) → BlockHolds files folder shard b → BlockFails files folder shard b e → ⊥
     block_not b holds (BlockFails.xorb f) = xorb_not (record_of.xorb_hash b) (block_leaves b) holds f

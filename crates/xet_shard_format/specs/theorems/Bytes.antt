@@ -87,11 +87,11 @@ pub row_again : (r : Row) (rest : List ℕ) → RowFits r → row_of (row_bytes 
 unfolding row_bytes row_of
 row_again r rest fits =
     let len = fits.hash.0 in
-    let text : (r.hash ++ (to_le_bytes w32 r.a ++ (to_le_bytes w32 r.b ++ (to_le_bytes w32 r.c ++ to_le_bytes w32 r.d)))) ++ rest ≡ r.hash ++ (to_le_bytes w32 r.a ++ (to_le_bytes w32 r.b ++ (to_le_bytes w32 r.c ++ (to_le_bytes w32 r.d ++ rest)))) =
+    let encoding : (r.hash ++ (to_le_bytes w32 r.a ++ (to_le_bytes w32 r.b ++ (to_le_bytes w32 r.c ++ to_le_bytes w32 r.d)))) ++ rest ≡ r.hash ++ (to_le_bytes w32 r.a ++ (to_le_bytes w32 r.b ++ (to_le_bytes w32 r.c ++ (to_le_bytes w32 r.d ++ rest)))) =
     regroup5 r.hash (to_le_bytes w32 r.a) (to_le_bytes w32 r.b) (to_le_bytes w32 r.c) (to_le_bytes w32 r.d) rest in
     let tail : List ℕ = to_le_bytes w32 r.a ++ (to_le_bytes w32 r.b ++ (to_le_bytes w32 r.c ++ (to_le_bytes w32 r.d ++ rest))) in
     let past : (k : ℕ) → drop (32 + k) (r.hash ++ tail) ≡ drop k tail = λ k. sym (drop-drop k 32 (r.hash ++ tail)) ∙ ap (drop k) (drop_at r.hash tail 32 len) in
-    ap row_of text
+    ap row_of encoding
     ∙ (λ i. row (take_at r.hash tail 32 len i)
     ((ap (λ (t : List ℕ). from_le_bytes w32 (take 4 t)) (past 0) ∙ from_le_bytes-to_le_bytes_4 r.a fits.a) i)
     ((ap (λ (t : List ℕ). from_le_bytes w32 (take 4 t)) (past 4) ∙ from_le_bytes-to_le_bytes_4 r.b fits.b) i)
@@ -102,8 +102,8 @@ pub rows_again : (rs : List Row) (rest : List ℕ) → AllByRecursion RowFits rs
 unfolding rows_in
 rows_again [] rest fits = refl
 rows_again (r ∷ rs) rest fits =
-    let text : rows_bytes (r ∷ rs) ++ rest ≡ row_bytes r ++ (rows_bytes rs ++ rest) = ap (λ (t : List ℕ). t ++ rest) (flat_map-cons row_bytes r rs) ∙ append_assoc (row_bytes r) (rows_bytes rs) rest in
-    ap (rows_in (suc (length rs))) text
+    let encoding : rows_bytes (r ∷ rs) ++ rest ≡ row_bytes r ++ (rows_bytes rs ++ rest) = ap (λ (t : List ℕ). t ++ rest) (flat_map-cons row_bytes r rs) ∙ append_assoc (row_bytes r) (rows_bytes rs) rest in
+    ap (rows_in (suc (length rs))) encoding
     ∙ (λ i. row_again r (rows_bytes rs ++ rest) fits.0 i ∷ (ap (rows_in (length rs)) (drop_at (row_bytes r) (rows_bytes rs ++ rest) 48 (length-row_bytes r fits.0)) ∙ rows_again rs rest fits.1) i)
 
 pub length-rows_bytes : (rs : List Row) → AllByRecursion RowFits rs → length (rows_bytes rs) ≡ 48 * length rs

@@ -50,6 +50,6 @@ pub stored_below : (blocks : List MDBXorbInfo) → length (xorb_section blocks) 
 stored_below blocks few fits = omega (arith, few, sum_below xorb_rows (λ (x : MDBXorbInfo). x.metadata.num_bytes_in_xorb) xorb_bytes_below blocks fits)
 
 -- what is written of records that have the form and rise
-pub text_of_shard : {X : Type 0} (text : X → List ℕ) (r : Result X StoreError) (s : Shard) → IsShard s → IfOk r (λ x. text x ≡ full_shard_bytes s) → OnOk r (Fits s) → IfOk r (λ x. IsShardEncoding (text x) s)
-text_of_shard text (Ok x) s form is fits = record { shard = form; fits = fits; lookups = all_lookups; text = is }
-text_of_shard text (Err e) s form is fits = tt
+pub encoding_of_shard : {X : Type 0} (encoding : X → List ℕ) (r : Result X StoreError) (s : Shard) → IsShard s → IfOk r (λ x. encoding x ≡ full_shard_bytes s) → OnOk r (Fits s) → IfOk r (λ x. IsShardEncoding (encoding x) s)
+encoding_of_shard encoding (Ok x) s form is fits = record { shard = form; fits = fits; lookups = all_lookups; encoding = is }
+encoding_of_shard encoding (Err e) s form is fits = tt

@@ -89,8 +89,8 @@ past f k len = sym (drop-drop k 32 (f.chunk_hash_hmac_key ++ after_key f)) ∙ a
 pub zeros_again : (f : MDBShardFileFooter) → length f.chunk_hash_hmac_key ≡ 32 → take 48 (drop 120 (shard_footer_bytes f)) ≡ replicate 48 0
 zeros_again f len = ap (take 48) (past f 16 len)
 
-pub length-footer_text : (f : MDBShardFileFooter) → length f.chunk_hash_hmac_key ≡ 32 → length (shard_footer_bytes f) ≡ 200
-length-footer_text f len =
+pub length-footer_bytes : (f : MDBShardFileFooter) → length f.chunk_hash_hmac_key ≡ 32 → length (shard_footer_bytes f) ≡ 200
+length-footer_bytes f len =
     let key : length (f.chunk_hash_hmac_key ++ after_key f) ≡ 128 = length-append f.chunk_hash_hmac_key (after_key f) ∙ omega (arith, len) in
     omega (arith, key)
 

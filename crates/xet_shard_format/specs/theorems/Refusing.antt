@@ -162,9 +162,9 @@ a_last len last =
 a_footer : (bytes : List ℕ) → IsAnswer (shard_footer_at bytes)
 a_footer bytes = subst IsAnswer (footer_is bytes) (a_last (length bytes) (drop (length bytes - 200) bytes))
 
-a_lookup : (bytes : List ℕ) (at len : ℕ) (text : List ℕ) → IsAnswer (lookup_at bytes at len text)
+a_lookup : (bytes : List ℕ) (at len : ℕ) (encoding : List ℕ) → IsAnswer (lookup_at bytes at len encoding)
 unfolding lookup_at
-a_lookup bytes at len text = either (len == 0) _ _ (fine _) (wanted (pointwise nat_eq (take len (drop at bytes)) text) Lookup)
+a_lookup bytes at len encoding = either (len == 0) _ _ (fine _) (wanted (pointwise nat_eq (take len (drop at bytes)) encoding) Lookup)
 
 some_totals : (f : MDBShardFileFooter) (bytes stored : ℕ) → IsAnswer (totals_at f bytes stored)
 unfolding totals_at

@@ -57,9 +57,9 @@ pub row_is : (r : Row) (a b c d : ℕ) → r.a ≡ a → r.b ≡ b → r.c ≡ c
 row_is r a b c d ea eb ec ed = λ i. row r.hash (ea i) (eb i) (ec i) (ed i)
 
 -- what a reader of a text, a list of rows of a value that is in form, is to meet
-pub record ReadsRows {X : Type 0} (read : List Row → Result (X × List Row) StoreError) (text : X → List Row) (Form : X → Type 0) : Type 0 where
-  pub takes : (rows : List Row) (x : X) (rest : List Row) → read rows ≡ Ok (x, rest) → (rows ≡ text x ++ rest) × Form x
-  pub again : (x : X) (rest : List Row) → Form x → read (text x ++ rest) ≡ Ok (x, rest)
+pub record ReadsRows {X : Type 0} (read : List Row → Result (X × List Row) StoreError) (encoding : X → List Row) (Form : X → Type 0) : Type 0 where
+  pub takes : (rows : List Row) (x : X) (rest : List Row) → read rows ≡ Ok (x, rest) → (rows ≡ encoding x ++ rest) × Form x
+  pub again : (x : X) (rest : List Row) → Form x → read (encoding x ++ rest) ≡ Ok (x, rest)
 
 -- ---- things one after the other
 
@@ -182,7 +182,7 @@ file_takes head rows f rest e =
     let st = times_takes segment_at segment_row HasNoFlags segments_read head.b rows ss.0.0 ss.0.1 ss.1 in
     let vt = times_takes verification_at verification_row (λ _. Unit {0}) verifications_read (cond (is_verified head.a) head.b 0) ss.0.1 vs.0.0 vs.0.1 vs.1 in
     let mt = ext_takes (has_ext head.a) vs.0.1 m.0.0 m.0.1 m.1 in
-    let text : rows ≡ file_rest made ++ m.0.1 =
+    let encoding : rows ≡ file_rest made ++ m.0.1 =
     st.0 ∙ ap (λ (rs : List Row). map segment_row ss.0.0 ++ rs) (vt.0 ∙ ap (λ (rs : List Row). map verification_row vs.0.0 ++ rs) mt.0 ∙ sym (append_assoc (map verification_row vs.0.0) (ext_rows m.0.0) m.0.1))
     ∙ sym (append_assoc (map segment_row ss.0.0) (map verification_row vs.0.0 ++ ext_rows m.0.0) m.0.1) in
     let form : IsFile made = record {
@@ -193,7 +193,7 @@ file_takes head rows f rest e =
       flags = eqb-true _ _ a.0 ∙ ap (flags_of (is_verified head.a)) (sym mt.1);
     } in
     subst (λ (y : MDBFileInfo × List Row). (head ≡ file_head y.0) × (rows ≡ file_rest y.0 ++ y.1) × IsFile y.0) (ok_is (made, m.0.1) (f, rest) m.2)
-    (row_is head _ _ 0 0 refl refl (eqb-true _ _ c.0) (eqb-true _ _ d.0), text, form)
+    (row_is head _ _ 0 0 refl refl (eqb-true _ _ c.0) (eqb-true _ _ d.0), encoding, form)
 
 pub file_again : (f : MDBFileInfo) (rest : List Row) → IsFile f → file_record_at (file_head f) (file_rest f ++ rest) ≡ Ok (f, rest)
 unfolding file_record_at

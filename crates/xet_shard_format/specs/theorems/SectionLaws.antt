@@ -47,11 +47,11 @@ chunks_take (suc n) at rows cs total rest e =
     let c = bind_ok (chunks_at n (a.0.0.a + a.0.0.b) a.0.1) _ _ b.2 in
     let one = chunk_takes a.0.0 at b.0 b.1 in
     let others = chunks_take n (a.0.0.a + a.0.0.b) a.0.1 c.0.0 c.0.1 c.0.2 c.1 in
-    let text : rows ≡ chunk_row b.0 ∷ (map chunk_row c.0.0 ++ c.0.2) = row_ok rows a.0 a.1 ∙ ap (λ (r : Row). r ∷ a.0.1) one.0 ∙ ap (λ (rs : List Row). chunk_row b.0 ∷ rs) others.0 in
+    let encoding : rows ≡ chunk_row b.0 ∷ (map chunk_row c.0.0 ++ c.0.2) = row_ok rows a.0 a.1 ∙ ap (λ (r : Row). r ∷ a.0.1) one.0 ∙ ap (λ (rs : List Row). chunk_row b.0 ∷ rs) others.0 in
     let ends : a.0.0.a + a.0.0.b ≡ at + b.0.unpacked_segment_bytes = ap (λ (r : Row). r.a + r.b) one.0 ∙ ap (λ (n : ℕ). n + b.0.unpacked_segment_bytes) one.1 in
     let starts : StartAt (at + b.0.unpacked_segment_bytes) c.0.0 = subst (λ (n : ℕ). StartAt n c.0.0) ends others.2 in
     subst (λ (y : List XorbChunkSequenceEntry × ℕ × List Row). (rows ≡ map chunk_row y.0 ++ y.2) × (length y.0 ≡ suc n) × StartAt at y.0 × (y.1 ≡ at + chunk_bytes y.0)) (ok_is (b.0 ∷ c.0.0, c.0.1, c.0.2) (cs, total, rest) c.2)
-    (text, ap suc others.1, (one.1, starts), omega (arith, others.3, ends, chunk_total b.0 c.0.0))
+    (encoding, ap suc others.1, (one.1, starts), omega (arith, others.3, ends, chunk_total b.0 c.0.0))
 
 chunks_again : (at : ℕ) (cs : List XorbChunkSequenceEntry) (rest : List Row) → StartAt at cs → chunks_at (length cs) at (map chunk_row cs ++ rest) ≡ Ok (cs, at + chunk_bytes cs, rest)
 unfolding chunks_at

@@ -76,24 +76,24 @@ pub chunks_end : (found total : List (ℕ × ℕ × ℕ)) (row : ℕ) (xs : List
 unfolding chunks_from
 chunks_end found total row xs i le so_far = sym (append-nil found) ∙ ap (λ (ys : List MDBXorbInfo). found ++ chunks_from row ys) (sym (drop_all i xs le)) ∙ so_far
 
-pub heads_more : {X : Type 0} (hash : X → List ℕ) (rows : X → List Row) (text total : List ℕ) (row : ℕ) (xs : List X) (i : ℕ) (x : X) → i < length xs → x ≡ get_or xs i x
-    → text ++ record_items_bytes (heads_from hash rows row (drop i xs)) ≡ total → (text ++ record_item_bytes (first_word (hash x), row)) ++ record_items_bytes (heads_from hash rows (row + length (rows x)) (drop (i + 1) xs)) ≡ total
-heads_more hash rows text total row xs i x lt is so_far =
-    append_assoc text (record_item_bytes (first_word (hash x), row)) (record_items_bytes (heads_from hash rows (row + length (rows x)) (drop (i + 1) xs)))
-    ∙ ap (λ (t : List ℕ). text ++ t) (sym (ap record_items_bytes (heads_step hash rows row xs i x lt is) ∙ flat_map-cons record_item_bytes (first_word (hash x), row) (heads_from hash rows (row + length (rows x)) (drop (i + 1) xs)))) ∙ so_far
+pub heads_more : {X : Type 0} (hash : X → List ℕ) (rows : X → List Row) (encoding total : List ℕ) (row : ℕ) (xs : List X) (i : ℕ) (x : X) → i < length xs → x ≡ get_or xs i x
+    → encoding ++ record_items_bytes (heads_from hash rows row (drop i xs)) ≡ total → (encoding ++ record_item_bytes (first_word (hash x), row)) ++ record_items_bytes (heads_from hash rows (row + length (rows x)) (drop (i + 1) xs)) ≡ total
+heads_more hash rows encoding total row xs i x lt is so_far =
+    append_assoc encoding (record_item_bytes (first_word (hash x), row)) (record_items_bytes (heads_from hash rows (row + length (rows x)) (drop (i + 1) xs)))
+    ∙ ap (λ (t : List ℕ). encoding ++ t) (sym (ap record_items_bytes (heads_step hash rows row xs i x lt is) ∙ flat_map-cons record_item_bytes (first_word (hash x), row) (heads_from hash rows (row + length (rows x)) (drop (i + 1) xs)))) ∙ so_far
 
-pub heads_end : {X : Type 0} (hash : X → List ℕ) (rows : X → List Row) (text total : List ℕ) (row : ℕ) (xs : List X) (i : ℕ) → length xs ≤ i → text ++ record_items_bytes (heads_from hash rows row (drop i xs)) ≡ total → text ≡ total
+pub heads_end : {X : Type 0} (hash : X → List ℕ) (rows : X → List Row) (encoding total : List ℕ) (row : ℕ) (xs : List X) (i : ℕ) → length xs ≤ i → encoding ++ record_items_bytes (heads_from hash rows row (drop i xs)) ≡ total → encoding ≡ total
 unfolding heads_from
-heads_end hash rows text total row xs i le so_far = sym (append-nil text) ∙ ap (λ (ys : List _). text ++ record_items_bytes (heads_from hash rows row ys)) (sym (drop_all i xs le)) ∙ so_far
+heads_end hash rows encoding total row xs i le so_far = sym (append-nil encoding) ∙ ap (λ (ys : List _). encoding ++ record_items_bytes (heads_from hash rows row ys)) (sym (drop_all i xs le)) ∙ so_far
 
 -- the same where the text grew by two pieces, and the row by a number
-pub heads_grow : {X : Type 0} (hash : X → List ℕ) (rows : X → List Row) (text text1 text2 total : List ℕ) (row n word : ℕ) (xs : List X) (i : ℕ) (x : X) → i < length xs → x ≡ get_or xs i x
-    → text1 ≡ text ++ to_le_bytes w64 word → text2 ≡ text1 ++ to_le_bytes w32 row → word ≡ first_word (hash x) → n ≡ length (rows x)
-    → text ++ record_items_bytes (heads_from hash rows row (drop i xs)) ≡ total → text2 ++ record_items_bytes (heads_from hash rows (row + n) (drop (i + 1) xs)) ≡ total
-heads_grow {X} hash rows text text1 text2 total row n word xs i x lt is e1 e2 ew en so_far =
-    let two : text2 ≡ text ++ record_item_bytes (first_word (hash x), row) =
-    e2 ∙ ap (λ (t : List ℕ). t ++ to_le_bytes w32 row) e1 ∙ append_assoc text (to_le_bytes w64 word) (to_le_bytes w32 row) ∙ ap (λ (k : ℕ). text ++ (to_le_bytes w64 k ++ to_le_bytes w32 row)) ew in
-    (λ j. two j ++ record_items_bytes (heads_from hash rows (row + en j) (drop (i + 1) xs))) ∙ heads_more hash rows text total row xs i x lt is so_far
+pub heads_grow : {X : Type 0} (hash : X → List ℕ) (rows : X → List Row) (encoding text1 text2 total : List ℕ) (row n word : ℕ) (xs : List X) (i : ℕ) (x : X) → i < length xs → x ≡ get_or xs i x
+    → text1 ≡ encoding ++ to_le_bytes w64 word → text2 ≡ text1 ++ to_le_bytes w32 row → word ≡ first_word (hash x) → n ≡ length (rows x)
+    → encoding ++ record_items_bytes (heads_from hash rows row (drop i xs)) ≡ total → text2 ++ record_items_bytes (heads_from hash rows (row + n) (drop (i + 1) xs)) ≡ total
+heads_grow {X} hash rows encoding text1 text2 total row n word xs i x lt is e1 e2 ew en so_far =
+    let two : text2 ≡ encoding ++ record_item_bytes (first_word (hash x), row) =
+    e2 ∙ ap (λ (t : List ℕ). t ++ to_le_bytes w32 row) e1 ∙ append_assoc encoding (to_le_bytes w64 word) (to_le_bytes w32 row) ∙ ap (λ (k : ℕ). encoding ++ (to_le_bytes w64 k ++ to_le_bytes w32 row)) ew in
+    (λ j. two j ++ record_items_bytes (heads_from hash rows (row + en j) (drop (i + 1) xs))) ∙ heads_more hash rows encoding total row xs i x lt is so_far
 
 pub chunks_grow : (found found1 total : List (ℕ × ℕ × ℕ)) (row n : ℕ) (xs : List MDBXorbInfo) (i : ℕ) (x : MDBXorbInfo) → i < length xs → x ≡ get_or xs i x
     → found1 ≡ found ++ lookup_rows_from row 0 x.chunks → n ≡ length (xorb_rows x) → found ++ chunks_from row (drop i xs) ≡ total → found1 ++ chunks_from (row + n) (drop (i + 1) xs) ≡ total

@@ -19,10 +19,10 @@ use Rattle.xet_shard_format.specs.Encoding.{Fits, IsShard, Shard, footer_of, sha
 use Rattle.xet_shard_format.specs.Reading.{IsPlaced, all_of, file_record_at, file_row_count, shard_footer_at, footer_in, shard_header_at, lookup_at, section_at, totals_at, ShardParts, shard_parts_of, shard_of, xorb_at, xorb_row_count}
 use Rattle.xet_shard_format.specs.theorems.SectionLaws.{files_reading, xorbs_reading, section_again}
 use Rattle.xet_shard_format.specs.theorems.Bytes.{rows_again, length-rows_bytes}
-use Rattle.xet_shard_format.specs.theorems.Footers.{header_again, footer_again, FooterFits, zeros_again, length-footer_text, places_again}
+use Rattle.xet_shard_format.specs.theorems.Footers.{header_again, footer_again, FooterFits, zeros_again, length-footer_bytes, places_again}
 use Rattle.xet_shard_format.specs.theorems.Counts.{chunk_count, file_count, rows_le, xorb_count}
 use Rattle.xet_shard_format.specs.theorems.Fitting.{materialized_below, stored_below}
-use Rattle.xet_shard_format.specs.theorems.WholeTaken.{lookup_again, length-items_text, head_len, place_len, first_word_is}
+use Rattle.xet_shard_format.specs.theorems.WholeTaken.{lookup_again, length-items_encoding, head_len, place_len, first_word_is}
 
 left_le : {X : Type 0} (w : Bool) (xs : List X) (n : ℕ) → length xs ≤ n → length (left_in w xs) ≤ n
 left_le true xs n le = le
@@ -79,7 +79,7 @@ no_count k false xs e = grind arith
 
 encoded_again : (bytes : List ℕ) (f : MDBShardFileFooter) (s : Shard) (w : Lookups) → IsShard s → Fits s → bytes ≡ shard_bytes w s → f ≡ footer_of w s → all_of bytes ≡ Ok (s.blocks, s.files, f)
 unfolding shard_bytes footer_of
-encoded_again bytes f s w form fits text footer =
+encoded_again bytes f s w form fits encoding footer =
     let e0 : f.file_info_offset ≡ 48 = ap (λ (g : MDBShardFileFooter). g.file_info_offset) footer in
     let e1 : f.xorb_info_offset ≡ 48 + 48 * length (file_section s.files) = ap (λ (g : MDBShardFileFooter). g.xorb_info_offset) footer in
     let e2 : f.file_lookup_offset ≡ 48 + 48 * length (file_section s.files) + 48 * length (xorb_section s.blocks) = ap (λ (g : MDBShardFileFooter). g.file_lookup_offset) footer in
@@ -91,16 +91,16 @@ encoded_again bytes f s w form fits text footer =
     let e5 : f.footer_offset ≡ 48 + 48 * length (file_section s.files) + 48 * length (xorb_section s.blocks) + 12 * length (left_in w.files (file_items s.files)) + 12 * length (left_in w.xorbs (xorb_items s.blocks)) + 16 * length (left_in w.chunks (chunk_items s.blocks)) = ap (λ (g : MDBShardFileFooter). g.footer_offset) footer in
     let lf = length-rows_bytes (file_section s.files) fits.files in
     let lx = length-rows_bytes (xorb_section s.blocks) fits.blocks in
-    let la = length-items_text record_item_bytes 12 head_len (left_in w.files (file_items s.files)) in
-    let lb = length-items_text record_item_bytes 12 head_len (left_in w.xorbs (xorb_items s.blocks)) in
-    let lc = length-items_text chunk_item_bytes 16 place_len (left_in w.chunks (chunk_items s.blocks)) in
-    let d0 = ap (drop 48) text in
+    let la = length-items_encoding record_item_bytes 12 head_len (left_in w.files (file_items s.files)) in
+    let lb = length-items_encoding record_item_bytes 12 head_len (left_in w.xorbs (xorb_items s.blocks)) in
+    let lc = length-items_encoding chunk_item_bytes 16 place_len (left_in w.chunks (chunk_items s.blocks)) in
+    let d0 = ap (drop 48) encoding in
     let d1 = drop_next bytes 48 (48 * length (file_section s.files)) f.xorb_info_offset _ _ d0 lf (sym e1) in
     let d2 = drop_next bytes f.xorb_info_offset (48 * length (xorb_section s.blocks)) f.file_lookup_offset _ _ d1 lx (omega (arith, e1, e2)) in
     let d3 = drop_next bytes f.file_lookup_offset (12 * length (left_in w.files (file_items s.files))) f.xorb_lookup_offset _ _ d2 la (omega (arith, e2, e3)) in
     let d4 = drop_next bytes f.xorb_lookup_offset (12 * length (left_in w.xorbs (xorb_items s.blocks))) f.chunk_lookup_offset _ _ d3 lb (omega (arith, e3, e4)) in
     let d5 = drop_next bytes f.chunk_lookup_offset (16 * length (left_in w.chunks (chunk_items s.blocks))) f.footer_offset _ _ d4 lc (omega (arith, e4, e5)) in
-    let lfoot : length (drop f.footer_offset bytes) ≡ 200 = ap length d5 ∙ length-footer_text (footer_of w s) fits.key.0 in
+    let lfoot : length (drop f.footer_offset bytes) ≡ 200 = ap length d5 ∙ length-footer_bytes (footer_of w s) fits.key.0 in
     let whole : length bytes ≡ f.footer_offset + 200 = omega (arith, lfoot, length-drop f.footer_offset bytes) in
     let cf : file_row_count f ≡ length (file_section s.files) = (λ i. (e1 i - e0 i) / 48) ∙ count_back 0 (length (file_section s.files)) in
     let cx : xorb_row_count f ≡ length (xorb_section s.blocks) = (λ i. (e2 i - e1 i) / 48) ∙ count_after (48 + 48 * length (file_section s.files)) (length (xorb_section s.blocks)) in
@@ -141,7 +141,7 @@ encoded_again bytes f s w form fits text footer =
     let at_end : length bytes - 200 ≡ f.footer_offset = omega (arith, whole) in
     let end : drop (length bytes - 200) bytes ≡ shard_footer_bytes f = ap (λ (k : ℕ). drop k bytes) at_end ∙ d5 ∙ ap shard_footer_bytes (sym footer) in
     let long : 200 ≤ length (drop 48 bytes) = omega (arith, length-drop 48 bytes, whole, e5) in
-    let head : shard_header_at bytes ≡ Ok tt = ap shard_header_at (text ∙ ap (λ (t : List ℕ). shard_header_bytes header ++ t) (sym d0)) ∙ header_again (drop 48 bytes) long in
+    let head : shard_header_at bytes ≡ Ok tt = ap shard_header_at (encoding ∙ ap (λ (t : List ℕ). shard_header_bytes header ++ t) (sym d0)) ∙ header_again (drop 48 bytes) long in
     read_again bytes f s.files s.blocks head
     (footer_at_again bytes f end (subst FooterFits (sym footer) ff) (ap (λ (g : MDBShardFileFooter). g.version) footer) placed)
     (section_placed file_record_at file_hash bytes f.file_info_offset (length (file_section s.files)) (file_row_count f) (file_section s.files) _ s.files (ap (λ (k : ℕ). drop k bytes) e0 ∙ d0) fits.files refl cf

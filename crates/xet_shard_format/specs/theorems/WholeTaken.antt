@@ -25,16 +25,16 @@ use Rattle.xet_shard_format.specs.theorems.Footers.{header_takes, footer_back, p
 
 -- ---- look-ups
 
-pub length-items_text : {I : Type 0} (text : I → List ℕ) (size : ℕ) (each : (i : I) → length (text i) ≡ size) (is : List I) → length (flat_map text is) ≡ size * length is
-length-items_text text size each [] = omega arith
-length-items_text text size each (i ∷ is) =
+pub length-items_encoding : {I : Type 0} (encoding : I → List ℕ) (size : ℕ) (each : (i : I) → length (encoding i) ≡ size) (is : List I) → length (flat_map encoding is) ≡ size * length is
+length-items_encoding encoding size each [] = omega arith
+length-items_encoding encoding size each (i ∷ is) =
     let more : size * suc (length is) ≡ size + size * length is = grind arith in
-    ap length (flat_map-cons text i is) ∙ length-append (text i) (flat_map text is) ∙ omega (arith, each i, length-items_text text size each is, more)
+    ap length (flat_map-cons encoding i is) ∙ length-append (encoding i) (flat_map encoding is) ∙ omega (arith, each i, length-items_encoding encoding size each is, more)
 
 -- how many items a look-up has, and which
-pub record LeftIn {I : Type 0} (text : I → List ℕ) (items : List I) (n : ℕ) (piece : List ℕ) : Type 0 where
+pub record LeftIn {I : Type 0} (encoding : I → List ℕ) (items : List I) (n : ℕ) (piece : List ℕ) : Type 0 where
   pub stands : Bool
-  pub is : piece ≡ flat_map text (left_in stands items)
+  pub is : piece ≡ flat_map encoding (left_in stands items)
   pub count : n ≡ length (left_in stands items)
 
 no_items : (size n len : ℕ) → len ≡ suc size * n → len ≡ 0 → n ≡ 0
@@ -46,27 +46,27 @@ no_items size (suc n) len e z =
 same_items : (size n m : ℕ) → suc size * n ≡ suc size * m → n ≡ m
 same_items size n m e = let pos : 0 < suc size = omega arith in sym (mul-div_cancel_left n pos) ∙ ap (λ (k : ℕ). k / suc size) e ∙ mul-div_cancel_left m pos
 
-pub lookup_takes : {I : Type 0} (text : I → List ℕ) (size : ℕ) (each : (i : I) → length (text i) ≡ suc size) (items : List I) (bytes : List ℕ) (at n len : ℕ) (u : Unit {0}) → len ≡ suc size * n → at + len ≤ length bytes
-    → lookup_at bytes at len (flat_map text items) ≡ Ok u → LeftIn text items n (take len (drop at bytes))
+pub lookup_takes : {I : Type 0} (encoding : I → List ℕ) (size : ℕ) (each : (i : I) → length (encoding i) ≡ suc size) (items : List I) (bytes : List ℕ) (at n len : ℕ) (u : Unit {0}) → len ≡ suc size * n → at + len ≤ length bytes
+    → lookup_at bytes at len (flat_map encoding items) ≡ Ok u → LeftIn encoding items n (take len (drop at bytes))
 unfolding lookup_at
-lookup_takes text size each items bytes at n len u e le h =
+lookup_takes encoding size each items bytes at n len u e le h =
     elim (chosen (eqb len 0) _ _ _ h) [
       | inl (none, _) ↦
           let zero_len : len ≡ 0 = eqb-true _ _ none in
           record { stands = false; is = ap (λ (k : ℕ). take k (drop at bytes)) zero_len; count = no_items size n len e zero_len }
       | inr (some, f) ↦
-          let same : take len (drop at bytes) ≡ flat_map text items = (bytes_decides (take len (drop at bytes)) (flat_map text items)).0 (wants_last _ _ _ f) in
+          let same : take len (drop at bytes) ≡ flat_map encoding items = (bytes_decides (take len (drop at bytes)) (flat_map encoding items)).0 (wants_last _ _ _ f) in
           let long : length (take len (drop at bytes)) ≡ len = omega (arith, length-take len (drop at bytes), length-drop at bytes) in
-          record { stands = true; is = same; count = same_items size n (length items) (sym e ∙ sym long ∙ ap length same ∙ length-items_text text (suc size) each items) }
+          record { stands = true; is = same; count = same_items size n (length items) (sym e ∙ sym long ∙ ap length same ∙ length-items_encoding encoding (suc size) each items) }
     ]
 
-pub lookup_again : {I : Type 0} (text : I → List ℕ) (stands : Bool) (items : List I) (bytes : List ℕ) (at len : ℕ) → take len (drop at bytes) ≡ flat_map text (left_in stands items) → (stands ≡ false → len ≡ 0)
-    → lookup_at bytes at len (flat_map text items) ≡ Ok tt
+pub lookup_again : {I : Type 0} (encoding : I → List ℕ) (stands : Bool) (items : List I) (bytes : List ℕ) (at len : ℕ) → take len (drop at bytes) ≡ flat_map encoding (left_in stands items) → (stands ≡ false → len ≡ 0)
+    → lookup_at bytes at len (flat_map encoding items) ≡ Ok tt
 unfolding lookup_at
-lookup_again text false items bytes at len e z = rw (eq-eqb len 0 (z refl)) refl
-lookup_again text true items bytes at len e z = elim (cases_Bool (eqb len 0)) [
+lookup_again encoding false items bytes at len e z = rw (eq-eqb len 0 (z refl)) refl
+lookup_again encoding true items bytes at len e z = elim (cases_Bool (eqb len 0)) [
   | inl none ↦ rw none refl
-  | inr some ↦ rw (some, (bytes_decides (take len (drop at bytes)) (flat_map text items)).1 e) refl
+  | inr some ↦ rw (some, (bytes_decides (take len (drop at bytes)) (flat_map encoding items)).1 e) refl
 ]
 
 -- ---- reading a shard
@@ -81,7 +81,7 @@ pub record EndsInFooter (bytes : List ℕ) (f : MDBShardFileFooter) : Type 0 whe
   pub is : f ≡ footer_in (drop (length bytes - 200) bytes)
   pub version : f.version ≡ 1
   pub placed : IsPlaced (length bytes) f
-  pub text : shard_footer_bytes f ≡ drop (length bytes - 200) bytes
+  pub encoding : shard_footer_bytes f ≡ drop (length bytes - 200) bytes
 
 pub first_word_is : (bytes : List ℕ) → (footer_in bytes).version ≡ word bytes 0
 unfolding footer_in
@@ -101,7 +101,7 @@ footer_takes bytes f fits long e =
       is = sym is;
       version = ap (λ (g : MDBShardFileFooter). g.version) (sym is) ∙ first_word_is (drop (length bytes - 200) bytes) ∙ eqb-true _ _ a.0;
       placed = subst (λ (g : MDBShardFileFooter). IsPlaced (length bytes) g) is (places_take _ _ c.0 c.1);
-      text = ap shard_footer_bytes (sym is) ∙ back;
+      encoding = ap shard_footer_bytes (sym is) ∙ back;
     }
 
 totals_take : (f : MDBShardFileFooter) (m s : ℕ) (u : Unit {0}) → totals_at f m s ≡ Ok u → (f.stored_bytes_on_disk ≡ 0) × (f.materialized_bytes ≡ m) × (f.stored_bytes ≡ s)
@@ -183,7 +183,7 @@ read_parts bytes files blocks f fits h fe xe end u1 l1 u2 l2 u3 l3 totals =
     c.count
     refl refl refl totals.0 totals.1 totals.2
     (omega (arith, p.files, p.xorbs, p.file_lookup, p.xorb_lookup, p.chunk_lookup, p.footer, frows.1, xrows.1, a.count, b.count, c.count)) in
-    let tail : drop f.footer_offset bytes ≡ shard_footer_bytes (footer_of which s) = ap (λ (k : ℕ). drop k bytes) (sym at_end) ∙ sym end.text ∙ ap shard_footer_bytes footer in
+    let tail : drop f.footer_offset bytes ≡ shard_footer_bytes (footer_of which s) = ap (λ (k : ℕ). drop k bytes) (sym at_end) ∙ sym end.encoding ∙ ap shard_footer_bytes footer in
     let e5 = tc ∙ ap (λ (t : List ℕ). flat_map chunk_item_bytes (left_in c.stands (chunk_items blocks)) ++ t) tail in
     let e4 = tb ∙ ap (λ (t : List ℕ). flat_map record_item_bytes (left_in b.stands (xorb_items blocks)) ++ t) e5 in
     let e3 = ta ∙ ap (λ (t : List ℕ). flat_map record_item_bytes (left_in a.stands (file_items files)) ++ t) e4 in
@@ -206,7 +206,7 @@ read_parts bytes files blocks f fits h fe xe end u1 l1 u2 l2 u3 l3 totals =
         expiry = subst (λ (k : ℕ). k < 2 ^ 64) (ap (λ (g : MDBShardFileFooter). g.shard_key_expiry) (sym end.is)) (word_below (drop (length bytes - 200) bytes) 112 ends_fit);
       };
       lookups = which;
-      text = whole;
+      encoding = whole;
       footer = footer;
     }
 

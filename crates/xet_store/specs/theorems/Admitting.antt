@@ -73,7 +73,7 @@ module _ (old new : Files) (folder : List ℕ) where
   SameXorb h = bytes_at new (xorb_path folder h) ≡ bytes_at old (xorb_path folder h)
 
   pub stored_same : (h : List ℕ) (chunks : List (List ℕ)) → SameXorb h → IsStored old folder h chunks → IsStored new folder h chunks
-  stored_same h chunks same s = record { bytes = s.bytes; there = same ∙ s.there; text = s.text; readable = s.readable; hash = s.hash }
+  stored_same h chunks same s = record { bytes = s.bytes; there = same ∙ s.there; encoding = s.encoding; readable = s.readable; hash = s.hash }
 
   pub backed_same : (h : List ℕ) (leaves : List (List ℕ × ℕ)) → SameXorb h → IsBacked old folder h leaves → IsBacked new folder h leaves
   backed_same h leaves same b = record { chunks = b.chunks; stored = stored_same h b.chunks same b.stored; same = b.same }

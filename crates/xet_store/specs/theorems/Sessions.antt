@@ -95,7 +95,7 @@ module _ (s : State) (sound : Sound s) where
 module _ (old new : Files) (folder : List ℕ) where
   -- a xorb whose bytes are the same is stored with the same chunks
   stored_same : (h : List ℕ) (chunks : List (List ℕ)) → bytes_at new (xorb_path folder h) ≡ bytes_at old (xorb_path folder h) → IsStored old folder h chunks → IsStored new folder h chunks
-  stored_same h chunks same s = record { bytes = s.bytes; there = same ∙ s.there; text = s.text; readable = s.readable; hash = s.hash }
+  stored_same h chunks same s = record { bytes = s.bytes; there = same ∙ s.there; encoding = s.encoding; readable = s.readable; hash = s.hash }
 
   -- a file is listed by a shard whose file is the same
   lists_same : (now : ℕ) (f : MDBFileInfo) (l : Lists old folder now f) → file_at new (shard_path folder l.shard.hash) ≡ file_at old (shard_path folder l.shard.hash) → Lists new folder now f

@@ -29,8 +29,8 @@ impl<D: Disk + Send> Store<D> {
         if self.pending.is_empty() {
             return Ok(None);
         }
-        let (text, _) = self.pending.shard_bytes(self.alloc, self.opened, None)?;
-        let hash = compute_data_hash(&text);
+        let (encoding, _) = self.pending.shard_bytes(self.alloc, self.opened, None)?;
+        let hash = compute_data_hash(&encoding);
         // No registered shard has what is pending, so one has this hash only if there is a collision.
         if self.shards.contains(&hash) {
             return Err(StoreError::OutOfMemory);
@@ -42,7 +42,7 @@ impl<D: Disk + Send> Store<D> {
             self.alloc,
             self.folder.as_str(),
             &hash,
-            &text,
+            &encoding,
         )?;
         self.shards.push_reserved(hash);
         self.pending = MDBInMemoryShard::new(self.alloc);

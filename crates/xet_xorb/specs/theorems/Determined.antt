@@ -49,12 +49,12 @@ unfolding footer_bytes_v0 footer_bytes_v1
 footer_begins V0 hash ms spare more = (_, refl)
 footer_begins V1 hash ms spare more = (_, refl)
 
-text_parts : (version : Version) (hash : List ℕ) (ms : List (List ℕ × ℕ)) (cs : List (List ℕ)) (spare : List ℕ) → (s : List ℕ) × BeginsWith 88 s × (xorb_bytes version hash ms cs spare ≡ flat_map encoded_chunk cs ++ s)
+encoding_parts : (version : Version) (hash : List ℕ) (ms : List (List ℕ × ℕ)) (cs : List (List ℕ)) (spare : List ℕ) → (s : List ℕ) × BeginsWith 88 s × (xorb_bytes version hash ms cs spare ≡ flat_map encoded_chunk cs ++ s)
 unfolding xorb_bytes
-text_parts version hash ms cs spare = (xorb_footer_bytes version hash ms spare ++ number (footer_len version (length ms)), footer_begins version hash ms spare _, refl)
+encoding_parts version hash ms cs spare = (xorb_footer_bytes version hash ms spare ++ number (footer_len version (length ms)), footer_begins version hash ms spare _, refl)
 
 pub bytes_determine : (bytes : List ℕ) (cs ds : List (List ℕ)) → IsXorbEncoding bytes cs → IsXorbEncoding bytes ds → cs ≡ ds
 bytes_determine bytes cs ds x y =
-    let p = text_parts _ _ _ cs x.spare in
-    let q = text_parts _ _ _ ds y.spare in
+    let p = encoding_parts _ _ _ cs x.spare in
+    let q = encoding_parts _ _ _ ds y.spare in
     all_chunks cs ds p.0 q.0 x.small y.small p.1 q.1 (sym p.2 ∙ sym x.encoded ∙ y.encoded ∙ q.2)

@@ -27,14 +27,14 @@ told_back prefix n small =
     told_is (length all) all (number n) refl (omega arith) last ∙ ap Ok (from_le_bytes-to_le_bytes_4 n small)
 
 -- a text of so many bytes, which is read as a footer
-last_back : (info : XorbObjectInfoV1) (prefix text : List ℕ) (n : ℕ) → length text ≡ n → n < 2 ^ 32 → footer_at (text ++ number n) ≡ Ok (info, number n) → last_footer (prefix ++ (text ++ number n)) ≡ Ok (info, n)
+last_back : (info : XorbObjectInfoV1) (prefix encoding : List ℕ) (n : ℕ) → length encoding ≡ n → n < 2 ^ 32 → footer_at (encoding ++ number n) ≡ Ok (info, number n) → last_footer (prefix ++ (encoding ++ number n)) ≡ Ok (info, n)
 unfolding last_footer
-last_back info prefix text n len small read =
-    let all : List ℕ = prefix ++ (text ++ number n) in
-    let long : length all ≡ length prefix + (n + 4) = omega (arith, length-append prefix (text ++ number n), length-append text (number n)) in
-    let told : footer_length all ≡ Ok n = ap footer_length (sym (append_assoc prefix text (number n))) ∙ told_back (prefix ++ text) n small in
+last_back info prefix encoding n len small read =
+    let all : List ℕ = prefix ++ (encoding ++ number n) in
+    let long : length all ≡ length prefix + (n + 4) = omega (arith, length-append prefix (encoding ++ number n), length-append encoding (number n)) in
+    let told : footer_length all ≡ Ok n = ap footer_length (sym (append_assoc prefix encoding (number n))) ∙ told_back (prefix ++ encoding) n small in
     let enough : nat_le (n + 4) (length all) ≡ true = le-leb (n + 4) (length all) (omega arith) in
-    let here : drop (length all - (n + 4)) all ≡ text ++ number n = behind prefix (text ++ number n) (length all - (n + 4)) (omega arith) in
+    let here : drop (length all - (n + 4)) all ≡ encoding ++ number n = behind prefix (encoding ++ number n) (length all - (n + 4)) (omega arith) in
     rw (told, enough, here, read) refl
 
 pub last_is_read : (i : XorbObjectInfoV1) (prefix : List ℕ) → IsStandard i → last_footer (prefix ++ (footer_bytes_v1 i ++ number (92 + 40 * i.num_chunks))) ≡ Ok (i, 92 + 40 * i.num_chunks)

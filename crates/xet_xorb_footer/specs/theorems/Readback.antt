@@ -58,38 +58,38 @@ standard hash n hashes ends plain spare = record {
 }
 
 -- its text behind ident and version, before other bytes
-abbrev text_end : ℕ → List ℕ → List ℕ → List ℕ
-text_end n spare more = number n ++ (number (52 + 40 * n) ++ (number (40 + 8 * n) ++ (spare ++ more)))
+abbrev encoding_end : ℕ → List ℕ → List ℕ → List ℕ
+encoding_end n spare more = number n ++ (number (52 + 40 * n) ++ (number (40 + 8 * n) ++ (spare ++ more)))
 
-abbrev text_middle : ℕ → List ℕ → List ℕ → List ℕ → List ℕ → List ℕ
-text_middle n ends plain spare more = boundaries_magic ++ ((1 ∷ []) ++ (number n ++ (numbers ends ++ (numbers plain ++ text_end n spare more))))
+abbrev encoding_middle : ℕ → List ℕ → List ℕ → List ℕ → List ℕ → List ℕ
+encoding_middle n ends plain spare more = boundaries_magic ++ ((1 ∷ []) ++ (number n ++ (numbers ends ++ (numbers plain ++ encoding_end n spare more))))
 
-abbrev text_rest : List ℕ → ℕ → List (List ℕ) → List ℕ → List ℕ → List ℕ → List ℕ → List ℕ
-text_rest hash n hashes ends plain spare more = hash ++ (hashes_magic ++ ((0 ∷ []) ++ (number n ++ (joined hashes ++ text_middle n ends plain spare more))))
+abbrev encoding_rest : List ℕ → ℕ → List (List ℕ) → List ℕ → List ℕ → List ℕ → List ℕ → List ℕ
+encoding_rest hash n hashes ends plain spare more = hash ++ (hashes_magic ++ ((0 ∷ []) ++ (number n ++ (joined hashes ++ encoding_middle n ends plain spare more))))
 
-text_of : (hash : List ℕ) (n : ℕ) (hashes : List (List ℕ)) (ends plain spare more : List ℕ) → footer_bytes_v1 (standard hash n hashes ends plain spare) ++ more ≡ footer_magic ++ ((1 ∷ []) ++ text_rest hash n hashes ends plain spare more)
+encoding_of : (hash : List ℕ) (n : ℕ) (hashes : List (List ℕ)) (ends plain spare more : List ℕ) → footer_bytes_v1 (standard hash n hashes ends plain spare) ++ more ≡ footer_magic ++ ((1 ∷ []) ++ encoding_rest hash n hashes ends plain spare more)
 unfolding footer_bytes_v1
-text_of hash n hashes ends plain spare more = simp append_assoc
+encoding_of hash n hashes ends plain spare more = simp append_assoc
 
 rest_back : (hash : List ℕ) (n : ℕ) (hashes : List (List ℕ)) (ends plain spare more : List ℕ) → length hash ≡ 32 → n ≤ max_chunks → length hashes ≡ n → length ends ≡ n → length plain ≡ n
     → AllByRecursion (λ h. length h ≡ 32) hashes → AllByRecursion (λ k. k < 2 ^ 32) ends → AllByRecursion (λ k. k < 2 ^ 32) plain → length spare ≡ 16
-    → rest_v1 (text_rest hash n hashes ends plain spare more) ≡ Ok (standard hash n hashes ends plain spare, more)
+    → rest_v1 (encoding_rest hash n hashes ends plain spare more) ≡ Ok (standard hash n hashes ends plain spare, more)
 unfolding rest_v1
 rest_back hash n hashes ends plain spare more hash_len few hashes_len ends_len plain_len whole small_ends small_plain spare_len =
     let small : n < 2 ^ 32 = omega arith in
-    let e1 = bytes_whole 32 hash (hashes_magic ++ ((0 ∷ []) ++ (number n ++ (joined hashes ++ text_middle n ends plain spare more)))) hash_len in
-    let e2 = ident_whole hashes_magic reasons.HashesIdent hashes_magic ((0 ∷ []) ++ (number n ++ (joined hashes ++ text_middle n ends plain spare more))) refl in
-    let e3 = version_whole 0 reasons.HashesVersion (0 ∷ []) (number n ++ (joined hashes ++ text_middle n ends plain spare more)) refl in
-    let e4 = count_back n (joined hashes ++ text_middle n ends plain spare more) few in
-    let e5 : times (next_bytes 32) n (joined hashes ++ text_middle n ends plain spare more) ≡ Ok (hashes, text_middle n ends plain spare more) =
-    ap (λ (k : ℕ). times (next_bytes 32) k (joined hashes ++ text_middle n ends plain spare more)) (sym hashes_len) ∙ hashes_back hashes (text_middle n ends plain spare more) whole in
-    let e6 = ident_whole boundaries_magic reasons.BoundariesIdent boundaries_magic ((1 ∷ []) ++ (number n ++ (numbers ends ++ (numbers plain ++ text_end n spare more)))) refl in
-    let e7 = version_whole 1 reasons.BoundariesVersion (1 ∷ []) (number n ++ (numbers ends ++ (numbers plain ++ text_end n spare more))) refl in
-    let e8 = is_back n reasons.CountMismatch (numbers ends ++ (numbers plain ++ text_end n spare more)) small in
-    let e9 : times number_at n (numbers ends ++ (numbers plain ++ text_end n spare more)) ≡ Ok (ends, numbers plain ++ text_end n spare more) =
-    ap (λ (k : ℕ). times number_at k (numbers ends ++ (numbers plain ++ text_end n spare more))) (sym ends_len) ∙ numbers_back ends (numbers plain ++ text_end n spare more) small_ends in
-    let e10 : times number_at n (numbers plain ++ text_end n spare more) ≡ Ok (plain, text_end n spare more) =
-    ap (λ (k : ℕ). times number_at k (numbers plain ++ text_end n spare more)) (sym plain_len) ∙ numbers_back plain (text_end n spare more) small_plain in
+    let e1 = bytes_whole 32 hash (hashes_magic ++ ((0 ∷ []) ++ (number n ++ (joined hashes ++ encoding_middle n ends plain spare more)))) hash_len in
+    let e2 = ident_whole hashes_magic reasons.HashesIdent hashes_magic ((0 ∷ []) ++ (number n ++ (joined hashes ++ encoding_middle n ends plain spare more))) refl in
+    let e3 = version_whole 0 reasons.HashesVersion (0 ∷ []) (number n ++ (joined hashes ++ encoding_middle n ends plain spare more)) refl in
+    let e4 = count_back n (joined hashes ++ encoding_middle n ends plain spare more) few in
+    let e5 : times (next_bytes 32) n (joined hashes ++ encoding_middle n ends plain spare more) ≡ Ok (hashes, encoding_middle n ends plain spare more) =
+    ap (λ (k : ℕ). times (next_bytes 32) k (joined hashes ++ encoding_middle n ends plain spare more)) (sym hashes_len) ∙ hashes_back hashes (encoding_middle n ends plain spare more) whole in
+    let e6 = ident_whole boundaries_magic reasons.BoundariesIdent boundaries_magic ((1 ∷ []) ++ (number n ++ (numbers ends ++ (numbers plain ++ encoding_end n spare more)))) refl in
+    let e7 = version_whole 1 reasons.BoundariesVersion (1 ∷ []) (number n ++ (numbers ends ++ (numbers plain ++ encoding_end n spare more))) refl in
+    let e8 = is_back n reasons.CountMismatch (numbers ends ++ (numbers plain ++ encoding_end n spare more)) small in
+    let e9 : times number_at n (numbers ends ++ (numbers plain ++ encoding_end n spare more)) ≡ Ok (ends, numbers plain ++ encoding_end n spare more) =
+    ap (λ (k : ℕ). times number_at k (numbers ends ++ (numbers plain ++ encoding_end n spare more))) (sym ends_len) ∙ numbers_back ends (numbers plain ++ encoding_end n spare more) small_ends in
+    let e10 : times number_at n (numbers plain ++ encoding_end n spare more) ≡ Ok (plain, encoding_end n spare more) =
+    ap (λ (k : ℕ). times number_at k (numbers plain ++ encoding_end n spare more)) (sym plain_len) ∙ numbers_back plain (encoding_end n spare more) small_plain in
     let e11 = is_back n reasons.CountMismatch (number (52 + 40 * n) ++ (number (40 + 8 * n) ++ (spare ++ more))) small in
     let e12 = is_back (52 + 40 * n) reasons.HashesOffset (number (40 + 8 * n) ++ (spare ++ more)) (omega arith) in
     let e13 = is_back (40 + 8 * n) reasons.BoundaryOffset (spare ++ more) (omega arith) in
@@ -123,8 +123,8 @@ pub written_is_read : (i : XorbObjectInfoV1) (more : List ℕ) → IsStandard i 
 written_is_read i more s =
     let k : XorbObjectInfoV1 = standard i.xorb_hash i.num_chunks i.chunk_hashes i.chunk_boundary_offsets i.unpacked_chunk_offsets i.spare in
     let is : i ≡ k = same i s in
-    ap (λ (x : XorbObjectInfoV1). footer_at (footer_bytes_v1 x ++ more)) is ∙ ap footer_at (text_of i.xorb_hash i.num_chunks i.chunk_hashes i.chunk_boundary_offsets i.unpacked_chunk_offsets i.spare more)
-    ∙ prefix_back (text_rest i.xorb_hash i.num_chunks i.chunk_hashes i.chunk_boundary_offsets i.unpacked_chunk_offsets i.spare more)
+    ap (λ (x : XorbObjectInfoV1). footer_at (footer_bytes_v1 x ++ more)) is ∙ ap footer_at (encoding_of i.xorb_hash i.num_chunks i.chunk_hashes i.chunk_boundary_offsets i.unpacked_chunk_offsets i.spare more)
+    ∙ prefix_back (encoding_rest i.xorb_hash i.num_chunks i.chunk_hashes i.chunk_boundary_offsets i.unpacked_chunk_offsets i.spare more)
     ∙ rest_back i.xorb_hash i.num_chunks i.chunk_hashes i.chunk_boundary_offsets i.unpacked_chunk_offsets i.spare more s.hash s.few s.lists.hashes s.lists.stored s.lists.plain s.whole_hashes s.small_stored s.small_plain s.spare
     ∙ ap (λ (x : XorbObjectInfoV1). Ok (x, more)) (sym is)
 

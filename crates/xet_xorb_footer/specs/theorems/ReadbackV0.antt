@@ -17,16 +17,16 @@ abbrev pub standard_v0 : List ℕ → ℕ → List (List ℕ) → List ℕ → L
 standard_v0 hash n hashes ends spare = record { ident = footer_magic; version = 0; xorb_hash = hash; num_chunks = n; chunk_boundary_offsets = ends; chunk_hashes = hashes; spare = spare }
 
 -- its text behind ident and version, before other bytes
-abbrev text_rest : List ℕ → ℕ → List (List ℕ) → List ℕ → List ℕ → List ℕ → List ℕ
-text_rest hash n hashes ends spare more = hash ++ (number n ++ (numbers ends ++ (joined hashes ++ (spare ++ more))))
+abbrev encoding_rest : List ℕ → ℕ → List (List ℕ) → List ℕ → List ℕ → List ℕ → List ℕ
+encoding_rest hash n hashes ends spare more = hash ++ (number n ++ (numbers ends ++ (joined hashes ++ (spare ++ more))))
 
-text_of : (hash : List ℕ) (n : ℕ) (hashes : List (List ℕ)) (ends spare more : List ℕ) → footer_bytes_v0 (standard_v0 hash n hashes ends spare) ++ more ≡ footer_magic ++ ((0 ∷ []) ++ text_rest hash n hashes ends spare more)
+encoding_of : (hash : List ℕ) (n : ℕ) (hashes : List (List ℕ)) (ends spare more : List ℕ) → footer_bytes_v0 (standard_v0 hash n hashes ends spare) ++ more ≡ footer_magic ++ ((0 ∷ []) ++ encoding_rest hash n hashes ends spare more)
 unfolding footer_bytes_v0
-text_of hash n hashes ends spare more = simp append_assoc
+encoding_of hash n hashes ends spare more = simp append_assoc
 
 rest_back : (hash : List ℕ) (n : ℕ) (hashes : List (List ℕ)) (ends spare more : List ℕ) → length hash ≡ 32 → n ≤ max_chunks → length hashes ≡ n → length ends ≡ n
     → AllByRecursion (λ h. length h ≡ 32) hashes → AllByRecursion (λ k. k < 2 ^ 32) ends → length spare ≡ 16
-    → rest_v0 (text_rest hash n hashes ends spare more) ≡ Ok (standard_v0 hash n hashes ends spare, more)
+    → rest_v0 (encoding_rest hash n hashes ends spare more) ≡ Ok (standard_v0 hash n hashes ends spare, more)
 unfolding rest_v0
 rest_back hash n hashes ends spare more hash_len few hashes_len ends_len whole small spare_len =
     let e1 = bytes_whole 32 hash (number n ++ (numbers ends ++ (joined hashes ++ (spare ++ more)))) hash_len in
@@ -50,8 +50,8 @@ pub written_is_read_v0 : (i : XorbObjectInfoV0) (more : List ℕ) → IsStandard
 written_is_read_v0 i more s =
     let k : XorbObjectInfoV0 = standard_v0 i.xorb_hash i.num_chunks i.chunk_hashes i.chunk_boundary_offsets i.spare in
     let is : i ≡ k = same i s in
-    let rest : List ℕ = text_rest i.xorb_hash i.num_chunks i.chunk_hashes i.chunk_boundary_offsets i.spare more in
-    ap (λ (x : XorbObjectInfoV0). footer_at (footer_bytes_v0 x ++ more)) is ∙ ap footer_at (text_of i.xorb_hash i.num_chunks i.chunk_hashes i.chunk_boundary_offsets i.spare more) ∙ prefix_back rest
+    let rest : List ℕ = encoding_rest i.xorb_hash i.num_chunks i.chunk_hashes i.chunk_boundary_offsets i.spare more in
+    ap (λ (x : XorbObjectInfoV0). footer_at (footer_bytes_v0 x ++ more)) is ∙ ap footer_at (encoding_of i.xorb_hash i.num_chunks i.chunk_hashes i.chunk_boundary_offsets i.spare more) ∙ prefix_back rest
     ∙ ap (λ (r : _). r >>= λ x. Ok (of_v0 x.0, x.1)) (rest_back i.xorb_hash i.num_chunks i.chunk_hashes i.chunk_boundary_offsets i.spare more s.hash s.few s.hashes s.stored s.whole_hashes s.small_stored s.spare)
     ∙ ap (λ (x : XorbObjectInfoV0). Ok (of_v0 x, more)) (sym is)
 

@@ -5,8 +5,8 @@ use Rattle.xet_shard_format.specs.Lookups.{Lookups}
 use Rattle.xet_shard_format.specs.Encoding.{Fits, Shard, shard, shard_bytes}
 use Rattle.xet_shard.proofs.export.keyed_bytes.Goals as goal
 
-pub returns-clause-text : goal.returns-clause-text
-returns-clause-text g c = λ told.
+pub returns-clause-encoding : goal.returns-clause-encoding
+returns-clause-encoding g c = λ told.
     let w : Lookups = record { files = c.args.lookups.files; xorbs = c.args.lookups.xorbs; chunks = c.args.lookups.chunks } in
     let blocks = map-id c.deref.result.now ∙ c.deref.ensures.value in
     let files = map-id c.deref-2.result.now ∙ c.deref-2.ensures.value in
@@ -16,6 +16,6 @@ returns-clause-text g c = λ told.
       shard = s;
       found = c.in_ok-blocks.ensures.exact told c.args.valid_for c.args.now;
       form = record { files = c.in_ok-blocks.ensures.files; blocks = c.in_ok-blocks.ensures.blocks; few_files = c.in_ok-blocks.ensures.few_files; few_blocks = c.in_ok-blocks.ensures.few_blocks };
-      fits = subst Fits same c.in_ok-text.ensures.fits;
-      text = c.in_ok-text.ensures.text ∙ ap (shard_bytes w) same;
+      fits = subst Fits same c.in_ok-encoding.ensures.fits;
+      encoding = c.in_ok-encoding.ensures.encoding ∙ ap (shard_bytes w) same;
     }

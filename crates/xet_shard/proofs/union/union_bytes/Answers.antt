@@ -41,8 +41,8 @@ is_few-requires-else-not-is_few c =
     ap (map xorb_now) c.deref-else-not-is_few.ensures.value ∙ c.in_ok-xorbs.ensures.union ∙ (λ i. union xorb_hash (c.deref.ensures.value i) (c.deref-2.ensures.value i)) in
     union_few xorb_hash xorb_rows (2 ^ 32) c.args.ours.now.0.items c.args.theirs.now.0.items (map xorb_now c.deref-else-not-is_few.result.now) united c.requires.ours.few_blocks c.requires.theirs.few_blocks
 
-pub returns-clause-text : goal.returns-clause-text
-returns-clause-text c =
+pub returns-clause-encoding : goal.returns-clause-encoding
+returns-clause-encoding c =
     let p : ShardRecords × ShardRecords = ((c.args.ours.now.0.items, c.args.ours.now.1.items), (c.args.theirs.now.0.items, c.args.theirs.now.1.items)) in
     let s : Shard = union_shard p c.args.creation c.args.other in
     let files : map file_now c.in_ok-found.found.items ≡ union file_hash p.0.1 p.1.1 = c.in_ok-found.ensures.union ∙ (λ i. union file_hash (c.deref-3.ensures.value i) (c.deref-4.ensures.value i)) in
@@ -64,5 +64,5 @@ returns-clause-text c =
       form = union_is_shard p c.args.creation c.args.other c.requires.ours c.requires.theirs few_files few_blocks;
       fits = subst Fits same c.in_ok-written.ensures.fits;
       info = c.in_ok-written.ensures.info ∙ ap (λ (t : Shard). record { header = header; metadata = footer_of all_lookups t }) same;
-      text = c.in_ok-written.ensures.text ∙ ap full_shard_bytes same;
+      encoding = c.in_ok-written.ensures.encoding ∙ ap full_shard_bytes same;
     }

@@ -6,7 +6,7 @@ use Rattle.xet_shard_format.proofs.encoding.push_footer.Goals as goal
 
 pub returns : goal.returns
 returns c =
-    let e1 : c.extend_from_slice.new.self.items ≡ c.args.text.now.items ++ to_le_bytes w64 c.args.f.now.version = search rules in
+    let e1 : c.extend_from_slice.new.self.items ≡ c.args.encoding.now.items ++ to_le_bytes w64 c.args.f.now.version = search rules in
     let e2 : c.extend_from_slice-2.new.self.items ≡ c.extend_from_slice.new.self.items ++ to_le_bytes w64 c.args.f.now.file_info_offset = search rules in
     let e3 : c.extend_from_slice-3.new.self.items ≡ c.extend_from_slice-2.new.self.items ++ to_le_bytes w64 c.args.f.now.xorb_info_offset = search rules in
     let e4 : c.extend_from_slice-4.new.self.items ≡ c.extend_from_slice-3.new.self.items ++ to_le_bytes w64 c.args.f.now.file_lookup_offset = search rules in
@@ -38,4 +38,4 @@ returns c =
     let w4 = piece_before c.extend_from_slice-3.new.self.items c.extend_from_slice-4.new.self.items _ (to_le_bytes w64 c.args.f.now.file_lookup_offset) _ e4 w5 in
     let w3 = piece_before c.extend_from_slice-2.new.self.items c.extend_from_slice-3.new.self.items _ (to_le_bytes w64 c.args.f.now.xorb_info_offset) _ e3 w4 in
     let w2 = piece_before c.extend_from_slice.new.self.items c.extend_from_slice-2.new.self.items _ (to_le_bytes w64 c.args.f.now.file_info_offset) _ e2 w3 in
-    piece_before c.args.text.now.items c.extend_from_slice.new.self.items _ (to_le_bytes w64 c.args.f.now.version) _ e1 w2
+    piece_before c.args.encoding.now.items c.extend_from_slice.new.self.items _ (to_le_bytes w64 c.args.f.now.version) _ e1 w2

@@ -8,11 +8,11 @@ pub loop-item-preserved : goal.loop-item-preserved
 loop-item-preserved g c =
     let at = lent_at g.T.Lends.lent c.args.records.now c.loop-item.item-index c.item-item.result c.lend.result.now c.loop-item-test.true c.item-item.is c.lend.ensures in
     record {
-      text = rows_grow g.R.Record.rows_of c.loop-item.text.items c.push.new.text.items _ _ c.loop-item.item-index c.lend.result.now at.0 at.1 c.in_ok-push.ensures.text c.loop-item.invariant.text;
+      encoding = rows_grow g.R.Record.rows_of c.loop-item.encoding.items c.push.new.encoding.items _ _ c.loop-item.item-index c.lend.result.now at.0 at.1 c.in_ok-push.ensures.encoding c.loop-item.invariant.encoding;
       fits = fits_grow g.R.Record.rows_of _ _ c.loop-item.item-index c.lend.result.now at.0 at.1 c.in_ok-push.ensures.fits c.loop-item.invariant.fits;
     }
 
-pub returns-clause-text : goal.returns-clause-text
-returns-clause-text g c =
-    rows_end g.R.Record.rows_of c.loop-item.text.items c.push_row.new.text.items _ _ c.loop-item.item-index (none_lent g.T.Lends.lent c.args.records.now c.loop-item.item-index c.loop-item-test.false)
-    (c.in_ok-push_row.ensures.text ∙ ap (λ (r : _). c.loop-item.text.items ++ row_bytes r) (c.of_hash.ensures ∙ ap (λ (h : _). row h 0 0 0 0) c.marker.ensures)) c.loop-item.invariant.text
+pub returns-clause-encoding : goal.returns-clause-encoding
+returns-clause-encoding g c =
+    rows_end g.R.Record.rows_of c.loop-item.encoding.items c.push_row.new.encoding.items _ _ c.loop-item.item-index (none_lent g.T.Lends.lent c.args.records.now c.loop-item.item-index c.loop-item-test.false)
+    (c.in_ok-push_row.ensures.encoding ∙ ap (λ (r : _). c.loop-item.encoding.items ++ row_bytes r) (c.of_hash.ensures ∙ ap (λ (h : _). row h 0 0 0 0) c.marker.ensures)) c.loop-item.invariant.encoding

@@ -10,6 +10,6 @@ invariant-loop-item g l =
     let lent = g.T.Lends.lent in
     let rows_of = g.R.Record.rows_of in
     record {
-      text : l.text.items ++ rows_bytes (section rows_of (drop l.item-index (map lent l.records))) ≡ l.fn.text.items ++ rows_bytes (section rows_of (map lent l.records));
+      encoding : l.encoding.items ++ rows_bytes (section rows_of (drop l.item-index (map lent l.records))) ≡ l.fn.encoding.items ++ rows_bytes (section rows_of (map lent l.records));
       fits : AllByRecursion RowFits (section rows_of (drop l.item-index (map lent l.records))) → AllByRecursion RowFits (section rows_of (map lent l.records));
     }

@@ -10,5 +10,5 @@ invariant-loop-item g l =
     let rows_of = g.R.Record.rows_of in
     record {
       row : l.row + length (section rows_of (drop l.item-index (map lent l.records))) ≡ length (section rows_of (map lent l.records));
-      so_far : l.text.items ++ record_items_bytes (heads_from hash_of rows_of l.row (drop l.item-index (map lent l.records))) ≡ l.fn.text.items ++ record_items_bytes (heads_from hash_of rows_of 0 (map lent l.records));
+      so_far : l.encoding.items ++ record_items_bytes (heads_from hash_of rows_of l.row (drop l.item-index (map lent l.records))) ≡ l.fn.encoding.items ++ record_items_bytes (heads_from hash_of rows_of 0 (map lent l.records));
     }

@@ -9,7 +9,7 @@ returns-then-not-branch-clause-found g c = λ bytes sees.
     let size = c.min-size.result in
     let here : Sees _ _ bytes c.args.len c.pieces.block = record { told = inv.tells ∙ sees.told; same = inv.same ∙ sees.same; all = sees.all; part = inv.part bytes sees } in
     let found = rw c.if-not-branch.true at (c.in_ok-piece_stands_at.ensures.found bytes here) in
-    (search rules, λ equal. found.1 (piece_same c.args.at c.pieces.done size c.args.text.now bytes _ (omega arith) refl equal))
+    (search rules, λ equal. found.1 (piece_same c.args.at c.pieces.done size c.args.encoding.now bytes _ (omega arith) refl equal))
 
 pub pieces-preserved : goal.pieces-preserved
 pieces-preserved g c =
@@ -28,5 +28,5 @@ pieces-preserved g c =
       found = λ bytes sees.
           let here : Sees _ _ bytes c.args.len c.pieces.block = record { told = inv.tells ∙ sees.told; same = inv.same ∙ sees.same; all = sees.all; part = inv.part bytes sees } in
           let found = rw c.if-not-branch.false at (kept.found bytes here) in
-          piece_more c.args.at c.pieces.done size c.args.text.now bytes _ (omega arith) refl (inv.found bytes sees) (found.0 refl);
+          piece_more c.args.at c.pieces.done size c.args.encoding.now bytes _ (omega arith) refl (inv.found bytes sees) (found.0 refl);
     }

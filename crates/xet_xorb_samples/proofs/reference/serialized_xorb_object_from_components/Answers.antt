@@ -30,13 +30,13 @@ returns-clause-built c =
     let start : c.in_ok-start.start ≡ length (flat_map encoded_chunk parts) =
     c.in_ok-start.ensures.start ∙ ap (λ (x : List ℕ). length (flat_map encoded_chunk (parts_from 0 c.deref-4.result.now x))) c.deref-3.ensures.value
     ∙ ap (λ (x : List (List ℕ × ℕ)). length (flat_map encoded_chunk (parts_from 0 x bytes))) c.deref-4.ensures.value in
-    let text : xorb_bytes V1 hash (leaves_from 0 c.deref-4.result.now) (parts_from 0 c.deref-4.result.now c.deref-3.result.now) no_spare ≡ xorb_bytes V1 hash ms parts no_spare =
+    let encoding : xorb_bytes V1 hash (leaves_from 0 c.deref-4.result.now) (parts_from 0 c.deref-4.result.now c.deref-3.result.now) no_spare ≡ xorb_bytes V1 hash ms parts no_spare =
     ap (λ (x : List ℕ). xorb_bytes V1 hash (leaves_from 0 c.deref-4.result.now) (parts_from 0 c.deref-4.result.now x) no_spare) c.deref-3.ensures.value
     ∙ ap (λ (x : List (List ℕ × ℕ)). xorb_bytes V1 hash (leaves_from 0 x) (parts_from 0 x bytes) no_spare) c.deref-4.ensures.value in
     let empty : c.from_vec-sink.result ≡ [] = c.from_vec-sink.ensures ∙ c.in_ok-room.ensures.items in
     let written : c.from_vec.result ≡ xorb_bytes V1 hash ms parts no_spare =
     c.from_vec.ensures ∙ c.into_bytes.ensures ∙ c.in_ok-start.ensures.written refl
-    ∙ ap (λ (x : List ℕ). x ++ xorb_bytes V1 hash (leaves_from 0 c.deref-4.result.now) (parts_from 0 c.deref-4.result.now c.deref-3.result.now) no_spare) empty ∙ text in
+    ∙ ap (λ (x : List ℕ). x ++ xorb_bytes V1 hash (leaves_from 0 c.deref-4.result.now) (parts_from 0 c.deref-4.result.now c.deref-3.result.now) no_spare) empty ∙ encoding in
     let count : c.len.result ≡ length parts = omega (arith, length-parts 0 cs bytes, c.deref-4.ensures.len, ap length c.deref-4.ensures.value, c.len.ensures) in
     let count_again : c.len-2.result ≡ length parts = omega (arith, length-parts 0 cs bytes, c.deref-4.ensures.len, ap length c.deref-4.ensures.value, c.len-2.ensures) in
     components_are hash ms parts c.from_vec.result _ c.len-2.result c.in_ok-start.start written (omega (arith, start, length-encoded parts, count)) count_again start

@@ -9,7 +9,7 @@ use Rattle.xet_folder.specs.Xorbs.{Xorbs, found}
 use Rattle.xet_store.specs.Store.{State}
 use Rattle.xet_store.specs.Tables.{tables, tables_of}
 use Rattle.xet_store.proofs.Answering.{on_err}
-use Rattle.xet_store.proofs.Adding.{PutsXorb, backed_by_text, listed_at, leaves_below, parts_fit, put_keeps, put_sound, put_tables, raw_block, raw_hash, raw_text, same_leaves, tables_by_chunks, tables_listed, true_from, unput_keeps, unput_sound}
+use Rattle.xet_store.proofs.Adding.{PutsXorb, backed_by_encoding, listed_at, leaves_below, parts_fit, put_keeps, put_sound, put_tables, raw_block, raw_hash, raw_encoding, same_leaves, tables_by_chunks, tables_listed, true_from, unput_keeps, unput_sound}
 use Rattle.xet_store.specs.theorems.Keeping.{keeps_nothing}
 use Rattle.xet_store.proofs.Pending.{few_blocks_of, xorb_form_of}
 use Rattle.xet_store.proofs.Rows.{recorded_at}
@@ -86,8 +86,8 @@ invariant_of-self-in_err-put_xorb g c =
       foreign = c.put_xorb.ensures.foreign;
       backs = λ there.
           subst (λ (m : List (List ℕ × ℕ)). IsBacked files c.self.inside.folder h m) (sym c.in_ok-leaves.ensures.leaves)
-          (backed_by_text files c.self.inside.folder h c.in_ok-built.built.serialized_data chunks c.requires.digests c.requires.small
-          (raw_text c.in_ok-raw.raw chunks _ c.in_ok-raw.ensures.exact h c.hash-hash.ensures c.in_ok-built.built.serialized_data c.requires.digests c.requires.some c.in_ok-raw.ensures.leaves (c.in_ok-built.ensures.grammar refl))
+          (backed_by_encoding files c.self.inside.folder h c.in_ok-built.built.serialized_data chunks c.requires.digests c.requires.small
+          (raw_encoding c.in_ok-raw.raw chunks _ c.in_ok-raw.ensures.exact h c.hash-hash.ensures c.in_ok-built.built.serialized_data c.requires.digests c.requires.some c.in_ok-raw.ensures.leaves (c.in_ok-built.ensures.grammar refl))
           is_hash (there ∙ ap Some c.as_slice-2.ensures));
       left = c.in_err-put_xorb.ensures.refused;
     } in
@@ -110,8 +110,8 @@ returns-in_err-put_xorb-clause-keeps g c =
       foreign = c.put_xorb.ensures.foreign;
       backs = λ there.
           subst (λ (m : List (List ℕ × ℕ)). IsBacked files c.self.inside.folder h m) (sym c.in_ok-leaves.ensures.leaves)
-          (backed_by_text files c.self.inside.folder h c.in_ok-built.built.serialized_data chunks c.requires.digests c.requires.small
-          (raw_text c.in_ok-raw.raw chunks _ c.in_ok-raw.ensures.exact h c.hash-hash.ensures c.in_ok-built.built.serialized_data c.requires.digests c.requires.some c.in_ok-raw.ensures.leaves (c.in_ok-built.ensures.grammar refl))
+          (backed_by_encoding files c.self.inside.folder h c.in_ok-built.built.serialized_data chunks c.requires.digests c.requires.small
+          (raw_encoding c.in_ok-raw.raw chunks _ c.in_ok-raw.ensures.exact h c.hash-hash.ensures c.in_ok-built.built.serialized_data c.requires.digests c.requires.some c.in_ok-raw.ensures.leaves (c.in_ok-built.ensures.grammar refl))
           is_hash (there ∙ ap Some c.as_slice-2.ensures));
       left = c.in_err-put_xorb.ensures.refused;
     } in
@@ -150,8 +150,8 @@ invariant_of-self-in_err-add_xorb_block g c =
       foreign = c.put_xorb.ensures.foreign;
       backs = λ there.
           subst (λ (m : List (List ℕ × ℕ)). IsBacked files c.self.inside.folder h m) (sym c.in_ok-leaves.ensures.leaves)
-          (backed_by_text files c.self.inside.folder h c.in_ok-built.built.serialized_data chunks c.requires.digests c.requires.small
-          (raw_text c.in_ok-raw.raw chunks _ c.in_ok-raw.ensures.exact h c.hash-hash.ensures c.in_ok-built.built.serialized_data c.requires.digests c.requires.some c.in_ok-raw.ensures.leaves (c.in_ok-built.ensures.grammar refl))
+          (backed_by_encoding files c.self.inside.folder h c.in_ok-built.built.serialized_data chunks c.requires.digests c.requires.small
+          (raw_encoding c.in_ok-raw.raw chunks _ c.in_ok-raw.ensures.exact h c.hash-hash.ensures c.in_ok-built.built.serialized_data c.requires.digests c.requires.some c.in_ok-raw.ensures.leaves (c.in_ok-built.ensures.grammar refl))
           is_hash (there ∙ ap Some c.as_slice-2.ensures));
       left = λ told. inr (record { there = c.in_ok-put_xorb.ensures.there told; durable = c.in_ok-put_xorb.ensures.durable told; temp = c.in_ok-put_xorb.ensures.temp told });
     } in
@@ -174,8 +174,8 @@ returns-in_err-add_xorb_block-clause-keeps g c =
       foreign = c.put_xorb.ensures.foreign;
       backs = λ there.
           subst (λ (m : List (List ℕ × ℕ)). IsBacked files c.self.inside.folder h m) (sym c.in_ok-leaves.ensures.leaves)
-          (backed_by_text files c.self.inside.folder h c.in_ok-built.built.serialized_data chunks c.requires.digests c.requires.small
-          (raw_text c.in_ok-raw.raw chunks _ c.in_ok-raw.ensures.exact h c.hash-hash.ensures c.in_ok-built.built.serialized_data c.requires.digests c.requires.some c.in_ok-raw.ensures.leaves (c.in_ok-built.ensures.grammar refl))
+          (backed_by_encoding files c.self.inside.folder h c.in_ok-built.built.serialized_data chunks c.requires.digests c.requires.small
+          (raw_encoding c.in_ok-raw.raw chunks _ c.in_ok-raw.ensures.exact h c.hash-hash.ensures c.in_ok-built.built.serialized_data c.requires.digests c.requires.some c.in_ok-raw.ensures.leaves (c.in_ok-built.ensures.grammar refl))
           is_hash (there ∙ ap Some c.as_slice-2.ensures));
       left = λ told. inr (record { there = c.in_ok-put_xorb.ensures.there told; durable = c.in_ok-put_xorb.ensures.durable told; temp = c.in_ok-put_xorb.ensures.temp told });
     } in
@@ -203,8 +203,8 @@ invariant_of-self-2 g c =
       foreign = c.put_xorb.ensures.foreign;
       backs = λ there.
           subst (λ (m : List (List ℕ × ℕ)). IsBacked files c.self.inside.folder h m) (sym c.in_ok-leaves.ensures.leaves)
-          (backed_by_text files c.self.inside.folder h c.in_ok-built.built.serialized_data chunks c.requires.digests c.requires.small
-          (raw_text c.in_ok-raw.raw chunks _ c.in_ok-raw.ensures.exact h c.hash-hash.ensures c.in_ok-built.built.serialized_data c.requires.digests c.requires.some c.in_ok-raw.ensures.leaves (c.in_ok-built.ensures.grammar refl))
+          (backed_by_encoding files c.self.inside.folder h c.in_ok-built.built.serialized_data chunks c.requires.digests c.requires.small
+          (raw_encoding c.in_ok-raw.raw chunks _ c.in_ok-raw.ensures.exact h c.hash-hash.ensures c.in_ok-built.built.serialized_data c.requires.digests c.requires.some c.in_ok-raw.ensures.leaves (c.in_ok-built.ensures.grammar refl))
           is_hash (there ∙ ap Some c.as_slice-2.ensures));
       left = λ told. inr (record { there = c.in_ok-put_xorb.ensures.there told; durable = c.in_ok-put_xorb.ensures.durable told; temp = c.in_ok-put_xorb.ensures.temp told });
     } in
@@ -232,8 +232,8 @@ returns g c =
       foreign = c.put_xorb.ensures.foreign;
       backs = λ there.
           subst (λ (m : List (List ℕ × ℕ)). IsBacked files c.self.inside.folder h m) (sym c.in_ok-leaves.ensures.leaves)
-          (backed_by_text files c.self.inside.folder h c.in_ok-built.built.serialized_data chunks c.requires.digests c.requires.small
-          (raw_text c.in_ok-raw.raw chunks _ c.in_ok-raw.ensures.exact h c.hash-hash.ensures c.in_ok-built.built.serialized_data c.requires.digests c.requires.some c.in_ok-raw.ensures.leaves (c.in_ok-built.ensures.grammar refl))
+          (backed_by_encoding files c.self.inside.folder h c.in_ok-built.built.serialized_data chunks c.requires.digests c.requires.small
+          (raw_encoding c.in_ok-raw.raw chunks _ c.in_ok-raw.ensures.exact h c.hash-hash.ensures c.in_ok-built.built.serialized_data c.requires.digests c.requires.some c.in_ok-raw.ensures.leaves (c.in_ok-built.ensures.grammar refl))
           is_hash (there ∙ ap Some c.as_slice-2.ensures));
       left = λ told. inr (record { there = c.in_ok-put_xorb.ensures.there told; durable = c.in_ok-put_xorb.ensures.durable told; temp = c.in_ok-put_xorb.ensures.temp told });
     } in

@@ -9,11 +9,11 @@ use Rattle.xet_store.proofs.store.Store.flush.Goals as goal
 pub returns-then-is_empty-clause-keeps : goal.returns-then-is_empty-clause-keeps
 returns-then-is_empty-clause-keeps g c = keeps_nothing c.args.self.now
 
-pub returns-in_err-text-clause-keeps : goal.returns-in_err-text-clause-keeps
-returns-in_err-text-clause-keeps g c = keeps_nothing c.args.self.now
+pub returns-in_err-encoding-clause-keeps : goal.returns-in_err-encoding-clause-keeps
+returns-in_err-encoding-clause-keeps g c = keeps_nothing c.args.self.now
 
-pub returns-in_err-text-clause-refused : goal.returns-in_err-text-clause-refused
-returns-in_err-text-clause-refused g c = on_err _ (nothing_done c.args.self.now)
+pub returns-in_err-encoding-clause-refused : goal.returns-in_err-encoding-clause-refused
+returns-in_err-encoding-clause-refused g c = on_err _ (nothing_done c.args.self.now)
 
 pub returns-then-contains-clause-keeps : goal.returns-then-contains-clause-keeps
 returns-then-contains-clause-keeps g c = keeps_nothing c.args.self.now
@@ -38,9 +38,9 @@ invariant_of-self-in_err-put_shard g c =
       new = not_listed _ _ h c.deref-2.ensures.value (sym c.contains.ensures.value ∙ c.if-contains.false);
       is_hash = (c.known_bytes.ensures.length, c.known_bytes.ensures.bytes);
       hash = c.compute_data_hash-hash.ensures ∙ ap shard_hash (c.deref.ensures.value ∙ sym c.deref-3.ensures.value);
-      is = c.deref-3.ensures.value ∙ c.in_ok-text.ensures.text;
-      shard = c.in_ok-text.ensures.shard;
-      fits = c.in_ok-text.ensures.fits;
+      is = c.deref-3.ensures.value ∙ c.in_ok-encoding.ensures.encoding;
+      shard = c.in_ok-encoding.ensures.shard;
+      fits = c.in_ok-encoding.ensures.fits;
       xorbs = c.put_shard.ensures.xorbs;
       shards = c.put_shard.ensures.shards;
       others = c.put_shard.ensures.others;
@@ -60,9 +60,9 @@ returns-in_err-put_shard-clause-keeps g c =
       new = not_listed _ _ h c.deref-2.ensures.value (sym c.contains.ensures.value ∙ c.if-contains.false);
       is_hash = (c.known_bytes.ensures.length, c.known_bytes.ensures.bytes);
       hash = c.compute_data_hash-hash.ensures ∙ ap shard_hash (c.deref.ensures.value ∙ sym c.deref-3.ensures.value);
-      is = c.deref-3.ensures.value ∙ c.in_ok-text.ensures.text;
-      shard = c.in_ok-text.ensures.shard;
-      fits = c.in_ok-text.ensures.fits;
+      is = c.deref-3.ensures.value ∙ c.in_ok-encoding.ensures.encoding;
+      shard = c.in_ok-encoding.ensures.shard;
+      fits = c.in_ok-encoding.ensures.fits;
       xorbs = c.put_shard.ensures.xorbs;
       shards = c.put_shard.ensures.shards;
       others = c.put_shard.ensures.others;
@@ -82,9 +82,9 @@ returns-in_err-put_shard-clause-refused g c =
       new = not_listed _ _ h c.deref-2.ensures.value (sym c.contains.ensures.value ∙ c.if-contains.false);
       is_hash = (c.known_bytes.ensures.length, c.known_bytes.ensures.bytes);
       hash = c.compute_data_hash-hash.ensures ∙ ap shard_hash (c.deref.ensures.value ∙ sym c.deref-3.ensures.value);
-      is = c.deref-3.ensures.value ∙ c.in_ok-text.ensures.text;
-      shard = c.in_ok-text.ensures.shard;
-      fits = c.in_ok-text.ensures.fits;
+      is = c.deref-3.ensures.value ∙ c.in_ok-encoding.ensures.encoding;
+      shard = c.in_ok-encoding.ensures.shard;
+      fits = c.in_ok-encoding.ensures.fits;
       xorbs = c.put_shard.ensures.xorbs;
       shards = c.put_shard.ensures.shards;
       others = c.put_shard.ensures.others;
@@ -104,9 +104,9 @@ invariant_of-self-2 g c =
       new = not_listed _ _ h c.deref-2.ensures.value (sym c.contains.ensures.value ∙ c.if-contains.false);
       is_hash = (c.known_bytes.ensures.length, c.known_bytes.ensures.bytes);
       hash = c.compute_data_hash-hash.ensures ∙ ap shard_hash (c.deref.ensures.value ∙ sym c.deref-3.ensures.value);
-      is = c.deref-3.ensures.value ∙ c.in_ok-text.ensures.text;
-      shard = c.in_ok-text.ensures.shard;
-      fits = c.in_ok-text.ensures.fits;
+      is = c.deref-3.ensures.value ∙ c.in_ok-encoding.ensures.encoding;
+      shard = c.in_ok-encoding.ensures.shard;
+      fits = c.in_ok-encoding.ensures.fits;
       xorbs = c.put_shard.ensures.xorbs;
       shards = c.put_shard.ensures.shards;
       others = c.put_shard.ensures.others;
@@ -126,9 +126,9 @@ returns-clause-flushed g c =
       new = not_listed _ _ h c.deref-2.ensures.value (sym c.contains.ensures.value ∙ c.if-contains.false);
       is_hash = (c.known_bytes.ensures.length, c.known_bytes.ensures.bytes);
       hash = c.compute_data_hash-hash.ensures ∙ ap shard_hash (c.deref.ensures.value ∙ sym c.deref-3.ensures.value);
-      is = c.deref-3.ensures.value ∙ c.in_ok-text.ensures.text;
-      shard = c.in_ok-text.ensures.shard;
-      fits = c.in_ok-text.ensures.fits;
+      is = c.deref-3.ensures.value ∙ c.in_ok-encoding.ensures.encoding;
+      shard = c.in_ok-encoding.ensures.shard;
+      fits = c.in_ok-encoding.ensures.fits;
       xorbs = c.put_shard.ensures.xorbs;
       shards = c.put_shard.ensures.shards;
       others = c.put_shard.ensures.others;
@@ -148,9 +148,9 @@ returns-clause-keeps g c =
       new = not_listed _ _ h c.deref-2.ensures.value (sym c.contains.ensures.value ∙ c.if-contains.false);
       is_hash = (c.known_bytes.ensures.length, c.known_bytes.ensures.bytes);
       hash = c.compute_data_hash-hash.ensures ∙ ap shard_hash (c.deref.ensures.value ∙ sym c.deref-3.ensures.value);
-      is = c.deref-3.ensures.value ∙ c.in_ok-text.ensures.text;
-      shard = c.in_ok-text.ensures.shard;
-      fits = c.in_ok-text.ensures.fits;
+      is = c.deref-3.ensures.value ∙ c.in_ok-encoding.ensures.encoding;
+      shard = c.in_ok-encoding.ensures.shard;
+      fits = c.in_ok-encoding.ensures.fits;
       xorbs = c.put_shard.ensures.xorbs;
       shards = c.put_shard.ensures.shards;
       others = c.put_shard.ensures.others;

@@ -3,7 +3,7 @@ use Rattle.std.specs.List.{flat_map}
 use Rattle.xet_xorb_chunk.specs.ChunkEncoding.{encoded_chunk}
 use Rattle.xet_xorb.specs.Building.{ending}
 use Rattle.xet_xorb.specs.Raw.{raw_leaves}
-use Rattle.xet_xorb.proofs.Built.{built_is, built_text, length_encoded, plain_listed, start_is}
+use Rattle.xet_xorb.proofs.Built.{built_is, built_encoding, length_encoded, plain_listed, start_is}
 use Rattle.xet_xorb.proofs.building.SerializedXorbObject.from_xorb.Goals as goal
 
 pub overflow_add-stored : goal.overflow_add-stored
@@ -25,4 +25,4 @@ returns-clause-built c =
     built_is x c.args.footer _ c.requires bytes c.hash.ensures c.num_bytes-plain.ensures count (c.then_some.ensures ∙ start_is c.args.footer _ x.parts stored)
 
 pub returns-clause-grammar : goal.returns-clause-grammar
-returns-clause-grammar c = λ wanted some leaves hash. built_text c.args.xorb c.args.footer _ c.requires (returns-clause-built c) wanted some leaves hash
+returns-clause-grammar c = λ wanted some leaves hash. built_encoding c.args.xorb c.args.footer _ c.requires (returns-clause-built c) wanted some leaves hash

@@ -13,21 +13,21 @@ returns-in_err-count-clause-prefix g c = λ told.
 
 pub returns-in-Ok-clause-prefix : goal.returns-in-Ok-clause-prefix
 returns-in-Ok-clause-prefix g c = λ told.
-    let text : List ℕ = footer_bytes_v1 c.args.info in
+    let encoding : List ℕ = footer_bytes_v1 c.args.info in
     let f = c.write_all.ensures.prefix (c.in_ok-count.ensures.frame.tells ∙ told) in
     let number_is = c.to_le_bytes.ensures ∙ ap number c.in_ok-count.ensures.length in
-    (length text + f.0, written_then _ _ _ text c.to_le_bytes.result f.0 (c.in_ok-count.ensures.written told) f.1 ∙ ap (λ (x : List ℕ). g.W.Sink.written c.args.sink.now ++ take (length text + f.0) (text ++ x)) number_is)
+    (length encoding + f.0, written_then _ _ _ encoding c.to_le_bytes.result f.0 (c.in_ok-count.ensures.written told) f.1 ∙ ap (λ (x : List ℕ). g.W.Sink.written c.args.sink.now ++ take (length encoding + f.0) (encoding ++ x)) number_is)
 
 pub returns-in-Err-Failed-clause-prefix : goal.returns-in-Err-Failed-clause-prefix
 returns-in-Err-Failed-clause-prefix g c = λ told.
-    let text : List ℕ = footer_bytes_v1 c.args.info in
+    let encoding : List ℕ = footer_bytes_v1 c.args.info in
     let f = c.write_all.ensures.prefix (c.in_ok-count.ensures.frame.tells ∙ told) in
     let number_is = c.to_le_bytes.ensures ∙ ap number c.in_ok-count.ensures.length in
-    (length text + f.0, written_then _ _ _ text c.to_le_bytes.result f.0 (c.in_ok-count.ensures.written told) f.1 ∙ ap (λ (x : List ℕ). g.W.Sink.written c.args.sink.now ++ take (length text + f.0) (text ++ x)) number_is)
+    (length encoding + f.0, written_then _ _ _ encoding c.to_le_bytes.result f.0 (c.in_ok-count.ensures.written told) f.1 ∙ ap (λ (x : List ℕ). g.W.Sink.written c.args.sink.now ++ take (length encoding + f.0) (encoding ++ x)) number_is)
 
 pub returns-clause-prefix : goal.returns-clause-prefix
 returns-clause-prefix g c = λ told.
-    let text : List ℕ = footer_bytes_v1 c.args.info in
+    let encoding : List ℕ = footer_bytes_v1 c.args.info in
     let f = c.write_all.ensures.prefix (c.in_ok-count.ensures.frame.tells ∙ told) in
     let number_is = c.to_le_bytes.ensures ∙ ap number c.in_ok-count.ensures.length in
-    (length text + f.0, written_then _ _ _ text c.to_le_bytes.result f.0 (c.in_ok-count.ensures.written told) f.1 ∙ ap (λ (x : List ℕ). g.W.Sink.written c.args.sink.now ++ take (length text + f.0) (text ++ x)) number_is)
+    (length encoding + f.0, written_then _ _ _ encoding c.to_le_bytes.result f.0 (c.in_ok-count.ensures.written told) f.1 ∙ ap (λ (x : List ℕ). g.W.Sink.written c.args.sink.now ++ take (length encoding + f.0) (encoding ++ x)) number_is)

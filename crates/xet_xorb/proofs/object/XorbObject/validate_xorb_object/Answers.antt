@@ -10,7 +10,7 @@ use Rattle.xet_xorb.proofs.object.XorbObject.validate_xorb_object.Goals as goal
 pub returns-in_default-clause-none : goal.returns-in_default-clause-none
 returns-in_default-clause-none g c = λ told _ chunks x.
     let p = parts_of c.args.max_chunk c.args.hash.now (g.R.ReadAt.bytes c.args.reader.now) chunks x in
-    c.in_ok-start.ensures.none told (rw c.in_default.is refl) x.text.bound p.told p.enough (omega (arith, p.whole)) p.tells
+    c.in_ok-start.ensures.none told (rw c.in_default.is refl) x.encoding.bound p.told p.enough (omega (arith, p.whole)) p.tells
 
 pub returns-in_default-2-clause-none : goal.returns-in_default-2-clause-none
 returns-in_default-2-clause-none g c = λ told _ chunks x.
