@@ -7,7 +7,7 @@ pub pieces-preserved : goal.pieces-preserved
 pieces-preserved c =
     let step = chunking_step length c.args.limits.now c.pieces.lengths.items c.pieces.rest.now c.first_chunk_len.result (eqb-false _ _ (sym c.pieces-test.ensures))
     c.first_chunk_len.ensures.value c.first_chunk_len.ensures.some in
-    rw (c.in_ok-push.ensures.items, c.split_at.ensures.prefix, c.split_at.ensures.back) (step ∙ c.pieces.invariant)
+    rw (c.in_ok-push.ensures.items, c.split_at.ensures.front, c.split_at.ensures.back) (step ∙ c.pieces.invariant)
 
 pub returns-clause-lengths : goal.returns-clause-lengths
 returns-clause-lengths c =

@@ -11,7 +11,7 @@ pieces-preserved c =
     c.first_chunk_len.ensures.value c.first_chunk_len.ensures.some in
     let push = c.in_ok-push.ensures.items in
     record {
-      leaves = rw (push, c.compute_data_hash.ensures, c.split_at.ensures.prefix, c.split_at.ensures.back) (step ∙ c.pieces.invariant.leaves);
+      leaves = rw (push, c.compute_data_hash.ensures, c.split_at.ensures.front, c.split_at.ensures.back) (step ∙ c.pieces.invariant.leaves);
       total = omega (arith, ap total_len push ∙ sum_by-append (λ (m : List ℕ × ℕ). m.1) c.pieces.leaves.items _, c.pieces.invariant.total);
     }
 

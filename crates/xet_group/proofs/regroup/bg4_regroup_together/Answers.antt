@@ -11,6 +11,6 @@ returns c =
     let r : List ℕ = c.split_at-3.result.0.now in
     let s : List ℕ = c.split_at-3.result.1.now in
     let whole : p ++ q ++ r ++ s ≡ c.args.b.now =
-    rw (c.split_at-3.ensures.prefix, c.split_at-3.ensures.back, c.split_at-2.ensures.prefix, c.split_at-2.ensures.back, c.split_at.ensures.prefix, c.split_at.ensures.back)
+    rw (c.split_at-3.ensures.front, c.split_at-3.ensures.back, c.split_at-2.ensures.front, c.split_at-2.ensures.back, c.split_at.ensures.front, c.split_at.ensures.back)
     (cut_joins c.group_len.result c.group_len-2.result c.group_len-3.result c.args.b.now) in
     IfOk-weaker c.interleaved.result (λ bytes. groups_of bytes.items ≡ p ∷ q ∷ r ∷ s ∷ []) (λ bytes. grouped bytes.items ≡ c.args.b.now) (λ bytes e. grouped_from bytes.items p q r s e ∙ whole) c.interleaved.ensures

@@ -38,7 +38,7 @@ pub add_xorb-requires-clause-small : goal.add_xorb-requires-clause-small
 add_xorb-requires-clause-small g c = λ κs met.
     let l = c.limits.result.now in
     let P = λ (x : Chunk). length x.bytes ≤ l.maximum_chunk in
-    let pack = subst (AllByRecursion P) {x = take c.pack_len-count.result c.xorbs.rest.now} {y = c.split_at.result.0.now} (sym {b = take c.pack_len-count.result c.xorbs.rest.now} c.split_at.ensures.prefix) (all_take P c.pack_len-count.result c.xorbs.rest.now c.xorbs.invariant.fit) in
+    let pack = subst (AllByRecursion P) {x = take c.pack_len-count.result c.xorbs.rest.now} {y = c.split_at.result.0.now} (sym {b = take c.pack_len-count.result c.xorbs.rest.now} c.split_at.ensures.front) (all_take P c.pack_len-count.result c.xorbs.rest.now c.xorbs.invariant.fit) in
     all_more P (λ (x : Chunk). length x.bytes < 8388608) c.split_at.result.0.now (λ x h. omega (arith, h, c.known.ensures.maximum_to)) pack
 
 pub returns-in_err-hash-clause-keeps : goal.returns-in_err-hash-clause-keeps
@@ -68,7 +68,7 @@ returns-in_err-push-clause-some g c =
     let chunks = c.args.chunks.now in
     let segment = c.whole_xorb.result in
     let before = c.xorbs.invariant in
-    let prefix : c.split_at.result.0.now ≡ take n rest = c.split_at.ensures.prefix in
+    let prefix : c.split_at.result.0.now ≡ take n rest = c.split_at.ensures.front in
     let tail = c.split_at.result.1.now in
     let back : drop n rest ≡ tail = sym c.split_at.ensures.back in
     let listed = subst (λ (p : List Chunk). (c.in_ok-hash.hash ≡ xorb_hash (map chunk_leaf p)) × IsListed new c.in_ok-hash.hash (map chunk_leaf p)) prefix c.in_ok-hash.ensures.listed in
@@ -90,7 +90,7 @@ xorbs-preserved g c =
     let chunks = c.args.chunks.now in
     let segment = c.whole_xorb.result in
     let before = c.xorbs.invariant in
-    let prefix : c.split_at.result.0.now ≡ take n rest = c.split_at.ensures.prefix in
+    let prefix : c.split_at.result.0.now ≡ take n rest = c.split_at.ensures.front in
     let tail = c.split_at.result.1.now in
     let back : drop n rest ≡ tail = sym c.split_at.ensures.back in
     let listed = subst (λ (p : List Chunk). (c.in_ok-hash.hash ≡ xorb_hash (map chunk_leaf p)) × IsListed new c.in_ok-hash.hash (map chunk_leaf p)) prefix c.in_ok-hash.ensures.listed in

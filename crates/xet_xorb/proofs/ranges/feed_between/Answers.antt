@@ -19,7 +19,7 @@ returns-in_err-feed-clause-refused g c = λ told len.
     let at = c.reads.at in
     let n = c.min-count.result in
     let piece : List ℕ = c.read_exact.new.buf in
-    let size = c.split_at_mut-piece.ensures.prefix_len in
+    let size = c.split_at_mut-piece.ensures.front_len in
     let read = c.in_ok-read_exact.ensures.told (i.reader_tells ∙ told) (omega (arith, len, ap length i.same, c.min-count.ensures, size, c.reads-test.true)) in
     let fed = block_added bytes seen h.0 piece c.args.from at n _ i.after i.same size (h.3 told len) read in
     exit_with (λ (e : StoreError). ((x : List (List ℕ)) × Decodes c.args.decoder.now.max_chunk 0 (slice_range bytes c.args.from c.args.to) x (Err e)) ⊎ (StopsWriting e ⊎ (e ≡ Io Input))) _ _
@@ -37,7 +37,7 @@ reads-preserved g c =
     let at = c.reads.at in
     let n = c.min-count.result in
     let piece : List ℕ = c.read_exact.new.buf in
-    let size = c.split_at_mut-piece.ensures.prefix_len in
+    let size = c.split_at_mut-piece.ensures.front_len in
     record {
       whole = c.in_ok-feed.ensures.whole.1 refl;
       max_chunk = c.in_ok-feed.ensures.max_chunk ∙ i.max_chunk;

@@ -8,7 +8,7 @@ pub returns-clause-exact : goal.returns-clause-exact
 returns-clause-exact g c = λ told len.
     let bytes = g.R.ReadAt.bytes c.args.reader.now in
     gives_whole (λ _. tt) c.header_of_first.result (header_of_first c.args.len c.fill.new.buf) _ (a_first c.args.len c.fill.new.buf)
-    (header_from c.args.len _ bytes c.fill.new.buf len (c.split_at_mut-first.ensures.prefix_len ∙ c.min.ensures) (c.in_ok-fill.ensures.told told (omega (arith, len, c.min.ensures, c.split_at_mut-first.ensures.prefix_len)))) c.header_of_first.ensures.gives
+    (header_from c.args.len _ bytes c.fill.new.buf len (c.split_at_mut-first.ensures.front_len ∙ c.min.ensures) (c.in_ok-fill.ensures.told told (omega (arith, len, c.min.ensures, c.split_at_mut-first.ensures.front_len)))) c.header_of_first.ensures.gives
 
 pub returns-clause-errors : goal.returns-clause-errors
 returns-clause-errors g c = gives_input_error c.header_of_first.result _ (a_first c.args.len c.fill.new.buf) c.header_of_first.ensures.exact
