@@ -29,7 +29,7 @@ impl Buffer {
     ghost use Rattle.xet_hash.specs.declared.error.Place.TheVariants.{Output};
     ghost use Rattle.xet_hash.specs.declared.error.StoreError.TheVariants.{Io};
     ghost use Rattle.std.specs.List.{flat_map};
-    ghost use Rattle.xet_codec.specs.Held.{held_in};
+    ghost use Rattle.xet_codec.specs.Held.{IsEmpty, held_in};
     ghost use Rattle.xet_codec.specs.Numbers.{joined, numbers};
     ghost use Rattle.xet_codec.specs.Written.{WritesPrefix, Moves};
     ghost use Rattle.xet_codec.specs.Stops.{StopsWriting};
@@ -109,7 +109,7 @@ impl Buffer {
     /// Writes the buffered bytes.
     pub fn flush<W: Sink>(&mut self, sink: &mut W) -> Result<(), StoreError>
         ensures moved { W.tells sink.old ≡ true → OnOk result (W.written sink.new ≡ W.written sink.old ++ held_in self.old) }
-        ensures empty { OnOk result (held_in self.new ≡ []) }
+        ensures empty { OnOk result (IsEmpty self.new) }
         ensures prefix { W.tells sink.old ≡ true → OnErr result (WritesPrefix (W.written sink.old) (W.written sink.new) (held_in self.old)) }
         ensures errors { IfErr result StopsWriting }
         ensures frame { Called W.tells W.faults sink.old sink.new (IsErrOf result (Io Output)) }
