@@ -1,6 +1,6 @@
 //! Tests of cleaning and flushing. What a session shows is collected first, and then compared at once.
 
-use crate::folders::{Listed, hash_of, read_listed, encoding_of};
+use crate::folders::{Listed, encoding_of, hash_of, read_listed};
 use crate::session::{Session, bytes_of};
 use std::alloc::Global;
 use std::test::Fail;

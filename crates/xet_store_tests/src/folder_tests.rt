@@ -20,7 +20,13 @@ fn stored(alloc: Global) -> Result<MemoryDisk, StoreError> {
     let chunks = [Chunk::new(Bytes::from_static(b"abc"))];
     let encoding = xorb_bytes(alloc, &chunks)?;
     let mut disk = MemoryDisk::new(alloc);
-    put_xorb(&mut disk, alloc, "store", &compute_data_hash(b"abc"), &encoding)?;
+    put_xorb(
+        &mut disk,
+        alloc,
+        "store",
+        &compute_data_hash(b"abc"),
+        &encoding,
+    )?;
     Ok(disk)
 }
 

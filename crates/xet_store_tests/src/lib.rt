@@ -4,9 +4,9 @@
 #![tactic(auto)]
 
 #[cfg(test)]
-mod cleaning_tests;
-#[cfg(test)]
 mod chunking_tests;
+#[cfg(test)]
+mod cleaning_tests;
 #[cfg(test)]
 mod folder_tests;
 #[cfg(test)]

@@ -1,6 +1,6 @@
 //! Tests of stores that are opened over the files of another store.
 
-use crate::folders::{CREATION, EXPIRY, Flushed, put_changed, encoding_of, written};
+use crate::folders::{CREATION, EXPIRY, Flushed, encoding_of, put_changed, written};
 use crate::session::{NOW, Session, Unopened, bytes_of, put_bytes, refusal, remove};
 use std::alloc::Global;
 use std::test::Fail;

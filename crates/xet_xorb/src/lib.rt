@@ -23,7 +23,7 @@ pub use xet_xorb_chunk::{
     Chunk, ChunkDecoder, CompressionScheme, MAX_CHUNK_SIZE, MAX_XORB_BYTES, MAX_XORB_CHUNKS,
     MAXIMUM_CHUNK_MULTIPLIER, MINIMUM_CHUNK_DIVISOR, TARGET_CHUNK_SIZE, XORB_BLOCK_SIZE,
     XORB_CHUNK_HEADER_LENGTH, XORB_CUT_THRESHOLD_BYTES, XORB_CUT_THRESHOLD_CHUNKS, XorbChunkHeader,
-    append_chunk_segment, chunk_len, chunk_leaves, deserialize_chunk, deserialize_chunk_header,
+    append_chunk_segment, chunk_leaves, chunk_len, deserialize_chunk, deserialize_chunk_header,
     deserialize_chunk_to_writer, deserialize_chunks, deserialize_chunks_to_writer,
     parse_chunk_header, serialize_chunk, write_chunk_header,
 };

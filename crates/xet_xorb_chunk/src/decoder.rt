@@ -255,7 +255,9 @@ impl ChunkDecoder {
         if self.held.is_empty() {
             return self.pass_whole(piece, w);
         }
-        let taken = self.passed.complete(&mut self.held, piece, self.max_chunk, w)?;
+        let taken = self
+            .passed
+            .complete(&mut self.held, piece, self.max_chunk, w)?;
         if taken == piece.len() {
             return Ok(());
         }

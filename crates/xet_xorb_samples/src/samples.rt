@@ -156,7 +156,10 @@ pub fn build_xorb_object<G: Rng>(
 
 /// The footer, with its length, of the xorb with these chunks, given by their hashes and end offsets. Its
 /// hash is the one that these give. The only error is `OutOfMemory`.
-fn boundary_object(alloc: Global, boundaries: &[(MerkleHash, u32)]) -> Result<XorbObject, StoreError>
+fn boundary_object(
+    alloc: Global,
+    boundaries: &[(MerkleHash, u32)],
+) -> Result<XorbObject, StoreError>
     requires { (bytes : List ℕ) × AreBoundaries bytes boundaries.now }
     ensures object { IfOk result (λ object. object ≡ object_of V1 (xorb_hash (leaves_from 0 boundaries.now)) (leaves_from 0 boundaries.now) no_spare) }
     ensures memory { IsOkUnless result StoreError.OutOfMemory }

@@ -173,7 +173,12 @@ fn refused_by_sink(alloc: Global, fail_at: u64) -> (Option<StoreError>, usize) {
     let hash = MerkleHash::default();
     let boundaries = [(hash, 2), (hash, 3)];
     let written = serialize_xorb_to_stream_reference(
-        alloc, &mut sink, &hash, b"abc", &boundaries, SCHEME,
+        alloc,
+        &mut sink,
+        &hash,
+        b"abc",
+        &boundaries,
+        SCHEME,
     );
     (written.err(), sink.bytes().len())
 }
