@@ -16,7 +16,7 @@ use Rattle.xet_store_cli.specs.declared.ending.Stop.TheVariants as stop
 use Rattle.xet_store_cli.specs.declared.lines.FileRange.{FileRange}
 use Rattle.xet_store_cli.specs.Lines.{numbered, range_bytes}
 use Rattle.xet_store_cli.specs.Parsing.{Said, are_good}
-use Rattle.xet_store_cli.specs.Stops.{IsSessionStop, stop_of_error}
+use Rattle.xet_store_cli.specs.Stops.{IsStop, session_causes, stop_of_error}
 use Rattle.xet_store_cli.specs.Report.{file_line, info_line}
 use Rattle.xet_store_cli.specs.internal.Steps.{hash_at}
 use Rattle.xet_store_cli.proofs.Ranged.{numbered_past, numbered_zero, range_none}
@@ -109,7 +109,7 @@ module _ (old new : List (List ℕ)) (before after : State) where
   abbrev pub Reason : StoreError → Type 0
   Reason e = HasReason (λ _. true) (λ f. f) (λ _. 0) old new before after e
 
-  pub stop_of_reason : (tells : Bool) (said : Said) → old ≡ said.files → (e : StoreError) → Reason e → IsSessionStop tells before.limits said (stop_of_error e)
+  pub stop_of_reason : (tells : Bool) (said : Said) → old ≡ said.files → (e : StoreError) → Reason e → IsStop (session_causes tells before.limits said) (stop_of_error e)
   stop_of_reason tells said files (Io place) reason = tt
   stop_of_reason tells said files (TooLarge (what.Source i)) reason =
       subst (λ (fs : List (List ℕ)). list_all (λ f. leb (length f) before.limits.max_source_bytes) fs ≡ false) files (long_one before.limits.max_source_bytes old i reason)

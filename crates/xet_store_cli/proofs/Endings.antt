@@ -1,5 +1,5 @@
--- How a run may end, by what its command answers, and what it prints then.
-use Rattle.std.proofs.Common.{◌≡◌, ◌≢◌, ◌⊎◌, ◌∙◌, ℕ, ◌≤◌, inl, inr, Bool, true, false, List, [], ◌∷◌, ◌++◌, subst, Option, Some, None, Result, Ok, Err, IfOk, OnOk, IsErrOf, Vec, Global, refl, sym, ap, arith}
+-- The reports of `pack`, how a run may end, and what it prints then.
+use Rattle.std.proofs.Common.{◌≡◌, ◌≢◌, ◌⊎◌, ◌∙◌, ℕ, ◌≤◌, inl, inr, Bool, true, false, List, [], ◌∷◌, ◌++◌, subst, Option, Some, Result, Ok, Err, IfOk, Vec, Global, refl, sym, ap, arith}
 use Rattle.std.proofs.lemmas.List.{append-nil}
 use Rattle.std.specs.Str.Lines.{lines}
 use Rattle.xet_io.specs.Disk.{Files}
@@ -7,21 +7,18 @@ use Rattle.xet_hash.specs.declared.error.StoreError.{StoreError}
 use Rattle.xet_folder.specs.Admission.{Refuses}
 use Rattle.xet_cut.specs.declared.limits.LimitSettings.{LimitSettings}
 use Rattle.xet_store_cli.specs.declared.ending.Stop.{Stop}
-use Rattle.xet_store_cli.specs.declared.ending.Stop.TheVariants.{OutOfMemory, Input, TooLarge, BadLine, BadRange, Disk, BadShard, Malformed}
 use Rattle.xet_store_cli.specs.declared.lines.FileRange.{FileRange}
 use Rattle.xet_store_cli.specs.declared.words.Command.{Command}
 use Rattle.xet_store_cli.specs.declared.words.Command.TheVariants.{Pack}
 use Rattle.xet_store_cli.specs.Lines.{Line, files_of, good_lines, ranges_of}
 use Rattle.xet_store_cli.specs.Lines.Line.{FileLine, RangeLine}
-use Rattle.xet_store_cli.specs.Outcome.{AreSeparate, IsSilent, Outcome, Prints, Reports, bad_line_text, bad_shard_text, early_outcome, lines_said, outcome, store_folder}
+use Rattle.xet_store_cli.specs.Outcome.{AreSeparate, IsSilent, Outcome, Prints, Reports, bad_line_text, bad_shard_text, lines_said, store_folder}
 use Rattle.xet_store_cli.specs.Ending.{IsEarly, IsReportOf, MayEnd}
 use Rattle.xet_store_cli.specs.Ending.MayEnd.{early, malformed, refused, reported, stopped}
 use Rattle.xet_store_cli.specs.Parsing.{ForLines, Said, are_good, parted}
 use Rattle.xet_store_cli.specs.Report.{IsReport}
-use Rattle.xet_store_cli.specs.Stored.{Makes, Records, Stores}
-use Rattle.xet_store_cli.specs.Stops.{AnswersByFolder, AnswersByInput, answer_outcome}
 use Rattle.xet_store_cli.specs.internal.Stops.{IsSaid}
-use Rattle.xet_store_cli.specs.Words.{command_of}
+use Rattle.xet_store_cli.proofs.Outcomes.{StandsAt}
 
 -- ---- lines that say what was read
 
@@ -60,19 +57,13 @@ parted_for said = λ i. record {
 
 -- ---- reports
 
--- what stands on the disk of the lines that were read
-pub record StandsOfLines (s : LimitSettings) (tells : Bool) (old new : Files) (now : ℕ) (said : Said) : Type 0 where
-  pub stored : tells ≡ true → ForLines said (λ l. Stores s l now new)
-  pub recorded : tells ≡ true → ForLines said (λ l. Records s l now new)
-  pub made : tells ≡ true → ForLines said (λ l. Makes s l now old new)
-
 module _ (s : LimitSettings) (input : List ℕ) (tells : Bool) (old new : Files) (now : ℕ) (said : Said) where
   abbrev IsReportOfLines : List ℕ → Type 0
   IsReportOfLines text = ForLines said (λ l. IsReport (AreSeparate tells new now s l) s l text)
 
-  of_these : (input_tells : Bool) (text : List ℕ) (l : List Line) → parted l ≡ said → (input_tells ≡ true → good_lines (lines input) ≡ Some l) → are_good said ≡ true → IsReportOfLines text → StandsOfLines s tells old new now said
-      → IsReportOf (Pack s) input_tells input tells old new now text
-  of_these input_tells text l parts is good report stands = record {
+  of_these : (input_tells : Bool) (t : Vec ℕ Global) (l : List Line) → parted l ≡ said → (input_tells ≡ true → good_lines (lines input) ≡ Some l) → are_good said ≡ true → IsReportOfLines t.items
+      → StandsAt s now tells old new said (Ok t) → IsReportOf (Pack s) input_tells input tells old new now t.items
+  of_these input_tells t l parts is good report stands = record {
     settings = s;
     said = l;
     is_pack = refl;
@@ -85,16 +76,15 @@ module _ (s : LimitSettings) (input : List ℕ) (tells : Bool) (old new : Files)
   }
 
   -- A report of what was read is one of what the input says, where that tells.
-  of_lines : (input_tells : Bool) (text : List ℕ) → (input_tells ≡ true → IsSaid input said) → are_good said ≡ true → IsReportOfLines text → StandsOfLines s tells old new now said
-      → IsReportOf (Pack s) input_tells input tells old new now text
-  of_lines true text is good report stands = of_these true text (lines_said (lines input)) (is refl).parts (λ told. (is told).good) good report stands
-  of_lines false text is good report stands = of_these false text (lines_for said) (parted_for said) (λ told. absurd (cc told)) good report stands
+  of_lines : (input_tells : Bool) (t : Vec ℕ Global) → (input_tells ≡ true → IsSaid input said) → are_good said ≡ true → IsReportOfLines t.items → StandsAt s now tells old new said (Ok t)
+      → IsReportOf (Pack s) input_tells input tells old new now t.items
+  of_lines true t is good report stands = of_these true t (lines_said (lines input)) (is refl).parts (λ told. (is told).good) good report stands
+  of_lines false t is good report stands = of_these false t (lines_for said) (parted_for said) (λ told. absurd (cc told)) good report stands
 
   pub report_of_lines : (input_tells : Bool) (r : Result (Vec ℕ Global) Stop) → (input_tells ≡ true → IsSaid input said) → are_good said ≡ true → IfOk r (λ text. IsReportOfLines text.items)
-      → (tells ≡ true → OnOk r (ForLines said (λ l. Stores s l now new))) → (tells ≡ true → OnOk r (ForLines said (λ l. Records s l now new))) → (tells ≡ true → OnOk r (ForLines said (λ l. Makes s l now old new)))
-      → IfOk r (λ text. IsReportOf (Pack s) input_tells input tells old new now text.items)
-  report_of_lines input_tells (Ok t) is good report stored recorded made = of_lines input_tells t.items is good report (record { stored = stored; recorded = recorded; made = made })
-  report_of_lines input_tells (Err stop) is good report stored recorded made = tt
+      → StandsAt s now tells old new said r → IfOk r (λ text. IsReportOf (Pack s) input_tells input tells old new now text.items)
+  report_of_lines input_tells (Ok t) is good report stands = of_lines input_tells t is good report stands
+  report_of_lines input_tells (Err stop) is good report stands = tt
 
 -- ---- the statuses at which something is printed
 
@@ -115,58 +105,9 @@ told_status status (inr (inr (inr (inr is)))) = no_silent 7 status is (λ e. ome
 
 -- ---- how a run may end
 
-module _ (words : List (List ℕ)) (input_tells : Bool) (input : List ℕ) (now : ℕ) (tells : Bool) (old new : Files) where
-  abbrev pub May : Outcome → Type 0
-  May o = MayEnd words input_tells input now tells old new o
-
-  pub may_end_words : command_of words ≡ None → May (outcome 2 [])
-  may_end_words none = early (λ told. ap (λ (c : Option Command). early_outcome c input) none) (inl refl)
-
-  module _ (command : Command) (is : command_of words ≡ Some command) where
-    early_by : (o : Option Outcome) → (input_tells ≡ true → early_outcome (Some command) input ≡ o) → input_tells ≡ true → early_outcome (command_of words) input ≡ o
-    early_by o e told = ap (λ (c : Option Command). early_outcome c input) is ∙ e told
-
-    may_answer : (r : Result (Vec ℕ Global) Stop) → (input_tells ≡ true → AnswersByInput (early_outcome (Some command) input) r) → (tells ≡ true → AnswersByFolder now old r)
-        → IfOk r (λ text. IsReportOf command input_tells input tells old new now text.items) → (IsErrOf r Malformed → tells ≡ false) → May (answer_outcome r)
-    may_answer (Ok t) e f report never = reported (early_by None e) f command is report refl
-    may_answer (Err OutOfMemory) e f report never = stopped (inl refl) refl
-    may_answer (Err Input) e f report never = stopped (inr (inl refl)) refl
-    may_answer (Err Disk) e f report never = stopped (inr (inr refl)) refl
-    may_answer (Err TooLarge) e f report never = early (early_by (Some (outcome 9 [])) e) (inr (inr (inl refl)))
-    may_answer (Err BadRange) e f report never = early (early_by (Some (outcome 8 [])) e) (inr (inl refl))
-    may_answer (Err (BadLine n)) e f report never = early (early_by (Some (outcome 3 (bad_line_text n))) e) (inr (inr (inr (n, refl))))
-    may_answer (Err (BadShard name)) e f report never = refused (early_by None e) name f refl
-    may_answer (Err Malformed) e f report never = malformed (early_by None e) (never refl) refl
-
-    pub may_end_answer : (r : Result (Vec ℕ Global) Stop) (e : Outcome) → (input_tells ≡ true → AnswersByInput (early_outcome (Some command) input) r) → (tells ≡ true → AnswersByFolder now old r)
-        → IfOk r (λ text. IsReportOf command input_tells input tells old new now text.items) → (IsErrOf r Malformed → tells ≡ false) → (e ≡ answer_outcome r) ⊎ (e ≡ outcome 1 []) → May e
-    may_end_answer r e by_input f report never (inl same) = subst May (sym same) (may_answer r by_input f report never)
-    may_end_answer r e by_input f report never (inr same) = subst May (sym same) (stopped (inl refl) refl)
-
-    reports : (text : List ℕ) → input_tells ≡ true → IsReportOf command input_tells input tells old new now text → Reports words input tells new now [] text
-    reports text told r = record {
-      settings = r.settings;
-      said = r.said;
-      command = is ∙ ap (λ (c : Command). Some c) r.is_pack;
-      good = r.good told;
-      ranges_good = r.ranges_good;
-      text = text;
-      report = r.report;
-      written = refl;
-    }
-
-    pub reports_answer : (r : Result (Vec ℕ Global) Stop) (e : Outcome) → input_tells ≡ true → IfOk r (λ text. IsReportOf command input_tells input tells old new now text.items)
-        → (e ≡ answer_outcome r) ⊎ (e ≡ outcome 1 []) → e.status ≡ 0 → Reports words input tells new now [] e.text
-    reports_answer r e told report (inr same) nought = absurd (omega (arith, ap (λ (x : Outcome). x.status) same))
-    reports_answer (Ok t) e told report (inl same) nought = subst (λ (x : Outcome). Reports words input tells new now [] x.text) (sym same) (reports t.items told report)
-    reports_answer (Err OutOfMemory) e told report (inl same) nought = absurd (omega (arith, ap (λ (x : Outcome). x.status) same))
-    reports_answer (Err Input) e told report (inl same) nought = absurd (omega (arith, ap (λ (x : Outcome). x.status) same))
-    reports_answer (Err Disk) e told report (inl same) nought = absurd (omega (arith, ap (λ (x : Outcome). x.status) same))
-    reports_answer (Err TooLarge) e told report (inl same) nought = absurd (omega (arith, ap (λ (x : Outcome). x.status) same))
-    reports_answer (Err BadRange) e told report (inl same) nought = absurd (omega (arith, ap (λ (x : Outcome). x.status) same))
-    reports_answer (Err Malformed) e told report (inl same) nought = absurd (omega (arith, ap (λ (x : Outcome). x.status) same))
-    reports_answer (Err (BadLine n)) e told report (inl same) nought = absurd (omega (arith, ap (λ (x : Outcome). x.status) same))
-    reports_answer (Err (BadShard name)) e told report (inl same) nought = absurd (omega (arith, ap (λ (x : Outcome). x.status) same))
+module _ (command : Option Command) (input_tells : Bool) (input : List ℕ) (now : ℕ) (tells : Bool) (old new : Files) where
+  abbrev May : Outcome → Type 0
+  May o = MayEnd command input_tells input now tells old new o
 
   -- ---- its status
 
@@ -262,3 +203,20 @@ module _ (words : List (List ℕ)) (input_tells : Bool) (input : List ℕ) (now 
         let shard = shard_end o may (sym is ∙ seven) in (shard.0, shard.1, λ told. wrote told ∙ ap (λ (t : List ℕ). before ++ t) shard.2)
     bad_shard_of (o, may, inr (inl one, some, wrote)) seven = absurd (omega arith)
     bad_shard_of (o, may, inr (inr five, some, wrote)) seven = absurd (omega arith)
+
+    pub report_of : (files : Files) (o : Outcome) → (o.status ≡ 0 → Reports command input tells files now [] o.text) → Prints output_tells o before after status → output_tells ≡ true → status ≡ 0
+        → Reports command input tells files now before after
+    report_of files o report (inl (is, wrote)) told nought =
+        let said = report (sym is ∙ nought) in
+        record {
+          settings = said.settings;
+          said = said.said;
+          is_pack = said.is_pack;
+          good = said.good;
+          ranges_good = said.ranges_good;
+          text = said.text;
+          report = said.report;
+          written = wrote told ∙ ap (λ (t : List ℕ). before ++ t) said.written;
+        }
+    report_of files o report (inr (inl one, some, wrote)) told nought = absurd (omega arith)
+    report_of files o report (inr (inr five, some, wrote)) told nought = absurd (omega arith)

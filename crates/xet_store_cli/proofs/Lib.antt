@@ -3,6 +3,7 @@ mod Ranged
 mod Said
 mod Commands
 mod Lengths
+mod Answered
 mod Outcomes
 mod Chunkings
 mod Cleaned

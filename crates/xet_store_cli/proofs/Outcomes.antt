@@ -1,14 +1,16 @@
 -- How `pack` ends, by what it has read.
-use Rattle.std.proofs.Common.{◌≡◌, ◌≢◌, ◌⊎◌, ◌∙◌, ℕ, ◌<◌, ◌≤◌, inl, inr, Bool, true, false, cond, List, [], ◌++◌, length, subst, Option, Some, None, Result, Ok, Err, IfOk, IfErr, IsErrOf, Vec, Global, unwrap_or, refl, sym, ap, arith}
+use Rattle.std.proofs.Common.{◌≡◌, ◌≢◌, ◌⊎◌, ◌∙◌, ℕ, ◌<◌, ◌≤◌, inl, inr, Bool, true, false, cond, List, [], ◌++◌, length, subst, Option, Some, None, Result, Ok, Err, IfOk, IfErr, OnOk, Vec, Global, unwrap_or, refl, sym, ap, arith}
 use Rattle.std.proofs.lemmas.Bool.{cases_lt, false≢true, lt-ltb, le-ltb}
 use Rattle.std.proofs.lemmas.List.{append-nil}
 use Rattle.std.proofs.Math.Nat.{le_trans}
+use Rattle.std.specs.FinMap.{get}
 use Rattle.std.specs.Option.{option_map}
 use Rattle.std.specs.Str.Lines.{lines}
 use Rattle.xet_io.specs.Disk.{Files}
 use Rattle.xet_io.specs.Whole.{ReadsAll}
 use Rattle.xet_io.specs.declared.whole.Unread.{Unread}
 use Rattle.xet_io.specs.declared.whole.Unread.TheVariants as unread
+use Rattle.xet_folder.specs.Names.{IsForeign}
 use Rattle.xet_folder.specs.theorems.Agreeing.{not_both}
 use Rattle.xet_cut.specs.declared.limits.LimitSettings.{LimitSettings}
 use Rattle.xet_store_cli.specs.declared.ending.Stop.{Stop}
@@ -16,16 +18,15 @@ use Rattle.xet_store_cli.specs.declared.ending.Stop.TheVariants.{OutOfMemory, In
 use Rattle.xet_store_cli.specs.declared.words.Command.{Command}
 use Rattle.xet_store_cli.specs.declared.words.Command.TheVariants.{Pack}
 use Rattle.xet_store_cli.specs.Lines.{Line, first_bad, good_lines}
-use Rattle.xet_store_cli.specs.Outcome.{AreSeparate, EndsEarly, EndsOver, IsCutShort, IsDue, IsFaultless, IsStopped, IsStoppedSilent, Outcome, Prints, PrintsNothing, bad_line_text, by_lines, lines_said, max_input, outcome, pack_early, store_folder}
-use Rattle.xet_store_cli.specs.internal.Outcome.{Ended, EndedEarly}
-use Rattle.xet_store_cli.specs.internal.Outcome.Ended.{as_due, stopped}
-use Rattle.xet_store_cli.specs.Outcome.IsDue.{admitted, early, refused}
+use Rattle.xet_store_cli.specs.Outcome.{EndsEarly, EndsOver, IsCutShort, IsDue, IsFaultless, IsIdle, IsStopped, IsStoppedSilent, Outcome, Prints, PrintsNothing, bad_line_text, by_lines, lines_said, max_input, outcome, pack_early, store_folder}
 use Rattle.xet_store_cli.specs.Allowed.{are_short}
-use Rattle.xet_store_cli.specs.Parsing.{ForLines, Said, Says, are_good, parted}
-use Rattle.xet_store_cli.specs.Report.{IsReport}
-use Rattle.xet_store_cli.specs.Stops.{Answers, AnswersByFolder, AnswersByInput, IsIdleStop, IsSessionStop, answer_outcome, stop_of_unread}
-use Rattle.xet_store_cli.specs.internal.Stops.{AnswersEarly, AnswersLate, IsEarlyStop, IsLateStop, IsSaid}
-use Rattle.xet_store_cli.specs.Words.{command_of}
+use Rattle.xet_store_cli.specs.Answered.{Answered, Ended, EndedEarly}
+use Rattle.xet_store_cli.specs.Ending.{IsReportOf, MayEnd}
+use Rattle.xet_store_cli.specs.Parsing.{ForLines, Said, are_good, parted}
+use Rattle.xet_store_cli.specs.Stops.{IsStop, answer_outcome, parsing_causes, session_causes, stop_of_unread}
+use Rattle.xet_store_cli.specs.internal.Stops.{IsSaid, reading_causes, storing_causes}
+use Rattle.xet_store_cli.specs.Stored.{HasMadeBy, HasRecordedBy, HasStoredBy, IsAdmittedAt, KeepsFolder, KeepsListed, Makes, Records, Stores, Works}
+use Rattle.xet_store_cli.proofs.Answered.{answered, busy_status, works_idle}
 use Rattle.xet_store_cli.proofs.Lengths.{short_said}
 use Rattle.xet_store_cli.proofs.Said.{good_parted}
 
@@ -44,10 +45,14 @@ short_input input none = elim (cases_lt max_input (length input)) [
 ]
 
 -- an input that was not read
-pub early_unread : (left rest : List ℕ) (u : Unread) → ReadsAll max_input left (Err u) rest → AnswersEarly left (Err (stop_of_unread u))
-early_unread left rest unread.OutOfMemory h = tt
-early_unread left rest unread.Failed h = tt
-early_unread left rest unread.TooLong h = pack_too_long left h.0
+pub stop_unread : (tells : Bool) (left rest : List ℕ) (u : Unread) → (tells ≡ true → ReadsAll max_input left (Err u) rest) → IsStop (reading_causes tells left) (stop_of_unread u)
+stop_unread tells left rest unread.OutOfMemory h = tt
+stop_unread tells left rest unread.Failed h = tt
+stop_unread tells left rest unread.TooLong h = λ told. pack_too_long left (h told).0
+
+-- what is read of lines that are all good
+abbrev Says : List (List ℕ) → Said → Type 0
+Says ls said = (first_bad ls ≡ None) × (option_map parted (good_lines ls) ≡ Some said)
 
 -- by the ranges of good lines
 abbrev by_outcome : Bool → Option Outcome
@@ -56,35 +61,40 @@ by_outcome good = cond good None (Some (outcome 8 []))
 -- an input that was read
 module _ (input read : List ℕ) (same : read ≡ input) (short : length input ≤ max_input) where
   -- with a bad line
-  pub early_bad : (stop : Stop) → Says (lines read) (Err stop) → AnswersEarly input (Err stop)
-  early_bad OutOfMemory h = tt
-  early_bad Input h = absurd h
-  early_bad TooLarge h = absurd h
-  early_bad Disk h = absurd h
-  early_bad BadRange h = absurd h
-  early_bad Malformed h = absurd h
-  early_bad (BadShard name) h = absurd h
-  early_bad (BadLine n) h =
-      pack_short input short ∙ ap (λ (o : Option ℕ). by_lines o (lines_said (lines input))) (ap (λ (x : List ℕ). first_bad (lines x)) (sym same) ∙ h)
+  early_bad : (n : ℕ) → first_bad (lines read) ≡ Some n → pack_early input ≡ Some (outcome 3 (bad_line_text n))
+  early_bad n bad =
+      pack_short input short ∙ ap (λ (o : Option ℕ). by_lines o (lines_said (lines input))) (ap (λ (x : List ℕ). first_bad (lines x)) (sym same) ∙ bad)
 
   -- whose lines are good
-  said_parts : (said : Said) → Says (lines read) (Ok said) → (good_lines (lines input) ≡ Some (lines_said (lines input))) × (parted (lines_said (lines input)) ≡ said)
+  said_parts : (said : Said) → Says (lines read) said → (good_lines (lines input) ≡ Some (lines_said (lines input))) × (parted (lines_said (lines input)) ≡ said)
   said_parts said (none, good) =
       let m = good_parted (lines input) said (subst (λ (x : List ℕ). option_map parted (good_lines (lines x)) ≡ Some said) same good) in
       let the_said : lines_said (lines input) ≡ m.0 = ap (λ (o : Option (List Line)). unwrap_or o []) m.1 in
       (m.1 ∙ ap (λ (l : List Line). Some l) (sym the_said), ap parted the_said ∙ m.2)
 
-  by_good : (said : Said) → Says (lines read) (Ok said) → (t : Bool) → are_good said ≡ t → pack_early input ≡ by_outcome t
+  by_good : (said : Said) → Says (lines read) said → (t : Bool) → are_good said ≡ t → pack_early input ≡ by_outcome t
   by_good said h t e =
       pack_short input short ∙ ap (λ (o : Option ℕ). by_lines o (lines_said (lines input))) (ap (λ (x : List ℕ). first_bad (lines x)) (sym same) ∙ h.0)
       ∙ ap by_outcome (ap are_good (said_parts said h).1 ∙ e)
 
-  pub early_good : (said : Said) → Says (lines read) (Ok said) → are_good said ≡ true → IsSaid input said
+  pub early_good : (said : Said) → Says (lines read) said → are_good said ≡ true → IsSaid input said
   early_good said h good = record { fine = by_good said h true good; good = (said_parts said h).0; parts = (said_parts said h).1 }
 
   -- with a bad range
-  pub early_range : (said : Said) → Says (lines read) (Ok said) → are_good said ≡ false → AnswersEarly input (Err BadRange)
+  pub early_range : (said : Said) → Says (lines read) said → are_good said ≡ false → pack_early input ≡ Some (outcome 8 [])
   early_range said h bad = by_good said h false bad
+
+-- a stop while its lines are parsed
+pub stop_parsing : (tells : Bool) (input read : List ℕ) → (tells ≡ true → (read ≡ input) × (length input ≤ max_input)) → (stop : Stop) → IsStop (parsing_causes (lines read)) stop
+    → IsStop (reading_causes tells input) stop
+stop_parsing tells input read is OutOfMemory h = tt
+stop_parsing tells input read is (BadLine n) h = λ told. early_bad input read (is told).0 (is told).1 n h
+stop_parsing tells input read is Input h = absurd h
+stop_parsing tells input read is TooLarge h = absurd h
+stop_parsing tells input read is BadRange h = absurd h
+stop_parsing tells input read is Disk h = absurd h
+stop_parsing tells input read is (BadShard name) h = absurd h
+stop_parsing tells input read is Malformed h = absurd h
 
 -- ---- how a run is to end
 
@@ -93,139 +103,109 @@ pub short_files : (s : LimitSettings) (input : List ℕ) (said : Said) → max_i
 short_files s input said allowed is =
     subst (λ (x : Said). are_short s x.files ≡ true) is.parts (short_said s input (lines_said (lines input)) (le_trans (short_input input is.fine) allowed) is.good)
 
--- and none is too large
-never_too_large : (s : LimitSettings) (input : List ℕ) (said : Said) → max_input ≤ s.max_source_bytes → IsSaid input said → are_short s said.files ≡ false → ⊥
-never_too_large s input said allowed is long = false≢true (sym long ∙ short_files s input said allowed is)
-
 -- files that are short stop no session as too large
-pub never_idle : (X : Type 0) (tells : Bool) (s : LimitSettings) (said : Said) (r : Result (Vec ℕ Global) Stop) → are_short s said.files ≡ true → IfErr r (IsSessionStop tells s said) → IfErr r (λ stop. IsIdleStop stop → X)
-never_idle X tells s said (Ok t) short stop = tt
-never_idle X tells s said (Err OutOfMemory) short stop = λ idle. absurd idle
-never_idle X tells s said (Err Disk) short stop = λ idle. absurd idle
-never_idle X tells s said (Err Malformed) short stop = λ idle. absurd idle
+pub never_idle : (X : Type 0) (tells : Bool) (s : LimitSettings) (said : Said) (r : Result (Vec ℕ Global) Stop) → are_short s said.files ≡ true → IfErr r (IsStop (session_causes tells s said))
+    → IsIdle (answer_outcome r).status → X
+never_idle X tells s said (Ok t) short stop = λ idle. absurd (busy_status 0 (inl refl) idle)
+never_idle X tells s said (Err OutOfMemory) short stop = λ idle. absurd (busy_status 1 (inr (inl refl)) idle)
+never_idle X tells s said (Err Disk) short stop = λ idle. absurd (busy_status 6 (inr (inr (inr (inl refl)))) idle)
+never_idle X tells s said (Err Malformed) short stop = λ idle. absurd (busy_status 10 (inr (inr (inr (inr refl)))) idle)
 never_idle X tells s said (Err TooLarge) short stop = absurd (false≢true (sym stop ∙ short))
 never_idle X tells s said (Err Input) short stop = absurd stop
 never_idle X tells s said (Err BadRange) short stop = absurd stop
 never_idle X tells s said (Err (BadLine n)) short stop = absurd stop
 never_idle X tells s said (Err (BadShard name)) short stop = absurd stop
 
-module _ (s : LimitSettings) (input : List ℕ) (now : ℕ) (old new : Files) where
-  abbrev Due : Outcome → Type 0
-  Due o = IsDue (Some (Pack s)) input now old new o
+-- ---- how `pack` ends if its input is not good
 
-  pub due_early : (stop : Stop) → AnswersEarly input (Err stop) → Answers Due (Err stop)
-  due_early OutOfMemory h = tt
-  due_early Input h = tt
-  due_early Disk h = absurd h
-  due_early Malformed h = absurd h
-  due_early (BadShard name) h = absurd h
-  due_early TooLarge h = early h
-  due_early BadRange h = early h
-  due_early (BadLine n) h = early h
+stop_status : (tells : Bool) (input : List ℕ) (stop : Stop) → IsStop (reading_causes tells input) stop → ((answer_outcome (Err stop)).status ≢ 0) × ((answer_outcome (Err stop)).status ≢ 10)
+stop_status tells input OutOfMemory h = (λ e. omega arith, λ e. omega arith)
+stop_status tells input Input h = (λ e. omega arith, λ e. omega arith)
+stop_status tells input Disk h = absurd h
+stop_status tells input Malformed h = absurd h
+stop_status tells input (BadShard name) h = absurd h
+stop_status tells input TooLarge h = (λ e. omega arith, λ e. omega arith)
+stop_status tells input BadRange h = (λ e. omega arith, λ e. omega arith)
+stop_status tells input (BadLine n) h = (λ e. omega arith, λ e. omega arith)
 
-  abbrev Reported : Bool → List Line → List ℕ → Type 0
-  Reported tells said text = IsReport (AreSeparate tells new now s said) s said text
+module _ (s : LimitSettings) (input_tells : Bool) (input : List ℕ) (now : ℕ) (tells : Bool) (files : Files) where
+  end_unread : (stop : Stop) → IsStop (reading_causes input_tells input) stop → MayEnd (Some (Pack s)) input_tells input now tells files files (answer_outcome (Err stop))
+  end_unread OutOfMemory h = MayEnd.stopped (inl refl) refl
+  end_unread Input h = MayEnd.stopped (inr (inl refl)) refl
+  end_unread Disk h = absurd h
+  end_unread Malformed h = absurd h
+  end_unread (BadShard name) h = absurd h
+  end_unread TooLarge h = MayEnd.early h (inr (inr (inl refl)))
+  end_unread BadRange h = MayEnd.early h (inr (inl refl))
+  end_unread (BadLine n) h = MayEnd.early h (inr (inr (inr (n, refl))))
 
-  pub due_late : (said : Said) (r : Result (Vec ℕ Global) Stop) → max_input ≤ s.max_source_bytes → IsSaid input said → AnswersLate s said now old r
-      → IfOk r (λ text. ForLines said (λ l. Reported true l text.items)) → Answers Due r
-  due_late said (Ok t) allowed is (shards, admits) report = admitted is.fine s refl shards admits refl (report (lines_said (lines input)) is.parts)
-  due_late said (Err OutOfMemory) allowed is h report = tt
-  due_late said (Err Disk) allowed is h report = tt
-  due_late said (Err TooLarge) allowed is h report = absurd (never_too_large s input said allowed is h)
-  due_late said (Err (BadShard name)) allowed is h report = refused is.fine h.0 name h.1 refl
-  due_late said (Err Input) allowed is h report = absurd h
-  due_late said (Err BadRange) allowed is h report = absurd h
-  due_late said (Err Malformed) allowed is h report = absurd h
-  due_late said (Err (BadLine n)) allowed is h report = absurd h
+  pub answered_unread : (left : List ℕ) (stop : Stop) → IsStop (reading_causes input_tells input) stop → Answered (Some (Pack s)) input_tells input left now tells files files (answer_outcome (Err stop))
+  answered_unread left stop h = answered (Some (Pack s)) input_tells input now tells files files left (answer_outcome (Err stop)) (end_unread stop h)
+      (λ told nought. absurd ((stop_status input_tells input stop h).0 nought))
+      (works_idle (Some (Pack s)) input_tells input now tells files (answer_outcome (Err stop)).status (stop_status input_tells input stop h).0 (stop_status input_tells input stop h).1)
 
--- what an answer shows of what was known before the store was opened
-pub by_input_early : (input : List ℕ) (stop : Stop) → AnswersEarly input (Err stop) → AnswersByInput (pack_early input) (Err stop)
-by_input_early input OutOfMemory h = tt
-by_input_early input Input h = tt
-by_input_early input Disk h = absurd h
-by_input_early input Malformed h = absurd h
-by_input_early input (BadShard name) h = absurd h
-by_input_early input TooLarge h = h
-by_input_early input BadRange h = h
-by_input_early input (BadLine n) h = h
+-- ---- how it ends if its input is good
 
-pub by_input_late : (tells : Bool) (s : LimitSettings) (input : List ℕ) (said : Said) (r : Result (Vec ℕ Global) Stop) → max_input ≤ s.max_source_bytes → IsSaid input said
-    → IfErr r (IsLateStop tells s said) → AnswersByInput (pack_early input) r
-by_input_late tells s input said (Ok t) allowed is stop = is.fine
-by_input_late tells s input said (Err OutOfMemory) allowed is stop = tt
-by_input_late tells s input said (Err Disk) allowed is stop = tt
-by_input_late tells s input said (Err TooLarge) allowed is stop = absurd (never_too_large s input said allowed is stop)
-by_input_late tells s input said (Err (BadShard name)) allowed is stop = is.fine
-by_input_late tells s input said (Err Malformed) allowed is stop = is.fine
-by_input_late tells s input said (Err Input) allowed is stop = absurd stop
-by_input_late tells s input said (Err BadRange) allowed is stop = absurd stop
-by_input_late tells s input said (Err (BadLine n)) allowed is stop = absurd stop
+-- with status 0 there is a report
+on_nought : (X : Type 0) (r : Result (Vec ℕ Global) Stop) → (answer_outcome r).status ≡ 0 → OnOk r X → X
+on_nought X (Ok t) nought is = is
+on_nought X (Err OutOfMemory) nought is = absurd (omega arith)
+on_nought X (Err Input) nought is = absurd (omega arith)
+on_nought X (Err Disk) nought is = absurd (omega arith)
+on_nought X (Err Malformed) nought is = absurd (omega arith)
+on_nought X (Err TooLarge) nought is = absurd (omega arith)
+on_nought X (Err BadRange) nought is = absurd (omega arith)
+on_nought X (Err (BadLine n)) nought is = absurd (omega arith)
+on_nought X (Err (BadShard name)) nought is = absurd (omega arith)
 
--- what an answer shows of the folder
-pub by_folder_early : (now : ℕ) (files : Files) (stop : Stop) → IsEarlyStop stop → AnswersByFolder now files (Err stop)
-by_folder_early now files OutOfMemory h = tt
-by_folder_early now files Input h = tt
-by_folder_early now files Disk h = absurd h
-by_folder_early now files Malformed h = absurd h
-by_folder_early now files (BadShard name) h = absurd h
-by_folder_early now files TooLarge h = tt
-by_folder_early now files BadRange h = tt
-by_folder_early now files (BadLine n) h = tt
+-- what storing its files does to those of the disk, by the result
+pub record StandsAt (s : LimitSettings) (now : ℕ) (tells : Bool) (old new : Files) (said : Said) (r : Result (Vec ℕ Global) Stop) : Type 0 where
+  pub stored : tells ≡ true → OnOk r (ForLines said (λ l. Stores s l now new))
+  pub recorded : tells ≡ true → OnOk r (ForLines said (λ l. Records s l now new))
+  pub made : tells ≡ true → OnOk r (ForLines said (λ l. Makes s l now old new))
+  pub listed : tells ≡ true → KeepsListed now old new
+  pub keeps : tells ≡ true → KeepsFolder now old new
+  pub kept : tells ≡ true → IsIdle (answer_outcome r).status → new ≡ old
+  pub foreign : tells ≡ true → (name : List ℕ) → IsForeign store_folder name → get new name ≡ get old name
 
-pub by_folder_late : (s : LimitSettings) (said : Said) (now : ℕ) (files : Files) (r : Result (Vec ℕ Global) Stop) → AnswersLate s said now files r → AnswersByFolder now files r
-by_folder_late s said now files (Ok t) h = h
-by_folder_late s said now files (Err OutOfMemory) h = tt
-by_folder_late s said now files (Err Disk) h = tt
-by_folder_late s said now files (Err TooLarge) h = tt
-by_folder_late s said now files (Err (BadShard name)) h = h
-by_folder_late s said now files (Err Malformed) h = absurd h
-by_folder_late s said now files (Err Input) h = absurd h
-by_folder_late s said now files (Err BadRange) h = absurd h
-by_folder_late s said now files (Err (BadLine n)) h = absurd h
+ten_of : (tells : Bool) (s : LimitSettings) (said : Said) (now : ℕ) (files : Files) (r : Result (Vec ℕ Global) Stop) → IfErr r (IsStop (storing_causes tells s said now files)) → (answer_outcome r).status ≡ 10 → tells ≡ false
+ten_of tells s said now files (Ok t) stop ten = absurd (omega arith)
+ten_of tells s said now files (Err OutOfMemory) stop ten = absurd (omega arith)
+ten_of tells s said now files (Err Input) stop ten = absurd stop
+ten_of tells s said now files (Err Disk) stop ten = absurd (omega arith)
+ten_of tells s said now files (Err Malformed) stop ten = stop
+ten_of tells s said now files (Err TooLarge) stop ten = absurd (omega arith)
+ten_of tells s said now files (Err BadRange) stop ten = absurd stop
+ten_of tells s said now files (Err (BadLine n)) stop ten = absurd stop
+ten_of tells s said now files (Err (BadShard name)) stop ten = absurd (omega arith)
 
--- how a command has ended that answers so
-pub ended_with : (Due : Outcome → Type 0) (r : Result (Vec ℕ Global) Stop) (e : Outcome) → Answers Due r → (e ≡ answer_outcome r) ⊎ (e ≡ outcome 1 []) → Ended Due e
-ended_with Due r e answers (inr is) = subst (Ended Due) (sym is) (stopped (inl refl) refl)
-ended_with Due (Ok t) e answers (inl is) = subst (Ended Due) (sym is) (as_due answers)
-ended_with Due (Err OutOfMemory) e answers (inl is) = subst (Ended Due) (sym is) (stopped (inl refl) refl)
-ended_with Due (Err Input) e answers (inl is) = subst (Ended Due) (sym is) (stopped (inr (inl refl)) refl)
-ended_with Due (Err Disk) e answers (inl is) = subst (Ended Due) (sym is) (stopped (inr (inr refl)) refl)
-ended_with Due (Err Malformed) e answers (inl is) = absurd answers
-ended_with Due (Err TooLarge) e answers (inl is) = subst (Ended Due) (sym is) (as_due answers)
-ended_with Due (Err BadRange) e answers (inl is) = subst (Ended Due) (sym is) (as_due answers)
-ended_with Due (Err (BadLine n)) e answers (inl is) = subst (Ended Due) (sym is) (as_due answers)
-ended_with Due (Err (BadShard name)) e answers (inl is) = subst (Ended Due) (sym is) (as_due answers)
+module _ (s : LimitSettings) (input_tells : Bool) (input : List ℕ) (now : ℕ) (tells : Bool) (old new : Files) (said : Said) where
+  pub end_read : (r : Result (Vec ℕ Global) Stop) → (input_tells ≡ true → IsSaid input said) → are_short s said.files ≡ true → (tells ≡ true → OnOk r (IsAdmittedAt now old))
+      → IfErr r (IsStop (storing_causes tells s said now old)) → IfOk r (λ text. IsReportOf (Pack s) input_tells input tells old new now text.items) → MayEnd (Some (Pack s)) input_tells input now tells old new (answer_outcome r)
+  end_read (Ok t) is short admitted stop report = MayEnd.reported (λ told. (is told).fine) admitted (Pack s) refl report refl
+  end_read (Err OutOfMemory) is short admitted stop report = MayEnd.stopped (inl refl) refl
+  end_read (Err Disk) is short admitted stop report = MayEnd.stopped (inr (inr refl)) refl
+  end_read (Err TooLarge) is short admitted stop report = absurd (false≢true (sym stop ∙ short))
+  end_read (Err (BadShard name)) is short admitted stop report = MayEnd.refused (λ told. (is told).fine) name stop refl
+  end_read (Err Malformed) is short admitted stop report = MayEnd.malformed (λ told. (is told).fine) stop refl
+  end_read (Err Input) is short admitted stop report = absurd stop
+  end_read (Err BadRange) is short admitted stop report = absurd stop
+  end_read (Err (BadLine n)) is short admitted stop report = absurd stop
 
--- how a command has ended, by what is known before its store is opened
-due_then : (o : Outcome) (r : Result (Vec ℕ Global) Stop) → AnswersByInput (Some o) r → Answers (λ due. due ≡ o) r
-due_then o (Ok t) h = absurd (cc h)
-due_then o (Err OutOfMemory) h = tt
-due_then o (Err Input) h = tt
-due_then o (Err Disk) h = tt
-due_then o (Err TooLarge) h =
-    let same : o ≡ outcome 9 [] = cc h in sym same
-due_then o (Err BadRange) h =
-    let same : o ≡ outcome 8 [] = cc h in sym same
-due_then o (Err Malformed) h = absurd (cc h)
-due_then o (Err (BadLine n)) h =
-    let same : o ≡ outcome 3 (bad_line_text n) = cc h in sym same
-due_then o (Err (BadShard name)) h = absurd (cc h)
-
-not_due_then : (r : Result (Vec ℕ Global) Stop) → AnswersByInput None r → EndedEarly None (answer_outcome r)
-not_due_then (Ok t) h = (λ is. absurd (omega arith), λ is. absurd (omega arith), λ is. absurd (omega arith))
-not_due_then (Err OutOfMemory) h = (λ is. absurd (omega arith), λ is. absurd (omega arith), λ is. absurd (omega arith))
-not_due_then (Err Input) h = (λ is. absurd (omega arith), λ is. absurd (omega arith), λ is. absurd (omega arith))
-not_due_then (Err Disk) h = (λ is. absurd (omega arith), λ is. absurd (omega arith), λ is. absurd (omega arith))
-not_due_then (Err Malformed) h = (λ is. absurd (omega arith), λ is. absurd (omega arith), λ is. absurd (omega arith))
-not_due_then (Err TooLarge) h = absurd (cc h)
-not_due_then (Err BadRange) h = absurd (cc h)
-not_due_then (Err (BadLine n)) h = absurd (cc h)
-not_due_then (Err (BadShard name)) h = (λ is. absurd (omega arith), λ is. absurd (omega arith), λ is. absurd (omega arith))
-
-pub ended_early : (early : Option Outcome) (r : Result (Vec ℕ Global) Stop) (e : Outcome) → AnswersByInput early r → (e ≡ answer_outcome r) ⊎ (e ≡ outcome 1 []) → EndedEarly early e
-ended_early (Some o) r e answers is = ended_with (λ due. due ≡ o) r e (due_then o r answers) is
-ended_early None r e answers (inl is) = subst (EndedEarly None) (sym is) (not_due_then r answers)
-ended_early None r e answers (inr is) = subst (EndedEarly None) (sym is) (λ is. absurd (omega arith), λ is. absurd (omega arith), λ is. absurd (omega arith))
+  pub works_read : (r : Result (Vec ℕ Global) Stop) → (input_tells ≡ true → IsSaid input said) → IfErr r (IsStop (storing_causes tells s said now old)) → StandsAt s now tells old new said r
+      → Works (Some (Pack s)) input_tells input now tells old new (answer_outcome r).status
+  unfolding HasStoredBy HasRecordedBy HasMadeBy
+  works_read r is stop stands = record {
+    stored = λ told disk_told nought. on_nought (ForLines said (λ l. Stores s l now new)) r nought (stands.stored disk_told) (lines_said (lines input)) (is told).parts;
+    recorded = λ told disk_told nought. on_nought (ForLines said (λ l. Records s l now new)) r nought (stands.recorded disk_told) (lines_said (lines input)) (is told).parts;
+    made = λ told disk_told nought. on_nought (ForLines said (λ l. Makes s l now old new)) r nought (stands.made disk_told) (lines_said (lines input)) (is told).parts;
+    listed = stands.listed;
+    keeps = stands.keeps;
+    untouched = λ told disk_told some. absurd (some (is told).fine);
+    kept = stands.kept;
+    foreign = stands.foreign;
+    malformed = ten_of tells s said now old r stop;
+  }
 
 -- ---- what is printed of how a command ends
 
@@ -236,10 +216,10 @@ nothing_printed tells e before after status stop silent (inl (is, wrote)) =
     (subst IsStoppedSilent (sym is) stop, λ told. wrote told ∙ ap (λ (t : List ℕ). before ++ t) silent ∙ append-nil before)
 nothing_printed tells e before after status stop silent (inr (short, some, wrote)) = absurd (some silent)
 
-pub ends_over : (words : List (List ℕ)) (input : List ℕ) (now : ℕ) (old new : Files) (tells : Bool) (e : Outcome) (before after : List ℕ) (status : ℕ)
-    → Ended (IsDue (command_of words) input now old new) e → Prints tells e before after status → EndsOver words input now old new tells before after status
-ends_over words input now old new tells e before after status (as_due due) prints = inl (e, due, prints)
-ends_over words input now old new tells e before after status (stopped stop silent) prints = inr (nothing_printed tells e before after status stop silent prints)
+pub ends_over : (command : Option Command) (input : List ℕ) (now : ℕ) (old new : Files) (tells : Bool) (e : Outcome) (before after : List ℕ) (status : ℕ)
+    → Ended (IsDue command input now old new) e → Prints tells e before after status → EndsOver command input now old new tells before after status
+ends_over command input now old new tells e before after status (Ended.as_due due) prints = inl (e, due, prints)
+ends_over command input now old new tells e before after status (Ended.stopped stop silent) prints = inr (nothing_printed tells e before after status stop silent prints)
 
 short_otherwise : (status : ℕ) → IsCutShort status → (status ≢ 3) × (status ≢ 8) × (status ≢ 9)
 short_otherwise status (inl one) = (λ is. omega arith, λ is. omega arith, λ is. omega arith)
@@ -247,33 +227,20 @@ short_otherwise status (inr five) = (λ is. omega arith, λ is. omega arith, λ 
 
 pub ends_early : (tells : Bool) (early : Option Outcome) (e : Outcome) (before after : List ℕ) (status : ℕ) → EndedEarly early e → Prints tells e before after status
     → EndsEarly tells early before after status
-ends_early tells (Some o) e before after status (as_due is) prints = inl (subst (λ (x : Outcome). Prints tells x before after status) is prints)
-ends_early tells (Some o) e before after status (stopped stop silent) prints = inr (nothing_printed tells e before after status stop silent prints)
+ends_early tells (Some o) e before after status (Ended.as_due is) prints = inl (subst (λ (x : Outcome). Prints tells x before after status) is prints)
+ends_early tells (Some o) e before after status (Ended.stopped stop silent) prints = inr (nothing_printed tells e before after status stop silent prints)
 ends_early tells None e before after status others (inl (is, wrote)) = (λ three. others.0 (sym is ∙ three), λ eight. others.1 (sym is ∙ eight), λ nine. others.2 (sym is ∙ nine))
 ends_early tells None e before after status others (inr (short, some, wrote)) = short_otherwise status short
 
--- a run that is stopped as malformed
-pub malformed_of : (r : Result (Vec ℕ Global) Stop) (e : Outcome) → (e ≡ answer_outcome r) ⊎ (e ≡ outcome 1 []) → e.status ≡ 10 → IsErrOf r Malformed
-malformed_of r e (inr is) ten = absurd (omega (arith, ap (λ (x : Outcome). x.status) is, ten))
-malformed_of (Ok t) e (inl is) ten = absurd (omega (arith, ap (λ (x : Outcome). x.status) is, ten))
-malformed_of (Err OutOfMemory) e (inl is) ten = absurd (omega (arith, ap (λ (x : Outcome). x.status) is, ten))
-malformed_of (Err Input) e (inl is) ten = absurd (omega (arith, ap (λ (x : Outcome). x.status) is, ten))
-malformed_of (Err Disk) e (inl is) ten = absurd (omega (arith, ap (λ (x : Outcome). x.status) is, ten))
-malformed_of (Err TooLarge) e (inl is) ten = absurd (omega (arith, ap (λ (x : Outcome). x.status) is, ten))
-malformed_of (Err BadRange) e (inl is) ten = absurd (omega (arith, ap (λ (x : Outcome). x.status) is, ten))
-malformed_of (Err (BadLine n)) e (inl is) ten = absurd (omega (arith, ap (λ (x : Outcome). x.status) is, ten))
-malformed_of (Err (BadShard name)) e (inl is) ten = absurd (omega (arith, ap (λ (x : Outcome). x.status) is, ten))
-malformed_of (Err Malformed) e (inl is) ten = refl
-
 -- a run without a cause to refuse
-module _ (words : List (List ℕ)) (input : List ℕ) (now : ℕ) (old new : Files) (status : ℕ) (fine : IsFaultless words input now old) where
+module _ (command : Option Command) (input : List ℕ) (now : ℕ) (old new : Files) (status : ℕ) (fine : IsFaultless command input now old) where
   abbrev Ended0 : Type 0
   Ended0 = (status ≡ 0) ⊎ IsStopped status
 
   of_due : (o : Outcome) → IsDue (Some (Pack fine.settings)) input now old new o → status ≡ o.status → Ended0
-  of_due o (early e) is = let bad : None ≡ Some o = sym fine.lines_good ∙ e in absurd (cc bad)
-  of_due o (refused none e name refuses text) is = absurd (not_both old store_folder now fine.shards e name fine.folder refuses)
-  of_due o (admitted none s same shards admits nought report) is = inl (is ∙ nought)
+  of_due o (IsDue.early e) is = let bad : None ≡ Some o = sym fine.lines_good ∙ e in absurd (cc bad)
+  of_due o (IsDue.refused none e name refuses text) is = absurd (not_both old store_folder now fine.shards e name fine.folder refuses)
+  of_due o (IsDue.admitted none s same shards admits nought report) is = inl (is ∙ nought)
 
   stopped_silent : IsStoppedSilent status → IsStopped status
   stopped_silent (inl one) = inl one
@@ -284,8 +251,8 @@ module _ (words : List (List ℕ)) (input : List ℕ) (now : ℕ) (old new : Fil
   stopped_short (inl one) = inl one
   stopped_short (inr five) = inr (inr (inl five))
 
-  pub complete_of : (tells : Bool) (before after : List ℕ) → EndsOver words input now old new tells before after status → Ended0
+  pub complete_of : (tells : Bool) (before after : List ℕ) → EndsOver command input now old new tells before after status → Ended0
   complete_of tells before after (inr (stop, wrote)) = inr (stopped_silent stop)
   complete_of tells before after (inl (o, due, inr (short, some, wrote))) = inr (stopped_short short)
   complete_of tells before after (inl (o, due, inl (is, wrote))) =
-      of_due o (subst (λ (c : Option Command). IsDue c input now old new o) fine.command due) is
+      of_due o (subst (λ (c : Option Command). IsDue c input now old new o) fine.is_pack due) is

@@ -7,5 +7,6 @@ pub mod Allowed
 pub mod Stops
 pub mod Stored
 pub mod Ending
+pub mod Answered
 pub mod Steps
 pub mod internal

@@ -1,4 +1,4 @@
--- The outcome that is due for arguments, input and disk, and how a run may end otherwise.
+-- The outcome that is due for a command, an input and a disk, and how a run may end otherwise.
 use Rattle.std.specs.Prelude.{◌≡◌, ◌≢◌, ◌⊎◌, ℕ, ◌^◌, nat_lt, Bool, true, false, List, [], ◌∷◌, ◌++◌, length, map, take, codes, Option, Some, None, unwrap_or, if◌then◌else◌}
 use Rattle.std.specs.Str.Lines.{lines}
 use Rattle.std.specs.Fmt.{decimal}
@@ -11,7 +11,6 @@ use Rattle.xet_cut.specs.Chunking.{chunking}
 use Rattle.xet_store.specs.Separate.{SeparateIn}
 use Rattle.xet_store_cli.specs.declared.words.Command.{Command}
 use Rattle.xet_store_cli.specs.declared.words.Command.TheVariants.{Pack}
-use Rattle.xet_store_cli.specs.Words.{command_of}
 use Rattle.xet_store_cli.specs.Lines.{Line, are_ranges, files_of, first_bad, good_lines}
 use Rattle.xet_store_cli.specs.Report.{IsReport}
 
@@ -84,12 +83,12 @@ IsStopped status = (status ≡ 1) ⊎ (status ≡ 4) ⊎ (status ≡ 5) ⊎ (sta
 abbrev pub IsStoppedSilent : ℕ → Type 0
 IsStoppedSilent status = (status ≡ 1) ⊎ (status ≡ 4) ⊎ (status ≡ 6)
 
--- It is chunking short while it prints if the output fails or runs out of memory.
+-- It is cut short while it prints if the output fails or runs out of memory.
 abbrev pub IsCutShort : ℕ → Type 0
 IsCutShort status = (status ≡ 1) ⊎ (status ≡ 5)
 
 -- What a run with this outcome has printed, if the output is observable: the whole text; or, if there is a
--- text and the run was chunking short, a prefix of it.
+-- text and the run was cut short, a prefix of it.
 abbrev pub Prints : Bool → Outcome → List ℕ → List ℕ → ℕ → Type 0
 Prints tells o before after status =
     ((status ≡ o.status) × (tells ≡ true → after ≡ before ++ o.text))
@@ -111,16 +110,16 @@ EndsEarly tells None before after status = (status ≢ 3) × (status ≢ 8) × (
 
 -- A run over a disk with the files `old`, which become `new`, has ended as is due; or it was stopped before
 -- it printed, and has written nothing.
-abbrev pub EndsOver : List (List ℕ) → List ℕ → ℕ → Files → Files → Bool → List ℕ → List ℕ → ℕ → Type 0
-EndsOver words input now old new tells before after status =
-    ((o : Outcome) × IsDue (command_of words) input now old new o × Prints tells o before after status)
+abbrev pub EndsOver : Option Command → List ℕ → ℕ → Files → Files → Bool → List ℕ → List ℕ → ℕ → Type 0
+EndsOver command input now old new tells before after status =
+    ((o : Outcome) × IsDue command input now old new o × Prints tells o before after status)
     ⊎ PrintsNothing tells before after status
 
--- Status 0: the arguments are `pack`, all lines are good, and a report of what they say was written.
-pub record Reports (words : List (List ℕ)) (input : List ℕ) (tells : Bool) (files : Files) (now : ℕ) (before after : List ℕ) : Type 0 where
+-- Status 0: the command is `pack`, all lines are good, and a report of what they say was written.
+pub record Reports (command : Option Command) (input : List ℕ) (tells : Bool) (files : Files) (now : ℕ) (before after : List ℕ) : Type 0 where
   pub settings : LimitSettings
   pub said : List Line
-  pub command : command_of words ≡ Some (Pack settings)
+  pub is_pack : command ≡ Some (Pack settings)
   pub good : good_lines (lines input) ≡ Some said
   pub ranges_good : are_ranges said ≡ true
   pub text : List ℕ
@@ -131,11 +130,11 @@ pub record Reports (words : List (List ℕ)) (input : List ℕ) (tells : Bool) (
 abbrev pub IsSilent : ℕ → Type 0
 IsSilent status = (status ≡ 2) ⊎ (status ≡ 4) ⊎ (status ≡ 6) ⊎ (status ≡ 8) ⊎ (status ≡ 9) ⊎ (status ≡ 10)
 
--- Arguments, input and disk give no cause for an error: the arguments are `pack`, the input is not too long,
+-- Command, input and disk give no cause for an error: the command is `pack`, the input is not too long,
 -- its lines and ranges are good, and the folder is valid.
-pub record IsFaultless (words : List (List ℕ)) (input : List ℕ) (now : ℕ) (files : Files) : Type 0 where
+pub record IsFaultless (command : Option Command) (input : List ℕ) (now : ℕ) (files : Files) : Type 0 where
   pub settings : LimitSettings
-  pub command : command_of words ≡ Some (Pack settings)
+  pub is_pack : command ≡ Some (Pack settings)
   pub lines_good : pack_early input ≡ None
   pub shards : List ShardFile
   pub folder : Admits files store_folder now shards

@@ -1,20 +1,17 @@
--- What a command returns before it prints: its report, or why it stops.
-use Rattle.std.specs.Prelude.{◌≡◌, ℕ, Bool, false, List, [], Vec, Option, Some, None, Result, Ok, Err}
+-- Why a command stops without a report, and its outcome then.
+use Rattle.std.specs.Prelude.{◌≡◌, ℕ, Bool, false, List, [], Vec, Some, Result, Ok, Err}
 use Rattle.std.specs.declared.alloc.Global.{Global}
-use Rattle.std.specs.Str.Lines.{lines}
-use Rattle.xet_io.specs.Disk.{Files}
 use Rattle.xet_io.specs.declared.whole.Unread.{Unread}
 use Rattle.xet_io.specs.declared.whole.Unread.TheVariants as unread
 use Rattle.xet_hash.specs.declared.error.StoreError.{StoreError}
 use Rattle.xet_hash.specs.declared.error.StoreError.TheVariants.{Io, MalformedData}
 use Rattle.xet_hash.specs.declared.error.StoreError.TheVariants as error
-use Rattle.xet_folder.specs.Admission.{Admits, Refuses}
-use Rattle.xet_shard_file.specs.Shards.{ShardFile}
 use Rattle.xet_cut.specs.declared.limits.LimitSettings.{LimitSettings}
 use Rattle.xet_store_cli.specs.declared.ending.Stop.{Stop}
 use Rattle.xet_store_cli.specs.declared.ending.Stop.TheVariants.{OutOfMemory, Input, TooLarge, BadLine, BadRange, Disk, BadShard, Malformed}
+use Rattle.xet_store_cli.specs.Lines.{first_bad}
 use Rattle.xet_store_cli.specs.Parsing.{Said}
-use Rattle.xet_store_cli.specs.Outcome.{Outcome, bad_line_text, bad_shard_text, outcome, store_folder}
+use Rattle.xet_store_cli.specs.Outcome.{Outcome, bad_line_text, bad_shard_text, outcome}
 use Rattle.xet_store_cli.specs.Allowed.{are_short}
 
 -- the stop for an input that was not read
@@ -35,51 +32,42 @@ answer_outcome (Err Malformed) = outcome 10 []
 answer_outcome (Err (BadLine n)) = outcome 3 (bad_line_text n)
 answer_outcome (Err (BadShard name)) = outcome 7 (bad_shard_text name)
 
--- The result is the one that is due. Any run may stop with out of memory, a failed input or a failed disk.
-abbrev pub Answers : (Outcome → Type 0) → Result (Vec ℕ Global) Stop → Type 0
-Answers Due (Err OutOfMemory) = Unit {0}
-Answers Due (Err Input) = Unit {0}
-Answers Due (Err Disk) = Unit {0}
-Answers Due (Err Malformed) = ⊥
-Answers Due r = Due (answer_outcome r)
+-- For each stop but out of memory: what is then the case.
+pub record Causes : Type 1 where
+  pub input : Type 0
+  pub too_large : Type 0
+  pub bad_line : ℕ → Type 0
+  pub bad_range : Type 0
+  pub disk : Type 0
+  pub bad_shard : List ℕ → Type 0
+  pub malformed : Type 0
 
--- What a result says about what is due before the store is opened: a bad line, a bad range or too long an
--- input is returned only if it is due, and what comes later only if nothing is.
-abbrev pub AnswersByInput : Option Outcome → Result (Vec ℕ Global) Stop → Type 0
-AnswersByInput early (Ok text) = early ≡ None
-AnswersByInput early (Err OutOfMemory) = Unit {0}
-AnswersByInput early (Err Input) = Unit {0}
-AnswersByInput early (Err Disk) = Unit {0}
-AnswersByInput early (Err TooLarge) = early ≡ Some (outcome 9 [])
-AnswersByInput early (Err BadRange) = early ≡ Some (outcome 8 [])
-AnswersByInput early (Err Malformed) = early ≡ None
-AnswersByInput early (Err (BadLine n)) = early ≡ Some (outcome 3 (bad_line_text n))
-AnswersByInput early (Err (BadShard name)) = early ≡ None
+-- A stop comes only if its cause is the case. Out of memory may always come.
+abbrev pub IsStop : Causes → Stop → Type 0
+IsStop causes OutOfMemory = Unit {0}
+IsStop causes Input = causes.input
+IsStop causes TooLarge = causes.too_large
+IsStop causes (BadLine n) = causes.bad_line n
+IsStop causes BadRange = causes.bad_range
+IsStop causes Disk = causes.disk
+IsStop causes (BadShard name) = causes.bad_shard name
+IsStop causes Malformed = causes.malformed
 
--- What a result says about the folder on a disk with these files, at a time: a report is returned only if it
--- is valid, a shard's name only if that is the first with which a check fails, and `Malformed` never.
-abbrev pub AnswersByFolder : ℕ → Files → Result (Vec ℕ Global) Stop → Type 0
-AnswersByFolder now files (Ok text) = (shards : List ShardFile) × Admits files store_folder now shards
-AnswersByFolder now files (Err (BadShard name)) = (e : StoreError) × Refuses files store_folder now e name
-AnswersByFolder now files (Err Malformed) = ⊥
-AnswersByFolder now files (Err _) = Unit {0}
+-- no stop but out of memory
+abbrev pub no_causes : Causes
+no_causes = record { input = ⊥; too_large = ⊥; bad_line = λ n. ⊥; bad_range = ⊥; disk = ⊥; bad_shard = λ name. ⊥; malformed = ⊥ }
 
--- a stop in a session: too large only if a file is, malformed only if the disk is not observable
-abbrev pub IsSessionStop : Bool → LimitSettings → Said → Stop → Type 0
-IsSessionStop tells s said OutOfMemory = Unit {0}
-IsSessionStop tells s said Disk = Unit {0}
-IsSessionStop tells s said TooLarge = are_short s said.files ≡ false
-IsSessionStop tells s said Malformed = tells ≡ false
-IsSessionStop tells s said _ = ⊥
+-- while lines are parsed: the first bad line
+abbrev pub parsing_causes : List (List ℕ) → Causes
+parsing_causes lines = record no_causes { bad_line = λ n. first_bad lines ≡ Some n }
 
--- a stop with which no file of the disk has changed
-abbrev pub IsIdleStop : Stop → Type 0
-IsIdleStop Input = Unit {0}
-IsIdleStop (BadLine n) = Unit {0}
-IsIdleStop BadRange = Unit {0}
-IsIdleStop TooLarge = Unit {0}
-IsIdleStop (BadShard name) = Unit {0}
-IsIdleStop _ = ⊥
+-- while ranges are read in a session: a failure of the disk; malformed only if the disk is not observable
+abbrev pub range_causes : Bool → Causes
+range_causes tells = record no_causes { disk = Unit {0}; malformed = tells ≡ false }
+
+-- in a session: besides, too large only if a file is
+abbrev pub session_causes : Bool → LimitSettings → Said → Causes
+session_causes tells s said = record (range_causes tells) { too_large = are_short s said.files ≡ false }
 
 -- The stop for an error of the store. Opening, cleaning and flushing return no other errors without a shard's
 -- name than these and out of memory (`IsUnadmitted`, `HasReason`, `HasDiskReason`). Reading a good range of a

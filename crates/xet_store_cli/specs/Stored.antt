@@ -1,5 +1,6 @@
--- What `pack` has stored.
-use Rattle.std.specs.Prelude.{◌≡◌, ◌≢◌, ◌⊎◌, ℕ, ◌<◌, ◌≤◌, ◌^◌, false, List, [], IfSome}
+-- What a command does to the files of its disk.
+use Rattle.std.specs.Prelude.{◌≡◌, ◌≢◌, ◌⊎◌, ℕ, ◌<◌, ◌≤◌, ◌^◌, Bool, true, false, List, [], Option, None, IfSome}
+use Rattle.std.specs.FinMap.{get}
 use Rattle.std.specs.List.{AllByRecursion, IsAmong}
 use Rattle.std.specs.Str.Lines.{lines}
 use Rattle.xet_io.specs.Disk.{Files}
@@ -12,15 +13,14 @@ use Rattle.xet_store.specs.Tables.{record_of_file}
 use Rattle.xet_folder.specs.Admission.{Admits}
 use Rattle.xet_folder.specs.Listed.{JoinsTo, Lists}
 use Rattle.xet_shard_file.specs.Names.{IsHash, shard_path}
-use Rattle.xet_folder.specs.Names.{xorb_path}
+use Rattle.xet_folder.specs.Names.{IsForeign, xorb_path}
 use Rattle.xet_shard_file.specs.Shards.{IsThere, ShardFile, is_expired}
 use Rattle.xet_shard_format.specs.declared.record.MDBFileInfo.{MDBFileInfo}
 use Rattle.xet_shard_format.specs.Records as record_of
 use Rattle.xet_store_cli.specs.declared.words.Command.{Command}
 use Rattle.xet_store_cli.specs.declared.words.Command.TheVariants.{Pack}
-use Rattle.xet_store_cli.specs.Words.{command_of}
 use Rattle.xet_store_cli.specs.Lines.{Line, files_of}
-use Rattle.xet_store_cli.specs.Outcome.{chunkings_of, lines_said, store_folder}
+use Rattle.xet_store_cli.specs.Outcome.{IsIdle, chunkings_of, early_outcome, lines_said, store_folder}
 use Rattle.xet_store_cli.specs.Report.{hash_of_file}
 
 -- If there are no collisions among the chunks seen in the folder at a time and in these lines, each xorb into
@@ -30,12 +30,9 @@ Stores s said now files =
     Apart chunk_hash (MetStored files store_folder now s (chunkings_of s said))
     → AllByRecursion (λ bytes. IsPacked files store_folder s (chunking s bytes)) (files_of said)
 
+-- The files of the lines of this input are stored on a disk with these files.
 unfoldable pub HasStoredBy : Command → List ℕ → ℕ → Files → Type 0
 HasStoredBy (Pack s) input now files = Stores s (lines_said (lines input)) now files
-
--- The files of the lines of this input are stored on a disk with these files.
-abbrev pub HasStored : List (List ℕ) → List ℕ → ℕ → Files → Type 0
-HasStored words input now files = IfSome (command_of words) (λ command. HasStoredBy command input now files)
 
 -- The folder lists a record of the file of these bytes, under its hash, and the plan resolves to its chunks.
 pub record IsRecorded (s : LimitSettings) (files : Files) (now : ℕ) (bytes : List ℕ) : Type 0 where
@@ -51,12 +48,9 @@ Records s said now files =
     SeparateIn files store_folder now s (chunkings_of s said)
     → AllByRecursion (λ bytes. bytes ≢ [] → IsRecorded s files now bytes) (files_of said)
 
+-- The files of the lines of this input are recorded on a disk with these files.
 unfoldable pub HasRecordedBy : Command → List ℕ → ℕ → Files → Type 0
 HasRecordedBy (Pack s) input now files = Records s (lines_said (lines input)) now files
-
--- The files of the lines of this input are recorded on a disk with these files.
-abbrev pub HasRecorded : List (List ℕ) → List ℕ → ℕ → Files → Type 0
-HasRecorded words input now files = IfSome (command_of words) (λ command. HasRecordedBy command input now files)
 
 -- Each file that is listed before, at `now` or later, is listed after for that time, with the same chunks.
 pub record KeepsListed (now : ℕ) (old new : Files) : Type 0 where
@@ -79,12 +73,9 @@ Makes s said now old new =
     AllByRecursion (λ bytes. bytes ≢ [] → (ListsHash old now (hash_of_file s bytes) → ⊥)
     → (made : List ℕ) × IsAmong (files_of said) made × (hash_of_file s made ≡ hash_of_file s bytes) × ListsMade s new made) (files_of said)
 
+-- The files of the lines of this input that were new to the folder before are made in the folder after.
 unfoldable pub HasMadeBy : Command → List ℕ → ℕ → Files → Files → Type 0
 HasMadeBy (Pack s) input now old new = Makes s (lines_said (lines input)) now old new
-
--- The files of the lines of this input that were new to the folder before are made in the folder after.
-abbrev pub HasMade : List (List ℕ) → List ℕ → ℕ → Files → Files → Type 0
-HasMade words input now old new = IfSome (command_of words) (λ command. HasMadeBy command input now old new)
 
 -- The store's folder on a disk with these files is valid at a time.
 abbrev pub IsAdmittedAt : ℕ → Files → Type 0
@@ -101,3 +92,16 @@ pub record KeepsFolder (now : ℕ) (old new : Files) : Type 0 where
   pub named : (h : List ℕ) → IsNamed old store_folder now h → SameEntry old new (xorb_path store_folder h)
   pub newly : (h : List ℕ) → IsNamed new store_folder now h → IsNamed old store_folder now h ⊎ IsDurable new (xorb_path store_folder h)
   pub admitted : IsAdmittedAt now old → IsAdmittedAt now new
+
+-- What the run of a command does to the files of its disk, by the status with which it ends: what status 0
+-- promises, what is kept whatever the status, and when no file has changed.
+pub record Works (command : Option Command) (input_tells : Bool) (input : List ℕ) (now : ℕ) (tells : Bool) (old new : Files) (status : ℕ) : Type 0 where
+  pub stored : input_tells ≡ true → tells ≡ true → status ≡ 0 → IfSome command (λ c. HasStoredBy c input now new)
+  pub recorded : input_tells ≡ true → tells ≡ true → status ≡ 0 → IfSome command (λ c. HasRecordedBy c input now new)
+  pub made : input_tells ≡ true → tells ≡ true → status ≡ 0 → IfSome command (λ c. HasMadeBy c input now old new)
+  pub listed : tells ≡ true → KeepsListed now old new
+  pub keeps : tells ≡ true → KeepsFolder now old new
+  pub untouched : input_tells ≡ true → tells ≡ true → early_outcome command input ≢ None → new ≡ old
+  pub kept : tells ≡ true → IsIdle status → new ≡ old
+  pub foreign : tells ≡ true → (name : List ℕ) → IsForeign store_folder name → get new name ≡ get old name
+  pub malformed : status ≡ 10 → tells ≡ false

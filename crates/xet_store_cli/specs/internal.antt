@@ -1,4 +1,3 @@
-pub mod Outcome
 pub mod Parsing
 pub mod Steps
 pub mod Stops

@@ -1,10 +1,11 @@
 //! Parsing of the lines of an input.
 
-ghost use Rattle.std.specs.Prelude.{◌≡◌, ℕ, ◌<◌, ◌∷◌, [], List, length, IfOk, IfNone, IfSome, IsOkUnless, MatchBool, None, Some, IsTrue, ◌↔◌};
+ghost use Rattle.std.specs.Prelude.{◌≡◌, ℕ, ◌<◌, ◌∷◌, [], List, length, IfErr, IfOk, IfNone, IfSome, OnOk, IsOkUnless, MatchBool, None, Some, IsTrue, ◌↔◌};
 ghost use Rattle.std.specs.Option.{option_map};
 ghost use Rattle.std.specs.Str.Lines.{lines, strip_carriage_return};
-ghost use Rattle.xet_store_cli.specs.Lines.{file_bytes, range_by, range_of, words_of};
-ghost use Rattle.xet_store_cli.specs.Parsing.{Says};
+ghost use Rattle.xet_store_cli.specs.Lines.{file_bytes, first_bad, good_lines, range_by, range_of, words_of};
+ghost use Rattle.xet_store_cli.specs.Parsing.{parted};
+ghost use Rattle.xet_store_cli.specs.Stops.{IsStop, parsing_causes};
 ghost use Rattle.xet_store_cli.specs.internal.Parsing.{with_next};
 ghost use Rattle.xet_store_cli.specs.Words.{number_of};
 
@@ -128,7 +129,9 @@ impl PackLines {
 /// Parses the lines of an input. The error is `BadLine` with the number of the first bad line, counted from
 /// 1, or `OutOfMemory`.
 pub fn parse(alloc: Global, input: &[u8]) -> Result<PackLines, Stop>
-    ensures { Says (lines input.now) result }
+    ensures good { OnOk result (first_bad (lines input.now) ≡ None) }
+    ensures said { IfOk result (λ said. option_map parted (good_lines (lines input.now)) ≡ Some said) }
+    ensures stop { IfErr result (IsStop (parsing_causes (lines input.now))) }
 {
     let mut said = PackLines::new(alloc);
     let mut number = 0u64;

@@ -1,18 +1,17 @@
 //! The command `pack`.
 
-ghost use Rattle.std.specs.Prelude.{Some, None, ◌≡◌, ◌≢◌, ◌≤◌, List, ℕ, true, false, [], length, IfErr, IfOk, OnOk, IsErrOf};
+ghost use Rattle.std.specs.Prelude.{Some, ◌≡◌, ◌≤◌, List, ℕ, true, [], length, IfErr, IfOk, OnOk, IsErrOf};
 ghost use Rattle.std.specs.FinMap.{get};
-ghost use Rattle.xet_io.specs.Faults.{HasCause};
+ghost use Rattle.xet_io.specs.Frame.{Called};
 ghost use Rattle.xet_folder.specs.Names.{IsForeign};
-ghost use Rattle.xet_store_cli.specs.Outcome.{AreSeparate, IsDue, early_outcome, store_folder};
+ghost use Rattle.xet_store_cli.specs.Outcome.{AreSeparate, IsIdle, store_folder};
 ghost use Rattle.xet_store_cli.specs.Allowed.{AllowsInput, are_short};
-ghost use Rattle.xet_store_cli.specs.Ending.{IsReportOf};
+ghost use Rattle.xet_store_cli.specs.Answered.{Answered};
 ghost use Rattle.xet_store_cli.specs.Parsing.{ForLines, are_good};
 ghost use Rattle.xet_store_cli.specs.Report.{IsReport};
-ghost use Rattle.xet_store_cli.specs.Stops.{Answers, AnswersByFolder, AnswersByInput, IsIdleStop};
-ghost use Rattle.xet_store_cli.specs.internal.Stops.{AnswersEarly, AnswersLate, IsEarlyStop, IsLateStop, IsSaid, stop_of_refusal};
-ghost use Rattle.xet_store_cli.specs.Stored.{HasMadeBy, HasRecordedBy, HasStoredBy, KeepsFolder, KeepsListed, Makes, Records, Stores};
-ghost use Rattle.xet_io.specs.Frame.{Called};
+ghost use Rattle.xet_store_cli.specs.Stops.{IsStop, answer_outcome};
+ghost use Rattle.xet_store_cli.specs.internal.Stops.{IsSaid, reading_causes, stop_of_refusal, storing_causes};
+ghost use Rattle.xet_store_cli.specs.Stored.{IsAdmittedAt, KeepsFolder, KeepsListed, Makes, Records, Stores};
 
 use crate::ending::Stop;
 use crate::lines::{PackLines, parse};
@@ -44,29 +43,9 @@ pub fn pack<I: Source, D: Disk + Send>(
     now: u64,
 ) -> (D, Result<Vec<u8>, Stop>)
     requires { AllowsInput (Command.Pack limits.now) }
-    ensures answer { I.tells input.old ≡ true → D.tells disk ≡ true
-        → Answers (IsDue (Some (Command.Pack limits.now)) (I.left input.old) now (D.files disk) (D.files result.0)) result.1 }
-    ensures early { I.tells input.old ≡ true → AnswersByInput (early_outcome (Some (Command.Pack limits.now)) (I.left input.old)) result.1 }
-    ensures folder { D.tells disk ≡ true → AnswersByFolder now (D.files disk) result.1 }
-    ensures report { IfOk result.1 (λ text. IsReportOf (Command.Pack limits.now) (I.tells input.old) (I.left input.old) (D.tells disk) (D.files disk) (D.files result.0) now text.items) }
-    ensures read { I.tells input.old ≡ true → OnOk result.1 (I.left input.new ≡ []) }
-    ensures stored { I.tells input.old ≡ true → D.tells disk ≡ true
-        → OnOk result.1 (HasStoredBy (Command.Pack limits.now) (I.left input.old) now (D.files result.0)) }
-    ensures recorded { I.tells input.old ≡ true → D.tells disk ≡ true
-        → OnOk result.1 (HasRecordedBy (Command.Pack limits.now) (I.left input.old) now (D.files result.0)) }
-    ensures made { I.tells input.old ≡ true → D.tells disk ≡ true
-        → OnOk result.1 (HasMadeBy (Command.Pack limits.now) (I.left input.old) now (D.files disk) (D.files result.0)) }
-    ensures listed { D.tells disk ≡ true → KeepsListed now (D.files disk) (D.files result.0) }
-    ensures keeps { D.tells disk ≡ true → KeepsFolder now (D.files disk) (D.files result.0) }
-    ensures untouched { I.tells input.old ≡ true → D.tells disk ≡ true
-        → early_outcome (Some (Command.Pack limits.now)) (I.left input.old) ≢ None → D.files result.0 ≡ D.files disk }
-    ensures kept { D.tells disk ≡ true → IfErr result.1 (λ stop. IsIdleStop stop → D.files result.0 ≡ D.files disk) }
-    ensures foreign { D.tells disk ≡ true → (name : List ℕ) → IsForeign store_folder name → get (D.files result.0) name ≡ get (D.files disk) name }
-    ensures malformed { IsErrOf result.1 Stop.Malformed → D.tells disk ≡ false }
-    ensures input { HasCause (I.faults input.old) (I.faults input.new) (IsErrOf result.1 Stop.Input) }
-    ensures disk { HasCause (D.faults disk) (D.faults result.0) (IsErrOf result.1 Stop.Disk) }
-    ensures tells { I.tells input.new ≡ I.tells input.old }
-    ensures disk_tells { D.tells result.0 ≡ D.tells disk }
+    ensures answered { Answered (Some (Command.Pack limits.now)) (I.tells input.old) (I.left input.old) (I.left input.new) now (D.tells disk) (D.files disk) (D.files result.0) (answer_outcome result.1) }
+    ensures input { Called I.tells I.faults input.old input.new (IsErrOf result.1 Stop.Input) }
+    ensures disk { Called D.tells D.faults disk result.0 (IsErrOf result.1 Stop.Disk) }
 {
     match read_lines(alloc, input) {
         Ok(lines) => store_lines(alloc, limits, &lines, disk, now),
@@ -76,11 +55,11 @@ pub fn pack<I: Source, D: Disk + Send>(
 
 /// Reads an input to its end and parses its lines. All ranges of the result name bytes of its files.
 fn read_lines<I: Source>(alloc: Global, input: &mut I) -> Result<PackLines, Stop>
-    ensures answer { I.tells input.old ≡ true → AnswersEarly (I.left input.old) result }
+    ensures said { I.tells input.old ≡ true → IfOk result (IsSaid (I.left input.old)) }
     ensures few { IfOk result (λ lines. length lines.files ≤ 1) }
     ensures good { IfOk result (λ lines. are_good lines ≡ true) }
-    ensures said { IfOk result (λ lines. (bytes : List ℕ) × IsSaid bytes lines) }
-    ensures stop { IfErr result IsEarlyStop }
+    ensures bytes { IfOk result (λ lines. (bytes : List ℕ) × IsSaid bytes lines) }
+    ensures stop { IfErr result (IsStop (reading_causes (I.tells input.old) (I.left input.old))) }
     ensures read { I.tells input.old ≡ true → OnOk result (I.left input.new ≡ []) }
     ensures frame { Called I.tells I.faults input.old input.new (IsErrOf result Stop.Input) }
 {
@@ -103,18 +82,17 @@ fn store_lines<D: Disk + Send>(
     requires few { length lines.now.files ≤ 1 }
     requires good { are_good lines.now ≡ true }
     requires short { are_short limits.now lines.now.files ≡ true }
-    ensures answer { D.tells disk ≡ true → AnswersLate limits.now lines.now now (D.files disk) result.1 }
+    ensures admitted { D.tells disk ≡ true → OnOk result.1 (IsAdmittedAt now (D.files disk)) }
     ensures report { IfOk result.1 (λ text. ForLines lines.now (λ said. IsReport (AreSeparate (D.tells disk) (D.files result.0) now limits.now said) limits.now said text.items)) }
-    ensures stop { IfErr result.1 (IsLateStop (D.tells disk) limits.now lines.now) }
+    ensures stop { IfErr result.1 (IsStop (storing_causes (D.tells disk) limits.now lines.now now (D.files disk))) }
     ensures stored { D.tells disk ≡ true → OnOk result.1 (ForLines lines.now (λ said. Stores limits.now said now (D.files result.0))) }
     ensures recorded { D.tells disk ≡ true → OnOk result.1 (ForLines lines.now (λ said. Records limits.now said now (D.files result.0))) }
     ensures made { D.tells disk ≡ true → OnOk result.1 (ForLines lines.now (λ said. Makes limits.now said now (D.files disk) (D.files result.0))) }
     ensures listed { D.tells disk ≡ true → KeepsListed now (D.files disk) (D.files result.0) }
     ensures keeps { D.tells disk ≡ true → KeepsFolder now (D.files disk) (D.files result.0) }
-    ensures kept { D.tells disk ≡ true → IfErr result.1 (λ stop. IsIdleStop stop → D.files result.0 ≡ D.files disk) }
+    ensures kept { D.tells disk ≡ true → IsIdle (answer_outcome result.1).status → D.files result.0 ≡ D.files disk }
     ensures foreign { D.tells disk ≡ true → (name : List ℕ) → IsForeign store_folder name → get (D.files result.0) name ≡ get (D.files disk) name }
-    ensures tells { D.tells result.0 ≡ D.tells disk }
-    ensures cause { HasCause (D.faults disk) (D.faults result.0) (IsErrOf result.1 Stop.Disk) }
+    ensures frame { Called D.tells D.faults disk result.0 (IsErrOf result.1 Stop.Disk) }
 {
     match Store::open(alloc, disk, FOLDER, *limits, now, false) {
         Ok(session) => {

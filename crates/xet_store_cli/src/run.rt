@@ -1,17 +1,15 @@
 //! The program as one call, over any input, output, disk and inputs.
 
-ghost use Rattle.std.specs.Prelude.{◌≡◌, ◌≢◌, ◌⊎◌, ◌↔◌, ◌≤◌, ◌++◌, true, false, None, Some, [], List, ℕ, map, string_bytes, OnOk, IfErr, IfOk, IsErrOf};
-ghost use Rattle.std.specs.FinMap.{get};
-ghost use Rattle.xet_io.specs.Faults.{HasCause};
+ghost use Rattle.std.specs.Prelude.{◌≡◌, ◌≢◌, ◌⊎◌, ◌↔◌, ◌≤◌, ◌++◌, true, None, Some, [], List, ℕ, map, string_bytes, IsErrOf};
+ghost use Rattle.xet_io.specs.Frame.{Called};
 ghost use Rattle.xet_hash.specs.declared.error.StoreError.{StoreError};
 ghost use Rattle.xet_folder.specs.Admission.{Refuses};
-ghost use Rattle.xet_folder.specs.Names.{IsForeign};
-ghost use Rattle.xet_store_cli.specs.internal.Outcome.{Ended, EndedEarly};
-ghost use Rattle.xet_store_cli.specs.Outcome.{EndsEarly, EndsOver, IsDue, IsFaultless, IsIdle, IsSilent, IsStopped, Outcome, Prints, Reports, bad_line_text, bad_shard_text, early_outcome, store_folder};
-ghost use Rattle.xet_store_cli.specs.Ending.{IsReportOf, MayEnd};
+ghost use Rattle.xet_store_cli.specs.Outcome.{EndsEarly, EndsOver, IsFaultless, IsSilent, IsStopped, Outcome, Prints, Reports, bad_line_text, bad_shard_text, early_outcome, store_folder};
+ghost use Rattle.xet_store_cli.specs.Ending.{MayEnd};
 ghost use Rattle.xet_store_cli.specs.Allowed.{AllowsInput};
-ghost use Rattle.xet_store_cli.specs.Stops.{Answers, AnswersByFolder, AnswersByInput, IsIdleStop};
-ghost use Rattle.xet_store_cli.specs.Stored.{HasMade, HasMadeBy, HasRecorded, HasRecordedBy, HasStored, HasStoredBy, IsAdmittedAt, KeepsFolder, KeepsListed};
+ghost use Rattle.xet_store_cli.specs.Answered.{Answered};
+ghost use Rattle.xet_store_cli.specs.Stops.{answer_outcome};
+ghost use Rattle.xet_store_cli.specs.Stored.{IsAdmittedAt, Works};
 ghost use Rattle.xet_store_cli.specs.Words.{command_of};
 
 use crate::ending::{Ending, Stop};
@@ -63,10 +61,10 @@ where
     F: Inputs,
     R: Threads + Wait + Sync,
     ensures words { (result.1 ≡ 2) ↔ (command_of (map string_bytes words.now) ≡ None) }
-    ensures ends { (o : Outcome) × MayEnd (map string_bytes words.now) (I.tells input.old) (I.left input.old) now (D.tells disk) (D.files disk) (D.files result.0) o
+    ensures ends { (o : Outcome) × MayEnd (command_of (map string_bytes words.now)) (I.tells input.old) (I.left input.old) now (D.tells disk) (D.files disk) (D.files result.0) o
         × Prints (O.tells output.old) o (O.written output.old) (O.written output.new) result.1 }
     ensures outcome { I.tells input.old ≡ true → D.tells disk ≡ true
-        → EndsOver (map string_bytes words.now) (I.left input.old) now (D.files disk) (D.files result.0) (O.tells output.old) (O.written output.old) (O.written output.new) result.1 }
+        → EndsOver (command_of (map string_bytes words.now)) (I.left input.old) now (D.files disk) (D.files result.0) (O.tells output.old) (O.written output.old) (O.written output.new) result.1 }
     ensures early { I.tells input.old ≡ true
         → EndsEarly (O.tells output.old) (early_outcome (command_of (map string_bytes words.now)) (I.left input.old)) (O.written output.old) (O.written output.new) result.1 }
     ensures bounded { result.1 ≤ 10 }
@@ -75,31 +73,16 @@ where
     ensures bad_shard { result.1 ≡ 7 → (name : List ℕ) × (D.tells disk ≡ true → (e : StoreError) × Refuses (D.files disk) store_folder now e name)
         × (O.tells output.old ≡ true → O.written output.new ≡ O.written output.old ++ bad_shard_text name) }
     ensures complete { I.tells input.old ≡ true → D.tells disk ≡ true
-        → IsFaultless (map string_bytes words.now) (I.left input.old) now (D.files disk) → (result.1 ≡ 0) ⊎ IsStopped result.1 }
+        → IsFaultless (command_of (map string_bytes words.now)) (I.left input.old) now (D.files disk) → (result.1 ≡ 0) ⊎ IsStopped result.1 }
     ensures report { I.tells input.old ≡ true → O.tells output.old ≡ true → result.1 ≡ 0
-        → Reports (map string_bytes words.now) (I.left input.old) (D.tells disk) (D.files result.0) now (O.written output.old) (O.written output.new) }
+        → Reports (command_of (map string_bytes words.now)) (I.left input.old) (D.tells disk) (D.files result.0) now (O.written output.old) (O.written output.new) }
     ensures read { I.tells input.old ≡ true → result.1 ≡ 0 → I.left input.new ≡ [] }
-    ensures stored { I.tells input.old ≡ true → D.tells disk ≡ true → result.1 ≡ 0
-        → HasStored (map string_bytes words.now) (I.left input.old) now (D.files result.0) }
-    ensures recorded { I.tells input.old ≡ true → D.tells disk ≡ true → result.1 ≡ 0
-        → HasRecorded (map string_bytes words.now) (I.left input.old) now (D.files result.0) }
-    ensures made { I.tells input.old ≡ true → D.tells disk ≡ true → result.1 ≡ 0
-        → HasMade (map string_bytes words.now) (I.left input.old) now (D.files disk) (D.files result.0) }
-    ensures listed { D.tells disk ≡ true → KeepsListed now (D.files disk) (D.files result.0) }
-    ensures keeps { D.tells disk ≡ true → KeepsFolder now (D.files disk) (D.files result.0) }
+    ensures works { Works (command_of (map string_bytes words.now)) (I.tells input.old) (I.left input.old) now (D.tells disk) (D.files disk) (D.files result.0) result.1 }
     ensures admitted { D.tells disk ≡ true → (later : ℕ) → now ≤ later → IsAdmittedAt now (D.files disk) → IsAdmittedAt later (D.files result.0) }
-    ensures untouched { I.tells input.old ≡ true → D.tells disk ≡ true
-        → early_outcome (command_of (map string_bytes words.now)) (I.left input.old) ≢ None → D.files result.0 ≡ D.files disk }
-    ensures kept { D.tells disk ≡ true → IsIdle result.1 → D.files result.0 ≡ D.files disk }
-    ensures foreign { D.tells disk ≡ true → (name : List ℕ) → IsForeign store_folder name → get (D.files result.0) name ≡ get (D.files disk) name }
-    ensures malformed { result.1 ≡ 10 → D.tells disk ≡ false }
-    ensures input { HasCause (I.faults input.old) (I.faults input.new) (result.1 ≡ 4) }
-    ensures output { HasCause (O.faults output.old) (O.faults output.new) (result.1 ≡ 5) }
-    ensures disk { HasCause (D.faults disk) (D.faults result.0) (result.1 ≡ 6) }
+    ensures input { Called I.tells I.faults input.old input.new (result.1 ≡ 4) }
+    ensures output { Called O.tells O.faults output.old output.new (result.1 ≡ 5) }
+    ensures disk { Called D.tells D.faults disk result.0 (result.1 ≡ 6) }
     ensures inputs { inputs.new ≡ inputs.old }
-    ensures input_tells { I.tells input.new ≡ I.tells input.old }
-    ensures output_tells { O.tells output.new ≡ O.tells output.old }
-    ensures disk_tells { D.tells result.0 ≡ D.tells disk }
 {
     let (disk, ending) = run_command(alloc, words, input, disk, now);
     admitted_later();
@@ -117,31 +100,10 @@ fn run_command<I: Source, D: Disk + Send>(
 ) -> (D, Ending)
     ensures words { (result.1.status ≡ 2) ↔ (command_of (map string_bytes words.now) ≡ None) }
     ensures silent { result.1.status ≡ 2 → result.1.text ≡ [] }
-    ensures ends { MayEnd (map string_bytes words.now) (I.tells input.old) (I.left input.old) now (D.tells disk) (D.files disk) (D.files result.0) result.1 }
-    ensures outcome { I.tells input.old ≡ true → D.tells disk ≡ true
-        → Ended (IsDue (command_of (map string_bytes words.now)) (I.left input.old) now (D.files disk) (D.files result.0)) result.1 }
-    ensures early { I.tells input.old ≡ true → EndedEarly (early_outcome (command_of (map string_bytes words.now)) (I.left input.old)) result.1 }
-    ensures report { I.tells input.old ≡ true → result.1.status ≡ 0
-        → Reports (map string_bytes words.now) (I.left input.old) (D.tells disk) (D.files result.0) now [] result.1.text }
-    ensures read { I.tells input.old ≡ true → result.1.status ≡ 0 → I.left input.new ≡ [] }
-    ensures stored { I.tells input.old ≡ true → D.tells disk ≡ true → result.1.status ≡ 0
-        → HasStored (map string_bytes words.now) (I.left input.old) now (D.files result.0) }
-    ensures recorded { I.tells input.old ≡ true → D.tells disk ≡ true → result.1.status ≡ 0
-        → HasRecorded (map string_bytes words.now) (I.left input.old) now (D.files result.0) }
-    ensures made { I.tells input.old ≡ true → D.tells disk ≡ true → result.1.status ≡ 0
-        → HasMade (map string_bytes words.now) (I.left input.old) now (D.files disk) (D.files result.0) }
-    ensures listed { D.tells disk ≡ true → KeepsListed now (D.files disk) (D.files result.0) }
-    ensures keeps { D.tells disk ≡ true → KeepsFolder now (D.files disk) (D.files result.0) }
-    ensures untouched { I.tells input.old ≡ true → D.tells disk ≡ true
-        → early_outcome (command_of (map string_bytes words.now)) (I.left input.old) ≢ None → D.files result.0 ≡ D.files disk }
-    ensures kept { D.tells disk ≡ true → IsIdle result.1.status → D.files result.0 ≡ D.files disk }
-    ensures foreign { D.tells disk ≡ true → (name : List ℕ) → IsForeign store_folder name → get (D.files result.0) name ≡ get (D.files disk) name }
-    ensures malformed { result.1.status ≡ 10 → D.tells disk ≡ false }
-    ensures input { HasCause (I.faults input.old) (I.faults input.new) (result.1.status ≡ 4) }
+    ensures answered { Answered (command_of (map string_bytes words.now)) (I.tells input.old) (I.left input.old) (I.left input.new) now (D.tells disk) (D.files disk) (D.files result.0) result.1 }
+    ensures input { Called I.tells I.faults input.old input.new (result.1.status ≡ 4) }
     ensures output { result.1.status ≢ 5 }
-    ensures disk { HasCause (D.faults disk) (D.faults result.0) (result.1.status ≡ 6) }
-    ensures tells { I.tells input.new ≡ I.tells input.old }
-    ensures disk_tells { D.tells result.0 ≡ D.tells disk }
+    ensures disk { Called D.tells D.faults disk result.0 (result.1.status ≡ 6) }
 {
     match command_of(words) {
         None => (disk, Ending::of_bad_words(alloc)),
@@ -161,26 +123,9 @@ fn answer<I: Source, D: Disk + Send>(
     now: u64,
 ) -> (D, Result<Vec<u8>, Stop>)
     requires { AllowsInput command.now }
-    ensures answer { I.tells input.old ≡ true → D.tells disk ≡ true
-        → Answers (IsDue (Some command.now) (I.left input.old) now (D.files disk) (D.files result.0)) result.1 }
-    ensures early { I.tells input.old ≡ true → AnswersByInput (early_outcome (Some command.now) (I.left input.old)) result.1 }
-    ensures folder { D.tells disk ≡ true → AnswersByFolder now (D.files disk) result.1 }
-    ensures report { IfOk result.1 (λ text. IsReportOf command.now (I.tells input.old) (I.left input.old) (D.tells disk) (D.files disk) (D.files result.0) now text.items) }
-    ensures read { I.tells input.old ≡ true → OnOk result.1 (I.left input.new ≡ []) }
-    ensures stored { I.tells input.old ≡ true → D.tells disk ≡ true → OnOk result.1 (HasStoredBy command.now (I.left input.old) now (D.files result.0)) }
-    ensures recorded { I.tells input.old ≡ true → D.tells disk ≡ true → OnOk result.1 (HasRecordedBy command.now (I.left input.old) now (D.files result.0)) }
-    ensures made { I.tells input.old ≡ true → D.tells disk ≡ true → OnOk result.1 (HasMadeBy command.now (I.left input.old) now (D.files disk) (D.files result.0)) }
-    ensures listed { D.tells disk ≡ true → KeepsListed now (D.files disk) (D.files result.0) }
-    ensures keeps { D.tells disk ≡ true → KeepsFolder now (D.files disk) (D.files result.0) }
-    ensures untouched { I.tells input.old ≡ true → D.tells disk ≡ true
-        → early_outcome (Some command.now) (I.left input.old) ≢ None → D.files result.0 ≡ D.files disk }
-    ensures kept { D.tells disk ≡ true → IfErr result.1 (λ stop. IsIdleStop stop → D.files result.0 ≡ D.files disk) }
-    ensures foreign { D.tells disk ≡ true → (name : List ℕ) → IsForeign store_folder name → get (D.files result.0) name ≡ get (D.files disk) name }
-    ensures malformed { IsErrOf result.1 Stop.Malformed → D.tells disk ≡ false }
-    ensures input { HasCause (I.faults input.old) (I.faults input.new) (IsErrOf result.1 Stop.Input) }
-    ensures disk { HasCause (D.faults disk) (D.faults result.0) (IsErrOf result.1 Stop.Disk) }
-    ensures tells { I.tells input.new ≡ I.tells input.old }
-    ensures disk_tells { D.tells result.0 ≡ D.tells disk }
+    ensures answered { Answered (Some command.now) (I.tells input.old) (I.left input.old) (I.left input.new) now (D.tells disk) (D.files disk) (D.files result.0) (answer_outcome result.1) }
+    ensures input { Called I.tells I.faults input.old input.new (IsErrOf result.1 Stop.Input) }
+    ensures disk { Called D.tells D.faults disk result.0 (IsErrOf result.1 Stop.Disk) }
 {
     match command {
         Command::Pack(limits) => pack(alloc, limits, input, disk, now),

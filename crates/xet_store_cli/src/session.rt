@@ -14,9 +14,9 @@ ghost use Rattle.xet_store.specs.Tables.{tables_of, with_files};
 ghost use Rattle.xet_store_cli.specs.Outcome.{AreSeparate, store_folder};
 ghost use Rattle.xet_store_cli.specs.Parsing.{ForLines, are_good};
 ghost use Rattle.xet_store_cli.specs.Report.{IsReport, info_line};
-ghost use Rattle.xet_store_cli.specs.internal.Steps.{AreRead, IsLineRead, IsReadingStop, IsSettled};
+ghost use Rattle.xet_store_cli.specs.internal.Steps.{AreRead, IsLineRead, IsSettled};
 ghost use Rattle.xet_store_cli.specs.Steps.{MakesIn};
-ghost use Rattle.xet_store_cli.specs.Stops.{IsSessionStop};
+ghost use Rattle.xet_store_cli.specs.Stops.{IsStop, range_causes, session_causes};
 ghost use Rattle.xet_store_cli.specs.Stored.{Records, Stores};
 
 use crate::ending::Stop;
@@ -42,7 +42,7 @@ pub fn report_lines<D: Disk + Send>(
     ensures recorded { session.tells ≡ true → OnOk result.1 (ForLines lines.now (λ said. Records session.limits said session.opened result.0.files)) }
     ensures made { session.tells ≡ true → OnOk result.1 (MakesIn session lines.now.files result.0) }
     ensures keeps { Keeps session result.0 }
-    ensures stop { IfErr result.1 (IsSessionStop session.tells session.limits lines.now) }
+    ensures stop { IfErr result.1 (IsStop (session_causes session.tells session.limits lines.now)) }
     ensures cause { HasCause session.faults result.0.faults (IsErrOf result.1 Stop.Disk) }
 {
     session.limits().known();
@@ -71,7 +71,7 @@ fn clean_lines<D: Disk + Send>(
     ensures listed { OnOk result.1 (AllByRecursion (ListsXorbs result.0) (map (chunking session.limits) lines.now.files)) }
     ensures stores { OnOk result.1 (tables_of result.0 ≡ with_files session.limits (tables_of session) lines.now.files) }
     ensures keeps { Keeps session result.0 }
-    ensures stop { IfErr result.1 (IsSessionStop session.tells session.limits lines.now) }
+    ensures stop { IfErr result.1 (IsStop (session_causes session.tells session.limits lines.now)) }
     ensures cause { HasCause session.faults result.0.faults (IsErrOf result.1 Stop.Disk) }
 {
     let mut sources = match sources_of(alloc, lines) {
@@ -108,7 +108,7 @@ fn report_cleaned<D: Disk + Send>(
     ensures text { IfOk result (λ text. (lines : List ℕ) × AreRead session.new infos.now ranges.now lines × (text.items ≡ flat_map info_line infos.now ++ lines)) }
     ensures settled { OnOk result (IsSettled session.old session.new) }
     ensures keeps { Keeps session.old session.new }
-    ensures stop { IfErr result (IsReadingStop session.old.tells) }
+    ensures stop { IfErr result (IsStop (range_causes session.old.tells)) }
     ensures cause { HasCause session.old.faults session.new.faults (IsErrOf result Stop.Disk) }
 {
     session.flush()?;
@@ -127,7 +127,7 @@ fn push_ranges<D: Disk + Send>(
     requires { All (λ r. (0 < r.file) × (r.file ≤ length infos.now)) ranges.now }
     ensures lines { OnOk result ((lines : List ℕ) × AreRead session.old infos.now ranges.now lines × (text.new.items ≡ text.old.items ++ lines)) }
     ensures unchanged { IsUnchanged session.old session.new }
-    ensures stop { IfErr result (IsReadingStop session.old.tells) }
+    ensures stop { IfErr result (IsStop (range_causes session.old.tells)) }
     ensures cause { HasCause session.old.faults session.new.faults (IsErrOf result Stop.Disk) }
 {
     for range in ranges {
@@ -146,7 +146,7 @@ fn push_range<D: Disk + Send>(
     requires { (0 < range.now.file) × (range.now.file ≤ length infos.now) }
     ensures line { OnOk result ((line : List ℕ) × IsLineRead session.old infos.now range.now line × (text.new.items ≡ text.old.items ++ line)) }
     ensures unchanged { IsUnchanged session.old session.new }
-    ensures stop { IfErr result (IsReadingStop session.old.tells) }
+    ensures stop { IfErr result (IsStop (range_causes session.old.tells)) }
     ensures cause { HasCause session.old.faults session.new.faults (IsErrOf result Stop.Disk) }
 {
     let info = &infos[(range.file - 1) as usize];

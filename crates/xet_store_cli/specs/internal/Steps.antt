@@ -1,14 +1,12 @@
 -- The steps of `pack` in a session, for private functions.
-use Rattle.std.specs.Prelude.{◌≡◌, ◌≢◌, ℕ, zero, suc, ◌<◌, ◌^◌, Bool, true, false, List, [], ◌∷◌, ◌++◌, None}
-use Rattle.std.specs.List.{AllByRecursion, IsAmong}
+use Rattle.std.specs.Prelude.{◌≡◌, ℕ, zero, suc, ◌<◌, ◌^◌, true, List, [], ◌∷◌, ◌++◌}
+use Rattle.std.specs.List.{IsAmong}
 use Rattle.xet_shard_format.specs.declared.record.MDBFileInfo.{MDBFileInfo}
 use Rattle.xet_shard.specs.Held.{nothing}
 use Rattle.xet_folder.specs.Listed.{Lists}
 use Rattle.xet_store.specs.declared.info.XetFileInfo.{XetFileInfo}
 use Rattle.xet_store.specs.Ranges.{IsRange}
 use Rattle.xet_store.specs.Store.{State}
-use Rattle.xet_store_cli.specs.declared.ending.Stop.{Stop}
-use Rattle.xet_store_cli.specs.declared.ending.Stop.TheVariants.{OutOfMemory, Disk, Malformed}
 use Rattle.xet_store_cli.specs.declared.lines.FileRange.{FileRange}
 use Rattle.xet_store_cli.specs.Report.{bytes_line}
 
@@ -36,10 +34,3 @@ pub record IsLineRead (s : State) (infos : List XetFileInfo) (r : FileRange) (li
 abbrev pub AreRead : State → List XetFileInfo → List FileRange → List ℕ → Type 0
 AreRead s infos [] text = text ≡ []
 AreRead s infos (r ∷ rs) text = (line : List ℕ) × (rest : List ℕ) × IsLineRead s infos r line × (text ≡ line ++ rest) × AreRead s infos rs rest
-
--- a stop while ranges are read: `Malformed` only if the disk is not observable
-abbrev pub IsReadingStop : Bool → Stop → Type 0
-IsReadingStop tells OutOfMemory = Unit {0}
-IsReadingStop tells Disk = Unit {0}
-IsReadingStop tells Malformed = tells ≡ false
-IsReadingStop tells _ = ⊥

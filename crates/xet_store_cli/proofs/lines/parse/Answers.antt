@@ -22,8 +22,8 @@ lines-init c = record {
   before = λ j low high. absurd (omega arith);
 }
 
-pub returns-then-not-branch : goal.returns-then-not-branch
-returns-then-not-branch c =
+pub returns-then-not-branch-clause-stop : goal.returns-then-not-branch-clause-stop
+returns-then-not-branch-clause-stop c =
     let all = lines c.args.input.now in
     let i = c.lines.invariant in
     let next = sym i.rest ∙ c.first_line.ensures.line in
@@ -52,11 +52,18 @@ lines-preserved c =
       ];
     }
 
-pub returns : goal.returns
-returns c =
+pub returns-clause-good : goal.returns-clause-good
+returns-clause-good c =
+    let i = c.lines.invariant in
+    let none : c.lines.rest.now ≡ [] = nothing_left c.lines.rest.now (sym c.is_empty.ensures ∙ c.lines-test.false) in
+    let count : length (lines c.lines.rest.now) ≡ 0 = ap (λ (bs : List ℕ). length (lines bs)) none in
+    bad_nowhere (lines c.args.input.now) (λ j low high. i.before j low (omega (arith, count)))
+
+pub returns-clause-said : goal.returns-clause-said
+returns-clause-said c =
     let all = lines c.args.input.now in
     let i = c.lines.invariant in
     let none : c.lines.rest.now ≡ [] = nothing_left c.lines.rest.now (sym c.is_empty.ensures ∙ c.lines-test.false) in
     let count : length (lines c.lines.rest.now) ≡ 0 = ap (λ (bs : List ℕ). length (lines bs)) none in
     let whole : take c.lines.number all ≡ all = take_all c.lines.number all (omega (arith, count)) in
-    (bad_nowhere all (λ j low high. i.before j low (omega (arith, count))), ap (λ (ls : List (List ℕ)). option_map parted (good_lines ls)) (sym whole) ∙ i.said)
+    ap (λ (ls : List (List ℕ)). option_map parted (good_lines ls)) (sym whole) ∙ i.said

@@ -1,7 +1,7 @@
 use Rattle.std.proofs.Common.{◌∙◌, IfErr, subst}
 use Rattle.std.proofs.lemmas.Result.{on_ok_weaker}
 use Rattle.xet_cut.specs.declared.limits.LimitSettings.{LimitSettings}
-use Rattle.xet_store_cli.specs.Stops.{IsSessionStop}
+use Rattle.xet_store_cli.specs.Stops.{IsStop, session_causes}
 use Rattle.xet_store_cli.proofs.Listing.{keeps_folder, keeps_listed}
 use Rattle.xet_store_cli.proofs.Making.{makes}
 use Rattle.xet_store_cli.proofs.Outcomes.{never_idle}
@@ -24,4 +24,4 @@ returns-in-Ok-clause-made g c = λ told.
 pub returns-in-Ok-clause-kept : goal.returns-in-Ok-clause-kept
 returns-in-Ok-clause-kept g c = λ told.
     never_idle _ _ c.args.limits.now c.args.lines.now c.report_lines-session.result.1 c.requires.short
-    (subst (λ (s : LimitSettings). IfErr c.report_lines-session.result.1 (IsSessionStop c.in-Ok.session.tells s c.args.lines.now)) c.in-Ok.ensures.opened.same_limits c.report_lines-session.ensures.stop)
+    (subst (λ (s : LimitSettings). IfErr c.report_lines-session.result.1 (IsStop (session_causes c.in-Ok.session.tells s c.args.lines.now))) c.in-Ok.ensures.opened.same_limits c.report_lines-session.ensures.stop)

@@ -8,7 +8,7 @@ use Rattle.xet_store.specs.Separate.{Separate}
 use Rattle.xet_store.specs.Steps.{ListsXorbs}
 use Rattle.xet_store.specs.Tables.{tables_of, with_files}
 use Rattle.xet_store.specs.theorems.Keeping.{keeps_nothing}
-use Rattle.xet_store_cli.specs.Stops.{IsSessionStop}
+use Rattle.xet_store_cli.specs.Stops.{IsStop, session_causes}
 use Rattle.xet_store_cli.proofs.Cleaned.{Reason, all_tell, files_told, infos_told, rose_of_reason, stop_of_reason}
 use Rattle.xet_store_cli.proofs.session.clean_lines.Goals as goal
 
@@ -56,7 +56,7 @@ returns-clause-stop g c =
     let sources = c.deref_mut.result.now in
     let after = c.clean_files-session.new.sources in
     let files : sources ≡ c.args.lines.now.files = c.deref_mut.ensures.value ∙ c.in-Ok.ensures.sources in
-    subst (IsSessionStop c.args.session.tells c.args.session.limits c.args.lines.now) (sym c.from.ensures)
+    subst (IsStop (session_causes c.args.session.tells c.args.session.limits c.args.lines.now)) (sym c.from.ensures)
     (stop_of_reason sources _ c.args.session c.clean_files-session.result.0 c.args.session.tells c.args.lines.now files c.in-Err-cleaned.error
     (IfErr-at_err (Reason sources _ c.args.session c.clean_files-session.result.0) c.in-Err-cleaned.is c.clean_files-session.ensures.reason))
 
