@@ -14,7 +14,7 @@ table_from counts f shape each =
 abbrev pub one_at : ℕ → ℕ → ℕ → ℕ → ℕ
 one_at g' k' g k = if (g' == g) && (k' == k) then 1 else 0
 
--- the first byte is byte_counts, and the rest
+-- the first byte is counted, and the rest
 pub counted_step : (at : ℕ) (bytes : List ℕ) (i g k : ℕ) → i < length bytes
     → byte_counts at (drop i bytes) g k ≡ one_at (at % 4) (count_ones (get_or bytes i 0)) g k + byte_counts (at + 1) (drop (i + 1) bytes) g k
 unfolding byte_counts
@@ -58,7 +58,7 @@ put_one counts g' k' g k shape lg lk = cell (g' == g) refl
         (ap (λ row. get_or row k 0) (get_or-set_same counts g' _ [] (omega (arith, shape.rows))) ∙ row_one (get_or counts g' []) k' k (omega (arith, shape.places g' lg)) (k' == k) refl)
     cell false e = ap (λ row. get_or row k 0) (get_or-set_other counts g' g _ [] (λ q. eqb-false g' g e (sym q))) ∙ omega arith
 
--- one more byte is byte_counts, where what stands and what is left were kept
+-- one more byte is counted, where what stands and what is left were kept
 pub one_counted : (counts : List (List ℕ)) (bytes : List ℕ) (at next i g k total : ℕ) → IsTable counts → count_ones (get_or bytes i 0) < 9 → i < length bytes → next ≡ at + 1
     → count_of counts g k + byte_counts at (drop i bytes) g k ≡ total
     → count_of (put counts (at % 4) (count_ones (get_or bytes i 0)) (count_of counts (at % 4) (count_ones (get_or bytes i 0)) + 1)) g k + byte_counts next (drop (i + 1) bytes) g k ≡ total

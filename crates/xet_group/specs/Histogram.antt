@@ -21,11 +21,11 @@ table f = map (λ g. map (f g) (range_with_len 0 9)) (range_with_len 0 4)
 abbrev pub count_of : List (List ℕ) → ℕ → ℕ → ℕ
 count_of counts g k = slice_index (slice_index_or counts g []) k
 
--- the table after these bytes are byte_counts too; the first byte has the index `at`
+-- the table after these bytes are counted too; the first byte has the index `at`
 abbrev pub with_counted : List (List ℕ) → ℕ → List ℕ → List (List ℕ)
 with_counted counts at bytes = table (λ g k. count_of counts g k + byte_counts at bytes g k)
 
--- no count exceeds 2 ^ 32 - 1 after these bytes are byte_counts
+-- no count exceeds 2 ^ 32 - 1 after these bytes are counted
 abbrev pub CountsFit : List (List ℕ) → ℕ → List ℕ → Type 0
 CountsFit counts at bytes =
     (g k : ℕ) → g < 4 → k < 9 → count_of counts g k + byte_counts at bytes g k < 2 ^ 32

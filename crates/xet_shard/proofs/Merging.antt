@@ -211,7 +211,7 @@ module _ {X : Type 0} (hash : X → List ℕ) where
   sorted_rising [] r = refl
   sorted_rising (y ∷ ys) r = ap (put_in by y) (sorted_rising ys r.1) ∙ put_low y ys r.0
 
-  -- after_hash the first of another list, which is not below x, all are above x
+  -- after the first of another list, which is not below x, all are above x
   all_above : (x y : X) (ys : List X) → Rises hash (y ∷ ys) → lt y x ≡ false → AllByRecursion (λ z. lt x z ≡ true) (after_hash hash (hash x) (y ∷ ys))
   all_above x y ys r high = elim (cases_Bool (pointwise nat_eq (hash y) (hash x))) [
     | inl t ↦ subst (AllByRecursion (λ z. lt x z ≡ true)) (sym (behind_same (hash x) y ys ((bytes_decides (hash y) (hash x)).0 t))) later
@@ -264,7 +264,7 @@ module _ {X : Type 0} (hash : X → List ℕ) where
 
   -- ---- records that agree
 
-  -- what holds of each record of the second list, up to x and after_hash, holds of all
+  -- what holds of each record of the second list, up to x and after it, holds of all
   all_again : (P : X → Type 0) (x : X) (ys : List X) → ((y : X) → lt y x ≡ true → P y) → ((y : X) → hash y ≡ hash x → P y) → AllByRecursion P (after_hash hash (hash x) (not_below hash (hash x) ys)) → AllByRecursion P ys
   all_again P x [] low same all = tt
   all_again P x (y ∷ ys) low same all = elim (cases_Bool (lt y x)) [

@@ -82,7 +82,7 @@ all_at P (y ∷ ys) zero x all lt is = subst P (sym is) all.0
 all_at P (y ∷ ys) (suc i) x all lt is = all_at P ys i x all.1 (omega arith) is
 
 module _ {B X : Type 0} (now : B → X) (hash : X → List ℕ) where
-  -- one more record of the first list, after_hash those of the second that are below it
+  -- one more record of the first list, after those of the second that are below it
   pub merge_step : (found pushed added : List B) (b : B) (xs others rest left later total : List X) (h : List ℕ) → xs ≡ now b ∷ later → h ≡ hash (now b) → map now pushed ≡ map now found ++ below hash h rest
       → others ≡ not_below hash h rest → left ≡ after_hash hash (hash (now b)) others → added ≡ pushed ++ b ∷ [] → map now found ++ merged hash xs rest ≡ total → map now added ++ merged hash later left ≡ total
   merge_step found pushed added b xs others rest left later total h e1 e2 e3 e4 e5 e6 so_far =

@@ -189,7 +189,7 @@ file_row_count f = (f.xorb_info_offset - f.file_info_offset) / 48
 abbrev pub xorb_row_count : MDBShardFileFooter → ℕ
 xorb_row_count f = (f.file_lookup_offset - f.xorb_info_offset) / 48
 
--- ShardParts have no gaps, and the footer ends the bytes. A section has 1 to 2 ^ 32 - 1 rows.
+-- The parts have no gaps, and the footer ends the bytes. A section has 1 to 2 ^ 32 - 1 rows.
 unfoldable pub places_at : ℕ → MDBShardFileFooter → Result (Unit {0}) StoreError
 places_at len f = do
   _ ← wants (f.file_info_offset == 48) SectionPlace

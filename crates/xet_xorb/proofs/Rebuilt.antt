@@ -58,7 +58,7 @@ behind_fewer : (r : Result Header StoreError) (rest chunk : List ℕ) (n : ℕ) 
 behind_fewer (Err x) rest chunk n e long = e
 behind_fewer (Ok h) rest chunk n e long = behind_fewer_of h rest chunk n (cases_lt (length rest) h.stored) e long
 
--- no bytes after_header it are needed
+-- no bytes after it are needed
 prefix_alone : (max_chunk : ℕ) (bytes chunk : List ℕ) → prefix_of max_chunk bytes ≡ Whole chunk → prefix_of max_chunk (take (8 + length chunk) bytes) ≡ Whole chunk
 prefix_alone max_chunk bytes chunk e =
     let n : ℕ = 8 + length chunk in

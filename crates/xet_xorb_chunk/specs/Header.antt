@@ -43,7 +43,7 @@ is_footer_magic bytes = pointwise nat_eq (take 7 bytes) (codes "XETBLOB")
 
 -- Parses eight bytes as the header of a chunk of at most `max_chunk` bytes; the error is that of the first check
 -- that fails. The bytes must not begin with the magic of a footer, the scheme must be known, the version 0,
--- the compressed length at most 2 * most, and the uncompressed length at most `max_chunk`.
+-- the uncompressed length at most `max_chunk`, and the compressed length at most twice that.
 unfoldable pub header_at : ℕ → List ℕ → Result Header StoreError
 header_at max_chunk bytes =
     if is_footer_magic bytes then Err ChunkHeaderParse

@@ -16,7 +16,7 @@ counted-le at (b ∷ bs) g k = elim ((at % 4 == g) && (count_ones b == k)) as (�
   | false ↦ omega (arith, counted-le (at + 1) bs g k)
 ]
 
--- what is byte_counts in fewer than 2 ^ 32 bytes fits a table of zeros
+-- what is counted in fewer than 2 ^ 32 bytes fits a table of zeros
 pub zeros_fit : (counts : List (List ℕ)) (at : ℕ) (bytes : List ℕ) → counts ≡ table (λ _ _. 0) → length bytes < 2 ^ 32 → CountsFit counts at bytes
 zeros_fit counts at bytes zeros few = λ g k low less.
     let none : count_of counts g k ≡ 0 = ap (λ t. count_of t g k) zeros ∙ count_at-table (λ _ _. 0) g k low less in
