@@ -2,17 +2,18 @@
 use Rattle.std.proofs.Common.{◌≡◌, ◌≢◌, ◌∙◌, ℕ, ◌+◌, ◌-◌, ◌<◌, ◌≤◌, ◌^◌, Bool, true, false, not, List, [], ◌∷◌, map, length, Option, Some, None, IfSome, IsNone, IsSome, is_some, refl, sym, ap, subst, arith, nat_eq}
 use Rattle.std.specs.Cmp.Lexicographic.{bytes_decides, pointwise}
 use Rattle.std.specs.List.{AllByRecursion}
-use Rattle.xet_io.specs.Disk.{Files, bytes_at}
+use Rattle.std.specs.Option.{option_map}
+use Rattle.xet_io.specs.Disk.{File, Files, bytes_at, file_at, stat_of}
 use Rattle.xet_hash.specs.Merkle.{leaves_of}
 use Rattle.xet_xorb.specs.declared.object.XorbObject.{XorbObject}
 use Rattle.xet_xorb.specs.Footer.{V0, V1, Version, ends_from, footer_info}
-use Rattle.xet_xorb.specs.Validation.{IsValid, IsXorbOf}
+use Rattle.xet_xorb.specs.Validation.{IsFooterOf, IsValid, IsXorbOf}
 use Rattle.xet_xorb.specs.Xorb.{IsXorbEncoding}
 use Rattle.xet_folder.specs.Names.{xorb_path}
 use Rattle.xet_folder.specs.Stored.{IsBacked, IsStored}
 use Rattle.xet_folder.specs.Runs.{stored_len}
 use Rattle.xet_folder.specs.internal.Xorbs.{spans_from}
-use Rattle.xet_folder.proofs.Placing.{stored_below}
+use Rattle.xet_folder.specs.theorems.Placing.{stored_is}
 
 -- what the test of two hashes tells
 pub differ : (x y : List ℕ) → not (pointwise nat_eq x y) ≡ true → x ≢ y
@@ -66,25 +67,36 @@ module _ (files : Files) (folder h bytes : List ℕ) (there : bytes_at files (xo
         same = sym listed;
       }
 
-  pub found_backed : (seen : List ℕ) (found : Option XorbObject) (o : XorbObject) (ms : List (List ℕ × ℕ)) → seen ≡ bytes → found ≡ Some o
-      → IfSome found (λ object. (chunks : List (List ℕ)) × IsValid 8388607 h seen chunks object)
+  pub found_backed : (found : Option XorbObject) (o : XorbObject) (ms : List (List ℕ × ℕ)) → found ≡ Some o
+      → IfSome found (λ object. (chunks : List (List ℕ)) × IsValid 8388607 h bytes chunks object)
       → ms ≡ spans_from 0 o.info.chunk_hashes o.info.chunk_boundary_offsets → IsBacked files folder h ms
-  found_backed seen found o ms all is valid spans =
-      let v = subst (λ (x : Option XorbObject). IfSome x (λ object. (chunks : List (List ℕ)) × IsValid 8388607 h seen chunks object)) is valid in
-      subst (λ (l : List (List ℕ × ℕ)). IsBacked files folder h l) (sym spans) (backed v.0 o (subst (λ (b : List ℕ). IsValid 8388607 h b v.0 o) all v.1))
+  found_backed found o ms is valid spans =
+      let v = subst (λ (x : Option XorbObject). IfSome x (λ object. (chunks : List (List ℕ)) × IsValid 8388607 h bytes chunks object)) is valid in
+      subst (λ (l : List (List ℕ × ℕ)). IsBacked files folder h l) (sym spans) (backed v.0 o v.1)
 
   -- where the bytes are no xorb of that hash, none is stored
-  pub none_stored : (seen : List ℕ) (found : Option XorbObject) → seen ≡ bytes → found ≡ None → (IsNone found → (chunks : List (List ℕ)) → IsXorbOf 8388607 h seen chunks → ⊥)
+  pub none_stored : (found : Option XorbObject) → found ≡ None → (IsNone found → (chunks : List (List ℕ)) → IsXorbOf 8388607 h bytes chunks → ⊥)
       → (chunks : List (List ℕ)) → IsStored files folder h chunks → ⊥
-  none_stored seen found all is never chunks s =
-      let same : s.bytes ≡ seen = cc (s.there, there) ∙ sym all in
+  none_stored found is never chunks s =
+      let same : s.bytes ≡ bytes = cc (s.there, there) in
       never (ap is_some is) chunks (record { encoding = subst (λ (b : List ℕ). IsXorbEncoding b chunks) same s.encoding; fit = fitting chunks s.readable; hashed = s.hash })
 
--- a valid xorb's chunks are stored in fewer than 2 ^ 32 bytes
-pub found_below : (h seen : List ℕ) (found : Option XorbObject) (o : XorbObject) (ms : List (List ℕ × ℕ)) → found ≡ Some o
-    → IfSome found (λ object. (chunks : List (List ℕ)) × IsValid 8388607 h seen chunks object) → ms ≡ spans_from 0 o.info.chunk_hashes o.info.chunk_boundary_offsets → stored_len ms < 2 ^ 32
-found_below h seen found o ms is valid spans =
-    let v = subst (λ (x : Option XorbObject). IfSome x (λ object. (chunks : List (List ℕ)) × IsValid 8388607 h seen chunks object)) is valid in
-    let listed : ms ≡ leaves_of v.0 =
-    spans ∙ ap (λ (o : XorbObject). spans_from 0 o.info.chunk_hashes o.info.chunk_boundary_offsets) v.1.listed ∙ spans_listed v.1.xorb.encoding.version h (leaves_of v.0) v.1.xorb.encoding.spare in
-    subst (λ (l : List (List ℕ × ℕ)). stored_len l < 2 ^ 32) (sym listed) (stored_below seen v.0 v.1.xorb.encoding)
+-- the listed chunks are stored in fewer than 2 ^ 32 bytes
+pub found_below : (h : List ℕ) (found : Option XorbObject) (o : XorbObject) (ms : List (List ℕ × ℕ)) → found ≡ Some o → IfSome found (IsFooterOf h)
+    → ms ≡ spans_from 0 o.info.chunk_hashes o.info.chunk_boundary_offsets → stored_len ms < 2 ^ 32
+found_below h found o ms is has spans =
+    let f = subst (λ (x : Option XorbObject). IfSome x (IsFooterOf h)) is has in
+    let listed : ms ≡ f.leaves = spans ∙ ap (λ (o : XorbObject). spans_from 0 o.info.chunk_hashes o.info.chunk_boundary_offsets) f.listed ∙ spans_listed f.version h f.leaves f.spare in
+    omega (arith, f.bound, stored_is f.leaves, ap stored_len listed)
+
+-- ---- a file on a disk
+
+-- a name that has a length exists
+pub stat_some : (files seen : Files) (name given : List ℕ) (found : Option (ℕ × ℕ)) (stat : ℕ × ℕ) → seen ≡ files → given ≡ name → found ≡ stat_of (file_at files name) → found ≡ Some stat
+    → IsSome (bytes_at seen given)
+stat_some files seen name given found stat same is told some =
+    subst (λ (o : Option (List ℕ)). IsSome o) (λ i. bytes_at (sym same i) (sym is i)) (go (file_at files name) (sym told ∙ some))
+  where
+    go : (f : Option File) → stat_of f ≡ Some stat → IsSome (option_map (λ f. f.bytes) f)
+    go None e = absurd (cc e)
+    go (Some f) e = refl

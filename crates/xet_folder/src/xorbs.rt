@@ -1,31 +1,30 @@
 //! Reading the xorbs of a store's folder.
 
-ghost use Rattle.std.specs.Prelude.{◌≡◌, ◌≢◌, ◌≤◌, ◌↔◌, IsTrue, AllPairs, ◌∷◌, ◌++◌, [], ℕ, List, true, IfOk, IfErr, IsOkUnless, IsSome, OnErr, OnOk, Some, None, length, option_map};
+ghost use Rattle.std.specs.Prelude.{◌≡◌, ◌≢◌, AllPairs, ◌∷◌, ◌++◌, [], ℕ, List, true, IfOk, IfErr, IsErrOf, IsOkUnless, IsSome, OnErr, OnOk, Some, None, length, option_map};
 ghost use Rattle.std.specs.List.{AllByRecursion};
 ghost use Rattle.xet_io.specs.Disk.{Files, bytes_at};
 ghost use Rattle.xet_shard_file.specs.Names.{IsHash};
 ghost use Rattle.xet_folder.specs.Names.{xorb_path};
-ghost use Rattle.xet_codec.specs.Stops.{HasDiskReason};
-ghost use Rattle.xet_folder.specs.internal.Xorbs.{IsOverlong, spans_from};
+ghost use Rattle.xet_codec.specs.Stops.{HasDiskReason, StopsReading};
+ghost use Rattle.xet_hash.specs.declared.error.Place.TheVariants.{Input};
+ghost use Rattle.xet_hash.specs.declared.error.StoreError.TheVariants.{Io};
+ghost use Rattle.xet_folder.specs.internal.Xorbs.{spans_from};
 ghost use Rattle.xet_folder.specs.Xorbs.{IsXorbFile, found};
-ghost use Rattle.xet_io.specs.Frame.{Unchanged};
+ghost use Rattle.xet_io.specs.Frame.{ReadFrom, Unchanged};
 
 use crate::leaves::Leaves;
 use crate::names::xorb_path;
 use indexmap::IndexMap;
 use std::alloc::Global;
 use std::marker::Model;
-use xet_codec::store_error;
-use xet_hash::{MerkleHash, StoreError};
-use xet_io::{Disk, SliceReader, read_file};
+use xet_codec::{FileReader, store_error};
+use xet_hash::{MerkleHash, Place, StoreError};
+use xet_io::{Disk, ReadAt};
 use xet_shard_file::known_bytes;
 use xet_xorb::XorbObject;
 
 /// The maximum uncompressed length of a chunk that can be read, in bytes.
 const MAX_CHUNK: u32 = (1 << 23) - 1;
-
-/// The minimum length of a file that is too long for a xorb, in bytes.
-const OVERLONG: u64 = 1 << 32;
 
 /// The length of a stored chunk's header, in bytes.
 const HEADER_LEN: u64 = 8;
@@ -41,8 +40,8 @@ pub enum XorbFile {
     Stored(Leaves),
 }
 
-/// Reads the file under the name of a xorb. Nothing is read of a file that is too long for a xorb. The error
-/// is `OutOfMemory`, or `Io(Disk)`, which is returned only if the disk failed.
+/// Validates the file under the name of a xorb in place, chunk by chunk. Nothing is read of a file that is too
+/// long for a xorb. The error is `OutOfMemory`, or `Io(Disk)`, which is returned only if the disk failed.
 pub fn read_xorb<D: Disk>(
     disk: &mut D,
     alloc: Global,
@@ -54,45 +53,52 @@ pub fn read_xorb<D: Disk>(
     ensures reason { IfErr result (HasDiskReason (D.faults disk.old) (D.faults disk.new)) }
 {
     let path = xorb_path(alloc, folder, hash)?;
-    if is_overlong(disk, path.as_str())? {
-        return Ok(XorbFile::Malformed);
-    }
-    match read_file(disk, alloc, path.as_str()) {
-        Ok(Some(bytes)) => xorb_of(alloc, bytes, hash),
+    match disk.stat(path.as_str()) {
+        Ok(Some(_)) => xorb_in_file(disk, alloc, path.as_str(), hash),
         Ok(None) => Ok(XorbFile::Missing),
         Err(refusal) => Err(store_error(refusal)),
     }
 }
 
-/// Whether a file is too long for a xorb.
-fn is_overlong<D: Disk>(disk: &mut D, name: &str) -> Result<bool, StoreError>
-    ensures told { D.tells disk.old ≡ true → IfOk result (λ long. IsTrue long ↔ IsOverlong (bytes_at (D.files disk.old) name.now)) }
+/// What the file of this name is, as the file of the xorb with this hash.
+fn xorb_in_file<D: Disk>(
+    disk: &mut D,
+    alloc: Global,
+    name: &str,
+    hash: &MerkleHash,
+) -> Result<XorbFile, StoreError>
+    ensures told { D.tells disk.old ≡ true → (folder : List ℕ) → name.now ≡ xorb_path folder hash.now → IsSome (bytes_at (D.files disk.old) name.now) → IfOk result (IsXorbFile (D.files disk.old) folder hash.now) }
     ensures frame { Unchanged D.files D.tells D.faults disk.old disk.new }
     ensures reason { IfErr result (HasDiskReason (D.faults disk.old) (D.faults disk.new)) }
 {
-    match disk.stat(name) {
-        Ok(Some((length, _))) => Ok(length >= OVERLONG),
-        Ok(None) => Ok(false),
-        Err(refusal) => Err(store_error(refusal)),
+    let mut reader = FileReader::new(disk, name);
+    let answer = xorb_of(alloc, &mut reader, hash);
+    let is_short = reader.was_out_of_memory();
+    match answer {
+        Ok(file) => Ok(file),
+        Err(StoreError::Io(Place::Input)) if !is_short => Err(StoreError::Io(Place::Disk)),
+        Err(_) => Err(StoreError::OutOfMemory),
     }
 }
 
-/// What these bytes are, as the file of the xorb with this hash.
-fn xorb_of(alloc: Global, bytes: Vec<u8>, hash: &MerkleHash) -> Result<XorbFile, StoreError>
-    ensures told { (files : Files) (folder : List ℕ) → bytes_at files (xorb_path folder hash.now) ≡ Some bytes.items → IfOk result (IsXorbFile files folder hash.now) }
-    ensures memory { IsOkUnless result StoreError.OutOfMemory }
+/// What a reader's bytes are, as the file of the xorb with this hash. The only errors are `Io(Input)` and
+/// `OutOfMemory`.
+fn xorb_of<R: ReadAt>(
+    alloc: Global,
+    reader: &mut R,
+    hash: &MerkleHash,
+) -> Result<XorbFile, StoreError>
+    ensures told { R.tells reader.old ≡ true → (files : Files) (folder : List ℕ) → bytes_at files (xorb_path folder hash.now) ≡ Some (R.bytes reader.old) → IfOk result (IsXorbFile files folder hash.now) }
+    ensures errors { IfErr result StopsReading }
+    ensures frame { ReadFrom R.bytes R.tells R.faults R.lent reader.old reader.new (IsErrOf result (Io Input)) }
 {
-    let mut reader = SliceReader::new(&bytes);
-    match XorbObject::validate_xorb_object(alloc, &mut reader, hash, MAX_CHUNK) {
-        Ok(Some(object)) => {
-            let hashes = object.info.chunk_hashes.as_slice();
-            let ends = object.info.chunk_boundary_offsets.as_slice();
-            let spans = spans_of(alloc, hashes, ends)?;
-            Ok(XorbFile::Stored(Leaves::from_vec(alloc, spans)?))
-        }
-        Ok(None) => Ok(XorbFile::Malformed),
-        Err(_) => Err(StoreError::OutOfMemory),
-    }
+    let Some(object) = XorbObject::validate_xorb_object(alloc, reader, hash, MAX_CHUNK)? else {
+        return Ok(XorbFile::Malformed);
+    };
+    let hashes = object.info.chunk_hashes.as_slice();
+    let ends = object.info.chunk_boundary_offsets.as_slice();
+    let spans = spans_of(alloc, hashes, ends)?;
+    Ok(XorbFile::Stored(Leaves::from_vec(alloc, spans)?))
 }
 
 /// The hash and the uncompressed length of each chunk, from the hashes and the boundary offsets of the stored

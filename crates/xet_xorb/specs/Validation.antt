@@ -1,8 +1,9 @@
 -- Bytes that are valid as a xorb of a given hash.
-use Rattle.std.specs.Prelude.{◌≡◌, ℕ, ◌≤◌, List, length}
+use Rattle.std.specs.Prelude.{◌≡◌, ℕ, ◌+◌, ◌*◌, ◌<◌, ◌≤◌, ◌^◌, List, length}
 use Rattle.std.specs.List.{AllByRecursion}
-use Rattle.xet_hash.specs.Merkle.{leaves_of, xorb_hash}
+use Rattle.xet_hash.specs.Merkle.{leaves_of, total_len, xorb_hash}
 use Rattle.xet_xorb.specs.declared.object.XorbObject.{XorbObject}
+use Rattle.xet_xorb.specs.Footer.{Version}
 use Rattle.xet_xorb.specs.Object.{object_of}
 use Rattle.xet_xorb.specs.Xorb.{IsXorbEncoding}
 
@@ -16,3 +17,12 @@ pub record IsXorbOf (max_chunk : ℕ) (hash bytes : List ℕ) (chunks : List (Li
 pub record IsValid (max_chunk : ℕ) (hash bytes : List ℕ) (chunks : List (List ℕ)) (object : XorbObject) : Type 0 where
   pub xorb : IsXorbOf max_chunk hash bytes chunks
   pub listed : object ≡ object_of xorb.encoding.version hash (leaves_of chunks) xorb.encoding.spare
+
+-- `object` is the footer, with its length, of a xorb with this hash and some (hash, length) pairs. The stored
+-- chunks, headers included, have fewer than 2 ^ 32 bytes.
+pub record IsFooterOf (hash : List ℕ) (object : XorbObject) : Type 0 where
+  pub version : Version
+  pub leaves : List (List ℕ × ℕ)
+  pub spare : List ℕ
+  pub listed : object ≡ object_of version hash leaves spare
+  pub bound : total_len leaves + 8 * length leaves < 2 ^ 32

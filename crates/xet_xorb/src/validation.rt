@@ -11,7 +11,8 @@ ghost use Rattle.xet_xorb_footer.specs.FooterEncoding.{HasShortLists, max_chunks
 ghost use Rattle.xet_codec.specs.Stops.{StopsReading};
 ghost use Rattle.xet_xorb.specs.internal.Checking.{AreChunks, HaveLeaves, IsEnding, IsStoredAt, ending, encoded_header};
 ghost use Rattle.xet_xorb.specs.Footer.{Version, footer_info, footer_len};
-ghost use Rattle.xet_xorb.specs.Validation.{IsValid, IsXorbOf};
+ghost use Rattle.xet_xorb.specs.Object.{object_of};
+ghost use Rattle.xet_xorb.specs.Validation.{IsFooterOf, IsValid, IsXorbOf};
 ghost use Rattle.xet_io.specs.Frame.{ReadFrom};
 
 use crate::footers::{new_footer, new_footer_v0};
@@ -59,6 +60,7 @@ impl XorbObject {
     ) -> Result<Option<XorbObject>, StoreError>
         requires max_chunk { max_chunk < 2 ^ 23 }
         ensures valid { R.tells reader.old ≡ true → IfOk result (λ found. IfSome found (λ object. (chunks : List (List ℕ)) × IsValid max_chunk hash.now (R.bytes reader.old) chunks object)) }
+        ensures footer { IfOk result (λ found. IfSome found (IsFooterOf hash.now)) }
         ensures read { R.tells reader.old ≡ true → IfOk result (λ found. IfSome found (λ object. last_footer (R.bytes reader.old) ≡ Ok (object.info, object.info_length))) }
         ensures none { R.tells reader.old ≡ true → IfOk result (λ found. IsNone found → (chunks : List (List ℕ)) → IsXorbOf max_chunk hash.now (R.bytes reader.old) chunks → ⊥) }
         ensures errors { IfErr result StopsReading }
@@ -293,6 +295,7 @@ fn checked_object<R: ReadAt>(
     requires some { 60 ≤ told }
     requires bound { start + told + 4 < 2 ^ 32 }
     requires size { total_len leaves.now + 8 * length leaves.now ≡ start }
+    ensures footer { IfOk result (λ found. IfSome found (λ object. (version : Version) × (spare : List ℕ) × (object ≡ object_of version hash.now leaves.now spare))) }
     ensures found { (bytes : List ℕ) → Sees (R.tells reader.old) (R.bytes reader.old) bytes (start + told + 4) block.old → AllByRecursion (λ m. length m.0 ≡ 32) leaves.now → length hash.now ≡ 32 → IfOk result (λ found. IfSome found (IsEnding hash.now leaves.now (drop start bytes))) }
     ensures none { (bytes : List ℕ) → Sees (R.tells reader.old) (R.bytes reader.old) bytes (start + told + 4) block.old → AllByRecursion (λ m. length m.0 ≡ 32) leaves.now → length hash.now ≡ 32 → IfOk result (λ found. IsNone found → (object : _) → IsEnding hash.now leaves.now (drop start bytes) object → ⊥) }
     ensures errors { IfErr result StopsReading }

@@ -3,7 +3,9 @@ use Rattle.xet_xorb_footer.specs.Ends.{last_footer}
 use Rattle.xet_codec.specs.Blocks.{Sees}
 use Rattle.xet_xorb.specs.declared.object.XorbObject.{XorbObject}
 use Rattle.xet_xorb.specs.internal.Checking.{IsEnding}
-use Rattle.xet_xorb.specs.Validation.{IsValid, IsXorbOf}
+use Rattle.xet_xorb.specs.Footer.{Version}
+use Rattle.xet_xorb.specs.Object.{object_of}
+use Rattle.xet_xorb.specs.Validation.{IsFooterOf, IsValid, IsXorbOf}
 use Rattle.xet_xorb.proofs.Validated.{chunks_at, ending_at, hash_at, hash_size, hashed_of, is_valid, leaves_at, none_more, parts_of, some_more, valid_is_read}
 use Rattle.xet_xorb.proofs.object.XorbObject.validate_xorb_object.Goals as goal
 
@@ -58,6 +60,15 @@ returns-clause-valid g c = λ told.
     let later : Sees _ _ bytes _ _ = record { told = c.in_ok-leaves.ensures.frame.tells ∙ sees.told; same = c.in_ok-leaves.ensures.frame.same ∙ sees.same; all = whole; part = part } in
     some_more (λ (o : XorbObject). IsEnding hash ms (drop start bytes) o) (λ (o : XorbObject). (chunks : List (List ℕ)) × IsValid max_chunk hash bytes chunks o) c.checked_object.result
     (λ o e. is_valid max_chunk start hash bytes ms o c.requires.max_chunk small have is.0 is.1 e) (ends bytes later hashed (hash_size ms hash hashed is.1))
+
+pub returns-clause-footer : goal.returns-clause-footer
+returns-clause-footer g c =
+    let hash = c.args.hash.now in
+    let ms = c.in-Some-2.leaves.items in
+    let start = rw c.in-Some.is at c.in_ok-start.ensures.bound in
+    let size = rw c.in-Some-2.is at c.in_ok-leaves.ensures.size in
+    some_more (λ (o : XorbObject). (version : Version) × (spare : List ℕ) × (o ≡ object_of version hash ms spare)) (λ (o : XorbObject). IsFooterOf hash o) c.checked_object.result
+    (λ o f. record { version = f.0; leaves = ms; spare = f.1; listed = f.2; bound = omega (arith, start, size) }) (rw c.deref-2.ensures.value at c.checked_object.ensures.footer)
 
 pub returns-clause-read : goal.returns-clause-read
 returns-clause-read g c = λ told.
