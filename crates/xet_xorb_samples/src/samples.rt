@@ -62,7 +62,7 @@ impl fmt::Display for ChunkSize {
 
     fn fmt<W: fmt::Write>(&self, f: &mut fmt::Formatter<W>) -> fmt::Result {
         match self {
-            ChunkSize::Random(min, max) => write!(f, "[{least}, {most}]"),
+            ChunkSize::Random(min, max) => write!(f, "[{min}, {max}]"),
             ChunkSize::Fixed(size) => write!(f, "{size}"),
         }
     }

@@ -16,7 +16,7 @@ pieces-preserved c =
     let some : length rest ≢ 0 = λ e. absurd (omega arith) in
     let step = chunking_step chunk_of s c.pieces.chunks.items rest n some (c.first_chunk_len-length.ensures.value ∙ ap (first_chunk_len s) c.as_slice.ensures) (λ _. c.first_chunk_len-length.ensures.some (omega arith)) in
     let push = c.in_ok-push.ensures.items in
-    let chunk : c.new.result ≡ chunk_of (take n rest) = c.new.ensures ∙ ap chunk_of c.in_ok-split_to.ensures.prefix in
+    let chunk : c.new.result ≡ chunk_of (take n rest) = c.new.ensures ∙ ap chunk_of c.in_ok-split_to.ensures.front in
     let bytes : length c.new.result.bytes ≡ n = ap (λ (x : Chunk). length x.bytes) chunk ∙ length-take-le n rest (omega arith) in
     let left : length c.split_to.new.self ≡ length rest - n = ap length c.in_ok-split_to.ensures.rest ∙ length-drop n rest in
     record {
