@@ -11,7 +11,7 @@ const LENGTHS: [u32; 12] = [
 ];
 
 /// The bytes 0 to 250, repeated up to this length.
-fn counting(alloc: Global, count: u32) -> Result<Vec<u8>, AllocError>
+pub(crate) fn counting(alloc: Global, count: u32) -> Result<Vec<u8>, AllocError>
     ensures { IfOk result (λ bytes. length bytes.items ≡ count) }
 {
     let mut bytes = Vec::with_capacity(alloc, count as usize)?;
@@ -50,16 +50,6 @@ fn joined_come_back(rt: &impl Abort, alloc: Global, bytes: &[u8]) -> Result<(), 
     Ok(())
 }
 
-#[test]
-fn joined_groups_come_back(rt: HostRuntime) -> Result<(), Fail> {
-    let alloc = rt.alloc();
-    joined_come_back(&rt, alloc, &[0, 1, 2, 3, 4, 5, 6])?;
-    for count in LENGTHS {
-        joined_come_back(&rt, alloc, &counting(alloc, count)?)?;
-    }
-    Ok(())
-}
-
 /// The separate groups are the concatenated ones, and regroup to these bytes.
 fn separate_come_back(rt: &impl Abort, alloc: Global, bytes: &[u8]) -> Result<(), AllocError> {
     let groups = bg4_split_separate(alloc, bytes)?;
@@ -73,12 +63,18 @@ fn separate_come_back(rt: &impl Abort, alloc: Global, bytes: &[u8]) -> Result<()
     Ok(())
 }
 
+/// The bytes come back from their groups, concatenated and separate.
+fn come_back(rt: &impl Abort, alloc: Global, bytes: &[u8]) -> Result<(), AllocError> {
+    joined_come_back(rt, alloc, bytes)?;
+    separate_come_back(rt, alloc, bytes)
+}
+
 #[test]
-fn separate_groups_come_back(rt: HostRuntime) -> Result<(), Fail> {
+fn groups_come_back(rt: HostRuntime) -> Result<(), Fail> {
     let alloc = rt.alloc();
-    separate_come_back(&rt, alloc, &[0, 1, 2, 3, 4, 5, 6])?;
+    come_back(&rt, alloc, &[0, 1, 2, 3, 4, 5, 6])?;
     for count in LENGTHS {
-        separate_come_back(&rt, alloc, &counting(alloc, count)?)?;
+        come_back(&rt, alloc, &counting(alloc, count)?)?;
     }
     Ok(())
 }
@@ -146,13 +142,11 @@ fn bytes_are_counted_by_place(rt: HostRuntime) {
     assert!(rt; histograms(0, &[0, 1, 2, 3, 4, 5]) == six);
 }
 
-/// Long inputs: a length, the hashes of its bytes split and regrouped, and their histograms from offset 3 on.
+/// Long inputs: a length with the hashes of its bytes split and regrouped, and their histograms from offset 3 on.
 /// Computed independently, from the definition of the groups.
-const LONG: [(u32, u32, u32, [[u32; 9]; 4]); 3] = [
+const LONG: [((u32, u32, u32), [[u32; 9]; 4]); 3] = [
     (
-        65_536,
-        0xFD24_8998,
-        0x8870_D8AC,
+        (65_536, 0xFD24_8998, 0x8870_D8AC),
         [
             [65, 522, 1829, 3657, 4570, 3655, 1761, 325, 0],
             [65, 521, 1827, 3658, 4572, 3655, 1761, 325, 0],
@@ -161,9 +155,7 @@ const LONG: [(u32, u32, u32, [[u32; 9]; 4]); 3] = [
         ],
     ),
     (
-        65_483,
-        0xBDF9_0CB0,
-        0x207C_B57C,
+        (65_483, 0xBDF9_0CB0, 0x207C_B57C),
         [
             [65, 521, 1826, 3655, 4569, 3652, 1758, 325, 0],
             [65, 521, 1826, 3655, 4569, 3652, 1758, 325, 0],
@@ -172,9 +164,7 @@ const LONG: [(u32, u32, u32, [[u32; 9]; 4]); 3] = [
         ],
     ),
     (
-        65_671,
-        0x765F_921C,
-        0xDC5F_04B8,
+        (65_671, 0x765F_921C, 0xDC5F_04B8),
         [
             [65, 522, 1832, 3668, 4583, 3661, 1762, 325, 0],
             [65, 521, 1827, 3661, 4583, 3668, 1767, 326, 0],
@@ -202,7 +192,7 @@ fn hashes(alloc: Global, bytes: &[u8]) -> Result<(u32, u32), AllocError> {
 
 #[test]
 fn long_inputs_give_known_values(rt: HostRuntime) -> Result<(), Fail> {
-    for (count, split, regrouped, table) in LONG {
+    for ((count, split, regrouped), table) in LONG {
         let bytes = counting(rt.alloc(), count)?;
         let found = hashes(rt.alloc(), &bytes)?;
         assert!(rt; found == (split, regrouped) && histograms(3, &bytes) == table);

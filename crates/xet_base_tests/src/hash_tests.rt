@@ -1,18 +1,10 @@
 ghost use Rattle.std.specs.Prelude.{◌≤◌, ◌*◌, ℕ, IfOk};
 ghost use Rattle.xet_hash.specs.Merkle.{total_len};
 
+use crate::group_tests::counting;
 use std::alloc::Global;
 use std::test::Fail;
 use xet_hash::*;
-
-/// The bytes 0 to 250, repeated up to this length.
-fn counting(alloc: Global, length: usize) -> Result<Vec<u8>, Fail> {
-    let mut bytes = Vec::new(alloc);
-    for i in 0..length {
-        bytes.push((i % 251) as u8)?;
-    }
-    Ok(bytes)
-}
 
 #[test]
 fn plain_digests_are_those_of_b3sum(rt: HostRuntime) -> Result<(), Fail> {
@@ -37,9 +29,9 @@ fn plain_digests_are_those_of_b3sum(rt: HostRuntime) -> Result<(), Fail> {
 #[test]
 fn digests_under_the_data_key(rt: HostRuntime) -> Result<(), Fail> {
     let alloc = rt.alloc();
-    let rows = [
+    let rows: [(u32, &str); 10] = [
         (
-            0usize,
+            0,
             "b54fe6f9a432e254a10d31999015209281ec73f50e83e9fbbf5092b6ef8493df",
         ),
         (
@@ -164,7 +156,7 @@ fn in_pieces(bytes: &[u8], lengths: &[usize]) -> DataHash {
 
 #[test]
 fn pieces_are_hashed_as_the_whole(rt: HostRuntime) -> Result<(), Fail> {
-    let rows: [(usize, &[usize]); 12] = [
+    let rows: [(u32, &[usize]); 12] = [
         (0, &[]),
         (1, &[0, 1]),
         (63, &[1, 62]),
@@ -187,7 +179,7 @@ fn pieces_are_hashed_as_the_whole(rt: HostRuntime) -> Result<(), Fail> {
 
 #[test]
 fn digests_are_those_of_the_definition(rt: HostRuntime) -> Result<(), Fail> {
-    let lengths: [usize; 11] = [0, 1, 63, 64, 65, 1_023, 1_024, 1_025, 2_048, 3_072, 3_073];
+    let lengths: [u32; 11] = [0, 1, 63, 64, 65, 1_023, 1_024, 1_025, 2_048, 3_072, 3_073];
     for length in lengths {
         let bytes = counting(rt.alloc(), length)?;
         assert_eq!(rt; plain_hash(&bytes), definition::plain_digest(&bytes));

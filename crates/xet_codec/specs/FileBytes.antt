@@ -1,4 +1,4 @@
--- The bytes of a file, of which an absent name has none.
+-- The bytes of a file; an absent file has none.
 use Rattle.std.specs.Prelude.{ℕ, List, [], Option, Some, None}
 use Rattle.xet_io.specs.Disk.{Files, File, file_at}
 

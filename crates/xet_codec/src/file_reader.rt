@@ -6,7 +6,7 @@ ghost use Rattle.xet_codec.specs.FileBytes.{bytes_of};
 use xet_io::{Disk, Failed, ReadAt, Refusal};
 
 /// A reader over one file of a disk that is lent to it. A name that is absent has no bytes. It counts the disk's
-/// failures, and beside them how often the disk was out of memory, which a reader can only answer as a failure.
+/// failures, and beside them how often the disk was out of memory, which it returns as a failure.
 #[derive(Drop)]
 pub struct FileReader<'a, D: Disk> {
     disk: &'a mut D,

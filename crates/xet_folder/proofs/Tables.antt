@@ -1,16 +1,16 @@
 -- Tables of xorbs that grow.
-use Rattle.std.proofs.Common.{◌≡◌, ◌⊎◌, inl, inr, ◌∙◌, ℕ, Bool, true, false, cond, List, [], ◌∷◌, ◌++◌, Option, Some, None, IsSome, refl, sym, ap, subst, nat_eq, append_assoc}
+use Rattle.std.proofs.Common.{◌≡◌, ◌⊎◌, inl, inr, ◌∙◌, ℕ, Bool, true, false, List, [], ◌∷◌, ◌++◌, Option, Some, None, IsSome, Ok, refl, sym, ap, subst, append_assoc}
 use Rattle.std.proofs.lemmas.List.{append-nil}
-use Rattle.std.specs.Cmp.Lexicographic.{bytes_decides, pointwise}
 use Rattle.std.specs.List.{AllByRecursion}
 use Rattle.std.specs.Option.{is_some, option_map}
 use Rattle.xet_io.specs.Disk.{Files}
 use Rattle.xet_shard_format.specs.declared.record.FileDataSequenceEntry.{FileDataSequenceEntry as Segment}
 use Rattle.xet_shard_format.specs.declared.record.MDBFileInfo.{MDBFileInfo}
 use Rattle.xet_shard_format.specs.declared.record.MDBXorbInfo.{MDBXorbInfo}
+use Rattle.xet_shard_format.specs.Reading.{ShardParts, all_of}
 use Rattle.xet_shard_format.specs.Records.{xorb_hash}
 use Rattle.xet_base.specs.theorems.Elements.{all_both}
-use Rattle.xet_folder.specs.Checks.{Grows, IsInTable, HasXorbsOfFile, Knows}
+use Rattle.xet_folder.specs.Checks.{Grows, IsInTable, HasXorbsOfFile, Knows, OfBlocks, OfBytes, OfFiles}
 use Rattle.xet_folder.specs.internal.Contents.{IsFileRecord}
 use Rattle.xet_folder.specs.Contents.{IsRecord, listed_of}
 use Rattle.xet_folder.specs.Plan.{Joins}
@@ -65,6 +65,13 @@ grows_then P Q f a b c one two = record {
   is = two.is ∙ ap (λ (rows : Xorbs). rows ++ two.added) one.is ∙ append_assoc a one.added two.added;
   named = all_both (λ row. P row.0) one.added two.added one.named (all_rows Q P f two.added two.named);
 }
+
+-- the records of a shard are checked: its xorbs, and then its files
+pub grows_blocks : (bytes : List ℕ) (p : ShardParts) {blocks : List MDBXorbInfo} {a b : Xorbs} → all_of bytes ≡ Ok p → blocks ≡ p.0 → Grows (OfBlocks blocks) a b → Grows (OfBytes bytes) a b
+grows_blocks bytes p {blocks} {a} {b} read is grows = grows_more (OfBlocks blocks) (OfBytes bytes) (λ h of. (p, read, inl (subst (λ (bs : List MDBXorbInfo). OfBlocks bs h) is of))) a b grows
+
+pub grows_files : (bytes : List ℕ) (p : ShardParts) {files : List MDBFileInfo} {a b c : Xorbs} → all_of bytes ≡ Ok p → files ≡ p.1 → Grows (OfBytes bytes) a b → Grows (OfFiles files) b c → Grows (OfBytes bytes) a c
+grows_files bytes p {files} {a} {b} {c} read is before grows = grows_then (OfBytes bytes) (OfFiles files) (λ h of. (p, read, inr (subst (λ (fs : List MDBFileInfo). OfFiles fs h) is of))) a b c before grows
 
 -- one row more
 pub knows_more : (tells tells2 : Bool) (files files2 : Files) (folder : List ℕ) (old new : Xorbs) (hash : List ℕ) (leaves : List (List ℕ × ℕ)) → tells2 ≡ tells → files2 ≡ files

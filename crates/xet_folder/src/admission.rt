@@ -72,7 +72,7 @@ fn check_parts<D: Disk>(
     requires total { materialized parts.now.1.items < 2 ^ 64 }
     ensures holds { OnOk result (Knows (D.tells disk.old) (D.files disk.old) folder.now table.old → (modified : ℕ) → ShardHolds (D.files disk.old) folder.now (record { hash = hash.now; file = file bytes.now modified })) }
     ensures recorded { OnOk result (AllByRecursion (IsFileRecord table.new) parts.now.1.items) }
-    ensures there { OnOk result ((p : ShardParts) → all_of bytes.now ≡ Ok p → HasXorbsOfShard table.new p) }
+    ensures there { OnOk result (HasXorbsOfShard table.new (parts.now.0.items, parts.now.1.items, parts.now.2)) }
     ensures grows { Grows (OfBytes bytes.now) table.old table.new }
     ensures knows { Knows (D.tells disk.old) (D.files disk.old) folder.now table.old → Knows (D.tells disk.new) (D.files disk.new) folder.now table.new }
     ensures refused { IfErr result (IsShardCheckError (Knows (D.tells disk.old) (D.files disk.old) folder.now table.old) (λ e. (modified : ℕ) → ShardFails (D.files disk.old) folder.now (record { hash = hash.now; file = file bytes.now modified }) e) (D.faults disk.old) (D.faults disk.new)) }

@@ -1,13 +1,13 @@
 //! The contents of a valid folder.
 
-ghost use Rattle.std.specs.Prelude.{◌≡◌, ◌≢◌, ◌≤◌, [], true, AllPairs, IfErr, IfOk, IsOkUnless, OnErr, OnOk};
 ghost use Rattle.std.specs.List.{AllByRecursion};
+ghost use Rattle.std.specs.Prelude.{◌≡◌, ◌≢◌, ◌≤◌, [], true, AllPairs, IfErr, IfOk, IsOkUnless, OnErr, OnOk};
 ghost use Rattle.xet_folder.specs.Contents.{HasContents, IsRecord, IsUnadmitted};
 ghost use Rattle.xet_folder.specs.Gathering.{with_first};
-ghost use Rattle.xet_shard_file.specs.Names.{IsHash};
 ghost use Rattle.xet_folder.specs.Xorbs.{AreBacked};
-ghost use Rattle.xet_shard_format.specs.Records.{file_hash};
 ghost use Rattle.xet_io.specs.Frame.{Unchanged};
+ghost use Rattle.xet_shard_file.specs.Names.{IsHash};
+ghost use Rattle.xet_shard_format.specs.Records.{file_hash};
 
 use crate::gathering::gather_shards;
 use crate::recorded::RecordedFile;

@@ -7,7 +7,7 @@ ghost use Rattle.xet_hash.specs.Merkle.{leaves_of, total_len};
 ghost use Rattle.xet_folder.specs.internal.Errors.{IsFormError};
 ghost use Rattle.xet_xorb_chunk.specs.ChunkEncoding.{encoded_chunk};
 ghost use Rattle.xet_folder.specs.Plan.{LiesIn, part, range};
-ghost use Rattle.xet_folder.specs.internal.Runs.{HasPlace, IsTouched, Encodes};
+ghost use Rattle.xet_folder.specs.internal.Runs.{HasPlace, IsTouched, Encodes, Searched};
 ghost use Rattle.xet_folder.specs.Runs.{IsRunError, stored_len};
 ghost use Rattle.xet_folder.specs.Stored.{IsBacked, IsStored};
 ghost use Rattle.xet_io.specs.Frame.{Unchanged};
@@ -126,8 +126,7 @@ fn touched_part<'a>(
 {
     let _bytes = segment.unpacked_segment_bytes;
     let start = leaves.end(segment.chunk_index_start as usize);
-    let first = leaves.ended_by(start + from);
-    let last = leaves.reaching(start + to);
+    let (first, last) = searched(segment, leaves, start, from, to);
     let at = leaves.stored_end(first);
     Touched {
         chunks: &leaves.as_slice()[first..last],
@@ -135,6 +134,26 @@ fn touched_part<'a>(
         at,
         len: (leaves.stored_end(last) - at) as usize,
     }
+}
+
+/// For the bytes `from..to` of a segment that begins at byte `start` of its xorb: the number of chunks that end
+/// at or before the first byte, and the number of chunks that reach the end.
+fn searched(
+    segment: &FileDataSequenceEntry,
+    leaves: &Leaves,
+    start: u64,
+    from: u64,
+    to: u64,
+) -> (usize, usize)
+    requires lies { LiesIn (λ m. m.1) segment.now leaves.now }
+    requires starts { start ≡ total_len (take segment.now.chunk_index_start leaves.now) }
+    requires bound { start < 2 ^ 32 }
+    requires some { from < to }
+    requires within { to ≤ segment.now.unpacked_segment_bytes }
+    ensures { Searched segment.now leaves.now start from to result.0 result.1 }
+{
+    let _bytes = segment.unpacked_segment_bytes;
+    (leaves.ended_by(start + from), leaves.reaching(start + to))
 }
 
 /// Extends a list to at least `size` bytes.

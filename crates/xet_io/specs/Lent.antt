@@ -14,7 +14,7 @@ pub record Lent : Type 0 where
 abbrev pub nothing_lent : Lent
 nothing_lent = record { disk = 0; files = from_entries []; tells = true; faults = 0 }
 
--- It is the same disk, with the same files, and has failed no less often.
+-- It is the same disk, with the same files, and its count of failures has not fallen.
 pub record IsSameLent (old new : Lent) : Type 0 where
   pub disk : new.disk ≡ old.disk
   pub files : new.files ≡ old.files

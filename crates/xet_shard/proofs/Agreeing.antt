@@ -9,9 +9,11 @@ use Rattle.xet_hash.specs.declared.error.StoreError.TheVariants as errors
 use Rattle.xet_shard_format.specs.declared.row.Row.{Row}
 use Rattle.xet_codec.specs.Parsing.{◌>>=◌, GivesUnlessFault}
 use Rattle.xet_shard_format.specs.Rows.{row_of, rows_in}
+use Rattle.xet_shard.specs.internal.ReaderBytes.{piece_at}
 use Rattle.xet_shard.specs.Runs.{agreed, end_of_chunk}
-use Rattle.xet_shard.proofs.Faulting.{fault_on}
-use Rattle.xet_shard_format.specs.theorems.RowList.{row_first, row_left, rows_drop, rows_prefix}
+use Rattle.xet_shard.proofs.Faulting.{fault_on, piece_there}
+use Rattle.xet_shard_format.specs.theorems.RowList.{row_first, row_left, rows_drop, rows_first, rows_prefix}
+use Rattle.xet_shard_format.specs.theorems.RowLaws.{ok_is}
 use Rattle.xet_shard.proofs.Running.{rest_all}
 use Rattle.xet_shard_format.specs.theorems.Steps.{left, lent_at}
 
@@ -174,9 +176,19 @@ is_given (Ok x) total is refused = sym is
 is_given {X} (Err e) total is refused = subst (λ (d : StoreError). GivesUnlessFault {X = X} (λ x. x) (Err d) total) (sym refused) (sym is ∙ ap Err refused)
 
 -- the next block, of the query's rest
-pub block_is : (keep : List ℕ → List ℕ) (query : List (List ℕ)) (n some count at end to : ℕ) (now whole : List ℕ) (from : ℕ) → now ≡ whole → from ≡ n → n + some ≤ count → n ≤ length query
+block_is : (keep : List ℕ → List ℕ) (query : List (List ℕ)) (n some count at end to : ℕ) (now whole : List ℕ) (from : ℕ) → now ≡ whole → from ≡ n → n + some ≤ count → n ≤ length query
     → agreed (map keep (take (length query - n) (drop n query))) end to (rows_in some (drop (at + 48 * from) now)) ≡ agreed (drop n (map keep query)) end to (take some (drop n (rows_in count (drop at whole))))
 block_is keep query n some count at end to now whole from same is le below =
     let hashes : map keep (take (length query - n) (drop n query)) ≡ drop n (map keep query) = ap (map keep) (rest_all query n below) ∙ sym (drop-map keep n query) in
     let rows : rows_in some (drop (at + 48 * from) now) ≡ take some (drop n (rows_in count (drop at whole))) = (λ i. rows_in some (drop (at + 48 * is i) (same i))) ∙ block_rows some n count at whole le in
     λ i. agreed (hashes i) end to (rows i)
+
+-- the same, of the bytes that were read of the block's rows
+pub block_read : (keep : List ℕ → List ℕ) (query : List (List ℕ)) (n some count at end to : ℕ) (now whole raw bytes : List ℕ) (from rows : ℕ) → now ≡ whole → from ≡ n → n + some ≤ count → n ≤ length query → rows ≡ some → at + 48 * count ≤ length whole
+    → (at + 48 * from + 48 * rows ≤ length now → piece_at (at + 48 * from) (48 * rows) now ≡ Ok raw) → bytes ≡ raw
+    → agreed (map keep (take (length query - n) (drop n query))) end to (rows_in some bytes) ≡ agreed (drop n (map keep query)) end to (take some (drop n (rows_in count (drop at whole))))
+block_read keep query n some count at end to now whole raw bytes from rows same is le below few long told shown =
+    let there : at + 48 * from + 48 * rows ≤ length now = omega (arith, is, few, le, long, ap length same) in
+    let read : bytes ≡ take (48 * some) (drop (at + 48 * from) now) = shown ∙ sym (ok_is _ _ (sym (piece_there (at + 48 * from) (48 * rows) now there) ∙ told there)) ∙ ap (λ (m : ℕ). take (48 * m) (drop (at + 48 * from) now)) few in
+    let given : rows_in some bytes ≡ rows_in some (drop (at + 48 * from) now) = ap (rows_in some) read ∙ rows_first some (drop (at + 48 * from) now) in
+    ap (agreed (map keep (take (length query - n) (drop n query))) end to) given ∙ block_is keep query n some count at end to now whole from same is le below

@@ -82,21 +82,21 @@ pub reached_is : {Y : Type 0} (b : Bool) (x y : Y) → (reaches b >>= λ _. Ok x
 reached_is true x y e = ok_is x y e
 reached_is false x y e = absurd (cc e)
 
+-- the items of a table that was stored, by its own piece of the bytes
+stored : {I : Type 0} (n at len : ℕ) (whole : List ℕ) (items : List ℕ → I) (made : Result I StoreError) → n ≢ 0 → items (take len (drop at whole)) ≡ items (drop at whole)
+    → (piece_at at len whole >>= λ p. Ok (items p)) ≡ (if n == 0 then made else in_table at len whole (items (drop at whole)))
+unfolding piece_at
+stored n at len whole items made ne first = next (nat_le (at + len) (length whole)) (take len (drop at whole)) (λ p. Ok (items p)) _ (ap Ok first) ∙ chosen_second n _ _ ne
+
 pub xorbs_kept : (f : MDBShardFileFooter) (whole : List ℕ) → f.xorb_lookup_num_entry ≢ 0
     → (piece_at f.xorb_lookup_offset (12 * f.xorb_lookup_num_entry) whole >>= λ p. Ok (heads_in f.xorb_lookup_num_entry p)) ≡ xorb_lookup_in f whole
-unfolding piece_at xorb_lookup_in
-xorbs_kept f whole ne =
-    let at = f.xorb_lookup_offset in
-    let n = f.xorb_lookup_num_entry in
-    next (nat_le (at + 12 * n) (length whole)) (take (12 * n) (drop at whole)) (λ p. Ok (heads_in n p)) _ (ap Ok (heads_first n (drop at whole))) ∙ chosen_second n _ _ ne
+unfolding xorb_lookup_in
+xorbs_kept f whole ne = stored f.xorb_lookup_num_entry f.xorb_lookup_offset (12 * f.xorb_lookup_num_entry) whole (heads_in f.xorb_lookup_num_entry) _ ne (heads_first f.xorb_lookup_num_entry (drop f.xorb_lookup_offset whole))
 
 pub chunks_kept : (f : MDBShardFileFooter) (whole : List ℕ) → f.chunk_lookup_num_entry ≢ 0
     → (piece_at f.chunk_lookup_offset (16 * f.chunk_lookup_num_entry) whole >>= λ p. Ok (places_in f.chunk_lookup_num_entry p)) ≡ chunk_lookup_in f whole
-unfolding piece_at chunk_lookup_in
-chunks_kept f whole ne =
-    let at = f.chunk_lookup_offset in
-    let n = f.chunk_lookup_num_entry in
-    next (nat_le (at + 16 * n) (length whole)) (take (16 * n) (drop at whole)) (λ p. Ok (places_in n p)) _ (ap Ok (places_first n (drop at whole))) ∙ chosen_second n _ _ ne
+unfolding chunk_lookup_in
+chunks_kept f whole ne = stored f.chunk_lookup_num_entry f.chunk_lookup_offset (16 * f.chunk_lookup_num_entry) whole (places_in f.chunk_lookup_num_entry) _ ne (places_first f.chunk_lookup_num_entry (drop f.chunk_lookup_offset whole))
 
 pub files_made : (f : MDBShardFileFooter) (index : ℕ) (whole : List ℕ) → f.file_lookup_num_entry ≡ 0 → (files_in f whole >>= λ files. Ok (file_items files)) ≡ file_items_from f index whole
 unfolding file_items_from

@@ -12,43 +12,19 @@ use Rattle.xet_shard_format.specs.declared.row.Row.{Row}
 use Rattle.xet_shard_format.specs.Lookups.{Lookups, chunk_items, file_items, record_item_bytes, record_items_bytes, left_in, chunk_item_bytes, chunk_items_bytes, xorb_items}
 use Rattle.xet_shard.specs.internal.ReaderBytes.{piece_at}
 use Rattle.xet_codec.specs.Parsing.{◌>>=◌}
-use Rattle.xet_shard_format.specs.Reading.{IsPlaced, ShardParts, all_of, file_record_at, file_row_count, shard_footer_at, footer_in, shard_header_at, lookup_at, places_at, section_at, totals_at, xorb_at, xorb_row_count}
+use Rattle.xet_shard_format.specs.Reading.{IsPlaced, file_record_at, file_row_count, shard_footer_at, footer_in, lookup_at, places_at, section_at, xorb_at, xorb_row_count}
 use Rattle.xet_shard_format.specs.Records.{file_hash, xorb_hash}
 use Rattle.xet_shard_format.specs.Rows.{rows_in}
 use Rattle.xet_codec.specs.Numbers.{word}
 use Rattle.xet_shard.specs.Sections.{blocks_in, chunk_lookup_in, files_in, heads_in, info_at, places_in, section_in, xorb_lookup_in}
-use Rattle.xet_shard_format.specs.Encoding.{Fits, IsShard, Shard, footer_of, header, materialized, shard_bytes, stored}
+use Rattle.xet_shard_format.specs.Encoding.{Fits, IsShard, Shard, footer_of, header, shard_bytes}
 use Rattle.xet_shard.proofs.Faulting.{info_of, piece_there}
 use Rattle.xet_shard_format.specs.theorems.Footers.{places_take}
 use Rattle.xet_shard.proofs.ItemsAgain.{chunk_items_fit, file_items_fit, heads_again, places_again, xorb_items_fit}
 use Rattle.xet_shard.proofs.PartLaws.{chosen_second, chunks_kept, chunks_made, count_whole, goes_on, heads_kept, reached_is, xorbs_kept, xorbs_made}
 use Rattle.xet_shard_format.specs.theorems.RowLaws.{bind_ok, ok_is, wants_ok}
 use Rattle.xet_shard_format.specs.theorems.WholeAgain.{all_again}
-use Rattle.xet_shard_format.specs.theorems.WholeTaken.{LeftIn, head_len, lookup_takes, place_len}
-
--- what reading the whole has checked of each part
-pub record Checked (bytes : List ℕ) (p : ShardParts) : Type 0 where
-  pub header : shard_header_at bytes ≡ Ok tt
-  pub footer : shard_footer_at bytes ≡ Ok p.2
-  pub files : section_at file_record_at file_hash (file_row_count p.2) None (rows_in (file_row_count p.2) (drop p.2.file_info_offset bytes)) ≡ Ok p.1
-  pub blocks : section_at xorb_at xorb_hash (xorb_row_count p.2) None (rows_in (xorb_row_count p.2) (drop p.2.xorb_info_offset bytes)) ≡ Ok p.0
-  pub heads : lookup_at bytes p.2.file_lookup_offset (12 * p.2.file_lookup_num_entry) (record_items_bytes (file_items p.1)) ≡ Ok tt
-  pub xorbs : lookup_at bytes p.2.xorb_lookup_offset (12 * p.2.xorb_lookup_num_entry) (record_items_bytes (xorb_items p.0)) ≡ Ok tt
-  pub chunks : lookup_at bytes p.2.chunk_lookup_offset (16 * p.2.chunk_lookup_num_entry) (chunk_items_bytes (chunk_items p.0)) ≡ Ok tt
-
-checked : (bytes : List ℕ) (p : ShardParts) → all_of bytes ≡ Ok p → Checked bytes p
-unfolding all_of
-checked bytes p e =
-    let h = bind_ok (shard_header_at bytes) _ _ e in
-    let g = bind_ok (shard_footer_at bytes) _ _ h.2 in
-    let fs = bind_ok (section_at file_record_at file_hash (file_row_count g.0) None (rows_in (file_row_count g.0) (drop g.0.file_info_offset bytes))) _ _ g.2 in
-    let xs = bind_ok (section_at xorb_at xorb_hash (xorb_row_count g.0) None (rows_in (xorb_row_count g.0) (drop g.0.xorb_info_offset bytes))) _ _ fs.2 in
-    let l1 = bind_ok (lookup_at bytes g.0.file_lookup_offset (12 * g.0.file_lookup_num_entry) (record_items_bytes (file_items fs.0))) _ _ xs.2 in
-    let l2 = bind_ok (lookup_at bytes g.0.xorb_lookup_offset (12 * g.0.xorb_lookup_num_entry) (record_items_bytes (xorb_items xs.0))) _ _ l1.2 in
-    let l3 = bind_ok (lookup_at bytes g.0.chunk_lookup_offset (16 * g.0.chunk_lookup_num_entry) (chunk_items_bytes (chunk_items xs.0))) _ _ l2.2 in
-    let t = bind_ok (totals_at g.0 (materialized fs.0) (stored xs.0)) _ _ l3.2 in
-    let made : ShardParts = (xs.0, fs.0, g.0) in
-    subst (λ (q : ShardParts). Checked bytes q) (ok_is made p t.2) (record { header = h.1; footer = g.1; files = fs.1; blocks = xs.1; heads = l1.1; xorbs = l2.1; chunks = l3.1 })
+use Rattle.xet_shard_format.specs.theorems.WholeTaken.{Checked, LeftIn, checked, head_len, lookup_takes, place_len}
 
 placed : (bytes : List ℕ) (f : MDBShardFileFooter) → shard_footer_at bytes ≡ Ok f → IsPlaced (length bytes) f
 unfolding shard_footer_at

@@ -16,7 +16,7 @@ use Rattle.xet_shard.specs.Runs.{agreed, end_of_chunk, head_segment, run_after, 
 use Rattle.xet_shard.proofs.Agreeing.{Agreed}
 use Rattle.xet_shard.proofs.Faulting.{fault_on}
 use Rattle.xet_shard.proofs.OneRecord.{at_head}
-use Rattle.xet_shard_format.specs.theorems.RowList.{rows_drop, rows_prefix, rows_next}
+use Rattle.xet_shard_format.specs.theorems.RowList.{length-rows_in, rows_drop, rows_prefix, rows_next}
 
 abbrev Run : Type 0
 Run = Option (ℕ × FileDataSequenceEntry)
@@ -36,22 +36,26 @@ module _ (place : ℕ) (head : Row) where
   no_query [] (r ∷ rows) e = refl
   no_query (k ∷ ks) rows e = absurd cc
 
-  module _ (ks qs : List (List ℕ)) (k : List ℕ) (rows others : List Row) (r : Row) (is_k : ks ≡ k ∷ qs) (is_r : rows ≡ r ∷ others) where
-    pub first_differs : pointwise nat_eq k r.hash ≡ false → run_of ks place head rows ≡ Ok None
-    unfolding run_of agreed
-    first_differs other = (λ i. run_of (is_k i) place head (is_r i)) ∙ rw other refl
+  -- by the first hash of the query and the first row
+  module _ (keep : List ℕ → List ℕ) (query rest : List (List ℕ)) (first k : List ℕ) (n at : ℕ) (whole : List ℕ) (r : Row) (is : query ≡ first ∷ rest) (kept : k ≡ keep first) (some : 0 < n) (row : r ≡ row_of (drop at whole)) where
+    by_first : run_of (map keep query) place head (rows_in n (drop at whole)) ≡ run_of (k ∷ map keep rest) place head (r ∷ rows_in (n - 1) (drop (at + 48) whole))
+    by_first = λ i. run_of (first_hash keep query rest first k is kept i) place head (first_row n at whole r some row i)
 
-    pub first_refused : (e : StoreError) → pointwise nat_eq k r.hash ≡ true → end_of_chunk r r.a head.c ≡ Err e → run_of ks place head rows ≡ Err e
+    pub first_differs : pointwise nat_eq k r.hash ≡ false → run_of (map keep query) place head (rows_in n (drop at whole)) ≡ Ok None
     unfolding run_of agreed
-    first_refused e same refused = (λ i. run_of (is_k i) place head (is_r i)) ∙ rw (same, refused) refl
+    first_differs other = by_first ∙ rw other refl
+
+    pub first_refused : (e : StoreError) → pointwise nat_eq k r.hash ≡ true → end_of_chunk r r.a head.c ≡ Err e → run_of (map keep query) place head (rows_in n (drop at whole)) ≡ Err e
+    unfolding run_of agreed
+    first_refused e same refused = by_first ∙ rw (same, refused) refl
 
     -- with so many more after the first, up to an end
     with_more : ℕ × ℕ → Result Run StoreError
     with_more n = Ok (Some (n.0 + 1, head_segment head place (n.0 + 1) (n.1 - r.a)))
 
-    after_first : (to : ℕ) → pointwise nat_eq k r.hash ≡ true → end_of_chunk r r.a head.c ≡ Ok to → run_of ks place head rows ≡ (agreed qs head.c to others >>= with_more)
+    after_first : (to : ℕ) → pointwise nat_eq k r.hash ≡ true → end_of_chunk r r.a head.c ≡ Ok to → run_of (map keep query) place head (rows_in n (drop at whole)) ≡ (agreed (map keep rest) head.c to (rows_in (n - 1) (drop (at + 48) whole)) >>= with_more)
     unfolding run_of agreed with_more
-    after_first to same ends = (λ i. run_of (is_k i) place head (is_r i)) ∙ rw (same, ends) (by (agreed qs head.c to others))
+    after_first to same ends = by_first ∙ rw (same, ends) (by (agreed (map keep rest) head.c to (rows_in (n - 1) (drop (at + 48) whole))))
       where
         made : ℕ × ℕ → Run
         made n = Some (n.0, head_segment head place n.0 (n.1 - r.a))
@@ -62,28 +66,28 @@ module _ (place : ℕ) (head : Row) where
             rw (ne_eqb (suc n.0) 0 (omega arith)) (ap (λ (m : ℕ). Ok (made (m, n.1))) e)
         by (Err e) = refl
 
-    pub rest_fails : (to : ℕ) (e : StoreError) → pointwise nat_eq k r.hash ≡ true → end_of_chunk r r.a head.c ≡ Ok to → GivesUnlessFault {X = ℕ × ℕ} (λ x. x) (Err e) (agreed qs head.c to others)
-        → GivesUnlessFault {X = Run} (λ x. x) (Err e) (run_of ks place head rows)
+    pub rest_fails : (to : ℕ) (e : StoreError) → pointwise nat_eq k r.hash ≡ true → end_of_chunk r r.a head.c ≡ Ok to → GivesUnlessFault {X = ℕ × ℕ} (λ x. x) (Err e) (agreed (map keep rest) head.c to (rows_in (n - 1) (drop (at + 48) whole)))
+        → GivesUnlessFault {X = Run} (λ x. x) (Err e) (run_of (map keep query) place head (rows_in n (drop at whole)))
     rest_fails to e same ends gives =
-        subst (λ (x : Result Run StoreError). GivesUnlessFault {X = Run} (λ x. x) (Err e) x) (sym (after_first to same ends)) (fault_on {A = ℕ × ℕ} {B = Run} (λ x. x) (λ x. x) e (agreed qs head.c to others) with_more gives)
+        subst (λ (x : Result Run StoreError). GivesUnlessFault {X = Run} (λ x. x) (Err e) x) (sym (after_first to same ends)) (fault_on {A = ℕ × ℕ} {B = Run} (λ x. x) (λ x. x) e (agreed (map keep rest) head.c to (rows_in (n - 1) (drop (at + 48) whole))) with_more gives)
 
-    pub rest_agrees : (to more end : ℕ) → pointwise nat_eq k r.hash ≡ true → end_of_chunk r r.a head.c ≡ Ok to → agreed qs head.c to others ≡ Ok (more, end)
-        → run_of ks place head rows ≡ Ok (Some (more + 1, head_segment head place (more + 1) (end - r.a)))
+    pub rest_agrees : (to more end : ℕ) → pointwise nat_eq k r.hash ≡ true → end_of_chunk r r.a head.c ≡ Ok to → agreed (map keep rest) head.c to (rows_in (n - 1) (drop (at + 48) whole)) ≡ Ok (more, end)
+        → run_of (map keep query) place head (rows_in n (drop at whole)) ≡ Ok (Some (more + 1, head_segment head place (more + 1) (end - r.a)))
     unfolding with_more
     rest_agrees to more end same ends is = after_first to same ends ∙ ap (λ (x : Agreed). x >>= with_more) is
 
 -- ---- by the head
 
 module _ (ks : List (List ℕ)) (place : ℕ) (head : Row) (rows : List Row) where
-  pub too_few : length rows < head.b → run_after ks place head rows ≡ Err (errors.MalformedData SectionPlace)
+  too_few : length rows < head.b → run_after ks place head rows ≡ Err (errors.MalformedData SectionPlace)
   unfolding run_after
   too_few few = rw (lt-leb head.b (length rows) few) refl
 
-  pub bad_a : head.b ≤ length rows → head.a ≢ 0 → run_after ks place head rows ≡ Err (errors.MalformedData SectionEntry)
+  bad_a : head.b ≤ length rows → head.a ≢ 0 → run_after ks place head rows ≡ Err (errors.MalformedData SectionEntry)
   unfolding run_after
   bad_a room bad = rw (le-leb head.b (length rows) room, ne_eqb head.a 0 bad) refl
 
-  pub bad_d : head.b ≤ length rows → head.a ≡ 0 → head.d ≢ 0 → run_after ks place head rows ≡ Err (errors.MalformedData SectionEntry)
+  bad_d : head.b ≤ length rows → head.a ≡ 0 → head.d ≢ 0 → run_after ks place head rows ≡ Err (errors.MalformedData SectionEntry)
   unfolding run_after
   bad_d room plain bad = rw (le-leb head.b (length rows) room, eq-eqb head.a 0 plain, ne_eqb head.d 0 bad) refl
 
@@ -91,21 +95,39 @@ module _ (ks : List (List ℕ)) (place : ℕ) (head : Row) (rows : List Row) whe
   unfolding run_after
   from_place room a d = rw (le-leb head.b (length rows) room, eq-eqb head.a 0 a, eq-eqb head.d 0 d) refl
 
-  pub behind_end : head.b ≤ length rows → head.a ≡ 0 → head.d ≡ 0 → head.b ≤ place → run_after ks place head rows ≡ Ok None
+  behind_end : head.b ≤ length rows → head.a ≡ 0 → head.d ≡ 0 → head.b ≤ place → run_after ks place head rows ≡ Ok None
   unfolding run_of
   behind_end room a d past =
       let none : head.b - place ≡ 0 = omega arith in
       from_place room a d ∙ ap (λ (n : ℕ). run_of ks place head (take n (drop place rows))) none
 
-  pub at_place : head.b ≤ length rows → head.a ≡ 0 → head.d ≡ 0 → (here : List Row) → here ≡ take (head.b - place) (drop place rows) → run_after ks place head rows ≡ run_of ks place head here
+  at_place : head.b ≤ length rows → head.a ≡ 0 → head.d ≡ 0 → (here : List Row) → here ≡ take (head.b - place) (drop place rows) → run_after ks place head rows ≡ run_of ks place head here
   at_place room a d here is = from_place room a d ∙ ap (run_of ks place head) (sym is)
 
 -- the rows from the place on, of those after the head
-pub rows_at_place : (b place n at : ℕ) (whole : List ℕ) → place ≤ b → b ≤ n → rows_in (b - place) (drop (at + 48 * place) whole) ≡ take (b - place) (drop place (rows_in n (drop at whole)))
+rows_at_place : (b place n at : ℕ) (whole : List ℕ) → place ≤ b → b ≤ n → rows_in (b - place) (drop (at + 48 * place) whole) ≡ take (b - place) (drop place (rows_in n (drop at whole)))
 rows_at_place b place n at whole le room =
     ap (rows_in (b - place)) (sym (drop-drop (48 * place) at whole)) ∙ rows_prefix (b - place) (n - place) (drop (48 * place) (drop at whole)) (omega arith) ∙ ap (take (b - place)) (rows_drop place n (drop at whole) (omega arith))
 
 -- the head is the first row
-pub by_head : (ks : List (List ℕ)) (place : ℕ) (head : Row) (at count : ℕ) (whole : List ℕ) → 0 < count → count < 2 ^ 32 → at + 48 * count ≤ length whole → head ≡ row_of (drop at whole)
-    → read_in_row (run_after ks place) at count 0 whole ≡ run_after ks place head (rows_in (count - 1) (drop (at + 48) whole))
-by_head ks place head at count whole some few le is = at_head (run_after ks place) whole at count some few le ∙ ap (λ (r : Row). run_after ks place r (rows_in (count - 1) (drop (at + 48) whole))) (sym is)
+module _ (ks : List (List ℕ)) (place : ℕ) (head : Row) (at count : ℕ) (whole : List ℕ) (some : 0 < count) (few : count < 2 ^ 32) (le : at + 48 * count ≤ length whole) (is : head ≡ row_of (drop at whole)) where
+  by_head : read_in_row (run_after ks place) at count 0 whole ≡ run_after ks place head (rows_in (count - 1) (drop (at + 48) whole))
+  by_head = at_head (run_after ks place) whole at count some few le ∙ ap (λ (r : Row). run_after ks place r (rows_in (count - 1) (drop (at + 48) whole))) (sym is)
+
+  long : head.b ≤ count - 1 → head.b ≤ length (rows_in (count - 1) (drop (at + 48) whole))
+  long room = omega (arith, room, length-rows_in (count - 1) (drop (at + 48) whole))
+
+  pub head_past : count - 1 < head.b → read_in_row (run_after ks place) at count 0 whole ≡ Err (errors.MalformedData SectionPlace)
+  head_past past = by_head ∙ too_few ks place head _ (omega (arith, past, length-rows_in (count - 1) (drop (at + 48) whole)))
+
+  pub head_bad_a : head.b ≤ count - 1 → head.a ≢ 0 → read_in_row (run_after ks place) at count 0 whole ≡ Err (errors.MalformedData SectionEntry)
+  head_bad_a room bad = by_head ∙ bad_a ks place head _ (long room) bad
+
+  pub head_bad_d : head.b ≤ count - 1 → head.a ≡ 0 → head.d ≢ 0 → read_in_row (run_after ks place) at count 0 whole ≡ Err (errors.MalformedData SectionEntry)
+  head_bad_d room a bad = by_head ∙ bad_d ks place head _ (long room) a bad
+
+  pub head_ends : head.b ≤ count - 1 → head.a ≡ 0 → head.d ≡ 0 → head.b ≤ place → read_in_row (run_after ks place) at count 0 whole ≡ Ok None
+  head_ends room a d past = by_head ∙ behind_end ks place head _ (long room) a d past
+
+  pub head_goes_on : head.b ≤ count - 1 → head.a ≡ 0 → head.d ≡ 0 → place ≤ head.b → read_in_row (run_after ks place) at count 0 whole ≡ run_of ks place head (rows_in (head.b - place) (drop (at + 48 + 48 * place) whole))
+  head_goes_on room a d below = by_head ∙ at_place ks place head _ (long room) a d _ (rows_at_place head.b place (count - 1) (at + 48) whole below room)

@@ -35,11 +35,14 @@ few {X} rows size xs each bound =
     let whole : sum_by (λ (x : X). 64 * counts x) xs ≡ 64 * sum_by counts xs = times_sum counts xs in
     omega arith
 
-pub few_xorb_bytes : (blocks : List MDBXorbInfo) → length (xorb_section blocks) < 2 ^ 32 → sum_by xorb_record_size blocks < 2 ^ 38
+few_xorb_bytes : (blocks : List MDBXorbInfo) → length (xorb_section blocks) < 2 ^ 32 → sum_by xorb_record_size blocks < 2 ^ 38
 few_xorb_bytes blocks = few xorb_rows xorb_record_size blocks (λ x. omega (arith, length-map x.chunks chunk_row))
 
-pub few_file_bytes : (files : List MDBFileInfo) → length (file_section files) < 2 ^ 32 → sum_by file_record_size files < 2 ^ 38
+few_file_bytes : (files : List MDBFileInfo) → length (file_section files) < 2 ^ 32 → sum_by file_record_size files < 2 ^ 38
 few_file_bytes files = few file_rows file_record_size files (λ f. omega arith)
+
+pub few_bytes : (blocks : List MDBXorbInfo) (files : List MDBFileInfo) → length (xorb_section blocks) < 2 ^ 32 → length (file_section files) < 2 ^ 32 → sum_by xorb_record_size blocks + sum_by file_record_size files < 2 ^ 39
+few_bytes blocks files few_blocks few_files = omega (arith, few_xorb_bytes blocks few_blocks, few_file_bytes files few_files)
 
 -- what the record of a hash adds is a part of the sum, and goes where another takes its place
 pub part_le : {X : Type 0} (size : X → ℕ) (test : List ℕ → Bool) (es : List (List ℕ × X)) → unwrap_or (option_map size (lookup test es)) 0 ≤ sum_by size (values_of es)

@@ -8,6 +8,7 @@ use Rattle.std.proofs.lemmas.Option.{slice_get-get_or, slice_get-map, slice_get_
 use Rattle.xet_hash.specs.declared.error.Place.TheVariants.{Input}
 use Rattle.xet_hash.specs.declared.error.StoreError.{StoreError}
 use Rattle.xet_hash.specs.declared.error.StoreError.TheVariants as errors
+use Rattle.xet_shard.specs.declared.query.bisection.Probe.{Probe}
 use Rattle.xet_shard.specs.declared.query.bisection.Probe.TheVariants.{RowBelow, WordAtMost, WordBelow}
 use Rattle.xet_shard_format.specs.declared.header_footer.MDBShardFileFooter.{MDBShardFileFooter}
 use Rattle.xet_shard_format.specs.declared.record.MDBXorbInfo.{MDBXorbInfo}
@@ -115,6 +116,23 @@ module _ {X : Type 0} (p : X → Bool) (items : List X) (at len : ℕ) (bytes : 
           let none : in_table at len bytes answer.0 ≡ Err errors.UnexpectedEof = rw e refl in
           absurd (cc (sym none ∙ answer.2))
 
+-- what looking for the index found that bisects the bytes of a table by a test
+abbrev pub Looked : Probe → ℕ → ℕ → ℕ → List ℕ → Result ℕ StoreError → Type 0
+Looked probe size at n bytes found = AnswersAt {A = ℕ} (passes probe) (slots size n (drop at bytes)) (λ x. x) found (λ index. in_table at (size * n) bytes index)
+
+-- The same of a table of items, which what bisects its bytes bisects.
+module _ {I : Type 0} (probe : Probe) (size at n : ℕ) (bytes : List ℕ) (q : I → Bool) (table : List I) (carry : (index : ℕ) → Bisects (passes probe) (slots size n (drop at bytes)) index → Bisects q table index) where
+  stored_refused : {A B : Type 0} (view : A → B) (e : StoreError) (found : ℕ → B) (made : Result B StoreError) → n ≢ 0 → Looked probe size at n bytes (Err e)
+      → AnswersAt q table view (Err e) (λ index. if n == 0 then made else in_table at (size * n) bytes (found index))
+  stored_refused {A} {B} view e found made ne answer =
+      let refused = index_refused (passes probe) (slots size n (drop at bytes)) at (size * n) bytes q table view e found carry answer in
+      (refused.0, refused.1, subst (λ (r : Result B StoreError). GivesUnlessFault {X = A} view (Err e) r) (chosen_second n made _ ne) refused.2)
+
+  stored_index : (index : ℕ) → Looked probe size at n bytes (Ok index) → Bisects q table index × (at + size * n ≤ length bytes)
+  stored_index index answer =
+      let found = index_is (passes probe) (slots size n (drop at bytes)) at (size * n) bytes index answer in
+      (carry index found.0, found.1)
+
 table_there : {Y : Type 0} (at len : ℕ) (bytes : List ℕ) (found : Y) → at + len ≤ length bytes → in_table at len bytes found ≡ Ok found
 table_there at len bytes found le = rw (le-leb (at + len) (length bytes) le) refl
 
@@ -154,49 +172,36 @@ module _ (f : MDBShardFileFooter) (bytes : List ℕ) where
       (ap (take 8) (heads_drop n index (drop at bytes) within ∙ ap (heads_in (n - index)) (drop-drop (12 * index) at bytes)) ∙ heads_take 8 (n - index) rest
       ∙ ap (λ (k : ℕ). heads_in k rest) (sym is) ∙ sym (heads_first few rest) ∙ ap (heads_in few) (sym read) ∙ sym made)
 
-  pub files_refused : {A : Type 0} (view : A → List (ℕ × ℕ)) (first : ℕ) (e : StoreError) → f.file_lookup_num_entry ≢ 0
-      → AnswersAt {A = ℕ} (passes (WordBelow first)) (slots 12 f.file_lookup_num_entry (drop f.file_lookup_offset bytes)) (λ x. x) (Err e) (λ index. in_table f.file_lookup_offset (12 * f.file_lookup_num_entry) bytes index)
-      → AnswersAt (λ i. nat_lt i.0 first) (file_table f bytes) view (Err e) (λ index. file_items_from f index bytes)
+  pub files_refused : {A : Type 0} (view : A → List (ℕ × ℕ)) (first : ℕ) (e : StoreError) → f.file_lookup_num_entry ≢ 0 → Looked (WordBelow first) 12 f.file_lookup_offset f.file_lookup_num_entry bytes (Err e) → AnswersAt (λ i. nat_lt i.0 first) (file_table f bytes) view (Err e) (λ index. file_items_from f index bytes)
   unfolding file_items_from
-  files_refused {A} view first e ne answer =
-      let at = f.file_lookup_offset in
-      let n = f.file_lookup_num_entry in
-      let refused = index_refused (passes (WordBelow first)) (slots 12 n (drop at bytes)) at (12 * n) bytes (λ (i : ℕ × ℕ). nat_lt i.0 first) (file_table f bytes) view e (λ index. take 8 (drop index (file_table f bytes))) (λ index b. words_below first n index (drop at bytes) b) answer in
-      (refused.0, refused.1, subst (λ (r : Result (List (ℕ × ℕ)) StoreError). GivesUnlessFault {X = A} view (Err e) r) (chosen_second n _ _ ne) refused.2)
+  files_refused view first e = stored_refused (WordBelow first) 12 _ f.file_lookup_num_entry bytes _ (file_table f bytes) (λ index. words_below first _ index _) view e (λ index. take 8 (drop index (file_table f bytes))) _
 
-  pub files_index : (first index : ℕ)
-      → AnswersAt {A = ℕ} (passes (WordBelow first)) (slots 12 f.file_lookup_num_entry (drop f.file_lookup_offset bytes)) (λ x. x) (Ok index) (λ index. in_table f.file_lookup_offset (12 * f.file_lookup_num_entry) bytes index)
-      → Bisects (λ i. nat_lt i.0 first) (file_table f bytes) index × (f.file_lookup_offset + 12 * f.file_lookup_num_entry ≤ length bytes)
-  files_index first index answer =
-      let at = f.file_lookup_offset in
-      let n = f.file_lookup_num_entry in
-      let found = index_is (passes (WordBelow first)) (slots 12 n (drop at bytes)) at (12 * n) bytes index answer in
-      (words_below first n index (drop at bytes) found.0, found.1)
+  pub files_index : (first index : ℕ) → Looked (WordBelow first) 12 f.file_lookup_offset f.file_lookup_num_entry bytes (Ok index) → Bisects (λ i. nat_lt i.0 first) (file_table f bytes) index × (f.file_lookup_offset + 12 * f.file_lookup_num_entry ≤ length bytes)
+  files_index first = stored_index (WordBelow first) 12 f.file_lookup_offset f.file_lookup_num_entry bytes (λ (i : ℕ × ℕ). nat_lt i.0 first) (file_table f bytes) (λ index. words_below first _ index _)
 
   -- the same of the chunks' table
-  pub chunks_refused : {A : Type 0} (view : A → Option (ℕ × ℕ)) (first : ℕ) (e : StoreError) → f.chunk_lookup_num_entry ≢ 0
-      → AnswersAt {A = ℕ} (passes (WordAtMost first)) (slots 16 f.chunk_lookup_num_entry (drop f.chunk_lookup_offset bytes)) (λ x. x) (Err e) (λ index. in_table f.chunk_lookup_offset (16 * f.chunk_lookup_num_entry) bytes index)
-      → AnswersAt (λ i. nat_le i.0 first) (chunk_table f bytes) view (Err e) (λ index. chunk_place f first index bytes)
+  pub chunks_refused : {A : Type 0} (view : A → Option (ℕ × ℕ)) (first : ℕ) (e : StoreError) → f.chunk_lookup_num_entry ≢ 0 → Looked (WordAtMost first) 16 f.chunk_lookup_offset f.chunk_lookup_num_entry bytes (Err e) → AnswersAt (λ i. nat_le i.0 first) (chunk_table f bytes) view (Err e) (λ index. chunk_place f first index bytes)
   unfolding chunk_place
-  chunks_refused {A} view first e ne answer =
-      let at = f.chunk_lookup_offset in
-      let n = f.chunk_lookup_num_entry in
-      let refused = index_refused (passes (WordAtMost first)) (slots 16 n (drop at bytes)) at (16 * n) bytes (λ (i : ℕ × ℕ × ℕ). nat_le i.0 first) (chunk_table f bytes) view e (λ index. place_before first index (chunk_table f bytes)) (λ index b. words_at_most first n index (drop at bytes) b) answer in
-      (refused.0, refused.1, subst (λ (r : Result (Option (ℕ × ℕ)) StoreError). GivesUnlessFault {X = A} view (Err e) r) (chosen_second n _ _ ne) refused.2)
+  chunks_refused view first e = stored_refused (WordAtMost first) 16 _ f.chunk_lookup_num_entry bytes _ (chunk_table f bytes) (λ index. words_at_most first _ index _) view e (λ index. place_before first index (chunk_table f bytes)) _
 
-  pub chunks_index : (first index : ℕ)
-      → AnswersAt {A = ℕ} (passes (WordAtMost first)) (slots 16 f.chunk_lookup_num_entry (drop f.chunk_lookup_offset bytes)) (λ x. x) (Ok index) (λ index. in_table f.chunk_lookup_offset (16 * f.chunk_lookup_num_entry) bytes index)
-      → Bisects (λ i. nat_le i.0 first) (chunk_table f bytes) index × (f.chunk_lookup_offset + 16 * f.chunk_lookup_num_entry ≤ length bytes)
-  chunks_index first index answer =
-      let at = f.chunk_lookup_offset in
-      let n = f.chunk_lookup_num_entry in
-      let found = index_is (passes (WordAtMost first)) (slots 16 n (drop at bytes)) at (16 * n) bytes index answer in
-      (words_at_most first n index (drop at bytes) found.0, found.1)
+  pub chunks_index : (first index : ℕ) → Looked (WordAtMost first) 16 f.chunk_lookup_offset f.chunk_lookup_num_entry bytes (Ok index) → Bisects (λ i. nat_le i.0 first) (chunk_table f bytes) index × (f.chunk_lookup_offset + 16 * f.chunk_lookup_num_entry ≤ length bytes)
+  chunks_index first = stored_index (WordAtMost first) 16 f.chunk_lookup_offset f.chunk_lookup_num_entry bytes (λ (i : ℕ × ℕ × ℕ). nat_le i.0 first) (chunk_table f bytes) (λ index. words_at_most first _ index _)
 
   pub place_at_index : (first index : ℕ) (place : Option (ℕ × ℕ)) → f.chunk_lookup_num_entry ≢ 0 → f.chunk_lookup_offset + 16 * f.chunk_lookup_num_entry ≤ length bytes → place_before first index (chunk_table f bytes) ≡ place → chunk_place f first index bytes ≡ Ok place
   unfolding chunk_place
   place_at_index first index place ne le is =
       sym (chosen_second f.chunk_lookup_num_entry _ _ ne) ∙ table_there f.chunk_lookup_offset (16 * f.chunk_lookup_num_entry) bytes (place_before first index (chunk_table f bytes)) le ∙ ap (λ (p : Option (ℕ × ℕ)). Ok p) is
+
+  -- the answer by an index that was found
+  pub place_answer : (first index : ℕ) (place : Option (ℕ × ℕ)) → f.chunk_lookup_num_entry ≢ 0 → Looked (WordAtMost first) 16 f.chunk_lookup_offset f.chunk_lookup_num_entry bytes (Ok index) → place_before first index (chunk_table f bytes) ≡ place
+      → AnswersAt {A = Option (ℕ × ℕ)} (λ i. nat_le i.0 first) (chunk_table f bytes) (λ p. p) (Ok place) (λ index. chunk_place f first index bytes)
+  place_answer first index place ne answer is =
+      let found = chunks_index first index answer in
+      (index, found.0, place_at_index first index place ne found.1 is)
+
+  -- the item before an index is there
+  pub item_before : (first index : ℕ) (now : List ℕ) → Looked (WordAtMost first) 16 f.chunk_lookup_offset f.chunk_lookup_num_entry bytes (Ok index) → 0 < index → index ≤ f.chunk_lookup_num_entry → now ≡ bytes → f.chunk_lookup_offset + 16 * (index - 1) + 16 ≤ length now
+  item_before first index now answer some within same = omega (arith, (chunks_index first index answer).1, some, within, ap length same)
 
   -- the item before an index, of the bytes that were read
   place_read : (first index : ℕ) (item : List ℕ) → 0 < index → index ≤ f.chunk_lookup_num_entry → item ≡ take 16 (drop (f.chunk_lookup_offset + 16 * (index - 1)) bytes)
@@ -219,24 +224,12 @@ module _ (f : MDBShardFileFooter) (bytes : List ℕ) where
   place_other first index item w some within read ew other = place_read first index item some within read ∙ rw (ne_eqb (word item 0) first (λ e. other (ew ∙ e))) refl
 
   -- and of the xorbs'
-  pub heads_refused : {A : Type 0} (view : A → Bool) (row : ℕ) (e : StoreError) → f.xorb_lookup_num_entry ≢ 0
-      → AnswersAt {A = ℕ} (passes (RowBelow row)) (slots 12 f.xorb_lookup_num_entry (drop f.xorb_lookup_offset bytes)) (λ x. x) (Err e) (λ index. in_table f.xorb_lookup_offset (12 * f.xorb_lookup_num_entry) bytes index)
-      → AnswersAt (λ i. nat_lt i.1 row) (xorb_table f bytes) view (Err e) (λ index. has_head f row index bytes)
+  pub heads_refused : {A : Type 0} (view : A → Bool) (row : ℕ) (e : StoreError) → f.xorb_lookup_num_entry ≢ 0 → Looked (RowBelow row) 12 f.xorb_lookup_offset f.xorb_lookup_num_entry bytes (Err e) → AnswersAt (λ i. nat_lt i.1 row) (xorb_table f bytes) view (Err e) (λ index. has_head f row index bytes)
   unfolding has_head
-  heads_refused {A} view row e ne answer =
-      let at = f.xorb_lookup_offset in
-      let n = f.xorb_lookup_num_entry in
-      let refused = index_refused (passes (RowBelow row)) (slots 12 n (drop at bytes)) at (12 * n) bytes (λ (i : ℕ × ℕ). nat_lt i.1 row) (xorb_table f bytes) view e (λ index. tells_row row index (xorb_table f bytes)) (λ index b. rows_below row n index (drop at bytes) b) answer in
-      (refused.0, refused.1, subst (λ (r : Result Bool StoreError). GivesUnlessFault {X = A} view (Err e) r) (chosen_second n _ _ ne) refused.2)
+  heads_refused view row e = stored_refused (RowBelow row) 12 _ f.xorb_lookup_num_entry bytes _ (xorb_table f bytes) (λ index. rows_below row _ index _) view e (λ index. tells_row row index (xorb_table f bytes)) _
 
-  pub heads_index : (row index : ℕ)
-      → AnswersAt {A = ℕ} (passes (RowBelow row)) (slots 12 f.xorb_lookup_num_entry (drop f.xorb_lookup_offset bytes)) (λ x. x) (Ok index) (λ index. in_table f.xorb_lookup_offset (12 * f.xorb_lookup_num_entry) bytes index)
-      → Bisects (λ i. nat_lt i.1 row) (xorb_table f bytes) index × (f.xorb_lookup_offset + 12 * f.xorb_lookup_num_entry ≤ length bytes)
-  heads_index row index answer =
-      let at = f.xorb_lookup_offset in
-      let n = f.xorb_lookup_num_entry in
-      let found = index_is (passes (RowBelow row)) (slots 12 n (drop at bytes)) at (12 * n) bytes index answer in
-      (rows_below row n index (drop at bytes) found.0, found.1)
+  pub heads_index : (row index : ℕ) → Looked (RowBelow row) 12 f.xorb_lookup_offset f.xorb_lookup_num_entry bytes (Ok index) → Bisects (λ i. nat_lt i.1 row) (xorb_table f bytes) index × (f.xorb_lookup_offset + 12 * f.xorb_lookup_num_entry ≤ length bytes)
+  heads_index row = stored_index (RowBelow row) 12 f.xorb_lookup_offset f.xorb_lookup_num_entry bytes (λ (i : ℕ × ℕ). nat_lt i.1 row) (xorb_table f bytes) (λ index. rows_below row _ index _)
 
   pub head_at_index : (row index : ℕ) (there : Bool) → f.xorb_lookup_num_entry ≢ 0 → f.xorb_lookup_offset + 12 * f.xorb_lookup_num_entry ≤ length bytes → tells_row row index (xorb_table f bytes) ≡ there → has_head f row index bytes ≡ Ok there
   unfolding has_head

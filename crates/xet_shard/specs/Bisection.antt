@@ -1,6 +1,6 @@
 -- Bisection of a lookup table.
 -- A query that bisects a table reads only a few items, so its contract does not depend on the others.
-use Rattle.std.specs.Prelude.{◌≡◌, ◌≤◌, ℕ, zero, suc, ◌+◌, Bool, true, false, List, [], ◌∷◌, drop, length, nat_le, nat_lt, IfSome, Option, None, Result, Ok}
+use Rattle.std.specs.Prelude.{◌≡◌, ◌≤◌, ℕ, zero, suc, ◌+◌, Bool, true, false, List, length, nat_le, nat_lt, IfSome, Option, None, Result, Ok}
 use Rattle.std.specs.List.{slice_get}
 use Rattle.xet_hash.specs.declared.error.StoreError.{StoreError}
 use Rattle.xet_shard.specs.declared.query.bisection.Probe.{Probe}

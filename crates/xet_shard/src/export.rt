@@ -2,14 +2,13 @@
 
 ghost use Rattle.std.specs.Prelude.{◌≡◌, ◌≢◌, ◌<◌, ◌+◌, ◌^◌, ℕ, [], None, true, min, IfErr, IfOk, IsErrOf, OnErr, OnOk, length, map};
 ghost use Rattle.xet_hash.specs.Hash.{zero_hash};
-ghost use Rattle.xet_io.specs.Faults.{HasCause};
 ghost use Rattle.xet_shard.specs.Export.{HasPrefix, IsExport, IsExportError, IsUnwritten, exported, files_wanted, keyed_block, keyed_chunk};
 ghost use Rattle.xet_shard.specs.Held.{never};
 ghost use Rattle.xet_codec.specs.Parsing.{GivesUnlessFault};
 ghost use Rattle.xet_shard_format.specs.Reading.{IsShardError};
 ghost use Rattle.xet_shard_format.specs.Records.{AreRecords, IsFile, IsXorb, file_hash, file_section, xorb_hash, xorb_section};
 ghost use Rattle.xet_shard_format.specs.Encoding.{shard};
-ghost use Rattle.xet_io.specs.Frame.{ReadFrom};
+ghost use Rattle.xet_io.specs.Frame.{Called, ReadFrom};
 
 use crate::info::MDBShardInfo;
 use crate::reader::sections::{blocks, files};
@@ -49,11 +48,8 @@ impl MDBShardInfo {
         ensures prefix { R.tells reader.old ≡ true → W.tells sink.old ≡ true → OnErr result (HasPrefix (record { files = files; xorbs = xorb_lookup; chunks = chunk_lookup }) (exported files key valid_for now self.now.metadata (R.bytes reader.old)) (W.written sink.old) (W.written sink.new)) }
         ensures refused { R.tells reader.old ≡ true → IfErr result (IsUnwritten (exported files key valid_for now self.now.metadata (R.bytes reader.old))) }
         ensures errors { IfErr result IsExportError }
-        ensures input { HasCause (R.faults reader.old) (R.faults reader.new) (IsErrOf result (StoreError.Io Place.Input)) }
-        ensures output { HasCause (W.faults sink.old) (W.faults sink.new) (IsErrOf result (StoreError.Io Place.Output)) }
-        ensures same { R.bytes reader.new ≡ R.bytes reader.old }
-        ensures tells { R.tells reader.new ≡ R.tells reader.old }
-        ensures sink_tells { W.tells sink.new ≡ W.tells sink.old }
+        ensures reader { ReadFrom R.bytes R.tells R.faults R.lent reader.old reader.new (IsErrOf result (StoreError.Io Place.Input)) }
+        ensures sink { Called W.tells W.faults sink.old sink.new (IsErrOf result (StoreError.Io Place.Output)) }
     {
         let lookups = Lookups {
             files,

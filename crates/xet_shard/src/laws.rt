@@ -29,6 +29,7 @@ pub fn parts_are_read()
 
 /// On the encoding of a well-formed shard, under its own footer, a query returns the shard's own result,
 /// whichever lookup tables it has. The result is the same at every index that bisects the table.
+#[tactic(auto, using(crate::proofs::AskedAgain::file_again, crate::proofs::AskedAgain::run_again, crate::proofs::AskedAgain::told_run_again))]
 pub fn questions_are_answered()
     ensures file { (w : Lookups) (s : Shard) → IsShard s → Fits s → (h : List ℕ) (index : ℕ) → Bisects (λ i. nat_lt i.0 (first_word h)) (file_table (footer_of w s) (shard_bytes w s)) index → found_file (footer_of w s) h index (shard_bytes w s) ≡ file_in_shard s h }
     ensures run { (w : Lookups) (s : Shard) → IsShard s → Fits s → (query : List (List ℕ)) (index : ℕ) → Bisects (λ i. nat_le i.0 (query_word (footer_of w s) query)) (chunk_table (footer_of w s) (shard_bytes w s)) index → found_run (footer_of w s) query index (shard_bytes w s) ≡ Ok (shard_run s query) }

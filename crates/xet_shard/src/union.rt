@@ -2,13 +2,13 @@
 
 ghost use Rattle.std.specs.Prelude.{◌≡◌, ◌≢◌, ◌⊎◌, ◌≤◌, ◌<◌, ◌^◌, ◌++◌, [], Ok, true, false, max, IfErr, IfOk, IsErrOf, IsFalse, IsTrue, OnErr, OnOk, length, map};
 ghost use Rattle.std.specs.List.{AllByRecursion};
-ghost use Rattle.xet_io.specs.Faults.{HasCause, Rose};
+ghost use Rattle.xet_io.specs.Faults.{Rose};
 ghost use Rattle.xet_shard.specs.internal.Merging.{AreOfShard, FirstAgrees, IsNoMerge, IsNoText, Rises, after_hash, below, not_below};
 ghost use Rattle.xet_codec.specs.Parsing.{GivesUnlessFault};
 ghost use Rattle.xet_shard_format.specs.Reading.{IsShardError};
 ghost use Rattle.xet_shard_format.specs.Records.{section};
 ghost use Rattle.xet_shard.specs.Union.{Agree, HasUnionPrefix, IsKeyed, IsNoUnion, IsUnion, IsUnionError, both_in, records_in, union};
-ghost use Rattle.xet_io.specs.Frame.{ReadFrom};
+ghost use Rattle.xet_io.specs.Frame.{Called, ReadFrom};
 
 use crate::info::MDBShardInfo;
 use crate::reader::sections::{blocks, files};
@@ -47,10 +47,9 @@ pub fn shard_set_union<R: ReadAt, Q: ReadAt, W: Sink>(
         → IfErr result (IsNoUnion first.now.metadata second.now.metadata (both_in first.now.metadata (R.bytes reader.old) second.now.metadata (Q.bytes other.old))) }
     ensures errors { IfErr result IsUnionError }
     ensures input { IsErrOf result (StoreError.Io Place.Input) → Rose (R.faults reader.old) (R.faults reader.new) ⊎ Rose (Q.faults other.old) (Q.faults other.new) }
-    ensures output { HasCause (W.faults sink.old) (W.faults sink.new) (IsErrOf result (StoreError.Io Place.Output)) }
-    ensures later { (R.faults reader.old ≤ R.faults reader.new) × (Q.faults other.old ≤ Q.faults other.new) }
-    ensures same { (R.bytes reader.new ≡ R.bytes reader.old) × (Q.bytes other.new ≡ Q.bytes other.old) }
-    ensures tells { (R.tells reader.new ≡ R.tells reader.old) × (Q.tells other.new ≡ Q.tells other.old) × (W.tells sink.new ≡ W.tells sink.old) }
+    ensures reader { ReadFrom R.bytes R.tells R.faults R.lent reader.old reader.new ⊥ }
+    ensures other { ReadFrom Q.bytes Q.tells Q.faults Q.lent other.old other.new ⊥ }
+    ensures sink { Called W.tells W.faults sink.old sink.new (IsErrOf result (StoreError.Io Place.Output)) }
 {
     if is_keyed(&first.metadata) {
         return Err(StoreError::InvalidArguments);
@@ -92,9 +91,8 @@ fn both_records<R: ReadAt, Q: ReadAt>(
     ensures second { IfOk result (λ p. AreOfShard (p.1.0.items, p.1.1.items)) }
     ensures errors { IfErr result IsShardError }
     ensures input { IsErrOf result (StoreError.Io Place.Input) → Rose (R.faults reader.old) (R.faults reader.new) ⊎ Rose (Q.faults other.old) (Q.faults other.new) }
-    ensures later { (R.faults reader.old ≤ R.faults reader.new) × (Q.faults other.old ≤ Q.faults other.new) }
-    ensures same { (R.bytes reader.new ≡ R.bytes reader.old) × (Q.bytes other.new ≡ Q.bytes other.old) }
-    ensures tells { (R.tells reader.new ≡ R.tells reader.old) × (Q.tells other.new ≡ Q.tells other.old) }
+    ensures reader { ReadFrom R.bytes R.tells R.faults R.lent reader.old reader.new ⊥ }
+    ensures other { ReadFrom Q.bytes Q.tells Q.faults Q.lent other.old other.new ⊥ }
 {
     let ours = read_records(alloc, reader, f)?;
     let theirs = read_records(alloc, other, g)?;

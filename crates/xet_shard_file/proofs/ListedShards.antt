@@ -32,24 +32,14 @@ use Rattle.xet_shard_file.specs.theorems.Names.{name_determines}
 
 -- ---- a shard's name has no slash
 
+-- if 0 and each item pass a test, so does what an index gives, which is 0 past the end
+passes_at : (test : ℕ → Bool) (xs : List ℕ) (n : ℕ) → test 0 ≡ true → AllByRecursion (λ (x : ℕ). test x ≡ true) xs → test (slice_index xs n) ≡ true
+passes_at test [] n none each = none
+passes_at test (x ∷ xs) zero none each = each.0
+passes_at test (x ∷ xs) (suc n) none each = passes_at test xs n none each.1
+
 plain_digit : (n : ℕ) → not (slice_index lower_digits n == 47) ≡ true
-plain_digit zero = refl
-plain_digit (suc zero) = refl
-plain_digit (suc (suc zero)) = refl
-plain_digit (suc (suc (suc zero))) = refl
-plain_digit (suc (suc (suc (suc zero)))) = refl
-plain_digit (suc (suc (suc (suc (suc zero))))) = refl
-plain_digit (suc (suc (suc (suc (suc (suc zero)))))) = refl
-plain_digit (suc (suc (suc (suc (suc (suc (suc zero))))))) = refl
-plain_digit (suc (suc (suc (suc (suc (suc (suc (suc zero)))))))) = refl
-plain_digit (suc (suc (suc (suc (suc (suc (suc (suc (suc zero))))))))) = refl
-plain_digit (suc (suc (suc (suc (suc (suc (suc (suc (suc (suc zero)))))))))) = refl
-plain_digit (suc (suc (suc (suc (suc (suc (suc (suc (suc (suc (suc zero))))))))))) = refl
-plain_digit (suc (suc (suc (suc (suc (suc (suc (suc (suc (suc (suc (suc zero)))))))))))) = refl
-plain_digit (suc (suc (suc (suc (suc (suc (suc (suc (suc (suc (suc (suc (suc zero))))))))))))) = refl
-plain_digit (suc (suc (suc (suc (suc (suc (suc (suc (suc (suc (suc (suc (suc (suc zero)))))))))))))) = refl
-plain_digit (suc (suc (suc (suc (suc (suc (suc (suc (suc (suc (suc (suc (suc (suc (suc zero))))))))))))))) = refl
-plain_digit (suc (suc (suc (suc (suc (suc (suc (suc (suc (suc (suc (suc (suc (suc (suc (suc n)))))))))))))))) = refl
+plain_digit n = passes_at (λ (x : ℕ). not (x == 47)) lower_digits n refl (refl, (refl, (refl, (refl, (refl, (refl, (refl, (refl, (refl, (refl, (refl, (refl, (refl, (refl, (refl, (refl, tt))))))))))))))))
 
 plain_text : (bytes tail : List ℕ) → is_plain tail ≡ true → is_plain (encode_lower bytes ++ tail) ≡ true
 unfolding encode_with

@@ -1,12 +1,12 @@
 //! The expiry of a shard file, read from its header and footer alone.
 
 ghost use Rattle.std.specs.Prelude.{◌≡◌, ◌<◌, ◌≤◌, ◌+◌, ◌^◌, ℕ, IfErr, IfOk, IsTrue, List, Some, Err, length, true};
-ghost use Rattle.xet_io.specs.Disk.{FillsFrom, bytes_at};
-ghost use Rattle.xet_shard_format.specs.Reading.{ends_of};
-ghost use Rattle.xet_shard_file.specs.Errors.{IsShardCheckError, EndsFail, IsShardError};
 ghost use Rattle.xet_codec.specs.Stops.{HasDiskReason};
-ghost use Rattle.xet_shard_file.specs.Shards.{is_expired};
+ghost use Rattle.xet_io.specs.Disk.{FillsFrom, bytes_at};
 ghost use Rattle.xet_io.specs.Frame.{Unchanged};
+ghost use Rattle.xet_shard_file.specs.Errors.{IsShardCheckError, EndsFail, IsShardError};
+ghost use Rattle.xet_shard_file.specs.Shards.{is_expired};
+ghost use Rattle.xet_shard_format.specs.Reading.{ends_of};
 
 use xet_codec::store_error;
 use xet_hash::StoreError;

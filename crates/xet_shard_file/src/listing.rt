@@ -1,11 +1,11 @@
 //! The listing of the shard files in a folder.
 
-ghost use Rattle.std.specs.Prelude.{◌≡◌, ◌≤◌, true, IfErr, IfOk, map};
 ghost use Rattle.std.specs.List.Sorted.{IsPermutation, IsSorted};
-ghost use Rattle.xet_shard_file.specs.Entries.{ListsShards};
-ghost use Rattle.xet_shard_file.specs.internal.Picking.{Picks, name_order};
+ghost use Rattle.std.specs.Prelude.{◌≡◌, ◌≤◌, true, IfErr, IfOk, map};
 ghost use Rattle.xet_codec.specs.Stops.{HasDiskReason};
 ghost use Rattle.xet_io.specs.Frame.{Unchanged};
+ghost use Rattle.xet_shard_file.specs.Entries.{ListsShards};
+ghost use Rattle.xet_shard_file.specs.internal.Picking.{Picks, name_order};
 
 use crate::names::known_bytes;
 use std::alloc::{AllocError, Global};

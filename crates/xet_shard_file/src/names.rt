@@ -1,7 +1,7 @@
 //! Paths of shard files.
 
-ghost use Rattle.std.specs.Prelude.{◌≡◌, IfOk, IsOkUnless, length, string_bytes};
 ghost use Rattle.hex.specs.Hex.{IsBytes};
+ghost use Rattle.std.specs.Prelude.{◌≡◌, IfOk, IsOkUnless, length, string_bytes};
 ghost use Rattle.xet_shard_file.specs.Names.{shard_path};
 
 use std::alloc::Global;

@@ -1,12 +1,12 @@
 //! Durable writing of shard files.
 
-ghost use Rattle.std.specs.Prelude.{◌≡◌, ◌≢◌, ◌≤◌, ℕ, List, true, OnErr, OnOk, IfErr, Some, None, option_map};
 ghost use Rattle.std.specs.FinMap.{get};
+ghost use Rattle.std.specs.Prelude.{◌≡◌, ◌≢◌, ◌≤◌, ℕ, List, true, OnErr, OnOk, IfErr, Some, None, option_map};
+ghost use Rattle.xet_codec.specs.Stops.{HasDiskReason};
 ghost use Rattle.xet_io.specs.Disk.{bytes_at};
+ghost use Rattle.xet_io.specs.Frame.{Stays};
 ghost use Rattle.xet_shard_file.specs.Names.{IsHash, shard_path, temp_name};
 ghost use Rattle.xet_shard_file.specs.Puts.{IsKeptOrDone};
-ghost use Rattle.xet_codec.specs.Stops.{HasDiskReason};
-ghost use Rattle.xet_io.specs.Frame.{Stays};
 
 use crate::names::{known_bytes, shard_path};
 use std::alloc::Global;

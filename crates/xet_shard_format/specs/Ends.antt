@@ -1,5 +1,5 @@
 -- Header and footer, read from the first and the last bytes of a shard alone.
-use Rattle.std.specs.Prelude.{ℕ, ◌+◌, ◌*◌, ◌^◌, ◌==◌, nat_eq, nat_le, nat_lt, List, length, take, drop, replicate, Result, Ok}
+use Rattle.std.specs.Prelude.{ℕ, ◌==◌, nat_eq, nat_le, List, take, drop, replicate, Result, Ok}
 use Rattle.std.specs.Cmp.Lexicographic.{pointwise}
 use Rattle.xet_hash.specs.declared.error.Reason.TheVariants.{FooterSize, SectionPlace, ShardVersion, Tag}
 use Rattle.xet_hash.specs.declared.error.StoreError.{StoreError}

@@ -1,7 +1,5 @@
 -- File names of shards.
-use Rattle.std.specs.Prelude.{ℕ, Bool, List, ◌++◌, codes}
-use Rattle.std.specs.Char.{is_ascii_uppercase}
-use Rattle.std.specs.List.{list_any}
+use Rattle.std.specs.Prelude.{ℕ, List, ◌++◌, codes}
 use Rattle.xet_hash.specs.Hash.{hash_text}
 
 -- the file name of the shard with this hash, without its folder

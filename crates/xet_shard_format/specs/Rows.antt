@@ -1,7 +1,7 @@
 -- A row of a section: a hash and four little-endian numbers below 2 ^ 32, 48 bytes.
 use Rattle.std.specs.Prelude.{◌≡◌, ℕ, zero, suc, ◌^◌, ◌<◌, List, [], ◌∷◌, ◌++◌, length, take, drop}
 use Rattle.std.specs.List.{flat_map, All}
-use Rattle.std.specs.Int.{w32, w64, from_le_bytes, to_le_bytes}
+use Rattle.std.specs.Int.{w32, to_le_bytes}
 use Rattle.xet_shard_format.specs.declared.row.Row.{Row}
 use Rattle.xet_codec.specs.Numbers.{half_word}
 

@@ -33,13 +33,8 @@ pub fn push_file(encoding: &mut Vec<u8>, file: &MDBFileInfo) -> Result<(), Alloc
     ensures encoding { OnOk result (encoding.new.items ≡ encoding.old.items ++ rows_bytes (file_rows file.now)) }
     ensures fits { OnOk result (AllByRecursion RowFits (file_rows file.now)) }
 {
-    let head = Row {
-        hash: file.metadata.file_hash,
-        a: file.metadata.file_flags,
-        b: file.metadata.num_entries,
-        c: 0,
-        d: 0,
-    };
+    let m = &file.metadata;
+    let head = Row::new(m.file_hash, m.file_flags, m.num_entries, 0, 0);
     push_row(encoding, &head)?;
     push_entries(encoding, file.segments.as_slice())?;
     push_entries(encoding, file.verification.as_slice())?;
@@ -52,13 +47,9 @@ pub fn push_xorb(encoding: &mut Vec<u8>, block: &MDBXorbInfo) -> Result<(), Allo
     ensures encoding { OnOk result (encoding.new.items ≡ encoding.old.items ++ rows_bytes (xorb_rows block.now)) }
     ensures fits { OnOk result (AllByRecursion RowFits (xorb_rows block.now)) }
 {
-    let head = Row {
-        hash: block.metadata.xorb_hash,
-        a: block.metadata.xorb_flags,
-        b: block.metadata.num_entries,
-        c: block.metadata.num_bytes_in_xorb,
-        d: block.metadata.num_bytes_on_disk,
-    };
+    let m = &block.metadata;
+    let (len, disk_len) = (m.num_bytes_in_xorb, m.num_bytes_on_disk);
+    let head = Row::new(m.xorb_hash, m.xorb_flags, m.num_entries, len, disk_len);
     push_row(encoding, &head)?;
     push_entries(encoding, block.chunks.as_slice())?;
     Ok(())

@@ -1,7 +1,9 @@
 //! Decoding of file and xorb records from the rows of a section.
 
-ghost use Rattle.std.specs.Prelude.{◌≡◌, ◌++◌, ◌∷◌, [], None, IfErr, OnOk};
+ghost use Rattle.std.specs.Prelude.{◌≡◌, ◌++◌, ◌∷◌, [], List, None, IfErr, OnOk, Result};
+ghost use Rattle.xet_hash.specs.declared.error.StoreError.{StoreError};
 ghost use Rattle.xet_hash.specs.declared.error.StoreError.TheVariants.{OutOfMemory};
+ghost use Rattle.xet_shard_format.specs.declared.row.Row.{Row};
 ghost use Rattle.xet_shard_format.specs.Records.{file_hash, flags_of, is_after, xorb_hash};
 ghost use Rattle.xet_codec.specs.Parsing.{Gives};
 ghost use Rattle.xet_shard_format.specs.Reading.{chunk_in, chunks_at, end_at, ext_at, file_record_at, has_ext, hash_row_at, hash_in, is_verified, rows_after_file, section_at, segment_at, step_at, times_rows, verification_at, xorb_at};
@@ -86,33 +88,39 @@ fn ext(rows: &mut Rows, wanted: bool) -> Result<Option<FileMetadataExt>, StoreEr
     }))
 }
 
-/// Reads `count` segments.
-fn segments(
-    alloc: Global,
-    rows: &mut Rows,
-    count: u32,
-) -> Result<Vec<FileDataSequenceEntry>, StoreError>
-    ensures { Gives (λ v. (v.items, rows.new)) result (times_rows segment_at count rows.old) }
-{
-    let mut found = Vec::with_capacity(alloc, count as usize)?;
-    for _done in 0..count {
-        let next = segment(rows)?;
-        found.push(next)?;
-    }
-    Ok(found)
+/// An entry that is read from one row.
+trait FromRow: Copy {
+    /// How it is read.
+    ghost read_at: { List Row → Result (Self × List Row) StoreError };
+
+    /// Reads the next row as such an entry.
+    fn read(rows: &mut Rows) -> Result<Self, StoreError>
+        ensures { Gives (λ e. (e, rows.new)) result (read_at rows.old) };
 }
 
-/// Reads `count` verifications.
-fn verifications(
-    alloc: Global,
-    rows: &mut Rows,
-    count: u32,
-) -> Result<Vec<FileVerificationEntry>, StoreError>
-    ensures { Gives (λ v. (v.items, rows.new)) result (times_rows verification_at count rows.old) }
+impl FromRow for FileDataSequenceEntry {
+    ghost read_at = { segment_at };
+
+    fn read(rows: &mut Rows) -> Result<FileDataSequenceEntry, StoreError> {
+        segment(rows)
+    }
+}
+
+impl FromRow for FileVerificationEntry {
+    ghost read_at = { verification_at };
+
+    fn read(rows: &mut Rows) -> Result<FileVerificationEntry, StoreError> {
+        verification(rows)
+    }
+}
+
+/// Reads `count` entries.
+fn entries<E: FromRow>(alloc: Global, rows: &mut Rows, count: u32) -> Result<Vec<E>, StoreError>
+    ensures { Gives (λ v. (v.items, rows.new)) result (times_rows E.read_at count rows.old) }
 {
     let mut found = Vec::with_capacity(alloc, count as usize)?;
     for _done in 0..count {
-        let next = verification(rows)?;
+        let next = E::read(rows)?;
         found.push(next)?;
     }
     Ok(found)
@@ -206,8 +214,9 @@ pub fn file(alloc: Global, head: &Row, rows: &mut Rows) -> Result<MDBFileInfo, S
     if head.c != 0 || head.d != 0 {
         return Err(StoreError::MalformedData(Reason::SectionEntry));
     }
-    let segments = segments(alloc, rows, head.b)?;
-    let verification = verifications(alloc, rows, if verified { head.b } else { 0 })?;
+    let segments = entries::<FileDataSequenceEntry>(alloc, rows, head.b)?;
+    let checks = if verified { head.b } else { 0 };
+    let verification = entries::<FileVerificationEntry>(alloc, rows, checks)?;
     let metadata_ext = ext(rows, with_ext)?;
     Ok(MDBFileInfo {
         metadata: FileDataSequenceHeader {

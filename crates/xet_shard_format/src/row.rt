@@ -23,17 +23,18 @@ pub struct Row {
 }
 
 impl Row {
+    /// The row with this hash and these numbers.
+    pub fn new(hash: DataHash, a: u32, b: u32, c: u32, d: u32) -> Row
+        ensures { result ≡ row hash a b c d }
+    {
+        Row { hash, a, b, c, d }
+    }
+
     /// The row with this hash, whose numbers are 0.
     pub fn of_hash(hash: DataHash) -> Row
         ensures { result ≡ row hash 0 0 0 0 }
     {
-        Row {
-            hash,
-            a: 0,
-            b: 0,
-            c: 0,
-            d: 0,
-        }
+        Row::new(hash, 0, 0, 0, 0)
     }
 }
 

@@ -208,45 +208,62 @@ pub record PutsXorb (s : State) (folder h encoding : List ℕ) (leaves : Leaves)
   pub shards : s.tells ≡ true → (k : List ℕ) → IsHash k → SameEntry s.files files (shard_path folder k)
   pub foreign : s.tells ≡ true → (name : List ℕ) → IsForeign folder name → SameEntry s.files files name
   pub backs : bytes_at files (xorb_path s.folder h) ≡ Some encoding → IsBacked files s.folder h leaves
-  pub left : s.tells ≡ true → IsKeptOrDone s.files files (xorb_path folder h) encoding
+
+-- It is shown by what the calls before the put say, and by the put's own clauses.
+pub puts_xorb : {s : State} {folder h text built ends : List ℕ} {ms : Leaves} {tells : Bool} {files : Files} {faults : ℕ} {raw : RawXorbData} (chunks : List Chunk) → Sound s → folder ≡ s.folder
+    → found s.xorbs h ≡ None → raw ≡ raw_of chunks ends → h ≡ raw.xorb_info.metadata.xorb_hash → raw_leaves raw ≡ map chunk_leaf chunks
+    → (0 < length raw.parts → raw_leaves raw ≡ leaves_of raw.parts → raw.xorb_info.metadata.xorb_hash ≡ xorb_hash (leaves_of raw.parts) → IsXorbEncoding built raw.parts) → text ≡ built
+    → ms ≡ map chunk_leaf chunks → AllByRecursion (λ c. c.hash ≡ chunk_hash c.bytes) chunks → AllByRecursion (λ c. length c.bytes < 2 ^ 23) chunks → 0 < length chunks → tells ≡ s.tells → s.faults ≤ faults
+    → (s.tells ≡ true → (k : List ℕ) → IsHash k → k ≢ h → SameEntry s.files files (xorb_path folder k)) → (s.tells ≡ true → (k : List ℕ) → IsHash k → SameEntry s.files files (shard_path folder k))
+    → (s.tells ≡ true → (name : List ℕ) → IsForeign folder name → SameEntry s.files files name) → PutsXorb s folder h text ms tells files faults
+puts_xorb {s} {folder} {h} {text} {built} {ends} {ms} {tells} {files} {faults} {raw} cs sound same none exact hash raw_are grammar text_is ms_are digests small some same_tells later xorbs shards foreign =
+    let backs : bytes_at files (xorb_path s.folder h) ≡ Some text → IsBacked files s.folder h ms = λ there.
+    subst (λ (l : Leaves). IsBacked files s.folder h l) (sym ms_are)
+    (backed_by_encoding files s.folder h built cs digests small (raw_encoding raw cs ends exact h hash built digests some raw_are grammar)
+    (raw_hash raw cs ends exact h hash) (there ∙ ap Some text_is)) in
+    record { sound = sound; same = same; tells_same = same_tells; later = later; none = none; xorbs = xorbs; shards = shards; foreign = foreign; backs = backs }
 
 module _ {s : State} {folder h encoding : List ℕ} {leaves : Leaves} {tells : Bool} {files : Files} {faults : ℕ} (p : PutsXorb s folder h encoding leaves tells files faults) where
   shards_here : s.tells ≡ true → (k : List ℕ) → IsHash k → SameEntry s.files files (shard_path s.folder k)
   shards_here told k is = subst (λ (f : List ℕ). SameEntry s.files files (shard_path f k)) p.same (p.shards told k is)
 
-  left_here : s.tells ≡ true → SameEntry s.files files (xorb_path s.folder h) ⊎ HasXorb files s.folder h
-  left_here told = go (subst (λ (f : List ℕ). IsKeptOrDone s.files files (xorb_path f h) encoding) p.same (p.left told))
-    where
-      go : IsKeptOrDone s.files files (xorb_path s.folder h) encoding → SameEntry s.files files (xorb_path s.folder h) ⊎ HasXorb files s.folder h
-      go (inl e) = inl e
-      go (inr done) = let b = p.backs done.there in inr (record { chunks = b.chunks; stored = b.stored; durable = done.durable })
+  -- it is as it was, or the whole xorb
+  module _ (left : s.tells ≡ true → IsKeptOrDone s.files files (xorb_path folder h) encoding) where
+    left_here : s.tells ≡ true → SameEntry s.files files (xorb_path s.folder h) ⊎ HasXorb files s.folder h
+    left_here told = go (subst (λ (f : List ℕ). IsKeptOrDone s.files files (xorb_path f h) encoding) p.same (left told))
+      where
+        go : IsKeptOrDone s.files files (xorb_path s.folder h) encoding → SameEntry s.files files (xorb_path s.folder h) ⊎ HasXorb files s.folder h
+        go (inl e) = inl e
+        go (inr done) = let b = p.backs done.there in inr (record { chunks = b.chunks; stored = b.stored; durable = done.durable })
 
-  xorb_stays : StateStays s tells files faults
-  xorb_stays = stays_xorb s folder h tells files faults p.sound p.same p.tells_same p.later p.none p.xorbs p.shards p.foreign left_here
+    xorb_stays : StateStays s tells files faults
+    xorb_stays = stays_xorb s folder h tells files faults p.sound p.same p.tells_same p.later p.none p.xorbs p.shards p.foreign left_here
 
-  -- after an error
-  module _ {xorbs : Xorbs} {records : FileRecords} {shards : List (List ℕ)} {pending : Held} (ex : xorbs ≡ s.xorbs) (er : records ≡ s.records) (es : shards ≡ s.shards) (ep : pending ≡ s.pending) where
-    pub unput_sound : Sound (changed s tells files faults xorbs records shards pending)
-    unput_sound = sound_refused s tells files faults xorb_stays p.sound (admitted_stays s tells files faults xorb_stays p.sound s.xorbs (λ k is. is) shards_here) ex er es ep
+    -- after an error
+    module _ {xorbs : Xorbs} {records : FileRecords} {shards : List (List ℕ)} {pending : Held} (ex : xorbs ≡ s.xorbs) (er : records ≡ s.records) (es : shards ≡ s.shards) (ep : pending ≡ s.pending) where
+      pub unput_sound : Sound (changed s tells files faults xorbs records shards pending)
+      unput_sound = sound_refused s tells files faults xorb_stays p.sound (admitted_stays s tells files faults xorb_stays p.sound s.xorbs (λ k is. is) shards_here) ex er es ep
 
-    pub unput_keeps : (t : State) → s ≡ t → Keeps t (changed s tells files faults xorbs records shards pending)
-    unput_keeps t e = keeps_refused s tells files faults xorb_stays p.sound t e ex er es ep
+      pub unput_keeps : (t : State) → s ≡ t → Keeps t (changed s tells files faults xorbs records shards pending)
+      unput_keeps t e = keeps_refused s tells files faults xorb_stays p.sound t e ex er es ep
 
-  -- done
-  module _ {xorbs : Xorbs} {pending : Held} (listed : xorbs ≡ s.xorbs ++ (h, leaves) ∷ [])
-      (held : pending ≡ record { blocks = with_last record_of.xorb_hash s.pending.blocks (xorb_record h leaves); files = s.pending.files }) where
-    pub put_sound : IsHash h → IsHeld pending → (s.tells ≡ true → bytes_at files (xorb_path folder h) ≡ Some encoding) → Sound (changed s tells files faults xorbs s.records s.shards pending)
-    put_sound is form there = sound_added_at s h leaves tells files faults xorb_stays p.sound listed held p.none is form
-        (λ told. p.backs (subst (λ (f : List ℕ). bytes_at files (xorb_path f h) ≡ Some encoding) p.same (there told))) shards_here
+    -- done
+    module _ {xorbs : Xorbs} {pending : Held} (listed : xorbs ≡ s.xorbs ++ (h, leaves) ∷ [])
+        (held : pending ≡ record { blocks = with_last record_of.xorb_hash s.pending.blocks (xorb_record h leaves); files = s.pending.files }) where
+      pub put_sound : IsHash h → IsHeld pending → (s.tells ≡ true → bytes_at files (xorb_path folder h) ≡ Some encoding) → Sound (changed s tells files faults xorbs s.records s.shards pending)
+      put_sound is form there = sound_added_at s h leaves tells files faults xorb_stays p.sound listed held p.none is form
+          (λ told. p.backs (subst (λ (f : List ℕ). bytes_at files (xorb_path f h) ≡ Some encoding) p.same (there told))) shards_here
 
-    pub put_keeps : (s.tells ≡ true → IsDurable files (xorb_path folder h)) → (t : State) → s ≡ t → Keeps t (changed s tells files faults xorbs s.records s.shards pending)
-    put_keeps durable t e = keeps_added_at s h leaves tells files faults xorb_stays p.sound listed held (λ told. subst (λ (f : List ℕ). IsDurable files (xorb_path f h)) p.same (durable told)) t e
+      pub put_keeps : (s.tells ≡ true → IsDurable files (xorb_path folder h)) → (t : State) → s ≡ t → Keeps t (changed s tells files faults xorbs s.records s.shards pending)
+      put_keeps durable t e = keeps_added_at s h leaves tells files faults xorb_stays p.sound listed held (λ told. subst (λ (f : List ℕ). IsDurable files (xorb_path f h)) p.same (durable told)) t e
 
-    pub put_tables : (t : State) → s ≡ t → (chunks : List Chunk) → AllByRecursion (λ c. c.hash ≡ chunk_hash c.bytes) chunks → h ≡ xorb_hash (map chunk_leaf chunks)
-        → leaves ≡ map chunk_leaf chunks → tables xorbs s.records pending ≡ with_xorb_of (tables_of t) (map bytes_of_chunk chunks)
-    put_tables t e chunks digests is_hash is_leaves =
-        tables_added s h leaves p.none xorbs pending listed held ∙ tables_by_chunks (tables_of s) h leaves chunks digests is_hash is_leaves
-        ∙ ap (λ (x : State). with_xorb_of (tables_of x) (map bytes_of_chunk chunks)) e
+  -- the tables then
+  pub put_tables : {xorbs : Xorbs} {pending : Held} → xorbs ≡ s.xorbs ++ (h, leaves) ∷ [] → pending ≡ record { blocks = with_last record_of.xorb_hash s.pending.blocks (xorb_record h leaves); files = s.pending.files }
+      → (t : State) → s ≡ t → (chunks : List Chunk) → AllByRecursion (λ c. c.hash ≡ chunk_hash c.bytes) chunks → h ≡ xorb_hash (map chunk_leaf chunks) → leaves ≡ map chunk_leaf chunks
+      → tables xorbs s.records pending ≡ with_xorb_of (tables_of t) (map bytes_of_chunk chunks)
+  put_tables {xorbs} {pending} listed held t e chunks digests is_hash is_leaves =
+      tables_added s h leaves p.none xorbs pending listed held ∙ tables_by_chunks (tables_of s) h leaves chunks digests is_hash is_leaves
+      ∙ ap (λ (x : State). with_xorb_of (tables_of x) (map bytes_of_chunk chunks)) e
 
 -- ---- the comparison with the leaves that are listed
 

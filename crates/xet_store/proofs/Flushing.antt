@@ -342,6 +342,23 @@ unput_at s t e ex er es ep = unflushed_at s (shard_hash (pending_bytes s)) s.tel
 pub nothing_done : (s : State) → IsUnflushed s s
 nothing_done s = unput_at s s refl refl refl refl refl
 
+-- ---- a hash that the test does not find is not registered
+
+or_false : (a b : Bool) → (a || b) ≡ false → (a ≡ false) × (b ≡ false)
+or_false true b e = absurd (cc e)
+or_false false b e = (refl, e)
+
+pub not_listed : (listed shards : List (List ℕ)) (h : List ℕ) → listed ≡ shards → list_any (λ k. pointwise nat_eq k h) listed ≡ false → Among shards h → ⊥
+not_listed listed shards h same none a = go shards (ap (list_any (λ k. pointwise nat_eq k h)) (sym same) ∙ none) a
+  where
+    go : (ks : List (List ℕ)) → list_any (λ k. pointwise nat_eq k h) ks ≡ false → Among ks h → ⊥
+    go [] e a = a
+    go (k ∷ ks) e (inl is) =
+        let both = or_false (pointwise nat_eq k h) (list_any (λ x. pointwise nat_eq x h) ks) e in
+        let t : pointwise nat_eq k h ≡ true = (bytes_decides k h).1 is in
+        let bad : true ≡ false = sym t ∙ both.0 in absurd (cc bad)
+    go (k ∷ ks) e (inr later) = go ks (or_false (pointwise nat_eq k h) (list_any (λ x. pointwise nat_eq x h) ks) e).1 later
+
 -- ---- a put of the shard, in a folder by another name
 
 -- What it shows of the disk, done or not.
@@ -360,7 +377,18 @@ pub record PutsShard (s : State) (folder h encoding : List ℕ) (tells : Bool) (
   pub shards : s.tells ≡ true → (k : List ℕ) → IsHash k → k ≢ h → SameEntry s.files files (shard_path folder k)
   pub others : s.tells ≡ true → KeepsOtherNames s.files files (shard_path folder h)
   pub foreign : s.tells ≡ true → (name : List ℕ) → IsForeign folder name → SameEntry s.files files name
-  pub left : s.tells ≡ true → IsKeptOrDone s.files files (shard_path folder h) encoding
+
+-- It is shown by what the calls before the put say, and by the put's own clauses.
+pub puts_shard : {s : State} {folder h encoding encoded kept : List ℕ} {tells known : Bool} {files : Files} {faults : ℕ} {listed : List (List ℕ)} → Sound s → folder ≡ s.folder → listed ≡ s.shards
+    → known ≡ list_any (λ k. pointwise nat_eq k h) listed → known ≡ false → IsShard (held_shard s.pending s.opened None) → Fits (held_shard s.pending s.opened None) → IsHash h
+    → h ≡ shard_hash encoded → encoded ≡ kept → encoding ≡ kept → kept ≡ pending_bytes s → tells ≡ s.tells → s.faults ≤ faults → (s.tells ≡ true → (k : List ℕ) → IsHash k → SameEntry s.files files (xorb_path folder k))
+    → (s.tells ≡ true → (k : List ℕ) → IsHash k → k ≢ h → SameEntry s.files files (shard_path folder k)) → (s.tells ≡ true → KeepsOtherNames s.files files (shard_path folder h))
+    → (s.tells ≡ true → (name : List ℕ) → IsForeign folder name → SameEntry s.files files name) → PutsShard s folder h encoding tells files faults
+puts_shard {s} {h = h} {listed = listed} sound e listed_is test none shard fits is_hash digest encoded_is encoding_is kept_is t later xorbs shards others foreign =
+    let new = not_listed listed s.shards h listed_is (sym test ∙ none) in
+    let hash = digest ∙ ap shard_hash (encoded_is ∙ sym encoding_is) in
+    let is = encoding_is ∙ kept_is in
+    record { sound = sound; same = e; tells_same = t; later = later; new = new; is_hash = is_hash; hash = hash; is = is; shard = shard; fits = fits; xorbs = xorbs; shards = shards; others = others; foreign = foreign }
 
 module _ {s : State} {folder h encoding : List ℕ} {tells : Bool} {files : Files} {faults : ℕ} (p : PutsShard s folder h encoding tells files faults) where
   hash_here : h ≡ shard_hash (pending_bytes s)
@@ -375,18 +403,19 @@ module _ {s : State} {folder h encoding : List ℕ} {tells : Bool} {files : File
   others_here : s.tells ≡ true → KeepsOtherNames s.files files (shard_path s.folder h)
   others_here told = subst (λ (f : List ℕ). KeepsOtherNames s.files files (shard_path f h)) p.same (p.others told)
 
-  left_here : s.tells ≡ true → IsKeptOrDone s.files files (shard_path s.folder h) (pending_bytes s)
-  left_here told =
-      subst (λ (t : List ℕ). IsKeptOrDone s.files files (shard_path s.folder h) t) p.is (subst (λ (f : List ℕ). IsKeptOrDone s.files files (shard_path f h) encoding) p.same (p.left told))
+  -- it is as it was, or the whole shard
+  module _ (left : s.tells ≡ true → IsKeptOrDone s.files files (shard_path folder h) encoding) where
+    left_here : s.tells ≡ true → IsKeptOrDone s.files files (shard_path s.folder h) (pending_bytes s)
+    left_here told =
+        subst (λ (t : List ℕ). IsKeptOrDone s.files files (shard_path s.folder h) t) p.is (subst (λ (f : List ℕ). IsKeptOrDone s.files files (shard_path f h) encoding) p.same (left told))
 
-  put_stays : StateStays s tells files faults
-  put_stays =
-      stays_shard s folder h tells files faults p.sound p.same p.tells_same p.later p.new p.xorbs p.shards p.foreign
-      (left_there s h tells files faults p.sound p.is_hash hash_here p.shard p.fits xorbs_here left_here)
+    put_stays : StateStays s tells files faults
+    put_stays =
+        stays_shard s folder h tells files faults p.sound p.same p.tells_same p.later p.new p.xorbs p.shards p.foreign
+        (left_there s h tells files faults p.sound p.is_hash hash_here p.shard p.fits xorbs_here left_here)
 
-  module _ {xorbs : Xorbs} {records : FileRecords} {shards : List (List ℕ)} {pending : Held} (ex : xorbs ≡ s.xorbs) (er : records ≡ s.records) where
     -- after an error
-    module _ (es : shards ≡ s.shards) (ep : pending ≡ s.pending) where
+    module _ {xorbs : Xorbs} {records : FileRecords} {shards : List (List ℕ)} {pending : Held} (ex : xorbs ≡ s.xorbs) (er : records ≡ s.records) (es : shards ≡ s.shards) (ep : pending ≡ s.pending) where
       pub unput_sound : Sound (changed s tells files faults xorbs records shards pending)
       unput_sound = sound_refused s tells files faults put_stays p.sound (admitted_left s h tells files faults p.sound p.is_hash hash_here p.shard p.fits xorbs_here shards_here left_here) ex er es ep
 
@@ -396,34 +425,20 @@ module _ {s : State} {folder h encoding : List ℕ} {tells : Bool} {files : File
       pub unput_refused : (t : State) → s ≡ t → IsUnflushed t (changed s tells files faults xorbs records shards pending)
       unput_refused t e = unflushed_at s h tells files faults hash_here others_here left_here t e ex er es ep
 
+    pub put_keeps : {shards : List (List ℕ)} {pending : Held} → shards ≡ s.shards ++ h ∷ [] → pending ≡ nothing → (t : State) → s ≡ t → Keeps t (changed s tells files faults s.xorbs s.records shards pending)
+    put_keeps registered none t e = keeps_flushed_at s h tells files faults put_stays p.sound registered none t e
+
   -- done
-  module _ {shards : List (List ℕ)} {pending : Held} (registered : shards ≡ s.shards ++ h ∷ []) (none : pending ≡ nothing) (done : s.tells ≡ true → IsDone files (shard_path folder h) encoding) where
+  module _ (done : s.tells ≡ true → IsDone files (shard_path folder h) encoding) {shards : List (List ℕ)} {pending : Held} (registered : shards ≡ s.shards ++ h ∷ []) (none : pending ≡ nothing) where
     done_here : s.tells ≡ true → IsDone files (shard_path s.folder h) (pending_bytes s)
     done_here told = subst (λ (t : List ℕ). IsDone files (shard_path s.folder h) t) p.is (subst (λ (f : List ℕ). IsDone files (shard_path f h) encoding) p.same (done told))
 
+    done_stays : StateStays s tells files faults
+    done_stays = put_stays (λ told. inr (done told))
+
     pub put_sound : Sound (changed s tells files faults s.xorbs s.records shards pending)
-    put_sound = sound_flushed_at s h tells files faults put_stays p.sound registered none p.is_hash p.shard p.fits (λ told. (done_here told).there)
+    put_sound = sound_flushed_at s h tells files faults done_stays p.sound registered none p.is_hash p.shard p.fits (λ told. (done_here told).there)
         (λ told. admitted_put s h tells files faults p.sound p.is_hash hash_here p.shard p.fits xorbs_here shards_here told (done_here told))
 
-    pub put_keeps : (t : State) → s ≡ t → Keeps t (changed s tells files faults s.xorbs s.records shards pending)
-    put_keeps t e = keeps_flushed_at s h tells files faults put_stays p.sound registered none t e
-
     pub put_flushed : (t : State) → s ≡ t → IsFlushed t h (changed s tells files faults s.xorbs s.records shards pending)
-    put_flushed t e = is_flushed s h tells files faults put_stays p.sound registered none p.is_hash p.shard p.fits t e hash_here done_here others_here
-
--- ---- a hash that the test does not find is not registered
-
-or_false : (a b : Bool) → (a || b) ≡ false → (a ≡ false) × (b ≡ false)
-or_false true b e = absurd (cc e)
-or_false false b e = (refl, e)
-
-pub not_listed : (listed shards : List (List ℕ)) (h : List ℕ) → listed ≡ shards → list_any (λ k. pointwise nat_eq k h) listed ≡ false → Among shards h → ⊥
-not_listed listed shards h same none a = go shards (ap (list_any (λ k. pointwise nat_eq k h)) (sym same) ∙ none) a
-  where
-    go : (ks : List (List ℕ)) → list_any (λ k. pointwise nat_eq k h) ks ≡ false → Among ks h → ⊥
-    go [] e a = a
-    go (k ∷ ks) e (inl is) =
-        let both = or_false (pointwise nat_eq k h) (list_any (λ x. pointwise nat_eq x h) ks) e in
-        let t : pointwise nat_eq k h ≡ true = (bytes_decides k h).1 is in
-        let bad : true ≡ false = sym t ∙ both.0 in absurd (cc bad)
-    go (k ∷ ks) e (inr later) = go ks (or_false (pointwise nat_eq k h) (list_any (λ x. pointwise nat_eq x h) ks) e).1 later
+    put_flushed t e = is_flushed s h tells files faults done_stays p.sound registered none p.is_hash p.shard p.fits t e hash_here done_here others_here

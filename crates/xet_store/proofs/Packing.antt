@@ -1,10 +1,8 @@
 -- Chunks packed into xorbs, one xorb more at a time.
-use Rattle.std.proofs.Common.{◌≡◌, ◌∙◌, ℕ, zero, suc, ◌+◌, ◌-◌, ◌<◌, ◌≤◌, Bool, true, false, nat_le, List, [], ◌∷◌, ◌++◌, append_assoc, length, map, take, drop, get_or, min, inl, inr, refl, sym, ap, subst, arith}
+use Rattle.std.proofs.Common.{◌≡◌, ◌∙◌, ℕ, ◌-◌, ◌<◌, ◌≤◌, Bool, true, List, [], ◌∷◌, ◌++◌, append_assoc, length, map, take, drop, get_or, refl, sym, ap, subst, arith}
 use Rattle.std.proofs.lemmas.List.Elements.{All-from_recursion}
 use Rattle.std.specs.List.{AllByRecursion, sum_by}
-use Rattle.std.proofs.lemmas.Bool.{cases_lt, le-leb, leb-true}
-use Rattle.std.proofs.lemmas.List.{append-nil, drop-map, drop_all, drop_more, take_all, take_more, length-map, length-take-le, map-append, take-append-drop, take-map}
-use Rattle.std.proofs.lemmas.List.Sums.{sum_by-append, sum_by-cons}
+use Rattle.std.proofs.lemmas.List.{append-nil, drop-map, take_all, length-map, length-take-le, map-append, take-append-drop, take-map}
 use Rattle.xet_base.specs.theorems.Pieces.{pieces_none, pieces_step}
 use Rattle.xet_hash.specs.Merkle.{chunk_hash, leaves_of, total_len, xorb_hash}
 use Rattle.xet_xorb_chunk.specs.theorems.Grammar.{leaves_are}
@@ -107,6 +105,18 @@ packed_more first old new limits plan rest chunks n s more digests count some wi
           ∙ sym (map-append whole_segment before.blocks (block ∷ []));
       tables = added ∙ ap (λ (b : List (List ℕ)). with_xorb old b) (sym (take-map bytes_of_chunk n rest)) ∙ ap (λ (t : Tables). with_xorb t block) before.tables ∙ xorbs_push first before.blocks block;
     }
+
+-- the xorb that was added for them
+pub packed_next : {first : Tables} (old new : Tables) {limits : LimitSettings} {plan : List Segment} {rest chunks front : List Chunk} {n : ℕ} {s : Segment} {h : List ℕ} → Packed first old limits plan rest chunks
+    → ((k : List ℕ) (ms : List (List ℕ × ℕ)) → IsListed old.xorbs k ms → IsListed new.xorbs k ms) → AllByRecursion (λ c. c.hash ≡ chunk_hash c.bytes) rest
+    → n ≡ pack_len limits (map bytes_of_chunk rest) → 0 < n → n ≤ length rest → front ≡ take n rest → (h ≡ xorb_hash (map chunk_leaf front)) × IsListed new.xorbs h (map chunk_leaf front)
+    → s ≡ segment_of h front → new ≡ with_xorb old (map bytes_of_chunk front) → Packed first new limits (plan ++ s ∷ []) (drop n rest) chunks
+packed_next {first} old new {limits} {plan} {rest} {chunks} {n = n} {s = s} {h = h} before more digests count some within front_is listed made added =
+    let is_hash : s.xorb_hash ≡ h = ap (λ (x : Segment). x.xorb_hash) made in
+    let here = subst (λ (p : List Chunk). (h ≡ xorb_hash (map chunk_leaf p)) × IsListed new.xorbs h (map chunk_leaf p)) front_is listed in
+    packed_more first old new limits plan rest chunks n s more digests count some within
+    (is_hash ∙ here.0) (subst (λ (k : List ℕ). IsListed new.xorbs k (map chunk_leaf (take n rest))) (sym is_hash) here.1)
+    (made ∙ (λ i. segment_of (sym is_hash i) (front_is i))) (added ∙ ap (λ (p : List Chunk). with_xorb old (map bytes_of_chunk p)) front_is) before
 
 -- all are packed
 pub record PackedAll (before now : Tables) (limits : LimitSettings) (plan : List Segment) (chunks : List Chunk) : Type 0 where

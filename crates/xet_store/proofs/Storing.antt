@@ -128,3 +128,8 @@ pub left_some : {T E : Type 0} (tells : Bool) (left : List ℕ) (s : LimitSettin
     → new ≡ with_xorbs old (take n (packs s (chunking s bytes))) → OnErr r ((b : List ℕ) × (m : ℕ) × (tells ≡ true → b ≡ left) × (new ≡ with_xorbs old (take m (packs s (chunking s b)))))
 left_some tells left s old new bytes n (Ok x) told is = tt
 left_some tells left s old new bytes n (Err e) told is = (bytes, n, told, is)
+
+-- none is stored
+pub none_stored : {T E : Type 0} (tells : Bool) (left : List ℕ) (s : LimitSettings) (old : Tables) (r : Result T E)
+    → OnErr r ((b : List ℕ) × (m : ℕ) × (tells ≡ true → b ≡ left) × (old ≡ with_xorbs old (take m (packs s (chunking s b)))))
+none_stored tells left s old r = left_some tells left s old old left 0 r (λ told. refl) refl

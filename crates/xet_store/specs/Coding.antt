@@ -15,7 +15,7 @@ use Rattle.xet_shard_format.specs.declared.record.MDBXorbInfo.{MDBXorbInfo}
 use Rattle.xet_shard_format.specs.declared.record.XorbChunkSequenceEntry.{XorbChunkSequenceEntry}
 use Rattle.xet_shard.specs.Held.{Held}
 use Rattle.xet_folder.specs.Xorbs.{FileRecords, Xorbs}
-use Rattle.xet_store.specs.Store.{State}
+use Rattle.xet_store.specs.Store.{State, state}
 
 abbrev pub scheme_number : CompressionScheme → ℕ
 scheme_number scheme.None = 0
@@ -127,16 +127,5 @@ abbrev pub state_code : Coded State
 state_code = code_by ((Bool × (Files × ℕ)) × ((Bytes × (LimitSettings × ℕ)) × ((Xorbs × FileRecords) × (List Bytes × Held))))
     (coded× (coded× coded_bool (coded× (map.code bytes_code entry_code) coded_ℕ)) (coded× (coded× bytes_code (coded× limits_code coded_ℕ)) (coded× (coded× xorbs_code records_code) (coded× (coded_list bytes_code) held_code))))
     (λ s. ((s.tells, (s.files, s.faults)), ((s.folder, (s.limits, s.opened)), ((s.xorbs, s.records), (s.shards, s.pending)))))
-    (λ p. record {
-      tells = p.0.0;
-      files = p.0.1.0;
-      faults = p.0.1.1;
-      folder = p.1.0.0;
-      limits = p.1.0.1.0;
-      opened = p.1.0.1.1;
-      xorbs = p.1.1.0.0;
-      records = p.1.1.0.1;
-      shards = p.1.1.1.0;
-      pending = p.1.1.1.1;
-    })
+    (λ p. state p.0.0 p.0.1.0 p.0.1.1 p.1.0.0 p.1.0.1.0 p.1.0.1.1 p.1.1.0.0 p.1.1.0.1 p.1.1.1.0 p.1.1.1.1)
     (λ _. refl)

@@ -35,6 +35,10 @@ pub record State : Type 0 where
   pub shards : List (List ℕ)
   pub pending : Held
 
+-- the state of these parts
+abbrev pub state : Bool → Files → ℕ → List ℕ → LimitSettings → ℕ → Xorbs → FileRecords → List (List ℕ) → Held → State
+state t f n d l o xs rs hs p = record { tells = t; files = f; faults = n; folder = d; limits = l; opened = o; xorbs = xs; records = rs; shards = hs; pending = p }
+
 -- A pending record is the one recorded for its file, and its plan resolves to the chunk list of which it is
 -- the record.
 pub record IsPendingFile (xorbs : Xorbs) (records : FileRecords) (f : MDBFileInfo) : Type 0 where

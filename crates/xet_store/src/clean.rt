@@ -114,6 +114,7 @@ fn clean_all<D: Disk + Send, S: Source + Send>(
 }
 
 /// Reads a source to its end and stores its file. Errors name it as source 0.
+#[tactic(auto, using(crate::proofs::Storing::none_stored))]
 fn clean_source<D: Disk + Send, S: Source + Send>(
     session: &mut Store<D>,
     source: &mut S,

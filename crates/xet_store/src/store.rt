@@ -42,37 +42,15 @@ pub struct Store<D: Disk + Send> {
 
 impl<D: Disk + Send> Model for Store<D> {
     ghost use Rattle.xet_store.specs.Coding.{state_code};
-    ghost use Rattle.xet_store.specs.Store.{Sound, State};
+    ghost use Rattle.xet_store.specs.Store.{Sound, State, state};
 
     ghost Value = { State };
 
     ghost coded = { state_code };
 
-    ghost view = { λ s. record {
-      tells = D.tells s.disk;
-      files = D.files s.disk;
-      faults = D.faults s.disk;
-      folder = s.folder;
-      limits = s.limits;
-      opened = s.opened;
-      xorbs = s.xorbs.entries;
-      records = s.records.entries;
-      shards = s.shards.items;
-      pending = s.pending;
-    } };
+    ghost view = { λ s. state (D.tells s.disk) (D.files s.disk) (D.faults s.disk) s.folder s.limits s.opened s.xorbs.entries s.records.entries s.shards.items s.pending };
 
-    ghost invariant = { λ s. Sound (record {
-      tells = D.tells s.disk;
-      files = D.files s.disk;
-      faults = D.faults s.disk;
-      folder = s.folder;
-      limits = s.limits;
-      opened = s.opened;
-      xorbs = s.xorbs.entries;
-      records = s.records.entries;
-      shards = s.shards.items;
-      pending = s.pending;
-    }) };
+    ghost invariant = { λ s. Sound (state (D.tells s.disk) (D.files s.disk) (D.faults s.disk) s.folder s.limits s.opened s.xorbs.entries s.records.entries s.shards.items s.pending) };
 }
 
 impl<D: Disk + Send> Store<D> {

@@ -13,13 +13,16 @@ use Rattle.xet_store_cli.specs.Stored.{Works}
 
 -- ---- the statuses with which files may have changed
 
+pub none_of_six : (a b c d e f n status : ℕ) → status ≡ n → n ≢ a → n ≢ b → n ≢ c → n ≢ d → n ≢ e → n ≢ f → (status ≡ a) ⊎ (status ≡ b) ⊎ (status ≡ c) ⊎ (status ≡ d) ⊎ (status ≡ e) ⊎ (status ≡ f) → ⊥
+none_of_six a b c d e f n status is na nb nc nd ne nf (inl x) = na (sym is ∙ x)
+none_of_six a b c d e f n status is na nb nc nd ne nf (inr (inl x)) = nb (sym is ∙ x)
+none_of_six a b c d e f n status is na nb nc nd ne nf (inr (inr (inl x))) = nc (sym is ∙ x)
+none_of_six a b c d e f n status is na nb nc nd ne nf (inr (inr (inr (inl x)))) = nd (sym is ∙ x)
+none_of_six a b c d e f n status is na nb nc nd ne nf (inr (inr (inr (inr (inl x))))) = ne (sym is ∙ x)
+none_of_six a b c d e f n status is na nb nc nd ne nf (inr (inr (inr (inr (inr x))))) = nf (sym is ∙ x)
+
 not_idle : (n status : ℕ) → status ≡ n → n ≢ 2 → n ≢ 3 → n ≢ 4 → n ≢ 7 → n ≢ 8 → n ≢ 9 → IsIdle status → ⊥
-not_idle n status is a b c d e f (inl x) = a (sym is ∙ x)
-not_idle n status is a b c d e f (inr (inl x)) = b (sym is ∙ x)
-not_idle n status is a b c d e f (inr (inr (inl x))) = c (sym is ∙ x)
-not_idle n status is a b c d e f (inr (inr (inr (inl x)))) = d (sym is ∙ x)
-not_idle n status is a b c d e f (inr (inr (inr (inr (inl x))))) = e (sym is ∙ x)
-not_idle n status is a b c d e f (inr (inr (inr (inr (inr x))))) = f (sym is ∙ x)
+not_idle n status is a b c d e f idle = none_of_six 2 3 4 7 8 9 n status is a b c d e f idle
 
 pub busy_status : (status : ℕ) → (status ≡ 0) ⊎ (status ≡ 1) ⊎ (status ≡ 5) ⊎ (status ≡ 6) ⊎ (status ≡ 10) → IsIdle status → ⊥
 busy_status status (inl is) = not_idle 0 status is (λ e. omega arith) (λ e. omega arith) (λ e. omega arith) (λ e. omega arith) (λ e. omega arith) (λ e. omega arith)

@@ -18,6 +18,7 @@ use Rattle.xet_store_cli.specs.Ending.MayEnd.{early, malformed, refused, reporte
 use Rattle.xet_store_cli.specs.Parsing.{ForLines, Said, are_good, parted}
 use Rattle.xet_store_cli.specs.Report.{IsReport}
 use Rattle.xet_store_cli.specs.internal.Stops.{IsSaid}
+use Rattle.xet_store_cli.proofs.Answered.{none_of_six}
 use Rattle.xet_store_cli.proofs.Outcomes.{StandsAt}
 
 -- ---- lines that say what was read
@@ -89,12 +90,7 @@ module _ (s : LimitSettings) (input : List ℕ) (tells : Bool) (old new : Files)
 -- ---- the statuses at which something is printed
 
 no_silent : (n status : ℕ) → status ≡ n → n ≢ 2 → n ≢ 4 → n ≢ 6 → n ≢ 8 → n ≢ 9 → n ≢ 10 → IsSilent status → ⊥
-no_silent n status is a b c d e f (inl x) = a (sym is ∙ x)
-no_silent n status is a b c d e f (inr (inl x)) = b (sym is ∙ x)
-no_silent n status is a b c d e f (inr (inr (inl x))) = c (sym is ∙ x)
-no_silent n status is a b c d e f (inr (inr (inr (inl x)))) = d (sym is ∙ x)
-no_silent n status is a b c d e f (inr (inr (inr (inr (inl x))))) = e (sym is ∙ x)
-no_silent n status is a b c d e f (inr (inr (inr (inr (inr x))))) = f (sym is ∙ x)
+no_silent n status is a b c d e f silent = none_of_six 2 4 6 8 9 10 n status is a b c d e f silent
 
 told_status : (status : ℕ) → (status ≡ 0) ⊎ (status ≡ 1) ⊎ (status ≡ 3) ⊎ (status ≡ 5) ⊎ (status ≡ 7) → IsSilent status → ⊥
 told_status status (inl is) = no_silent 0 status is (λ e. omega arith) (λ e. omega arith) (λ e. omega arith) (λ e. omega arith) (λ e. omega arith) (λ e. omega arith)
@@ -208,15 +204,7 @@ module _ (command : Option Command) (input_tells : Bool) (input : List ℕ) (now
         → Reports command input tells files now before after
     report_of files o report (inl (is, wrote)) told nought =
         let said = report (sym is ∙ nought) in
-        record {
-          settings = said.settings;
-          said = said.said;
-          is_pack = said.is_pack;
-          good = said.good;
-          ranges_good = said.ranges_good;
-          text = said.text;
-          report = said.report;
-          written = wrote told ∙ ap (λ (t : List ℕ). before ++ t) said.written;
-        }
+        let written_is = wrote told ∙ ap (λ (t : List ℕ). before ++ t) said.written in
+        record { settings = said.settings; said = said.said; is_pack = said.is_pack; good = said.good; ranges_good = said.ranges_good; text = said.text; report = said.report; written = written_is }
     report_of files o report (inr (inl one, some, wrote)) told nought = absurd (omega arith)
     report_of files o report (inr (inr five, some, wrote)) told nought = absurd (omega arith)

@@ -32,7 +32,7 @@ answer_outcome (Err Malformed) = outcome 10 []
 answer_outcome (Err (BadLine n)) = outcome 3 (bad_line_text n)
 answer_outcome (Err (BadShard name)) = outcome 7 (bad_shard_text name)
 
--- For each stop but out of memory: what is then the case.
+-- For each stop but out of memory: the condition under which it may be returned.
 pub record Causes : Type 1 where
   pub input : Type 0
   pub too_large : Type 0
@@ -42,7 +42,7 @@ pub record Causes : Type 1 where
   pub bad_shard : List ℕ → Type 0
   pub malformed : Type 0
 
--- A stop comes only if its cause is the case. Out of memory may always come.
+-- A stop is returned only if its condition holds. Out of memory may always be returned.
 abbrev pub IsStop : Causes → Stop → Type 0
 IsStop causes OutOfMemory = Unit {0}
 IsStop causes Input = causes.input

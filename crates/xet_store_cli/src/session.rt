@@ -1,11 +1,11 @@
 //! Storing the files of some lines in a session, and reporting them and their ranges.
 
-ghost use Rattle.std.specs.Prelude.{◌≡◌, ◌≤◌, ◌<◌, ◌++◌, ℕ, List, true, length, map, All, IfErr, IfOk, OnOk, IsErrOf, IsOkUnless};
 ghost use Rattle.std.specs.List.{AllByRecursion, flat_map};
-ghost use Rattle.xet_io.specs.Faults.{HasCause};
-ghost use Rattle.xet_folder.specs.Contents.{HasContents};
-ghost use Rattle.xet_store.specs.Cleaning.{HasFile, Keeps, info_of};
+ghost use Rattle.std.specs.Prelude.{◌≡◌, ◌≤◌, ◌<◌, ◌++◌, ℕ, List, true, length, map, All, IfErr, IfOk, OnOk, IsErrOf, IsOkUnless};
 ghost use Rattle.xet_cut.specs.Chunking.{chunking};
+ghost use Rattle.xet_folder.specs.Contents.{HasContents};
+ghost use Rattle.xet_io.specs.Faults.{HasCause};
+ghost use Rattle.xet_store.specs.Cleaning.{HasFile, Keeps, info_of};
 ghost use Rattle.xet_store.specs.Opening.{contents_of};
 ghost use Rattle.xet_store.specs.Ranges.{IsUnchanged};
 ghost use Rattle.xet_store.specs.Separate.{Separate};
@@ -14,10 +14,10 @@ ghost use Rattle.xet_store.specs.Tables.{tables_of, with_files};
 ghost use Rattle.xet_store_cli.specs.Outcome.{AreSeparate, store_folder};
 ghost use Rattle.xet_store_cli.specs.Parsing.{ForLines, are_good};
 ghost use Rattle.xet_store_cli.specs.Report.{IsReport, info_line};
-ghost use Rattle.xet_store_cli.specs.internal.Steps.{AreRead, IsLineRead, IsSettled};
 ghost use Rattle.xet_store_cli.specs.Steps.{MakesIn};
 ghost use Rattle.xet_store_cli.specs.Stops.{IsStop, range_causes, session_causes};
 ghost use Rattle.xet_store_cli.specs.Stored.{Records, Stores};
+ghost use Rattle.xet_store_cli.specs.internal.Steps.{AreRead, IsLineRead, IsSettled};
 
 use crate::ending::Stop;
 use crate::lines::{FileRange, PackLines};

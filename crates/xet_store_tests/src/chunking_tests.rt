@@ -25,10 +25,9 @@ fn takes_the_shown_settings(rt: HostRuntime) -> Result<(), Fail> {
     Ok(())
 }
 
-#[test]
-fn refuses_lengths_out_of_range(rt: HostRuntime) {
-    let shown = LimitSettings::shown([0; 256]);
-    for (settings, field) in [
+/// Settings with a length out of its range, and the field that is refused.
+fn lengths_out_of_range(shown: LimitSettings) -> [(LimitSettings, Field); 12] {
+    [
         (
             LimitSettings {
                 target_chunk: 64,
@@ -113,18 +112,12 @@ fn refuses_lengths_out_of_range(rt: HostRuntime) {
             },
             Field::MaxSourceBytes,
         ),
-    ] {
-        assert_eq!(rt;
-            Limits::new(settings).err(),
-            Some(StoreError::BadLimits(field))
-        );
-    }
+    ]
 }
 
-#[test]
-fn refuses_counts_and_schemes_out_of_range(rt: HostRuntime) {
-    let shown = LimitSettings::shown([0; 256]);
-    for (settings, field) in [
+/// Settings with a count, a range or a scheme out of its range, and the field that is refused.
+fn counts_out_of_range(shown: LimitSettings) -> [(LimitSettings, Field); 10] {
+    [
         (
             LimitSettings {
                 cut_chunks: 0,
@@ -195,7 +188,19 @@ fn refuses_counts_and_schemes_out_of_range(rt: HostRuntime) {
             },
             Field::Scheme,
         ),
-    ] {
+    ]
+}
+
+#[test]
+fn refuses_settings_out_of_range(rt: HostRuntime) {
+    let shown = LimitSettings::shown([0; 256]);
+    for (settings, field) in lengths_out_of_range(shown) {
+        assert_eq!(rt;
+            Limits::new(settings).err(),
+            Some(StoreError::BadLimits(field))
+        );
+    }
+    for (settings, field) in counts_out_of_range(shown) {
         assert_eq!(rt;
             Limits::new(settings).err(),
             Some(StoreError::BadLimits(field))

@@ -105,8 +105,7 @@ fn shows_nothing(
 fn cleans_nothing(alloc: Global) -> Result<(bool, bool, u64, usize), StoreError> {
     let (mut session, info) = made(alloc, b"")?;
     let answer = shows_nothing(&mut session, hash_of(&info));
-    session.close();
-    answer
+    session.closed(answer)
 }
 
 #[test]
@@ -167,8 +166,7 @@ fn cleans_two(alloc: Global) -> Result<(bool, bool, u64, usize), StoreError> {
     let before = planned(&session, &first);
     let (session, second) = session.clean(&[0; 200]);
     let answer = shows_two(&session, &first, before, &second);
-    session.close();
-    answer
+    session.closed(answer)
 }
 
 #[test]

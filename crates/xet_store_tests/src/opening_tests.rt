@@ -64,8 +64,7 @@ fn right_ranges(
 fn reads_ranges(alloc: Global) -> Result<u32, StoreError> {
     let (mut session, hashes) = reopened(alloc)?;
     let answer = right_ranges(&mut session, hashes);
-    session.close();
-    answer
+    session.closed(answer)
 }
 
 #[test]
@@ -99,8 +98,7 @@ fn errors(
 fn refuses_ranges(alloc: Global) -> Result<[Option<StoreError>; 4], StoreError> {
     let (mut session, hashes) = reopened(alloc)?;
     let answer = errors(&mut session, hashes);
-    session.close();
-    answer
+    session.closed(answer)
 }
 
 #[test]
@@ -165,8 +163,7 @@ fn opens_three(alloc: Global) -> Result<(bool, bool, bool, u64), StoreError> {
     let (disk, abc) = three_shards(alloc)?;
     let mut session = Session::open(alloc, disk)?;
     let answer = shows_abc(&mut session, abc);
-    session.close();
-    answer
+    session.closed(answer)
 }
 
 #[test]
@@ -327,8 +324,7 @@ fn reads_older_xorb(alloc: Global) -> Result<bool, StoreError> {
     let put = put_older_xorb(alloc, &mut disk);
     let mut session = Session::open(alloc, disk)?;
     let answer = reads_abc(&mut session, abc, put);
-    session.close();
-    answer
+    session.closed(answer)
 }
 
 #[test]

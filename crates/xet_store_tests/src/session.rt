@@ -89,9 +89,10 @@ impl Session {
         self.store.into_disk()
     }
 
-    /// Closes the session and drops the disk.
-    pub fn close(self) {
+    /// Closes the session, drops the disk, and returns an answer that was taken before.
+    pub fn closed<T>(self, answer: T) -> T {
         let _disk = self.store.into_disk();
+        answer
     }
 }
 

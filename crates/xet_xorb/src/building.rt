@@ -43,11 +43,7 @@ impl SerializedXorbObject {
     /// are those of the chunks.
     ///
     /// The memory for the encoding is allocated once. The only error is `OutOfMemory`.
-    pub fn from_xorb(
-        alloc: Global,
-        xorb: RawXorbData,
-        footer: bool,
-    ) -> Result<SerializedXorbObject, StoreError>
+    pub fn from_xorb(alloc: Global, xorb: RawXorbData, footer: bool) -> Result<Self, StoreError>
         requires { IsRaw xorb }
         ensures built { IfOk result (λ made. made ≡ built_of xorb footer) }
         ensures grammar { footer ≡ true → 0 < length xorb.parts → raw_leaves xorb ≡ leaves_of xorb.parts → xorb.xorb_info.metadata.xorb_hash ≡ xorb_hash (leaves_of xorb.parts)

@@ -4,6 +4,7 @@ ghost use Rattle.std.specs.Prelude.{◌≡◌, ◌≤◌, ◌<◌, ◌+◌, ◌*
 ghost use Rattle.xet_hash.specs.Merkle.{total_len};
 ghost use Rattle.xet_xorb_footer.specs.FooterEncoding.{HasLists, HasShortLists, max_chunks};
 ghost use Rattle.xet_xorb.specs.Footer.{ends_from, standard_footer_v0, footer_v1};
+ghost use Rattle.xet_xorb.specs.internal.Checking.{FitsFooter};
 
 use std::alloc::Global;
 use xet_hash::{MerkleHash, StoreError};
@@ -101,8 +102,7 @@ pub(crate) fn new_footer_v0(
     leaves: &[(MerkleHash, u64)],
     spare: [u8; 16],
 ) -> Result<XorbObjectInfoV0, StoreError>
-    requires few { length leaves.now ≤ max_chunks }
-    requires bound { total_len leaves.now + 8 * length leaves.now < 2 ^ 32 }
+    requires { FitsFooter leaves.now }
     ensures footer { IfOk result (λ footer. footer ≡ standard_footer_v0 hash.now leaves.now spare) }
     ensures hashes { IfOk result (λ footer. length footer.chunk_hashes ≤ max_chunks) }
     ensures stored { IfOk result (λ footer. length footer.chunk_boundary_offsets ≤ max_chunks) }

@@ -1,19 +1,20 @@
 //! A xorb's footer together with its length.
 
 ghost use Rattle.std.specs.Prelude.{◌≡◌, ◌*◌, ◌+◌, ◌⊎◌, ℕ, ◌++◌, Ok, Err, true, IfErr, IfOk, IsErrOf, IsOkUnless, OnOk, length, take};
+ghost use Rattle.xet_io.specs.Frame.{Called, ReadFrom};
 ghost use Rattle.xet_hash.specs.declared.error.Place.TheVariants.{Input, Output};
 ghost use Rattle.xet_hash.specs.declared.error.Reason.TheVariants.{InfoLength, ListLength};
 ghost use Rattle.xet_hash.specs.declared.error.StoreError.TheVariants.{Io, MalformedData, OutOfMemory, UnexpectedEof};
+ghost use Rattle.xet_codec.specs.Numbers.{number};
 ghost use Rattle.xet_xorb_footer.specs.Ends.{last_footer, footer_length};
 ghost use Rattle.xet_xorb_footer.specs.Errors.{IsFooterError};
 ghost use Rattle.xet_xorb_footer.specs.FooterEncoding.{HasLists, HasShortLists, empty_v1, length_of, footer_bytes_v1};
-ghost use Rattle.xet_codec.specs.Numbers.{number};
-ghost use Rattle.xet_io.specs.Frame.{Called, ReadFrom};
 
 use serde::Serialize;
 use std::alloc::Global;
-use xet_hash::{Place, StoreError};
-use xet_io::{ReadAt, Refusal, Sink, write_all};
+use xet_codec::write_piece;
+use xet_hash::StoreError;
+use xet_io::{ReadAt, Sink};
 use xet_xorb_footer::{XorbObjectInfoV1, footer_length, last_footer};
 
 /// A xorb's footer, and its length in the xorb.
@@ -102,10 +103,7 @@ impl XorbObject {
         ensures frame { Called W.tells W.faults sink.old sink.new (IsErrOf result (Io Output)) }
     {
         let count = info.serialize(sink)?;
-        match write_all(sink, &(count as u32).to_le_bytes()) {
-            Ok(()) => Ok((XorbObject::from_info(info), count + 4)),
-            Err(Refusal::Failed) => Err(StoreError::Io(Place::Output)),
-            Err(Refusal::OutOfMemory) => Err(StoreError::OutOfMemory),
-        }
+        write_piece(sink, &(count as u32).to_le_bytes())?;
+        Ok((XorbObject::from_info(info), count + 4))
     }
 }

@@ -45,7 +45,7 @@ impl XorbObject {
         ensures frame { ReadFrom R.bytes R.tells R.faults R.lent reader.old reader.new (IsErrOf result (Io Input)) }
     {
         let end = self.get_contents_length()?;
-        read_plain(alloc, reader, 0, end, max_chunk)
+        read_plain(alloc, reader, (0, end), max_chunk)
     }
 
     /// Reads the uncompressed bytes of the chunks `start..end`, as `get_all_bytes` does. Only the two offsets
@@ -70,7 +70,7 @@ impl XorbObject {
     {
         let (from, to) = self.get_byte_offset(start, end)?;
         check_order(from, to)?;
-        read_plain(alloc, reader, from, to, max_chunk)
+        read_plain(alloc, reader, (from, to), max_chunk)
     }
 }
 
@@ -86,21 +86,21 @@ fn check_order(from: u32, to: u32) -> Result<(), StoreError>
 }
 
 /// Reads the uncompressed bytes of the chunks that are stored between two offsets. Errors: `UnexpectedEof` if
-/// the reader ends before `to`, the first check of the chunks that fails, `Io(Input)` and `OutOfMemory`.
+/// the reader ends before the second, the first check of the chunks that fails, `Io(Input)` and `OutOfMemory`.
 fn read_plain<R: ReadAt>(
     alloc: Global,
     reader: &mut R,
-    from: u32,
-    to: u32,
+    range: (u32, u32),
     max_chunk: u32,
 ) -> Result<Vec<u8>, StoreError>
     requires max_chunk { max_chunk < 2 ^ 23 }
-    requires order { from ≤ to }
-    ensures bytes { R.tells reader.old ≡ true → IfOk result (λ plain. ReadsPlain max_chunk (R.bytes reader.old) (in_file (length (R.bytes reader.old)) (Ok (from, to))) (Ok plain.items)) }
-    ensures refused { R.tells reader.old ≡ true → IfErr result (λ e. ReadsPlain max_chunk (R.bytes reader.old) (in_file (length (R.bytes reader.old)) (Ok (from, to))) (Err e) ⊎ StopsReading e) }
+    requires order { range.0 ≤ range.1 }
+    ensures bytes { R.tells reader.old ≡ true → IfOk result (λ plain. ReadsPlain max_chunk (R.bytes reader.old) (in_file (length (R.bytes reader.old)) (Ok (range.0, range.1))) (Ok plain.items)) }
+    ensures refused { R.tells reader.old ≡ true → IfErr result (λ e. ReadsPlain max_chunk (R.bytes reader.old) (in_file (length (R.bytes reader.old)) (Ok (range.0, range.1))) (Err e) ⊎ StopsReading e) }
     ensures kinds { IfErr result (λ e. IsCheck e ⊎ StopsReading e) }
     ensures frame { ReadFrom R.bytes R.tells R.faults R.lent reader.old reader.new (IsErrOf result (Io Input)) }
 {
+    let (from, to) = range;
     if reader_length(reader)? < to as u64 {
         return Err(StoreError::UnexpectedEof);
     }

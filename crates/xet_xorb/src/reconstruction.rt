@@ -17,8 +17,9 @@ ghost use Rattle.xet_io.specs.Frame.{Called};
 use crate::footers::new_footer;
 use crate::object::XorbObject;
 use std::alloc::Global;
-use xet_hash::{MerkleHash, Place, Reason, StoreError, compute_data_hash, xorb_hash};
-use xet_io::{Refusal, Sink, write_all};
+use xet_codec::write_piece;
+use xet_hash::{MerkleHash, Reason, StoreError, compute_data_hash, xorb_hash};
+use xet_io::Sink;
 use xet_xorb_chunk::{XORB_CHUNK_HEADER_LENGTH, chunk_len};
 use xet_xorb_footer::XorbObjectInfoV1;
 
@@ -126,21 +127,7 @@ fn write_with_footer<W: Sink>(
     ensures refused { IfErr result StopsWriting }
     ensures frame { Called W.tells W.faults sink.old sink.new (IsErrOf result (Io Output)) }
 {
-    write_stored(sink, stored)?;
+    write_piece(sink, stored)?;
     let (object, _) = XorbObject::serialize_given_info(sink, footer)?;
     Ok(object)
-}
-
-/// Writes stored chunks. Errors: `Io(Output)` and `OutOfMemory`, with a prefix of the bytes written.
-fn write_stored<W: Sink>(sink: &mut W, stored: &[u8]) -> Result<(), StoreError>
-    ensures written { W.tells sink.old ≡ true → OnOk result (W.written sink.new ≡ W.written sink.old ++ stored.now) }
-    ensures prefix { W.tells sink.old ≡ true → (n : ℕ) × (W.written sink.new ≡ W.written sink.old ++ take n stored.now) }
-    ensures refused { IfErr result StopsWriting }
-    ensures frame { Called W.tells W.faults sink.old sink.new (IsErrOf result (Io Output)) }
-{
-    match write_all(sink, stored) {
-        Ok(()) => Ok(()),
-        Err(Refusal::Failed) => Err(StoreError::Io(Place::Output)),
-        Err(Refusal::OutOfMemory) => Err(StoreError::OutOfMemory),
-    }
 }

@@ -60,7 +60,7 @@ impl XorbObject {
     ) -> Result<Option<XorbObject>, StoreError>
         requires max_chunk { max_chunk < 2 ^ 23 }
         ensures valid { R.tells reader.old ≡ true → IfOk result (λ found. IfSome found (λ object. (chunks : List (List ℕ)) × IsValid max_chunk hash.now (R.bytes reader.old) chunks object)) }
-        ensures footer { IfOk result (λ found. IfSome found (IsFooterOf hash.now)) }
+        ensures footer { IfOk result (λ found. IfSome found (IsFooterOf max_chunk hash.now)) }
         ensures read { R.tells reader.old ≡ true → IfOk result (λ found. IfSome found (λ object. last_footer (R.bytes reader.old) ≡ Ok (object.info, object.info_length))) }
         ensures none { R.tells reader.old ≡ true → IfOk result (λ found. IsNone found → (chunks : List (List ℕ)) → IsXorbOf max_chunk hash.now (R.bytes reader.old) chunks → ⊥) }
         ensures errors { IfErr result StopsReading }
@@ -123,6 +123,7 @@ fn stored_leaves<R: ReadAt>(
     requires end { end ≤ len }
     requires len { len < 2 ^ 32 }
     ensures size { IfOk result (λ found. IfSome found (λ leaves. total_len leaves.items + 8 * length leaves.items ≡ end)) }
+    ensures fit { IfOk result (λ found. IfSome found (λ leaves. AllByRecursion (λ m. m.1 ≤ max_chunk) leaves.items)) }
     ensures found { (bytes : List ℕ) → Sees (R.tells reader.old) (R.bytes reader.old) bytes len block.old → IfOk result (λ found. IfSome found (λ leaves. HaveLeaves max_chunk (take end bytes) leaves.items)) }
     ensures none { (bytes : List ℕ) → Sees (R.tells reader.old) (R.bytes reader.old) bytes len block.old → IfOk result (λ found. IsNone found → (chunks : List (List ℕ)) → AreChunks max_chunk (take end bytes) chunks → ⊥) }
     ensures part { (bytes : List ℕ) → Sees (R.tells reader.old) (R.bytes reader.old) bytes len block.old → IfOk result (λ found. IfSome found (λ _. IsPart block.new bytes)) }
@@ -157,6 +158,7 @@ fn leaf_at<R: ReadAt>(
     requires end { end ≤ len }
     requires len { len < 2 ^ 32 }
     ensures within { IfOk result (λ found. IfSome found (λ leaf. at + (8 + leaf.1) ≤ end)) }
+    ensures fits { IfOk result (λ found. IfSome found (λ leaf. leaf.1 ≤ max_chunk)) }
     ensures found { (bytes : List ℕ) → Sees (R.tells reader.old) (R.bytes reader.old) bytes len block.old → IfOk result (λ found. IfSome found (λ leaf. (chunk : List ℕ) × IsStoredAt max_chunk bytes at end chunk × (leaf ≡ leaf_of chunk))) }
     ensures none { (bytes : List ℕ) → Sees (R.tells reader.old) (R.bytes reader.old) bytes len block.old → IfOk result (λ found. IsNone found → (chunk : List ℕ) → IsStoredAt max_chunk bytes at end chunk → ⊥) }
     ensures part { (bytes : List ℕ) → Sees (R.tells reader.old) (R.bytes reader.old) bytes len block.old → IfOk result (λ found. IfSome found (λ _. IsPart block.new bytes)) }
@@ -295,7 +297,7 @@ fn checked_object<R: ReadAt>(
     requires some { 60 ≤ told }
     requires bound { start + told + 4 < 2 ^ 32 }
     requires size { total_len leaves.now + 8 * length leaves.now ≡ start }
-    ensures footer { IfOk result (λ found. IfSome found (λ object. (version : Version) × (spare : List ℕ) × (object ≡ object_of version hash.now leaves.now spare))) }
+    ensures footer { IfOk result (λ found. IfSome found (λ object. (version : Version) × (spare : List ℕ) × (length spare ≡ 16) × (object ≡ object_of version hash.now leaves.now spare))) }
     ensures found { (bytes : List ℕ) → Sees (R.tells reader.old) (R.bytes reader.old) bytes (start + told + 4) block.old → AllByRecursion (λ m. length m.0 ≡ 32) leaves.now → length hash.now ≡ 32 → IfOk result (λ found. IfSome found (IsEnding hash.now leaves.now (drop start bytes))) }
     ensures none { (bytes : List ℕ) → Sees (R.tells reader.old) (R.bytes reader.old) bytes (start + told + 4) block.old → AllByRecursion (λ m. length m.0 ≡ 32) leaves.now → length hash.now ≡ 32 → IfOk result (λ found. IsNone found → (object : _) → IsEnding hash.now leaves.now (drop start bytes) object → ⊥) }
     ensures errors { IfErr result StopsReading }
@@ -341,7 +343,7 @@ fn ending_of(
     }
     if told as u64 == EMPTY_V0 + EACH_V0 * count {
         let info = new_footer_v0(alloc, hash, leaves, spare)?;
-        let mut encoding = text_of_v0(alloc, &info)?;
+        let mut encoding = encoding_of_v0(alloc, &info)?;
         encoding.extend_from_slice(&told.to_le_bytes())?;
         return Ok(Some((XorbObjectInfoV1::from_v0(info), encoding)));
     }
@@ -356,25 +358,21 @@ fn encoding_of(alloc: Global, info: &XorbObjectInfoV1) -> Result<Vec<u8>, StoreE
     ensures memory { IsOkUnless result StoreError.OutOfMemory }
 {
     let mut sink = MemorySink::new(alloc);
-    match info.serialize(&mut sink) {
-        Ok(_) => Ok(sink.into_bytes()),
-        Err(_) => Err(StoreError::OutOfMemory),
-    }
+    info.serialize(&mut sink).or(Err(StoreError::OutOfMemory))?;
+    Ok(sink.into_bytes())
 }
 
 /// The encoding of a footer of version 0. Every error is returned as `OutOfMemory`: a sink in memory has no
 /// other.
-fn text_of_v0(alloc: Global, info: &XorbObjectInfoV0) -> Result<Vec<u8>, StoreError>
+fn encoding_of_v0(alloc: Global, info: &XorbObjectInfoV0) -> Result<Vec<u8>, StoreError>
     requires hashes { length info.now.chunk_hashes ≤ max_chunks }
     requires stored { length info.now.chunk_boundary_offsets ≤ max_chunks }
     ensures encoding { IfOk result (λ encoding. encoding.items ≡ footer_bytes_v0 info.now) }
     ensures memory { IsOkUnless result StoreError.OutOfMemory }
 {
     let mut sink = MemorySink::new(alloc);
-    match info.serialize(&mut sink) {
-        Ok(_) => Ok(sink.into_bytes()),
-        Err(_) => Err(StoreError::OutOfMemory),
-    }
+    info.serialize(&mut sink).or(Err(StoreError::OutOfMemory))?;
+    Ok(sink.into_bytes())
 }
 
 /// Whether the bytes `encoding` are at offset `at` of `len` bytes. Errors: `Io(Input)` and `OutOfMemory`.

@@ -1,5 +1,5 @@
 -- What is at hand, filled up from a piece to a whole chunk.
-use Rattle.std.proofs.Common.{◌≡◌, ◌∙◌, ◌⊎◌, ℕ, ◌+◌, ◌-◌, ◌≤◌, List, [], ◌++◌, length, take, drop, slice_range, Ok, Some, sym, ap, subst, inl, inr, refl, arith, length-append, length-drop}
+use Rattle.std.proofs.Common.{◌≡◌, ◌∙◌, ◌⊎◌, ℕ, ◌+◌, ◌-◌, ◌≤◌, List, [], ◌++◌, length, take, drop, slice_range, Ok, Option, Some, sym, ap, subst, inl, inr, refl, arith, length-append, length-drop}
 use Rattle.std.proofs.lemmas.List.{append-nil, drop_at, length-take-le}
 use Rattle.xet_hash.specs.declared.error.StoreError.{StoreError}
 use Rattle.xet_hash.specs.declared.error.StoreError.TheVariants.{OutOfMemory}
@@ -41,6 +41,13 @@ completes_one max_chunk old held piece n len e shows gathers =
       within = omega (arith, ap length bytes, length-append held (drop n piece));
       size = size;
     }
+
+-- by what is seen of it
+pub completes_seen : (max_chunk : ℕ) (old seen held items piece : List ℕ) (n len : ℕ) (found : Option ℕ) → seen ≡ items → held ≡ items → items ≡ old ++ take n piece → found ≡ Some len → ShowsPrefix max_chunk seen (Ok found)
+    → Gathers max_chunk items piece n → Completes max_chunk (old ++ piece) held (drop n piece) len
+completes_seen max_chunk old seen held items piece n len found first is bytes some shows gathers =
+    let whole = subst (λ (b : List ℕ). ShowsPrefix max_chunk b (Ok (Some len))) (first ∙ sym is) (subst (λ (o : Option ℕ). ShowsPrefix max_chunk seen (Ok o)) some shows) in
+    completes_one max_chunk old held piece n len (is ∙ bytes) whole (subst (λ (b : List ℕ). Gathers max_chunk b piece n) (sym is) gathers)
 
 -- there was no memory, and nothing was written
 pub refuses_memory : (max_chunk total : ℕ) (bytes : List ℕ) (told : Type 0) (now : List ℕ) (e : StoreError) → StopsWriting e → FailsPassing max_chunk total bytes told now now e

@@ -9,10 +9,15 @@ use Rattle.xet_io.specs.Whole.{Fills, FillsWith}
 use Rattle.xet_xorb_chunk.specs.Header.{Header}
 use Rattle.xet_xorb_chunk.specs.Checks.{IsCheck}
 use Rattle.xet_codec.specs.Stops.{StopsReading, StopsWriting}
+use Rattle.xet_base.specs.theorems.Written.{block_fed}
 use Rattle.xet_xorb_chunk.specs.Taking.{TakesFailedChunk, TakesFailedHeader, TakesPrefix, header_in}
 
 pub taken_prefix : (left prefix rest : List ℕ) → left ≡ prefix ++ rest → TakesPrefix left rest
 taken_prefix left prefix rest e = (length prefix, sym (ap (drop (length prefix)) e ∙ drop_at prefix rest (length prefix) refl))
+
+-- the bytes that were fed, and those of a block after them
+pub block_prefix : (left fed from block rest : List ℕ) (count : ℕ) → left ≡ fed ++ from → from ≡ take count block ++ rest → TakesPrefix left rest
+block_prefix left fed from block rest count is next = taken_prefix left (fed ++ take count block) rest (block_fed left fed from block rest count is next)
 
 -- a prefix, and then another
 pub prefix_then : (left middle rest : List ℕ) → TakesPrefix left middle → TakesPrefix middle rest → TakesPrefix left rest

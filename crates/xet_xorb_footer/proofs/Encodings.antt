@@ -3,6 +3,7 @@ use Rattle.std.proofs.Common.{◌≡◌, ◌∙◌, ℕ, ◌*◌, List, [], ◌�
 use Rattle.std.proofs.lemmas.List.{append-nil}
 use Rattle.xet_xorb_footer.specs.declared.info.XorbObjectInfoV0.{XorbObjectInfoV0}
 use Rattle.xet_xorb_footer.specs.declared.info.XorbObjectInfoV1.{XorbObjectInfoV1}
+use Rattle.xet_xorb_footer.proofs.Puts.{Begins}
 use Rattle.xet_codec.specs.Numbers.{joined, number, numbers}
 use Rattle.xet_xorb_footer.specs.FooterEncoding.{footer_bytes_v0, footer_bytes_v1}
 
@@ -11,14 +12,18 @@ use Rattle.xet_xorb_footer.specs.FooterEncoding.{footer_bytes_v0, footer_bytes_v
 abbrev pub head_v0 : XorbObjectInfoV0 → List ℕ → List ℕ → List ℕ
 head_v0 i hash count = i.ident ++ ((i.version ∷ []) ++ (hash ++ (count ++ [])))
 
-pub parts_v0 : (i : XorbObjectInfoV0) (hash count ends : List ℕ) (hashes : List (List ℕ)) → hash ≡ i.xorb_hash → count ≡ number i.num_chunks → ends ≡ i.chunk_boundary_offsets → hashes ≡ i.chunk_hashes
-    → head_v0 i hash count ++ (numbers ends ++ (joined hashes ++ i.spare)) ≡ footer_bytes_v0 i
+abbrev pub begun_v0 : XorbObjectInfoV0 → List ℕ
+begun_v0 i = head_v0 i i.xorb_hash (number i.num_chunks)
+
+pub is_begun_v0 : (i : XorbObjectInfoV0) {hash count : List ℕ} → hash ≡ i.xorb_hash → count ≡ number i.num_chunks → head_v0 i hash count ≡ begun_v0 i
+is_begun_v0 i {hash} {count} is_hash is_count = ap (λ (x : List ℕ). head_v0 i x count) is_hash ∙ ap (λ (x : List ℕ). head_v0 i i.xorb_hash x) is_count
+
+pub encoded_v0 : (i : XorbObjectInfoV0) → ((begun_v0 i ++ numbers i.chunk_boundary_offsets) ++ joined i.chunk_hashes) ++ i.spare ≡ footer_bytes_v0 i
 unfolding footer_bytes_v0
-parts_v0 i hash count ends hashes is_hash is_count is_ends is_hashes =
-    ap (λ (x : _). head_v0 i x count ++ (numbers ends ++ (joined hashes ++ i.spare))) is_hash ∙ ap (λ (x : _). head_v0 i i.xorb_hash x ++ (numbers ends ++ (joined hashes ++ i.spare))) is_count
-    ∙ ap (λ (x : _). head_v0 i i.xorb_hash (number i.num_chunks) ++ (numbers x ++ (joined hashes ++ i.spare))) is_ends
-    ∙ ap (λ (x : _). head_v0 i i.xorb_hash (number i.num_chunks) ++ (numbers i.chunk_boundary_offsets ++ (joined x ++ i.spare))) is_hashes
-    ∙ simp (append_assoc, append-nil)
+encoded_v0 i = simp (append_assoc, append-nil)
+
+pub begins_v0 : (i : XorbObjectInfoV0) → Begins ((begun_v0 i ++ numbers i.chunk_boundary_offsets) ++ joined i.chunk_hashes) (footer_bytes_v0 i)
+begins_v0 i = (i.spare, encoded_v0 i)
 
 -- ---- version 1
 
@@ -31,15 +36,25 @@ middle_v1 i count = i.ident_boundary_section ++ ((i.boundaries_version ∷ []) +
 abbrev pub end_v1 : XorbObjectInfoV1 → List ℕ → List ℕ → List ℕ → List ℕ
 end_v1 i count hashes boundaries = count ++ (hashes ++ (boundaries ++ (i.spare ++ [])))
 
-abbrev pub all_v1 : XorbObjectInfoV1 → List ℕ → List ℕ → List (List ℕ) → List ℕ → List ℕ → List ℕ → List ℕ → List ℕ
-all_v1 i hash count hashes ends plain hashes_at boundaries_at =
-    head_v1 i hash count ++ (joined hashes ++ (middle_v1 i count ++ (numbers ends ++ (numbers plain ++ end_v1 i count hashes_at boundaries_at))))
+abbrev pub begun_v1 : XorbObjectInfoV1 → List ℕ
+begun_v1 i = head_v1 i i.xorb_hash (number i.num_chunks)
 
-pub parts_v1 : (i : XorbObjectInfoV1) (hash count : List ℕ) (hashes : List (List ℕ)) (ends plain hashes_at boundaries_at : List ℕ) → hash ≡ i.xorb_hash → count ≡ number i.num_chunks → hashes ≡ i.chunk_hashes
-    → ends ≡ i.chunk_boundary_offsets → plain ≡ i.unpacked_chunk_offsets → hashes_at ≡ number i.hashes_section_offset_from_end → boundaries_at ≡ number i.boundary_section_offset_from_end
-    → all_v1 i hash count hashes ends plain hashes_at boundaries_at ≡ footer_bytes_v1 i
+abbrev pub ended_v1 : XorbObjectInfoV1 → List ℕ
+ended_v1 i = end_v1 i (number i.num_chunks) (number i.hashes_section_offset_from_end) (number i.boundary_section_offset_from_end)
+
+pub is_begun_v1 : (i : XorbObjectInfoV1) {hash count : List ℕ} → hash ≡ i.xorb_hash → count ≡ number i.num_chunks → head_v1 i hash count ≡ begun_v1 i
+is_begun_v1 i {hash} {count} is_hash is_count = ap (λ (x : List ℕ). head_v1 i x count) is_hash ∙ ap (λ (x : List ℕ). head_v1 i i.xorb_hash x) is_count
+
+pub is_ended_v1 : (i : XorbObjectInfoV1) {count hashes_at boundaries_at : List ℕ} → count ≡ number i.num_chunks → hashes_at ≡ number i.hashes_section_offset_from_end → boundaries_at ≡ number i.boundary_section_offset_from_end
+    → end_v1 i count hashes_at boundaries_at ≡ ended_v1 i
+is_ended_v1 i is_count is_hashes_at is_boundaries_at = cc
+
+abbrev pub before_v1 : XorbObjectInfoV1 → List ℕ
+before_v1 i = (((begun_v1 i ++ joined i.chunk_hashes) ++ middle_v1 i (number i.num_chunks)) ++ numbers i.chunk_boundary_offsets) ++ numbers i.unpacked_chunk_offsets
+
+pub encoded_v1 : (i : XorbObjectInfoV1) → before_v1 i ++ ended_v1 i ≡ footer_bytes_v1 i
 unfolding footer_bytes_v1
-parts_v1 i hash count hashes ends plain hashes_at boundaries_at is_hash is_count is_hashes is_ends is_plain is_hashes_at is_boundaries_at =
-    let same : all_v1 i hash count hashes ends plain hashes_at boundaries_at
-    ≡ all_v1 i i.xorb_hash (number i.num_chunks) i.chunk_hashes i.chunk_boundary_offsets i.unpacked_chunk_offsets (number i.hashes_section_offset_from_end) (number i.boundary_section_offset_from_end) = cc in
-    same ∙ simp (append_assoc, append-nil)
+encoded_v1 i = simp (append_assoc, append-nil)
+
+pub begins_v1 : (i : XorbObjectInfoV1) → Begins (before_v1 i) (footer_bytes_v1 i)
+begins_v1 i = (ended_v1 i, encoded_v1 i)

@@ -10,3 +10,4 @@ mod Joining
 mod Decoding
 mod Placing
 mod Sections
+mod Puts

@@ -14,9 +14,6 @@ use Rattle.xet_codec.specs.Parsing.{◌>>=◌, Parsed, next_bytes, number_at, ti
 use Rattle.xet_xorb_footer.specs.Reading.{number_is}
 use Rattle.xet_xorb_footer.specs.theorems.Prefixes.{a_number, bytes_short, bytes_whole, length_items, list_block, list_full, list_short, number_whole}
 
-pub sees_on : {b c : Bool} {seen now bytes : List ℕ} {end : ℕ} {old new : Block} → Sees b seen bytes end old → c ≡ b → now ≡ seen → IsPart new bytes → Sees c now bytes end new
-sees_on t tells same part = record { told = tells ∙ t.told; same = same ∙ t.same; all = t.all; part = part }
-
 -- with a block of no bytes
 pub sees_first : {b : Bool} {seen bytes : List ℕ} {end : ℕ} (block : Block) → Tells b seen bytes end → IsPart block bytes → Sees b seen bytes end block
 sees_first block t part = record { told = t.told; same = t.same; all = t.all; part = part }

@@ -1,5 +1,5 @@
 -- The parts of a section of boundaries that is read for itself.
-use Rattle.std.proofs.Common.{◌≡◌, ◌∙◌, ℕ, ◌+◌, ◌-◌, ◌*◌, ◌≤◌, ◌<◌, nat_le, Bool, List, [], ◌∷◌, ◌++◌, Ok, Err, ap, arith, drop, length, refl, subst, sym, take}
+use Rattle.std.proofs.Common.{◌≡◌, ◌∙◌, ℕ, ◌+◌, ◌-◌, ◌*◌, ◌≤◌, ◌<◌, nat_le, Bool, List, [], ◌∷◌, ◌++◌, Ok, Err, ap, arith, drop, length, refl, subst, sym, take, true}
 use Rattle.std.proofs.lemmas.Bool.{le-leb, lt-leb}
 use Rattle.std.specs.Int.{w32, from_le_bytes}
 use Rattle.xet_hash.specs.declared.error.Reason.TheVariants.{BoundariesIdent, BoundariesVersion, BoundaryOffset, ChunkCount, CountMismatch}
@@ -8,7 +8,7 @@ use Rattle.xet_hash.specs.declared.error.StoreError.TheVariants.{MalformedData, 
 use Rattle.xet_xorb_footer.specs.declared.info.XorbObjectInfoV1.{XorbObjectInfoV1}
 use Rattle.xet_xorb_footer.specs.Ends.{boundaries, last_boundaries, number_before}
 use Rattle.xet_codec.specs.Parsing.{reaches, ◌>>=◌, Parsed, next_bytes, number_at, times, wants}
-use Rattle.xet_codec.specs.Blocks.{RefusedBy}
+use Rattle.xet_codec.specs.Blocks.{RefusedBy, Tells}
 use Rattle.xet_xorb_footer.specs.internal.Places.{checked_at, head_at, lists_at, tail_at}
 use Rattle.xet_xorb_footer.specs.Reading.{count_at, magic_at, number_is, version_at}
 use Rattle.xet_xorb_footer.specs.FooterEncoding.{boundaries_magic, empty_v1, max_chunks}
@@ -110,15 +110,19 @@ tail_is n h b b1 b2 b3 spare b4 one two three four len =
 
 -- ---- all parts
 
-abbrev pub whole_info : ℕ → List ℕ × List ℕ → ℕ × List ℕ → XorbObjectInfoV1
-whole_info n lists tail = record empty_v1 {
-  chunk_boundary_offsets = lists.0;
-  unpacked_chunk_offsets = lists.1;
+-- a footer with these lists and what is behind them
+abbrev with_parts : XorbObjectInfoV1 → ℕ → List ℕ → List ℕ → ℕ → List ℕ → XorbObjectInfoV1
+with_parts d n ends plain h spare = record d {
+  chunk_boundary_offsets = ends;
+  unpacked_chunk_offsets = plain;
   num_chunks = n;
-  hashes_section_offset_from_end = tail.0;
+  hashes_section_offset_from_end = h;
   boundary_section_offset_from_end = 40 + 8 * n;
-  spare = tail.1;
+  spare = spare;
 }
+
+abbrev pub whole_info : ℕ → List ℕ × List ℕ → ℕ × List ℕ → XorbObjectInfoV1
+whole_info n lists tail = with_parts empty_v1 n lists.0 lists.1 tail.0 tail.1
 
 -- behind the lists
 abbrev behind_lists : ℕ → List ℕ × List ℕ → List ℕ → Parsed XorbObjectInfoV1
@@ -171,24 +175,9 @@ unread_tail n lists b b1 b2 e one two r = refused_as (boundaries b) _ e (from_li
 pub all_parts : (n : ℕ) (lists : List ℕ × List ℕ) (tail : ℕ × List ℕ) (b b1 b2 b3 : List ℕ) → head_at b ≡ Ok (n, b1) → lists_at n b1 ≡ Ok (lists, b2) → tail_at n b2 ≡ Ok (tail, b3) → boundaries b ≡ Ok (whole_info n lists tail, b3)
 all_parts n lists tail b b1 b2 b3 one two three = from_lists n lists b b1 b2 one two ∙ ap (λ (r : Parsed (ℕ × List ℕ)). r >>= λ t. Ok (whole_info n lists t.0, t.1)) three
 
-pub filled_info : (d : XorbObjectInfoV1) (n : ℕ) (ends plain es ps : List ℕ) (h : ℕ) (spare : List ℕ) → d ≡ empty_v1 → es ≡ ends → ps ≡ plain → whole_info n (ends, plain) (h, spare) ≡ record d {
-  chunk_boundary_offsets = es;
-  unpacked_chunk_offsets = ps;
-  num_chunks = n;
-  hashes_section_offset_from_end = h;
-  boundary_section_offset_from_end = 40 + 8 * n;
-  spare = spare;
-}
+pub filled_info : (d : XorbObjectInfoV1) (n : ℕ) (ends plain es ps : List ℕ) (h : ℕ) (spare : List ℕ) → d ≡ empty_v1 → es ≡ ends → ps ≡ plain → whole_info n (ends, plain) (h, spare) ≡ with_parts d n es ps h spare
 filled_info d n ends plain es ps h spare is e p =
-    ap (λ (x : List ℕ). whole_info n (x, plain) (h, spare)) (sym e) ∙ ap (λ (x : List ℕ). whole_info n (es, x) (h, spare)) (sym p)
-    ∙ ap (λ (x : XorbObjectInfoV1). record x {
-      chunk_boundary_offsets = es;
-      unpacked_chunk_offsets = ps;
-      num_chunks = n;
-      hashes_section_offset_from_end = h;
-      boundary_section_offset_from_end = 40 + 8 * n;
-      spare = spare;
-    }) (sym is)
+    ap (λ (x : List ℕ). whole_info n (x, plain) (h, spare)) (sym e) ∙ ap (λ (x : List ℕ). whole_info n (es, x) (h, spare)) (sym p) ∙ ap (λ (x : XorbObjectInfoV1). with_parts x n es ps h spare) (sym is)
 
 -- ---- where it begins
 
@@ -196,8 +185,14 @@ pub last_few : (end : ℕ) (bytes : List ℕ) → end ≡ length bytes → end <
 unfolding last_boundaries
 last_few end bytes same lt = rw (lt-leb 24 (length bytes) (omega arith)) refl
 
-pub told_is : (end : ℕ) (bytes last : List ℕ) → end ≡ length bytes → last ≡ take 4 (drop (end - 24) bytes) → from_le_bytes w32 last ≡ number_before 24 bytes
+told_is : (end : ℕ) (bytes last : List ℕ) → end ≡ length bytes → last ≡ take 4 (drop (end - 24) bytes) → from_le_bytes w32 last ≡ number_before 24 bytes
 told_is end bytes last same is = ap (from_le_bytes w32) (is ∙ ap (λ (k : ℕ). take 4 (drop (k - 24) bytes)) same)
+
+pub number_told : {b : Bool} {seen bytes : List ℕ} {end : ℕ} (n : ℕ) (last : List ℕ) → Tells b seen bytes end → 24 ≤ end → n ≡ from_le_bytes w32 last
+    → (b ≡ true → end - 24 + 4 ≤ length seen → last ≡ take 4 (drop (end - 24) seen)) → n ≡ number_before 24 bytes
+number_told {b} {seen} {bytes} {end} n last t le is read =
+    let there : end - 24 + 4 ≤ length seen = omega (arith, le, t.all, ap length t.same) in
+    is ∙ told_is end bytes last t.all (read t.told there ∙ ap (λ (x : List ℕ). take 4 (drop (end - 24) x)) t.same)
 
 begun : (end : ℕ) (bytes : List ℕ) → end ≡ length bytes → 24 ≤ end → last_boundaries bytes ≡ (reaches (nat_le (number_before 24 bytes + 4) (length bytes)) >>= λ _. boundaries (drop (length bytes - (number_before 24 bytes + 4)) bytes))
 unfolding last_boundaries

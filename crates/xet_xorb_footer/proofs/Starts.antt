@@ -18,6 +18,15 @@ as_value_twice make again (Err e) = refl
 no_less : (n : ℕ) → n - 0 ≡ n
 no_less n = omega arith
 
+-- What follows a field, and what follows a list of which nothing was read.
+on_field : {X Y : Type 0} (make : FooterParts → X) (read : Parsed Y) (from : Y × List ℕ → Parsed FooterParts) (to : Y × List ℕ → Parsed X) → ((x : Y × List ℕ) → as_value make (from x) ≡ to x)
+    → as_value make (read >>= from) ≡ (read >>= to)
+on_field make read from to same = bind_bind read from (λ x. Ok (make x.0, x.1)) ∙ onward read (λ x. as_value make (from x)) to same
+
+on_list : {X Y : Type 0} (make : FooterParts → X) (item : List ℕ → Parsed Y) (n : ℕ) (bytes : List ℕ) (from : List Y × List ℕ → Parsed FooterParts) (to : List Y × List ℕ → Parsed X)
+    → ((x : List Y × List ℕ) → as_value make (from x) ≡ to x) → as_value make (times item (n - 0) bytes >>= from) ≡ (times item n bytes >>= to)
+on_list make item n bytes from to same = ap (λ (k : ℕ). as_value make (times item k bytes >>= from)) (no_less n) ∙ on_field make (times item n bytes) from to same
+
 -- ---- each field, with an empty list where one is read
 
 abbrev read_spare : {X : Type 0} → (FooterParts → X) → FooterParts → List ℕ → Parsed X
@@ -32,158 +41,117 @@ read_hashes_v0 make q bytes = times (next_bytes 32) q.count bytes >>= λ x. read
 
 on_hashes_v0 : {X : Type 0} (make : FooterParts → X) (q : FooterParts) (bytes : List ℕ) → as_value make (rest_hashes_v0 (record q { hashes = [] }) bytes) ≡ read_hashes_v0 make q bytes
 unfolding rest_hashes_v0
-on_hashes_v0 make q bytes =
-    ap (λ (n : ℕ). as_value make (times (next_bytes 32) n bytes >>= (λ x. rest_spare (record q { hashes = x.0 }) x.1))) (no_less q.count)
-    ∙ bind_bind (times (next_bytes 32) q.count bytes) (λ x. rest_spare (record q { hashes = x.0 }) x.1) (λ x. Ok (make x.0, x.1))
-    ∙ onward (times (next_bytes 32) q.count bytes) (λ x. as_value make (rest_spare (record q { hashes = x.0 }) x.1)) (λ x. read_spare make (record q { hashes = x.0 }) x.1) (λ x. on_spare make (record q { hashes = x.0 }) x.1)
+on_hashes_v0 make q bytes = on_list make (next_bytes 32) q.count bytes _ _ (λ x. on_spare make (record q { hashes = x.0 }) x.1)
 
-abbrev read_ends_v0 : {X : Type 0} → (FooterParts → X) → FooterParts → List ℕ → Parsed X
-read_ends_v0 make q bytes = times number_at q.count bytes >>= λ x. read_hashes_v0 make (record q { ends = x.0 }) x.1
+-- the boundary offsets, and then `next`
+abbrev read_ends : {X : Type 0} → (FooterParts → List ℕ → Parsed X) → FooterParts → List ℕ → Parsed X
+read_ends next q bytes = times number_at q.count bytes >>= λ x. next (record q { ends = x.0 }) x.1
 
-on_ends_v0 : {X : Type 0} (make : FooterParts → X) (q : FooterParts) (bytes : List ℕ) → as_value make (rest_ends_v0 (record q { ends = []; hashes = [] }) bytes) ≡ read_ends_v0 make q bytes
+on_ends_v0 : {X : Type 0} (make : FooterParts → X) (q : FooterParts) (bytes : List ℕ) → as_value make (rest_ends_v0 (record q { ends = []; hashes = [] }) bytes) ≡ read_ends (read_hashes_v0 make) q bytes
 unfolding rest_ends_v0
-on_ends_v0 make q bytes =
-    ap (λ (n : ℕ). as_value make (times number_at n bytes >>= (λ x. rest_hashes_v0 (record (record q { ends = x.0 }) { hashes = [] }) x.1))) (no_less q.count)
-    ∙ bind_bind (times number_at q.count bytes) (λ x. rest_hashes_v0 (record (record q { ends = x.0 }) { hashes = [] }) x.1) (λ x. Ok (make x.0, x.1))
-    ∙ onward (times number_at q.count bytes) (λ x. as_value make (rest_hashes_v0 (record (record q { ends = x.0 }) { hashes = [] }) x.1)) (λ x. read_hashes_v0 make (record q { ends = x.0 }) x.1) (λ x. on_hashes_v0 make (record q { ends = x.0 }) x.1)
+on_ends_v0 make q bytes = on_list make number_at q.count bytes _ _ (λ x. on_hashes_v0 make (record q { ends = x.0 }) x.1)
 
 abbrev read_count_v0 : {X : Type 0} → (FooterParts → X) → FooterParts → List ℕ → Parsed X
-read_count_v0 make q bytes = count_at bytes >>= λ x. read_ends_v0 make (record q { is_v1 = false; count = x.0 }) x.1
+read_count_v0 make q bytes = count_at bytes >>= λ x. read_ends (read_hashes_v0 make) (record q { is_v1 = false; count = x.0 }) x.1
 
 on_count_v0 : {X : Type 0} (make : FooterParts → X) (q : FooterParts) (bytes : List ℕ) → as_value make (rest_count (record q { is_v1 = false; ends = []; hashes = [] }) bytes) ≡ read_count_v0 make q bytes
 unfolding rest_count
-on_count_v0 make q bytes =
-    bind_bind (count_at bytes) (λ x. rest_ends_v0 (record (record q { is_v1 = false; count = x.0 }) { ends = []; hashes = [] }) x.1) (λ x. Ok (make x.0, x.1))
-    ∙ onward (count_at bytes) (λ x. as_value make (rest_ends_v0 (record (record q { is_v1 = false; count = x.0 }) { ends = []; hashes = [] }) x.1)) (λ x. read_ends_v0 make (record q { is_v1 = false; count = x.0 }) x.1) (λ x. on_ends_v0 make (record q { is_v1 = false; count = x.0 }) x.1)
+on_count_v0 make q bytes = on_field make (count_at bytes) _ _ (λ x. on_ends_v0 make (record q { is_v1 = false; count = x.0 }) x.1)
 
 abbrev read_hash_v0 : {X : Type 0} → (FooterParts → X) → FooterParts → List ℕ → Parsed X
 read_hash_v0 make q bytes = next_bytes 32 bytes >>= λ x. read_count_v0 make (record q { hash = x.0 }) x.1
 
 on_hash_v0 : {X : Type 0} (make : FooterParts → X) (q : FooterParts) (bytes : List ℕ) → as_value make (rest_hash (record q { is_v1 = false; ends = []; hashes = [] }) bytes) ≡ read_hash_v0 make q bytes
 unfolding rest_hash
-on_hash_v0 make q bytes =
-    bind_bind (next_bytes 32 bytes) (λ x. rest_count (record (record q { hash = x.0 }) { is_v1 = false; ends = []; hashes = [] }) x.1) (λ x. Ok (make x.0, x.1))
-    ∙ onward (next_bytes 32 bytes) (λ x. as_value make (rest_count (record (record q { hash = x.0 }) { is_v1 = false; ends = []; hashes = [] }) x.1)) (λ x. read_count_v0 make (record q { hash = x.0 }) x.1) (λ x. on_count_v0 make (record q { hash = x.0 }) x.1)
+on_hash_v0 make q bytes = on_field make (next_bytes 32 bytes) _ _ (λ x. on_count_v0 make (record q { hash = x.0 }) x.1)
 
 abbrev read_boundary_offset : {X : Type 0} → (FooterParts → X) → FooterParts → List ℕ → Parsed X
 read_boundary_offset make q bytes = number_is (40 + 8 * q.count) reasons.BoundaryOffset bytes >>= λ x. read_spare make q x.1
 
 on_boundary_offset : {X : Type 0} (make : FooterParts → X) (q : FooterParts) (bytes : List ℕ) → as_value make (rest_boundary_offset q bytes) ≡ read_boundary_offset make q bytes
 unfolding rest_boundary_offset
-on_boundary_offset make q bytes =
-    bind_bind (number_is (40 + 8 * q.count) reasons.BoundaryOffset bytes) (λ x. rest_spare q x.1) (λ x. Ok (make x.0, x.1))
-    ∙ onward (number_is (40 + 8 * q.count) reasons.BoundaryOffset bytes) (λ x. as_value make (rest_spare q x.1)) (λ x. read_spare make q x.1) (λ x. on_spare make q x.1)
+on_boundary_offset make q bytes = on_field make (number_is (40 + 8 * q.count) reasons.BoundaryOffset bytes) _ _ (λ x. on_spare make q x.1)
 
 abbrev read_hashes_offset : {X : Type 0} → (FooterParts → X) → FooterParts → List ℕ → Parsed X
 read_hashes_offset make q bytes = number_is (52 + 40 * q.count) reasons.HashesOffset bytes >>= λ x. read_boundary_offset make q x.1
 
 on_hashes_offset : {X : Type 0} (make : FooterParts → X) (q : FooterParts) (bytes : List ℕ) → as_value make (rest_hashes_offset q bytes) ≡ read_hashes_offset make q bytes
 unfolding rest_hashes_offset
-on_hashes_offset make q bytes =
-    bind_bind (number_is (52 + 40 * q.count) reasons.HashesOffset bytes) (λ x. rest_boundary_offset q x.1) (λ x. Ok (make x.0, x.1))
-    ∙ onward (number_is (52 + 40 * q.count) reasons.HashesOffset bytes) (λ x. as_value make (rest_boundary_offset q x.1)) (λ x. read_boundary_offset make q x.1) (λ x. on_boundary_offset make q x.1)
+on_hashes_offset make q bytes = on_field make (number_is (52 + 40 * q.count) reasons.HashesOffset bytes) _ _ (λ x. on_boundary_offset make q x.1)
 
 abbrev read_count_last : {X : Type 0} → (FooterParts → X) → FooterParts → List ℕ → Parsed X
 read_count_last make q bytes = number_is q.count reasons.CountMismatch bytes >>= λ x. read_hashes_offset make q x.1
 
 on_count_last : {X : Type 0} (make : FooterParts → X) (q : FooterParts) (bytes : List ℕ) → as_value make (rest_count_last q bytes) ≡ read_count_last make q bytes
 unfolding rest_count_last
-on_count_last make q bytes =
-    bind_bind (number_is q.count reasons.CountMismatch bytes) (λ x. rest_hashes_offset q x.1) (λ x. Ok (make x.0, x.1))
-    ∙ onward (number_is q.count reasons.CountMismatch bytes) (λ x. as_value make (rest_hashes_offset q x.1)) (λ x. read_hashes_offset make q x.1) (λ x. on_hashes_offset make q x.1)
+on_count_last make q bytes = on_field make (number_is q.count reasons.CountMismatch bytes) _ _ (λ x. on_hashes_offset make q x.1)
 
 abbrev read_plain : {X : Type 0} → (FooterParts → X) → FooterParts → List ℕ → Parsed X
 read_plain make q bytes = times number_at q.count bytes >>= λ x. read_count_last make (record q { plain = x.0 }) x.1
 
 on_plain : {X : Type 0} (make : FooterParts → X) (q : FooterParts) (bytes : List ℕ) → as_value make (rest_plain (record q { plain = [] }) bytes) ≡ read_plain make q bytes
 unfolding rest_plain
-on_plain make q bytes =
-    ap (λ (n : ℕ). as_value make (times number_at n bytes >>= (λ x. rest_count_last (record q { plain = x.0 }) x.1))) (no_less q.count)
-    ∙ bind_bind (times number_at q.count bytes) (λ x. rest_count_last (record q { plain = x.0 }) x.1) (λ x. Ok (make x.0, x.1))
-    ∙ onward (times number_at q.count bytes) (λ x. as_value make (rest_count_last (record q { plain = x.0 }) x.1)) (λ x. read_count_last make (record q { plain = x.0 }) x.1) (λ x. on_count_last make (record q { plain = x.0 }) x.1)
+on_plain make q bytes = on_list make number_at q.count bytes _ _ (λ x. on_count_last make (record q { plain = x.0 }) x.1)
 
-abbrev read_ends_v1 : {X : Type 0} → (FooterParts → X) → FooterParts → List ℕ → Parsed X
-read_ends_v1 make q bytes = times number_at q.count bytes >>= λ x. read_plain make (record q { ends = x.0 }) x.1
-
-on_ends_v1 : {X : Type 0} (make : FooterParts → X) (q : FooterParts) (bytes : List ℕ) → as_value make (rest_ends_v1 (record q { ends = []; plain = [] }) bytes) ≡ read_ends_v1 make q bytes
+on_ends_v1 : {X : Type 0} (make : FooterParts → X) (q : FooterParts) (bytes : List ℕ) → as_value make (rest_ends_v1 (record q { ends = []; plain = [] }) bytes) ≡ read_ends (read_plain make) q bytes
 unfolding rest_ends_v1
-on_ends_v1 make q bytes =
-    ap (λ (n : ℕ). as_value make (times number_at n bytes >>= (λ x. rest_plain (record (record q { ends = x.0 }) { plain = [] }) x.1))) (no_less q.count)
-    ∙ bind_bind (times number_at q.count bytes) (λ x. rest_plain (record (record q { ends = x.0 }) { plain = [] }) x.1) (λ x. Ok (make x.0, x.1))
-    ∙ onward (times number_at q.count bytes) (λ x. as_value make (rest_plain (record (record q { ends = x.0 }) { plain = [] }) x.1)) (λ x. read_plain make (record q { ends = x.0 }) x.1) (λ x. on_plain make (record q { ends = x.0 }) x.1)
+on_ends_v1 make q bytes = on_list make number_at q.count bytes _ _ (λ x. on_plain make (record q { ends = x.0 }) x.1)
 
 abbrev read_count_again : {X : Type 0} → (FooterParts → X) → FooterParts → List ℕ → Parsed X
-read_count_again make q bytes = number_is q.count reasons.CountMismatch bytes >>= λ x. read_ends_v1 make (record q { is_v1 = true }) x.1
+read_count_again make q bytes = number_is q.count reasons.CountMismatch bytes >>= λ x. read_ends (read_plain make) (record q { is_v1 = true }) x.1
 
 on_count_again : {X : Type 0} (make : FooterParts → X) (q : FooterParts) (bytes : List ℕ) → as_value make (rest_count_again (record q { is_v1 = true; ends = []; plain = [] }) bytes) ≡ read_count_again make q bytes
 unfolding rest_count_again
-on_count_again make q bytes =
-    bind_bind (number_is q.count reasons.CountMismatch bytes) (λ x. rest_ends_v1 (record (record q { is_v1 = true }) { ends = []; plain = [] }) x.1) (λ x. Ok (make x.0, x.1))
-    ∙ onward (number_is q.count reasons.CountMismatch bytes) (λ x. as_value make (rest_ends_v1 (record (record q { is_v1 = true }) { ends = []; plain = [] }) x.1)) (λ x. read_ends_v1 make (record q { is_v1 = true }) x.1) (λ x. on_ends_v1 make (record q { is_v1 = true }) x.1)
+on_count_again make q bytes = on_field make (number_is q.count reasons.CountMismatch bytes) _ _ (λ x. on_ends_v1 make (record q { is_v1 = true }) x.1)
 
 abbrev read_boundaries_version : {X : Type 0} → (FooterParts → X) → FooterParts → List ℕ → Parsed X
 read_boundaries_version make q bytes = version_at 1 reasons.BoundariesVersion bytes >>= λ x. read_count_again make q x.1
 
 on_boundaries_version : {X : Type 0} (make : FooterParts → X) (q : FooterParts) (bytes : List ℕ) → as_value make (rest_boundaries_version (record q { is_v1 = true; ends = []; plain = [] }) bytes) ≡ read_boundaries_version make q bytes
 unfolding rest_boundaries_version
-on_boundaries_version make q bytes =
-    bind_bind (version_at 1 reasons.BoundariesVersion bytes) (λ x. rest_count_again (record q { is_v1 = true; ends = []; plain = [] }) x.1) (λ x. Ok (make x.0, x.1))
-    ∙ onward (version_at 1 reasons.BoundariesVersion bytes) (λ x. as_value make (rest_count_again (record q { is_v1 = true; ends = []; plain = [] }) x.1)) (λ x. read_count_again make q x.1) (λ x. on_count_again make q x.1)
+on_boundaries_version make q bytes = on_field make (version_at 1 reasons.BoundariesVersion bytes) _ _ (λ x. on_count_again make q x.1)
 
 abbrev read_boundaries_ident : {X : Type 0} → (FooterParts → X) → FooterParts → List ℕ → Parsed X
 read_boundaries_ident make q bytes = magic_at boundaries_magic reasons.BoundariesIdent bytes >>= λ x. read_boundaries_version make q x.1
 
 on_boundaries_ident : {X : Type 0} (make : FooterParts → X) (q : FooterParts) (bytes : List ℕ) → as_value make (rest_boundaries_magic (record q { is_v1 = true; ends = []; plain = [] }) bytes) ≡ read_boundaries_ident make q bytes
 unfolding rest_boundaries_magic
-on_boundaries_ident make q bytes =
-    bind_bind (magic_at boundaries_magic reasons.BoundariesIdent bytes) (λ x. rest_boundaries_version (record q { is_v1 = true; ends = []; plain = [] }) x.1) (λ x. Ok (make x.0, x.1))
-    ∙ onward (magic_at boundaries_magic reasons.BoundariesIdent bytes) (λ x. as_value make (rest_boundaries_version (record q { is_v1 = true; ends = []; plain = [] }) x.1)) (λ x. read_boundaries_version make q x.1) (λ x. on_boundaries_version make q x.1)
+on_boundaries_ident make q bytes = on_field make (magic_at boundaries_magic reasons.BoundariesIdent bytes) _ _ (λ x. on_boundaries_version make q x.1)
 
 abbrev read_hashes_v1 : {X : Type 0} → (FooterParts → X) → FooterParts → List ℕ → Parsed X
 read_hashes_v1 make q bytes = times (next_bytes 32) q.count bytes >>= λ x. read_boundaries_ident make (record q { hashes = x.0 }) x.1
 
 on_hashes_v1 : {X : Type 0} (make : FooterParts → X) (q : FooterParts) (bytes : List ℕ) → as_value make (rest_hashes_v1 (record q { is_v1 = true; hashes = []; ends = []; plain = [] }) bytes) ≡ read_hashes_v1 make q bytes
 unfolding rest_hashes_v1
-on_hashes_v1 make q bytes =
-    ap (λ (n : ℕ). as_value make (times (next_bytes 32) n bytes >>= (λ x. rest_boundaries_magic (record (record q { hashes = x.0 }) { is_v1 = true; ends = []; plain = [] }) x.1))) (no_less q.count)
-    ∙ bind_bind (times (next_bytes 32) q.count bytes) (λ x. rest_boundaries_magic (record (record q { hashes = x.0 }) { is_v1 = true; ends = []; plain = [] }) x.1) (λ x. Ok (make x.0, x.1))
-    ∙ onward (times (next_bytes 32) q.count bytes) (λ x. as_value make (rest_boundaries_magic (record (record q { hashes = x.0 }) { is_v1 = true; ends = []; plain = [] }) x.1)) (λ x. read_boundaries_ident make (record q { hashes = x.0 }) x.1) (λ x. on_boundaries_ident make (record q { hashes = x.0 }) x.1)
+on_hashes_v1 make q bytes = on_list make (next_bytes 32) q.count bytes _ _ (λ x. on_boundaries_ident make (record q { hashes = x.0 }) x.1)
 
 abbrev read_count_v1 : {X : Type 0} → (FooterParts → X) → FooterParts → List ℕ → Parsed X
 read_count_v1 make q bytes = count_at bytes >>= λ x. read_hashes_v1 make (record q { count = x.0 }) x.1
 
 on_count_v1 : {X : Type 0} (make : FooterParts → X) (q : FooterParts) (bytes : List ℕ) → as_value make (rest_count (record q { is_v1 = true; hashes = []; ends = []; plain = [] }) bytes) ≡ read_count_v1 make q bytes
 unfolding rest_count
-on_count_v1 make q bytes =
-    bind_bind (count_at bytes) (λ x. rest_hashes_v1 (record (record q { count = x.0 }) { is_v1 = true; hashes = []; ends = []; plain = [] }) x.1) (λ x. Ok (make x.0, x.1))
-    ∙ onward (count_at bytes) (λ x. as_value make (rest_hashes_v1 (record (record q { count = x.0 }) { is_v1 = true; hashes = []; ends = []; plain = [] }) x.1)) (λ x. read_hashes_v1 make (record q { count = x.0 }) x.1) (λ x. on_hashes_v1 make (record q { count = x.0 }) x.1)
+on_count_v1 make q bytes = on_field make (count_at bytes) _ _ (λ x. on_hashes_v1 make (record q { count = x.0 }) x.1)
 
 abbrev read_hashes_version : {X : Type 0} → (FooterParts → X) → FooterParts → List ℕ → Parsed X
 read_hashes_version make q bytes = version_at 0 reasons.HashesVersion bytes >>= λ x. read_count_v1 make q x.1
 
 on_hashes_version : {X : Type 0} (make : FooterParts → X) (q : FooterParts) (bytes : List ℕ) → as_value make (rest_hashes_version (record q { is_v1 = true; hashes = []; ends = []; plain = [] }) bytes) ≡ read_hashes_version make q bytes
 unfolding rest_hashes_version
-on_hashes_version make q bytes =
-    bind_bind (version_at 0 reasons.HashesVersion bytes) (λ x. rest_count (record q { is_v1 = true; hashes = []; ends = []; plain = [] }) x.1) (λ x. Ok (make x.0, x.1))
-    ∙ onward (version_at 0 reasons.HashesVersion bytes) (λ x. as_value make (rest_count (record q { is_v1 = true; hashes = []; ends = []; plain = [] }) x.1)) (λ x. read_count_v1 make q x.1) (λ x. on_count_v1 make q x.1)
+on_hashes_version make q bytes = on_field make (version_at 0 reasons.HashesVersion bytes) _ _ (λ x. on_count_v1 make q x.1)
 
 abbrev read_hashes_ident : {X : Type 0} → (FooterParts → X) → FooterParts → List ℕ → Parsed X
 read_hashes_ident make q bytes = magic_at hashes_magic reasons.HashesIdent bytes >>= λ x. read_hashes_version make q x.1
 
 on_hashes_ident : {X : Type 0} (make : FooterParts → X) (q : FooterParts) (bytes : List ℕ) → as_value make (rest_hashes_magic (record q { is_v1 = true; hashes = []; ends = []; plain = [] }) bytes) ≡ read_hashes_ident make q bytes
 unfolding rest_hashes_magic
-on_hashes_ident make q bytes =
-    bind_bind (magic_at hashes_magic reasons.HashesIdent bytes) (λ x. rest_hashes_version (record q { is_v1 = true; hashes = []; ends = []; plain = [] }) x.1) (λ x. Ok (make x.0, x.1))
-    ∙ onward (magic_at hashes_magic reasons.HashesIdent bytes) (λ x. as_value make (rest_hashes_version (record q { is_v1 = true; hashes = []; ends = []; plain = [] }) x.1)) (λ x. read_hashes_version make q x.1) (λ x. on_hashes_version make q x.1)
+on_hashes_ident make q bytes = on_field make (magic_at hashes_magic reasons.HashesIdent bytes) _ _ (λ x. on_hashes_version make q x.1)
 
 abbrev read_hash_v1 : {X : Type 0} → (FooterParts → X) → FooterParts → List ℕ → Parsed X
 read_hash_v1 make q bytes = next_bytes 32 bytes >>= λ x. read_hashes_ident make (record q { hash = x.0 }) x.1
 
 on_hash_v1 : {X : Type 0} (make : FooterParts → X) (q : FooterParts) (bytes : List ℕ) → as_value make (rest_hash (record q { is_v1 = true; hashes = []; ends = []; plain = [] }) bytes) ≡ read_hash_v1 make q bytes
 unfolding rest_hash
-on_hash_v1 make q bytes =
-    bind_bind (next_bytes 32 bytes) (λ x. rest_hashes_magic (record (record q { hash = x.0 }) { is_v1 = true; hashes = []; ends = []; plain = [] }) x.1) (λ x. Ok (make x.0, x.1))
-    ∙ onward (next_bytes 32 bytes) (λ x. as_value make (rest_hashes_magic (record (record q { hash = x.0 }) { is_v1 = true; hashes = []; ends = []; plain = [] }) x.1)) (λ x. read_hashes_ident make (record q { hash = x.0 }) x.1) (λ x. on_hashes_ident make (record q { hash = x.0 }) x.1)
+on_hash_v1 make q bytes = on_field make (next_bytes 32 bytes) _ _ (λ x. on_hashes_ident make (record q { hash = x.0 }) x.1)
 
 -- ---- what the definitions read
 

@@ -9,7 +9,7 @@ use Rattle.xet_xorb_footer.specs.declared.machine.Field.{Field}
 use Rattle.xet_xorb_footer.specs.declared.machine.Field.TheVariants as fields
 use Rattle.xet_codec.specs.Parsing.{◌>>=◌, Parsed, next_bytes, number_at, times, wants}
 use Rattle.xet_xorb_footer.specs.Reading.{count_at, magic_at, number_is, version_at}
-use Rattle.xet_xorb_footer.specs.FooterEncoding.{boundaries_magic, footer_magic, hashes_magic, max_chunks, of_v0}
+use Rattle.xet_xorb_footer.specs.FooterEncoding.{boundaries_magic, empty_v1, footer_magic, hashes_magic, max_chunks, of_v0}
 
 -- The fields read so far, and whether version 1 is accepted.
 pub record FooterParts : Type 0 where
@@ -27,15 +27,9 @@ abbrev pub info_v0 : FooterParts → XorbObjectInfoV0
 info_v0 p = record { ident = footer_magic; version = 0; xorb_hash = p.hash; num_chunks = p.count; chunk_boundary_offsets = p.ends; chunk_hashes = p.hashes; spare = p.spare }
 
 abbrev pub info_v1 : FooterParts → XorbObjectInfoV1
-info_v1 p = record {
-  ident = footer_magic;
-  version = 1;
+info_v1 p = record empty_v1 {
   xorb_hash = p.hash;
-  ident_hash_section = hashes_magic;
-  hashes_version = 0;
   chunk_hashes = p.hashes;
-  ident_boundary_section = boundaries_magic;
-  boundaries_version = 1;
   chunk_boundary_offsets = p.ends;
   unpacked_chunk_offsets = p.plain;
   num_chunks = p.count;
@@ -78,69 +72,45 @@ wanted_of fields.Done p = 0
 -- ---- All fields from one on
 
 unfoldable pub rest_spare : FooterParts → List ℕ → Parsed FooterParts
-rest_spare p bytes = do
-  x ← next_bytes 16 bytes
-  Ok (record p { spare = x.0 }, x.1)
+rest_spare p bytes = next_bytes 16 bytes >>= λ x. Ok (record p { spare = x.0 }, x.1)
 
 -- Version 0.
 unfoldable pub rest_hashes_v0 : FooterParts → List ℕ → Parsed FooterParts
-rest_hashes_v0 p bytes = do
-  x ← times (next_bytes 32) (p.count - length p.hashes) bytes
-  rest_spare (record p { hashes = p.hashes ++ x.0 }) x.1
+rest_hashes_v0 p bytes = times (next_bytes 32) (p.count - length p.hashes) bytes >>= λ x. rest_spare (record p { hashes = p.hashes ++ x.0 }) x.1
 
 unfoldable pub rest_ends_v0 : FooterParts → List ℕ → Parsed FooterParts
-rest_ends_v0 p bytes = do
-  x ← times number_at (p.count - length p.ends) bytes
-  rest_hashes_v0 (record p { ends = p.ends ++ x.0 }) x.1
+rest_ends_v0 p bytes = times number_at (p.count - length p.ends) bytes >>= λ x. rest_hashes_v0 (record p { ends = p.ends ++ x.0 }) x.1
 
 -- Version 1.
 unfoldable pub rest_boundary_offset : FooterParts → List ℕ → Parsed FooterParts
-rest_boundary_offset p bytes = do
-  x ← number_is (40 + 8 * p.count) reasons.BoundaryOffset bytes
-  rest_spare p x.1
+rest_boundary_offset p bytes = number_is (40 + 8 * p.count) reasons.BoundaryOffset bytes >>= λ x. rest_spare p x.1
 
 unfoldable pub rest_hashes_offset : FooterParts → List ℕ → Parsed FooterParts
-rest_hashes_offset p bytes = do
-  x ← number_is (52 + 40 * p.count) reasons.HashesOffset bytes
-  rest_boundary_offset p x.1
+rest_hashes_offset p bytes = number_is (52 + 40 * p.count) reasons.HashesOffset bytes >>= λ x. rest_boundary_offset p x.1
 
 unfoldable pub rest_count_last : FooterParts → List ℕ → Parsed FooterParts
-rest_count_last p bytes = do
-  x ← number_is p.count reasons.CountMismatch bytes
-  rest_hashes_offset p x.1
+rest_count_last p bytes = number_is p.count reasons.CountMismatch bytes >>= λ x. rest_hashes_offset p x.1
 
 unfoldable pub rest_plain : FooterParts → List ℕ → Parsed FooterParts
-rest_plain p bytes = do
-  x ← times number_at (p.count - length p.plain) bytes
-  rest_count_last (record p { plain = p.plain ++ x.0 }) x.1
+rest_plain p bytes = times number_at (p.count - length p.plain) bytes >>= λ x. rest_count_last (record p { plain = p.plain ++ x.0 }) x.1
 
 unfoldable pub rest_ends_v1 : FooterParts → List ℕ → Parsed FooterParts
-rest_ends_v1 p bytes = do
-  x ← times number_at (p.count - length p.ends) bytes
-  rest_plain (record p { ends = p.ends ++ x.0 }) x.1
+rest_ends_v1 p bytes = times number_at (p.count - length p.ends) bytes >>= λ x. rest_plain (record p { ends = p.ends ++ x.0 }) x.1
 
 abbrev pub rest_ends : FooterParts → List ℕ → Parsed FooterParts
 rest_ends p bytes = if p.is_v1 then rest_ends_v1 p bytes else rest_ends_v0 p bytes
 
 unfoldable pub rest_count_again : FooterParts → List ℕ → Parsed FooterParts
-rest_count_again p bytes = do
-  x ← number_is p.count reasons.CountMismatch bytes
-  rest_ends p x.1
+rest_count_again p bytes = number_is p.count reasons.CountMismatch bytes >>= λ x. rest_ends p x.1
 
 unfoldable pub rest_boundaries_version : FooterParts → List ℕ → Parsed FooterParts
-rest_boundaries_version p bytes = do
-  x ← version_at 1 reasons.BoundariesVersion bytes
-  rest_count_again p x.1
+rest_boundaries_version p bytes = version_at 1 reasons.BoundariesVersion bytes >>= λ x. rest_count_again p x.1
 
 unfoldable pub rest_boundaries_magic : FooterParts → List ℕ → Parsed FooterParts
-rest_boundaries_magic p bytes = do
-  x ← magic_at boundaries_magic reasons.BoundariesIdent bytes
-  rest_boundaries_version p x.1
+rest_boundaries_magic p bytes = magic_at boundaries_magic reasons.BoundariesIdent bytes >>= λ x. rest_boundaries_version p x.1
 
 unfoldable pub rest_hashes_v1 : FooterParts → List ℕ → Parsed FooterParts
-rest_hashes_v1 p bytes = do
-  x ← times (next_bytes 32) (p.count - length p.hashes) bytes
-  rest_boundaries_magic (record p { hashes = p.hashes ++ x.0 }) x.1
+rest_hashes_v1 p bytes = times (next_bytes 32) (p.count - length p.hashes) bytes >>= λ x. rest_boundaries_magic (record p { hashes = p.hashes ++ x.0 }) x.1
 
 -- Either version.
 abbrev pub rest_hashes : FooterParts → List ℕ → Parsed FooterParts
@@ -150,40 +120,28 @@ abbrev pub rest_lists : FooterParts → List ℕ → Parsed FooterParts
 rest_lists p bytes = if p.is_v1 then rest_hashes_v1 p bytes else rest_ends_v0 p bytes
 
 unfoldable pub rest_count : FooterParts → List ℕ → Parsed FooterParts
-rest_count p bytes = do
-  x ← count_at bytes
-  rest_lists (record p { count = x.0 }) x.1
+rest_count p bytes = count_at bytes >>= λ x. rest_lists (record p { count = x.0 }) x.1
 
 unfoldable pub rest_hashes_version : FooterParts → List ℕ → Parsed FooterParts
-rest_hashes_version p bytes = do
-  x ← version_at 0 reasons.HashesVersion bytes
-  rest_count p x.1
+rest_hashes_version p bytes = version_at 0 reasons.HashesVersion bytes >>= λ x. rest_count p x.1
 
 unfoldable pub rest_hashes_magic : FooterParts → List ℕ → Parsed FooterParts
-rest_hashes_magic p bytes = do
-  x ← magic_at hashes_magic reasons.HashesIdent bytes
-  rest_hashes_version p x.1
+rest_hashes_magic p bytes = magic_at hashes_magic reasons.HashesIdent bytes >>= λ x. rest_hashes_version p x.1
 
 abbrev pub rest_behind_hash : FooterParts → List ℕ → Parsed FooterParts
 rest_behind_hash p bytes = if p.is_v1 then rest_hashes_magic p bytes else rest_count p bytes
 
 unfoldable pub rest_hash : FooterParts → List ℕ → Parsed FooterParts
-rest_hash p bytes = do
-  x ← next_bytes 32 bytes
-  rest_behind_hash (record p { hash = x.0 }) x.1
+rest_hash p bytes = next_bytes 32 bytes >>= λ x. rest_behind_hash (record p { hash = x.0 }) x.1
 
 abbrev pub rest_behind_version : FooterParts → List ℕ → List ℕ → Parsed FooterParts
 rest_behind_version p version bytes = if p.either && pointwise nat_eq version (1 ∷ []) then rest_hash (record p { is_v1 = true }) bytes else (wants (pointwise nat_eq version (0 ∷ [])) reasons.Version >>= λ _. rest_hash (record p { is_v1 = false }) bytes)
 
 unfoldable pub rest_version : FooterParts → List ℕ → Parsed FooterParts
-rest_version p bytes = do
-  x ← next_bytes 1 bytes
-  rest_behind_version p x.0 x.1
+rest_version p bytes = next_bytes 1 bytes >>= λ x. rest_behind_version p x.0 x.1
 
 unfoldable pub rest_magic : FooterParts → List ℕ → Parsed FooterParts
-rest_magic p bytes = do
-  x ← magic_at footer_magic reasons.Ident bytes
-  rest_version p x.1
+rest_magic p bytes = magic_at footer_magic reasons.Ident bytes >>= λ x. rest_version p x.1
 
 -- What reading gives from a field on.
 unfoldable pub rest : Field → FooterParts → List ℕ → Parsed FooterParts

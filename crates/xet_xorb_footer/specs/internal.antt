@@ -3,3 +3,4 @@ pub mod Joining
 pub mod Machine
 pub mod Places
 pub mod Errors
+pub mod Putting

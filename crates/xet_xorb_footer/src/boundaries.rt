@@ -21,9 +21,6 @@ use xet_codec::{Block, read_exact, reader_length};
 use xet_hash::{Reason, StoreError};
 use xet_io::ReadAt;
 
-/// Maximum number of boundary offsets taken from a block at once.
-const BLOCK: usize = 64;
-
 impl XorbObjectInfoV1 {
     /// Reads the boundary section of the footer before the last four bytes, and what follows it in the
     /// footer. Returns them as a footer without hashes (the xorb hash is zero, the list of chunk hashes
@@ -121,6 +118,9 @@ fn expect_bytes<R: ReadAt>(
     }
     Ok(())
 }
+
+/// Maximum number of boundary offsets taken from a block at once.
+const BLOCK: usize = 64;
 
 /// Reads `count` numbers from offset `at` on. Checks first that their bytes are there, so that a wrong count
 /// reserves no more memory than there are bytes.

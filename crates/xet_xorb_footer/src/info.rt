@@ -198,20 +198,10 @@ impl XorbObjectInfoV1 {
         ensures memory { IsOkUnless result StoreError.OutOfMemory }
     {
         Ok(XorbObjectInfoV1 {
-            ident: self.ident,
-            version: self.version,
-            xorb_hash: self.xorb_hash,
-            ident_hash_section: self.ident_hash_section,
-            hashes_version: self.hashes_version,
             chunk_hashes: copy(alloc, &self.chunk_hashes)?,
-            ident_boundary_section: self.ident_boundary_section,
-            boundaries_version: self.boundaries_version,
             chunk_boundary_offsets: copy(alloc, &self.chunk_boundary_offsets)?,
             unpacked_chunk_offsets: copy(alloc, &self.unpacked_chunk_offsets)?,
-            num_chunks: self.num_chunks,
-            hashes_section_offset_from_end: self.hashes_section_offset_from_end,
-            boundary_section_offset_from_end: self.boundary_section_offset_from_end,
-            spare: self.spare,
+            ..*self
         })
     }
 

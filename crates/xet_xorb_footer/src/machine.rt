@@ -1,6 +1,7 @@
 //! State machine that reads a footer field by field.
 
-ghost use Rattle.std.specs.Prelude.{◌≤◌, vec_len};
+ghost use Rattle.std.specs.Prelude.{◌≡◌, ◌≤◌, ◌+◌, ◌-◌, ◌*◌, ◌++◌, OnOk, length, min, vec_len};
+ghost use Rattle.xet_xorb_footer.specs.internal.Items.{numbers_in};
 
 use crate::info::{
     BOUNDARIES_MAGIC, FOOTER_MAGIC, HASHES_MAGIC, XorbObjectInfoV0, XorbObjectInfoV1,
@@ -79,9 +80,9 @@ pub(crate) struct FooterReader {
 }
 
 impl FooterReader {
-    ghost use Rattle.std.specs.Prelude.{◌≡◌, ◌≤◌, ◌⊎◌, ℕ, ◌+◌, ◌-◌, ◌*◌, List, ◌++◌, Err, IfErr, IsErrOf, OnOk, length, min, nat_lt};
+    ghost use Rattle.std.specs.Prelude.{◌≡◌, ◌≤◌, ◌⊎◌, ℕ, ◌+◌, ◌-◌, ◌*◌, List, ◌++◌, Err, IfErr, IsErrOf, OnOk, length, min, nat_lt, if◌then◌else◌};
     ghost use Rattle.xet_hash.specs.declared.error.StoreError.TheVariants.{OutOfMemory, UnexpectedEof};
-    ghost use Rattle.xet_xorb_footer.specs.internal.Machine.{IsIncomplete, as_value, behind_ends, ends_v0, ends_v1, expects, expects_number, hashes_v0, hashes_v1, next_count, next_ends, next_hash, next_hashes, next_plain, next_spare, next_version, plain_v1, started, step};
+    ghost use Rattle.xet_xorb_footer.specs.internal.Machine.{IsIncomplete, advance, as_value, behind_ends, behind_hashes, ends_or, expects, expects_number, hashes_or, more_ends, more_hashes, more_plain, next_count, next_hash, next_spare, next_version, plain_v1, started, step};
     ghost use Rattle.xet_xorb_footer.specs.Machine.{block_of, footer_info, info_v0};
     ghost use Rattle.xet_xorb_footer.specs.Reader.{bytes_left, bytes_wanted, footer_parts_of, rest_of};
     ghost use Rattle.xet_xorb_footer.specs.Reading.{footer_at, footer_v0, rest_v0};
@@ -284,8 +285,7 @@ impl FooterReader {
         if field != wanted {
             return Err(StoreError::MalformedData(reason));
         }
-        self.next = next;
-        Ok(())
+        self.advance(next)
     }
 
     /// Checks that the field is the number `wanted`.
@@ -302,8 +302,7 @@ impl FooterReader {
         if number_of(field) as u64 != wanted {
             return Err(StoreError::MalformedData(reason));
         }
-        self.next = next;
-        Ok(())
+        self.advance(next)
     }
 
     fn take_version(&mut self, field: &[u8]) -> Result<(), StoreError>
@@ -343,9 +342,9 @@ impl FooterReader {
         self.count = count;
         self.reserve()?;
         self.next = if self.is_v1 {
-            self.hashes_v1()
+            self.hashes_or(Field::BoundariesIdent)
         } else {
-            self.ends_v0()
+            self.ends_or(self.hashes_or(Field::Spare))
         };
         Ok(())
     }
@@ -371,36 +370,32 @@ impl FooterReader {
 
     fn take_hashes(&mut self, field: &[u8]) -> Result<(), StoreError>
         requires { length field.now ≡ 32 * block_of (footer_parts_of self.old) self.old.hashes.items }
-        ensures { Gives (λ _. (self.new.next, footer_parts_of self.new)) result (next_hashes (footer_parts_of self.old) field.now) }
+        ensures { Gives (λ _. (self.new.next, footer_parts_of self.new)) result (advance behind_hashes (more_hashes (footer_parts_of self.old) field.now)) }
     {
         let count = self.block(self.hashes.len());
         push_hashes(&mut self.hashes, field, count)?;
         self.next = if self.is_v1 {
-            self.hashes_v1()
+            self.hashes_or(Field::BoundariesIdent)
         } else {
-            self.hashes_v0()
+            self.hashes_or(Field::Spare)
         };
         Ok(())
     }
 
     fn take_ends(&mut self, field: &[u8]) -> Result<(), StoreError>
         requires { length field.now ≡ 4 * block_of (footer_parts_of self.old) self.old.ends.items }
-        ensures { Gives (λ _. (self.new.next, footer_parts_of self.new)) result (next_ends (footer_parts_of self.old) field.now) }
+        ensures { Gives (λ _. (self.new.next, footer_parts_of self.new)) result (advance behind_ends (more_ends (footer_parts_of self.old) field.now)) }
     {
-        let count = self.block(self.ends.len());
-        push_numbers(&mut self.ends, field, count)?;
-        self.next = self.behind_ends();
-        Ok(())
+        push_block(&mut self.ends, field, self.count)?;
+        self.advance(self.behind_ends())
     }
 
     fn take_plain(&mut self, field: &[u8]) -> Result<(), StoreError>
         requires { length field.now ≡ 4 * block_of (footer_parts_of self.old) self.old.plain.items }
-        ensures { Gives (λ _. (self.new.next, footer_parts_of self.new)) result (next_plain (footer_parts_of self.old) field.now) }
+        ensures { Gives (λ _. (self.new.next, footer_parts_of self.new)) result (advance plain_v1 (more_plain (footer_parts_of self.old) field.now)) }
     {
-        let count = self.block(self.plain.len());
-        push_numbers(&mut self.plain, field, count)?;
-        self.next = self.plain_v1();
-        Ok(())
+        push_block(&mut self.plain, field, self.count)?;
+        self.advance(self.plain_v1())
     }
 
     fn take_spare(&mut self, field: &[u8]) -> Result<(), StoreError>
@@ -408,80 +403,67 @@ impl FooterReader {
         ensures { Gives (λ _. (self.new.next, footer_parts_of self.new)) result (next_spare (footer_parts_of self.old) field.now) }
     {
         self.spare.copy_from_slice(field);
-        self.next = Field::Done;
+        self.advance(Field::Done)
+    }
+
+    /// Sets the next field.
+    fn advance(&mut self, next: Field) -> Result<(), StoreError>
+        ensures { Gives (λ _. (self.new.next, footer_parts_of self.new)) result (advance (λ _. next) (footer_parts_of self.old)) }
+    {
+        self.next = next;
         Ok(())
     }
 
-    /// Whether a list with `len` items is incomplete.
-    fn lacks(&self, len: usize) -> bool
-        ensures { result ≡ nat_lt len self.now.count }
+    /// The field `here` while a list with `len` items is incomplete, then the field `behind`.
+    fn unless_full(&self, len: usize, here: Field, behind: Field) -> Field
+        ensures { result ≡ if nat_lt len self.now.count then here else behind }
     {
-        len < self.count as usize
+        if len < self.count as usize {
+            here
+        } else {
+            behind
+        }
     }
 
-    /// The next field when the uncompressed boundary offsets are due.
+    /// The next field of version 1 when the uncompressed boundary offsets are due.
     fn plain_v1(&self) -> Field
         ensures { result ≡ plain_v1 (footer_parts_of self.now) }
     {
-        if self.lacks(self.plain.len()) {
-            Field::PlainEnds
-        } else {
-            Field::CountLast
-        }
+        self.unless_full(self.plain.len(), Field::PlainEnds, Field::CountLast)
     }
 
-    /// The next field of version 1 when the boundary offsets are due.
-    fn ends_v1(&self) -> Field
-        ensures { result ≡ ends_v1 (footer_parts_of self.now) }
+    /// The next field when the boundary offsets are due, and `behind` after them.
+    fn ends_or(&self, behind: Field) -> Field
+        ensures { result ≡ ends_or (footer_parts_of self.now) behind }
     {
-        if self.lacks(self.ends.len()) {
-            Field::Ends
-        } else {
-            self.plain_v1()
-        }
+        self.unless_full(self.ends.len(), Field::Ends, behind)
     }
 
-    /// The next field when the boundary offsets are due.
+    /// The next field when the chunk hashes are due, and `behind` after them.
+    fn hashes_or(&self, behind: Field) -> Field
+        ensures { result ≡ hashes_or (footer_parts_of self.now) behind }
+    {
+        self.unless_full(self.hashes.len(), Field::Hashes, behind)
+    }
+
+    /// The next field of either version when the boundary offsets are due.
     fn behind_ends(&self) -> Field
         ensures { result ≡ behind_ends (footer_parts_of self.now) }
     {
         if self.is_v1 {
-            self.ends_v1()
+            self.ends_or(self.plain_v1())
         } else {
-            self.ends_v0()
+            self.ends_or(self.hashes_or(Field::Spare))
         }
     }
+}
 
-    /// The next field of version 1 when the chunk hashes are due.
-    fn hashes_v1(&self) -> Field
-        ensures { result ≡ hashes_v1 (footer_parts_of self.now) }
-    {
-        if self.lacks(self.hashes.len()) {
-            Field::Hashes
-        } else {
-            Field::BoundariesIdent
-        }
-    }
-
-    /// The next field of version 0 when the chunk hashes are due.
-    fn hashes_v0(&self) -> Field
-        ensures { result ≡ hashes_v0 (footer_parts_of self.now) }
-    {
-        if self.lacks(self.hashes.len()) {
-            Field::Hashes
-        } else {
-            Field::Spare
-        }
-    }
-
-    /// The next field of version 0 when the boundary offsets are due.
-    fn ends_v0(&self) -> Field
-        ensures { result ≡ ends_v0 (footer_parts_of self.now) }
-    {
-        if self.lacks(self.ends.len()) {
-            Field::Ends
-        } else {
-            self.hashes_v0()
-        }
-    }
+/// Appends the numbers of the next field of a list that is to have `total` items.
+fn push_block(list: &mut Vec<u32>, field: &[u8], total: u32) -> Result<(), AllocError>
+    requires { 4 * min 64 (total - vec_len list.old) ≤ length field.now }
+    ensures items { OnOk result (list.new.items ≡ list.old.items ++ numbers_in (min 64 (total - length list.old.items)) field.now) }
+    ensures bound { vec_len list.new ≤ vec_len list.old + min 64 (total - vec_len list.old) }
+{
+    let count = BLOCK.min((total as usize).saturating_sub(list.len()));
+    push_numbers(list, field, count)
 }

@@ -1,12 +1,12 @@
 //! Footers that are written to sinks.
 
-ghost use Rattle.std.specs.Prelude.{◌≡◌, ◌<◌, ◌^◌, ◌⊎◌, ℕ, ◌++◌, true, IfErr, IfOk, IsErrOf, OnErr, OnOk, take, length, ◌↔◌, IsTrue};
+ghost use Rattle.std.specs.Prelude.{◌≡◌, ◌<◌, ◌^◌, ◌⊎◌, ℕ, ◌++◌, true, IfErr, IfOk, IsErrOf, OnOk, take, length, ◌↔◌, IsTrue};
 ghost use Rattle.xet_hash.specs.declared.error.Place.TheVariants.{Output};
 ghost use Rattle.xet_hash.specs.declared.error.Reason.TheVariants.{ListLength};
 ghost use Rattle.xet_hash.specs.declared.error.StoreError.TheVariants.{Io, MalformedData, OutOfMemory};
 ghost use Rattle.xet_codec.specs.Held.{held_in};
 ghost use Rattle.xet_xorb_footer.specs.FooterEncoding.{HasLists, HasShortLists, length_of, length_of_v0, footer_bytes_v0, footer_bytes_v1};
-ghost use Rattle.xet_codec.specs.Written.{WritesPrefix, Moves};
+ghost use Rattle.xet_xorb_footer.specs.internal.Putting.{Puts};
 ghost use Rattle.xet_codec.specs.Stops.{StopsWriting};
 ghost use Rattle.xet_io.specs.Frame.{Called};
 
@@ -28,40 +28,34 @@ impl XorbObjectInfoV0 {
         ensures frame { Called W.tells W.faults sink.old sink.new (IsErrOf result (Io Output)) }
     {
         let mut buffer = Buffer::new();
-        put_v0(self, &mut buffer, sink)?;
+        self.put(&mut buffer, sink)?;
         buffer.flush(sink)?;
         Ok(
             60 + 4 * self.chunk_boundary_offsets.as_slice().len()
                 + 32 * self.chunk_hashes.as_slice().len(),
         )
     }
-}
 
-/// Writes a footer of version 0 through a buffer.
-fn put_v0<W: Sink>(
-    info: &XorbObjectInfoV0,
-    buffer: &mut Buffer,
-    sink: &mut W,
-) -> Result<(), StoreError>
-    ensures moved { W.tells sink.old ≡ true → OnOk result (Moves (W.written sink.old) (W.written sink.new) (held_in buffer.new) (held_in buffer.old ++ footer_bytes_v0 info.now)) }
-    ensures bytes { OnOk result (length (footer_bytes_v0 info.now) ≡ length_of_v0 info.now) }
-    ensures prefix { W.tells sink.old ≡ true → OnErr result (WritesPrefix (W.written sink.old) (W.written sink.new) (held_in buffer.old ++ footer_bytes_v0 info.now)) }
-    ensures errors { IfErr result StopsWriting }
-    ensures frame { Called W.tells W.faults sink.old sink.new (IsErrOf result (Io Output)) }
-{
-    let count = info.num_chunks.to_le_bytes();
-    buffer.put_all(
-        sink,
-        &[
-            &info.ident,
-            &[info.version],
-            info.xorb_hash.as_bytes(),
-            &count,
-        ],
-    )?;
-    buffer.put_numbers(sink, info.chunk_boundary_offsets.as_slice())?;
-    buffer.put_hashes(sink, info.chunk_hashes.as_slice())?;
-    buffer.put(sink, &info.spare)
+    /// Writes the footer through a buffer.
+    fn put<W: Sink>(&self, buffer: &mut Buffer, sink: &mut W) -> Result<(), StoreError>
+        ensures puts { W.tells sink.old ≡ true → Puts result (W.written sink.old) (W.written sink.new) (held_in buffer.new) (held_in buffer.old ++ footer_bytes_v0 self.now) }
+        ensures bytes { OnOk result (length (footer_bytes_v0 self.now) ≡ length_of_v0 self.now) }
+        ensures errors { IfErr result StopsWriting }
+        ensures frame { Called W.tells W.faults sink.old sink.new (IsErrOf result (Io Output)) }
+    {
+        buffer.put_all(
+            sink,
+            &[
+                &self.ident,
+                &[self.version],
+                self.xorb_hash.as_bytes(),
+                &self.num_chunks.to_le_bytes(),
+            ],
+        )?;
+        buffer.put_numbers(sink, self.chunk_boundary_offsets.as_slice())?;
+        buffer.put_hashes(sink, self.chunk_hashes.as_slice())?;
+        buffer.put(sink, &self.spare)
+    }
 }
 
 impl XorbObjectInfoV1 {
@@ -82,8 +76,46 @@ impl XorbObjectInfoV1 {
         if !has_lists(self) {
             return Err(StoreError::MalformedData(Reason::ListLength));
         }
-        write_v1(self, sink)?;
+        let mut buffer = Buffer::new();
+        self.put(&mut buffer, sink)?;
+        buffer.flush(sink)?;
         Ok(self.serialized_length())
+    }
+
+    /// Writes the footer, with its lists as they are, through a buffer.
+    fn put<W: Sink>(&self, buffer: &mut Buffer, sink: &mut W) -> Result<(), StoreError>
+        ensures puts { W.tells sink.old ≡ true → Puts result (W.written sink.old) (W.written sink.new) (held_in buffer.new) (held_in buffer.old ++ footer_bytes_v1 self.now) }
+        ensures bytes { OnOk result (length (footer_bytes_v1 self.now) ≡ length_of self.now) }
+        ensures errors { IfErr result StopsWriting }
+        ensures frame { Called W.tells W.faults sink.old sink.new (IsErrOf result (Io Output)) }
+    {
+        let count = self.num_chunks.to_le_bytes();
+        let hash = self.xorb_hash.as_bytes();
+        let hashes_at = self.hashes_section_offset_from_end.to_le_bytes();
+        let boundaries_at = self.boundary_section_offset_from_end.to_le_bytes();
+        buffer.put_all(
+            sink,
+            &[
+                &self.ident,
+                &[self.version],
+                hash,
+                &self.ident_hash_section,
+                &[self.hashes_version],
+                &count,
+            ],
+        )?;
+        buffer.put_hashes(sink, self.chunk_hashes.as_slice())?;
+        buffer.put_all(
+            sink,
+            &[
+                &self.ident_boundary_section,
+                &[self.boundaries_version],
+                &count,
+            ],
+        )?;
+        buffer.put_numbers(sink, self.chunk_boundary_offsets.as_slice())?;
+        buffer.put_numbers(sink, self.unpacked_chunk_offsets.as_slice())?;
+        buffer.put_all(sink, &[&count, &hashes_at, &boundaries_at, &self.spare])
     }
 }
 
@@ -95,59 +127,4 @@ fn has_lists(info: &XorbObjectInfoV1) -> bool
     info.chunk_hashes.as_slice().len() == count
         && info.chunk_boundary_offsets.as_slice().len() == count
         && info.unpacked_chunk_offsets.as_slice().len() == count
-}
-
-/// Writes a footer of version 1, with its lists as they are.
-fn write_v1<W: Sink>(info: &XorbObjectInfoV1, sink: &mut W) -> Result<(), StoreError>
-    ensures written { W.tells sink.old ≡ true → OnOk result (W.written sink.new ≡ W.written sink.old ++ footer_bytes_v1 info.now) }
-    ensures bytes { OnOk result (length (footer_bytes_v1 info.now) ≡ length_of info.now) }
-    ensures prefix { W.tells sink.old ≡ true → (n : ℕ) × (W.written sink.new ≡ W.written sink.old ++ take n (footer_bytes_v1 info.now)) }
-    ensures errors { IfErr result StopsWriting }
-    ensures frame { Called W.tells W.faults sink.old sink.new (IsErrOf result (Io Output)) }
-{
-    let mut buffer = Buffer::new();
-    put_v1(info, &mut buffer, sink)?;
-    buffer.flush(sink)?;
-    Ok(())
-}
-
-/// Writes a footer of version 1 through a buffer.
-fn put_v1<W: Sink>(
-    info: &XorbObjectInfoV1,
-    buffer: &mut Buffer,
-    sink: &mut W,
-) -> Result<(), StoreError>
-    ensures moved { W.tells sink.old ≡ true → OnOk result (Moves (W.written sink.old) (W.written sink.new) (held_in buffer.new) (held_in buffer.old ++ footer_bytes_v1 info.now)) }
-    ensures bytes { OnOk result (length (footer_bytes_v1 info.now) ≡ length_of info.now) }
-    ensures prefix { W.tells sink.old ≡ true → OnErr result (WritesPrefix (W.written sink.old) (W.written sink.new) (held_in buffer.old ++ footer_bytes_v1 info.now)) }
-    ensures errors { IfErr result StopsWriting }
-    ensures frame { Called W.tells W.faults sink.old sink.new (IsErrOf result (Io Output)) }
-{
-    let count = info.num_chunks.to_le_bytes();
-    let hash = info.xorb_hash.as_bytes();
-    let hashes_at = info.hashes_section_offset_from_end.to_le_bytes();
-    let boundaries_at = info.boundary_section_offset_from_end.to_le_bytes();
-    buffer.put_all(
-        sink,
-        &[
-            &info.ident,
-            &[info.version],
-            hash,
-            &info.ident_hash_section,
-            &[info.hashes_version],
-            &count,
-        ],
-    )?;
-    buffer.put_hashes(sink, info.chunk_hashes.as_slice())?;
-    buffer.put_all(
-        sink,
-        &[
-            &info.ident_boundary_section,
-            &[info.boundaries_version],
-            &count,
-        ],
-    )?;
-    buffer.put_numbers(sink, info.chunk_boundary_offsets.as_slice())?;
-    buffer.put_numbers(sink, info.unpacked_chunk_offsets.as_slice())?;
-    buffer.put_all(sink, &[&count, &hashes_at, &boundaries_at, &info.spare])
 }

@@ -181,6 +181,10 @@ length-encoding hash ms parts spare =
 pub length_of-new : (hash : List ℕ) (ms : List (List ℕ × ℕ)) (spare : List ℕ) → length_of (footer_v1 hash ms spare) ≡ footer_len V1 (length ms)
 length_of-new hash ms spare = omega (arith, length-hashes ms, length-ends 8 0 ms, length-ends 0 0 ms)
 
+-- a footer of leaves that equal others
+pub footer_of_leaves : (info : XorbObjectInfoV1) (hash : List ℕ) (made ms : List (List ℕ × ℕ)) (spare : List ℕ) → info ≡ footer_v1 hash made spare → made ≡ ms → info ≡ footer_v1 hash ms spare
+footer_of_leaves info hash made ms spare is same = is ∙ ap (λ (x : List (List ℕ × ℕ)). footer_v1 hash x spare) same
+
 -- what stands behind the chunks
 pub footer_is : (info : XorbObjectInfoV1) (hash : List ℕ) (ms : List (List ℕ × ℕ)) (spare : List ℕ) → info ≡ footer_v1 hash ms spare
     → footer_bytes_v1 info ++ number (length_of info) ≡ xorb_footer_bytes V1 hash ms spare ++ number (footer_len V1 (length ms))

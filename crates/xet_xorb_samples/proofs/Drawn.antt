@@ -11,8 +11,8 @@ use Rattle.xet_xorb_samples.specs.declared.samples.ChunkSize.{ChunkSize}
 use Rattle.xet_xorb_samples.specs.declared.samples.ChunkSize.TheVariants.{Fixed, Random}
 use Rattle.xet_xorb.specs.Raw.{ArePartsOfXorb}
 use Rattle.xet_xorb_samples.specs.internal.Samples.{AreSampleChunks}
-use Rattle.xet_xorb_samples.specs.Samples.{AreSamples, DrawsChunk, DrawsChunks, DrawsSize, FitXorb, HasSize, max_size}
-use Rattle.xet_xorb_samples.proofs.Boundaries.{length-concat}
+use Rattle.xet_xorb_samples.specs.Samples.{AreBoundaries, AreSamples, DrawsChunk, DrawsChunks, DrawsSize, FitXorb, HasSize, chunk_boundaries, max_size}
+use Rattle.xet_xorb_samples.proofs.Boundaries.{boundaries_of_chunks, length-concat}
 use Rattle.xet_base.specs.theorems.Elements.{all_push}
 
 pub bytes_back : (bytes : List (List ℕ)) → map bytes_of_chunk (map chunk_of bytes) ≡ bytes
@@ -44,6 +44,12 @@ more_samples n size start before after bytes next s h one = record {
   drawn = draws_push size start before after bytes next s.drawn one;
 }
 
+-- one more, whose length and bytes are drawn
+pub more_drawn : (n : ℕ) (size : ChunkSize) (start before sized after : Stream) (bytes : List (List ℕ)) (k : ℕ) (next : List ℕ) → AreSamples n size start bytes before
+    → length next ≡ k → HasSize size k → DrawsSize size before k sized → (next, after) ≡ fill_bytes k sized → AreSamples (n + 1) size start (bytes ++ next ∷ []) after
+more_drawn n size start before sized after bytes k next s is h len drawn =
+    more_samples n size start before after bytes next s (subst (HasSize size) (sym is) h) (one_drawn size before sized after k next is len drawn)
+
 pub more_chunks : (n : ℕ) (size : ChunkSize) (start before after : Stream) (chunks : List Chunk) (next : List ℕ) → AreSampleChunks n size start chunks before → HasSize size (length next) → DrawsChunk size before next after
     → AreSampleChunks (n + 1) size start (chunks ++ chunk_of next ∷ []) after
 more_chunks n size start before after chunks next s h one =
@@ -70,6 +76,10 @@ sample_parts n size before after bytes fit s = record {
       let whole : length bytes * max_size size ≡ n * max_size size = ap (λ (k : ℕ). k * max_size size) s.count in
       omega (arith, fit.total, whole, sum_within size bytes s.sizes);
 }
+
+pub sample_boundaries : (n k : ℕ) (size : ChunkSize) (before after : Stream) (bytes : List (List ℕ)) → FitXorb n size → k ≡ n → AreSamples k size before bytes after → AreBoundaries (concat bytes) (chunk_boundaries 0 bytes)
+sample_boundaries n k size before after bytes fit count s =
+    boundaries_of_chunks bytes (sample_parts n size before after bytes fit (subst (λ (m : ℕ). AreSamples m size before bytes after) count s))
 
 pub chunk_parts : (n : ℕ) (size : ChunkSize) (before after : Stream) (chunks : List Chunk) → FitXorb n size → AreSampleChunks n size before chunks after → ArePartsOfXorb (map bytes_of_chunk chunks)
 chunk_parts n size before after chunks fit s =

@@ -1,18 +1,14 @@
 //! Xorbs of random chunks, for tests.
 
 ghost use Rattle.std.specs.Prelude.{◌≡◌, ◌⊎◌, [], ◌∷◌, ℕ, List, Err, IfErr, IfOk, IsOkUnless, Some, length, map};
-ghost use Rattle.xet_hash.specs.Merkle.{xorb_hash};
 ghost use Rattle.rand_core.specs.Stream.{fill_bytes};
 ghost use Rattle.xet_hash.specs.declared.error.StoreError.{StoreError};
 ghost use Rattle.xet_hash.specs.declared.error.StoreError.TheVariants.{OutOfMemory};
 ghost use Rattle.xet_xorb_chunk.specs.Chunks.{chunk_of};
 ghost use Rattle.xet_xorb_chunk.specs.Scheme.{compressed};
-ghost use Rattle.xet_xorb.specs.Building.{no_spare};
-ghost use Rattle.xet_xorb.specs.Footer.{V1};
-ghost use Rattle.xet_xorb.specs.Object.{object_of};
 ghost use Rattle.xet_xorb.specs.Raw.{IsRaw, raw_of};
-ghost use Rattle.xet_xorb_samples.specs.Samples.{AreBoundaries, AreSamples, DrawsSize, FitXorb, HasSize, IsOrdered, IsSampleOf, leaves_from, max_size, size_text};
-ghost use Rattle.xet_xorb_samples.specs.internal.Samples.{AreSampleChunks};
+ghost use Rattle.xet_xorb_samples.specs.Samples.{AreBoundaries, AreSamples, DrawsSize, FitXorb, HasSize, IsOrdered, IsSampleOf, max_size, size_text};
+ghost use Rattle.xet_xorb_samples.specs.internal.Samples.{AreSampleChunks, object_of_boundaries};
 
 use crate::reference::boundary_leaves;
 use bytes::Bytes;
@@ -161,7 +157,7 @@ fn boundary_object(
     boundaries: &[(MerkleHash, u32)],
 ) -> Result<XorbObject, StoreError>
     requires { (bytes : List ℕ) × AreBoundaries bytes boundaries.now }
-    ensures object { IfOk result (λ object. object ≡ object_of V1 (xorb_hash (leaves_from 0 boundaries.now)) (leaves_from 0 boundaries.now) no_spare) }
+    ensures object { IfOk result (λ object. object ≡ object_of_boundaries boundaries.now) }
     ensures memory { IsOkUnless result StoreError.OutOfMemory }
 {
     let leaves = boundary_leaves(alloc, boundaries)?;

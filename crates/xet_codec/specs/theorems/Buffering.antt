@@ -28,29 +28,28 @@ drop_twice n m x y =
     let le : k ≤ length x = omega arith in
     sym (ap (λ (i : ℕ). drop i (x ++ y)) (omega arith) ∙ sym (drop-drop m k (x ++ y)) ∙ ap (drop m) (drop-append-le k x y le ∙ ap (λ (t : List ℕ). t ++ y) (drop_min n x)))
 
+-- a prefix of the buffered bytes and a piece is written, and then a prefix of what is left of them and another piece
+pieces : (w0 w1 w2 h1 h0 p q : List ℕ) (n m : ℕ) → w1 ≡ w0 ++ take n (h0 ++ p) → h1 ≡ drop n (h0 ++ p) → w2 ≡ w1 ++ take m (h1 ++ q)
+    → w2 ≡ w0 ++ take (min n (length (h0 ++ p)) + m) (h0 ++ (p ++ q))
+pieces w0 w1 w2 h1 h0 p q n m first left next =
+    let x : List ℕ = h0 ++ p in
+    next ∙ ap (λ (t : List ℕ). w1 ++ take m (t ++ q)) left ∙ ap (λ (t : List ℕ). t ++ take m (drop n x ++ q)) first ∙ append_assoc w0 (take n x) (take m (drop n x ++ q))
+    ∙ ap (λ (t : List ℕ). w0 ++ t) (take_twice n m x q ∙ ap (take (min n (length x) + m)) (append_assoc h0 p q))
+
 -- one piece was taken behind what was held, and then another
 pub then : {w0 w1 w2 h1 h2 : List ℕ} (h0 p q : List ℕ) → Moves w0 w1 h1 (h0 ++ p) → Moves w1 w2 h2 (h1 ++ q) → Moves w0 w2 h2 (h0 ++ (p ++ q))
-then {w0} {w1} {w2} {h1} {h2} h0 p q a b =
-    let x : List ℕ = h0 ++ p in
-    let held : h1 ++ q ≡ drop a.count x ++ q = ap (λ (t : List ℕ). t ++ q) a.held in
-    record {
-      count = min a.count (length x) + b.count;
-      written = b.written ∙ ap (λ (t : List ℕ). w1 ++ take b.count t) held ∙ ap (λ (t : List ℕ). t ++ take b.count (drop a.count x ++ q)) a.written
-          ∙ append_assoc w0 (take a.count x) (take b.count (drop a.count x ++ q))
-          ∙ ap (λ (t : List ℕ). w0 ++ t) (take_twice a.count b.count x q ∙ ap (take (min a.count (length x) + b.count)) (append_assoc h0 p q));
-      held = b.held ∙ ap (drop b.count) held ∙ drop_twice a.count b.count x q ∙ ap (drop (min a.count (length x) + b.count)) (append_assoc h0 p q);
-    }
+then h0 p q a b = record {
+  count = min a.count (length (h0 ++ p)) + b.count;
+  written = pieces _ _ _ _ h0 p q a.count b.count a.written a.held b.written;
+  held = b.held ∙ ap (λ (t : List ℕ). drop b.count (t ++ q)) a.held ∙ drop_twice a.count b.count (h0 ++ p) q
+      ∙ ap (drop (min a.count (length (h0 ++ p)) + b.count)) (append_assoc h0 p q);
+}
 
 pub then_prefix : {w0 w1 w2 h1 : List ℕ} (h0 p q : List ℕ) → Moves w0 w1 h1 (h0 ++ p) → WritesPrefix w1 w2 (h1 ++ q) → WritesPrefix w0 w2 (h0 ++ (p ++ q))
-then_prefix {w0} {w1} {w2} {h1} h0 p q a b =
-    let x : List ℕ = h0 ++ p in
-    let held : h1 ++ q ≡ drop a.count x ++ q = ap (λ (t : List ℕ). t ++ q) a.held in
-    record {
-      count = min a.count (length x) + b.count;
-      written = b.written ∙ ap (λ (t : List ℕ). w1 ++ take b.count t) held ∙ ap (λ (t : List ℕ). t ++ take b.count (drop a.count x ++ q)) a.written
-          ∙ append_assoc w0 (take a.count x) (take b.count (drop a.count x ++ q))
-          ∙ ap (λ (t : List ℕ). w0 ++ t) (take_twice a.count b.count x q ∙ ap (take (min a.count (length x) + b.count)) (append_assoc h0 p q));
-    }
+then_prefix h0 p q a b = record {
+  count = min a.count (length (h0 ++ p)) + b.count;
+  written = pieces _ _ _ _ h0 p q a.count b.count a.written a.held b.written;
+}
 
 -- all that was held was written, and then a piece
 pub direct : {w0 w1 w2 h0 h1 : List ℕ} (p : List ℕ) → Moves w0 w1 h1 h0 → h1 ≡ [] → w2 ≡ w1 ++ p → Moves w0 w2 h1 (h0 ++ p)

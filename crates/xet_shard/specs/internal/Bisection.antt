@@ -1,6 +1,5 @@
 -- Bisection of a lookup table, for private functions.
-use Rattle.std.specs.Prelude.{◌≡◌, ◌≤◌, ℕ, zero, suc, ◌+◌, Bool, true, false, List, [], ◌∷◌, drop, length, nat_le, nat_lt, IfSome, Option, None, Result, Ok}
-use Rattle.std.specs.List.{slice_get}
+use Rattle.std.specs.Prelude.{ℕ, zero, suc, List, [], ◌∷◌, drop}
 
 -- the bytes from the start of each of n items of `size` bytes on
 unfoldable pub slots : ℕ → ℕ → List ℕ → List (List ℕ)

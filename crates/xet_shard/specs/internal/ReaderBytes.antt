@@ -1,6 +1,5 @@
 -- The byte ranges from which the parts of a shard are read, each with the checks that it needs.
-use Rattle.std.specs.Prelude.{ℕ, ◌+◌, ◌*◌, ◌^◌, ◌==◌, nat_eq, nat_le, nat_lt, List, length, take, drop, replicate, Result, Ok}
-use Rattle.std.specs.Cmp.Lexicographic.{pointwise}
+use Rattle.std.specs.Prelude.{ℕ, ◌+◌, ◌*◌, ◌^◌, nat_le, nat_lt, List, length, take, drop, Result, Ok}
 use Rattle.xet_hash.specs.declared.error.Reason.TheVariants.{SectionPlace}
 use Rattle.xet_hash.specs.declared.error.StoreError.{StoreError}
 use Rattle.xet_codec.specs.Parsing.{◌>>=◌, reaches, wants}

@@ -1,10 +1,7 @@
 -- Properties of each record of a table.
-use Rattle.std.proofs.Common.{◌≡◌, ◌≢◌, ◌<◌, ◌^◌, ◌∙◌, ℕ, Bool, true, false, cond, not, List, [], ◌∷◌, ◌++◌, filter, length, nat_eq, None, Some, refl, sym, ap, subst, arith}
-use Rattle.std.proofs.lemmas.Bool.{true≢false}
-use Rattle.std.proofs.lemmas.List.{map-append}
-use Rattle.std.specs.Cmp.Lexicographic.{bytes_decides, nat_list_eq_equiv, pointwise}
+use Rattle.std.proofs.Common.{ℕ, Bool, not, List, filter, nat_eq}
+use Rattle.std.specs.Cmp.Lexicographic.{pointwise}
 use Rattle.std.specs.List.{AllByRecursion}
-use Rattle.std.specs.Map.{lookup, remove_entry, values_of}
 use Rattle.xet_shard.specs.Held.{with_last}
 use Rattle.xet_base.specs.theorems.Elements.{all_filtered, all_push}
 

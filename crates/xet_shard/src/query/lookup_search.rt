@@ -70,7 +70,8 @@ pub fn has_head<R: ReadAt>(
     ensures frame { ReadFrom R.bytes R.tells R.faults R.lent reader.old reader.new (IsErrOf result (StoreError.Io Place.Input)) }
 {
     if f.xorb_lookup_num_entry == 0 {
-        made_head(alloc, reader, f, row)
+        let items = made_xorb_lookup(alloc, reader, f)?;
+        Ok(has_row(&items, row))
     } else {
         kept_head(reader, f, row)
     }
@@ -138,22 +139,6 @@ fn kept_chunk_place<R: ReadAt>(
     Ok(Some((half_word(&item, 8), half_word(&item, 12))))
 }
 
-/// `has_head` for an omitted table.
-fn made_head<R: ReadAt>(
-    alloc: Global,
-    reader: &mut R,
-    f: &MDBShardFileFooter,
-    row: u32,
-) -> Result<bool, StoreError>
-    requires { f.now.xorb_lookup_num_entry ≡ 0 }
-    ensures exact { R.tells reader.old ≡ true → GivesUnlessFault (λ there. there) result (has_head f.now row 0 (R.bytes reader.old)) }
-    ensures errors { IfErr result IsShardError }
-    ensures frame { ReadFrom R.bytes R.tells R.faults R.lent reader.old reader.new (IsErrOf result (StoreError.Io Place.Input)) }
-{
-    let items = made_xorb_lookup(alloc, reader, f)?;
-    Ok(has_row(&items, row))
-}
-
 /// `has_head` for a stored table: whether the item at the bisecting index has the row.
 fn kept_head<R: ReadAt>(
     reader: &mut R,
@@ -165,8 +150,7 @@ fn kept_head<R: ReadAt>(
     ensures errors { IfErr result IsShardError }
     ensures frame { ReadFrom R.bytes R.tells R.faults R.lent reader.old reader.new (IsErrOf result (StoreError.Io Place.Input)) }
 {
-    let at = f.xorb_lookup_offset;
-    let count = f.xorb_lookup_num_entry;
+    let (at, count) = (f.xorb_lookup_offset, f.xorb_lookup_num_entry);
     let index = bisecting_index(reader, at, 12, count, Probe::RowBelow(row))?;
     if index >= count {
         return Ok(false);

@@ -133,7 +133,8 @@ fn agreed<R: ReadAt>(
         let rest = &query[done as usize..];
         let some = at_once(count - done, rest.len());
         let place = at + 48 * u64::from(done);
-        let (found, next) = agreed_block(alloc, reader, key, rest, place, some, end, to)?;
+        let bytes = bytes_at(alloc, reader, place, 48 * u64::from(some))?;
+        let (found, next) = agreed_rows(key, rest, &bytes, some, end, to)?;
         done += found;
         to = next;
         if found < some {
@@ -158,28 +159,6 @@ fn at_once(rows: u32, hashes: usize) -> u32
     } else {
         most
     }
-}
-
-/// `agreed` for rows that are read at once.
-fn agreed_block<R: ReadAt>(
-    alloc: Global,
-    reader: &mut R,
-    key: &HMACKey,
-    query: &[MerkleHash],
-    at: u64,
-    count: u32,
-    end: u32,
-    from: u32,
-) -> Result<(u32, u32), StoreError>
-    requires inside { at + 48 * count < 2 ^ 64 }
-    ensures exact { R.tells reader.old ≡ true → at + 48 * count ≤ length (R.bytes reader.old) → GivesUnlessFault (λ x. x) result (agreed (map (kept_hash key.now) query.now) end from (rows_in count (drop at (R.bytes reader.old)))) }
-    ensures within { IfOk result (λ n. n.0 ≤ count) }
-    ensures behind { IfOk result (λ n. from ≤ n.1) }
-    ensures errors { IfErr result IsShardError }
-    ensures frame { ReadFrom R.bytes R.tells R.faults R.lent reader.old reader.new (IsErrOf result (StoreError.Io Place.Input)) }
-{
-    let bytes = bytes_at(alloc, reader, at, 48 * u64::from(count))?;
-    agreed_rows(key, query, &bytes, count, end, from)
 }
 
 /// `agreed` for the first rows of `bytes`.

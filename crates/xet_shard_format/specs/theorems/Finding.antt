@@ -28,3 +28,14 @@ module _ {X : Type 0} (record_at : Row → List Row → Result (X × List Row) S
 
   pub section_fits : IsBytes bytes → 48 * n ≤ length bytes → AllByRecursion RowFits (section (λ x. head x ∷ others x) xs)
   section_fits known long = subst (AllByRecursion RowFits) rows_are (rows_fit n bytes known long)
+
+-- The same of a section that was read, in terms of what was returned: its rows are few, and so is a total of its records.
+module _ {X V : Type 0} (view : V → List X) (r : Result V StoreError) (record_at : Row → List Row → Result (X × List Row) StoreError) (hash : X → List ℕ) (head : X → Row) (others : X → List Row) (Form : X → Type 0) (each : Reading record_at hash head others Form)
+    (n : ℕ) (bytes : List ℕ) (few : n < 2 ^ 32) (gives : Gives view r (section_at record_at hash n None (rows_in n bytes))) where
+  pub given_few : IfOk r (λ v. length (section (λ x. head x ∷ others x) (view v)) < 2 ^ 32)
+  given_few = given_ok view r _ (λ xs. length (section (λ x. head x ∷ others x) xs) < 2 ^ 32) (λ xs e. section_few record_at hash head others Form each n bytes xs e few) gives
+
+  pub given_total : (total : List X → ℕ) → ((xs : List X) → length (section (λ x. head x ∷ others x) xs) < 2 ^ 32 → AllByRecursion RowFits (section (λ x. head x ∷ others x) xs) → total xs < 2 ^ 64)
+      → IsBytes bytes → 48 * n ≤ length bytes → IfOk r (λ v. total (view v) < 2 ^ 64)
+  given_total total below known long =
+      given_ok view r _ (λ xs. total xs < 2 ^ 64) (λ xs e. below xs (section_few record_at hash head others Form each n bytes xs e few) (section_fits record_at hash head others Form each n bytes xs e known long)) gives

@@ -210,12 +210,22 @@ read_parts bytes files blocks f fits h fe xe end u1 l1 u2 l2 u3 l3 totals =
       footer = footer;
     }
 
-pub all_takes : (bytes : List ℕ) (p : ShardParts) → IsBytes bytes → all_of bytes ≡ Ok p → IsRead bytes p
+-- what reading the whole has checked of each part
+pub record Checked (bytes : List ℕ) (p : ShardParts) : Type 0 where
+  pub header : shard_header_at bytes ≡ Ok tt
+  pub footer : shard_footer_at bytes ≡ Ok p.2
+  pub files : section_at file_record_at file_hash (file_row_count p.2) None (rows_in (file_row_count p.2) (drop p.2.file_info_offset bytes)) ≡ Ok p.1
+  pub blocks : section_at xorb_at xorb_hash (xorb_row_count p.2) None (rows_in (xorb_row_count p.2) (drop p.2.xorb_info_offset bytes)) ≡ Ok p.0
+  pub heads : lookup_at bytes p.2.file_lookup_offset (12 * p.2.file_lookup_num_entry) (record_items_bytes (file_items p.1)) ≡ Ok tt
+  pub xorbs : lookup_at bytes p.2.xorb_lookup_offset (12 * p.2.xorb_lookup_num_entry) (record_items_bytes (xorb_items p.0)) ≡ Ok tt
+  pub chunks : lookup_at bytes p.2.chunk_lookup_offset (16 * p.2.chunk_lookup_num_entry) (chunk_items_bytes (chunk_items p.0)) ≡ Ok tt
+  pub totals : totals_at p.2 (materialized p.1) (stored p.0) ≡ Ok tt
+
+pub checked : (bytes : List ℕ) (p : ShardParts) → all_of bytes ≡ Ok p → Checked bytes p
 unfolding all_of
-all_takes bytes p fits e =
+checked bytes p e =
     let h = bind_ok (shard_header_at bytes) _ _ e in
     let g = bind_ok (shard_footer_at bytes) _ _ h.2 in
-    let f : MDBShardFileFooter = g.0 in
     let fs = bind_ok (section_at file_record_at file_hash (file_row_count g.0) None (rows_in (file_row_count g.0) (drop g.0.file_info_offset bytes))) _ _ g.2 in
     let xs = bind_ok (section_at xorb_at xorb_hash (xorb_row_count g.0) None (rows_in (xorb_row_count g.0) (drop g.0.xorb_info_offset bytes))) _ _ fs.2 in
     let l1 = bind_ok (lookup_at bytes g.0.file_lookup_offset (12 * g.0.file_lookup_num_entry) (record_items_bytes (file_items fs.0))) _ _ xs.2 in
@@ -223,6 +233,10 @@ all_takes bytes p fits e =
     let l3 = bind_ok (lookup_at bytes g.0.chunk_lookup_offset (16 * g.0.chunk_lookup_num_entry) (chunk_items_bytes (chunk_items xs.0))) _ _ l2.2 in
     let t = bind_ok (totals_at g.0 (materialized fs.0) (stored xs.0)) _ _ l3.2 in
     let made : ShardParts = (xs.0, fs.0, g.0) in
-    subst (λ (q : ShardParts). IsRead bytes q) (ok_is made p t.2)
-    (read_parts bytes fs.0 xs.0 g.0 fits (header_takes bytes h.0 fits h.1) fs.1 xs.1 (footer_takes bytes g.0 fits (header_takes bytes h.0 fits h.1).1 g.1)
-    l1.0 l1.1 l2.0 l2.1 l3.0 l3.1 (totals_take g.0 (materialized fs.0) (stored xs.0) t.0 t.1))
+    subst (λ (q : ShardParts). Checked bytes q) (ok_is made p t.2) (record { header = h.1; footer = g.1; files = fs.1; blocks = xs.1; heads = l1.1; xorbs = l2.1; chunks = l3.1; totals = t.1 })
+
+pub all_takes : (bytes : List ℕ) (p : ShardParts) → IsBytes bytes → all_of bytes ≡ Ok p → IsRead bytes p
+all_takes bytes p fits e =
+    let c = checked bytes p e in
+    let start = header_takes bytes tt fits c.header in
+    read_parts bytes p.1 p.0 p.2 fits start c.files c.blocks (footer_takes bytes p.2 fits start.1 c.footer) tt c.heads tt c.xorbs tt c.chunks (totals_take p.2 (materialized p.1) (stored p.0) tt c.totals)

@@ -37,13 +37,8 @@ impl<D: Disk + Send> Store<D> {
         }
         known_bytes(&hash);
         self.shards.reserve(1)?;
-        put_shard(
-            &mut self.disk,
-            self.alloc,
-            self.folder.as_str(),
-            &hash,
-            &encoding,
-        )?;
+        let folder = self.folder.as_str();
+        put_shard(&mut self.disk, self.alloc, folder, &hash, &encoding)?;
         self.shards.push_reserved(hash);
         self.pending = MDBInMemoryShard::new(self.alloc);
         Ok(Some(hash))

@@ -1,8 +1,9 @@
 -- The parts of a xorb that validation checks.
-use Rattle.std.specs.Prelude.{◌≡◌, ℕ, ◌+◌, ◌≤◌, List, ◌∷◌, ◌++◌, length, take, drop}
+use Rattle.std.specs.Prelude.{◌≡◌, ℕ, ◌+◌, ◌*◌, ◌^◌, ◌<◌, ◌≤◌, List, ◌∷◌, ◌++◌, length, take, drop}
 use Rattle.std.specs.List.{AllByRecursion, flat_map}
-use Rattle.xet_hash.specs.Merkle.{leaves_of}
+use Rattle.xet_hash.specs.Merkle.{leaves_of, total_len}
 use Rattle.xet_codec.specs.Numbers.{number}
+use Rattle.xet_xorb_footer.specs.FooterEncoding.{max_chunks}
 use Rattle.xet_xorb_chunk.specs.ChunkEncoding.{le24, encoded_chunk}
 use Rattle.xet_xorb.specs.declared.object.XorbObject.{XorbObject}
 use Rattle.xet_xorb.specs.Footer.{Version, footer_len, xorb_footer_bytes}
@@ -40,3 +41,8 @@ pub record IsEnding (hash : List ℕ) (ms : List (List ℕ × ℕ)) (bytes : Lis
   pub spare_len : length spare ≡ 16
   pub encoded : bytes ≡ ending version hash ms spare
   pub listed : object ≡ object_of version hash ms spare
+
+-- A footer of these (hash, length) pairs fits: so many chunks may be listed, and the boundary offsets are below 2 ^ 32.
+pub record FitsFooter (leaves : List (List ℕ × ℕ)) : Type 0 where
+  pub few : length leaves ≤ max_chunks
+  pub bound : total_len leaves + 8 * length leaves < 2 ^ 32

@@ -114,14 +114,5 @@ standard_v1 hash ms spare size hashed few fits sixteen = record {
 
 pub is_standard_v0 : (hash : List ℕ) (ms : List (List ℕ × ℕ)) (spare : List ℕ) → length hash ≡ 32 → AreHashed ms → length ms ≤ max_chunks
     → total_len ms + 8 * length ms < 2 ^ 32 → length spare ≡ 16 → IsStandardV0 (standard_footer_v0 hash ms spare)
-is_standard_v0 hash ms spare size hashed few fits sixteen = record {
-  ident = refl;
-  version = refl;
-  hash = size;
-  few = few;
-  hashes = length-hashes ms;
-  stored = length-ends 8 0 ms;
-  whole_hashes = whole_hashes ms hashed;
-  small_stored = small_ends 8 ms fits;
-  spare = sixteen;
-}
+is_standard_v0 hash ms spare size hashed few fits sixteen =
+    record { ident = refl; version = refl; hash = size; few = few; hashes = length-hashes ms; stored = length-ends 8 0 ms; whole_hashes = whole_hashes ms hashed; small_stored = small_ends 8 ms fits; spare = sixteen }

@@ -24,23 +24,34 @@ IsIncomplete f p = Unit {0}
 abbrev pub lacks : {X : Type 0} → FooterParts → List X → Field → Field → Field
 lacks p xs here behind = if nat_lt (length xs) p.count then here else behind
 
+-- The chunk hashes, or the boundary offsets, while they are incomplete, then the field `behind`.
+abbrev pub hashes_or : FooterParts → Field → Field
+hashes_or p behind = lacks p p.hashes fields.Hashes behind
+
+abbrev pub ends_or : FooterParts → Field → Field
+ends_or p behind = lacks p p.ends fields.Ends behind
+
 abbrev pub plain_v1 : FooterParts → Field
 plain_v1 p = lacks p p.plain fields.PlainEnds fields.CountLast
 
 abbrev pub ends_v1 : FooterParts → Field
-ends_v1 p = lacks p p.ends fields.Ends (plain_v1 p)
+ends_v1 p = ends_or p (plain_v1 p)
 
 abbrev pub hashes_v1 : FooterParts → Field
-hashes_v1 p = lacks p p.hashes fields.Hashes fields.BoundariesIdent
+hashes_v1 p = hashes_or p fields.BoundariesIdent
 
 abbrev pub hashes_v0 : FooterParts → Field
-hashes_v0 p = lacks p p.hashes fields.Hashes fields.Spare
+hashes_v0 p = hashes_or p fields.Spare
 
 abbrev pub ends_v0 : FooterParts → Field
-ends_v0 p = lacks p p.ends fields.Ends (hashes_v0 p)
+ends_v0 p = ends_or p (hashes_v0 p)
 
 abbrev pub Next : Type 0
 Next = Result (Field × FooterParts) StoreError
+
+-- What was read, and the next field after it.
+abbrev pub advance : (FooterParts → Field) → FooterParts → Next
+advance next p = Ok (next p, p)
 
 abbrev pub expects : List ℕ → List ℕ → Reason → Field → FooterParts → Next
 expects field ident reason next p = wants (pointwise nat_eq field ident) reason >>= λ _. Ok (next, p)
@@ -66,23 +77,14 @@ behind_hashes p = if p.is_v1 then hashes_v1 p else hashes_v0 p
 abbrev pub more_hashes : FooterParts → List ℕ → FooterParts
 more_hashes p field = record p { hashes = p.hashes ++ hashes_in (block_of p p.hashes) field }
 
-abbrev pub next_hashes : FooterParts → List ℕ → Next
-next_hashes p field = Ok (behind_hashes (more_hashes p field), more_hashes p field)
-
 abbrev pub behind_ends : FooterParts → Field
 behind_ends p = if p.is_v1 then ends_v1 p else ends_v0 p
 
 abbrev pub more_ends : FooterParts → List ℕ → FooterParts
 more_ends p field = record p { ends = p.ends ++ numbers_in (block_of p p.ends) field }
 
-abbrev pub next_ends : FooterParts → List ℕ → Next
-next_ends p field = Ok (behind_ends (more_ends p field), more_ends p field)
-
 abbrev pub more_plain : FooterParts → List ℕ → FooterParts
 more_plain p field = record p { plain = p.plain ++ numbers_in (block_of p p.plain) field }
-
-abbrev pub next_plain : FooterParts → List ℕ → Next
-next_plain p field = Ok (plain_v1 (more_plain p field), more_plain p field)
 
 abbrev pub next_spare : FooterParts → List ℕ → Next
 next_spare p field = Ok (fields.Done, record p { spare = field })
@@ -95,12 +97,12 @@ step fields.Hash p field = next_hash p field
 step fields.HashesIdent p field = expects field hashes_magic reasons.HashesIdent fields.HashesVersion p
 step fields.HashesVersion p field = expects field (0 ∷ []) reasons.HashesVersion fields.Count p
 step fields.Count p field = next_count p field
-step fields.Hashes p field = next_hashes p field
+step fields.Hashes p field = advance behind_hashes (more_hashes p field)
 step fields.BoundariesIdent p field = expects field boundaries_magic reasons.BoundariesIdent fields.BoundariesVersion p
 step fields.BoundariesVersion p field = expects field (1 ∷ []) reasons.BoundariesVersion fields.CountAgain p
 step fields.CountAgain p field = expects_number field p.count reasons.CountMismatch (behind_ends p) p
-step fields.Ends p field = next_ends p field
-step fields.PlainEnds p field = next_plain p field
+step fields.Ends p field = advance behind_ends (more_ends p field)
+step fields.PlainEnds p field = advance plain_v1 (more_plain p field)
 step fields.CountLast p field = expects_number field p.count reasons.CountMismatch fields.HashesOffset p
 step fields.HashesOffset p field = expects_number field (52 + 40 * p.count) reasons.HashesOffset fields.BoundaryOffset p
 step fields.BoundaryOffset p field = expects_number field (40 + 8 * p.count) reasons.BoundaryOffset fields.Spare p

@@ -14,10 +14,7 @@ loop-i-init c = record {
 
 pub returns-then-sum-mask-eq0-clause-value : goal.returns-then-sum-mask-eq0-clause-value
 returns-then-sum-mask-eq0-clause-value c =
-    let s = c.args.limits.now in
-    let bytes = c.args.bytes.now in
-    let i = c.loop-i.i in
-    let start = c.saturating_sub-start.result in
+    let s = c.args.limits.now in let bytes = c.args.bytes.now in let i = c.loop-i.i in let start = c.saturating_sub-start.result in
     let so_far = gear_hash_more s.gear bytes start i c.loop-i.sum c.loop-i.invariant.so_far (omega arith) (omega arith) in
     let mask_is : c.mask-mask.result ≡ mask s.target_chunk = c.mask-mask.ensures ∙ ap mask c.target_chunk.ensures.value in
     let test = may_end_is s bytes start i _ c.mask-mask.result so_far mask_is (omega arith) (omega arith) (omega arith) in
@@ -26,10 +23,7 @@ returns-then-sum-mask-eq0-clause-value c =
 
 pub loop-i-preserved : goal.loop-i-preserved
 loop-i-preserved c =
-    let s = c.args.limits.now in
-    let bytes = c.args.bytes.now in
-    let i = c.loop-i.i in
-    let start = c.saturating_sub-start.result in
+    let s = c.args.limits.now in let bytes = c.args.bytes.now in let i = c.loop-i.i in let start = c.saturating_sub-start.result in
     let so_far = gear_hash_more s.gear bytes start i c.loop-i.sum c.loop-i.invariant.so_far (omega arith) (omega arith) in
     let mask_is : c.mask-mask.result ≡ mask s.target_chunk = c.mask-mask.ensures ∙ ap mask c.target_chunk.ensures.value in
     record {

@@ -1,10 +1,11 @@
-use Rattle.std.proofs.Common.{ℕ}
+use Rattle.std.proofs.Common.{◌≡◌, ℕ, subst}
 use Rattle.xet_io.specs.Disk.{file}
 use Rattle.xet_hash.specs.declared.error.StoreError.{StoreError}
+use Rattle.xet_shard_format.specs.Reading.{ShardParts}
 use Rattle.xet_shard_format.specs.theorems.Fitting.{materialized_below}
 use Rattle.xet_folder.specs.Admission.{ShardFails}
 use Rattle.xet_shard_file.specs.Errors.{IsShardCheckError, IsShardError}
-use Rattle.xet_folder.specs.Checks.{Knows}
+use Rattle.xet_folder.specs.Checks.{HasXorbsOfShard, Knows}
 use Rattle.xet_base.specs.theorems.Exits.{on_exit}
 use Rattle.xet_folder.proofs.Refused.{read_error, read_refusal}
 use Rattle.xet_folder.proofs.Tables.{all_listed}
@@ -25,6 +26,12 @@ check_parts-requires-clause-total g c =
 
 pub returns-clause-recorded : goal.returns-clause-recorded
 returns-clause-recorded g c = all_listed c.check_parts.new.table c.in_ok-parts.parts.1.items c.in_ok-check_parts.ensures.recorded
+
+pub returns-clause-there : goal.returns-clause-there
+returns-clause-there g c = λ p read.
+    let parts : ShardParts = (c.in_ok-parts.parts.0.items, c.in_ok-parts.parts.1.items, c.in_ok-parts.parts.2) in
+    let same : parts ≡ p = cc (c.in_ok-parts.ensures.exact, read) in
+    subst (λ (x : ShardParts). HasXorbsOfShard c.check_parts.new.table x) same c.in_ok-check_parts.ensures.there
 
 pub returns-in_err-parts-clause-error : goal.returns-in_err-parts-clause-error
 returns-in_err-parts-clause-error g c =

@@ -1,4 +1,4 @@
-use Rattle.std.proofs.Common.{◌≡◌, ◌∙◌, inl, inr, ℕ, List, refl, sym, subst, arith}
+use Rattle.std.proofs.Common.{◌∙◌, ℕ, List, refl, sym, subst, arith}
 use Rattle.std.specs.List.{AllByRecursion}
 use Rattle.xet_io.specs.Disk.{Files, file}
 use Rattle.xet_hash.specs.declared.error.StoreError.{StoreError}
@@ -7,12 +7,12 @@ use Rattle.xet_shard_format.specs.declared.record.MDBXorbInfo.{MDBXorbInfo}
 use Rattle.xet_shard_format.specs.Reading.{ShardParts}
 use Rattle.xet_shard_format.specs.Records.{xorb_hash}
 use Rattle.xet_folder.specs.Admission.{BlockFails, BlockHolds, FileFails, FileHolds, FirstFails, ShardFails}
-use Rattle.xet_folder.specs.Checks.{IsInTable, HasXorbsOfFile, HasXorbsOfShard, Knows, OfBlocks, OfBytes, OfFiles}
+use Rattle.xet_folder.specs.Checks.{IsInTable, HasXorbsOfFile, Knows, OfFiles}
 use Rattle.xet_shard_file.specs.Errors.{IsShardCheckError}
 use Rattle.xet_folder.proofs.Backing.{differ, same_hash}
 use Rattle.xet_base.specs.theorems.Exits.{on_exit}
 use Rattle.xet_folder.proofs.Refused.{refusal_of}
-use Rattle.xet_folder.proofs.Tables.{blocks_later, grows_more, grows_then, later_of}
+use Rattle.xet_folder.proofs.Tables.{blocks_later, grows_blocks, grows_files, later_of}
 use Rattle.xet_folder.proofs.admission.check_parts.Goals as goal
 
 pub returns-then-ne-clause-refused : goal.returns-then-ne-clause-refused
@@ -28,16 +28,12 @@ returns-then-ne-2-clause-refused g c = λ known modified.
 
 pub returns-in_err-check_blocks-clause-grows : goal.returns-in_err-check_blocks-clause-grows
 returns-in_err-check_blocks-clause-grows g c =
-    let p : ShardParts = (c.args.parts.now.0.items, c.args.parts.now.1.items, c.args.parts.now.2) in
-    grows_more (OfBlocks c.deref.result.now) (OfBytes c.args.bytes.now) (λ h of. (p, c.requires.read, inl (subst (λ (bs : List MDBXorbInfo). OfBlocks bs h) c.deref.ensures.value of)))
-    c.args.table.now c.check_blocks.new.table c.in_err-check_blocks.ensures.grows
+    grows_blocks c.args.bytes.now (c.args.parts.now.0.items, c.args.parts.now.1.items, c.args.parts.now.2) c.requires.read c.deref.ensures.value c.in_err-check_blocks.ensures.grows
 
 pub returns-in_err-check_blocks-clause-refused : goal.returns-in_err-check_blocks-clause-refused
 returns-in_err-check_blocks-clause-refused g c =
     let p : ShardParts = (c.args.parts.now.0.items, c.args.parts.now.1.items, c.args.parts.now.2) in
-    let folder = c.args.folder.now in
-    let hash = c.args.hash.now in
-    let files = g.D.Disk.files c.args.disk.now in
+    let folder = c.args.folder.now in let hash = c.args.hash.now in let files = g.D.Disk.files c.args.disk.now in
     let known = Knows (g.D.Disk.tells c.args.disk.now) files folder c.args.table.now in
     let named = sym c.compute_data_hash.ensures ∙ same_hash c.compute_data_hash.result hash (sym c.ne.ensures ∙ c.if-ne.false) in
     let plain = same_hash c.args.parts.now.2.chunk_hash_hmac_key c.default.result (sym c.ne-2.ensures ∙ c.if-ne-2.false) ∙ c.default.ensures in
@@ -54,18 +50,12 @@ returns-in_err-check_blocks-clause-refused g c =
 pub returns-in_err-check_files-clause-grows : goal.returns-in_err-check_files-clause-grows
 returns-in_err-check_files-clause-grows g c =
     let p : ShardParts = (c.args.parts.now.0.items, c.args.parts.now.1.items, c.args.parts.now.2) in
-    grows_then (OfBytes c.args.bytes.now) (OfFiles c.deref-2.result.now) (λ h of. (p, c.requires.read, inr (subst (λ (fs : List MDBFileInfo). OfFiles fs h) c.deref-2.ensures.value of)))
-    c.args.table.now c.check_blocks.new.table c.check_files.new.table
-    (grows_more (OfBlocks c.deref.result.now) (OfBytes c.args.bytes.now) (λ h of. (p, c.requires.read, inl (subst (λ (bs : List MDBXorbInfo). OfBlocks bs h) c.deref.ensures.value of)))
-    c.args.table.now c.check_blocks.new.table c.in_ok-check_blocks.ensures.grows)
-    c.in_err-check_files.ensures.grows
+    grows_files c.args.bytes.now p c.requires.read c.deref-2.ensures.value (grows_blocks c.args.bytes.now p c.requires.read c.deref.ensures.value c.in_ok-check_blocks.ensures.grows) c.in_err-check_files.ensures.grows
 
 pub returns-in_err-check_files-clause-refused : goal.returns-in_err-check_files-clause-refused
 returns-in_err-check_files-clause-refused g c =
     let p : ShardParts = (c.args.parts.now.0.items, c.args.parts.now.1.items, c.args.parts.now.2) in
-    let folder = c.args.folder.now in
-    let hash = c.args.hash.now in
-    let files = g.D.Disk.files c.args.disk.now in
+    let folder = c.args.folder.now in let hash = c.args.hash.now in let files = g.D.Disk.files c.args.disk.now in
     let here = g.D.Disk.files c.check_blocks.new.disk in
     let known = Knows (g.D.Disk.tells c.args.disk.now) files folder c.args.table.now in
     let known_here = Knows (g.D.Disk.tells c.check_blocks.new.disk) here folder c.check_blocks.new.table in
@@ -84,22 +74,15 @@ returns-in_err-check_files-clause-refused g c =
     blocks.frame.later c.in_err-check_files.field-0.0 c.in_err-check_files.ensures.refused)
 
 pub returns-clause-there : goal.returns-clause-there
-returns-clause-there g c = λ p read.
-    let q : ShardParts = (c.args.parts.now.0.items, c.args.parts.now.1.items, c.args.parts.now.2) in
-    let same : q ≡ p = cc (c.requires.read, read) in
+returns-clause-there g c =
     let later = later_of (OfFiles c.deref-2.result.now) c.check_blocks.new.table c.check_files.new.table c.in_ok-check_files.ensures.grows in
-    subst (λ (x : ShardParts). HasXorbsOfShard c.check_files.new.table x) same
-    (record {
+    record {
       blocks = subst (λ (bs : List MDBXorbInfo). AllByRecursion (λ b. IsInTable c.check_files.new.table (xorb_hash b)) bs) c.deref.ensures.value
           (blocks_later c.check_blocks.new.table c.check_files.new.table c.deref.result.now later c.in_ok-check_blocks.ensures.there);
       files = subst (λ (fs : List MDBFileInfo). AllByRecursion (HasXorbsOfFile c.check_files.new.table) fs) c.deref-2.ensures.value c.in_ok-check_files.ensures.there;
-    })
+    }
 
 pub returns-clause-grows : goal.returns-clause-grows
 returns-clause-grows g c =
     let p : ShardParts = (c.args.parts.now.0.items, c.args.parts.now.1.items, c.args.parts.now.2) in
-    grows_then (OfBytes c.args.bytes.now) (OfFiles c.deref-2.result.now) (λ h of. (p, c.requires.read, inr (subst (λ (fs : List MDBFileInfo). OfFiles fs h) c.deref-2.ensures.value of)))
-    c.args.table.now c.check_blocks.new.table c.check_files.new.table
-    (grows_more (OfBlocks c.deref.result.now) (OfBytes c.args.bytes.now) (λ h of. (p, c.requires.read, inl (subst (λ (bs : List MDBXorbInfo). OfBlocks bs h) c.deref.ensures.value of)))
-    c.args.table.now c.check_blocks.new.table c.in_ok-check_blocks.ensures.grows)
-    c.in_ok-check_files.ensures.grows
+    grows_files c.args.bytes.now p c.requires.read c.deref-2.ensures.value (grows_blocks c.args.bytes.now p c.requires.read c.deref.ensures.value c.in_ok-check_blocks.ensures.grows) c.in_ok-check_files.ensures.grows

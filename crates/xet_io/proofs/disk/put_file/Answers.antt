@@ -14,11 +14,7 @@ returns-clause-put g c = λ told.
 
 pub returns-in_err-write-clause-refused : goal.returns-in_err-write-clause-refused
 returns-in_err-write-clause-refused g c = λ told.
-    let old = g.D.Disk.files c.args.disk.now in
-    let new = g.D.Disk.files c.write.new.self in
-    let t = c.args.temp.now in
-    let n = c.args.name.now in
-    let b = c.args.bytes.now in
+    let old = g.D.Disk.files c.args.disk.now in let new = g.D.Disk.files c.write.new.self in let t = c.args.temp.now in let n = c.args.name.now in let b = c.args.bytes.now in
     on_err _ (IsPutOrKept old t n b new) (⊎_elim
     (λ same. kept_all old t n b new same)
     (λ left. kept_others old t n b new (entry left.0 false) left.1)
@@ -26,11 +22,7 @@ returns-in_err-write-clause-refused g c = λ told.
 
 pub returns-in_err-sync-clause-refused : goal.returns-in_err-sync-clause-refused
 returns-in_err-sync-clause-refused g c = λ told.
-    let old = g.D.Disk.files c.args.disk.now in
-    let new = g.D.Disk.files c.sync.new.self in
-    let t = c.args.temp.now in
-    let n = c.args.name.now in
-    let b = c.args.bytes.now in
+    let old = g.D.Disk.files c.args.disk.now in let new = g.D.Disk.files c.sync.new.self in let t = c.args.temp.now in let n = c.args.name.now in let b = c.args.bytes.now in
     let w = c.in_ok-write.ensures.told told in
     let wrote = ap (λ (m : Files). synced m t) w.1 in
     on_err _ (IsPutOrKept old t n b new) (⊎_elim
@@ -40,11 +32,7 @@ returns-in_err-sync-clause-refused g c = λ told.
 
 pub returns-in_err-rename-clause-refused : goal.returns-in_err-rename-clause-refused
 returns-in_err-rename-clause-refused g c = λ told.
-    let old = g.D.Disk.files c.args.disk.now in
-    let new = g.D.Disk.files c.rename.new.self in
-    let t = c.args.temp.now in
-    let n = c.args.name.now in
-    let b = c.args.bytes.now in
+    let old = g.D.Disk.files c.args.disk.now in let new = g.D.Disk.files c.rename.new.self in let t = c.args.temp.now in let n = c.args.name.now in let b = c.args.bytes.now in
     let w = c.in_ok-write.ensures.told told in
     let told_write = c.write.ensures.tells ∙ told in
     let s = c.in_ok-sync.ensures.told told_write in

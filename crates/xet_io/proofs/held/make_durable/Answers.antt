@@ -42,10 +42,7 @@ returns-clause-there c =
 
 pub returns-clause-synced : goal.returns-clause-synced
 returns-clause-synced c =
-    let names = c.args.names.now in
-    let name = c.args.name.now in
-    let held = c.in-Some.held.now in
+    let names = c.args.names.now in let name = c.args.name.now in let held = c.in-Some.held.now in
     let durable : Held = record { file = held.file; durable = true } in
-    let here = held_entry names name held c.in-Some.ensures.value in
     write_held names (c.get_mut.follows.lender durable) name durable (c.get_mut.follows.holds durable) (there names name held c.in-Some.ensures.value)
-    ∙ sym (synced_some (memory_files names) name (memory_entry held) here (has_file held ∙ c.if-is_none.ensures))
+    ∙ sym (synced_some (memory_files names) name (memory_entry held) (held_entry names name held c.in-Some.ensures.value) (has_file held ∙ c.if-is_none.ensures))

@@ -9,13 +9,10 @@ use Rattle.xet_io.proofs.held.make_not_durable.Goals as goal
 
 pub returns-clause-not_durable : goal.returns-clause-not_durable
 returns-clause-not_durable c =
-    let names = c.args.names.now in
-    let name = c.args.name.now in
-    let held = c.in-Some.held.now in
+    let names = c.args.names.now in let name = c.args.name.now in let held = c.in-Some.held.now in
     let loose : Held = record { file = held.file; durable = false } in
-    let here = held_entry names name held c.in-Some.ensures.value in
     write_held names (c.get_mut.follows.lender loose) name loose (c.get_mut.follows.holds loose) (there names name held c.in-Some.ensures.value)
-    ∙ sym (ap (λ (f : Option File). insert (memory_files names) name (entry f false)) (file_of_entry (memory_files names) name (memory_entry held) here))
+    ∙ sym (ap (λ (f : Option File). insert (memory_files names) name (entry f false)) (file_of_entry (memory_files names) name (memory_entry held) (held_entry names name held c.in-Some.ensures.value)))
 
 pub returns-in_default-clause-not_durable : goal.returns-in_default-clause-not_durable
 returns-in_default-clause-not_durable c =

@@ -5,8 +5,7 @@ use Rattle.xet_io.proofs.whole.read_full.Goals as goal
 
 pub reads-preserved : goal.reads-preserved
 reads-preserved g c =
-    let i = c.reads.invariant in
-    record {
+    let i = c.reads.invariant in record {
       room = search rules;
       read = λ told.
           reads_on _ _ _ _ c.read_behind.new.bytes c.reads.filled c.in_ok-count.count (i.read told) c.in_ok-count.ensures.prefix

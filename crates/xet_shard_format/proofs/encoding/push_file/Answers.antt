@@ -1,4 +1,4 @@
-use Rattle.std.proofs.Common.{◌++◌, map, rules}
+use Rattle.std.proofs.Common.{◌++◌, map, subst, rules}
 use Rattle.xet_shard_format.specs.Rows.{RowFits}
 use Rattle.xet_shard_format.specs.Records.{ext_rows, file_head, segment_row, verification_row}
 use Rattle.xet_shard_format.specs.theorems.Bytes.{head_and_three}
@@ -14,7 +14,7 @@ returns-clause-encoding c =
 pub returns-clause-fits : goal.returns-clause-fits
 returns-clause-fits c =
     let f = c.args.file.now in (
-      c.push_row.ensures.fits,
+      subst RowFits c.new-head.ensures c.push_row.ensures.fits,
       all_both RowFits (map segment_row f.segments) (map verification_row f.verification ++ ext_rows f.metadata_ext) (search rules)
           (all_both RowFits (map verification_row f.verification) (ext_rows f.metadata_ext) (search rules) (search rules)),
     )

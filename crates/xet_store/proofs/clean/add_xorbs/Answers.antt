@@ -1,18 +1,16 @@
-use Rattle.std.proofs.Common.{◌≡◌, ◌∙◌, ◌++◌, ◌∷◌, [], ℕ, ◌<◌, ◌≤◌, List, length, map, drop, take, ap, subst, sym, refl, arith}
+use Rattle.std.proofs.Common.{◌≡◌, ◌∙◌, ◌++◌, ◌∷◌, [], ◌<◌, ◌≤◌, List, length, map, drop, take, ap, subst, sym, refl, arith}
 use Rattle.std.specs.List.{AllByRecursion}
 use Rattle.std.proofs.lemmas.Bool.{eqb-true}
-use Rattle.xet_hash.specs.Merkle.{xorb_hash}
 use Rattle.xet_xorb_chunk.specs.declared.chunk.Chunk.{Chunk}
-use Rattle.xet_xorb_chunk.specs.Chunks.{bytes_of_chunk, chunk_leaf}
+use Rattle.xet_xorb_chunk.specs.Chunks.{bytes_of_chunk}
 use Rattle.xet_base.specs.theorems.Elements.{all_push, all_drop, all_more, all_take}
 use Rattle.xet_cut.specs.declared.limits.LimitSettings.{LimitSettings}
 use Rattle.xet_shard_format.specs.declared.record.FileDataSequenceEntry.{FileDataSequenceEntry as Segment}
 use Rattle.xet_dedup.specs.Packing.{packs}
-use Rattle.xet_folder.specs.Xorbs.{IsListed}
 use Rattle.xet_store.proofs.Answering.{on_err}
 use Rattle.xet_store.specs.theorems.Keeping.{keeps_nothing, keeps_then}
-use Rattle.xet_store.specs.Tables.{tables_of, whole_segment, with_xorb, with_xorbs}
-use Rattle.xet_store.proofs.Packing.{IsPackListed, Packed, packed_all, packed_more, packed_none, packed_some, segment_of, some_by}
+use Rattle.xet_store.specs.Tables.{tables_of, whole_segment, with_xorbs}
+use Rattle.xet_store.proofs.Packing.{IsPackListed, Packed, packed_all, packed_next, packed_none, packed_some, some_by}
 use Rattle.xet_store.proofs.clean.add_xorbs.Goals as goal
 
 pub xorbs-init : goal.xorbs-init
@@ -61,45 +59,18 @@ returns-in_err-push-clause-shards g c = c.add_xorb.ensures.shards ∙ c.xorbs.in
 
 pub returns-in_err-push-clause-some : goal.returns-in_err-push-clause-some
 returns-in_err-push-clause-some g c =
-    let new = c.add_xorb.new.self.xorbs in
-    let l = c.limits.result.now in
-    let n = c.pack_len-count.result in
-    let rest = c.xorbs.rest.now in
-    let chunks = c.args.chunks.now in
-    let segment = c.whole_xorb.result in
-    let before = c.xorbs.invariant in
-    let prefix : c.split_at.result.0.now ≡ take n rest = c.split_at.ensures.front in
-    let tail = c.split_at.result.1.now in
-    let back : drop n rest ≡ tail = sym c.split_at.ensures.back in
-    let listed = subst (λ (p : List Chunk). (c.in_ok-hash.hash ≡ xorb_hash (map chunk_leaf p)) × IsListed new c.in_ok-hash.hash (map chunk_leaf p)) prefix c.in_ok-hash.ensures.listed in
-    let is_hash : segment.xorb_hash ≡ c.in_ok-hash.hash = ap (λ (s : Segment). s.xorb_hash) c.whole_xorb.ensures in
-    let is : segment ≡ segment_of segment.xorb_hash (take n rest) = c.whole_xorb.ensures ∙ (λ i. segment_of (sym is_hash i) (prefix i)) in
-    let packed = packed_more (tables_of c.args.session.now) (tables_of c.xorbs.session) (tables_of c.add_xorb.new.self) l c.xorbs.plan.items rest chunks n segment c.add_xorb.ensures.keeps.xorbs before.digests
-    c.pack_len-count.ensures.value c.pack_len-count.ensures.some c.pack_len-count.ensures.bound
-    (is_hash ∙ listed.0) (subst (λ (h : List ℕ). IsListed new h (map chunk_leaf (take n rest))) (sym is_hash) listed.1)
-    is (c.in_ok-hash.ensures.stores ∙ ap (λ (p : List Chunk). with_xorb (tables_of c.xorbs.session) (map bytes_of_chunk p)) prefix) before.packed in
+    let l = c.limits.result.now in let n = c.pack_len-count.result in let rest = c.xorbs.rest.now in let chunks = c.args.chunks.now in let segment = c.whole_xorb.result in let before = c.xorbs.invariant in
+    let count = c.pack_len-count.ensures in let packed = packed_next (tables_of c.xorbs.session) (tables_of c.add_xorb.new.self) before.packed c.add_xorb.ensures.keeps.xorbs before.digests count.value count.some
+    count.bound c.split_at.ensures.front c.in_ok-hash.ensures.listed c.whole_xorb.ensures c.in_ok-hash.ensures.stores in
     let done = packed_some (tables_of c.args.session.now) (tables_of c.add_xorb.new.self) l (c.xorbs.plan.items ++ segment ∷ []) (drop n rest) chunks packed in
     on_err _ (some_by l c.args.session.now.limits (map bytes_of_chunk chunks) (tables_of c.args.session.now) (tables_of c.add_xorb.new.self) c.limits.ensures done)
 
 pub xorbs-preserved : goal.xorbs-preserved
 xorbs-preserved g c =
-    let new = c.add_xorb.new.self.xorbs in
-    let l = c.limits.result.now in
-    let n = c.pack_len-count.result in
-    let rest = c.xorbs.rest.now in
-    let chunks = c.args.chunks.now in
-    let segment = c.whole_xorb.result in
-    let before = c.xorbs.invariant in
-    let prefix : c.split_at.result.0.now ≡ take n rest = c.split_at.ensures.front in
-    let tail = c.split_at.result.1.now in
-    let back : drop n rest ≡ tail = sym c.split_at.ensures.back in
-    let listed = subst (λ (p : List Chunk). (c.in_ok-hash.hash ≡ xorb_hash (map chunk_leaf p)) × IsListed new c.in_ok-hash.hash (map chunk_leaf p)) prefix c.in_ok-hash.ensures.listed in
-    let is_hash : segment.xorb_hash ≡ c.in_ok-hash.hash = ap (λ (s : Segment). s.xorb_hash) c.whole_xorb.ensures in
-    let is : segment ≡ segment_of segment.xorb_hash (take n rest) = c.whole_xorb.ensures ∙ (λ i. segment_of (sym is_hash i) (prefix i)) in
-    let packed = packed_more (tables_of c.args.session.now) (tables_of c.xorbs.session) (tables_of c.add_xorb.new.self) l c.xorbs.plan.items rest chunks n segment c.add_xorb.ensures.keeps.xorbs before.digests
-    c.pack_len-count.ensures.value c.pack_len-count.ensures.some c.pack_len-count.ensures.bound
-    (is_hash ∙ listed.0) (subst (λ (h : List ℕ). IsListed new h (map chunk_leaf (take n rest))) (sym is_hash) listed.1)
-    is (c.in_ok-hash.ensures.stores ∙ ap (λ (p : List Chunk). with_xorb (tables_of c.xorbs.session) (map bytes_of_chunk p)) prefix) before.packed in
+    let l = c.limits.result.now in let n = c.pack_len-count.result in let rest = c.xorbs.rest.now in let chunks = c.args.chunks.now in let segment = c.whole_xorb.result in let before = c.xorbs.invariant in
+    let count = c.pack_len-count.ensures in let packed = packed_next (tables_of c.xorbs.session) (tables_of c.add_xorb.new.self) before.packed c.add_xorb.ensures.keeps.xorbs before.digests count.value count.some
+    count.bound c.split_at.ensures.front c.in_ok-hash.ensures.listed c.whole_xorb.ensures c.in_ok-hash.ensures.stores in
+    let tail = c.split_at.result.1.now in let back : drop n rest ≡ tail = sym c.split_at.ensures.back in
     record {
       packed = subst (λ (r : List Chunk). Packed (tables_of c.args.session.now) (tables_of c.add_xorb.new.self) l c.push.new.self.items r chunks) {x = drop n rest} {y = tail} back
           (subst (λ (plan : List Segment). Packed (tables_of c.args.session.now) (tables_of c.add_xorb.new.self) l plan (drop n rest) chunks) {x = c.xorbs.plan.items ++ segment ∷ []} {y = c.push.new.self.items}

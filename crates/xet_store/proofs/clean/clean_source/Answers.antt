@@ -1,4 +1,4 @@
-use Rattle.std.proofs.Common.{◌≡◌, ◌≢◌, ◌∙◌, [], ◌∷◌, ℕ, zero, suc, ◌<◌, ◌≤◌, Option, List, length, map, Some, Vec, IsSome, refl, ap, subst, sym, arith, take}
+use Rattle.std.proofs.Common.{◌≡◌, ◌≢◌, ◌∙◌, [], ◌∷◌, ℕ, zero, suc, ◌<◌, ◌≤◌, Option, List, length, map, Some, Vec, IsSome, ap, subst, sym, arith, take}
 use Rattle.std.specs.List.{AllByRecursion}
 use Rattle.xet_hash.specs.Merkle.{chunk_hash, file_hash, leaves_of, total_len}
 use Rattle.xet_xorb_chunk.specs.declared.chunk.Chunk.{Chunk}
@@ -27,7 +27,7 @@ use Rattle.xet_store.proofs.Packing.{lists_more, lists_none}
 use Rattle.xet_store.specs.theorems.Files.{plan_empty, plan_some}
 use Rattle.xet_store.proofs.Storing.{chunking_none, left_some, made_record, with_none, with_some}
 use Rattle.xet_store.proofs.Recording.{adds_nothing, new_file}
-use Rattle.xet_store.proofs.MadeChunks.{chunking_fits, made_told, made_bytes, made_digests, made_leaves}
+use Rattle.xet_store.proofs.MadeChunks.{blocks_made, chunking_fits, made_told, made_bytes, made_digests, made_leaves}
 use Rattle.xet_store.proofs.clean.clean_source.Goals as goal
 use Rattle.xet_store.proofs.clean.clean_source.Goals.{then-not-is_empty+in_ok-plan+in_ok-file_record+in_ok-add_file, else-not-is_empty}
 
@@ -142,22 +142,6 @@ returns-clause-adds g c =
       | else-not-is_empty w ↦ subst (λ (s : State). Adds old s.records (hash ∷ [])) (sym w.session-is) (adds_nothing old hash)
     ]
 
-pub returns-in_err-bytes-clause-some : goal.returns-in_err-bytes-clause-some
-returns-in_err-bytes-clause-some g c =
-    left_some (g.S.Source.tells c.args.source.now) (g.S.Source.left c.args.source.now) c.args.session.now.limits (tables_of c.args.session.now) (tables_of c.args.session.now) (g.S.Source.left c.args.source.now) 0 _ (λ told. refl) refl
-
-pub returns-in_err-chunks-clause-some : goal.returns-in_err-chunks-clause-some
-returns-in_err-chunks-clause-some g c =
-    left_some (g.S.Source.tells c.args.source.now) (g.S.Source.left c.args.source.now) c.args.session.now.limits (tables_of c.args.session.now) (tables_of c.args.session.now) (g.S.Source.left c.args.source.now) 0 _ (λ told. refl) refl
-
-pub returns-in_err-leaves-clause-some : goal.returns-in_err-leaves-clause-some
-returns-in_err-leaves-clause-some g c =
-    left_some (g.S.Source.tells c.args.source.now) (g.S.Source.left c.args.source.now) c.args.session.now.limits (tables_of c.args.session.now) (tables_of c.args.session.now) (g.S.Source.left c.args.source.now) 0 _ (λ told. refl) refl
-
-pub returns-in_err-hash-clause-some : goal.returns-in_err-hash-clause-some
-returns-in_err-hash-clause-some g c =
-    left_some (g.S.Source.tells c.args.source.now) (g.S.Source.left c.args.source.now) c.args.session.now.limits (tables_of c.args.session.now) (tables_of c.args.session.now) (g.S.Source.left c.args.source.now) 0 _ (λ told. refl) refl
-
 pub returns-in_err-plan-clause-shards : goal.returns-in_err-plan-clause-shards
 returns-in_err-plan-clause-shards g c = c.add_xorbs.ensures.shards
 
@@ -169,29 +153,23 @@ returns-in_err-add_file-clause-shards g c = c.add_file.ensures.shards ∙ c.add_
 
 pub returns-in_err-plan-clause-some : goal.returns-in_err-plan-clause-some
 returns-in_err-plan-clause-some g c =
-    let bytes = c.in_ok-bytes.bytes.items in
-    let limits = c.args.session.now.limits in
-    let blocks : map bytes_of_chunk c.deref-then-not-is_empty.result.now ≡ chunking limits bytes =
-    ap (map bytes_of_chunk) (c.deref-then-not-is_empty.ensures.value ∙ c.in_ok-chunks.ensures.chunks ∙ ap (λ (l : LimitSettings). map chunk_of (chunking l bytes)) c.limits.ensures) ∙ made_bytes (chunking limits bytes) in
+    let bytes = c.in_ok-bytes.bytes.items in let limits = c.args.session.now.limits in
+    let blocks = blocks_made bytes c.deref-then-not-is_empty.ensures.value c.in_ok-chunks.ensures.chunks c.limits.ensures in
     let some = c.in_err-plan.ensures.some in
     left_some (g.S.Source.tells c.args.source.now) (g.S.Source.left c.args.source.now) c.args.session.now.limits (tables_of c.args.session.now) (tables_of c.add_xorbs.new.session) bytes some.0 _ c.in_ok-bytes.ensures.bytes
     (some.1 ∙ ap (λ (b : List (List ℕ)). with_xorbs (tables_of c.args.session.now) (take some.0 (packs limits b))) blocks)
 
 pub returns-in_err-file_record-clause-some : goal.returns-in_err-file_record-clause-some
 returns-in_err-file_record-clause-some g c =
-    let bytes = c.in_ok-bytes.bytes.items in
-    let limits = c.args.session.now.limits in
-    let blocks : map bytes_of_chunk c.deref-then-not-is_empty.result.now ≡ chunking limits bytes =
-    ap (map bytes_of_chunk) (c.deref-then-not-is_empty.ensures.value ∙ c.in_ok-chunks.ensures.chunks ∙ ap (λ (l : LimitSettings). map chunk_of (chunking l bytes)) c.limits.ensures) ∙ made_bytes (chunking limits bytes) in
+    let bytes = c.in_ok-bytes.bytes.items in let limits = c.args.session.now.limits in
+    let blocks = blocks_made bytes c.deref-then-not-is_empty.ensures.value c.in_ok-chunks.ensures.chunks c.limits.ensures in
     left_some (g.S.Source.tells c.args.source.now) (g.S.Source.left c.args.source.now) c.args.session.now.limits (tables_of c.args.session.now) (tables_of c.add_xorbs.new.session) bytes (length (packs limits (chunking limits bytes))) _ c.in_ok-bytes.ensures.bytes
     (c.in_ok-plan.ensures.stores ∙ ap (λ (b : List (List ℕ)). with_xorbs (tables_of c.args.session.now) (packs limits b)) blocks ∙ ap (with_xorbs (tables_of c.args.session.now)) (sym (take_all (length (packs limits (chunking limits bytes))) (packs limits (chunking limits bytes)) (omega arith))))
 
 pub returns-in_err-add_file-clause-some : goal.returns-in_err-add_file-clause-some
 returns-in_err-add_file-clause-some g c =
-    let bytes = c.in_ok-bytes.bytes.items in
-    let limits = c.args.session.now.limits in
-    let blocks : map bytes_of_chunk c.deref-then-not-is_empty.result.now ≡ chunking limits bytes =
-    ap (map bytes_of_chunk) (c.deref-then-not-is_empty.ensures.value ∙ c.in_ok-chunks.ensures.chunks ∙ ap (λ (l : LimitSettings). map chunk_of (chunking l bytes)) c.limits.ensures) ∙ made_bytes (chunking limits bytes) in
+    let bytes = c.in_ok-bytes.bytes.items in let limits = c.args.session.now.limits in
+    let blocks = blocks_made bytes c.deref-then-not-is_empty.ensures.value c.in_ok-chunks.ensures.chunks c.limits.ensures in
     left_some (g.S.Source.tells c.args.source.now) (g.S.Source.left c.args.source.now) c.args.session.now.limits (tables_of c.args.session.now) (tables_of c.add_file.new.self) bytes (length (packs limits (chunking limits bytes))) _ c.in_ok-bytes.ensures.bytes
     (ap tables_of c.in_err-add_file.ensures.err ∙ c.in_ok-plan.ensures.stores ∙ ap (λ (b : List (List ℕ)). with_xorbs (tables_of c.args.session.now) (packs limits b)) blocks
     ∙ ap (with_xorbs (tables_of c.args.session.now)) (sym (take_all (length (packs limits (chunking limits bytes))) (packs limits (chunking limits bytes)) (omega arith))))

@@ -4,10 +4,8 @@ use Rattle.xet_xorb.proofs.footers.new_footer.Goals as goal
 
 pub returns-clause-lists : goal.returns-clause-lists
 returns-clause-lists c =
-    let ms = c.args.leaves.now in
-    let hashes = ap length c.in_ok-hashes.ensures.hashes in
-    let stored = ap length c.in_ok-stored.ensures.ends in
-    let plain = ap length c.in_ok-plain.ensures.ends in
+    let ms = c.args.leaves.now in let hashes = ap length c.in_ok-hashes.ensures.hashes in
+    let stored = ap length c.in_ok-stored.ensures.ends in let plain = ap length c.in_ok-plain.ensures.ends in
     rw c.from_lists.ensures (record {
       hashes = omega arith;
       stored = omega (arith, hashes, stored, length-hashes ms, length-ends 8 0 ms);
@@ -16,10 +14,8 @@ returns-clause-lists c =
 
 pub returns-clause-short : goal.returns-clause-short
 returns-clause-short c =
-    let ms = c.args.leaves.now in
-    let hashes = ap length c.in_ok-hashes.ensures.hashes in
-    let stored = ap length c.in_ok-stored.ensures.ends in
-    let plain = ap length c.in_ok-plain.ensures.ends in
+    let ms = c.args.leaves.now in let hashes = ap length c.in_ok-hashes.ensures.hashes in
+    let stored = ap length c.in_ok-stored.ensures.ends in let plain = ap length c.in_ok-plain.ensures.ends in
     rw c.from_lists.ensures (record {
       hashes = omega (arith, hashes, length-hashes ms, c.requires.few);
       stored = omega (arith, stored, length-ends 8 0 ms, c.requires.few);

@@ -25,7 +25,7 @@ returns-then-not-branch-2-clause-none g c = λ bytes sees hashed size _ object e
 pub returns-clause-footer : goal.returns-clause-footer
 returns-clause-footer g c =
     let made = rw c.in-Some.is at c.in_ok-info.ensures.found in
-    (made.0, c.fill.new.buf, λ i. record { info = made.2 i; info_length = made.1 i })
+    (made.0, c.fill.new.buf, c.in_ok-fill.ensures.len, λ i. record { info = made.2 i; info_length = made.1 i })
 
 pub returns-clause-found : goal.returns-clause-found
 returns-clause-found g c = λ bytes sees hashed size.

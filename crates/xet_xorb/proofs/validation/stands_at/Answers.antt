@@ -1,5 +1,5 @@
 use Rattle.std.proofs.Common.{◌∙◌, arith, refl, rules}
-use Rattle.xet_codec.specs.Blocks.{Sees}
+use Rattle.xet_codec.specs.theorems.Seeing.{sees_on}
 use Rattle.xet_xorb.proofs.Checked.{piece_more, piece_same}
 use Rattle.xet_xorb.proofs.validation.stands_at.Goals as goal
 
@@ -7,7 +7,7 @@ pub returns-then-not-branch-clause-found : goal.returns-then-not-branch-clause-f
 returns-then-not-branch-clause-found g c = λ bytes sees.
     let inv = c.pieces.invariant in
     let size = c.min-size.result in
-    let here : Sees _ _ bytes c.args.len c.pieces.block = record { told = inv.tells ∙ sees.told; same = inv.same ∙ sees.same; all = sees.all; part = inv.part bytes sees } in
+    let here = sees_on sees inv.tells inv.same (inv.part bytes sees) in
     let found = rw c.if-not-branch.true at (c.in_ok-piece_stands_at.ensures.found bytes here) in
     (search rules, λ equal. found.1 (piece_same c.args.at c.pieces.done size c.args.encoding.now bytes _ (omega arith) refl equal))
 
@@ -22,11 +22,8 @@ pieces-preserved g c =
       tells = kept.frame.tells ∙ inv.tells;
       cause = record { later = omega (arith, inv.cause.later, kept.frame.later); rose = λ x. absurd x };
       lent = search rules;
-      part = λ bytes sees.
-          let here : Sees _ _ bytes c.args.len c.pieces.block = record { told = inv.tells ∙ sees.told; same = inv.same ∙ sees.same; all = sees.all; part = inv.part bytes sees } in
-          (rw c.if-not-branch.false at (kept.part bytes here)) refl;
+      part = λ bytes sees. (rw c.if-not-branch.false at (kept.part bytes (sees_on sees inv.tells inv.same (inv.part bytes sees)))) refl;
       found = λ bytes sees.
-          let here : Sees _ _ bytes c.args.len c.pieces.block = record { told = inv.tells ∙ sees.told; same = inv.same ∙ sees.same; all = sees.all; part = inv.part bytes sees } in
-          let found = rw c.if-not-branch.false at (kept.found bytes here) in
+          let found = rw c.if-not-branch.false at (kept.found bytes (sees_on sees inv.tells inv.same (inv.part bytes sees))) in
           piece_more c.args.at c.pieces.done size c.args.encoding.now bytes _ (omega arith) refl (inv.found bytes sees) (found.0 refl);
     }

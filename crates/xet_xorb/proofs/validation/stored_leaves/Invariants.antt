@@ -1,4 +1,5 @@
 use Rattle.std.proofs.Common.{◌≡◌, ◌+◌, ◌*◌, ◌-◌, ◌≤◌, List, length, take, ℕ}
+use Rattle.std.specs.List.{AllByRecursion}
 use Rattle.xet_io.specs.Faults.{HasCause}
 use Rattle.xet_codec.specs.Blocks.{IsPart, Sees}
 use Rattle.xet_hash.specs.Merkle.{total_len}
@@ -9,6 +10,7 @@ use Rattle.xet_io.specs.Lent.{IsSameLent}
 abbrev pub invariant-chunks : goal.invariant-chunks
 invariant-chunks g l = record {
   size : total_len l.leaves.items + 8 * length l.leaves.items ≡ l.at;
+  fit : AllByRecursion (λ m. m.1 ≤ l.max_chunk) l.leaves.items;
   within : l.at ≤ l.end;
   same : g.R.ReadAt.bytes l.reader ≡ g.R.ReadAt.bytes l.initial.reader;
   tells : g.R.ReadAt.tells l.reader ≡ g.R.ReadAt.tells l.initial.reader;

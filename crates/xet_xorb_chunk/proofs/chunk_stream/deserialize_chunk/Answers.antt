@@ -48,10 +48,7 @@ returns-in_err-header-clause-rest g c = λ told.
 
 pub returns-in_err-bytes-clause-rest : goal.returns-in_err-bytes-clause-rest
 returns-in_err-bytes-clause-rest g c = λ told.
-    let left = g.R.Source.left c.args.r.now in
-    let header = c.in_ok-header.header in
-    let first = c.in_ok-header.ensures.taken told in
-    let tells = c.in_ok-header.ensures.frame.tells ∙ told in
+    let left = g.R.Source.left c.args.r.now in let header = c.in_ok-header.header in let first = c.in_ok-header.ensures.taken told in let tells = c.in_ok-header.ensures.frame.tells ∙ told in
     exit_with (TakesFailedChunk c.args.max_chunk left (g.R.Source.left c.take_bytes.new.r)) _ _ c.from_residual-in_err-bytes.ensures.1
     (chunk_of_body c.args.max_chunk left (g.R.Source.left c.deserialize_chunk_header.new.r) _ _ header (c.in_ok-header.ensures.header told) first (c.in_err-bytes.ensures.consumed tells)
     (λ check.
@@ -60,10 +57,7 @@ returns-in_err-bytes-clause-rest g c = λ told.
 
 pub returns-in_err-check_body-clause-rest : goal.returns-in_err-check_body-clause-rest
 returns-in_err-check_body-clause-rest g c = λ told.
-    let left = g.R.Source.left c.args.r.now in
-    let header = c.in_ok-header.header in
-    let first = c.in_ok-header.ensures.taken told in
-    let tells = c.in_ok-header.ensures.frame.tells ∙ told in
+    let left = g.R.Source.left c.args.r.now in let header = c.in_ok-header.header in let first = c.in_ok-header.ensures.taken told in let tells = c.in_ok-header.ensures.frame.tells ∙ told in
     exit_with (TakesFailedChunk c.args.max_chunk left (g.R.Source.left c.take_bytes.new.r)) _ _ c.from_residual-in_err-check_body.ensures.1
     (chunk_of_body c.args.max_chunk left (g.R.Source.left c.deserialize_chunk_header.new.r) _ _ header (c.in_ok-header.ensures.header told) first (c.in_ok-bytes.ensures.consumed tells)
     (λ _. body_left left _ c.in_ok-bytes.bytes.items _ header.stored first (c.in_ok-bytes.ensures.bytes tells) (omega (arith, c.in_ok-bytes.ensures.length, c.get_compressed_length.ensures, c.in_ok-bytes.bytes.ok.0))))

@@ -5,8 +5,7 @@ use Rattle.xet_xorb_chunk.proofs.chunk_stream.take_bytes.Goals as goal
 
 pub reads-preserved : goal.reads-preserved
 reads-preserved g c =
-    let i = c.reads.invariant in
-    record {
+    let i = c.reads.invariant in record {
       within = search rules;
       read = λ told.
           block_taken _ _ _ c.reads.bytes.items _ c.resize.new.self.items c.fill_behind.new.bytes _ c.len-filled.result c.min.result c.in_ok-count.count _ (i.read told)

@@ -6,7 +6,7 @@ use Rattle.xet_hash.specs.declared.error.Place.TheVariants.{Input}
 use Rattle.xet_xorb_chunk.specs.Passing.{FailsPassing, RefusesMore, WritesWhole}
 use Rattle.xet_base.specs.theorems.Exits.{exit_with}
 use Rattle.xet_xorb_chunk.specs.theorems.Passed.{written_after}
-use Rattle.xet_xorb_chunk.proofs.Prefixes.{taken_prefix}
+use Rattle.xet_xorb_chunk.proofs.Prefixes.{block_prefix, taken_prefix}
 use Rattle.xet_xorb_chunk.specs.theorems.Streamed.{block_refused, holds_len, writes_whole}
 use Rattle.xet_base.specs.theorems.Written.{block_fed}
 use Rattle.xet_xorb_chunk.proofs.stream.feed_all.Goals as goal
@@ -94,25 +94,10 @@ returns-in_err-count-clause-consumed g c = λ told.
     (h.3 told ∙ ap (λ (x : List ℕ). h.0 ++ x) (sym (c.in_err-count.ensures.told (i.source_tells ∙ told))))
 
 pub returns-then-count-eq0-clause-consumed : goal.returns-then-count-eq0-clause-consumed
-returns-then-count-eq0-clause-consumed g c = λ told.
-    let i = c.reads.invariant in
-    let h = i.held in
-    let next = (c.in_ok-count.ensures.told (i.source_tells ∙ told)).next in
-    taken_prefix (g.R.Source.left c.args.r.now) (h.0 ++ take c.in_ok-count.count c.read_some.new.buf) (g.R.Source.left c.read_some.new.source)
-    (block_fed _ h.0 _ c.read_some.new.buf _ c.in_ok-count.count (h.3 told) next)
+returns-then-count-eq0-clause-consumed g c = λ told. let i = c.reads.invariant in block_prefix _ _ _ c.read_some.new.buf _ c.in_ok-count.count (i.held.3 told) (c.in_ok-count.ensures.told (i.source_tells ∙ told)).next
 
 pub returns-then-count-fed_len-clause-consumed : goal.returns-then-count-fed_len-clause-consumed
-returns-then-count-fed_len-clause-consumed g c = λ told.
-    let i = c.reads.invariant in
-    let h = i.held in
-    let next = (c.in_ok-count.ensures.told (i.source_tells ∙ told)).next in
-    taken_prefix (g.R.Source.left c.args.r.now) (h.0 ++ take c.in_ok-count.count c.read_some.new.buf) (g.R.Source.left c.read_some.new.source)
-    (block_fed _ h.0 _ c.read_some.new.buf _ c.in_ok-count.count (h.3 told) next)
+returns-then-count-fed_len-clause-consumed g c = λ told. let i = c.reads.invariant in block_prefix _ _ _ c.read_some.new.buf _ c.in_ok-count.count (i.held.3 told) (c.in_ok-count.ensures.told (i.source_tells ∙ told)).next
 
 pub returns-in_err-feed-clause-consumed : goal.returns-in_err-feed-clause-consumed
-returns-in_err-feed-clause-consumed g c = λ told.
-    let i = c.reads.invariant in
-    let h = i.held in
-    let next = (c.in_ok-count.ensures.told (i.source_tells ∙ told)).next in
-    taken_prefix (g.R.Source.left c.args.r.now) (h.0 ++ take c.in_ok-count.count c.read_some.new.buf) (g.R.Source.left c.read_some.new.source)
-    (block_fed _ h.0 _ c.read_some.new.buf _ c.in_ok-count.count (h.3 told) next)
+returns-in_err-feed-clause-consumed g c = λ told. let i = c.reads.invariant in block_prefix _ _ _ c.read_some.new.buf _ c.in_ok-count.count (i.held.3 told) (c.in_ok-count.ensures.told (i.source_tells ∙ told)).next

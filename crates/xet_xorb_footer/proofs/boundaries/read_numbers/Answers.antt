@@ -5,7 +5,8 @@ use Rattle.xet_codec.specs.Parsing.{number_at, times}
 use Rattle.xet_xorb_footer.proofs.Endings.{field_then}
 use Rattle.xet_base.specs.theorems.Exits.{exit_with}
 use Rattle.xet_xorb_footer.specs.theorems.Prefixes.{a_number, times_short}
-use Rattle.xet_xorb_footer.proofs.Placing.{behind_all, behind_more, behind_refused, pushed, sees_on}
+use Rattle.xet_codec.specs.theorems.Seeing.{sees_on}
+use Rattle.xet_xorb_footer.proofs.Placing.{behind_all, behind_more, behind_refused, pushed}
 use Rattle.xet_xorb_footer.proofs.boundaries.read_numbers.Goals as goal
 
 pub returns-then-end-at-clause-refused : goal.returns-then-end-at-clause-refused
@@ -21,7 +22,7 @@ returns-in_err-load-clause-refused g c = λ bytes tells.
     let inv = c.numbers.invariant in
     exit_with (RefusedBy (times number_at c.args.count (drop c.args.at bytes))) _ _ c.from_residual-in_err-load.ensures.1
     (behind_refused c.args.count n ns bytes c.numbers.to (4 * n) (times number_at c.args.count (drop c.args.at bytes)) c.in_err-load.field-0.0 is refl (inv.taken bytes tells)
-    (c.in_err-load.ensures.refused bytes (sees_on tells inv.tells inv.same (inv.part bytes tells))))
+    (c.in_err-load.ensures.refused bytes (sees_on tells inv.frame.tells inv.frame.same (inv.part bytes tells))))
 
 pub numbers-smaller : goal.numbers-smaller
 numbers-smaller g c =
@@ -41,20 +42,18 @@ numbers-preserved g c =
     let more = pushed ns c.push_numbers.new.list.items field n c.in_ok-push_numbers.ensures.items in
     let to = c.numbers.to in
     let inv = c.numbers.invariant in
+    let kept = c.in_ok-load.ensures.frame in
     record {
       taken = λ bytes tells.
-          let here = sees_on tells inv.tells inv.same (inv.part bytes tells) in
+          let here = sees_on tells inv.frame.tells inv.frame.same (inv.part bytes tells) in
           behind_more c.args.count n ns c.push_numbers.new.list.items (drop to bytes) field (drop (to + 4 * n) bytes) is
           (field_then (4 * n) to field bytes (c.part.ensures.value bytes (c.in_ok-load.ensures.part bytes here))) c.part.ensures.len c.in_ok-push_numbers.ensures.items
           ∙ inv.taken bytes tells;
-      part = λ bytes tells. c.in_ok-load.ensures.part bytes (sees_on tells inv.tells inv.same (inv.part bytes tells));
+      part = λ bytes tells. c.in_ok-load.ensures.part bytes (sees_on tells inv.frame.tells inv.frame.same (inv.part bytes tells));
       few = omega (arith, is, more, inv.few);
       place = omega (arith, more, inv.place);
       within = omega (arith, c.in_ok-load.ensures.within);
-      same = c.in_ok-load.ensures.frame.same ∙ inv.same;
-      tells = c.in_ok-load.ensures.frame.tells ∙ inv.tells;
-      later = omega (arith, c.in_ok-load.ensures.frame.later, inv.later);
-      lent = search rules;
+      frame = record { same = kept.same ∙ inv.frame.same; tells = kept.tells ∙ inv.frame.tells; later = omega (arith, kept.later, inv.frame.later); rose = λ x. absurd x; lent = search rules };
     }
 
 pub returns-clause-read : goal.returns-clause-read

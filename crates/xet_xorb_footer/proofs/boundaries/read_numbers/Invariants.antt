@@ -2,7 +2,7 @@ use Rattle.std.proofs.Common.{◌≡◌, ◌≤◌, ◌+◌, ◌-◌, ◌*◌, �
 use Rattle.xet_codec.specs.Blocks.{IsPart, Sees}
 use Rattle.xet_codec.specs.Parsing.{◌>>=◌, number_at, times}
 use Rattle.xet_xorb_footer.proofs.boundaries.read_numbers.Given as goal
-use Rattle.xet_io.specs.Lent.{IsSameLent}
+use Rattle.xet_io.specs.Frame.{ReadFrom}
 
 abbrev pub invariant-numbers : goal.invariant-numbers
 invariant-numbers g l = record {
@@ -12,10 +12,7 @@ invariant-numbers g l = record {
   few : length l.list.items ≤ l.count;
   place : l.to ≡ l.at + 4 * length l.list.items;
   within : l.to ≤ l.end;
-  same : g.R.ReadAt.bytes l.reader ≡ g.R.ReadAt.bytes l.fn.reader;
-  tells : g.R.ReadAt.tells l.reader ≡ g.R.ReadAt.tells l.fn.reader;
-  later : g.R.ReadAt.faults l.fn.reader ≤ g.R.ReadAt.faults l.reader;
-  lent : IsSameLent (g.R.ReadAt.lent l.fn.reader) (g.R.ReadAt.lent l.reader);
+  frame : ReadFrom g.R.ReadAt.bytes g.R.ReadAt.tells g.R.ReadAt.faults g.R.ReadAt.lent l.fn.reader l.reader ⊥;
 }
 
 abbrev pub decreases-numbers : goal.decreases-numbers

@@ -20,8 +20,7 @@ returns-then-len-size-clause-refused g c = λ told len. inl (last_beyond c.args.
 
 pub returns-in_err-to-clause-refused : goal.returns-in_err-to-clause-refused
 returns-in_err-to-clause-refused g c = λ told len.
-    let bytes = g.R.ReadAt.bytes c.args.reader.now in
-    let seen = g.R.ReadAt.bytes c.number_at_end.new.reader in
+    let bytes = g.R.ReadAt.bytes c.args.reader.now in let seen = g.R.ReadAt.bytes c.number_at_end.new.reader in
     let same = c.in_ok-told.ensures.frame.same in
     exit_with (λ (e : StoreError). (last_footer bytes ≡ Err e) ⊎ (e ≡ Io Input) ⊎ (e ≡ OutOfMemory)) _ _ c.from_residual-in_err-to.ensures.1
     (unread c.args.len c.in_ok-told.told bytes seen (rest_of c.of_either-footer.result) _ same len (c.in_ok-told.ensures.read told len) (omega arith) c.of_either-footer.ensures.rest
@@ -29,24 +28,18 @@ returns-in_err-to-clause-refused g c = λ told len.
 
 pub returns-then-len-to-ne-LENGTH_SIZE-clause-refused : goal.returns-then-len-to-ne-LENGTH_SIZE-clause-refused
 returns-then-len-to-ne-LENGTH_SIZE-clause-refused g c = λ told len.
-    let bytes = g.R.ReadAt.bytes c.args.reader.now in
-    let seen = g.R.ReadAt.bytes c.number_at_end.new.reader in
+    let bytes = g.R.ReadAt.bytes c.args.reader.now in let seen = g.R.ReadAt.bytes c.number_at_end.new.reader in
     let same = c.in_ok-told.ensures.frame.same in
-    let n = c.in_ok-told.told in
-    let at : ℕ = c.args.len - (n + 4) in
-    let r = c.of_either-footer.result in
+    let n = c.in_ok-told.told in let at : ℕ = c.args.len - (n + 4) in let r = c.of_either-footer.result in
     inl (last_wrong c.args.len n c.in_ok-to.to bytes _ (footer_parts_of c.read_fields_at.new.footer) len (c.in_ok-told.ensures.read told len) (omega arith) (c.of_either-footer.ensures.rest _)
     (seen_at at c.in_ok-to.to bytes seen (rest_of r) _ same (c.in_ok-to.ensures.read (c.in_ok-told.ensures.frame.tells ∙ told) (len ∙ ap length (sym same))))
     (ne_eqb _ _ c.if-len-to-ne-LENGTH_SIZE.true))
 
 pub returns-clause-read : goal.returns-clause-read
 returns-clause-read g c = λ told len.
-    let bytes = g.R.ReadAt.bytes c.args.reader.now in
-    let seen = g.R.ReadAt.bytes c.number_at_end.new.reader in
+    let bytes = g.R.ReadAt.bytes c.args.reader.now in let seen = g.R.ReadAt.bytes c.number_at_end.new.reader in
     let same = c.in_ok-told.ensures.frame.same in
-    let n = c.in_ok-told.told in
-    let at : ℕ = c.args.len - (n + 4) in
-    let r = c.of_either-footer.result in
+    let n = c.in_ok-told.told in let at : ℕ = c.args.len - (n + 4) in let r = c.of_either-footer.result in
     last_is c.args.len n c.in_ok-to.to bytes _ (footer_parts_of c.read_fields_at.new.footer) len (c.in_ok-told.ensures.read told len) (omega arith) (c.of_either-footer.ensures.rest _)
     (seen_at at c.in_ok-to.to bytes seen (rest_of r) _ same (c.in_ok-to.ensures.read (c.in_ok-told.ensures.frame.tells ∙ told) (len ∙ ap length (sym same))))
     (eq-eqb _ _ c.if-len-to-ne-LENGTH_SIZE.false)

@@ -1,10 +1,10 @@
-use Rattle.std.proofs.Common.{◌≡◌, ◌∙◌, ◌+◌, ◌*◌, ◌<◌, ◌≤◌, ◌^◌, ℕ, List, ap, arith, length, subst, sym}
+use Rattle.std.proofs.Common.{◌≡◌, ◌∙◌, ◌+◌, ◌*◌, ◌<◌, ◌≤◌, ◌^◌, ℕ, List, arith, length, subst, sym}
 use Rattle.xet_hash.specs.Merkle.{total_len}
 use Rattle.xet_xorb_footer.specs.FooterEncoding.{max_chunks}
 use Rattle.xet_xorb.specs.Building.{no_spare}
-use Rattle.xet_xorb.specs.Footer.{V1, footer_v1}
+use Rattle.xet_xorb.specs.Footer.{V1}
 use Rattle.xet_xorb_samples.specs.Samples.{leaves_from, parts_from}
-use Rattle.xet_xorb_samples.proofs.Boundaries.{few_leaves, fit_leaves, footer_is, prefix_of_chunks, prefix_of_footer, object_is, encoded_bound, encoding_count, whole_prefix, whole_encoding}
+use Rattle.xet_xorb_samples.proofs.Boundaries.{few_leaves, fit_leaves, footer_is, footer_of_leaves, prefix_of_chunks, prefix_of_footer, object_is, encoded_bound, encoding_count, whole_prefix, whole_encoding}
 use Rattle.xet_xorb_samples.proofs.reference.serialize_xorb_to_stream_reference.Goals as goal
 
 pub new_footer-requires-clause-few : goal.new_footer-requires-clause-few
@@ -25,8 +25,7 @@ returns-in_err-object-clause-prefix g c = λ told.
     let hash = c.args.hash.now in
     let ms = leaves_from 0 c.args.chunks.now in
     let parts = parts_from 0 c.args.chunks.now c.args.bytes.now in
-    let is : c.in_ok-info.info ≡ footer_v1 hash ms no_spare =
-    c.in_ok-info.ensures.footer ∙ ap (λ (x : List (List ℕ × ℕ)). footer_v1 hash x no_spare) (c.deref.ensures.value ∙ c.in_ok-leaves.ensures.leaves) in
+    let is = footer_of_leaves c.in_ok-info.info hash _ ms no_spare c.in_ok-info.ensures.footer (c.deref.ensures.value ∙ c.in_ok-leaves.ensures.leaves) in
     let f = c.in_err-object.ensures.prefix (c.in_ok-start.ensures.frame.tells ∙ told) in
     prefix_of_footer V1 hash ms parts no_spare _ _ _ _ f.0 (c.in_ok-start.ensures.written told) f.1 (footer_is c.in_ok-info.info hash ms no_spare is)
 
@@ -34,8 +33,7 @@ pub returns-clause-object : goal.returns-clause-object
 returns-clause-object g c =
     let hash = c.args.hash.now in
     let ms = leaves_from 0 c.args.chunks.now in
-    let is : c.in_ok-info.info ≡ footer_v1 hash ms no_spare =
-    c.in_ok-info.ensures.footer ∙ ap (λ (x : List (List ℕ × ℕ)). footer_v1 hash x no_spare) (c.deref.ensures.value ∙ c.in_ok-leaves.ensures.leaves) in
+    let is = footer_of_leaves c.in_ok-info.info hash _ ms no_spare c.in_ok-info.ensures.footer (c.deref.ensures.value ∙ c.in_ok-leaves.ensures.leaves) in
     object_is c.in_ok-info.info hash ms no_spare c.in_ok-object.object is c.in_ok-object.ensures.object
 
 pub returns-clause-count : goal.returns-clause-count
@@ -43,8 +41,7 @@ returns-clause-count g c =
     let hash = c.args.hash.now in
     let ms = leaves_from 0 c.args.chunks.now in
     let parts = parts_from 0 c.args.chunks.now c.args.bytes.now in
-    let is : c.in_ok-info.info ≡ footer_v1 hash ms no_spare =
-    c.in_ok-info.ensures.footer ∙ ap (λ (x : List (List ℕ × ℕ)). footer_v1 hash x no_spare) (c.deref.ensures.value ∙ c.in_ok-leaves.ensures.leaves) in
+    let is = footer_of_leaves c.in_ok-info.info hash _ ms no_spare c.in_ok-info.ensures.footer (c.deref.ensures.value ∙ c.in_ok-leaves.ensures.leaves) in
     encoding_count c.in_ok-info.info hash ms parts no_spare c.in_ok-start.start c.in_ok-object.footer is c.in_ok-start.ensures.count c.in_ok-object.ensures.bytes.0 c.in_ok-object.ensures.bytes.1
 
 pub returns-clause-written : goal.returns-clause-written
@@ -52,20 +49,12 @@ returns-clause-written g c = λ told.
     let hash = c.args.hash.now in
     let ms = leaves_from 0 c.args.chunks.now in
     let parts = parts_from 0 c.args.chunks.now c.args.bytes.now in
-    let is : c.in_ok-info.info ≡ footer_v1 hash ms no_spare =
-    c.in_ok-info.ensures.footer ∙ ap (λ (x : List (List ℕ × ℕ)). footer_v1 hash x no_spare) (c.deref.ensures.value ∙ c.in_ok-leaves.ensures.leaves) in
+    let is = footer_of_leaves c.in_ok-info.info hash _ ms no_spare c.in_ok-info.ensures.footer (c.deref.ensures.value ∙ c.in_ok-leaves.ensures.leaves) in
     let next = c.in_ok-object.ensures.written (c.in_ok-start.ensures.frame.tells ∙ told) in
     whole_encoding V1 hash ms parts no_spare _ _ _ _ (c.in_ok-start.ensures.written told) next (footer_is c.in_ok-info.info hash ms no_spare is)
 
 pub returns-clause-prefix : goal.returns-clause-prefix
-returns-clause-prefix g c = λ told.
-    let hash = c.args.hash.now in
-    let ms = leaves_from 0 c.args.chunks.now in
-    let parts = parts_from 0 c.args.chunks.now c.args.bytes.now in
-    let is : c.in_ok-info.info ≡ footer_v1 hash ms no_spare =
-    c.in_ok-info.ensures.footer ∙ ap (λ (x : List (List ℕ × ℕ)). footer_v1 hash x no_spare) (c.deref.ensures.value ∙ c.in_ok-leaves.ensures.leaves) in
-    let next = c.in_ok-object.ensures.written (c.in_ok-start.ensures.frame.tells ∙ told) in
-    whole_prefix _ _ _ (whole_encoding V1 hash ms parts no_spare _ _ _ _ (c.in_ok-start.ensures.written told) next (footer_is c.in_ok-info.info hash ms no_spare is))
+returns-clause-prefix g c = λ told. whole_prefix _ _ _ (returns-clause-written g c told)
 
 pub overflow_add-result : goal.overflow_add-result
 overflow_add-result g c =

@@ -21,16 +21,14 @@ pub returns-in-Ok-clause-keyed : goal.returns-in-Ok-clause-keyed
 returns-in-Ok-clause-keyed c =
     let none : get (pointwise nat_eq) c.args.blocks.now c.hash.result ≡ None = rw c.hash.ensures c.requires.absent in
     let none_yet : get (pointwise nat_eq) c.reserve.new.self c.hash.result ≡ None = rw c.reserve.ensures.entries none in
-    keyed_put xorb_hash c.args.blocks.now.entries c.reserve.new.self.entries _ _ c.args.block c.requires.keyed c.hash.ensures
-    (c.reserve.ensures.entries ∙ sym (removed_none _ c.args.blocks.now.entries none))
+    keyed_put xorb_hash c.args.blocks.now.entries c.reserve.new.self.entries _ _ c.args.block c.requires.keyed c.hash.ensures (c.reserve.ensures.entries ∙ sym (removed_none _ c.args.blocks.now.entries none))
     (c.in-Ok.ensures.entries ∙ insert_entry-new _ c.reserve.new.self _ c.args.block none_yet)
 
 pub returns-in-Ok-clause-put : goal.returns-in-Ok-clause-put
 returns-in-Ok-clause-put c =
     let none : get (pointwise nat_eq) c.args.blocks.now c.hash.result ≡ None = rw c.hash.ensures c.requires.absent in
     let none_yet : get (pointwise nat_eq) c.reserve.new.self c.hash.result ≡ None = rw c.reserve.ensures.entries none in
-    values_put xorb_hash c.args.blocks.now.entries c.reserve.new.self.entries _ _ c.args.block c.requires.keyed c.hash.ensures
-    (c.reserve.ensures.entries ∙ sym (removed_none _ c.args.blocks.now.entries none))
+    values_put xorb_hash c.args.blocks.now.entries c.reserve.new.self.entries _ _ c.args.block c.requires.keyed c.hash.ensures (c.reserve.ensures.entries ∙ sym (removed_none _ c.args.blocks.now.entries none))
     (c.in-Ok.ensures.entries ∙ insert_entry-new _ c.reserve.new.self _ c.args.block none_yet) c.requires.differ
 
 pub returns-in-Ok-clause-places : goal.returns-in-Ok-clause-places

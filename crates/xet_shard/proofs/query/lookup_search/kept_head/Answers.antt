@@ -14,19 +14,17 @@ pub returns-then-index-count-clause-exact : goal.returns-then-index-count-clause
 returns-then-index-count-clause-exact g c = λ told.
     let f = c.args.f.now in
     let whole = g.R.ReadAt.bytes c.args.reader.now in
-    let index = c.in_ok-index.index in
-    let found = heads_index f whole c.args.row index (c.in_ok-index.ensures.exact told) in
-    (index, found.0, head_at_index f whole c.args.row index false c.requires found.1 (head_past f whole c.args.row index (omega (arith, c.if-index-count.true))))
+    let found = heads_index f whole c.args.row c.in_ok-index.index (c.in_ok-index.ensures.exact told) in
+    (c.in_ok-index.index, found.0, head_at_index f whole c.args.row c.in_ok-index.index false c.requires found.1 (head_past f whole c.args.row c.in_ok-index.index (omega (arith, c.if-index-count.true))))
 
 pub returns-in_err-fill-clause-exact : goal.returns-in_err-fill-clause-exact
 returns-in_err-fill-clause-exact g c = λ told.
     let p = err_from_is_err_and c.from_residual-in_err-fill.result c.from_residual-in_err-fill.ensures.1 in
     let f = c.args.f.now in
     let whole = g.R.ReadAt.bytes c.args.reader.now in
-    let index = c.in_ok-index.index in
-    let found = heads_index f whole c.args.row index (c.in_ok-index.ensures.exact told) in
-    let there : f.xorb_lookup_offset + 12 * index + 12 ≤ length (g.R.ReadAt.bytes c.bisecting_index.new.reader) = omega (arith, found.1, c.if-index-count.false, ap length c.in_ok-index.ensures.frame.same) in
-    (index, found.0, rw (p.1, p.2) (faulted (λ (there : Bool). there) c.in_err-fill.field-0.0 (has_head f c.args.row index whole) (c.in_err-fill.ensures.fault (c.in_ok-index.ensures.frame.tells ∙ told) there)))
+    let found = heads_index f whole c.args.row c.in_ok-index.index (c.in_ok-index.ensures.exact told) in
+    let there : f.xorb_lookup_offset + 12 * c.in_ok-index.index + 12 ≤ length (g.R.ReadAt.bytes c.bisecting_index.new.reader) = omega (arith, found.1, c.if-index-count.false, ap length c.in_ok-index.ensures.frame.same) in
+    (c.in_ok-index.index, found.0, rw (p.1, p.2) (faulted (λ (there : Bool). there) c.in_err-fill.field-0.0 (has_head f c.args.row c.in_ok-index.index whole) (c.in_err-fill.ensures.fault (c.in_ok-index.ensures.frame.tells ∙ told) there)))
 
 pub returns-clause-exact : goal.returns-clause-exact
 returns-clause-exact g c = λ told.

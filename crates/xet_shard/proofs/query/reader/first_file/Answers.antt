@@ -15,7 +15,7 @@ returns-in_err-file-clause-exact g c = λ told.
     let whole = g.R.ReadAt.bytes c.args.reader.now in
     let e = c.in_err-file.field-0.0 in
     rw (p.1, p.2) (item_fails c.args.f.now h (first_word h) whole c.args.items.now c.loop-item.item-index (0, 0) e _ c.loop-item-test.true
-    (subst (λ (b : List ℕ). GivesUnlessFault {X = Option MDBFileInfo} (λ x. x) (Err e) (first_file c.args.f.now h (rows_of (first_word h) (i ∷ [])) b)) c.loop-item.invariant.same (c.in_err-file.ensures.exact (c.loop-item.invariant.tells ∙ told)))
+    (subst (λ (b : List ℕ). GivesUnlessFault {X = Option MDBFileInfo} (λ x. x) (Err e) (first_file c.args.f.now h (rows_of (first_word h) (i ∷ [])) b)) c.loop-item.invariant.frame.same (c.in_err-file.ensures.exact (c.loop-item.invariant.frame.tells ∙ told)))
     (c.loop-item.invariant.so_far told))
 
 pub returns-in-Some-clause-exact : goal.returns-in-Some-clause-exact
@@ -24,7 +24,7 @@ returns-in-Some-clause-exact g c = λ told.
     let i : ℕ × ℕ = get_or c.args.items.now c.loop-item.item-index (0, 0) in
     let whole = g.R.ReadAt.bytes c.args.reader.now in
     item_some c.args.f.now h (first_word h) whole c.args.items.now c.loop-item.item-index (0, 0) c.in-Some.file _ c.loop-item-test.true
-    (ap (λ (b : List ℕ). first_file c.args.f.now h (rows_of (first_word h) (i ∷ [])) b) (sym c.loop-item.invariant.same) ∙ c.in_ok-file.ensures.exact (c.loop-item.invariant.tells ∙ told) ∙ ap (λ (x : Option MDBFileInfo). Ok x) c.in-Some.is)
+    (ap (λ (b : List ℕ). first_file c.args.f.now h (rows_of (first_word h) (i ∷ [])) b) (sym c.loop-item.invariant.frame.same) ∙ c.in_ok-file.ensures.exact (c.loop-item.invariant.frame.tells ∙ told) ∙ ap (λ (x : Option MDBFileInfo). Ok x) c.in-Some.is)
     (c.loop-item.invariant.so_far told)
 
 pub loop-item-preserved : goal.loop-item-preserved
@@ -33,13 +33,15 @@ loop-item-preserved g c =
     let i : ℕ × ℕ = get_or c.args.items.now c.loop-item.item-index (0, 0) in
     let whole = g.R.ReadAt.bytes c.args.reader.now in
     record {
-      same = c.in_ok-file.ensures.frame.same ∙ c.loop-item.invariant.same;
-      tells = c.in_ok-file.ensures.frame.tells ∙ c.loop-item.invariant.tells;
-      later = omega (arith, c.in_ok-file.ensures.frame.later, c.loop-item.invariant.later);
+      frame = record {
+        same = c.in_ok-file.ensures.frame.same ∙ c.loop-item.invariant.frame.same;
+        tells = c.in_ok-file.ensures.frame.tells ∙ c.loop-item.invariant.frame.tells;
+        later = omega (arith, c.in_ok-file.ensures.frame.later, c.loop-item.invariant.frame.later);
+      };
       lent = search rules;
       so_far = λ told.
           item_none c.args.f.now h (first_word h) whole c.args.items.now c.loop-item.item-index (0, 0) _ c.loop-item-test.true
-          (ap (λ (b : List ℕ). first_file c.args.f.now h (rows_of (first_word h) (i ∷ [])) b) (sym c.loop-item.invariant.same) ∙ c.in_ok-file.ensures.exact (c.loop-item.invariant.tells ∙ told) ∙ ap (λ (x : Option MDBFileInfo). Ok x) c.in-None.is)
+          (ap (λ (b : List ℕ). first_file c.args.f.now h (rows_of (first_word h) (i ∷ [])) b) (sym c.loop-item.invariant.frame.same) ∙ c.in_ok-file.ensures.exact (c.loop-item.invariant.frame.tells ∙ told) ∙ ap (λ (x : Option MDBFileInfo). Ok x) c.in-None.is)
           (c.loop-item.invariant.so_far told);
     }
 

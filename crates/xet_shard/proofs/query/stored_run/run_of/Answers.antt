@@ -8,7 +8,7 @@ use Rattle.xet_codec.specs.Parsing.{GivesUnlessFault}
 use Rattle.xet_shard_format.specs.Rows.{rows_in}
 use Rattle.xet_shard.specs.Runs.{agreed}
 use Rattle.xet_shard.proofs.Agreeing.{is_given}
-use Rattle.xet_shard.proofs.RunsRead.{first_differs, first_hash, first_refused, first_row, no_query, rest_agrees, rest_fails}
+use Rattle.xet_shard.proofs.RunsRead.{first_differs, first_refused, no_query, rest_agrees, rest_fails}
 use Rattle.xet_shard.proofs.query.stored_run.run_of.Goals as goal
 
 pub returns-in_default-clause-exact : goal.returns-in_default-clause-exact
@@ -17,55 +17,35 @@ returns-in_default-clause-exact g c = λ told le.
 
 pub returns-then-ne-clause-exact : goal.returns-then-ne-clause-exact
 returns-then-ne-clause-exact g c = λ told le.
-    let keep = kept_hash c.args.key.now in
-    let whole = g.R.ReadAt.bytes c.args.reader.now in
-    let n = c.args.head.now.b - c.args.place in
-    let r = c.in_ok-row.row in
-    let other : pointwise nat_eq c.kept_hash.result r.hash ≡ false = search rules in
-    first_differs c.args.place c.args.head.now (map keep c.args.query.now) (map keep c.in-Some.rest.now) c.kept_hash.result (rows_in n (drop c.args.at whole)) (rows_in (n - 1) (drop (c.args.at + 48) whole)) r
-    (first_hash keep c.args.query.now c.in-Some.rest.now c.in-Some.first.now c.kept_hash.result c.in-Some.ensures.cases.0 c.kept_hash.ensures)
-    (first_row n c.args.at whole r (omega (arith, c.requires.some)) (c.in_ok-row.ensures.told told (omega (arith, le, c.requires.some)))) other
+    let other : pointwise nat_eq c.kept_hash.result c.in_ok-row.row.hash ≡ false = search rules in
+    first_differs c.args.place c.args.head.now (kept_hash c.args.key.now) c.args.query.now c.in-Some.rest.now c.in-Some.first.now c.kept_hash.result (c.args.head.now.b - c.args.place) c.args.at (g.R.ReadAt.bytes c.args.reader.now) c.in_ok-row.row
+    c.in-Some.ensures.cases.0 c.kept_hash.ensures (omega (arith, c.requires.some)) (c.in_ok-row.ensures.told told (omega (arith, le, c.requires.some))) other
 
 pub returns-in_err-to-clause-exact : goal.returns-in_err-to-clause-exact
 returns-in_err-to-clause-exact g c = λ told le.
     let p = err_from_is_err_and c.from_residual-in_err-to.result c.from_residual-in_err-to.ensures.1 in
-    let keep = kept_hash c.args.key.now in
-    let whole = g.R.ReadAt.bytes c.args.reader.now in
-    let n = c.args.head.now.b - c.args.place in
-    let r = c.in_ok-row.row in
-    let same : pointwise nat_eq c.kept_hash.result r.hash ≡ true = search rules in
-    let refused = first_refused c.args.place c.args.head.now (map keep c.args.query.now) (map keep c.in-Some.rest.now) c.kept_hash.result (rows_in n (drop c.args.at whole)) (rows_in (n - 1) (drop (c.args.at + 48) whole)) r
-    (first_hash keep c.args.query.now c.in-Some.rest.now c.in-Some.first.now c.kept_hash.result c.in-Some.ensures.cases.0 c.kept_hash.ensures)
-    (first_row n c.args.at whole r (omega (arith, c.requires.some)) (c.in_ok-row.ensures.told told (omega (arith, le, c.requires.some)))) c.in_err-to.field-0.0 same (sym c.in_err-to.ensures.exact) in
+    let same : pointwise nat_eq c.kept_hash.result c.in_ok-row.row.hash ≡ true = search rules in
+    let refused = first_refused c.args.place c.args.head.now (kept_hash c.args.key.now) c.args.query.now c.in-Some.rest.now c.in-Some.first.now c.kept_hash.result (c.args.head.now.b - c.args.place) c.args.at (g.R.ReadAt.bytes c.args.reader.now) c.in_ok-row.row
+    c.in-Some.ensures.cases.0 c.kept_hash.ensures (omega (arith, c.requires.some)) (c.in_ok-row.ensures.told told (omega (arith, le, c.requires.some))) c.in_err-to.field-0.0 same (sym c.in_err-to.ensures.exact) in
     rw (p.1, p.2) (is_given {X = Option (ℕ × FileDataSequenceEntry)} (Err c.in_err-to.field-0.0) _ (sym refused) c.in_err-to.ensures.refused)
 
 pub returns-in_err-more-clause-exact : goal.returns-in_err-more-clause-exact
 returns-in_err-more-clause-exact g c = λ told le.
     let p = err_from_is_err_and c.from_residual-in_err-more.result c.from_residual-in_err-more.ensures.1 in
-    let keep = kept_hash c.args.key.now in
-    let whole = g.R.ReadAt.bytes c.args.reader.now in
-    let n = c.args.head.now.b - c.args.place in
-    let r = c.in_ok-row.row in
     let row = c.in_ok-row.ensures in
-    let same : pointwise nat_eq c.kept_hash.result r.hash ≡ true = search rules in
+    let same : pointwise nat_eq c.kept_hash.result c.in_ok-row.row.hash ≡ true = search rules in
     let e = c.in_err-more.field-0.0 in
-    rw (p.1, p.2) (rest_fails c.args.place c.args.head.now (map keep c.args.query.now) (map keep c.in-Some.rest.now) c.kept_hash.result (rows_in n (drop c.args.at whole)) (rows_in (n - 1) (drop (c.args.at + 48) whole)) r
-    (first_hash keep c.args.query.now c.in-Some.rest.now c.in-Some.first.now c.kept_hash.result c.in-Some.ensures.cases.0 c.kept_hash.ensures)
-    (first_row n c.args.at whole r (omega (arith, c.requires.some)) (row.told told (omega (arith, le, c.requires.some)))) c.in_ok-to.to e same (sym c.in_ok-to.ensures.exact)
-    (subst (λ (b : List ℕ). GivesUnlessFault {X = ℕ × ℕ} (λ x. x) (Err e) (agreed (map keep c.in-Some.rest.now) c.args.head.now.c c.in_ok-to.to (rows_in (n - 1) (drop (c.args.at + 48) b)))) row.frame.same
+    rw (p.1, p.2) (rest_fails c.args.place c.args.head.now (kept_hash c.args.key.now) c.args.query.now c.in-Some.rest.now c.in-Some.first.now c.kept_hash.result (c.args.head.now.b - c.args.place) c.args.at (g.R.ReadAt.bytes c.args.reader.now) c.in_ok-row.row
+    c.in-Some.ensures.cases.0 c.kept_hash.ensures (omega (arith, c.requires.some)) (c.in_ok-row.ensures.told told (omega (arith, le, c.requires.some))) c.in_ok-to.to e same (sym c.in_ok-to.ensures.exact)
+    (subst (λ (b : List ℕ). GivesUnlessFault {X = ℕ × ℕ} (λ x. x) (Err e) (agreed (map (kept_hash c.args.key.now) c.in-Some.rest.now) c.args.head.now.c c.in_ok-to.to (rows_in (c.args.head.now.b - c.args.place - 1) (drop (c.args.at + 48) b)))) row.frame.same
     (c.in_err-more.ensures.exact (row.frame.tells ∙ told) (omega (arith, le, ap length row.frame.same, c.requires.some)))))
 
 pub returns-clause-exact : goal.returns-clause-exact
 returns-clause-exact g c = λ told le.
-    let keep = kept_hash c.args.key.now in
-    let whole = g.R.ReadAt.bytes c.args.reader.now in
-    let n = c.args.head.now.b - c.args.place in
-    let r = c.in_ok-row.row in
     let row = c.in_ok-row.ensures in
-    let same : pointwise nat_eq c.kept_hash.result r.hash ≡ true = search rules in
+    let same : pointwise nat_eq c.kept_hash.result c.in_ok-row.row.hash ≡ true = search rules in
     let more = c.in_ok-more in
-    rest_agrees c.args.place c.args.head.now (map keep c.args.query.now) (map keep c.in-Some.rest.now) c.kept_hash.result (rows_in n (drop c.args.at whole)) (rows_in (n - 1) (drop (c.args.at + 48) whole)) r
-    (first_hash keep c.args.query.now c.in-Some.rest.now c.in-Some.first.now c.kept_hash.result c.in-Some.ensures.cases.0 c.kept_hash.ensures)
-    (first_row n c.args.at whole r (omega (arith, c.requires.some)) (row.told told (omega (arith, le, c.requires.some)))) c.in_ok-to.to more.more more.end same (sym c.in_ok-to.ensures.exact)
-    (ap (λ (b : List ℕ). agreed (map keep c.in-Some.rest.now) c.args.head.now.c c.in_ok-to.to (rows_in (n - 1) (drop (c.args.at + 48) b))) (sym row.frame.same) ∙ more.ensures.exact (row.frame.tells ∙ told) (omega (arith, le, ap length row.frame.same, c.requires.some)))
+    rest_agrees c.args.place c.args.head.now (kept_hash c.args.key.now) c.args.query.now c.in-Some.rest.now c.in-Some.first.now c.kept_hash.result (c.args.head.now.b - c.args.place) c.args.at (g.R.ReadAt.bytes c.args.reader.now) c.in_ok-row.row
+    c.in-Some.ensures.cases.0 c.kept_hash.ensures (omega (arith, c.requires.some)) (c.in_ok-row.ensures.told told (omega (arith, le, c.requires.some))) c.in_ok-to.to more.more more.end same (sym c.in_ok-to.ensures.exact)
+    (ap (λ (b : List ℕ). agreed (map (kept_hash c.args.key.now) c.in-Some.rest.now) c.args.head.now.c c.in_ok-to.to (rows_in (c.args.head.now.b - c.args.place - 1) (drop (c.args.at + 48) b))) (sym row.frame.same) ∙ more.ensures.exact (row.frame.tells ∙ told) (omega (arith, le, ap length row.frame.same, c.requires.some)))
     ∙ ap (λ (s : FileDataSequenceEntry). Ok (Some (more.more + 1, s))) (sym c.new-segment.ensures)

@@ -1,9 +1,8 @@
 use Rattle.std.specs.Prelude.{Vec}
 use Rattle.std.specs.Global.{Global}
-use Rattle.std.proofs.Common.{ℕ, ◌*◌, ◌∙◌, ap}
+use Rattle.std.proofs.Common.{ℕ, ◌∙◌, ap}
 use Rattle.std.proofs.lemmas.Result.{err_from_is_err_and}
 use Rattle.xet_shard_format.specs.Lookups.{flat_places}
-use Rattle.xet_shard.specs.internal.ReaderBytes.{piece_at}
 use Rattle.xet_shard.specs.Sections.{places_in}
 use Rattle.xet_shard.proofs.PartLaws.{fails_on_whole, goes_on, chunks_kept}
 use Rattle.xet_shard.proofs.reader.lookups.kept_chunk_lookup.Goals as goal
@@ -12,14 +11,12 @@ pub returns-in_err-bytes-clause-exact : goal.returns-in_err-bytes-clause-exact
 returns-in_err-bytes-clause-exact g c = λ told.
     let p = err_from_is_err_and c.from_residual.result c.from_residual.ensures.1 in
     let f = c.args.f.now in
-    let n = f.chunk_lookup_num_entry in
     let whole = g.R.ReadAt.bytes c.args.reader.now in
-    rw (p.1, p.2) (fails_on_whole (λ (v : Vec ℕ Global). v.items) (λ (v : Vec (ℕ × (ℕ × ℕ)) Global). flat_places v.items) c.in_err-bytes.field-0.0 (piece_at f.chunk_lookup_offset (16 * n) whole) (places_in n) _ (chunks_kept f whole c.requires) (c.in_err-bytes.ensures.told told))
+    rw (p.1, p.2) (fails_on_whole (λ (v : Vec ℕ Global). v.items) (λ (v : Vec (ℕ × (ℕ × ℕ)) Global). flat_places v.items) c.in_err-bytes.field-0.0 _ (places_in f.chunk_lookup_num_entry) _ (chunks_kept f whole c.requires) (c.in_err-bytes.ensures.told told))
 
 pub returns-clause-exact : goal.returns-clause-exact
 returns-clause-exact g c = λ told.
     let f = c.args.f.now in
-    let n = f.chunk_lookup_num_entry in
     let whole = g.R.ReadAt.bytes c.args.reader.now in
-    goes_on (λ v. v.items) (λ v. flat_places v.items) c.in_ok-bytes.bytes c.in_ok-items.items (piece_at f.chunk_lookup_offset (16 * n) whole) (places_in n) _ (chunks_kept f whole c.requires) (c.in_ok-bytes.ensures.told told)
-    (c.in_ok-items.ensures ∙ ap (places_in n) c.deref.ensures.value)
+    goes_on (λ v. v.items) (λ v. flat_places v.items) c.in_ok-bytes.bytes c.in_ok-items.items _ (places_in f.chunk_lookup_num_entry) _ (chunks_kept f whole c.requires) (c.in_ok-bytes.ensures.told told)
+    (c.in_ok-items.ensures ∙ ap (places_in f.chunk_lookup_num_entry) c.deref.ensures.value)

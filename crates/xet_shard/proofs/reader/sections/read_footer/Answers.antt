@@ -14,6 +14,5 @@ pub returns-clause-errors : goal.returns-clause-errors
 returns-clause-errors g c = gives_input_error c.footer_of_last.result _ (a_last c.args.len c.fill.new.buf) c.footer_of_last.ensures.exact
 
 pub returns-clause-frame : goal.returns-clause-frame
-returns-clause-frame g c =
-    let cause = cause_before (λ f. f) c.footer_of_last.result _ _ _ (a_last c.args.len c.fill.new.buf) c.footer_of_last.ensures.gives c.in_ok-fill.ensures.frame.later in
+returns-clause-frame g c = let cause = cause_before (λ f. f) c.footer_of_last.result _ _ _ (a_last c.args.len c.fill.new.buf) c.footer_of_last.ensures.gives c.in_ok-fill.ensures.frame.later in
     record { same = search rules; tells = search rules; later = cause.later; rose = cause.rose; lent = search rules }

@@ -14,6 +14,5 @@ pub returns-clause-errors : goal.returns-clause-errors
 returns-clause-errors g c = gives_input_error c.header_of_first.result _ (a_first c.args.len c.fill.new.buf) c.header_of_first.ensures.exact
 
 pub returns-clause-frame : goal.returns-clause-frame
-returns-clause-frame g c =
-    let cause = cause_before (λ _. tt) c.header_of_first.result _ _ _ (a_first c.args.len c.fill.new.buf) c.header_of_first.ensures.gives c.in_ok-fill.ensures.frame.later in
+returns-clause-frame g c = let cause = cause_before (λ _. tt) c.header_of_first.result _ _ _ (a_first c.args.len c.fill.new.buf) c.header_of_first.ensures.gives c.in_ok-fill.ensures.frame.later in
     record { same = search rules; tells = search rules; later = cause.later; rose = cause.rose; lent = search rules }

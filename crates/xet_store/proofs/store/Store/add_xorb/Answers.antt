@@ -1,15 +1,14 @@
-use Rattle.std.proofs.Common.{◌≡◌, ◌∙◌, ℕ, List, length, map, inr, Some, None, true, refl, sym, ap, subst, rules, arith}
+use Rattle.std.proofs.Common.{◌≡◌, ◌∙◌, length, map, inr, Some, None, true, refl, sym, ap, rules, arith}
 use Rattle.xet_hash.specs.Merkle.{xorb_hash}
 use Rattle.xet_xorb_chunk.specs.Chunks.{chunk_leaf}
 use Rattle.xet_shard_format.specs.declared.record.MDBXorbInfo.{MDBXorbInfo}
 use Rattle.xet_shard.specs.Held.{Held, held, with_last}
 use Rattle.xet_shard_format.specs.Records as record_of
-use Rattle.xet_folder.specs.Stored.{IsBacked}
 use Rattle.xet_folder.specs.Xorbs.{Xorbs, found}
 use Rattle.xet_store.specs.Store.{State}
 use Rattle.xet_store.specs.Tables.{tables, tables_of}
 use Rattle.xet_store.proofs.Answering.{on_err}
-use Rattle.xet_store.proofs.Adding.{PutsXorb, backed_by_encoding, listed_at, leaves_below, parts_fit, put_keeps, put_sound, put_tables, raw_block, raw_hash, raw_encoding, same_leaves, tables_by_chunks, tables_listed, true_from, unput_keeps, unput_sound}
+use Rattle.xet_store.proofs.Adding.{listed_at, leaves_below, parts_fit, put_keeps, put_sound, put_tables, puts_xorb, raw_block, raw_hash, same_leaves, tables_by_chunks, tables_listed, true_from, unput_keeps, unput_sound}
 use Rattle.xet_store.specs.theorems.Keeping.{keeps_nothing}
 use Rattle.xet_store.proofs.Pending.{few_blocks_of, xorb_form_of}
 use Rattle.xet_store.proofs.Rows.{recorded_at}
@@ -71,51 +70,15 @@ returns-in_err-reserve-clause-kept g c =
 
 pub invariant_of-self-in_err-put_xorb : goal.invariant_of-self-in_err-put_xorb
 invariant_of-self-in_err-put_xorb g c =
-    let h = c.hash-hash.result in
-    let chunks = c.args.chunks.now in
-    let files = g.D.Disk.files c.put_xorb.new.disk in
-    let is_hash : h ≡ xorb_hash (map chunk_leaf chunks) = raw_hash c.in_ok-raw.raw chunks _ c.in_ok-raw.ensures.exact h c.hash-hash.ensures in
-    let put : PutsXorb _ c.as_str.result.now h c.as_slice-2.result.now c.in_ok-leaves.leaves.items _ files (g.D.Disk.faults c.put_xorb.new.disk) = record {
-      sound = c.self.invariant;
-      same = c.as_str.ensures;
-      tells_same = c.put_xorb.ensures.frame.tells;
-      later = c.put_xorb.ensures.frame.later;
-      none = sym c.in_default.ensures.value;
-      xorbs = c.put_xorb.ensures.xorbs;
-      shards = c.put_xorb.ensures.shards;
-      foreign = c.put_xorb.ensures.foreign;
-      backs = λ there.
-          subst (λ (m : List (List ℕ × ℕ)). IsBacked files c.self.inside.folder h m) (sym c.in_ok-leaves.ensures.leaves)
-          (backed_by_encoding files c.self.inside.folder h c.in_ok-built.built.serialized_data chunks c.requires.digests c.requires.small
-          (raw_encoding c.in_ok-raw.raw chunks _ c.in_ok-raw.ensures.exact h c.hash-hash.ensures c.in_ok-built.built.serialized_data c.requires.digests c.requires.some c.in_ok-raw.ensures.leaves (c.in_ok-built.ensures.grammar refl))
-          is_hash (there ∙ ap Some c.as_slice-2.ensures));
-      left = c.in_err-put_xorb.ensures.refused;
-    } in
-    unput_sound put c.reserve.ensures.entries refl refl refl
+    let r = c.in_ok-raw.ensures in let p = c.put_xorb.ensures in let put = puts_xorb c.args.chunks.now c.self.invariant c.as_str.ensures (sym c.in_default.ensures.value) r.exact c.hash-hash.ensures r.leaves
+    (c.in_ok-built.ensures.grammar refl) c.as_slice-2.ensures c.in_ok-leaves.ensures.leaves c.requires.digests c.requires.small c.requires.some p.frame.tells p.frame.later p.xorbs p.shards p.foreign in
+    unput_sound put c.in_err-put_xorb.ensures.refused c.reserve.ensures.entries refl refl refl
 
 pub returns-in_err-put_xorb-clause-keeps : goal.returns-in_err-put_xorb-clause-keeps
 returns-in_err-put_xorb-clause-keeps g c =
-    let h = c.hash-hash.result in
-    let chunks = c.args.chunks.now in
-    let files = g.D.Disk.files c.put_xorb.new.disk in
-    let is_hash : h ≡ xorb_hash (map chunk_leaf chunks) = raw_hash c.in_ok-raw.raw chunks _ c.in_ok-raw.ensures.exact h c.hash-hash.ensures in
-    let put : PutsXorb _ c.as_str.result.now h c.as_slice-2.result.now c.in_ok-leaves.leaves.items _ files (g.D.Disk.faults c.put_xorb.new.disk) = record {
-      sound = c.self.invariant;
-      same = c.as_str.ensures;
-      tells_same = c.put_xorb.ensures.frame.tells;
-      later = c.put_xorb.ensures.frame.later;
-      none = sym c.in_default.ensures.value;
-      xorbs = c.put_xorb.ensures.xorbs;
-      shards = c.put_xorb.ensures.shards;
-      foreign = c.put_xorb.ensures.foreign;
-      backs = λ there.
-          subst (λ (m : List (List ℕ × ℕ)). IsBacked files c.self.inside.folder h m) (sym c.in_ok-leaves.ensures.leaves)
-          (backed_by_encoding files c.self.inside.folder h c.in_ok-built.built.serialized_data chunks c.requires.digests c.requires.small
-          (raw_encoding c.in_ok-raw.raw chunks _ c.in_ok-raw.ensures.exact h c.hash-hash.ensures c.in_ok-built.built.serialized_data c.requires.digests c.requires.some c.in_ok-raw.ensures.leaves (c.in_ok-built.ensures.grammar refl))
-          is_hash (there ∙ ap Some c.as_slice-2.ensures));
-      left = c.in_err-put_xorb.ensures.refused;
-    } in
-    unput_keeps put c.reserve.ensures.entries refl refl refl _ c.self.view_is
+    let r = c.in_ok-raw.ensures in let p = c.put_xorb.ensures in let put = puts_xorb c.args.chunks.now c.self.invariant c.as_str.ensures (sym c.in_default.ensures.value) r.exact c.hash-hash.ensures r.leaves
+    (c.in_ok-built.ensures.grammar refl) c.as_slice-2.ensures c.in_ok-leaves.ensures.leaves c.requires.digests c.requires.small c.requires.some p.frame.tells p.frame.later p.xorbs p.shards p.foreign in
+    unput_keeps put c.in_err-put_xorb.ensures.refused c.reserve.ensures.entries refl refl refl _ c.self.view_is
 
 pub returns-in_err-put_xorb-clause-kept : goal.returns-in_err-put_xorb-clause-kept
 returns-in_err-put_xorb-clause-kept g c =
@@ -135,51 +98,17 @@ add_xorb_block-requires-clause-few g c =
 
 pub invariant_of-self-in_err-add_xorb_block : goal.invariant_of-self-in_err-add_xorb_block
 invariant_of-self-in_err-add_xorb_block g c =
-    let h = c.hash-hash.result in
-    let chunks = c.args.chunks.now in
-    let files = g.D.Disk.files c.put_xorb.new.disk in
-    let is_hash : h ≡ xorb_hash (map chunk_leaf chunks) = raw_hash c.in_ok-raw.raw chunks _ c.in_ok-raw.ensures.exact h c.hash-hash.ensures in
-    let put : PutsXorb _ c.as_str.result.now h c.as_slice-2.result.now c.in_ok-leaves.leaves.items _ files (g.D.Disk.faults c.put_xorb.new.disk) = record {
-      sound = c.self.invariant;
-      same = c.as_str.ensures;
-      tells_same = c.put_xorb.ensures.frame.tells;
-      later = c.put_xorb.ensures.frame.later;
-      none = sym c.in_default.ensures.value;
-      xorbs = c.put_xorb.ensures.xorbs;
-      shards = c.put_xorb.ensures.shards;
-      foreign = c.put_xorb.ensures.foreign;
-      backs = λ there.
-          subst (λ (m : List (List ℕ × ℕ)). IsBacked files c.self.inside.folder h m) (sym c.in_ok-leaves.ensures.leaves)
-          (backed_by_encoding files c.self.inside.folder h c.in_ok-built.built.serialized_data chunks c.requires.digests c.requires.small
-          (raw_encoding c.in_ok-raw.raw chunks _ c.in_ok-raw.ensures.exact h c.hash-hash.ensures c.in_ok-built.built.serialized_data c.requires.digests c.requires.some c.in_ok-raw.ensures.leaves (c.in_ok-built.ensures.grammar refl))
-          is_hash (there ∙ ap Some c.as_slice-2.ensures));
-      left = λ told. inr (record { there = c.in_ok-put_xorb.ensures.there told; durable = c.in_ok-put_xorb.ensures.durable told; temp = c.in_ok-put_xorb.ensures.temp told });
-    } in
-    unput_sound put c.reserve.ensures.entries refl refl c.in_err-add_xorb_block.ensures.kept
+    let r = c.in_ok-raw.ensures in let p = c.put_xorb.ensures in let put = puts_xorb c.args.chunks.now c.self.invariant c.as_str.ensures (sym c.in_default.ensures.value) r.exact c.hash-hash.ensures r.leaves
+    (c.in_ok-built.ensures.grammar refl) c.as_slice-2.ensures c.in_ok-leaves.ensures.leaves c.requires.digests c.requires.small c.requires.some p.frame.tells p.frame.later p.xorbs p.shards p.foreign in
+    unput_sound put (λ told. inr (record { there = c.in_ok-put_xorb.ensures.there told; durable = c.in_ok-put_xorb.ensures.durable told; temp = c.in_ok-put_xorb.ensures.temp told }))
+    c.reserve.ensures.entries refl refl c.in_err-add_xorb_block.ensures.kept
 
 pub returns-in_err-add_xorb_block-clause-keeps : goal.returns-in_err-add_xorb_block-clause-keeps
 returns-in_err-add_xorb_block-clause-keeps g c =
-    let h = c.hash-hash.result in
-    let chunks = c.args.chunks.now in
-    let files = g.D.Disk.files c.put_xorb.new.disk in
-    let is_hash : h ≡ xorb_hash (map chunk_leaf chunks) = raw_hash c.in_ok-raw.raw chunks _ c.in_ok-raw.ensures.exact h c.hash-hash.ensures in
-    let put : PutsXorb _ c.as_str.result.now h c.as_slice-2.result.now c.in_ok-leaves.leaves.items _ files (g.D.Disk.faults c.put_xorb.new.disk) = record {
-      sound = c.self.invariant;
-      same = c.as_str.ensures;
-      tells_same = c.put_xorb.ensures.frame.tells;
-      later = c.put_xorb.ensures.frame.later;
-      none = sym c.in_default.ensures.value;
-      xorbs = c.put_xorb.ensures.xorbs;
-      shards = c.put_xorb.ensures.shards;
-      foreign = c.put_xorb.ensures.foreign;
-      backs = λ there.
-          subst (λ (m : List (List ℕ × ℕ)). IsBacked files c.self.inside.folder h m) (sym c.in_ok-leaves.ensures.leaves)
-          (backed_by_encoding files c.self.inside.folder h c.in_ok-built.built.serialized_data chunks c.requires.digests c.requires.small
-          (raw_encoding c.in_ok-raw.raw chunks _ c.in_ok-raw.ensures.exact h c.hash-hash.ensures c.in_ok-built.built.serialized_data c.requires.digests c.requires.some c.in_ok-raw.ensures.leaves (c.in_ok-built.ensures.grammar refl))
-          is_hash (there ∙ ap Some c.as_slice-2.ensures));
-      left = λ told. inr (record { there = c.in_ok-put_xorb.ensures.there told; durable = c.in_ok-put_xorb.ensures.durable told; temp = c.in_ok-put_xorb.ensures.temp told });
-    } in
-    unput_keeps put c.reserve.ensures.entries refl refl c.in_err-add_xorb_block.ensures.kept _ c.self.view_is
+    let r = c.in_ok-raw.ensures in let p = c.put_xorb.ensures in let put = puts_xorb c.args.chunks.now c.self.invariant c.as_str.ensures (sym c.in_default.ensures.value) r.exact c.hash-hash.ensures r.leaves
+    (c.in_ok-built.ensures.grammar refl) c.as_slice-2.ensures c.in_ok-leaves.ensures.leaves c.requires.digests c.requires.small c.requires.some p.frame.tells p.frame.later p.xorbs p.shards p.foreign in
+    unput_keeps put (λ told. inr (record { there = c.in_ok-put_xorb.ensures.there told; durable = c.in_ok-put_xorb.ensures.durable told; temp = c.in_ok-put_xorb.ensures.temp told }))
+    c.reserve.ensures.entries refl refl c.in_err-add_xorb_block.ensures.kept _ c.self.view_is
 
 pub returns-in_err-add_xorb_block-clause-kept : goal.returns-in_err-add_xorb_block-clause-kept
 returns-in_err-add_xorb_block-clause-kept g c =
@@ -188,62 +117,30 @@ returns-in_err-add_xorb_block-clause-kept g c =
 
 pub invariant_of-self-2 : goal.invariant_of-self-2
 invariant_of-self-2 g c =
-    let h = c.hash-hash.result in
-    let chunks = c.args.chunks.now in
-    let files = g.D.Disk.files c.put_xorb.new.disk in
-    let is_hash : h ≡ xorb_hash (map chunk_leaf chunks) = raw_hash c.in_ok-raw.raw chunks _ c.in_ok-raw.ensures.exact h c.hash-hash.ensures in
-    let put : PutsXorb _ c.as_str.result.now h c.as_slice-2.result.now c.in_ok-leaves.leaves.items _ files (g.D.Disk.faults c.put_xorb.new.disk) = record {
-      sound = c.self.invariant;
-      same = c.as_str.ensures;
-      tells_same = c.put_xorb.ensures.frame.tells;
-      later = c.put_xorb.ensures.frame.later;
-      none = sym c.in_default.ensures.value;
-      xorbs = c.put_xorb.ensures.xorbs;
-      shards = c.put_xorb.ensures.shards;
-      foreign = c.put_xorb.ensures.foreign;
-      backs = λ there.
-          subst (λ (m : List (List ℕ × ℕ)). IsBacked files c.self.inside.folder h m) (sym c.in_ok-leaves.ensures.leaves)
-          (backed_by_encoding files c.self.inside.folder h c.in_ok-built.built.serialized_data chunks c.requires.digests c.requires.small
-          (raw_encoding c.in_ok-raw.raw chunks _ c.in_ok-raw.ensures.exact h c.hash-hash.ensures c.in_ok-built.built.serialized_data c.requires.digests c.requires.some c.in_ok-raw.ensures.leaves (c.in_ok-built.ensures.grammar refl))
-          is_hash (there ∙ ap Some c.as_slice-2.ensures));
-      left = λ told. inr (record { there = c.in_ok-put_xorb.ensures.there told; durable = c.in_ok-put_xorb.ensures.durable told; temp = c.in_ok-put_xorb.ensures.temp told });
-    } in
-    let leaves = c.in_ok-leaves.leaves.items in
+    let r = c.in_ok-raw.ensures in let p = c.put_xorb.ensures in let put = puts_xorb c.args.chunks.now c.self.invariant c.as_str.ensures (sym c.in_default.ensures.value) r.exact c.hash-hash.ensures r.leaves
+    (c.in_ok-built.ensures.grammar refl) c.as_slice-2.ensures c.in_ok-leaves.ensures.leaves c.requires.digests c.requires.small c.requires.some p.frame.tells p.frame.later p.xorbs p.shards p.foreign in
+    let h = c.hash-hash.result in let leaves = c.in_ok-leaves.leaves.items in
     let none : found c.self.inside.xorbs.entries h ≡ None = sym c.in_default.ensures.value in
     let more = recorded_at c.self.inside.xorbs h h c.reserve.new.self.entries _ _ leaves refl c.in_ok-listed.ensures.pairs none c.reserve.ensures.entries c.in_ok-insert.ensures.entries in
     let exact = raw_block c.in_ok-raw.raw c.args.chunks.now _ c.in_ok-raw.ensures.exact h c.hash-hash.ensures c.in_ok-block.block leaves c.in_ok-leaves.ensures.leaves c.in_ok-block.ensures.copy in
     let pending = c.in_ok-add_xorb_block.ensures.added ∙ ap (λ (b : MDBXorbInfo). held (with_last record_of.xorb_hash c.self.inside.pending.blocks b) c.self.inside.pending.files) exact in
-    put_sound put more pending (c.known_bytes.ensures.length, c.known_bytes.ensures.bytes) c.known.ensures c.in_ok-put_xorb.ensures.there
+    put_sound put (λ told. inr (record { there = c.in_ok-put_xorb.ensures.there told; durable = c.in_ok-put_xorb.ensures.durable told; temp = c.in_ok-put_xorb.ensures.temp told }))
+    more pending (c.known_bytes.ensures.length, c.known_bytes.ensures.bytes) c.known.ensures c.in_ok-put_xorb.ensures.there
 
 pub returns : goal.returns
 returns g c =
-    let h = c.hash-hash.result in
-    let chunks = c.args.chunks.now in
-    let files = g.D.Disk.files c.put_xorb.new.disk in
+    let r = c.in_ok-raw.ensures in let p = c.put_xorb.ensures in let put = puts_xorb c.args.chunks.now c.self.invariant c.as_str.ensures (sym c.in_default.ensures.value) r.exact c.hash-hash.ensures r.leaves
+    (c.in_ok-built.ensures.grammar refl) c.as_slice-2.ensures c.in_ok-leaves.ensures.leaves c.requires.digests c.requires.small c.requires.some p.frame.tells p.frame.later p.xorbs p.shards p.foreign in
+    let h = c.hash-hash.result in let chunks = c.args.chunks.now in
     let is_hash : h ≡ xorb_hash (map chunk_leaf chunks) = raw_hash c.in_ok-raw.raw chunks _ c.in_ok-raw.ensures.exact h c.hash-hash.ensures in
-    let put : PutsXorb _ c.as_str.result.now h c.as_slice-2.result.now c.in_ok-leaves.leaves.items _ files (g.D.Disk.faults c.put_xorb.new.disk) = record {
-      sound = c.self.invariant;
-      same = c.as_str.ensures;
-      tells_same = c.put_xorb.ensures.frame.tells;
-      later = c.put_xorb.ensures.frame.later;
-      none = sym c.in_default.ensures.value;
-      xorbs = c.put_xorb.ensures.xorbs;
-      shards = c.put_xorb.ensures.shards;
-      foreign = c.put_xorb.ensures.foreign;
-      backs = λ there.
-          subst (λ (m : List (List ℕ × ℕ)). IsBacked files c.self.inside.folder h m) (sym c.in_ok-leaves.ensures.leaves)
-          (backed_by_encoding files c.self.inside.folder h c.in_ok-built.built.serialized_data chunks c.requires.digests c.requires.small
-          (raw_encoding c.in_ok-raw.raw chunks _ c.in_ok-raw.ensures.exact h c.hash-hash.ensures c.in_ok-built.built.serialized_data c.requires.digests c.requires.some c.in_ok-raw.ensures.leaves (c.in_ok-built.ensures.grammar refl))
-          is_hash (there ∙ ap Some c.as_slice-2.ensures));
-      left = λ told. inr (record { there = c.in_ok-put_xorb.ensures.there told; durable = c.in_ok-put_xorb.ensures.durable told; temp = c.in_ok-put_xorb.ensures.temp told });
-    } in
     let leaves = c.in_ok-leaves.leaves.items in
     let none : found c.self.inside.xorbs.entries h ≡ None = sym c.in_default.ensures.value in
     let more = recorded_at c.self.inside.xorbs h h c.reserve.new.self.entries _ _ leaves refl c.in_ok-listed.ensures.pairs none c.reserve.ensures.entries c.in_ok-insert.ensures.entries in
     let exact = raw_block c.in_ok-raw.raw c.args.chunks.now _ c.in_ok-raw.ensures.exact h c.hash-hash.ensures c.in_ok-block.block leaves c.in_ok-leaves.ensures.leaves c.in_ok-block.ensures.copy in
     let pending = c.in_ok-add_xorb_block.ensures.added ∙ ap (λ (b : MDBXorbInfo). held (with_last record_of.xorb_hash c.self.inside.pending.blocks b) c.self.inside.pending.files) exact in
     record {
-      keeps = put_keeps put more pending c.in_ok-put_xorb.ensures.durable _ c.self.view_is;
+      keeps = put_keeps put (λ told. inr (record { there = c.in_ok-put_xorb.ensures.there told; durable = c.in_ok-put_xorb.ensures.durable told; temp = c.in_ok-put_xorb.ensures.temp told })) more pending
+          c.in_ok-put_xorb.ensures.durable _ c.self.view_is;
       records = search rules;
       shards = search rules;
       listed = (is_hash, listed_at c.self.inside.xorbs.entries _ h leaves more none ∙ ap Some c.in_ok-leaves.ensures.leaves);

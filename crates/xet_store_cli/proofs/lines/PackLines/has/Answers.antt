@@ -21,21 +21,17 @@ returns-then-range-eq0 c =
 
 pub returns-then-range : goal.returns-then-range
 returns-then-range c =
-    let r = c.args.range.now in
-    let file = c.index.result.now in
+    let r = c.args.range.now in let file = c.index.result.now in
     let there : numbered c.args.self.now.files r.file ≡ Some file.items =
-    ap (λ (s : Said). numbered s.files r.file) (sym c.self.view_is)
-    ∙ numbered_at (λ f. f.items) c.self.inside.files.items r.file file (omega arith) (omega (arith, c.self.inside.files.ok.0)) c.index.ensures in
+    ap (λ (s : Said). numbered s.files r.file) (sym c.self.view_is) ∙ numbered_at (λ f. f.items) c.self.inside.files.items r.file file (omega arith) (omega (arith, c.self.inside.files.ok.0)) c.index.ensures in
     let size : c.len-size.result ≡ length file.items = omega (arith, file.ok.0) in
     let e : is_some (range_bytes c.args.self.now.files r) ≡ (leb r.from r.to && leb r.to c.len-size.result) = range_some c.args.self.now.files r file.items there ∙ ap (λ n. leb r.from r.to && leb r.to n) (sym size) in
     sym (e ∙ ap (λ (t : Bool). t && leb r.to c.len-size.result) (le-leb r.from r.to c.if-range.true))
 
 pub returns-else-range : goal.returns-else-range
 returns-else-range c =
-    let r = c.args.range.now in
-    let file = c.index.result.now in
+    let r = c.args.range.now in let file = c.index.result.now in
     let there : numbered c.args.self.now.files r.file ≡ Some file.items =
-    ap (λ (s : Said). numbered s.files r.file) (sym c.self.view_is)
-    ∙ numbered_at (λ f. f.items) c.self.inside.files.items r.file file (omega arith) (omega (arith, c.self.inside.files.ok.0)) c.index.ensures in
+    ap (λ (s : Said). numbered s.files r.file) (sym c.self.view_is) ∙ numbered_at (λ f. f.items) c.self.inside.files.items r.file file (omega arith) (omega (arith, c.self.inside.files.ok.0)) c.index.ensures in
     let low = lt-leb r.from r.to c.if-range.false in
     low ∙ sym (range_some c.args.self.now.files r file.items there ∙ ap (λ (t : Bool). t && leb r.to (length file.items)) low)

@@ -11,23 +11,16 @@ returns-in_err-count-clause-prefix g c = λ told.
     let m = prefix_of_first (footer_bytes_v1 i) (number (length_of i)) f.0 in
     (m.0, f.1 ∙ ap (λ (x : List ℕ). g.W.Sink.written c.args.sink.now ++ x) m.1)
 
-pub returns-in-Ok-clause-prefix : goal.returns-in-Ok-clause-prefix
-returns-in-Ok-clause-prefix g c = λ told.
+pub returns-in_err-write_piece-clause-prefix : goal.returns-in_err-write_piece-clause-prefix
+returns-in_err-write_piece-clause-prefix g c = λ told.
     let encoding : List ℕ = footer_bytes_v1 c.args.info in
-    let f = c.write_all.ensures.prefix (c.in_ok-count.ensures.frame.tells ∙ told) in
-    let number_is = c.to_le_bytes.ensures ∙ ap number c.in_ok-count.ensures.length in
-    (length encoding + f.0, written_then _ _ _ encoding c.to_le_bytes.result f.0 (c.in_ok-count.ensures.written told) f.1 ∙ ap (λ (x : List ℕ). g.W.Sink.written c.args.sink.now ++ take (length encoding + f.0) (encoding ++ x)) number_is)
-
-pub returns-in-Err-Failed-clause-prefix : goal.returns-in-Err-Failed-clause-prefix
-returns-in-Err-Failed-clause-prefix g c = λ told.
-    let encoding : List ℕ = footer_bytes_v1 c.args.info in
-    let f = c.write_all.ensures.prefix (c.in_ok-count.ensures.frame.tells ∙ told) in
+    let f = c.write_piece.ensures.prefix (c.in_ok-count.ensures.frame.tells ∙ told) in
     let number_is = c.to_le_bytes.ensures ∙ ap number c.in_ok-count.ensures.length in
     (length encoding + f.0, written_then _ _ _ encoding c.to_le_bytes.result f.0 (c.in_ok-count.ensures.written told) f.1 ∙ ap (λ (x : List ℕ). g.W.Sink.written c.args.sink.now ++ take (length encoding + f.0) (encoding ++ x)) number_is)
 
 pub returns-clause-prefix : goal.returns-clause-prefix
 returns-clause-prefix g c = λ told.
     let encoding : List ℕ = footer_bytes_v1 c.args.info in
-    let f = c.write_all.ensures.prefix (c.in_ok-count.ensures.frame.tells ∙ told) in
+    let f = c.in_ok-write_piece.ensures.prefix (c.in_ok-count.ensures.frame.tells ∙ told) in
     let number_is = c.to_le_bytes.ensures ∙ ap number c.in_ok-count.ensures.length in
     (length encoding + f.0, written_then _ _ _ encoding c.to_le_bytes.result f.0 (c.in_ok-count.ensures.written told) f.1 ∙ ap (λ (x : List ℕ). g.W.Sink.written c.args.sink.now ++ take (length encoding + f.0) (encoding ++ x)) number_is)

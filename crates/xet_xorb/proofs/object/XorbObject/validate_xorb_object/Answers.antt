@@ -18,21 +18,15 @@ pub returns-in_default-2-clause-none : goal.returns-in_default-2-clause-none
 returns-in_default-2-clause-none g c = λ told _ chunks x.
     let bytes = g.R.ReadAt.bytes c.args.reader.now in
     let start = c.in-Some.start in
-    let whole = rw c.in-Some.is at (c.in_ok-start.ensures.whole told) in
-    let tells = rw c.in-Some.is at (c.in_ok-start.ensures.told told) in
+    let whole = rw c.in-Some.is at (c.in_ok-start.ensures.whole told) in let tells = rw c.in-Some.is at (c.in_ok-start.ensures.told told) in
     let are = chunks_at c.args.max_chunk start c.in-Some.told c.args.hash.now bytes chunks whole tells x in
     let sees : Sees _ _ bytes _ _ = record { told = c.in_ok-start.ensures.frame.tells ∙ told; same = c.in_ok-start.ensures.frame.same; all = whole; part = c.new-block.ensures bytes } in
     c.in_ok-leaves.ensures.none bytes sees (rw c.in_default-2.is refl) chunks are
 
 pub returns-then-not-branch-clause-none : goal.returns-then-not-branch-clause-none
 returns-then-not-branch-clause-none g c = λ told _ chunks x.
-    let max_chunk = c.args.max_chunk in
-    let hash = c.args.hash.now in
-    let bytes = g.R.ReadAt.bytes c.args.reader.now in
-    let start = c.in-Some.start in
-    let ms = c.in-Some-2.leaves.items in
-    let whole = rw c.in-Some.is at (c.in_ok-start.ensures.whole told) in
-    let tells = rw c.in-Some.is at (c.in_ok-start.ensures.told told) in
+    let max_chunk = c.args.max_chunk in let hash = c.args.hash.now in let bytes = g.R.ReadAt.bytes c.args.reader.now in let start = c.in-Some.start in let ms = c.in-Some-2.leaves.items in
+    let whole = rw c.in-Some.is at (c.in_ok-start.ensures.whole told) in let tells = rw c.in-Some.is at (c.in_ok-start.ensures.told told) in
     let sees : Sees _ _ bytes _ _ = record { told = c.in_ok-start.ensures.frame.tells ∙ told; same = c.in_ok-start.ensures.frame.same; all = whole; part = c.new-block.ensures bytes } in
     let have = rw c.in-Some-2.is at (c.in_ok-leaves.ensures.found bytes sees) in
     let is = leaves_at max_chunk start c.in-Some.told hash bytes ms chunks c.requires.max_chunk whole tells have x in
@@ -42,16 +36,10 @@ returns-then-not-branch-clause-none g c = λ told _ chunks x.
 
 pub returns-clause-valid : goal.returns-clause-valid
 returns-clause-valid g c = λ told.
-    let max_chunk = c.args.max_chunk in
-    let hash = c.args.hash.now in
-    let bytes = g.R.ReadAt.bytes c.args.reader.now in
-    let start = c.in-Some.start in
-    let ms = c.in-Some-2.leaves.items in
-    let whole = rw c.in-Some.is at (c.in_ok-start.ensures.whole told) in
-    let bound = rw c.in-Some.is at c.in_ok-start.ensures.bound in
+    let max_chunk = c.args.max_chunk in let hash = c.args.hash.now in let bytes = g.R.ReadAt.bytes c.args.reader.now in let start = c.in-Some.start in let ms = c.in-Some-2.leaves.items in
+    let whole = rw c.in-Some.is at (c.in_ok-start.ensures.whole told) in let bound = rw c.in-Some.is at c.in_ok-start.ensures.bound in
     let sees : Sees _ _ bytes _ _ = record { told = c.in_ok-start.ensures.frame.tells ∙ told; same = c.in_ok-start.ensures.frame.same; all = whole; part = c.new-block.ensures bytes } in
-    let have = rw c.in-Some-2.is at (c.in_ok-leaves.ensures.found bytes sees) in
-    let part = rw c.in-Some-2.is at (c.in_ok-leaves.ensures.part bytes sees) in
+    let have = rw c.in-Some-2.is at (c.in_ok-leaves.ensures.found bytes sees) in let part = rw c.in-Some-2.is at (c.in_ok-leaves.ensures.part bytes sees) in
     let hashes = rw (c.if-not-branch.false, c.deref.ensures.value) at c.in_ok-have_hash.ensures.same in
     let is = hashes.0 refl in
     let hashed = hashed_of max_chunk (take start bytes) ms have in
@@ -67,8 +55,10 @@ returns-clause-footer g c =
     let ms = c.in-Some-2.leaves.items in
     let start = rw c.in-Some.is at c.in_ok-start.ensures.bound in
     let size = rw c.in-Some-2.is at c.in_ok-leaves.ensures.size in
-    some_more (λ (o : XorbObject). (version : Version) × (spare : List ℕ) × (o ≡ object_of version hash ms spare)) (λ (o : XorbObject). IsFooterOf hash o) c.checked_object.result
-    (λ o f. record { version = f.0; leaves = ms; spare = f.1; listed = f.2; bound = omega (arith, start, size) }) (rw c.deref-2.ensures.value at c.checked_object.ensures.footer)
+    let fit = rw c.in-Some-2.is at c.in_ok-leaves.ensures.fit in
+    let is = (rw (c.if-not-branch.false, c.deref.ensures.value) at c.in_ok-have_hash.ensures.same).0 refl in
+    some_more (λ (o : XorbObject). (version : Version) × (spare : List ℕ) × (length spare ≡ 16) × (o ≡ object_of version hash ms spare)) (λ (o : XorbObject). IsFooterOf c.args.max_chunk hash o) c.checked_object.result
+    (λ o f. record { version = f.0; leaves = ms; spare = f.1; listed = f.3; some = is.0; hashed = is.1; fit = fit; spare_len = f.2; bound = omega (arith, start, size) }) (rw c.deref-2.ensures.value at c.checked_object.ensures.footer)
 
 pub returns-clause-read : goal.returns-clause-read
 returns-clause-read g c = λ told.
@@ -80,16 +70,10 @@ returns-clause-read g c = λ told.
 
 pub returns-clause-none : goal.returns-clause-none
 returns-clause-none g c = λ told.
-    let max_chunk = c.args.max_chunk in
-    let hash = c.args.hash.now in
-    let bytes = g.R.ReadAt.bytes c.args.reader.now in
-    let start = c.in-Some.start in
-    let ms = c.in-Some-2.leaves.items in
-    let whole = rw c.in-Some.is at (c.in_ok-start.ensures.whole told) in
-    let tells = rw c.in-Some.is at (c.in_ok-start.ensures.told told) in
+    let max_chunk = c.args.max_chunk in let hash = c.args.hash.now in let bytes = g.R.ReadAt.bytes c.args.reader.now in let start = c.in-Some.start in let ms = c.in-Some-2.leaves.items in
+    let whole = rw c.in-Some.is at (c.in_ok-start.ensures.whole told) in let tells = rw c.in-Some.is at (c.in_ok-start.ensures.told told) in
     let sees : Sees _ _ bytes _ _ = record { told = c.in_ok-start.ensures.frame.tells ∙ told; same = c.in_ok-start.ensures.frame.same; all = whole; part = c.new-block.ensures bytes } in
-    let have = rw c.in-Some-2.is at (c.in_ok-leaves.ensures.found bytes sees) in
-    let part = rw c.in-Some-2.is at (c.in_ok-leaves.ensures.part bytes sees) in
+    let have = rw c.in-Some-2.is at (c.in_ok-leaves.ensures.found bytes sees) in let part = rw c.in-Some-2.is at (c.in_ok-leaves.ensures.part bytes sees) in
     let hashes = rw (c.if-not-branch.false, c.deref.ensures.value) at c.in_ok-have_hash.ensures.same in
     let hashed = hashed_of max_chunk (take start bytes) ms have in
     let none = rw c.deref-2.ensures.value at c.checked_object.ensures.none in

@@ -1,10 +1,9 @@
-use Rattle.std.proofs.Common.{◌≡◌, ◌∙◌, ◌++◌, ◌∷◌, [], List, Ok, Some, ap, drop, rules, slice_range, subst, sym, true, ℕ, ◌+◌}
+use Rattle.std.proofs.Common.{◌≡◌, ◌∙◌, ◌++◌, ◌∷◌, [], List, ap, drop, rules, slice_range, subst, sym, true, ℕ, ◌+◌}
 use Rattle.std.proofs.lemmas.List.{append-nil}
-use Rattle.xet_xorb_chunk.specs.internal.Passing.{Gathers}
-use Rattle.xet_xorb_chunk.specs.Passing.{FailsPassing, ShowsPrefix}
+use Rattle.xet_xorb_chunk.specs.Passing.{FailsPassing}
 use Rattle.xet_xorb_chunk.specs.Stream.{Fails, prefix_of}
 use Rattle.xet_base.specs.theorems.Exits.{exit_with}
-use Rattle.xet_xorb_chunk.proofs.Completed.{completes_none, completes_one, gather_refuses}
+use Rattle.xet_xorb_chunk.proofs.Completed.{completes_none, completes_seen, gather_refuses}
 use Rattle.xet_xorb_chunk.specs.theorems.Prefixes.{prefix_few}
 use Rattle.xet_xorb_chunk.proofs.Gathered.{fails_ahead}
 use Rattle.xet_xorb_chunk.specs.theorems.Passed.{moves_one, refuses_prefix, refuses_pass}
@@ -31,37 +30,27 @@ returns-in_default-clause-passed g c =
 
 pub returns-in_err-pass-clause-errors : goal.returns-in_err-pass-clause-errors
 returns-in_err-pass-clause-errors g c =
-    let piece = c.args.piece.now in
-    let old = c.args.held.now.items in
-    let held = c.deref-2.result.now in
-    let n = c.in_ok-taken.taken in
-    let len = c.in-Some.len in
-    let is = c.deref-2.ensures.value in
-    let shows = subst (λ (b : List ℕ). ShowsPrefix c.args.max_chunk b (Ok (Some len))) (c.deref.ensures.value ∙ sym is) (rw c.in-Some.is at c.in_ok-len.ensures.prefix) in
-    let gathers = subst (λ (b : List ℕ). Gathers c.args.max_chunk b piece n) (sym is) (c.in_ok-taken.ensures.gathered c.requires.short) in
-    let whole = completes_one c.args.max_chunk old held piece n len (is ∙ c.in_ok-taken.ensures.bytes) shows gathers in
+    let bytes = c.args.held.now.items ++ c.args.piece.now in
+    let whole =
+    completes_seen c.args.max_chunk c.args.held.now.items _ c.deref-2.result.now _ c.args.piece.now _ _ _ c.deref.ensures.value c.deref-2.ensures.value c.in_ok-taken.ensures.bytes c.in-Some.is c.in_ok-len.ensures.prefix
+    (c.in_ok-taken.ensures.gathered c.requires.short) in
     let told = g.W.Sink.tells c.args.w.now ≡ true in
     let written = g.W.Sink.written in
-    exit_with (FailsPassing c.args.max_chunk c.args.self.now.total (old ++ piece) told (written c.args.w.now) (written c.pass.new.w)) _ _ c.from_residual-in_err-pass.ensures.1
-    (refuses_pass c.args.max_chunk c.args.self.now.total (old ++ piece) (slice_range held 8 (8 + len)) told (written c.args.w.now) (written c.pass.new.w) _ whole.prefix
+    exit_with (FailsPassing c.args.max_chunk c.args.self.now.total bytes told (written c.args.w.now) (written c.pass.new.w)) _ _ c.from_residual-in_err-pass.ensures.1
+    (refuses_pass c.args.max_chunk c.args.self.now.total bytes (slice_range c.deref-2.result.now 8 (8 + c.in-Some.len)) told (written c.args.w.now) (written c.pass.new.w) _ whole.prefix
     c.in_err-pass.ensures.errors)
 
 pub returns-clause-passed : goal.returns-clause-passed
 returns-clause-passed g c =
-    let piece = c.args.piece.now in
-    let old = c.args.held.now.items in
-    let held = c.deref-2.result.now in
-    let n = c.in_ok-taken.taken in
-    let len = c.in-Some.len in
-    let is = c.deref-2.ensures.value in
-    let shows = subst (λ (b : List ℕ). ShowsPrefix c.args.max_chunk b (Ok (Some len))) (c.deref.ensures.value ∙ sym is) (rw c.in-Some.is at c.in_ok-len.ensures.prefix) in
-    let gathers = subst (λ (b : List ℕ). Gathers c.args.max_chunk b piece n) (sym is) (c.in_ok-taken.ensures.gathered c.requires.short) in
-    let whole = completes_one c.args.max_chunk old held piece n len (is ∙ c.in_ok-taken.ensures.bytes) shows gathers in
-    let chunk : List ℕ = slice_range held 8 (8 + len) in
+    let piece = c.args.piece.now in let bytes = c.args.held.now.items ++ piece in
+    let whole =
+    completes_seen c.args.max_chunk c.args.held.now.items _ c.deref-2.result.now _ c.args.piece.now _ _ _ c.deref.ensures.value c.deref-2.ensures.value c.in_ok-taken.ensures.bytes c.in-Some.is c.in_ok-len.ensures.prefix
+    (c.in_ok-taken.ensures.gathered c.requires.short) in
+    let chunk : List ℕ = slice_range c.deref-2.result.now 8 (8 + c.in-Some.len) in
     let written = g.W.Sink.written in
-    let rest : c.clear.new.self.items ++ drop n piece ≡ drop n piece = ap (λ (x : List ℕ). x ++ drop n piece) c.clear.ensures.items in (
+    let rest : c.clear.new.self.items ++ drop c.in_ok-taken.taken piece ≡ drop c.in_ok-taken.taken piece = ap (λ (x : List ℕ). x ++ drop c.in_ok-taken.taken piece) c.clear.ensures.items in (
       chunk ∷ [],
-      moves_one c.args.max_chunk c.args.self.now c.pass.new.self (old ++ piece) _ chunk whole.prefix c.in_ok-pass.ensures.total.0 c.in_ok-pass.ensures.total.1 (rest ∙ whole.behind) whole.within
+      moves_one c.args.max_chunk c.args.self.now c.pass.new.self bytes _ chunk whole.prefix c.in_ok-pass.ensures.total.0 c.in_ok-pass.ensures.total.1 (rest ∙ whole.behind) whole.within
           c.in_ok-pass.ensures.counts c.in_ok-pass.ensures.stored,
       λ told. c.in_ok-pass.ensures.whole told ∙ ap (λ (x : List ℕ). written c.args.w.now ++ x) (sym (append-nil chunk)),
     )

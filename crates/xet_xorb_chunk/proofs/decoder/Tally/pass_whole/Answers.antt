@@ -9,8 +9,7 @@ use Rattle.xet_xorb_chunk.proofs.decoder.Tally.pass_whole.Goals as goal
 pub returns-in_err-len-clause-errors : goal.returns-in_err-len-clause-errors
 returns-in_err-len-clause-errors g c =
     let piece = c.args.piece.now in
-    let told = g.W.Sink.tells c.args.w.now ≡ true in
-    let written = g.W.Sink.written in
+    let told = g.W.Sink.tells c.args.w.now ≡ true in let written = g.W.Sink.written in
     let p = c.chunks.invariant.passed in
     let fails = subst (λ (b : List ℕ). prefix_of c.args.max_chunk b ≡ Fails c.in_err-len.field-0.0) (take_rest piece c.chunks.at) c.in_err-len.ensures.prefix in
     exit_with (FailsPassing c.args.max_chunk c.args.self.now.total piece told (written c.args.w.now) (written c.chunks.w)) _ _ c.from_residual.ensures.1
@@ -20,8 +19,7 @@ returns-in_err-len-clause-errors g c =
 pub returns-in_err-pass-clause-errors : goal.returns-in_err-pass-clause-errors
 returns-in_err-pass-clause-errors g c =
     let piece = c.args.piece.now in
-    let told = g.W.Sink.tells c.args.w.now ≡ true in
-    let written = g.W.Sink.written in
+    let told = g.W.Sink.tells c.args.w.now ≡ true in let written = g.W.Sink.written in
     let p = c.chunks.invariant.passed in
     let s = stands_at c.args.max_chunk piece c.chunks.at c.in-Some.len c.chunks.invariant.within (rw c.in-Some.is at c.in_ok-len.ensures.prefix) in
     exit_with (FailsPassing c.args.max_chunk c.args.self.now.total piece told (written c.args.w.now) (written c.pass.new.w)) _ _ c.from_residual-in_err-pass.ensures.1
