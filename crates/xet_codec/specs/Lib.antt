@@ -1,5 +1,5 @@
 pub mod Blocks
-pub mod FileBytes
+pub mod FileReader
 pub mod Held
 pub mod Numbers
 pub mod Parsing

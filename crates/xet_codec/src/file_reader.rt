@@ -1,7 +1,10 @@
 //! A file of a disk as a reader.
 
-ghost use Rattle.std.specs.Prelude.{◌≡◌, ◌<◌, ◌+◌, ◌↔◌, IsTrue};
-ghost use Rattle.xet_codec.specs.FileBytes.{bytes_of};
+ghost use Rattle.std.specs.Prelude.{◌≡◌, ◌<◌, ◌≤◌, ◌↔◌, IsTrue, IsErr, IfOk, OnOk, OnErr, length, true};
+ghost use Rattle.xet_codec.specs.FileReader.{CountsOne, all_faults, bytes_of, lent_disk};
+ghost use Rattle.xet_io.specs.Faults.{HasCause};
+ghost use Rattle.xet_io.specs.Lent.{IsSameLent};
+ghost use Rattle.xet_io.specs.Streams.{ReadsPart};
 
 use xet_io::{Disk, Failed, ReadAt, Refusal};
 
@@ -42,16 +45,19 @@ impl<'a, D: Disk> ReadAt for FileReader<'a, D> {
 
     ghost bytes = { λ r. bytes_of (D.files r.disk.now) r.name.now };
 
-    ghost faults = { λ r. D.faults r.disk.now + r.shortages };
+    ghost faults = { λ r. all_faults (D.faults r.disk.now) r.shortages };
 
-    ghost lent = { λ r. record {
-      disk = r.disk.ghost_name;
-      files = D.files r.disk.now;
-      tells = D.tells r.disk.now;
-      faults = D.faults r.disk.now;
-    } };
+    ghost lent = { λ r. lent_disk r.disk.ghost_name (D.files r.disk.now) (D.tells r.disk.now) (D.faults r.disk.now) };
 
-    fn length(&mut self) -> Result<u64, Failed> {
+    fn length(&mut self) -> Result<u64, Failed>
+        ensures told { D.tells self.old.disk.now ≡ true → IfOk result (λ count. count ≡ length (bytes_of (D.files self.old.disk.now) self.old.name.now)) }
+        ensures same { bytes_of (D.files self.new.disk.now) self.new.name.now ≡ bytes_of (D.files self.old.disk.now) self.old.name.now }
+        ensures tells { D.tells self.new.disk.now ≡ D.tells self.old.disk.now }
+        ensures lent { IsSameLent (lent_disk self.old.disk.ghost_name (D.files self.old.disk.now) (D.tells self.old.disk.now) (D.faults self.old.disk.now)) (lent_disk self.new.disk.ghost_name (D.files self.new.disk.now) (D.tells self.new.disk.now) (D.faults self.new.disk.now)) }
+        ensures cause { HasCause (all_faults (D.faults self.old.disk.now) self.old.shortages) (all_faults (D.faults self.new.disk.now) self.new.shortages) (IsErr result) }
+        ensures counted { OnOk result (self.new.shortages ≡ self.old.shortages) }
+        ensures failed { OnErr result (CountsOne (D.faults self.old.disk.now) self.old.shortages (D.faults self.new.disk.now) self.new.shortages) }
+    {
         match self.disk.stat(self.name) {
             Ok(Some((length, _))) => Ok(length),
             Ok(None) => Ok(0),
@@ -63,7 +69,16 @@ impl<'a, D: Disk> ReadAt for FileReader<'a, D> {
         }
     }
 
-    fn read_at(&mut self, at: u64, buf: &mut [u8]) -> Result<usize, Failed> {
+    fn read_at(&mut self, at: u64, buf: &mut [u8]) -> Result<usize, Failed>
+        ensures bound { IfOk result (λ count. count ≤ length buf.new) }
+        ensures told { D.tells self.old.disk.now ≡ true → IfOk result (ReadsPart (bytes_of (D.files self.old.disk.now) self.old.name.now) at buf.new) }
+        ensures same { bytes_of (D.files self.new.disk.now) self.new.name.now ≡ bytes_of (D.files self.old.disk.now) self.old.name.now }
+        ensures tells { D.tells self.new.disk.now ≡ D.tells self.old.disk.now }
+        ensures lent { IsSameLent (lent_disk self.old.disk.ghost_name (D.files self.old.disk.now) (D.tells self.old.disk.now) (D.faults self.old.disk.now)) (lent_disk self.new.disk.ghost_name (D.files self.new.disk.now) (D.tells self.new.disk.now) (D.faults self.new.disk.now)) }
+        ensures cause { HasCause (all_faults (D.faults self.old.disk.now) self.old.shortages) (all_faults (D.faults self.new.disk.now) self.new.shortages) (IsErr result) }
+        ensures counted { OnOk result (self.new.shortages ≡ self.old.shortages) }
+        ensures failed { OnErr result (CountsOne (D.faults self.old.disk.now) self.old.shortages (D.faults self.new.disk.now) self.new.shortages) }
+    {
         match self.disk.read_at(self.name, at, buf) {
             Ok(Some(count)) => Ok(count),
             Ok(None) => Ok(0),

@@ -30,7 +30,7 @@ pub trait Disk {
     /// The files, if observable.
     ghost files: { Self → Files };
 
-    /// The number of failures so far, up to 2^64 - 1.
+    /// The number of failures so far, up to 2^64 - 1. Out of memory is no failure.
     ghost faults: { Self → ℕ };
 
     /// The length in bytes and the modification time of a file. `None` if and only if the name is absent.
@@ -38,7 +38,8 @@ pub trait Disk {
         ensures told { tells self.old ≡ true → IfOk result (λ found. found ≡ stat_of (file_at (files self.old) name.now)) }
         ensures same { files self.new ≡ files self.old }
         ensures tells { tells self.new ≡ tells self.old }
-        ensures cause { HasCause (faults self.old) (faults self.new) (IsErrOf result Refusal.Failed) };
+        ensures cause { HasCause (faults self.old) (faults self.new) (IsErrOf result Refusal.Failed) }
+        ensures no_fault { IsErrOf result Refusal.OutOfMemory → faults self.new ≡ faults self.old };
 
     /// Reads the file's bytes from offset `at` into the start of `buf`, and returns how many: at least one,
     /// unless `at` is at or past the end or `buf` is empty. `None` if and only if the name is absent.
@@ -47,7 +48,8 @@ pub trait Disk {
         ensures told { tells self.old ≡ true → IfOk result (ReadsAt (file_at (files self.old) name.now) at buf.new) }
         ensures same { files self.new ≡ files self.old }
         ensures tells { tells self.new ≡ tells self.old }
-        ensures cause { HasCause (faults self.old) (faults self.new) (IsErrOf result Refusal.Failed) };
+        ensures cause { HasCause (faults self.old) (faults self.new) (IsErrOf result Refusal.Failed) }
+        ensures no_fault { IsErrOf result Refusal.OutOfMemory → faults self.new ≡ faults self.old };
 
     /// The files of a folder, each once, in any order. A folder that does not exist has none.
     fn list(&mut self, alloc: Global, folder: &str) -> Result<Vec<DiskEntry>, Refusal>

@@ -115,6 +115,7 @@ impl Disk for MemoryDisk {
         ensures faults { self.new.faults ≡ faults_after result self.old.faults }
         ensures fails { self.new.fails ≡ fails_after self.old.fails op.Stat }
         ensures cause { HasCause self.old.faults self.new.faults (IsErrOf result Refusal.Failed) }
+        ensures no_fault { IsErrOf result Refusal.OutOfMemory → self.new.faults ≡ self.old.faults }
     {
         if self.count.fails(Op::Stat) {
             return Err(self.count.failed());
@@ -134,6 +135,7 @@ impl Disk for MemoryDisk {
         ensures faults { self.new.faults ≡ faults_after result self.old.faults }
         ensures fails { self.new.fails ≡ fails_after self.old.fails op.ReadAt }
         ensures cause { HasCause self.old.faults self.new.faults (IsErrOf result Refusal.Failed) }
+        ensures no_fault { IsErrOf result Refusal.OutOfMemory → self.new.faults ≡ self.old.faults }
     {
         if self.count.fails(Op::ReadAt) {
             return Err(self.count.failed());
