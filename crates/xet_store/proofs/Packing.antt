@@ -14,12 +14,12 @@ use Rattle.xet_shard_format.specs.declared.record.FileDataSequenceEntry.{FileDat
 use Rattle.xet_store.specs.Cleaning.{Keeps, chunkings}
 use Rattle.xet_cut.specs.Chunking.{chunking}
 use Rattle.xet_dedup.specs.Packing.{pack_len, packs}
-use Rattle.xet_folder.specs.Plan.{Joins, LiesIn, part}
+use Rattle.xet_folder.specs.Plan.{Resolves, LiesIn, part}
 use Rattle.xet_folder.specs.Xorbs.{IsListed, Xorbs}
 use Rattle.xet_store.specs.Steps.{ListsXorbs}
 use Rattle.xet_store.specs.Store.{State}
 use Rattle.xet_store.specs.Tables.{Tables, whole_segment, with_xorb, with_xorbs}
-use Rattle.xet_store.specs.theorems.Plans.{joins_more, joins_push, sum_by-map}
+use Rattle.xet_store.specs.theorems.Plans.{resolves_more, resolves_push, sum_by-map}
 
 -- a xorb of these chunks is listed
 abbrev pub IsPackListed : Xorbs → List (List ℕ) → Type 0
@@ -30,12 +30,12 @@ pub xorbs_push : (t : Tables) (ps : List (List (List ℕ))) (p : List (List ℕ)
 xorbs_push t [] p = refl
 xorbs_push t (q ∷ ps) p = xorbs_push (with_xorb t q) ps p
 
--- The chunks before `rest` are packed: the plan joins to their leaves and is that of their xorbs, each of their xorbs
+-- The chunks before `rest` are packed: the plan resolves to their leaves and is that of their xorbs, each of their xorbs
 -- is listed, and the tables are those with these xorbs.
 pub record Packed (before now : Tables) (limits : LimitSettings) (plan : List Segment) (rest chunks : List Chunk) : Type 0 where
   pub leaves : List (List ℕ × ℕ)
   pub blocks : List (List (List ℕ))
-  pub joins : Joins (IsListed now.xorbs) (λ m. m.1) plan leaves
+  pub resolves : Resolves (IsListed now.xorbs) (λ m. m.1) plan leaves
   pub listed : AllByRecursion (IsPackListed now.xorbs) blocks
   pub whole_leaves : leaves ++ map chunk_leaf rest ≡ map chunk_leaf chunks
   pub whole_blocks : blocks ++ packs limits (map bytes_of_chunk rest) ≡ packs limits (map bytes_of_chunk chunks)
@@ -44,7 +44,7 @@ pub record Packed (before now : Tables) (limits : LimitSettings) (plan : List Se
 
 -- none is packed yet
 pub packed_none : (before : Tables) (limits : LimitSettings) (chunks : List Chunk) → Packed before before limits [] chunks chunks
-packed_none before limits chunks = record { leaves = []; blocks = []; joins = refl; listed = tt; whole_leaves = refl; whole_blocks = refl; segments = refl; tables = refl }
+packed_none before limits chunks = record { leaves = []; blocks = []; resolves = refl; listed = tt; whole_leaves = refl; whole_blocks = refl; segments = refl; tables = refl }
 
 -- The segment of all of a xorb's chunks lies in their leaves, and names them all.
 whole_lies : (s : Segment) (pack : List Chunk) → 0 < length pack → s.chunk_index_start ≡ 0 → s.chunk_index_end ≡ length pack → s.unpacked_segment_bytes ≡ total pack
@@ -94,8 +94,8 @@ packed_more first old new limits plan rest chunks n s more digests count some wi
     record {
       leaves = before.leaves ++ map chunk_leaf pack;
       blocks = before.blocks ++ block ∷ [];
-      joins = subst (λ (l : List (List ℕ × ℕ)). Joins (IsListed new.xorbs) (λ m. m.1) (plan ++ s ∷ []) (before.leaves ++ l)) lies.1
-          (joins_push (IsListed new.xorbs) (λ m. m.1) plan s before.leaves (map chunk_leaf pack) (joins_more (IsListed old.xorbs) (IsListed new.xorbs) (λ m. m.1) more plan before.leaves before.joins) listed lies.0);
+      resolves = subst (λ (l : List (List ℕ × ℕ)). Resolves (IsListed new.xorbs) (λ m. m.1) (plan ++ s ∷ []) (before.leaves ++ l)) lies.1
+          (resolves_push (IsListed new.xorbs) (λ m. m.1) plan s before.leaves (map chunk_leaf pack) (resolves_more (IsListed old.xorbs) (IsListed new.xorbs) (λ m. m.1) more plan before.leaves before.resolves) listed lies.0);
       listed = all_push (IsPackListed new.xorbs) before.blocks block (all_more (IsPackListed old.xorbs) (IsPackListed new.xorbs) before.blocks (λ p l. more _ _ l) before.listed) here;
       whole_leaves = append_assoc before.leaves (map chunk_leaf pack) (map chunk_leaf (drop n rest))
           ∙ ap (λ (l : List (List ℕ × ℕ)). before.leaves ++ l) (sym (map-append chunk_leaf pack (drop n rest)) ∙ ap (map chunk_leaf) (take-append-drop n rest)) ∙ before.whole_leaves;
@@ -120,7 +120,7 @@ packed_next {first} old new {limits} {plan} {rest} {chunks} {n = n} {s = s} {h =
 
 -- all are packed
 pub record PackedAll (before now : Tables) (limits : LimitSettings) (plan : List Segment) (chunks : List Chunk) : Type 0 where
-  pub joins : Joins (IsListed now.xorbs) (λ m. m.1) plan (map chunk_leaf chunks)
+  pub resolves : Resolves (IsListed now.xorbs) (λ m. m.1) plan (map chunk_leaf chunks)
   pub listed : AllByRecursion (IsPackListed now.xorbs) (packs limits (map bytes_of_chunk chunks))
   pub segments : plan ≡ map whole_segment (packs limits (map bytes_of_chunk chunks))
   pub tables : now ≡ with_xorbs before (packs limits (map bytes_of_chunk chunks))
@@ -129,7 +129,7 @@ pub packed_all : (before now : Tables) (limits : LimitSettings) (plan : List Seg
 packed_all before now limits plan [] chunks none p =
     let all : p.blocks ≡ packs limits (map bytes_of_chunk chunks) = sym (append-nil p.blocks) ∙ ap (λ (l : List (List (List ℕ))). p.blocks ++ l) (sym (pieces_none (pack_len limits) [] refl)) ∙ p.whole_blocks in
     record {
-      joins = subst (λ (l : List (List ℕ × ℕ)). Joins (IsListed now.xorbs) (λ m. m.1) plan l) (sym (append-nil p.leaves) ∙ p.whole_leaves) p.joins;
+      resolves = subst (λ (l : List (List ℕ × ℕ)). Resolves (IsListed now.xorbs) (λ m. m.1) plan l) (sym (append-nil p.leaves) ∙ p.whole_leaves) p.resolves;
       listed = subst (AllByRecursion (IsPackListed now.xorbs)) all p.listed;
       segments = p.segments ∙ ap (map whole_segment) all;
       tables = p.tables ∙ ap (with_xorbs before) all;

@@ -112,14 +112,14 @@ module _ {S : Type 0} (Q : S → Type 0) where
   all_of_set (x ∷ y ∷ xs) s one q = absurd (omega (arith, one))
 
 module _ {S X : Type 0} (tells : S → Bool) (left : S → List ℕ) (P : List ℕ → X → Type 0) where
-  pub told_none : (sources : List S) → length sources ≡ 0 → EachTold tells left P sources []
-  told_none [] none = tt
-  told_none (s ∷ ss) none = absurd (omega (arith, none))
+  pub each_none : (sources : List S) → length sources ≡ 0 → EachTold tells left P sources []
+  each_none [] none = tt
+  each_none (s ∷ ss) none = absurd (omega (arith, none))
 
-  pub told_one : (sources : List S) (d : S) (x : X) → length sources ≤ 1 → 0 < length sources → (tells (get_or sources 0 d) ≡ true → P (left (get_or sources 0 d)) x) → EachTold tells left P sources (x ∷ [])
-  told_one [] d x one some told = absurd (omega (arith, some))
-  told_one (s ∷ []) d x one some told = (told, tt)
-  told_one (s ∷ t ∷ ss) d x one some told = absurd (omega (arith, one))
+  pub each_one : (sources : List S) (d : S) (x : X) → length sources ≤ 1 → 0 < length sources → (tells (get_or sources 0 d) ≡ true → P (left (get_or sources 0 d)) x) → EachTold tells left P sources (x ∷ [])
+  each_one [] d x one some told = absurd (omega (arith, some))
+  each_one (s ∷ []) d x one some told = (told, tt)
+  each_one (s ∷ t ∷ ss) d x one some told = absurd (omega (arith, one))
 
 -- ---- of a source after an error
 

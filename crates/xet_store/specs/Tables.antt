@@ -5,7 +5,7 @@ use Rattle.xet_hash.specs.Merkle.{leaves_of, total_len, xorb_hash}
 use Rattle.xet_shard_format.specs.declared.record.FileDataSequenceEntry.{FileDataSequenceEntry as Segment}
 use Rattle.xet_shard_format.specs.declared.record.MDBFileInfo.{MDBFileInfo}
 use Rattle.xet_shard.specs.Held.{Held, held, with_last}
-use Rattle.xet_shard_format.specs.Records as record_of
+use Rattle.xet_shard_format.specs.Records.{file_record_hash, xorb_record_hash}
 use Rattle.xet_folder.specs.Xorbs.{FileRecords, Xorbs, found}
 use Rattle.xet_cut.specs.declared.limits.LimitSettings.{LimitSettings}
 use Rattle.xet_cut.specs.Chunking.{chunking}
@@ -28,7 +28,7 @@ tables_of s = tables s.xorbs s.records s.pending
 abbrev pub with_leaves : Tables → List ℕ → List (List ℕ × ℕ) → Tables
 with_leaves t h leaves =
     if is_some (found t.xorbs h) then t
-    else tables (t.xorbs ++ (h, leaves) ∷ []) t.records (held (with_last record_of.xorb_hash t.pending.blocks (xorb_record h leaves)) t.pending.files)
+    else tables (t.xorbs ++ (h, leaves) ∷ []) t.records (held (with_last xorb_record_hash t.pending.blocks (xorb_record h leaves)) t.pending.files)
 
 -- the tables with the xorb of these chunks
 abbrev pub with_xorb : Tables → List (List ℕ) → Tables
@@ -42,8 +42,8 @@ with_xorbs t (p ∷ ps) = with_xorbs (with_xorb t p) ps
 -- the tables with one more record, unless its file is recorded: it is recorded and pending
 abbrev pub with_record : Tables → MDBFileInfo → Tables
 with_record t f =
-    if is_some (found t.records (record_of.file_hash f)) then t
-    else tables t.xorbs (t.records ++ (record_of.file_hash f, f) ∷ []) (held t.pending.blocks (with_last record_of.file_hash t.pending.files f))
+    if is_some (found t.records (file_record_hash f)) then t
+    else tables t.xorbs (t.records ++ (file_record_hash f, f) ∷ []) (held t.pending.blocks (with_last file_record_hash t.pending.files f))
 
 -- the segment that names all chunks of a xorb
 abbrev pub whole_segment : List (List ℕ) → Segment

@@ -10,7 +10,7 @@ use Rattle.xet_store.specs.Store.{State}
 use Rattle.xet_store.proofs.Answering.{on_err}
 use Rattle.xet_store.specs.theorems.Keeping.{keeps_nothing}
 use Rattle.xet_store.proofs.Packing.{listed_one}
-use Rattle.xet_store.proofs.Storing.{all_of_one, all_of_set, later_first, later_same, some_none, some_of, some_one, stores_none, stores_one, taken_first, taken_same, told_none, told_one}
+use Rattle.xet_store.proofs.Storing.{all_of_one, all_of_set, later_first, later_same, some_none, some_of, some_one, stores_none, stores_one, taken_first, taken_same, each_none, each_one}
 use Rattle.xet_store.proofs.clean.clean_all.Goals as goal
 use Rattle.xet_store.proofs.clean.clean_all.Goals.{then-not-is_empty+in_ok-clean_source, else-not-is_empty}
 
@@ -94,10 +94,10 @@ returns-clause-infos g c =
           let items : c.if-not-is_empty.infos.items ≡ w.in_ok-clean_source.field-0 ∷ [] =
           ap (λ (v : Vec XetFileInfo Global). v.items) w.infos-is ∙ w.push_reserved.ensures.items ∙ ap (λ (l : List XetFileInfo). l ++ w.in_ok-clean_source.field-0 ∷ []) c.in_ok-infos.ensures.items in
           subst (λ (l : List XetFileInfo). EachTold tells left is c.args.sources.now l) (sym items)
-          (told_one tells left is c.args.sources.now w.index-sources-0.result w.in_ok-clean_source.field-0 c.requires.one (some_of _ (eqb-false _ _ (sym w.if-not-is_empty.ensures))) w.in_ok-clean_source.ensures.info)
+          (each_one tells left is c.args.sources.now w.index-sources-0.result w.in_ok-clean_source.field-0 c.requires.one (some_of _ (eqb-false _ _ (sym w.if-not-is_empty.ensures))) w.in_ok-clean_source.ensures.info)
       | else-not-is_empty w ↦
           let items : c.if-not-is_empty.infos.items ≡ [] = ap (λ (v : Vec XetFileInfo Global). v.items) w.infos-is ∙ c.in_ok-infos.ensures.items in
-          subst (λ (l : List XetFileInfo). EachTold tells left is c.args.sources.now l) (sym items) (told_none tells left is c.args.sources.now (eqb-true _ _ (sym w.if-not-is_empty.ensures)))
+          subst (λ (l : List XetFileInfo). EachTold tells left is c.args.sources.now l) (sym items) (each_none tells left is c.args.sources.now (eqb-true _ _ (sym w.if-not-is_empty.ensures)))
     ]
 
 pub returns-clause-read : goal.returns-clause-read
