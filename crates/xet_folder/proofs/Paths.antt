@@ -1,6 +1,6 @@
 -- The names of a store's files differ.
 use Rattle.std.proofs.Common.{◌≡◌, ◌≢◌, ◌∙◌, ℕ, List, [], ◌∷◌, ◌++◌, codes, sym, ap, arith, append_assoc}
-use Rattle.std.proofs.lemmas.List.{append_cancel_left, append_cancel_right, same_from_push}
+use Rattle.std.proofs.lemmas.List.{same_from_push}
 use Rattle.xet_hash.specs.Hash.{hash_text}
 use Rattle.xet_io.specs.Named.{in_folder}
 use Rattle.xet_shard_file.specs.Names.{IsHash, shard_path, temp_name}

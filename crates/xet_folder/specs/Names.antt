@@ -1,6 +1,5 @@
 -- The names of a store's files in its folder.
-use Rattle.std.specs.Prelude.{◌≡◌, ◌≢◌, ℕ, List, length, ◌++◌, codes}
-use Rattle.hex.specs.Hex.{IsBytes}
+use Rattle.std.specs.Prelude.{◌≡◌, ◌≢◌, ℕ, List, ◌++◌, codes}
 use Rattle.xet_io.specs.Named.{in_folder}
 use Rattle.xet_hash.specs.Hash.{hash_text}
 use Rattle.xet_shard_file.specs.Names.{IsHash, shard_path, temp_name}

@@ -1,5 +1,5 @@
 -- The steps of cleaning one file.
-use Rattle.std.specs.Prelude.{◌≡◌, ℕ, ◌<◌, Bool, true, List, length}
+use Rattle.std.specs.Prelude.{◌≡◌, ℕ, ◌<◌, List}
 use Rattle.std.specs.List.{AllByRecursion}
 use Rattle.xet_hash.specs.Merkle.{xorb_hash, leaves_of}
 use Rattle.xet_folder.specs.Xorbs.{IsListed}

@@ -1,6 +1,5 @@
 -- List items in the bytes that encode them.
 use Rattle.std.specs.Prelude.{ℕ, zero, suc, List, [], ◌∷◌, take, drop}
-use Rattle.std.specs.Int.{w32, from_le_bytes}
 
 -- The first `n` items, of `size` bytes each.
 unfoldable pub items_in : {X : Type 0} → (List ℕ → X) → ℕ → ℕ → List ℕ → List X

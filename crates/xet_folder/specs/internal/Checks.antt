@@ -1,6 +1,5 @@
 -- Which xorbs shards name, and how checks of shards extend the table of verified xorbs, for private functions.
-use Rattle.std.specs.Prelude.{◌≡◌, ◌⊎◌, ℕ, Bool, true, List, ◌++◌, map, IsSome, Ok}
-use Rattle.std.specs.List.{AllByRecursion, IsAmong}
+use Rattle.std.specs.Prelude.{◌≡◌, ◌⊎◌, ℕ, List, ◌++◌}
 use Rattle.xet_io.specs.Disk.{Files}
 use Rattle.xet_shard_format.specs.declared.record.FileDataSequenceEntry.{FileDataSequenceEntry as Segment}
 use Rattle.xet_folder.specs.Plan.{LiesIn, part}

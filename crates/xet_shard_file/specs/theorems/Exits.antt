@@ -1,6 +1,5 @@
 -- A count of failures that rose during a part of a call rose during the whole call.
-use Rattle.std.proofs.Common.{◌≡◌, ◌≤◌, ℕ, List, Result, Ok, Err, IfErr, sym, subst, arith}
-use Rattle.std.specs.Result.{IsErrAnd}
+use Rattle.std.proofs.Common.{◌≡◌, ◌≤◌, ℕ, arith}
 use Rattle.xet_io.specs.Faults.{Rose}
 
 pub rose_before : (before now earlier : ℕ) → earlier ≤ before → Rose before now → Rose earlier now

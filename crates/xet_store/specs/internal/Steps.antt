@@ -1,6 +1,5 @@
 -- The steps of cleaning one file, for private functions.
 use Rattle.std.specs.Prelude.{◌≡◌, ℕ, ◌<◌, Bool, true, List, length}
-use Rattle.std.specs.List.{AllByRecursion}
 use Rattle.xet_io.specs.Faults.{Rose}
 use Rattle.xet_hash.specs.declared.error.StoreError.{StoreError}
 use Rattle.xet_hash.specs.declared.error.StoreError.TheVariants.{Io, TooLarge, OutOfMemory}

@@ -1,8 +1,6 @@
 -- The state of a session, and its invariant, for private functions.
-use Rattle.std.specs.Prelude.{◌≡◌, ◌≢◌, ◌⊎◌, ℕ, ◌<◌, ◌^◌, Bool, true, false, List, [], length, map, AllPairs, Any, Option, Some, IsSome, nat_eq}
-use Rattle.std.specs.Cmp.Lexicographic.{pointwise}
-use Rattle.std.specs.List.{AllByRecursion, IsAmong}
-use Rattle.std.specs.Option.{option_map}
+use Rattle.std.specs.Prelude.{◌≡◌, ◌≢◌, ◌⊎◌, ℕ, ◌<◌, ◌^◌, List, [], length}
+use Rattle.std.specs.List.{AllByRecursion}
 use Rattle.xet_hash.specs.Merkle.{total_len}
 use Rattle.xet_shard_format.specs.declared.record.MDBFileInfo.{MDBFileInfo}
 use Rattle.xet_folder.specs.Plan.{Resolves}

@@ -1,12 +1,8 @@
 -- Membership in lists, and lookups in tables.
-use Rattle.std.proofs.Common.{◌≡◌, ◌≢◌, ◌⊎◌, inl, inr, ℕ, zero, suc, ◌<◌, length, get_or, Bool, true, false, cond, filter, List, [], ◌∷◌, ◌++◌, Option, Some, None, IsSome, is_some, nat_eq, refl, sym, ap, subst, arith, ◌∙◌}
-use Rattle.std.specs.List.{AllByRecursion, IsAmong}
-use Rattle.std.specs.Cmp.Lexicographic.{bytes_decides, pointwise}
-use Rattle.std.proofs.lemmas.List.Quantifiers.{all_pairs_push}
+use Rattle.std.proofs.Common.{◌≡◌, ◌≢◌, ◌⊎◌, inl, inr, ℕ, zero, suc, ◌<◌, Bool, true, false, cond, filter, List, [], ◌∷◌, ◌++◌, Option, Some, None, IsSome, is_some, refl, sym, ap, subst, arith, ◌∙◌}
+use Rattle.std.specs.List.{IsAmong}
 use Rattle.std.specs.declared.cmp.Ordering.{Ordering}
 use Rattle.std.specs.Ordering.{is_lt}
-use Rattle.indexmap.specs.IndexMap.{IndexMap, get, insert_entry}
-use Rattle.indexmap.proofs.CallerLemmas.{insert_entry-new}
 use Rattle.xet_shard_format.specs.Sorted.{put_in, sorted}
 use Rattle.xet_folder.specs.Xorbs.{found}
 use Rattle.xet_folder.specs.theorems.Tables.{found_either}

@@ -1,7 +1,5 @@
 -- The encoding of a chunk, written in two parts: header and body.
-use Rattle.std.proofs.Common.{◌≡◌, ◌∙◌, ◌+◌, ℕ, List, ◌++◌, ap, append_assoc, arith, length, min, sym, take}
-use Rattle.std.proofs.Math.Seq.{take-append-add}
-use Rattle.std.proofs.lemmas.List.{take-append-le, take_min}
+use Rattle.std.proofs.Common.{◌≡◌, ◌∙◌, ◌+◌, ℕ, List, ◌++◌, ap, arith, length}
 use Rattle.xet_xorb_chunk.specs.Header.{Header, header_bytes}
 use Rattle.xet_xorb_chunk.specs.ChunkEncoding.{encoded_chunk}
 

@@ -1,5 +1,5 @@
 -- The parts of a boundary section, as they are read at an offset.
-use Rattle.std.specs.Prelude.{◌≡◌, ◌⊎◌, ◌≤◌, ◌<◌, ℕ, ◌+◌, ◌*◌, nat_eq, Bool, true, List, drop, length, take, Err, Ok}
+use Rattle.std.specs.Prelude.{◌≡◌, ◌⊎◌, ◌≤◌, ◌<◌, ℕ, ◌+◌, ◌*◌, nat_eq, List, Ok}
 use Rattle.std.specs.Cmp.Lexicographic.{pointwise}
 use Rattle.xet_hash.specs.declared.error.Reason.{Reason}
 use Rattle.xet_hash.specs.declared.error.Reason.TheVariants.{BoundariesIdent, BoundariesVersion, BoundaryOffset, CountMismatch}

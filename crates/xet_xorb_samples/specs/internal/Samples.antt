@@ -1,9 +1,6 @@
 -- Xorbs of random chunks, and xorbs that are written from their parts, for private functions.
-use Rattle.std.specs.Prelude.{◌≡◌, ℕ, ◌+◌, ◌-◌, ◌*◌, ◌<◌, ◌≤◌, ◌^◌, List, [], ◌∷◌, ◌++◌, codes, decimal, length, map, pos, ◌+ℤ◌, slice_range}
-use Rattle.std.specs.List.{AllByRecursion, concat, flat_map}
-use Rattle.rand.specs.Draw.{Gives}
-use Rattle.rand.specs.Uniform.{DrawsBetween, canon}
-use Rattle.rand_core.specs.Stream.{Stream, fill_bytes, next_u32}
+use Rattle.std.specs.Prelude.{◌≡◌, ℕ, ◌+◌, ◌-◌, ◌*◌, ◌<◌, ◌≤◌, ◌^◌, List, [], ◌∷◌, ◌++◌, map, ◌+ℤ◌}
+use Rattle.rand_core.specs.Stream.{Stream}
 use Rattle.xet_xorb_chunk.specs.declared.chunk.Chunk.{Chunk}
 use Rattle.xet_xorb_chunk.specs.Chunks.{chunk_of}
 use Rattle.xet_xorb_samples.specs.declared.samples.ChunkSize.{ChunkSize}
