@@ -1,7 +1,7 @@
 -- Numbers and hashes as bytes. Numbers are little-endian.
-use Rattle.std.specs.Prelude.{◌≡◌, ℕ, ◌+◌, ◌*◌, ◌≤◌, List, [], ◌∷◌, ◌++◌, codes, length, replicate, zero, suc, ◌^◌, ◌<◌, take, drop}
+use Rattle.std.specs.Prelude.{ℕ, List, take, drop}
 use Rattle.std.specs.Int.{w32, to_le_bytes, w64, from_le_bytes}
-use Rattle.std.specs.List.{flat_map, All}
+use Rattle.std.specs.List.{flat_map}
 
 abbrev pub number : ℕ → List ℕ
 number n = to_le_bytes w32 n

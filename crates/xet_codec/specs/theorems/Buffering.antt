@@ -2,7 +2,7 @@
 use Rattle.std.proofs.Common.{◌≡◌, ◌∙◌, ℕ, ◌+◌, ◌≤◌, List, [], ◌++◌, Result, Ok, Err, ap, append_assoc, arith, drop, length, min, subst, sym, take}
 use Rattle.std.proofs.Math.Seq.{drop-drop, drop-length, take-add, take-append-add, take-length}
 use Rattle.std.proofs.lemmas.List.{append-nil, drop-append-le, drop_min, take-append-drop, take-append-le, take_min}
-use Rattle.std.specs.Result.{IsErrAnd, OnErr, OnOk}
+use Rattle.std.specs.Result.{OnErr, OnOk}
 use Rattle.xet_hash.specs.declared.error.StoreError.{StoreError}
 use Rattle.xet_codec.specs.Written.{WritesPrefix, Moves}
 

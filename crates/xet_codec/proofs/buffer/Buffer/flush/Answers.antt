@@ -1,4 +1,4 @@
-use Rattle.std.proofs.Common.{◌≡◌, rules}
+use Rattle.std.proofs.Common.{rules}
 use Rattle.xet_base.specs.theorems.Exits.{exit_on}
 use Rattle.xet_codec.proofs.buffer.Buffer.flush.Goals as goal
 
