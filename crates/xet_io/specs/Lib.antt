@@ -1,13 +1,16 @@
 pub mod Faults
+pub mod Refusals
 pub mod Streams
 pub mod FailingStreams
 pub mod Named
 pub mod Disk
 pub mod Lent
+pub mod FolderNames
 pub mod Frame
 pub mod FailingCalls
 pub mod Memory
 pub mod MemoryFiles
+pub mod MemoryInputs
 pub mod Whole
 pub mod theorems
 pub mod internal

@@ -1,8 +1,9 @@
-//! A sink and named inputs in memory. They never fail, but may run out of memory.
+//! A sink and named inputs in memory. They may run out of memory, and fail only where they are made to.
 
-ghost use Rattle.std.specs.Prelude.{◌≡◌, ◌<◌, ◌≤◌, ◌++◌, ℕ, List, [], true, drop, length, map, string_bytes, vec_len, IfOk, IfErr, OnOk, OnErr, IsErrOf};
-ghost use Rattle.std.specs.FinMap.{from_entries};
-ghost use Rattle.xet_io.specs.Faults.{HasCause};
+ghost use Rattle.std.specs.Prelude.{◌≡◌, ◌↔◌, ◌<◌, ◌≤◌, ◌++◌, ℕ, List, [], Some, None, true, drop, length, vec_len, IsTrue, IsFalse, IfOk, IfErr, OnOk, OnErr, IsErrOf};
+ghost use Rattle.std.specs.FinMap.{get};
+ghost use Rattle.xet_io.specs.Faults.{HasCause, faults_after, one_more};
+ghost use Rattle.xet_io.specs.MemoryInputs.{before_next, named_bytes};
 ghost use Rattle.xet_io.specs.Streams.{Takes};
 
 use crate::fault::{Failed, Refusal};
@@ -120,32 +121,73 @@ impl Source for OwnedSource {
     }
 }
 
-/// Named inputs in memory. Contracts see the bytes under each name; of equal names the first counts.
+/// Named inputs in memory; of equal names the first counts. Contracts see the bytes under each name, which open
+/// fails, and the number of failures.
 #[derive(Debug, Drop)]
 pub struct MemoryInputs {
     alloc: Global,
     files: Vec<(String, Vec<u8>)>,
+    /// How many opens come before the one that fails. `None` if none will.
+    before: Option<u64>,
+    faults: u64,
 }
 
 impl Model for MemoryInputs {
-    ghost use Rattle.std.specs.Prelude.{List, ℕ, map, string_bytes};
-    ghost use Rattle.std.specs.Coded.{coded_list, coded_ℕ};
-    ghost use Rattle.std.specs.FinMap.{from_entries, code};
-    ghost use Rattle.xet_io.specs.Named.{Named};
+    ghost use Rattle.xet_io.specs.MemoryInputs.{NamedInputs, inputs_code, named_bytes};
 
-    ghost Value = { Named (List ℕ) };
+    ghost Value = { NamedInputs };
 
-    ghost coded = { code (coded_list coded_ℕ) (coded_list coded_ℕ) };
+    ghost coded = { inputs_code };
 
-    ghost view = { λ m. from_entries (map (λ f. (string_bytes f.0, f.1.items)) m.files.items) };
+    ghost view = { λ m. record { files = named_bytes m.files.items; before = m.before; faults = m.faults } };
 }
 
 impl MemoryInputs {
-    /// Inputs with these files, each a name and its bytes. Does not allocate.
+    /// Inputs with these files, each a name and its bytes, of which no open fails. Does not allocate.
     pub fn new(alloc: Global, files: Vec<(String, Vec<u8>)>) -> MemoryInputs
-        ensures { result ≡ from_entries (map (λ f. (string_bytes f.0, f.1.items)) files.items) }
+        ensures { result ≡ record { files = named_bytes files.items; before = None; faults = 0 } }
     {
-        MemoryInputs { alloc, files }
+        MemoryInputs {
+            alloc,
+            files,
+            before: None,
+            faults: 0,
+        }
+    }
+
+    /// Inputs with these files, of which the open number `fail_at`, from 0, fails. Does not allocate.
+    pub fn failing(alloc: Global, files: Vec<(String, Vec<u8>)>, fail_at: u64) -> MemoryInputs
+        ensures { result ≡ record { files = named_bytes files.items; before = Some fail_at; faults = 0 } }
+    {
+        MemoryInputs {
+            alloc,
+            files,
+            before: Some(fail_at),
+            faults: 0,
+        }
+    }
+
+    /// Counts an open, and the failure if this one fails. Returns whether it does.
+    fn fails(&mut self) -> bool
+        ensures now { IsTrue result ↔ (self.old.before ≡ Some 0) }
+        ensures same { self.new.files ≡ self.old.files }
+        ensures before { self.new.before ≡ before_next self.old.before }
+        ensures failed { IsTrue result → self.new.faults ≡ one_more self.old.faults }
+        ensures whole { IsFalse result → self.new.faults ≡ self.old.faults }
+        ensures cause { HasCause self.old.faults self.new.faults (IsTrue result) }
+    {
+        match self.before {
+            Some(0) => {
+                self.before = None;
+                self.faults = self.faults.saturating_add(1);
+                true
+            }
+            Some(before) => {
+                self.before = Some(before - 1);
+                false
+            }
+            None => false,
+        }
     }
 }
 
@@ -154,21 +196,45 @@ impl Inputs for MemoryInputs {
 
     ghost tells = { λ _. true };
 
-    ghost files = { λ m. m };
+    ghost files = { λ m. m.files };
 
-    ghost faults = { λ _. 0 };
+    ghost faults = { λ m. m.faults };
 
-    fn open(&mut self, name: &str) -> Result<Option<OwnedSource>, Refusal> {
-        for (key, bytes) in &self.files {
-            if key.as_str() == name {
-                let copy = Vec::from_slice(self.alloc, bytes)?;
-                return Ok(Some(OwnedSource::new(copy)));
-            }
+    fn open(&mut self, name: &str) -> Result<Option<OwnedSource>, Refusal>
+        ensures told { IfOk result (λ found. found ≡ get self.old.files name.now) }
+        ensures same { self.new.files ≡ self.old.files }
+        ensures failed { IsErrOf result Refusal.Failed ↔ (self.old.before ≡ Some 0) }
+        ensures counted { self.new.faults ≡ faults_after result self.old.faults }
+        ensures before { self.new.before ≡ before_next self.old.before }
+        ensures cause { HasCause self.old.faults self.new.faults (IsErrOf result Refusal.Failed) }
+    {
+        if self.fails() {
+            return Err(Refusal::Failed);
         }
-        Ok(None)
+        find(self.alloc, &self.files, name)
     }
 
-    fn close(&mut self, source: OwnedSource) {
+    fn close(&mut self, source: OwnedSource)
+        ensures unchanged { self.new ≡ self.old }
+    {
         drop(source);
     }
+}
+
+/// A source of the bytes under a name, if it exists. The first of equal names counts.
+fn find(
+    alloc: Global,
+    files: &[(String, Vec<u8>)],
+    name: &str,
+) -> Result<Option<OwnedSource>, Refusal>
+    ensures told { IfOk result (λ found. found ≡ get (named_bytes files.now) name.now) }
+    ensures memory { IfErr result (λ e. e ≡ Refusal.OutOfMemory) }
+{
+    for (key, bytes) in files {
+        if key.as_str() == name {
+            let copy = Vec::from_slice(alloc, bytes)?;
+            return Ok(Some(OwnedSource::new(copy)));
+        }
+    }
+    Ok(None)
 }
