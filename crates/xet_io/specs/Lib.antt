@@ -3,6 +3,7 @@ pub mod Refusals
 pub mod Streams
 pub mod FailingStreams
 pub mod Named
+pub mod Opened
 pub mod Disk
 pub mod Lent
 pub mod FolderNames

@@ -220,6 +220,7 @@ impl<R: Files<File = File>> Disk for FolderDisk<R> {
     fn stat(&mut self, name: &str) -> Result<Option<(u64, u64)>, Refusal>
         ensures outside { stays_inside name.now ≡ false → IsErrOf result Refusal.Failed }
         ensures counted { self.new ≡ faults_after result self.old }
+        ensures no_fault { IsErrOf result Refusal.OutOfMemory → self.new ≡ self.old }
         ensures cause { HasCause self.old self.new (IsErrOf result Refusal.Failed) }
     {
         let answer = self.stat_name(name);
@@ -231,6 +232,7 @@ impl<R: Files<File = File>> Disk for FolderDisk<R> {
         ensures outside { stays_inside name.now ≡ false → IsErrOf result Refusal.Failed }
         ensures bound { IfOk result (λ found. IfSome found (λ count. count ≤ length buf.new)) }
         ensures counted { self.new ≡ faults_after result self.old }
+        ensures no_fault { IsErrOf result Refusal.OutOfMemory → self.new ≡ self.old }
         ensures cause { HasCause self.old self.new (IsErrOf result Refusal.Failed) }
     {
         let answer = self.read_name(name, at, buf);

@@ -1,8 +1,9 @@
 //! Inputs in a real folder. Their files are not observable.
 
-ghost use Rattle.std.specs.Prelude.{◌≡◌, ℕ, false, IfOk, IfSome, IsErrOf};
+ghost use Rattle.std.specs.Prelude.{◌≡◌, ◌-◌, false, IfOk, IfSome, IsErrOf};
 ghost use Rattle.std.specs.FinMap.{empty};
 ghost use Rattle.xet_io.specs.Faults.{HasCause, TakesFaults, after_close, faults_after};
+ghost use Rattle.xet_io.specs.Opened.{opened_after};
 
 use crate::fault::Refusal;
 use crate::folder_files::found;
@@ -17,35 +18,41 @@ use std::marker::Model;
 pub type FileSource = StdSource<File>;
 
 /// Inputs in a real folder. A name is a path as a shell means it: relative to the folder, with `..` allowed, or
-/// absolute. Contracts see the number of failures.
+/// absolute. Contracts see the number of failures and the number of open sources.
 #[derive(Drop)]
 pub struct FolderInputs<R> {
     alloc: Global,
     runtime: R,
     root: String,
     faults: u64,
+    opened: u64,
 }
 
 impl<R> Model for FolderInputs<R> {
-    ghost Value = { ℕ };
+    ghost use Rattle.xet_io.specs.Opened.{InputCounts, counts_code};
 
-    ghost view = { λ i. i.faults };
+    ghost Value = { InputCounts };
+
+    ghost coded = { counts_code };
+
+    ghost view = { λ i. record { faults = i.faults; opened = i.opened } };
 }
 
 impl<R: Files<File = File>> FolderInputs<R> {
     /// Inputs in this folder, which have not failed yet. Calls nothing of the system, and does not allocate.
     pub fn new(alloc: Global, runtime: R, root: String) -> FolderInputs<R>
-        ensures { result ≡ 0 }
+        ensures { result ≡ record { faults = 0; opened = 0 } }
     {
         FolderInputs {
             alloc,
             runtime,
             root,
             faults: 0,
+            opened: 0,
         }
     }
 
-    fn opened(&self, name: &str) -> Result<Option<FileSource>, Refusal>
+    fn open_file(&self, name: &str) -> Result<Option<FileSource>, Refusal>
         ensures { IfOk result (λ found. IfSome found (λ source. source ≡ 0)) }
     {
         if name.is_empty() {
@@ -71,28 +78,35 @@ impl<R: Files<File = File>> Inputs for FolderInputs<R> {
 
     ghost files = { λ _. empty };
 
-    ghost faults = { λ i. i };
+    ghost faults = { λ i. i.faults };
+
+    ghost opened = { λ i. i.opened };
 
     /// Calls `open`. A folder is opened as a file is, and fails at its first read. An empty name does not exist.
     fn open(&mut self, name: &str) -> Result<Option<FileSource>, Refusal>
         ensures whole { IfOk result (λ found. IfSome found (λ source. source ≡ 0)) }
-        ensures counted { self.new ≡ faults_after result self.old }
-        ensures cause { HasCause self.old self.new (IsErrOf result Refusal.Failed) }
+        ensures counted { self.new.faults ≡ faults_after result self.old.faults }
+        ensures opened { self.new.opened ≡ opened_after result self.old.opened }
+        ensures cause { HasCause self.old.faults self.new.faults (IsErrOf result Refusal.Failed) }
     {
-        let answer = self.opened(name);
-        if matches!(&answer, Err(Refusal::Failed)) {
-            self.faults = self.faults.saturating_add(1);
+        let answer = self.open_file(name);
+        match &answer {
+            Ok(Some(_)) => self.opened = self.opened.saturating_add(1),
+            Err(Refusal::Failed) => self.faults = self.faults.saturating_add(1),
+            _ => {}
         }
         answer
     }
 
     /// Calls `close`.
     fn close(&mut self, source: FileSource)
-        ensures counted { self.new ≡ after_close source self.old }
-        ensures cause { TakesFaults source self.old self.new }
+        ensures counted { self.new.faults ≡ after_close source self.old.faults }
+        ensures opened { self.new.opened ≡ self.old.opened - 1 }
+        ensures cause { TakesFaults source self.old.faults self.new.faults }
     {
         if source.failures() > 0 {
             self.faults = self.faults.saturating_add(1);
         }
+        self.opened = self.opened.saturating_sub(1);
     }
 }

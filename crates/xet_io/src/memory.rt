@@ -1,9 +1,10 @@
 //! A sink and named inputs in memory. They may run out of memory, and fail only where they are made to.
 
-ghost use Rattle.std.specs.Prelude.{◌≡◌, ◌↔◌, ◌<◌, ◌≤◌, ◌++◌, ℕ, List, [], Some, None, true, drop, length, vec_len, IsTrue, IsFalse, IfOk, IfErr, OnOk, OnErr, IsErrOf};
+ghost use Rattle.std.specs.Prelude.{◌≡◌, ◌↔◌, ◌<◌, ◌≤◌, ◌++◌, ◌-◌, ℕ, List, [], Some, None, true, drop, length, vec_len, IsTrue, IsFalse, IfOk, IfErr, OnOk, OnErr, IsErrOf};
 ghost use Rattle.std.specs.FinMap.{get};
 ghost use Rattle.xet_io.specs.Faults.{HasCause, faults_after, one_more};
 ghost use Rattle.xet_io.specs.MemoryInputs.{before_next, named_bytes};
+ghost use Rattle.xet_io.specs.Opened.{opened_after};
 ghost use Rattle.xet_io.specs.Streams.{Takes};
 
 use crate::fault::{Failed, Refusal};
@@ -122,7 +123,7 @@ impl Source for OwnedSource {
 }
 
 /// Named inputs in memory; of equal names the first counts. Contracts see the bytes under each name, which open
-/// fails, and the number of failures.
+/// fails, the number of failures, and the number of open sources.
 #[derive(Debug, Drop)]
 pub struct MemoryInputs {
     alloc: Global,
@@ -130,6 +131,7 @@ pub struct MemoryInputs {
     /// How many opens come before the one that fails. `None` if none will.
     before: Option<u64>,
     faults: u64,
+    opened: u64,
 }
 
 impl Model for MemoryInputs {
@@ -139,31 +141,33 @@ impl Model for MemoryInputs {
 
     ghost coded = { inputs_code };
 
-    ghost view = { λ m. record { files = named_bytes m.files.items; before = m.before; faults = m.faults } };
+    ghost view = { λ m. record { files = named_bytes m.files.items; before = m.before; faults = m.faults; opened = m.opened } };
 }
 
 impl MemoryInputs {
     /// Inputs with these files, each a name and its bytes, of which no open fails. Does not allocate.
     pub fn new(alloc: Global, files: Vec<(String, Vec<u8>)>) -> MemoryInputs
-        ensures { result ≡ record { files = named_bytes files.items; before = None; faults = 0 } }
+        ensures { result ≡ record { files = named_bytes files.items; before = None; faults = 0; opened = 0 } }
     {
         MemoryInputs {
             alloc,
             files,
             before: None,
             faults: 0,
+            opened: 0,
         }
     }
 
     /// Inputs with these files, of which the open number `fail_at`, from 0, fails. Does not allocate.
     pub fn failing(alloc: Global, files: Vec<(String, Vec<u8>)>, fail_at: u64) -> MemoryInputs
-        ensures { result ≡ record { files = named_bytes files.items; before = Some fail_at; faults = 0 } }
+        ensures { result ≡ record { files = named_bytes files.items; before = Some fail_at; faults = 0; opened = 0 } }
     {
         MemoryInputs {
             alloc,
             files,
             before: Some(fail_at),
             faults: 0,
+            opened: 0,
         }
     }
 
@@ -171,6 +175,7 @@ impl MemoryInputs {
     fn fails(&mut self) -> bool
         ensures now { IsTrue result ↔ (self.old.before ≡ Some 0) }
         ensures same { self.new.files ≡ self.old.files }
+        ensures opened { self.new.opened ≡ self.old.opened }
         ensures before { self.new.before ≡ before_next self.old.before }
         ensures failed { IsTrue result → self.new.faults ≡ one_more self.old.faults }
         ensures whole { IsFalse result → self.new.faults ≡ self.old.faults }
@@ -200,24 +205,32 @@ impl Inputs for MemoryInputs {
 
     ghost faults = { λ m. m.faults };
 
+    ghost opened = { λ m. m.opened };
+
     fn open(&mut self, name: &str) -> Result<Option<OwnedSource>, Refusal>
         ensures told { IfOk result (λ found. found ≡ get self.old.files name.now) }
         ensures same { self.new.files ≡ self.old.files }
         ensures failed { IsErrOf result Refusal.Failed ↔ (self.old.before ≡ Some 0) }
         ensures counted { self.new.faults ≡ faults_after result self.old.faults }
         ensures before { self.new.before ≡ before_next self.old.before }
+        ensures opened { self.new.opened ≡ opened_after result self.old.opened }
         ensures cause { HasCause self.old.faults self.new.faults (IsErrOf result Refusal.Failed) }
     {
         if self.fails() {
             return Err(Refusal::Failed);
         }
-        find(self.alloc, &self.files, name)
+        let found = find(self.alloc, &self.files, name);
+        if matches!(&found, Ok(Some(_))) {
+            self.opened = self.opened.saturating_add(1);
+        }
+        found
     }
 
     fn close(&mut self, source: OwnedSource)
-        ensures unchanged { self.new ≡ self.old }
+        ensures closed { self.new ≡ record self.old { opened = self.old.opened - 1 } }
     {
         drop(source);
+        self.opened = self.opened.saturating_sub(1);
     }
 }
 
