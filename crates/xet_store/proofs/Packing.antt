@@ -1,5 +1,5 @@
 -- Chunks packed into xorbs, one xorb more at a time.
-use Rattle.std.proofs.Common.{◌≡◌, ◌∙◌, ℕ, ◌-◌, ◌<◌, ◌≤◌, Bool, true, List, [], ◌∷◌, ◌++◌, append_assoc, length, map, take, drop, get_or, refl, sym, ap, subst, arith}
+use Rattle.std.proofs.Common.{◌≡◌, ◌∙◌, ℕ, ◌-◌, ◌<◌, ◌≤◌, List, [], ◌∷◌, ◌++◌, append_assoc, length, map, take, drop, refl, sym, ap, subst, arith}
 use Rattle.std.proofs.lemmas.List.Elements.{All-from_recursion}
 use Rattle.std.specs.List.{AllByRecursion, sum_by}
 use Rattle.std.proofs.lemmas.List.{append-nil, drop-map, take_all, length-map, length-take-le, map-append, take-append-drop, take-map}
@@ -11,8 +11,7 @@ use Rattle.xet_xorb_chunk.specs.declared.chunk.Chunk.{Chunk}
 use Rattle.xet_base.specs.theorems.Elements.{all_push, all_more, all_take}
 use Rattle.xet_cut.specs.declared.limits.LimitSettings.{LimitSettings}
 use Rattle.xet_shard_format.specs.declared.record.FileDataSequenceEntry.{FileDataSequenceEntry as Segment}
-use Rattle.xet_store.specs.Cleaning.{Keeps, chunkings}
-use Rattle.xet_cut.specs.Chunking.{chunking}
+use Rattle.xet_store.specs.Cleaning.{Keeps}
 use Rattle.xet_dedup.specs.Packing.{pack_len, packs}
 use Rattle.xet_folder.specs.Plan.{Joins, LiesIn, part}
 use Rattle.xet_folder.specs.Xorbs.{IsListed, Xorbs}
@@ -161,10 +160,3 @@ lists_more old new chunks keeps listed =
 -- no chunk has no xorb
 pub lists_none : (s : State) → ListsXorbs s []
 lists_none s = subst (AllByRecursion (IsPackListed s.xorbs)) (sym (pieces_none (pack_len s.limits) [] refl)) tt
-
--- the xorbs of one source, where there is no other
-pub listed_one : {S : Type 0} (tells : S → Bool) (left : S → List ℕ) (l : LimitSettings) (s : State) (sources : List S) (d : S) → length sources ≤ 1 → AllByRecursion (λ x. tells x ≡ true) sources
-    → (tells (get_or sources 0 d) ≡ true → ListsXorbs s (chunking l (left (get_or sources 0 d)))) → AllByRecursion (ListsXorbs s) (chunkings left l sources)
-listed_one tells left l s [] d one all listed = tt
-listed_one tells left l s (x ∷ []) d one all listed = (listed all.0, tt)
-listed_one tells left l s (x ∷ y ∷ ys) d one all listed = absurd (omega arith)

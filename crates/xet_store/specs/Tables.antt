@@ -1,5 +1,5 @@
 -- The tables of a session: what it lists, has recorded and has pending; and what a file adds to them.
-use Rattle.std.specs.Prelude.{◌≡◌, ℕ, List, [], ◌∷◌, ◌++◌, length, map, take, drop, Some, is_some, if◌then◌else◌}
+use Rattle.std.specs.Prelude.{ℕ, List, [], ◌∷◌, ◌++◌, length, map, Some, is_some, if◌then◌else◌}
 use Rattle.sha2.specs.Sha256.{sha256}
 use Rattle.xet_hash.specs.Merkle.{leaves_of, total_len, xorb_hash}
 use Rattle.xet_shard_format.specs.declared.record.FileDataSequenceEntry.{FileDataSequenceEntry as Segment}
@@ -73,9 +73,3 @@ with_files s t (f ∷ fs) = with_files s (with_file s t f) fs
 abbrev pub first_packs : LimitSettings → List (List ℕ) → List (List (List ℕ))
 first_packs s [] = []
 first_packs s (f ∷ fs) = packs s (chunking s f)
-
--- Some first files were added, and some first xorbs of the next.
-pub record StoresPart (s : LimitSettings) (files : List (List ℕ)) (old new : Tables) : Type 0 where
-  pub done : ℕ
-  pub xorbs : ℕ
-  pub is : new ≡ with_xorbs (with_files s old (take done files)) (take xorbs (first_packs s (drop done files)))
