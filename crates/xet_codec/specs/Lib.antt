@@ -1,6 +1,6 @@
 pub mod Blocks
+pub mod Buffered
 pub mod FileBytes
-pub mod Held
 pub mod Numbers
 pub mod Parsing
 pub mod Stops

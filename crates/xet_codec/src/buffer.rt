@@ -29,7 +29,7 @@ impl Buffer {
     ghost use Rattle.xet_hash.specs.declared.error.Place.TheVariants.{Output};
     ghost use Rattle.xet_hash.specs.declared.error.StoreError.TheVariants.{Io};
     ghost use Rattle.std.specs.List.{flat_map};
-    ghost use Rattle.xet_codec.specs.Held.{IsEmpty, held_in};
+    ghost use Rattle.xet_codec.specs.Buffered.{IsEmpty, buffered_in};
     ghost use Rattle.xet_codec.specs.Numbers.{joined, numbers};
     ghost use Rattle.xet_codec.specs.Written.{WritesPrefix, Moves};
     ghost use Rattle.xet_codec.specs.Stops.{StopsWriting};
@@ -37,7 +37,7 @@ impl Buffer {
 
     /// An empty buffer.
     pub fn new() -> Buffer
-        ensures { held_in result ≡ [] }
+        ensures { buffered_in result ≡ [] }
     {
         Buffer {
             bytes: [0; ROOM],
@@ -48,8 +48,8 @@ impl Buffer {
     /// Appends a slice to the buffered bytes. If there is no room, these are written first. A slice that is
     /// longer than the buffer is then written directly.
     pub fn put<W: Sink>(&mut self, sink: &mut W, piece: &[u8]) -> Result<(), StoreError>
-        ensures moved { W.tells sink.old ≡ true → OnOk result (Moves (W.written sink.old) (W.written sink.new) (held_in self.new) (held_in self.old ++ piece.now)) }
-        ensures prefix { W.tells sink.old ≡ true → OnErr result (WritesPrefix (W.written sink.old) (W.written sink.new) (held_in self.old ++ piece.now)) }
+        ensures moved { W.tells sink.old ≡ true → OnOk result (Moves (W.written sink.old) (W.written sink.new) (buffered_in self.new) (buffered_in self.old ++ piece.now)) }
+        ensures prefix { W.tells sink.old ≡ true → OnErr result (WritesPrefix (W.written sink.old) (W.written sink.new) (buffered_in self.old ++ piece.now)) }
         ensures errors { IfErr result StopsWriting }
         ensures frame { Called W.tells W.faults sink.old sink.new (IsErrOf result (Io Output)) }
     {
@@ -64,8 +64,8 @@ impl Buffer {
 
     /// Appends these slices, in order.
     pub fn put_all<W: Sink>(&mut self, sink: &mut W, pieces: &[&[u8]]) -> Result<(), StoreError>
-        ensures moved { W.tells sink.old ≡ true → OnOk result (Moves (W.written sink.old) (W.written sink.new) (held_in self.new) (held_in self.old ++ flat_map (λ p. p.now) pieces.now)) }
-        ensures prefix { W.tells sink.old ≡ true → OnErr result (WritesPrefix (W.written sink.old) (W.written sink.new) (held_in self.old ++ flat_map (λ p. p.now) pieces.now)) }
+        ensures moved { W.tells sink.old ≡ true → OnOk result (Moves (W.written sink.old) (W.written sink.new) (buffered_in self.new) (buffered_in self.old ++ flat_map (λ p. p.now) pieces.now)) }
+        ensures prefix { W.tells sink.old ≡ true → OnErr result (WritesPrefix (W.written sink.old) (W.written sink.new) (buffered_in self.old ++ flat_map (λ p. p.now) pieces.now)) }
         ensures errors { IfErr result StopsWriting }
         ensures frame { Called W.tells W.faults sink.old sink.new (IsErrOf result (Io Output)) }
     {
@@ -77,8 +77,8 @@ impl Buffer {
 
     /// Appends these numbers, four bytes each, little-endian.
     pub fn put_numbers<W: Sink>(&mut self, sink: &mut W, list: &[u32]) -> Result<(), StoreError>
-        ensures moved { W.tells sink.old ≡ true → OnOk result (Moves (W.written sink.old) (W.written sink.new) (held_in self.new) (held_in self.old ++ numbers list.now)) }
-        ensures prefix { W.tells sink.old ≡ true → OnErr result (WritesPrefix (W.written sink.old) (W.written sink.new) (held_in self.old ++ numbers list.now)) }
+        ensures moved { W.tells sink.old ≡ true → OnOk result (Moves (W.written sink.old) (W.written sink.new) (buffered_in self.new) (buffered_in self.old ++ numbers list.now)) }
+        ensures prefix { W.tells sink.old ≡ true → OnErr result (WritesPrefix (W.written sink.old) (W.written sink.new) (buffered_in self.old ++ numbers list.now)) }
         ensures errors { IfErr result StopsWriting }
         ensures frame { Called W.tells W.faults sink.old sink.new (IsErrOf result (Io Output)) }
     {
@@ -94,9 +94,9 @@ impl Buffer {
         sink: &mut W,
         hashes: &[MerkleHash],
     ) -> Result<(), StoreError>
-        ensures moved { W.tells sink.old ≡ true → OnOk result (Moves (W.written sink.old) (W.written sink.new) (held_in self.new) (held_in self.old ++ joined hashes.now)) }
+        ensures moved { W.tells sink.old ≡ true → OnOk result (Moves (W.written sink.old) (W.written sink.new) (buffered_in self.new) (buffered_in self.old ++ joined hashes.now)) }
         ensures length { OnOk result (length (joined hashes.now) ≡ 32 * length hashes.now) }
-        ensures prefix { W.tells sink.old ≡ true → OnErr result (WritesPrefix (W.written sink.old) (W.written sink.new) (held_in self.old ++ joined hashes.now)) }
+        ensures prefix { W.tells sink.old ≡ true → OnErr result (WritesPrefix (W.written sink.old) (W.written sink.new) (buffered_in self.old ++ joined hashes.now)) }
         ensures errors { IfErr result StopsWriting }
         ensures frame { Called W.tells W.faults sink.old sink.new (IsErrOf result (Io Output)) }
     {
@@ -108,9 +108,9 @@ impl Buffer {
 
     /// Writes the buffered bytes.
     pub fn flush<W: Sink>(&mut self, sink: &mut W) -> Result<(), StoreError>
-        ensures moved { W.tells sink.old ≡ true → OnOk result (W.written sink.new ≡ W.written sink.old ++ held_in self.old) }
+        ensures moved { W.tells sink.old ≡ true → OnOk result (W.written sink.new ≡ W.written sink.old ++ buffered_in self.old) }
         ensures empty { OnOk result (IsEmpty self.new) }
-        ensures prefix { W.tells sink.old ≡ true → OnErr result (WritesPrefix (W.written sink.old) (W.written sink.new) (held_in self.old)) }
+        ensures prefix { W.tells sink.old ≡ true → OnErr result (WritesPrefix (W.written sink.old) (W.written sink.new) (buffered_in self.old)) }
         ensures errors { IfErr result StopsWriting }
         ensures frame { Called W.tells W.faults sink.old sink.new (IsErrOf result (Io Output)) }
     {
@@ -121,10 +121,10 @@ impl Buffer {
 
     /// Makes room for `len` bytes. If the buffer is shorter than that, empties it.
     fn make_room<W: Sink>(&mut self, sink: &mut W, len: usize) -> Result<(), StoreError>
-        ensures moved { W.tells sink.old ≡ true → OnOk result (Moves (W.written sink.old) (W.written sink.new) (held_in self.new) (held_in self.old)) }
+        ensures moved { W.tells sink.old ≡ true → OnOk result (Moves (W.written sink.old) (W.written sink.new) (buffered_in self.new) (buffered_in self.old)) }
         ensures room { OnOk result (len ≤ 2048 → self.new.used + len ≤ 2048) }
         ensures empty { OnOk result (2048 < len → self.new.used ≡ 0) }
-        ensures prefix { W.tells sink.old ≡ true → OnErr result (WritesPrefix (W.written sink.old) (W.written sink.new) (held_in self.old)) }
+        ensures prefix { W.tells sink.old ≡ true → OnErr result (WritesPrefix (W.written sink.old) (W.written sink.new) (buffered_in self.old)) }
         ensures errors { IfErr result StopsWriting }
         ensures frame { Called W.tells W.faults sink.old sink.new (IsErrOf result (Io Output)) }
     {
@@ -138,7 +138,7 @@ impl Buffer {
     /// Appends a slice for which there is room.
     fn keep(&mut self, piece: &[u8])
         requires { self.old.used + length piece.now ≤ 2048 }
-        ensures { held_in self.new ≡ held_in self.old ++ piece.now }
+        ensures { buffered_in self.new ≡ buffered_in self.old ++ piece.now }
     {
         let end = self.used + piece.len();
         self.bytes[self.used..end].copy_from_slice(piece);

@@ -105,7 +105,7 @@ impl Limits {
     }
 
     /// Proof aid without effect: makes it available to the caller that all limits are in their ranges.
-    pub fn known(&self)
+    pub fn recall_invariant(&self)
         ensures { AreInRange self.now }
     {
         let _ = &self.settings;

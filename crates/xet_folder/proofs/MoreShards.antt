@@ -14,7 +14,7 @@ use Rattle.xet_shard_format.specs.declared.record.MDBFileInfo.{MDBFileInfo}
 use Rattle.xet_shard_format.specs.declared.record.FileDataSequenceEntry.{FileDataSequenceEntry as Segment}
 use Rattle.xet_shard_format.specs.Names.{shard_name}
 use Rattle.xet_shard_format.specs.Reading.{ShardParts, all_of}
-use Rattle.xet_shard_format.specs.Records.{xorb_hash}
+use Rattle.xet_shard_format.specs.Records.{xorb_record_hash}
 use Rattle.xet_folder.specs.declared.contents.Contents.{Contents}
 use Rattle.xet_shard_file.specs.declared.listing.ShardEntry.{ShardEntry}
 use Rattle.xet_folder.specs.Admission.{FirstFails, Refuses, ShardFails, ShardHolds}
@@ -43,7 +43,7 @@ one_of_all P (y ∷ xs) x all (zero, (below, is)) = subst P (sym is) all.0
 one_of_all P (y ∷ xs) x all (suc i, (below, is)) = one_of_all P xs x all.1 (i, (omega (arith, below), is))
 
 has_of_shard : (xorbs : Xorbs) (p : ShardParts) (h : List ℕ) → HasXorbsOfShard xorbs p → OfShard p h → IsInTable xorbs h
-has_of_shard xorbs p h has (inl among) = of_all xorb_hash (IsInTable xorbs) p.0 h has.blocks among
+has_of_shard xorbs p h has (inl among) = of_all xorb_record_hash (IsInTable xorbs) p.0 h has.blocks among
 has_of_shard xorbs p h has (inr (f, among, of)) = of_all (λ (s : Segment). s.xorb_hash) (IsInTable xorbs) f.segments h (one_of_all (HasXorbsOfFile xorbs) p.1 f has.files among) of
 
 -- a row that is found in a longer table was there, or is one of the new ones

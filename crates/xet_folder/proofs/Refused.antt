@@ -7,7 +7,7 @@ use Rattle.xet_hash.specs.declared.error.Place.TheVariants as place
 use Rattle.xet_codec.specs.Parsing.{Fails}
 use Rattle.xet_shard_format.specs.Reading.{all_of}
 use Rattle.xet_shard_format.specs.theorems.Refusing.{all_answers}
-use Rattle.xet_shard_file.specs.Errors.{IsShardCheckError, IsShardError}
+use Rattle.xet_shard_file.specs.Errors.{IsShardCheckError, IsShardFileError}
 use Rattle.xet_codec.specs.Stops.{HasDiskReason}
 use Rattle.xet_shard_file.specs.theorems.Exits.{rose_before}
 
@@ -25,13 +25,13 @@ read_refusal K F before now bytes errors.OutOfMemory f fails = tt
 read_refusal K F before now bytes e f fails = λ k. f k fails
 
 -- a disk's refusal is one of the errors of a shard's check
-pub disk_error : (shard : List ℕ) (before now : ℕ) (e : StoreError) → HasDiskReason before now e → IsShardError shard e
+pub disk_error : (shard : List ℕ) (before now : ℕ) (e : StoreError) → HasDiskReason before now e → IsShardFileError shard e
 disk_error shard before now (errors.Io place.Disk) r = tt
 disk_error shard before now errors.OutOfMemory r = tt
 disk_error shard before now e r = absurd r
 
 -- so is that of reading it
-pub read_error : (shard bytes : List ℕ) (e : StoreError) → Fails e (all_of bytes) → IsShardError shard e
+pub read_error : (shard bytes : List ℕ) (e : StoreError) → Fails e (all_of bytes) → IsShardFileError shard e
 read_error shard bytes errors.OutOfMemory fails = tt
 read_error shard bytes errors.UnexpectedEof fails = tt
 read_error shard bytes (errors.MalformedData reason) fails = tt

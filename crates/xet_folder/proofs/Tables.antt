@@ -8,12 +8,12 @@ use Rattle.xet_shard_format.specs.declared.record.FileDataSequenceEntry.{FileDat
 use Rattle.xet_shard_format.specs.declared.record.MDBFileInfo.{MDBFileInfo}
 use Rattle.xet_shard_format.specs.declared.record.MDBXorbInfo.{MDBXorbInfo}
 use Rattle.xet_shard_format.specs.Reading.{ShardParts, all_of}
-use Rattle.xet_shard_format.specs.Records.{xorb_hash}
+use Rattle.xet_shard_format.specs.Records.{xorb_record_hash}
 use Rattle.xet_base.specs.theorems.Elements.{all_both}
 use Rattle.xet_folder.specs.Checks.{Grows, IsInTable, HasXorbsOfFile, Knows, OfBlocks, OfBytes, OfFiles}
 use Rattle.xet_folder.specs.internal.Contents.{IsFileRecord}
 use Rattle.xet_folder.specs.Contents.{IsRecord, listed_of}
-use Rattle.xet_folder.specs.Plan.{Joins}
+use Rattle.xet_folder.specs.Plan.{Resolves}
 use Rattle.xet_folder.specs.Stored.{IsBacked}
 use Rattle.xet_folder.specs.Xorbs.{IsListed, FileRecords, Xorbs, found}
 use Rattle.xet_folder.specs.theorems.Tables.{found_either, found_kept}
@@ -92,17 +92,17 @@ all_later old new (s ∷ ss) later has = (has_later old new s.xorb_hash later ha
 pub has_file_later : (old new : Xorbs) (f : MDBFileInfo) → IsLater old new → HasXorbsOfFile old f → HasXorbsOfFile new f
 has_file_later old new f later has = all_later old new f.segments later has
 
-pub blocks_later : (old new : Xorbs) (blocks : List MDBXorbInfo) → IsLater old new → AllByRecursion (λ b. IsInTable old (xorb_hash b)) blocks → AllByRecursion (λ b. IsInTable new (xorb_hash b)) blocks
+pub blocks_later : (old new : Xorbs) (blocks : List MDBXorbInfo) → IsLater old new → AllByRecursion (λ b. IsInTable old (xorb_record_hash b)) blocks → AllByRecursion (λ b. IsInTable new (xorb_record_hash b)) blocks
 blocks_later old new [] later has = tt
-blocks_later old new (b ∷ bs) later has = (has_later old new (xorb_hash b) later has.0, blocks_later old new bs later has.1)
+blocks_later old new (b ∷ bs) later has = (has_later old new (xorb_record_hash b) later has.0, blocks_later old new bs later has.1)
 
 -- plans still join, and records stand
-pub joins_later : (old new : Xorbs) (segments : List Segment) (out : List (List ℕ × ℕ)) → IsLater old new → Joins (IsListed old) (λ m. m.1) segments out → Joins (IsListed new) (λ m. m.1) segments out
-joins_later old new [] out later none = none
-joins_later old new (s ∷ ss) out later (xs, rest, listed, lies, parts, more) = (xs, rest, listed_later old new s.xorb_hash xs later listed, lies, parts, joins_later old new ss rest later more)
+pub resolves_later : (old new : Xorbs) (segments : List Segment) (out : List (List ℕ × ℕ)) → IsLater old new → Resolves (IsListed old) (λ m. m.1) segments out → Resolves (IsListed new) (λ m. m.1) segments out
+resolves_later old new [] out later none = none
+resolves_later old new (s ∷ ss) out later (xs, rest, listed, lies, parts, more) = (xs, rest, listed_later old new s.xorb_hash xs later listed, lies, parts, resolves_later old new ss rest later more)
 
 pub record_later : (old new : Xorbs) (r : List ℕ × MDBFileInfo) → IsLater old new → IsRecord old r → IsRecord new r
-record_later old new r later is = record { named = is.named; leaves = is.leaves; joins = joins_later old new r.1.segments is.leaves later is.joins; hash = is.hash; some = is.some; bound = is.bound }
+record_later old new r later is = record { named = is.named; leaves = is.leaves; resolves = resolves_later old new r.1.segments is.leaves later is.resolves; hash = is.hash; some = is.some; bound = is.bound }
 
 pub records_later : (old new : Xorbs) (rs : FileRecords) → IsLater old new → AllByRecursion (IsRecord old) rs → AllByRecursion (IsRecord new) rs
 records_later old new [] later all = tt

@@ -13,9 +13,9 @@ use Rattle.xet_shard_format.specs.declared.record.MDBXorbInfo.{MDBXorbInfo}
 use Rattle.xet_shard_format.specs.declared.record.XorbChunkSequenceEntry.{XorbChunkSequenceEntry}
 use Rattle.xet_shard_format.specs.Names.{shard_name}
 use Rattle.xet_shard_format.specs.Reading.{ShardParts, all_of}
-use Rattle.xet_shard_format.specs.Records as record_of
+use Rattle.xet_shard_format.specs.Records.{file_record_hash, xorb_record_hash}
 use Rattle.xet_folder.specs.Names.{xorb_path}
-use Rattle.xet_folder.specs.Plan.{Joins, LiesIn}
+use Rattle.xet_folder.specs.Plan.{Resolves, LiesIn}
 use Rattle.xet_shard_file.specs.Shards.{Registers, ShardFile}
 use Rattle.xet_folder.specs.Stored.{IsBacked, IsStored}
 
@@ -44,11 +44,11 @@ module _ (files : Files) (folder shard : List ℕ) where
 
   -- A xorb record lists the hashes and lengths of the stored chunks.
   abbrev pub BlockHolds : MDBXorbInfo → Type 0
-  BlockHolds b = IsBacked files folder (record_of.xorb_hash b) (block_leaves b)
+  BlockHolds b = IsBacked files folder (xorb_record_hash b) (block_leaves b)
 
   pub data BlockFails (b : MDBXorbInfo) (e : StoreError) : Type 0 where
-    xorb : XorbFails (record_of.xorb_hash b) e → BlockFails b e
-    other : (leaves : List (List ℕ × ℕ)) → IsBacked files folder (record_of.xorb_hash b) leaves → leaves ≢ block_leaves b → e ≡ InvalidShard shard OtherChunks → BlockFails b e
+    xorb : XorbFails (xorb_record_hash b) e → BlockFails b e
+    other : (leaves : List (List ℕ × ℕ)) → IsBacked files folder (xorb_record_hash b) leaves → leaves ≢ block_leaves b → e ≡ InvalidShard shard OtherChunks → BlockFails b e
 
   -- A segment lies in its stored xorb.
   pub record SegmentHolds (s : Segment) : Type 0 where
@@ -63,13 +63,13 @@ module _ (files : Files) (folder shard : List ℕ) where
   -- A file's segments resolve to stored chunks, at least one, which give its file hash.
   pub record FileHolds (f : MDBFileInfo) : Type 0 where
     pub leaves : List (List ℕ × ℕ)
-    pub joins : Joins (IsBacked files folder) (λ m. m.1) f.segments leaves
+    pub resolves : Resolves (IsBacked files folder) (λ m. m.1) f.segments leaves
     pub some : 0 < length leaves
-    pub hash : file_hash leaves ≡ record_of.file_hash f
+    pub hash : file_hash leaves ≡ file_record_hash f
 
   pub data FileFails (f : MDBFileInfo) (e : StoreError) : Type 0 where
     segments : FirstFails SegmentHolds SegmentFails f.segments e → FileFails f e
-    other : (leaves : List (List ℕ × ℕ)) → Joins (IsBacked files folder) (λ m. m.1) f.segments leaves → (leaves ≡ []) ⊎ (file_hash leaves ≢ record_of.file_hash f)
+    other : (leaves : List (List ℕ × ℕ)) → Resolves (IsBacked files folder) (λ m. m.1) f.segments leaves → (leaves ≡ []) ⊎ (file_hash leaves ≢ file_record_hash f)
         → e ≡ InvalidShard shard OtherFileHash → FileFails f e
 
 -- The file is a well-formed shard without a key, named by its digest; its xorb records and its files hold.

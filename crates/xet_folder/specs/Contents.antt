@@ -10,18 +10,18 @@ use Rattle.xet_hash.specs.declared.error.Place.TheVariants.{Disk}
 use Rattle.xet_hash.specs.Merkle.{file_hash, total_len}
 use Rattle.xet_shard_format.specs.declared.record.MDBFileInfo.{MDBFileInfo}
 use Rattle.xet_shard_format.specs.Reading.{all_of}
-use Rattle.xet_shard_format.specs.Records as record_of
+use Rattle.xet_shard_format.specs.Records.{file_record_hash}
 use Rattle.xet_folder.specs.declared.contents.Contents.{Contents}
 use Rattle.xet_folder.specs.Admission.{Admits, Refuses}
 use Rattle.xet_folder.specs.Checks.{OfBytes}
-use Rattle.xet_folder.specs.Plan.{Joins}
+use Rattle.xet_folder.specs.Plan.{Resolves}
 use Rattle.xet_shard_file.specs.Errors.{IsBadShard}
 use Rattle.xet_shard_file.specs.Shards.{ShardFile}
 use Rattle.xet_folder.specs.Xorbs.{IsListed, FileRecords, Xorbs, found}
 
 -- file records, each under its file hash
 abbrev pub listed_of : List MDBFileInfo → FileRecords
-listed_of files = map (λ f. (record_of.file_hash f, f)) files
+listed_of files = map (λ f. (file_record_hash f, f)) files
 
 -- the file records in a shard's bytes; none if these are not a shard
 abbrev pub listed_in : List ℕ → FileRecords
@@ -35,9 +35,9 @@ firsts (r ∷ rs) = r ∷ filter (λ q. not (pointwise nat_eq q.0 r.0)) (firsts 
 -- The record has this hash. Over the listed xorbs, its plan resolves to chunks, at least one, which give this
 -- file hash and have fewer than 2 ^ 64 bytes together.
 pub record IsRecord (xorbs : Xorbs) (r : List ℕ × MDBFileInfo) : Type 0 where
-  pub named : record_of.file_hash r.1 ≡ r.0
+  pub named : file_record_hash r.1 ≡ r.0
   pub leaves : List (List ℕ × ℕ)
-  pub joins : Joins (IsListed xorbs) (λ m. m.1) r.1.segments leaves
+  pub resolves : Resolves (IsListed xorbs) (λ m. m.1) r.1.segments leaves
   pub hash : file_hash leaves ≡ r.0
   pub some : 0 < length leaves
   pub bound : total_len leaves < 2 ^ 64
@@ -57,8 +57,8 @@ pub record HasContents (files : Files) (folder : List ℕ) (now : ℕ) (c : Cont
 
 -- Why a folder is rejected. An error with a name is that of a check in the shard with that file name; if the
 -- disk is observable, it is the first check that fails.
-abbrev pub IsUnadmitted : Bool → Files → List ℕ → ℕ → ℕ → ℕ → StoreError → Option (List ℕ) → Type 0
-IsUnadmitted tells files folder now before after (Io Disk) None = Rose before after
-IsUnadmitted tells files folder now before after OutOfMemory None = Unit {0}
-IsUnadmitted tells files folder now before after e (Some name) = IsBadShard e name × (tells ≡ true → Refuses files folder now e name)
-IsUnadmitted tells files folder now before after e None = ⊥
+abbrev pub IsFolderError : Bool → Files → List ℕ → ℕ → ℕ → ℕ → StoreError → Option (List ℕ) → Type 0
+IsFolderError tells files folder now before after (Io Disk) None = Rose before after
+IsFolderError tells files folder now before after OutOfMemory None = Unit {0}
+IsFolderError tells files folder now before after e (Some name) = IsBadShard e name × (tells ≡ true → Refuses files folder now e name)
+IsFolderError tells files folder now before after e None = ⊥

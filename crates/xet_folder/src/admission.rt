@@ -7,12 +7,12 @@ ghost use Rattle.xet_folder.specs.internal.Contents.{IsFileRecord};
 ghost use Rattle.xet_folder.specs.Contents.{IsRecord, listed_of};
 ghost use Rattle.xet_folder.specs.internal.Checks.{AddsListed, AddsRun};
 ghost use Rattle.xet_folder.specs.Checks.{Grows, IsInTable, HasXorbsOfFile, HasXorbsOfShard, Knows, OfBlocks, OfBytes, OfFile, OfFiles, OfSegments};
-ghost use Rattle.xet_shard_file.specs.Errors.{IsShardCheckError, IsShardError};
-ghost use Rattle.xet_folder.specs.Plan.{Joins};
+ghost use Rattle.xet_shard_file.specs.Errors.{IsShardCheckError, IsShardFileError};
+ghost use Rattle.xet_folder.specs.Plan.{Resolves};
 ghost use Rattle.xet_folder.specs.Stored.{IsBacked};
 ghost use Rattle.xet_folder.specs.Xorbs.{IsListed};
-ghost use Rattle.xet_hash.specs.Merkle.{file_hash as hash_of_file, total_len};
-ghost use Rattle.xet_shard_format.specs.Records.{segment_bytes, xorb_hash};
+ghost use Rattle.xet_hash.specs.Merkle.{file_hash, total_len};
+ghost use Rattle.xet_shard_format.specs.Records.{segment_bytes, xorb_record_hash};
 ghost use Rattle.xet_shard_format.specs.Reading.{ShardParts, all_of};
 ghost use Rattle.xet_shard_format.specs.Encoding.{materialized};
 ghost use Rattle.xet_io.specs.Disk.{file};
@@ -47,7 +47,7 @@ pub fn admit_shard<D: Disk>(
     ensures grows { Grows (OfBytes bytes.now) table.old table.new }
     ensures knows { Knows (D.tells disk.old) (D.files disk.old) folder.now table.old → Knows (D.tells disk.new) (D.files disk.new) folder.now table.new }
     ensures refused { IfErr result (IsShardCheckError (Knows (D.tells disk.old) (D.files disk.old) folder.now table.old) (λ e. (modified : ℕ) → ShardFails (D.files disk.old) folder.now (record { hash = hash.now; file = file bytes.now modified }) e) (D.faults disk.old) (D.faults disk.new)) }
-    ensures error { IfErr result (IsShardError hash.now) }
+    ensures error { IfErr result (IsShardFileError hash.now) }
     ensures frame { Unchanged D.files D.tells D.faults disk.old disk.new }
 {
     let parts = read_shard(alloc, bytes)?;
@@ -76,7 +76,7 @@ fn check_parts<D: Disk>(
     ensures grows { Grows (OfBytes bytes.now) table.old table.new }
     ensures knows { Knows (D.tells disk.old) (D.files disk.old) folder.now table.old → Knows (D.tells disk.new) (D.files disk.new) folder.now table.new }
     ensures refused { IfErr result (IsShardCheckError (Knows (D.tells disk.old) (D.files disk.old) folder.now table.old) (λ e. (modified : ℕ) → ShardFails (D.files disk.old) folder.now (record { hash = hash.now; file = file bytes.now modified }) e) (D.faults disk.old) (D.faults disk.new)) }
-    ensures error { IfErr result (IsShardError hash.now) }
+    ensures error { IfErr result (IsShardFileError hash.now) }
     ensures frame { Unchanged D.files D.tells D.faults disk.old disk.new }
 {
     if compute_data_hash(bytes) != *hash {
@@ -100,11 +100,11 @@ fn check_block<D: Disk>(
     table: &mut XorbTable,
 ) -> Result<(), StoreError>
     ensures holds { OnOk result (Knows (D.tells disk.old) (D.files disk.old) folder.now table.old → BlockHolds (D.files disk.old) folder.now shard.now block.now) }
-    ensures there { OnOk result (IsInTable table.new (xorb_hash block.now)) }
-    ensures grows { Grows (λ h. h ≡ xorb_hash block.now) table.old table.new }
+    ensures there { OnOk result (IsInTable table.new (xorb_record_hash block.now)) }
+    ensures grows { Grows (λ h. h ≡ xorb_record_hash block.now) table.old table.new }
     ensures knows { Knows (D.tells disk.old) (D.files disk.old) folder.now table.old → Knows (D.tells disk.new) (D.files disk.new) folder.now table.new }
     ensures refused { IfErr result (IsShardCheckError (Knows (D.tells disk.old) (D.files disk.old) folder.now table.old) (BlockFails (D.files disk.old) folder.now shard.now block.now) (D.faults disk.old) (D.faults disk.new)) }
-    ensures error { IfErr result (IsShardError shard.now) }
+    ensures error { IfErr result (IsShardFileError shard.now) }
     ensures frame { Unchanged D.files D.tells D.faults disk.old disk.new }
 {
     let hash = block.hash();
@@ -126,12 +126,12 @@ fn check_blocks<D: Disk>(
     table: &mut XorbTable,
 ) -> Result<(), StoreError>
     ensures holds { OnOk result (Knows (D.tells disk.old) (D.files disk.old) folder.now table.old → AllByRecursion (BlockHolds (D.files disk.old) folder.now shard.now) blocks.now) }
-    ensures there { OnOk result (AllByRecursion (λ b. IsInTable table.new (xorb_hash b)) blocks.now) }
+    ensures there { OnOk result (AllByRecursion (λ b. IsInTable table.new (xorb_record_hash b)) blocks.now) }
     ensures grows { Grows (OfBlocks blocks.now) table.old table.new }
     ensures knows { Knows (D.tells disk.old) (D.files disk.old) folder.now table.old → Knows (D.tells disk.new) (D.files disk.new) folder.now table.new }
     ensures refused { IfErr result (IsShardCheckError (Knows (D.tells disk.old) (D.files disk.old) folder.now table.old)
         (FirstFails (BlockHolds (D.files disk.old) folder.now shard.now) (BlockFails (D.files disk.old) folder.now shard.now) blocks.now) (D.faults disk.old) (D.faults disk.new)) }
-    ensures error { IfErr result (IsShardError shard.now) }
+    ensures error { IfErr result (IsShardFileError shard.now) }
     ensures frame { Unchanged D.files D.tells D.faults disk.old disk.new }
 {
     for block in blocks {
@@ -157,7 +157,7 @@ fn add_segment<D: Disk>(
     ensures grows { Grows (λ h. h ≡ segment.now.xorb_hash) table.old table.new }
     ensures knows { Knows (D.tells disk.old) (D.files disk.old) folder.now table.old → Knows (D.tells disk.new) (D.files disk.new) folder.now table.new }
     ensures refused { IfErr result (IsShardCheckError (Knows (D.tells disk.old) (D.files disk.old) folder.now table.old) (SegmentFails (D.files disk.old) folder.now shard.now segment.now) (D.faults disk.old) (D.faults disk.new)) }
-    ensures error { IfErr result (IsShardError shard.now) }
+    ensures error { IfErr result (IsShardFileError shard.now) }
     ensures frame { Unchanged D.files D.tells D.faults disk.old disk.new }
 {
     let hash = segment.xorb_hash;
@@ -179,14 +179,14 @@ fn join_segments<D: Disk>(
     segments: &[FileDataSequenceEntry],
     table: &mut XorbTable,
 ) -> Result<Vec<(MerkleHash, u64)>, StoreError>
-    ensures joins { IfOk result (λ leaves. Knows (D.tells disk.old) (D.files disk.old) folder.now table.old → Joins (IsBacked (D.files disk.old) folder.now) (λ m. m.1) segments.now leaves.items) }
-    ensures listed { IfOk result (λ leaves. Joins (IsListed table.new) (λ m. m.1) segments.now leaves.items) }
+    ensures resolves { IfOk result (λ leaves. Knows (D.tells disk.old) (D.files disk.old) folder.now table.old → Resolves (IsBacked (D.files disk.old) folder.now) (λ m. m.1) segments.now leaves.items) }
+    ensures listed { IfOk result (λ leaves. Resolves (IsListed table.new) (λ m. m.1) segments.now leaves.items) }
     ensures total { IfOk result (λ leaves. total_len leaves.items ≡ segment_bytes segments.now) }
     ensures there { OnOk result (AllByRecursion (λ s. IsInTable table.new s.xorb_hash) segments.now) }
     ensures grows { Grows (OfSegments segments.now) table.old table.new }
     ensures knows { Knows (D.tells disk.old) (D.files disk.old) folder.now table.old → Knows (D.tells disk.new) (D.files disk.new) folder.now table.new }
     ensures refused { IfErr result (IsShardCheckError (Knows (D.tells disk.old) (D.files disk.old) folder.now table.old) (FirstFails (SegmentHolds (D.files disk.old) folder.now shard.now) (SegmentFails (D.files disk.old) folder.now shard.now) segments.now) (D.faults disk.old) (D.faults disk.new)) }
-    ensures error { IfErr result (IsShardError shard.now) }
+    ensures error { IfErr result (IsShardFileError shard.now) }
     ensures frame { Unchanged D.files D.tells D.faults disk.old disk.new }
 {
     let mut leaves = Vec::new(alloc);
@@ -212,7 +212,7 @@ fn check_file<D: Disk>(
     ensures grows { Grows (OfFile file.now) table.old table.new }
     ensures knows { Knows (D.tells disk.old) (D.files disk.old) folder.now table.old → Knows (D.tells disk.new) (D.files disk.new) folder.now table.new }
     ensures refused { IfErr result (IsShardCheckError (Knows (D.tells disk.old) (D.files disk.old) folder.now table.old) (FileFails (D.files disk.old) folder.now shard.now file.now) (D.faults disk.old) (D.faults disk.new)) }
-    ensures error { IfErr result (IsShardError shard.now) }
+    ensures error { IfErr result (IsShardFileError shard.now) }
     ensures frame { Unchanged D.files D.tells D.faults disk.old disk.new }
 {
     let segments = file.segments.as_slice();
@@ -231,7 +231,7 @@ fn has_file_hash(
     hash: &MerkleHash,
 ) -> Result<bool, StoreError>
     requires { total_len leaves.now < 2 ^ 64 }
-    ensures has { IfOk result (λ has. IsTrue has ↔ ((0 < length leaves.now) × (hash_of_file leaves.now ≡ hash.now))) }
+    ensures has { IfOk result (λ has. IsTrue has ↔ ((0 < length leaves.now) × (file_hash leaves.now ≡ hash.now))) }
     ensures memory { IsOkUnless result StoreError.OutOfMemory }
 {
     let found = file_hash(alloc, leaves)?;
@@ -254,7 +254,7 @@ fn check_files<D: Disk>(
     ensures grows { Grows (OfFiles files.now) table.old table.new }
     ensures knows { Knows (D.tells disk.old) (D.files disk.old) folder.now table.old → Knows (D.tells disk.new) (D.files disk.new) folder.now table.new }
     ensures refused { IfErr result (IsShardCheckError (Knows (D.tells disk.old) (D.files disk.old) folder.now table.old) (FirstFails (FileHolds (D.files disk.old) folder.now shard.now) (FileFails (D.files disk.old) folder.now shard.now) files.now) (D.faults disk.old) (D.faults disk.new)) }
-    ensures error { IfErr result (IsShardError shard.now) }
+    ensures error { IfErr result (IsShardFileError shard.now) }
     ensures frame { Unchanged D.files D.tells D.faults disk.old disk.new }
 {
     for file in files {

@@ -2,12 +2,12 @@
 
 ghost use Rattle.std.specs.List.{AllByRecursion};
 ghost use Rattle.std.specs.Prelude.{◌≡◌, ◌≢◌, ◌≤◌, [], true, AllPairs, IfErr, IfOk, IsOkUnless, OnErr, OnOk};
-ghost use Rattle.xet_folder.specs.Contents.{HasContents, IsRecord, IsUnadmitted};
+ghost use Rattle.xet_folder.specs.Contents.{HasContents, IsRecord, IsFolderError};
 ghost use Rattle.xet_folder.specs.Gathering.{with_first};
 ghost use Rattle.xet_folder.specs.Xorbs.{AreBacked};
 ghost use Rattle.xet_io.specs.Frame.{Unchanged};
 ghost use Rattle.xet_shard_file.specs.Names.{IsHash};
-ghost use Rattle.xet_shard_format.specs.Records.{file_hash};
+ghost use Rattle.xet_shard_format.specs.Records.{file_record_hash};
 
 use crate::gathering::gather_shards;
 use crate::recorded::RecordedFile;
@@ -50,7 +50,7 @@ impl RecordTable {
     /// Adds the record of a file, unless the file has one. The only error is `OutOfMemory`; then nothing has
     /// changed.
     pub fn add_first(&mut self, file: MDBFileInfo) -> Result<(), StoreError>
-        ensures added { OnOk result (self.new ≡ with_first self.old (file_hash file, file)) }
+        ensures added { OnOk result (self.new ≡ with_first self.old (file_record_hash file, file)) }
         ensures kept { OnErr result (self.new ≡ self.old) }
         ensures memory { IsOkUnless result StoreError.OutOfMemory }
     {
@@ -89,7 +89,7 @@ pub struct Contents {
 
 /// Why a folder is rejected, or cannot be read.
 #[derive(Debug, Drop)]
-pub struct Unadmitted {
+pub struct FolderError {
     /// The error of the first check that fails, `OutOfMemory` or `Io(Disk)`.
     pub error: StoreError,
     /// The file name of the shard in which a check failed; none if no check did.
@@ -105,12 +105,12 @@ pub fn admit_folder<D: Disk>(
     alloc: Global,
     folder: &str,
     now: u64,
-) -> Result<Contents, Unadmitted>
+) -> Result<Contents, FolderError>
     ensures contents { D.tells disk.old ≡ true → IfOk result (HasContents (D.files disk.old) folder.now now) }
     ensures backed { D.tells disk.old ≡ true → IfOk result (λ c. AreBacked (D.files disk.old) folder.now c.xorbs) }
     ensures recorded { IfOk result (λ c. AllByRecursion (IsRecord c.xorbs) c.records) }
     ensures hashes { IfOk result (λ c. AllByRecursion IsHash c.shards) }
-    ensures refused { IfErr result (λ u. IsUnadmitted (D.tells disk.old) (D.files disk.old) folder.now now (D.faults disk.old) (D.faults disk.new) u.error u.name) }
+    ensures refused { IfErr result (λ u. IsFolderError (D.tells disk.old) (D.files disk.old) folder.now now (D.faults disk.old) (D.faults disk.new) u.error u.name) }
     ensures frame { Unchanged D.files D.tells D.faults disk.old disk.new }
 {
     match list_shards(disk, alloc, folder) {
@@ -122,6 +122,6 @@ pub fn admit_folder<D: Disk>(
                 records: gathered.records,
             })
         }
-        Err(error) => Err(Unadmitted { error, name: None }),
+        Err(error) => Err(FolderError { error, name: None }),
     }
 }

@@ -5,7 +5,7 @@ ghost use Rattle.std.specs.List.{AllByRecursion};
 ghost use Rattle.std.specs.Option.{option_map};
 ghost use Rattle.xet_io.specs.Disk.{File, bytes_at, file, file_at};
 ghost use Rattle.xet_folder.specs.Admission.{ShardFails};
-ghost use Rattle.xet_shard_file.specs.Errors.{IsShardCheckError, EndsFail, IsShardError};
+ghost use Rattle.xet_shard_file.specs.Errors.{IsShardCheckError, EndsFail, IsShardFileError};
 ghost use Rattle.xet_folder.specs.Checks.{Knows};
 ghost use Rattle.xet_folder.specs.Contents.{IsRecord, listed_of};
 ghost use Rattle.xet_shard_file.specs.Entries.{entry_of, is_valid};
@@ -15,14 +15,14 @@ ghost use Rattle.xet_shard_file.specs.Shards.{IsThere, ShardFile, is_expired};
 ghost use Rattle.xet_io.specs.Frame.{Unchanged};
 
 use crate::admission::admit_shard;
-use crate::contents::{RecordTable, Unadmitted};
+use crate::contents::{FolderError, RecordTable};
 use crate::xorbs::XorbTable;
 use std::alloc::Global;
 use xet_base::Text;
 use xet_codec::store_error;
 use xet_hash::{MerkleHash, Place, StoreError};
 use xet_io::{Disk, read_file};
-use xet_shard_file::{ShardEntry, is_past_expiry, known_bytes, shard_path};
+use xet_shard_file::{ShardEntry, is_past_expiry, recall_bytes, shard_path};
 use xet_shard_format::{MDBFileInfo, read_footer, shard_file_name};
 
 /// What was collected from shards.
@@ -44,7 +44,7 @@ pub fn gather_shards<D: Disk>(
     folder: &str,
     now: u64,
     entries: &[ShardEntry],
-) -> Result<Gathered, Unadmitted>
+) -> Result<Gathered, FolderError>
     ensures gathered { D.tells disk.old ≡ true → IfOk result (λ g. (read : List ShardFile) → map entry_of read ≡ entries.now → All (IsThere (D.files disk.old) folder.now) read
         → IsGathered (D.files disk.old) folder.now (filter (is_valid now) read) (contents g)) }
     ensures recorded { IfOk result (λ g. AllByRecursion (IsRecord g.xorbs) g.records) }
@@ -74,7 +74,7 @@ fn gather_entry<D: Disk>(
     now: u64,
     hash: &MerkleHash,
     gathered: &mut Gathered,
-) -> Result<(), Unadmitted>
+) -> Result<(), FolderError>
     ensures gathered { D.tells disk.old ≡ true → OnOk result ((shards : List ShardFile) (f : File) → file_at (D.files disk.old) (shard_path folder.now hash.now) ≡ Some f
         → IsGathered (D.files disk.old) folder.now shards (contents gathered.old) → IsGathered (D.files disk.old) folder.now (with_valid now shards (as_shard_file hash.now f)) (contents gathered.new)) }
     ensures recorded { OnOk result (AllByRecursion (IsRecord gathered.old.xorbs) gathered.old.records → AllByRecursion (IsRecord gathered.new.xorbs) gathered.new.records) }
@@ -83,14 +83,14 @@ fn gather_entry<D: Disk>(
         (D.faults disk.old) (D.faults disk.new) u.error u.name) }
     ensures frame { Unchanged D.files D.tells D.faults disk.old disk.new }
 {
-    known_bytes(hash);
+    recall_bytes(hash);
     match read_valid(disk, alloc, folder, now, hash) {
         Ok(None) => Ok(()),
         Ok(Some(bytes)) => match gather_shard(disk, alloc, folder, hash, &bytes, gathered) {
             Ok(()) => Ok(()),
-            Err(error) => Err(unadmitted(alloc, hash, error)),
+            Err(error) => Err(folder_error(alloc, hash, error)),
         },
-        Err(error) => Err(unadmitted(alloc, hash, error)),
+        Err(error) => Err(folder_error(alloc, hash, error)),
     }
 }
 
@@ -109,12 +109,12 @@ fn gather_shard<D: Disk>(
     ensures hashes { OnOk result (AllByRecursion IsHash gathered.old.shards.items → AllByRecursion IsHash gathered.new.shards.items) }
     ensures refused { IfErr result (IsShardCheckError (Knows (D.tells disk.old) (D.files disk.old) folder.now gathered.old.xorbs)
         (λ e. (modified : ℕ) → ShardFails (D.files disk.old) folder.now (as_shard_file hash.now (file bytes.now modified)) e) (D.faults disk.old) (D.faults disk.new)) }
-    ensures error { IfErr result (IsShardError hash.now) }
+    ensures error { IfErr result (IsShardFileError hash.now) }
     ensures frame { Unchanged D.files D.tells D.faults disk.old disk.new }
 {
     let files = admit_shard(disk, alloc, folder, hash, bytes, &mut gathered.xorbs)?;
     add_files(files, &mut gathered.records)?;
-    known_bytes(hash);
+    recall_bytes(hash);
     gathered.shards.push(*hash)?;
     Ok(())
 }
@@ -142,7 +142,7 @@ fn read_valid<D: Disk>(
     ensures told { D.tells disk.old ≡ true → IfOk result (λ found. (bytes : List ℕ) → bytes_at (D.files disk.old) (shard_path folder.now hash.now) ≡ Some bytes → option_map (λ b. b.items) found ≡ valid_bytes now bytes) }
     ensures frame { Unchanged D.files D.tells D.faults disk.old disk.new }
     ensures refused { IfErr result (IsShardCheckError (D.tells disk.old ≡ true) (EndsFail (bytes_at (D.files disk.old) (shard_path folder.now hash.now))) (D.faults disk.old) (D.faults disk.new)) }
-    ensures error { IfErr result (IsShardError hash.now) }
+    ensures error { IfErr result (IsShardFileError hash.now) }
 {
     let path = shard_path(alloc, folder, hash)?;
     if is_past_expiry(disk, path.as_str(), now)? {
@@ -172,17 +172,17 @@ fn is_expired(bytes: &[u8], now: u64) -> bool
 
 /// The folder's error for an error of the shard with this hash. It has the file name of the shard, unless the
 /// disk failed or memory is out.
-fn unadmitted(alloc: Global, hash: &MerkleHash, error: StoreError) -> Unadmitted
+fn folder_error(alloc: Global, hash: &MerkleHash, error: StoreError) -> FolderError
     ensures { IsErrorOfShard hash.now error result.error result.name }
 {
     match error {
-        StoreError::OutOfMemory | StoreError::Io(Place::Disk) => Unadmitted { error, name: None },
+        StoreError::OutOfMemory | StoreError::Io(Place::Disk) => FolderError { error, name: None },
         _ => match shard_file_name(alloc, hash) {
-            Ok(name) => Unadmitted {
+            Ok(name) => FolderError {
                 error,
                 name: Some(Text::new(name)),
             },
-            Err(_) => Unadmitted {
+            Err(_) => FolderError {
                 error: StoreError::OutOfMemory,
                 name: None,
             },

@@ -15,7 +15,7 @@ mod verifying;
 mod xorbs;
 
 pub use admission::admit_shard;
-pub use contents::{Contents, RecordTable, Unadmitted, admit_folder};
+pub use contents::{Contents, FolderError, RecordTable, admit_folder};
 pub use ends::ends_below;
 pub use leaves::{Leaves, lies_in};
 pub use names::xorb_path;

@@ -13,7 +13,7 @@ use crate::names::xorb_path;
 use std::alloc::Global;
 use xet_hash::{MerkleHash, StoreError};
 use xet_io::Disk;
-use xet_shard_file::{known_bytes, put_named_file, put_shard_file};
+use xet_shard_file::{put_named_file, put_shard_file, recall_bytes};
 
 /// Writes the bytes of a xorb under its name, durable. After an error, the file under that name is as it was,
 /// or the write has completed. What may be left under the temporary name is neither a xorb's file nor a
@@ -36,7 +36,7 @@ pub fn put_xorb<D: Disk>(
     ensures frame { Stays D.tells D.faults disk.old disk.new }
     ensures reason { IfErr result (HasDiskReason (D.faults disk.old) (D.faults disk.new)) }
 {
-    known_bytes(hash);
+    recall_bytes(hash);
     let path = xorb_path(alloc, folder, hash)?;
     put_named_file(disk, alloc, path.as_str(), encoding)
 }
@@ -62,6 +62,6 @@ pub fn put_shard<D: Disk>(
     ensures frame { Stays D.tells D.faults disk.old disk.new }
     ensures reason { IfErr result (HasDiskReason (D.faults disk.old) (D.faults disk.new)) }
 {
-    known_bytes(hash);
+    recall_bytes(hash);
     put_shard_file(disk, alloc, folder, hash, encoding)
 }

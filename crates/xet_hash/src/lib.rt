@@ -12,7 +12,7 @@ mod maps;
 mod merkle;
 mod open_chunk;
 mod range;
-mod slots;
+mod value_stack;
 
 pub use data_hash::{
     DataHash, HMACKey, MDB_SHARD_GLOBAL_DEDUP_CHUNK_MODULUS, MerkleHash,

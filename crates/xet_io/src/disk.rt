@@ -168,7 +168,7 @@ fn read_behind<D: Disk>(
     requires room { filled < length buf.old }
     requires fits { at + length buf.old < 2 ^ 64 }
     ensures told { D.tells disk.old ≡ true → IfOk result (ReadsAt (file_at (D.files disk.old) name.now) (at + filled) (drop filled buf.new)) }
-    ensures prefix { take filled buf.new ≡ take filled buf.old }
+    ensures before { take filled buf.new ≡ take filled buf.old }
     ensures bound { IfOk result (λ found. IfSome found (λ count. filled + count ≤ length buf.new)) }
     ensures frame { Queried D.files D.tells D.faults disk.old disk.new (IsErrOf result Refusal.Failed) }
 {

@@ -15,7 +15,7 @@ use xet_base::Text;
 
 /// An entry: the file of a name, if there is one, and whether a crash keeps this.
 #[derive(Debug, Drop)]
-pub(crate) struct Held {
+pub(crate) struct NameState {
     pub(crate) file: Option<HeldFile>,
     pub(crate) durable: bool,
 }
@@ -27,7 +27,7 @@ pub(crate) struct HeldFile {
     pub(crate) modified: u64,
 }
 
-pub(crate) type Names = BTreeMap<String, Held>;
+pub(crate) type Names = BTreeMap<String, NameState>;
 
 /// The file of a name, if it exists.
 pub(crate) fn held_file<'a>(names: &'a Names, name: &str) -> Option<&'a HeldFile>
@@ -94,7 +94,7 @@ fn hold_absent(names: &mut Names, alloc: Global, name: &str) -> Result<(), Refus
     ensures refused { IfErr result (λ e. e ≡ Refusal.OutOfMemory) }
 {
     let key = String::from_str(alloc, name)?;
-    let absent = Held {
+    let absent = NameState {
         file: None,
         durable: false,
     };
@@ -137,7 +137,7 @@ fn list_name(
     alloc: Global,
     folder: &str,
     name: &str,
-    held: &Held,
+    held: &NameState,
 ) -> Result<(), Refusal>
     ensures more { OnOk result ((files : Files) → get files name.now ≡ None → ListsFolder files folder.now listed.old.items → ListsFolder (insert files name.now (memory_entry held.now)) folder.now listed.new.items) }
     ensures refused { IfErr result (λ e. e ≡ Refusal.OutOfMemory) }

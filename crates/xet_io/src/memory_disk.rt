@@ -13,7 +13,7 @@ use crate::count::{Count, Op, Plan};
 use crate::disk::{Disk, DiskEntry};
 use crate::fault::Refusal;
 use crate::held::{
-    Held, HeldFile, Names, held_file, hold_name, is_there, list_folder, make_durable,
+    HeldFile, NameState, Names, held_file, hold_name, is_there, list_folder, make_durable,
     make_not_durable, move_held,
 };
 use crate::slices::copy_part;
@@ -179,7 +179,7 @@ impl Disk for MemoryDisk {
         }
         let key = String::from_str(self.alloc, name)?;
         let bytes = Vec::from_slice(self.alloc, bytes)?;
-        let held = Held {
+        let held = NameState {
             file: Some(HeldFile { bytes, modified }),
             durable: false,
         };

@@ -16,10 +16,10 @@ use Rattle.xet_shard_format.specs.declared.row.Row.{Row}
 use Rattle.xet_shard.specs.Held.{record_of}
 use Rattle.xet_shard.specs.Bisection.{Bisects}
 use Rattle.xet_shard_format.specs.Lookups.{Lookups, chunk_items, chunks_from, file_items, heads_from, place_cmp, lookup_rows_from, xorb_items}
-use Rattle.xet_shard.specs.Queries.{block_at, chunk_place, chunk_table, fewer_than_eight, file_after, file_in, file_items_from, file_table, first_file, found_file, found_run, has_head, kept_hash, last_of, place_before, query_word, read_in_row, rows_from, rows_of, run_in, run_of_word, file_in_shard, shard_run, shard_run_at, tells_row, told_run, xorb_table}
+use Rattle.xet_shard.specs.Queries.{block_at, chunk_place, chunk_table, fewer_than_eight, file_after, file_in, file_items_from, file_table, first_file, found_file, found_run, has_head, kept_hash, last_of, place_before, query_word, read_in_row, rows_from, rows_of, run_in, run_of_word, file_in_shard, shard_run, shard_run_at, tells_row, direct_run, xorb_table}
 use Rattle.xet_codec.specs.Parsing.{◌>>=◌}
 use Rattle.xet_shard_format.specs.Reading.{file_record_at, file_row_count, xorb_at, xorb_row_count}
-use Rattle.xet_shard_format.specs.Records.{AreRecords, IsFile, IsXorb, file_hash, file_head, file_rest, file_rows, first_word, section, xorb_hash, xorb_head, xorb_rest, xorb_rows}
+use Rattle.xet_shard_format.specs.Records.{AreRecords, IsFile, IsXorb, file_record_hash, file_head, file_rest, file_rows, first_word, section, xorb_record_hash, xorb_head, xorb_rest, xorb_rows}
 use Rattle.xet_shard_format.specs.Rows.{rows_in}
 use Rattle.xet_shard.specs.Runs.{run_after, run_at}
 use Rattle.xet_shard_format.specs.Encoding.{Fits, IsShard, Shard, footer_of, shard_bytes}
@@ -67,22 +67,22 @@ module _ {X : Type 0} (hash : X → List ℕ) (head : X → Row) (others : X →
 
 module _ (f : MDBShardFileFooter) (h bytes : List ℕ) where
   -- an item of the look-up whose file was read
-  first_step : (word w row : ℕ) (x : MDBFileInfo) (items : List (ℕ × ℕ)) (found : Option MDBFileInfo) → (h ≡ file_hash x → w ≡ word) → file_in f row bytes ≡ Ok x → first_file f h (rows_of word items) bytes ≡ Ok found
-      → first_file f h (rows_of word ((w, row) ∷ items)) bytes ≡ Ok (if pointwise nat_eq h (file_hash x) then Some x else found)
+  first_step : (word w row : ℕ) (x : MDBFileInfo) (items : List (ℕ × ℕ)) (found : Option MDBFileInfo) → (h ≡ file_record_hash x → w ≡ word) → file_in f row bytes ≡ Ok x → first_file f h (rows_of word items) bytes ≡ Ok found
+      → first_file f h (rows_of word ((w, row) ∷ items)) bytes ≡ Ok (if pointwise nat_eq h (file_record_hash x) then Some x else found)
   unfolding first_file
-  first_step word w row x items found same there others = elim (cases_Bool (pointwise nat_eq h (file_hash x))) [
-    | inl is ↦ rw (eq-eqb w word (same ((bytes_decides h (file_hash x)).0 is)), there, is) refl
+  first_step word w row x items found same there others = elim (cases_Bool (pointwise nat_eq h (file_record_hash x))) [
+    | inl is ↦ rw (eq-eqb w word (same ((bytes_decides h (file_record_hash x)).0 is)), there, is) refl
     | inr other ↦ elim (cases_Bool (eqb w word)) [
       | inl e ↦ rw (e, there, other) others
       | inr e ↦ rw (e, other) others
     ]
   ]
 
-  first_again : (at : ℕ) (files : List MDBFileInfo) → Each file_rows (λ r x. file_in f r bytes ≡ Ok x) at files → first_file f h (rows_of (first_word h) (heads_from file_hash file_rows at files)) bytes ≡ Ok (record_of file_hash h files)
+  first_again : (at : ℕ) (files : List MDBFileInfo) → Each file_rows (λ r x. file_in f r bytes ≡ Ok x) at files → first_file f h (rows_of (first_word h) (heads_from file_record_hash file_rows at files)) bytes ≡ Ok (record_of file_record_hash h files)
   unfolding first_file heads_from
   first_again at [] there = refl
   first_again at (x ∷ xs) there =
-      first_step (first_word h) (first_word (file_hash x)) at x (heads_from file_hash file_rows (at + length (file_rows x)) xs) (record_of file_hash h xs) (λ e. ap first_word (sym e)) there.0 (first_again (at + length (file_rows x)) xs there.1)
+      first_step (first_word h) (first_word (file_record_hash x)) at x (heads_from file_record_hash file_rows (at + length (file_rows x)) xs) (record_of file_record_hash h xs) (λ e. ap first_word (sym e)) there.0 (first_again (at + length (file_rows x)) xs there.1)
 
 -- the file among these rows, where they are fewer than eight
 abbrev file_among : MDBShardFileFooter → List ℕ → List ℕ → List ℕ → Result (Option MDBFileInfo) StoreError
@@ -109,18 +109,18 @@ abbrev RunsAt : MDBShardFileFooter → List ℕ → ℕ → MDBXorbInfo → Type
 RunsAt f bytes row x = (query : List (List ℕ)) (place : ℕ) → run_in f query row place bytes ≡ Ok (run_at (map (kept_hash f.chunk_hash_hmac_key) query) x place)
 
 module _ (f : MDBShardFileFooter) (query : List (List ℕ)) (row place : ℕ) (bytes : List ℕ) where
-  told_again : (at : ℕ) (xs : List MDBXorbInfo) → Each xorb_rows (RunsAt f bytes) at xs
-      → (if list_any (λ i. i.1 == row) (heads_from xorb_hash xorb_rows at xs) then run_in f query row place bytes else Ok None) ≡ Ok (elim (block_at row at xs) [ None ↦ None | Some block ↦ run_at (map (kept_hash f.chunk_hash_hmac_key) query) block place ])
+  direct_again : (at : ℕ) (xs : List MDBXorbInfo) → Each xorb_rows (RunsAt f bytes) at xs
+      → (if list_any (λ i. i.1 == row) (heads_from xorb_record_hash xorb_rows at xs) then run_in f query row place bytes else Ok None) ≡ Ok (elim (block_at row at xs) [ None ↦ None | Some block ↦ run_at (map (kept_hash f.chunk_hash_hmac_key) query) block place ])
   unfolding heads_from block_at
-  told_again at [] there = refl
-  told_again at (x ∷ xs) there = elim (cases_Bool (eqb row at)) [
+  direct_again at [] there = refl
+  direct_again at (x ∷ xs) there = elim (cases_Bool (eqb row at)) [
     | inl e ↦
         let is : row ≡ at = eqb-true row at e in
         let read : run_in f query row place bytes ≡ Ok (run_at (map (kept_hash f.chunk_hash_hmac_key) query) x place) = ap (λ (r : ℕ). run_in f query r place bytes) is ∙ there.0 query place in
         rw (e, eq-eqb at row (sym is), read) refl
     | inr e ↦
         let ne : at ≢ row = λ is. eqb-false row at e (sym is) in
-        rw (e, ne_eqb at row ne) (told_again (at + length (xorb_rows x)) xs there.1)
+        rw (e, ne_eqb at row ne) (direct_again (at + length (xorb_rows x)) xs there.1)
   ]
 
 -- ---- runs
@@ -194,18 +194,18 @@ module _ (w : Lookups) (s : Shard) (form : IsShard s) (fits : Fits s) where
   files_there : Each file_rows (λ r x. file_in foot r encoding ≡ Ok x) 0 s.files
   files_there =
       let p = encoding_placed w s form fits in
-      let all = section_takes file_record_at file_hash file_head file_rest IsFile files_reading (file_row_count foot) None (rows_in (file_row_count foot) (drop foot.file_info_offset encoding)) s.files (encoding_checked w s form fits).files in
+      let all = section_takes file_record_at file_record_hash file_head file_rest IsFile files_reading (file_row_count foot) None (rows_in (file_row_count foot) (drop foot.file_info_offset encoding)) s.files (encoding_checked w s form fits).files in
       let count = file_row_count foot in
       let one = row_read file_after file_head file_rest IsFile (λ x. x) (λ x rest form. ap (λ (r : Result (MDBFileInfo × List Row) StoreError). r >>= λ y. Ok y.0) (files_reading.again x rest form)) foot.file_info_offset count encoding p.few_files
       (omega (arith, p.xorbs, p.file_lookup, p.xorb_lookup, p.chunk_lookup, p.footer, p.end)) in
       subst (λ (r : Result ℕ StoreError). Each file_rows (λ k x. (r >>= λ n. read_in_row file_after foot.file_info_offset n k encoding) ≡ Ok x) 0 s.files) (sym (count_whole foot.file_info_offset foot.xorb_info_offset p.xorbs))
-      (each_there file_hash file_head file_rest IsFile (λ k x. read_in_row file_after foot.file_info_offset count k encoding ≡ Ok x) count (rows_in count (drop foot.file_info_offset encoding)) one 0 None s.files all.0
+      (each_there file_record_hash file_head file_rest IsFile (λ k x. read_in_row file_after foot.file_info_offset count k encoding ≡ Ok x) count (rows_in count (drop foot.file_info_offset encoding)) one 0 None s.files all.0
       (omega (arith, ap length all.0, length-rows_in count (drop foot.file_info_offset encoding))) all.1)
 
   blocks_there : Each xorb_rows (RunsAt foot encoding) 0 s.blocks
   blocks_there =
       let p = encoding_placed w s form fits in
-      let all = section_takes xorb_at xorb_hash xorb_head xorb_rest IsXorb xorbs_reading (xorb_row_count foot) None (rows_in (xorb_row_count foot) (drop foot.xorb_info_offset encoding)) s.blocks (encoding_checked w s form fits).blocks in
+      let all = section_takes xorb_at xorb_record_hash xorb_head xorb_rest IsXorb xorbs_reading (xorb_row_count foot) None (rows_in (xorb_row_count foot) (drop foot.xorb_info_offset encoding)) s.blocks (encoding_checked w s form fits).blocks in
       let count = xorb_row_count foot in
       let counted = count_whole foot.xorb_info_offset foot.file_lookup_offset p.file_lookup in
       let one : (row : ℕ) (x : MDBXorbInfo) (rest : List Row) → row < count → drop row (rows_in count (drop foot.xorb_info_offset encoding)) ≡ xorb_head x ∷ (xorb_rest x ++ rest) → IsXorb x → RunsAt foot encoding row x =
@@ -214,7 +214,7 @@ module _ (w : Lookups) (s : Shard) (form : IsShard s) (fits : Fits s) where
       ap (λ (r : Result ℕ StoreError). r >>= λ n. read_in_row (run_after ks place) foot.xorb_info_offset n row encoding) counted
       ∙ row_read (run_after ks place) xorb_head xorb_rest IsXorb (λ x. run_at ks x place) (λ x rest form. run_taken ks place x rest form) foot.xorb_info_offset count encoding p.few_xorbs
       (omega (arith, p.file_lookup, p.xorb_lookup, p.chunk_lookup, p.footer, p.end)) row x rest below is form in
-      each_there xorb_hash xorb_head xorb_rest IsXorb (RunsAt foot encoding) count (rows_in count (drop foot.xorb_info_offset encoding)) one 0 None s.blocks all.0 (omega (arith, ap length all.0, length-rows_in count (drop foot.xorb_info_offset encoding))) all.1
+      each_there xorb_record_hash xorb_head xorb_rest IsXorb (RunsAt foot encoding) count (rows_in count (drop foot.xorb_info_offset encoding)) one 0 None s.blocks all.0 (omega (arith, ap length all.0, length-rows_in count (drop foot.xorb_info_offset encoding))) all.1
 
   key_again : foot.chunk_hash_hmac_key ≡ s.key
   unfolding footer_of
@@ -253,11 +253,11 @@ module _ (w : Lookups) (s : Shard) (form : IsShard s) (fits : Fits s) where
         (ap (tells_row row index) there ∙ row_told row 0 index (xorb_items s.blocks) (xorb_rows_rise s.blocks) (subst (λ (is : List (ℕ × ℕ)). Bisects (λ i. nat_lt i.1 row) is index) there b))
   ]
 
-  pub told_run_again : (query : List (List ℕ)) (row place index : ℕ) → Bisects (λ i. nat_lt i.1 row) (xorb_table foot encoding) index → told_run foot query row place index encoding ≡ Ok (elim query [ [] ↦ None | h ∷ hs ↦ shard_run_at s (h ∷ hs) row place ])
-  unfolding told_run
-  told_run_again [] row place index b = refl
-  told_run_again (h ∷ hs) row place index b =
-      let read = told_again foot (h ∷ hs) row place encoding 0 s.blocks blocks_there in
+  pub direct_run_again : (query : List (List ℕ)) (row place index : ℕ) → Bisects (λ i. nat_lt i.1 row) (xorb_table foot encoding) index → direct_run foot query row place index encoding ≡ Ok (elim query [ [] ↦ None | h ∷ hs ↦ shard_run_at s (h ∷ hs) row place ])
+  unfolding direct_run
+  direct_run_again [] row place index b = refl
+  direct_run_again (h ∷ hs) row place index b =
+      let read = direct_again foot (h ∷ hs) row place encoding 0 s.blocks blocks_there in
       rw (head_again row index b) (read ∙ ap (λ (key : List ℕ). Ok (elim (block_at row 0 s.blocks) [ None ↦ None | Some block ↦ run_at (map (kept_hash key) (h ∷ hs)) block place ])) key_again)
 
   chunk_again : (word index : ℕ) → Bisects (λ i. nat_le i.0 word) (chunk_table foot encoding) index → chunk_place foot word index encoding ≡ Ok (last_of word (chunk_items s.blocks))

@@ -11,9 +11,9 @@ use Rattle.xet_shard_format.specs.declared.header_footer.MDBShardFileFooter.{MDB
 use Rattle.xet_shard_format.specs.declared.record.FileDataSequenceEntry.{FileDataSequenceEntry}
 use Rattle.xet_shard_format.specs.declared.record.MDBFileInfo.{MDBFileInfo}
 use Rattle.xet_shard_format.specs.Lookups.{flat_places}
-use Rattle.xet_shard.specs.Queries.{file_in, first_file, found_file, found_run, kept_hash, rows_of, run_in, run_of_word, told_run, chunk_place, file_items_from, has_head, query_word, last_of}
+use Rattle.xet_shard.specs.Queries.{file_in, first_file, found_file, found_run, kept_hash, rows_of, run_in, run_of_word, direct_run, chunk_place, file_items_from, has_head, query_word, last_of}
 use Rattle.xet_codec.specs.Parsing.{◌>>=◌, GivesUnlessFault}
-use Rattle.xet_shard_format.specs.Records.{file_hash, first_word}
+use Rattle.xet_shard_format.specs.Records.{file_record_hash, first_word}
 use Rattle.xet_shard.proofs.Faulting.{fault_on}
 
 abbrev Run : Type 0
@@ -27,7 +27,7 @@ Found = Result (Option MDBFileInfo) StoreError
 module _ (f : MDBShardFileFooter) (h : List ℕ) (word : ℕ) (bytes : List ℕ) where
   -- what is found at the row of one item, where it has the word
   abbrev at_row : ℕ → Found
-  at_row row = file_in f row bytes >>= λ x. if pointwise nat_eq h (file_hash x) then Ok (Some x) else Ok None
+  at_row row = file_in f row bytes >>= λ x. if pointwise nat_eq h (file_record_hash x) then Ok (Some x) else Ok None
 
   abbrev by_items : List (ℕ × ℕ) → Found
   by_items items = first_file f h (rows_of word items) bytes
@@ -46,12 +46,12 @@ module _ (f : MDBShardFileFooter) (h : List ℕ) (word : ℕ) (bytes : List ℕ)
 
   pub file_fails : (i : ℕ × ℕ) (e : StoreError) → i.0 ≡ word → GivesUnlessFault {X = MDBFileInfo} (λ x. x) (Err e) (file_in f i.1 bytes) → GivesUnlessFault {X = Option MDBFileInfo} (λ x. x) (Err e) (by_items (i ∷ []))
   file_fails i e is gives =
-      subst (λ (r : Found). GivesUnlessFault {X = Option MDBFileInfo} (λ x. x) (Err e) r) (sym (same_word i is)) (fault_on {A = MDBFileInfo} (λ x. x) (λ x. x) e (file_in f i.1 bytes) (λ x. if pointwise nat_eq h (file_hash x) then Ok (Some x) else Ok None) gives)
+      subst (λ (r : Found). GivesUnlessFault {X = Option MDBFileInfo} (λ x. x) (Err e) r) (sym (same_word i is)) (fault_on {A = MDBFileInfo} (λ x. x) (λ x. x) e (file_in f i.1 bytes) (λ x. if pointwise nat_eq h (file_record_hash x) then Ok (Some x) else Ok None) gives)
 
-  pub file_found : (i : ℕ × ℕ) (x : MDBFileInfo) (k : List ℕ) → i.0 ≡ word → file_in f i.1 bytes ≡ Ok x → k ≡ file_hash x → pointwise nat_eq h k ≡ true → by_items (i ∷ []) ≡ Ok (Some x)
+  pub file_found : (i : ℕ × ℕ) (x : MDBFileInfo) (k : List ℕ) → i.0 ≡ word → file_in f i.1 bytes ≡ Ok x → k ≡ file_record_hash x → pointwise nat_eq h k ≡ true → by_items (i ∷ []) ≡ Ok (Some x)
   file_found i x k is e hash same = same_word i is ∙ rw e (ap (λ (b : Bool). if b then Ok (Some x) else Ok None) (ap (pointwise nat_eq h) (sym hash) ∙ same))
 
-  pub file_other : (i : ℕ × ℕ) (x : MDBFileInfo) (k : List ℕ) → i.0 ≡ word → file_in f i.1 bytes ≡ Ok x → k ≡ file_hash x → pointwise nat_eq h k ≡ false → by_items (i ∷ []) ≡ Ok None
+  pub file_other : (i : ℕ × ℕ) (x : MDBFileInfo) (k : List ℕ) → i.0 ≡ word → file_in f i.1 bytes ≡ Ok x → k ≡ file_record_hash x → pointwise nat_eq h k ≡ false → by_items (i ∷ []) ≡ Ok None
   file_other i x k is e hash other = same_word i is ∙ rw e (ap (λ (b : Bool). if b then Ok (Some x) else Ok None) (ap (pointwise nat_eq h) (sym hash) ∙ other))
 
   first_next : (i : ℕ × ℕ) (is : List (ℕ × ℕ)) → by_items (i ∷ is) ≡ (by_items (i ∷ []) >>= or_else (by_items is))
@@ -62,8 +62,8 @@ module _ (f : MDBShardFileFooter) (h : List ℕ) (word : ℕ) (bytes : List ℕ)
       checked x true = refl
       checked x false = refl
 
-      read : (r : Result MDBFileInfo StoreError) → (r >>= λ x. if pointwise nat_eq h (file_hash x) then Ok (Some x) else by_items is) ≡ ((r >>= λ x. if pointwise nat_eq h (file_hash x) then Ok (Some x) else Ok None) >>= or_else (by_items is))
-      read (Ok x) = checked x (pointwise nat_eq h (file_hash x))
+      read : (r : Result MDBFileInfo StoreError) → (r >>= λ x. if pointwise nat_eq h (file_record_hash x) then Ok (Some x) else by_items is) ≡ ((r >>= λ x. if pointwise nat_eq h (file_record_hash x) then Ok (Some x) else Ok None) >>= or_else (by_items is))
+      read (Ok x) = checked x (pointwise nat_eq h (file_record_hash x))
       read (Err e) = refl
 
       by : (b : Bool) (r : Result MDBFileInfo StoreError) → first_file f h (map (λ j. j.1) (if b then i ∷ filter (λ j. j.0 == word) is else filter (λ j. j.0 == word) is)) bytes ≡ (first_file f h (map (λ j. j.1) (if b then i ∷ [] else [])) bytes >>= or_else (by_items is))
@@ -172,19 +172,19 @@ unfolding found_run
 run_first f [] h index bytes e = absurd cc
 run_first f (q ∷ qs) h index bytes e = refl
 
-pub told_empty : (f : MDBShardFileFooter) (query : List (List ℕ)) (row place index : ℕ) (bytes : List ℕ) → length query ≡ 0 → told_run f query row place index bytes ≡ Ok None
-unfolding told_run
-told_empty f [] row place index bytes e = refl
-told_empty f (h ∷ hs) row place index bytes e = absurd cc
+pub direct_run_empty : (f : MDBShardFileFooter) (query : List (List ℕ)) (row place index : ℕ) (bytes : List ℕ) → length query ≡ 0 → direct_run f query row place index bytes ≡ Ok None
+unfolding direct_run
+direct_run_empty f [] row place index bytes e = refl
+direct_run_empty f (h ∷ hs) row place index bytes e = absurd cc
 
 -- the run at a row that is told, by what the table said of the row
-pub told_by : (f : MDBShardFileFooter) (query : List (List ℕ)) (row place index : ℕ) (bytes : List ℕ) (there : Bool) → length query ≢ 0 → has_head f row index bytes ≡ Ok there
-    → (if there then run_in f query row place bytes else Ok None) ≡ told_run f query row place index bytes
-unfolding told_run
-told_by f [] row place index bytes there some e = absurd (some refl)
-told_by f (h ∷ hs) row place index bytes there some e = sym (rw e refl)
+pub direct_run_found : (f : MDBShardFileFooter) (query : List (List ℕ)) (row place index : ℕ) (bytes : List ℕ) (there : Bool) → length query ≢ 0 → has_head f row index bytes ≡ Ok there
+    → (if there then run_in f query row place bytes else Ok None) ≡ direct_run f query row place index bytes
+unfolding direct_run
+direct_run_found f [] row place index bytes there some e = absurd (some refl)
+direct_run_found f (h ∷ hs) row place index bytes there some e = sym (rw e refl)
 
-pub told_fails : {A : Type 0} (view : A → Bool) (f : MDBShardFileFooter) (query : List (List ℕ)) (row place index : ℕ) (bytes : List ℕ) (e : StoreError) → length query ≢ 0 → GivesUnlessFault view (Err e) (has_head f row index bytes) → GivesUnlessFault {X = Run} (λ x. x) (Err e) (told_run f query row place index bytes)
-unfolding told_run
-told_fails view f [] row place index bytes e some gives = absurd (some refl)
-told_fails view f (h ∷ hs) row place index bytes e some gives = fault_on view (λ x. x) e (has_head f row index bytes) _ gives
+pub direct_run_fails : {A : Type 0} (view : A → Bool) (f : MDBShardFileFooter) (query : List (List ℕ)) (row place index : ℕ) (bytes : List ℕ) (e : StoreError) → length query ≢ 0 → GivesUnlessFault view (Err e) (has_head f row index bytes) → GivesUnlessFault {X = Run} (λ x. x) (Err e) (direct_run f query row place index bytes)
+unfolding direct_run
+direct_run_fails view f [] row place index bytes e some gives = absurd (some refl)
+direct_run_fails view f (h ∷ hs) row place index bytes e some gives = fault_on view (λ x. x) e (has_head f row index bytes) _ gives

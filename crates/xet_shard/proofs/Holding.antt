@@ -8,8 +8,8 @@ use Rattle.std.specs.Map.{lookup, remove_entry, values_of}
 use Rattle.xet_shard_format.specs.declared.record.MDBFileInfo.{MDBFileInfo}
 use Rattle.xet_shard_format.specs.declared.record.MDBXorbInfo.{MDBXorbInfo}
 use Rattle.xet_shard.specs.Held.{DifferBy, Held, IsHeld, Keyed, held, nothing, record_of, with_last}
-use Rattle.xet_hash.specs.Hash.{marker}
-use Rattle.xet_shard_format.specs.Records.{IsFile, IsXorb, file_hash, file_section, xorb_hash, xorb_section}
+use Rattle.xet_hash.specs.Hash.{sentinel}
+use Rattle.xet_shard_format.specs.Records.{IsFile, IsXorb, file_record_hash, file_section, xorb_record_hash, xorb_section}
 use Rattle.xet_base.specs.theorems.Elements.{all_filtered, all_push}
 use Rattle.xet_shard.specs.theorems.Holding.{all_last, is_other}
 
@@ -87,24 +87,24 @@ module _ {X : Type 0} (hash : X → List ℕ) (old kept new : List (List ℕ × 
       ∙ ap (λ l. l ++ v ∷ []) (ap values_of removed ∙ values_removed hash h old keyed differ ∙ ap (λ k. filter (is_other hash k) (values_of old)) own)
 
 -- a shard in memory with one more record
-pub held_with_block : (h : Held) (block : MDBXorbInfo) → IsHeld h → IsXorb block → xorb_hash block ≢ marker
-    → length (xorb_section (with_last xorb_hash h.blocks block)) < 2 ^ 32 → IsHeld (held (with_last xorb_hash h.blocks block) h.files)
+pub held_with_block : (h : Held) (block : MDBXorbInfo) → IsHeld h → IsXorb block → xorb_record_hash block ≢ sentinel
+    → length (xorb_section (with_last xorb_record_hash h.blocks block)) < 2 ^ 32 → IsHeld (held (with_last xorb_record_hash h.blocks block) h.files)
 held_with_block h block is form hash few = record {
-  blocks = all_last (λ x. (xorb_hash x ≢ marker) × IsXorb x) xorb_hash h.blocks block is.blocks (hash, form);
+  blocks = all_last (λ x. (xorb_record_hash x ≢ sentinel) × IsXorb x) xorb_record_hash h.blocks block is.blocks (hash, form);
   files = is.files;
-  blocks_differ = differ_last xorb_hash h.blocks block is.blocks_differ;
+  blocks_differ = differ_last xorb_record_hash h.blocks block is.blocks_differ;
   files_differ = is.files_differ;
   few_blocks = few;
   few_files = is.few_files;
 }
 
-pub held_with_file : (h : Held) (file : MDBFileInfo) → IsHeld h → IsFile file → file_hash file ≢ marker
-    → length (file_section (with_last file_hash h.files file)) < 2 ^ 32 → IsHeld (held h.blocks (with_last file_hash h.files file))
+pub held_with_file : (h : Held) (file : MDBFileInfo) → IsHeld h → IsFile file → file_record_hash file ≢ sentinel
+    → length (file_section (with_last file_record_hash h.files file)) < 2 ^ 32 → IsHeld (held h.blocks (with_last file_record_hash h.files file))
 held_with_file h file is form hash few = record {
   blocks = is.blocks;
-  files = all_last (λ f. (file_hash f ≢ marker) × IsFile f) file_hash h.files file is.files (hash, form);
+  files = all_last (λ f. (file_record_hash f ≢ sentinel) × IsFile f) file_record_hash h.files file is.files (hash, form);
   blocks_differ = is.blocks_differ;
-  files_differ = differ_last file_hash h.files file is.files_differ;
+  files_differ = differ_last file_record_hash h.files file is.files_differ;
   few_blocks = is.few_blocks;
   few_files = few;
 }

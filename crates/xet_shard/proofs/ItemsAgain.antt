@@ -11,11 +11,11 @@ use Rattle.xet_shard_format.specs.declared.row.Row.{Row}
 use Rattle.xet_shard_format.specs.declared.record.MDBXorbInfo.{MDBXorbInfo}
 use Rattle.xet_shard_format.specs.declared.record.XorbChunkSequenceEntry.{XorbChunkSequenceEntry}
 use Rattle.xet_shard_format.specs.Lookups.{chunk_items, chunks_from, file_items, record_item_bytes, heads_from, record_items_bytes, place_cmp, chunk_item_bytes, lookup_rows_from, chunk_items_bytes, xorb_items}
-use Rattle.xet_shard_format.specs.Records.{chunk_row, file_hash, file_head, file_rest, file_section, first_word, section, xorb_hash, xorb_head, xorb_rest, xorb_rows, xorb_section}
+use Rattle.xet_shard_format.specs.Records.{chunk_row, file_record_hash, file_head, file_rest, file_section, first_word, section, xorb_record_hash, xorb_head, xorb_rest, xorb_rows, xorb_section}
 use Rattle.xet_shard_format.specs.Rows.{RowFits}
 use Rattle.xet_shard.specs.Sections.{heads_in, places_in}
 use Rattle.xet_shard_format.specs.Sorted.{put_in, sorted}
-use Rattle.xet_shard_format.specs.theorems.Bytes.{IsBytes, known_bytes}
+use Rattle.xet_shard_format.specs.theorems.Bytes.{IsBytes, all_are_bytes}
 use Rattle.xet_shard_format.specs.theorems.Counts.{length-section}
 use Rattle.xet_base.specs.theorems.Elements.{all_back, all_both, all_prefix}
 use Rattle.xet_shard_format.specs.theorems.SectionLaws.{section_cons}
@@ -56,14 +56,14 @@ module _ {X : Type 0} (hash : X → List ℕ) (head : X → Row) (others : X →
   heads_fit at (x ∷ xs) fits few =
       let all : AllByRecursion RowFits (rows x ++ section rows xs) = subst (AllByRecursion RowFits) (section_cons rows x xs) fits in
       let long = length-section rows x xs in
-      let word : first_word (hash x) < 2 ^ 64 = subst (λ (h : List ℕ). first_word h < 2 ^ 64) (hash_is x) (first_word_below (head x).hash (known_bytes (head x).hash all.0.hash.1)) in
+      let word : first_word (hash x) < 2 ^ 64 = subst (λ (h : List ℕ). first_word h < 2 ^ 64) (hash_is x) (first_word_below (head x).hash (all_are_bytes (head x).hash all.0.hash.1)) in
       ((word, omega (arith, few, long)), heads_fit (at + length (rows x)) xs (all_back RowFits (rows x) (section rows xs) all) (omega (arith, few, long)))
 
 places_fit : (row place : ℕ) (cs : List XorbChunkSequenceEntry) → AllByRecursion RowFits (map chunk_row cs) → row < 2 ^ 32 → place + length cs ≤ 2 ^ 32 → AllByRecursion PlaceFits (lookup_rows_from row place cs)
 unfolding lookup_rows_from
 places_fit row place [] fits low few = tt
 places_fit row place (c ∷ cs) fits low few =
-    ((first_word_below c.chunk_hash (known_bytes c.chunk_hash fits.0.hash.1), low, omega (arith, few)), places_fit row (place + 1) cs fits.1 low (omega (arith, few)))
+    ((first_word_below c.chunk_hash (all_are_bytes c.chunk_hash fits.0.hash.1), low, omega (arith, few)), places_fit row (place + 1) cs fits.1 low (omega (arith, few)))
 
 chunks_fit : (at : ℕ) (xs : List MDBXorbInfo) → AllByRecursion RowFits (xorb_section xs) → at + length (xorb_section xs) ≤ 2 ^ 32 → AllByRecursion PlaceFits (chunks_from at xs)
 unfolding chunks_from
@@ -89,10 +89,10 @@ sorted_all P cmp [] all = tt
 sorted_all P cmp (x ∷ xs) all = put_all P cmp x (sorted cmp xs) all.0 (sorted_all P cmp xs all.1)
 
 pub xorb_items_fit : (xs : List MDBXorbInfo) → AllByRecursion RowFits (xorb_section xs) → length (xorb_section xs) < 2 ^ 32 → AllByRecursion HeadFits (xorb_items xs)
-xorb_items_fit xs fits few = heads_fit xorb_hash xorb_head xorb_rest (λ x i. (xorb_head x).hash) 0 xs fits (omega (arith, few))
+xorb_items_fit xs fits few = heads_fit xorb_record_hash xorb_head xorb_rest (λ x i. (xorb_head x).hash) 0 xs fits (omega (arith, few))
 
 pub file_items_fit : (xs : List MDBFileInfo) → AllByRecursion RowFits (file_section xs) → length (file_section xs) < 2 ^ 32 → AllByRecursion HeadFits (file_items xs)
-file_items_fit xs fits few = heads_fit file_hash file_head file_rest (λ x i. (file_head x).hash) 0 xs fits (omega (arith, few))
+file_items_fit xs fits few = heads_fit file_record_hash file_head file_rest (λ x i. (file_head x).hash) 0 xs fits (omega (arith, few))
 
 pub chunk_items_fit : (xs : List MDBXorbInfo) → AllByRecursion RowFits (xorb_section xs) → length (xorb_section xs) < 2 ^ 32 → AllByRecursion PlaceFits (chunk_items xs)
 chunk_items_fit xs fits few = sorted_all PlaceFits place_cmp (chunks_from 0 xs) (chunks_fit 0 xs fits (omega (arith, few)))

@@ -6,7 +6,7 @@ use Rattle.std.proofs.lemmas.List.Sums.{sum_by-cons}
 use Rattle.xet_shard_format.specs.declared.record.MDBXorbInfo.{MDBXorbInfo}
 use Rattle.xet_shard_format.specs.declared.record.XorbChunkSequenceEntry.{XorbChunkSequenceEntry}
 use Rattle.xet_shard.specs.Export.{keyed_block, keyed_chunk}
-use Rattle.xet_shard_format.specs.Records.{AreRecords, IsXorb, StartAt, chunk_bytes, chunk_row, xorb_hash, xorb_rows, xorb_section}
+use Rattle.xet_shard_format.specs.Records.{AreRecords, IsXorb, StartAt, chunk_bytes, chunk_row, xorb_record_hash, xorb_rows, xorb_section}
 use Rattle.xet_shard_format.specs.theorems.Counts.{length-section}
 
 -- ---- one after the other
@@ -61,9 +61,9 @@ form_keyed key x form = record {
   on_disk = form.on_disk;
 }
 
-pub records_keyed : (key : List ℕ) (last : Option (List ℕ)) (blocks : List MDBXorbInfo) → AreRecords xorb_hash IsXorb last blocks → AreRecords xorb_hash IsXorb last (map (keyed_block key) blocks)
+pub records_keyed : (key : List ℕ) (last : Option (List ℕ)) (blocks : List MDBXorbInfo) → AreRecords xorb_record_hash IsXorb last blocks → AreRecords xorb_record_hash IsXorb last (map (keyed_block key) blocks)
 records_keyed key last [] r = tt
-records_keyed key last (x ∷ xs) r = (r.0, r.1, form_keyed key x r.2, records_keyed key (Some (xorb_hash x)) xs r.3)
+records_keyed key last (x ∷ xs) r = (r.0, r.1, form_keyed key x r.2, records_keyed key (Some (xorb_record_hash x)) xs r.3)
 
 length_rows : (x : MDBXorbInfo) → length (xorb_rows x) ≡ suc (length x.chunks)
 length_rows x = ap suc (length-map x.chunks chunk_row)

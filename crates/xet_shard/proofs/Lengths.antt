@@ -8,7 +8,7 @@ use Rattle.xet_shard_format.specs.declared.record.MDBXorbInfo.{MDBXorbInfo}
 use Rattle.xet_shard.specs.Held.{Held, by_hash, held_shard, held_size}
 use Rattle.xet_shard_format.specs.RecordSizes.{file_record_size, xorb_record_size}
 use Rattle.xet_shard_format.specs.Lookups.{all_lookups, chunk_items, chunks_from, file_items, record_item_bytes, record_items_bytes, chunk_item_bytes, chunk_items_bytes, xorb_items}
-use Rattle.xet_shard_format.specs.Records.{chunk_row, file_hash, file_rows, file_section, xorb_hash, xorb_rows, xorb_section}
+use Rattle.xet_shard_format.specs.Records.{chunk_row, file_record_hash, file_rows, file_section, xorb_record_hash, xorb_rows, xorb_section}
 use Rattle.xet_shard_format.specs.Rows.{rows_bytes}
 use Rattle.xet_shard_format.specs.Encoding.{Fits, Shard, footer_of, shard_footer_bytes, full_shard_bytes, shard_bytes}
 use Rattle.xet_hash.specs.Order.{hash_cmp}
@@ -41,8 +41,8 @@ length-full_shard_bytes s fits =
       length-items_encoding record_item_bytes 12 head_len (file_items s.files),
       length-items_encoding record_item_bytes 12 head_len (xorb_items s.blocks),
       length-items_encoding chunk_item_bytes 16 place_len (chunk_items s.blocks),
-      length-heads_from file_hash file_rows 0 s.files,
-      length-heads_from xorb_hash xorb_rows 0 s.blocks,
+      length-heads_from file_record_hash file_rows 0 s.files,
+      length-heads_from xorb_record_hash xorb_rows 0 s.blocks,
       length-footer_bytes (footer_of all_lookups s) fits.key.0,
     )
 
@@ -59,9 +59,9 @@ blocks_size at (x ∷ xs) =
 
 pub held_length : (h : Held) (creation : ℕ) (expiry : Option ℕ) → Fits (held_shard h creation expiry) → length (full_shard_bytes (held_shard h creation expiry)) ≡ held_size h
 held_length h creation expiry fits =
-    let blocks : List MDBXorbInfo = by_hash xorb_hash h.blocks in
-    let xorb_order = λ (x y : MDBXorbInfo). hash_cmp (xorb_hash x) (xorb_hash y) in
-    let file_order = λ (x y : MDBFileInfo). hash_cmp (file_hash x) (file_hash y) in
+    let blocks : List MDBXorbInfo = by_hash xorb_record_hash h.blocks in
+    let xorb_order = λ (x y : MDBXorbInfo). hash_cmp (xorb_record_hash x) (xorb_record_hash y) in
+    let file_order = λ (x y : MDBFileInfo). hash_cmp (file_record_hash x) (file_record_hash y) in
     omega (
       arith,
       length-full_shard_bytes (held_shard h creation expiry) fits,

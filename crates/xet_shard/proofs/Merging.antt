@@ -40,11 +40,11 @@ not_same : (a b : List ℕ) → a ≢ b → pointwise nat_eq a b ≡ false
 not_same a b ne = false_from_ne_true _ (λ e. ne ((bytes_decides a b).0 e))
 
 -- what a test of two hashes told
-pub told_other : (r : Bool) (a b a' b' : List ℕ) → r ≡ true → r ≡ not (pointwise nat_eq a b) → a ≡ a' → b ≡ b' → a' ≢ b'
-told_other r a b a' b' differ is ea eb e = true≢false (sym differ ∙ is ∙ ap not ((bytes_decides a b).1 (ea ∙ e ∙ sym eb)))
+pub hashes_differ : (r : Bool) (a b a' b' : List ℕ) → r ≡ true → r ≡ not (pointwise nat_eq a b) → a ≡ a' → b ≡ b' → a' ≢ b'
+hashes_differ r a b a' b' differ is ea eb e = true≢false (sym differ ∙ is ∙ ap not ((bytes_decides a b).1 (ea ∙ e ∙ sym eb)))
 
-pub told_same : (r : Bool) (a b a' b' : List ℕ) → r ≡ false → r ≡ not (pointwise nat_eq a b) → a ≡ a' → b ≡ b' → a' ≡ b'
-told_same r a b a' b' alike is ea eb = elim (cases_Bool (pointwise nat_eq a b)) [
+pub hashes_equal : (r : Bool) (a b a' b' : List ℕ) → r ≡ false → r ≡ not (pointwise nat_eq a b) → a ≡ a' → b ≡ b' → a' ≡ b'
+hashes_equal r a b a' b' alike is ea eb = elim (cases_Bool (pointwise nat_eq a b)) [
   | inl t ↦ sym ea ∙ (bytes_decides a b).0 t ∙ eb
   | inr f ↦ absurd (true≢false (sym (is ∙ ap not f) ∙ alike))
 ]

@@ -13,7 +13,7 @@ use Rattle.xet_shard_format.specs.Lookups.{Lookups, chunk_items, file_items, rec
 use Rattle.xet_shard.specs.internal.ReaderBytes.{piece_at}
 use Rattle.xet_codec.specs.Parsing.{◌>>=◌}
 use Rattle.xet_shard_format.specs.Reading.{IsPlaced, file_record_at, file_row_count, shard_footer_at, footer_in, lookup_at, places_at, section_at, xorb_at, xorb_row_count}
-use Rattle.xet_shard_format.specs.Records.{file_hash, xorb_hash}
+use Rattle.xet_shard_format.specs.Records.{file_record_hash, xorb_record_hash}
 use Rattle.xet_shard_format.specs.Rows.{rows_in}
 use Rattle.xet_codec.specs.Numbers.{word}
 use Rattle.xet_shard.specs.Sections.{blocks_in, chunk_lookup_in, files_in, heads_in, info_at, places_in, section_in, xorb_lookup_in}
@@ -101,10 +101,10 @@ module _ (w : Lookups) (s : Shard) (form : IsShard s) (fits : Fits s) where
   info_again = info_of encoding foot encoding_checked.header encoding_checked.footer
 
   pub files_again : files_in foot encoding ≡ Ok s.files
-  files_again = let p = encoding_placed in ap (λ (r : Result ℕ StoreError). r >>= λ n. section_in file_record_at file_hash foot.file_info_offset n encoding) (count_whole foot.file_info_offset foot.xorb_info_offset p.xorbs) ∙ section_there file_record_at file_hash foot.file_info_offset (file_row_count foot) encoding s.files p.few_files (omega (arith, p.xorbs, p.file_lookup, p.xorb_lookup, p.chunk_lookup, p.footer, p.end)) encoding_checked.files
+  files_again = let p = encoding_placed in ap (λ (r : Result ℕ StoreError). r >>= λ n. section_in file_record_at file_record_hash foot.file_info_offset n encoding) (count_whole foot.file_info_offset foot.xorb_info_offset p.xorbs) ∙ section_there file_record_at file_record_hash foot.file_info_offset (file_row_count foot) encoding s.files p.few_files (omega (arith, p.xorbs, p.file_lookup, p.xorb_lookup, p.chunk_lookup, p.footer, p.end)) encoding_checked.files
 
   pub blocks_again : blocks_in foot encoding ≡ Ok s.blocks
-  blocks_again = let p = encoding_placed in ap (λ (r : Result ℕ StoreError). r >>= λ n. section_in xorb_at xorb_hash foot.xorb_info_offset n encoding) (count_whole foot.xorb_info_offset foot.file_lookup_offset p.file_lookup) ∙ section_there xorb_at xorb_hash foot.xorb_info_offset (xorb_row_count foot) encoding s.blocks p.few_xorbs (omega (arith, p.file_lookup, p.xorb_lookup, p.chunk_lookup, p.footer, p.end)) encoding_checked.blocks
+  blocks_again = let p = encoding_placed in ap (λ (r : Result ℕ StoreError). r >>= λ n. section_in xorb_at xorb_record_hash foot.xorb_info_offset n encoding) (count_whole foot.xorb_info_offset foot.file_lookup_offset p.file_lookup) ∙ section_there xorb_at xorb_record_hash foot.xorb_info_offset (xorb_row_count foot) encoding s.blocks p.few_xorbs (omega (arith, p.file_lookup, p.xorb_lookup, p.chunk_lookup, p.footer, p.end)) encoding_checked.blocks
 
   -- a table that stands
   pub file_table_again : foot.file_lookup_num_entry ≢ 0 → file_table foot encoding ≡ file_items s.files

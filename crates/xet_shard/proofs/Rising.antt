@@ -17,8 +17,8 @@ use Rattle.xet_shard_format.specs.declared.record.MDBFileInfo.{MDBFileInfo}
 use Rattle.xet_shard_format.specs.declared.record.MDBXorbInfo.{MDBXorbInfo}
 use Rattle.xet_shard_format.specs.declared.row.Row.{Row}
 use Rattle.xet_shard.specs.Held.{DifferBy, Held, IsHeld, by_hash, held_shard}
-use Rattle.xet_hash.specs.Hash.{marker}
-use Rattle.xet_shard_format.specs.Records.{AreRecords, IsFile, IsXorb, end_row, file_hash, file_rows, file_section, is_after, section, xorb_hash, xorb_rows, xorb_section}
+use Rattle.xet_hash.specs.Hash.{sentinel}
+use Rattle.xet_shard_format.specs.Records.{AreRecords, IsFile, IsXorb, end_row, file_record_hash, file_rows, file_section, is_after, section, xorb_record_hash, xorb_rows, xorb_section}
 use Rattle.xet_shard_format.specs.Sorted.{put_in, sorted}
 use Rattle.xet_shard_format.specs.Encoding.{IsShard}
 use Rattle.xet_shard_format.specs.theorems.Sorting.{sorted_apart}
@@ -85,7 +85,7 @@ module _ {X : Type 0} (hash : X → List ℕ) (Form : X → Type 0) where
   abbrev by : X → X → Ordering
   by x y = hash_cmp (hash x) (hash y)
 
-  put_rises : (last : Option (List ℕ)) (x : X) (ys : List X) → is_after last (hash x) ≡ true → hash x ≢ marker → Form x
+  put_rises : (last : Option (List ℕ)) (x : X) (ys : List X) → is_after last (hash x) ≡ true → hash x ≢ sentinel → Form x
       → AllByRecursion (λ y. hash x ≢ hash y) ys → AreRecords hash Form last ys → AreRecords hash Form last (put_in by x ys)
   unfolding put_in
   put_rises last x [] after here form differ rise = (after, here, form, tt)
@@ -97,29 +97,29 @@ module _ {X : Type 0} (hash : X → List ℕ) (Form : X → Type 0) where
       at true e later = (rise.0, rise.1, rise.2, later e)
       at false e later = (after, here, form, (other_less (hash x) (hash y) differ.0 e, rise.1, rise.2, rise.3))
 
-  pub rising : (xs : List X) → AllByRecursion (λ x. (hash x ≢ marker) × Form x) xs → DifferBy hash xs → AreRecords hash Form None (sorted by xs)
+  pub rising : (xs : List X) → AllByRecursion (λ x. (hash x ≢ sentinel) × Form x) xs → DifferBy hash xs → AreRecords hash Form None (sorted by xs)
   unfolding sorted
   rising [] all differ = tt
   rising (x ∷ xs) all differ =
       put_rises None x (sorted by xs) refl all.0.0 all.0.1 (all_sorted by (λ y. hash x ≢ hash y) xs differ.0) (rising xs all.1 differ.1)
 
-pub few_files_sorted : (files ordered : List MDBFileInfo) → ordered ≡ by_hash file_hash files → length (file_section files) < 2 ^ 32 → length (file_section ordered) < 2 ^ 32
+pub few_files_sorted : (files ordered : List MDBFileInfo) → ordered ≡ by_hash file_record_hash files → length (file_section files) < 2 ^ 32 → length (file_section ordered) < 2 ^ 32
 few_files_sorted files ordered same few =
-    let rows = ap (λ (fs : List MDBFileInfo). length (file_section fs)) same ∙ rows_sorted (λ x y. hash_cmp (file_hash x) (file_hash y)) file_rows files in
+    let rows = ap (λ (fs : List MDBFileInfo). length (file_section fs)) same ∙ rows_sorted (λ x y. hash_cmp (file_record_hash x) (file_record_hash y)) file_rows files in
     subst (λ (n : ℕ). n < 2 ^ 32) (sym rows) few
 
-pub few_blocks_sorted : (blocks ordered : List MDBXorbInfo) → ordered ≡ by_hash xorb_hash blocks → length (xorb_section blocks) < 2 ^ 32 → length (xorb_section ordered) < 2 ^ 32
+pub few_blocks_sorted : (blocks ordered : List MDBXorbInfo) → ordered ≡ by_hash xorb_record_hash blocks → length (xorb_section blocks) < 2 ^ 32 → length (xorb_section ordered) < 2 ^ 32
 few_blocks_sorted blocks ordered same few =
-    let rows = ap (λ (bs : List MDBXorbInfo). length (xorb_section bs)) same ∙ rows_sorted (λ x y. hash_cmp (xorb_hash x) (xorb_hash y)) xorb_rows blocks in
+    let rows = ap (λ (bs : List MDBXorbInfo). length (xorb_section bs)) same ∙ rows_sorted (λ x y. hash_cmp (xorb_record_hash x) (xorb_record_hash y)) xorb_rows blocks in
     subst (λ (n : ℕ). n < 2 ^ 32) (sym rows) few
 
 -- what is held is written as a shard
 pub is_shard : (h : Held) (creation : ℕ) (expiry : Option ℕ) → IsHeld h → IsShard (held_shard h creation expiry)
 is_shard h creation expiry is = record {
-  files = rising file_hash IsFile h.files is.files is.files_differ;
-  blocks = rising xorb_hash IsXorb h.blocks is.blocks is.blocks_differ;
-  few_files = few_files_sorted h.files (by_hash file_hash h.files) refl is.few_files;
-  few_blocks = few_blocks_sorted h.blocks (by_hash xorb_hash h.blocks) refl is.few_blocks;
+  files = rising file_record_hash IsFile h.files is.files is.files_differ;
+  blocks = rising xorb_record_hash IsXorb h.blocks is.blocks is.blocks_differ;
+  few_files = few_files_sorted h.files (by_hash file_record_hash h.files) refl is.few_files;
+  few_blocks = few_blocks_sorted h.blocks (by_hash xorb_record_hash h.blocks) refl is.few_blocks;
 }
 
 pub on_ok : {T E P : Type 0} (r : Result T E) → P → OnOk r P

@@ -14,10 +14,10 @@ use Rattle.xet_shard_format.specs.declared.record.MDBXorbInfo.{MDBXorbInfo}
 use Rattle.xet_shard_format.specs.declared.row.Row.{Row}
 use Rattle.xet_shard.specs.Bisection.{Bisects}
 use Rattle.xet_shard_format.specs.Lookups.{chunk_items, chunks_from, file_items, heads_from, place_cmp, xorb_items}
-use Rattle.xet_shard_format.specs.Records.{AreRecords, IsFile, file_hash, file_head, file_rest, file_section, first_word, section, xorb_hash, xorb_rows}
+use Rattle.xet_shard_format.specs.Records.{AreRecords, IsFile, file_record_hash, file_head, file_rest, file_section, first_word, section, xorb_record_hash, xorb_rows}
 use Rattle.xet_shard_format.specs.Rows.{IsHashBytes, RowFits}
 use Rattle.xet_shard_format.specs.Sorted.{put_in, sorted}
-use Rattle.xet_shard_format.specs.theorems.Bytes.{IsBytes, known_bytes}
+use Rattle.xet_shard_format.specs.theorems.Bytes.{IsBytes, all_are_bytes}
 use Rattle.xet_base.specs.theorems.Elements.{all_back}
 use Rattle.xet_shard_format.specs.theorems.Places.{then_regroups}
 use Rattle.xet_shard_format.specs.theorems.SectionLaws.{section_cons}
@@ -181,7 +181,7 @@ module _ {X : Type 0} (hash : X → List ℕ) (head : X → Row) (others : X →
   words_after at last (x ∷ xs) known fits form =
       let all : AllByRecursion RowFits (rows x ++ section rows xs) = subst (AllByRecursion RowFits) (section_cons rows x xs) fits in
       let here : IsHashBytes (hash x) = subst IsHashBytes (hash_is x) all.0.hash in (
-        words_rise last (hash x) (omega (arith, known.0)) (omega (arith, here.0)) (known_bytes last known.1) (known_bytes (hash x) here.1) form.0,
+        words_rise last (hash x) (omega (arith, known.0)) (omega (arith, here.0)) (all_are_bytes last known.1) (all_are_bytes (hash x) here.1) form.0,
         words_after (at + length (rows x)) (hash x) xs here (all_back RowFits (rows x) (section rows xs) all) form.3,
       )
 
@@ -192,13 +192,13 @@ module _ {X : Type 0} (hash : X → List ℕ) (head : X → Row) (others : X →
       let all : AllByRecursion RowFits (rows x ++ section rows xs) = subst (AllByRecursion RowFits) (section_cons rows x xs) fits in
       (omega arith, words_after (at + length (rows x)) (hash x) xs (subst IsHashBytes (hash_is x) all.0.hash) (all_back RowFits (rows x) (section rows xs) all) form.3)
 
-pub file_words_rise : (files : List MDBFileInfo) → AllByRecursion RowFits (file_section files) → AreRecords file_hash IsFile None files → Rises (λ i. i.0) 0 (file_items files)
-file_words_rise files fits form = words_in_order file_hash file_head file_rest (λ x i. (file_head x).hash) IsFile 0 files fits form
+pub file_words_rise : (files : List MDBFileInfo) → AllByRecursion RowFits (file_section files) → AreRecords file_record_hash IsFile None files → Rises (λ i. i.0) 0 (file_items files)
+file_words_rise files fits form = words_in_order file_record_hash file_head file_rest (λ x i. (file_head x).hash) IsFile 0 files fits form
 
-rows_in_order : (at : ℕ) (xs : List MDBXorbInfo) → Rises (λ i. i.1) at (heads_from xorb_hash xorb_rows at xs)
+rows_in_order : (at : ℕ) (xs : List MDBXorbInfo) → Rises (λ i. i.1) at (heads_from xorb_record_hash xorb_rows at xs)
 unfolding heads_from
 rows_in_order at [] = tt
-rows_in_order at (x ∷ xs) = (omega arith, rises_from (λ (i : ℕ × ℕ). i.1) (at + length (xorb_rows x)) at (heads_from xorb_hash xorb_rows (at + length (xorb_rows x)) xs) (omega arith) (rows_in_order (at + length (xorb_rows x)) xs))
+rows_in_order at (x ∷ xs) = (omega arith, rises_from (λ (i : ℕ × ℕ). i.1) (at + length (xorb_rows x)) at (heads_from xorb_record_hash xorb_rows (at + length (xorb_rows x)) xs) (omega arith) (rows_in_order (at + length (xorb_rows x)) xs))
 
 pub xorb_rows_rise : (blocks : List MDBXorbInfo) → Rises (λ i. i.1) 0 (xorb_items blocks)
 xorb_rows_rise blocks = rows_in_order 0 blocks

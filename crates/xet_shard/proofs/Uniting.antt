@@ -11,7 +11,7 @@ use Rattle.xet_shard_format.specs.declared.record.MDBXorbInfo.{MDBXorbInfo}
 use Rattle.xet_shard_format.specs.declared.row.Row.{Row}
 use Rattle.xet_shard.specs.internal.Merging.{AreOfShard, IsNoText, after_hash, below, not_below}
 use Rattle.xet_codec.specs.Parsing.{GivesUnlessFault}
-use Rattle.xet_shard_format.specs.Records.{AreRecords, IsFile, IsXorb, file_hash, file_section, section, xorb_hash, xorb_section}
+use Rattle.xet_shard_format.specs.Records.{AreRecords, IsFile, IsXorb, file_record_hash, file_section, section, xorb_record_hash, xorb_section}
 use Rattle.xet_shard.specs.Sections.{blocks_in, files_in}
 use Rattle.xet_shard_format.specs.Encoding.{IsShard}
 use Rattle.xet_shard.specs.Union.{HasUnionPrefix, IsNoUnion, IsUnion, ShardRecords, both_in, records_in, union, union_shard}
@@ -66,10 +66,10 @@ union_few hash rows n xs ys zs e first second = subst (AllByRecursion (λ x. len
 union_records : {X : Type 0} (hash : X → List ℕ) (Form : X → Type 0) (xs ys : List X) → AreRecords hash Form None xs → AreRecords hash Form None ys → AreRecords hash Form None (union hash xs ys)
 union_records hash Form xs ys r s = subst (AreRecords hash Form None) (merged_is hash xs ys (records_rise hash Form None xs r) (records_rise hash Form None ys s)) (records_merged hash Form None xs ys r s)
 
-pub union_is_shard : (p : ShardRecords × ShardRecords) (creation other : ℕ) → AreOfShard p.0 → AreOfShard p.1 → length (file_section (union file_hash p.0.1 p.1.1)) < 2 ^ 32 → length (xorb_section (union xorb_hash p.0.0 p.1.0)) < 2 ^ 32 → IsShard (union_shard p creation other)
+pub union_is_shard : (p : ShardRecords × ShardRecords) (creation other : ℕ) → AreOfShard p.0 → AreOfShard p.1 → length (file_section (union file_record_hash p.0.1 p.1.1)) < 2 ^ 32 → length (xorb_section (union xorb_record_hash p.0.0 p.1.0)) < 2 ^ 32 → IsShard (union_shard p creation other)
 union_is_shard p creation other ours theirs few_files few_blocks = record {
-  files = union_records file_hash IsFile p.0.1 p.1.1 ours.files theirs.files;
-  blocks = union_records xorb_hash IsXorb p.0.0 p.1.0 ours.blocks theirs.blocks;
+  files = union_records file_record_hash IsFile p.0.1 p.1.1 ours.files theirs.files;
+  blocks = union_records xorb_record_hash IsXorb p.0.0 p.1.0 ours.blocks theirs.blocks;
   few_files = few_files;
   few_blocks = few_blocks;
 }

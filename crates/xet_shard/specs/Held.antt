@@ -2,11 +2,11 @@
 use Rattle.std.specs.Prelude.{◌≡◌, ◌≢◌, ◌<◌, ℕ, ◌+◌, ◌-◌, ◌^◌, List, [], ◌∷◌, ◌++◌, filter, length, not, nat_eq, Option, Some, None, if◌then◌else◌, unwrap_or}
 use Rattle.std.specs.Cmp.Lexicographic.{pointwise}
 use Rattle.std.specs.List.{AllByRecursion, sum_by}
-use Rattle.xet_hash.specs.Hash.{marker, zero_hash}
+use Rattle.xet_hash.specs.Hash.{sentinel, zero_hash}
 use Rattle.xet_hash.specs.Order.{hash_cmp}
 use Rattle.xet_shard_format.specs.declared.record.MDBFileInfo.{MDBFileInfo}
 use Rattle.xet_shard_format.specs.declared.record.MDBXorbInfo.{MDBXorbInfo}
-use Rattle.xet_shard_format.specs.Records.{IsFile, IsXorb, file_hash, file_section, xorb_hash, xorb_section}
+use Rattle.xet_shard_format.specs.Records.{IsFile, IsXorb, file_record_hash, file_section, xorb_record_hash, xorb_section}
 use Rattle.xet_shard_format.specs.Sorted.{sorted}
 use Rattle.xet_shard_format.specs.Encoding.{Shard, shard}
 use Rattle.xet_shard_format.specs.RecordSizes.{file_record_size, xorb_record_size}
@@ -34,10 +34,10 @@ DifferBy hash (x ∷ xs) = AllByRecursion (λ y. hash x ≢ hash y) xs × Differ
 -- The invariant of a shard in memory: each record is well formed and has a hash of its own, which is not the
 -- sentinel, and each section has fewer than 2 ^ 32 rows.
 pub record IsHeld (h : Held) : Type 0 where
-  pub blocks : AllByRecursion (λ x. (xorb_hash x ≢ marker) × IsXorb x) h.blocks
-  pub files : AllByRecursion (λ f. (file_hash f ≢ marker) × IsFile f) h.files
-  pub blocks_differ : DifferBy xorb_hash h.blocks
-  pub files_differ : DifferBy file_hash h.files
+  pub blocks : AllByRecursion (λ x. (xorb_record_hash x ≢ sentinel) × IsXorb x) h.blocks
+  pub files : AllByRecursion (λ f. (file_record_hash f ≢ sentinel) × IsFile f) h.files
+  pub blocks_differ : DifferBy xorb_record_hash h.blocks
+  pub files_differ : DifferBy file_record_hash h.files
   pub few_blocks : length (xorb_section h.blocks) < 2 ^ 32
   pub few_files : length (file_section h.files) < 2 ^ 32
 
@@ -60,7 +60,7 @@ never = 2 ^ 64 - 1
 
 -- the shard that is written: without a key, with this creation time and expiry
 abbrev pub held_shard : Held → ℕ → Option ℕ → Shard
-held_shard h creation expiry = shard (by_hash xorb_hash h.blocks) (by_hash file_hash h.files) zero_hash creation (unwrap_or expiry never)
+held_shard h creation expiry = shard (by_hash xorb_record_hash h.blocks) (by_hash file_record_hash h.files) zero_hash creation (unwrap_or expiry never)
 
 -- the length of the shard: that of an empty one, and the bytes that each record adds
 abbrev pub held_size : Held → ℕ

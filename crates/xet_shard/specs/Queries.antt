@@ -17,7 +17,7 @@ use Rattle.xet_shard_format.specs.declared.row.Row.{Row}
 use Rattle.xet_shard_format.specs.Lookups.{chunk_items, file_items, xorb_items}
 use Rattle.xet_codec.specs.Parsing.{◌>>=◌, reaches, wants}
 use Rattle.xet_shard_format.specs.Reading.{IsShardError, file_record_at, row_at}
-use Rattle.xet_shard_format.specs.Records.{file_hash, first_word, xorb_rows}
+use Rattle.xet_shard_format.specs.Records.{file_record_hash, first_word, xorb_rows}
 use Rattle.xet_shard.specs.Held.{record_of}
 use Rattle.xet_shard_format.specs.Rows.{rows_in}
 use Rattle.xet_shard.specs.Runs.{run_after, run_at}
@@ -76,7 +76,7 @@ unfoldable pub first_file : MDBShardFileFooter → List ℕ → List ℕ → Lis
 first_file f h [] bytes = Ok None
 first_file f h (row ∷ rows) bytes = do
   x ← file_in f row bytes
-  if pointwise nat_eq h (file_hash x) then Ok (Some x) else first_file f h rows bytes
+  if pointwise nat_eq h (file_record_hash x) then Ok (Some x) else first_file f h rows bytes
 
 -- If eight or more files share the first word of a hash, the query fails.
 abbrev pub fewer_than_eight : ℕ → Result (Unit {0}) StoreError
@@ -144,9 +144,9 @@ has_head f row index bytes =
 
 -- The run of a query at a given row and index in the xorb; none if no xorb's header is in the row. `index`
 -- bisects the table by the row.
-unfoldable pub told_run : MDBShardFileFooter → List (List ℕ) → ℕ → ℕ → ℕ → List ℕ → Result (Option (ℕ × FileDataSequenceEntry)) StoreError
-told_run f [] row place index bytes = Ok None
-told_run f (h ∷ hs) row place index bytes = do
+unfoldable pub direct_run : MDBShardFileFooter → List (List ℕ) → ℕ → ℕ → ℕ → List ℕ → Result (Option (ℕ × FileDataSequenceEntry)) StoreError
+direct_run f [] row place index bytes = Ok None
+direct_run f (h ∷ hs) row place index bytes = do
   there ← has_head f row index bytes
   if there then run_in f (h ∷ hs) row place bytes else Ok None
 
@@ -158,7 +158,7 @@ IsFileError e = IsShardError e
 -- ---- the same queries to a shard
 
 abbrev pub file_in_shard : Shard → List ℕ → Result (Option MDBFileInfo) StoreError
-file_in_shard s h = fewer_than_eight (length (rows_of (first_word h) (file_items s.files))) >>= λ _. Ok (record_of file_hash h s.files)
+file_in_shard s h = fewer_than_eight (length (rows_of (first_word h) (file_items s.files))) >>= λ _. Ok (record_of file_record_hash h s.files)
 
 -- the xorb whose header is in a row
 unfoldable pub block_at : ℕ → ℕ → List MDBXorbInfo → Option MDBXorbInfo

@@ -9,7 +9,7 @@ use Rattle.xet_shard_format.specs.declared.record.XorbChunkSequenceEntry.{XorbCh
 use Rattle.xet_shard_format.specs.declared.row.Row.{Row}
 use Rattle.xet_codec.specs.Parsing.{◌>>=◌, wants}
 use Rattle.xet_shard_format.specs.Reading.{chunk_in, has_rows}
-use Rattle.xet_shard_format.specs.Records.{chunk_bytes, xorb_hash}
+use Rattle.xet_shard_format.specs.Records.{chunk_bytes, xorb_record_hash}
 
 -- the length of the common prefix of two lists of hashes
 unfoldable pub agreeing : List (List ℕ) → List (List ℕ) → ℕ
@@ -23,7 +23,7 @@ digests chunks = map (λ c. c.chunk_hash) chunks
 -- the segment of `count` chunks of a xorb from index `place` on
 abbrev pub run_segment : MDBXorbInfo → ℕ → ℕ → FileDataSequenceEntry
 run_segment block place count = record {
-  xorb_hash = xorb_hash block;
+  xorb_hash = xorb_record_hash block;
   xorb_flags = 0;
   unpacked_segment_bytes = chunk_bytes (take count (drop place block.chunks));
   chunk_index_start = place;

@@ -12,7 +12,7 @@ use Rattle.xet_shard_format.specs.declared.row.Row.{Row}
 use Rattle.xet_shard_format.specs.Lookups.{chunk_items, xorb_items}
 use Rattle.xet_codec.specs.Parsing.{◌>>=◌, reaches, wants}
 use Rattle.xet_shard_format.specs.Reading.{file_record_at, shard_footer_at, shard_header_at, section_at, xorb_at}
-use Rattle.xet_shard_format.specs.Records.{file_hash, xorb_hash, xorb_rows}
+use Rattle.xet_shard_format.specs.Records.{file_record_hash, xorb_record_hash, xorb_rows}
 use Rattle.xet_codec.specs.Numbers.{half_word, word}
 use Rattle.xet_shard_format.specs.Rows.{rows_in}
 use Rattle.xet_shard_format.specs.Encoding.{header}
@@ -38,10 +38,10 @@ row_count from to = do
   Ok ((to - from) / 48)
 
 abbrev pub files_in : MDBShardFileFooter → List ℕ → Result (List MDBFileInfo) StoreError
-files_in f bytes = row_count f.file_info_offset f.xorb_info_offset >>= λ count. section_in file_record_at file_hash f.file_info_offset count bytes
+files_in f bytes = row_count f.file_info_offset f.xorb_info_offset >>= λ count. section_in file_record_at file_record_hash f.file_info_offset count bytes
 
 abbrev pub blocks_in : MDBShardFileFooter → List ℕ → Result (List MDBXorbInfo) StoreError
-blocks_in f bytes = row_count f.xorb_info_offset f.file_lookup_offset >>= λ count. section_in xorb_at xorb_hash f.xorb_info_offset count bytes
+blocks_in f bytes = row_count f.xorb_info_offset f.file_lookup_offset >>= λ count. section_in xorb_at xorb_record_hash f.xorb_info_offset count bytes
 
 -- the header of each xorb, with its row
 unfoldable pub heads_of : ℕ → List MDBXorbInfo → List (XorbChunkSequenceHeader × ℕ)

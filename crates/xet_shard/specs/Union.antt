@@ -11,7 +11,7 @@ use Rattle.xet_shard_format.specs.declared.record.MDBFileInfo.{MDBFileInfo}
 use Rattle.xet_shard_format.specs.declared.record.MDBXorbInfo.{MDBXorbInfo}
 use Rattle.xet_shard.specs.Export.{IsExportError}
 use Rattle.xet_shard.specs.Held.{by_hash, never, record_of}
-use Rattle.xet_shard_format.specs.Records.{file_hash, file_section, xorb_hash, xorb_section}
+use Rattle.xet_shard_format.specs.Records.{file_record_hash, file_section, xorb_record_hash, xorb_section}
 use Rattle.xet_shard.specs.Sections.{blocks_in, files_in}
 use Rattle.xet_shard.specs.declared.info.MDBShardInfo.{MDBShardInfo}
 use Rattle.xet_shard_format.specs.Lookups.{all_lookups}
@@ -45,11 +45,11 @@ both_in f bytes g others = do
   Ok (x, y)
 
 abbrev pub AgreeBoth : ShardRecords × ShardRecords → Type 0
-AgreeBoth p = Agree xorb_hash p.0.0 p.1.0 × Agree file_hash p.0.1 p.1.1
+AgreeBoth p = Agree xorb_record_hash p.0.0 p.1.0 × Agree file_record_hash p.0.1 p.1.1
 
 -- The union of two shards: without a key and without an expiry, created at the later of two times.
 abbrev pub union_shard : ShardRecords × ShardRecords → ℕ → ℕ → Shard
-union_shard p creation other = shard (union xorb_hash p.0.0 p.1.0) (union file_hash p.0.1 p.1.1) zero_hash (max creation other) never
+union_shard p creation other = shard (union xorb_record_hash p.0.0 p.1.0) (union file_record_hash p.0.1 p.1.1) zero_hash (max creation other) never
 
 -- the shard is keyed
 abbrev pub IsKeyed : MDBShardFileFooter → Type 0

@@ -6,7 +6,7 @@ ghost use Rattle.xet_shard.specs.Export.{HasPrefix, IsExport, IsExportError, IsU
 ghost use Rattle.xet_shard.specs.Held.{never};
 ghost use Rattle.xet_codec.specs.Parsing.{GivesUnlessFault};
 ghost use Rattle.xet_shard_format.specs.Reading.{IsShardError};
-ghost use Rattle.xet_shard_format.specs.Records.{AreRecords, IsFile, IsXorb, file_hash, file_section, xorb_hash, xorb_section};
+ghost use Rattle.xet_shard_format.specs.Records.{AreRecords, IsFile, IsXorb, file_record_hash, file_section, xorb_record_hash, xorb_section};
 ghost use Rattle.xet_shard_format.specs.Encoding.{shard};
 ghost use Rattle.xet_io.specs.Frame.{Called, ReadFrom};
 
@@ -94,8 +94,8 @@ fn keyed_records<R: ReadAt>(
 ) -> Result<(Vec<MDBXorbInfo>, Vec<MDBFileInfo>), StoreError>
     ensures exact { R.tells reader.old ≡ true → (valid_for now : ℕ)
         → GivesUnlessFault (λ x. shard x.0.items x.1.items key now (min (now + valid_for) never)) result (exported with_files key valid_for now f.now (R.bytes reader.old)) }
-    ensures blocks { IfOk result (λ x. AreRecords xorb_hash IsXorb None x.0.items) }
-    ensures files { IfOk result (λ x. AreRecords file_hash IsFile None x.1.items) }
+    ensures blocks { IfOk result (λ x. AreRecords xorb_record_hash IsXorb None x.0.items) }
+    ensures files { IfOk result (λ x. AreRecords file_record_hash IsFile None x.1.items) }
     ensures few_blocks { IfOk result (λ x. length (xorb_section x.0.items) < 2 ^ 32) }
     ensures few_files { IfOk result (λ x. length (file_section x.1.items) < 2 ^ 32) }
     ensures errors { IfErr result IsShardError }
@@ -115,7 +115,7 @@ fn wanted_files<R: ReadAt>(
     with_files: bool,
 ) -> Result<Vec<MDBFileInfo>, StoreError>
     ensures exact { R.tells reader.old ≡ true → GivesUnlessFault (λ v. v.items) result (files_wanted with_files f.now (R.bytes reader.old)) }
-    ensures form { IfOk result (λ v. AreRecords file_hash IsFile None v.items) }
+    ensures form { IfOk result (λ v. AreRecords file_record_hash IsFile None v.items) }
     ensures few { IfOk result (λ v. length (file_section v.items) < 2 ^ 32) }
     ensures errors { IfErr result IsShardError }
     ensures frame { ReadFrom R.bytes R.tells R.faults R.lent reader.old reader.new (IsErrOf result (StoreError.Io Place.Input)) }

@@ -9,8 +9,8 @@ ghost use Rattle.xet_shard.specs.WriteErrors.{IsWriteError};
 ghost use Rattle.xet_shard_format.specs.RecordSizes.{file_record_size, xorb_record_size};
 ghost use Rattle.xet_shard_format.specs.Lookups.{all_lookups};
 ghost use Rattle.xet_shard_format.specs.Encoding.{Fits, IsShard, footer_of, full_shard_bytes, header};
-ghost use Rattle.xet_hash.specs.Hash.{marker};
-ghost use Rattle.xet_shard_format.specs.Records.{IsFile, IsXorb, file_hash, file_section, xorb_hash, xorb_section};
+ghost use Rattle.xet_hash.specs.Hash.{sentinel};
+ghost use Rattle.xet_shard_format.specs.Records.{IsFile, IsXorb, file_record_hash, file_section, xorb_record_hash, xorb_section};
 ghost use Rattle.xet_io.specs.Frame.{Called};
 
 mod places;
@@ -49,13 +49,13 @@ impl Model for MDBInMemoryShard {
     ghost use Rattle.std.specs.Prelude.{◌≡◌};
     ghost use Rattle.xet_shard.specs.Held.{Held, IsHeld, Keyed, held_size};
     ghost use Rattle.xet_shard.specs.LastPlaces.{HasPlaces};
-    ghost use Rattle.xet_shard_format.specs.Records.{file_hash, xorb_hash};
+    ghost use Rattle.xet_shard_format.specs.Records.{file_record_hash, xorb_record_hash};
 
     ghost Value = { Held };
 
     ghost view = { λ s. record { blocks = values s.blocks; files = values s.files } };
 
-    ghost invariant = { λ s. Keyed xorb_hash s.blocks.entries × Keyed file_hash s.files.entries
+    ghost invariant = { λ s. Keyed xorb_record_hash s.blocks.entries × Keyed file_record_hash s.files.entries
         × IsHeld (record { blocks = values s.blocks; files = values s.files })
         × HasPlaces s.places.entries (values s.blocks)
         × (s.size ≡ held_size (record { blocks = values s.blocks; files = values s.files })) };
@@ -75,7 +75,7 @@ impl MDBInMemoryShard {
     }
 
     /// Proof aid without effect: makes the invariant `IsHeld` available to the caller.
-    pub fn known(&self)
+    pub fn recall_invariant(&self)
         ensures { IsHeld self.now }
     {
         let _ = &self.blocks;
@@ -100,9 +100,9 @@ impl MDBInMemoryShard {
     /// only error is `StoreError::OutOfMemory`; the shard is then unchanged.
     pub fn add_xorb_block(&mut self, block: MDBXorbInfo) -> Result<(), StoreError>
         requires form { IsXorb block }
-        requires hash { xorb_hash block ≢ marker }
-        requires few { length (xorb_section (with_last xorb_hash self.old.blocks block)) < 2 ^ 32 }
-        ensures added { OnOk result (self.new ≡ record { blocks = with_last xorb_hash self.old.blocks block; files = self.old.files }) }
+        requires hash { xorb_record_hash block ≢ sentinel }
+        requires few { length (xorb_section (with_last xorb_record_hash self.old.blocks block)) < 2 ^ 32 }
+        ensures added { OnOk result (self.new ≡ record { blocks = with_last xorb_record_hash self.old.blocks block; files = self.old.files }) }
         ensures kept { OnErr result (self.new ≡ self.old) }
         ensures memory { IsOkUnless result StoreError.OutOfMemory }
     {
@@ -117,9 +117,9 @@ impl MDBInMemoryShard {
     /// `add_xorb_block`. The only error is `StoreError::OutOfMemory`; the shard is then unchanged.
     pub fn add_file_reconstruction_info(&mut self, file: MDBFileInfo) -> Result<(), StoreError>
         requires form { IsFile file }
-        requires hash { file_hash file ≢ marker }
-        requires few { length (file_section (with_last file_hash self.old.files file)) < 2 ^ 32 }
-        ensures added { OnOk result (self.new ≡ record { blocks = self.old.blocks; files = with_last file_hash self.old.files file }) }
+        requires hash { file_record_hash file ≢ sentinel }
+        requires few { length (file_section (with_last file_record_hash self.old.files file)) < 2 ^ 32 }
+        ensures added { OnOk result (self.new ≡ record { blocks = self.old.blocks; files = with_last file_record_hash self.old.files file }) }
         ensures kept { OnErr result (self.new ≡ self.old) }
         ensures memory { IsOkUnless result StoreError.OutOfMemory }
     {

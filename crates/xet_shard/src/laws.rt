@@ -6,7 +6,7 @@ ghost use Rattle.xet_shard.specs.Bisection.{Bisects};
 ghost use Rattle.xet_shard_format.specs.Lookups.{Lookups, chunk_items, xorb_items};
 ghost use Rattle.xet_shard.specs.Sections.{blocks_in, chunk_lookup_in, files_in, info_at, xorb_lookup_in};
 ghost use Rattle.xet_shard.specs.Held.{Held, held_shard, held_size};
-ghost use Rattle.xet_shard.specs.Queries.{chunk_table, file_table, found_file, found_run, query_word, file_in_shard, shard_run, shard_run_at, told_run, xorb_table};
+ghost use Rattle.xet_shard.specs.Queries.{chunk_table, file_table, found_file, found_run, query_word, file_in_shard, shard_run, shard_run_at, direct_run, xorb_table};
 ghost use Rattle.xet_shard_format.specs.Records.{first_word};
 ghost use Rattle.xet_shard_format.specs.Encoding.{Fits, IsShard, Shard, footer_of, full_shard_bytes, header, shard_bytes};
 
@@ -29,9 +29,9 @@ pub fn parts_are_read()
 
 /// On the encoding of a well-formed shard, under its own footer, a query returns the shard's own result,
 /// whichever lookup tables it has. The result is the same at every index that bisects the table.
-#[tactic(auto, using(crate::proofs::AskedAgain::file_again, crate::proofs::AskedAgain::run_again, crate::proofs::AskedAgain::told_run_again))]
-pub fn questions_are_answered()
+#[tactic(auto, using(crate::proofs::AskedAgain::file_again, crate::proofs::AskedAgain::run_again, crate::proofs::AskedAgain::direct_run_again))]
+pub fn queries_are_answered()
     ensures file { (w : Lookups) (s : Shard) → IsShard s → Fits s → (h : List ℕ) (index : ℕ) → Bisects (λ i. nat_lt i.0 (first_word h)) (file_table (footer_of w s) (shard_bytes w s)) index → found_file (footer_of w s) h index (shard_bytes w s) ≡ file_in_shard s h }
     ensures run { (w : Lookups) (s : Shard) → IsShard s → Fits s → (query : List (List ℕ)) (index : ℕ) → Bisects (λ i. nat_le i.0 (query_word (footer_of w s) query)) (chunk_table (footer_of w s) (shard_bytes w s)) index → found_run (footer_of w s) query index (shard_bytes w s) ≡ Ok (shard_run s query) }
-    ensures told { (w : Lookups) (s : Shard) → IsShard s → Fits s → (query : List (List ℕ)) (row place index : ℕ) → Bisects (λ i. nat_lt i.1 row) (xorb_table (footer_of w s) (shard_bytes w s)) index → told_run (footer_of w s) query row place index (shard_bytes w s) ≡ Ok (elim query [ [] ↦ None | h ∷ hs ↦ shard_run_at s (h ∷ hs) row place ]) }
+    ensures told { (w : Lookups) (s : Shard) → IsShard s → Fits s → (query : List (List ℕ)) (row place index : ℕ) → Bisects (λ i. nat_lt i.1 row) (xorb_table (footer_of w s) (shard_bytes w s)) index → direct_run (footer_of w s) query row place index (shard_bytes w s) ≡ Ok (elim query [ [] ↦ None | h ∷ hs ↦ shard_run_at s (h ∷ hs) row place ]) }
 {}

@@ -2,7 +2,7 @@
 
 ghost use Rattle.std.specs.Prelude.{◌≡◌, ◌<◌, ◌+◌, ◌*◌, ◌^◌, ◌++◌, ℕ, IfErr, IfOk, IsErrOf, IsOkUnless, OnOk, None, cond, length, map, take, true};
 ghost use Rattle.xet_shard.specs.WriteErrors.{IsWriteError};
-ghost use Rattle.xet_shard_format.specs.Records.{AreRecords, IsFile, IsXorb, file_hash, file_section, xorb_hash, xorb_section};
+ghost use Rattle.xet_shard_format.specs.Records.{AreRecords, IsFile, IsXorb, file_record_hash, file_section, xorb_record_hash, xorb_section};
 ghost use Rattle.xet_shard_format.specs.Lookups.{all_lookups};
 ghost use Rattle.xet_shard_format.specs.Encoding.{Fits, IsShardEncoding, footer_of, full_shard_bytes, header, shard};
 ghost use Rattle.xet_io.specs.Frame.{Called};
@@ -34,7 +34,7 @@ pub fn write_shard(
     ensures info { IfOk result (λ x. x.1 ≡ record { header = header; metadata = footer_of all_lookups (shard (map (λ x. x.now) blocks.now) (map (λ f. f.now) files.now) key creation expiry) }) }
     ensures fits { OnOk result (Fits (shard (map (λ x. x.now) blocks.now) (map (λ f. f.now) files.now) key creation expiry)) }
     // If the records are well formed and their hashes ascend, the bytes are a shard.
-    ensures shard { AreRecords xorb_hash IsXorb None (map (λ x. x.now) blocks.now) → AreRecords file_hash IsFile None (map (λ f. f.now) files.now)
+    ensures shard { AreRecords xorb_record_hash IsXorb None (map (λ x. x.now) blocks.now) → AreRecords file_record_hash IsFile None (map (λ f. f.now) files.now)
         → IfOk result (λ x. IsShardEncoding x.0.items (shard (map (λ x. x.now) blocks.now) (map (λ f. f.now) files.now) key creation expiry)) }
     ensures memory { IsOkUnless result StoreError.OutOfMemory }
 {

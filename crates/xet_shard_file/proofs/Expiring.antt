@@ -5,7 +5,7 @@ use Rattle.xet_hash.specs.declared.error.Reason.{Reason}
 use Rattle.xet_hash.specs.declared.error.StoreError.{StoreError}
 use Rattle.xet_hash.specs.declared.error.StoreError.TheVariants as errors
 use Rattle.xet_hash.specs.declared.error.Place.TheVariants as place
-use Rattle.xet_shard_file.specs.Errors.{IsShardCheckError, IsShardError}
+use Rattle.xet_shard_file.specs.Errors.{IsShardCheckError, IsShardFileError}
 use Rattle.xet_codec.specs.Stops.{HasDiskReason}
 use Rattle.xet_shard_file.specs.theorems.Exits.{rose_before}
 
@@ -22,9 +22,9 @@ pub ends_refusal : (K : Type 0) (F : StoreError → Type 0) (before after : ℕ)
 ends_refusal K F before after e (inl is) f = subst (λ (d : StoreError). IsShardCheckError K F before after d) (sym is) (subst (λ (d : StoreError). K → F d) is f)
 ends_refusal K F before after e (inr (reason, is)) f = subst (λ (d : StoreError). IsShardCheckError K F before after d) (sym is) (subst (λ (d : StoreError). K → F d) is f)
 
-pub ends_error : (shard : List ℕ) (e : StoreError) → IsEndsError e → IsShardError shard e
-ends_error shard e (inl is) = subst (λ (d : StoreError). IsShardError shard d) (sym is) tt
-ends_error shard e (inr (reason, is)) = subst (λ (d : StoreError). IsShardError shard d) (sym is) tt
+pub ends_error : (shard : List ℕ) (e : StoreError) → IsEndsError e → IsShardFileError shard e
+ends_error shard e (inl is) = subst (λ (d : StoreError). IsShardFileError shard d) (sym is) tt
+ends_error shard e (inr (reason, is)) = subst (λ (d : StoreError). IsShardFileError shard d) (sym is) tt
 
 -- so is the disk's refusal
 pub disk_refusal : (K : Type 0) (F : StoreError → Type 0) (earlier before after : ℕ) (e : StoreError) → earlier ≤ before → HasDiskReason before after e → IsShardCheckError K F earlier after e

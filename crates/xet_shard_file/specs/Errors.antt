@@ -17,10 +17,10 @@ IsCheckError shard (InvalidShard hash reason) = hash ≡ shard
 IsCheckError shard e = ⊥
 
 -- the errors of a call that reads and checks the shard: also a failed disk, or out of memory
-abbrev pub IsShardError : List ℕ → StoreError → Type 0
-IsShardError shard (Io Disk) = Unit {0}
-IsShardError shard OutOfMemory = Unit {0}
-IsShardError shard e = IsCheckError shard e
+abbrev pub IsShardFileError : List ℕ → StoreError → Type 0
+IsShardFileError shard (Io Disk) = Unit {0}
+IsShardFileError shard OutOfMemory = Unit {0}
+IsShardFileError shard e = IsCheckError shard e
 
 -- The error is that of a check of the shard with this file name.
 pub record IsBadShard (e : StoreError) (name : List ℕ) : Type 0 where

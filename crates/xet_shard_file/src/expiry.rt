@@ -4,7 +4,7 @@ ghost use Rattle.std.specs.Prelude.{◌≡◌, ◌<◌, ◌≤◌, ◌+◌, ◌^
 ghost use Rattle.xet_codec.specs.Stops.{HasDiskReason};
 ghost use Rattle.xet_io.specs.Disk.{FillsFrom, bytes_at};
 ghost use Rattle.xet_io.specs.Frame.{Unchanged};
-ghost use Rattle.xet_shard_file.specs.Errors.{IsShardCheckError, EndsFail, IsShardError};
+ghost use Rattle.xet_shard_file.specs.Errors.{IsShardCheckError, EndsFail, IsShardFileError};
 ghost use Rattle.xet_shard_file.specs.Shards.{is_expired};
 ghost use Rattle.xet_shard_format.specs.Reading.{ends_of};
 
@@ -26,7 +26,7 @@ const ENDS_LEN: u64 = 248;
 pub fn is_past_expiry<D: Disk>(disk: &mut D, name: &str, now: u64) -> Result<bool, StoreError>
     ensures told { D.tells disk.old ≡ true → IfOk result (λ past. IsTrue past → (bytes : List ℕ) → bytes_at (D.files disk.old) name.now ≡ Some bytes → is_expired now bytes ≡ true) }
     ensures refused { IfErr result (IsShardCheckError (D.tells disk.old ≡ true) (EndsFail (bytes_at (D.files disk.old) name.now)) (D.faults disk.old) (D.faults disk.new)) }
-    ensures error { (shard : List ℕ) → IfErr result (IsShardError shard) }
+    ensures error { (shard : List ℕ) → IfErr result (IsShardFileError shard) }
     ensures frame { Unchanged D.files D.tells D.faults disk.old disk.new }
 {
     match disk.stat(name) {
@@ -46,7 +46,7 @@ fn is_past_in<D: Disk>(disk: &mut D, name: &str, len: u64, now: u64) -> Result<b
     requires { 248 ≤ len }
     ensures told { D.tells disk.old ≡ true → IfOk result (λ past. IsTrue past → (bytes : List ℕ) → bytes_at (D.files disk.old) name.now ≡ Some bytes → len ≡ length bytes → is_expired now bytes ≡ true) }
     ensures refused { IfErr result (IsShardCheckError (D.tells disk.old ≡ true) (λ e. (bytes : List ℕ) → bytes_at (D.files disk.old) name.now ≡ Some bytes → len ≡ length bytes → ends_of bytes ≡ Err e) (D.faults disk.old) (D.faults disk.new)) }
-    ensures error { (shard : List ℕ) → IfErr result (IsShardError shard) }
+    ensures error { (shard : List ℕ) → IfErr result (IsShardFileError shard) }
     ensures frame { Unchanged D.files D.tells D.faults disk.old disk.new }
 {
     let mut first = [0; 48];

@@ -8,5 +8,5 @@ mod put;
 
 pub use expiry::is_past_expiry;
 pub use listing::{ShardEntry, list_shards};
-pub use names::{known_bytes, shard_path};
+pub use names::{recall_bytes, shard_path};
 pub use put::{put_named_file, put_shard_file};

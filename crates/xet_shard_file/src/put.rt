@@ -8,7 +8,7 @@ ghost use Rattle.xet_io.specs.Frame.{Stays};
 ghost use Rattle.xet_shard_file.specs.Names.{IsHash, shard_path, temp_name};
 ghost use Rattle.xet_shard_file.specs.Puts.{IsKeptOrDone};
 
-use crate::names::{known_bytes, shard_path};
+use crate::names::{recall_bytes, shard_path};
 use std::alloc::Global;
 use xet_codec::store_error;
 use xet_hash::{MerkleHash, StoreError};
@@ -34,7 +34,7 @@ pub fn put_shard_file<D: Disk>(
     ensures frame { Stays D.tells D.faults disk.old disk.new }
     ensures reason { IfErr result (HasDiskReason (D.faults disk.old) (D.faults disk.new)) }
 {
-    known_bytes(hash);
+    recall_bytes(hash);
     let path = shard_path(alloc, folder, hash)?;
     put_named_file(disk, alloc, path.as_str(), encoding)
 }

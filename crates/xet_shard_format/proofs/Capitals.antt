@@ -53,18 +53,18 @@ unfolding encode_with
 encoded_small [] = refl
 encoded_small (b ∷ bytes) = λ i. digit_small (b / 16) i || (digit_small (b % 16) i || encoded_small bytes i)
 
-abbrev ending : List ℕ
-ending = codes ".mdb"
+abbrev mdb_suffix : List ℕ
+mdb_suffix = codes ".mdb"
 
-pub name_is : (name text : List ℕ) → StripsSuffix (FindsTextSuffix ending) name text → name ≡ text ++ ending
-name_is name text (n, finds, is, len) = finds.1 ∙ ap (λ (t : List ℕ). t ++ ending) (sym is)
+pub name_is : (name text : List ℕ) → StripsSuffix (FindsTextSuffix mdb_suffix) name text → name ≡ text ++ mdb_suffix
+name_is name text (n, finds, is, len) = finds.1 ∙ ap (λ (t : List ℕ). t ++ mdb_suffix) (sym is)
 
 -- the text before the ending of a shard's name
-pub text_is : (name text hash : List ℕ) → StripsSuffix (FindsTextSuffix ending) name text → name ≡ shard_name hash → text ≡ encode_lower (shown_words hash 4)
-text_is name text hash strips e = append_cancel_right text (encode_lower (shown_words hash 4)) ending (sym (name_is name text strips) ∙ e)
+pub text_is : (name text hash : List ℕ) → StripsSuffix (FindsTextSuffix mdb_suffix) name text → name ≡ shard_name hash → text ≡ encode_lower (shown_words hash 4)
+text_is name text hash strips e = append_cancel_right text (encode_lower (shown_words hash 4)) mdb_suffix (sym (name_is name text strips) ∙ e)
 
 -- a name whose front reads as a hash, and has no capitals, is that hash's
-pub found_is : {E : Type 0} (name text : List ℕ) (r : Result (List ℕ) E) → StripsSuffix (FindsTextSuffix ending) name text → has_capitals text ≡ false
+pub found_is : {E : Type 0} (name text : List ℕ) (r : Result (List ℕ) E) → StripsSuffix (FindsTextSuffix mdb_suffix) name text → has_capitals text ≡ false
     → IfOk r (λ h. hash_text h ≡ str_to_ascii_lowercase text) → IfSome (result_ok r) (λ h. name ≡ shard_name h)
-found_is name text (Ok h) strips small reads = name_is name text strips ∙ ap (λ (t : List ℕ). t ++ ending) (sym (reads ∙ lower_same text small))
+found_is name text (Ok h) strips small reads = name_is name text strips ∙ ap (λ (t : List ℕ). t ++ mdb_suffix) (sym (reads ∙ lower_same text small))
 found_is name text (Err e) strips small reads = tt

@@ -6,18 +6,18 @@ use Rattle.xet_shard_format.specs.declared.row.Row.{Row}
 use Rattle.xet_hash.specs.declared.error.Reason.TheVariants.{SectionPlace}
 use Rattle.xet_hash.specs.declared.error.StoreError.{StoreError}
 use Rattle.xet_hash.specs.declared.error.StoreError.TheVariants.{MalformedData}
-use Rattle.xet_hash.specs.Hash.{marker}
+use Rattle.xet_hash.specs.Hash.{sentinel}
 use Rattle.xet_codec.specs.Parsing.{◌>>=◌, Fails}
 use Rattle.xet_shard_format.specs.Reading.{row_at, end_at, step_at, section_at}
 use Rattle.xet_shard_format.proofs.Failures.{fails_on}
 
 pub end_fails : {X : Type 0} (record_at : Row → List Row → Result (X × List Row) StoreError) (last : Option (List ℕ)) (rows : List Row) (r : Row) (after : List Row) (e : StoreError)
-    → row_at rows ≡ Ok (r, after) → pointwise nat_eq r.hash marker ≡ true → Fails e (end_at r after) → Fails e (step_at record_at last rows)
+    → row_at rows ≡ Ok (r, after) → pointwise nat_eq r.hash sentinel ≡ true → Fails e (end_at r after) → Fails e (step_at record_at last rows)
 unfolding step_at
 end_fails record_at last rows r after e h m = fails_on e (end_at r after) (step_at record_at last rows) (λ f. rw (h, m, f) refl)
 
 pub record_fails : {X : Type 0} (record_at : Row → List Row → Result (X × List Row) StoreError) (last : Option (List ℕ)) (rows : List Row) (r : Row) (after : List Row) (e : StoreError)
-    → row_at rows ≡ Ok (r, after) → pointwise nat_eq r.hash marker ≡ false → Fails e (record_at r after) → Fails e (step_at record_at last rows)
+    → row_at rows ≡ Ok (r, after) → pointwise nat_eq r.hash sentinel ≡ false → Fails e (record_at r after) → Fails e (step_at record_at last rows)
 unfolding step_at
 record_fails record_at last rows r after e h m = fails_on e (record_at r after) (step_at record_at last rows) (λ f. rw (h, m, f) refl)
 

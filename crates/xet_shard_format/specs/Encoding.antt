@@ -8,7 +8,7 @@ use Rattle.xet_shard_format.specs.declared.record.MDBXorbInfo.{MDBXorbInfo}
 use Rattle.xet_shard_format.specs.declared.header_footer.MDBShardFileFooter.{MDBShardFileFooter}
 use Rattle.xet_shard_format.specs.declared.header_footer.MDBShardFileHeader.{MDBShardFileHeader}
 use Rattle.xet_shard_format.specs.Rows.{IsHashBytes, RowFits, rows_bytes}
-use Rattle.xet_shard_format.specs.Records.{AreRecords, IsFile, IsXorb, file_hash, file_section, segment_bytes, xorb_hash, xorb_section}
+use Rattle.xet_shard_format.specs.Records.{AreRecords, IsFile, IsXorb, file_record_hash, file_section, segment_bytes, xorb_record_hash, xorb_section}
 use Rattle.xet_shard_format.specs.Lookups.{Lookups, all_lookups, chunk_items, file_items, record_items_bytes, left_in, chunk_items_bytes, xorb_items}
 
 -- ---- header
@@ -106,8 +106,8 @@ full_shard_bytes s = shard_bytes all_lookups s
 
 -- A shard is well formed: its records are, their hashes ascend, and each section has fewer than 2 ^ 32 rows.
 pub record IsShard (s : Shard) : Type 0 where
-  pub files : AreRecords file_hash IsFile None s.files
-  pub blocks : AreRecords xorb_hash IsXorb None s.blocks
+  pub files : AreRecords file_record_hash IsFile None s.files
+  pub blocks : AreRecords xorb_record_hash IsXorb None s.blocks
   pub few_files : length (file_section s.files) < 2 ^ 32
   pub few_blocks : length (xorb_section s.blocks) < 2 ^ 32
 

@@ -9,7 +9,7 @@ use Rattle.xet_shard_format.specs.declared.row.Row.{Row}
 use Rattle.xet_shard_format.specs.declared.record.XorbChunkSequenceEntry.{XorbChunkSequenceEntry}
 use Rattle.xet_shard_format.specs.declared.record.MDBFileInfo.{MDBFileInfo}
 use Rattle.xet_shard_format.specs.declared.record.MDBXorbInfo.{MDBXorbInfo}
-use Rattle.xet_shard_format.specs.Records.{file_hash, file_rows, first_word, xorb_hash, xorb_rows}
+use Rattle.xet_shard_format.specs.Records.{file_record_hash, file_rows, first_word, xorb_record_hash, xorb_rows}
 use Rattle.xet_shard_format.specs.Sorted.{sorted}
 
 -- Files and xorbs: the first word, and the row of the header. A section is sorted by hash, so these items are
@@ -19,10 +19,10 @@ heads_from hash rows at [] = []
 heads_from hash rows at (x ∷ xs) = (first_word (hash x), at) ∷ heads_from hash rows (at + length (rows x)) xs
 
 abbrev pub file_items : List MDBFileInfo → List (ℕ × ℕ)
-file_items files = heads_from file_hash file_rows 0 files
+file_items files = heads_from file_record_hash file_rows 0 files
 
 abbrev pub xorb_items : List MDBXorbInfo → List (ℕ × ℕ)
-xorb_items blocks = heads_from xorb_hash xorb_rows 0 blocks
+xorb_items blocks = heads_from xorb_record_hash xorb_rows 0 blocks
 
 -- Chunks: first word, row of the xorb's header, and index in the xorb. The table is sorted by these three.
 unfoldable pub lookup_rows_from : ℕ → ℕ → List XorbChunkSequenceEntry → List (ℕ × ℕ × ℕ)

@@ -15,8 +15,8 @@ use Rattle.xet_shard_format.specs.declared.record.MDBXorbInfo.{MDBXorbInfo}
 use Rattle.xet_shard_format.specs.declared.header_footer.MDBShardFileFooter.{MDBShardFileFooter}
 use Rattle.xet_shard_format.specs.Rows.{rows_in}
 use Rattle.xet_codec.specs.Numbers.{word}
-use Rattle.xet_hash.specs.Hash.{marker}
-use Rattle.xet_shard_format.specs.Records.{file_hash, flags_of, is_after, xorb_hash}
+use Rattle.xet_hash.specs.Hash.{sentinel}
+use Rattle.xet_shard_format.specs.Records.{file_record_hash, flags_of, is_after, xorb_record_hash}
 use Rattle.xet_shard_format.specs.Lookups.{Lookups, chunk_items, file_items, record_items_bytes, chunk_items_bytes, xorb_items}
 use Rattle.xet_shard_format.specs.Encoding.{Fits, IsShard, Shard, footer_of, materialized, shard_bytes, stored, tag}
 use Rattle.xet_codec.specs.Parsing.{reaches, wants, ◌>>=◌}
@@ -141,7 +141,7 @@ end_at r rows = do
 unfoldable pub step_at : {X : Type 0} → (Row → List Row → Result (X × List Row) StoreError) → Option (List ℕ) → List Row → Result (Option X × List Row) StoreError
 step_at record_at last rows = do
   r ← row_at rows
-  if pointwise nat_eq r.0.hash marker then (end_at r.0 r.1 >>= λ _. Ok (None, r.1)) else (record_at r.0 r.1 >>= λ x. wants (is_after last r.0.hash) SectionOrder >>= λ _. Ok (Some x.0, x.1))
+  if pointwise nat_eq r.0.hash sentinel then (end_at r.0 r.1 >>= λ _. Ok (None, r.1)) else (record_at r.0 r.1 >>= λ x. wants (is_after last r.0.hash) SectionOrder >>= λ _. Ok (Some x.0, x.1))
 
 -- the records up to the end row, which must come within n steps
 unfoldable pub section_at : {X : Type 0} → (Row → List Row → Result (X × List Row) StoreError) → (X → List ℕ) → ℕ → Option (List ℕ) → List Row → Result (List X) StoreError
@@ -251,8 +251,8 @@ unfoldable pub all_of : List ℕ → Result ShardParts StoreError
 all_of bytes = do
   _ ← shard_header_at bytes
   f ← shard_footer_at bytes
-  files ← section_at file_record_at file_hash (file_row_count f) None (rows_in (file_row_count f) (drop f.file_info_offset bytes))
-  blocks ← section_at xorb_at xorb_hash (xorb_row_count f) None (rows_in (xorb_row_count f) (drop f.xorb_info_offset bytes))
+  files ← section_at file_record_at file_record_hash (file_row_count f) None (rows_in (file_row_count f) (drop f.file_info_offset bytes))
+  blocks ← section_at xorb_at xorb_record_hash (xorb_row_count f) None (rows_in (xorb_row_count f) (drop f.xorb_info_offset bytes))
   _ ← lookup_at bytes f.file_lookup_offset (12 * f.file_lookup_num_entry) (record_items_bytes (file_items files))
   _ ← lookup_at bytes f.xorb_lookup_offset (12 * f.xorb_lookup_num_entry) (record_items_bytes (xorb_items blocks))
   _ ← lookup_at bytes f.chunk_lookup_offset (16 * f.chunk_lookup_num_entry) (chunk_items_bytes (chunk_items blocks))

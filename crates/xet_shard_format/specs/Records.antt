@@ -2,7 +2,7 @@
 use Rattle.std.specs.Prelude.{◌≡◌, ◌≢◌, ℕ, ◌+◌, ◌^◌, Bool, true, false, List, [], ◌∷◌, ◌++◌, length, map, Option, Some, None, is_some, if◌then◌else◌}
 use Rattle.std.specs.List.{flat_map, AllByRecursion, sum_by}
 use Rattle.std.specs.Ordering.{is_lt}
-use Rattle.xet_hash.specs.Hash.{hash_word, marker}
+use Rattle.xet_hash.specs.Hash.{hash_word, sentinel}
 use Rattle.xet_hash.specs.Order.{hash_cmp}
 use Rattle.xet_shard_format.specs.declared.row.Row.{Row}
 use Rattle.xet_shard_format.specs.declared.record.FileDataSequenceEntry.{FileDataSequenceEntry}
@@ -15,8 +15,8 @@ use Rattle.xet_shard_format.specs.Rows.{row}
 
 -- ---- files
 
-abbrev pub file_hash : MDBFileInfo → List ℕ
-file_hash f = f.metadata.file_hash
+abbrev pub file_record_hash : MDBFileInfo → List ℕ
+file_record_hash f = f.metadata.file_hash
 
 abbrev pub file_head : MDBFileInfo → Row
 file_head f = row f.metadata.file_hash f.metadata.file_flags f.metadata.num_entries 0 0
@@ -58,8 +58,8 @@ segment_bytes segments = sum_by (λ s. s.unpacked_segment_bytes) segments
 
 -- ---- xorbs
 
-abbrev pub xorb_hash : MDBXorbInfo → List ℕ
-xorb_hash x = x.metadata.xorb_hash
+abbrev pub xorb_record_hash : MDBXorbInfo → List ℕ
+xorb_record_hash x = x.metadata.xorb_hash
 
 abbrev pub xorb_head : MDBXorbInfo → Row
 xorb_head x = row x.metadata.xorb_hash x.metadata.xorb_flags x.metadata.num_entries x.metadata.num_bytes_in_xorb x.metadata.num_bytes_on_disk
@@ -93,7 +93,7 @@ pub record IsXorb (x : MDBXorbInfo) : Type 0 where
 
 -- the end row of a section; its hash is the sentinel, which is the hash of no record
 abbrev pub end_row : Row
-end_row = row marker 0 0 0 0
+end_row = row sentinel 0 0 0 0
 
 abbrev pub section : {X : Type 0} → (X → List Row) → List X → List Row
 section rows xs = flat_map rows xs ++ end_row ∷ []
@@ -112,7 +112,7 @@ is_after (Some last) hash = is_lt (hash_cmp last hash)
 -- The hashes ascend, none of them is the sentinel, and each record is well formed.
 abbrev pub AreRecords : {X : Type 0} → (X → List ℕ) → (X → Type 0) → Option (List ℕ) → List X → Type 0
 AreRecords hash Form last [] = Unit {0}
-AreRecords hash Form last (x ∷ xs) = (is_after last (hash x) ≡ true) × (hash x ≢ marker) × Form x × AreRecords hash Form (Some (hash x)) xs
+AreRecords hash Form last (x ∷ xs) = (is_after last (hash x) ≡ true) × (hash x ≢ sentinel) × Form x × AreRecords hash Form (Some (hash x)) xs
 
 -- the first word of a hash, by which lookup tables are searched
 abbrev pub first_word : List ℕ → ℕ

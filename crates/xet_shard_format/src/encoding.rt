@@ -83,7 +83,7 @@ fn push_row(encoding: &mut Vec<u8>, row: &Row) -> Result<(), AllocError>
     ensures encoding { OnOk result (encoding.new.items ≡ encoding.old.items ++ row_bytes row.now) }
     ensures fits { RowFits row.now }
 {
-    known_row(row);
+    recall_row(row);
     push_fields(encoding, row)?;
     Ok(())
 }
@@ -102,15 +102,15 @@ fn push_fields(encoding: &mut Vec<u8>, row: &Row) -> Result<(), AllocError>
 }
 
 /// Proof aid without effect: the fields of a row fit in their bytes.
-fn known_row(row: &Row)
+fn recall_row(row: &Row)
     ensures { RowFits row.now }
 {
-    known_hash(&row.hash);
-    known_numbers(row.a, row.b, row.c, row.d);
+    recall_hash(&row.hash);
+    recall_numbers(row.a, row.b, row.c, row.d);
 }
 
 /// Proof aid without effect: numbers of 32 bits are below 2^32.
-fn known_numbers(a: u32, b: u32, c: u32, d: u32)
+fn recall_numbers(a: u32, b: u32, c: u32, d: u32)
     ensures first { a < 2 ^ 32 }
     ensures second { b < 2 ^ 32 }
     ensures third { c < 2 ^ 32 }
@@ -120,23 +120,23 @@ fn known_numbers(a: u32, b: u32, c: u32, d: u32)
 }
 
 /// Proof aid without effect: a hash is 32 bytes.
-pub fn known_hash(hash: &DataHash)
+pub fn recall_hash(hash: &DataHash)
     ensures length { length hash.now ≡ 32 }
     ensures bytes { All (λ b. b < 256) hash.now }
 {
-    known_array(hash.as_bytes());
+    recall_array(hash.as_bytes());
 }
 
 /// Proof aid without effect: such an array is 32 bytes.
-fn known_array(bytes: &[u8; 32])
+fn recall_array(bytes: &[u8; 32])
     ensures length { length bytes.now ≡ 32 }
     ensures bytes { All (λ b. b < 256) bytes.now }
 {
-    known_slice(bytes.as_slice());
+    recall_slice(bytes.as_slice());
 }
 
 /// Proof aid without effect: the elements of a slice of bytes are below 256.
-fn known_slice(bytes: &[u8])
+fn recall_slice(bytes: &[u8])
     ensures { All (λ b. b < 256) bytes.now }
 {
     let _ = bytes;

@@ -12,11 +12,11 @@ use std::alloc::{AllocError, Global};
 
 /// An item of the file or the xorb lookup table: the first word of a hash, and the row of its record's
 /// header.
-pub type Head = (u64, u32);
+pub type RecordItem = (u64, u32);
 
 /// An item of the chunk lookup table: the first word of a chunk hash, the row of its xorb's header, and the
 /// chunk's index in the xorb.
-pub type ChunkPlace = (u64, (u32, u32));
+pub type ChunkItem = (u64, (u32, u32));
 
 /// Appends the lookup table of these records. The caller ensures that their section has fewer than 2^32 rows.
 pub fn push_heads<R: Record, T: Lends<R>>(
@@ -89,7 +89,7 @@ pub fn push_places<T: Lends<MDBXorbInfo>>(
 pub fn chunk_places<T: Lends<MDBXorbInfo>>(
     alloc: Global,
     blocks: &[T],
-) -> Result<Vec<ChunkPlace>, AllocError>
+) -> Result<Vec<ChunkItem>, AllocError>
     requires { length (xorb_section (map T.lent blocks.now)) < 2 ^ 32 }
     ensures { IfOk result (λ places. flat_places places.items ≡ chunk_items (map T.lent blocks.now)) }
 {
@@ -98,7 +98,7 @@ pub fn chunk_places<T: Lends<MDBXorbInfo>>(
 }
 
 /// The items of all chunks, in the order of the xorbs.
-fn places<T: Lends<MDBXorbInfo>>(alloc: Global, blocks: &[T]) -> Result<Vec<ChunkPlace>, AllocError>
+fn places<T: Lends<MDBXorbInfo>>(alloc: Global, blocks: &[T]) -> Result<Vec<ChunkItem>, AllocError>
     requires { length (xorb_section (map T.lent blocks.now)) < 2 ^ 32 }
     ensures { IfOk result (λ places. flat_places places.items ≡ chunks_from 0 (map T.lent blocks.now)) }
 {
@@ -114,7 +114,7 @@ fn places<T: Lends<MDBXorbInfo>>(alloc: Global, blocks: &[T]) -> Result<Vec<Chun
 
 /// Appends the items of a xorb's chunks. The xorb's header is in row `row`.
 fn push_chunks(
-    found: &mut Vec<ChunkPlace>,
+    found: &mut Vec<ChunkItem>,
     chunks: &[XorbChunkSequenceEntry],
     row: u32,
 ) -> Result<(), AllocError>
@@ -130,7 +130,7 @@ fn push_chunks(
 }
 
 /// Sorts the items by word, row and index.
-fn in_order(mut places: Vec<ChunkPlace>) -> Result<Vec<ChunkPlace>, AllocError>
+fn in_order(mut places: Vec<ChunkItem>) -> Result<Vec<ChunkItem>, AllocError>
     ensures { IfOk result (λ ordered. flat_places ordered.items ≡ sorted place_cmp (flat_places places.items)) }
 {
     places.sort()?;
@@ -138,7 +138,7 @@ fn in_order(mut places: Vec<ChunkPlace>) -> Result<Vec<ChunkPlace>, AllocError>
 }
 
 /// Appends the encoding of an item of the chunk lookup table.
-fn push_place(encoding: &mut Vec<u8>, place: &ChunkPlace) -> Result<(), AllocError>
+fn push_place(encoding: &mut Vec<u8>, place: &ChunkItem) -> Result<(), AllocError>
     ensures { OnOk result (encoding.new.items ≡ encoding.old.items ++ chunk_item_bytes (flat_place place.now)) }
 {
     encoding.extend_from_slice(&place.0.to_le_bytes())?;

@@ -4,7 +4,7 @@ ghost use Rattle.std.specs.Prelude.{◌≡◌, ◌<◌, ◌≤◌, ◌^◌, ◌*
 ghost use Rattle.xet_hash.specs.Hash.{zero_hash};
 ghost use Rattle.xet_shard_format.specs.Boundaries.{boundaries_from};
 ghost use Rattle.xet_shard_format.specs.RecordSizes.{file_record_size, xorb_record_size};
-ghost use Rattle.xet_shard_format.specs.Records.{chunk_bytes, file_hash, flags_of, segment_bytes, xorb_hash};
+ghost use Rattle.xet_shard_format.specs.Records.{chunk_bytes, file_record_hash, flags_of, segment_bytes, xorb_record_hash};
 
 use crate::sha256::Sha256;
 use std::alloc::Global;
@@ -181,7 +181,7 @@ impl MDBFileInfo {
 
     /// The file hash.
     pub fn hash(&self) -> MerkleHash
-        ensures { result ≡ file_hash self.now }
+        ensures { result ≡ file_record_hash self.now }
     {
         self.metadata.file_hash
     }
@@ -201,7 +201,7 @@ impl MDBFileInfo {
 
     /// The uncompressed bytes of all segments. The caller ensures that there are fewer than 2^32 segments, so
     /// that the sum does not overflow.
-    pub fn known_size(&self) -> u64
+    pub fn segments_size(&self) -> u64
         requires { length self.now.segments < 2 ^ 32 }
         ensures size { result ≡ segment_bytes self.now.segments }
         ensures small { result ≤ 2 ^ 32 * length self.now.segments }
@@ -338,7 +338,7 @@ impl MDBXorbInfo {
 
     /// The xorb hash.
     pub fn hash(&self) -> MerkleHash
-        ensures { result ≡ xorb_hash self.now }
+        ensures { result ≡ xorb_record_hash self.now }
     {
         self.metadata.xorb_hash
     }
@@ -355,7 +355,7 @@ impl MDBXorbInfo {
     }
 
     /// The uncompressed bytes of all chunks, as the header states them.
-    pub fn told_size(&self) -> u64
+    pub fn stated_size(&self) -> u64
         ensures size { result ≡ self.now.metadata.num_bytes_in_xorb }
         ensures small { result < 2 ^ 32 }
     {

@@ -4,7 +4,7 @@ ghost use Rattle.std.specs.Prelude.{◌≡◌, ◌++◌, ◌∷◌, [], List, No
 ghost use Rattle.xet_hash.specs.declared.error.StoreError.{StoreError};
 ghost use Rattle.xet_hash.specs.declared.error.StoreError.TheVariants.{OutOfMemory};
 ghost use Rattle.xet_shard_format.specs.declared.row.Row.{Row};
-ghost use Rattle.xet_shard_format.specs.Records.{file_hash, flags_of, is_after, xorb_hash};
+ghost use Rattle.xet_shard_format.specs.Records.{file_record_hash, flags_of, is_after, xorb_record_hash};
 ghost use Rattle.xet_codec.specs.Parsing.{Gives};
 ghost use Rattle.xet_shard_format.specs.Reading.{chunk_in, chunks_at, end_at, ext_at, file_record_at, has_ext, hash_row_at, hash_in, is_verified, rows_after_file, section_at, segment_at, step_at, times_rows, verification_at, xorb_at};
 

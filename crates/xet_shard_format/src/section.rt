@@ -5,7 +5,7 @@ ghost use Rattle.std.specs.List.{AllByRecursion};
 ghost use Rattle.xet_hash.specs.declared.error.StoreError.{StoreError};
 ghost use Rattle.xet_shard_format.specs.declared.row.Row.{Row};
 ghost use Rattle.xet_shard_format.specs.Rows.{RowFits, rows_bytes};
-ghost use Rattle.xet_shard_format.specs.Records.{chunk_row, file_hash, file_rows, segment_row, verification_row, xorb_hash, xorb_rows};
+ghost use Rattle.xet_shard_format.specs.Records.{chunk_row, file_record_hash, file_rows, segment_row, verification_row, xorb_record_hash, xorb_rows};
 ghost use Rattle.xet_codec.specs.Parsing.{Gives};
 ghost use Rattle.xet_shard_format.specs.Reading.{file_record_at, xorb_at};
 
@@ -54,7 +54,7 @@ pub trait Record: Drop {
 }
 
 impl Record for MDBFileInfo {
-    ghost hash_of = { file_hash };
+    ghost hash_of = { file_record_hash };
 
     ghost rows_of = { file_rows };
 
@@ -92,7 +92,7 @@ impl Record for MDBFileInfo {
 }
 
 impl Record for MDBXorbInfo {
-    ghost hash_of = { xorb_hash };
+    ghost hash_of = { xorb_record_hash };
 
     ghost rows_of = { xorb_rows };
 

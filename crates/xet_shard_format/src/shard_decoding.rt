@@ -2,7 +2,7 @@
 
 ghost use Rattle.std.specs.Prelude.{◌≡◌, ◌<◌, ◌≤◌, ◌+◌, ◌*◌, ◌^◌, None, IfOk, Ok, drop, length};
 ghost use Rattle.xet_shard_format.specs.Rows.{rows_in};
-ghost use Rattle.xet_shard_format.specs.Records.{file_hash, file_section, section, xorb_hash, xorb_section};
+ghost use Rattle.xet_shard_format.specs.Records.{file_record_hash, file_section, section, xorb_record_hash, xorb_section};
 ghost use Rattle.xet_shard_format.specs.Lookups.{Lookups, chunk_items, heads_from, record_items_bytes, chunk_items_bytes};
 ghost use Rattle.xet_shard_format.specs.Encoding.{Fits, IsShard, Shard, materialized, shard_bytes, stored};
 ghost use Rattle.xet_codec.specs.Parsing.{Gives};
@@ -74,7 +74,7 @@ fn all_files(
     f: &MDBShardFileFooter,
 ) -> Result<Vec<MDBFileInfo>, StoreError>
     requires { IsPlaced (length bytes.now) f.now }
-    ensures gives { Gives (λ v. v.items) result (section_at file_record_at file_hash (file_row_count f.now) None (rows_in (file_row_count f.now) (drop f.now.file_info_offset bytes.now))) }
+    ensures gives { Gives (λ v. v.items) result (section_at file_record_at file_record_hash (file_row_count f.now) None (rows_in (file_row_count f.now) (drop f.now.file_info_offset bytes.now))) }
     ensures few { IfOk result (λ v. length (file_section v.items) < 2 ^ 32) }
     ensures total { IfOk result (λ v. materialized v.items < 2 ^ 64) }
 {
@@ -89,7 +89,7 @@ fn all_xorbs(
     f: &MDBShardFileFooter,
 ) -> Result<Vec<MDBXorbInfo>, StoreError>
     requires { IsPlaced (length bytes.now) f.now }
-    ensures gives { Gives (λ v. v.items) result (section_at xorb_at xorb_hash (xorb_row_count f.now) None (rows_in (xorb_row_count f.now) (drop f.now.xorb_info_offset bytes.now))) }
+    ensures gives { Gives (λ v. v.items) result (section_at xorb_at xorb_record_hash (xorb_row_count f.now) None (rows_in (xorb_row_count f.now) (drop f.now.xorb_info_offset bytes.now))) }
     ensures few { IfOk result (λ v. length (xorb_section v.items) < 2 ^ 32) }
     ensures total { IfOk result (λ v. stored v.items < 2 ^ 64) }
 {

@@ -5,7 +5,7 @@ ghost use Rattle.xet_shard_format.specs.Records.{file_section, section, xorb_sec
 ghost use Rattle.xet_shard_format.specs.Lookups.{chunk_items, file_items, xorb_items};
 ghost use Rattle.xet_shard_format.specs.Encoding.{Fits, footer_of, footer_with, shard, shard_bytes};
 
-use crate::encoding::{known_hash, push_footer, push_header, push_section};
+use crate::encoding::{push_footer, push_header, push_section, recall_hash};
 use crate::header_footer::{HEADER, MDBShardFileFooter};
 use crate::lookup::{materialized, push_standing_heads, push_standing_places, stored};
 use crate::record::{MDBFileInfo, MDBXorbInfo};
@@ -65,7 +65,7 @@ pub fn write_with_lookups<B: Lends<MDBXorbInfo>, F: Lends<MDBFileInfo>>(
     ensures fits { OnOk result (Fits (shard (map B.lent blocks.now) (map F.lent files.now) key creation expiry)) }
     ensures memory { IsOkUnless result StoreError.OutOfMemory }
 {
-    known_hash(&key);
+    recall_hash(&key);
     let all = count::<B, F>(blocks, files);
     let counts = all.standing(lookups);
     let mut encoding = Vec::with_capacity(alloc, counts.footer_offset() as usize + 200)?;

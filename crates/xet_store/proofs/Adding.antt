@@ -17,7 +17,7 @@ use Rattle.xet_xorb.specs.Raw.{ArePartsOfXorb, raw_leaves, raw_of}
 use Rattle.xet_shard_format.specs.declared.record.MDBFileInfo.{MDBFileInfo}
 use Rattle.xet_shard_format.specs.declared.record.MDBXorbInfo.{MDBXorbInfo}
 use Rattle.xet_shard.specs.Held.{Held, IsHeld, held as the_held, with_last}
-use Rattle.xet_shard_format.specs.Records as record_of
+use Rattle.xet_shard_format.specs.Records.{xorb_record_hash}
 use Rattle.xet_shard.specs.theorems.Holding.{all_last}
 use Rattle.xet_folder.specs.Admission.{block_leaves}
 use Rattle.xet_folder.specs.Names.{IsForeign, xorb_path}
@@ -35,7 +35,7 @@ use Rattle.xet_folder.specs.Contents.{IsRecord}
 use Rattle.xet_store.specs.Store.{State, IsPendingFile, Sound}
 use Rattle.xet_base.specs.theorems.Elements.{all_more}
 use Rattle.xet_store.proofs.Pending.{entries_leaves}
-use Rattle.xet_store.specs.theorems.Plans.{joins_more}
+use Rattle.xet_store.specs.theorems.Plans.{resolves_more}
 use Rattle.xet_store.proofs.Rows.{differ_more, found_more}
 use Rattle.xet_store.specs.theorems.Rows.{is_some_either}
 use Rattle.xet_store.specs.theorems.Staying.{Leaves, StateStays, admitted_stays, backed_still, changed, keeps_at, keeps_changed, keeps_refused, kept_or, found_nowhere, same_change, sound_refused, stays_xorb}
@@ -46,14 +46,14 @@ module _ (old new : Xorbs) (more : (h : List ℕ) (ms : Leaves) → IsListed old
   pub records_more : (rs : FileRecords) → AllByRecursion (IsRecord old) rs → AllByRecursion (IsRecord new) rs
   records_more [] all = tt
   records_more (r ∷ rs) all = (
-    record { named = all.0.named; leaves = all.0.leaves; joins = joins_more (IsListed old) (IsListed new) (λ (m : List ℕ × ℕ). m.1) more r.1.segments all.0.leaves all.0.joins; hash = all.0.hash; some = all.0.some; bound = all.0.bound },
+    record { named = all.0.named; leaves = all.0.leaves; resolves = resolves_more (IsListed old) (IsListed new) (λ (m : List ℕ × ℕ). m.1) more r.1.segments all.0.leaves all.0.resolves; hash = all.0.hash; some = all.0.some; bound = all.0.bound },
     records_more rs all.1,
   )
 
   pub files_more : (rs : FileRecords) (fs : List MDBFileInfo) → AllByRecursion (IsPendingFile old rs) fs → AllByRecursion (IsPendingFile new rs) fs
   files_more rs [] all = tt
   files_more rs (f ∷ fs) all = (
-    record { recorded = all.0.recorded; leaves = all.0.leaves; joins = joins_more (IsListed old) (IsListed new) (λ (m : List ℕ × ℕ). m.1) more f.segments all.0.leaves all.0.joins; form = all.0.form },
+    record { recorded = all.0.recorded; leaves = all.0.leaves; resolves = resolves_more (IsListed old) (IsListed new) (λ (m : List ℕ × ℕ). m.1) more f.segments all.0.leaves all.0.resolves; form = all.0.form },
     files_more rs fs all.1,
   )
 
@@ -64,7 +64,7 @@ module _ (s : State) (h : List ℕ) (leaves : Leaves) where
   listed_too = s.xorbs ++ (h, leaves) ∷ []
 
   abbrev pending_too : Held
-  pending_too = record { blocks = with_last record_of.xorb_hash s.pending.blocks (xorb_record h leaves); files = s.pending.files }
+  pending_too = record { blocks = with_last xorb_record_hash s.pending.blocks (xorb_record h leaves); files = s.pending.files }
 
   abbrev pub with_xorb : Bool → Files → ℕ → State
   with_xorb tells files faults = changed s tells files faults listed_too s.records s.shards pending_too
@@ -90,9 +90,9 @@ module _ (s : State) (h : List ℕ) (leaves : Leaves) where
       recorded = records_more s.xorbs listed_too stays_listed s.records sound.recorded;
       kept = λ k f e. kept_or s tells files faults stays sound pending_too s.shards (λ x a. a) f (λ p. p) (sound.kept k f e);
       held = held;
-      blocks = all_last (λ b. IsListed listed_too (record_of.xorb_hash b) (block_leaves b)) record_of.xorb_hash s.pending.blocks (xorb_record h leaves)
-          (all_more (λ b. IsListed s.xorbs (record_of.xorb_hash b) (block_leaves b)) (λ b. IsListed listed_too (record_of.xorb_hash b) (block_leaves b)) s.pending.blocks
-          (λ b l. stays_listed (record_of.xorb_hash b) (block_leaves b) l) sound.blocks)
+      blocks = all_last (λ b. IsListed listed_too (xorb_record_hash b) (block_leaves b)) xorb_record_hash s.pending.blocks (xorb_record h leaves)
+          (all_more (λ b. IsListed s.xorbs (xorb_record_hash b) (block_leaves b)) (λ b. IsListed listed_too (xorb_record_hash b) (block_leaves b)) s.pending.blocks
+          (λ b l. stays_listed (xorb_record_hash b) (block_leaves b) l) sound.blocks)
           (listed_new none ∙ ap Some (sym (entries_leaves 0 leaves)));
       pending_files = files_more s.xorbs listed_too stays_listed s.records s.pending.files sound.pending_files;
       admitted = λ told. admitted_stays s tells files faults stays sound listed_too (λ k is. found_more s.xorbs ((h, leaves) ∷ []) k is) shards (sym stays.tells_same ∙ told);
@@ -112,7 +112,7 @@ module _ (s : State) (h : List ℕ) (leaves : Leaves) where
 
 -- the same of lists by other names
 module _ (s : State) (h : List ℕ) (leaves : Leaves) (tells : Bool) (files : Files) (faults : ℕ) (stays : StateStays s tells files faults) (sound : Sound s) {xorbs : Xorbs} {pending : Held}
-    (listed : xorbs ≡ s.xorbs ++ (h, leaves) ∷ []) (held : pending ≡ record { blocks = with_last record_of.xorb_hash s.pending.blocks (xorb_record h leaves); files = s.pending.files }) where
+    (listed : xorbs ≡ s.xorbs ++ (h, leaves) ∷ []) (held : pending ≡ record { blocks = with_last xorb_record_hash s.pending.blocks (xorb_record h leaves); files = s.pending.files }) where
   same_added : with_xorb s h leaves tells files faults ≡ changed s tells files faults xorbs s.records s.shards pending
   same_added = same_change s tells files faults listed refl refl held
 
@@ -133,7 +133,7 @@ module _ (s : State) (h : List ℕ) (ms : Leaves) where
   abbrev added_or : Option Leaves → Tables
   added_or o =
       if is_some o then tables_of s
-      else tables (s.xorbs ++ (h, ms) ∷ []) s.records (the_held (with_last record_of.xorb_hash s.pending.blocks (xorb_record h ms)) s.pending.files)
+      else tables (s.xorbs ++ (h, ms) ∷ []) s.records (the_held (with_last xorb_record_hash s.pending.blocks (xorb_record h ms)) s.pending.files)
 
   -- where the xorb is listed
   pub tables_listed : (v : Leaves) → found s.xorbs h ≡ Some v → tables_of s ≡ with_leaves (tables_of s) h ms
@@ -141,7 +141,7 @@ module _ (s : State) (h : List ℕ) (ms : Leaves) where
 
   -- where it is added
   pub tables_added : found s.xorbs h ≡ None → (xorbs : Xorbs) (pending : Held) → xorbs ≡ s.xorbs ++ (h, ms) ∷ []
-      → pending ≡ the_held (with_last record_of.xorb_hash s.pending.blocks (xorb_record h ms)) s.pending.files → tables xorbs s.records pending ≡ with_leaves (tables_of s) h ms
+      → pending ≡ the_held (with_last xorb_record_hash s.pending.blocks (xorb_record h ms)) s.pending.files → tables xorbs s.records pending ≡ with_leaves (tables_of s) h ms
   tables_added none xorbs pending listed is = (λ i. tables (listed i) s.records (is i)) ∙ sym (ap added_or none)
 
 -- by its chunks
@@ -249,7 +249,7 @@ module _ {s : State} {folder h encoding : List ℕ} {leaves : Leaves} {tells : B
 
     -- done
     module _ {xorbs : Xorbs} {pending : Held} (listed : xorbs ≡ s.xorbs ++ (h, leaves) ∷ [])
-        (held : pending ≡ record { blocks = with_last record_of.xorb_hash s.pending.blocks (xorb_record h leaves); files = s.pending.files }) where
+        (held : pending ≡ record { blocks = with_last xorb_record_hash s.pending.blocks (xorb_record h leaves); files = s.pending.files }) where
       pub put_sound : IsHash h → IsHeld pending → (s.tells ≡ true → bytes_at files (xorb_path folder h) ≡ Some encoding) → Sound (changed s tells files faults xorbs s.records s.shards pending)
       put_sound is form there = sound_added_at s h leaves tells files faults xorb_stays p.sound listed held p.none is form
           (λ told. p.backs (subst (λ (f : List ℕ). bytes_at files (xorb_path f h) ≡ Some encoding) p.same (there told))) shards_here
@@ -258,7 +258,7 @@ module _ {s : State} {folder h encoding : List ℕ} {leaves : Leaves} {tells : B
       put_keeps durable t e = keeps_added_at s h leaves tells files faults xorb_stays p.sound listed held (λ told. subst (λ (f : List ℕ). IsDurable files (xorb_path f h)) p.same (durable told)) t e
 
   -- the tables then
-  pub put_tables : {xorbs : Xorbs} {pending : Held} → xorbs ≡ s.xorbs ++ (h, leaves) ∷ [] → pending ≡ record { blocks = with_last record_of.xorb_hash s.pending.blocks (xorb_record h leaves); files = s.pending.files }
+  pub put_tables : {xorbs : Xorbs} {pending : Held} → xorbs ≡ s.xorbs ++ (h, leaves) ∷ [] → pending ≡ record { blocks = with_last xorb_record_hash s.pending.blocks (xorb_record h leaves); files = s.pending.files }
       → (t : State) → s ≡ t → (chunks : List Chunk) → AllByRecursion (λ c. c.hash ≡ chunk_hash c.bytes) chunks → h ≡ xorb_hash (map chunk_leaf chunks) → leaves ≡ map chunk_leaf chunks
       → tables xorbs s.records pending ≡ with_xorb_of (tables_of t) (map bytes_of_chunk chunks)
   put_tables {xorbs} {pending} listed held t e chunks digests is_hash is_leaves =

@@ -15,7 +15,7 @@ use Rattle.xet_shard.specs.Held.{Held, IsHeld, by_hash, held_shard, nothing}
 use Rattle.xet_shard_format.specs.Lookups.{all_lookups, chunk_items, file_items, record_items_bytes, chunk_items_bytes, xorb_items}
 use Rattle.xet_codec.specs.Parsing.{◌>>=◌}
 use Rattle.xet_shard_format.specs.Reading.{ShardParts, all_of, file_record_at as read_file, file_row_count, shard_footer_at, shard_header_at, lookup_at, shard_parts_of, section_at, totals_at, xorb_at, xorb_row_count}
-use Rattle.xet_shard_format.specs.Records.{file_hash, xorb_hash}
+use Rattle.xet_shard_format.specs.Records.{file_record_hash, xorb_record_hash}
 use Rattle.xet_shard_format.specs.Rows.{rows_in}
 use Rattle.xet_shard_format.specs.Sorted.{put_in, sorted}
 use Rattle.xet_shard_format.specs.Encoding.{Fits, IsShard, footer_of, full_shard_bytes, materialized, stored}
@@ -27,7 +27,7 @@ use Rattle.xet_folder.specs.Contents.{IsRecord}
 use Rattle.xet_folder.specs.Names.{IsForeign, xorb_path}
 use Rattle.xet_shard_file.specs.Names.{IsHash, shard_path}
 use Rattle.xet_folder.specs.Listed.{Lists}
-use Rattle.xet_folder.specs.Plan.{Joins}
+use Rattle.xet_folder.specs.Plan.{Resolves}
 use Rattle.xet_shard_file.specs.Puts.{IsDone, IsKeptOrDone}
 use Rattle.xet_shard_file.specs.Shards.{is_expired, is_past}
 use Rattle.xet_folder.specs.Stored.{IsBacked}
@@ -38,12 +38,12 @@ use Rattle.xet_store.specs.Flushing.{IsFlushed, IsUnflushed, KeepsOtherNames, pe
 use Rattle.xet_store.specs.Separate.{Among}
 use Rattle.xet_store.specs.Store.{State, IsAdmitted, IsKept, IsPendingFile, Sound}
 use Rattle.xet_store.specs.theorems.Admitting.{SameXorb, admitted_still, admitted_with, backed_same, registered_still, this_registered}
-use Rattle.xet_store.specs.theorems.Plans.{joins_more}
+use Rattle.xet_store.specs.theorems.Plans.{resolves_more}
 use Rattle.xet_store.specs.theorems.Rows.{among_last, among_more, among_sorted, from_among, is_some_found, to_among}
 use Rattle.xet_store.specs.theorems.Staying.{StateStays, backed_still, changed, hash_cases, keeps_at, keeps_changed, keeps_refused, kept_still, found_nowhere, same_bytes_at, same_change, same_file_at, sound_refused, stays_shard}
 use Rattle.xet_store.specs.theorems.Whole.{found_has}
 
--- ---- the moment of expiry of a shard that was read
+-- ---- the time of expiry of a shard that was read
 
 ok_footer : (q p : ShardParts) → ◌≡◌ {A = Result ShardParts StoreError} (Ok q) (Ok p) → q.2 ≡ p.2
 ok_footer q p e = let same : q ≡ p = cc in ap (λ (x : ShardParts). x.2) same
@@ -54,8 +54,8 @@ with_footer bytes p e =
     let head = bind_ok (shard_header_at bytes) _ _ e in
     let foot = bind_ok (shard_footer_at bytes) _ _ head.2 in
     let g : MDBShardFileFooter = foot.0 in
-    let fs = bind_ok (section_at read_file file_hash (file_row_count g) None (rows_in (file_row_count g) (drop g.file_info_offset bytes))) _ _ foot.2 in
-    let xs = bind_ok (section_at xorb_at xorb_hash (xorb_row_count g) None (rows_in (xorb_row_count g) (drop g.xorb_info_offset bytes))) _ _ fs.2 in
+    let fs = bind_ok (section_at read_file file_record_hash (file_row_count g) None (rows_in (file_row_count g) (drop g.file_info_offset bytes))) _ _ foot.2 in
+    let xs = bind_ok (section_at xorb_at xorb_record_hash (xorb_row_count g) None (rows_in (xorb_row_count g) (drop g.xorb_info_offset bytes))) _ _ fs.2 in
     let l1 = bind_ok (lookup_at bytes g.file_lookup_offset (12 * g.file_lookup_num_entry) (record_items_bytes (file_items fs.0))) _ _ xs.2 in
     let l2 = bind_ok (lookup_at bytes g.xorb_lookup_offset (12 * g.xorb_lookup_num_entry) (record_items_bytes (xorb_items xs.0))) _ _ l1.2 in
     let l3 = bind_ok (lookup_at bytes g.chunk_lookup_offset (16 * g.chunk_lookup_num_entry) (chunk_items_bytes (chunk_items xs.0))) _ _ l2.2 in
@@ -68,14 +68,14 @@ module _ (held : Held) (now : ℕ) (shard : IsShard (held_shard held now None)) 
   pub read_again : all_of (full_shard_bytes (held_shard held now None)) ≡ Ok (shard_parts_of all_lookups (held_shard held now None))
   read_again = all_again all_lookups (held_shard held now None) shard fits
 
-  never_past : (moment : ℕ) → moment < 2 ^ 64 → nat_lt (footer_of all_lookups (held_shard held now None)).shard_key_expiry moment ≡ false
+  never_past : (time : ℕ) → time < 2 ^ 64 → nat_lt (footer_of all_lookups (held_shard held now None)).shard_key_expiry time ≡ false
   unfolding footer_of
-  never_past moment below = le-ltb (2 ^ 64 - 1) moment (omega (arith, below))
+  never_past time below = le-ltb (2 ^ 64 - 1) time (omega (arith, below))
 
-  -- at any moment
-  pub never_expired : (moment : ℕ) → moment < 2 ^ 64 → is_expired moment (full_shard_bytes (held_shard held now None)) ≡ false
-  never_expired moment below =
-      ap (is_past moment) (with_footer (full_shard_bytes (held_shard held now None)) (shard_parts_of all_lookups (held_shard held now None)) read_again) ∙ never_past moment below
+  -- at any time
+  pub never_expired : (time : ℕ) → time < 2 ^ 64 → is_expired time (full_shard_bytes (held_shard held now None)) ≡ false
+  never_expired time below =
+      ap (is_past time) (with_footer (full_shard_bytes (held_shard held now None)) (shard_parts_of all_lookups (held_shard held now None)) read_again) ∙ never_past time below
 
   pub not_expired : is_expired now (full_shard_bytes (held_shard held now None)) ≡ false
   not_expired = never_expired now fits.creation
@@ -112,7 +112,7 @@ all_made f P (x ∷ xs) h all (inl e) = subst P e all.0
 all_made f P (x ∷ xs) h all (inr a) = all_made f P xs h all.1 a
 
 -- each xorb that a plan names is listed
-segments_listed : (xorbs : Xorbs) (plan : List Segment) (out : List (List ℕ × ℕ)) → Joins (IsListed xorbs) (λ m. m.1) plan out → AllByRecursion (λ s. IsSome (found xorbs s.xorb_hash)) plan
+segments_listed : (xorbs : Xorbs) (plan : List Segment) (out : List (List ℕ × ℕ)) → Resolves (IsListed xorbs) (λ m. m.1) plan out → AllByRecursion (λ s. IsSome (found xorbs s.xorb_hash)) plan
 segments_listed xorbs [] out none = tt
 segments_listed xorbs (s ∷ ss) out (xs, rest, has, lies, parts, more) = (is_some_found xorbs s.xorb_hash xs has, segments_listed xorbs ss rest more)
 
@@ -121,15 +121,15 @@ module _ (s : State) (sound : Sound s) (shard : IsShard (held_shard s.pending s.
   parts = shard_parts_of all_lookups (held_shard s.pending s.opened None)
 
   -- the record of each pending file
-  pending_records : (fs : List MDBFileInfo) → AllByRecursion (IsPendingFile s.xorbs s.records) fs → AllByRecursion (λ f. IsRecord s.xorbs (file_hash f, f)) fs
+  pending_records : (fs : List MDBFileInfo) → AllByRecursion (IsPendingFile s.xorbs s.records) fs → AllByRecursion (λ f. IsRecord s.xorbs (file_record_hash f, f)) fs
   pending_records [] all = tt
-  pending_records (f ∷ fs) all = (found_has (IsRecord s.xorbs) s.records (file_hash f) f sound.recorded all.0.recorded, pending_records fs all.1)
+  pending_records (f ∷ fs) all = (found_has (IsRecord s.xorbs) s.records (file_record_hash f) f sound.recorded all.0.recorded, pending_records fs all.1)
 
-  files_recorded : AllByRecursion (λ f. IsRecord s.xorbs (file_hash f, f)) (by_hash file_hash s.pending.files)
-  files_recorded = all_sorted _ (λ f. IsRecord s.xorbs (file_hash f, f)) s.pending.files (pending_records s.pending.files sound.pending_files)
+  files_recorded : AllByRecursion (λ f. IsRecord s.xorbs (file_record_hash f, f)) (by_hash file_record_hash s.pending.files)
+  files_recorded = all_sorted _ (λ f. IsRecord s.xorbs (file_record_hash f, f)) s.pending.files (pending_records s.pending.files sound.pending_files)
 
-  blocks_listed : AllByRecursion (λ b. IsListed s.xorbs (xorb_hash b) (block_leaves b)) (by_hash xorb_hash s.pending.blocks)
-  blocks_listed = all_sorted _ (λ b. IsListed s.xorbs (xorb_hash b) (block_leaves b)) s.pending.blocks sound.blocks
+  blocks_listed : AllByRecursion (λ b. IsListed s.xorbs (xorb_record_hash b) (block_leaves b)) (by_hash xorb_record_hash s.pending.blocks)
+  blocks_listed = all_sorted _ (λ b. IsListed s.xorbs (xorb_record_hash b) (block_leaves b)) s.pending.blocks sound.blocks
 
   -- each xorb that it names is listed
   named_listed : (bytes : List ℕ) → bytes ≡ pending_bytes s → (x : List ℕ) → OfBytes bytes x → IsSome (found s.xorbs x)
@@ -141,20 +141,20 @@ module _ (s : State) (sound : Sound s) (shard : IsShard (held_shard s.pending s.
       same : p ≡ parts
       same = cc reads
 
-      of_files : (fs : List MDBFileInfo) (f : MDBFileInfo) → AllByRecursion (λ g. IsRecord s.xorbs (file_hash g, g)) fs → Among fs f → OfFile f x → IsSome (found s.xorbs x)
+      of_files : (fs : List MDBFileInfo) (f : MDBFileInfo) → AllByRecursion (λ g. IsRecord s.xorbs (file_record_hash g, g)) fs → Among fs f → OfFile f x → IsSome (found s.xorbs x)
       of_files [] f all a of = absurd a
       of_files (g ∷ fs) f all (inl e) of =
           let r = all.0 in
-          all_made (λ (t : Segment). t.xorb_hash) (λ h. IsSome (found s.xorbs h)) g.segments x (segments_listed s.xorbs g.segments r.leaves r.joins)
+          all_made (λ (t : Segment). t.xorb_hash) (λ h. IsSome (found s.xorbs h)) g.segments x (segments_listed s.xorbs g.segments r.leaves r.resolves)
           (to_among (map (λ (t : Segment). t.xorb_hash) g.segments) x (subst (λ (y : MDBFileInfo). OfFile y x) (sym e) of))
       of_files (g ∷ fs) f all (inr a) of = of_files fs f all.1 a of
 
       go : OfShard parts x → IsSome (found s.xorbs x)
       go (inl block) =
-          all_made xorb_hash (λ h. IsSome (found s.xorbs h)) (by_hash xorb_hash s.pending.blocks) x
-          (all_more (λ b. IsListed s.xorbs (xorb_hash b) (block_leaves b)) (λ b. IsSome (found s.xorbs (xorb_hash b))) (by_hash xorb_hash s.pending.blocks) (λ b l. is_some_found s.xorbs (xorb_hash b) (block_leaves b) l) blocks_listed)
-          (to_among (map xorb_hash (by_hash xorb_hash s.pending.blocks)) x block)
-      go (inr (f, among, of)) = of_files (by_hash file_hash s.pending.files) f files_recorded (to_among (by_hash file_hash s.pending.files) f among) of
+          all_made xorb_record_hash (λ h. IsSome (found s.xorbs h)) (by_hash xorb_record_hash s.pending.blocks) x
+          (all_more (λ b. IsListed s.xorbs (xorb_record_hash b) (block_leaves b)) (λ b. IsSome (found s.xorbs (xorb_record_hash b))) (by_hash xorb_record_hash s.pending.blocks) (λ b l. is_some_found s.xorbs (xorb_record_hash b) (block_leaves b) l) blocks_listed)
+          (to_among (map xorb_record_hash (by_hash xorb_record_hash s.pending.blocks)) x block)
+      go (inr (f, among, of)) = of_files (by_hash file_record_hash s.pending.files) f files_recorded (to_among (by_hash file_record_hash s.pending.files) f among) of
 
   -- where the listed xorbs are stored, it holds
   encoding_holds : (files : Files) (h : List ℕ) (file : File) → AreBacked files s.folder s.xorbs → h ≡ shard_hash (pending_bytes s) → file.bytes ≡ pending_bytes s
@@ -165,9 +165,9 @@ module _ (s : State) (sound : Sound s) (shard : IsShard (held_shard s.pending s.
     read = ap all_of is ∙ read_again s.pending s.opened shard fits;
     named = ap shard_hash is ∙ sym hash;
     plain = refl;
-    blocks = all_more (λ b. IsListed s.xorbs (xorb_hash b) (block_leaves b)) (BlockHolds files s.folder h) (by_hash xorb_hash s.pending.blocks) (λ b l. backed (xorb_hash b) (block_leaves b) l) blocks_listed;
-    files_hold = all_more (λ f. IsRecord s.xorbs (file_hash f, f)) (FileHolds files s.folder h) (by_hash file_hash s.pending.files)
-        (λ f r. record { leaves = r.leaves; joins = joins_more (IsListed s.xorbs) (IsBacked files s.folder) (λ (m : List ℕ × ℕ). m.1) backed f.segments r.leaves r.joins; some = r.some; hash = r.hash }) files_recorded;
+    blocks = all_more (λ b. IsListed s.xorbs (xorb_record_hash b) (block_leaves b)) (BlockHolds files s.folder h) (by_hash xorb_record_hash s.pending.blocks) (λ b l. backed (xorb_record_hash b) (block_leaves b) l) blocks_listed;
+    files_hold = all_more (λ f. IsRecord s.xorbs (file_record_hash f, f)) (FileHolds files s.folder h) (by_hash file_record_hash s.pending.files)
+        (λ f r. record { leaves = r.leaves; resolves = resolves_more (IsListed s.xorbs) (IsBacked files s.folder) (λ (m : List ℕ × ℕ). m.1) backed f.segments r.leaves r.resolves; some = r.some; hash = r.hash }) files_recorded;
   }
 
 -- what a put leaves of a shard's file: it is as it was, or the whole shard
@@ -232,15 +232,15 @@ module _ (s : State) (h : List ℕ) (tells : Bool) (files : Files) (faults : ℕ
 
 -- ---- the shard is registered, and nothing is pending
 
--- where the shard is there, each file that was pending is listed at any moment
+-- where the shard is there, each file that was pending is listed at any time
 module _ (s : State) (h : List ℕ) (files : Files) (hash : IsHash h) (shard : IsShard (held_shard s.pending s.opened None)) (fits : Fits (held_shard s.pending s.opened None))
     (there : bytes_at files (shard_path s.folder h) ≡ Some (pending_bytes s)) where
-  pub lists_new : (f : MDBFileInfo) → IsAmong s.pending.files f → (moment : ℕ) → moment < 2 ^ 64 → Lists files s.folder moment f
-  lists_new f among moment below =
+  pub lists_new : (f : MDBFileInfo) → IsAmong s.pending.files f → (time : ℕ) → time < 2 ^ 64 → Lists files s.folder time f
+  lists_new f among time below =
       let file = file_there files (shard_path s.folder h) (pending_bytes s) there in record {
         shard = record { hash = h; file = file.0 };
         there = record { named = hash; there = file.1 };
-        valid = ap (λ (b : List ℕ). is_expired moment b) file.2 ∙ never_expired s.pending s.opened shard fits moment below;
+        valid = ap (λ (b : List ℕ). is_expired time b) file.2 ∙ never_expired s.pending s.opened shard fits time below;
         parts = shard_parts_of all_lookups (held_shard s.pending s.opened None);
         read = ap all_of file.2 ∙ read_again s.pending s.opened shard fits;
         among = from_among (held_shard s.pending s.opened None).files f (among_sorted _ s.pending.files f (to_among s.pending.files f among));
@@ -270,8 +270,8 @@ module _ (s : State) (h : List ℕ) (tells : Bool) (files : Files) (faults : ℕ
         → IsAmong nothing.files f ⊎ (tells ≡ true → IsKept files s.folder s.opened (s.shards ++ h ∷ []) f)
     kept_flushed f (inl is) = inr (λ told. kept_new f (sym stays.tells_same ∙ told) is)
     kept_flushed f (inr kept) =
-        inr (λ told. let told_before : s.tells ≡ true = sym stays.tells_same ∙ told in
-        kept_still s tells files faults stays sound (s.shards ++ h ∷ []) (λ x a. among_more s.shards (h ∷ []) x a) f told_before (kept told_before))
+        inr (λ told. let tells_before : s.tells ≡ true = sym stays.tells_same ∙ told in
+        kept_still s tells files faults stays sound (s.shards ++ h ∷ []) (λ x a. among_more s.shards (h ∷ []) x a) f tells_before (kept tells_before))
 
     pub sound_flushed : Sound with_shard
     sound_flushed = record {
@@ -312,7 +312,7 @@ module _ (s : State) (h : List ℕ) (tells : Bool) (files : Files) (faults : ℕ
         durable = λ told. (done told).durable;
         temp = λ told. (done told).temp;
         others = others;
-        lasts = λ told f among moment below. lists_new s h files is_hash shard fits (done told).there f among moment below;
+        lasts = λ told f among time below. lists_new s h files is_hash shard fits (done told).there f among time below;
         registered = registered;
         nothing_pending = none;
         xorbs = refl;

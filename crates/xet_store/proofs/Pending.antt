@@ -14,7 +14,7 @@ use Rattle.xet_shard_format.specs.declared.record.XorbChunkSequenceEntry.{XorbCh
 use Rattle.xet_shard_format.specs.declared.row.Row.{Row}
 use Rattle.xet_shard.specs.Held.{Held, held_size, with_last}
 use Rattle.xet_shard_format.specs.RecordSizes.{file_record_size, xorb_record_size}
-use Rattle.xet_shard_format.specs.Records.{IsFile, IsXorb, StartAt, chunk_bytes, chunk_row, end_row, ext_rows, file_hash, file_rows, file_section, flags_of, section, segment_row, verification_row, xorb_hash, xorb_rows, xorb_section}
+use Rattle.xet_shard_format.specs.Records.{IsFile, IsXorb, StartAt, chunk_bytes, chunk_row, end_row, ext_rows, file_record_hash, file_rows, file_section, flags_of, section, segment_row, verification_row, xorb_record_hash, xorb_rows, xorb_section}
 use Rattle.xet_folder.specs.Admission.{entry_leaf}
 use Rattle.xet_dedup.specs.Records.{IsRecordOf, entries_from, range_hashes, run_len, xorb_record}
 
@@ -106,23 +106,23 @@ file_row_count f n segments verification =
     let rest = length-append (map verification_row f.verification) (ext_rows f.metadata_ext) in
     omega (arith, length-append (map segment_row f.segments) (map verification_row f.verification ++ ext_rows f.metadata_ext), rest, length-map f.segments segment_row, length-map f.verification verification_row, few_ext f.metadata_ext, segments, verification)
 
-pub few_blocks : (p : Held) (h : List ℕ) (ms : List (List ℕ × ℕ)) → held_size p + 48 * (1 + length ms) < 2 ^ 37 → length (xorb_section (with_last xorb_hash p.blocks (xorb_record h ms))) < 2 ^ 32
+pub few_blocks : (p : Held) (h : List ℕ) (ms : List (List ℕ × ℕ)) → held_size p + 48 * (1 + length ms) < 2 ^ 37 → length (xorb_section (with_last xorb_record_hash p.blocks (xorb_record h ms))) < 2 ^ 32
 few_blocks p h ms room =
     let rows : length (xorb_rows (xorb_record h ms)) ≤ 1 + length ms = omega (arith, xorb_row_count h ms) in
-    few_rows xorb_rows xorb_record_size xorb_rows_size xorb_hash p.blocks (xorb_record h ms) (1 + length ms) rows (omega (arith, room))
+    few_rows xorb_rows xorb_record_size xorb_rows_size xorb_record_hash p.blocks (xorb_record h ms) (1 + length ms) rows (omega (arith, room))
 
 -- the same of a record that is equal to it
 module _ (b : MDBXorbInfo) (h : List ℕ) (ms : List (List ℕ × ℕ)) (exact : b ≡ xorb_record h ms) where
   pub xorb_form_of : IsXorb b
   xorb_form_of = subst IsXorb (sym exact) (xorb_form h ms)
 
-  pub few_blocks_of : (p : Held) (n : ℕ) → n ≡ length ms → held_size p + 48 * (1 + n) < 2 ^ 37 → length (xorb_section (with_last xorb_hash p.blocks b)) < 2 ^ 32
+  pub few_blocks_of : (p : Held) (n : ℕ) → n ≡ length ms → held_size p + 48 * (1 + n) < 2 ^ 37 → length (xorb_section (with_last xorb_record_hash p.blocks b)) < 2 ^ 32
   few_blocks_of p n count room =
-      subst (λ (x : MDBXorbInfo). length (xorb_section (with_last xorb_hash p.blocks x)) < 2 ^ 32) (sym exact) (few_blocks p h ms (omega (arith, count, room)))
+      subst (λ (x : MDBXorbInfo). length (xorb_section (with_last xorb_record_hash p.blocks x)) < 2 ^ 32) (sym exact) (few_blocks p h ms (omega (arith, count, room)))
 
-pub few_files : (p : Held) (ms : List (List ℕ × ℕ)) (f : MDBFileInfo) → IsRecordOf ms f → held_size p + 48 * (2 + 2 * f.metadata.num_entries) < 2 ^ 37 → length (file_section (with_last file_hash p.files f)) < 2 ^ 32
+pub few_files : (p : Held) (ms : List (List ℕ × ℕ)) (f : MDBFileInfo) → IsRecordOf ms f → held_size p + 48 * (2 + 2 * f.metadata.num_entries) < 2 ^ 37 → length (file_section (with_last file_record_hash p.files f)) < 2 ^ 32
 few_files p ms f form room =
     let n : ℕ = f.metadata.num_entries in
     let segments : length f.segments ≡ n = sym (ap (λ (g : MDBFileInfo). g.metadata.num_entries) form.is) in
     let verification : length f.verification ≡ n = ap (λ (g : MDBFileInfo). length g.verification) form.is ∙ ranges_count f.segments ms ∙ segments in
-    few_rows file_rows file_record_size file_rows_size file_hash p.files f (2 + 2 * n) (file_row_count f n segments verification) (omega (arith, room))
+    few_rows file_rows file_record_size file_rows_size file_record_hash p.files f (2 + 2 * n) (file_row_count f n segments verification) (omega (arith, room))

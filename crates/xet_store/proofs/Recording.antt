@@ -6,12 +6,12 @@ use Rattle.std.proofs.lemmas.List.{append-nil, map-append}
 use Rattle.xet_shard_format.specs.declared.record.FileDataSequenceEntry.{FileDataSequenceEntry as Segment}
 use Rattle.xet_shard_format.specs.declared.record.MDBFileInfo.{MDBFileInfo}
 use Rattle.xet_shard.specs.Held.{Held, IsHeld, held as the_held, with_last}
-use Rattle.xet_shard_format.specs.Records.{file_hash}
+use Rattle.xet_shard_format.specs.Records.{file_record_hash}
 use Rattle.xet_shard.specs.theorems.Holding.{all_last}
 use Rattle.xet_base.specs.theorems.Elements.{all_both, all_push, all_more}
 use Rattle.xet_hash.specs.Merkle.{total_len}
 use Rattle.xet_folder.specs.Contents.{IsRecord}
-use Rattle.xet_folder.specs.Plan.{Joins}
+use Rattle.xet_folder.specs.Plan.{Resolves}
 use Rattle.xet_folder.specs.Xorbs.{IsListed, FileRecords, Xorbs, found}
 use Rattle.xet_folder.specs.theorems.Tables.{found_either, found_here, found_kept}
 use Rattle.xet_store.specs.Cleaning.{Adds, Keeps}
@@ -33,66 +33,66 @@ differ a b unequal = go (pointwise nat_eq a b) refl
 
 module _ (s : State) (f : MDBFileInfo) where
   abbrev recorded_too : FileRecords
-  recorded_too = s.records ++ (file_hash f, f) ∷ []
+  recorded_too = s.records ++ (file_record_hash f, f) ∷ []
 
   abbrev pending_too : Held
-  pending_too = record { blocks = s.pending.blocks; files = with_last file_hash s.pending.files f }
+  pending_too = record { blocks = s.pending.blocks; files = with_last file_record_hash s.pending.files f }
 
   abbrev pub with_file : State
   with_file = changed s s.tells s.files s.faults s.xorbs recorded_too s.shards pending_too
 
   pub keeps_recorded : Keeps s with_file
   keeps_recorded =
-      keeps_changed s s.tells s.files s.faults (stays_same s) s.xorbs recorded_too ((file_hash f, f) ∷ []) s.shards [] pending_too (λ h ms l. l) (λ told h none is. found_nowhere (found s.xorbs h) none is) refl (sym (append-nil s.shards))
+      keeps_changed s s.tells s.files s.faults (stays_same s) s.xorbs recorded_too ((file_record_hash f, f) ∷ []) s.shards [] pending_too (λ h ms l. l) (λ told h none is. found_nowhere (found s.xorbs h) none is) refl (sym (append-nil s.shards))
 
-  module _ (none : found s.records (file_hash f) ≡ None) where
+  module _ (none : found s.records (file_record_hash f) ≡ None) where
     -- a record of another file that is pending stays pending
-    still : (g : MDBFileInfo) → file_hash g ≢ file_hash f → IsAmong s.pending.files g → IsAmong pending_too.files g
+    still : (g : MDBFileInfo) → file_record_hash g ≢ file_record_hash f → IsAmong s.pending.files g → IsAmong pending_too.files g
     still g apart is =
-        from_among (with_last file_hash s.pending.files f) g (among_more _ (f ∷ []) g
-        (among_filter _ s.pending.files g (differ (file_hash g) (file_hash f) apart) (to_among s.pending.files g is)))
+        from_among (with_last file_record_hash s.pending.files f) g (among_more _ (f ∷ []) g
+        (among_filter _ s.pending.files g (differ (file_record_hash g) (file_record_hash f) apart) (to_among s.pending.files g is)))
 
-    kept_recorded : Sound s → (h : List ℕ) (g : MDBFileInfo) → (found s.records h ≡ Some g) ⊎ ((file_hash f ≡ h) × (f ≡ g))
+    kept_recorded : Sound s → (h : List ℕ) (g : MDBFileInfo) → (found s.records h ≡ Some g) ⊎ ((file_record_hash f ≡ h) × (f ≡ g))
         → IsAmong pending_too.files g ⊎ (s.tells ≡ true → IsKept s.files s.folder s.opened s.shards g)
     kept_recorded sound h g (inl e) = go (sound.kept h g e)
       where
-        named : file_hash g ≡ h
+        named : file_record_hash g ≡ h
         named = (found_has (IsRecord s.xorbs) s.records h g sound.recorded e).named
 
-        other : file_hash g ≢ file_hash f
-        other same = apart_found s.records (file_hash f) h none (is_some_found s.records h g e) (sym named ∙ same)
+        other : file_record_hash g ≢ file_record_hash f
+        other same = apart_found s.records (file_record_hash f) h none (is_some_found s.records h g e) (sym named ∙ same)
 
         go : IsAmong s.pending.files g ⊎ (s.tells ≡ true → IsKept s.files s.folder s.opened s.shards g) → IsAmong pending_too.files g ⊎ (s.tells ≡ true → IsKept s.files s.folder s.opened s.shards g)
         go (inl is) = inl (still g other is)
         go (inr k) = inr k
-    kept_recorded sound h g (inr p) = inl (subst (λ (x : MDBFileInfo). IsAmong pending_too.files x) p.1 (from_among (with_last file_hash s.pending.files f) f (among_last _ f)))
+    kept_recorded sound h g (inr p) = inl (subst (λ (x : MDBFileInfo). IsAmong pending_too.files x) p.1 (from_among (with_last file_record_hash s.pending.files f) f (among_last _ f)))
 
     pub sound_recorded : Sound s → IsNewFile s.xorbs f → IsHeld pending_too → Sound with_file
     sound_recorded sound new held = record {
       backed = sound.backed;
-      recorded = all_push _ s.records (file_hash f, f) sound.recorded
-          (record { named = refl; leaves = new.leaves; joins = new.joins; hash = sym (ap (λ (g : MDBFileInfo). file_hash g) new.form.is); some = new.some; bound = new.bound });
-      kept = λ h g e. kept_recorded sound h g (found_either s.records (file_hash f) h f g e);
+      recorded = all_push _ s.records (file_record_hash f, f) sound.recorded
+          (record { named = refl; leaves = new.leaves; resolves = new.resolves; hash = sym (ap (λ (g : MDBFileInfo). file_record_hash g) new.form.is); some = new.some; bound = new.bound });
+      kept = λ h g e. kept_recorded sound h g (found_either s.records (file_record_hash f) h f g e);
       held = held;
       blocks = sound.blocks;
-      pending_files = all_last (IsPendingFile s.xorbs recorded_too) file_hash s.pending.files f
+      pending_files = all_last (IsPendingFile s.xorbs recorded_too) file_record_hash s.pending.files f
           (all_more (IsPendingFile s.xorbs s.records) (IsPendingFile s.xorbs recorded_too) s.pending.files
-          (λ g is. record { recorded = found_kept s.records ((file_hash f, f) ∷ []) (file_hash g) g is.recorded; leaves = is.leaves; joins = is.joins; form = is.form }) sound.pending_files)
-          (record { recorded = found_here s.records (file_hash f) f none; leaves = new.leaves; joins = new.joins; form = new.form });
+          (λ g is. record { recorded = found_kept s.records ((file_record_hash f, f) ∷ []) (file_record_hash g) g is.recorded; leaves = is.leaves; resolves = is.resolves; form = is.form }) sound.pending_files)
+          (record { recorded = found_here s.records (file_record_hash f) f none; leaves = new.leaves; resolves = new.resolves; form = new.form });
       admitted = sound.admitted;
       hashes = sound.hashes;
       shards_hashes = sound.shards_hashes;
       xorbs_differ = sound.xorbs_differ;
-      records_differ = differ_more s.records (file_hash f) f none sound.records_differ;
+      records_differ = differ_more s.records (file_record_hash f) f none sound.records_differ;
     }
 
-    pub adds_one : Adds s.records recorded_too (file_hash f ∷ [])
+    pub adds_one : Adds s.records recorded_too (file_record_hash f ∷ [])
     adds_one =
-        ((file_hash f, f) ∷ [], refl, differ_more [] (file_hash f) f refl differ_none, ((none, is_some_found ((file_hash f, f) ∷ []) (file_hash f) f (found_here [] (file_hash f) f refl)), tt))
+        ((file_record_hash f, f) ∷ [], refl, differ_more [] (file_record_hash f) f refl differ_none, ((none, is_some_found ((file_record_hash f, f) ∷ []) (file_record_hash f) f (found_here [] (file_record_hash f) f refl)), tt))
 
 -- the same of lists by other names
-module _ (s : State) (f : MDBFileInfo) (sound : Sound s) (none : found s.records (file_hash f) ≡ None) {records : FileRecords} {pending : Held}
-    (recorded : records ≡ s.records ++ (file_hash f, f) ∷ []) (held : pending ≡ record { blocks = s.pending.blocks; files = with_last file_hash s.pending.files f }) where
+module _ (s : State) (f : MDBFileInfo) (sound : Sound s) (none : found s.records (file_record_hash f) ≡ None) {records : FileRecords} {pending : Held}
+    (recorded : records ≡ s.records ++ (file_record_hash f, f) ∷ []) (held : pending ≡ record { blocks = s.pending.blocks; files = with_last file_record_hash s.pending.files f }) where
   same_recorded : with_file s f ≡ changed s s.tells s.files s.faults s.xorbs records s.shards pending
   same_recorded = same_change s s.tells s.files s.faults refl recorded refl held
 
@@ -102,28 +102,28 @@ module _ (s : State) (f : MDBFileInfo) (sound : Sound s) (none : found s.records
   pub sound_recorded_at : IsNewFile s.xorbs f → IsHeld pending → Sound (changed s s.tells s.files s.faults s.xorbs records s.shards pending)
   sound_recorded_at new held_form = subst Sound same_recorded (sound_recorded s f none sound new (subst IsHeld held held_form))
 
-  pub adds_at : (t : State) → s ≡ t → Adds t.records records (file_hash f ∷ [])
-  adds_at t e = subst (λ (o : State). Adds o.records records (file_hash f ∷ [])) e (subst (λ (r : FileRecords). Adds s.records r (file_hash f ∷ [])) (sym recorded) (adds_one s f none))
+  pub adds_at : (t : State) → s ≡ t → Adds t.records records (file_record_hash f ∷ [])
+  adds_at t e = subst (λ (o : State). Adds o.records records (file_record_hash f ∷ [])) e (subst (λ (r : FileRecords). Adds s.records r (file_record_hash f ∷ [])) (sym recorded) (adds_one s f none))
 
   -- the tables
   pub recorded_tables : (t : State) → s ≡ t → tables s.xorbs records pending ≡ with_record (tables_of t) f
   recorded_tables t e =
-      (λ i. tables s.xorbs (recorded i) (held i)) ∙ sym (ap (λ (o : Option MDBFileInfo). if is_some o then tables_of s else tables s.xorbs (s.records ++ (file_hash f, f) ∷ []) (the_held s.pending.blocks (with_last file_hash s.pending.files f))) none)
+      (λ i. tables s.xorbs (recorded i) (held i)) ∙ sym (ap (λ (o : Option MDBFileInfo). if is_some o then tables_of s else tables s.xorbs (s.records ++ (file_record_hash f, f) ∷ []) (the_held s.pending.blocks (with_last file_record_hash s.pending.files f))) none)
       ∙ ap (λ (x : State). with_record (tables_of x) f) e
 
 -- where it is recorded
-pub record_kept : (s t : State) → Sound s → s ≡ t → (f : MDBFileInfo) (h : List ℕ) → h ≡ file_hash f → is_some (found s.records h) ≡ true → tables_of t ≡ with_record (tables_of t) f
+pub record_kept : (s t : State) → Sound s → s ≡ t → (f : MDBFileInfo) (h : List ℕ) → h ≡ file_record_hash f → is_some (found s.records h) ≡ true → tables_of t ≡ with_record (tables_of t) f
 record_kept s t sound e f h same there =
-    let is : is_some (found t.records (file_hash f)) ≡ true = ap (λ (x : State). is_some (found x.records (file_hash f))) (sym e) ∙ ap (λ (k : List ℕ). is_some (found s.records k)) (sym same) ∙ there in
-    sym (ap (λ (b : Bool). if b then tables_of t else tables t.xorbs (t.records ++ (file_hash f, f) ∷ []) (the_held t.pending.blocks (with_last file_hash t.pending.files f))) is)
+    let is : is_some (found t.records (file_record_hash f)) ≡ true = ap (λ (x : State). is_some (found x.records (file_record_hash f))) (sym e) ∙ ap (λ (k : List ℕ). is_some (found s.records k)) (sym same) ∙ there in
+    sym (ap (λ (b : Bool). if b then tables_of t else tables t.xorbs (t.records ++ (file_record_hash f, f) ∷ []) (the_held t.pending.blocks (with_last file_record_hash t.pending.files f))) is)
 
--- a record as it is made of a plan that joins to its leaves
-pub new_file : (xorbs : Xorbs) (ms : List (List ℕ × ℕ)) (plan : List Segment) (sha256 : Option (List ℕ)) (f : MDBFileInfo) → f ≡ file_record ms plan sha256 → Joins (IsListed xorbs) (λ m. m.1) plan ms
+-- a record as it is made of a plan that resolves to its leaves
+pub new_file : (xorbs : Xorbs) (ms : List (List ℕ × ℕ)) (plan : List Segment) (sha256 : Option (List ℕ)) (f : MDBFileInfo) → f ≡ file_record ms plan sha256 → Resolves (IsListed xorbs) (λ m. m.1) plan ms
     → AllByRecursion (λ s. s.xorb_flags ≡ 0) plan → 0 < length ms → total_len ms < 2 ^ 64 → IsNewFile xorbs f
-new_file xorbs ms plan sha256 f exact joins plain some bound =
+new_file xorbs ms plan sha256 f exact resolves plain some bound =
     let same : plan ≡ f.segments = sym (ap (λ (g : MDBFileInfo). g.segments) exact) in record {
       leaves = ms;
-      joins = subst (λ (p : List Segment). Joins (IsListed xorbs) (λ m. m.1) p ms) same joins;
+      resolves = subst (λ (p : List Segment). Resolves (IsListed xorbs) (λ m. m.1) p ms) same resolves;
       form = record { sha256 = sha256; is = exact ∙ ap (λ (p : List Segment). file_record ms p sha256) same };
       plain = subst (AllByRecursion (λ (s : Segment). s.xorb_flags ≡ 0)) same plain;
       some = some;

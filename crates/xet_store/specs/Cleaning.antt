@@ -20,7 +20,7 @@ use Rattle.xet_folder.specs.Checks.{OfBytes}
 use Rattle.xet_folder.specs.Names.{IsForeign, xorb_path}
 use Rattle.xet_shard_file.specs.Names.{IsHash, shard_path}
 use Rattle.xet_dedup.specs.Packing.{packs}
-use Rattle.xet_folder.specs.Plan.{Joins}
+use Rattle.xet_folder.specs.Plan.{Resolves}
 use Rattle.xet_folder.specs.Stored.{IsStored}
 use Rattle.xet_folder.specs.Xorbs.{IsListed, FileRecords, found}
 use Rattle.xet_store.specs.Store.{Differ, State, plan_of}
@@ -60,7 +60,7 @@ chunkings left s sources = map (λ source. chunking s (left source)) sources
 -- The session has a plan for the file of these chunks, and it resolves to these chunks as they are stored.
 abbrev pub HasFile : State → List (List ℕ) → Type 0
 HasFile s chunks =
-    (plan : List Segment) × (plan_of s.records (file_hash (leaves_of chunks)) ≡ Some plan) × Joins (IsStored s.files s.folder) length plan chunks
+    (plan : List Segment) × (plan_of s.records (file_hash (leaves_of chunks)) ≡ Some plan) × Resolves (IsStored s.files s.folder) length plan chunks
 
 -- Each xorb into which the file's chunks are packed is stored under its hash, with exactly its chunks.
 abbrev pub IsPacked : Files → List ℕ → LimitSettings → List (List ℕ) → Type 0

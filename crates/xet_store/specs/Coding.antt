@@ -17,11 +17,11 @@ use Rattle.xet_shard.specs.Held.{Held}
 use Rattle.xet_folder.specs.Xorbs.{FileRecords, Xorbs}
 use Rattle.xet_store.specs.Store.{State, state}
 
-abbrev pub scheme_number : CompressionScheme → ℕ
-scheme_number scheme.None = 0
-scheme_number scheme.LZ4 = 1
-scheme_number scheme.ByteGrouping4LZ4 = 2
-scheme_number scheme.Auto = 3
+abbrev pub scheme_index : CompressionScheme → ℕ
+scheme_index scheme.None = 0
+scheme_index scheme.LZ4 = 1
+scheme_index scheme.ByteGrouping4LZ4 = 2
+scheme_index scheme.Auto = 3
 
 abbrev pub scheme_at : ℕ → CompressionScheme
 scheme_at zero = scheme.None
@@ -29,14 +29,14 @@ scheme_at (suc zero) = scheme.LZ4
 scheme_at (suc (suc zero)) = scheme.ByteGrouping4LZ4
 scheme_at (suc (suc (suc n))) = scheme.Auto
 
-pub scheme_back : (s : CompressionScheme) → scheme_at (scheme_number s) ≡ s
+pub scheme_back : (s : CompressionScheme) → scheme_at (scheme_index s) ≡ s
 scheme_back scheme.None = refl
 scheme_back scheme.LZ4 = refl
 scheme_back scheme.ByteGrouping4LZ4 = refl
 scheme_back scheme.Auto = refl
 
 abbrev pub scheme_code : Coded CompressionScheme
-scheme_code = code_by ℕ coded_ℕ scheme_number scheme_at scheme_back
+scheme_code = code_by ℕ coded_ℕ scheme_index scheme_at scheme_back
 
 abbrev pub Pair : Type 0
 Pair = ℕ × ℕ

@@ -29,7 +29,7 @@ pub record IsFlushed (old : State) (h : List ℕ) (new : State) : Type 0 where
   pub durable : old.tells ≡ true → IsDurable new.files (shard_path old.folder h)
   pub temp : old.tells ≡ true → get new.files (temp_name (shard_path old.folder h)) ≡ None
   pub others : old.tells ≡ true → KeepsOtherNames old.files new.files (shard_path old.folder h)
-  pub lasts : old.tells ≡ true → (f : MDBFileInfo) → IsAmong old.pending.files f → (moment : ℕ) → moment < 2 ^ 64 → Lists new.files new.folder moment f
+  pub lasts : old.tells ≡ true → (f : MDBFileInfo) → IsAmong old.pending.files f → (time : ℕ) → time < 2 ^ 64 → Lists new.files new.folder time f
   pub registered : new.shards ≡ old.shards ++ h ∷ []
   pub nothing_pending : new.pending ≡ nothing
   pub xorbs : new.xorbs ≡ old.xorbs

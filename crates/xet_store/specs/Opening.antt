@@ -16,5 +16,5 @@ pub record IsOpened (tells : Bool) (files : Files) (folder : List ℕ) (limits :
   pub same_files : s.files ≡ files
   pub same_folder : s.folder ≡ folder
   pub same_limits : s.limits ≡ limits
-  pub moment : s.opened ≡ now
+  pub time : s.opened ≡ now
   pub nothing_pending : s.pending ≡ nothing

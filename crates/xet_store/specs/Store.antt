@@ -8,12 +8,12 @@ use Rattle.xet_hash.specs.Hash.{zero_hash}
 use Rattle.xet_shard_format.specs.declared.record.FileDataSequenceEntry.{FileDataSequenceEntry as Segment}
 use Rattle.xet_shard_format.specs.declared.record.MDBFileInfo.{MDBFileInfo}
 use Rattle.xet_shard.specs.Held.{Held, IsHeld}
-use Rattle.xet_shard_format.specs.Records as record_of
+use Rattle.xet_shard_format.specs.Records.{file_record_hash, xorb_record_hash}
 use Rattle.xet_folder.specs.Admission.{Admits, block_leaves}
 use Rattle.xet_folder.specs.Checks.{OfBytes}
 use Rattle.xet_folder.specs.Listed.{Lists}
 use Rattle.xet_shard_file.specs.Names.{IsHash}
-use Rattle.xet_folder.specs.Plan.{Joins, plan_bytes}
+use Rattle.xet_folder.specs.Plan.{Resolves, plan_bytes}
 use Rattle.xet_folder.specs.Contents.{IsRecord}
 use Rattle.xet_shard_file.specs.Shards.{ShardFile}
 use Rattle.xet_folder.specs.Xorbs.{AreBacked, IsListed, FileRecords, Xorbs, found}
@@ -42,9 +42,9 @@ state t f n d l o xs rs hs p = record { tells = t; files = f; faults = n; folder
 -- A pending record is the one recorded for its file, and its plan resolves to the chunk list of which it is
 -- the record.
 pub record IsPendingFile (xorbs : Xorbs) (records : FileRecords) (f : MDBFileInfo) : Type 0 where
-  pub recorded : found records (record_of.file_hash f) ≡ Some f
+  pub recorded : found records (file_record_hash f) ≡ Some f
   pub leaves : List (List ℕ × ℕ)
-  pub joins : Joins (IsListed xorbs) (λ m. m.1) f.segments leaves
+  pub resolves : Resolves (IsListed xorbs) (λ m. m.1) f.segments leaves
   pub form : IsRecordOf leaves f
 
 -- A registered shard, unexpired at a time, lists the record.
@@ -74,7 +74,7 @@ pub record Sound (s : State) : Type 0 where
   pub kept : (h : List ℕ) (f : MDBFileInfo) → found s.records h ≡ Some f
       → IsAmong s.pending.files f ⊎ (s.tells ≡ true → IsKept s.files s.folder s.opened s.shards f)
   pub held : IsHeld s.pending
-  pub blocks : AllByRecursion (λ b. IsListed s.xorbs (record_of.xorb_hash b) (block_leaves b)) s.pending.blocks
+  pub blocks : AllByRecursion (λ b. IsListed s.xorbs (xorb_record_hash b) (block_leaves b)) s.pending.blocks
   pub pending_files : AllByRecursion (IsPendingFile s.xorbs s.records) s.pending.files
   pub admitted : s.tells ≡ true → IsAdmitted s.files s.folder s.opened s.xorbs s.shards
   pub hashes : (h : List ℕ) → IsSome (found s.xorbs h) → IsHash h

@@ -6,7 +6,7 @@ ghost use Rattle.xet_hash.specs.Merkle.{chunk_hash};
 ghost use Rattle.xet_xorb_chunk.specs.Chunks.{bytes_of_chunk, chunk_leaf, total};
 ghost use Rattle.xet_store.specs.Cleaning.{Adds, EachTold, HasFile, HasReason, HasXorbs, Keeps, Later, StoresAll, StoresSome, AreTaken, chunkings, info_of};
 ghost use Rattle.xet_cut.specs.Chunking.{chunking};
-ghost use Rattle.xet_folder.specs.Plan.{Joins};
+ghost use Rattle.xet_folder.specs.Plan.{Resolves};
 ghost use Rattle.xet_codec.specs.Stops.{HasDiskReason};
 ghost use Rattle.xet_store.specs.Separate.{Apart, MetChunk, Separate};
 ghost use Rattle.xet_store.specs.internal.Cleaning.{CleanedSoFar, CleanedUntil};
@@ -82,7 +82,7 @@ pub fn clean_files<D: Disk + Send, S: Source + Send>(
     let _ = workers;
     let mut session = session;
     let result = clean_all(alloc, &mut session, sources);
-    session.known();
+    session.recall_invariant();
     (session, result)
 }
 
@@ -154,7 +154,7 @@ fn add_xorbs<D: Disk + Send>(
 ) -> Result<Vec<FileDataSequenceEntry>, StoreError>
     requires digests { AllByRecursion (λ c. c.hash ≡ chunk_hash c.bytes) chunks.now }
     requires fit { AllByRecursion (λ c. length c.bytes ≤ session.old.limits.maximum_chunk) chunks.now }
-    ensures joins { IfOk result (λ plan. Joins (IsListed session.new.xorbs) (λ m. m.1) plan.items (map chunk_leaf chunks.now)) }
+    ensures resolves { IfOk result (λ plan. Resolves (IsListed session.new.xorbs) (λ m. m.1) plan.items (map chunk_leaf chunks.now)) }
     ensures plain { IfOk result (λ plan. AllByRecursion (λ s. s.xorb_flags ≡ 0) plan.items) }
     ensures listed { OnOk result (ListsXorbs session.new (map bytes_of_chunk chunks.now)) }
     ensures keeps { Keeps session.old session.new }
@@ -166,7 +166,7 @@ fn add_xorbs<D: Disk + Send>(
     ensures reason { IfErr result (HasDiskReason session.old.faults session.new.faults) }
 {
     let limits = *session.limits();
-    limits.known();
+    limits.recall_invariant();
     let mut plan = Vec::new(session.alloc());
     let mut rest = chunks;
     'xorbs: while !rest.is_empty() {

@@ -57,7 +57,7 @@ impl<D: Disk + Send> Store<D> {
     ghost use Rattle.xet_store.specs.Store.{Sound};
 
     /// Proof aid without effect: makes the session invariant available to the caller.
-    pub fn known(&self)
+    pub fn recall_invariant(&self)
         ensures { Sound self.now }
     {
         let _ = &self.xorbs;

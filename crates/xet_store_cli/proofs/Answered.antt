@@ -68,7 +68,7 @@ module _ (command : Option Command) (input_tells : Bool) (input : List ℕ) (now
     stored = λ told disk_told nought. absurd (some nought);
     recorded = λ told disk_told nought. absurd (some nought);
     made = λ told disk_told nought. absurd (some nought);
-    listed = λ told. record { listed = λ later since f is. is; joins = λ later since f is chunks joins. joins };
+    listed = λ told. record { listed = λ later since f is. is; resolves = λ later since f is chunks resolves. resolves };
     keeps = λ told. record {
       xorbs = λ h is. inl refl;
       shards = λ h is. inl refl;

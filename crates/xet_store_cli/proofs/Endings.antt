@@ -92,12 +92,12 @@ module _ (s : LimitSettings) (input : List ℕ) (tells : Bool) (old new : Files)
 no_silent : (n status : ℕ) → status ≡ n → n ≢ 2 → n ≢ 4 → n ≢ 6 → n ≢ 8 → n ≢ 9 → n ≢ 10 → IsSilent status → ⊥
 no_silent n status is a b c d e f silent = none_of_six 2 4 6 8 9 10 n status is a b c d e f silent
 
-told_status : (status : ℕ) → (status ≡ 0) ⊎ (status ≡ 1) ⊎ (status ≡ 3) ⊎ (status ≡ 5) ⊎ (status ≡ 7) → IsSilent status → ⊥
-told_status status (inl is) = no_silent 0 status is (λ e. omega arith) (λ e. omega arith) (λ e. omega arith) (λ e. omega arith) (λ e. omega arith) (λ e. omega arith)
-told_status status (inr (inl is)) = no_silent 1 status is (λ e. omega arith) (λ e. omega arith) (λ e. omega arith) (λ e. omega arith) (λ e. omega arith) (λ e. omega arith)
-told_status status (inr (inr (inl is))) = no_silent 3 status is (λ e. omega arith) (λ e. omega arith) (λ e. omega arith) (λ e. omega arith) (λ e. omega arith) (λ e. omega arith)
-told_status status (inr (inr (inr (inl is)))) = no_silent 5 status is (λ e. omega arith) (λ e. omega arith) (λ e. omega arith) (λ e. omega arith) (λ e. omega arith) (λ e. omega arith)
-told_status status (inr (inr (inr (inr is)))) = no_silent 7 status is (λ e. omega arith) (λ e. omega arith) (λ e. omega arith) (λ e. omega arith) (λ e. omega arith) (λ e. omega arith)
+status_not_silent : (status : ℕ) → (status ≡ 0) ⊎ (status ≡ 1) ⊎ (status ≡ 3) ⊎ (status ≡ 5) ⊎ (status ≡ 7) → IsSilent status → ⊥
+status_not_silent status (inl is) = no_silent 0 status is (λ e. omega arith) (λ e. omega arith) (λ e. omega arith) (λ e. omega arith) (λ e. omega arith) (λ e. omega arith)
+status_not_silent status (inr (inl is)) = no_silent 1 status is (λ e. omega arith) (λ e. omega arith) (λ e. omega arith) (λ e. omega arith) (λ e. omega arith) (λ e. omega arith)
+status_not_silent status (inr (inr (inl is))) = no_silent 3 status is (λ e. omega arith) (λ e. omega arith) (λ e. omega arith) (λ e. omega arith) (λ e. omega arith) (λ e. omega arith)
+status_not_silent status (inr (inr (inr (inl is)))) = no_silent 5 status is (λ e. omega arith) (λ e. omega arith) (λ e. omega arith) (λ e. omega arith) (λ e. omega arith) (λ e. omega arith)
+status_not_silent status (inr (inr (inr (inr is)))) = no_silent 7 status is (λ e. omega arith) (λ e. omega arith) (λ e. omega arith) (λ e. omega arith) (λ e. omega arith) (λ e. omega arith)
 
 -- ---- how a run may end
 
@@ -128,12 +128,12 @@ module _ (command : Option Command) (input_tells : Bool) (input : List ℕ) (now
   silent_early o (inl is) silent = ap (λ (x : Outcome). x.text) is
   silent_early o (inr (inl is)) silent = ap (λ (x : Outcome). x.text) is
   silent_early o (inr (inr (inl is))) silent = ap (λ (x : Outcome). x.text) is
-  silent_early o (inr (inr (inr (n, is)))) silent = absurd (told_status o.status (inr (inr (inl (ap (λ (x : Outcome). x.status) is)))) silent)
+  silent_early o (inr (inr (inr (n, is)))) silent = absurd (status_not_silent o.status (inr (inr (inl (ap (λ (x : Outcome). x.status) is)))) silent)
 
   silent_end : (o : Outcome) → May o → IsSilent o.status → o.text ≡ []
   silent_end o (early e of) silent = silent_early o of silent
-  silent_end o (refused none name f is) silent = absurd (told_status o.status (inr (inr (inr (inr (ap (λ (x : Outcome). x.status) is))))) silent)
-  silent_end o (reported none f c has report nought) silent = absurd (told_status o.status (inl nought) silent)
+  silent_end o (refused none name f is) silent = absurd (status_not_silent o.status (inr (inr (inr (inr (ap (λ (x : Outcome). x.status) is))))) silent)
+  silent_end o (reported none f c has report nought) silent = absurd (status_not_silent o.status (inl nought) silent)
   silent_end o (stopped stop nothing) silent = nothing
   silent_end o (malformed none never is) silent = ap (λ (x : Outcome). x.text) is
 
@@ -184,8 +184,8 @@ module _ (command : Option Command) (input_tells : Bool) (input : List ℕ) (now
     pub silent_of : Printed → output_tells ≡ true → IsSilent status → after ≡ before
     silent_of (o, may, inl (is, wrote)) told silent =
         wrote told ∙ ap (λ (t : List ℕ). before ++ t) (silent_end o may (subst IsSilent is silent)) ∙ append-nil before
-    silent_of (o, may, inr (inl one, some, wrote)) told silent = absurd (told_status status (inr (inl one)) silent)
-    silent_of (o, may, inr (inr five, some, wrote)) told silent = absurd (told_status status (inr (inr (inr (inl five)))) silent)
+    silent_of (o, may, inr (inl one, some, wrote)) told silent = absurd (status_not_silent status (inr (inl one)) silent)
+    silent_of (o, may, inr (inr five, some, wrote)) told silent = absurd (status_not_silent status (inr (inr (inr (inl five)))) silent)
 
     pub bad_line_of : Printed → output_tells ≡ true → status ≡ 3 → (n : ℕ) × (after ≡ before ++ bad_line_text n)
     bad_line_of (o, may, inl (is, wrote)) told three =

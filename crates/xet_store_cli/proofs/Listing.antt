@@ -3,7 +3,7 @@ use Rattle.std.proofs.Common.{◌≡◌, ◌⊎◌, inl, inr, ◌∙◌, ℕ, Bo
 use Rattle.xet_io.specs.Disk.{Files}
 use Rattle.xet_folder.specs.Admission.{Admits}
 use Rattle.xet_folder.specs.Contents.{HasContents}
-use Rattle.xet_folder.specs.Listed.{JoinsTo, Lists}
+use Rattle.xet_folder.specs.Listed.{ResolvesTo, Lists}
 use Rattle.xet_shard_file.specs.Names.{shard_path}
 use Rattle.xet_folder.specs.Names.{xorb_path}
 use Rattle.xet_shard_file.specs.Shards.{IsThere}
@@ -12,7 +12,7 @@ use Rattle.xet_store.specs.Cleaning.{HasShard, HasWholeShard, HasXorb, IsDurable
 use Rattle.xet_store.specs.Opening.{IsOpened, contents_of}
 use Rattle.xet_store.specs.Separate.{IsNamed}
 use Rattle.xet_store.specs.Store.{Sound, State}
-use Rattle.xet_store.specs.theorems.Sessions.{joins_stay, listed_stay, named_newly, named_same, valid_stays}
+use Rattle.xet_store.specs.theorems.Sessions.{resolves_stay, listed_stay, named_newly, named_same, valid_stays}
 use Rattle.xet_store_cli.specs.Outcome.{store_folder}
 use Rattle.xet_store_cli.specs.Stored.{KeepsFolder, KeepsListed}
 
@@ -21,24 +21,24 @@ kept_by : (s t : State) → s.tells ≡ true → s.folder ≡ store_folder → H
 kept_by s t told folder contents keeps = record {
   listed = λ later since f l.
       subst (λ (x : List ℕ). Lists t.files x later f) folder (listed_stay s t told contents keeps later since f (subst (λ (x : List ℕ). Lists s.files x later f) (sym folder) l));
-  joins = λ later since f l chunks joins. subst (λ (x : List ℕ). JoinsTo t.files x f chunks) folder
-      (joins_stay s t told contents keeps later since f (subst (λ (x : List ℕ). Lists s.files x later f) (sym folder) l) chunks (subst (λ (x : List ℕ). JoinsTo s.files x f chunks) (sym folder) joins));
+  resolves = λ later since f l chunks resolves. subst (λ (x : List ℕ). ResolvesTo t.files x f chunks) folder
+      (resolves_stay s t told contents keeps later since f (subst (λ (x : List ℕ). Lists s.files x later f) (sym folder) l) chunks (subst (λ (x : List ℕ). ResolvesTo s.files x f chunks) (sym folder) resolves));
 }
 
 -- the contents of a folder by the names of the session that was opened over it
 contents_then : (old : Files) (now : ℕ) (s : State) → s.files ≡ old → s.folder ≡ store_folder → s.opened ≡ now → HasContents old store_folder now (contents_of s) → HasContents s.files s.folder s.opened (contents_of s)
-contents_then old now s files folder moment contents =
+contents_then old now s files folder time contents =
     let of_files : HasContents s.files store_folder now (contents_of s) = subst (λ (x : Files). HasContents x store_folder now (contents_of s)) (sym files) contents in
     let of_folder : HasContents s.files s.folder now (contents_of s) = subst (λ (x : List ℕ). HasContents s.files x now (contents_of s)) (sym folder) of_files in
-    subst (λ (x : ℕ). HasContents s.files s.folder x (contents_of s)) (sym moment) of_folder
+    subst (λ (x : ℕ). HasContents s.files s.folder x (contents_of s)) (sym time) of_folder
 
 -- over the disk that it hands back
 pub keeps_listed : (tells : Bool) (old new : Files) (limits : LimitSettings) (now : ℕ) (s t : State) → tells ≡ true → IsOpened tells old store_folder limits now s
     → HasContents old store_folder now (contents_of s) → Keeps s t → new ≡ t.files → KeepsListed now old new
 keeps_listed tells old new limits now s t told opened contents keeps is =
-    let then = contents_then old now s opened.same_files opened.same_folder opened.moment contents in
+    let then = contents_then old now s opened.same_files opened.same_folder opened.time contents in
     let kept : KeepsListed s.opened s.files t.files = kept_by s t (opened.same_tells ∙ told) opened.same_folder then keeps in
-    let at : KeepsListed now s.files t.files = subst (λ (x : ℕ). KeepsListed x s.files t.files) opened.moment kept in
+    let at : KeepsListed now s.files t.files = subst (λ (x : ℕ). KeepsListed x s.files t.files) opened.time kept in
     let from : KeepsListed now old t.files = subst (λ (x : Files). KeepsListed now x t.files) opened.same_files at in
     subst (λ (x : Files). KeepsListed now old x) (sym is) from
 
@@ -77,7 +77,7 @@ keeps_names s t told folder contents keeps sound =
 pub keeps_folder : (tells : Bool) (old new : Files) (limits : LimitSettings) (now : ℕ) (s t : State) → tells ≡ true → IsOpened tells old store_folder limits now s
     → HasContents old store_folder now (contents_of s) → Keeps s t → Sound t → new ≡ t.files → KeepsFolder now old new
 keeps_folder tells old new limits now s t told opened contents keeps sound is =
-    let kept : KeepsFolder s.opened s.files t.files = keeps_names s t (opened.same_tells ∙ told) opened.same_folder (contents_then old now s opened.same_files opened.same_folder opened.moment contents) keeps sound in
-    let at : KeepsFolder now s.files t.files = subst (λ (x : ℕ). KeepsFolder x s.files t.files) opened.moment kept in
+    let kept : KeepsFolder s.opened s.files t.files = keeps_names s t (opened.same_tells ∙ told) opened.same_folder (contents_then old now s opened.same_files opened.same_folder opened.time contents) keeps sound in
+    let at : KeepsFolder now s.files t.files = subst (λ (x : ℕ). KeepsFolder x s.files t.files) opened.time kept in
     let from : KeepsFolder now old t.files = subst (λ (x : Files). KeepsFolder now x t.files) opened.same_files at in
     subst (λ (x : Files). KeepsFolder now old x) (sym is) from

@@ -1,4 +1,4 @@
--- Records that are made of the files of lines, and are listed at every moment.
+-- Records that are made of the files of lines, and are listed at every time.
 use Rattle.std.proofs.Common.{◌≡◌, ◌≢◌, ◌⊎◌, inl, inr, ◌↔◌, ◌∙◌, ℕ, ◌<◌, ◌≤◌, ◌^◌, Bool, true, false, List, [], ◌∷◌, ◌++◌, length, map, filter, not, nat_eq, Option, Some, None, IfSome, IsSome, is_some, if◌then◌else◌, refl, sym, ap, subst, arith}
 use Rattle.std.specs.Cmp.Lexicographic.{pointwise}
 use Rattle.std.specs.List.{AllByRecursion, IsAmong}
@@ -6,7 +6,7 @@ use Rattle.xet_hash.specs.Merkle.{leaves_of, xorb_hash}
 use Rattle.xet_io.specs.Disk.{Files}
 use Rattle.xet_shard_format.specs.declared.record.MDBFileInfo.{MDBFileInfo}
 use Rattle.xet_shard.specs.Held.{Held, held, nothing, with_last}
-use Rattle.xet_shard_format.specs.Records as record_of
+use Rattle.xet_shard_format.specs.Records.{file_record_hash, xorb_record_hash}
 use Rattle.xet_folder.specs.Contents.{IsRecord}
 use Rattle.xet_folder.specs.Listed.{Lists}
 use Rattle.xet_folder.specs.Xorbs.{Xorbs, found}
@@ -42,14 +42,14 @@ pub settled_of : (old mid new : State) (shard : Option (List ℕ)) → ((shard �
 settled_of old mid new None none idle flushed unchanged =
     let pending : old.pending ≡ nothing = none.0 refl in
     let same : new ≡ record old { faults = new.faults } = unchanged.is ∙ ap (λ (s : State). record s { faults = new.faults }) (idle refl) in record {
-      lasts = λ told f among moment below. absurd (none_among old.pending.files f (ap (λ (p : Held). p.files) pending) among);
+      lasts = λ told f among time below. absurd (none_among old.pending.files f (ap (λ (p : Held). p.files) pending) among);
       nothing_pending = ap (λ (s : State). s.pending) same ∙ pending;
       xorbs = ap (λ (s : State). s.xorbs) same;
       records = ap (λ (s : State). s.records) same;
     }
 settled_of old mid new (Some h) none idle flushed unchanged = record {
-  lasts = λ told f among moment below.
-      subst (λ (s : State). Lists s.files s.folder moment f) (sym unchanged.is) (flushed.lasts told f among moment below);
+  lasts = λ told f among time below.
+      subst (λ (s : State). Lists s.files s.folder time f) (sym unchanged.is) (flushed.lasts told f among time below);
   nothing_pending = ap (λ (s : State). s.pending) unchanged.is ∙ flushed.nothing_pending;
   xorbs = ap (λ (s : State). s.xorbs) unchanged.is ∙ flushed.xorbs;
   records = ap (λ (s : State). s.records) unchanged.is ∙ flushed.records;
@@ -57,9 +57,9 @@ settled_of old mid new (Some h) none idle flushed unchanged = record {
 
 -- recording lists no xorb
 record_alone : (t : Tables) (f : MDBFileInfo) → (with_record t f).xorbs ≡ t.xorbs
-record_alone t f = go (is_some (found t.records (record_of.file_hash f))) refl
+record_alone t f = go (is_some (found t.records (file_record_hash f))) refl
   where
-    go : (b : Bool) → is_some (found t.records (record_of.file_hash f)) ≡ b → (with_record t f).xorbs ≡ t.xorbs
+    go : (b : Bool) → is_some (found t.records (file_record_hash f)) ≡ b → (with_record t f).xorbs ≡ t.xorbs
     go true e = rw (e) refl
     go false e = rw (e) refl
 
@@ -79,7 +79,7 @@ xorbs_alone t (p ∷ ps) = xorbs_alone (with_xorb t p) ps ∙ one_xorb t (xorb_h
 listed_of_leaf : (t : Tables) (k : List ℕ) (ms : List (List ℕ × ℕ)) (h : List ℕ) → IsSome (found (with_leaves t k ms).xorbs h) → IsSome (found t.xorbs h) ⊎ (k ≡ h)
 listed_of_leaf t k ms h is = go (is_some (found t.xorbs k)) is
   where
-    go : (b : Bool) → IsSome (found (if b then t else tables (t.xorbs ++ (k, ms) ∷ []) t.records (held (with_last record_of.xorb_hash t.pending.blocks (xorb_record k ms)) t.pending.files)).xorbs h) → IsSome (found t.xorbs h) ⊎ (k ≡ h)
+    go : (b : Bool) → IsSome (found (if b then t else tables (t.xorbs ++ (k, ms) ∷ []) t.records (held (with_last xorb_record_hash t.pending.blocks (xorb_record k ms)) t.pending.files)).xorbs h) → IsSome (found t.xorbs h) ⊎ (k ≡ h)
     go true there = inl there
     go false there = is_some_either t.xorbs k h ms there
 
@@ -118,10 +118,10 @@ listed_of_files s t (f ∷ fs) h is = go (listed_of_files s (with_file s t f) fs
 
 -- ---- the record of a file that is new to the tables is pending
 
-record_pending : (t : Tables) (f : MDBFileInfo) → found t.records (record_of.file_hash f) ≡ None → IsAmong (with_record t f).pending.files f
+record_pending : (t : Tables) (f : MDBFileInfo) → found t.records (file_record_hash f) ≡ None → IsAmong (with_record t f).pending.files f
 record_pending t f none =
-    let kept : List MDBFileInfo = filter (λ y. not (pointwise nat_eq (record_of.file_hash y) (record_of.file_hash f))) t.pending.files in
-    let added : Tables = tables t.xorbs (t.records ++ (record_of.file_hash f, f) ∷ []) (held t.pending.blocks (kept ++ f ∷ [])) in
+    let kept : List MDBFileInfo = filter (λ y. not (pointwise nat_eq (file_record_hash y) (file_record_hash f))) t.pending.files in
+    let added : Tables = tables t.xorbs (t.records ++ (file_record_hash f, f) ∷ []) (held t.pending.blocks (kept ++ f ∷ [])) in
     subst (λ (b : Bool). IsAmong (if b then t else added).pending.files f) (sym (ap is_some none)) (from_among (kept ++ f ∷ []) f (among_last kept f))
 
 file_pending : (s : LimitSettings) (t : Tables) (bytes : List ℕ) → bytes ≢ [] → found t.records (hash_of_file s bytes) ≡ None → IsAmong (with_file s t bytes).pending.files (record_of_file s bytes)
@@ -138,7 +138,7 @@ made_in old before after (f ∷ []) few told tables settled = (
     f,
     (0, (omega arith, refl)),
     refl,
-    λ moment below. settled.lasts told (record_of_file old.limits f) (subst (λ (t : Tables). IsAmong t.pending.files (record_of_file old.limits f)) (sym tables) (file_pending old.limits (tables_of old) f some none)) moment below,
+    λ time below. settled.lasts told (record_of_file old.limits f) (subst (λ (t : Tables). IsAmong t.pending.files (record_of_file old.limits f)) (sym tables) (file_pending old.limits (tables_of old) f some none)) time below,
   )),
   tt,
 )
@@ -158,7 +158,7 @@ module _ (tells : Bool) (disk files : Files) (limits : LimitSettings) (now : ℕ
           let one : Lists s.files s.folder s.opened f = (kept (opened.same_tells ∙ told)).lists in
           let of_files : Lists disk s.folder s.opened f = subst (λ (x : Files). Lists x s.folder s.opened f) opened.same_files one in
           let of_folder : Lists disk store_folder s.opened f = subst (λ (x : List ℕ). Lists disk x s.opened f) opened.same_folder of_files in
-          none (f, subst (λ (n : ℕ). Lists disk store_folder n f) opened.moment of_folder, (found_has (IsRecord s.xorbs) s.records h f sound.recorded e).named)
+          none (f, subst (λ (n : ℕ). Lists disk store_folder n f) opened.time of_folder, (found_has (IsRecord s.xorbs) s.records h f sound.recorded e).named)
 
       go : (o : Option MDBFileInfo) → found s.records h ≡ o → found s.records h ≡ None
       go None e = e
@@ -166,7 +166,7 @@ module _ (tells : Bool) (disk files : Files) (limits : LimitSettings) (now : ℕ
 
   made_each : (all fs : List (List ℕ))
       → AllByRecursion (λ bytes. bytes ≢ [] → found s.records (hash_of_file s.limits bytes) ≡ None
-      → (made : List ℕ) × IsAmong all made × (hash_of_file s.limits made ≡ hash_of_file s.limits bytes) × ((moment : ℕ) → moment < 2 ^ 64 → Lists t.files t.folder moment (record_of_file s.limits made))) fs
+      → (made : List ℕ) × IsAmong all made × (hash_of_file s.limits made ≡ hash_of_file s.limits bytes) × ((time : ℕ) → time < 2 ^ 64 → Lists t.files t.folder time (record_of_file s.limits made))) fs
       → AllByRecursion (λ bytes. bytes ≢ [] → (ListsHash disk now (hash_of_file limits bytes) → ⊥)
       → (made : List ℕ) × IsAmong all made × (hash_of_file limits made ≡ hash_of_file limits bytes) × ListsMade limits files made) fs
   made_each all [] each = tt
@@ -177,10 +177,10 @@ module _ (tells : Bool) (disk files : Files) (limits : LimitSettings) (now : ℕ
           m.0,
           m.1,
           subst (λ (x : LimitSettings). hash_of_file x m.0 ≡ hash_of_file x f) l m.2,
-          λ moment below.
-              let of_files : Lists files t.folder moment (record_of_file s.limits m.0) = subst (λ (x : Files). Lists x t.folder moment (record_of_file s.limits m.0)) (sym is) (m.3 moment below) in
-              let of_folder : Lists files store_folder moment (record_of_file s.limits m.0) = subst (λ (x : List ℕ). Lists files x moment (record_of_file s.limits m.0)) (keeps.folder ∙ opened.same_folder) of_files in
-              subst (λ (x : LimitSettings). Lists files store_folder moment (record_of_file x m.0)) l of_folder,
+          λ time below.
+              let of_files : Lists files t.folder time (record_of_file s.limits m.0) = subst (λ (x : Files). Lists x t.folder time (record_of_file s.limits m.0)) (sym is) (m.3 time below) in
+              let of_folder : Lists files store_folder time (record_of_file s.limits m.0) = subst (λ (x : List ℕ). Lists files x time (record_of_file s.limits m.0)) (keeps.folder ∙ opened.same_folder) of_files in
+              subst (λ (x : LimitSettings). Lists files store_folder time (record_of_file x m.0)) l of_folder,
         )),
     made_each all fs each.1,
   )

@@ -24,7 +24,7 @@ module _ (infos : List XetFileInfo) where
   line_faults s f r line l = record {
     bytes = l.bytes;
     read = λ told.
-        let g = l.read told in record { plan = g.plan; planned = g.planned; chunks = g.chunks; joins = g.joins; is = g.is };
+        let g = l.read told in record { plan = g.plan; planned = g.planned; chunks = g.chunks; resolves = g.resolves; is = g.is };
     is = l.is;
   }
 
@@ -32,7 +32,7 @@ module _ (infos : List XetFileInfo) where
   line_faults_after s f r line l = record {
     bytes = l.bytes;
     read = λ told.
-        let g = l.read told in record { plan = g.plan; planned = g.planned; chunks = g.chunks; joins = g.joins; is = g.is };
+        let g = l.read told in record { plan = g.plan; planned = g.planned; chunks = g.chunks; resolves = g.resolves; is = g.is };
     is = l.is;
   }
 

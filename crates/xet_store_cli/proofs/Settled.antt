@@ -5,7 +5,7 @@ use Rattle.std.specs.List.{AllByRecursion, flat_map, list_all}
 use Rattle.std.specs.Option.{option_and_then}
 use Rattle.xet_hash.specs.Merkle.{chunk_hash, file_hash, leaves_of, xorb_hash}
 use Rattle.xet_folder.specs.Contents.{HasContents}
-use Rattle.xet_folder.specs.Listed.{JoinsTo, Lists}
+use Rattle.xet_folder.specs.Listed.{ResolvesTo, Lists}
 use Rattle.xet_folder.specs.Plan.{range}
 use Rattle.xet_folder.specs.Xorbs.{IsListed, Xorbs, found}
 use Rattle.xet_cut.specs.declared.limits.LimitSettings.{LimitSettings}
@@ -87,7 +87,7 @@ apart_less : {X : Type 0} (digest : X → List ℕ) (More Less : X → Type 0) �
 apart_less digest More Less all apart = record {
   same = λ x y mx my e. apart.same x y (all x mx) (all y my) e;
   not_zero = λ x m. apart.not_zero x (all x m);
-  not_marker = λ x m. apart.not_marker x (all x m);
+  not_sentinel = λ x m. apart.not_sentinel x (all x m);
 }
 
 apart_in_state : (s : State) (now : ℕ) (l : LimitSettings) (files : List (List (List ℕ))) → ((h : List ℕ) → IsSome (found s.xorbs h) → IsMet s.files s.folder now l files h)
@@ -158,11 +158,11 @@ module _ (first before after : State) (said : Said) (done : IsDone first before 
     report_of : (infos : List XetFileInfo) (text ranges : List ℕ) → infos ≡ map (info_of first.limits) said.files → are_good said ≡ true → AreRead after infos said.ranges ranges
         → text ≡ flat_map info_line infos ++ ranges → (lines : List Line) → parted lines ≡ said → IsReport (AreSeparate first.tells after.files first.opened first.limits lines) first.limits lines text
     unfolding file_report range_report
-    report_of infos text ranges told_infos good read is lines parts =
-        let read_of : AreRead after (map (info_of first.limits) said.files) said.ranges ranges = subst (λ (i : List XetFileInfo). AreRead after i said.ranges ranges) told_infos read in
+    report_of infos text ranges infos_are good read is lines parts =
+        let read_of : AreRead after (map (info_of first.limits) said.files) said.ranges ranges = subst (λ (i : List XetFileInfo). AreRead after i said.ranges ranges) infos_are read in
         record {
           ranges = ranges;
-          is = is ∙ ap (λ (i : List XetFileInfo). flat_map info_line i ++ ranges) told_infos ∙ ap (λ (t : List ℕ). t ++ ranges) (lines_of_infos first.limits said.files)
+          is = is ∙ ap (λ (i : List XetFileInfo). flat_map info_line i ++ ranges) infos_are ∙ ap (λ (t : List ℕ). t ++ ranges) (lines_of_infos first.limits said.files)
               ∙ ap (λ (x : Said). flat_map (file_line first.limits) x.files ++ ranges) (sym parts);
           exact = λ given.
               let apart : SeparateIn after.files store_folder first.opened first.limits chunked = subst (λ (x : Said). SeparateIn after.files store_folder first.opened first.limits (map (chunking first.limits) x.files)) parts given.1 in
@@ -202,7 +202,7 @@ module _ (first before after : State) (said : Said) (done : IsDone first before 
           record_of_it = r.0;
           lists = subst (λ (n : ℕ). Lists after.files store_folder n r.0) opened_after by_folder;
           hash = r.2;
-          joins = subst (λ (f : List ℕ). JoinsTo after.files f r.0 chunks) folder_after r.3;
+          resolves = subst (λ (f : List ℕ). ResolvesTo after.files f r.0 chunks) folder_after r.3;
         }
 
     record_all : first.tells ≡ true → SeparateIn after.files store_folder first.opened first.limits chunked → (files : List (List ℕ)) → ((c : List (List ℕ)) → Among (map (chunking first.limits) files) c → Among chunked c)

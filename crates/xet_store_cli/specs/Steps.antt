@@ -13,4 +13,4 @@ abbrev pub MakesIn : State → List (List ℕ) → State → Type 0
 MakesIn old files new =
     AllByRecursion (λ bytes. bytes ≢ [] → found old.records (hash_of_file old.limits bytes) ≡ None
     → (made : List ℕ) × IsAmong files made × (hash_of_file old.limits made ≡ hash_of_file old.limits bytes)
-    × ((moment : ℕ) → moment < 2 ^ 64 → Lists new.files new.folder moment (record_of_file old.limits made))) files
+    × ((time : ℕ) → time < 2 ^ 64 → Lists new.files new.folder time (record_of_file old.limits made))) files

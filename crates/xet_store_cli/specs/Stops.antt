@@ -70,7 +70,7 @@ abbrev pub session_causes : Bool → LimitSettings → Said → Causes
 session_causes tells s said = record (range_causes tells) { too_large = are_short s said.files ≡ false }
 
 -- The stop for an error of the store. Opening, cleaning and flushing return no other errors without a shard's
--- name than these and out of memory (`IsUnadmitted`, `HasReason`, `HasDiskReason`). Reading a good range of a
+-- name than these and out of memory (`IsFolderError`, `HasReason`, `HasDiskReason`). Reading a good range of a
 -- file that was just cleaned returns `FileNotFound` or `InvalidRange` only if digests collide; a collision
 -- counts as out of memory.
 abbrev pub stop_of_error : StoreError → Stop

@@ -11,12 +11,12 @@ use Rattle.xet_store.specs.Cleaning.{HasShard, HasXorb, IsPacked, IsDurable, Sam
 use Rattle.xet_store.specs.Separate.{Apart, IsNamed, MetStored, SeparateIn}
 use Rattle.xet_store.specs.Tables.{record_of_file}
 use Rattle.xet_folder.specs.Admission.{Admits}
-use Rattle.xet_folder.specs.Listed.{JoinsTo, Lists}
+use Rattle.xet_folder.specs.Listed.{ResolvesTo, Lists}
 use Rattle.xet_shard_file.specs.Names.{IsHash, shard_path}
 use Rattle.xet_folder.specs.Names.{IsForeign, xorb_path}
 use Rattle.xet_shard_file.specs.Shards.{IsThere, ShardFile, is_expired}
 use Rattle.xet_shard_format.specs.declared.record.MDBFileInfo.{MDBFileInfo}
-use Rattle.xet_shard_format.specs.Records as record_of
+use Rattle.xet_shard_format.specs.Records.{file_record_hash}
 use Rattle.xet_store_cli.specs.declared.words.Command.{Command}
 use Rattle.xet_store_cli.specs.declared.words.Command.TheVariants.{Pack}
 use Rattle.xet_store_cli.specs.Lines.{Line, files_of}
@@ -38,8 +38,8 @@ HasStoredBy (Pack s) input now files = Stores s (lines_said (lines input)) now f
 pub record IsRecorded (s : LimitSettings) (files : Files) (now : ℕ) (bytes : List ℕ) : Type 0 where
   pub record_of_it : MDBFileInfo
   pub lists : Lists files store_folder now record_of_it
-  pub hash : record_of.file_hash record_of_it ≡ hash_of_file s bytes
-  pub joins : JoinsTo files store_folder record_of_it (chunking s bytes)
+  pub hash : file_record_hash record_of_it ≡ hash_of_file s bytes
+  pub resolves : ResolvesTo files store_folder record_of_it (chunking s bytes)
 
 -- If there are no collisions among the data seen in the folder and in these lines, each file that is not
 -- empty is recorded.
@@ -55,16 +55,16 @@ HasRecordedBy (Pack s) input now files = Records s (lines_said (lines input)) no
 -- Each file that is listed before, at `now` or later, is listed after for that time, with the same chunks.
 pub record KeepsListed (now : ℕ) (old new : Files) : Type 0 where
   pub listed : (later : ℕ) → now ≤ later → (f : MDBFileInfo) → Lists old store_folder later f → Lists new store_folder later f
-  pub joins : (later : ℕ) → now ≤ later → (f : MDBFileInfo) → Lists old store_folder later f → (chunks : List (List ℕ)) → JoinsTo old store_folder f chunks → JoinsTo new store_folder f chunks
+  pub resolves : (later : ℕ) → now ≤ later → (f : MDBFileInfo) → Lists old store_folder later f → (chunks : List (List ℕ)) → ResolvesTo old store_folder f chunks → ResolvesTo new store_folder f chunks
 
 -- At a time the folder lists a record with this hash.
 abbrev pub ListsHash : Files → ℕ → List ℕ → Type 0
-ListsHash files now h = (f : MDBFileInfo) × Lists files store_folder now f × (record_of.file_hash f ≡ h)
+ListsHash files now h = (f : MDBFileInfo) × Lists files store_folder now f × (file_record_hash f ≡ h)
 
 -- At every time below 2 ^ 64 the folder lists the record that is made of the file of these bytes: its plan,
 -- its range hashes and its SHA-256.
 abbrev pub ListsMade : LimitSettings → Files → List ℕ → Type 0
-ListsMade s files bytes = (moment : ℕ) → moment < 2 ^ 64 → Lists files store_folder moment (record_of_file s bytes)
+ListsMade s files bytes = (time : ℕ) → time < 2 ^ 64 → Lists files store_folder time (record_of_file s bytes)
 
 -- Each file of these lines that is not empty, and whose hash had no record listed at `now`, has one that is
 -- listed at every time below 2 ^ 64, and that was made of it or of a file line with the same hash.

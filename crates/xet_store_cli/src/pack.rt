@@ -96,9 +96,9 @@ fn store_lines<D: Disk + Send>(
 {
     match Store::open(alloc, disk, FOLDER, *limits, now, false) {
         Ok(session) => {
-            session.known();
+            session.recall_invariant();
             let (session, answer) = report_lines(alloc, session, lines);
-            session.known();
+            session.recall_invariant();
             let disk = session.into_disk();
             (disk, answer)
         }

@@ -45,13 +45,13 @@ pub fn report_lines<D: Disk + Send>(
     ensures stop { IfErr result.1 (IsStop (session_causes session.tells session.limits lines.now)) }
     ensures cause { HasCause session.faults result.0.faults (IsErrOf result.1 Stop.Disk) }
 {
-    session.limits().known();
+    session.limits().recall_invariant();
     let (mut session, cleaned) = clean_lines(alloc, session, lines);
-    session.known();
+    session.recall_invariant();
     match cleaned {
         Ok(cleaned) => {
             let answer = report_cleaned(alloc, &mut session, &cleaned.infos, lines.ranges());
-            session.known();
+            session.recall_invariant();
             (session, answer)
         }
         Err(stop) => (session, Err(stop)),

@@ -253,7 +253,7 @@ fn put_zeros(alloc: Global, disk: &mut MemoryDisk, encoding: &[u8]) -> Result<()
 }
 
 /// The error, and whether it comes with the name for the hash zero.
-fn told_zeros(
+fn error_of_zeros(
     put: Result<(), StoreError>,
     refused: Result<Option<Unopened>, StoreError>,
 ) -> Result<Option<(StoreError, bool)>, StoreError> {
@@ -271,7 +271,7 @@ fn opens_renamed(alloc: Global) -> Result<Option<(StoreError, bool)>, StoreError
     let encoding = shard_of_abc(alloc)?;
     let mut disk = MemoryDisk::new(alloc);
     let put = put_zeros(alloc, &mut disk, &encoding);
-    told_zeros(put, refusal(alloc, disk))
+    error_of_zeros(put, refusal(alloc, disk))
 }
 
 #[test]

@@ -65,15 +65,15 @@ length_encoded [] = refl
 length_encoded (c ∷ cs) = omega (arith, length-append (encoded_chunk c) (flat_map encoded_chunk cs), length-encoded_chunk c, length_encoded cs, sum_by-cons length c cs)
 
 -- the footer of leaves is as long as it is told
-pub told_of_leaves : (hash : List ℕ) (ms : List (List ℕ × ℕ)) (spare : List ℕ) → length_of (footer_v1 hash ms spare) ≡ footer_len V1 (length ms)
-told_of_leaves hash ms spare = omega (arith, length-hashes ms, length-ends 8 0 ms, length-ends 0 0 ms)
+pub length_of_leaves : (hash : List ℕ) (ms : List (List ℕ × ℕ)) (spare : List ℕ) → length_of (footer_v1 hash ms spare) ≡ footer_len V1 (length ms)
+length_of_leaves hash ms spare = omega (arith, length-hashes ms, length-ends 8 0 ms, length-ends 0 0 ms)
 
 -- ---- the whole
 
 -- a footer of leaves, and its length
 pub ending_is : (hash : List ℕ) (ms : List (List ℕ × ℕ)) (info : _) → info ≡ footer_v1 hash ms no_spare → footer_bytes_v1 info ++ number (length_of info) ≡ ending true hash ms
 ending_is hash ms info is =
-    ap (λ (i : _). footer_bytes_v1 i ++ number (length_of i)) is ∙ ap (λ (n : ℕ). footer_bytes_v1 (footer_v1 hash ms no_spare) ++ number n) (told_of_leaves hash ms no_spare)
+    ap (λ (i : _). footer_bytes_v1 i ++ number (length_of i)) is ∙ ap (λ (n : ℕ). footer_bytes_v1 (footer_v1 hash ms no_spare) ++ number n) (length_of_leaves hash ms no_spare)
 
 -- parts that have their digests and their hash are a xorb
 pub parts_encoding : (parts : List (List ℕ)) → ArePartsOfXorb parts → 0 < length parts → IsXorbEncoding (flat_map encoded_chunk parts ++ ending true (xorb_hash (leaves_of parts)) (leaves_of parts)) parts

@@ -26,7 +26,7 @@ use Rattle.xet_xorb.specs.internal.Copying.{AreBefore, IsCopied, IsNoCopy, Shows
 use Rattle.xet_xorb.specs.Footer.{V1, footer_v1}
 use Rattle.xet_xorb.specs.Object.{object_of}
 use Rattle.xet_xorb.specs.Xorb.{IsXorbEncoding, xorb_bytes}
-use Rattle.xet_xorb.proofs.Built.{ending_is, length_encoded, told_of_leaves, total_leaves}
+use Rattle.xet_xorb.proofs.Built.{ending_is, length_encoded, length_of_leaves, total_leaves}
 
 -- ---- a whole chunk at the front is spelled there
 
@@ -209,7 +209,7 @@ encoding_is max_chunk raw leaves at hash info c digest is =
 pub object_is : (max_chunk : ℕ) (raw : List ℕ) (leaves : List (List ℕ × ℕ)) (at : ℕ) (hash : List ℕ) (info : XorbObjectInfoV1) (c : IsCopied max_chunk raw leaves at) (object : XorbObject) → hash ≡ xorb_hash leaves → info ≡ footer_v1 hash leaves no_spare
     → object ≡ record { info = info; info_length = length_of info } → object ≡ object_for c.chunks
 object_is max_chunk raw leaves at hash info c object digest is made =
-    made ∙ ap (λ (i : XorbObjectInfoV1). record { info = i; info_length = length_of i }) is ∙ ap (λ (n : ℕ). record { info = footer_v1 hash leaves no_spare; info_length = n }) (told_of_leaves hash leaves no_spare)
+    made ∙ ap (λ (i : XorbObjectInfoV1). record { info = i; info_length = length_of i }) is ∙ ap (λ (n : ℕ). record { info = footer_v1 hash leaves no_spare; info_length = n }) (length_of_leaves hash leaves no_spare)
     ∙ ap (λ (h : List ℕ). object_of V1 h leaves no_spare) digest ∙ ap (λ (ms : List (List ℕ × ℕ)). object_of V1 (xorb_hash ms) ms no_spare) c.of_chunks
 
 -- one more chunk is short

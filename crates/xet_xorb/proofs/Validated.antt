@@ -11,13 +11,13 @@ use Rattle.xet_xorb_footer.specs.declared.info.XorbObjectInfoV1.{XorbObjectInfoV
 use Rattle.xet_xorb_footer.specs.Ends.{last_footer, footer_length}
 use Rattle.xet_codec.specs.Numbers.{joined, number, numbers}
 use Rattle.xet_xorb_footer.specs.FooterEncoding.{max_chunks, footer_bytes_v0, footer_bytes_v1}
-use Rattle.xet_xorb_footer.specs.theorems.Endings.{told_is}
+use Rattle.xet_xorb_footer.specs.theorems.Endings.{footer_length_is}
 use Rattle.xet_xorb_footer.specs.theorems.LastRead.{last_is_read, last_is_read_v0}
 use Rattle.xet_xorb_footer.specs.theorems.Readback.{length_joined}
 use Rattle.xet_xorb_footer.specs.theorems.EncodedLengths.{length_v0, length_v1}
 use Rattle.xet_xorb_chunk.specs.ChunkEncoding.{encoded_chunk}
 use Rattle.xet_xorb.specs.declared.object.XorbObject.{XorbObject}
-use Rattle.xet_xorb.specs.internal.Checking.{AreChunks, HaveLeaves, IsEnding, ending}
+use Rattle.xet_xorb.specs.internal.Checking.{AreChunks, HaveLeaves, IsEnding, footer_with_length}
 use Rattle.xet_xorb.specs.Footer.{Version, V0, V1, footer_info, footer_len, xorb_footer_bytes, standard_footer_v0, footer_v1}
 use Rattle.xet_xorb.specs.Object.{object_of}
 use Rattle.xet_xorb.specs.Validation.{IsValid, IsXorbOf}
@@ -37,9 +37,9 @@ length-footer V1 hash ms spare size hashed sixteen =
     let all = length_v1 (footer_v1 hash ms spare) refl size refl (length_joined (map (λ (m : List ℕ × ℕ). m.0) ms) (whole_hashes ms hashed)) refl sixteen in
     omega (arith, all, length-hashes ms, length-ends 8 0 ms, length-ends 0 0 ms)
 
-pub length-ending : (version : Version) (hash : List ℕ) (ms : List (List ℕ × ℕ)) (spare : List ℕ) → length hash ≡ 32 → AreHashed ms → length spare ≡ 16
-    → length (ending version hash ms spare) ≡ footer_len version (length ms) + 4
-length-ending version hash ms spare size hashed sixteen =
+pub length-footer_with_length : (version : Version) (hash : List ℕ) (ms : List (List ℕ × ℕ)) (spare : List ℕ) → length hash ≡ 32 → AreHashed ms → length spare ≡ 16
+    → length (footer_with_length version hash ms spare) ≡ footer_len version (length ms) + 4
+length-footer_with_length version hash ms spare size hashed sixteen =
     omega (arith, length-append (xorb_footer_bytes version hash ms spare) (number (footer_len version (length ms))), length-footer version hash ms spare size hashed sixteen)
 
 pub length-encodings : (chunks : List (List ℕ)) → length (flat_map encoded_chunk chunks) ≡ total_len (leaves_of chunks) + 8 * length chunks
@@ -80,10 +80,10 @@ footer_with V1 hash ms spare =
 
 -- what was made is what stands there
 pub ending_found : (start told : ℕ) (version : Version) (hash : List ℕ) (ms : List (List ℕ × ℕ)) (bytes encoding spare : List ℕ) (info : XorbObjectInfoV1) → start + told + 4 ≡ length bytes → AreHashed ms → length hash ≡ 32
-    → length spare ≡ 16 → told ≡ footer_len version (length ms) → info ≡ footer_info version hash ms spare → encoding ≡ ending version hash ms spare → encoding ≡ take (length encoding) (drop start bytes)
+    → length spare ≡ 16 → told ≡ footer_len version (length ms) → info ≡ footer_info version hash ms spare → encoding ≡ footer_with_length version hash ms spare → encoding ≡ take (length encoding) (drop start bytes)
     → IsEnding hash ms (drop start bytes) (record { info = info; info_length = told })
 ending_found start told version hash ms bytes encoding spare info whole hashed size sixteen is_told is_info is_text stands =
-    let long : length encoding ≡ told + 4 = omega (arith, ap length is_text, length-ending version hash ms spare size hashed sixteen) in
+    let long : length encoding ≡ told + 4 = omega (arith, ap length is_text, length-footer_with_length version hash ms spare size hashed sixteen) in
     let all : take (length encoding) (drop start bytes) ≡ drop start bytes = take_all (length encoding) (drop start bytes) (omega (arith, length-drop start bytes)) in
     record {
       version = version;
@@ -94,10 +94,10 @@ ending_found start told version hash ms bytes encoding spare info whole hashed s
     }
 
 -- how many bytes the footer of an ending has
-pub told_of : (start told : ℕ) (hash : List ℕ) (ms : List (List ℕ × ℕ)) (bytes : List ℕ) (object : XorbObject) → start + told + 4 ≡ length bytes → AreHashed ms → length hash ≡ 32
+pub footer_length_of : (start told : ℕ) (hash : List ℕ) (ms : List (List ℕ × ℕ)) (bytes : List ℕ) (object : XorbObject) → start + told + 4 ≡ length bytes → AreHashed ms → length hash ≡ 32
     → (e : IsEnding hash ms (drop start bytes) object) → told ≡ footer_len e.version (length ms)
-told_of start told hash ms bytes object whole hashed size e =
-    omega (arith, length-drop start bytes, ap length e.encoded, length-ending e.version hash ms e.spare size hashed e.spare_len)
+footer_length_of start told hash ms bytes object whole hashed size e =
+    omega (arith, length-drop start bytes, ap length e.encoded, length-footer_with_length e.version hash ms e.spare size hashed e.spare_len)
 
 -- where its spare bytes stand
 spare_of : (start told : ℕ) (hash : List ℕ) (ms : List (List ℕ × ℕ)) (bytes : List ℕ) (object : XorbObject) → start + told + 4 ≡ length bytes → AreHashed ms → length hash ≡ 32
@@ -105,7 +105,7 @@ spare_of : (start told : ℕ) (hash : List ℕ) (ms : List (List ℕ × ℕ)) (b
 spare_of start told hash ms bytes object whole hashed size e =
     let prefix : List ℕ = xorb_footer_bytes e.version hash ms [] in
     let last : List ℕ = number (footer_len e.version (length ms)) in
-    let is = told_of start told hash ms bytes object whole hashed size e in
+    let is = footer_length_of start told hash ms bytes object whole hashed size e in
     let enough = least e.version (length ms) in
     let long : length prefix ≡ told - 16 =
     omega (arith, length-footer e.version hash ms e.spare size hashed e.spare_len, ap length (footer_with e.version hash ms e.spare), length-append prefix e.spare, e.spare_len) in
@@ -117,11 +117,11 @@ spare_of start told hash ms bytes object whole hashed size e =
 
 -- what is made with an ending's spare bytes stands there
 pub ending_stands : (start told : ℕ) (version : Version) (hash : List ℕ) (ms : List (List ℕ × ℕ)) (bytes encoding spare : List ℕ) (object : XorbObject) → start + told + 4 ≡ length bytes → AreHashed ms → length hash ≡ 32
-    → spare ≡ take 16 (drop (start + told - 16) bytes) → told ≡ footer_len version (length ms) → encoding ≡ ending version hash ms spare → IsEnding hash ms (drop start bytes) object → encoding ≡ take (length encoding) (drop start bytes)
+    → spare ≡ take 16 (drop (start + told - 16) bytes) → told ≡ footer_len version (length ms) → encoding ≡ footer_with_length version hash ms spare → IsEnding hash ms (drop start bytes) object → encoding ≡ take (length encoding) (drop start bytes)
 ending_stands start told version hash ms bytes encoding spare object whole hashed size read is_told is_text e =
-    let same : version ≡ e.version = same_version version e.version (length ms) (sym is_told ∙ told_of start told hash ms bytes object whole hashed size e) in
+    let same : version ≡ e.version = same_version version e.version (length ms) (sym is_told ∙ footer_length_of start told hash ms bytes object whole hashed size e) in
     let spares : spare ≡ e.spare = read ∙ spare_of start told hash ms bytes object whole hashed size e in
-    let is : encoding ≡ drop start bytes = is_text ∙ ap (λ (v : Version). ending v hash ms spare) same ∙ ap (ending e.version hash ms) spares ∙ sym e.encoded in
+    let is : encoding ≡ drop start bytes = is_text ∙ ap (λ (v : Version). footer_with_length v hash ms spare) same ∙ ap (footer_with_length e.version hash ms) spares ∙ sym e.encoded in
     let all : take (length encoding) (drop start bytes) ≡ drop start bytes = take_all (length encoding) (drop start bytes) (omega (arith, ap length is)) in
     is ∙ sym all
 
@@ -144,8 +144,8 @@ unfolding xorb_bytes
 is_valid max_chunk start hash bytes ms object small bound h some is e =
     let chunks : List (List ℕ) = h.chunks in
     let own : xorb_hash (leaves_of chunks) ≡ hash = ap xorb_hash (sym h.leaves) ∙ is in
-    let last : ending e.version hash ms e.spare ≡ ending e.version (xorb_hash (leaves_of chunks)) (leaves_of chunks) e.spare =
-    ap (λ (x : List ℕ). ending e.version x ms e.spare) (sym own) ∙ ap (λ (x : List (List ℕ × ℕ)). ending e.version (xorb_hash (leaves_of chunks)) x e.spare) h.leaves in (
+    let last : footer_with_length e.version hash ms e.spare ≡ footer_with_length e.version (xorb_hash (leaves_of chunks)) (leaves_of chunks) e.spare =
+    ap (λ (x : List ℕ). footer_with_length e.version x ms e.spare) (sym own) ∙ ap (λ (x : List (List ℕ × ℕ)). footer_with_length e.version (xorb_hash (leaves_of chunks)) x e.spare) h.leaves in (
       chunks,
       record {
         xorb = record {
@@ -177,13 +177,13 @@ pub record HasParts (max_chunk : ℕ) (hash bytes : List ℕ) (chunks : List (Li
   pub ends : IsEnding hash (leaves_of chunks) (drop start bytes) object
 
 -- the last four bytes tell a number
-told_back : (prefix : List ℕ) (n : ℕ) → n < 2 ^ 32 → footer_length (prefix ++ number n) ≡ Ok n
-told_back prefix n small =
+footer_length_back : (prefix : List ℕ) (n : ℕ) → n < 2 ^ 32 → footer_length (prefix ++ number n) ≡ Ok n
+footer_length_back prefix n small =
     let all : List ℕ = prefix ++ number n in
     let len : length all ≡ length prefix + 4 = length-append prefix (number n) in
     let four : length all - 4 ≡ length prefix = omega arith in
     let last : number n ≡ take 4 (drop (length all - 4) all) = sym (ap (λ (k : ℕ). take 4 (drop k all)) four ∙ ap (take 4) (drop-append_seam prefix (number n))) in
-    told_is (length all) all (number n) refl (omega arith) last ∙ ap Ok (from_le_bytes-to_le_bytes_4 n small)
+    footer_length_is (length all) all (number n) refl (omega arith) last ∙ ap Ok (from_le_bytes-to_le_bytes_4 n small)
 
 pub parts_of : (max_chunk : ℕ) (hash bytes : List ℕ) (chunks : List (List ℕ)) → IsXorbOf max_chunk hash bytes chunks → HasParts max_chunk hash bytes chunks
 unfolding xorb_bytes
@@ -196,8 +196,8 @@ parts_of max_chunk hash bytes chunks x =
     let n : ℕ = footer_len v (length ms) in
     let hashed : AreHashed ms = leaves_hashed chunks in
     let size : length hash ≡ 32 = hash_size ms hash hashed x.hashed in
-    let is : bytes ≡ prefix ++ ending v hash ms spare = x.encoding.encoded ∙ ap (λ (h : List ℕ). prefix ++ ending v h ms spare) x.hashed in
-    let long : length bytes ≡ length prefix + (n + 4) = omega (arith, ap length is, length-append prefix (ending v hash ms spare), length-ending v hash ms spare size hashed x.encoding.spare_len) in
+    let is : bytes ≡ prefix ++ footer_with_length v hash ms spare = x.encoding.encoded ∙ ap (λ (h : List ℕ). prefix ++ footer_with_length v h ms spare) x.hashed in
+    let long : length bytes ≡ length prefix + (n + 4) = omega (arith, ap length is, length-append prefix (footer_with_length v hash ms spare), length-footer_with_length v hash ms spare size hashed x.encoding.spare_len) in
     let split : bytes ≡ (prefix ++ foot) ++ number n = is ∙ sym (append_assoc prefix foot (number n)) in
     let bound = x.encoding.bound in
     record {
@@ -205,14 +205,14 @@ parts_of max_chunk hash bytes chunks x =
       told = n;
       enough = least v (length ms);
       whole = omega arith;
-      tells = ap footer_length split ∙ told_back (prefix ++ foot) n (omega arith);
-      stored = record { fit = x.fit; stored = ap (take (length prefix)) is ∙ take-append_seam prefix (ending v hash ms spare) };
+      tells = ap footer_length split ∙ footer_length_back (prefix ++ foot) n (omega arith);
+      stored = record { fit = x.fit; stored = ap (take (length prefix)) is ∙ take-append_seam prefix (footer_with_length v hash ms spare) };
       object = object_of v hash ms spare;
       ends = record {
         version = v;
         spare = spare;
         spare_len = x.encoding.spare_len;
-        encoded = ap (drop (length prefix)) is ∙ drop-append_seam prefix (ending v hash ms spare);
+        encoded = ap (drop (length prefix)) is ∙ drop-append_seam prefix (footer_with_length v hash ms spare);
         listed = refl;
       };
     }
@@ -225,7 +225,7 @@ sizes_of V0 n stored len whole each bound = omega arith
 sizes_of V1 n stored len whole each bound = omega arith
 
 last_of : (version : Version) (prefix hash : List ℕ) (ms : List (List ℕ × ℕ)) (spare : List ℕ) → length hash ≡ 32 → AreHashed ms → length ms ≤ max_chunks → total_len ms + 8 * length ms < 2 ^ 32 → length spare ≡ 16
-    → last_footer (prefix ++ ending version hash ms spare) ≡ Ok (footer_info version hash ms spare, footer_len version (length ms))
+    → last_footer (prefix ++ footer_with_length version hash ms spare) ≡ Ok (footer_info version hash ms spare, footer_len version (length ms))
 last_of V0 prefix hash ms spare size hashed few fits sixteen = last_is_read_v0 (standard_footer_v0 hash ms spare) prefix (is_standard_v0 hash ms spare size hashed few fits sixteen)
 last_of V1 prefix hash ms spare size hashed few fits sixteen = last_is_read (footer_v1 hash ms spare) prefix (standard_v1 hash ms spare size hashed few fits sixteen)
 
@@ -241,7 +241,7 @@ last_footer_is_read bytes chunks x o is =
     let bound = x.bound in
     let stored : length prefix ≡ total_len ms + 8 * length ms = omega (arith, length-encodings chunks, length-leaves chunks) in
     let long : length bytes ≡ length prefix + (footer_len x.version (length ms) + 4) =
-    omega (arith, ap length x.encoded, length-append prefix (ending x.version hash ms x.spare), length-ending x.version hash ms x.spare size hashed x.spare_len) in
+    omega (arith, ap length x.encoded, length-append prefix (footer_with_length x.version hash ms x.spare), length-footer_with_length x.version hash ms x.spare size hashed x.spare_len) in
     let few : length ms ≤ max_chunks = sizes_of x.version (length ms) (length prefix) (length bytes) long (omega arith) bound in
     ap last_footer x.encoded ∙ last_of x.version prefix hash ms x.spare size hashed few (omega arith) x.spare_len ∙ ap (λ (y : XorbObject). Ok (y.info, y.info_length)) (sym is)
 

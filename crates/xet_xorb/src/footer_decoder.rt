@@ -14,11 +14,11 @@ use xet_hash::StoreError;
 /// Incremental decoder of a footer and its length, which arrive in parts of any lengths.
 #[derive(Drop)]
 pub struct FooterDecoder {
-    decoder: xet_xorb_footer::FooterDecoder,
+    decoder: xet_xorb_footer::InfoDecoder,
 }
 
 impl Model for FooterDecoder {
-    ghost use Rattle.xet_xorb_footer.specs.declared.decoder.FooterDecoder.{FooterDecoder as Decoder};
+    ghost use Rattle.xet_xorb_footer.specs.declared.decoder.InfoDecoder.{InfoDecoder as Decoder};
 
     ghost Value = { Decoder };
 
@@ -32,7 +32,7 @@ impl FooterDecoder {
         ensures holds { WasFedFooter result [] }
     {
         FooterDecoder {
-            decoder: xet_xorb_footer::FooterDecoder::new(alloc),
+            decoder: xet_xorb_footer::InfoDecoder::new(alloc),
         }
     }
 

@@ -9,7 +9,7 @@ ghost use Rattle.xet_xorb_footer.specs.Ends.{last_footer, footer_length};
 ghost use Rattle.xet_codec.specs.Blocks.{HasBytes, IsPart, Sees};
 ghost use Rattle.xet_xorb_footer.specs.FooterEncoding.{HasShortLists, max_chunks, footer_bytes_v0, footer_bytes_v1};
 ghost use Rattle.xet_codec.specs.Stops.{StopsReading};
-ghost use Rattle.xet_xorb.specs.internal.Checking.{AreChunks, HaveLeaves, IsEnding, IsStoredAt, ending, encoded_header};
+ghost use Rattle.xet_xorb.specs.internal.Checking.{AreChunks, HaveLeaves, IsEnding, IsStoredAt, footer_with_length, encoded_header};
 ghost use Rattle.xet_xorb.specs.Footer.{Version, footer_info, footer_len};
 ghost use Rattle.xet_xorb.specs.Object.{object_of};
 ghost use Rattle.xet_xorb.specs.Validation.{IsFooterOf, IsValid, IsXorbOf};
@@ -330,7 +330,7 @@ fn ending_of(
     spare: [u8; 16],
 ) -> Result<Option<(XorbObjectInfoV1, Vec<u8>)>, StoreError>
     requires { total_len leaves.now + 8 * length leaves.now + told + 4 < 2 ^ 32 }
-    ensures found { IfOk result (λ found. IfSome found (λ made. (version : Version) × (told ≡ footer_len version (length leaves.now)) × (made.0 ≡ footer_info version hash.now leaves.now spare) × (made.1.items ≡ ending version hash.now leaves.now spare))) }
+    ensures found { IfOk result (λ found. IfSome found (λ made. (version : Version) × (told ≡ footer_len version (length leaves.now)) × (made.0 ≡ footer_info version hash.now leaves.now spare) × (made.1.items ≡ footer_with_length version hash.now leaves.now spare))) }
     ensures none { IfOk result (λ found. IsNone found → (version : Version) → told ≡ footer_len version (length leaves.now) → ⊥) }
     ensures memory { IsOkUnless result StoreError.OutOfMemory }
 {

@@ -109,7 +109,7 @@ fn fill_behind<R: Source>(
 ) -> Result<usize, StoreError>
     requires { filled ≤ length bytes.old }
     ensures told { R.tells source.old ≡ true → Fills (R.left source.old) (drop filled bytes.new) result (R.left source.new) }
-    ensures prefix { take filled bytes.new ≡ take filled bytes.old }
+    ensures before { take filled bytes.new ≡ take filled bytes.old }
     ensures bound { IfOk result (λ count. filled + count ≤ length bytes.new) }
     ensures errors { IfErr result (λ e. e ≡ Io Input) }
     ensures frame { Called R.tells R.faults source.old source.new (IsErrOf result (Io Input)) }

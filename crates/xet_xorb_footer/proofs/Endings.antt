@@ -11,14 +11,14 @@ use Rattle.xet_hash.specs.declared.error.StoreError.TheVariants.{Io, MalformedDa
 use Rattle.xet_xorb_footer.specs.declared.info.XorbObjectInfoV1.{XorbObjectInfoV1}
 use Rattle.xet_xorb_footer.specs.Ends.{last_footer, footer_length}
 use Rattle.xet_xorb_footer.specs.declared.machine.Field.{Field}
-use Rattle.xet_xorb_footer.specs.Machine.{FooterParts, footer_info, rest}
+use Rattle.xet_xorb_footer.specs.Machine.{FooterParts, info_of_parts, rest}
 use Rattle.xet_xorb_footer.specs.internal.Machine.{as_value}
 use Rattle.xet_codec.specs.Parsing.{◌>>=◌, Parsed, wants}
 use Rattle.xet_xorb_footer.specs.Reading.{footer_at}
 
-pub told_short : (bytes : List ℕ) → length bytes < 4 → footer_length bytes ≡ Err UnexpectedEof
+pub footer_length_short : (bytes : List ℕ) → length bytes < 4 → footer_length bytes ≡ Err UnexpectedEof
 unfolding footer_length
-told_short bytes lt = rw (lt-leb 4 (length bytes) lt) refl
+footer_length_short bytes lt = rw (lt-leb 4 (length bytes) lt) refl
 
 pub last_untold : (bytes : List ℕ) (e : StoreError) → footer_length bytes ≡ Err e → last_footer bytes ≡ Err e
 unfolding last_footer
@@ -49,26 +49,26 @@ begins len n bytes same told le =
     let here : length bytes - (n + 4) ≡ len - (n + 4) = ap (λ (k : ℕ). k - (n + 4)) (sym same) in
     rw (told, enough, here) refl
 
-pub last_refused : (len n : ℕ) (bytes : List ℕ) (read : Parsed FooterParts) (e : StoreError) → len ≡ length bytes → footer_length bytes ≡ Ok n → n + 4 ≤ len → as_value footer_info read ≡ footer_at (drop (len - (n + 4)) bytes) → read ≡ Err e
+pub last_refused : (len n : ℕ) (bytes : List ℕ) (read : Parsed FooterParts) (e : StoreError) → len ≡ length bytes → footer_length bytes ≡ Ok n → n + 4 ≤ len → as_value info_of_parts read ≡ footer_at (drop (len - (n + 4)) bytes) → read ≡ Err e
     → last_footer bytes ≡ Err e
 unfolding behind_it
-last_refused len n bytes read e same told le is err = begins len n bytes same told le ∙ ap (behind_it n) (sym is ∙ ap (as_value footer_info) err)
+last_refused len n bytes read e same told le is err = begins len n bytes same told le ∙ ap (behind_it n) (sym is ∙ ap (as_value info_of_parts) err)
 
 -- it was read up to a place
-reached : (len n to : ℕ) (bytes : List ℕ) (read : Parsed FooterParts) (p : FooterParts) → len ≡ length bytes → footer_length bytes ≡ Ok n → n + 4 ≤ len → as_value footer_info read ≡ footer_at (drop (len - (n + 4)) bytes)
-    → read ≡ Ok (p, drop to bytes) → last_footer bytes ≡ (wants ((len - to) == 4) InfoLength >>= λ _. Ok (footer_info p, n))
+reached : (len n to : ℕ) (bytes : List ℕ) (read : Parsed FooterParts) (p : FooterParts) → len ≡ length bytes → footer_length bytes ≡ Ok n → n + 4 ≤ len → as_value info_of_parts read ≡ footer_at (drop (len - (n + 4)) bytes)
+    → read ≡ Ok (p, drop to bytes) → last_footer bytes ≡ (wants ((len - to) == 4) InfoLength >>= λ _. Ok (info_of_parts p, n))
 unfolding behind_it
 reached len n to bytes read p same told le is ok =
     let left : length (drop to bytes) ≡ len - to = length-drop to bytes ∙ ap (λ (k : ℕ). k - to) (sym same) in
-    begins len n bytes same told le ∙ ap (behind_it n) (sym is ∙ ap (as_value footer_info) ok) ∙ ap (λ (k : ℕ). wants (k == 4) InfoLength >>= λ _. Ok (footer_info p, n)) left
+    begins len n bytes same told le ∙ ap (behind_it n) (sym is ∙ ap (as_value info_of_parts) ok) ∙ ap (λ (k : ℕ). wants (k == 4) InfoLength >>= λ _. Ok (info_of_parts p, n)) left
 
-pub last_wrong : (len n to : ℕ) (bytes : List ℕ) (read : Parsed FooterParts) (p : FooterParts) → len ≡ length bytes → footer_length bytes ≡ Ok n → n + 4 ≤ len → as_value footer_info read ≡ footer_at (drop (len - (n + 4)) bytes)
+pub last_wrong : (len n to : ℕ) (bytes : List ℕ) (read : Parsed FooterParts) (p : FooterParts) → len ≡ length bytes → footer_length bytes ≡ Ok n → n + 4 ≤ len → as_value info_of_parts read ≡ footer_at (drop (len - (n + 4)) bytes)
     → read ≡ Ok (p, drop to bytes) → ((len - to) == 4) ≡ false → last_footer bytes ≡ Err (MalformedData InfoLength)
-last_wrong len n to bytes read p same told le is ok off = reached len n to bytes read p same told le is ok ∙ ap (λ (b : Bool). wants b InfoLength >>= λ _. Ok (footer_info p, n)) off
+last_wrong len n to bytes read p same told le is ok off = reached len n to bytes read p same told le is ok ∙ ap (λ (b : Bool). wants b InfoLength >>= λ _. Ok (info_of_parts p, n)) off
 
-pub last_is : (len n to : ℕ) (bytes : List ℕ) (read : Parsed FooterParts) (p : FooterParts) → len ≡ length bytes → footer_length bytes ≡ Ok n → n + 4 ≤ len → as_value footer_info read ≡ footer_at (drop (len - (n + 4)) bytes)
-    → read ≡ Ok (p, drop to bytes) → ((len - to) == 4) ≡ true → last_footer bytes ≡ Ok (footer_info p, n)
-last_is len n to bytes read p same told le is ok fits = reached len n to bytes read p same told le is ok ∙ ap (λ (b : Bool). wants b InfoLength >>= λ _. Ok (footer_info p, n)) fits
+pub last_is : (len n to : ℕ) (bytes : List ℕ) (read : Parsed FooterParts) (p : FooterParts) → len ≡ length bytes → footer_length bytes ≡ Ok n → n + 4 ≤ len → as_value info_of_parts read ≡ footer_at (drop (len - (n + 4)) bytes)
+    → read ≡ Ok (p, drop to bytes) → ((len - to) == 4) ≡ true → last_footer bytes ≡ Ok (info_of_parts p, n)
+last_is len n to bytes read p same told le is ok fits = reached len n to bytes read p same told le is ok ∙ ap (λ (b : Bool). wants b InfoLength >>= λ _. Ok (info_of_parts p, n)) fits
 
 -- ---- the same, as calls refuse
 
@@ -77,7 +77,7 @@ untold bytes e (inl is) = inl (last_untold bytes e is)
 untold bytes e (inr fault) = inr (inl fault)
 
 pub unread : {P : Type 0} (len n : ℕ) (bytes seen : List ℕ) (read : List ℕ → Parsed FooterParts) (e : StoreError) → seen ≡ bytes → len ≡ length bytes → footer_length bytes ≡ Ok n → n + 4 ≤ len
-    → ((b : List ℕ) → as_value footer_info (read b) ≡ footer_at b) → (read (drop (len - (n + 4)) seen) ≡ Err e) ⊎ P → (last_footer bytes ≡ Err e) ⊎ P
+    → ((b : List ℕ) → as_value info_of_parts (read b) ≡ footer_at b) → (read (drop (len - (n + 4)) seen) ≡ Err e) ⊎ P → (last_footer bytes ≡ Err e) ⊎ P
 unread len n bytes seen read e is same told le reads (inl err) =
     inl (last_refused len n bytes (read (drop (len - (n + 4)) bytes)) e same told le (reads (drop (len - (n + 4)) bytes)) (ap (λ (b : List ℕ). read (drop (len - (n + 4)) b)) (sym is) ∙ err))
 unread len n bytes seen read e is same told le reads (inr other) = inr other

@@ -14,7 +14,7 @@ use Rattle.xet_xorb_footer.specs.Ends.{whole_footer}
 use Rattle.xet_xorb_footer.specs.Joining.{IsReady, ends_with, is_done, rest_whole, wanted_next}
 use Rattle.xet_xorb_footer.specs.internal.Joining.{IsTotal, ReadsUpTo, Stops}
 use Rattle.xet_xorb_footer.specs.internal.Machine.{IsIncomplete, as_value}
-use Rattle.xet_xorb_footer.specs.Machine.{FooterParts, footer_info, wanted_of}
+use Rattle.xet_xorb_footer.specs.Machine.{FooterParts, info_of_parts, wanted_of}
 use Rattle.xet_xorb_footer.specs.Reader.{bytes_wanted, footer_parts_of, rest_of}
 use Rattle.xet_codec.specs.Parsing.{◌>>=◌, Parsed, wants}
 use Rattle.xet_xorb_footer.specs.Reading.{footer_at}
@@ -51,11 +51,11 @@ all_read j ready none bytes = whole j.footer.next (footer_parts_of j.footer) byt
 
 -- ---- what reading does
 
-in_fields : (j : Joined) (total : ℕ) (bytes : List ℕ) → j.ended ≡ false → rest_whole j total bytes ≡ (rest_of j.footer bytes >>= λ x. ends_with (footer_info x.0) total x.1)
+in_fields : (j : Joined) (total : ℕ) (bytes : List ℕ) → j.ended ≡ false → rest_whole j total bytes ≡ (rest_of j.footer bytes >>= λ x. ends_with (info_of_parts x.0) total x.1)
 unfolding rest_whole
 in_fields j total bytes e = pick_false j.ended _ _ e
 
-pub at_end : (j : Joined) (total : ℕ) (bytes : List ℕ) → j.ended ≡ true → rest_whole j total bytes ≡ (wants (length bytes == 0) TrailingBytes >>= λ _. Ok (footer_info (footer_parts_of j.footer), j.count))
+pub at_end : (j : Joined) (total : ℕ) (bytes : List ℕ) → j.ended ≡ true → rest_whole j total bytes ≡ (wants (length bytes == 0) TrailingBytes >>= λ _. Ok (info_of_parts (footer_parts_of j.footer), j.count))
 unfolding rest_whole
 at_end j total bytes e = pick_true j.ended _ _ e
 
@@ -64,13 +64,13 @@ at_end j total bytes e = pick_true j.ended _ _ e
 pub field_read : (old new : Joined) (field : List ℕ) → old.ended ≡ false → new.ended ≡ false → new.count ≡ old.count + length field → ((more : List ℕ) → rest_of old.footer (field ++ more) ≡ rest_of new.footer more) → ReadsUpTo old new field []
 field_read old new field was is count reads =
     record {
-      moved = λ more total all. in_fields old total (field ++ more) was ∙ ap (λ (r : Parsed FooterParts). r >>= λ x. ends_with (footer_info x.0) total x.1) (reads more) ∙ sym (in_fields new total more is);
+      moved = λ more total all. in_fields old total (field ++ more) was ∙ ap (λ (r : Parsed FooterParts). r >>= λ x. ends_with (info_of_parts x.0) total x.1) (reads more) ∙ sym (in_fields new total more is);
       count = λ e. (was, omega arith);
     }
 
 pub field_stops : (old : Joined) (field : List ℕ) (e : StoreError) → old.ended ≡ false → (e ≡ OutOfMemory) ⊎ ((more : List ℕ) → rest_of old.footer (field ++ more) ≡ Err e) → Stops old field e
 field_stops old field e was (inl memory) = inl memory
-field_stops old field e was (inr fails) = inr (λ more total all. in_fields old total (field ++ more) was ∙ ap (λ (r : Parsed FooterParts). r >>= λ x. ends_with (footer_info x.0) total x.1) (fails more))
+field_stops old field e was (inr fails) = inr (λ more total all. in_fields old total (field ++ more) was ∙ ap (λ (r : Parsed FooterParts). r >>= λ x. ends_with (info_of_parts x.0) total x.1) (fails more))
 
 -- ---- the length
 
@@ -83,13 +83,13 @@ length_is : XorbObjectInfoV1 → ℕ → List ℕ → Bool → Result (XorbObjec
 length_is info n more fits = wants fits InfoLength >>= λ _. wants (length more == 0) TrailingBytes >>= λ _. Ok (info, n)
 
 at_length : (j : Joined) (total : ℕ) (field more : List ℕ) → j.ended ≡ false → ((bytes : List ℕ) → rest_of j.footer bytes ≡ Ok (footer_parts_of j.footer, bytes)) → length field ≡ 4 → total ≡ j.count + length (field ++ more)
-    → rest_whole j total (field ++ more) ≡ length_is (footer_info (footer_parts_of j.footer)) (from_le_bytes w32 field) more (from_le_bytes w32 field == j.count)
+    → rest_whole j total (field ++ more) ≡ length_is (info_of_parts (footer_parts_of j.footer)) (from_le_bytes w32 field) more (from_le_bytes w32 field == j.count)
 unfolding length_then length_is
 at_length j total field more was done len all =
-    let info : XorbObjectInfoV1 = footer_info (footer_parts_of j.footer) in
+    let info : XorbObjectInfoV1 = info_of_parts (footer_parts_of j.footer) in
     let n : ℕ = from_le_bytes w32 field in
     let here : total - length (field ++ more) ≡ j.count = omega arith in
-    in_fields j total (field ++ more) was ∙ ap (λ (r : Parsed FooterParts). r >>= λ x. ends_with (footer_info x.0) total x.1) (done (field ++ more))
+    in_fields j total (field ++ more) was ∙ ap (λ (r : Parsed FooterParts). r >>= λ x. ends_with (info_of_parts x.0) total x.1) (done (field ++ more))
     ∙ ap (length_then info total (length (field ++ more))) (number_whole field more len) ∙ ap (λ (k : ℕ). length_is info n more (n == k)) here
 
 pub length_read : (old new : Joined) (field : List ℕ) → old.ended ≡ false → new.ended ≡ true → new.count ≡ old.count → footer_parts_of new.footer ≡ footer_parts_of old.footer → ((bytes : List ℕ) → rest_of old.footer bytes ≡ Ok (footer_parts_of old.footer, bytes))
@@ -99,9 +99,9 @@ length_read old new field was is count parts done len same =
     record {
       moved = λ more total all.
           at_length old total field more was done len (all was)
-          ∙ ap (length_is (footer_info (footer_parts_of old.footer)) (from_le_bytes w32 field) more) (eq-eqb (from_le_bytes w32 field) old.count same)
-          ∙ ap (λ (k : ℕ). wants (length more == 0) TrailingBytes >>= λ _. Ok (footer_info (footer_parts_of old.footer), k)) (same ∙ sym count)
-          ∙ ap (λ (p : FooterParts). wants (length more == 0) TrailingBytes >>= λ _. Ok (footer_info p, new.count)) (sym parts)
+          ∙ ap (length_is (info_of_parts (footer_parts_of old.footer)) (from_le_bytes w32 field) more) (eq-eqb (from_le_bytes w32 field) old.count same)
+          ∙ ap (λ (k : ℕ). wants (length more == 0) TrailingBytes >>= λ _. Ok (info_of_parts (footer_parts_of old.footer), k)) (same ∙ sym count)
+          ∙ ap (λ (p : FooterParts). wants (length more == 0) TrailingBytes >>= λ _. Ok (info_of_parts p, new.count)) (sym parts)
           ∙ sym (at_end new total more is);
       count = λ e. absurd cc;
     }
@@ -109,7 +109,7 @@ length_read old new field was is count parts done len same =
 pub length_stops : (old : Joined) (field : List ℕ) → old.ended ≡ false → ((bytes : List ℕ) → rest_of old.footer bytes ≡ Ok (footer_parts_of old.footer, bytes)) → length field ≡ 4 → (from_le_bytes w32 field == old.count) ≡ false
     → Stops old field (MalformedData InfoLength)
 unfolding length_is
-length_stops old field was done len off = inr (λ more total all. at_length old total field more was done len (all was) ∙ ap (length_is (footer_info (footer_parts_of old.footer)) (from_le_bytes w32 field) more) off)
+length_stops old field was done len off = inr (λ more total all. at_length old total field more was done len (all was) ∙ ap (length_is (info_of_parts (footer_parts_of old.footer)) (from_le_bytes w32 field) more) off)
 
 -- ---- a byte behind it
 
@@ -117,7 +117,7 @@ pub behind_stops : (old : Joined) (field : List ℕ) → old.ended ≡ true → 
 behind_stops old field was len =
     inr (λ more total all.
     at_end old total (field ++ more) was
-    ∙ ap (λ (b : Bool). wants b TrailingBytes >>= λ _. Ok (footer_info (footer_parts_of old.footer), old.count)) (ne_eqb (length (field ++ more)) 0 (λ none. omega (arith, length-append field more))))
+    ∙ ap (λ (b : Bool). wants b TrailingBytes >>= λ _. Ok (info_of_parts (footer_parts_of old.footer), old.count)) (ne_eqb (length (field ++ more)) 0 (λ none. omega (arith, length-append field more))))
 
 -- ---- one after the other
 
@@ -158,19 +158,19 @@ stops_behind a x e z (inr fails) = inr (λ more total all. ap (rest_whole a tota
 pub short_rest : (n : ℕ) (j : Joined) (total : ℕ) (bytes : List ℕ) → bytes_wanted j.footer ≡ n → j.ended ≡ false → IsReady j → length bytes < wanted_next false n → rest_whole j total bytes ≡ Err UnexpectedEof
 unfolding length_then
 short_rest zero j total bytes none was ready few =
-    in_fields j total bytes was ∙ ap (λ (r : Parsed FooterParts). r >>= λ x. ends_with (footer_info x.0) total x.1) (all_read j ready none bytes)
-    ∙ ap (length_then (footer_info (footer_parts_of j.footer)) total (length bytes)) (number_short bytes few)
+    in_fields j total bytes was ∙ ap (λ (r : Parsed FooterParts). r >>= λ x. ends_with (info_of_parts x.0) total x.1) (all_read j ready none bytes)
+    ∙ ap (length_then (info_of_parts (footer_parts_of j.footer)) total (length bytes)) (number_short bytes few)
 short_rest (suc n) j total bytes some was ready few =
     in_fields j total bytes was
-    ∙ ap (λ (r : Parsed FooterParts). r >>= λ x. ends_with (footer_info x.0) total x.1) (rest_short j.footer.next (footer_parts_of j.footer) bytes (omega (arith, some)))
+    ∙ ap (λ (r : Parsed FooterParts). r >>= λ x. ends_with (info_of_parts x.0) total x.1) (rest_short j.footer.next (footer_parts_of j.footer) bytes (omega (arith, some)))
 
 -- ---- the start
 
-pub starts : (j : Joined) → j.ended ≡ false → ((bytes : List ℕ) → as_value footer_info (rest_of j.footer bytes) ≡ footer_at bytes) → (bytes : List ℕ) → whole_footer bytes ≡ rest_whole j (length bytes) bytes
+pub starts : (j : Joined) → j.ended ≡ false → ((bytes : List ℕ) → as_value info_of_parts (rest_of j.footer bytes) ≡ footer_at bytes) → (bytes : List ℕ) → whole_footer bytes ≡ rest_whole j (length bytes) bytes
 unfolding whole_footer
 starts j was reads bytes =
     ap (λ (r : Parsed XorbObjectInfoV1). r >>= λ x. ends_with x.0 (length bytes) x.1) (sym (reads bytes))
-    ∙ bind_bind (rest_of j.footer bytes) (λ x. Ok (footer_info x.0, x.1)) (λ x. ends_with x.0 (length bytes) x.1) ∙ sym (in_fields j (length bytes) bytes was)
+    ∙ bind_bind (rest_of j.footer bytes) (λ x. Ok (info_of_parts x.0, x.1)) (λ x. ends_with x.0 (length bytes) x.1) ∙ sym (in_fields j (length bytes) bytes was)
 
 -- ---- bytes that are spelled otherwise
 

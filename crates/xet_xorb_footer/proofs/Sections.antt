@@ -185,14 +185,14 @@ pub last_few : (end : ℕ) (bytes : List ℕ) → end ≡ length bytes → end <
 unfolding last_boundaries
 last_few end bytes same lt = rw (lt-leb 24 (length bytes) (omega arith)) refl
 
-told_is : (end : ℕ) (bytes last : List ℕ) → end ≡ length bytes → last ≡ take 4 (drop (end - 24) bytes) → from_le_bytes w32 last ≡ number_before 24 bytes
-told_is end bytes last same is = ap (from_le_bytes w32) (is ∙ ap (λ (k : ℕ). take 4 (drop (k - 24) bytes)) same)
+number_before_is : (end : ℕ) (bytes last : List ℕ) → end ≡ length bytes → last ≡ take 4 (drop (end - 24) bytes) → from_le_bytes w32 last ≡ number_before 24 bytes
+number_before_is end bytes last same is = ap (from_le_bytes w32) (is ∙ ap (λ (k : ℕ). take 4 (drop (k - 24) bytes)) same)
 
 pub number_told : {b : Bool} {seen bytes : List ℕ} {end : ℕ} (n : ℕ) (last : List ℕ) → Tells b seen bytes end → 24 ≤ end → n ≡ from_le_bytes w32 last
     → (b ≡ true → end - 24 + 4 ≤ length seen → last ≡ take 4 (drop (end - 24) seen)) → n ≡ number_before 24 bytes
 number_told {b} {seen} {bytes} {end} n last t le is read =
     let there : end - 24 + 4 ≤ length seen = omega (arith, le, t.all, ap length t.same) in
-    is ∙ told_is end bytes last t.all (read t.told there ∙ ap (λ (x : List ℕ). take 4 (drop (end - 24) x)) t.same)
+    is ∙ number_before_is end bytes last t.all (read t.told there ∙ ap (λ (x : List ℕ). take 4 (drop (end - 24) x)) t.same)
 
 begun : (end : ℕ) (bytes : List ℕ) → end ≡ length bytes → 24 ≤ end → last_boundaries bytes ≡ (reaches (nat_le (number_before 24 bytes + 4) (length bytes)) >>= λ _. boundaries (drop (length bytes - (number_before 24 bytes + 4)) bytes))
 unfolding last_boundaries

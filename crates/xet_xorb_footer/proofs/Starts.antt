@@ -4,7 +4,7 @@ use Rattle.std.specs.Cmp.Lexicographic.{pointwise}
 use Rattle.xet_hash.specs.declared.error.Reason.TheVariants as reasons
 use Rattle.xet_hash.specs.declared.error.StoreError.{StoreError}
 use Rattle.xet_xorb_footer.specs.declared.machine.Field.TheVariants as fields
-use Rattle.xet_xorb_footer.specs.Machine.{FooterParts, footer_info, info_v0, rest, rest_behind_version, rest_boundaries_magic, rest_boundaries_version, rest_boundary_offset, rest_count, rest_count_again, rest_count_last, rest_ends_v0, rest_ends_v1, rest_hash, rest_hashes_magic, rest_hashes_offset, rest_hashes_v0, rest_hashes_v1, rest_hashes_version, rest_magic, rest_plain, rest_spare, rest_version}
+use Rattle.xet_xorb_footer.specs.Machine.{FooterParts, info_of_parts, info_v0, rest, rest_after_version, rest_boundaries_magic, rest_boundaries_version, rest_boundary_offset, rest_count, rest_count_again, rest_count_last, rest_ends_v0, rest_ends_v1, rest_hash, rest_hashes_magic, rest_hashes_offset, rest_hashes_v0, rest_hashes_v1, rest_hashes_version, rest_magic, rest_plain, rest_spare, rest_version}
 use Rattle.xet_xorb_footer.specs.internal.Machine.{as_value, started}
 use Rattle.xet_codec.specs.Parsing.{◌>>=◌, Parsed, next_bytes, number_at, times, wants}
 use Rattle.xet_xorb_footer.specs.Reading.{count_at, footer_at, footer_v0, magic_at, number_is, rest_v0, rest_v1, version_at, version_of}
@@ -159,30 +159,30 @@ pub hash_is_v0 : (q : FooterParts) (bytes : List ℕ) → as_value info_v0 (rest
 unfolding rest_v0
 hash_is_v0 q bytes = on_hash_v0 info_v0 q bytes
 
-hash_is_either_v0 : (q : FooterParts) (bytes : List ℕ) → as_value footer_info (rest_hash (record q { is_v1 = false; hashes = []; ends = [] }) bytes) ≡ as_value of_v0 (rest_v0 bytes)
+hash_is_either_v0 : (q : FooterParts) (bytes : List ℕ) → as_value info_of_parts (rest_hash (record q { is_v1 = false; hashes = []; ends = [] }) bytes) ≡ as_value of_v0 (rest_v0 bytes)
 hash_is_either_v0 q bytes =
     let p : FooterParts = record q { is_v1 = false; hashes = []; ends = [] } in
-    on_hash_v0 footer_info q bytes ∙ sym (on_hash_v0 (λ x. of_v0 (info_v0 x)) q bytes) ∙ sym (as_value_twice info_v0 of_v0 (rest_hash p bytes)) ∙ ap (as_value of_v0) (hash_is_v0 q bytes)
+    on_hash_v0 info_of_parts q bytes ∙ sym (on_hash_v0 (λ x. of_v0 (info_v0 x)) q bytes) ∙ sym (as_value_twice info_v0 of_v0 (rest_hash p bytes)) ∙ ap (as_value of_v0) (hash_is_v0 q bytes)
 
-hash_is_v1 : (q : FooterParts) (bytes : List ℕ) → as_value footer_info (rest_hash (record q { is_v1 = true; hashes = []; ends = []; plain = [] }) bytes) ≡ rest_v1 bytes
+hash_is_v1 : (q : FooterParts) (bytes : List ℕ) → as_value info_of_parts (rest_hash (record q { is_v1 = true; hashes = []; ends = []; plain = [] }) bytes) ≡ rest_v1 bytes
 unfolding rest_v1
-hash_is_v1 q bytes = on_hash_v1 footer_info q bytes
+hash_is_v1 q bytes = on_hash_v1 info_of_parts q bytes
 
 either_behind : (b : Bool) (version bytes : List ℕ)
-    → as_value footer_info (cond b (rest_hash (record (started true) { is_v1 = true }) bytes) (wants (pointwise nat_eq version (0 ∷ [])) reasons.Version >>= λ _. rest_hash (record (started true) { is_v1 = false }) bytes))
+    → as_value info_of_parts (cond b (rest_hash (record (started true) { is_v1 = true }) bytes) (wants (pointwise nat_eq version (0 ∷ [])) reasons.Version >>= λ _. rest_hash (record (started true) { is_v1 = false }) bytes))
     ≡ cond b (rest_v1 bytes) (wants (pointwise nat_eq version (0 ∷ [])) reasons.Version >>= λ _. rest_v0 bytes >>= λ x. Ok (of_v0 x.0, x.1))
 either_behind true version bytes = hash_is_v1 (started true) bytes
 either_behind false version bytes =
     let w : Result (Unit {0}) StoreError = wants (pointwise nat_eq version (0 ∷ [])) reasons.Version in
-    bind_bind w (λ _. rest_hash (started true) bytes) (λ x. Ok (footer_info x.0, x.1)) ∙ onward w (λ _. as_value footer_info (rest_hash (started true) bytes)) (λ _. as_value of_v0 (rest_v0 bytes)) (λ _. hash_is_either_v0 (started true) bytes)
+    bind_bind w (λ _. rest_hash (started true) bytes) (λ x. Ok (info_of_parts x.0, x.1)) ∙ onward w (λ _. as_value info_of_parts (rest_hash (started true) bytes)) (λ _. as_value of_v0 (rest_v0 bytes)) (λ _. hash_is_either_v0 (started true) bytes)
 
-only_behind : (version bytes : List ℕ) → as_value info_v0 (rest_behind_version (started false) version bytes) ≡ (wants (pointwise nat_eq version (0 ∷ [])) reasons.Version >>= λ _. rest_v0 bytes)
+only_behind : (version bytes : List ℕ) → as_value info_v0 (rest_after_version (started false) version bytes) ≡ (wants (pointwise nat_eq version (0 ∷ [])) reasons.Version >>= λ _. rest_v0 bytes)
 only_behind version bytes =
     let w : Result (Unit {0}) StoreError = wants (pointwise nat_eq version (0 ∷ [])) reasons.Version in
     bind_bind w (λ _. rest_hash (started false) bytes) (λ x. Ok (info_v0 x.0, x.1)) ∙ onward w (λ _. as_value info_v0 (rest_hash (started false) bytes)) (λ _. rest_v0 bytes) (λ _. hash_is_v0 (started false) bytes)
 
 -- ident and version, and what is behind them
-behind_version : {X : Type 0} (make : FooterParts → X) (p : FooterParts) (f : List ℕ × List ℕ → Parsed X) → ((version bytes : List ℕ) → as_value make (rest_behind_version p version bytes) ≡ f (version, bytes)) → (bytes : List ℕ)
+behind_version : {X : Type 0} (make : FooterParts → X) (p : FooterParts) (f : List ℕ × List ℕ → Parsed X) → ((version bytes : List ℕ) → as_value make (rest_after_version p version bytes) ≡ f (version, bytes)) → (bytes : List ℕ)
     → as_value make (rest_magic p bytes) ≡ (version_of bytes >>= f)
 unfolding rest_magic rest_version version_of
 behind_version make p f same bytes =
@@ -190,13 +190,13 @@ behind_version make p f same bytes =
     let second : Unit {0} × List ℕ → Parsed (List ℕ) = λ x. next_bytes 1 x.1 in
     bind_bind first (λ x. rest_version p x.1) (λ x. Ok (make x.0, x.1))
     ∙ onward first (λ x. as_value make (rest_version p x.1)) (λ x. second x >>= f)
-    (λ x. bind_bind (second x) (λ y. rest_behind_version p y.0 y.1) (λ z. Ok (make z.0, z.1)) ∙ onward (second x) (λ y. as_value make (rest_behind_version p y.0 y.1)) f (λ y. same y.0 y.1))
+    (λ x. bind_bind (second x) (λ y. rest_after_version p y.0 y.1) (λ z. Ok (make z.0, z.1)) ∙ onward (second x) (λ y. as_value make (rest_after_version p y.0 y.1)) f (λ y. same y.0 y.1))
     ∙ sym (bind_bind first second f)
 
-pub starts_either : (bytes : List ℕ) → as_value footer_info (rest fields.Ident (started true) bytes) ≡ footer_at bytes
+pub starts_either : (bytes : List ℕ) → as_value info_of_parts (rest fields.Ident (started true) bytes) ≡ footer_at bytes
 unfolding rest footer_at
 starts_either bytes =
-    behind_version footer_info (started true)
+    behind_version info_of_parts (started true)
     (λ version. cond (pointwise nat_eq version.0 (1 ∷ [])) (rest_v1 version.1) (wants (pointwise nat_eq version.0 (0 ∷ [])) reasons.Version >>= λ _. rest_v0 version.1 >>= λ x. Ok (of_v0 x.0, x.1)))
     (λ version rest. either_behind (pointwise nat_eq version (1 ∷ [])) version rest) bytes
 

@@ -7,7 +7,7 @@ use Rattle.xet_xorb_footer.specs.declared.decoder.Joined.{Joined}
 use Rattle.xet_xorb_footer.specs.declared.info.XorbObjectInfoV1.{XorbObjectInfoV1}
 use Rattle.xet_xorb_footer.specs.declared.machine.Field.{Field}
 use Rattle.xet_xorb_footer.specs.declared.machine.Field.TheVariants as fields
-use Rattle.xet_xorb_footer.specs.Machine.{footer_info}
+use Rattle.xet_xorb_footer.specs.Machine.{info_of_parts}
 use Rattle.xet_xorb_footer.specs.Reader.{bytes_left, bytes_wanted, footer_parts_of, rest_of}
 use Rattle.xet_codec.specs.Parsing.{◌>>=◌, number_at, wants}
 use Rattle.xet_xorb_footer.specs.Errors.{IsBytesError}
@@ -23,7 +23,7 @@ ends_with info total bytes = do
 
 -- What reading gives from the next field on. `bytes` is left, of `total` bytes in all.
 unfoldable pub rest_whole : Joined → ℕ → List ℕ → Result (XorbObjectInfoV1 × ℕ) StoreError
-rest_whole j total bytes = if j.ended then (wants (length bytes == 0) TrailingBytes >>= λ _. Ok (footer_info (footer_parts_of j.footer), j.count)) else (rest_of j.footer bytes >>= λ x. ends_with (footer_info x.0) total x.1)
+rest_whole j total bytes = if j.ended then (wants (length bytes == 0) TrailingBytes >>= λ _. Ok (info_of_parts (footer_parts_of j.footer), j.count)) else (rest_of j.footer bytes >>= λ x. ends_with (info_of_parts x.0) total x.1)
 
 -- Number of bytes of the next field: one of the footer, the length, or any byte after it. `n` is that of the
 -- footer's next field.

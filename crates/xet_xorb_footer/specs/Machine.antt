@@ -38,8 +38,8 @@ info_v1 p = record empty_v1 {
   spare = p.spare;
 }
 
-abbrev pub footer_info : FooterParts → XorbObjectInfoV1
-footer_info p = if p.is_v1 then info_v1 p else of_v0 (info_v0 p)
+abbrev pub info_of_parts : FooterParts → XorbObjectInfoV1
+info_of_parts p = if p.is_v1 then info_v1 p else of_v0 (info_v0 p)
 
 -- ---- Fields
 
@@ -128,17 +128,17 @@ rest_hashes_version p bytes = version_at 0 reasons.HashesVersion bytes >>= λ x.
 unfoldable pub rest_hashes_magic : FooterParts → List ℕ → Parsed FooterParts
 rest_hashes_magic p bytes = magic_at hashes_magic reasons.HashesIdent bytes >>= λ x. rest_hashes_version p x.1
 
-abbrev pub rest_behind_hash : FooterParts → List ℕ → Parsed FooterParts
-rest_behind_hash p bytes = if p.is_v1 then rest_hashes_magic p bytes else rest_count p bytes
+abbrev pub rest_after_hash : FooterParts → List ℕ → Parsed FooterParts
+rest_after_hash p bytes = if p.is_v1 then rest_hashes_magic p bytes else rest_count p bytes
 
 unfoldable pub rest_hash : FooterParts → List ℕ → Parsed FooterParts
-rest_hash p bytes = next_bytes 32 bytes >>= λ x. rest_behind_hash (record p { hash = x.0 }) x.1
+rest_hash p bytes = next_bytes 32 bytes >>= λ x. rest_after_hash (record p { hash = x.0 }) x.1
 
-abbrev pub rest_behind_version : FooterParts → List ℕ → List ℕ → Parsed FooterParts
-rest_behind_version p version bytes = if p.either && pointwise nat_eq version (1 ∷ []) then rest_hash (record p { is_v1 = true }) bytes else (wants (pointwise nat_eq version (0 ∷ [])) reasons.Version >>= λ _. rest_hash (record p { is_v1 = false }) bytes)
+abbrev pub rest_after_version : FooterParts → List ℕ → List ℕ → Parsed FooterParts
+rest_after_version p version bytes = if p.either && pointwise nat_eq version (1 ∷ []) then rest_hash (record p { is_v1 = true }) bytes else (wants (pointwise nat_eq version (0 ∷ [])) reasons.Version >>= λ _. rest_hash (record p { is_v1 = false }) bytes)
 
 unfoldable pub rest_version : FooterParts → List ℕ → Parsed FooterParts
-rest_version p bytes = next_bytes 1 bytes >>= λ x. rest_behind_version p x.0 x.1
+rest_version p bytes = next_bytes 1 bytes >>= λ x. rest_after_version p x.0 x.1
 
 unfoldable pub rest_magic : FooterParts → List ℕ → Parsed FooterParts
 rest_magic p bytes = magic_at footer_magic reasons.Ident bytes >>= λ x. rest_version p x.1

@@ -143,7 +143,7 @@ impl Joined {
 /// Incremental decoder of a footer and its length, in four bytes after it, which arrive in parts of any
 /// lengths.
 #[derive(Drop)]
-pub struct FooterDecoder {
+pub struct InfoDecoder {
     joined: Joined,
     /// Buffered bytes of the next field.
     held: Vec<u8>,
@@ -153,7 +153,7 @@ pub struct FooterDecoder {
     ghost short: { whole ≡ true → length held.items < joined_wanted joined },
 }
 
-impl FooterDecoder {
+impl InfoDecoder {
     ghost use Rattle.std.specs.Prelude.{◌≡◌, ◌<◌, ◌⊎◌, ◌↔◌, ◌++◌, [], List, ℕ, Err, Ok, true, false, IfErr, IfOk, IsOk, IsTrue, OnOk};
     ghost use Rattle.xet_hash.specs.declared.error.StoreError.TheVariants.{UnexpectedEof};
     ghost use Rattle.xet_xorb_footer.specs.Decoder.{WasFedFooter, FailsPart, is_footer_intact};
@@ -162,11 +162,11 @@ impl FooterDecoder {
     ghost use Rattle.xet_xorb_footer.specs.internal.Joining.{ReadsUpTo, Stops};
 
     /// A decoder to which nothing was fed. Does not allocate.
-    pub fn new(alloc: Global) -> FooterDecoder
+    pub fn new(alloc: Global) -> InfoDecoder
         ensures whole { is_footer_intact result ≡ true }
         ensures holds { WasFedFooter result [] }
     {
-        FooterDecoder {
+        InfoDecoder {
             joined: Joined::new(alloc),
             held: Vec::new(alloc),
             whole: true,
@@ -248,7 +248,7 @@ impl FooterDecoder {
         if !self.joined.ended {
             return Err(StoreError::UnexpectedEof);
         }
-        let FooterDecoder { joined, .. } = self;
+        let InfoDecoder { joined, .. } = self;
         let Joined { footer, count, .. } = joined;
         Ok((footer.into_v1(), count))
     }

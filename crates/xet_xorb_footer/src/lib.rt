@@ -11,6 +11,6 @@ mod machine;
 mod reading;
 mod writing;
 
-pub use decoder::FooterDecoder;
+pub use decoder::InfoDecoder;
 pub use ends::{footer_length, last_footer};
 pub use info::{XorbObjectIdent, XorbObjectInfoV0, XorbObjectInfoV1};

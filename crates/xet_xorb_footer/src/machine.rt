@@ -83,7 +83,7 @@ impl FooterReader {
     ghost use Rattle.std.specs.Prelude.{◌≡◌, ◌≤◌, ◌⊎◌, ℕ, ◌+◌, ◌-◌, ◌*◌, List, ◌++◌, Err, IfErr, IsErrOf, OnOk, length, min, nat_lt, if◌then◌else◌};
     ghost use Rattle.xet_hash.specs.declared.error.StoreError.TheVariants.{OutOfMemory, UnexpectedEof};
     ghost use Rattle.xet_xorb_footer.specs.internal.Machine.{IsIncomplete, advance, as_value, behind_ends, behind_hashes, ends_or, expects, expects_number, hashes_or, more_ends, more_hashes, more_plain, next_count, next_hash, next_spare, next_version, plain_v1, started, step};
-    ghost use Rattle.xet_xorb_footer.specs.Machine.{block_of, footer_info, info_v0};
+    ghost use Rattle.xet_xorb_footer.specs.Machine.{block_of, info_of_parts, info_v0};
     ghost use Rattle.xet_xorb_footer.specs.Reader.{bytes_left, bytes_wanted, footer_parts_of, rest_of};
     ghost use Rattle.xet_xorb_footer.specs.Reading.{footer_at, footer_v0, rest_v0};
     ghost use Rattle.xet_codec.specs.Parsing.{Gives};
@@ -94,7 +94,7 @@ impl FooterReader {
     /// lists fit into them, they are reserved once, as soon as the number of chunks is read. Otherwise they
     /// grow.
     pub(crate) fn of_either(alloc: Global, available: u64) -> FooterReader
-        ensures rest { (bytes : List ℕ) → as_value footer_info (rest_of result bytes) ≡ footer_at bytes }
+        ensures rest { (bytes : List ℕ) → as_value info_of_parts (rest_of result bytes) ≡ footer_at bytes }
         ensures settled { IsIncomplete result.next (footer_parts_of result) }
         ensures left { bytes_left result ≤ 92 + 40 * max_chunks }
     {
@@ -156,7 +156,7 @@ impl FooterReader {
 
     /// The footer of either version, once it is complete, as one of version 1.
     pub(crate) fn into_v1(self) -> XorbObjectInfoV1
-        ensures { result ≡ footer_info (footer_parts_of self) }
+        ensures { result ≡ info_of_parts (footer_parts_of self) }
     {
         if !self.is_v1 {
             return XorbObjectInfoV1::from_v0(self.into_v0());

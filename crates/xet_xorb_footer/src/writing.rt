@@ -4,7 +4,7 @@ ghost use Rattle.std.specs.Prelude.{◌≡◌, ◌<◌, ◌^◌, ◌⊎◌, ℕ,
 ghost use Rattle.xet_hash.specs.declared.error.Place.TheVariants.{Output};
 ghost use Rattle.xet_hash.specs.declared.error.Reason.TheVariants.{ListLength};
 ghost use Rattle.xet_hash.specs.declared.error.StoreError.TheVariants.{Io, MalformedData, OutOfMemory};
-ghost use Rattle.xet_codec.specs.Held.{held_in};
+ghost use Rattle.xet_codec.specs.Buffered.{buffered_in};
 ghost use Rattle.xet_xorb_footer.specs.FooterEncoding.{HasLists, HasShortLists, length_of, length_of_v0, footer_bytes_v0, footer_bytes_v1};
 ghost use Rattle.xet_xorb_footer.specs.internal.Putting.{Puts};
 ghost use Rattle.xet_codec.specs.Stops.{StopsWriting};
@@ -38,7 +38,7 @@ impl XorbObjectInfoV0 {
 
     /// Writes the footer through a buffer.
     fn put<W: Sink>(&self, buffer: &mut Buffer, sink: &mut W) -> Result<(), StoreError>
-        ensures puts { W.tells sink.old ≡ true → Puts result (W.written sink.old) (W.written sink.new) (held_in buffer.new) (held_in buffer.old ++ footer_bytes_v0 self.now) }
+        ensures puts { W.tells sink.old ≡ true → Puts result (W.written sink.old) (W.written sink.new) (buffered_in buffer.new) (buffered_in buffer.old ++ footer_bytes_v0 self.now) }
         ensures bytes { OnOk result (length (footer_bytes_v0 self.now) ≡ length_of_v0 self.now) }
         ensures errors { IfErr result StopsWriting }
         ensures frame { Called W.tells W.faults sink.old sink.new (IsErrOf result (Io Output)) }
@@ -84,7 +84,7 @@ impl XorbObjectInfoV1 {
 
     /// Writes the footer, with its lists as they are, through a buffer.
     fn put<W: Sink>(&self, buffer: &mut Buffer, sink: &mut W) -> Result<(), StoreError>
-        ensures puts { W.tells sink.old ≡ true → Puts result (W.written sink.old) (W.written sink.new) (held_in buffer.new) (held_in buffer.old ++ footer_bytes_v1 self.now) }
+        ensures puts { W.tells sink.old ≡ true → Puts result (W.written sink.old) (W.written sink.new) (buffered_in buffer.new) (buffered_in buffer.old ++ footer_bytes_v1 self.now) }
         ensures bytes { OnOk result (length (footer_bytes_v1 self.now) ≡ length_of self.now) }
         ensures errors { IfErr result StopsWriting }
         ensures frame { Called W.tells W.faults sink.old sink.new (IsErrOf result (Io Output)) }

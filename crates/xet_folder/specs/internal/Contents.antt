@@ -4,10 +4,10 @@ use Rattle.std.specs.Cmp.Lexicographic.{pointwise}
 use Rattle.std.specs.List.{flat_map}
 use Rattle.xet_hash.specs.Merkle.{file_hash}
 use Rattle.xet_shard_format.specs.declared.record.MDBFileInfo.{MDBFileInfo}
-use Rattle.xet_shard_format.specs.Records as record_of
+use Rattle.xet_shard_format.specs.Records.{file_record_hash}
 use Rattle.xet_folder.specs.Xorbs.{Xorbs}
 use Rattle.xet_folder.specs.Contents.{IsRecord}
 
 -- the same for a file record in a shard
 abbrev pub IsFileRecord : Xorbs → MDBFileInfo → Type 0
-IsFileRecord xorbs f = IsRecord xorbs (record_of.file_hash f, f)
+IsFileRecord xorbs f = IsRecord xorbs (file_record_hash f, f)

@@ -7,7 +7,7 @@ use Rattle.xet_hash.specs.Order.{hash_cmp}
 use Rattle.xet_hash.specs.declared.error.StoreError.{StoreError}
 use Rattle.xet_hash.specs.declared.error.StoreError.TheVariants.{InvalidArguments, MalformedData, OutOfMemory}
 use Rattle.xet_hash.specs.declared.error.Reason.TheVariants.{SectionPlace}
-use Rattle.xet_shard_format.specs.Records.{AreRecords, IsFile, IsXorb, file_hash, file_section, xorb_hash, xorb_section}
+use Rattle.xet_shard_format.specs.Records.{AreRecords, IsFile, IsXorb, file_record_hash, file_section, xorb_record_hash, xorb_section}
 use Rattle.xet_shard.specs.Union.{AgreeBoth, HasTooManyRows, ShardRecords, union_shard}
 
 -- each hash is above those before it
@@ -44,8 +44,8 @@ IsNoMerge Agree e = ⊥
 
 -- the records of a well-formed shard
 pub record AreOfShard (p : ShardRecords) : Type 0 where
-  pub blocks : AreRecords xorb_hash IsXorb None p.0
-  pub files : AreRecords file_hash IsFile None p.1
+  pub blocks : AreRecords xorb_record_hash IsXorb None p.0
+  pub files : AreRecords file_record_hash IsFile None p.1
   pub few_blocks : length (xorb_section p.0) < 2 ^ 32
   pub few_files : length (file_section p.1) < 2 ^ 32
 

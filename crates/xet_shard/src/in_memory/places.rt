@@ -6,7 +6,7 @@ ghost use Rattle.indexmap.specs.IndexMap.{get, spare, values};
 ghost use Rattle.xet_shard.specs.Held.{DifferBy, Keyed, with_last};
 ghost use Rattle.xet_shard.specs.LastPlaces.{HasPlaces};
 ghost use Rattle.xet_shard.specs.internal.LastPlaces.{noted};
-ghost use Rattle.xet_shard_format.specs.Records.{xorb_hash, xorb_section};
+ghost use Rattle.xet_shard_format.specs.Records.{xorb_record_hash, xorb_section};
 
 use super::put_last;
 use indexmap::IndexMap;
@@ -23,13 +23,13 @@ pub(super) fn put_block(
     places: &mut LastPlaces,
     block: MDBXorbInfo,
 ) -> Result<(), AllocError>
-    requires keyed { Keyed xorb_hash blocks.old.entries }
-    requires differ { DifferBy xorb_hash (values blocks.old) }
+    requires keyed { Keyed xorb_record_hash blocks.old.entries }
+    requires differ { DifferBy xorb_record_hash (values blocks.old) }
     requires places { HasPlaces places.old.entries (values blocks.old) }
-    requires few { length (xorb_section (with_last xorb_hash (values blocks.old) block)) < 2 ^ 32 }
-    ensures keyed { Keyed xorb_hash blocks.new.entries }
+    requires few { length (xorb_section (with_last xorb_record_hash (values blocks.old) block)) < 2 ^ 32 }
+    ensures keyed { Keyed xorb_record_hash blocks.new.entries }
     ensures places { HasPlaces places.new.entries (values blocks.new) }
-    ensures put { OnOk result (values blocks.new ≡ with_last xorb_hash (values blocks.old) block) }
+    ensures put { OnOk result (values blocks.new ≡ with_last xorb_record_hash (values blocks.old) block) }
     ensures kept { OnErr result (values blocks.new ≡ values blocks.old) }
 {
     if blocks.contains_key(&block.hash()) {
@@ -45,14 +45,14 @@ fn put_new(
     places: &mut LastPlaces,
     block: MDBXorbInfo,
 ) -> Result<(), AllocError>
-    requires keyed { Keyed xorb_hash blocks.old.entries }
-    requires differ { DifferBy xorb_hash (values blocks.old) }
+    requires keyed { Keyed xorb_record_hash blocks.old.entries }
+    requires differ { DifferBy xorb_record_hash (values blocks.old) }
     requires places { HasPlaces places.old.entries (values blocks.old) }
-    requires few { length (xorb_section (with_last xorb_hash (values blocks.old) block)) < 2 ^ 32 }
-    requires absent { get (pointwise nat_eq) blocks.old (xorb_hash block) ≡ None }
-    ensures keyed { Keyed xorb_hash blocks.new.entries }
+    requires few { length (xorb_section (with_last xorb_record_hash (values blocks.old) block)) < 2 ^ 32 }
+    requires absent { get (pointwise nat_eq) blocks.old (xorb_record_hash block) ≡ None }
+    ensures keyed { Keyed xorb_record_hash blocks.new.entries }
     ensures places { HasPlaces places.new.entries (values blocks.new) }
-    ensures put { OnOk result (values blocks.new ≡ with_last xorb_hash (values blocks.old) block) }
+    ensures put { OnOk result (values blocks.new ≡ with_last xorb_record_hash (values blocks.old) block) }
     ensures kept { OnErr result (values blocks.new ≡ values blocks.old) }
 {
     let chunks = block.chunks.as_slice();
@@ -72,13 +72,13 @@ fn put_again(
     places: &mut LastPlaces,
     block: MDBXorbInfo,
 ) -> Result<(), AllocError>
-    requires keyed { Keyed xorb_hash blocks.old.entries }
-    requires differ { DifferBy xorb_hash (values blocks.old) }
+    requires keyed { Keyed xorb_record_hash blocks.old.entries }
+    requires differ { DifferBy xorb_record_hash (values blocks.old) }
     requires places { HasPlaces places.old.entries (values blocks.old) }
-    requires few { length (xorb_section (with_last xorb_hash (values blocks.old) block)) < 2 ^ 32 }
-    ensures keyed { Keyed xorb_hash blocks.new.entries }
+    requires few { length (xorb_section (with_last xorb_record_hash (values blocks.old) block)) < 2 ^ 32 }
+    ensures keyed { Keyed xorb_record_hash blocks.new.entries }
     ensures places { HasPlaces places.new.entries (values blocks.new) }
-    ensures put { OnOk result (values blocks.new ≡ with_last xorb_hash (values blocks.old) block) }
+    ensures put { OnOk result (values blocks.new ≡ with_last xorb_record_hash (values blocks.old) block) }
     ensures kept { OnErr result (values blocks.new ≡ values blocks.old) }
 {
     let hash = block.hash();

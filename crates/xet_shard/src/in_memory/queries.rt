@@ -2,7 +2,7 @@
 
 ghost use Rattle.std.specs.Prelude.{◌≡◌, IfOk, IsOkUnless, length};
 ghost use Rattle.xet_shard.specs.Held.{record_of};
-ghost use Rattle.xet_shard_format.specs.Records.{file_hash};
+ghost use Rattle.xet_shard_format.specs.Records.{file_record_hash};
 ghost use Rattle.xet_shard.specs.Runs.{held_run};
 ghost use Rattle.xet_shard_format.specs.Encoding.{materialized, stored};
 
@@ -20,7 +20,7 @@ impl MDBInMemoryShard {
         alloc: Global,
         hash: &MerkleHash,
     ) -> Result<Option<MDBFileInfo>, StoreError>
-        ensures file { IfOk result (λ found. found ≡ record_of file_hash hash.now self.now.files) }
+        ensures file { IfOk result (λ found. found ≡ record_of file_record_hash hash.now self.now.files) }
         ensures memory { IsOkUnless result StoreError.OutOfMemory }
     {
         match self.files.get(hash) {
@@ -65,7 +65,7 @@ impl MDBInMemoryShard {
     {
         let mut total: u64 = 0;
         for file in self.files.values() {
-            total += file.known_size();
+            total += file.segments_size();
         }
         total
     }
@@ -76,7 +76,7 @@ impl MDBInMemoryShard {
     {
         let mut total: u64 = 0;
         for block in self.blocks.values() {
-            total += block.told_size();
+            total += block.stated_size();
         }
         total
     }

@@ -18,7 +18,7 @@ use xet_codec::{half_word, word};
 use xet_hash::{Place, StoreError};
 use xet_io::ReadAt;
 use xet_shard_format::MDBShardFileFooter;
-use xet_shard_format::lookup::{ChunkPlace, Head};
+use xet_shard_format::lookup::{ChunkItem, RecordItem};
 
 /// The items of the file lookup table from the index that bisects it by the word `first` on, at most eight;
 /// all items if the table is omitted.
@@ -27,7 +27,7 @@ pub fn file_items<R: ReadAt>(
     reader: &mut R,
     f: &MDBShardFileFooter,
     first: u64,
-) -> Result<Vec<Head>, StoreError>
+) -> Result<Vec<RecordItem>, StoreError>
     ensures exact { R.tells reader.old ≡ true → AnswersAt (λ i. nat_lt i.0 first) (file_table f.now (R.bytes reader.old)) (λ v. v.items) result (λ index. file_items_from f.now index (R.bytes reader.old)) }
     ensures errors { IfErr result IsShardError }
     ensures frame { ReadFrom R.bytes R.tells R.faults R.lent reader.old reader.new (IsErrOf result (StoreError.Io Place.Input)) }
@@ -83,7 +83,7 @@ fn kept_file_items<R: ReadAt>(
     reader: &mut R,
     f: &MDBShardFileFooter,
     first: u64,
-) -> Result<Vec<Head>, StoreError>
+) -> Result<Vec<RecordItem>, StoreError>
     requires { f.now.file_lookup_num_entry ≢ 0 }
     ensures exact { R.tells reader.old ≡ true → AnswersAt (λ i. nat_lt i.0 first) (file_table f.now (R.bytes reader.old)) (λ v. v.items) result (λ index. file_items_from f.now index (R.bytes reader.old)) }
     ensures errors { IfErr result IsShardError }
@@ -161,14 +161,14 @@ fn kept_head<R: ReadAt>(
 }
 
 /// Whether an item of the xorb lookup table has this row.
-fn has_row(items: &[Head], row: u32) -> bool
+fn has_row(items: &[RecordItem], row: u32) -> bool
     ensures { result ≡ list_any (λ i. i.1 == row) items.now }
 {
     items.iter().any(|item| item.1 == row)
 }
 
 /// The row and the index of the last item with this word.
-fn last_of(first: u64, items: &[ChunkPlace]) -> Option<(u32, u32)>
+fn last_of(first: u64, items: &[ChunkItem]) -> Option<(u32, u32)>
     ensures { result ≡ last_of first (flat_places items.now) }
 {
     let mut found = None;

@@ -2,7 +2,7 @@
 
 ghost use Rattle.std.specs.Prelude.{◌≡◌, ◌==◌, ◌∷◌, [], true, IfErr, IsErrOf, filter, length, IfOk, nat_le, nat_lt};
 ghost use Rattle.xet_shard.specs.Bisection.{AnswersAt};
-ghost use Rattle.xet_shard.specs.Queries.{IsFileError, file_in, first_file, found_file, found_run, rows_of, run_in, run_of_word, told_run, chunk_table, file_table, query_word, xorb_table};
+ghost use Rattle.xet_shard.specs.Queries.{IsFileError, file_in, first_file, found_file, found_run, rows_of, run_in, run_of_word, direct_run, chunk_table, file_table, query_word, xorb_table};
 ghost use Rattle.xet_codec.specs.Parsing.{GivesUnlessFault};
 ghost use Rattle.xet_shard_format.specs.Reading.{IsShardError};
 ghost use Rattle.xet_shard_format.specs.Records.{first_word};
@@ -17,7 +17,7 @@ use crate::reader::sections::row_count;
 use std::alloc::Global;
 use xet_hash::{MerkleHash, Place, StoreError};
 use xet_io::ReadAt;
-use xet_shard_format::lookup::Head;
+use xet_shard_format::lookup::RecordItem;
 use xet_shard_format::{FileDataSequenceEntry, MDBFileInfo, MDBShardFileFooter};
 
 impl MDBShardInfo {
@@ -82,7 +82,7 @@ impl MDBShardInfo {
         row: u32,
         place: u32,
     ) -> Result<Option<(usize, FileDataSequenceEntry)>, StoreError>
-        ensures exact { R.tells reader.old ≡ true → AnswersAt (λ i. nat_lt i.1 row) (xorb_table self.now.metadata (R.bytes reader.old)) (λ run. run) result (λ index. told_run self.now.metadata query.now row place index (R.bytes reader.old)) }
+        ensures exact { R.tells reader.old ≡ true → AnswersAt (λ i. nat_lt i.1 row) (xorb_table self.now.metadata (R.bytes reader.old)) (λ run. run) result (λ index. direct_run self.now.metadata query.now row place index (R.bytes reader.old)) }
         ensures errors { IfErr result IsShardError }
         ensures frame { ReadFrom R.bytes R.tells R.faults R.lent reader.old reader.new (IsErrOf result (StoreError.Io Place.Input)) }
     {
@@ -98,7 +98,7 @@ impl MDBShardInfo {
 }
 
 /// The number of items with this word.
-fn count_of(word: u64, items: &[Head]) -> usize
+fn count_of(word: u64, items: &[RecordItem]) -> usize
     ensures { result ≡ length (filter (λ i. i.0 == word) items.now) }
 {
     items.iter().filter(|item| item.0 == word).count()
@@ -110,7 +110,7 @@ fn first_file<R: ReadAt>(
     reader: &mut R,
     f: &MDBShardFileFooter,
     hash: &MerkleHash,
-    items: &[Head],
+    items: &[RecordItem],
 ) -> Result<Option<MDBFileInfo>, StoreError>
     ensures exact { R.tells reader.old ≡ true → GivesUnlessFault (λ x. x) result (first_file f.now hash.now (rows_of (first_word hash.now) items.now) (R.bytes reader.old)) }
     ensures errors { IfErr result IsShardError }
@@ -131,7 +131,7 @@ fn file_of<R: ReadAt>(
     reader: &mut R,
     f: &MDBShardFileFooter,
     hash: &MerkleHash,
-    item: Head,
+    item: RecordItem,
 ) -> Result<Option<MDBFileInfo>, StoreError>
     ensures exact { R.tells reader.old ≡ true → GivesUnlessFault (λ x. x) result (first_file f.now hash.now (rows_of (first_word hash.now) (item ∷ [])) (R.bytes reader.old)) }
     ensures errors { IfErr result IsShardError }

@@ -7,12 +7,12 @@ ghost use Rattle.xet_shard.specs.Sections.{heads_in, heads_of, places_in};
 
 use std::alloc::{AllocError, Global};
 use xet_codec::{half_word, word};
-use xet_shard_format::lookup::{ChunkPlace, Head};
+use xet_shard_format::lookup::{ChunkItem, RecordItem};
 use xet_shard_format::section::Record;
 use xet_shard_format::{MDBXorbInfo, XorbChunkSequenceHeader};
 
 /// Decodes `count` items of 12 bytes.
-pub fn heads_in(alloc: Global, bytes: &[u8], count: u64) -> Result<Vec<Head>, AllocError>
+pub fn heads_in(alloc: Global, bytes: &[u8], count: u64) -> Result<Vec<RecordItem>, AllocError>
     requires { 12 * count ≤ length bytes.now }
     ensures { IfOk result (λ heads. heads.items ≡ heads_in count bytes.now) }
 {
@@ -27,7 +27,7 @@ pub fn heads_in(alloc: Global, bytes: &[u8], count: u64) -> Result<Vec<Head>, Al
 }
 
 /// Decodes `count` items of 16 bytes.
-pub fn places_in(alloc: Global, bytes: &[u8], count: u64) -> Result<Vec<ChunkPlace>, AllocError>
+pub fn places_in(alloc: Global, bytes: &[u8], count: u64) -> Result<Vec<ChunkItem>, AllocError>
     requires { 16 * count ≤ length bytes.now }
     ensures { IfOk result (λ places. flat_places places.items ≡ places_in count bytes.now) }
 {
@@ -42,7 +42,7 @@ pub fn places_in(alloc: Global, bytes: &[u8], count: u64) -> Result<Vec<ChunkPla
 }
 
 /// The lookup items of these records.
-pub fn record_items<X: Record>(alloc: Global, records: &[X]) -> Result<Vec<Head>, AllocError>
+pub fn record_items<X: Record>(alloc: Global, records: &[X]) -> Result<Vec<RecordItem>, AllocError>
     requires { length (section X.rows_of records.now) < 2 ^ 32 }
     ensures { IfOk result (λ items. items.items ≡ heads_from X.hash_of X.rows_of 0 records.now) }
 {

@@ -16,7 +16,7 @@ use std::alloc::Global;
 use xet_hash::{Place, StoreError};
 use xet_io::ReadAt;
 use xet_shard_format::MDBShardFileFooter;
-use xet_shard_format::lookup::{ChunkPlace, Head, chunk_places};
+use xet_shard_format::lookup::{ChunkItem, RecordItem, chunk_places};
 
 impl MDBShardInfo {
     /// The xorb lookup table: for each xorb the first word of its hash, and the row of its header. An omitted
@@ -63,7 +63,7 @@ pub fn made_file_lookup<R: ReadAt>(
     alloc: Global,
     reader: &mut R,
     f: &MDBShardFileFooter,
-) -> Result<Vec<Head>, StoreError>
+) -> Result<Vec<RecordItem>, StoreError>
     requires { f.now.file_lookup_num_entry ≡ 0 }
     ensures exact { R.tells reader.old ≡ true → GivesUnlessFault (λ v. v.items) result (file_items_from f.now 0 (R.bytes reader.old)) }
     ensures errors { IfErr result IsShardError }
@@ -79,7 +79,7 @@ pub fn made_xorb_lookup<R: ReadAt>(
     alloc: Global,
     reader: &mut R,
     f: &MDBShardFileFooter,
-) -> Result<Vec<Head>, StoreError>
+) -> Result<Vec<RecordItem>, StoreError>
     requires { f.now.xorb_lookup_num_entry ≡ 0 }
     ensures exact { R.tells reader.old ≡ true → GivesUnlessFault (λ v. v.items) result (xorb_lookup_in f.now (R.bytes reader.old)) }
     ensures errors { IfErr result IsShardError }
@@ -95,7 +95,7 @@ fn kept_xorb_lookup<R: ReadAt>(
     alloc: Global,
     reader: &mut R,
     f: &MDBShardFileFooter,
-) -> Result<Vec<Head>, StoreError>
+) -> Result<Vec<RecordItem>, StoreError>
     requires { f.now.xorb_lookup_num_entry ≢ 0 }
     ensures exact { R.tells reader.old ≡ true → GivesUnlessFault (λ v. v.items) result (xorb_lookup_in f.now (R.bytes reader.old)) }
     ensures errors { IfErr result IsShardError }
@@ -112,7 +112,7 @@ pub fn made_chunk_lookup<R: ReadAt>(
     alloc: Global,
     reader: &mut R,
     f: &MDBShardFileFooter,
-) -> Result<Vec<ChunkPlace>, StoreError>
+) -> Result<Vec<ChunkItem>, StoreError>
     requires { f.now.chunk_lookup_num_entry ≡ 0 }
     ensures exact { R.tells reader.old ≡ true → GivesUnlessFault (λ v. flat_places v.items) result (chunk_lookup_in f.now (R.bytes reader.old)) }
     ensures errors { IfErr result IsShardError }
@@ -128,7 +128,7 @@ fn kept_chunk_lookup<R: ReadAt>(
     alloc: Global,
     reader: &mut R,
     f: &MDBShardFileFooter,
-) -> Result<Vec<ChunkPlace>, StoreError>
+) -> Result<Vec<ChunkItem>, StoreError>
     requires { f.now.chunk_lookup_num_entry ≢ 0 }
     ensures exact { R.tells reader.old ≡ true → GivesUnlessFault (λ v. flat_places v.items) result (chunk_lookup_in f.now (R.bytes reader.old)) }
     ensures errors { IfErr result IsShardError }

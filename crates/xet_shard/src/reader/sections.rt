@@ -3,7 +3,7 @@
 ghost use Rattle.std.specs.Prelude.{◌≡◌, ◌≤◌, ◌<◌, ◌+◌, ◌-◌, ◌*◌, ◌^◌, min, None, true, length, IfErr, IfOk, IsErrOf, OnOk};
 ghost use Rattle.xet_codec.specs.Parsing.{GivesUnlessFault, IsInputError, IsUnlessFault};
 ghost use Rattle.xet_shard_format.specs.Reading.{IsShardError, shard_footer_at, shard_header_at};
-ghost use Rattle.xet_shard_format.specs.Records.{AreRecords, IsFile, IsXorb, file_hash, file_section, xorb_hash, xorb_section};
+ghost use Rattle.xet_shard_format.specs.Records.{AreRecords, IsFile, IsXorb, file_record_hash, file_section, xorb_record_hash, xorb_section};
 ghost use Rattle.xet_shard.specs.Sections.{block_heads_in, blocks_in, files_in, info_at, key_of, row_count};
 ghost use Rattle.xet_io.specs.Frame.{ReadFrom};
 
@@ -134,7 +134,7 @@ pub fn files<R: ReadAt>(
     f: &MDBShardFileFooter,
 ) -> Result<Vec<MDBFileInfo>, StoreError>
     ensures exact { R.tells reader.old ≡ true → GivesUnlessFault (λ v. v.items) result (files_in f.now (R.bytes reader.old)) }
-    ensures form { IfOk result (λ v. AreRecords file_hash IsFile None v.items) }
+    ensures form { IfOk result (λ v. AreRecords file_record_hash IsFile None v.items) }
     ensures few { IfOk result (λ v. length (file_section v.items) < 2 ^ 32) }
     ensures errors { IfErr result IsShardError }
     ensures frame { ReadFrom R.bytes R.tells R.faults R.lent reader.old reader.new (IsErrOf result (StoreError.Io Place.Input)) }
@@ -153,7 +153,7 @@ pub fn blocks<R: ReadAt>(
     f: &MDBShardFileFooter,
 ) -> Result<Vec<MDBXorbInfo>, StoreError>
     ensures exact { R.tells reader.old ≡ true → GivesUnlessFault (λ v. v.items) result (blocks_in f.now (R.bytes reader.old)) }
-    ensures form { IfOk result (λ v. AreRecords xorb_hash IsXorb None v.items) }
+    ensures form { IfOk result (λ v. AreRecords xorb_record_hash IsXorb None v.items) }
     ensures few { IfOk result (λ v. length (xorb_section v.items) < 2 ^ 32) }
     ensures errors { IfErr result IsShardError }
     ensures frame { ReadFrom R.bytes R.tells R.faults R.lent reader.old reader.new (IsErrOf result (StoreError.Io Place.Input)) }

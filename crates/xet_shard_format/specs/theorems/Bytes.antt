@@ -147,8 +147,8 @@ head_and_three t t1 t2 t3 t4 r xs ys zs e1 e2 e3 e4 =
 pub head_and_one : (t t1 t2 : List ℕ) (r : Row) (xs : List Row) → t1 ≡ t ++ row_bytes r → t2 ≡ t1 ++ rows_bytes xs → t2 ≡ t ++ rows_bytes (r ∷ xs)
 head_and_one t t1 t2 r xs e1 e2 = piece_before t t1 t2 (row_bytes r) (rows_bytes xs) e1 e2 ∙ ap (λ (x : List ℕ). t ++ x) (sym (flat_map-cons row_bytes r xs))
 
-pub known_bytes : (bytes : List ℕ) → All (λ b. b < 256) bytes → IsBytes bytes
-known_bytes bytes all i = elim (cases_lt i (length bytes)) [
+pub all_are_bytes : (bytes : List ℕ) → All (λ b. b < 256) bytes → IsBytes bytes
+all_are_bytes bytes all i = elim (cases_lt i (length bytes)) [
   | inl lt ↦ All-get_or (λ (b : ℕ). b < 256) bytes i 0 lt all
   | inr le ↦ rw (get_or_past bytes i 0 le) (omega arith)
 ]

@@ -7,7 +7,7 @@ use Rattle.xet_shard_format.specs.declared.row.Row.{Row}
 use Rattle.xet_shard_format.specs.declared.record.MDBFileInfo.{MDBFileInfo}
 use Rattle.xet_shard_format.specs.declared.record.MDBXorbInfo.{MDBXorbInfo}
 use Rattle.xet_shard_format.specs.declared.record.XorbChunkSequenceEntry.{XorbChunkSequenceEntry}
-use Rattle.xet_shard_format.specs.Records.{chunk_row, end_row, file_hash, file_head, file_rest, file_rows, file_section, section, xorb_hash, xorb_head, xorb_rest, xorb_rows, xorb_section}
+use Rattle.xet_shard_format.specs.Records.{chunk_row, end_row, file_record_hash, file_head, file_rest, file_rows, file_section, section, xorb_record_hash, xorb_head, xorb_rest, xorb_rows, xorb_section}
 use Rattle.xet_shard_format.specs.Lookups.{Lookups, chunk_items, chunks_from, file_items, heads_from, left_in, place_cmp, lookup_rows_from, xorb_items}
 use Rattle.xet_shard_format.specs.Encoding.{Shard, footer_of, footer_with, materialized, stored}
 use Rattle.xet_shard_format.specs.theorems.SectionLaws.{section_cons}
@@ -35,10 +35,10 @@ rows_le head others [] = omega arith
 rows_le {X} head others (x ∷ xs) = omega (arith, length-section (λ (x : X). head x ∷ others x) x xs, rows_le head others xs)
 
 pub file_count : (files : List MDBFileInfo) → length (file_section files) < 2 ^ 32 → (length (file_items files) ≡ length files) × (length files < 2 ^ 32)
-file_count files few = (length-heads_from file_hash file_rows 0 files, omega (arith, rows_le file_head file_rest files, few))
+file_count files few = (length-heads_from file_record_hash file_rows 0 files, omega (arith, rows_le file_head file_rest files, few))
 
 pub xorb_count : (blocks : List MDBXorbInfo) → length (xorb_section blocks) < 2 ^ 32 → (length (xorb_items blocks) ≡ length blocks) × (length blocks < 2 ^ 32)
-xorb_count blocks few = (length-heads_from xorb_hash xorb_rows 0 blocks, omega (arith, rows_le xorb_head xorb_rest blocks, few))
+xorb_count blocks few = (length-heads_from xorb_record_hash xorb_rows 0 blocks, omega (arith, rows_le xorb_head xorb_rest blocks, few))
 
 -- the rows of the xorbs are their heads, their chunks, and the end
 pub chunks_in : (at : ℕ) (blocks : List MDBXorbInfo) → length (chunks_from at blocks) + length blocks + 1 ≡ length (xorb_section blocks)

@@ -11,8 +11,8 @@ use Rattle.std.specs.Prelude.{◌==◌}
 use Rattle.std.specs.Cmp.Lexicographic.{pointwise}
 use Rattle.xet_shard_format.specs.declared.row.Row.{Row}
 use Rattle.xet_shard_format.specs.declared.header_footer.MDBShardFileFooter.{MDBShardFileFooter}
-use Rattle.xet_hash.specs.Hash.{marker}
-use Rattle.xet_shard_format.specs.Records.{file_hash, flags_of, is_after, xorb_hash}
+use Rattle.xet_hash.specs.Hash.{sentinel}
+use Rattle.xet_shard_format.specs.Records.{file_record_hash, flags_of, is_after, xorb_record_hash}
 use Rattle.xet_codec.specs.Numbers.{word}
 use Rattle.xet_shard_format.specs.Encoding.{tag}
 use Rattle.xet_shard_format.specs.Ends.{footer_of_last, header_of_first}
@@ -122,7 +122,7 @@ module _ {X : Type 0} (record_at : Row → List Row → Result (X × List Row) S
   a_step : (last : Option (List ℕ)) (rows : List Row) → IsAnswer (step_at record_at last rows)
   unfolding step_at
   a_step last rows =
-      both (row_at rows) _ (a_row rows) (λ r. either (pointwise nat_eq r.0.hash marker) _ _ (both (end_at r.0 r.1) _ (an_end r.0 r.1) (λ _. fine _))
+      both (row_at rows) _ (a_row rows) (λ r. either (pointwise nat_eq r.0.hash sentinel) _ _ (both (end_at r.0 r.1) _ (an_end r.0 r.1) (λ _. fine _))
       (both (record_at r.0 r.1) _ (each r.0 r.1) (λ _. test (is_after last r.0.hash) _ _ (fine _))))
 
   pub a_section : (hash : X → List ℕ) (n : ℕ) (last : Option (List ℕ)) (rows : List Row) → IsAnswer (section_at record_at hash n last rows)
@@ -174,8 +174,8 @@ pub all_answers : (bytes : List ℕ) → IsAnswer (all_of bytes)
 unfolding all_of
 all_answers bytes =
     both (shard_header_at bytes) _ (a_header bytes) (λ _. both (shard_footer_at bytes) _ (a_footer bytes) (λ f.
-    both (section_at file_record_at file_hash (file_row_count f) None _) _ (a_section file_record_at a_file file_hash (file_row_count f) None _) (λ files.
-    both (section_at xorb_at xorb_hash (xorb_row_count f) None _) _ (a_section xorb_at a_xorb xorb_hash (xorb_row_count f) None _) (λ blocks.
+    both (section_at file_record_at file_record_hash (file_row_count f) None _) _ (a_section file_record_at a_file file_record_hash (file_row_count f) None _) (λ files.
+    both (section_at xorb_at xorb_record_hash (xorb_row_count f) None _) _ (a_section xorb_at a_xorb xorb_record_hash (xorb_row_count f) None _) (λ blocks.
     both (lookup_at bytes _ _ _) _ (a_lookup bytes _ _ _) (λ _. both (lookup_at bytes _ _ _) _ (a_lookup bytes _ _ _) (λ _. both (lookup_at bytes _ _ _) _ (a_lookup bytes _ _ _) (λ _.
     both (totals_at f _ _) _ (some_totals f _ _) (λ _. fine _))))))))
 

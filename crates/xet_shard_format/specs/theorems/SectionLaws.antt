@@ -12,8 +12,8 @@ use Rattle.xet_shard_format.specs.declared.row.Row.{Row}
 use Rattle.xet_shard_format.specs.declared.record.XorbChunkSequenceEntry.{XorbChunkSequenceEntry}
 use Rattle.xet_hash.specs.declared.error.StoreError.{StoreError}
 use Rattle.xet_shard_format.specs.Rows.{row}
-use Rattle.xet_hash.specs.Hash.{marker}
-use Rattle.xet_shard_format.specs.Records.{AreRecords, IsFile, IsXorb, StartAt, chunk_bytes, chunk_row, end_row, file_hash, file_head, file_rest, is_after, section, xorb_hash, xorb_head, xorb_rest}
+use Rattle.xet_hash.specs.Hash.{sentinel}
+use Rattle.xet_shard_format.specs.Records.{AreRecords, IsFile, IsXorb, StartAt, chunk_bytes, chunk_row, end_row, file_record_hash, file_head, file_rest, is_after, section, xorb_record_hash, xorb_head, xorb_rest}
 use Rattle.xet_shard_format.specs.Reading.{chunk_in, chunks_at, end_at, file_record_at, hash_in, row_at, section_at, step_at, xorb_at}
 use Rattle.xet_codec.specs.Parsing.{◌>>=◌}
 use Rattle.xet_shard_format.specs.theorems.RowLaws.{chosen, bind_ok, wants_ok, wants_last, done, ok_is, row_ok, row_is, hash_takes, file_takes, file_again}
@@ -99,17 +99,17 @@ pub record Reading {X : Type 0} (record_at : Row → List Row → Result (X × L
   pub takes : (r : Row) (rows : List Row) (x : X) (rest : List Row) → record_at r rows ≡ Ok (x, rest) → (r ≡ head x) × (rows ≡ others x ++ rest) × Form x
   pub again : (x : X) (rest : List Row) → Form x → record_at (head x) (others x ++ rest) ≡ Ok (x, rest)
 
-pub files_reading : Reading file_record_at file_hash file_head file_rest IsFile
+pub files_reading : Reading file_record_at file_record_hash file_head file_rest IsFile
 files_reading = record { hash_is = λ x. refl; takes = file_takes; again = file_again }
 
-pub xorbs_reading : Reading xorb_at xorb_hash xorb_head xorb_rest IsXorb
+pub xorbs_reading : Reading xorb_at xorb_record_hash xorb_head xorb_rest IsXorb
 xorbs_reading = record { hash_is = λ x. refl; takes = xorb_takes; again = xorb_again }
 
-end_takes : (r : Row) (rows : List Row) (u : Unit {0}) → pointwise nat_eq r.hash marker ≡ true → end_at r rows ≡ Ok u → (r ≡ end_row) × (rows ≡ [])
+end_takes : (r : Row) (rows : List Row) (u : Unit {0}) → pointwise nat_eq r.hash sentinel ≡ true → end_at r rows ≡ Ok u → (r ≡ end_row) × (rows ≡ [])
 unfolding end_at
 end_takes r rows u m e =
     let a = bind_ok (hash_in r) _ _ e in
-    let is : r.hash ≡ marker = (bytes_decides r.hash marker).0 m in
+    let is : r.hash ≡ sentinel = (bytes_decides r.hash sentinel).0 m in
     let hash : r.hash ≡ a.0 = ap (λ (x : Row). x.hash) (hash_takes r a.0 a.1) in
     (hash_takes r a.0 a.1 ∙ ap (λ (h : List ℕ). row h 0 0 0 0) (sym hash ∙ is), nil_from_length rows (eqb-true _ _ (wants_last _ _ _ a.2)))
 
@@ -120,7 +120,7 @@ section_takes {X} record_at hash head others Form each zero last rows xs e = abs
 section_takes {X} record_at hash head others Form each (suc n) last rows xs e =
     let a = bind_ok (step_at record_at last rows) _ _ e in
     let b = bind_ok (row_at rows) _ _ a.1 in
-    elim (chosen (pointwise nat_eq b.0.0.hash marker) _ _ _ b.2) [
+    elim (chosen (pointwise nat_eq b.0.0.hash sentinel) _ _ _ b.2) [
       | inl (m, f) ↦
           let u = bind_ok (end_at b.0.0 b.0.1) _ _ f in
           let t = end_takes b.0.0 b.0.1 u.0 m u.1 in
@@ -139,7 +139,7 @@ section_takes {X} record_at hash head others Form each (suc n) last rows xs e =
           let hash_is : b.0.0.hash ≡ hash x.0.0 = ap (λ (r : Row). r.hash) t.0 ∙ each.hash_is x.0.0 in
           subst (λ (ys : List X). (rows ≡ section (λ x. head x ∷ others x) ys) × AreRecords hash Form last ys) (ok_is (x.0.0 ∷ ys.0) xs ys.2) (
             row_ok rows b.0 b.1 ∙ ap (λ (r : Row). r ∷ b.0.1) t.0 ∙ ap (λ (rs : List Row). head x.0.0 ∷ rs) (t.1 ∙ ap (λ (rs : List Row). others x.0.0 ++ rs) rest.0) ∙ sym (section_cons (λ (x : X). head x ∷ others x) x.0.0 ys.0),
-            (ap (is_after last) (sym hash_is) ∙ w.0, (λ is. absurd (true≢false (sym ((bytes_decides b.0.0.hash marker).1 (hash_is ∙ is)) ∙ m))), t.2, rest.1),
+            (ap (is_after last) (sym hash_is) ∙ w.0, (λ is. absurd (true≢false (sym ((bytes_decides b.0.0.hash sentinel).1 (hash_is ∙ is)) ∙ m))), t.2, rest.1),
           )
     ]
 
@@ -149,7 +149,7 @@ unfolding section_at step_at end_at hash_in
 section_again {X} record_at hash head others Form each zero last xs lt r = absurd (omega arith)
 section_again {X} record_at hash head others Form each (suc n) last [] lt r = refl
 section_again {X} record_at hash head others Form each (suc n) last (x ∷ xs) lt r =
-    let apart : pointwise nat_eq (head x).hash marker ≡ false = false_from_ne_true _ (λ e. absurd (r.1 (sym (each.hash_is x) ∙ (bytes_decides (head x).hash marker).0 e))) in
+    let apart : pointwise nat_eq (head x).hash sentinel ≡ false = false_from_ne_true _ (λ e. absurd (r.1 (sym (each.hash_is x) ∙ (bytes_decides (head x).hash sentinel).0 e))) in
     let after : is_after last (head x).hash ≡ true = ap (is_after last) (each.hash_is x) ∙ r.0 in
     ap (section_at record_at hash (suc n) last) (section_cons (λ (x : X). head x ∷ others x) x xs)
     ∙ rw (apart, each.again x (section (λ x. head x ∷ others x) xs) r.2, after, section_again record_at hash head others Form each n (Some (hash x)) xs (omega arith) r.3) refl

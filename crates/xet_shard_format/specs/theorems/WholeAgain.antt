@@ -13,7 +13,7 @@ use Rattle.xet_shard_format.specs.declared.row.Row.{Row}
 use Rattle.xet_hash.specs.declared.error.StoreError.{StoreError}
 use Rattle.xet_shard_format.specs.Rows.{RowFits, rows_in, rows_bytes}
 use Rattle.xet_codec.specs.Numbers.{word}
-use Rattle.xet_shard_format.specs.Records.{IsFile, IsXorb, file_hash, file_head, file_rest, file_section, xorb_hash, xorb_head, xorb_rest, xorb_section}
+use Rattle.xet_shard_format.specs.Records.{IsFile, IsXorb, file_record_hash, file_head, file_rest, file_section, xorb_record_hash, xorb_head, xorb_rest, xorb_section}
 use Rattle.xet_shard_format.specs.Lookups.{Lookups, chunk_items, file_items, record_item_bytes, record_items_bytes, left_in, chunk_item_bytes, chunk_items_bytes, xorb_items}
 use Rattle.xet_shard_format.specs.Encoding.{Fits, IsShard, Shard, footer_of, shard_footer_bytes, header, shard_header_bytes, materialized, shard_bytes, stored}
 use Rattle.xet_shard_format.specs.Reading.{IsPlaced, all_of, file_record_at, file_row_count, shard_footer_at, footer_in, shard_header_at, lookup_at, section_at, totals_at, ShardParts, shard_parts_of, shard_of, xorb_at, xorb_row_count}
@@ -47,8 +47,8 @@ count_after a n = let diff : a + 48 * n - a ≡ 48 * n = omega arith in ap (λ (
 -- ---- all
 
 read_again : (bytes : List ℕ) (f : MDBShardFileFooter) (files : List MDBFileInfo) (blocks : List MDBXorbInfo) → shard_header_at bytes ≡ Ok tt → shard_footer_at bytes ≡ Ok f
-    → section_at file_record_at file_hash (file_row_count f) None (rows_in (file_row_count f) (drop f.file_info_offset bytes)) ≡ Ok files
-    → section_at xorb_at xorb_hash (xorb_row_count f) None (rows_in (xorb_row_count f) (drop f.xorb_info_offset bytes)) ≡ Ok blocks
+    → section_at file_record_at file_record_hash (file_row_count f) None (rows_in (file_row_count f) (drop f.file_info_offset bytes)) ≡ Ok files
+    → section_at xorb_at xorb_record_hash (xorb_row_count f) None (rows_in (xorb_row_count f) (drop f.xorb_info_offset bytes)) ≡ Ok blocks
     → lookup_at bytes f.file_lookup_offset (12 * f.file_lookup_num_entry) (record_items_bytes (file_items files)) ≡ Ok tt
     → lookup_at bytes f.xorb_lookup_offset (12 * f.xorb_lookup_num_entry) (record_items_bytes (xorb_items blocks)) ≡ Ok tt
     → lookup_at bytes f.chunk_lookup_offset (16 * f.chunk_lookup_num_entry) (chunk_items_bytes (chunk_items blocks)) ≡ Ok tt
@@ -144,10 +144,10 @@ encoded_again bytes f s w form fits encoding footer =
     let head : shard_header_at bytes ≡ Ok tt = ap shard_header_at (encoding ∙ ap (λ (t : List ℕ). shard_header_bytes header ++ t) (sym d0)) ∙ header_again (drop 48 bytes) long in
     read_again bytes f s.files s.blocks head
     (footer_at_again bytes f end (subst FooterFits (sym footer) ff) (ap (λ (g : MDBShardFileFooter). g.version) footer) placed)
-    (section_placed file_record_at file_hash bytes f.file_info_offset (length (file_section s.files)) (file_row_count f) (file_section s.files) _ s.files (ap (λ (k : ℕ). drop k bytes) e0 ∙ d0) fits.files refl cf
-    (section_again file_record_at file_hash file_head file_rest IsFile files_reading (length (file_section s.files)) None s.files (rows_le file_head file_rest s.files) form.files))
-    (section_placed xorb_at xorb_hash bytes f.xorb_info_offset (length (xorb_section s.blocks)) (xorb_row_count f) (xorb_section s.blocks) _ s.blocks d1 fits.blocks refl cx
-    (section_again xorb_at xorb_hash xorb_head xorb_rest IsXorb xorbs_reading (length (xorb_section s.blocks)) None s.blocks (rows_le xorb_head xorb_rest s.blocks) form.blocks))
+    (section_placed file_record_at file_record_hash bytes f.file_info_offset (length (file_section s.files)) (file_row_count f) (file_section s.files) _ s.files (ap (λ (k : ℕ). drop k bytes) e0 ∙ d0) fits.files refl cf
+    (section_again file_record_at file_record_hash file_head file_rest IsFile files_reading (length (file_section s.files)) None s.files (rows_le file_head file_rest s.files) form.files))
+    (section_placed xorb_at xorb_record_hash bytes f.xorb_info_offset (length (xorb_section s.blocks)) (xorb_row_count f) (xorb_section s.blocks) _ s.blocks d1 fits.blocks refl cx
+    (section_again xorb_at xorb_record_hash xorb_head xorb_rest IsXorb xorbs_reading (length (xorb_section s.blocks)) None s.blocks (rows_le xorb_head xorb_rest s.blocks) form.blocks))
     (lookup_again record_item_bytes w.files (file_items s.files) bytes f.file_lookup_offset (12 * f.file_lookup_num_entry) (take_next bytes f.file_lookup_offset (12 * f.file_lookup_num_entry) _ _ d2 (omega (arith, la, na))) (λ e. ap (λ (k : ℕ). 12 * k) na ∙ no_count 12 w.files (file_items s.files) e))
     (lookup_again record_item_bytes w.xorbs (xorb_items s.blocks) bytes f.xorb_lookup_offset (12 * f.xorb_lookup_num_entry) (take_next bytes f.xorb_lookup_offset (12 * f.xorb_lookup_num_entry) _ _ d3 (omega (arith, lb, nb))) (λ e. ap (λ (k : ℕ). 12 * k) nb ∙ no_count 12 w.xorbs (xorb_items s.blocks) e))
     (lookup_again chunk_item_bytes w.chunks (chunk_items s.blocks) bytes f.chunk_lookup_offset (16 * f.chunk_lookup_num_entry) (take_next bytes f.chunk_lookup_offset (16 * f.chunk_lookup_num_entry) _ _ d4 (omega (arith, lc, nc))) (λ e. ap (λ (k : ℕ). 16 * k) nc ∙ no_count 16 w.chunks (chunk_items s.blocks) e))

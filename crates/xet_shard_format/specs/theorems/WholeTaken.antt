@@ -13,7 +13,7 @@ use Rattle.xet_shard_format.specs.declared.record.MDBXorbInfo.{MDBXorbInfo}
 use Rattle.xet_shard_format.specs.declared.row.Row.{Row}
 use Rattle.xet_shard_format.specs.Rows.{RowFits, rows_in, rows_bytes}
 use Rattle.xet_codec.specs.Numbers.{word}
-use Rattle.xet_shard_format.specs.Records.{IsFile, IsXorb, file_hash, file_head, file_rest, file_section, xorb_hash, xorb_head, xorb_rest, xorb_section}
+use Rattle.xet_shard_format.specs.Records.{IsFile, IsXorb, file_record_hash, file_head, file_rest, file_section, xorb_record_hash, xorb_head, xorb_rest, xorb_section}
 use Rattle.xet_shard_format.specs.Lookups.{Lookups, chunk_items, file_items, record_item_bytes, record_items_bytes, left_in, chunk_item_bytes, chunk_items_bytes, xorb_items}
 use Rattle.xet_shard_format.specs.Encoding.{Shard, footer_of, shard_footer_bytes, header, shard_header_bytes, materialized, shard_bytes, stored}
 use Rattle.xet_shard_format.specs.Reading.{IsPlaced, IsRead, ShardParts, all_of, file_record_at, file_row_count, shard_footer_at, footer_in, shard_header_at, lookup_at, places_at, section_at, totals_at, xorb_at, xorb_row_count}
@@ -148,8 +148,8 @@ footer_is f g e1 e2 e3 e4 e5 e6 e7 e8 e9 e10 e11 e12 e13 e14 e15 e16 = λ i. rec
 }
 
 read_parts : (bytes : List ℕ) (files : List MDBFileInfo) (blocks : List MDBXorbInfo) (f : MDBShardFileFooter) → IsBytes bytes → (bytes ≡ shard_header_bytes header ++ drop 48 bytes) × (248 ≤ length bytes)
-    → section_at file_record_at file_hash (file_row_count f) None (rows_in (file_row_count f) (drop f.file_info_offset bytes)) ≡ Ok files
-    → section_at xorb_at xorb_hash (xorb_row_count f) None (rows_in (xorb_row_count f) (drop f.xorb_info_offset bytes)) ≡ Ok blocks
+    → section_at file_record_at file_record_hash (file_row_count f) None (rows_in (file_row_count f) (drop f.file_info_offset bytes)) ≡ Ok files
+    → section_at xorb_at xorb_record_hash (xorb_row_count f) None (rows_in (xorb_row_count f) (drop f.xorb_info_offset bytes)) ≡ Ok blocks
     → EndsInFooter bytes f
     → (u1 : Unit {0}) → lookup_at bytes f.file_lookup_offset (12 * f.file_lookup_num_entry) (record_items_bytes (file_items files)) ≡ Ok u1
     → (u2 : Unit {0}) → lookup_at bytes f.xorb_lookup_offset (12 * f.xorb_lookup_num_entry) (record_items_bytes (xorb_items blocks)) ≡ Ok u2
@@ -159,8 +159,8 @@ read_parts : (bytes : List ℕ) (files : List MDBFileInfo) (blocks : List MDBXor
 unfolding shard_bytes footer_of footer_in
 read_parts bytes files blocks f fits h fe xe end u1 l1 u2 l2 u3 l3 totals =
     let p = end.placed in
-    let fs = section_takes file_record_at file_hash file_head file_rest IsFile files_reading (file_row_count f) None (rows_in (file_row_count f) (drop f.file_info_offset bytes)) files fe in
-    let xs = section_takes xorb_at xorb_hash xorb_head xorb_rest IsXorb xorbs_reading (xorb_row_count f) None (rows_in (xorb_row_count f) (drop f.xorb_info_offset bytes)) blocks xe in
+    let fs = section_takes file_record_at file_record_hash file_head file_rest IsFile files_reading (file_row_count f) None (rows_in (file_row_count f) (drop f.file_info_offset bytes)) files fe in
+    let xs = section_takes xorb_at xorb_record_hash xorb_head xorb_rest IsXorb xorbs_reading (xorb_row_count f) None (rows_in (xorb_row_count f) (drop f.xorb_info_offset bytes)) blocks xe in
     let lt : f.footer_offset < length bytes = omega (arith, p.end) in
     let frows = rows_placed bytes f.file_info_offset (file_row_count f) f.xorb_info_offset (file_section files) fits (sym p.xorbs) (omega (arith, p.end, p.footer, p.chunk_lookup, p.xorb_lookup, p.file_lookup)) fs.0 in
     let xrows = rows_placed bytes f.xorb_info_offset (xorb_row_count f) f.file_lookup_offset (xorb_section blocks) fits (sym p.file_lookup) (omega (arith, p.end, p.footer, p.chunk_lookup, p.xorb_lookup)) xs.0 in
@@ -214,8 +214,8 @@ read_parts bytes files blocks f fits h fe xe end u1 l1 u2 l2 u3 l3 totals =
 pub record Checked (bytes : List ℕ) (p : ShardParts) : Type 0 where
   pub header : shard_header_at bytes ≡ Ok tt
   pub footer : shard_footer_at bytes ≡ Ok p.2
-  pub files : section_at file_record_at file_hash (file_row_count p.2) None (rows_in (file_row_count p.2) (drop p.2.file_info_offset bytes)) ≡ Ok p.1
-  pub blocks : section_at xorb_at xorb_hash (xorb_row_count p.2) None (rows_in (xorb_row_count p.2) (drop p.2.xorb_info_offset bytes)) ≡ Ok p.0
+  pub files : section_at file_record_at file_record_hash (file_row_count p.2) None (rows_in (file_row_count p.2) (drop p.2.file_info_offset bytes)) ≡ Ok p.1
+  pub blocks : section_at xorb_at xorb_record_hash (xorb_row_count p.2) None (rows_in (xorb_row_count p.2) (drop p.2.xorb_info_offset bytes)) ≡ Ok p.0
   pub heads : lookup_at bytes p.2.file_lookup_offset (12 * p.2.file_lookup_num_entry) (record_items_bytes (file_items p.1)) ≡ Ok tt
   pub xorbs : lookup_at bytes p.2.xorb_lookup_offset (12 * p.2.xorb_lookup_num_entry) (record_items_bytes (xorb_items p.0)) ≡ Ok tt
   pub chunks : lookup_at bytes p.2.chunk_lookup_offset (16 * p.2.chunk_lookup_num_entry) (chunk_items_bytes (chunk_items p.0)) ≡ Ok tt
@@ -226,8 +226,8 @@ unfolding all_of
 checked bytes p e =
     let h = bind_ok (shard_header_at bytes) _ _ e in
     let g = bind_ok (shard_footer_at bytes) _ _ h.2 in
-    let fs = bind_ok (section_at file_record_at file_hash (file_row_count g.0) None (rows_in (file_row_count g.0) (drop g.0.file_info_offset bytes))) _ _ g.2 in
-    let xs = bind_ok (section_at xorb_at xorb_hash (xorb_row_count g.0) None (rows_in (xorb_row_count g.0) (drop g.0.xorb_info_offset bytes))) _ _ fs.2 in
+    let fs = bind_ok (section_at file_record_at file_record_hash (file_row_count g.0) None (rows_in (file_row_count g.0) (drop g.0.file_info_offset bytes))) _ _ g.2 in
+    let xs = bind_ok (section_at xorb_at xorb_record_hash (xorb_row_count g.0) None (rows_in (xorb_row_count g.0) (drop g.0.xorb_info_offset bytes))) _ _ fs.2 in
     let l1 = bind_ok (lookup_at bytes g.0.file_lookup_offset (12 * g.0.file_lookup_num_entry) (record_items_bytes (file_items fs.0))) _ _ xs.2 in
     let l2 = bind_ok (lookup_at bytes g.0.xorb_lookup_offset (12 * g.0.xorb_lookup_num_entry) (record_items_bytes (xorb_items xs.0))) _ _ l1.2 in
     let l3 = bind_ok (lookup_at bytes g.0.chunk_lookup_offset (16 * g.0.chunk_lookup_num_entry) (chunk_items_bytes (chunk_items xs.0))) _ _ l2.2 in

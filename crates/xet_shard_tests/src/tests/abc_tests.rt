@@ -1,9 +1,9 @@
 //! Tests of the shard with the xorb and the file of `abc`.
 
 ghost use Rattle.std.specs.Prelude.{◌≡◌, ◌≢◌, IfOk, length};
-ghost use Rattle.xet_hash.specs.Hash.{marker};
+ghost use Rattle.xet_hash.specs.Hash.{sentinel};
 ghost use Rattle.xet_shard.specs.Held.{nothing};
-ghost use Rattle.xet_shard_format.specs.Records.{IsFile, IsXorb, file_hash, file_rows, xorb_hash, xorb_rows};
+ghost use Rattle.xet_shard_format.specs.Records.{IsFile, IsXorb, file_record_hash, file_rows, xorb_record_hash, xorb_rows};
 
 use std::alloc::Global;
 use std::test::Fail;
@@ -17,7 +17,7 @@ use xet_shard::*;
 /// The xorb with one chunk of 3 bytes, which has this hash.
 fn xorb_of_abc(alloc: Global, chunk: MerkleHash) -> Result<MDBXorbInfo, StoreError>
     ensures form { IfOk result IsXorb }
-    ensures hash { IfOk result (λ xorb. xorb_hash xorb ≡ chunk) }
+    ensures hash { IfOk result (λ xorb. xorb_record_hash xorb ≡ chunk) }
     ensures rows { IfOk result (λ xorb. length (xorb_rows xorb) ≡ 2) }
 {
     Ok(MDBXorbInfo {
@@ -33,7 +33,7 @@ pub(crate) fn file_of_abc(
     chunk: MerkleHash,
 ) -> Result<MDBFileInfo, StoreError>
     ensures form { IfOk result IsFile }
-    ensures hash { IfOk result (λ file. file_hash file ≡ hash) }
+    ensures hash { IfOk result (λ file. file_record_hash file ≡ hash) }
     ensures rows { IfOk result (λ file. length (file_rows file) ≡ 4) }
 {
     let digest = Sha256::from_hex(
@@ -72,8 +72,8 @@ fn added_and_written(
     hash: MerkleHash,
     chunk: MerkleHash,
 ) -> Result<Written, StoreError>
-    requires file { hash ≢ marker }
-    requires chunk { chunk ≢ marker }
+    requires file { hash ≢ sentinel }
+    requires chunk { chunk ≢ sentinel }
 {
     let mut shard = MDBInMemoryShard::new(alloc);
     let answer = written(alloc, &mut shard, hash, chunk);
@@ -89,8 +89,8 @@ fn written(
     chunk: MerkleHash,
 ) -> Result<Written, StoreError>
     requires empty { shard.old ≡ nothing }
-    requires file { hash ≢ marker }
-    requires chunk { chunk ≢ marker }
+    requires file { hash ≢ sentinel }
+    requires chunk { chunk ≢ sentinel }
 {
     shard.add_xorb_block(xorb_of_abc(alloc, chunk)?)?;
     shard.add_file_reconstruction_info(file_of_abc(alloc, hash, chunk)?)?;

@@ -2,7 +2,7 @@
 
 ghost use Rattle.std.specs.Prelude.{◌≡◌, IfOk, length};
 ghost use Rattle.xet_hash.specs.Hash.{zero_hash};
-ghost use Rattle.xet_shard_format.specs.Records.{IsXorb, xorb_hash, xorb_rows};
+ghost use Rattle.xet_shard_format.specs.Records.{IsXorb, xorb_record_hash, xorb_rows};
 
 use super::abc_tests::file_of_abc;
 use super::asked_tests::Run;
@@ -15,7 +15,7 @@ use xet_shard::*;
 /// The xorb whose hash is zero, and whose three chunks have these hashes and ten bytes each.
 fn xorb_of(alloc: Global, chunks: [MerkleHash; 3]) -> Result<MDBXorbInfo, StoreError>
     ensures form { IfOk result IsXorb }
-    ensures hash { IfOk result (λ xorb. xorb_hash xorb ≡ zero_hash) }
+    ensures hash { IfOk result (λ xorb. xorb_record_hash xorb ≡ zero_hash) }
     ensures rows { IfOk result (λ xorb. length (xorb_rows xorb) ≡ 4) }
 {
     let [first, second, third] = chunks;

@@ -5,7 +5,7 @@ use Rattle.std.specs.List.{AllByRecursion, IsAmong}
 use Rattle.std.specs.Option.{option_map}
 use Rattle.xet_hash.specs.Merkle.{total_len}
 use Rattle.xet_shard_format.specs.declared.record.MDBFileInfo.{MDBFileInfo}
-use Rattle.xet_folder.specs.Plan.{Joins}
+use Rattle.xet_folder.specs.Plan.{Resolves}
 use Rattle.xet_folder.specs.Xorbs.{IsListed, Xorbs}
 use Rattle.xet_dedup.specs.Records.{IsRecordOf}
 
@@ -13,7 +13,7 @@ use Rattle.xet_dedup.specs.Records.{IsRecordOf}
 -- record.
 pub record IsNewFile (xorbs : Xorbs) (f : MDBFileInfo) : Type 0 where
   pub leaves : List (List ℕ × ℕ)
-  pub joins : Joins (IsListed xorbs) (λ m. m.1) f.segments leaves
+  pub resolves : Resolves (IsListed xorbs) (λ m. m.1) f.segments leaves
   pub form : IsRecordOf leaves f
   pub plain : AllByRecursion (λ s. s.xorb_flags ≡ 0) f.segments
   pub some : 0 < length leaves

@@ -15,12 +15,12 @@ use Rattle.xet_shard_format.specs.declared.record.FileDataSequenceEntry.{FileDat
 use Rattle.xet_shard_format.specs.declared.record.MDBFileInfo.{MDBFileInfo}
 use Rattle.xet_shard_format.specs.declared.record.MDBXorbInfo.{MDBXorbInfo}
 use Rattle.xet_shard_format.specs.Names.{shard_name}
-use Rattle.xet_shard_format.specs.Records.{xorb_hash}
+use Rattle.xet_shard_format.specs.Records.{xorb_record_hash}
 use Rattle.xet_folder.specs.Admission.{BlockHolds, FileHolds, ShardHolds}
 use Rattle.xet_folder.specs.Checks.{OfBlocks, OfBytes, OfFiles, OfSegments}
 use Rattle.xet_shard_file.specs.Names.{IsHash, shard_path}
 use Rattle.xet_folder.specs.Names.{xorb_path}
-use Rattle.xet_folder.specs.Plan.{Joins}
+use Rattle.xet_folder.specs.Plan.{Resolves}
 use Rattle.xet_shard_file.specs.Shards.{ComesBefore, IsThere, ShardFile, is_expired}
 use Rattle.xet_folder.specs.Stored.{IsBacked, IsStored}
 use Rattle.xet_folder.specs.Xorbs.{Xorbs, found}
@@ -82,16 +82,16 @@ module _ (old new : Files) (folder : List ℕ) where
       → AllByRecursion (BlockHolds new folder shard) blocks
   blocks_same shard [] same all = tt
   blocks_same shard (b ∷ bs) same all = (
-    backed_same (xorb_hash b) _ (same (xorb_hash b) (among_first (xorb_hash b) (map xorb_hash bs))) all.0,
-    blocks_same shard bs (λ h of. same h (among_later (xorb_hash b) (map xorb_hash bs) h of)) all.1,
+    backed_same (xorb_record_hash b) _ (same (xorb_record_hash b) (among_first (xorb_record_hash b) (map xorb_record_hash bs))) all.0,
+    blocks_same shard bs (λ h of. same h (among_later (xorb_record_hash b) (map xorb_record_hash bs) h of)) all.1,
   )
 
-  joins_same : (plan : List Segment) (out : List (List ℕ × ℕ)) → ((h : List ℕ) → OfSegments plan h → SameXorb h) → Joins (IsBacked old folder) (λ m. m.1) plan out
-      → Joins (IsBacked new folder) (λ m. m.1) plan out
-  joins_same [] out same none = none
-  joins_same (s ∷ ss) out same (xs, rest, backed, lies, parts, more) =
+  resolves_same : (plan : List Segment) (out : List (List ℕ × ℕ)) → ((h : List ℕ) → OfSegments plan h → SameXorb h) → Resolves (IsBacked old folder) (λ m. m.1) plan out
+      → Resolves (IsBacked new folder) (λ m. m.1) plan out
+  resolves_same [] out same none = none
+  resolves_same (s ∷ ss) out same (xs, rest, backed, lies, parts, more) =
       let hashes : List (List ℕ) = map (λ (t : Segment). t.xorb_hash) ss in
-      (xs, rest, backed_same s.xorb_hash xs (same s.xorb_hash (among_first s.xorb_hash hashes)) backed, lies, parts, joins_same ss rest (λ h of. same h (among_later s.xorb_hash hashes h of)) more)
+      (xs, rest, backed_same s.xorb_hash xs (same s.xorb_hash (among_first s.xorb_hash hashes)) backed, lies, parts, resolves_same ss rest (λ h of. same h (among_later s.xorb_hash hashes h of)) more)
 
   files_same : (shard : List ℕ) (files : List MDBFileInfo) → ((h : List ℕ) → OfFiles files h → SameXorb h) → AllByRecursion (FileHolds old folder shard) files
       → AllByRecursion (FileHolds new folder shard) files
@@ -99,7 +99,7 @@ module _ (old new : Files) (folder : List ℕ) where
   files_same shard (f ∷ fs) same all = (
     record {
       leaves = all.0.leaves;
-      joins = joins_same f.segments all.0.leaves (λ h of. same h (f, among_first f fs, of)) all.0.joins;
+      resolves = resolves_same f.segments all.0.leaves (λ h of. same h (f, among_first f fs, of)) all.0.resolves;
       some = all.0.some;
       hash = all.0.hash;
     },

@@ -13,7 +13,7 @@ use Rattle.xet_cut.specs.Chunking.{chunking}
 use Rattle.xet_dedup.specs.Packing.{packs, pack_len}
 use Rattle.xet_shard_format.specs.declared.record.FileDataSequenceEntry.{FileDataSequenceEntry as Segment}
 use Rattle.xet_shard_format.specs.declared.record.MDBFileInfo.{MDBFileInfo}
-use Rattle.xet_folder.specs.Plan.{Joins}
+use Rattle.xet_folder.specs.Plan.{Resolves}
 use Rattle.xet_folder.specs.Stored.{IsStored}
 use Rattle.xet_folder.specs.Xorbs.{IsListed, FileRecords, found}
 use Rattle.xet_store.specs.Store.{State, Sound, plan_of}
@@ -65,7 +65,7 @@ recorded_file s files (b ∷ bs) sound tells apart given there =
     let d : h ≢ zero_hash = apart.lists.not_zero (leaves_of (b ∷ bs)) (inr (b ∷ bs, given, some, refl)) in
     let p = taken (plan_of s.records h) there in
     let r = mapped (λ (f : MDBFileInfo). f.segments) (found s.records h) p.0 (sym (plan_found s.records h d) ∙ p.1) in
-    (p.0, p.1, subst (λ (plan : List Segment). Joins (IsStored s.files s.folder) length plan (b ∷ bs)) r.2 (has_file s files (b ∷ bs) r.0 sound tells apart given some r.1))
+    (p.0, p.1, subst (λ (plan : List Segment). Resolves (IsStored s.files s.folder) length plan (b ∷ bs)) r.2 (has_file s files (b ∷ bs) r.0 sound tells apart given some r.1))
 
 -- each source's file
 pub files_all : {S : Type 0} (tells : S → Bool) (left : S → List ℕ) (limits : LimitSettings) (s : State) (files : List (List (List ℕ))) → Sound s → s.tells ≡ true → Separate s files

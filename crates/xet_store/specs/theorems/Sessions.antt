@@ -14,14 +14,14 @@ use Rattle.xet_shard_format.specs.declared.record.MDBFileInfo.{MDBFileInfo}
 use Rattle.xet_shard.specs.Held.{Held, nothing}
 use Rattle.xet_codec.specs.Parsing.{◌>>=◌}
 use Rattle.xet_shard_format.specs.Reading.{shard_footer_at, shard_header_at}
-use Rattle.xet_shard_format.specs.Records as record_of
-use Rattle.xet_folder.specs.theorems.Agreeing.{joins_once, stored_once}
+use Rattle.xet_shard_format.specs.Records.{file_record_hash}
+use Rattle.xet_folder.specs.theorems.Agreeing.{resolves_once, stored_once}
 use Rattle.xet_folder.specs.theorems.Rest.{among_map}
 use Rattle.xet_folder.specs.Contents.{HasContents, IsRecord}
-use Rattle.xet_folder.specs.Listed.{JoinsTo, Lists}
+use Rattle.xet_folder.specs.Listed.{ResolvesTo, Lists}
 use Rattle.xet_shard_file.specs.Names.{shard_path}
 use Rattle.xet_folder.specs.Names.{xorb_path}
-use Rattle.xet_folder.specs.Plan.{Joins, range}
+use Rattle.xet_folder.specs.Plan.{Resolves, range}
 use Rattle.xet_shard_file.specs.Shards.{IsThere, ShardFile, is_expired, is_past}
 use Rattle.xet_folder.specs.Stored.{IsBacked, IsStored}
 use Rattle.xet_folder.specs.Xorbs.{IsListed, FileRecords, found}
@@ -38,18 +38,18 @@ use Rattle.xet_store.specs.theorems.Whole.{found_has, same_key, mapped}
 -- ---- plans
 
 module _ {X : Type 0} (P : List ℕ → List X → Type 0) (len : X → ℕ) where
-  -- A plan joins as well where another relation has what the first has of each xorb that it names.
-  joins_named : (Q : List ℕ → List X → Type 0) (plan : List Segment) (out : List X) → ((s : Segment) → Among plan s → (xs : List X) → P s.xorb_hash xs → Q s.xorb_hash xs)
-      → Joins P len plan out → Joins Q len plan out
-  joins_named Q [] out all j = j
-  joins_named Q (s ∷ ss) out all (xs, rest, has, lies, parts, more) =
-      (xs, rest, all s (inl refl) xs has, lies, parts, joins_named Q ss rest (λ t a. all t (inr a)) more)
+  -- A plan resolves as well where another relation has what the first has of each xorb that it names.
+  resolves_named : (Q : List ℕ → List X → Type 0) (plan : List Segment) (out : List X) → ((s : Segment) → Among plan s → (xs : List X) → P s.xorb_hash xs → Q s.xorb_hash xs)
+      → Resolves P len plan out → Resolves Q len plan out
+  resolves_named Q [] out all j = j
+  resolves_named Q (s ∷ ss) out all (xs, rest, has, lies, parts, more) =
+      (xs, rest, all s (inl refl) xs has, lies, parts, resolves_named Q ss rest (λ t a. all t (inr a)) more)
 
   -- the elements of a xorb that a plan names
-  joins_has : (plan : List Segment) (out : List X) (s : Segment) → Joins P len plan out → Among plan s → (xs : List X) × P s.xorb_hash xs
-  joins_has [] out s j a = absurd a
-  joins_has (t ∷ ts) out s (xs, rest, has, lies, parts, more) (inl is) = (xs, subst (λ (u : Segment). P u.xorb_hash xs) is has)
-  joins_has (t ∷ ts) out s (xs, rest, has, lies, parts, more) (inr a) = joins_has ts rest s more a
+  resolves_has : (plan : List Segment) (out : List X) (s : Segment) → Resolves P len plan out → Among plan s → (xs : List X) × P s.xorb_hash xs
+  resolves_has [] out s j a = absurd a
+  resolves_has (t ∷ ts) out s (xs, rest, has, lies, parts, more) (inl is) = (xs, subst (λ (u : Segment). P u.xorb_hash xs) is has)
+  resolves_has (t ∷ ts) out s (xs, rest, has, lies, parts, more) (inr a) = resolves_has ts rest s more a
 
 -- a plan is that of a record, or the empty file's
 plan_either : (records : FileRecords) (h : List ℕ) (plan : List Segment) → plan_of records h ≡ Some plan → ((h ≡ zero_hash) × (plan ≡ [])) ⊎ ((f : MDBFileInfo) × (found records h ≡ Some f) × (f.segments ≡ plan))
@@ -69,7 +69,7 @@ module _ (s : State) (sound : Sound s) where
   record_listed : (h : List ℕ) (f : MDBFileInfo) → found s.records h ≡ Some f → (t : Segment) → Among f.segments t → IsSome (found s.xorbs t.xorb_hash)
   record_listed h f e t a =
       let r = found_has (IsRecord s.xorbs) s.records h f sound.recorded e in
-      let listed = joins_has (IsListed s.xorbs) (λ (m : List ℕ × ℕ). m.1) f.segments r.leaves t r.joins a in
+      let listed = resolves_has (IsListed s.xorbs) (λ (m : List ℕ × ℕ). m.1) f.segments r.leaves t r.resolves a in
       is_some_found s.xorbs t.xorb_hash listed.0 listed.1
 
   listed_once : (h : List ℕ) (xs ys : List (List ℕ × ℕ)) → IsListed s.xorbs h xs → IsListed s.xorbs h ys → xs ≡ ys
@@ -77,10 +77,10 @@ module _ (s : State) (sound : Sound s) where
       let same : ◌≡◌ {A = Option (List (List ℕ × ℕ))} (Some xs) (Some ys) = sym a ∙ b in cc same
 
   -- and a record's segments join to leaves, not none
-  record_some : (h : List ℕ) (f : MDBFileInfo) → found s.records h ≡ Some f → (leaves : List (List ℕ × ℕ)) → Joins (IsListed s.xorbs) (λ m. m.1) f.segments leaves → 0 < length leaves
+  record_some : (h : List ℕ) (f : MDBFileInfo) → found s.records h ≡ Some f → (leaves : List (List ℕ × ℕ)) → Resolves (IsListed s.xorbs) (λ m. m.1) f.segments leaves → 0 < length leaves
   record_some h f e leaves j =
       let r = found_has (IsRecord s.xorbs) s.records h f sound.recorded e in
-      let same : r.leaves ≡ leaves = joins_once (IsListed s.xorbs) (λ (m : List ℕ × ℕ). m.1) listed_once f.segments r.leaves leaves r.joins j in
+      let same : r.leaves ≡ leaves = resolves_once (IsListed s.xorbs) (λ (m : List ℕ × ℕ). m.1) listed_once f.segments r.leaves leaves r.resolves j in
       subst (λ (ms : List (List ℕ × ℕ)). 0 < length ms) same r.some
 
   plan_listed : (h : List ℕ) (plan : List Segment) → plan_of s.records h ≡ Some plan → (t : Segment) → Among plan t → IsSome (found s.xorbs t.xorb_hash)
@@ -110,7 +110,7 @@ module _ (old new : Files) (folder : List ℕ) where
 
 -- ---- what was there when the folder was opened
 
--- a shard that is valid at a moment was valid at each earlier one
+-- a shard that is valid at a time was valid at each earlier one
 valid_before : (bytes : List ℕ) (now later : ℕ) → now ≤ later → is_expired later bytes ≡ false → is_expired now bytes ≡ false
 valid_before bytes now later earlier = go (shard_header_at bytes >>= λ _. shard_footer_at bytes)
   where
@@ -181,13 +181,13 @@ module _ (old new : State) (told : old.tells ≡ true) (contents : HasContents o
   valid : is_expired old.opened l.shard.file.bytes ≡ false
   valid = valid_before l.shard.file.bytes old.opened later since l.valid
 
-  -- Each file that was listed then, at a moment from the opening on, is listed still.
+  -- Each file that was listed then, at a time from the opening on, is listed still.
   pub listed_stay : Lists new.files old.folder later f
   listed_stay = lists_same old.files new.files old.folder later f l (same_file_at old.files new.files (shard_path old.folder l.shard.hash) (valid_stays old contents new told keeps l.shard l.there valid))
 
-  -- and it joins to the same chunks
-  pub joins_stay : (chunks : List (List ℕ)) → JoinsTo old.files old.folder f chunks → JoinsTo new.files old.folder f chunks
-  joins_stay chunks j = joins_named (IsStored old.files old.folder) length (IsStored new.files old.folder) f.segments chunks
+  -- and it resolves to the same chunks
+  pub resolves_stay : (chunks : List (List ℕ)) → ResolvesTo old.files old.folder f chunks → ResolvesTo new.files old.folder f chunks
+  resolves_stay chunks j = resolves_named (IsStored old.files old.folder) length (IsStored new.files old.folder) f.segments chunks
       (λ s a c stored. stored_same old.files new.files old.folder s.xorb_hash c (same_bytes_at old.files new.files (xorb_path old.folder s.xorb_hash) (named_same old contents new told keeps s.xorb_hash (named_by s a))) stored) j
     where
       named_by : (s : Segment) → Among f.segments s → IsNamed old.files old.folder old.opened s.xorb_hash
@@ -202,7 +202,7 @@ apart_less : {X : Type 0} (digest : X → List ℕ) (Met Less : X → Type 0) �
 apart_less digest Met Less met apart = record {
   same = λ x y a b e. apart.same x y (met x a) (met y b) e;
   not_zero = λ x a. apart.not_zero x (met x a);
-  not_marker = λ x a. apart.not_marker x (met x a);
+  not_sentinel = λ x a. apart.not_sentinel x (met x a);
 }
 
 module _ (before after : State) (told : before.tells ≡ true) where
@@ -216,16 +216,16 @@ module _ (before after : State) (told : before.tells ≡ true) where
       let b = sound.backed told h leaves listed in
       record { chunks = b.chunks; stored = stored_stays keeps h b.chunks (is_some_found before.xorbs h leaves listed) b.stored; same = b.same }
 
-  -- what a plan joins to stays
+  -- what a plan resolves to stays
   plan_stays : Sound before → Keeps before after → (h : List ℕ) (plan : List Segment) → plan_of before.records h ≡ Some plan → (chunks : List (List ℕ))
-      → Joins (IsStored before.files before.folder) length plan chunks → Joins (IsStored after.files after.folder) length plan chunks
-  plan_stays sound keeps h plan planned chunks j = joins_named (IsStored before.files before.folder) length (IsStored after.files after.folder) plan chunks
+      → Resolves (IsStored before.files before.folder) length plan chunks → Resolves (IsStored after.files after.folder) length plan chunks
+  plan_stays sound keeps h plan planned chunks j = resolves_named (IsStored before.files before.folder) length (IsStored after.files after.folder) plan chunks
       (λ s a c stored. stored_stays keeps s.xorb_hash c (plan_listed before sound h plan planned s a) stored) j
 
   -- A session that has a file has it after the flush.
   pub has_file_stays : Sound before → Keeps before after → after.records ≡ before.records → (chunks : List (List ℕ)) → HasFile before chunks → HasFile after chunks
-  has_file_stays sound keeps same chunks (plan, planned, joins) =
-      (plan, ap (λ (rs : FileRecords). plan_of rs (file_hash (leaves_of chunks))) same ∙ planned, plan_stays sound keeps (file_hash (leaves_of chunks)) plan planned chunks joins)
+  has_file_stays sound keeps same chunks (plan, planned, resolves) =
+      (plan, ap (λ (rs : FileRecords). plan_of rs (file_hash (leaves_of chunks))) same ∙ planned, plan_stays sound keeps (file_hash (leaves_of chunks)) plan planned chunks resolves)
 
 -- where nothing is pending, a registered shard lists each recorded file
 kept_now : (s : State) → s.tells ≡ true → Sound s → s.pending ≡ nothing → (h : List ℕ) (f : MDBFileInfo) → found s.records h ≡ Some f → IsKept s.files s.folder s.opened s.shards f
@@ -258,36 +258,36 @@ module _ (before after : State) (told : before.tells ≡ true) (sound : Sound be
       met_chunk b (inr given) = inr given
 
       met_file : (leaves : List (List ℕ × ℕ)) → MetFile before files leaves → MetListed after.files after.folder after.opened files leaves
-      met_file leaves (inl (h, f, recorded, joins)) =
+      met_file leaves (inl (h, f, recorded, resolves)) =
           let k = recorded_kept h f recorded in
-          let moved = joins_named (IsListed before.xorbs) (λ (m : List ℕ × ℕ). m.1) (IsBacked after.files after.folder) f.segments leaves (λ s a ms listed. backed_stays before after told sound keeps s.xorb_hash ms listed) joins in
-          inl (f, k.lists, moved, record_some before sound h f recorded leaves joins)
+          let moved = resolves_named (IsListed before.xorbs) (λ (m : List ℕ × ℕ). m.1) (IsBacked after.files after.folder) f.segments leaves (λ s a ms listed. backed_stays before after told sound keeps s.xorb_hash ms listed) resolves in
+          inl (f, k.lists, moved, record_some before sound h f recorded leaves resolves)
       met_file leaves (inr given) = inr given
 
   -- A file that the session has is listed by its folder after the flush.
   pub recorded_by_folder : (chunks : List (List ℕ)) → file_hash (leaves_of chunks) ≢ zero_hash → HasFile before chunks
-      → (f : MDBFileInfo) × Lists after.files after.folder after.opened f × (record_of.file_hash f ≡ file_hash (leaves_of chunks)) × JoinsTo after.files after.folder f chunks
-  recorded_by_folder chunks other (plan, planned, joins) = go (plan_either before.records h plan planned)
+      → (f : MDBFileInfo) × Lists after.files after.folder after.opened f × (file_record_hash f ≡ file_hash (leaves_of chunks)) × ResolvesTo after.files after.folder f chunks
+  recorded_by_folder chunks other (plan, planned, resolves) = go (plan_either before.records h plan planned)
     where
       h : List ℕ
       h = file_hash (leaves_of chunks)
 
       go : ((h ≡ zero_hash) × (plan ≡ [])) ⊎ ((f : MDBFileInfo) × (found before.records h ≡ Some f) × (f.segments ≡ plan))
-          → (f : MDBFileInfo) × Lists after.files after.folder after.opened f × (record_of.file_hash f ≡ h) × JoinsTo after.files after.folder f chunks
+          → (f : MDBFileInfo) × Lists after.files after.folder after.opened f × (file_record_hash f ≡ h) × ResolvesTo after.files after.folder f chunks
       go (inl empty) = absurd (other empty.0)
       go (inr (f, recorded, is)) =
           let k = recorded_kept h f recorded in
-          let moved = plan_stays before after told sound keeps h plan planned chunks joins in
-          (f, k.lists, (found_has (IsRecord before.xorbs) before.records h f sound.recorded recorded).named, subst (λ (p : List Segment). Joins (IsStored after.files after.folder) length p chunks) (sym is) moved)
+          let moved = plan_stays before after told sound keeps h plan planned chunks resolves in
+          (f, k.lists, (found_has (IsRecord before.xorbs) before.records h f sound.recorded recorded).named, subst (λ (p : List Segment). Resolves (IsStored after.files after.folder) length p chunks) (sym is) moved)
 
 -- ---- ranges
 
 -- A range that is read of a file that a store has is that range of its bytes.
 pub range_of_file : (s : State) (chunks : List (List ℕ)) (from to : ℕ) (bytes : List ℕ) → HasFile s chunks → IsRange s (file_hash (leaves_of chunks)) from to bytes
     → bytes ≡ range (concat chunks) from to
-range_of_file s chunks from to bytes (plan, planned, joins) r =
+range_of_file s chunks from to bytes (plan, planned, resolves) r =
     let plans : ◌≡◌ {A = Option (List Segment)} (Some r.plan) (Some plan) = sym r.planned ∙ planned in
     let one : r.plan ≡ plan = cc plans in
-    let there = subst (λ (p : List Segment). Joins (IsStored s.files s.folder) length p r.chunks) one r.joins in
-    let same : r.chunks ≡ chunks = joins_once (IsStored s.files s.folder) length (stored_once s.files s.folder) plan r.chunks chunks there joins in
+    let there = subst (λ (p : List Segment). Resolves (IsStored s.files s.folder) length p r.chunks) one r.resolves in
+    let same : r.chunks ≡ chunks = resolves_once (IsStored s.files s.folder) length (stored_once s.files s.folder) plan r.chunks chunks there resolves in
     r.is ∙ ap (λ (cs : List (List ℕ)). range (concat cs) from to) same

@@ -202,7 +202,7 @@ module _ (s : State) (tells : Bool) (files : Files) (faults : ℕ) (stays : Stat
         → IsAmong pending.files f ⊎ (tells ≡ true → IsKept files s.folder s.opened shards f)
     kept_or pending shards more f still (inl p) = inl (still p)
     kept_or pending shards more f still (inr k) =
-        inr (λ told. let told_before : s.tells ≡ true = sym stays.tells_same ∙ told in kept_still shards more f told_before (k told_before))
+        inr (λ told. let tells_before : s.tells ≡ true = sym stays.tells_same ∙ told in kept_still shards more f tells_before (k tells_before))
 
     -- the folder is admitted, where no shard's file has changed
     pub admitted_stays : (xorbs : Xorbs) → ((h : List ℕ) → IsSome (found s.xorbs h) → IsSome (found xorbs h))

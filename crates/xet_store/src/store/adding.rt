@@ -4,7 +4,7 @@ ghost use Rattle.std.specs.Prelude.{◌≡◌, ◌↔◌, ◌≤◌, ◌<◌, �
 ghost use Rattle.std.specs.List.{AllByRecursion};
 ghost use Rattle.xet_hash.specs.Merkle.{chunk_hash, xorb_hash};
 ghost use Rattle.xet_shard.specs.Held.{held_size};
-ghost use Rattle.xet_shard_format.specs.Records.{file_hash};
+ghost use Rattle.xet_shard_format.specs.Records.{file_record_hash};
 ghost use Rattle.xet_xorb_chunk.specs.Chunks.{bytes_of_chunk, chunk_leaf, total};
 ghost use Rattle.xet_codec.specs.Stops.{HasDiskReason};
 ghost use Rattle.xet_folder.specs.Xorbs.{IsListed, found};
@@ -18,7 +18,7 @@ use xet_folder::{Leaves, RecordedFile, put_xorb};
 use xet_hash::{MerkleHash, StoreError};
 use xet_io::Disk;
 use xet_shard::MDBInMemoryShard;
-use xet_shard_file::known_bytes;
+use xet_shard_file::recall_bytes;
 use xet_shard_format::MDBFileInfo;
 use xet_xorb::{RawXorbData, SerializedXorbObject};
 use xet_xorb_chunk::{Chunk, chunk_leaves};
@@ -54,7 +54,7 @@ impl<D: Disk + Send> Store<D> {
         if hash == MerkleHash::marker() || !has_room(&self.pending, 1 + leaves.len() as u64) {
             return Err(StoreError::OutOfMemory);
         }
-        known_bytes(&hash);
+        recall_bytes(&hash);
         let block = raw.xorb_info.copy(self.alloc)?;
         let built = SerializedXorbObject::from_xorb(self.alloc, raw, true)?;
         let listed = Leaves::from_vec(self.alloc, leaves)?;
@@ -67,7 +67,7 @@ impl<D: Disk + Send> Store<D> {
             built.serialized_data.as_slice(),
         )?;
         self.pending.add_xorb_block(block)?;
-        self.pending.known();
+        self.pending.recall_invariant();
         self.xorbs.insert(hash, listed)?;
         Ok(hash)
     }
@@ -78,8 +78,8 @@ impl<D: Disk + Send> Store<D> {
     pub(crate) fn add_file(&mut self, file: MDBFileInfo) -> Result<(), StoreError>
         requires { IsNewFile self.old.xorbs file }
         ensures keeps { Keeps self.old self.new }
-        ensures there { OnOk result (IsSome (found self.new.records (file_hash file))) }
-        ensures adds { OnOk result (Adds self.old.records self.new.records (file_hash file ∷ [])) }
+        ensures there { OnOk result (IsSome (found self.new.records (file_record_hash file))) }
+        ensures adds { OnOk result (Adds self.old.records self.new.records (file_record_hash file ∷ [])) }
         ensures shards { self.new.shards ≡ self.old.shards }
         ensures stores { OnOk result (tables_of self.new ≡ with_record (tables_of self.old) file) }
         ensures err { OnErr result (self.new ≡ self.old) }
@@ -97,7 +97,7 @@ impl<D: Disk + Send> Store<D> {
         let recorded = RecordedFile::new(self.alloc, file)?;
         self.records.reserve(1)?;
         self.pending.add_file_reconstruction_info(copy)?;
-        self.pending.known();
+        self.pending.recall_invariant();
         self.records.insert(hash, recorded)?;
         Ok(())
     }

@@ -12,7 +12,7 @@ use xet_folder::put_shard;
 use xet_hash::{MerkleHash, StoreError, compute_data_hash};
 use xet_io::Disk;
 use xet_shard::MDBInMemoryShard;
-use xet_shard_file::known_bytes;
+use xet_shard_file::recall_bytes;
 
 impl<D: Disk + Send> Store<D> {
     /// Writes one shard of all that is pending, durable, and returns its hash; returns none if nothing is
@@ -35,7 +35,7 @@ impl<D: Disk + Send> Store<D> {
         if self.shards.contains(&hash) {
             return Err(StoreError::OutOfMemory);
         }
-        known_bytes(&hash);
+        recall_bytes(&hash);
         self.shards.reserve(1)?;
         let folder = self.folder.as_str();
         put_shard(&mut self.disk, self.alloc, folder, &hash, &encoding)?;

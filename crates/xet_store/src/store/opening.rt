@@ -2,7 +2,7 @@
 
 ghost use Rattle.std.specs.Prelude.{◌≡◌, ◌≤◌, true, false, IfErr, IfOk};
 ghost use Rattle.std.specs.List.{AllByRecursion};
-ghost use Rattle.xet_folder.specs.Contents.{HasContents, IsRecord, IsUnadmitted};
+ghost use Rattle.xet_folder.specs.Contents.{HasContents, IsRecord, IsFolderError};
 ghost use Rattle.xet_shard_file.specs.Names.{IsHash};
 ghost use Rattle.xet_folder.specs.Xorbs.{AreBacked};
 ghost use Rattle.xet_store.specs.Opening.{IsOpened, contents_of};
@@ -37,7 +37,7 @@ impl<D: Disk + Send> Store<D> {
         ensures later { IfOk result (λ store. D.faults disk ≤ store.faults) }
         ensures disk { IfErr result (λ refused. (D.tells refused.disk ≡ D.tells disk) × (D.files refused.disk ≡ D.files disk)) }
         ensures counted { IfErr result (λ refused. D.faults disk ≤ D.faults refused.disk) }
-        ensures refused { IfErr result (λ refused. IsUnadmitted (D.tells disk) (D.files disk) folder.now now (D.faults disk) (D.faults refused.disk) refused.error refused.name) }
+        ensures refused { IfErr result (λ refused. IsFolderError (D.tells disk) (D.files disk) folder.now now (D.faults disk) (D.faults refused.disk) refused.error refused.name) }
     {
         let _ = prune;
         let text = match String::from_str(alloc, folder) {
@@ -52,10 +52,10 @@ impl<D: Disk + Send> Store<D> {
         };
         match admit_folder(&mut disk, alloc, folder, now) {
             Ok(contents) => Ok(Store::of_folder(alloc, disk, text, limits, now, contents)),
-            Err(unadmitted) => Err(Refused {
+            Err(folder_error) => Err(Refused {
                 disk,
-                error: unadmitted.error,
-                name: unadmitted.name,
+                error: folder_error.error,
+                name: folder_error.name,
             }),
         }
     }

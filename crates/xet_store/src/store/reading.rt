@@ -3,11 +3,11 @@
 ghost use Rattle.std.specs.Prelude.{◌≡◌, ◌≤◌, ◌<◌, ◌+◌, ◌-◌, ◌++◌, ◌^◌, ℕ, List, true, length, min, None, IfErr, IfOk, IsErrOf, OnOk};
 ghost use Rattle.std.specs.List.{concat};
 ghost use Rattle.std.specs.Option.{option_map};
-ghost use Rattle.xet_folder.specs.Plan.{Joins, part, plan_bytes, range};
+ghost use Rattle.xet_folder.specs.Plan.{Resolves, part, plan_bytes, range};
 ghost use Rattle.xet_folder.specs.Runs.{IsRunError};
 ghost use Rattle.xet_folder.specs.Xorbs.{AreBacked};
 ghost use Rattle.xet_store.specs.Ranges.{IsOutside, IsRange, IsRangeError, IsUnchanged};
-ghost use Rattle.xet_store.specs.internal.Reading.{IsStoredListed, JoinsListed, LiesListed};
+ghost use Rattle.xet_store.specs.internal.Reading.{IsStoredListed, ResolvesListed, LiesListed};
 ghost use Rattle.xet_store.specs.Store.{plan_of};
 ghost use Rattle.xet_io.specs.Frame.{Unchanged};
 
@@ -70,10 +70,10 @@ fn read_plan<D: Disk>(
     to: u64,
     reader: &mut RunReader,
 ) -> Result<(), StoreError>
-    requires joins { JoinsListed xorbs.now.entries plan.now }
+    requires resolves { ResolvesListed xorbs.now.entries plan.now }
     requires order { from ≤ to }
     requires within { to ≤ plan_bytes plan.now }
-    ensures range { D.tells disk.old ≡ true → OnOk result ((chunks : List (List ℕ)) → Joins (IsStoredListed (D.files disk.old) folder.now xorbs.now.entries) length plan.now chunks → reader.new ≡ reader.old ++ range (concat chunks) from to) }
+    ensures range { D.tells disk.old ≡ true → OnOk result ((chunks : List (List ℕ)) → Resolves (IsStoredListed (D.files disk.old) folder.now xorbs.now.entries) length plan.now chunks → reader.new ≡ reader.old ++ range (concat chunks) from to) }
     ensures len { OnOk result (length reader.new ≡ length reader.old + (to - from)) }
     ensures refused { IfErr result (IsRunError ((D.tells disk.old ≡ true) × AreBacked (D.files disk.old) folder.now xorbs.now.entries) (D.faults disk.old) (D.faults disk.new)) }
     ensures frame { Unchanged D.files D.tells D.faults disk.old disk.new }

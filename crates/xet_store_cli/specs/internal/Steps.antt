@@ -12,7 +12,7 @@ use Rattle.xet_store_cli.specs.Report.{bytes_line}
 
 -- Nothing is pending; what was is listed at every time below 2 ^ 64; xorbs and records have not changed.
 pub record IsSettled (old new : State) : Type 0 where
-  pub lasts : old.tells ≡ true → (f : MDBFileInfo) → IsAmong old.pending.files f → (moment : ℕ) → moment < 2 ^ 64 → Lists new.files new.folder moment f
+  pub lasts : old.tells ≡ true → (f : MDBFileInfo) → IsAmong old.pending.files f → (time : ℕ) → time < 2 ^ 64 → Lists new.files new.folder time f
   pub nothing_pending : new.pending ≡ nothing
   pub xorbs : new.xorbs ≡ old.xorbs
   pub records : new.records ≡ old.records

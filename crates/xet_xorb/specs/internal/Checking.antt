@@ -31,15 +31,15 @@ pub record HaveLeaves (max_chunk : ℕ) (bytes : List ℕ) (ms : List (List ℕ 
   pub leaves : ms ≡ leaves_of chunks
 
 -- What follows the stored chunks: the footer of the pairs `ms`, and its length.
-abbrev pub ending : Version → List ℕ → List (List ℕ × ℕ) → List ℕ → List ℕ
-ending version hash ms spare = xorb_footer_bytes version hash ms spare ++ number (footer_len version (length ms))
+abbrev pub footer_with_length : Version → List ℕ → List (List ℕ × ℕ) → List ℕ → List ℕ
+footer_with_length version hash ms spare = xorb_footer_bytes version hash ms spare ++ number (footer_len version (length ms))
 
 -- `bytes` is such an ending, with any spare bytes, and `object` is its footer with its length.
 pub record IsEnding (hash : List ℕ) (ms : List (List ℕ × ℕ)) (bytes : List ℕ) (object : XorbObject) : Type 0 where
   pub version : Version
   pub spare : List ℕ
   pub spare_len : length spare ≡ 16
-  pub encoded : bytes ≡ ending version hash ms spare
+  pub encoded : bytes ≡ footer_with_length version hash ms spare
   pub listed : object ≡ object_of version hash ms spare
 
 -- A footer of these (hash, length) pairs fits: so many chunks may be listed, and the boundary offsets are below 2 ^ 32.

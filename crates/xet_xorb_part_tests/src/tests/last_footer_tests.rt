@@ -28,7 +28,7 @@ fn at_end(alloc: Global, bytes: &[u8]) -> Result<(u8, u32), StoreError> {
 fn in_pieces(alloc: Global, bytes: &[u8], size: usize) -> Result<(u8, u32), StoreError>
     requires { 0 < size }
 {
-    let mut decoder = FooterDecoder::new(alloc);
+    let mut decoder = InfoDecoder::new(alloc);
     for piece in bytes.chunks(size) {
         decoder.feed(piece)?;
     }

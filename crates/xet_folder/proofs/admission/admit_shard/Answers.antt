@@ -4,7 +4,7 @@ use Rattle.xet_hash.specs.declared.error.StoreError.{StoreError}
 use Rattle.xet_shard_format.specs.Reading.{ShardParts}
 use Rattle.xet_shard_format.specs.theorems.Fitting.{materialized_below}
 use Rattle.xet_folder.specs.Admission.{ShardFails}
-use Rattle.xet_shard_file.specs.Errors.{IsShardCheckError, IsShardError}
+use Rattle.xet_shard_file.specs.Errors.{IsShardCheckError, IsShardFileError}
 use Rattle.xet_folder.specs.Checks.{HasXorbsOfShard, Knows}
 use Rattle.xet_base.specs.theorems.Exits.{on_exit}
 use Rattle.xet_folder.proofs.Refused.{read_error, read_refusal}
@@ -35,5 +35,5 @@ returns-clause-there g c = λ p read.
 
 pub returns-in_err-parts-clause-error : goal.returns-in_err-parts-clause-error
 returns-in_err-parts-clause-error g c =
-    on_exit c.from_residual.result c.in_err-parts.field-0.0 (IsShardError c.args.hash.now) c.from_residual.ensures.1
+    on_exit c.from_residual.result c.in_err-parts.field-0.0 (IsShardFileError c.args.hash.now) c.from_residual.ensures.1
     (read_error c.args.hash.now c.args.bytes.now c.in_err-parts.field-0.0 c.in_err-parts.ensures.exact)

@@ -1,6 +1,6 @@
 use Rattle.std.proofs.Common.{◌≡◌, ◌∙◌, Bool, IsTrue, ℕ, List, refl, subst, arith}
 use Rattle.xet_io.specs.Disk.{Files}
-use Rattle.xet_shard_format.specs.Records.{xorb_hash}
+use Rattle.xet_shard_format.specs.Records.{xorb_record_hash}
 use Rattle.xet_folder.specs.Admission.{BlockFails, XorbFails}
 use Rattle.xet_shard_file.specs.Errors.{IsShardCheckError}
 use Rattle.xet_folder.specs.Checks.{Knows}
@@ -24,11 +24,11 @@ returns-in_err-verify_xorb-clause-refused g c =
 
 pub returns-then-lists_leaves-clause-grows : goal.returns-then-lists_leaves-clause-grows
 returns-then-lists_leaves-clause-grows g c =
-    grows_more (λ h. h ≡ c.hash-hash.result) (λ h. h ≡ xorb_hash c.args.block.now) (λ h is. is ∙ c.hash-hash.ensures) c.args.table.now c.verify_xorb.new.table c.in_ok-verify_xorb.ensures.grows
+    grows_more (λ h. h ≡ c.hash-hash.result) (λ h. h ≡ xorb_record_hash c.args.block.now) (λ h is. is ∙ c.hash-hash.ensures) c.args.table.now c.verify_xorb.new.table c.in_ok-verify_xorb.ensures.grows
 
 pub returns-else-lists_leaves-clause-grows : goal.returns-else-lists_leaves-clause-grows
 returns-else-lists_leaves-clause-grows g c =
-    grows_more (λ h. h ≡ c.hash-hash.result) (λ h. h ≡ xorb_hash c.args.block.now) (λ h is. is ∙ c.hash-hash.ensures) c.args.table.now c.verify_xorb.new.table c.in_ok-verify_xorb.ensures.grows
+    grows_more (λ h. h ≡ c.hash-hash.result) (λ h. h ≡ xorb_record_hash c.args.block.now) (λ h is. is ∙ c.hash-hash.ensures) c.args.table.now c.verify_xorb.new.table c.in_ok-verify_xorb.ensures.grows
 
 pub returns-else-lists_leaves-clause-refused : goal.returns-else-lists_leaves-clause-refused
 returns-else-lists_leaves-clause-refused g c = λ known.

@@ -5,7 +5,7 @@ use Rattle.xet_hash.specs.declared.error.StoreError.{StoreError}
 use Rattle.xet_shard_format.specs.declared.record.MDBFileInfo.{MDBFileInfo}
 use Rattle.xet_shard_format.specs.declared.record.MDBXorbInfo.{MDBXorbInfo}
 use Rattle.xet_shard_format.specs.Reading.{ShardParts}
-use Rattle.xet_shard_format.specs.Records.{xorb_hash}
+use Rattle.xet_shard_format.specs.Records.{xorb_record_hash}
 use Rattle.xet_folder.specs.Admission.{BlockFails, BlockHolds, FileFails, FileHolds, FirstFails, ShardFails}
 use Rattle.xet_folder.specs.Checks.{IsInTable, HasXorbsOfFile, Knows, OfFiles}
 use Rattle.xet_shard_file.specs.Errors.{IsShardCheckError}
@@ -77,7 +77,7 @@ pub returns-clause-there : goal.returns-clause-there
 returns-clause-there g c =
     let later = later_of (OfFiles c.deref-2.result.now) c.check_blocks.new.table c.check_files.new.table c.in_ok-check_files.ensures.grows in
     record {
-      blocks = subst (λ (bs : List MDBXorbInfo). AllByRecursion (λ b. IsInTable c.check_files.new.table (xorb_hash b)) bs) c.deref.ensures.value
+      blocks = subst (λ (bs : List MDBXorbInfo). AllByRecursion (λ b. IsInTable c.check_files.new.table (xorb_record_hash b)) bs) c.deref.ensures.value
           (blocks_later c.check_blocks.new.table c.check_files.new.table c.deref.result.now later c.in_ok-check_blocks.ensures.there);
       files = subst (λ (fs : List MDBFileInfo). AllByRecursion (HasXorbsOfFile c.check_files.new.table) fs) c.deref-2.ensures.value c.in_ok-check_files.ensures.there;
     }

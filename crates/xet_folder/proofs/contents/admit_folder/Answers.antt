@@ -2,15 +2,15 @@ use Rattle.std.proofs.Common.{◌≡◌, ◌∙◌, ℕ, List, filter, map, true
 use Rattle.std.specs.List.{All}
 use Rattle.xet_hash.specs.declared.error.StoreError.{StoreError}
 use Rattle.xet_folder.specs.declared.contents.Contents.{Contents}
-use Rattle.xet_folder.specs.declared.contents.Unadmitted.{Unadmitted}
+use Rattle.xet_folder.specs.declared.contents.FolderError.{FolderError}
 use Rattle.xet_folder.specs.Admission.{Refuses}
-use Rattle.xet_folder.specs.Contents.{HasContents, IsUnadmitted}
+use Rattle.xet_folder.specs.Contents.{HasContents, IsFolderError}
 use Rattle.xet_shard_file.specs.Entries.{entry_of, is_valid}
 use Rattle.xet_folder.specs.internal.Gathering.{ShardsFail, gathered}
 use Rattle.xet_shard_file.specs.Shards.{IsThere, ShardFile}
 use Rattle.xet_folder.proofs.MoreShards.{has_contents, listed_read, read_gathered, read_refused}
 use Rattle.xet_base.specs.theorems.Exits.{on_exit}
-use Rattle.xet_folder.proofs.Stopping.{stopped_earlier, unadmitted_so}
+use Rattle.xet_folder.proofs.Stopping.{stopped_earlier, folder_error_so}
 use Rattle.xet_folder.proofs.contents.admit_folder.Goals as goal
 
 pub returns-in_ok-gathered-in-Ok-clause-contents : goal.returns-in_ok-gathered-in-Ok-clause-contents
@@ -45,8 +45,8 @@ returns-in_err-gathered-in-Ok-clause-refused g c =
     let before = g.D.Disk.faults c.args.disk.now in
     let after = g.D.Disk.faults c.gather_shards.new.disk in
     let F : StoreError → List ℕ → Type 0 = λ e name. (read : List ShardFile) → map entry_of read ≡ entries → All (IsThere here folder) read → ShardsFail here folder (filter (is_valid now) read) e name in
-    on_exit c.from_residual.result u (λ (x : Unadmitted). IsUnadmitted tells files folder now before after x.error x.name) c.from_residual.ensures.1
-    (unadmitted_so tells files folder now before after u.error u.name
+    on_exit c.from_residual.result u (λ (x : FolderError). IsFolderError tells files folder now before after x.error x.name) c.from_residual.ensures.1
+    (folder_error_so tells files folder now before after u.error u.name
     (stopped_earlier (g.D.Disk.tells c.list_shards.new.disk ≡ true) (tells ≡ true) F (Refuses files folder now) (g.D.Disk.faults c.list_shards.new.disk) after before u.error u.name
     (λ told name fails.
     let r = listed_read files folder entries c.in-Ok.entries.items c.deref.ensures.value (c.in-Ok.ensures.told told) in

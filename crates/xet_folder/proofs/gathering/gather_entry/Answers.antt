@@ -45,16 +45,16 @@ returns-in-Ok-Some-clause-refused g c =
     let before = g.D.Disk.faults c.args.disk.now in
     let now = g.D.Disk.faults c.gather_shard.new.disk in
     let e = c.in-Err-gather_shard.error in
-    stopped_so L G (EntryFails files folder c.args.now hash) hash before now e c.unadmitted.result.error c.unadmitted.result.name
+    stopped_so L G (EntryFails files folder c.args.now hash) hash before now e c.folder_error.result.error c.folder_error.result.name
     (λ known fails n is f there.
     let valid = valid_is (λ b. b.items) c.args.now f.bytes c.in-Ok-Some.field-0 c.in-Ok-Some.bytes c.in-Ok-Some.field-0-is (read.told known.told f.bytes (ap (option_map (λ (x : File). x.bytes)) there)) in
     (valid.1, subst (λ (b : List ℕ). ShardFails files folder (as_shard_file hash (file b f.modified)) e) (c.deref.ensures.value ∙ valid.0) (fails f.modified), is))
-    (c.known_bytes.ensures.length, c.known_bytes.ensures.bytes) c.in-Err-gather_shard.ensures.error
+    (c.recall_bytes.ensures.length, c.recall_bytes.ensures.bytes) c.in-Err-gather_shard.ensures.error
     (refusal_of K L F G (g.D.Disk.faults c.read_valid.new.disk) now before
     (λ k. record { told = read.frame.tells ∙ k.told; backed = λ h leaves found. subst (λ (fs : Files). IsBacked fs folder h leaves) (sym read.frame.same) (k.backed h leaves found) })
     (λ k e fails modified. subst (λ (fs : Files). ShardFails fs folder (as_shard_file hash (file bytes modified)) e) read.frame.same (fails modified))
     read.frame.later e c.in-Err-gather_shard.ensures.refused)
-    c.unadmitted.ensures
+    c.folder_error.ensures
 
 pub returns-clause-refused : goal.returns-clause-refused
 returns-clause-refused g c =
@@ -68,10 +68,10 @@ returns-clause-refused g c =
     let before = g.D.Disk.faults c.args.disk.now in
     let now = g.D.Disk.faults c.read_valid.new.disk in
     let e = c.in-Err.error in
-    stopped_so L F (EntryFails files folder c.args.now hash) hash before now e c.unadmitted-in-Err.result.error c.unadmitted-in-Err.result.name
+    stopped_so L F (EntryFails files folder c.args.now hash) hash before now e c.folder_error-in-Err.result.error c.folder_error-in-Err.result.name
     (λ known fails n is f there.
     let bad = fails f.bytes (ap (option_map (λ (x : File). x.bytes)) there) in
     (ends_stay c.args.now f.bytes e bad, ShardFails.grammar (ends_fail f.bytes e bad), is))
-    (c.known_bytes.ensures.length, c.known_bytes.ensures.bytes) c.in-Err.ensures.error
+    (c.recall_bytes.ensures.length, c.recall_bytes.ensures.bytes) c.in-Err.ensures.error
     (refusal_of K L F F before now before (λ k. k.told) (λ k d fails. fails) (omega arith) e c.in-Err.ensures.refused)
-    c.unadmitted-in-Err.ensures
+    c.folder_error-in-Err.ensures

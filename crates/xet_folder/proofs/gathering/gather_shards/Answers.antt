@@ -3,7 +3,7 @@ use Rattle.std.specs.List.{All, AllByRecursion}
 use Rattle.xet_io.specs.Disk.{File, Files, file_at}
 use Rattle.xet_hash.specs.declared.error.StoreError.{StoreError}
 use Rattle.xet_folder.specs.declared.contents.Contents.{Contents}
-use Rattle.xet_folder.specs.declared.contents.Unadmitted.{Unadmitted}
+use Rattle.xet_folder.specs.declared.contents.FolderError.{FolderError}
 use Rattle.xet_folder.specs.Checks.{Knows}
 use Rattle.xet_folder.specs.Contents.{IsRecord}
 use Rattle.xet_shard_file.specs.Entries.{entry_of, is_valid}
@@ -65,7 +65,7 @@ returns-in_err-gather_entry-clause-refused g c =
     let before = g.D.Disk.faults c.args.disk.now in
     let now = g.D.Disk.faults c.gather_entry.new.disk in
     let G : StoreError → List ℕ → Type 0 = λ e name. (read : List ShardFile) → map entry_of read ≡ c.args.entries.now → All (IsThere files folder) read → ShardsFail files folder (filter (is_valid c.args.now) read) e name in
-    on_exit c.from_residual.result c.in_err-gather_entry.field-0.0 (λ (u : Unadmitted). IsCollectError L G before now u.error u.name) c.from_residual.ensures.1
+    on_exit c.from_residual.result c.in_err-gather_entry.field-0.0 (λ (u : FolderError). IsCollectError L G before now u.error u.name) c.from_residual.ensures.1
     (stopped_earlier K L (EntryFails here folder c.args.now entry.hash) G (g.D.Disk.faults c.loop-entry.disk) now before c.in_err-gather_entry.field-0.0.error c.in_err-gather_entry.field-0.0.name
     (λ told name fails read same there.
     let before = i.told told read same there in

@@ -10,5 +10,5 @@ returns-clause-xorbs g c = λ told h is.
 
 pub returns-clause-foreign : goal.returns-clause-foreign
 returns-clause-foreign g c = λ told name is.
-    let free = is.no_shard c.args.hash.now (c.known_bytes.ensures.length, c.known_bytes.ensures.bytes) in
+    let free = is.no_shard c.args.hash.now (c.recall_bytes.ensures.length, c.recall_bytes.ensures.bytes) in
     c.put_shard_file.ensures.others told name free.0 free.1

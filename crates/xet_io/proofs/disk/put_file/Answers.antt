@@ -34,10 +34,10 @@ pub returns-in_err-rename-clause-refused : goal.returns-in_err-rename-clause-ref
 returns-in_err-rename-clause-refused g c = λ told.
     let old = g.D.Disk.files c.args.disk.now in let new = g.D.Disk.files c.rename.new.self in let t = c.args.temp.now in let n = c.args.name.now in let b = c.args.bytes.now in
     let w = c.in_ok-write.ensures.told told in
-    let told_write = c.write.ensures.tells ∙ told in
-    let s = c.in_ok-sync.ensures.told told_write in
+    let tells_after_write = c.write.ensures.tells ∙ told in
+    let s = c.in_ok-sync.ensures.told tells_after_write in
     let synced_files = s.1 ∙ ap (λ (m : Files). synced m t) w.1 in
     on_err _ (IsPutOrKept old t n b new) (⊎_elim
     (λ same. kept_others old t n b new (entry (Some (file b w.0)) true) (same ∙ synced_files ∙ synced_temp old t n b w.0))
     (λ done. inr (w.0, done ∙ ap (λ (m : Files). renamed m t n) synced_files ∙ put_done old t n b w.0))
-    (c.in_err-rename.ensures.told (c.sync.ensures.tells ∙ told_write)))
+    (c.in_err-rename.ensures.told (c.sync.ensures.tells ∙ tells_after_write)))

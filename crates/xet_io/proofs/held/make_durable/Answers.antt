@@ -1,5 +1,5 @@
 use Rattle.std.proofs.Common.{true, Option, is_some, ap, sym, ◌∙◌}
-use Rattle.xet_io.specs.declared.held.Held.{Held}
+use Rattle.xet_io.specs.declared.held.NameState.{NameState}
 use Rattle.xet_io.specs.Disk.{File, Entry, file_of}
 use Rattle.xet_io.specs.MemoryFiles.{memory_files, memory_entry}
 use Rattle.xet_io.proofs.Changes.{synced_absent, synced_none, synced_some, file_of_entry, insert_same}
@@ -43,6 +43,6 @@ returns-clause-there c =
 pub returns-clause-synced : goal.returns-clause-synced
 returns-clause-synced c =
     let names = c.args.names.now in let name = c.args.name.now in let held = c.in-Some.held.now in
-    let durable : Held = record { file = held.file; durable = true } in
+    let durable : NameState = record { file = held.file; durable = true } in
     write_held names (c.get_mut.follows.lender durable) name durable (c.get_mut.follows.holds durable) (there names name held c.in-Some.ensures.value)
     ∙ sym (synced_some (memory_files names) name (memory_entry held) (held_entry names name held c.in-Some.ensures.value) (has_file held ∙ c.if-is_none.ensures))

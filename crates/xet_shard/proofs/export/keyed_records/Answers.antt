@@ -8,7 +8,7 @@ use Rattle.xet_shard_format.specs.declared.record.MDBXorbInfo.{MDBXorbInfo}
 use Rattle.xet_shard.specs.Export.{keyed_block}
 use Rattle.xet_shard.specs.Held.{never}
 use Rattle.xet_codec.specs.Parsing.{GivesUnlessFault}
-use Rattle.xet_shard_format.specs.Records.{AreRecords, IsXorb, xorb_hash}
+use Rattle.xet_shard_format.specs.Records.{AreRecords, IsXorb, xorb_record_hash}
 use Rattle.xet_shard.specs.Sections.{blocks_in}
 use Rattle.xet_shard_format.specs.Encoding.{Shard, shard}
 use Rattle.xet_shard.proofs.Exporting.{export_ends, export_fails, export_is}
@@ -44,7 +44,7 @@ pub returns-clause-blocks : goal.returns-clause-blocks
 returns-clause-blocks g c =
     let made = written_back c.in_ok-keyed.keyed.len c.key_blocks.new.blocks c.in_ok-keyed.keyed.items (omega (arith, c.deref_mut.ensures.len, ap length c.key_blocks.ensures, length-map c.deref_mut.result.now (keyed_block c.args.key)))
     ∙ c.key_blocks.ensures ∙ ap (map (keyed_block c.args.key)) c.deref_mut.ensures.value in
-    subst (AreRecords xorb_hash IsXorb None) (sym made) (records_keyed c.args.key None c.in_ok-keyed.keyed.items c.in_ok-keyed.ensures.form)
+    subst (AreRecords xorb_record_hash IsXorb None) (sym made) (records_keyed c.args.key None c.in_ok-keyed.keyed.items c.in_ok-keyed.ensures.form)
 
 pub returns-clause-few_blocks : goal.returns-clause-few_blocks
 returns-clause-few_blocks g c =

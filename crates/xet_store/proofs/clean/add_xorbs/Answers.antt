@@ -30,14 +30,14 @@ xorbs-init g c =
 pub pack_len-count-requires-clause-fit : goal.pack_len-count-requires-clause-fit
 pack_len-count-requires-clause-fit g c =
     let l = c.limits.result.now in
-    all_more (λ (x : Chunk). length x.bytes ≤ l.maximum_chunk) (λ (x : Chunk). length x.bytes ≤ l.cut_bytes) c.xorbs.rest.now (λ x h. omega (arith, h, c.known.ensures.cut_bytes_from)) c.xorbs.invariant.fit
+    all_more (λ (x : Chunk). length x.bytes ≤ l.maximum_chunk) (λ (x : Chunk). length x.bytes ≤ l.cut_bytes) c.xorbs.rest.now (λ x h. omega (arith, h, c.recall_invariant.ensures.cut_bytes_from)) c.xorbs.invariant.fit
 
 pub add_xorb-requires-clause-small : goal.add_xorb-requires-clause-small
 add_xorb-requires-clause-small g c = λ κs met.
     let l = c.limits.result.now in
     let P = λ (x : Chunk). length x.bytes ≤ l.maximum_chunk in
     let pack = subst (AllByRecursion P) {x = take c.pack_len-count.result c.xorbs.rest.now} {y = c.split_at.result.0.now} (sym {b = take c.pack_len-count.result c.xorbs.rest.now} c.split_at.ensures.front) (all_take P c.pack_len-count.result c.xorbs.rest.now c.xorbs.invariant.fit) in
-    all_more P (λ (x : Chunk). length x.bytes < 8388608) c.split_at.result.0.now (λ x h. omega (arith, h, c.known.ensures.maximum_to)) pack
+    all_more P (λ (x : Chunk). length x.bytes < 8388608) c.split_at.result.0.now (λ x h. omega (arith, h, c.recall_invariant.ensures.maximum_to)) pack
 
 pub returns-in_err-hash-clause-keeps : goal.returns-in_err-hash-clause-keeps
 returns-in_err-hash-clause-keeps g c = keeps_then c.args.session.now c.xorbs.session c.add_xorb.new.self c.xorbs.invariant.keeps c.add_xorb.ensures.keeps
@@ -83,8 +83,8 @@ xorbs-preserved g c =
       fit = subst (AllByRecursion _) back (all_drop _ n rest before.fit);
     }
 
-pub returns-clause-joins : goal.returns-clause-joins
-returns-clause-joins g c = let done = packed_all (tables_of c.args.session.now) (tables_of c.xorbs.session) c.limits.result.now c.xorbs.plan.items c.xorbs.rest.now c.args.chunks.now (eqb-true _ _ (sym c.xorbs-test.ensures)) c.xorbs.invariant.packed in done.joins
+pub returns-clause-resolves : goal.returns-clause-resolves
+returns-clause-resolves g c = let done = packed_all (tables_of c.args.session.now) (tables_of c.xorbs.session) c.limits.result.now c.xorbs.plan.items c.xorbs.rest.now c.args.chunks.now (eqb-true _ _ (sym c.xorbs-test.ensures)) c.xorbs.invariant.packed in done.resolves
 
 pub returns-clause-plan : goal.returns-clause-plan
 returns-clause-plan g c =

@@ -16,12 +16,12 @@ returns-clause-short g c = (follows g.S.Source.tells g.S.Source.left g.S.Source.
 pub returns-clause-files : goal.returns-clause-files
 returns-clause-files g c = λ tells all apart.
     let all_of = follows g.S.Source.tells g.S.Source.left g.S.Source.faults c.args.sources.now c.clean_all-result.new.sources c.args.session c.clean_all-result.new.session c.clean_all-result.result c.clean_all-result.ensures.done c.clean_all-result.ensures.failed in
-    files_on_ok g.S.Source.tells g.S.Source.left c.args.session.limits c.clean_all-result.new.session c.args.sources.now c.clean_all-result.result c.known.ensures (all_of.keeps.tells ∙ tells) all apart all_of.infos all_of.recorded
+    files_on_ok g.S.Source.tells g.S.Source.left c.args.session.limits c.clean_all-result.new.session c.args.sources.now c.clean_all-result.result c.recall_invariant.ensures (all_of.keeps.tells ∙ tells) all apart all_of.infos all_of.recorded
 
 pub returns-clause-xorbs : goal.returns-clause-xorbs
 returns-clause-xorbs g c = λ tells all apart.
     let all_of = follows g.S.Source.tells g.S.Source.left g.S.Source.faults c.args.sources.now c.clean_all-result.new.sources c.args.session c.clean_all-result.new.session c.clean_all-result.result c.clean_all-result.ensures.done c.clean_all-result.ensures.failed in
-    xorbs_on_ok c.clean_all-result.new.session (chunkings g.S.Source.left c.args.session.limits c.args.sources.now) c.clean_all-result.result c.known.ensures (all_of.keeps.tells ∙ tells) apart (all_of.listed all)
+    xorbs_on_ok c.clean_all-result.new.session (chunkings g.S.Source.left c.args.session.limits c.args.sources.now) c.clean_all-result.result c.recall_invariant.ensures (all_of.keeps.tells ∙ tells) apart (all_of.listed all)
 
 pub returns-clause-recorded : goal.returns-clause-recorded
 returns-clause-recorded g c = (follows g.S.Source.tells g.S.Source.left g.S.Source.faults c.args.sources.now c.clean_all-result.new.sources c.args.session c.clean_all-result.new.session c.clean_all-result.result c.clean_all-result.ensures.done c.clean_all-result.ensures.failed).recorded
@@ -42,7 +42,7 @@ pub returns-clause-stores : goal.returns-clause-stores
 returns-clause-stores g c = (follows g.S.Source.tells g.S.Source.left g.S.Source.faults c.args.sources.now c.clean_all-result.new.sources c.args.session c.clean_all-result.new.session c.clean_all-result.result c.clean_all-result.ensures.done c.clean_all-result.ensures.failed).stores
 
 pub returns-clause-err : goal.returns-clause-err
-returns-clause-err g c = until_on_err g.S.Source.tells g.S.Source.left g.S.Source.faults c.args.sources.now c.clean_all-result.new.sources c.args.session c.clean_all-result.new.session c.clean_all-result.result c.known.ensures c.clean_all-result.ensures.failed
+returns-clause-err g c = until_on_err g.S.Source.tells g.S.Source.left g.S.Source.faults c.args.sources.now c.clean_all-result.new.sources c.args.session c.clean_all-result.new.session c.clean_all-result.result c.recall_invariant.ensures c.clean_all-result.ensures.failed
 
 pub returns-clause-sources_tell : goal.returns-clause-sources_tell
 returns-clause-sources_tell g c = (follows g.S.Source.tells g.S.Source.left g.S.Source.faults c.args.sources.now c.clean_all-result.new.sources c.args.session c.clean_all-result.new.session c.clean_all-result.result c.clean_all-result.ensures.done c.clean_all-result.ensures.failed).called.tell

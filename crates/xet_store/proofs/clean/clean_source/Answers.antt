@@ -12,8 +12,8 @@ use Rattle.std.proofs.lemmas.List.{length-map, nil_from_length, take_all}
 use Rattle.xet_hash.specs.Hash.{zero_hash}
 use Rattle.xet_shard_format.specs.declared.record.FileDataSequenceEntry.{FileDataSequenceEntry as Segment}
 use Rattle.xet_shard_format.specs.declared.record.MDBFileInfo.{MDBFileInfo}
-use Rattle.xet_shard_format.specs.Records as record_of
-use Rattle.xet_folder.specs.Plan.{Joins}
+use Rattle.xet_shard_format.specs.Records.{file_record_hash}
+use Rattle.xet_folder.specs.Plan.{Resolves}
 use Rattle.xet_folder.specs.Xorbs.{IsListed, FileRecords, found}
 use Rattle.xet_store.specs.Cleaning.{Adds, Keeps}
 use Rattle.xet_dedup.specs.Packing.{packs}
@@ -74,11 +74,11 @@ add_file-requires-after_bounds g c = λ κs met.
     let count : length ms ≡ length chunks.items = ap length (leaves ∙ taken) ∙ length-map chunks.items chunk_leaf in
     let bytes : total_len ms ≡ length c.in_ok-bytes.bytes.items = ap total_len leaves ∙ c.in_ok-leaves.ensures.total ∙ ap total c.deref.ensures.value ∙ c.in_ok-chunks.ensures.total in
     new_file c.add_xorbs.new.session.xorbs ms c.in_ok-plan.plan.items (Some c.from_bytes-sha256.result) c.in_ok-file_record.field-0 c.in_ok-file_record.ensures.exact
-    (subst (λ (l : List (List ℕ × ℕ)). Joins (IsListed c.add_xorbs.new.session.xorbs) (λ m. m.1) c.in_ok-plan.plan.items l) joined c.in_ok-plan.ensures.joins) c.in_ok-plan.ensures.plain
+    (subst (λ (l : List (List ℕ × ℕ)). Resolves (IsListed c.add_xorbs.new.session.xorbs) (λ m. m.1) c.in_ok-plan.plan.items l) joined c.in_ok-plan.ensures.resolves) c.in_ok-plan.ensures.plain
     (some_of (length ms) (vec_len chunks) (omega (arith, count, chunks.ok)) some) (omega (arith, bytes, c.in_ok-bytes.bytes.ok, c.in_ok-bytes.bytes.small))
 
-recorded_hash : (f : MDBFileInfo) (ms : List (List ℕ × ℕ)) (plan : List Segment) (sha256 : Option (List ℕ)) (h : List ℕ) → f ≡ file_record ms plan sha256 → h ≡ file_hash ms → record_of.file_hash f ≡ h
-recorded_hash f ms plan sha256 h exact is = ap (λ (g : MDBFileInfo). record_of.file_hash g) exact ∙ sym is
+recorded_hash : (f : MDBFileInfo) (ms : List (List ℕ × ℕ)) (plan : List Segment) (sha256 : Option (List ℕ)) (h : List ℕ) → f ≡ file_record ms plan sha256 → h ≡ file_hash ms → file_record_hash f ≡ h
+recorded_hash f ms plan sha256 h exact is = ap (λ (g : MDBFileInfo). file_record_hash g) exact ∙ sym is
 
 pub returns-clause-info : goal.returns-clause-info
 returns-clause-info g c = λ told.

@@ -13,12 +13,12 @@ returns-in-Ok-clause-listed g c = λ told.
 
 pub returns-in-Ok-clause-keeps : goal.returns-in-Ok-clause-keeps
 returns-in-Ok-clause-keeps g c = λ told.
-    keeps_folder (g.D.Disk.tells c.args.disk) _ _ _ _ _ _ told c.in-Ok.ensures.opened (c.in-Ok.ensures.contents told) c.report_lines-session.ensures.keeps c.known-in-Ok.ensures c.into_disk-disk.ensures.files
+    keeps_folder (g.D.Disk.tells c.args.disk) _ _ _ _ _ _ told c.in-Ok.ensures.opened (c.in-Ok.ensures.contents told) c.report_lines-session.ensures.keeps c.recall_invariant-in-Ok.ensures c.into_disk-disk.ensures.files
 
 pub returns-in-Ok-clause-made : goal.returns-in-Ok-clause-made
 returns-in-Ok-clause-made g c = λ told.
     on_ok_weaker c.report_lines-session.result.1
-    (λ made. makes (g.D.Disk.tells c.args.disk) _ _ _ _ _ _ told c.in-Ok.ensures.opened c.known.ensures c.report_lines-session.ensures.keeps c.into_disk-disk.ensures.files c.args.lines.now made)
+    (λ made. makes (g.D.Disk.tells c.args.disk) _ _ _ _ _ _ told c.in-Ok.ensures.opened c.recall_invariant.ensures c.report_lines-session.ensures.keeps c.into_disk-disk.ensures.files c.args.lines.now made)
     (c.report_lines-session.ensures.made (c.in-Ok.ensures.opened.same_tells ∙ told))
 
 pub returns-in-Ok-clause-kept : goal.returns-in-Ok-clause-kept

@@ -36,10 +36,10 @@ done g c =
     record {
       cleaned = c.clean_lines-session.ensures.keeps;
       keeps = c.report_cleaned-answer.ensures.keeps;
-      sound = c.known-2.ensures;
-      flushed = c.known-in-Ok.ensures;
+      sound = c.recall_invariant-2.ensures;
+      flushed = c.recall_invariant-in-Ok.ensures;
       folder = c.requires.folder;
-      fits = rw c.limits.ensures at c.known.ensures;
+      fits = rw c.limits.ensures at c.recall_invariant.ensures;
       has = λ told apart. IfOk-at_ok (λ (x : Cleaned). AllByRecursion (HasFile before) (map (chunking l) files)) c.in-Ok.is (c.clean_lines-session.ensures.files told apart);
       lists = IfOk-at_ok (λ (x : Cleaned). AllByRecursion (ListsXorbs before) (map (chunking l) files)) c.in-Ok.is c.clean_lines-session.ensures.listed;
       contents = c.requires.contents;

@@ -1,11 +1,11 @@
 use Rattle.std.proofs.Common.{◌≡◌, ◌∙◌, ◌+◌, ◌-◌, List, ap, arith, drop, false, length, refl, take, true, ℕ}
 use Rattle.xet_codec.specs.Blocks.{Sees}
-use Rattle.xet_xorb.proofs.Validated.{ending_found, ending_stands, told_of}
+use Rattle.xet_xorb.proofs.Validated.{ending_found, ending_stands, footer_length_of}
 use Rattle.xet_xorb.proofs.validation.checked_object.Goals as goal
 
 pub returns-in_default-clause-none : goal.returns-in_default-clause-none
 returns-in_default-clause-none g c = λ bytes sees hashed size _ object e.
-    c.in_ok-info.ensures.none (rw c.in_default.is refl) e.version (told_of c.args.start c.args.told c.args.hash.now c.args.leaves.now bytes object sees.all hashed size e)
+    c.in_ok-info.ensures.none (rw c.in_default.is refl) e.version (footer_length_of c.args.start c.args.told c.args.hash.now c.args.leaves.now bytes object sees.all hashed size e)
 
 pub returns-then-not-branch-2-clause-none : goal.returns-then-not-branch-2-clause-none
 returns-then-not-branch-2-clause-none g c = λ bytes sees hashed size _ object e.

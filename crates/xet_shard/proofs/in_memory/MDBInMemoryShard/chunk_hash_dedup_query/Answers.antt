@@ -1,11 +1,11 @@
 use Rattle.std.proofs.Common.{◌≡◌, ◌≢◌, ◌∙◌, ℕ, List, None, Option, Some, ap, map, option_map, slice_get, sym, subst}
 use Rattle.std.proofs.lemmas.Option.{none-some, slice_get-map}
 use Rattle.indexmap.specs.IndexMap.{values}
-use Rattle.xet_hash.specs.Hash.{marker}
+use Rattle.xet_hash.specs.Hash.{sentinel}
 use Rattle.xet_shard_format.specs.declared.record.MDBXorbInfo.{MDBXorbInfo}
 use Rattle.xet_shard.specs.Held.{Held}
 use Rattle.xet_shard.specs.LastPlaces.{last_at}
-use Rattle.xet_shard_format.specs.Records.{IsXorb, xorb_hash}
+use Rattle.xet_shard_format.specs.Records.{IsXorb, xorb_record_hash}
 use Rattle.xet_shard.specs.Runs.{held_run, run_at}
 use Rattle.xet_shard.proofs.Running.{all_at, placed_at, query_as_is, query_empty, query_found, query_missed}
 use Rattle.xet_shard.proofs.in_memory.MDBInMemoryShard.chunk_hash_dedup_query.Goals as goal
@@ -30,7 +30,7 @@ returns-in_err-block c =
 
 pub run_at-requires-clause-form : goal.run_at-requires-clause-form
 run_at-requires-clause-form c =
-    (all_at (λ (x : MDBXorbInfo). (xorb_hash x ≢ marker) × IsXorb x) (values c.self.inside.blocks) c.in_ok-index.field-0.now.0 c.in_ok-block.block.now
+    (all_at (λ (x : MDBXorbInfo). (xorb_record_hash x ≢ sentinel) × IsXorb x) (values c.self.inside.blocks) c.in_ok-index.field-0.now.0 c.in_ok-block.block.now
     (value_at c.self.inside.blocks.entries c.in_ok-index.field-0.now.0 (Some (c.in_ok-block.field-0-0.now, c.in_ok-block.block.now)) c.in_ok-block.ensures.entry) c.self.invariant.2.blocks).1
 
 pub run_at-requires-clause-within : goal.run_at-requires-clause-within

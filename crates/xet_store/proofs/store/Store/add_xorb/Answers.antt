@@ -3,7 +3,7 @@ use Rattle.xet_hash.specs.Merkle.{xorb_hash}
 use Rattle.xet_xorb_chunk.specs.Chunks.{chunk_leaf}
 use Rattle.xet_shard_format.specs.declared.record.MDBXorbInfo.{MDBXorbInfo}
 use Rattle.xet_shard.specs.Held.{Held, held, with_last}
-use Rattle.xet_shard_format.specs.Records as record_of
+use Rattle.xet_shard_format.specs.Records.{xorb_record_hash}
 use Rattle.xet_folder.specs.Xorbs.{Xorbs, found}
 use Rattle.xet_store.specs.Store.{State}
 use Rattle.xet_store.specs.Tables.{tables, tables_of}
@@ -123,9 +123,9 @@ invariant_of-self-2 g c =
     let none : found c.self.inside.xorbs.entries h ≡ None = sym c.in_default.ensures.value in
     let more = recorded_at c.self.inside.xorbs h h c.reserve.new.self.entries _ _ leaves refl c.in_ok-listed.ensures.pairs none c.reserve.ensures.entries c.in_ok-insert.ensures.entries in
     let exact = raw_block c.in_ok-raw.raw c.args.chunks.now _ c.in_ok-raw.ensures.exact h c.hash-hash.ensures c.in_ok-block.block leaves c.in_ok-leaves.ensures.leaves c.in_ok-block.ensures.copy in
-    let pending = c.in_ok-add_xorb_block.ensures.added ∙ ap (λ (b : MDBXorbInfo). held (with_last record_of.xorb_hash c.self.inside.pending.blocks b) c.self.inside.pending.files) exact in
+    let pending = c.in_ok-add_xorb_block.ensures.added ∙ ap (λ (b : MDBXorbInfo). held (with_last xorb_record_hash c.self.inside.pending.blocks b) c.self.inside.pending.files) exact in
     put_sound put (λ told. inr (record { there = c.in_ok-put_xorb.ensures.there told; durable = c.in_ok-put_xorb.ensures.durable told; temp = c.in_ok-put_xorb.ensures.temp told }))
-    more pending (c.known_bytes.ensures.length, c.known_bytes.ensures.bytes) c.known.ensures c.in_ok-put_xorb.ensures.there
+    more pending (c.recall_bytes.ensures.length, c.recall_bytes.ensures.bytes) c.recall_invariant.ensures c.in_ok-put_xorb.ensures.there
 
 pub returns : goal.returns
 returns g c =
@@ -137,7 +137,7 @@ returns g c =
     let none : found c.self.inside.xorbs.entries h ≡ None = sym c.in_default.ensures.value in
     let more = recorded_at c.self.inside.xorbs h h c.reserve.new.self.entries _ _ leaves refl c.in_ok-listed.ensures.pairs none c.reserve.ensures.entries c.in_ok-insert.ensures.entries in
     let exact = raw_block c.in_ok-raw.raw c.args.chunks.now _ c.in_ok-raw.ensures.exact h c.hash-hash.ensures c.in_ok-block.block leaves c.in_ok-leaves.ensures.leaves c.in_ok-block.ensures.copy in
-    let pending = c.in_ok-add_xorb_block.ensures.added ∙ ap (λ (b : MDBXorbInfo). held (with_last record_of.xorb_hash c.self.inside.pending.blocks b) c.self.inside.pending.files) exact in
+    let pending = c.in_ok-add_xorb_block.ensures.added ∙ ap (λ (b : MDBXorbInfo). held (with_last xorb_record_hash c.self.inside.pending.blocks b) c.self.inside.pending.files) exact in
     record {
       keeps = put_keeps put (λ told. inr (record { there = c.in_ok-put_xorb.ensures.there told; durable = c.in_ok-put_xorb.ensures.durable told; temp = c.in_ok-put_xorb.ensures.temp told })) more pending
           c.in_ok-put_xorb.ensures.durable _ c.self.view_is;

@@ -29,38 +29,38 @@ returns-in_err-reserve-clause-refused g c = on_err _ (unput_at _ _ c.self.view_i
 pub invariant_of-self-in_err-put_shard : goal.invariant_of-self-in_err-put_shard
 invariant_of-self-in_err-put_shard g c =
     let e = c.in_ok-encoding.ensures in let p = c.put_shard.ensures in let put = puts_shard c.self.invariant c.as_str-folder.ensures c.deref-2.ensures.value c.contains.ensures.value c.if-contains.false e.shard e.fits
-    (c.known_bytes.ensures.length, c.known_bytes.ensures.bytes) c.compute_data_hash-hash.ensures c.deref.ensures.value c.deref-3.ensures.value e.encoding p.frame.tells p.frame.later p.xorbs p.shards p.others p.foreign in
+    (c.recall_bytes.ensures.length, c.recall_bytes.ensures.bytes) c.compute_data_hash-hash.ensures c.deref.ensures.value c.deref-3.ensures.value e.encoding p.frame.tells p.frame.later p.xorbs p.shards p.others p.foreign in
     unput_sound put c.in_err-put_shard.ensures.refused refl refl c.reserve.ensures.items refl
 
 pub returns-in_err-put_shard-clause-keeps : goal.returns-in_err-put_shard-clause-keeps
 returns-in_err-put_shard-clause-keeps g c =
     let e = c.in_ok-encoding.ensures in let p = c.put_shard.ensures in let put = puts_shard c.self.invariant c.as_str-folder.ensures c.deref-2.ensures.value c.contains.ensures.value c.if-contains.false e.shard e.fits
-    (c.known_bytes.ensures.length, c.known_bytes.ensures.bytes) c.compute_data_hash-hash.ensures c.deref.ensures.value c.deref-3.ensures.value e.encoding p.frame.tells p.frame.later p.xorbs p.shards p.others p.foreign in
+    (c.recall_bytes.ensures.length, c.recall_bytes.ensures.bytes) c.compute_data_hash-hash.ensures c.deref.ensures.value c.deref-3.ensures.value e.encoding p.frame.tells p.frame.later p.xorbs p.shards p.others p.foreign in
     unput_keeps put c.in_err-put_shard.ensures.refused refl refl c.reserve.ensures.items refl _ c.self.view_is
 
 pub returns-in_err-put_shard-clause-refused : goal.returns-in_err-put_shard-clause-refused
 returns-in_err-put_shard-clause-refused g c =
     let e = c.in_ok-encoding.ensures in let p = c.put_shard.ensures in let put = puts_shard c.self.invariant c.as_str-folder.ensures c.deref-2.ensures.value c.contains.ensures.value c.if-contains.false e.shard e.fits
-    (c.known_bytes.ensures.length, c.known_bytes.ensures.bytes) c.compute_data_hash-hash.ensures c.deref.ensures.value c.deref-3.ensures.value e.encoding p.frame.tells p.frame.later p.xorbs p.shards p.others p.foreign in
+    (c.recall_bytes.ensures.length, c.recall_bytes.ensures.bytes) c.compute_data_hash-hash.ensures c.deref.ensures.value c.deref-3.ensures.value e.encoding p.frame.tells p.frame.later p.xorbs p.shards p.others p.foreign in
     on_err _ (unput_refused put c.in_err-put_shard.ensures.refused refl refl c.reserve.ensures.items refl _ c.self.view_is)
 
 pub invariant_of-self-2 : goal.invariant_of-self-2
 invariant_of-self-2 g c =
     let e = c.in_ok-encoding.ensures in let p = c.put_shard.ensures in let put = puts_shard c.self.invariant c.as_str-folder.ensures c.deref-2.ensures.value c.contains.ensures.value c.if-contains.false e.shard e.fits
-    (c.known_bytes.ensures.length, c.known_bytes.ensures.bytes) c.compute_data_hash-hash.ensures c.deref.ensures.value c.deref-3.ensures.value e.encoding p.frame.tells p.frame.later p.xorbs p.shards p.others p.foreign in
+    (c.recall_bytes.ensures.length, c.recall_bytes.ensures.bytes) c.compute_data_hash-hash.ensures c.deref.ensures.value c.deref-3.ensures.value e.encoding p.frame.tells p.frame.later p.xorbs p.shards p.others p.foreign in
     put_sound put (λ told. record { there = c.in_ok-put_shard.ensures.there told; durable = c.in_ok-put_shard.ensures.durable told; temp = c.in_ok-put_shard.ensures.temp told })
     (c.push_reserved.ensures.items ∙ ap (λ (l : List (List ℕ)). l ++ c.compute_data_hash-hash.result ∷ []) c.reserve.ensures.items) c.new.ensures
 
 pub returns-clause-flushed : goal.returns-clause-flushed
 returns-clause-flushed g c =
     let e = c.in_ok-encoding.ensures in let p = c.put_shard.ensures in let put = puts_shard c.self.invariant c.as_str-folder.ensures c.deref-2.ensures.value c.contains.ensures.value c.if-contains.false e.shard e.fits
-    (c.known_bytes.ensures.length, c.known_bytes.ensures.bytes) c.compute_data_hash-hash.ensures c.deref.ensures.value c.deref-3.ensures.value e.encoding p.frame.tells p.frame.later p.xorbs p.shards p.others p.foreign in
+    (c.recall_bytes.ensures.length, c.recall_bytes.ensures.bytes) c.compute_data_hash-hash.ensures c.deref.ensures.value c.deref-3.ensures.value e.encoding p.frame.tells p.frame.later p.xorbs p.shards p.others p.foreign in
     put_flushed put (λ told. record { there = c.in_ok-put_shard.ensures.there told; durable = c.in_ok-put_shard.ensures.durable told; temp = c.in_ok-put_shard.ensures.temp told })
     (c.push_reserved.ensures.items ∙ ap (λ (l : List (List ℕ)). l ++ c.compute_data_hash-hash.result ∷ []) c.reserve.ensures.items) c.new.ensures _ c.self.view_is
 
 pub returns-clause-keeps : goal.returns-clause-keeps
 returns-clause-keeps g c =
     let e = c.in_ok-encoding.ensures in let p = c.put_shard.ensures in let put = puts_shard c.self.invariant c.as_str-folder.ensures c.deref-2.ensures.value c.contains.ensures.value c.if-contains.false e.shard e.fits
-    (c.known_bytes.ensures.length, c.known_bytes.ensures.bytes) c.compute_data_hash-hash.ensures c.deref.ensures.value c.deref-3.ensures.value e.encoding p.frame.tells p.frame.later p.xorbs p.shards p.others p.foreign in
+    (c.recall_bytes.ensures.length, c.recall_bytes.ensures.bytes) c.compute_data_hash-hash.ensures c.deref.ensures.value c.deref-3.ensures.value e.encoding p.frame.tells p.frame.later p.xorbs p.shards p.others p.foreign in
     put_keeps put (λ told. inr (record { there = c.in_ok-put_shard.ensures.there told; durable = c.in_ok-put_shard.ensures.durable told; temp = c.in_ok-put_shard.ensures.temp told }))
     (c.push_reserved.ensures.items ∙ ap (λ (l : List (List ℕ)). l ++ c.compute_data_hash-hash.result ∷ []) c.reserve.ensures.items) c.new.ensures _ c.self.view_is

@@ -1,7 +1,7 @@
 use Rattle.xet_xorb_footer.specs.Decoder.{FailsPart}
 use Rattle.xet_xorb_footer.proofs.Decoding.{refused_more}
 use Rattle.xet_base.specs.theorems.Exits.{exit_with}
-use Rattle.xet_xorb_footer.proofs.decoder.FooterDecoder.feed.Goals as goal
+use Rattle.xet_xorb_footer.proofs.decoder.InfoDecoder.feed.Goals as goal
 
 pub returns-in_err-absorb-clause-refused : goal.returns-in_err-absorb-clause-refused
 returns-in_err-absorb-clause-refused c =

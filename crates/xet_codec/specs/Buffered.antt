@@ -2,8 +2,8 @@
 use Rattle.std.specs.Prelude.{◌≡◌, ℕ, List, take}
 use Rattle.xet_codec.specs.declared.buffer.Buffer.{Buffer}
 
-abbrev pub held_in : Buffer → List ℕ
-held_in b = take b.used b.bytes
+abbrev pub buffered_in : Buffer → List ℕ
+buffered_in b = take b.used b.bytes
 
 -- nothing is buffered
 abbrev pub IsEmpty : Buffer → Type 0

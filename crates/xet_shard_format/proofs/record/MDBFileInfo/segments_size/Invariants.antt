@@ -1,6 +1,6 @@
 use Rattle.std.proofs.Common.{◌≡◌, ◌*◌, ◌≤◌, ◌^◌, take}
 use Rattle.xet_shard_format.specs.Records.{segment_bytes}
-use Rattle.xet_shard_format.proofs.record.MDBFileInfo.known_size.Given as goal
+use Rattle.xet_shard_format.proofs.record.MDBFileInfo.segments_size.Given as goal
 
 abbrev pub invariant-loop-segment : goal.invariant-loop-segment
 invariant-loop-segment l = record {
