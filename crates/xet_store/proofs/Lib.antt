@@ -6,6 +6,8 @@ mod Pending
 mod Adding
 mod Recording
 mod Storing
+mod Sources
+mod InTurn
 mod Flushing
 mod MadeChunks
 mod Opened

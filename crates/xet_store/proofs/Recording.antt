@@ -1,14 +1,14 @@
 -- A file more.
-use Rattle.std.proofs.Common.{◌≡◌, ◌≢◌, ◌⊎◌, inl, inr, ◌∙◌, ℕ, ◌<◌, ◌^◌, length, Option, Bool, true, false, not, List, [], ◌∷◌, ◌++◌, Some, None, is_some, if◌then◌else◌, refl, sym, ap, subst, nat_eq}
+use Rattle.std.proofs.Common.{◌≡◌, ◌≢◌, ◌⊎◌, inl, inr, ◌∙◌, ℕ, ◌<◌, ◌^◌, length, map, append_assoc, Option, IsSome, Bool, true, false, not, List, [], ◌∷◌, ◌++◌, Some, None, is_some, if◌then◌else◌, refl, sym, ap, subst, nat_eq}
 use Rattle.std.specs.Cmp.Lexicographic.{bytes_decides, pointwise}
 use Rattle.std.specs.List.{AllByRecursion, IsAmong}
-use Rattle.std.proofs.lemmas.List.{append-nil}
+use Rattle.std.proofs.lemmas.List.{append-nil, map-append}
 use Rattle.xet_shard_format.specs.declared.record.FileDataSequenceEntry.{FileDataSequenceEntry as Segment}
 use Rattle.xet_shard_format.specs.declared.record.MDBFileInfo.{MDBFileInfo}
 use Rattle.xet_shard.specs.Held.{Held, IsHeld, held as the_held, with_last}
 use Rattle.xet_shard_format.specs.Records.{file_record_hash}
 use Rattle.xet_shard.specs.theorems.Holding.{all_last}
-use Rattle.xet_base.specs.theorems.Elements.{all_push, all_more}
+use Rattle.xet_base.specs.theorems.Elements.{all_both, all_push, all_more}
 use Rattle.xet_hash.specs.Merkle.{total_len}
 use Rattle.xet_folder.specs.Contents.{IsRecord}
 use Rattle.xet_folder.specs.Plan.{Resolves}
@@ -20,7 +20,7 @@ use Rattle.xet_store.specs.Store.{State, IsKept, IsPendingFile, Sound}
 use Rattle.xet_store.specs.internal.Store.{IsNewFile}
 use Rattle.xet_store.specs.Tables.{tables, tables_of, with_record}
 use Rattle.xet_store.specs.theorems.Rows.{among_filter, among_last, among_more, apart_found, from_among, is_some_found, to_among}
-use Rattle.xet_store.proofs.Rows.{differ_more, differ_none}
+use Rattle.xet_store.proofs.Rows.{Lacks, absent_first, absent_rest, differ_more, differ_none, differ_then, found_later, found_more}
 use Rattle.xet_store.specs.theorems.Staying.{changed, keeps_at, keeps_changed, found_nowhere, same_change, stays_same}
 use Rattle.xet_store.specs.theorems.Whole.{found_has}
 
@@ -133,3 +133,35 @@ new_file xorbs ms plan sha256 f exact resolves plain some bound =
 -- no record more
 pub adds_nothing : (rs : FileRecords) (h : List ℕ) → Adds rs rs (h ∷ [])
 adds_nothing rs h = ([], sym (append-nil rs), differ_none, tt)
+
+-- ---- records added in two steps
+
+abbrev IsNew : FileRecords → List (List ℕ) → List ℕ × MDBFileInfo → Type 0
+IsNew old hashes r = (found old r.0 ≡ None) × IsSome (found (map (λ h. (h, r.1)) hashes) r.0)
+
+new_first : (old : FileRecords) (hashes more : List (List ℕ)) (added : FileRecords) → AllByRecursion (IsNew old hashes) added → AllByRecursion (IsNew old (hashes ++ more)) added
+new_first old hashes more [] all = tt
+new_first old hashes more (r ∷ added) all =
+    let there : IsSome (found (map (λ h. (h, r.1)) (hashes ++ more)) r.0) =
+    subst (λ (l : FileRecords). IsSome (found l r.0)) (sym (map-append (λ (h : List ℕ). (h, r.1)) hashes more)) (found_more (map (λ h. (h, r.1)) hashes) (map (λ h. (h, r.1)) more) r.0 all.0.1) in
+    ((all.0.0, there), new_first old hashes more added all.1)
+
+new_then : (old first : FileRecords) (hashes more : List (List ℕ)) (added : FileRecords) → AllByRecursion (IsNew (old ++ first) more) added → AllByRecursion (IsNew old (hashes ++ more)) added
+new_then old first hashes more [] all = tt
+new_then old first hashes more (r ∷ added) all =
+    let there : IsSome (found (map (λ h. (h, r.1)) (hashes ++ more)) r.0) =
+    subst (λ (l : FileRecords). IsSome (found l r.0)) (sym (map-append (λ (h : List ℕ). (h, r.1)) hashes more)) (found_later (map (λ h. (h, r.1)) hashes) (map (λ h. (h, r.1)) more) r.0 all.0.1) in
+    ((absent_first old first r.0 all.0.0, there), new_then old first hashes more added all.1)
+
+lacks_first : (old first : FileRecords) (more : List (List ℕ)) (added : FileRecords) → AllByRecursion (IsNew (old ++ first) more) added → AllByRecursion (Lacks first) added
+lacks_first old first more [] all = tt
+lacks_first old first more (r ∷ added) all = (absent_rest old first r.0 all.0.0, lacks_first old first more added all.1)
+
+pub adds_then : (old mid new : FileRecords) (hashes more : List (List ℕ)) → Adds old mid hashes → Adds mid new more → Adds old new (hashes ++ more)
+adds_then old mid new hashes more (first, is_first, differ_first, new_rows) (rest, is_rest, differ_rest, next_rows) =
+    let next : AllByRecursion (IsNew (old ++ first) more) rest = subst (λ (m : FileRecords). AllByRecursion (IsNew m more) rest) is_first next_rows in (
+      first ++ rest,
+      is_rest ∙ ap (λ (l : FileRecords). l ++ rest) is_first ∙ append_assoc old first rest,
+      differ_then first rest differ_first differ_rest (lacks_first old first more rest next),
+      all_both (IsNew old (hashes ++ more)) first rest (new_first old hashes more first new_rows) (new_then old first hashes more rest next),
+    )

@@ -1,5 +1,5 @@
 -- Cleaning: what it returns, what it adds to a session, and what it keeps.
-use Rattle.std.specs.Prelude.{◌≡◌, ◌⊎◌, ℕ, zero, suc, ◌<◌, ◌≤◌, Bool, true, List, [], ◌∷◌, ◌++◌, drop, length, map, Some, None, IsSome}
+use Rattle.std.specs.Prelude.{◌≡◌, ◌⊎◌, ℕ, zero, suc, ◌<◌, ◌≤◌, Bool, true, List, [], ◌∷◌, ◌++◌, drop, length, map, take, Some, None, IsSome}
 use Rattle.std.specs.FinMap.{get}
 use Rattle.std.specs.List.{AllByRecursion}
 use Rattle.std.specs.Option.{option_map}
@@ -10,7 +10,7 @@ use Rattle.xet_hash.specs.declared.error.StoreError.{StoreError}
 use Rattle.xet_hash.specs.declared.error.StoreError.TheVariants.{Io, TooLarge, OutOfMemory}
 use Rattle.xet_hash.specs.declared.error.Place.TheVariants.{Source, Disk}
 use Rattle.xet_hash.specs.declared.error.What.TheVariants as what
-use Rattle.xet_hash.specs.Merkle.{xorb_hash, file_hash, leaves_of}
+use Rattle.xet_hash.specs.Merkle.{chunk_hash, xorb_hash, file_hash, leaves_of}
 use Rattle.xet_cut.specs.declared.limits.LimitSettings.{LimitSettings}
 use Rattle.xet_shard_format.specs.declared.record.FileDataSequenceEntry.{FileDataSequenceEntry as Segment}
 use Rattle.xet_store.specs.declared.info.XetFileInfo.{XetFileInfo}
@@ -24,7 +24,8 @@ use Rattle.xet_folder.specs.Plan.{Resolves}
 use Rattle.xet_folder.specs.Stored.{IsStored}
 use Rattle.xet_folder.specs.Xorbs.{IsListed, FileRecords, found}
 use Rattle.xet_store.specs.Store.{Differ, State, plan_of}
-use Rattle.xet_store.specs.Tables.{StoresPart, tables_of, with_files}
+use Rattle.xet_store.specs.Separate.{Apart, MetChunk, Separate}
+use Rattle.xet_store.specs.Tables.{first_packs, tables_of, with_files, with_xorbs}
 
 -- the pointer record of a file: hash, length and SHA-256 (FIPS 180-4)
 abbrev pub info_of : LimitSettings → List ℕ → XetFileInfo
@@ -130,10 +131,28 @@ StoresAll tells left sources old new infos =
     (files : List (List ℕ)) × EachTold tells left (λ bytes file. file ≡ bytes) sources files × (infos ≡ map (info_of old.limits) files)
     × (tables_of new ≡ with_files old.limits (tables_of old) files)
 
--- The same after an error: some first files were added, and some first xorbs of the next.
-abbrev pub StoresSome : {S : Type 0} → (S → Bool) → (S → List ℕ) → List S → State → State → Type 0
-StoresSome tells left sources old new =
-    (files : List (List ℕ)) × EachTold tells left (λ bytes file. file ≡ bytes) sources files × StoresPart old.limits files (tables_of old) (tables_of new)
+-- an error that names a source names this one
+abbrev pub FailedAt : StoreError → ℕ → Type 0
+FailedAt (Io (Source i)) done = i ≡ done
+FailedAt (TooLarge (what.Source i)) done = i ≡ done
+FailedAt _ done = Unit {0}
+
+-- After an error: the files of the sources before some source, `done`, were added in turn, and some first xorbs of the
+-- file of that source, but no record of it. An error that names a source names that one. If disk and sources are
+-- observable: each file that was added has a plan that resolves to its chunks, if there are no collisions among the data
+-- seen; and each of its xorbs is stored, if there are none among the chunks seen.
+pub record StoresSome {S : Type 0} (tells : S → Bool) (left : S → List ℕ) (sources : List S) (old new : State) (e : StoreError) : Type 0 where
+  pub files : List (List ℕ)
+  pub told : EachTold tells left (λ bytes file. file ≡ bytes) sources files
+  pub done : ℕ
+  pub before : done < length sources
+  pub xorbs : ℕ
+  pub tables : tables_of new ≡ with_xorbs (with_files old.limits (tables_of old) (take done files)) (take xorbs (first_packs old.limits (drop done files)))
+  pub failed : FailedAt e done
+  pub resolve : old.tells ≡ true → AllByRecursion (λ s. tells s ≡ true) sources → Separate new (chunkings left old.limits sources)
+      → AllByRecursion (HasFile new) (take done (chunkings left old.limits sources))
+  pub has_xorbs : old.tells ≡ true → AllByRecursion (λ s. tells s ≡ true) sources → Apart chunk_hash (MetChunk new (chunkings left old.limits sources))
+      → AllByRecursion (HasXorbs new) (take done (chunkings left old.limits sources))
 
 -- the count of failures of source i rose
 abbrev pub RoseAt : {S : Type 0} → (S → ℕ) → List S → List S → ℕ → Type 0

@@ -1,3 +1,4 @@
 pub mod Reading
+pub mod Cleaning
 pub mod Steps
 pub mod Store

@@ -9,6 +9,7 @@ ghost use Rattle.xet_cut.specs.Chunking.{chunking};
 ghost use Rattle.xet_folder.specs.Plan.{Resolves};
 ghost use Rattle.xet_codec.specs.Stops.{HasDiskReason};
 ghost use Rattle.xet_store.specs.Separate.{Apart, MetChunk, Separate};
+ghost use Rattle.xet_store.specs.internal.Cleaning.{CleanedSoFar, CleanedUntil};
 ghost use Rattle.xet_store.specs.internal.Steps.{HasReasonOfOne, HasSourceReason};
 ghost use Rattle.xet_store.specs.Steps.{ListsXorbs};
 ghost use Rattle.xet_folder.specs.Xorbs.{IsListed};
@@ -30,17 +31,18 @@ use xet_shard_format::{FileDataSequenceEntry, Sha256};
 use xet_xorb_chunk::{Chunk, chunk_leaves};
 
 /// Reads each source to its end and stores its file, in order. Returns the session, and the pointer record of
-/// each file. Currently at most one source is allowed, and all work runs on the calling thread. After an
-/// error the session has its earlier files; xorbs that were written already may stay. `Io(Source(i))` and
-/// `Io(Disk)` are returned only if that source or the disk failed, `TooLarge(Source(i))` only if that source
-/// has more bytes than the limits allow; any other error is `OutOfMemory`.
+/// each file. All work runs on the calling thread, with one file in memory at a time. After an error the session
+/// has its earlier files and those of the sources before the one that failed; xorbs of that one that were written
+/// already may stay. `Io(Source(i))` and `Io(Disk)` are returned only if that source or the disk failed,
+/// `TooLarge(Source(i))` only if that source has more bytes than the limits allow; any other error is
+/// `OutOfMemory`.
 pub fn clean_files<D: Disk + Send, S: Source + Send>(
     alloc: Global,
     session: Store<D>,
     sources: &mut [S],
     workers: u32,
 ) -> (Store<D>, Result<Cleaned, StoreError>)
-    requires one { length sources.old ≤ 1 }
+    requires count { length sources.old ≤ 2 ^ 20 }
     requires workers { (1 ≤ workers) × (workers ≤ 256) }
 
     // If Ok, each source was read to its end, and each result is that of the bytes that it had left.
@@ -62,13 +64,13 @@ pub fn clean_files<D: Disk + Send, S: Source + Send>(
 
     // Whatever the result, nothing is taken away. New records follow the earlier ones, each under the hash of
     // a source. What is listed, recorded and pending is what was, with each source's file added in turn,
-    // which is the file of the result; after an error, with some of them.
+    // which is the file of the result; after an error, with the files of the sources before the one that
+    // failed, and some first xorbs of its file.
     ensures keeps { Keeps session result.0 }
     ensures adds { IfOk result.1 (λ cleaned. Adds session.records result.0.records (map (λ info. info.hash) cleaned.infos.items)) }
-    ensures err { OnErr result.1 (result.0.records ≡ session.records) }
+    ensures err { IfErr result.1 (StoresSome S.tells S.left sources.old session result.0) }
     ensures shards { result.0.shards ≡ session.shards }
     ensures stores { IfOk result.1 (λ cleaned. StoresAll S.tells S.left sources.old session result.0 cleaned.infos.items) }
-    ensures some { OnErr result.1 (StoresSome S.tells S.left sources.old session result.0) }
 
     // Each source is observable if and only if it was before. Whatever the result, a prefix of what it had
     // left was taken, and its count of failures has not fallen. An error has a reason.
@@ -84,40 +86,30 @@ pub fn clean_files<D: Disk + Send, S: Source + Send>(
     (session, result)
 }
 
+/// Reads and stores the sources in turn, one file in memory at a time.
 fn clean_all<D: Disk + Send, S: Source + Send>(
     alloc: Global,
     session: &mut Store<D>,
     sources: &mut [S],
 ) -> Result<Cleaned, StoreError>
-    requires one { length sources.old ≤ 1 }
-    ensures infos { IfOk result (λ cleaned. EachTold S.tells S.left (λ bytes info. info ≡ info_of session.old.limits bytes) sources.old cleaned.infos.items) }
-    ensures read { OnOk result (AllByRecursion (λ s. S.tells s ≡ true → S.left s ≡ []) sources.new) }
-    ensures short { OnOk result (AllByRecursion (λ s. S.tells s ≡ true → length (S.left s) ≤ session.old.limits.max_source_bytes) sources.old) }
-    ensures recorded { IfOk result (λ cleaned. AllByRecursion (λ info. IsSome (plan_of session.new.records info.hash)) cleaned.infos.items) }
-    ensures listed { AllByRecursion (λ s. S.tells s ≡ true) sources.old → OnOk result (AllByRecursion (ListsXorbs session.new) (chunkings S.left session.old.limits sources.old)) }
-    ensures keeps { Keeps session.old session.new }
-    ensures adds { IfOk result (λ cleaned. Adds session.old.records session.new.records (map (λ info. info.hash) cleaned.infos.items)) }
-    ensures err { OnErr result (session.new.records ≡ session.old.records) }
-    ensures shards { session.new.shards ≡ session.old.shards }
-    ensures stores { IfOk result (λ cleaned. StoresAll S.tells S.left sources.old session.old session.new cleaned.infos.items) }
-    ensures some { OnErr result (StoresSome S.tells S.left sources.old session.old session.new) }
-    ensures sources_tell { map S.tells sources.new ≡ map S.tells sources.old }
-    ensures sources_taken { AreTaken S.tells S.left sources.old sources.new }
-    ensures sources_later { Later S.faults sources.old sources.new }
-    ensures reason { IfErr result (HasReason S.tells S.left S.faults sources.old sources.new session.old session.new) }
+    requires count { length sources.old ≤ 2 ^ 20 }
+    ensures done { IfOk result (λ cleaned. CleanedSoFar S.tells S.left S.faults sources.old sources.new session.old session.new (length sources.old) cleaned.infos.items) }
+    ensures failed { IfErr result (CleanedUntil S.tells S.left S.faults sources.old sources.new session.old session.new) }
 {
-    let mut infos = Vec::with_capacity(alloc, 1)?;
-    if !sources.is_empty() {
-        infos.push_reserved(clean_source(session, &mut sources[0])?);
+    let mut infos = Vec::with_capacity(alloc, sources.len())?;
+    for i in 0..sources.len() {
+        let info = clean_source(session, &mut sources[i], i as u32)?;
+        infos.push_reserved(info);
     }
     Ok(Cleaned { infos })
 }
 
-/// Reads a source to its end and stores its file. Errors name it as source 0.
+/// Reads a source to its end and stores its file. Errors name it as source `number`.
 #[tactic(auto, using(crate::proofs::Storing::none_stored))]
 fn clean_source<D: Disk + Send, S: Source + Send>(
     session: &mut Store<D>,
     source: &mut S,
+    number: u32,
 ) -> Result<XetFileInfo, StoreError>
     ensures info { S.tells source.old ≡ true → IfOk result (λ info. info ≡ info_of session.old.limits (S.left source.old)) }
     ensures read { S.tells source.new ≡ true → OnOk result (S.left source.new ≡ []) }
@@ -133,12 +125,12 @@ fn clean_source<D: Disk + Send, S: Source + Send>(
     ensures some { OnErr result ((bytes : List ℕ) × (n : ℕ) × (S.tells source.old ≡ true → bytes ≡ S.left source.old)
         × (tables_of session.new ≡ with_xorbs (tables_of session.old) (take n (packs session.old.limits (chunking session.old.limits bytes))))) }
     ensures taken { S.tells source.old ≡ true → (n : ℕ) × (S.left source.new ≡ drop n (S.left source.old)) }
-    ensures reason { IfErr result (HasReasonOfOne S.tells S.left S.faults source.old source.new session.old session.new) }
+    ensures reason { IfErr result (HasReasonOfOne number S.tells S.left S.faults source.old source.new session.old session.new) }
     ensures frame { Stays S.tells S.faults source.old source.new }
 {
     let alloc = session.alloc();
     let limits = *session.limits();
-    let bytes = read_source(alloc, &limits, source)?;
+    let bytes = read_source(alloc, &limits, source, number)?;
     let file_size = bytes.len() as u64;
     let sha256 = Sha256::from_bytes(sha2::Sha256::digest(&bytes).into());
     let chunks = chunks_of(alloc, &limits, bytes)?;
@@ -197,25 +189,27 @@ fn whole_xorb(hash: MerkleHash, chunks: &[Chunk]) -> FileDataSequenceEntry
     FileDataSequenceEntry::new(hash, bytes as u32, 0, chunks.len() as u32)
 }
 
-/// Reads all bytes that are left in a source, at most `block_bytes` at a time. Errors name it as source 0.
+/// Reads all bytes that are left in a source, at most `block_bytes` at a time. Errors name it as source
+/// `number`.
 fn read_source<S: Source>(
     alloc: Global,
     limits: &Limits,
     source: &mut S,
+    number: u32,
 ) -> Result<Vec<u8>, StoreError>
     ensures bytes { S.tells source.old ≡ true → IfOk result (λ bytes. bytes.items ≡ S.left source.old) }
     ensures read { S.tells source.old ≡ true → OnOk result (S.left source.new ≡ []) }
     ensures short { IfOk result (λ bytes. length bytes.items ≤ limits.now.max_source_bytes) }
     ensures taken { S.tells source.old ≡ true → (n : ℕ) × (S.left source.new ≡ drop n (S.left source.old)) }
     ensures frame { Stays S.tells S.faults source.old source.new }
-    ensures reason { IfErr result (HasSourceReason (S.tells source.old) (S.left source.old) (S.faults source.old) (S.faults source.new) limits.now.max_source_bytes) }
+    ensures reason { IfErr result (HasSourceReason number (S.tells source.old) (S.left source.old) (S.faults source.old) (S.faults source.new) limits.now.max_source_bytes) }
 {
     let block = limits.block_bytes() as usize;
     let max_len = limits.max_source_bytes() as usize;
     match read_all(alloc, source, block, max_len) {
         Ok(bytes) => Ok(bytes),
         Err(Unread::OutOfMemory) => Err(StoreError::OutOfMemory),
-        Err(Unread::Failed) => Err(StoreError::Io(Place::Source(0))),
-        Err(Unread::TooLong) => Err(StoreError::TooLarge(What::Source(0))),
+        Err(Unread::Failed) => Err(StoreError::Io(Place::Source(number))),
+        Err(Unread::TooLong) => Err(StoreError::TooLarge(What::Source(number))),
     }
 }

@@ -18,4 +18,6 @@ mod run_tests;
 #[cfg(test)]
 mod session;
 #[cfg(test)]
+mod sources_tests;
+#[cfg(test)]
 mod xorbs;

@@ -3,7 +3,7 @@
 use std::alloc::Global;
 use xet_cut::{LimitSettings, Limits};
 use xet_hash::{MerkleHash, Place, Refused, StoreError};
-use xet_io::{Disk, MemoryDisk, SliceSource};
+use xet_io::{Disk, FailingSource, MemoryDisk, SliceSource};
 use xet_shard_format::FileDataSequenceEntry;
 use xet_store::{Cleaned, Store, XetFileInfo, clean_files};
 
@@ -55,6 +55,16 @@ impl Session {
         let alloc = self.alloc;
         let (store, answer) = clean_one(alloc, self.store, bytes);
         (Session { alloc, store }, first_of(answer))
+    }
+
+    /// Cleans sources that may fail. Returns the session, whatever the result.
+    pub fn clean_sources(
+        self,
+        sources: &mut [FailingSource; 3],
+    ) -> (Session, Result<Cleaned, StoreError>) {
+        let alloc = self.alloc;
+        let (store, answer) = clean_files(alloc, self.store, sources, 1);
+        (Session { alloc, store }, answer)
     }
 
     /// Writes a shard of what is pending.

@@ -1,15 +1,9 @@
 -- The text form of a hash determines it.
-use Rattle.std.proofs.Common.{◌≡◌, ℕ, zero, suc, ◌+◌, ◌*◌, ◌/◌, ◌%◌, ◌<◌, ◌==◌, Bool, true, Option, Some, None, Result, Ok, Err, List, [], ◌∷◌, ◌++◌, length, slice_index, refl, sym, ap, subst, ◌∙◌, arith}
-use Rattle.std.proofs.lemmas.Bool.{agree_below_at, eqb-true}
+use Rattle.std.proofs.Common.{◌≡◌, ℕ, zero, suc, ◌+◌, ◌*◌, ◌/◌, ◌%◌, ◌<◌, ◌==◌, List, [], ◌∷◌, ◌++◌, length, slice_index, refl, sym, ap, subst, ◌∙◌, arith}
 use Rattle.std.proofs.lemmas.Nat.{be_bytes_8}
 use Rattle.std.specs.Int.{w64, from_le_bytes, from_be_bytes, to_be_bytes}
-use Rattle.std.specs.Char.{to_ascii_lowercase}
-use Rattle.std.specs.Result.{result_unwrap_or}
-use Rattle.std.specs.Str.{str_to_ascii_lowercase}
-use Rattle.hex.specs.Hex.{IsBytes, decode_of, decode_pairs, decode_sized, digit_or_error, encode_lower, encode_with, hex_digit_value, lower_digits, pair_value, ◌>>=◌}
-use Rattle.hex.specs.declared.error.FromHexError.{FromHexError}
-use Rattle.hex.proofs.HexLemmas.{decode_of-encode_lower, decode_of-even, decode_of-ok, decode_sized-encode_lower, decode_sized-ok, decode_sized-twice}
-use Rattle.hex.proofs.Pairs.{cons_byte}
+use Rattle.hex.specs.Hex.{IsBytes, decode_of, encode_lower, ◌>>=◌}
+use Rattle.hex.proofs.HexLemmas.{decode_of-encode_lower}
 use Rattle.xet_hash.specs.Hash.{hash_text, hash_word, shown_words}
 use Rattle.xet_hash.specs.Order.{flipped, flipped-flipped}
 use Rattle.xet_hash.specs.theorems.Words.{reads_all}

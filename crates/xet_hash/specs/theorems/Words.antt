@@ -1,11 +1,7 @@
 -- Words read from bytes.
-use Rattle.std.proofs.Common.{◌≡◌, ℕ, zero, suc, ◌+◌, ◌*◌, ◌<◌, ◌≤◌, List, [], ◌∷◌, ◌++◌, length, take, slice_index, slice_set, ◌-◌, ◌/◌, ◌^◌, bit_and, drop, replicate, get_or, refl, sym, ap, ◌∙◌, add-one, arith}
-use Rattle.std.proofs.lemmas.List.{take_more_set, take_all, drop_all, drop-replicate}
-use Rattle.std.proofs.lemmas.Slice.{take-put_mid}
-use Rattle.std.proofs.lemmas.Nat.{and_mask}
+use Rattle.std.proofs.Common.{◌≡◌, ℕ, zero, suc, ◌+◌, ◌*◌, ◌<◌, ◌≤◌, List, [], ◌∷◌, ◌++◌, length, ◌-◌, ◌/◌, ◌^◌, drop, get_or, sym, ap, ◌∙◌, arith}
+use Rattle.std.proofs.lemmas.List.{drop_all}
 use Rattle.std.proofs.Math.Seq.{drop-cons}
-use Rattle.std.specs.Int.{w32, w64, to_le_bytes, to_be_bytes}
-use borrow.Rule.Slice.PartMut.{put_mid, post_of}
 
 -- the n elements from place i on, one by one
 abbrev pub reads : List ℕ → ℕ → ℕ → List ℕ
