@@ -2,6 +2,8 @@
 #![tactic(auto)]
 
 #[cfg(test)]
+mod folder_tests;
+#[cfg(test)]
 mod group_tests;
 #[cfg(test)]
 mod hash_tests;
