@@ -9,7 +9,7 @@ reads-preserved g c =
       within = search rules;
       read = λ told.
           block_taken _ _ _ c.reads.bytes.items _ c.resize.new.self.items c.fill_behind.new.bytes _ c.len-filled.result c.min.result c.in_ok-count.count _ (i.read told)
-          (c.in_ok-count.ensures.prefix ∙ ap (take c.len-filled.result) c.deref_mut.ensures.value) c.in_ok-resize.ensures.items (search rules) (search rules)
+          (c.in_ok-count.ensures.before ∙ ap (take c.len-filled.result) c.deref_mut.ensures.value) c.in_ok-resize.ensures.items (search rules) (search rules)
           (c.in_ok-count.ensures.told (i.tells ∙ told)).taken (search rules) (search rules);
       tells = c.in_ok-count.ensures.frame.tells ∙ i.tells;
       later = omega (arith, c.in_ok-count.ensures.frame.later, i.later);
