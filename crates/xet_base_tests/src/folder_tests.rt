@@ -1,10 +1,11 @@
-//! Tests of `xet_io` over a folder of the operating system, and of inputs that fail.
+//! Tests of `xet_fs` over a folder of the operating system, and of inputs in memory that fail.
 
 use std::alloc::{AllocError, Global};
 use std::marker::Send;
 use std::os::unix::fs::symlink;
 use std::test::Fail;
 use std::{env, fs, io, process};
+use xet_fs::*;
 use xet_io::*;
 
 /// The bytes at the start of a source, and what two reads return.

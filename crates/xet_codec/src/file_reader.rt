@@ -2,7 +2,7 @@
 
 ghost use Rattle.std.specs.Prelude.{◌≡◌, ◌<◌, ◌≤◌, ◌↔◌, IsTrue, IsErr, IfOk, OnOk, OnErr, length, true};
 ghost use Rattle.xet_codec.specs.FileReader.{CountsOne, all_faults, bytes_of, lent_disk};
-ghost use Rattle.xet_io.specs.Faults.{HasCause};
+ghost use Rattle.xet_io.specs.Faults.{HasCause, one_more};
 ghost use Rattle.xet_io.specs.Lent.{IsSameLent};
 ghost use Rattle.xet_io.specs.Streams.{ReadsPart};
 
@@ -61,11 +61,7 @@ impl<'a, D: Disk> ReadAt for FileReader<'a, D> {
         match self.disk.stat(self.name) {
             Ok(Some((length, _))) => Ok(length),
             Ok(None) => Ok(0),
-            Err(Refusal::Failed) => Err(Failed),
-            Err(Refusal::OutOfMemory) => {
-                self.shortages = self.shortages.saturating_add(1);
-                Err(Failed)
-            }
+            Err(refusal) => Err(failure_of(refusal, &mut self.shortages)),
         }
     }
 
@@ -82,11 +78,18 @@ impl<'a, D: Disk> ReadAt for FileReader<'a, D> {
         match self.disk.read_at(self.name, at, buf) {
             Ok(Some(count)) => Ok(count),
             Ok(None) => Ok(0),
-            Err(Refusal::Failed) => Err(Failed),
-            Err(Refusal::OutOfMemory) => {
-                self.shortages = self.shortages.saturating_add(1);
-                Err(Failed)
-            }
+            Err(refusal) => Err(failure_of(refusal, &mut self.shortages)),
         }
     }
+}
+
+/// The failure that a reader returns where its disk refuses. A shortage of memory is counted.
+fn failure_of(refusal: Refusal, shortages: &mut u64) -> Failed
+    ensures failed { refusal ≡ Refusal.Failed → shortages.new ≡ shortages.old }
+    ensures short { refusal ≡ Refusal.OutOfMemory → shortages.new ≡ one_more shortages.old }
+{
+    if matches!(refusal, Refusal::OutOfMemory) {
+        *shortages = shortages.saturating_add(1);
+    }
+    Failed
 }

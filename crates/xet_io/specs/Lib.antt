@@ -6,7 +6,6 @@ pub mod Named
 pub mod Opened
 pub mod Disk
 pub mod Lent
-pub mod FolderNames
 pub mod Frame
 pub mod FailingCalls
 pub mod Memory

@@ -56,7 +56,8 @@ pub trait Disk {
         ensures told { tells self.old ≡ true → IfOk result (λ listed. ListsFolder (files self.old) folder.now listed.items) }
         ensures same { files self.new ≡ files self.old }
         ensures tells { tells self.new ≡ tells self.old }
-        ensures cause { HasCause (faults self.old) (faults self.new) (IsErrOf result Refusal.Failed) };
+        ensures cause { HasCause (faults self.old) (faults self.new) (IsErrOf result Refusal.Failed) }
+        ensures no_fault { IsErrOf result Refusal.OutOfMemory → faults self.new ≡ faults self.old };
 
     /// Creates or replaces a file: the name has exactly these bytes, with a modification time, and is not
     /// durable. After an error either nothing has changed, or the name may have any content or be absent, and
@@ -64,27 +65,31 @@ pub trait Disk {
     fn write(&mut self, name: &str, bytes: &[u8]) -> Result<(), Refusal>
         ensures told { tells self.old ≡ true → Writes (files self.old) name.now bytes.now result (files self.new) }
         ensures tells { tells self.new ≡ tells self.old }
-        ensures cause { HasCause (faults self.old) (faults self.new) (IsErrOf result Refusal.Failed) };
+        ensures cause { HasCause (faults self.old) (faults self.new) (IsErrOf result Refusal.Failed) }
+        ensures no_fault { IsErrOf result Refusal.OutOfMemory → faults self.new ≡ faults self.old };
 
     /// Makes a file durable: a crash keeps its bytes. `false` if and only if the name is absent. After an
     /// error it may have happened or not.
     fn sync(&mut self, name: &str) -> Result<bool, Refusal>
         ensures told { tells self.old ≡ true → Changes (file_at (files self.old) name.now) (files self.old) (synced (files self.old) name.now) result (files self.new) }
         ensures tells { tells self.new ≡ tells self.old }
-        ensures cause { HasCause (faults self.old) (faults self.new) (IsErrOf result Refusal.Failed) };
+        ensures cause { HasCause (faults self.old) (faults self.new) (IsErrOf result Refusal.Failed) }
+        ensures no_fault { IsErrOf result Refusal.OutOfMemory → faults self.new ≡ faults self.old };
 
     /// Moves bytes, modification time and durability of `from` to `to`, and replaces the file at `to`.
     /// `false` if and only if `from` is absent. After an error it may have happened or not.
     fn rename(&mut self, from: &str, to: &str) -> Result<bool, Refusal>
         ensures told { tells self.old ≡ true → Changes (file_at (files self.old) from.now) (files self.old) (renamed (files self.old) from.now to.now) result (files self.new) }
         ensures tells { tells self.new ≡ tells self.old }
-        ensures cause { HasCause (faults self.old) (faults self.new) (IsErrOf result Refusal.Failed) };
+        ensures cause { HasCause (faults self.old) (faults self.new) (IsErrOf result Refusal.Failed) }
+        ensures no_fault { IsErrOf result Refusal.OutOfMemory → faults self.new ≡ faults self.old };
 
     /// Removes a file. `false` if and only if the name is absent. After an error it may have happened or not.
     fn remove(&mut self, name: &str) -> Result<bool, Refusal>
         ensures told { tells self.old ≡ true → Changes (file_at (files self.old) name.now) (files self.old) (removed (files self.old) name.now) result (files self.new) }
         ensures tells { tells self.new ≡ tells self.old }
-        ensures cause { HasCause (faults self.old) (faults self.new) (IsErrOf result Refusal.Failed) };
+        ensures cause { HasCause (faults self.old) (faults self.new) (IsErrOf result Refusal.Failed) }
+        ensures no_fault { IsErrOf result Refusal.OutOfMemory → faults self.new ≡ faults self.old };
 }
 
 /// Writes `bytes` to `temp`, syncs it and renames it to `name`. The order is for crashes: `name` then has its

@@ -154,6 +154,7 @@ impl Disk for MemoryDisk {
         ensures faults { self.new.faults ≡ faults_after result self.old.faults }
         ensures fails { self.new.fails ≡ fails_after self.old.fails op.List }
         ensures cause { HasCause self.old.faults self.new.faults (IsErrOf result Refusal.Failed) }
+        ensures no_fault { IsErrOf result Refusal.OutOfMemory → self.new.faults ≡ self.old.faults }
     {
         if self.count.fails(Op::List) {
             return Err(self.count.failed());
@@ -173,6 +174,7 @@ impl Disk for MemoryDisk {
         ensures faults { self.new.faults ≡ faults_after result self.old.faults }
         ensures fails { self.new.fails ≡ fails_after self.old.fails op.Write }
         ensures cause { HasCause self.old.faults self.new.faults (IsErrOf result Refusal.Failed) }
+        ensures no_fault { IsErrOf result Refusal.OutOfMemory → self.new.faults ≡ self.old.faults }
     {
         let modified = self.count.calls;
         if self.count.fails(Op::Write) {
@@ -198,6 +200,7 @@ impl Disk for MemoryDisk {
         ensures faults { self.new.faults ≡ faults_after result self.old.faults }
         ensures fails { self.new.fails ≡ fails_after self.old.fails op.Sync }
         ensures cause { HasCause self.old.faults self.new.faults (IsErrOf result Refusal.Failed) }
+        ensures no_fault { IsErrOf result Refusal.OutOfMemory → self.new.faults ≡ self.old.faults }
     {
         if self.count.fails(Op::Sync) {
             return Err(self.count.failed());
@@ -214,6 +217,7 @@ impl Disk for MemoryDisk {
         ensures faults { self.new.faults ≡ faults_after result self.old.faults }
         ensures fails { self.new.fails ≡ fails_after self.old.fails op.Rename }
         ensures cause { HasCause self.old.faults self.new.faults (IsErrOf result Refusal.Failed) }
+        ensures no_fault { IsErrOf result Refusal.OutOfMemory → self.new.faults ≡ self.old.faults }
     {
         if self.count.fails(Op::Rename) {
             return Err(self.count.failed());
@@ -238,6 +242,7 @@ impl Disk for MemoryDisk {
         ensures faults { self.new.faults ≡ faults_after result self.old.faults }
         ensures fails { self.new.fails ≡ fails_after self.old.fails op.Remove }
         ensures cause { HasCause self.old.faults self.new.faults (IsErrOf result Refusal.Failed) }
+        ensures no_fault { IsErrOf result Refusal.OutOfMemory → self.new.faults ≡ self.old.faults }
     {
         if self.count.fails(Op::Remove) {
             return Err(self.count.failed());

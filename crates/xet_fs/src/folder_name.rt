@@ -1,7 +1,7 @@
 //! The names of a real folder: which stay in it, and the paths that they stand for.
 
 ghost use Rattle.std.specs.Prelude.{◌≡◌};
-ghost use Rattle.xet_io.specs.FolderNames.{has_no_nul, is_part, is_reserved, stays_inside};
+ghost use Rattle.xet_fs.specs.FolderNames.{has_no_nul, is_part, is_reserved, stays_inside};
 
 use std::alloc::{AllocError, Global};
 

@@ -4,14 +4,13 @@ ghost use Rattle.std.specs.Prelude.{◌≡◌, ◌≢◌, Ok, Some, None, IfOk, 
 ghost use Rattle.std.specs.IoError.{error_kind};
 ghost use Rattle.xet_io.specs.Refusals.{IsRefusalOf};
 
-use crate::disk::DiskEntry;
-use crate::fault::Refusal;
 use crate::folder_name::{holder, push_part};
 use std::alloc::Global;
 use std::fs::{self, DirEntry, File, Files, Metadata, OpenFile, OpenOptions, ReadDir};
 use std::io::{self, ErrorKind, Write};
 use std::os::unix::fs::MetadataExt;
 use xet_base::Text;
+use xet_io::{DiskEntry, Refusal};
 
 /// What an answer holds, or `None` if the name is absent.
 pub(crate) fn found<T: Drop>(answer: io::Result<T>) -> Result<Option<T>, Refusal>

@@ -1,8 +1,8 @@
 use Rattle.std.proofs.Common.{rules, lit<}
 use Rattle.std.proofs.lemmas.Iterator.Search.{all_from_yields_List}
 use Rattle.std.proofs.lemmas.Iterator.Splits.{YieldsList-from_str_split}
-use Rattle.xet_io.specs.FolderNames.{is_part}
-use Rattle.xet_io.proofs.folder_name.stays_inside.Goals as goal
+use Rattle.xet_fs.specs.FolderNames.{is_part}
+use Rattle.xet_fs.proofs.folder_name.stays_inside.Goals as goal
 
 pub returns : goal.returns
 returns c =

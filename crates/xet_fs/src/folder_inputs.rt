@@ -5,20 +5,19 @@ ghost use Rattle.std.specs.FinMap.{empty};
 ghost use Rattle.xet_io.specs.Faults.{HasCause, TakesFaults, after_close, faults_after};
 ghost use Rattle.xet_io.specs.Opened.{opened_after};
 
-use crate::fault::Refusal;
 use crate::folder_files::found;
 use crate::folder_name::path_in;
-use crate::inputs::Inputs;
-use crate::streams::StdSource;
 use std::alloc::Global;
 use std::fs::{self, File, Files};
 use std::marker::Model;
+use xet_io::{Inputs, Refusal, StdSource};
 
 /// A source over an opened file.
 pub type FileSource = StdSource<File>;
 
-/// Inputs in a real folder. A name is a path as a shell means it: relative to the folder, with `..` allowed, or
-/// absolute. Contracts see the number of failures and the number of open sources.
+/// Inputs in a real folder. A name is a path as the operating system takes it: relative to the folder, with `..`
+/// allowed, or absolute; `~` and patterns are not expanded. Contracts see the number of failures and the number of
+/// open sources.
 #[derive(Drop)]
 pub struct FolderInputs<R> {
     alloc: Global,
@@ -29,7 +28,7 @@ pub struct FolderInputs<R> {
 }
 
 impl<R> Model for FolderInputs<R> {
-    ghost use Rattle.xet_io.specs.Opened.{InputCounts, counts_code};
+    ghost use Rattle.xet_fs.specs.InputCounts.{InputCounts, counts_code};
 
     ghost Value = { InputCounts };
 
@@ -88,6 +87,7 @@ impl<R: Files<File = File>> Inputs for FolderInputs<R> {
         ensures counted { self.new.faults ≡ faults_after result self.old.faults }
         ensures opened { self.new.opened ≡ opened_after result self.old.opened }
         ensures cause { HasCause self.old.faults self.new.faults (IsErrOf result Refusal.Failed) }
+        ensures no_fault { IsErrOf result Refusal.OutOfMemory → self.new.faults ≡ self.old.faults }
     {
         let answer = self.open_file(name);
         match &answer {

@@ -3,10 +3,8 @@
 ghost use Rattle.std.specs.Prelude.{◌≡◌, ◌≤◌, ℕ, false, length, IfOk, IfSome, IsErrOf};
 ghost use Rattle.std.specs.FinMap.{empty};
 ghost use Rattle.xet_io.specs.Faults.{HasCause, faults_after};
-ghost use Rattle.xet_io.specs.FolderNames.{stays_inside};
+ghost use Rattle.xet_fs.specs.FolderNames.{stays_inside};
 
-use crate::disk::{Disk, DiskEntry};
-use crate::fault::Refusal;
 use crate::folder_files::{
     has_folders, is_own_file, list_files, open_file, remove_file, rename_file, stat_file,
     write_file,
@@ -16,19 +14,21 @@ use std::alloc::Global;
 use std::fs::{File, Files};
 use std::marker::Model;
 use std::os::unix::fs::FileExt;
+use xet_io::{Disk, DiskEntry, Refusal};
 
 /// A disk over a folder of the operating system, its root, which must exist for a write. Contracts see the number
 /// of failures.
 ///
-/// A name is a path below the root. One that could leave it fails at every call, before any system call: a name
-/// with an empty part, `.`, `..` or a NUL. So an absolute name fails too.
+/// A name is a path below the root. One that could leave it fails at every call, and nothing is read or changed: a
+/// name with an empty part, `.`, `..` or a NUL. So an absolute name fails too. An absent root has no files.
 ///
-/// Reads follow symbolic links, changes do not. A call that changes a name looks first at it and at its folders:
-/// a link there fails, and so does whatever else is no regular file. A process that puts a link there between the
-/// look and the change is not noticed.
+/// Reads follow symbolic links, changes do not. A call that changes a name looks first at it and at its folders: a
+/// symbolic link there is a failure, and so is whatever else is no regular file. A process that puts one there
+/// between the look and the change is not noticed. Of two names for one file, a write changes both.
 ///
-/// What an `Ok` rename or removal did is durable. Out of memory is that of the program or of the system, and is
-/// not counted as a failure; every other error of the system but an absent name is.
+/// After an `Ok` rename or removal a crash keeps the change of the names. Whether it keeps the bytes of a file is
+/// settled by `sync`, which must come before. Out of memory is that of the program or of the system, and is not
+/// counted as a failure; every other error of the system but an absent name is.
 #[derive(Drop)]
 pub struct FolderDisk<R> {
     alloc: Global,
@@ -70,6 +70,7 @@ impl<R: Files<File = File>> FolderDisk<R> {
     fn count<T: Drop>(&mut self, answer: Result<T, Refusal>) -> Result<T, Refusal>
         ensures same { result ≡ answer }
         ensures faults { self.new ≡ faults_after answer self.old }
+        ensures no_fault { IsErrOf result Refusal.OutOfMemory → self.new ≡ self.old }
         ensures cause { HasCause self.old self.new (IsErrOf result Refusal.Failed) }
     {
         if matches!(&answer, Err(Refusal::Failed)) {
@@ -244,6 +245,7 @@ impl<R: Files<File = File>> Disk for FolderDisk<R> {
     fn list(&mut self, alloc: Global, folder: &str) -> Result<Vec<DiskEntry>, Refusal>
         ensures outside { stays_inside folder.now ≡ false → IsErrOf result Refusal.Failed }
         ensures counted { self.new ≡ faults_after result self.old }
+        ensures no_fault { IsErrOf result Refusal.OutOfMemory → self.new ≡ self.old }
         ensures cause { HasCause self.old self.new (IsErrOf result Refusal.Failed) }
     {
         let answer = self.list_folder(alloc, folder);
@@ -255,6 +257,7 @@ impl<R: Files<File = File>> Disk for FolderDisk<R> {
     fn write(&mut self, name: &str, bytes: &[u8]) -> Result<(), Refusal>
         ensures outside { stays_inside name.now ≡ false → IsErrOf result Refusal.Failed }
         ensures counted { self.new ≡ faults_after result self.old }
+        ensures no_fault { IsErrOf result Refusal.OutOfMemory → self.new ≡ self.old }
         ensures cause { HasCause self.old self.new (IsErrOf result Refusal.Failed) }
     {
         self.last = None;
@@ -268,6 +271,7 @@ impl<R: Files<File = File>> Disk for FolderDisk<R> {
     fn sync(&mut self, name: &str) -> Result<bool, Refusal>
         ensures outside { stays_inside name.now ≡ false → IsErrOf result Refusal.Failed }
         ensures counted { self.new ≡ faults_after result self.old }
+        ensures no_fault { IsErrOf result Refusal.OutOfMemory → self.new ≡ self.old }
         ensures cause { HasCause self.old self.new (IsErrOf result Refusal.Failed) }
     {
         let answer = self.sync_name(name);
@@ -280,6 +284,7 @@ impl<R: Files<File = File>> Disk for FolderDisk<R> {
         ensures outside { stays_inside from.now ≡ false → IsErrOf result Refusal.Failed }
         ensures to_outside { stays_inside to.now ≡ false → IsErrOf result Refusal.Failed }
         ensures counted { self.new ≡ faults_after result self.old }
+        ensures no_fault { IsErrOf result Refusal.OutOfMemory → self.new ≡ self.old }
         ensures cause { HasCause self.old self.new (IsErrOf result Refusal.Failed) }
     {
         self.last = None;
@@ -291,6 +296,7 @@ impl<R: Files<File = File>> Disk for FolderDisk<R> {
     fn remove(&mut self, name: &str) -> Result<bool, Refusal>
         ensures outside { stays_inside name.now ≡ false → IsErrOf result Refusal.Failed }
         ensures counted { self.new ≡ faults_after result self.old }
+        ensures no_fault { IsErrOf result Refusal.OutOfMemory → self.new ≡ self.old }
         ensures cause { HasCause self.old self.new (IsErrOf result Refusal.Failed) }
     {
         self.last = None;

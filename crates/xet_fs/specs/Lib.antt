@@ -1,0 +1,2 @@
+pub mod FolderNames
+pub mod InputCounts
