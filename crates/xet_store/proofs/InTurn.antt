@@ -1,12 +1,13 @@
 -- Sources that are cleaned in turn.
 use Rattle.std.proofs.Common.{◌≡◌, ◌∙◌, ℕ, suc, ◌≤◌, ◌<◌, drop, length, map, take, get_or, set, Bool, true, false, Result, Ok, Err, OnOk, IfOk, IfErr, List, [], ◌∷◌, ◌++◌, Option, Some, None, IsSome, option_map, nat_eq, refl, sym, ap, subst, arith}
-use Rattle.std.proofs.lemmas.List.{append-nil, length-map, map-append, take-map, take_all}
+use Rattle.std.proofs.lemmas.List.{append-nil, length-map, map-append, take-set, take_all}
 use Rattle.std.specs.Cmp.Lexicographic.{pointwise}
 use Rattle.std.specs.List.{AllByRecursion}
-use Rattle.xet_base.specs.theorems.Elements.{all_more, all_push, all_take}
+use Rattle.xet_base.specs.theorems.Elements.{all_more, all_push}
 use Rattle.xet_io.specs.Faults.{Rose}
 use Rattle.xet_io.specs.Frame.{Stays}
 use Rattle.xet_hash.specs.Hash.{zero_hash}
+use Rattle.xet_hash.specs.Merkle.{file_hash, leaves_of}
 use Rattle.xet_hash.specs.declared.error.StoreError.{StoreError}
 use Rattle.xet_hash.specs.declared.error.StoreError.TheVariants.{Io, TooLarge, OutOfMemory}
 use Rattle.xet_hash.specs.declared.error.Place.TheVariants.{Source, Disk}
@@ -19,16 +20,14 @@ use Rattle.xet_shard_format.specs.declared.record.MDBFileInfo.{MDBFileInfo}
 use Rattle.xet_folder.specs.Xorbs.{FileRecords, found}
 use Rattle.xet_store.specs.declared.info.Cleaned.{Cleaned}
 use Rattle.xet_store.specs.declared.info.XetFileInfo.{XetFileInfo}
-use Rattle.xet_store.specs.Cleaning.{Adds, EachTold, FailedAt, HasFile, HasReason, HasXorbs, IsLongAt, Keeps, RoseAt, StoresAll, StoresSome, chunkings, info_of}
+use Rattle.xet_store.specs.Cleaning.{Adds, EachTold, FailedAt, HasReason, IsLongAt, Keeps, RoseAt, StoresAll, StoresSome, chunkings, info_of}
 use Rattle.xet_store.specs.internal.Cleaning.{AreAdded, AreCalled, CleanedSoFar, CleanedUntil}
 use Rattle.xet_store.specs.internal.Steps.{HasReasonOfOne}
-use Rattle.xet_store.specs.Separate.{Among}
 use Rattle.xet_store.specs.Steps.{ListsXorbs}
 use Rattle.xet_store.specs.Store.{Sound, State, plan_of}
 use Rattle.xet_store.specs.Tables.{Tables, first_packs, tables_of, with_file, with_files, with_xorbs}
 use Rattle.xet_store.specs.theorems.Files.{files_all, xorbs_all}
 use Rattle.xet_store.specs.theorems.Keeping.{keeps_nothing, keeps_then}
-use Rattle.xet_store.specs.theorems.Plans.{among_take}
 use Rattle.xet_store.proofs.Packing.{lists_more}
 use Rattle.xet_store.proofs.Recording.{adds_then}
 use Rattle.xet_store.proofs.Rows.{differ_none, found_more}
@@ -190,6 +189,10 @@ module _ {S : Type 0} (tells : S → Bool) (left : S → List ℕ) (faults : S �
           each = subst (EachTold tells left (λ b info. info ≡ info_of old.limits b) (take i sources)) (sym before.infos_are) (told_map tells left (info_of old.limits) (take i sources) before.files before.told);
           files = before.files ++ bytes ∷ rest;
           told = told_rest tells left sources i d before.files bytes below one.some.2 before.told;
+          infos_are = before.infos_are ∙ ap (map (info_of old.limits)) (sym first);
+          read = subst (AllByRecursion (λ (x : S). tells x ≡ true → left x ≡ [])) (sym (take-set now i s)) before.read;
+          short = before.short;
+          rest = same_after i now sources s (same_count sources now before.called) before.rest;
           before = below;
           xorbs = one.some.1;
           tables = one.some.3 ∙ (λ k. with_xorbs (before.tables k) (take one.some.1 (packs (same_limits k) (chunking (same_limits k) bytes))))
@@ -208,6 +211,10 @@ module _ {S : Type 0} (tells : S → Bool) (left : S → List ℕ) (faults : S �
     each = tt;
     files = map left sources;
     told = each_own tells left sources;
+    infos_are = refl;
+    read = tt;
+    short = tt;
+    rest = refl;
     before = some;
     xorbs = 0;
     tables = refl;
@@ -246,25 +253,31 @@ module _ {S : Type 0} (tells : S → Bool) (left : S → List ℕ) (faults : S �
       done_listed told = listed_all old.limits new sources told (subst (AllByRecursion (λ (x : S). tells x ≡ true → ListsXorbs new (chunking old.limits (left x)))) all done.added.listed)
 
     -- after an error, in a sound session
-    pub until_stores : (e : StoreError) → Sound new → CleanedUntil tells left faults sources now old new e → StoresSome tells left sources old new e
+    recorded_files : (limits : LimitSettings) (files : List (List ℕ)) → AllByRecursion (λ (info : XetFileInfo). IsSome (plan_of new.records info.hash)) (map (info_of limits) files)
+        → AllByRecursion (λ file. IsSome (plan_of new.records (file_hash (leaves_of (chunking limits file))))) files
+    recorded_files limits [] there = tt
+    recorded_files limits (f ∷ fs) there = (there.0, recorded_files limits fs there.1)
+
+    pub until_stores : (e : StoreError) → Sound new → CleanedUntil tells left faults sources now old new e → StoresSome tells left sources now old new e
     until_stores e sound until =
-        let lists = chunkings left old.limits sources in
-        let n = until.done in
-        let first : chunkings left old.limits (take n sources) ≡ take n lists = sym (take-map (λ (x : S). chunking old.limits (left x)) n sources) in
-        let given : (c : List (List ℕ)) → Among (chunkings left old.limits (take n sources)) c → Among lists c = λ c a. among_take n lists c (subst (λ (l : List (List (List ℕ))). Among l c) first a) in
+        let firsts = take until.done sources in
+        let lists = chunkings left old.limits firsts in
         record {
+          done = until.done;
+          before = until.before;
+          failed = until.failed;
+          read = until.read;
+          short = until.short;
+          rest = until.rest;
           files = until.files;
           told = until.told;
-          done = n;
-          before = until.before;
           xorbs = until.xorbs;
           tables = until.tables;
-          failed = until.failed;
-          resolve = λ disk told apart. subst (AllByRecursion (HasFile new)) first
-              (files_all tells left old.limits new lists sound (until.added.keeps.tells ∙ disk) apart (take n sources) until.infos (all_take (λ (x : S). tells x ≡ true) n sources told) given until.each until.added.recorded);
-          has_xorbs = λ disk told apart. subst (AllByRecursion (HasXorbs new)) first
-              (xorbs_all new lists sound (until.added.keeps.tells ∙ disk) apart (chunkings left old.limits (take n sources)) given
-              (listed_all old.limits new (take n sources) (all_take (λ (x : S). tells x ≡ true) n sources told) until.added.listed));
+          recorded = recorded_files old.limits (take until.done until.files)
+              (subst (AllByRecursion (λ (info : XetFileInfo). IsSome (plan_of new.records info.hash))) until.infos_are until.added.recorded);
+          listed = until.added.listed;
+          resolve = λ disk told apart. files_all tells left old.limits new lists sound (until.added.keeps.tells ∙ disk) apart firsts until.infos told (λ c a. a) until.each until.added.recorded;
+          has_xorbs = λ disk told apart. xorbs_all new lists sound (until.added.keeps.tells ∙ disk) apart lists (λ c a. a) (listed_all old.limits new firsts told until.added.listed);
         }
 
     -- ---- what follows from either result
@@ -307,7 +320,7 @@ module _ {S : Type 0} (tells : S → Bool) (left : S → List ℕ) (faults : S �
       called = failed.called;
     }
 
-    pub until_on_err : (r : Result Cleaned StoreError) → Sound new → IfErr r (CleanedUntil tells left faults sources now old new) → IfErr r (StoresSome tells left sources old new)
+    pub until_on_err : (r : Result Cleaned StoreError) → Sound new → IfErr r (CleanedUntil tells left faults sources now old new) → IfErr r (StoresSome tells left sources now old new)
     until_on_err (Ok c) sound failed = tt
     until_on_err (Err e) sound failed = until_stores e sound failed
 

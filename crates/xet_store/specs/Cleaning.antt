@@ -23,6 +23,7 @@ use Rattle.xet_dedup.specs.Packing.{packs}
 use Rattle.xet_folder.specs.Plan.{Resolves}
 use Rattle.xet_folder.specs.Stored.{IsStored}
 use Rattle.xet_folder.specs.Xorbs.{IsListed, FileRecords, found}
+use Rattle.xet_store.specs.Steps.{ListsXorbs}
 use Rattle.xet_store.specs.Store.{Differ, State, plan_of}
 use Rattle.xet_store.specs.Separate.{Apart, MetChunk, Separate}
 use Rattle.xet_store.specs.Tables.{first_packs, tables_of, with_files, with_xorbs}
@@ -137,22 +138,29 @@ FailedAt (Io (Source i)) done = i ≡ done
 FailedAt (TooLarge (what.Source i)) done = i ≡ done
 FailedAt _ done = Unit {0}
 
--- After an error: the files of the sources before some source, `done`, were added in turn, and some first xorbs of the
--- file of that source, but no record of it. An error that names a source names that one. If disk and sources are
--- observable: each file that was added has a plan that resolves to its chunks, if there are no collisions among the data
--- seen; and each of its xorbs is stored, if there are none among the chunks seen.
-pub record StoresSome {S : Type 0} (tells : S → Bool) (left : S → List ℕ) (sources : List S) (old new : State) (e : StoreError) : Type 0 where
-  pub files : List (List ℕ)
-  pub told : EachTold tells left (λ bytes file. file ≡ bytes) sources files
+-- After an error: the sources before some source, `done`, were read to their ends, and their files were added in turn,
+-- none longer than the limits allow; the sources after it are untouched. Of the file of source `done` some first xorbs
+-- were added, but no record is added for it. An error that names a source names that one. Each file that was added has a
+-- plan, and each xorb of these sources is listed. If the disk and these sources are observable: each plan resolves to
+-- its file's chunks, if there are no collisions among the data seen; and each xorb is stored, if there are none among
+-- the chunks seen.
+pub record StoresSome {S : Type 0} (tells : S → Bool) (left : S → List ℕ) (sources now : List S) (old new : State) (e : StoreError) : Type 0 where
   pub done : ℕ
   pub before : done < length sources
+  pub failed : FailedAt e done
+  pub read : AllByRecursion (λ s. tells s ≡ true → left s ≡ []) (take done now)
+  pub short : AllByRecursion (λ s. tells s ≡ true → length (left s) ≤ old.limits.max_source_bytes) (take done sources)
+  pub rest : drop (suc done) now ≡ drop (suc done) sources
+  pub files : List (List ℕ)
+  pub told : EachTold tells left (λ bytes file. file ≡ bytes) sources files
   pub xorbs : ℕ
   pub tables : tables_of new ≡ with_xorbs (with_files old.limits (tables_of old) (take done files)) (take xorbs (first_packs old.limits (drop done files)))
-  pub failed : FailedAt e done
-  pub resolve : old.tells ≡ true → AllByRecursion (λ s. tells s ≡ true) sources → Separate new (chunkings left old.limits sources)
-      → AllByRecursion (HasFile new) (take done (chunkings left old.limits sources))
-  pub has_xorbs : old.tells ≡ true → AllByRecursion (λ s. tells s ≡ true) sources → Apart chunk_hash (MetChunk new (chunkings left old.limits sources))
-      → AllByRecursion (HasXorbs new) (take done (chunkings left old.limits sources))
+  pub recorded : AllByRecursion (λ file. IsSome (plan_of new.records (file_hash (leaves_of (chunking old.limits file))))) (take done files)
+  pub listed : AllByRecursion (λ s. tells s ≡ true → ListsXorbs new (chunking old.limits (left s))) (take done sources)
+  pub resolve : old.tells ≡ true → AllByRecursion (λ s. tells s ≡ true) (take done sources) → Separate new (chunkings left old.limits (take done sources))
+      → AllByRecursion (HasFile new) (chunkings left old.limits (take done sources))
+  pub has_xorbs : old.tells ≡ true → AllByRecursion (λ s. tells s ≡ true) (take done sources) → Apart chunk_hash (MetChunk new (chunkings left old.limits (take done sources)))
+      → AllByRecursion (HasXorbs new) (chunkings left old.limits (take done sources))
 
 -- the count of failures of source i rose
 abbrev pub RoseAt : {S : Type 0} → (S → ℕ) → List S → List S → ℕ → Type 0

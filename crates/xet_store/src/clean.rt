@@ -30,12 +30,12 @@ use xet_io::{Disk, Source, Unread, read_all};
 use xet_shard_format::{FileDataSequenceEntry, Sha256};
 use xet_xorb_chunk::{Chunk, chunk_leaves};
 
-/// Reads each source to its end and stores its file, in order. Returns the session, and the pointer record of
-/// each file. All work runs on the calling thread, with one file in memory at a time. After an error the session
-/// has its earlier files and those of the sources before the one that failed; xorbs of that one that were written
-/// already may stay. `Io(Source(i))` and `Io(Disk)` are returned only if that source or the disk failed,
-/// `TooLarge(Source(i))` only if that source has more bytes than the limits allow; any other error is
-/// `OutOfMemory`.
+/// Reads each of at most 2^20 sources to its end and stores its file, in order. Returns the session, and the
+/// pointer record of each file. All work runs on the calling thread, with one file in memory at a time. An error
+/// ends the work at some source: the session has its earlier files and those of the sources before it, xorbs of
+/// its own that were written already may stay, and later sources are untouched. `Io(Source(i))` and `Io(Disk)` are
+/// returned only if that source or the disk failed, `TooLarge(Source(i))` only if that source has more bytes than
+/// the limits allow; any other error is `OutOfMemory`.
 pub fn clean_files<D: Disk + Send, S: Source + Send>(
     alloc: Global,
     session: Store<D>,
@@ -64,11 +64,11 @@ pub fn clean_files<D: Disk + Send, S: Source + Send>(
 
     // Whatever the result, nothing is taken away. New records follow the earlier ones, each under the hash of
     // a source. What is listed, recorded and pending is what was, with each source's file added in turn,
-    // which is the file of the result; after an error, with the files of the sources before the one that
-    // failed, and some first xorbs of its file.
+    // which is the file of the result; after an error, with the files of the sources before the one at which
+    // the work ended, and some first xorbs of its file.
     ensures keeps { Keeps session result.0 }
     ensures adds { IfOk result.1 (λ cleaned. Adds session.records result.0.records (map (λ info. info.hash) cleaned.infos.items)) }
-    ensures err { IfErr result.1 (StoresSome S.tells S.left sources.old session result.0) }
+    ensures err { IfErr result.1 (StoresSome S.tells S.left sources.old sources.new session result.0) }
     ensures shards { result.0.shards ≡ session.shards }
     ensures stores { IfOk result.1 (λ cleaned. StoresAll S.tells S.left sources.old session result.0 cleaned.infos.items) }
 
