@@ -1,5 +1,5 @@
 -- What the ends of a shard's file tell.
-use Rattle.std.proofs.Common.{◌≡◌, ◌⊎◌, inl, inr, ◌≤◌, ℕ, Bool, true, List, length, take, drop, Option, Some, Err, sym, subst}
+use Rattle.std.proofs.Common.{◌≡◌, ◌⊎◌, inl, inr, ◌≤◌, ℕ, Bool, true, List, length, take, drop, Option, Some, sym, subst}
 use Rattle.xet_io.specs.Disk.{FillsFrom}
 use Rattle.xet_hash.specs.declared.error.Reason.{Reason}
 use Rattle.xet_hash.specs.declared.error.StoreError.{StoreError}

@@ -5,7 +5,7 @@ use Rattle.xet_hash.specs.declared.error.Reason.TheVariants.{FooterSize, Section
 use Rattle.xet_hash.specs.declared.error.StoreError.{StoreError}
 use Rattle.xet_shard_format.specs.declared.header_footer.MDBShardFileFooter.{MDBShardFileFooter}
 use Rattle.xet_shard_format.specs.Reading.{footer_in, places_at}
-use Rattle.xet_codec.specs.Parsing.{◌>>=◌, reaches, wants}
+use Rattle.xet_codec.specs.Parsing.{reaches, wants, ◌>>=◌}
 use Rattle.xet_codec.specs.Numbers.{word}
 use Rattle.xet_shard_format.specs.Encoding.{tag}
 

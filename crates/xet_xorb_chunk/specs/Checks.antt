@@ -1,5 +1,5 @@
 -- Errors of the checks of stored chunks.
-use Rattle.std.specs.Prelude.{◌≡◌, ◌⊎◌, Bool, true, false}
+use Rattle.std.specs.Prelude.{◌≡◌, Bool, true, false}
 use Rattle.xet_hash.specs.declared.error.StoreError.{StoreError}
 use Rattle.xet_hash.specs.declared.error.StoreError.TheVariants.{ChunkHeaderParse, CompressionError, MalformedData, UnexpectedEof}
 use Rattle.xet_hash.specs.declared.error.Reason.{Reason}

@@ -1,5 +1,5 @@
 -- The footer at the end of a xorb, and its boundary section read alone.
-use Rattle.std.specs.Prelude.{ℕ, ◌+◌, ◌-◌, ◌*◌, ◌==◌, nat_le, List, length, drop, take, Result, Ok, Err}
+use Rattle.std.specs.Prelude.{ℕ, ◌+◌, ◌-◌, ◌*◌, ◌==◌, nat_le, List, length, drop, take, Result, Ok}
 use Rattle.std.specs.Int.{w32, from_le_bytes}
 use Rattle.xet_hash.specs.declared.error.Reason.TheVariants.{BoundariesIdent, BoundariesVersion, BoundaryOffset, CountMismatch, InfoLength, TrailingBytes}
 use Rattle.xet_hash.specs.declared.error.StoreError.{StoreError}

@@ -1,5 +1,5 @@
 -- Errors of reading a footer.
-use Rattle.std.specs.Prelude.{◌≡◌, Bool, true, false, Err}
+use Rattle.std.specs.Prelude.{◌≡◌, Bool, true, false}
 use Rattle.xet_hash.specs.declared.error.Place.TheVariants.{Input}
 use Rattle.xet_hash.specs.declared.error.Reason.{Reason}
 use Rattle.xet_hash.specs.declared.error.Reason.TheVariants as reasons

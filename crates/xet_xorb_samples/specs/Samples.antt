@@ -1,5 +1,5 @@
 -- Xorbs of random chunks, and xorbs that are written from their parts.
-use Rattle.std.specs.Prelude.{◌≡◌, ℕ, ◌+◌, ◌-◌, ◌*◌, ◌<◌, ◌≤◌, ◌^◌, List, [], ◌∷◌, ◌++◌, codes, decimal, length, map, pos, ◌+ℤ◌, slice_range}
+use Rattle.std.specs.Prelude.{◌≡◌, ℕ, ◌+◌, ◌-◌, ◌*◌, ◌<◌, ◌≤◌, ◌^◌, List, [], ◌∷◌, ◌++◌, codes, decimal, length, pos, ◌+ℤ◌, slice_range}
 use Rattle.std.specs.List.{AllByRecursion, concat, flat_map}
 use Rattle.rand.specs.Draw.{Gives}
 use Rattle.rand.specs.Uniform.{DrawsBetween, canon}

@@ -1,8 +1,8 @@
 -- The text form of a hash determines it.
-use Rattle.std.proofs.Common.{◌≡◌, ℕ, zero, suc, ◌+◌, ◌*◌, ◌/◌, ◌%◌, ◌<◌, ◌==◌, List, [], ◌∷◌, ◌++◌, length, slice_index, refl, sym, ap, subst, ◌∙◌, arith}
+use Rattle.std.proofs.Common.{◌≡◌, ℕ, zero, suc, ◌+◌, ◌*◌, List, [], ◌∷◌, ◌++◌, length, slice_index, refl, sym, ap, subst, ◌∙◌, arith}
 use Rattle.std.proofs.lemmas.Nat.{be_bytes_8}
 use Rattle.std.specs.Int.{w64, from_le_bytes, from_be_bytes, to_be_bytes}
-use Rattle.hex.specs.Hex.{IsBytes, decode_of, encode_lower, ◌>>=◌}
+use Rattle.hex.specs.Hex.{IsBytes, decode_of}
 use Rattle.hex.proofs.HexLemmas.{decode_of-encode_lower}
 use Rattle.xet_hash.specs.Hash.{hash_text, hash_word, shown_words}
 use Rattle.xet_hash.specs.Order.{flipped, flipped-flipped}

@@ -2,7 +2,7 @@
 use Rattle.std.specs.Prelude.{ℕ, ◌+◌, ◌*◌, ◌^◌, nat_le, nat_lt, List, length, take, drop, Result, Ok}
 use Rattle.xet_hash.specs.declared.error.Reason.TheVariants.{SectionPlace}
 use Rattle.xet_hash.specs.declared.error.StoreError.{StoreError}
-use Rattle.xet_codec.specs.Parsing.{◌>>=◌, reaches, wants}
+use Rattle.xet_codec.specs.Parsing.{reaches, wants, ◌>>=◌}
 
 -- the `len` bytes at offset `at`
 unfoldable pub piece_at : ℕ → ℕ → List ℕ → Result (List ℕ) StoreError

@@ -1,5 +1,5 @@
 -- Forwarding of whole chunks from the start of some bytes, and how it ends, for private functions.
-use Rattle.std.specs.Prelude.{◌≡◌, ◌⊎◌, ℕ, ◌+◌, ◌<◌, ◌≤◌, ◌^◌, List, [], ◌∷◌, ◌++◌, length}
+use Rattle.std.specs.Prelude.{◌≡◌, ℕ, ◌+◌, ◌≤◌, List, length}
 use Rattle.xet_xorb_chunk.specs.Stream.{Short, Whole, prefix_of}
 
 -- For `bytes` to which `n` bytes of `piece` were appended: these are all of it if `bytes` is still an incomplete

@@ -1,5 +1,5 @@
 -- The encoding of a chunk, written in two parts: header and body.
-use Rattle.std.proofs.Common.{◌≡◌, ◌∙◌, ◌+◌, ℕ, List, ◌++◌, ap, arith, length}
+use Rattle.std.proofs.Common.{◌≡◌, ◌+◌, ℕ, List, ◌++◌, ap, length}
 use Rattle.xet_xorb_chunk.specs.Header.{Header, header_bytes}
 use Rattle.xet_xorb_chunk.specs.ChunkEncoding.{encoded_chunk}
 

@@ -1,5 +1,5 @@
 -- List items in the bytes that encode them, for private functions.
-use Rattle.std.specs.Prelude.{ℕ, List, [], ◌∷◌}
+use Rattle.std.specs.Prelude.{ℕ, List}
 use Rattle.std.specs.Int.{w32, from_le_bytes}
 use Rattle.xet_xorb_footer.specs.Items.{items_in}
 

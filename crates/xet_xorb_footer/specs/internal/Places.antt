@@ -1,9 +1,9 @@
 -- The parts of a boundary section, as they are read at an offset.
-use Rattle.std.specs.Prelude.{◌≡◌, ◌⊎◌, ◌≤◌, ◌<◌, ℕ, ◌+◌, ◌*◌, nat_eq, List, Ok}
+use Rattle.std.specs.Prelude.{ℕ, ◌+◌, ◌*◌, nat_eq, List, Ok}
 use Rattle.std.specs.Cmp.Lexicographic.{pointwise}
 use Rattle.xet_hash.specs.declared.error.Reason.{Reason}
 use Rattle.xet_hash.specs.declared.error.Reason.TheVariants.{BoundariesIdent, BoundariesVersion, BoundaryOffset, CountMismatch}
-use Rattle.xet_codec.specs.Parsing.{◌>>=◌, Parsed, next_bytes, number_at, times, wants}
+use Rattle.xet_codec.specs.Parsing.{Parsed, next_bytes, number_at, times, wants, ◌>>=◌}
 use Rattle.xet_xorb_footer.specs.Reading.{count_at, magic_at, number_is, version_at}
 use Rattle.xet_xorb_footer.specs.FooterEncoding.{boundaries_magic}
 

@@ -1,5 +1,5 @@
 -- The length in the last four bytes.
-use Rattle.std.proofs.Common.{◌≡◌, ◌∙◌, ℕ, ◌+◌, ◌-◌, ◌≤◌, ◌<◌, ◌⊎◌, ◌==◌, nat_le, true, List, ◌++◌, Ok, ap, arith, drop, length, refl, sym, take}
+use Rattle.std.proofs.Common.{◌≡◌, ◌∙◌, ℕ, ◌-◌, ◌≤◌, nat_le, true, List, Ok, ap, arith, drop, length, refl, sym, take}
 use Rattle.std.proofs.lemmas.Bool.{le-leb}
 use Rattle.std.specs.Int.{w32, from_le_bytes}
 use Rattle.xet_xorb_footer.specs.Ends.{footer_length}

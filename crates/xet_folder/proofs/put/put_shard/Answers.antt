@@ -1,4 +1,3 @@
-use Rattle.std.proofs.Common.{◌≡◌, ◌∙◌, rules}
 use Rattle.xet_shard_file.specs.Names.{shard_path}
 use Rattle.xet_folder.specs.Names.{xorb_path}
 use Rattle.xet_folder.proofs.Paths.{xorb_no_shard, xorb_no_temp}

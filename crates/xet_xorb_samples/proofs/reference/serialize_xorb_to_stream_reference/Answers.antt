@@ -1,4 +1,4 @@
-use Rattle.std.proofs.Common.{◌≡◌, ◌∙◌, ◌+◌, ◌*◌, ◌<◌, ◌≤◌, ◌^◌, ℕ, List, arith, length, subst, sym}
+use Rattle.std.proofs.Common.{◌∙◌, ◌+◌, ◌*◌, ◌<◌, ◌≤◌, ◌^◌, ℕ, List, arith, length, subst, sym}
 use Rattle.xet_hash.specs.Merkle.{total_len}
 use Rattle.xet_xorb_footer.specs.FooterEncoding.{max_chunks}
 use Rattle.xet_xorb.specs.Building.{no_spare}
