@@ -11,10 +11,15 @@
 //! chunk size of 512 bytes, opens the store again, and times 10,000 ranges of 512 bytes at scattered offsets;
 //! `merkle ROUNDS` times ROUNDS xorb hashes of 8,192 chunks, and `nodes ROUNDS` only the digests that they
 //! need.
+//!
+//! A store in the current folder: `sums MIB` opens the folder `store`, reads each of its files in ranges of MIB
+//! mebibytes, and prints a line for each: its hash, and the SHA-256 of what was read.
 #![tactic(auto)]
 
+mod sums;
 mod timed;
 
+use crate::sums::print_sums;
 use crate::timed::{Timed, run_timed};
 use std::alloc::Global;
 use std::process::ExitCode;
@@ -39,6 +44,7 @@ enum Phase {
     Generate,
     Digest,
     Define,
+    Sums,
     Timed(Timed),
 }
 
@@ -47,6 +53,7 @@ fn main(rt: HostRuntime) -> ExitCode {
         return ExitCode::from(2);
     };
     let answer = match phase {
+        Phase::Sums => return status_of(print_sums(&rt, number)),
         Phase::Timed(timed) => run_timed(&rt, rt.alloc(), timed, number),
         _ => run(rt.alloc(), phase, number),
     };
@@ -55,6 +62,14 @@ fn main(rt: HostRuntime) -> ExitCode {
             let _ = println!(&rt; "{number}");
             ExitCode::from(0)
         }
+        Err(_) => ExitCode::from(1),
+    }
+}
+
+/// The status of a phase that has printed its lines itself.
+fn status_of(answer: Result<u64, StoreError>) -> ExitCode {
+    match answer {
+        Ok(_) => ExitCode::from(0),
         Err(_) => ExitCode::from(1),
     }
 }
@@ -69,6 +84,7 @@ fn read_words(rt: &HostRuntime) -> Option<(Phase, u64)> {
         "generate" => Phase::Generate,
         "digest" => Phase::Digest,
         "define" => Phase::Define,
+        "sums" => Phase::Sums,
         "scatter" => Phase::Timed(Timed::Scatter),
         "merkle" => Phase::Timed(Timed::Merkle),
         "nodes" => Phase::Timed(Timed::Nodes),

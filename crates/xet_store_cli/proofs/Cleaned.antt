@@ -10,26 +10,22 @@ use Rattle.xet_hash.specs.declared.error.Place.TheVariants as place
 use Rattle.xet_hash.specs.declared.error.What.TheVariants as what
 use Rattle.xet_cut.specs.declared.limits.LimitSettings.{LimitSettings}
 use Rattle.xet_store.specs.declared.info.XetFileInfo.{XetFileInfo}
-use Rattle.xet_store.specs.Cleaning.{EachTold, HasReason, IsLongAt, RoseAt, info_of}
+use Rattle.xet_cut.specs.Chunking.{chunking}
+use Rattle.xet_store.specs.Cleaning.{EachTold, HasReason, IsLongAt, RoseAt, chunkings, info_of}
 use Rattle.xet_store.specs.Store.{State}
+use Rattle.xet_store_cli.specs.declared.ending.Stop.{Stop}
 use Rattle.xet_store_cli.specs.declared.ending.Stop.TheVariants as stop
 use Rattle.xet_store_cli.specs.declared.lines.FileRange.{FileRange}
 use Rattle.xet_store_cli.specs.Lines.{numbered, range_bytes}
 use Rattle.xet_store_cli.specs.Parsing.{Said, are_good}
 use Rattle.xet_store_cli.specs.Stops.{IsStop, session_causes, stop_of_error}
 use Rattle.xet_store_cli.specs.Report.{file_line, info_line}
+use Rattle.xet_store_cli.specs.internal.Cleaned.{AreCleaned}
 use Rattle.xet_store_cli.specs.internal.Steps.{hash_at}
+use Rattle.xet_store_cli.specs.internal.Stops.{cleaning_causes}
 use Rattle.xet_store_cli.proofs.Ranged.{numbered_past, numbered_zero, range_none}
 
 -- ---- pointer records
-
-pub infos_told : (s : LimitSettings) (files : List (List ℕ)) (infos : List XetFileInfo) → EachTold (λ _. true) (λ f. f) (λ bytes info. info ≡ info_of s bytes) files infos
-    → infos ≡ map (info_of s) files
-infos_told s [] [] told = refl
-infos_told s [] (i ∷ is) told = absurd told
-infos_told s (f ∷ fs) [] told = absurd told
-infos_told s (f ∷ fs) (i ∷ is) told =
-    ap (λ (x : XetFileInfo). x ∷ is) (told.0 refl) ∙ ap (λ (xs : List XetFileInfo). info_of s f ∷ xs) (infos_told s fs is told.1)
 
 -- the files that were read are those of the sources
 pub files_told : (sources files : List (List ℕ)) → EachTold (λ _. true) (λ f. f) (λ bytes file. file ≡ bytes) sources files → files ≡ sources
@@ -88,13 +84,38 @@ bounds_of_good said good = All-from_recursion (λ r. (0 < r.file) × (r.file ≤
 
 -- ---- why cleaning stops
 
--- one that is too long
-long_one : (most : ℕ) (files : List (List ℕ)) (i : ℕ) → IsLongAt (λ _. true) (λ f. f) files most i → list_all (λ f. leb (length f) most) files ≡ false
-long_one most [] i long = absurd long
-long_one most (f ∷ fs) zero long = rw (lt-leb (length f) most (long refl)) refl
-long_one most (f ∷ fs) (suc i) long = by_cases (leb (length f) most) refl (long_one most fs i long)
+module _ {S : Type 0} (tells : S → Bool) (left : S → List ℕ) (faults : S → ℕ) (old new : List S) (before after : State) where
+  abbrev pub Reason : StoreError → Type 0
+  Reason e = HasReason tells left faults old new before after e
+
+  pub stop_of_reason : (e : StoreError) → Reason e → IsStop (cleaning_causes tells left faults old new before) (stop_of_error e)
+  stop_of_reason (Io (place.Source i)) reason = (i, reason)
+  stop_of_reason (Io place.Disk) reason = tt
+  stop_of_reason (Io place.Input) reason = absurd reason
+  stop_of_reason (Io place.Output) reason = absurd reason
+  stop_of_reason (TooLarge (what.Source i)) reason = (i, reason)
+  stop_of_reason (TooLarge what.Shards) reason = absurd reason
+  stop_of_reason (TooLarge what.Input) reason = absurd reason
+  stop_of_reason (MalformedData r) reason = absurd reason
+  stop_of_reason _ reason = tt
+
+  pub rose_of_reason : (e : StoreError) → Reason e → stop_of_error e ≡ stop.Disk → Rose before.faults after.faults
+  rose_of_reason (Io (place.Source i)) reason is = absurd (cc is)
+  rose_of_reason (Io place.Disk) reason is = reason
+  rose_of_reason (Io place.Input) reason is = absurd reason
+  rose_of_reason (Io place.Output) reason is = absurd reason
+  rose_of_reason (TooLarge w) reason is = absurd (cc is)
+  rose_of_reason (MalformedData r) reason is = absurd (cc is)
+  rose_of_reason _ reason is = absurd (cc is)
+
+-- a source that is too long
+pub long_one : {S : Type 0} (tells : S → Bool) (left : S → List ℕ) (most : ℕ) (sources : List S) (i : ℕ) → AllByRecursion (λ s. tells s ≡ true) sources → IsLongAt tells left sources most i
+    → list_all (λ f. leb (length f) most) (map left sources) ≡ false
+long_one tells left most [] i all long = absurd long
+long_one tells left most (s ∷ ss) zero all long = rw (lt-leb (length (left s)) most (long all.0)) refl
+long_one tells left most (s ∷ ss) (suc i) all long = by_cases (leb (length (left s)) most) refl (long_one tells left most ss i all.1 long)
   where
-    by_cases : (b : Bool) → leb (length f) most ≡ b → list_all (λ x. leb (length x) most) fs ≡ false → list_all (λ x. leb (length x) most) (f ∷ fs) ≡ false
+    by_cases : (b : Bool) → leb (length (left s)) most ≡ b → list_all (λ x. leb (length x) most) (map left ss) ≡ false → list_all (λ x. leb (length x) most) (map left (s ∷ ss)) ≡ false
     by_cases true t rest = rw (t) rest
     by_cases false t rest = rw (t) refl
 
@@ -105,24 +126,46 @@ never_rose (o ∷ os) [] i rose = rose
 never_rose (o ∷ os) (n ∷ ns) zero rose = omega arith
 never_rose (o ∷ os) (n ∷ ns) (suc i) rose = never_rose os ns i rose
 
-module _ (old new : List (List ℕ)) (before after : State) where
-  abbrev pub Reason : StoreError → Type 0
-  Reason e = HasReason (λ _. true) (λ f. f) (λ _. 0) old new before after e
+map_same : (xs : List (List ℕ)) → map (λ (f : List ℕ). f) xs ≡ xs
+map_same [] = refl
+map_same (x ∷ xs) = ap (λ (ys : List (List ℕ)). x ∷ ys) (map_same xs)
 
-  pub stop_of_reason : (tells : Bool) (said : Said) → old ≡ said.files → (e : StoreError) → Reason e → IsStop (session_causes tells before.limits said) (stop_of_error e)
-  stop_of_reason tells said files (Io place) reason = tt
-  stop_of_reason tells said files (TooLarge (what.Source i)) reason =
-      subst (λ (fs : List (List ℕ)). list_all (λ f. leb (length f) before.limits.max_source_bytes) fs ≡ false) files (long_one before.limits.max_source_bytes old i reason)
-  stop_of_reason tells said files (TooLarge what.Shards) reason = absurd reason
-  stop_of_reason tells said files (TooLarge what.Input) reason = absurd reason
-  stop_of_reason tells said files (MalformedData r) reason = absurd reason
-  stop_of_reason tells said files _ reason = tt
+-- files in memory that are cleaned
+pub stop_of_files : (said : Said) (new : List (List ℕ)) (s : State) (reason : Stop) → IsStop (cleaning_causes (λ _. true) (λ f. f) (λ _. 0) said.files new s) reason → IsStop (session_causes s.tells s.limits said) reason
+stop_of_files said new s stop.OutOfMemory h = tt
+stop_of_files said new s stop.Input (i, rose) = absurd (never_rose said.files new i rose)
+stop_of_files said new s stop.TooLarge (i, long) =
+    subst (λ (fs : List (List ℕ)). list_all (λ f. leb (length f) s.limits.max_source_bytes) fs ≡ false) (map_same said.files) (long_one (λ _. true) (λ f. f) s.limits.max_source_bytes said.files i (all_tell said.files) long)
+stop_of_files said new s stop.Disk h = tt
+stop_of_files said new s stop.Malformed h = absurd h
+stop_of_files said new s stop.NotFound h = absurd h
+stop_of_files said new s (stop.BadLine n) h = absurd h
+stop_of_files said new s (stop.BadShard name) h = absurd h
 
-  pub rose_of_reason : (e : StoreError) → Reason e → stop_of_error e ≡ stop.Disk → Rose before.faults after.faults
-  rose_of_reason (Io (place.Source i)) reason is = absurd (never_rose old new i reason)
-  rose_of_reason (Io place.Disk) reason is = reason
-  rose_of_reason (Io place.Input) reason is = absurd reason
-  rose_of_reason (Io place.Output) reason is = absurd reason
-  rose_of_reason (TooLarge w) reason is = absurd (cc is)
-  rose_of_reason (MalformedData r) reason is = absurd (cc is)
-  rose_of_reason _ reason is = absurd (cc is)
+-- ---- sources and their files
+
+pub files_of_sources : {S : Type 0} (tells : S → Bool) (left : S → List ℕ) (sources : List S) (files : List (List ℕ)) → EachTold tells left (λ bytes file. file ≡ bytes) sources files → AllByRecursion (λ s. tells s ≡ true) sources
+    → files ≡ map left sources
+files_of_sources tells left [] [] each all = refl
+files_of_sources tells left [] (f ∷ fs) each all = absurd each
+files_of_sources tells left (s ∷ ss) [] each all = absurd each
+files_of_sources tells left (s ∷ ss) (f ∷ fs) each all =
+    ap (λ (x : List ℕ). x ∷ fs) (each.0 all.0) ∙ ap (λ (xs : List (List ℕ)). left s ∷ xs) (files_of_sources tells left ss fs each.1 all.1)
+
+pub count_of_sources : {S : Type 0} (tells : S → Bool) (left : S → List ℕ) (sources : List S) (files : List (List ℕ)) → EachTold tells left (λ bytes file. file ≡ bytes) sources files → length files ≡ length sources
+count_of_sources tells left [] [] each = refl
+count_of_sources tells left [] (f ∷ fs) each = absurd each
+count_of_sources tells left (s ∷ ss) [] each = absurd each
+count_of_sources tells left (s ∷ ss) (f ∷ fs) each = ap suc (count_of_sources tells left ss fs each.1)
+
+chunked_map : {S : Type 0} (left : S → List ℕ) (l : LimitSettings) (sources : List S) → chunkings left l sources ≡ map (chunking l) (map left sources)
+chunked_map left l [] = refl
+chunked_map left l (s ∷ ss) = ap (λ (cs : List (List (List ℕ))). chunking l (left s) ∷ cs) (chunked_map left l ss)
+
+pub chunked_files : {S : Type 0} (tells : S → Bool) (left : S → List ℕ) (l : LimitSettings) (sources : List S) (files : List (List ℕ)) → EachTold tells left (λ bytes file. file ≡ bytes) sources files → AllByRecursion (λ s. tells s ≡ true) sources
+    → chunkings left l sources ≡ map (chunking l) files
+chunked_files tells left l sources files each all = chunked_map left l sources ∙ ap (map (chunking l)) (sym (files_of_sources tells left sources files each all))
+
+-- what is cleaned of files in memory
+pub cleaned_files : (files : List (List ℕ)) (old new : State) (infos : List XetFileInfo) → (c : AreCleaned (λ _. true) (λ f. f) files old new infos) → c.files ≡ files
+cleaned_files files old new infos c = files_told files c.files c.each

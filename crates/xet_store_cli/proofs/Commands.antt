@@ -1,26 +1,30 @@
 -- Words as numbers, gear tables and commands.
-use Rattle.std.proofs.Common.{◌≡◌, ◌≢◌, ℕ, zero, suc, ◌*◌, ◌/◌, ◌^◌, ◌<◌, ◌≤◌, Bool, true, false, cond, ltb, leb, min, lit<, lit≤, List, [], ◌∷◌, length, get_or, map, replicate, Option, Some, None, Result, Ok, Err, IsTrue, codes, refl, ap, inl, inr, arith, rules}
+use Rattle.std.proofs.Common.{◌≡◌, ◌≢◌, ◌∙◌, ℕ, zero, suc, ◌*◌, ◌/◌, ◌^◌, ◌<◌, ◌≤◌, Bool, true, false, cond, eqb, ltb, leb, min, lit<, lit≤, List, [], ◌∷◌, length, map, replicate, Option, Some, None, Result, Ok, Err, IsTrue, codes, refl, ap, inl, inr, arith, rules}
 use Rattle.std.proofs.lemmas.Bool.{and_parts, leb-true, lt-ltb, cases_lt, le-ltb}
 use Rattle.std.proofs.lemmas.Bool.Decides.{nat_tests}
 use Rattle.std.proofs.lemmas.Str.{IsUtf8-from_ascii}
 use Rattle.std.proofs.lemmas.Str.Parse.{IsNumeralModel, not_in_digits, numerals_by_value, parse_plain}
 use Rattle.std.proofs.Math.Nat.{div-lt_iff_lt-mul}
+use Rattle.std.specs.Bool.{then_some}
 use Rattle.std.specs.Char.{is_ascii_digit}
 use Rattle.std.specs.Int.{is_power_of_two}
-use Rattle.std.specs.List.{list_all}
+use Rattle.std.specs.List.{list_all, list_any}
 use Rattle.std.specs.Option.{option_map, option_and_then}
-use Rattle.std.specs.Prelude.{IfSome}
+use Rattle.std.specs.Prelude.{IfSome, ◌||◌}
 use Rattle.std.specs.Result.{OkIff, result_ok}
 use Rattle.std.specs.Str.{IsAscii, IsUtf8, bytes_eq}
 use Rattle.std.specs.Str.Parse.{ParsesUnsigned, digits_value}
 use Rattle.std.specs.Cmp.Lexicographic.{bytes_decides}
-use Rattle.xet_cut.specs.Limits.{bad_field, is_between}
+use Rattle.xet_cut.specs.Limits.{bad_field, is_between, shown_settings}
 use Rattle.xet_cut.specs.Generator.{gear_table}
 use Rattle.xet_cut.specs.theorems.Ranges.{none_bad}
-use Rattle.xet_store_cli.specs.declared.words.Command.{Command}
+use Rattle.xet_store_cli.specs.Words.{Command}
+use Rattle.xet_store_cli.specs.Words.Command.{Clean, ListFiles, Group}
+use Rattle.xet_store_cli.specs.declared.words.Command.{Command as Parsed}
 use Rattle.xet_store_cli.specs.Allowed.{AllowsInput}
-use Rattle.xet_store_cli.specs.Outcome.{max_input}
-use Rattle.xet_store_cli.specs.Words.{command_of, gear_of, is_digits, is_target, number_of, pack_of, pack_settings, target_if, target_of, three_words}
+use Rattle.xet_store_cli.specs.internal.Asked.{asked}
+use Rattle.xet_store_cli.specs.Early.{max_input}
+use Rattle.xet_store_cli.specs.Words.{alone, clean_of, command_by, command_of, gear_of, hash_of_text, is_digits, is_option, is_target, max_names, number_of, pack_by, pack_of, pack_settings, read_by, read_of, target_if, target_of}
 
 -- ---- numbers
 
@@ -30,10 +34,10 @@ own = numerals_by_value _ (search rules)
 abbrev Fits : List ℕ → Type 0
 Fits word = (list_all is_ascii_digit word ≡ true) × (0 < length word) × (digits_value 10 word < 2 ^ 64)
 
-read_by : {E : Type 0} (word : List ℕ) (r : Result ℕ E) → OkIff r (Fits word) (digits_value 10 word) → list_all is_ascii_digit word ≡ true → 0 < length word
+number_value : {E : Type 0} (word : List ℕ) (r : Result ℕ E) → OkIff r (Fits word) (digits_value 10 word) → list_all is_ascii_digit word ≡ true → 0 < length word
     → result_ok r ≡ cond (ltb (digits_value 10 word) (2 ^ 64)) (Some (digits_value 10 word)) None
-read_by word (Ok x) (fits, is) digits some = rw (lt-ltb (digits_value 10 word) (2 ^ 64) fits.2) (ap (λ (n : ℕ). Some n) is)
-read_by word (Err e) refused digits some = elim (cases_lt (digits_value 10 word) (2 ^ 64)) [
+number_value word (Ok x) (fits, is) digits some = rw (lt-ltb (digits_value 10 word) (2 ^ 64) fits.2) (ap (λ (n : ℕ). Some n) is)
+number_value word (Err e) refused digits some = elim (cases_lt (digits_value 10 word) (2 ^ 64)) [
   | inl low ↦ absurd (refused (digits, some, low))
   | inr high ↦ rw (le-ltb (digits_value 10 word) (2 ^ 64) high) refl
 ]
@@ -45,7 +49,7 @@ number_read word r parsed e =
     let parts = and_parts (is_between 1 20 (length word)) (list_all is_ascii_digit word) e in
     let some : 1 ≤ length word = leb-true 1 (length word) (and_parts (leb 1 (length word)) (leb (length word) 20) parts.0).0 in
     let no_sign = not_in_digits own word 43 parts.1 (λ within. absurd (omega (arith, within.0))) 0 (omega arith) in
-    rw e (read_by word r (parse_plain own 64 word r parsed no_sign) parts.1 (omega arith))
+    rw e (number_value word r (parse_plain own 64 word r parsed no_sign) parts.1 (omega arith))
 
 pub number_refused : (word : List ℕ) → is_digits word ≡ false → number_of word ≡ None
 unfolding number_of
@@ -66,22 +70,9 @@ number_not_text word never = by_test (is_digits word) refl
 
 -- ---- commands
 
-pub command_none : (ws : List (List ℕ)) → length ws ≢ 3 → command_of ws ≡ None
-unfolding command_of
-command_none [] n = refl
-command_none (a ∷ []) n = refl
-command_none (a ∷ b ∷ []) n = refl
-command_none (a ∷ b ∷ c ∷ []) n = absurd (n refl)
-command_none (a ∷ b ∷ c ∷ d ∷ ws) n = refl
-
-pub command_three : {X : Type 0} (f : X → List ℕ) (ws : List X) (a b c : X) → length ws ≡ 3 → a ≡ get_or ws 0 a → b ≡ get_or ws 1 b → c ≡ get_or ws 2 c
-    → command_of (map f ws) ≡ three_words (f a) (f b) (f c)
-unfolding command_of
-command_three f [] a b c e ea eb ec = absurd (omega arith)
-command_three f (x ∷ []) a b c e ea eb ec = absurd (omega arith)
-command_three f (x ∷ y ∷ []) a b c e ea eb ec = absurd (omega arith)
-command_three f (x ∷ y ∷ z ∷ []) a b c e ea eb ec = rw (ea, eb, ec) refl
-command_three f (x ∷ y ∷ z ∷ w ∷ ws) a b c e ea eb ec = absurd (omega arith)
+pub any_map : {X : Type 0} (f : X → List ℕ) (ws : List X) → list_any (λ w. is_option (f w)) ws ≡ list_any is_option (map f ws)
+any_map f [] = refl
+any_map f (w ∷ ws) = ap (λ (t : Bool). is_option (f w) || t) (any_map f ws)
 
 -- a text that is not another
 other_bytes : (xs ys : List ℕ) → xs ≢ ys → bytes_eq xs ys ≡ false
@@ -115,27 +106,113 @@ allows_target n gear t =
 abbrev Allows : Option Command → Type 0
 Allows command = IfSome command AllowsInput
 
--- a command allows any input
-pub allows_command : (ws : List (List ℕ)) → Allows (command_of ws)
-unfolding command_of
-allows_command [] = tt
-allows_command (name ∷ []) = tt
-allows_command (name ∷ target ∷ []) = tt
-allows_command (name ∷ target ∷ gear ∷ []) = by_name (bytes_eq name (codes "pack"))
+allows_pack : (target gear : List ℕ) → Allows (pack_by (target_of target) (gear_of gear))
+allows_pack target gear = by_number (number_of target)
   where
-    by_target : (n : ℕ) (t : Bool) (o : Option (List ℕ)) → is_target n ≡ t → Allows (pack_of (cond t (Some n) None) o)
+    by_target : (n : ℕ) (t : Bool) (o : Option (List ℕ)) → is_target n ≡ t → Allows (pack_by (cond t (Some n) None) o)
     by_target n true (Some table) is = allows_target n table is
     by_target n true None is = tt
     by_target n false o is = tt
 
-    by_number : (found : Option ℕ) → Allows (pack_of (option_and_then target_if found) (gear_of gear))
+    by_number : (found : Option ℕ) → Allows (pack_by (option_and_then target_if found) (gear_of gear))
     by_number (Some n) = by_target n (is_target n) (gear_of gear) refl
     by_number None = tt
 
-    by_name : (t : Bool) → Allows (cond t (pack_of (target_of target) (gear_of gear)) None)
-    by_name true = by_number (number_of target)
-    by_name false = tt
-allows_command (name ∷ target ∷ gear ∷ more ∷ ws) = tt
+allows_clean : (names : List (List ℕ)) (t : Bool) → is_between 1 max_names (length names) ≡ t → Allows (cond t (Some (Clean names)) None)
+allows_clean names true is =
+    leb-true (length names) max_names (and_parts (leb 1 (length names)) (leb (length names) max_names) is).1
+allows_clean names false is = tt
+
+allows_read : (hash : Option (List ℕ)) (from to : Option ℕ) → Allows (read_by hash from to)
+allows_read None from to = tt
+allows_read (Some h) None to = tt
+allows_read (Some h) (Some m) None = tt
+allows_read (Some h) (Some m) (Some n) = tt
+
+allows_either : (t : Bool) (a b : Option Command) → Allows a → Allows b → Allows (cond t a b)
+allows_either true a b ha hb = ha
+allows_either false a b ha hb = hb
+
+allows_pack_of : (words : List (List ℕ)) → Allows (pack_of words)
+allows_pack_of [] = tt
+allows_pack_of (a ∷ []) = tt
+allows_pack_of (a ∷ b ∷ []) = allows_pack a b
+allows_pack_of (a ∷ b ∷ c ∷ words) = tt
+
+allows_read_of : (words : List (List ℕ)) → Allows (read_of words)
+allows_read_of [] = tt
+allows_read_of (a ∷ []) = tt
+allows_read_of (a ∷ b ∷ []) = tt
+allows_read_of (a ∷ b ∷ c ∷ []) = allows_read (hash_of_text a) (number_of b) (number_of c)
+allows_read_of (a ∷ b ∷ c ∷ d ∷ words) = tt
+
+allows_alone : (command : Command) (words : List (List ℕ)) → AllowsInput command → Allows (alone command words)
+allows_alone command [] allows = allows
+allows_alone command (w ∷ words) allows = tt
+
+allows_by : (name : List ℕ) (words : List (List ℕ)) → Allows (command_by name words)
+unfolding command_by
+allows_by name words =
+    allows_either (bytes_eq name (codes "pack")) _ _ (allows_pack_of words)
+    (allows_either (bytes_eq name (codes "clean")) _ _ (allows_clean words (is_between 1 max_names (length words)) refl)
+    (allows_either (bytes_eq name (codes "read")) _ _ (allows_read_of words)
+    (allows_either (bytes_eq name (codes "list")) _ _ (allows_alone ListFiles words tt)
+    (allows_either (bytes_eq name (codes "group")) _ _ (allows_alone Group words tt) tt))))
+
+-- a command allows any input
+pub allows_command : (ws : List (List ℕ)) → Allows (command_of ws)
+unfolding command_of
+allows_command [] = tt
+allows_command (name ∷ words) = allows_either (list_any is_option (name ∷ words)) _ _ tt (allows_by name words)
+
+pub allows_asked : (o : Option Parsed) → Allows (option_map asked o) → IfSome o (λ command. AllowsInput (asked command))
+allows_asked None allows = tt
+allows_asked (Some command) allows = allows
+
+-- ---- the command of a name
+
+pub by_pack : (name : List ℕ) (words : List (List ℕ)) → name ≡ codes "pack" → command_by name words ≡ pack_of words
+unfolding command_by
+by_pack name words e = rw e refl
+
+pub by_clean : (name : List ℕ) (words : List (List ℕ)) → name ≡ codes "clean" → command_by name words ≡ clean_of words
+unfolding command_by
+by_clean name words e = rw e refl
+
+pub by_read : (name : List ℕ) (words : List (List ℕ)) → name ≡ codes "read" → command_by name words ≡ read_of words
+unfolding command_by
+by_read name words e = rw e refl
+
+pub by_list : (name : List ℕ) (words : List (List ℕ)) → name ≡ codes "list" → command_by name words ≡ alone ListFiles words
+unfolding command_by
+by_list name words e = rw e refl
+
+pub by_group : (name : List ℕ) (words : List (List ℕ)) → name ≡ codes "group" → command_by name words ≡ alone Group words
+unfolding command_by
+by_group name words e = rw e refl
+
+pub by_other : (name : List ℕ) (words : List (List ℕ)) → name ≢ codes "pack" → name ≢ codes "clean" → name ≢ codes "read" → name ≢ codes "list" → name ≢ codes "group" → command_by name words ≡ None
+unfolding command_by
+by_other name words a b c d e =
+    rw (other_bytes name (codes "pack") a, other_bytes name (codes "clean") b, other_bytes name (codes "read") c, other_bytes name (codes "list") d, other_bytes name (codes "group") e) refl
+
+pub alone_by : {X : Type 0} (f : X → List ℕ) (ws : List X) (b : Bool) (command : Parsed) (o : Option Parsed) → b ≡ eqb (length ws) 0 → o ≡ then_some b command → option_map asked o ≡ alone (asked command) (map f ws)
+alone_by f [] b command o is e = ap (option_map asked) (e ∙ ap (λ (t : Bool). then_some t command) is)
+alone_by f (w ∷ ws) true command o is e = absurd (grind (arith, nat_tests))
+alone_by f (w ∷ ws) false command o is e = ap (option_map asked) e
+
+pub command_empty : {X : Type 0} (f : X → List ℕ) (ws : List X) → length ws ≡ 0 → command_of (map f ws) ≡ None
+unfolding command_of
+command_empty f [] e = refl
+command_empty f (w ∷ ws) e = absurd (omega arith)
+
+pub command_first : (name : List ℕ) (words : List (List ℕ)) → list_any is_option (name ∷ words) ≡ false → command_of (name ∷ words) ≡ command_by name words
+unfolding command_of
+command_first name words e = rw e refl
+
+pub command_option : (name : List ℕ) (words : List (List ℕ)) → list_any is_option (name ∷ words) ≡ true → command_of (name ∷ words) ≡ None
+unfolding command_of
+command_option name words e = rw e refl
 
 pub pack_in_range : (target : ℕ) (gear : List ℕ) → IsTrue (is_target target) → bad_field (pack_settings target gear) ≡ None
 pack_in_range target gear t =
@@ -169,3 +246,29 @@ pack_in_range target gear t =
       source_chunks = chunks;
       scheme_plain = refl;
     }
+
+pub shown_in_range : (gear : List ℕ) → bad_field (shown_settings gear) ≡ None
+unfolding lib.Count.ones
+shown_in_range gear = none_bad (shown_settings gear) record {
+  target_power = refl;
+  target_from = lit≤ tt;
+  target_to = lit≤ tt;
+  minimum_from = lit≤ tt;
+  minimum_to = lit< tt;
+  maximum_to = lit< tt;
+  cut_bytes_from = lit≤ tt;
+  cut_bytes_to = lit≤ tt;
+  cut_chunks_from = lit≤ tt;
+  cut_chunks_to = lit≤ tt;
+  shard_target_to = lit< tt;
+  guard_window_from = lit≤ tt;
+  guard_window_to = lit≤ tt;
+  min_range_from = lit≤ tt;
+  low_factor_from = lit≤ tt;
+  block_bytes_from = lit≤ tt;
+  block_bytes_to = lit≤ tt;
+  source_from = lit≤ tt;
+  source_to = lit≤ tt;
+  source_chunks = lit< tt;
+  scheme_plain = refl;
+}

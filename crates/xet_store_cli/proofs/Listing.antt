@@ -13,7 +13,7 @@ use Rattle.xet_store.specs.Opening.{IsOpened, contents_of}
 use Rattle.xet_store.specs.Separate.{IsNamed}
 use Rattle.xet_store.specs.Store.{Sound, State}
 use Rattle.xet_store.specs.theorems.Sessions.{resolves_stay, listed_stay, named_newly, named_same, valid_stays}
-use Rattle.xet_store_cli.specs.Outcome.{store_folder}
+use Rattle.xet_store_cli.specs.Tasks.{store_folder}
 use Rattle.xet_store_cli.specs.Stored.{KeepsFolder, KeepsListed}
 
 -- by a session

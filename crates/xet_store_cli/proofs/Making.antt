@@ -1,5 +1,5 @@
--- Records that are made of the files of lines, and are listed at every time.
-use Rattle.std.proofs.Common.{◌≡◌, ◌≢◌, ◌⊎◌, inl, inr, ◌↔◌, ◌∙◌, ℕ, ◌<◌, ◌≤◌, ◌^◌, Bool, true, false, List, [], ◌∷◌, ◌++◌, length, map, filter, not, nat_eq, Option, Some, None, IfSome, IsSome, is_some, if◌then◌else◌, refl, sym, ap, subst, arith}
+-- Records that are made of files, and are listed at every time.
+use Rattle.std.proofs.Common.{◌≡◌, ◌≢◌, ◌⊎◌, inl, inr, ◌↔◌, ◌∙◌, ℕ, ◌<◌, ◌^◌, Bool, true, false, List, [], ◌∷◌, ◌++◌, length, map, filter, not, nat_eq, Option, Some, None, IfSome, IsSome, is_some, if◌then◌else◌, refl, sym, ap, subst, arith}
 use Rattle.std.specs.Cmp.Lexicographic.{pointwise}
 use Rattle.std.specs.List.{AllByRecursion, IsAmong}
 use Rattle.xet_hash.specs.Merkle.{leaves_of, xorb_hash}
@@ -10,6 +10,7 @@ use Rattle.xet_shard_format.specs.Records.{file_record_hash, xorb_record_hash}
 use Rattle.xet_folder.specs.Contents.{IsRecord}
 use Rattle.xet_folder.specs.Listed.{Lists}
 use Rattle.xet_folder.specs.Xorbs.{Xorbs, found}
+use Rattle.xet_folder.specs.theorems.Tables.{found_here, found_kept}
 use Rattle.xet_cut.specs.declared.limits.LimitSettings.{LimitSettings}
 use Rattle.xet_store.specs.Cleaning.{Keeps}
 use Rattle.xet_cut.specs.Chunking.{chunking}
@@ -21,14 +22,13 @@ use Rattle.xet_store.specs.Store.{IsKept, Sound, State}
 use Rattle.xet_store.specs.Tables.{Tables, record_of_file, tables, tables_of, with_file, with_files, with_leaves, with_record, with_xorb, with_xorbs}
 use Rattle.xet_dedup.specs.Records.{xorb_record}
 use Rattle.xet_store.specs.Separate.{Among, IsPackOf}
-use Rattle.xet_store.specs.theorems.Rows.{among_last, from_among, is_some_either}
-use Rattle.xet_store.specs.theorems.Whole.{found_has}
-use Rattle.xet_store_cli.specs.Outcome.{store_folder}
-use Rattle.xet_store_cli.specs.Parsing.{ForLines, Said}
+use Rattle.xet_store.specs.theorems.Rows.{among_filter, among_last, among_more, from_among, is_some_either, is_some_found, to_among}
+use Rattle.xet_store.specs.theorems.Whole.{found_has, same_key}
+use Rattle.xet_store_cli.specs.Tasks.{store_folder}
 use Rattle.xet_store_cli.specs.Report.{hash_of_file}
 use Rattle.xet_store_cli.specs.internal.Steps.{IsSettled}
 use Rattle.xet_store_cli.specs.Steps.{MakesIn}
-use Rattle.xet_store_cli.specs.Stored.{ListsHash, ListsMade, Makes}
+use Rattle.xet_store_cli.specs.Stored.{AreStored, ListsHash, ListsMade, Makes, Records, Stores}
 
 none_among : {X : Type 0} (xs : List X) (x : X) → xs ≡ [] → IsAmong xs x → ⊥
 none_among xs x none among =
@@ -130,21 +130,169 @@ file_pending s t (b ∷ bs) some none =
     let ps = packs s (chunking s (b ∷ bs)) in
     record_pending (with_xorbs t ps) (record_of_file s (b ∷ bs)) (ap (λ rows. found rows (hash_of_file s (b ∷ bs))) (xorbs_alone t ps) ∙ none)
 
--- and so it is listed, once nothing is pending
-pub made_in : (old before after : State) (files : List (List ℕ)) → length files ≤ 1 → before.tells ≡ true → tables_of before ≡ with_files old.limits (tables_of old) files → IsSettled before after → MakesIn old files after
-made_in old before after [] few told tables settled = tt
-made_in old before after (f ∷ []) few told tables settled = (
-  (λ some none. (
-    f,
-    (0, (omega arith, refl)),
-    refl,
-    λ time below. settled.lasts told (record_of_file old.limits f) (subst (λ (t : Tables). IsAmong t.pending.files (record_of_file old.limits f)) (sym tables) (file_pending old.limits (tables_of old) f some none)) time below,
-  )),
-  tt,
-)
-made_in old before after (f ∷ g ∷ fs) few told tables settled = absurd (omega (arith, few))
+-- ---- and stays pending while others are added
 
--- ---- of lines
+-- a file with this hash is recorded, and the record that was made of one of these files with this hash is pending
+record Made (s : LimitSettings) (all : List (List ℕ)) (h : List ℕ) (t : Tables) : Type 0 where
+  pub made : List ℕ
+  pub among : IsAmong all made
+  pub hash : hash_of_file s made ≡ h
+  pub pending : IsAmong t.pending.files (record_of_file s made)
+  pub recorded : IsSome (found t.records h)
+
+none_some : {X : Type 0} (o : Option X) → o ≡ None → IsSome o → ⊥
+none_some {X} o none is = let e : IsSome {T = X} None = subst (λ (x : Option X). IsSome x) none is in absurd (cc e)
+
+other_key : (a b : List ℕ) → a ≢ b → pointwise nat_eq a b ≡ false
+other_key a b n = go (pointwise nat_eq a b) refl
+  where
+    go : (x : Bool) → pointwise nat_eq a b ≡ x → pointwise nat_eq a b ≡ false
+    go true e = absurd (n (same_key a b e))
+    go false e = e
+
+-- one that is recorded stays so, and what has another hash stays pending
+record_stays : (t : Tables) (f g : MDBFileInfo) (h : List ℕ) → file_record_hash g ≡ h → IsSome (found t.records h) → IsAmong t.pending.files g
+    → IsAmong (with_record t f).pending.files g × IsSome (found (with_record t f).records h)
+record_stays t f g h is there among = go (is_some (found t.records (file_record_hash f))) refl
+  where
+    kept : List MDBFileInfo
+    kept = filter (λ y. not (pointwise nat_eq (file_record_hash y) (file_record_hash f))) t.pending.files
+
+    added : Tables
+    added = tables t.xorbs (t.records ++ (file_record_hash f, f) ∷ []) (held t.pending.blocks (kept ++ f ∷ []))
+
+    some_of : (o : Option MDBFileInfo) → found t.records h ≡ o → IsSome o → IsSome (found (t.records ++ (file_record_hash f, f) ∷ []) h)
+    some_of None e bad = absurd (cc bad)
+    some_of (Some x) e ok = is_some_found _ h x (found_kept t.records ((file_record_hash f, f) ∷ []) h x e)
+
+    go : (b : Bool) → is_some (found t.records (file_record_hash f)) ≡ b → IsAmong (with_record t f).pending.files g × IsSome (found (with_record t f).records h)
+    go true e = subst (λ (b : Bool). IsAmong (if b then t else added).pending.files g × IsSome (found (if b then t else added).records h)) (sym e) (among, there)
+    go false e =
+        let differ : file_record_hash g ≢ file_record_hash f = λ same.
+        absurd (cc (sym e ∙ ap (λ (k : List ℕ). is_some (found t.records k)) (sym same ∙ is) ∙ there)) in
+        let passes : not (pointwise nat_eq (file_record_hash g) (file_record_hash f)) ≡ true = ap not (other_key (file_record_hash g) (file_record_hash f) differ) in
+        subst (λ (b : Bool). IsAmong (if b then t else added).pending.files g × IsSome (found (if b then t else added).records h)) (sym e) (
+          from_among (kept ++ f ∷ []) g (among_more kept (f ∷ []) g (among_filter (λ y. not (pointwise nat_eq (file_record_hash y) (file_record_hash f))) t.pending.files g passes (to_among t.pending.files g among))),
+          some_of (found t.records h) refl there,
+        )
+
+xorbs_pending : (t : Tables) (h : List ℕ) (ms : List (List ℕ × ℕ)) → (with_leaves t h ms).pending.files ≡ t.pending.files
+xorbs_pending t h ms = go (is_some (found t.xorbs h)) refl
+  where
+    go : (b : Bool) → is_some (found t.xorbs h) ≡ b → (with_leaves t h ms).pending.files ≡ t.pending.files
+    go true e = rw (e) refl
+    go false e = rw (e) refl
+
+xorbs_files : (t : Tables) (ps : List (List (List ℕ))) → (with_xorbs t ps).pending.files ≡ t.pending.files
+xorbs_files t [] = refl
+xorbs_files t (p ∷ ps) = xorbs_files (with_xorb t p) ps ∙ xorbs_pending t (xorb_hash (leaves_of p)) (leaves_of p)
+
+module _ (s : LimitSettings) (all : List (List ℕ)) where
+  made_file : (t : Tables) (h : List ℕ) (g : List ℕ) → Made s all h t → Made s all h (with_file s t g)
+  made_file t h [] m = m
+  made_file t h (b ∷ bs) m =
+      let mid = with_xorbs t (packs s (chunking s (b ∷ bs))) in
+      let stays = record_stays mid (record_of_file s (b ∷ bs)) (record_of_file s m.made) h m.hash
+      (subst (λ rows. IsSome (found rows h)) (sym (xorbs_alone t (packs s (chunking s (b ∷ bs))))) m.recorded)
+      (subst (λ (fs : List MDBFileInfo). IsAmong fs (record_of_file s m.made)) (sym (xorbs_files t (packs s (chunking s (b ∷ bs))))) m.pending) in
+      record { made = m.made; among = m.among; hash = m.hash; pending = stays.0; recorded = stays.1 }
+
+  made_files : (t : Tables) (h : List ℕ) (gs : List (List ℕ)) → Made s all h t → Made s all h (with_files s t gs)
+  made_files t h [] m = m
+  made_files t h (g ∷ gs) m = made_files (with_file s t g) h gs (made_file t h g m)
+
+  -- one that is new is made
+  record_new : (t : Tables) (f : MDBFileInfo) → found t.records (file_record_hash f) ≡ None → IsSome (found (with_record t f).records (file_record_hash f))
+  record_new t f none =
+      let kept : List MDBFileInfo = filter (λ y. not (pointwise nat_eq (file_record_hash y) (file_record_hash f))) t.pending.files in
+      let added : Tables = tables t.xorbs (t.records ++ (file_record_hash f, f) ∷ []) (held t.pending.blocks (kept ++ f ∷ [])) in
+      subst (λ (b : Bool). IsSome (found (if b then t else added).records (file_record_hash f))) (sym (ap is_some none))
+      (is_some_found _ (file_record_hash f) f (found_here t.records (file_record_hash f) f none))
+
+  made_new : (t : Tables) (g : List ℕ) → IsAmong all g → g ≢ [] → found t.records (hash_of_file s g) ≡ None → Made s all (hash_of_file s g) (with_file s t g)
+  made_new t [] among some none = absurd (some refl)
+  made_new t (b ∷ bs) among some none =
+      let ps = packs s (chunking s (b ∷ bs)) in
+      record {
+        made = b ∷ bs;
+        among = among;
+        hash = refl;
+        pending = file_pending s t (b ∷ bs) some none;
+        recorded = record_new (with_xorbs t ps) (record_of_file s (b ∷ bs)) (ap (λ rows. found rows (hash_of_file s (b ∷ bs))) (xorbs_alone t ps) ∙ none);
+      }
+
+  -- what is not recorded then was not before, or this is the file
+  new_either : (t : Tables) (g h : List ℕ) → found t.records h ≡ None → IsSome (found (with_file s t g).records h) → (g ≢ []) × (hash_of_file s g ≡ h)
+  new_either t [] h none is = absurd (none_some (found t.records h) none is)
+  new_either t (b ∷ bs) h none is = go (is_some (found mid.records (file_record_hash f))) refl
+    where
+      mid : Tables
+      mid = with_xorbs t (packs s (chunking s (b ∷ bs)))
+
+      f : MDBFileInfo
+      f = record_of_file s (b ∷ bs)
+
+      before : found mid.records h ≡ None
+      before = ap (λ rows. found rows h) (xorbs_alone t (packs s (chunking s (b ∷ bs)))) ∙ none
+
+      kept : List MDBFileInfo
+      kept = filter (λ y. not (pointwise nat_eq (file_record_hash y) (file_record_hash f))) mid.pending.files
+
+      added : Tables
+      added = tables mid.xorbs (mid.records ++ (file_record_hash f, f) ∷ []) (held mid.pending.blocks (kept ++ f ∷ []))
+
+      either : IsSome (found mid.records h) ⊎ (file_record_hash f ≡ h) → (b ∷ bs ≢ []) × (hash_of_file s (b ∷ bs) ≡ h)
+      either (inl there) = absurd (none_some (found mid.records h) before there)
+      either (inr same) = (λ e. absurd (cc e), same)
+
+      go : (x : Bool) → is_some (found mid.records (file_record_hash f)) ≡ x → (b ∷ bs ≢ []) × (hash_of_file s (b ∷ bs) ≡ h)
+      go true e = absurd (none_some (found mid.records h) before (subst (λ (x : Bool). IsSome (found (if x then mid else added).records h)) e is))
+      go false e = either (is_some_either mid.records (file_record_hash f) h f (subst (λ (x : Bool). IsSome (found (if x then mid else added).records h)) e is))
+
+  -- of all files that are added in turn
+  made_all : (t : Tables) (gs : List (List ℕ)) → AllByRecursion (IsAmong all) gs → AllByRecursion (λ bytes. bytes ≢ [] → found t.records (hash_of_file s bytes) ≡ None → Made s all (hash_of_file s bytes) (with_files s t gs)) gs
+  made_all t [] among = tt
+  made_all t (g ∷ gs) among = (λ some none. made_files (with_file s t g) (hash_of_file s g) gs (made_new t g among.0 some none), rest gs among.1 (made_all (with_file s t g) gs among.1))
+    where
+      later : (f : List ℕ) → f ≢ [] → found t.records (hash_of_file s f) ≡ None
+          → (f ≢ [] → found (with_file s t g).records (hash_of_file s f) ≡ None → Made s all (hash_of_file s f) (with_files s (with_file s t g) gs))
+          → (o : Option MDBFileInfo) → found (with_file s t g).records (hash_of_file s f) ≡ o → Made s all (hash_of_file s f) (with_files s (with_file s t g) gs)
+      later f some none step None e = step some e
+      later f some none step (Some x) e =
+          let is = new_either t g (hash_of_file s f) none (is_some_found _ (hash_of_file s f) x e) in
+          made_files (with_file s t g) (hash_of_file s f) gs
+          (subst (λ (h : List ℕ). Made s all h (with_file s t g)) is.1 (made_new t g among.0 is.0 (ap (found t.records) is.1 ∙ none)))
+
+      rest : (fs : List (List ℕ)) → AllByRecursion (IsAmong all) fs
+          → AllByRecursion (λ bytes. bytes ≢ [] → found (with_file s t g).records (hash_of_file s bytes) ≡ None → Made s all (hash_of_file s bytes) (with_files s (with_file s t g) gs)) fs
+          → AllByRecursion (λ bytes. bytes ≢ [] → found t.records (hash_of_file s bytes) ≡ None → Made s all (hash_of_file s bytes) (with_files s (with_file s t g) gs)) fs
+      rest [] each step = tt
+      rest (f ∷ fs) each step = (λ some none. later f some none step.0 (found (with_file s t g).records (hash_of_file s f)) refl, rest fs each.1 step.1)
+
+-- and so it is listed, once nothing is pending
+pub made_in : (old before after : State) (files : List (List ℕ)) → before.tells ≡ true → tables_of before ≡ with_files old.limits (tables_of old) files → IsSettled before after → MakesIn old files after
+made_in old before after files told is settled = go files (made_all old.limits files (tables_of old) files (each_among files (λ f a. a)))
+  where
+    each_among : (fs : List (List ℕ)) → ((f : List ℕ) → Among fs f → Among files f) → AllByRecursion (IsAmong files) fs
+    each_among [] given = tt
+    each_among (f ∷ fs) given = (from_among files f (given f (inl refl)), each_among fs (λ g a. given g (inr a)))
+
+    one : (h : List ℕ) → Made old.limits files h (with_files old.limits (tables_of old) files)
+        → (made : List ℕ) × IsAmong files made × (hash_of_file old.limits made ≡ h) × ((time : ℕ) → time < 2 ^ 64 → Lists after.files after.folder time (record_of_file old.limits made))
+    one h m = (
+      m.made,
+      m.among,
+      m.hash,
+      λ time below. settled.lasts told (record_of_file old.limits m.made) (subst (λ (t : Tables). IsAmong t.pending.files (record_of_file old.limits m.made)) (sym is) m.pending) time below,
+    )
+
+    go : (fs : List (List ℕ)) → AllByRecursion (λ bytes. bytes ≢ [] → found old.records (hash_of_file old.limits bytes) ≡ None → Made old.limits files (hash_of_file old.limits bytes) (with_files old.limits (tables_of old) files)) fs
+        → AllByRecursion (λ bytes. bytes ≢ [] → found old.records (hash_of_file old.limits bytes) ≡ None
+        → (made : List ℕ) × IsAmong files made × (hash_of_file old.limits made ≡ hash_of_file old.limits bytes) × ((time : ℕ) → time < 2 ^ 64 → Lists after.files after.folder time (record_of_file old.limits made))) fs
+    go [] each = tt
+    go (f ∷ fs) each = (λ some none. one (hash_of_file old.limits f) (each.0 some none), go fs each.1)
+
+-- ---- of files
 
 module _ (tells : Bool) (disk files : Files) (limits : LimitSettings) (now : ℕ) (s t : State) (told : tells ≡ true) (opened : IsOpened tells disk store_folder limits now s) (sound : Sound s)
     (keeps : Keeps s t) (is : files ≡ t.files) where
@@ -185,7 +333,13 @@ module _ (tells : Bool) (disk files : Files) (limits : LimitSettings) (now : ℕ
     made_each all fs each.1,
   )
 
-  pub makes : (said : Said) → MakesIn s said.files t → ForLines said (λ lines. Makes limits lines now disk files)
-  makes said made = λ lines parts.
-      subst (λ (x : Said). AllByRecursion (λ bytes. bytes ≢ [] → (ListsHash disk now (hash_of_file limits bytes) → ⊥)
-      → (made : List ℕ) × IsAmong x.files made × (hash_of_file limits made ≡ hash_of_file limits bytes) × ListsMade limits files made) x.files) (sym parts) (made_each said.files said.files made)
+  pub makes : (stored : List (List ℕ)) → MakesIn s stored t → Makes limits stored now disk files
+  makes stored made = made_each stored stored made
+
+  -- what is stored in a session is stored on the disk that it hands back
+  pub are_stored : (stored : List (List ℕ)) → Stores s.limits stored s.opened t.files → Records s.limits stored s.opened t.files → MakesIn s stored t → AreStored limits stored now disk files
+  are_stored stored xorbs recorded made = record {
+    xorbs = subst (λ (l : LimitSettings). Stores l stored now files) opened.same_limits (subst (λ (n : ℕ). Stores s.limits stored n files) opened.time (subst (λ (x : Files). Stores s.limits stored s.opened x) (sym is) xorbs));
+    recorded = subst (λ (l : LimitSettings). Records l stored now files) opened.same_limits (subst (λ (n : ℕ). Records s.limits stored n files) opened.time (subst (λ (x : Files). Records s.limits stored s.opened x) (sym is) recorded));
+    made = makes stored made;
+  }

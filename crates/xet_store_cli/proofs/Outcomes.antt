@@ -1,7 +1,6 @@
 -- How `pack` ends, by what it has read.
-use Rattle.std.proofs.Common.{◌≡◌, ◌≢◌, ◌⊎◌, ◌∙◌, ℕ, ◌<◌, ◌≤◌, inl, inr, Bool, true, false, cond, List, [], ◌++◌, length, subst, Option, Some, None, Result, Ok, Err, IfOk, IfErr, OnOk, Vec, Global, unwrap_or, refl, sym, ap, arith}
+use Rattle.std.proofs.Common.{◌≡◌, ◌≢◌, ◌∙◌, ℕ, ◌<◌, ◌≤◌, inl, inr, Bool, true, false, cond, List, [], length, subst, Option, Some, None, Result, Ok, Err, IfOk, IfErr, OnOk, Vec, Global, unwrap_or, refl, sym, ap, arith}
 use Rattle.std.proofs.lemmas.Bool.{cases_lt, false≢true, lt-ltb, le-ltb}
-use Rattle.std.proofs.lemmas.List.{append-nil}
 use Rattle.std.proofs.Math.Nat.{le_trans}
 use Rattle.std.specs.FinMap.{get}
 use Rattle.std.specs.Option.{option_map}
@@ -10,23 +9,26 @@ use Rattle.xet_io.specs.Disk.{Files}
 use Rattle.xet_io.specs.Whole.{ReadsAll}
 use Rattle.xet_io.specs.declared.whole.Unread.{Unread}
 use Rattle.xet_io.specs.declared.whole.Unread.TheVariants as unread
+use Rattle.xet_folder.specs.Contents.{HasContents}
+use Rattle.xet_folder.specs.declared.contents.Contents.{Contents}
 use Rattle.xet_folder.specs.Names.{IsForeign}
-use Rattle.xet_folder.specs.theorems.Agreeing.{not_both}
 use Rattle.xet_cut.specs.declared.limits.LimitSettings.{LimitSettings}
 use Rattle.xet_store_cli.specs.declared.ending.Stop.{Stop}
-use Rattle.xet_store_cli.specs.declared.ending.Stop.TheVariants.{OutOfMemory, Input, TooLarge, BadLine, BadRange, Disk, BadShard, Malformed}
-use Rattle.xet_store_cli.specs.declared.words.Command.{Command}
-use Rattle.xet_store_cli.specs.declared.words.Command.TheVariants.{Pack}
+use Rattle.xet_store_cli.specs.declared.ending.Stop.TheVariants.{OutOfMemory, Input, TooLarge, BadLine, NotFound, Disk, BadShard, Malformed}
+use Rattle.xet_store_cli.specs.Words.Command.{Pack}
+use Rattle.xet_store_cli.specs.Start.{Start}
 use Rattle.xet_store_cli.specs.Lines.{Line, first_bad, good_lines}
-use Rattle.xet_store_cli.specs.Outcome.{EndsEarly, EndsOver, IsCutShort, IsDue, IsFaultless, IsIdle, IsStopped, IsStoppedSilent, Outcome, Prints, PrintsNothing, bad_line_text, by_lines, lines_said, max_input, outcome, pack_early, store_folder}
+use Rattle.xet_store_cli.specs.Early.{Outcome, bad_line_text, by_lines, lines_said, max_input, outcome, pack_early}
+use Rattle.xet_store_cli.specs.Tasks.{IsIdle, store_folder}
 use Rattle.xet_store_cli.specs.Allowed.{are_short}
-use Rattle.xet_store_cli.specs.Answered.{Answered, Ended, EndedEarly}
-use Rattle.xet_store_cli.specs.Ending.{IsReportOf, MayEnd}
-use Rattle.xet_store_cli.specs.Parsing.{ForLines, Said, are_good, parted}
+use Rattle.xet_store_cli.specs.Answered.{Answered}
+use Rattle.xet_store_cli.specs.Answers.{PackAnswer}
+use Rattle.xet_store_cli.specs.Ending.{MayEnd}
+use Rattle.xet_store_cli.specs.Parsing.{Said, are_good, parted}
 use Rattle.xet_store_cli.specs.Stops.{IsStop, answer_outcome, parsing_causes, session_causes, stop_of_unread}
 use Rattle.xet_store_cli.specs.internal.Stops.{IsSaid, reading_causes, storing_causes}
-use Rattle.xet_store_cli.specs.Stored.{HasMadeBy, HasRecordedBy, HasStoredBy, IsAdmittedAt, KeepsFolder, KeepsListed, Makes, Records, Stores, Works}
-use Rattle.xet_store_cli.proofs.Answered.{answered, busy_status, works_idle}
+use Rattle.xet_store_cli.specs.Stored.{AreStored, KeepsFolder, KeepsListed, Works}
+use Rattle.xet_store_cli.proofs.Answered.{busy_status, works_idle}
 use Rattle.xet_store_cli.proofs.Lengths.{short_said}
 use Rattle.xet_store_cli.proofs.Said.{good_parted}
 
@@ -91,7 +93,7 @@ stop_parsing tells input read is OutOfMemory h = tt
 stop_parsing tells input read is (BadLine n) h = λ told. early_bad input read (is told).0 (is told).1 n h
 stop_parsing tells input read is Input h = absurd h
 stop_parsing tells input read is TooLarge h = absurd h
-stop_parsing tells input read is BadRange h = absurd h
+stop_parsing tells input read is NotFound h = absurd h
 stop_parsing tells input read is Disk h = absurd h
 stop_parsing tells input read is (BadShard name) h = absurd h
 stop_parsing tells input read is Malformed h = absurd h
@@ -105,14 +107,14 @@ short_files s input said allowed is =
 
 -- files that are short stop no session as too large
 pub never_idle : (X : Type 0) (tells : Bool) (s : LimitSettings) (said : Said) (r : Result (Vec ℕ Global) Stop) → are_short s said.files ≡ true → IfErr r (IsStop (session_causes tells s said))
-    → IsIdle (answer_outcome r).status → X
-never_idle X tells s said (Ok t) short stop = λ idle. absurd (busy_status 0 (inl refl) idle)
-never_idle X tells s said (Err OutOfMemory) short stop = λ idle. absurd (busy_status 1 (inr (inl refl)) idle)
-never_idle X tells s said (Err Disk) short stop = λ idle. absurd (busy_status 6 (inr (inr (inr (inl refl)))) idle)
-never_idle X tells s said (Err Malformed) short stop = λ idle. absurd (busy_status 10 (inr (inr (inr (inr refl)))) idle)
+    → IsIdle (Some (Pack s)) (answer_outcome r).status → X
+never_idle X tells s said (Ok t) short stop = λ idle. absurd (busy_status s 0 (inl refl) idle)
+never_idle X tells s said (Err OutOfMemory) short stop = λ idle. absurd (busy_status s 1 (inr (inl refl)) idle)
+never_idle X tells s said (Err Disk) short stop = λ idle. absurd (busy_status s 6 (inr (inr (inr (inl refl)))) idle)
+never_idle X tells s said (Err Malformed) short stop = λ idle. absurd (busy_status s 10 (inr (inr (inr (inr refl)))) idle)
 never_idle X tells s said (Err TooLarge) short stop = absurd (false≢true (sym stop ∙ short))
 never_idle X tells s said (Err Input) short stop = absurd stop
-never_idle X tells s said (Err BadRange) short stop = absurd stop
+never_idle X tells s said (Err NotFound) short stop = absurd stop
 never_idle X tells s said (Err (BadLine n)) short stop = absurd stop
 never_idle X tells s said (Err (BadShard name)) short stop = absurd stop
 
@@ -125,48 +127,55 @@ stop_status tells input Disk h = absurd h
 stop_status tells input Malformed h = absurd h
 stop_status tells input (BadShard name) h = absurd h
 stop_status tells input TooLarge h = (λ e. omega arith, λ e. omega arith)
-stop_status tells input BadRange h = (λ e. omega arith, λ e. omega arith)
+stop_status tells input NotFound h = (λ e. omega arith, λ e. omega arith)
 stop_status tells input (BadLine n) h = (λ e. omega arith, λ e. omega arith)
 
-module _ (s : LimitSettings) (input_tells : Bool) (input : List ℕ) (now : ℕ) (tells : Bool) (files : Files) where
-  end_unread : (stop : Stop) → IsStop (reading_causes input_tells input) stop → MayEnd (Some (Pack s)) input_tells input now tells files files (answer_outcome (Err stop))
+module _ (s : LimitSettings) (start : Start) where
+  end_unread : (stop : Stop) → IsStop (reading_causes start.input_tells start.input) stop → MayEnd (Some (Pack s)) start start.files (answer_outcome (Err stop))
   end_unread OutOfMemory h = MayEnd.stopped (inl refl) refl
-  end_unread Input h = MayEnd.stopped (inr (inl refl)) refl
+  end_unread Input h = MayEnd.stopped (inr (inl (refl, inl tt))) refl
   end_unread Disk h = absurd h
   end_unread Malformed h = absurd h
   end_unread (BadShard name) h = absurd h
-  end_unread TooLarge h = MayEnd.early h (inr (inr (inl refl)))
-  end_unread BadRange h = MayEnd.early h (inr (inl refl))
-  end_unread (BadLine n) h = MayEnd.early h (inr (inr (inr (n, refl))))
+  end_unread TooLarge h = MayEnd.early (λ observes. h (observes.0 tt)) (inr (inl refl))
+  end_unread NotFound h = MayEnd.early (λ observes. h (observes.0 tt)) (inl refl)
+  end_unread (BadLine n) h = MayEnd.early (λ observes. h (observes.0 tt)) (inr (inr (n, refl)))
 
-  pub answered_unread : (left : List ℕ) (stop : Stop) → IsStop (reading_causes input_tells input) stop → Answered (Some (Pack s)) input_tells input left now tells files files (answer_outcome (Err stop))
-  answered_unread left stop h = answered (Some (Pack s)) input_tells input now tells files files left (answer_outcome (Err stop)) (end_unread stop h)
-      (λ told nought. absurd ((stop_status input_tells input stop h).0 nought))
-      (works_idle (Some (Pack s)) input_tells input now tells files (answer_outcome (Err stop)).status (stop_status input_tells input stop h).0 (stop_status input_tells input stop h).1)
+  pub answered_unread : (stop : Stop) → IsStop (reading_causes start.input_tells start.input) stop → Answered (Some (Pack s)) start start.files (answer_outcome (Err stop))
+  answered_unread stop h = record {
+    ends = end_unread stop h;
+    works = works_idle (Some (Pack s)) start start.files (answer_outcome (Err stop)).status refl (stop_status start.input_tells start.input stop h).0 (stop_status start.input_tells start.input stop h).1;
+  }
 
 -- ---- how it ends if its input is good
 
 -- with status 0 there is a report
-on_nought : (X : Type 0) (r : Result (Vec ℕ Global) Stop) → (answer_outcome r).status ≡ 0 → OnOk r X → X
+pub on_nought : (X : Type 0) (r : Result (Vec ℕ Global) Stop) → (answer_outcome r).status ≡ 0 → OnOk r X → X
 on_nought X (Ok t) nought is = is
 on_nought X (Err OutOfMemory) nought is = absurd (omega arith)
 on_nought X (Err Input) nought is = absurd (omega arith)
 on_nought X (Err Disk) nought is = absurd (omega arith)
 on_nought X (Err Malformed) nought is = absurd (omega arith)
 on_nought X (Err TooLarge) nought is = absurd (omega arith)
-on_nought X (Err BadRange) nought is = absurd (omega arith)
+on_nought X (Err NotFound) nought is = absurd (omega arith)
 on_nought X (Err (BadLine n)) nought is = absurd (omega arith)
 on_nought X (Err (BadShard name)) nought is = absurd (omega arith)
 
+pub on_ok_given : {T E X : Type 0} (r : Result T E) → X → OnOk r X
+on_ok_given (Ok t) x = x
+on_ok_given (Err e) x = tt
+
+pub on_ok_all : {T E A B C X : Type 0} (r : Result T E) → (A → B → C → X) → OnOk r A → OnOk r B → OnOk r C → OnOk r X
+on_ok_all (Ok t) f a b c = f a b c
+on_ok_all (Err e) f a b c = tt
+
 -- what storing its files does to those of the disk, by the result
-pub record StandsAt (s : LimitSettings) (now : ℕ) (tells : Bool) (old new : Files) (said : Said) (r : Result (Vec ℕ Global) Stop) : Type 0 where
-  pub stored : tells ≡ true → OnOk r (ForLines said (λ l. Stores s l now new))
-  pub recorded : tells ≡ true → OnOk r (ForLines said (λ l. Records s l now new))
-  pub made : tells ≡ true → OnOk r (ForLines said (λ l. Makes s l now old new))
-  pub listed : tells ≡ true → KeepsListed now old new
-  pub keeps : tells ≡ true → KeepsFolder now old new
-  pub kept : tells ≡ true → IsIdle (answer_outcome r).status → new ≡ old
-  pub foreign : tells ≡ true → (name : List ℕ) → IsForeign store_folder name → get new name ≡ get old name
+pub record StandsAt (s : LimitSettings) (start : Start) (new : Files) (said : Said) (r : Result (Vec ℕ Global) Stop) : Type 0 where
+  pub stored : start.tells ≡ true → OnOk r (AreStored s said.files start.now start.files new)
+  pub listed : start.tells ≡ true → KeepsListed start.now start.files new
+  pub keeps : start.tells ≡ true → KeepsFolder start.now start.files new
+  pub kept : start.tells ≡ true → IsIdle (Some (Pack s)) (answer_outcome r).status → new ≡ start.files
+  pub foreign : start.tells ≡ true → (name : List ℕ) → IsForeign store_folder name → get new name ≡ get start.files name
 
 ten_of : (tells : Bool) (s : LimitSettings) (said : Said) (now : ℕ) (files : Files) (r : Result (Vec ℕ Global) Stop) → IfErr r (IsStop (storing_causes tells s said now files)) → (answer_outcome r).status ≡ 10 → tells ≡ false
 ten_of tells s said now files (Ok t) stop ten = absurd (omega arith)
@@ -175,84 +184,41 @@ ten_of tells s said now files (Err Input) stop ten = absurd stop
 ten_of tells s said now files (Err Disk) stop ten = absurd (omega arith)
 ten_of tells s said now files (Err Malformed) stop ten = stop
 ten_of tells s said now files (Err TooLarge) stop ten = absurd (omega arith)
-ten_of tells s said now files (Err BadRange) stop ten = absurd stop
+ten_of tells s said now files (Err NotFound) stop ten = absurd stop
 ten_of tells s said now files (Err (BadLine n)) stop ten = absurd stop
 ten_of tells s said now files (Err (BadShard name)) stop ten = absurd (omega arith)
 
-module _ (s : LimitSettings) (input_tells : Bool) (input : List ℕ) (now : ℕ) (tells : Bool) (old new : Files) (said : Said) where
-  pub end_read : (r : Result (Vec ℕ Global) Stop) → (input_tells ≡ true → IsSaid input said) → are_short s said.files ≡ true → (tells ≡ true → OnOk r (IsAdmittedAt now old))
-      → IfErr r (IsStop (storing_causes tells s said now old)) → IfOk r (λ text. IsReportOf (Pack s) input_tells input tells old new now text.items) → MayEnd (Some (Pack s)) input_tells input now tells old new (answer_outcome r)
-  end_read (Ok t) is short admitted stop report = MayEnd.reported (λ told. (is told).fine) admitted (Pack s) refl report refl
-  end_read (Err OutOfMemory) is short admitted stop report = MayEnd.stopped (inl refl) refl
-  end_read (Err Disk) is short admitted stop report = MayEnd.stopped (inr (inr refl)) refl
-  end_read (Err TooLarge) is short admitted stop report = absurd (false≢true (sym stop ∙ short))
-  end_read (Err (BadShard name)) is short admitted stop report = MayEnd.refused (λ told. (is told).fine) name stop refl
-  end_read (Err Malformed) is short admitted stop report = MayEnd.malformed (λ told. (is told).fine) stop refl
-  end_read (Err Input) is short admitted stop report = absurd stop
-  end_read (Err BadRange) is short admitted stop report = absurd stop
-  end_read (Err (BadLine n)) is short admitted stop report = absurd stop
+module _ (s : LimitSettings) (start : Start) (new : Files) (said : Said) where
+  abbrev Valid : Type 0
+  Valid = (contents : Contents) × (start.tells ≡ true → HasContents start.files store_folder start.now contents)
 
-  pub works_read : (r : Result (Vec ℕ Global) Stop) → (input_tells ≡ true → IsSaid input said) → IfErr r (IsStop (storing_causes tells s said now old)) → StandsAt s now tells old new said r
-      → Works (Some (Pack s)) input_tells input now tells old new (answer_outcome r).status
-  unfolding HasStoredBy HasRecordedBy HasMadeBy
+  end_read : (r : Result (Vec ℕ Global) Stop) → (start.input_tells ≡ true → IsSaid start.input said) → are_short s said.files ≡ true → OnOk r Valid
+      → IfErr r (IsStop (storing_causes start.tells s said start.now start.files)) → IfOk r (λ text. PackAnswer s start new (answer_outcome (Ok text))) → MayEnd (Some (Pack s)) start new (answer_outcome r)
+  end_read (Ok t) is short valid stop report =
+      MayEnd.answered (λ observes. (is (observes.0 tt)).fine) record { asked = Pack s; is = refl; contents = valid.0; valid = valid.1; answer = report }
+  end_read (Err OutOfMemory) is short valid stop report = MayEnd.stopped (inl refl) refl
+  end_read (Err Disk) is short valid stop report = MayEnd.stopped (inr (inr (refl, tt))) refl
+  end_read (Err TooLarge) is short valid stop report = absurd (false≢true (sym stop ∙ short))
+  end_read (Err (BadShard name)) is short valid stop report = MayEnd.refused tt (λ observes. (is (observes.0 tt)).fine) record { name = name; fails = stop; is = refl }
+  end_read (Err Malformed) is short valid stop report = MayEnd.malformed tt (λ observes. (is (observes.0 tt)).fine) stop refl
+  end_read (Err Input) is short valid stop report = absurd stop
+  end_read (Err NotFound) is short valid stop report = absurd stop
+  end_read (Err (BadLine n)) is short valid stop report = absurd stop
+
+  works_read : (r : Result (Vec ℕ Global) Stop) → (start.input_tells ≡ true → IsSaid start.input said) → IfErr r (IsStop (storing_causes start.tells s said start.now start.files)) → StandsAt s start new said r
+      → Works (Some (Pack s)) start new (answer_outcome r).status
   works_read r is stop stands = record {
-    stored = λ told disk_told nought. on_nought (ForLines said (λ l. Stores s l now new)) r nought (stands.stored disk_told) (lines_said (lines input)) (is told).parts;
-    recorded = λ told disk_told nought. on_nought (ForLines said (λ l. Records s l now new)) r nought (stands.recorded disk_told) (lines_said (lines input)) (is told).parts;
-    made = λ told disk_told nought. on_nought (ForLines said (λ l. Makes s l now old new)) r nought (stands.made disk_told) (lines_said (lines input)) (is told).parts;
+    stored = λ observes told nought.
+        subst (λ (x : Said). AreStored s x.files start.now start.files new) (sym (is (observes.0 tt)).parts) (on_nought (AreStored s said.files start.now start.files new) r nought (stands.stored told));
     listed = stands.listed;
     keeps = stands.keeps;
-    untouched = λ told disk_told some. absurd (some (is told).fine);
+    untouched = λ observes told some. absurd (some (is (observes.0 tt)).fine);
     kept = stands.kept;
     foreign = stands.foreign;
-    malformed = ten_of tells s said now old r stop;
+    malformed = ten_of start.tells s said start.now start.files r stop;
   }
 
--- ---- what is printed of how a command ends
-
--- one that is stopped with no text prints nothing
-nothing_printed : (tells : Bool) (e : Outcome) (before after : List ℕ) (status : ℕ) → IsStoppedSilent e.status → e.text ≡ [] → Prints tells e before after status
-    → PrintsNothing tells before after status
-nothing_printed tells e before after status stop silent (inl (is, wrote)) =
-    (subst IsStoppedSilent (sym is) stop, λ told. wrote told ∙ ap (λ (t : List ℕ). before ++ t) silent ∙ append-nil before)
-nothing_printed tells e before after status stop silent (inr (short, some, wrote)) = absurd (some silent)
-
-pub ends_over : (command : Option Command) (input : List ℕ) (now : ℕ) (old new : Files) (tells : Bool) (e : Outcome) (before after : List ℕ) (status : ℕ)
-    → Ended (IsDue command input now old new) e → Prints tells e before after status → EndsOver command input now old new tells before after status
-ends_over command input now old new tells e before after status (Ended.as_due due) prints = inl (e, due, prints)
-ends_over command input now old new tells e before after status (Ended.stopped stop silent) prints = inr (nothing_printed tells e before after status stop silent prints)
-
-short_otherwise : (status : ℕ) → IsCutShort status → (status ≢ 3) × (status ≢ 8) × (status ≢ 9)
-short_otherwise status (inl one) = (λ is. omega arith, λ is. omega arith, λ is. omega arith)
-short_otherwise status (inr five) = (λ is. omega arith, λ is. omega arith, λ is. omega arith)
-
-pub ends_early : (tells : Bool) (early : Option Outcome) (e : Outcome) (before after : List ℕ) (status : ℕ) → EndedEarly early e → Prints tells e before after status
-    → EndsEarly tells early before after status
-ends_early tells (Some o) e before after status (Ended.as_due is) prints = inl (subst (λ (x : Outcome). Prints tells x before after status) is prints)
-ends_early tells (Some o) e before after status (Ended.stopped stop silent) prints = inr (nothing_printed tells e before after status stop silent prints)
-ends_early tells None e before after status others (inl (is, wrote)) = (λ three. others.0 (sym is ∙ three), λ eight. others.1 (sym is ∙ eight), λ nine. others.2 (sym is ∙ nine))
-ends_early tells None e before after status others (inr (short, some, wrote)) = short_otherwise status short
-
--- a run without a cause to refuse
-module _ (command : Option Command) (input : List ℕ) (now : ℕ) (old new : Files) (status : ℕ) (fine : IsFaultless command input now old) where
-  abbrev Ended0 : Type 0
-  Ended0 = (status ≡ 0) ⊎ IsStopped status
-
-  of_due : (o : Outcome) → IsDue (Some (Pack fine.settings)) input now old new o → status ≡ o.status → Ended0
-  of_due o (IsDue.early e) is = let bad : None ≡ Some o = sym fine.lines_good ∙ e in absurd (cc bad)
-  of_due o (IsDue.refused none e name refuses text) is = absurd (not_both old store_folder now fine.shards e name fine.folder refuses)
-  of_due o (IsDue.admitted none s same shards admits nought report) is = inl (is ∙ nought)
-
-  stopped_silent : IsStoppedSilent status → IsStopped status
-  stopped_silent (inl one) = inl one
-  stopped_silent (inr (inl four)) = inr (inl four)
-  stopped_silent (inr (inr six)) = inr (inr (inr six))
-
-  stopped_short : IsCutShort status → IsStopped status
-  stopped_short (inl one) = inl one
-  stopped_short (inr five) = inr (inr (inl five))
-
-  pub complete_of : (tells : Bool) (before after : List ℕ) → EndsOver command input now old new tells before after status → Ended0
-  complete_of tells before after (inr (stop, wrote)) = inr (stopped_silent stop)
-  complete_of tells before after (inl (o, due, inr (short, some, wrote))) = inr (stopped_short short)
-  complete_of tells before after (inl (o, due, inl (is, wrote))) =
-      of_due o (subst (λ (c : Option Command). IsDue c input now old new o) fine.is_pack due) is
+  pub answered_read : (r : Result (Vec ℕ Global) Stop) → (start.input_tells ≡ true → IsSaid start.input said) → are_short s said.files ≡ true → OnOk r Valid
+      → IfErr r (IsStop (storing_causes start.tells s said start.now start.files)) → IfOk r (λ text. PackAnswer s start new (answer_outcome (Ok text))) → StandsAt s start new said r
+      → Answered (Some (Pack s)) start new (answer_outcome r)
+  answered_read r is short valid stop report stands = record { ends = end_read r is short valid stop report; works = works_read r is stop stands }

@@ -9,7 +9,7 @@ use Rattle.hex.specs.Hex.{decode_of}
 use Rattle.hex.specs.declared.error.FromHexError.{FromHexError}
 use Rattle.xet_base.specs.theorems.FirstOf.{first_of_here, first_of_none}
 use Rattle.xet_store_cli.specs.declared.lines.FileRange.{FileRange}
-use Rattle.xet_store_cli.specs.Lines.{Line, decoded, file_bytes, files_of, first_bad, good_lines, is_bad_at, limited, line_of, ranges_of, said, with_line}
+use Rattle.xet_store_cli.specs.Lines.{Line, decoded, file_bytes, files_of, first_bad, good_lines, is_bad_at, limited, line_of, max_files, ranges_of, said, with_line}
 use Rattle.xet_store_cli.specs.Lines.Line.{FileLine, RangeLine}
 use Rattle.xet_store_cli.specs.Parsing.{Said, parted}
 use Rattle.xet_store_cli.specs.internal.Parsing.{and_line, with_next}
@@ -87,11 +87,11 @@ limited_some t s false e = absurd (none-some s e)
 pub good_said : (o : Option (List Line)) (s : List Line) → option_and_then limited o ≡ Some s → (o ≡ Some s) × (limited s ≡ Some s)
 good_said None s e = absurd (none-some s e)
 good_said (Some t) s e =
-    let same : t ≡ s = (limited_some t s (leb (length (files_of t)) 1) e).0 in
+    let same : t ≡ s = (limited_some t s (leb (length (files_of t)) max_files) e).0 in
     (ap (λ (u : List Line). Some u) same, ap limited (sym same) ∙ e)
 
-few_files : (s : List Line) → limited s ≡ Some s → length (files_of s) ≤ 1
-few_files s e = leb-true (length (files_of s)) 1 (limited_some s s (leb (length (files_of s)) 1) e).1
+few_files : (s : List Line) → limited s ≡ Some s → length (files_of s) ≤ max_files
+few_files s e = leb-true (length (files_of s)) max_files (limited_some s s (leb (length (files_of s)) max_files) e).1
 
 -- good lines and one more
 good_next : (ls : List (List ℕ)) (l : List ℕ) (s : List Line) → good_lines ls ≡ Some s → good_lines (ls ++ l ∷ []) ≡ option_and_then limited (appended s l)
@@ -112,14 +112,14 @@ parted_more : (s : List Line) (o : Option Line) → limited s ≡ Some s → opt
 parted_more s None few = refl
 parted_more s (Some (FileLine b)) few =
     let count : length (files_of (s ++ FileLine b ∷ [])) ≡ length (files_of s) + 1 = ap length (files_more s (FileLine b)) ∙ length-append (files_of s) (b ∷ []) in
-    elim (cases_lt (length (files_of s)) 1) [
-      | inl low ↦ rw (le-leb (length (files_of (s ++ FileLine b ∷ []))) 1 (omega arith), lt-ltb (length (files_of s)) 1 low) (ap (λ (x : Said). Some x) (same_said (files_more s (FileLine b)) (ranges_more s (FileLine b) ∙ append-nil (ranges_of s))))
-      | inr high ↦ rw (lt-leb (length (files_of (s ++ FileLine b ∷ []))) 1 (omega arith), le-ltb (length (files_of s)) 1 high) refl
+    elim (cases_lt (length (files_of s)) max_files) [
+      | inl low ↦ rw (le-leb (length (files_of (s ++ FileLine b ∷ []))) max_files (omega arith), lt-ltb (length (files_of s)) max_files low) (ap (λ (x : Said). Some x) (same_said (files_more s (FileLine b)) (ranges_more s (FileLine b) ∙ append-nil (ranges_of s))))
+      | inr high ↦ rw (lt-leb (length (files_of (s ++ FileLine b ∷ []))) max_files (omega arith), le-ltb (length (files_of s)) max_files high) refl
     ]
 parted_more s (Some (RangeLine r)) few =
     let same : files_of (s ++ RangeLine r ∷ []) ≡ files_of s = files_more s (RangeLine r) ∙ append-nil (files_of s) in
-    let count : length (files_of (s ++ RangeLine r ∷ [])) ≤ 1 = omega (arith, ap length same, few_files s few) in
-    rw (le-leb (length (files_of (s ++ RangeLine r ∷ []))) 1 count) (ap (λ (x : Said). Some x) (same_said same (ranges_more s (RangeLine r))))
+    let count : length (files_of (s ++ RangeLine r ∷ [])) ≤ max_files = omega (arith, ap length same, few_files s few) in
+    rw (le-leb (length (files_of (s ++ RangeLine r ∷ []))) max_files count) (ap (λ (x : Said). Some x) (same_said same (ranges_more s (RangeLine r))))
 
 parted_next : (s : List Line) (l : List ℕ) → limited s ≡ Some s → option_map parted (option_and_then limited (appended s l)) ≡ with_next (parted s) l
 parted_next s [] few = ap (option_map parted) few

@@ -25,8 +25,9 @@ use Rattle.xet_store.specs.theorems.Keeping.{keeps_then}
 use Rattle.xet_store.specs.theorems.Sessions.{has_file_stays, named_stays, range_of_file, recorded_by_folder, separate_by_folder}
 use Rattle.xet_store_cli.specs.declared.ending.Stop.{Stop}
 use Rattle.xet_store_cli.specs.declared.lines.FileRange.{FileRange}
-use Rattle.xet_store_cli.specs.Lines.{Line, bytes_in, numbered, range_bytes}
-use Rattle.xet_store_cli.specs.Outcome.{AreSeparate, store_folder}
+use Rattle.xet_store_cli.specs.Lines.{Line, bytes_in, files_of, numbered, range_bytes}
+use Rattle.xet_store_cli.specs.Answers.{AreSeparate}
+use Rattle.xet_store_cli.specs.Tasks.{store_folder}
 use Rattle.xet_store_cli.specs.Parsing.{ForLines, Said, are_good, parted}
 use Rattle.xet_store_cli.specs.Report.{IsReport, bytes_line, file_line, file_report, info_line, range_report}
 use Rattle.xet_store_cli.specs.internal.Steps.{AreRead, IsLineRead, IsSettled, hash_at}
@@ -109,22 +110,22 @@ Listing xorbs l chunks = AllByRecursion (λ pack. IsListed xorbs (xorb_hash (lea
 
 -- ---- after files were cleaned, and nothing is pending
 
--- A session before and after files were cleaned, and after it has kept what was pending.
-pub record IsDone (first before after : State) (said : Said) : Type 0 where
+-- A session before and after these files were cleaned, and after it has kept what was pending.
+pub record IsDone (first before after : State) (files : List (List ℕ)) : Type 0 where
   pub cleaned : Keeps first before
   pub keeps : Keeps before after
   pub sound : Sound before
   pub flushed : Sound after
   pub folder : first.folder ≡ store_folder
   pub fits : AreInRange first.limits
-  pub has : first.tells ≡ true → Separate before (map (chunking first.limits) said.files) → AllByRecursion (HasFile before) (map (chunking first.limits) said.files)
-  pub lists : AllByRecursion (ListsXorbs before) (map (chunking first.limits) said.files)
+  pub has : first.tells ≡ true → Separate before (map (chunking first.limits) files) → AllByRecursion (HasFile before) (map (chunking first.limits) files)
+  pub lists : AllByRecursion (ListsXorbs before) (map (chunking first.limits) files)
   pub contents : first.tells ≡ true → HasContents first.files first.folder first.opened (contents_of first)
-  pub tables : tables_of before ≡ with_files first.limits (tables_of first) said.files
+  pub tables : tables_of before ≡ with_files first.limits (tables_of first) files
 
-module _ (first before after : State) (said : Said) (done : IsDone first before after said) where
+module _ (first before after : State) (files : List (List ℕ)) (done : IsDone first before after files) where
   abbrev chunked : List (List (List ℕ))
-  chunked = map (chunking first.limits) said.files
+  chunked = map (chunking first.limits) files
 
   folder_after : after.folder ≡ store_folder
   folder_after = done.keeps.folder ∙ done.cleaned.folder ∙ done.folder
@@ -134,7 +135,7 @@ module _ (first before after : State) (said : Said) (done : IsDone first before 
 
   -- each xorb that is then listed is met in the folder
   all_met : first.tells ≡ true → (h : List ℕ) → IsSome (found before.xorbs h) → IsMet after.files after.folder after.opened first.limits chunked h
-  all_met told h is = go (listed_of_files first.limits (tables_of first) said.files h (subst (λ (t : Tables). IsSome (found t.xorbs h)) done.tables is))
+  all_met told h is = go (listed_of_files first.limits (tables_of first) files h (subst (λ (t : Tables). IsSome (found t.xorbs h)) done.tables is))
     where
       go : IsSome (found first.xorbs h) ⊎ IsPackOf first.limits chunked h → IsMet after.files after.folder after.opened first.limits chunked h
       go (inl listed) =
@@ -150,34 +151,33 @@ module _ (first before after : State) (said : Said) (done : IsDone first before 
         separate_by_folder before after (done.cleaned.tells ∙ told) done.sound done.flushed done.keeps settled.records settled.nothing_pending first.limits chunked (all_met told)
         (subst (λ (n : ℕ). SeparateIn after.files after.folder n first.limits chunked) (sym opened_after) by_folder)
 
-    each_after : (files : List (List (List ℕ))) → first.tells ≡ true → AllByRecursion (HasFile before) files → AllByRecursion (HasFile after) files
+    each_after : (cs : List (List (List ℕ))) → first.tells ≡ true → AllByRecursion (HasFile before) cs → AllByRecursion (HasFile after) cs
     each_after [] told all = tt
     each_after (c ∷ cs) told all = (has_file_stays before after (done.cleaned.tells ∙ told) done.sound done.keeps settled.records c all.0, each_after cs told all.1)
 
     -- the report
-    report_of : (infos : List XetFileInfo) (text ranges : List ℕ) → infos ≡ map (info_of first.limits) said.files → are_good said ≡ true → AreRead after infos said.ranges ranges
-        → text ≡ flat_map info_line infos ++ ranges → (lines : List Line) → parted lines ≡ said → IsReport (AreSeparate first.tells after.files first.opened first.limits lines) first.limits lines text
+    report_of : (infos : List XetFileInfo) (ranges : List FileRange) (text read_lines : List ℕ) → infos ≡ map (info_of first.limits) files → list_all (λ r. is_some (range_bytes files r)) ranges ≡ true
+        → AreRead after infos ranges read_lines → text ≡ flat_map info_line infos ++ read_lines → (lines : List Line) → parted lines ≡ record { files = files; ranges = ranges }
+        → IsReport (AreSeparate first.tells after.files first.opened first.limits (files_of lines)) first.limits lines text
     unfolding file_report range_report
-    report_of infos text ranges infos_are good read is lines parts =
-        let read_of : AreRead after (map (info_of first.limits) said.files) said.ranges ranges = subst (λ (i : List XetFileInfo). AreRead after i said.ranges ranges) infos_are read in
+    report_of infos ranges text read_lines infos_are good read is lines parts =
+        let read_of : AreRead after (map (info_of first.limits) files) ranges read_lines = subst (λ (i : List XetFileInfo). AreRead after i ranges read_lines) infos_are read in
         record {
-          ranges = ranges;
-          is = is ∙ ap (λ (i : List XetFileInfo). flat_map info_line i ++ ranges) infos_are ∙ ap (λ (t : List ℕ). t ++ ranges) (lines_of_infos first.limits said.files)
-              ∙ ap (λ (x : Said). flat_map (file_line first.limits) x.files ++ ranges) (sym parts);
+          ranges = read_lines;
+          is = is ∙ ap (λ (i : List XetFileInfo). flat_map info_line i ++ read_lines) infos_are ∙ ap (λ (t : List ℕ). t ++ read_lines) (lines_of_infos first.limits files)
+              ∙ ap (λ (x : Said). flat_map (file_line first.limits) x.files ++ read_lines) (sym parts);
           exact = λ given.
               let apart : SeparateIn after.files store_folder first.opened first.limits chunked = subst (λ (x : Said). SeparateIn after.files store_folder first.opened first.limits (map (chunking first.limits) x.files)) parts given.1 in
-              lines_exact after first.limits said.files (done.keeps.tells ∙ done.cleaned.tells ∙ given.0) done.fits (each_after chunked given.0 (done.has given.0 (separates given.0 apart))) said.ranges ranges good read_of
+              lines_exact after first.limits files (done.keeps.tells ∙ done.cleaned.tells ∙ given.0) done.fits (each_after chunked given.0 (done.has given.0 (separates given.0 apart))) ranges read_lines good read_of
               ∙ ap (λ (x : Said). flat_map (λ r. bytes_line (unwrap_or (range_bytes x.files r) [])) x.ranges) (sym parts);
-          none = λ none. subst (λ (rs : List FileRange). AreRead after infos rs ranges) (ap (λ (x : Said). x.ranges) (sym parts) ∙ none) read;
+          none = λ none. subst (λ (rs : List FileRange). AreRead after infos rs read_lines) (ap (λ (x : Said). x.ranges) (sym parts) ∙ none) read;
         }
 
     -- what is stored
-    stored_of : first.tells ≡ true → (lines : List Line) → parted lines ≡ said → Stores first.limits lines first.opened after.files
-    stored_of told lines parts = λ apart.
-        let of_said : Apart chunk_hash (MetStored after.files store_folder first.opened first.limits chunked) =
-        subst (λ (x : Said). Apart chunk_hash (MetStored after.files store_folder first.opened first.limits (map (chunking first.limits) x.files))) parts apart in
+    pub stored_of : first.tells ≡ true → Stores first.limits files first.opened after.files
+    stored_of told = λ apart.
         let of_folder : Apart chunk_hash (MetStored after.files after.folder first.opened first.limits chunked) =
-        subst (λ (f : List ℕ). Apart chunk_hash (MetStored after.files f first.opened first.limits chunked)) (sym folder_after) of_said in
+        subst (λ (f : List ℕ). Apart chunk_hash (MetStored after.files f first.opened first.limits chunked)) (sym folder_after) apart in
         let of_moment : Apart chunk_hash (MetStored after.files after.folder after.opened first.limits chunked) =
         subst (λ (n : ℕ). Apart chunk_hash (MetStored after.files after.folder n first.limits chunked)) (sym opened_after) of_folder in
         let met : (h : List ℕ) → IsSome (found after.xorbs h) → IsMet after.files after.folder after.opened first.limits chunked h =
@@ -185,10 +185,8 @@ module _ (first before after : State) (said : Said) (done : IsDone first before 
         let xorbs_same : AllByRecursion (Listing after.xorbs before.limits) chunked = subst (λ (x : Xorbs). AllByRecursion (Listing x before.limits) chunked) (sym settled.xorbs) done.lists in
         let limits_same : AllByRecursion (ListsXorbs after) chunked = subst (λ (l : LimitSettings). AllByRecursion (Listing after.xorbs l) chunked) (sym done.keeps.limits) xorbs_same in
         let all : AllByRecursion (HasXorbs after) chunked = xorbs_all after chunked done.flushed (done.keeps.tells ∙ done.cleaned.tells ∙ told) (apart_in_state after after.opened first.limits chunked met of_moment) chunked (λ c a. a) limits_same in
-        let packed = packed_all after first.limits said.files (done.keeps.limits ∙ done.cleaned.limits) all in
-        let here : AllByRecursion (λ bytes. IsPacked after.files store_folder first.limits (chunking first.limits bytes)) said.files =
-        subst (λ (f : List ℕ). AllByRecursion (λ bytes. IsPacked after.files f first.limits (chunking first.limits bytes)) said.files) folder_after packed in
-        subst (λ (x : Said). AllByRecursion (λ bytes. IsPacked after.files store_folder first.limits (chunking first.limits bytes)) x.files) (sym parts) here
+        let packed = packed_all after first.limits files (done.keeps.limits ∙ done.cleaned.limits) all in
+        subst (λ (f : List ℕ). AllByRecursion (λ bytes. IsPacked after.files f first.limits (chunking first.limits bytes)) files) folder_after packed
 
     -- what is recorded
     record_one : first.tells ≡ true → SeparateIn after.files store_folder first.opened first.limits chunked → (bytes : List ℕ) → Among chunked (chunking first.limits bytes) → HasFile before (chunking first.limits bytes) → bytes ≢ []
@@ -205,30 +203,20 @@ module _ (first before after : State) (said : Said) (done : IsDone first before 
           resolves = subst (λ (f : List ℕ). ResolvesTo after.files f r.0 chunks) folder_after r.3;
         }
 
-    record_all : first.tells ≡ true → SeparateIn after.files store_folder first.opened first.limits chunked → (files : List (List ℕ)) → ((c : List (List ℕ)) → Among (map (chunking first.limits) files) c → Among chunked c)
-        → AllByRecursion (HasFile before) (map (chunking first.limits) files) → AllByRecursion (λ bytes. bytes ≢ [] → IsRecorded first.limits after.files first.opened bytes) files
+    record_all : first.tells ≡ true → SeparateIn after.files store_folder first.opened first.limits chunked → (fs : List (List ℕ)) → ((c : List (List ℕ)) → Among (map (chunking first.limits) fs) c → Among chunked c)
+        → AllByRecursion (HasFile before) (map (chunking first.limits) fs) → AllByRecursion (λ bytes. bytes ≢ [] → IsRecorded first.limits after.files first.opened bytes) fs
     record_all told apart [] given all = tt
     record_all told apart (f ∷ fs) given all =
         (record_one told apart f (given (chunking first.limits f) (inl refl)) all.0, record_all told apart fs (λ c a. given c (inr a)) all.1)
 
-    recorded_of : first.tells ≡ true → (lines : List Line) → parted lines ≡ said → Records first.limits lines first.opened after.files
-    recorded_of told lines parts = λ given.
-        let apart : SeparateIn after.files store_folder first.opened first.limits chunked = subst (λ (x : Said). SeparateIn after.files store_folder first.opened first.limits (map (chunking first.limits) x.files)) parts given in
-        let all = record_all told apart said.files (λ c a. a) (done.has told (separates told apart)) in
-        subst (λ (x : Said). AllByRecursion (λ bytes. bytes ≢ [] → IsRecorded first.limits after.files first.opened bytes) x.files) (sym parts) all
+    pub recorded_of : first.tells ≡ true → Records first.limits files first.opened after.files
+    recorded_of told = λ apart. record_all told apart files (λ c a. a) (done.has told (separates told apart))
 
-  -- where a report is answered
+-- where the lines of an input were stored
+module _ (first before after : State) (said : Said) (done : IsDone first before after said.files) where
   pub reports : (infos : List XetFileInfo) (ranges : List FileRange) → infos ≡ map (info_of first.limits) said.files → ranges ≡ said.ranges → are_good said ≡ true
       → (r : Result (Vec ℕ Global) Stop) → OnOk r (IsSettled before after) → IfOk r (λ text. (lines : List ℕ) × AreRead after infos ranges lines × (text.items ≡ flat_map info_line infos ++ lines))
-      → IfOk r (λ text. ForLines said (λ lines. IsReport (AreSeparate first.tells after.files first.opened first.limits lines) first.limits lines text.items))
+      → IfOk r (λ text. ForLines said (λ lines. IsReport (AreSeparate first.tells after.files first.opened first.limits (files_of lines)) first.limits lines text.items))
   reports infos ranges told same good (Ok t) settled (text, read, is) = λ lines parts.
-      report_of settled infos t.items text told good (subst (λ (rs : List FileRange). AreRead after infos rs text) same read) is lines parts
+      report_of first before after said.files done settled infos said.ranges t.items text told good (subst (λ (rs : List FileRange). AreRead after infos rs text) same read) is lines parts
   reports infos ranges told same good (Err stop) settled text = tt
-
-  pub stores : first.tells ≡ true → (r : Result (Vec ℕ Global) Stop) → OnOk r (IsSettled before after) → OnOk r (ForLines said (λ lines. Stores first.limits lines first.opened after.files))
-  stores told (Ok t) settled = λ lines parts. stored_of settled told lines parts
-  stores told (Err stop) settled = tt
-
-  pub records : first.tells ≡ true → (r : Result (Vec ℕ Global) Stop) → OnOk r (IsSettled before after) → OnOk r (ForLines said (λ lines. Records first.limits lines first.opened after.files))
-  records told (Ok t) settled = λ lines parts. recorded_of settled told lines parts
-  records told (Err stop) settled = tt

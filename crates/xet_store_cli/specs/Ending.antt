@@ -1,44 +1,86 @@
--- How a run may end, over any input and disk, observable or not.
-use Rattle.std.specs.Prelude.{◌≡◌, ◌⊎◌, ℕ, Bool, true, false, List, [], Option, Some, None}
-use Rattle.std.specs.Str.Lines.{lines}
+-- How a run may end.
+use Rattle.std.specs.Prelude.{◌≡◌, ◌≢◌, ◌⊎◌, ℕ, ◌≤◌, Bool, true, false, List, [], ◌∷◌, ◌++◌, codes, length, take, Option, Some, None}
 use Rattle.xet_io.specs.Disk.{Files}
 use Rattle.xet_hash.specs.declared.error.StoreError.{StoreError}
-use Rattle.xet_folder.specs.Admission.{Admits, Refuses}
-use Rattle.xet_shard_file.specs.Shards.{ShardFile}
-use Rattle.xet_cut.specs.declared.limits.LimitSettings.{LimitSettings}
-use Rattle.xet_store_cli.specs.declared.words.Command.{Command}
-use Rattle.xet_store_cli.specs.declared.words.Command.TheVariants.{Pack}
-use Rattle.xet_store_cli.specs.Lines.{Line, are_ranges, good_lines}
-use Rattle.xet_store_cli.specs.Outcome.{AreSeparate, IsStoppedSilent, Outcome, bad_line_text, bad_shard_text, early_outcome, outcome, store_folder}
-use Rattle.xet_store_cli.specs.Report.{IsReport}
-use Rattle.xet_store_cli.specs.Stored.{Makes, Records, Stores}
+use Rattle.xet_folder.specs.Admission.{Refuses}
+use Rattle.xet_folder.specs.Contents.{HasContents}
+use Rattle.xet_folder.specs.declared.contents.Contents.{Contents}
+use Rattle.xet_store_cli.specs.Words.{Command}
+use Rattle.xet_store_cli.specs.Words.Command.{Pack, Clean, Read, ListFiles, Group}
+use Rattle.xet_store_cli.specs.Start.{Observes, OpensInputs, ReadsInput, Start}
+use Rattle.xet_store_cli.specs.Early.{IsEarly, Outcome, early_outcome, max_input, outcome, pack_early}
+use Rattle.xet_store_cli.specs.Tasks.{default_limits, store_folder}
+use Rattle.xet_store_cli.specs.Allowed.{are_short}
+use Rattle.xet_store_cli.specs.Answers.{Answers, AreNamed, IsNoRange}
 
--- The text is a report of what an input says to the command; it is this input, if that is observable. If the
--- disk is observable, the files of the lines are then stored, recorded and made.
-pub record IsReportOf (command : Command) (input_tells : Bool) (input : List ℕ) (tells : Bool) (old new : Files) (now : ℕ) (text : List ℕ) : Type 0 where
-  pub settings : LimitSettings
-  pub said : List Line
-  pub is_pack : command ≡ Pack settings
-  pub good : input_tells ≡ true → good_lines (lines input) ≡ Some said
-  pub ranges_good : are_ranges said ≡ true
-  pub report : IsReport (AreSeparate tells new now settings said) settings said text
-  pub stored : tells ≡ true → Stores settings said now new
-  pub recorded : tells ≡ true → Records settings said now new
-  pub made : tells ≡ true → Makes settings said now old new
+abbrev pub bad_shard_text : List ℕ → List ℕ
+bad_shard_text name = codes "bad shard " ++ name ++ 10 ∷ []
 
--- how a run ends before its store is opened, whatever its input
-abbrev pub IsEarly : Outcome → Type 0
-IsEarly o = (o ≡ outcome 2 []) ⊎ (o ≡ outcome 8 []) ⊎ (o ≡ outcome 9 []) ⊎ ((n : ℕ) × (o ≡ outcome 3 (bad_line_text n)))
+-- The command opens the store.
+abbrev pub OpensStore : Option Command → Type 0
+OpensStore None = ⊥
+OpensStore (Some Group) = ⊥
+OpensStore (Some _) = Unit {0}
 
--- How a run of a command may end, at a time, over an input and a disk that are observable or not:
--- before its store is opened, as is due then; at a shard that fails a check; with a report; stopped, with no
--- text; or, on a disk that is not observable, because a stored xorb changed after it was verified.
-pub data MayEnd (command : Option Command) (input_tells : Bool) (input : List ℕ) (now : ℕ) (tells : Bool) (old new : Files) (o : Outcome) : Type 0 where
-  early : (input_tells ≡ true → early_outcome command input ≡ Some o) → IsEarly o → MayEnd command input_tells input now tells old new o
-  refused : (input_tells ≡ true → early_outcome command input ≡ None) → (name : List ℕ) → (tells ≡ true → (e : StoreError) × Refuses old store_folder now e name)
-      → o ≡ outcome 7 (bad_shard_text name) → MayEnd command input_tells input now tells old new o
-  reported : (input_tells ≡ true → early_outcome command input ≡ None) → (tells ≡ true → (shards : List ShardFile) × Admits old store_folder now shards)
-      → (c : Command) → command ≡ Some c → IsReportOf c input_tells input tells old new now o.text → o.status ≡ 0
-      → MayEnd command input_tells input now tells old new o
-  stopped : IsStoppedSilent o.status → o.text ≡ [] → MayEnd command input_tells input now tells old new o
-  malformed : (input_tells ≡ true → early_outcome command input ≡ None) → tells ≡ false → o ≡ outcome 10 [] → MayEnd command input_tells input now tells old new o
+-- A shard of the folder is the first with which a check fails, if the disk is observable; its name is printed.
+pub record IsRejected (start : Start) (o : Outcome) : Type 0 where
+  pub name : List ℕ
+  pub fails : start.tells ≡ true → (e : StoreError) × Refuses start.files store_folder start.now e name
+  pub is : o ≡ outcome 7 (bad_shard_text name)
+
+-- The folder is valid, if the disk is observable, and this is what the command answers.
+pub record IsAnswer (command : Option Command) (start : Start) (new : Files) (o : Outcome) : Type 0 where
+  pub asked : Command
+  pub is : command ≡ Some asked
+  pub contents : Contents
+  pub valid : start.tells ≡ true → HasContents start.files store_folder start.now contents
+  pub answer : Answers asked start contents new o
+
+-- A run of a command is stopped before it prints if memory is out, if an input fails that the command reads, or if
+-- the disk fails on which it opens the store.
+abbrev pub IsStoppedSilent : Option Command → ℕ → Type 0
+IsStoppedSilent command status =
+    (status ≡ 1) ⊎ ((status ≡ 4) × (ReadsInput command ⊎ OpensInputs command)) ⊎ ((status ≡ 6) × OpensStore command)
+
+-- How the run of a command may end: before its store is opened, as is due then; at a shard that fails a check; with
+-- its answer; stopped, with no text; or, on a disk that is not observable, because a stored xorb changed after it
+-- was verified.
+pub data MayEnd (command : Option Command) (start : Start) (new : Files) (o : Outcome) : Type 0 where
+  early : (Observes start command → early_outcome command start.input ≡ Some o) → IsEarly command o → MayEnd command start new o
+  refused : OpensStore command → (Observes start command → early_outcome command start.input ≡ None) → IsRejected start o → MayEnd command start new o
+  answered : (Observes start command → early_outcome command start.input ≡ None) → IsAnswer command start new o → MayEnd command start new o
+  stopped : IsStoppedSilent command o.status → o.text ≡ [] → MayEnd command start new o
+  malformed : OpensStore command → (Observes start command → early_outcome command start.input ≡ None) → start.tells ≡ false → o ≡ outcome 10 [] → MayEnd command start new o
+
+-- It is cut short while it prints if the output fails or runs out of memory.
+abbrev pub IsCutShort : ℕ → Type 0
+IsCutShort status = (status ≡ 1) ⊎ (status ≡ 5)
+
+-- What a run with this outcome has printed, if the output is observable: the whole text; or, if there is a
+-- text and the run was cut short, a prefix of it.
+abbrev pub Prints : Bool → Outcome → List ℕ → List ℕ → ℕ → Type 0
+Prints tells o before after status =
+    ((status ≡ o.status) × (tells ≡ true → after ≡ before ++ o.text))
+    ⊎ (IsCutShort status × (o.text ≢ []) × (tells ≡ true → (n : ℕ) × (after ≡ before ++ take n o.text)))
+
+-- a run that was stopped
+abbrev pub IsStopped : ℕ → Type 0
+IsStopped status = (status ≡ 1) ⊎ (status ≡ 4) ⊎ (status ≡ 5) ⊎ (status ≡ 6)
+
+-- the statuses with which nothing is printed
+abbrev pub IsSilent : ℕ → Type 0
+IsSilent status = (status ≡ 2) ⊎ (status ≡ 4) ⊎ (status ≡ 6) ⊎ (status ≡ 8) ⊎ (status ≡ 9) ⊎ (status ≡ 10)
+
+-- The folder is valid at the start, and its contents have this.
+abbrev pub ForContents : Start → (Contents → Type 0) → Type 0
+ForContents start P = (contents : Contents) × HasContents start.files store_folder start.now contents × P contents
+
+-- Command, inputs and disk give no cause for another status than 0.
+abbrev pub IsFaultless : Option Command → Start → Type 0
+IsFaultless None start = ⊥
+IsFaultless (Some (Pack s)) start = (pack_early start.input ≡ None) × ForContents start (λ contents. Unit {0})
+IsFaultless (Some (Clean names)) start =
+    (files : List (List ℕ)) × AreNamed start.inputs names files × (are_short default_limits files ≡ true) × ForContents start (λ contents. Unit {0})
+IsFaultless (Some (Read h from to)) start = ForContents start (λ contents. IsNoRange contents.records h from to → ⊥)
+IsFaultless (Some ListFiles) start = ForContents start (λ contents. Unit {0})
+IsFaultless (Some Group) start = length start.input ≤ max_input

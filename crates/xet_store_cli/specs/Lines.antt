@@ -1,5 +1,5 @@
 -- The lines of an input, and what they say. A line ends with LF or CR LF; the last LF may be missing.
-use Rattle.std.specs.Prelude.{ℕ, zero, suc, ◌==◌, ◌&&◌, nat_le, Bool, List, [], ◌∷◌, length, take, drop, codes, Option, Some, None, Result, Ok, Err, is_none, is_some, if◌then◌else◌, option_and_then}
+use Rattle.std.specs.Prelude.{ℕ, zero, suc, ◌^◌, ◌==◌, ◌&&◌, nat_le, Bool, List, [], ◌∷◌, length, take, drop, codes, Option, Some, None, Result, Ok, Err, is_none, is_some, if◌then◌else◌, option_and_then}
 use Rattle.std.specs.List.{list_all}
 use Rattle.std.specs.Option.{option_map}
 use Rattle.std.specs.Str.{bytes_eq}
@@ -77,7 +77,7 @@ ranges_of (RangeLine range ∷ lines) = range ∷ ranges_of lines
 
 -- the maximum number of file lines
 abbrev pub max_files : ℕ
-max_files = 1
+max_files = 2 ^ 20
 
 abbrev pub limited : List Line → Option (List Line)
 limited lines = if nat_le (length (files_of lines)) max_files then Some lines else None

@@ -1,4 +1,4 @@
--- The report of `pack`.
+-- The report of files that were stored: a line for each, and the bytes of ranges of them.
 use Rattle.std.specs.Prelude.{◌≡◌, ℕ, List, [], ◌∷◌, ◌++◌, length, Option, Some, None, unwrap_or}
 use Rattle.std.specs.List.{flat_map}
 use Rattle.std.specs.Fmt.{decimal}

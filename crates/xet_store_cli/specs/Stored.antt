@@ -1,8 +1,7 @@
 -- What a command does to the files of its disk.
-use Rattle.std.specs.Prelude.{◌≡◌, ◌≢◌, ◌⊎◌, ℕ, ◌<◌, ◌≤◌, ◌^◌, Bool, true, false, List, [], Option, None, IfSome}
+use Rattle.std.specs.Prelude.{◌≡◌, ◌≢◌, ◌⊎◌, ℕ, ◌<◌, ◌≤◌, ◌^◌, true, false, List, [], map, Option, None, IfSome}
 use Rattle.std.specs.FinMap.{get}
 use Rattle.std.specs.List.{AllByRecursion, IsAmong}
-use Rattle.std.specs.Str.Lines.{lines}
 use Rattle.xet_io.specs.Disk.{Files}
 use Rattle.xet_hash.specs.Merkle.{chunk_hash}
 use Rattle.xet_cut.specs.declared.limits.LimitSettings.{LimitSettings}
@@ -17,22 +16,18 @@ use Rattle.xet_folder.specs.Names.{IsForeign, xorb_path}
 use Rattle.xet_shard_file.specs.Shards.{IsThere, ShardFile, is_expired}
 use Rattle.xet_shard_format.specs.declared.record.MDBFileInfo.{MDBFileInfo}
 use Rattle.xet_shard_format.specs.Records.{file_record_hash}
-use Rattle.xet_store_cli.specs.declared.words.Command.{Command}
-use Rattle.xet_store_cli.specs.declared.words.Command.TheVariants.{Pack}
-use Rattle.xet_store_cli.specs.Lines.{Line, files_of}
-use Rattle.xet_store_cli.specs.Outcome.{IsIdle, chunkings_of, early_outcome, lines_said, store_folder}
+use Rattle.xet_store_cli.specs.Words.{Command}
+use Rattle.xet_store_cli.specs.Start.{Start, Observes}
+use Rattle.xet_store_cli.specs.Early.{early_outcome}
+use Rattle.xet_store_cli.specs.Tasks.{IsIdle, files_to_store, limits_of, store_folder}
 use Rattle.xet_store_cli.specs.Report.{hash_of_file}
 
--- If there are no collisions among the chunks seen in the folder at a time and in these lines, each xorb into
+-- If there are no collisions among the chunks seen in the folder at a time and in these files, each xorb into
 -- which a file's chunks are packed is stored under its hash.
-abbrev pub Stores : LimitSettings → List Line → ℕ → Files → Type 0
-Stores s said now files =
-    Apart chunk_hash (MetStored files store_folder now s (chunkings_of s said))
-    → AllByRecursion (λ bytes. IsPacked files store_folder s (chunking s bytes)) (files_of said)
-
--- The files of the lines of this input are stored on a disk with these files.
-unfoldable pub HasStoredBy : Command → List ℕ → ℕ → Files → Type 0
-HasStoredBy (Pack s) input now files = Stores s (lines_said (lines input)) now files
+abbrev pub Stores : LimitSettings → List (List ℕ) → ℕ → Files → Type 0
+Stores s stored now files =
+    Apart chunk_hash (MetStored files store_folder now s (map (chunking s) stored))
+    → AllByRecursion (λ bytes. IsPacked files store_folder s (chunking s bytes)) stored
 
 -- The folder lists a record of the file of these bytes, under its hash, and the plan resolves to its chunks.
 pub record IsRecorded (s : LimitSettings) (files : Files) (now : ℕ) (bytes : List ℕ) : Type 0 where
@@ -41,21 +36,12 @@ pub record IsRecorded (s : LimitSettings) (files : Files) (now : ℕ) (bytes : L
   pub hash : file_record_hash record_of_it ≡ hash_of_file s bytes
   pub resolves : ResolvesTo files store_folder record_of_it (chunking s bytes)
 
--- If there are no collisions among the data seen in the folder and in these lines, each file that is not
+-- If there are no collisions among the data seen in the folder and in these files, each file that is not
 -- empty is recorded.
-abbrev pub Records : LimitSettings → List Line → ℕ → Files → Type 0
-Records s said now files =
-    SeparateIn files store_folder now s (chunkings_of s said)
-    → AllByRecursion (λ bytes. bytes ≢ [] → IsRecorded s files now bytes) (files_of said)
-
--- The files of the lines of this input are recorded on a disk with these files.
-unfoldable pub HasRecordedBy : Command → List ℕ → ℕ → Files → Type 0
-HasRecordedBy (Pack s) input now files = Records s (lines_said (lines input)) now files
-
--- Each file that is listed before, at `now` or later, is listed after for that time, with the same chunks.
-pub record KeepsListed (now : ℕ) (old new : Files) : Type 0 where
-  pub listed : (later : ℕ) → now ≤ later → (f : MDBFileInfo) → Lists old store_folder later f → Lists new store_folder later f
-  pub resolves : (later : ℕ) → now ≤ later → (f : MDBFileInfo) → Lists old store_folder later f → (chunks : List (List ℕ)) → ResolvesTo old store_folder f chunks → ResolvesTo new store_folder f chunks
+abbrev pub Records : LimitSettings → List (List ℕ) → ℕ → Files → Type 0
+Records s stored now files =
+    SeparateIn files store_folder now s (map (chunking s) stored)
+    → AllByRecursion (λ bytes. bytes ≢ [] → IsRecorded s files now bytes) stored
 
 -- At a time the folder lists a record with this hash.
 abbrev pub ListsHash : Files → ℕ → List ℕ → Type 0
@@ -66,16 +52,24 @@ ListsHash files now h = (f : MDBFileInfo) × Lists files store_folder now f × (
 abbrev pub ListsMade : LimitSettings → Files → List ℕ → Type 0
 ListsMade s files bytes = (time : ℕ) → time < 2 ^ 64 → Lists files store_folder time (record_of_file s bytes)
 
--- Each file of these lines that is not empty, and whose hash had no record listed at `now`, has one that is
--- listed at every time below 2 ^ 64, and that was made of it or of a file line with the same hash.
-abbrev pub Makes : LimitSettings → List Line → ℕ → Files → Files → Type 0
-Makes s said now old new =
+-- Each of these files that is not empty, and whose hash had no record listed at `now`, has one that is listed
+-- at every time below 2 ^ 64, and that was made of it or of one of these files with the same hash.
+abbrev pub Makes : LimitSettings → List (List ℕ) → ℕ → Files → Files → Type 0
+Makes s stored now old new =
     AllByRecursion (λ bytes. bytes ≢ [] → (ListsHash old now (hash_of_file s bytes) → ⊥)
-    → (made : List ℕ) × IsAmong (files_of said) made × (hash_of_file s made ≡ hash_of_file s bytes) × ListsMade s new made) (files_of said)
+    → (made : List ℕ) × IsAmong stored made × (hash_of_file s made ≡ hash_of_file s bytes) × ListsMade s new made) stored
 
--- The files of the lines of this input that were new to the folder before are made in the folder after.
-unfoldable pub HasMadeBy : Command → List ℕ → ℕ → Files → Files → Type 0
-HasMadeBy (Pack s) input now old new = Makes s (lines_said (lines input)) now old new
+-- Files were stored in the folder of a disk: the xorbs of each are stored, each is recorded, and the records of
+-- those that were new to the folder are made of them.
+pub record AreStored (s : LimitSettings) (stored : List (List ℕ)) (now : ℕ) (old new : Files) : Type 0 where
+  pub xorbs : Stores s stored now new
+  pub recorded : Records s stored now new
+  pub made : Makes s stored now old new
+
+-- Each file that is listed before, at `now` or later, is listed after for that time, with the same chunks.
+pub record KeepsListed (now : ℕ) (old new : Files) : Type 0 where
+  pub listed : (later : ℕ) → now ≤ later → (f : MDBFileInfo) → Lists old store_folder later f → Lists new store_folder later f
+  pub resolves : (later : ℕ) → now ≤ later → (f : MDBFileInfo) → Lists old store_folder later f → (chunks : List (List ℕ)) → ResolvesTo old store_folder f chunks → ResolvesTo new store_folder f chunks
 
 -- The store's folder on a disk with these files is valid at a time.
 abbrev pub IsAdmittedAt : ℕ → Files → Type 0
@@ -95,13 +89,11 @@ pub record KeepsFolder (now : ℕ) (old new : Files) : Type 0 where
 
 -- What the run of a command does to the files of its disk, by the status with which it ends: what status 0
 -- promises, what is kept whatever the status, and when no file has changed.
-pub record Works (command : Option Command) (input_tells : Bool) (input : List ℕ) (now : ℕ) (tells : Bool) (old new : Files) (status : ℕ) : Type 0 where
-  pub stored : input_tells ≡ true → tells ≡ true → status ≡ 0 → IfSome command (λ c. HasStoredBy c input now new)
-  pub recorded : input_tells ≡ true → tells ≡ true → status ≡ 0 → IfSome command (λ c. HasRecordedBy c input now new)
-  pub made : input_tells ≡ true → tells ≡ true → status ≡ 0 → IfSome command (λ c. HasMadeBy c input now old new)
-  pub listed : tells ≡ true → KeepsListed now old new
-  pub keeps : tells ≡ true → KeepsFolder now old new
-  pub untouched : input_tells ≡ true → tells ≡ true → early_outcome command input ≢ None → new ≡ old
-  pub kept : tells ≡ true → IsIdle status → new ≡ old
-  pub foreign : tells ≡ true → (name : List ℕ) → IsForeign store_folder name → get new name ≡ get old name
-  pub malformed : status ≡ 10 → tells ≡ false
+pub record Works (command : Option Command) (start : Start) (new : Files) (status : ℕ) : Type 0 where
+  pub stored : Observes start command → start.tells ≡ true → status ≡ 0 → IfSome command (λ c. AreStored (limits_of c) (files_to_store c start) start.now start.files new)
+  pub listed : start.tells ≡ true → KeepsListed start.now start.files new
+  pub keeps : start.tells ≡ true → KeepsFolder start.now start.files new
+  pub untouched : Observes start command → start.tells ≡ true → early_outcome command start.input ≢ None → new ≡ start.files
+  pub kept : start.tells ≡ true → IsIdle command status → new ≡ start.files
+  pub foreign : start.tells ≡ true → (name : List ℕ) → IsForeign store_folder name → get new name ≡ get start.files name
+  pub malformed : status ≡ 10 → start.tells ≡ false

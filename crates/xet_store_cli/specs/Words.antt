@@ -1,16 +1,30 @@
 -- The arguments, each as the bytes of its text, and the command that they give.
-use Rattle.std.specs.Prelude.{ℕ, ◌*◌, ◌/◌, ◌^◌, ◌&&◌, nat_lt, Bool, min, List, [], ◌∷◌, length, replicate, codes, Option, Some, None, if◌then◌else◌, option_and_then}
+use Rattle.std.specs.Prelude.{ℕ, ◌*◌, ◌/◌, ◌^◌, ◌==◌, ◌&&◌, nat_lt, Bool, false, min, List, [], ◌∷◌, length, replicate, codes, Option, Some, None, if◌then◌else◌, option_and_then}
 use Rattle.std.specs.Option.{option_map}
 use Rattle.std.specs.Int.{is_power_of_two}
-use Rattle.std.specs.List.{list_all}
+use Rattle.std.specs.List.{list_all, list_any}
 use Rattle.std.specs.Char.{is_ascii_digit}
-use Rattle.std.specs.Str.{bytes_eq}
+use Rattle.std.specs.Result.{is_ok, result_ok}
+use Rattle.std.specs.Str.{bytes_eq, str_to_ascii_lowercase}
 use Rattle.std.specs.Str.Parse.{digits_value}
+use Rattle.hex.specs.Hex.{decode_sized}
+use Rattle.xet_hash.specs.Order.{flipped}
 use Rattle.xet_cut.specs.declared.limits.LimitSettings.{LimitSettings}
 use Rattle.xet_cut.specs.Limits.{is_between, shown_settings}
 use Rattle.xet_cut.specs.Generator.{gear_table}
-use Rattle.xet_store_cli.specs.declared.words.Command.{Command}
-use Rattle.xet_store_cli.specs.declared.words.Command.TheVariants.{Pack}
+
+-- A command with its arguments.
+pub data Command : Type 0 where
+  -- stores the files of the input's lines under these limits, and reports them and their ranges
+  Pack : (s : LimitSettings) → Command
+  -- stores the files with these names, and reports them
+  Clean : (names : List (List ℕ)) → Command
+  -- prints bytes FROM..TO, TO excluded, of the file with this hash
+  Read : (hash : List ℕ) → (from : ℕ) → (to : ℕ) → Command
+  -- lists the files of the store
+  ListFiles : Command
+  -- prints the input in four groups of bytes
+  Group : Command
 
 -- 1 to 20 decimal digits
 abbrev pub is_digits : List ℕ → Bool
@@ -47,19 +61,59 @@ pack_settings target gear = record (shown_settings gear) {
   max_source_bytes = min (2 ^ 29 * (target / 8)) (2 ^ 42);
 }
 
-abbrev pub pack_of : Option ℕ → Option (List ℕ) → Option Command
-pack_of None gear = None
-pack_of (Some target) None = None
-pack_of (Some target) (Some gear) = Some (Pack (pack_settings target gear))
+abbrev pub pack_by : Option ℕ → Option (List ℕ) → Option Command
+pack_by None gear = None
+pack_by (Some target) None = None
+pack_by (Some target) (Some gear) = Some (Pack (pack_settings target gear))
 
--- the command of three arguments
-abbrev pub three_words : List ℕ → List ℕ → List ℕ → Option Command
-three_words name target gear = if bytes_eq name (codes "pack") then pack_of (target_of target) (gear_of gear) else None
+-- `pack TARGET GEAR`
+abbrev pub pack_of : List (List ℕ) → Option Command
+pack_of (target ∷ gear ∷ []) = pack_by (target_of target) (gear_of gear)
+pack_of _ = None
 
--- `pack TARGET GEAR`; any other arguments are invalid
+-- the maximum number of names
+abbrev pub max_names : ℕ
+max_names = 2 ^ 20
+
+-- `clean NAME..`
+abbrev pub clean_of : List (List ℕ) → Option Command
+clean_of names = if is_between 1 max_names (length names) then Some (Clean names) else None
+
+-- the hash of a text form: 64 hexadecimal digits of either case, each word with its high byte first
+unfoldable pub hash_of_text : List ℕ → Option (List ℕ)
+hash_of_text text =
+    if is_ok (decode_sized text 32) then option_map flipped (result_ok (decode_sized (str_to_ascii_lowercase text) 32)) else None
+
+abbrev pub read_by : Option (List ℕ) → Option ℕ → Option ℕ → Option Command
+read_by (Some hash) (Some from) (Some to) = Some (Read hash from to)
+read_by _ _ _ = None
+
+-- `read HASH FROM TO`
+abbrev pub read_of : List (List ℕ) → Option Command
+read_of (hash ∷ from ∷ to ∷ []) = read_by (hash_of_text hash) (number_of from) (number_of to)
+read_of _ = None
+
+-- a command without arguments
+abbrev pub alone : Command → List (List ℕ) → Option Command
+alone command [] = Some command
+alone command (word ∷ words) = None
+
+-- the command of a name and its arguments
+unfoldable pub command_by : List ℕ → List (List ℕ) → Option Command
+command_by name words =
+    if bytes_eq name (codes "pack") then pack_of words
+    else if bytes_eq name (codes "clean") then clean_of words
+    else if bytes_eq name (codes "read") then read_of words
+    else if bytes_eq name (codes "list") then alone ListFiles words
+    else if bytes_eq name (codes "group") then alone Group words
+    else None
+
+-- whether a word begins with `-`
+abbrev pub is_option : List ℕ → Bool
+is_option [] = false
+is_option (b ∷ bs) = b == 45
+
+-- The command that the arguments give; none if they are invalid. No argument begins with `-`.
 unfoldable pub command_of : List (List ℕ) → Option Command
 command_of [] = None
-command_of (name ∷ []) = None
-command_of (name ∷ target ∷ []) = None
-command_of (name ∷ target ∷ gear ∷ []) = three_words name target gear
-command_of (name ∷ target ∷ gear ∷ more ∷ words) = None
+command_of (name ∷ words) = if list_any is_option (name ∷ words) then None else command_by name words

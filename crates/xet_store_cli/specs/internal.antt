@@ -1,3 +1,5 @@
+pub mod Asked
+pub mod Cleaned
 pub mod Parsing
 pub mod Steps
 pub mod Stops

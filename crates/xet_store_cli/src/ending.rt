@@ -1,29 +1,30 @@
 //! How a command ends: the status and the text.
 
-ghost use Rattle.std.specs.Prelude.{◌≡◌, ◌⊎◌, [], ◌++◌, true, ℕ, take, IfOk, IsOkUnless, string_bytes};
-ghost use Rattle.xet_store_cli.specs.Outcome.{bad_line_text, bad_shard_text, outcome, Prints};
+ghost use Rattle.std.specs.Prelude.{◌≡◌, ◌⊎◌, [], true, IfOk};
+ghost use Rattle.xet_store_cli.specs.Early.{bad_line_text, outcome};
+ghost use Rattle.xet_store_cli.specs.Ending.{bad_shard_text, Prints};
 ghost use Rattle.xet_store_cli.specs.Stops.{answer_outcome};
 ghost use Rattle.xet_io.specs.Frame.{Called};
 
 use std::alloc::{AllocError, AllocFailed, Global};
 use std::marker::Model;
 use xet_base::Text;
-use xet_hash::StoreError;
+use xet_hash::{Place, StoreError};
 use xet_io::{Refusal, Sink, Unread, write_all};
 
-/// Why a command stops without a report.
+/// Why a command stops without an answer.
 #[derive(Debug, Drop)]
 pub enum Stop {
     /// Out of memory.
     OutOfMemory,
-    /// Reading the input failed.
+    /// Reading the input or a file failed.
     Input,
-    /// The input is too long.
+    /// The input or a file is too long.
     TooLarge,
     /// The number, counted from 1, of the first bad line.
     BadLine(u64),
-    /// A range line names no bytes of the file lines.
-    BadRange,
+    /// There is no such range, file or name.
+    NotFound,
     /// The disk failed.
     Disk,
     /// The file name of the first shard that fails a check.
@@ -55,10 +56,11 @@ impl From<StoreError> for Stop {
 
     fn from(error: StoreError) -> Stop {
         match error {
+            StoreError::Io(Place::Source(_)) => Stop::Input,
             StoreError::Io(_) => Stop::Disk,
             StoreError::TooLarge(_) => Stop::TooLarge,
             StoreError::MalformedData(_) => Stop::Malformed,
-            // `OutOfMemory`. Of the others only `InvalidRange` can occur, and only if digests collide.
+            // `OutOfMemory`. Of the others only `FileNotFound` and `InvalidRange` can occur, and only if digests collide.
             _ => Stop::OutOfMemory,
         }
     }
@@ -86,7 +88,7 @@ impl<T: Drop> From<AllocFailed<T>> for Stop {
     }
 }
 
-/// The status if the report was printed.
+/// The status if the answer was printed.
 const DONE: u8 = 0;
 
 /// The status if memory is out.
@@ -98,7 +100,7 @@ const BAD_WORDS: u8 = 2;
 /// The status if the input has a bad line.
 const BAD_LINE: u8 = 3;
 
-/// The status if reading the input failed.
+/// The status if reading the input or a file failed.
 const INPUT_FAILED: u8 = 4;
 
 /// The status if writing the output failed.
@@ -110,10 +112,10 @@ const DISK_FAILED: u8 = 6;
 /// The status if the folder is not valid.
 const BAD_SHARD: u8 = 7;
 
-/// The status if a range line names no bytes of the file lines.
-const BAD_RANGE: u8 = 8;
+/// The status if there is no such range, file or name.
+const NOT_FOUND: u8 = 8;
 
-/// The status if the input is too long.
+/// The status if the input or a file is too long.
 const TOO_LARGE: u8 = 9;
 
 /// The status if a stored xorb changed after it was verified.
@@ -127,7 +129,7 @@ pub struct Ending {
 }
 
 impl Model for Ending {
-    ghost use Rattle.xet_store_cli.specs.Outcome.{Outcome, outcome};
+    ghost use Rattle.xet_store_cli.specs.Early.{Outcome, outcome};
 
     ghost Value = { Outcome };
 
@@ -136,7 +138,8 @@ impl Model for Ending {
 
 impl Ending {
     ghost use Rattle.std.specs.Prelude.{◌≡◌, ◌≢◌, ◌⊎◌, [], true, IfOk, OnErr};
-    ghost use Rattle.xet_store_cli.specs.Outcome.{outcome, Prints};
+    ghost use Rattle.xet_store_cli.specs.Early.{outcome};
+    ghost use Rattle.xet_store_cli.specs.Ending.{Prints};
     ghost use Rattle.xet_store_cli.specs.Stops.{answer_outcome};
     ghost use Rattle.xet_io.specs.Frame.{Called};
 
@@ -156,7 +159,7 @@ impl Ending {
             Ok(text) => Ending { status: DONE, text },
             Err(Stop::OutOfMemory) => Ending::silent(alloc, OUT_OF_MEMORY),
             Err(Stop::Input) => Ending::silent(alloc, INPUT_FAILED),
-            Err(Stop::BadRange) => Ending::silent(alloc, BAD_RANGE),
+            Err(Stop::NotFound) => Ending::silent(alloc, NOT_FOUND),
             Err(Stop::TooLarge) => Ending::silent(alloc, TOO_LARGE),
             Err(Stop::Malformed) => Ending::silent(alloc, MALFORMED),
             Err(Stop::Disk) => Ending::silent(alloc, DISK_FAILED),

@@ -1,6 +1,6 @@
 //! Parsing of the lines of an input.
 
-ghost use Rattle.std.specs.Prelude.{◌≡◌, ℕ, ◌<◌, ◌∷◌, [], List, length, IfErr, IfOk, IfNone, IfSome, OnOk, IsOkUnless, MatchBool, None, Some, IsTrue, ◌↔◌};
+ghost use Rattle.std.specs.Prelude.{◌≡◌, ℕ, ◌<◌, ◌∷◌, [], length, IfErr, IfOk, IfNone, IfSome, OnOk, IsOkUnless, MatchBool, None, Some, IsTrue, ◌↔◌};
 ghost use Rattle.std.specs.Option.{option_map};
 ghost use Rattle.std.specs.Str.Lines.{lines, strip_carriage_return};
 ghost use Rattle.xet_store_cli.specs.Lines.{file_bytes, first_bad, good_lines, range_by, range_of, words_of};
@@ -17,7 +17,7 @@ use std::alloc::Global;
 use std::marker::Model;
 
 /// The maximum number of file lines.
-const MAX_FILES: usize = 1;
+const MAX_FILES: usize = 1 << 20;
 
 /// A range of the bytes of one of an input's files.
 #[derive(Clone, Copy, PartialEq, Eq, Debug)]

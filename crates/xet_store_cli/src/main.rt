@@ -1,13 +1,17 @@
-//! The program `pack TARGET GEAR`: it stores a file, and prints a report and byte ranges of it.
+//! The program: it stores files in a folder, lists them and reads them back.
 //!
-//! A line of standard input gives the bytes of the file in hexadecimal, and other lines name the ranges.
-//! `run_program` is the whole program, over any input, output and disk. `main` passes the standard streams
-//! and a disk in memory.
+//! `run_program` is the whole program, over any input, output, disk and inputs. `main` passes the standard streams,
+//! the current folder, and for `pack` a disk in memory, of which nothing is left when the program ends.
 #![tactic(auto)]
 
+mod clean;
 mod ending;
+mod group;
 mod lines;
+mod list;
+mod opening;
 mod pack;
+mod read;
 mod report;
 mod run;
 mod session;
@@ -17,33 +21,38 @@ use run::run_program;
 use std::process::ExitCode;
 use std::time::SystemTime;
 use std::{env, io};
-use xet_io::{MemoryDisk, MemoryInputs, StdSink, StdSource};
+use xet_fs::{FolderDisk, FolderInputs};
+use xet_io::{MemoryDisk, StdSink, StdSource};
 
 #[cfg(test)]
 mod tests;
 
-/// Runs the command of the arguments and exits with its status: 2 if an argument is not text, 1 if there is
-/// no memory for the arguments.
+/// Runs the command of the arguments over the standard streams and the current folder, and exits with its status: 2
+/// if an argument is not text, 1 if there is no memory for the arguments.
 fn main(rt: HostRuntime) -> ExitCode {
     let alloc = rt.alloc();
     let words = match read_words(&rt) {
         Ok(words) => words,
         Err(status) => return ExitCode::from(status),
     };
+    let now = seconds(&rt);
     let mut input = StdSource::new(rt.stdin());
     let mut output = StdSink::new(rt.stdout());
-    let mut inputs = MemoryInputs::new(alloc, Vec::new(alloc));
-    let (_, status) = run_program(
-        alloc,
-        &rt,
-        &words,
-        &mut input,
-        &mut output,
-        MemoryDisk::new(alloc),
-        &mut inputs,
-        seconds(&rt),
-    );
+    let mut files = FolderInputs::new(alloc, rt, String::new(alloc));
+    let (input, output, files) = (&mut input, &mut output, &mut files);
+    let status = if stores_in_memory(&words) {
+        let disk = MemoryDisk::new(alloc);
+        run_program(alloc, &rt, &words, input, output, disk, files, now).1
+    } else {
+        let disk = FolderDisk::new(alloc, rt, String::new(alloc));
+        run_program(alloc, &rt, &words, input, output, disk, files, now).1
+    };
     ExitCode::from(status)
+}
+
+/// Whether the command stores what it reports in memory.
+fn stores_in_memory(words: &[String]) -> bool {
+    words.first().is_some_and(|word| word.as_str() == "pack")
 }
 
 /// The arguments after the program's name, or the status if they cannot be read.

@@ -1,7 +1,7 @@
-//! The report of `pack`.
+//! The report of files that were stored: a line for each, and the bytes of ranges of them.
 
-ghost use Rattle.std.specs.Prelude.{◌≡◌, ◌++◌, IfOk, OnOk, IsOkUnless, IsSome};
-ghost use Rattle.std.specs.List.{AllByRecursion, flat_map};
+ghost use Rattle.std.specs.Prelude.{◌≡◌, ◌++◌, IfOk, OnOk, IsOkUnless};
+ghost use Rattle.std.specs.List.{flat_map};
 ghost use Rattle.xet_store_cli.specs.Report.{bytes_line, info_line};
 
 use crate::ending::Stop;

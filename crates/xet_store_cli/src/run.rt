@@ -1,19 +1,21 @@
 //! The program as one call, over any input, output, disk and inputs.
 
-ghost use Rattle.std.specs.Prelude.{◌≡◌, ◌≢◌, ◌⊎◌, ◌↔◌, ◌≤◌, ◌++◌, true, None, Some, [], List, ℕ, map, string_bytes, IsErrOf};
-ghost use Rattle.xet_io.specs.Frame.{Called};
-ghost use Rattle.xet_hash.specs.declared.error.StoreError.{StoreError};
-ghost use Rattle.xet_folder.specs.Admission.{Refuses};
-ghost use Rattle.xet_store_cli.specs.Outcome.{EndsEarly, EndsOver, IsFaultless, IsSilent, IsStopped, Outcome, Prints, Reports, bad_line_text, bad_shard_text, early_outcome, store_folder};
-ghost use Rattle.xet_store_cli.specs.Ending.{MayEnd};
+ghost use Rattle.std.specs.Prelude.{◌≡◌, ◌≢◌, ◌↔◌, ◌<◌, ◌^◌, true, None, Some, [], map, string_bytes, IsErrOf, OnOk};
+ghost use Rattle.xet_io.specs.Frame.{Called, Queried};
 ghost use Rattle.xet_store_cli.specs.Allowed.{AllowsInput};
 ghost use Rattle.xet_store_cli.specs.Answered.{Answered};
+ghost use Rattle.xet_store_cli.specs.Run.{Run};
+ghost use Rattle.xet_store_cli.specs.Start.{OpensInputs, ReadsInput, start};
 ghost use Rattle.xet_store_cli.specs.Stops.{answer_outcome};
-ghost use Rattle.xet_store_cli.specs.Stored.{IsAdmittedAt, Works};
 ghost use Rattle.xet_store_cli.specs.Words.{command_of};
+ghost use Rattle.xet_store_cli.specs.internal.Asked.{asked};
 
+use crate::clean::clean;
 use crate::ending::{Ending, Stop};
+use crate::group::group;
+use crate::list::list;
 use crate::pack::pack;
+use crate::read::read;
 use crate::words::{Command, command_of};
 use std::alloc::Global;
 use std::marker::{Send, Sync};
@@ -22,27 +24,28 @@ use std::thread::Threads;
 use xet_folder::laws::admitted_later;
 use xet_io::{Disk, Inputs, Sink, Source};
 
-/// Runs the command of the arguments `words`: reads `input`, works on `disk`, prints to `output`, and returns
-/// the disk and the status. `now` is the time in seconds since 1970. Currently `rt` and `inputs` are not
+/// Runs the command of the arguments `words`: reads `input` or the files of `inputs`, works on `disk`, prints to
+/// `output`, and returns the disk and the status. `now` is the time in seconds since 1970. Currently `rt` is not
 /// used, and no thread is started.
 ///
 /// | Status | Meaning |
 /// |---|---|
-/// | 0 | the input was read to its end, its files were stored, and the report of its lines was printed |
+/// | 0 | the answer was printed; the input was read to its end, and files were stored, where the command does so |
 /// | 1 | out of memory; also if digests collide |
 /// | 2 | invalid arguments, and only then |
 /// | 3 | the input has a bad line; prints `bad line n` for the first, counted from 1 |
-/// | 4, 5, 6 | the input, the output or the disk failed in this call |
+/// | 4, 5, 6 | the input or a file, the output, or the disk failed in this call |
 /// | 7 | the folder `store` is not valid; prints `bad shard NAME` for the first shard that fails a check |
-/// | 8 | a range line names no bytes of the file lines |
-/// | 9 | the input is longer than 2^31 bytes |
+/// | 8 | there is no such range, no such file, or no such name |
+/// | 9 | the input is longer than 2^31 bytes, or a file is longer than a source may be |
 /// | 10 | a stored xorb changed after it was verified; only on a disk that is not observable |
 ///
-/// Of 2, 9, 3, 8 and 7 the first that applies is due, else 0; they are returned only if they are due. If
-/// another status than 2 is due, the run may be stopped with 1, 4 or 6 before it prints, and has then written
-/// nothing. A report is printed once its files are stored, recorded and made. A text may be cut short after a
-/// prefix of it, with 5, or with 1 if the output has no memory. No other status is returned, and 2, 4, 6, 8,
-/// 9 and 10 print nothing, also if input and disk are not observable. Clauses about contents apply to inputs,
+/// A status but 1, 4, 5 and 6 is returned only if it is due, and of several that apply the first is due, in the
+/// order of the command's tests: `pack` 2, 9, 3, 8, 7; `clean` 2, 7, 8, 9; `read` 2, 7, 8; `list` 2, 7; `group` 2,
+/// 9. If another status than 2 is due, the run may be stopped with 1, 4 or 6 before it prints, and has then written
+/// nothing. An answer is printed once it is complete, and once files are stored and recorded. A text may be cut
+/// short after a prefix of it, with 5, or with 1 if the output has no memory. No other status is returned, and 2, 4,
+/// 6, 8, 9 and 10 print nothing, also if inputs and disk are not observable. Clauses about contents apply to inputs,
 /// outputs and disks that are observable.
 pub fn run_program<I, O, D, F, R>(
     alloc: Global,
@@ -60,74 +63,77 @@ where
     D: Disk + Send,
     F: Inputs,
     R: Threads + Wait + Sync,
-    ensures words { (result.1 ≡ 2) ↔ (command_of (map string_bytes words.now) ≡ None) }
-    ensures ends { (o : Outcome) × MayEnd (command_of (map string_bytes words.now)) (I.tells input.old) (I.left input.old) now (D.tells disk) (D.files disk) (D.files result.0) o
-        × Prints (O.tells output.old) o (O.written output.old) (O.written output.new) result.1 }
-    ensures outcome { I.tells input.old ≡ true → D.tells disk ≡ true
-        → EndsOver (command_of (map string_bytes words.now)) (I.left input.old) now (D.files disk) (D.files result.0) (O.tells output.old) (O.written output.old) (O.written output.new) result.1 }
-    ensures early { I.tells input.old ≡ true
-        → EndsEarly (O.tells output.old) (early_outcome (command_of (map string_bytes words.now)) (I.left input.old)) (O.written output.old) (O.written output.new) result.1 }
-    ensures bounded { result.1 ≤ 10 }
-    ensures silent { O.tells output.old ≡ true → IsSilent result.1 → O.written output.new ≡ O.written output.old }
-    ensures bad_line { O.tells output.old ≡ true → result.1 ≡ 3 → (n : ℕ) × (O.written output.new ≡ O.written output.old ++ bad_line_text n) }
-    ensures bad_shard { result.1 ≡ 7 → (name : List ℕ) × (D.tells disk ≡ true → (e : StoreError) × Refuses (D.files disk) store_folder now e name)
-        × (O.tells output.old ≡ true → O.written output.new ≡ O.written output.old ++ bad_shard_text name) }
-    ensures complete { I.tells input.old ≡ true → D.tells disk ≡ true
-        → IsFaultless (command_of (map string_bytes words.now)) (I.left input.old) now (D.files disk) → (result.1 ≡ 0) ⊎ IsStopped result.1 }
-    ensures report { I.tells input.old ≡ true → O.tells output.old ≡ true → result.1 ≡ 0
-        → Reports (command_of (map string_bytes words.now)) (I.left input.old) (D.tells disk) (D.files result.0) now (O.written output.old) (O.written output.new) }
-    ensures read { I.tells input.old ≡ true → result.1 ≡ 0 → I.left input.new ≡ [] }
-    ensures works { Works (command_of (map string_bytes words.now)) (I.tells input.old) (I.left input.old) now (D.tells disk) (D.files disk) (D.files result.0) result.1 }
-    ensures admitted { D.tells disk ≡ true → (later : ℕ) → now ≤ later → IsAdmittedAt now (D.files disk) → IsAdmittedAt later (D.files result.0) }
-    ensures input { Called I.tells I.faults input.old input.new (result.1 ≡ 4) }
+    ensures runs { Run (command_of (map string_bytes words.now)) (start (I.tells input.old) (I.left input.old) (F.tells inputs.old) (F.files inputs.old) now (D.tells disk) (D.files disk))
+        (O.tells output.old) (O.written output.old) (O.written output.new) (D.files result.0) result.1 }
+    ensures read { I.tells input.old ≡ true → ReadsInput (command_of (map string_bytes words.now)) → result.1 ≡ 0 → I.left input.new ≡ [] }
+    ensures input { Called I.tells I.faults input.old input.new ((result.1 ≡ 4) × ReadsInput (command_of (map string_bytes words.now))) }
+    ensures unread { (ReadsInput (command_of (map string_bytes words.now)) → ⊥) → input.new ≡ input.old }
     ensures output { Called O.tells O.faults output.old output.new (result.1 ≡ 5) }
     ensures disk { Called D.tells D.faults disk result.0 (result.1 ≡ 6) }
-    ensures inputs { inputs.new ≡ inputs.old }
+    ensures inputs { Queried F.files F.tells F.faults inputs.old inputs.new ((result.1 ≡ 4) × OpensInputs (command_of (map string_bytes words.now))) }
+    ensures unopened { (OpensInputs (command_of (map string_bytes words.now)) → ⊥) → inputs.new ≡ inputs.old }
+    ensures closed { F.opened inputs.old < 2 ^ 63 → F.opened inputs.new ≡ F.opened inputs.old }
 {
-    let (disk, ending) = run_command(alloc, words, input, disk, now);
+    let (disk, ending) = run_command(alloc, words, input, disk, inputs, now);
     admitted_later();
     let status = ending.print(output);
     (disk, status)
 }
 
 /// Runs the command of the arguments up to its text, which is not printed yet.
-fn run_command<I: Source, D: Disk + Send>(
+fn run_command<I: Source, D: Disk + Send, F: Inputs>(
     alloc: Global,
     words: &[String],
     input: &mut I,
     disk: D,
+    inputs: &mut F,
     now: u64,
 ) -> (D, Ending)
     ensures words { (result.1.status ≡ 2) ↔ (command_of (map string_bytes words.now) ≡ None) }
     ensures silent { result.1.status ≡ 2 → result.1.text ≡ [] }
-    ensures answered { Answered (command_of (map string_bytes words.now)) (I.tells input.old) (I.left input.old) (I.left input.new) now (D.tells disk) (D.files disk) (D.files result.0) result.1 }
-    ensures input { Called I.tells I.faults input.old input.new (result.1.status ≡ 4) }
+    ensures answered { Answered (command_of (map string_bytes words.now)) (start (I.tells input.old) (I.left input.old) (F.tells inputs.old) (F.files inputs.old) now (D.tells disk) (D.files disk)) (D.files result.0) result.1 }
+    ensures read { I.tells input.old ≡ true → ReadsInput (command_of (map string_bytes words.now)) → result.1.status ≡ 0 → I.left input.new ≡ [] }
+    ensures input { Called I.tells I.faults input.old input.new ((result.1.status ≡ 4) × ReadsInput (command_of (map string_bytes words.now))) }
+    ensures unread { (ReadsInput (command_of (map string_bytes words.now)) → ⊥) → input.new ≡ input.old }
     ensures output { result.1.status ≢ 5 }
     ensures disk { Called D.tells D.faults disk result.0 (result.1.status ≡ 6) }
+    ensures inputs { Queried F.files F.tells F.faults inputs.old inputs.new ((result.1.status ≡ 4) × OpensInputs (command_of (map string_bytes words.now))) }
+    ensures unopened { (OpensInputs (command_of (map string_bytes words.now)) → ⊥) → inputs.new ≡ inputs.old }
+    ensures closed { F.opened inputs.old < 2 ^ 63 → F.opened inputs.new ≡ F.opened inputs.old }
 {
     match command_of(words) {
         None => (disk, Ending::of_bad_words(alloc)),
         Some(command) => {
-            let (disk, answer) = answer(alloc, &command, input, disk, now);
+            let (disk, answer) = answer(alloc, &command, input, disk, inputs, now);
             (disk, Ending::of_answer(alloc, answer))
         }
     }
 }
 
-/// Runs a command, and returns the disk and the report, or why it stops.
-fn answer<I: Source, D: Disk + Send>(
+/// Runs a command, and returns the disk and the answer, or why it stops.
+fn answer<I: Source, D: Disk + Send, F: Inputs>(
     alloc: Global,
-    command: &Command,
+    command: &Command<'_>,
     input: &mut I,
     disk: D,
+    inputs: &mut F,
     now: u64,
 ) -> (D, Result<Vec<u8>, Stop>)
-    requires { AllowsInput command.now }
-    ensures answered { Answered (Some command.now) (I.tells input.old) (I.left input.old) (I.left input.new) now (D.tells disk) (D.files disk) (D.files result.0) (answer_outcome result.1) }
-    ensures input { Called I.tells I.faults input.old input.new (IsErrOf result.1 Stop.Input) }
+    requires { AllowsInput (asked command.now) }
+    ensures answered { Answered (Some (asked command.now)) (start (I.tells input.old) (I.left input.old) (F.tells inputs.old) (F.files inputs.old) now (D.tells disk) (D.files disk)) (D.files result.0) (answer_outcome result.1) }
+    ensures read { I.tells input.old ≡ true → ReadsInput (Some (asked command.now)) → OnOk result.1 (I.left input.new ≡ []) }
+    ensures input { Called I.tells I.faults input.old input.new (IsErrOf result.1 Stop.Input × ReadsInput (Some (asked command.now))) }
+    ensures unread { (ReadsInput (Some (asked command.now)) → ⊥) → input.new ≡ input.old }
     ensures disk { Called D.tells D.faults disk result.0 (IsErrOf result.1 Stop.Disk) }
+    ensures inputs { Queried F.files F.tells F.faults inputs.old inputs.new (IsErrOf result.1 Stop.Input × OpensInputs (Some (asked command.now))) }
+    ensures unopened { (OpensInputs (Some (asked command.now)) → ⊥) → inputs.new ≡ inputs.old }
+    ensures closed { F.opened inputs.old < 2 ^ 63 → F.opened inputs.new ≡ F.opened inputs.old }
 {
     match command {
         Command::Pack(limits) => pack(alloc, limits, input, disk, now),
+        Command::Clean(names) => clean(alloc, names, disk, inputs, now),
+        Command::Read(hash, from, to) => read(alloc, hash, *from, *to, disk, now),
+        Command::ListFiles => list(alloc, disk, now),
+        Command::Group => (disk, group(alloc, input)),
     }
 }

@@ -1,30 +1,26 @@
-//! Storing the files of some lines in a session, and reporting them and their ranges.
+//! Cleaning files in a session, and reporting them and ranges of them.
 
-ghost use Rattle.std.specs.List.{AllByRecursion, flat_map};
-ghost use Rattle.std.specs.Prelude.{◌≡◌, ◌≤◌, ◌<◌, ◌++◌, ℕ, List, true, length, map, All, IfErr, IfOk, OnOk, IsErrOf, IsOkUnless};
-ghost use Rattle.xet_cut.specs.Chunking.{chunking};
+ghost use Rattle.std.specs.List.{flat_map};
+ghost use Rattle.std.specs.Prelude.{◌≡◌, ◌≤◌, ◌<◌, ◌^◌, ◌++◌, ℕ, List, true, length, map, All, IfErr, IfOk, OnOk, IsErrOf, IsOkUnless};
 ghost use Rattle.xet_folder.specs.Contents.{HasContents};
 ghost use Rattle.xet_io.specs.Faults.{HasCause};
-ghost use Rattle.xet_store.specs.Cleaning.{HasFile, Keeps, info_of};
+ghost use Rattle.xet_store.specs.Cleaning.{Keeps};
 ghost use Rattle.xet_store.specs.Opening.{contents_of};
 ghost use Rattle.xet_store.specs.Ranges.{IsUnchanged};
-ghost use Rattle.xet_store.specs.Separate.{Separate};
-ghost use Rattle.xet_store.specs.Steps.{ListsXorbs};
-ghost use Rattle.xet_store.specs.Tables.{tables_of, with_files};
-ghost use Rattle.xet_store_cli.specs.Outcome.{AreSeparate, store_folder};
-ghost use Rattle.xet_store_cli.specs.Parsing.{ForLines, are_good};
-ghost use Rattle.xet_store_cli.specs.Report.{IsReport, info_line};
-ghost use Rattle.xet_store_cli.specs.Steps.{MakesIn};
+ghost use Rattle.xet_store_cli.specs.Tasks.{store_folder};
+ghost use Rattle.xet_store_cli.specs.Parsing.{are_good};
+ghost use Rattle.xet_store_cli.specs.Report.{info_line};
 ghost use Rattle.xet_store_cli.specs.Stops.{IsStop, range_causes, session_causes};
-ghost use Rattle.xet_store_cli.specs.Stored.{Records, Stores};
+ghost use Rattle.xet_store_cli.specs.internal.Cleaned.{AreCleaned, IsLinesAnswer};
 ghost use Rattle.xet_store_cli.specs.internal.Steps.{AreRead, IsLineRead, IsSettled};
+ghost use Rattle.xet_store_cli.specs.internal.Stops.{cleaning_causes};
 
 use crate::ending::Stop;
 use crate::lines::{FileRange, PackLines};
 use crate::report::{push_bytes_line, report};
 use std::alloc::Global;
 use std::marker::Send;
-use xet_io::{Disk, SliceSource};
+use xet_io::{Disk, SliceSource, Source};
 use xet_store::{Cleaned, Store, XetFileInfo, clean_files};
 
 /// Stores the files of some lines in a session, and returns the report of files and ranges, or why it stops.
@@ -33,29 +29,21 @@ pub fn report_lines<D: Disk + Send>(
     session: Store<D>,
     lines: &PackLines,
 ) -> (Store<D>, Result<Vec<u8>, Stop>)
-    requires few { length lines.now.files ≤ 1 }
+    requires few { length lines.now.files ≤ 2 ^ 20 }
     requires good { are_good lines.now ≡ true }
     requires folder { session.folder ≡ store_folder }
     requires contents { session.tells ≡ true → HasContents session.files session.folder session.opened (contents_of session) }
-    ensures report { IfOk result.1 (λ text. ForLines lines.now (λ said. IsReport (AreSeparate session.tells result.0.files session.opened session.limits said) session.limits said text.items)) }
-    ensures stored { session.tells ≡ true → OnOk result.1 (ForLines lines.now (λ said. Stores session.limits said session.opened result.0.files)) }
-    ensures recorded { session.tells ≡ true → OnOk result.1 (ForLines lines.now (λ said. Records session.limits said session.opened result.0.files)) }
-    ensures made { session.tells ≡ true → OnOk result.1 (MakesIn session lines.now.files result.0) }
+    ensures answer { IsLinesAnswer lines.now session result.0 result.1 }
     ensures keeps { Keeps session result.0 }
     ensures stop { IfErr result.1 (IsStop (session_causes session.tells session.limits lines.now)) }
     ensures cause { HasCause session.faults result.0.faults (IsErrOf result.1 Stop.Disk) }
 {
     session.limits().recall_invariant();
-    let (mut session, cleaned) = clean_lines(alloc, session, lines);
+    let (session, cleaned) = clean_lines(alloc, session, lines);
     session.recall_invariant();
-    match cleaned {
-        Ok(cleaned) => {
-            let answer = report_cleaned(alloc, &mut session, &cleaned.infos, lines.ranges());
-            session.recall_invariant();
-            (session, answer)
-        }
-        Err(stop) => (session, Err(stop)),
-    }
+    let (session, answer) = report_all(alloc, session, cleaned, lines.ranges());
+    session.recall_invariant();
+    (session, answer)
 }
 
 /// Cleans the files of some lines in a session.
@@ -64,21 +52,35 @@ fn clean_lines<D: Disk + Send>(
     session: Store<D>,
     lines: &PackLines,
 ) -> (Store<D>, Result<Cleaned, Stop>)
-    requires { length lines.now.files ≤ 1 }
-    ensures infos { IfOk result.1 (λ cleaned. cleaned.infos.items ≡ map (info_of session.limits) lines.now.files) }
-    ensures files { session.tells ≡ true → Separate result.0 (map (chunking session.limits) lines.now.files)
-        → OnOk result.1 (AllByRecursion (HasFile result.0) (map (chunking session.limits) lines.now.files)) }
-    ensures listed { OnOk result.1 (AllByRecursion (ListsXorbs result.0) (map (chunking session.limits) lines.now.files)) }
-    ensures stores { OnOk result.1 (tables_of result.0 ≡ with_files session.limits (tables_of session) lines.now.files) }
+    requires { length lines.now.files ≤ 2 ^ 20 }
+    ensures cleaned { IfOk result.1 (λ cleaned. AreCleaned (λ s. true) (λ s. s) lines.now.files session result.0 cleaned.infos.items) }
     ensures keeps { Keeps session result.0 }
     ensures stop { IfErr result.1 (IsStop (session_causes session.tells session.limits lines.now)) }
     ensures cause { HasCause session.faults result.0.faults (IsErrOf result.1 Stop.Disk) }
 {
-    let mut sources = match sources_of(alloc, lines) {
-        Ok(sources) => sources,
-        Err(stop) => return (session, Err(stop)),
-    };
-    let (session, cleaned) = clean_files(alloc, session, &mut sources, 1);
+    match sources_of(alloc, lines) {
+        Ok(sources) => {
+            let mut sources = sources;
+            clean_sources(alloc, session, &mut sources)
+        }
+        Err(stop) => (session, Err(stop)),
+    }
+}
+
+/// Cleans the files of some sources in a session.
+pub fn clean_sources<D: Disk + Send, S: Source + Send>(
+    alloc: Global,
+    session: Store<D>,
+    sources: &mut [S],
+) -> (Store<D>, Result<Cleaned, Stop>)
+    requires { length sources.old ≤ 2 ^ 20 }
+    ensures cleaned { IfOk result.1 (λ cleaned. AreCleaned S.tells S.left sources.old session result.0 cleaned.infos.items) }
+    ensures keeps { Keeps session result.0 }
+    ensures stop { IfErr result.1 (IsStop (cleaning_causes S.tells S.left S.faults sources.old sources.new session)) }
+    ensures sources { map S.tells sources.new ≡ map S.tells sources.old }
+    ensures cause { HasCause session.faults result.0.faults (IsErrOf result.1 Stop.Disk) }
+{
+    let (session, cleaned) = clean_files(alloc, session, sources, 1);
     match cleaned {
         Ok(cleaned) => (session, Ok(cleaned)),
         Err(error) => (session, Err(Stop::from(error))),
@@ -95,6 +97,32 @@ fn sources_of<'a>(alloc: Global, lines: &'a PackLines) -> Result<Vec<SliceSource
         sources.push(SliceSource::new(file))?;
     }
     Ok(sources)
+}
+
+/// Flushes a session in which files were cleaned, and returns the report of them and of ranges of them, or why it
+/// stops. After an error of cleaning nothing is flushed.
+pub fn report_all<D: Disk + Send>(
+    alloc: Global,
+    session: Store<D>,
+    cleaned: Result<Cleaned, Stop>,
+    ranges: &[FileRange],
+) -> (Store<D>, Result<Vec<u8>, Stop>)
+    requires bounds { IfOk cleaned (λ cleaned. All (λ r. (0 < r.file) × (r.file ≤ length cleaned.infos.items)) ranges.now) }
+    ensures text { IfOk cleaned (λ cleaned. IfOk result.1 (λ text. (lines : List ℕ) × AreRead result.0 cleaned.infos.items ranges.now lines × (text.items ≡ flat_map info_line cleaned.infos.items ++ lines))) }
+    ensures settled { OnOk cleaned (OnOk result.1 (IsSettled session result.0)) }
+    ensures keeps { Keeps session result.0 }
+    ensures stop { OnOk cleaned (IfErr result.1 (IsStop (range_causes session.tells))) }
+    ensures cause { OnOk cleaned (HasCause session.faults result.0.faults (IsErrOf result.1 Stop.Disk)) }
+    ensures stopped { IfErr cleaned (λ stop. IsErrOf result.1 stop × (result.0 ≡ session)) }
+{
+    match cleaned {
+        Ok(cleaned) => {
+            let mut session = session;
+            let answer = report_cleaned(alloc, &mut session, &cleaned.infos, ranges);
+            (session, answer)
+        }
+        Err(stop) => (session, Err(stop)),
+    }
 }
 
 /// Flushes a session, and returns the report of some files and of ranges of them.

@@ -7,10 +7,10 @@ use std::sync::Wait;
 use std::test::Fail;
 use std::thread::Threads;
 use xet_hash::compute_data_hash;
-use xet_io::{
-    Disk, FailingSink, FailingSource, MemoryDisk, MemoryInputs, MemorySink, Op, Sink, SliceSource,
-    Source,
-};
+use xet_io::{Disk, MemoryDisk, MemoryInputs, MemorySink, Sink, SliceSource, Source};
+
+mod faults;
+mod folder;
 
 const ABC: &str =
     "8679a9c73b087ee02033e84569cba8c79c2413d79f99a1e9bd1ae79ae88776cf 3 ba7816bf8f01cfea414140de5dae2223b00361a396177a9cb410ff61f20015ad\n";
@@ -21,7 +21,35 @@ const NOTHING: &str =
 const ONE_ZERO: &str =
     "b118eb6b1e0b61b6af72793e29bf136ad42b7d2052b0be0fae9a04a58e48f3b7 1 6e340b9cffb37a989ca544e6bb780a2c78901d3fb33738768511a30617afa01d\n";
 
-/// Runs the program with these arguments, separated by spaces. Returns the disk and the status.
+const LISTED: &str = "8679a9c73b087ee02033e84569cba8c79c2413d79f99a1e9bd1ae79ae88776cf 3\n";
+
+const TWO_FILES: &str =
+    "0000000000000000000000000000000000000000000000000000000000000000 0 e3b0c44298fc1c149afbf4c8996fb92427ae41e4649b934ca495991b7852b855\n8679a9c73b087ee02033e84569cba8c79c2413d79f99a1e9bd1ae79ae88776cf 3 ba7816bf8f01cfea414140de5dae2223b00361a396177a9cb410ff61f20015ad\n";
+
+const TWO_ZEROS: &str =
+    "b118eb6b1e0b61b6af72793e29bf136ad42b7d2052b0be0fae9a04a58e48f3b7 1 6e340b9cffb37a989ca544e6bb780a2c78901d3fb33738768511a30617afa01d\nb118eb6b1e0b61b6af72793e29bf136ad42b7d2052b0be0fae9a04a58e48f3b7 1 6e340b9cffb37a989ca544e6bb780a2c78901d3fb33738768511a30617afa01d\n";
+
+/// The files `a`, which has the bytes `abc`, and `empty`.
+fn named_files(alloc: Global) -> Result<Vec<(String, Vec<u8>)>, Fail> {
+    let mut files = Vec::new(alloc);
+    files.push((
+        String::from_str(alloc, "a")?,
+        Vec::from_slice(alloc, b"abc")?,
+    ))?;
+    files.push((String::from_str(alloc, "empty")?, Vec::new(alloc)))?;
+    Ok(files)
+}
+
+/// The arguments of a run, which are separated by spaces.
+fn words_of(alloc: Global, words: &str) -> Result<Vec<String>, Fail> {
+    let mut list = Vec::new(alloc);
+    for word in words.split_whitespace() {
+        list.push(String::from_str(alloc, word)?)?;
+    }
+    Ok(list)
+}
+
+/// Runs the program with these arguments. Returns the disk and the status.
 fn run_over<R: Threads + Wait + Sync, I: Source, O: Sink>(
     rt: &R,
     alloc: Global,
@@ -30,11 +58,8 @@ fn run_over<R: Threads + Wait + Sync, I: Source, O: Sink>(
     output: &mut O,
     disk: MemoryDisk,
 ) -> Result<(MemoryDisk, u8), Fail> {
-    let mut list = Vec::new(alloc);
-    for word in words.split_whitespace() {
-        list.push(String::from_str(alloc, word)?)?;
-    }
-    let mut inputs = MemoryInputs::new(alloc, Vec::new(alloc));
+    let list = words_of(alloc, words)?;
+    let mut inputs = MemoryInputs::new(alloc, named_files(alloc)?);
     Ok(run_program(alloc, rt, &list, input, output, disk, &mut inputs, 0))
 }
 
@@ -62,7 +87,7 @@ fn lines_of_an_input(rt: HostRuntime) -> Result<(), Fail> {
         ("file \n", NOTHING, 0),
         ("", "", 0),
         ("\n\n", "", 0),
-        ("file 00\nfile 01\n", "bad line 2\n", 3),
+        ("file 00\nfile 00\n", TWO_ZEROS, 0),
         ("file 00\n\n\nrange 1 0\n", "bad line 4\n", 3),
         ("range 1 0 0 \n", "bad line 1\n", 3),
         ("range  1 0 0\n", "bad line 1\n", 3),
@@ -108,7 +133,41 @@ fn words_of_a_command(rt: HostRuntime) -> Result<(), Fail> {
         ("pack 512 18446744073709551616", 2),
         ("pack 512 000000000000000000007", 2),
         ("-pack 512 zero", 2),
-        ("list", 2),
+        ("list", 0),
+        ("list a", 2),
+        ("group", 0),
+        ("group a", 2),
+        ("clean", 2),
+        ("clean -a", 2),
+        ("clean a -", 2),
+        ("read", 2),
+        (
+            "read 0000000000000000000000000000000000000000000000000000000000000000",
+            2,
+        ),
+        (
+            "read 0000000000000000000000000000000000000000000000000000000000000000 0",
+            2,
+        ),
+        (
+            "read 0000000000000000000000000000000000000000000000000000000000000000 0 0",
+            0,
+        ),
+        (
+            "read 0000000000000000000000000000000000000000000000000000000000000000 0 -0",
+            2,
+        ),
+        (
+            "read 000000000000000000000000000000000000000000000000000000000000000 0 0",
+            2,
+        ),
+        (
+            "read 000000000000000000000000000000000000000000000000000000000000000g 0 0",
+            2,
+        ),
+        ("make 7 100", 2),
+        ("check", 2),
+        ("merge 1", 2),
     ];
     for (words, status) in rows {
         let found = run(&rt, rt.alloc(), words, "", MemoryDisk::new(rt.alloc()))?;
@@ -130,6 +189,13 @@ fn ranges_of_a_file(rt: HostRuntime) -> Result<(), Fail> {
         ("file 616263\nrange 2 0 0\n", "", "", 8),
         ("file 616263\nrange 0 0 0\n", "", "", 8),
         ("range 1 0 0\n", "", "", 8),
+        (
+            "range 2 0 1\nfile\nfile 616263\nrange 1 0 0\nrange 2 1 3\n",
+            TWO_FILES,
+            "61\n\n6263\n",
+            0,
+        ),
+        ("file 616263\nfile\nrange 2 0 1\n", "", "", 8),
     ];
     for (input, line, ranges, status) in rows {
         let disk = MemoryDisk::new(alloc);
@@ -138,9 +204,118 @@ fn ranges_of_a_file(rt: HostRuntime) -> Result<(), Fail> {
         due.push_str(ranges)?;
         assert_eq!(rt; text.as_str(), due.as_str(), "over {input:?}");
         assert_eq!(rt; found, status, "over {input:?}");
-        let files = if line == ABC { 2usize } else { 0 };
+        let files = if line == ABC || line == TWO_FILES {
+            2usize
+        } else {
+            0
+        };
         assert_eq!(rt; disk.list(alloc, "store")?.len(), files, "over {input:?}");
     }
+    Ok(())
+}
+
+#[test]
+fn groups_of_an_input(rt: HostRuntime) -> Result<(), Fail> {
+    let alloc = rt.alloc();
+    let rows = [
+        (
+            [0u8, 1, 2, 3, 4, 5, 6].as_slice(),
+            [0u8, 4, 1, 5, 2, 6, 3].as_slice(),
+        ),
+        ([].as_slice(), [].as_slice()),
+        ([9].as_slice(), [9].as_slice()),
+    ];
+    for (input, text) in rows {
+        let mut source = SliceSource::new(input);
+        let mut sink = MemorySink::new(alloc);
+        let disk = MemoryDisk::new(alloc);
+        let (_, status) = run_over(&rt, alloc, "group", &mut source, &mut sink, disk)?;
+        assert_eq!(rt; sink.bytes(), text, "over {input:?}");
+        assert_eq!(rt; status, 0, "over {input:?}");
+    }
+    Ok(())
+}
+
+#[test]
+fn files_by_name(rt: HostRuntime) -> Result<(), Fail> {
+    let alloc = rt.alloc();
+    let rows = [
+        ("list", "", 0u8, 0usize),
+        ("clean missing", "", 8, 0),
+        ("clean a missing", "", 8, 0),
+        ("clean empty", NOTHING, 0, 0),
+        ("clean empty a", TWO_FILES, 0, 2),
+        ("clean a", ABC, 0, 2),
+        ("list", LISTED, 0, 2),
+        (
+            "read 8679a9c73b087ee02033e84569cba8c79c2413d79f99a1e9bd1ae79ae88776cf 1 3",
+            "bc",
+            0,
+            2,
+        ),
+        (
+            "read 8679A9C73B087EE02033E84569CBA8C79C2413D79F99A1E9BD1AE79AE88776CF 0 03",
+            "abc",
+            0,
+            2,
+        ),
+        (
+            "read 8679a9c73b087ee02033e84569cba8c79c2413d79f99a1e9bd1ae79ae88776cf 3 3",
+            "",
+            0,
+            2,
+        ),
+        (
+            "read 8679a9c73b087ee02033e84569cba8c79c2413d79f99a1e9bd1ae79ae88776cf 0 4",
+            "",
+            8,
+            2,
+        ),
+        (
+            "read 8679a9c73b087ee02033e84569cba8c79c2413d79f99a1e9bd1ae79ae88776cf 2 1",
+            "",
+            8,
+            2,
+        ),
+        (
+            "read 1679a9c73b087ee02033e84569cba8c79c2413d79f99a1e9bd1ae79ae88776cf 0 0",
+            "",
+            8,
+            2,
+        ),
+        (
+            "read 0000000000000000000000000000000000000000000000000000000000000000 0 0",
+            "",
+            0,
+            2,
+        ),
+        (
+            "read 0000000000000000000000000000000000000000000000000000000000000000 0 1",
+            "",
+            8,
+            2,
+        ),
+    ];
+    let mut disk = MemoryDisk::new(alloc);
+    for (words, due, status, files) in rows {
+        let (next, text, found) = run(&rt, alloc, words, "", disk)?;
+        disk = next;
+        assert_eq!(rt; text.as_str(), due, "with {words}");
+        assert_eq!(rt; found, status, "with {words}");
+        assert_eq!(rt; disk.list(alloc, "store")?.len(), files, "with {words}");
+    }
+    Ok(())
+}
+
+#[test]
+fn a_file_that_is_named_twice_is_listed_once(rt: HostRuntime) -> Result<(), Fail> {
+    let alloc = rt.alloc();
+    let (disk, text, status) = run(&rt, alloc, "clean a a", "", MemoryDisk::new(alloc))?;
+    let due = format!(in alloc; "{ABC}{ABC}")?;
+    assert_eq!(rt; text.as_str(), due.as_str());
+    assert_eq!(rt; status, 0);
+    let (_, text, _) = run(&rt, alloc, "list", "", disk)?;
+    assert_eq!(rt; text.as_str(), LISTED);
     Ok(())
 }
 
@@ -254,58 +429,3 @@ fn leaves_other_files_alone(rt: HostRuntime) -> Result<(), Fail> {
 const WORDS: &str = "pack 512 zero";
 
 const INPUT: &str = "file 616263\n";
-
-/// Whether a run on the disk that another run returned prints its report.
-fn runs_again<R: Threads + Wait + Sync>(
-    rt: &R,
-    alloc: Global,
-    disk: MemoryDisk,
-) -> Result<bool, Fail> {
-    let (_, text, status) = run(rt, alloc, WORDS, INPUT, disk)?;
-    Ok(status == 0 && text.as_str() == ABC)
-}
-
-#[test]
-fn a_read_that_fails_is_status_4(rt: HostRuntime) -> Result<(), Fail> {
-    let alloc = rt.alloc();
-    for place in 0..=INPUT.len() as u64 {
-        let mut source = FailingSource::new(INPUT.as_bytes(), place);
-        let mut sink = MemorySink::new(alloc);
-        let disk = MemoryDisk::new(alloc);
-        let (disk, status) = run_over(&rt, alloc, WORDS, &mut source, &mut sink, disk)?;
-        assert_eq!(rt; status, 4, "at {place}");
-        assert_eq!(rt; sink.bytes().len(), 0, "at {place}");
-        assert!(rt; runs_again(&rt, alloc, disk)?, "at {place}");
-    }
-    Ok(())
-}
-
-#[test]
-fn a_write_that_fails_is_status_5(rt: HostRuntime) -> Result<(), Fail> {
-    let alloc = rt.alloc();
-    for place in 0..ABC.len() {
-        let mut source = SliceSource::new(INPUT.as_bytes());
-        let mut sink = FailingSink::new(alloc, place as u64);
-        let disk = MemoryDisk::new(alloc);
-        let (disk, status) = run_over(&rt, alloc, WORDS, &mut source, &mut sink, disk)?;
-        assert_eq!(rt; status, 5, "at {place}");
-        assert_eq!(rt; sink.bytes(), &ABC.as_bytes()[..place], "at {place}");
-        assert!(rt; runs_again(&rt, alloc, disk)?, "at {place}");
-    }
-    Ok(())
-}
-
-#[test]
-fn a_disk_that_fails_is_status_6(rt: HostRuntime) -> Result<(), Fail> {
-    let alloc = rt.alloc();
-    for op in [Op::List, Op::Write, Op::Sync, Op::Rename, Op::ReadAt] {
-        let mut fails = Vec::new(alloc);
-        fails.push((op, 0))?;
-        let disk = MemoryDisk::failing(alloc, fails);
-        let (disk, text, status) = run(&rt, alloc, WORDS, "file 616263\nrange 1 0 3\n", disk)?;
-        assert_eq!(rt; status, 6, "at {op:?}");
-        assert_eq!(rt; text.len(), 0, "at {op:?}");
-        assert!(rt; runs_again(&rt, alloc, disk)?, "at {op:?}");
-    }
-    Ok(())
-}

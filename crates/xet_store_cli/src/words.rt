@@ -2,40 +2,148 @@
 
 ghost use Rattle.std.specs.Prelude.{◌≡◌, ◌≤◌, map, replicate, string_bytes, IsTrue, IfSome};
 ghost use Rattle.std.specs.Char.{is_ascii_digit};
-ghost use Rattle.std.specs.List.{list_all};
+ghost use Rattle.std.specs.List.{list_all, list_any};
+ghost use Rattle.std.specs.Option.{option_map};
 ghost use Rattle.xet_store_cli.specs.Allowed.{AllowsInput};
-ghost use Rattle.xet_store_cli.specs.Words.{command_of, gear_of, is_digits, is_target, number_of, pack_settings, target_of, three_words};
+ghost use Rattle.xet_store_cli.specs.Tasks.{default_limits};
+ghost use Rattle.xet_store_cli.specs.Words.{alone, clean_of, command_by, command_of, gear_of, hash_of_text, is_digits, is_option, is_target, number_of, pack_of, pack_settings, read_of, target_of};
+ghost use Rattle.xet_store_cli.specs.Words.Command.{Group, ListFiles};
+ghost use Rattle.xet_store_cli.specs.internal.Asked.{asked};
 
 use xet_cut::{LimitSettings, Limits, gear_table};
+use xet_hash::{DataHash, MerkleHash};
+use xet_shard_file::recall_bytes;
 
-/// A command of the program.
-#[derive(Clone, Copy, PartialEq, Eq, Debug)]
-pub enum Command {
+/// A command of the program, with its arguments.
+#[derive(Clone, Copy, Debug)]
+pub enum Command<'a> {
     /// Stores the files of the input's lines, under these limits, and reports them and their ranges.
     Pack(Limits),
+    /// Stores the files with these names, and reports them.
+    Clean(&'a [String]),
+    /// Prints bytes FROM..TO, TO excluded, of the file with this hash.
+    Read(MerkleHash, u64, u64),
+    /// Lists the files of the store.
+    ListFiles,
+    /// Prints the input in four groups of bytes.
+    Group,
 }
 
-/// The command of these arguments, `pack TARGET GEAR`; none if they are invalid. Its limits allow a source as
-/// long as the longest input.
-pub fn command_of(words: &[String]) -> Option<Command>
-    ensures command { result ≡ command_of (map string_bytes words.now) }
-    ensures allows { IfSome result AllowsInput }
+/// The maximum number of names.
+const MAX_NAMES: usize = 1 << 20;
+
+/// The command of these arguments; none if they are invalid. The limits of `pack` allow a source as long as the
+/// longest input.
+pub fn command_of(words: &[String]) -> Option<Command<'_>>
+    ensures command { option_map asked result ≡ command_of (map string_bytes words.now) }
+    ensures allows { IfSome result (λ command. AllowsInput (asked command)) }
 {
-    if words.len() != 3 {
+    let (name, arguments) = words.split_first()?;
+    if has_option(words) {
         return None;
     }
-    pack_command(words[0].as_str(), words[1].as_str(), words[2].as_str())
+    command_by(name.as_str(), arguments)
 }
 
-fn pack_command(name: &str, target: &str, gear: &str) -> Option<Command>
-    ensures { result ≡ three_words name.now target.now gear.now }
+/// Whether one of the words begins with `-`.
+fn has_option(words: &[String]) -> bool
+    ensures { result ≡ list_any (λ word. is_option (string_bytes word)) words.now }
 {
-    if name != "pack" {
-        return None;
+    words.iter().any(|word| is_option(word.as_str()))
+}
+
+/// Whether a word begins with `-`.
+fn is_option(word: &str) -> bool
+    ensures { result ≡ is_option word.now }
+{
+    matches!(word.as_bytes(), [b'-', ..])
+}
+
+/// The command of a name and its arguments.
+fn command_by<'a>(name: &str, arguments: &'a [String]) -> Option<Command<'a>>
+    ensures { option_map asked result ≡ command_by name.now (map string_bytes arguments.now) }
+{
+    match name {
+        "pack" => pack_of(arguments),
+        "clean" => clean_of(arguments),
+        "read" => read_of(arguments),
+        "list" => list_of(arguments),
+        "group" => group_of(arguments),
+        _ => None,
     }
-    let target = target_of(target)?;
-    let gear = gear_of(gear)?;
+}
+
+/// `pack TARGET GEAR`
+fn pack_of<'a>(arguments: &[String]) -> Option<Command<'a>>
+    ensures { option_map asked result ≡ pack_of (map string_bytes arguments.now) }
+{
+    let [target, gear] = arguments else {
+        return None;
+    };
+    let target = target_of(target.as_str())?;
+    let gear = gear_of(gear.as_str())?;
     Some(Command::Pack(pack_limits(target, gear)))
+}
+
+/// `clean NAME..`
+fn clean_of<'a>(names: &'a [String]) -> Option<Command<'a>>
+    ensures { option_map asked result ≡ clean_of (map string_bytes names.now) }
+{
+    if names.is_empty() || names.len() > MAX_NAMES {
+        None
+    } else {
+        Some(Command::Clean(names))
+    }
+}
+
+/// `read HASH FROM TO`
+fn read_of<'a>(arguments: &[String]) -> Option<Command<'a>>
+    ensures { option_map asked result ≡ read_of (map string_bytes arguments.now) }
+{
+    let [hash, from, to] = arguments else {
+        return None;
+    };
+    let hash = hash_of(hash.as_str())?;
+    let from = number_of(from.as_str())?;
+    let to = number_of(to.as_str())?;
+    Some(Command::Read(hash, from, to))
+}
+
+/// `list`
+fn list_of<'a>(arguments: &[String]) -> Option<Command<'a>>
+    ensures { option_map asked result ≡ alone ListFiles (map string_bytes arguments.now) }
+{
+    arguments.is_empty().then_some(Command::ListFiles)
+}
+
+/// `group`
+fn group_of<'a>(arguments: &[String]) -> Option<Command<'a>>
+    ensures { option_map asked result ≡ alone Group (map string_bytes arguments.now) }
+{
+    arguments.is_empty().then_some(Command::Group)
+}
+
+/// The hash of a text form.
+fn hash_of(word: &str) -> Option<MerkleHash>
+    ensures { result ≡ hash_of_text word.now }
+{
+    match DataHash::from_hex(word) {
+        Ok(hash) => {
+            recall_bytes(&hash);
+            Some(hash)
+        }
+        Err(_) => None,
+    }
+}
+
+/// The limits of all commands but `pack`: the default ones, with the Gear table of seed 0.
+pub fn default_limits() -> Limits
+    ensures { result ≡ default_limits }
+{
+    match Limits::new(LimitSettings::shown(gear_table(0))) {
+        Ok(limits) => limits,
+        Err(_) => unreachable!(),
+    }
 }
 
 /// The limits of `pack`: the default ones, with a minimum, a maximum and a source length that follow from the

@@ -1,5 +1,5 @@
 -- What lines say, one more at a time: the files and the ranges, each in order, for private functions.
-use Rattle.std.specs.Prelude.{◌≡◌, ℕ, nat_lt, List, [], ◌∷◌, ◌++◌, length, Option, Some, None, if◌then◌else◌}
+use Rattle.std.specs.Prelude.{ℕ, nat_lt, List, [], ◌∷◌, ◌++◌, length, Option, Some, None, if◌then◌else◌}
 use Rattle.xet_store_cli.specs.Lines.{Line, line_of, max_files}
 use Rattle.xet_store_cli.specs.Lines.Line.{FileLine, RangeLine}
 use Rattle.xet_store_cli.specs.Parsing.{Said}

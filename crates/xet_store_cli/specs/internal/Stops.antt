@@ -1,16 +1,26 @@
 -- What an input says, and why a command stops, for private functions.
-use Rattle.std.specs.Prelude.{◌≡◌, ℕ, Bool, true, List, [], Option, Some, None}
+use Rattle.std.specs.Prelude.{◌≡◌, ℕ, ◌<◌, Bool, true, false, List, [], length, Option, Some, None, Any}
+use Rattle.std.specs.FinMap.{get}
 use Rattle.std.specs.Str.Lines.{lines}
 use Rattle.xet_io.specs.Disk.{Files}
+use Rattle.xet_io.specs.Named.{Named}
 use Rattle.xet_hash.specs.declared.error.StoreError.{StoreError}
+use Rattle.xet_hash.specs.declared.error.StoreError.TheVariants.{FileNotFound, InvalidRange}
 use Rattle.xet_folder.specs.Admission.{Refuses}
+use Rattle.xet_folder.specs.Contents.{HasContents}
+use Rattle.xet_folder.specs.declared.contents.Contents.{Contents}
 use Rattle.xet_cut.specs.declared.limits.LimitSettings.{LimitSettings}
 use Rattle.xet_store_cli.specs.declared.ending.Stop.{Stop}
-use Rattle.xet_store_cli.specs.declared.ending.Stop.TheVariants.{BadShard}
+use Rattle.xet_store_cli.specs.declared.ending.Stop.TheVariants.{BadShard, NotFound}
 use Rattle.xet_store_cli.specs.Lines.{good_lines}
 use Rattle.xet_store_cli.specs.Parsing.{Said, parted}
-use Rattle.xet_store_cli.specs.Outcome.{bad_line_text, lines_said, outcome, pack_early, store_folder}
-use Rattle.xet_store_cli.specs.Stops.{Causes, no_causes, session_causes, stop_of_error}
+use Rattle.xet_store_cli.specs.Early.{bad_line_text, lines_said, max_input, outcome, pack_early}
+use Rattle.xet_store_cli.specs.Tasks.{default_limits, store_folder}
+use Rattle.xet_store.specs.Cleaning.{IsLongAt, RoseAt}
+use Rattle.xet_store.specs.Store.{State}
+use Rattle.xet_store_cli.specs.Allowed.{are_short}
+use Rattle.xet_store_cli.specs.Answers.{AreNamed, IsNoRange}
+use Rattle.xet_store_cli.specs.Stops.{Causes, no_causes, range_causes, session_causes, stop_of_error}
 
 -- What an input says whose lines and ranges are good.
 pub record IsSaid (input : List ℕ) (said : Said) : Type 0 where
@@ -25,7 +35,7 @@ reading_causes tells input = record no_causes {
   input = Unit {0};
   too_large = tells ≡ true → pack_early input ≡ Some (outcome 9 []);
   bad_line = λ n. tells ≡ true → pack_early input ≡ Some (outcome 3 (bad_line_text n));
-  bad_range = tells ≡ true → pack_early input ≡ Some (outcome 8 []);
+  not_found = tells ≡ true → pack_early input ≡ Some (outcome 8 []);
 }
 
 -- While files are stored in a folder at a time: as in a session; and, if the disk is observable, a shard only
@@ -39,3 +49,67 @@ storing_causes tells s said now files = record (session_causes tells s said) {
 abbrev pub stop_of_refusal : StoreError → Option (List ℕ) → Stop
 stop_of_refusal error (Some name) = BadShard name
 stop_of_refusal error None = stop_of_error error
+
+-- while an input is read whole: a failure of the input; too large only if it is, where it is observable
+abbrev pub grouping_causes : Bool → List ℕ → Causes
+grouping_causes tells input = record no_causes { input = Unit {0}; too_large = tells ≡ true → max_input < length input }
+
+-- while a range is read in a session: besides, not found only if there is no such range
+abbrev pub finding_causes : State → List ℕ → ℕ → ℕ → Causes
+finding_causes s h from to = record (range_causes s.tells) { not_found = IsNoRange s.records h from to }
+
+-- the stop for an error of reading a range
+abbrev pub stop_of_read : StoreError → Stop
+stop_of_read FileNotFound = NotFound
+stop_of_read InvalidRange = NotFound
+stop_of_read error = stop_of_error error
+
+-- while files are opened by name: a failure of an input; not found only if a name is absent, where the names are
+-- observable
+abbrev pub opening_causes : Bool → Named (List ℕ) → List (List ℕ) → Causes
+opening_causes tells inputs names = record no_causes { input = Unit {0}; not_found = tells ≡ true → Any (λ name. get inputs name ≡ None) names }
+
+-- while files are cleaned by name in a session: besides, too large only if a file is; then as in a session
+abbrev pub naming_causes : Bool → Named (List ℕ) → List (List ℕ) → State → Causes
+naming_causes tells inputs names s = record (opening_causes tells inputs names) {
+  too_large = tells ≡ true → (files : List (List ℕ)) × AreNamed inputs names files × (are_short s.limits files ≡ false);
+  disk = Unit {0};
+  malformed = s.tells ≡ false;
+}
+
+-- While sources are cleaned in a session: a failure of a source or of the disk; too large only if a source is.
+abbrev pub cleaning_causes : {S : Type 0} → (S → Bool) → (S → List ℕ) → (S → ℕ) → List S → List S → State → Causes
+cleaning_causes tells left faults old new s = record no_causes {
+  input = (i : ℕ) × RoseAt faults old new i;
+  too_large = (i : ℕ) × IsLongAt tells left old s.limits.max_source_bytes i;
+  disk = Unit {0};
+}
+
+-- The folder of the store is valid at a time, if the disk is observable, and P holds of its contents.
+abbrev pub ForValid : Bool → Files → ℕ → (Contents → Type 0) → Type 0
+ForValid tells files now P = (contents : Contents) × (tells ≡ true → HasContents files store_folder now contents) × P contents
+
+-- while a folder is opened at a time: a failure of the disk; and, if the disk is observable, a shard only if it is
+-- the first with which a check fails
+abbrev pub folder_causes : Bool → ℕ → Files → Causes
+folder_causes tells now files = record no_causes {
+  disk = Unit {0};
+  bad_shard = λ name. tells ≡ true → (e : StoreError) × Refuses files store_folder now e name;
+}
+
+-- while a range is read in a folder: besides, not found only if there is no such range; malformed only if the disk
+-- is not observable
+abbrev pub reading_range_causes : Bool → ℕ → Files → List ℕ → ℕ → ℕ → Causes
+reading_range_causes tells now files h from to = record (folder_causes tells now files) {
+  not_found = ForValid tells files now (λ contents. IsNoRange contents.records h from to);
+  malformed = tells ≡ false;
+}
+
+-- while files are cleaned by name in a folder
+abbrev pub cleaning_store_causes : Bool → Named (List ℕ) → List (List ℕ) → Bool → ℕ → Files → Causes
+cleaning_store_causes inputs_tell inputs names tells now files = record (folder_causes tells now files) {
+  input = Unit {0};
+  not_found = ForValid tells files now (λ contents. inputs_tell ≡ true → Any (λ name. get inputs name ≡ None) names);
+  too_large = ForValid tells files now (λ contents. inputs_tell ≡ true → (found : List (List ℕ)) × AreNamed inputs names found × (are_short default_limits found ≡ false));
+  malformed = tells ≡ false;
+}

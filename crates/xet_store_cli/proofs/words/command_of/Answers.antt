@@ -1,17 +1,26 @@
-use Rattle.std.proofs.Common.{◌∙◌, sym, map}
-use Rattle.std.proofs.lemmas.List.{length-map}
-use Rattle.std.specs.Prelude.{string_bytes}
-use Rattle.xet_store_cli.proofs.Commands.{allows_command, command_none, command_three}
+use Rattle.std.proofs.Common.{◌≡◌, ◌∙◌, true, false, IfSome, Option, ap, map, string_bytes, subst, sym}
+use Rattle.std.specs.List.{list_any}
+use Rattle.xet_store_cli.specs.Allowed.{AllowsInput}
+use Rattle.xet_store_cli.specs.Words.{Command, command_by, command_of, is_option}
+use Rattle.xet_store_cli.proofs.Commands.{allows_asked, allows_command, any_map, command_empty, command_first, command_option}
 use Rattle.xet_store_cli.proofs.words.command_of.Goals as goal
 
-pub returns-then-words-ne3-clause-command : goal.returns-then-words-ne3-clause-command
-returns-then-words-ne3-clause-command c = sym (command_none _ (λ e. c.if-words-ne3.true (sym (length-map _ _) ∙ e)))
+pub returns-in_err-name-clause-command : goal.returns-in_err-name-clause-command
+returns-in_err-name-clause-command c = rw c.from_residual.ensures (sym (command_empty string_bytes c.args.words.now c.in_err-name.ensures.cases))
+
+pub returns-then-has_option-clause-command : goal.returns-then-has_option-clause-command
+returns-then-has_option-clause-command c =
+    let parts = c.in_ok-name.ensures.cases.0 in
+    let bad : list_any is_option (map string_bytes c.args.words.now) ≡ true = sym (any_map string_bytes c.args.words.now) ∙ sym c.has_option.ensures ∙ c.if-has_option.true in
+    sym (ap (λ ws. command_of (map string_bytes ws)) parts ∙ command_option (string_bytes c.in_ok-name.name.now) (map string_bytes c.in_ok-name.arguments.now) (sym (ap (λ ws. list_any is_option (map string_bytes ws)) parts) ∙ bad))
 
 pub returns-clause-command : goal.returns-clause-command
 returns-clause-command c =
-    c.pack_command.ensures
-    ∙ rw (c.as_str.ensures.value, c.as_str-2.ensures.value, c.as_str-3.ensures.value)
-    (sym (command_three string_bytes c.args.words.now _ _ _ c.if-words-ne3.false c.index-words-0.is c.index-words-1.is c.index-words-2.is))
+    let parts = c.in_ok-name.ensures.cases.0 in
+    let good : list_any is_option (map string_bytes c.args.words.now) ≡ false = sym (any_map string_bytes c.args.words.now) ∙ sym c.has_option.ensures ∙ c.if-has_option.false in
+    c.command_by.ensures ∙ ap (λ n. command_by n (map string_bytes c.in_ok-name.arguments.now)) c.as_str.ensures.value
+    ∙ sym (ap (λ ws. command_of (map string_bytes ws)) parts ∙ command_first (string_bytes c.in_ok-name.name.now) (map string_bytes c.in_ok-name.arguments.now) (sym (ap (λ ws. list_any is_option (map string_bytes ws)) parts) ∙ good))
 
 pub returns-clause-allows : goal.returns-clause-allows
-returns-clause-allows c = rw (returns-clause-command c) (allows_command (map string_bytes c.args.words.now))
+returns-clause-allows c =
+    allows_asked c.command_by.result (subst (λ (o : Option Command). IfSome o AllowsInput) (sym (returns-clause-command c)) (allows_command (map string_bytes c.args.words.now)))

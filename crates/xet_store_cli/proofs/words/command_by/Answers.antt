@@ -1,0 +1,22 @@
+use Rattle.std.proofs.Common.{◌∙◌, sym, map, string_bytes}
+use Rattle.xet_store_cli.proofs.Commands.{by_clean, by_group, by_list, by_other, by_pack, by_read}
+use Rattle.xet_store_cli.proofs.words.command_by.Goals as goal
+
+pub returns-in-pack : goal.returns-in-pack
+returns-in-pack c = c.pack_of.ensures ∙ sym (by_pack c.args.name.now (map string_bytes c.args.arguments.now) c.in-pack.is)
+
+pub returns-in-clean : goal.returns-in-clean
+returns-in-clean c = c.clean_of.ensures ∙ sym (by_clean c.args.name.now (map string_bytes c.args.arguments.now) c.in-clean.is)
+
+pub returns-in-read : goal.returns-in-read
+returns-in-read c = c.read_of.ensures ∙ sym (by_read c.args.name.now (map string_bytes c.args.arguments.now) c.in-read.is)
+
+pub returns-in-list : goal.returns-in-list
+returns-in-list c = c.list_of.ensures ∙ sym (by_list c.args.name.now (map string_bytes c.args.arguments.now) c.in-list.is)
+
+pub returns-in-group : goal.returns-in-group
+returns-in-group c = c.group_of.ensures ∙ sym (by_group c.args.name.now (map string_bytes c.args.arguments.now) c.in-group.is)
+
+pub returns-in_default : goal.returns-in_default
+returns-in_default c =
+    sym (by_other c.args.name.now (map string_bytes c.args.arguments.now) c.in_default.not-pack c.in_default.not-clean c.in_default.not-read c.in_default.not-list c.in_default.not-group)

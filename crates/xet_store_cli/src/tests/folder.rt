@@ -1,0 +1,86 @@
+//! Tests of runs over a folder of the operating system, each run with a disk and inputs of its own.
+
+use super::{ABC, LISTED, words_of};
+use crate::run::run_program;
+use std::marker::Sync;
+use std::sync::Wait;
+use std::test::Fail;
+use std::thread::Threads;
+use std::{env, fs, io, process};
+use xet_fs::{FolderDisk, FolderInputs};
+use xet_io::{MemorySink, SliceSource};
+
+/// A new folder for this process and test, with a file `a` that has the bytes `abc`.
+fn folder_with_file(rt: &HostRuntime, test: &str) -> io::Result<String> {
+    let alloc = rt.alloc();
+    let id = process::id(rt.process());
+    let temp = env::temp_dir(rt)?.into_string();
+    let root = format!(in alloc; "{temp}/xet_store_cli_{id}_{test}")?;
+    let _ = fs::remove_dir_all(rt, root.as_str());
+    fs::create_dir(rt, root.as_str())?;
+    fs::write(rt, format!(in alloc; "{root}/a")?, "abc")?;
+    Ok(root)
+}
+
+/// Runs the program in a folder. Returns what it printed, and the status.
+fn run_in<R: Threads + Wait + Sync>(
+    rt: &R,
+    host: HostRuntime,
+    root: &str,
+    words: &str,
+) -> Result<(String, u8), Fail> {
+    let alloc = host.alloc();
+    let words = words_of(alloc, words)?;
+    let mut inputs = FolderInputs::new(alloc, host, String::from_str(alloc, root)?);
+    let disk = FolderDisk::new(alloc, host, String::from_str(alloc, root)?);
+    let mut input = SliceSource::new(b"");
+    let mut output = MemorySink::new(alloc);
+    let (input, inputs) = (&mut input, &mut inputs);
+    let (_, status) = run_program(alloc, rt, &words, input, &mut output, disk, inputs, 0);
+    Ok((String::from_utf8_lossy(alloc, output.bytes())?, status))
+}
+
+#[test]
+fn a_later_run_reads_what_an_earlier_one_stored(rt: HostRuntime) -> Result<(), Fail> {
+    let root = folder_with_file(&rt, "later")?;
+    let zeros = "0000000000000000000000000000000000000000000000000000000000000000.mdb";
+    let bad = format!(in rt.alloc(); "{root}/store/{zeros}")?;
+    let told = format!(in rt.alloc(); "bad shard {zeros}\n")?;
+    let rows = [
+        ("list", "", 0u8),
+        ("clean a missing", "", 8),
+        ("clean a .", "", 4),
+        ("clean a ../a", "", 8),
+        ("clean a", ABC, 0),
+        ("list", LISTED, 0),
+        (
+            "read 8679a9c73b087ee02033e84569cba8c79c2413d79f99a1e9bd1ae79ae88776cf 1 3",
+            "bc",
+            0,
+        ),
+    ];
+    for (words, due, status) in rows {
+        let found = run_in(&rt, rt, &root, words)?;
+        assert_eq!(rt; found.0.as_str(), due, "with {words}");
+        assert_eq!(rt; found.1, status, "with {words}");
+    }
+    fs::write(&rt, bad.as_str(), "x")?;
+    let found = run_in(&rt, rt, &root, "clean a")?;
+    assert_eq!(rt; found.0.as_str(), told.as_str());
+    assert_eq!(rt; found.1, 7);
+    fs::remove_file(&rt, bad.as_str())?;
+    assert_eq!(rt; run_in(&rt, rt, &root, "list")?.0.as_str(), LISTED);
+    fs::remove_dir_all(&rt, root.as_str())?;
+    Ok(())
+}
+
+#[test]
+fn a_folder_that_cannot_be_written_is_status_6(rt: HostRuntime) -> Result<(), Fail> {
+    let root = folder_with_file(&rt, "no_folder")?;
+    fs::write(&rt, format!(in rt.alloc(); "{root}/store")?, "no folder")?;
+    let found = run_in(&rt, rt, &root, "clean a")?;
+    assert_eq!(rt; found.0.len(), 0);
+    assert_eq!(rt; found.1, 6);
+    fs::remove_dir_all(&rt, root.as_str())?;
+    Ok(())
+}
