@@ -12,11 +12,12 @@ _xet() {
             mapfile -t COMPREPLY < <(compgen -f -- "$word")
             ;;
         read)
-            # The built program itself lists the hashes: the script would first build it where it is not.
+            # The built program itself lists the hashes, if it opens the store in a second: the script would first build it
+            # where it is not.
             local program
-            program=$(type -P "${COMP_WORDS[0]}") && program=$(dirname -- "$program")/.xet/xet_store_cli
+            program=$(type -P "${COMP_WORDS[0]}") && program=$(dirname -- "$(readlink -f -- "$program")")/.xet/xet_store_cli
             if [ "$COMP_CWORD" -eq 2 ] && [ -x "$program" ]; then
-                mapfile -t COMPREPLY < <(compgen -W "$("$program" list 2>/dev/null | cut -d ' ' -f 1)" -- "$word")
+                mapfile -t COMPREPLY < <(compgen -W "$(timeout 1 "$program" list 2>/dev/null | cut -d ' ' -f 1)" -- "$word")
             fi
             ;;
         pack)

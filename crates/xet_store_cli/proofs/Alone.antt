@@ -1,5 +1,5 @@
 -- How the commands end that are not `pack`.
-use Rattle.std.proofs.Common.{◌≡◌, ◌∙◌, inl, inr, ℕ, ◌+◌, ◌-◌, ◌<◌, ◌≤◌, true, false, List, [], ◌∷◌, length, map, replicate, Option, Some, Result, Ok, Err, IfErr, IfOk, Vec, Global, unwrap_or, subst, refl, sym, ap, arith}
+use Rattle.std.proofs.Common.{◌≡◌, ◌∙◌, inl, inr, ℕ, ◌+◌, ◌-◌, ◌<◌, ◌≤◌, true, false, List, [], ◌∷◌, length, map, replicate, Option, Some, Result, Ok, Err, IfErr, IfOk, OnOk, Vec, Global, unwrap_or, subst, refl, sym, ap, arith}
 use Rattle.std.proofs.lemmas.List.{length-replicate}
 use Rattle.std.specs.FinMap.{get}
 use Rattle.std.specs.List.{flat_map}
@@ -14,9 +14,9 @@ use Rattle.xet_store_cli.specs.Answered.{Answered}
 use Rattle.xet_store_cli.specs.Answers.{AreNamed, CleanAnswer, IsRangeOf, ReadAnswer, listed_line}
 use Rattle.xet_store_cli.specs.Early.{Outcome, group_outcome, max_input, outcome}
 use Rattle.xet_store_cli.specs.Ending.{MayEnd}
-use Rattle.xet_store_cli.specs.Start.{Start}
+use Rattle.xet_store_cli.specs.Start.{LacksName, Start}
 use Rattle.xet_store_cli.specs.Stops.{IsStop, answer_outcome}
-use Rattle.xet_store_cli.specs.Stored.{AreStored, KeepsFolder, KeepsListed}
+use Rattle.xet_store_cli.specs.Stored.{AreStored, IsAdmittedAt, KeepsFolder, KeepsListed}
 use Rattle.xet_store_cli.specs.Tasks.{IsIdle, default_limits, store_folder}
 use Rattle.xet_store_cli.specs.Words.Command.{Clean, Group, ListFiles, Read}
 use Rattle.xet_store_cli.specs.internal.Cleaned.{IsCleanText}
@@ -49,8 +49,8 @@ module _ (start : Start) (new : Files) where
     answer = record { rows = recorded_files contents.records; listed = λ told. refl; differ = listed.0; is = ap (outcome 0) listed.1 };
   }
   end_list (Err stop.OutOfMemory) listed h = MayEnd.stopped (inl refl) refl
-  end_list (Err stop.Disk) listed h = MayEnd.stopped (inr (inr (refl, tt))) refl
-  end_list (Err (stop.BadShard name)) listed h = MayEnd.refused tt (λ observes. refl) record { name = name; fails = h; is = refl }
+  end_list (Err stop.Disk) listed h = MayEnd.stopped (inr (inr (inr (refl, tt, λ observes. refl)))) refl
+  end_list (Err (stop.BadShard name)) listed h = MayEnd.refused tt (λ observes. refl) record { name = name; named = h.0; fails = h.1; is = refl }
   end_list (Err stop.Input) listed h = absurd h
   end_list (Err stop.TooLarge) listed h = absurd h
   end_list (Err stop.NotFound) listed h = absurd h
@@ -83,16 +83,16 @@ module _ (start : Start) (new : Files) where
     abbrev Causes : Stop → Type 0
     Causes reason = IsStop (reading_range_causes start.tells start.now start.files h from to) reason
 
-    end_read : (r : Answer) → IfOk r (λ bytes. length bytes.items ≡ to - from) → IfOk r (λ bytes. IsRead bytes.items) → IfErr r Causes → MayEnd (Some (Read h from to)) start new (answer_outcome r)
-    end_read (Ok t) len (contents, valid, is) stop = MayEnd.answered (λ observes. refl) record { asked = Read h from to; is = refl; contents = contents; valid = valid; answer = ReadAnswer.read refl len is }
-    end_read (Err stop.OutOfMemory) len is c = MayEnd.stopped (inl refl) refl
-    end_read (Err stop.Disk) len is c = MayEnd.stopped (inr (inr (refl, tt))) refl
-    end_read (Err (stop.BadShard name)) len is c = MayEnd.refused tt (λ observes. refl) record { name = name; fails = c; is = refl }
-    end_read (Err stop.NotFound) len is (contents, valid, none) = MayEnd.answered (λ observes. refl) record { asked = Read h from to; is = refl; contents = contents; valid = valid; answer = ReadAnswer.none (λ told. none) refl }
-    end_read (Err stop.Malformed) len is c = MayEnd.malformed tt (λ observes. refl) c refl
-    end_read (Err stop.Input) len is c = absurd c
-    end_read (Err stop.TooLarge) len is c = absurd c
-    end_read (Err (stop.BadLine n)) len is c = absurd c
+    end_read : (r : Answer) → OnOk r (from ≤ to) → IfOk r (λ bytes. length bytes.items ≡ to - from) → IfOk r (λ bytes. IsRead bytes.items) → IfErr r Causes → MayEnd (Some (Read h from to)) start new (answer_outcome r)
+    end_read (Ok t) ordered len (contents, valid, is) stop = MayEnd.answered (λ observes. refl) record { asked = Read h from to; is = refl; contents = contents; valid = valid; answer = ReadAnswer.read refl ordered len is }
+    end_read (Err stop.OutOfMemory) ordered len is c = MayEnd.stopped (inl refl) refl
+    end_read (Err stop.Disk) ordered len is c = MayEnd.stopped (inr (inr (inr (refl, tt, λ observes. refl)))) refl
+    end_read (Err (stop.BadShard name)) ordered len is c = MayEnd.refused tt (λ observes. refl) record { name = name; named = c.0; fails = c.1; is = refl }
+    end_read (Err stop.NotFound) ordered len is (contents, valid, none) = MayEnd.answered (λ observes. refl) record { asked = Read h from to; is = refl; contents = contents; valid = valid; answer = ReadAnswer.none (λ told. none) refl }
+    end_read (Err stop.Malformed) ordered len is c = MayEnd.malformed tt (λ observes. refl) c refl
+    end_read (Err stop.Input) ordered len is c = absurd c
+    end_read (Err stop.TooLarge) ordered len is c = absurd c
+    end_read (Err (stop.BadLine n)) ordered len is c = absurd c
 
     ten_read : (r : Answer) → IfErr r Causes → (answer_outcome r).status ≡ 10 → start.tells ≡ false
     ten_read (Ok t) c ten = absurd (omega arith)
@@ -105,9 +105,9 @@ module _ (start : Start) (new : Files) where
     ten_read (Err stop.TooLarge) c ten = absurd c
     ten_read (Err (stop.BadLine n)) c ten = absurd c
 
-    pub answered_read : (r : Answer) → new ≡ start.files → IfOk r (λ bytes. length bytes.items ≡ to - from) → IfOk r (λ bytes. IsRead bytes.items) → IfErr r Causes → Answered (Some (Read h from to)) start new (answer_outcome r)
-    answered_read r same len is stop = record {
-      ends = end_read r len is stop;
+    pub answered_read : (r : Answer) → new ≡ start.files → OnOk r (from ≤ to) → IfOk r (λ bytes. length bytes.items ≡ to - from) → IfOk r (λ bytes. IsRead bytes.items) → IfErr r Causes → Answered (Some (Read h from to)) start new (answer_outcome r)
+    answered_read r same ordered len is stop = record {
+      ends = end_read r ordered len is stop;
       works = works_same (Some (Read h from to)) start new (answer_outcome r).status same (λ nought. none_stored default_limits start.now start.files new) (ten_read r stop);
     }
 
@@ -129,9 +129,9 @@ module _ (start : Start) (new : Files) where
       answer = CleanAnswer.reported record { files = is.files; named = is.named; count = is.count; status = refl; text = is.lines; stored = is.stored };
     }
     end_clean (Err stop.OutOfMemory) is c = MayEnd.stopped (inl refl) refl
-    end_clean (Err stop.Input) is c = MayEnd.stopped (inr (inl (refl, inr tt))) refl
-    end_clean (Err stop.Disk) is c = MayEnd.stopped (inr (inr (refl, tt))) refl
-    end_clean (Err (stop.BadShard name)) is c = MayEnd.refused tt (λ observes. refl) record { name = name; fails = c; is = refl }
+    end_clean (Err stop.Input) is (contents, valid, done) = MayEnd.stopped (inr (inr (inl (refl, tt, λ told. (contents, valid told, tt))))) refl
+    end_clean (Err stop.Disk) is c = MayEnd.stopped (inr (inr (inr (refl, tt, λ observes. refl)))) refl
+    end_clean (Err (stop.BadShard name)) is c = MayEnd.refused tt (λ observes. refl) record { name = name; named = c.0; fails = c.1; is = refl }
     end_clean (Err stop.NotFound) is (contents, valid, none) = MayEnd.answered (λ observes. refl) record { asked = Clean names; is = refl; contents = contents; valid = valid; answer = CleanAnswer.absent none refl }
     end_clean (Err stop.TooLarge) is (contents, valid, long) = MayEnd.answered (λ observes. refl) record { asked = Clean names; is = refl; contents = contents; valid = valid; answer = CleanAnswer.too_long long refl }
     end_clean (Err stop.Malformed) is c = MayEnd.malformed tt (λ observes. refl) c refl
@@ -171,15 +171,18 @@ module _ (start : Start) (new : Files) where
     stored_clean (Err (stop.BadLine n)) is inputs told nought = absurd (omega arith)
 
     pub answered_clean : (r : Answer) → IfOk r (λ text. IsCleanOf text.items) → IfErr r CleanCauses → (start.tells ≡ true → KeepsListed start.now start.files new) → (start.tells ≡ true → KeepsFolder start.now start.files new)
+        → (start.tells ≡ true → (IsAdmittedAt start.now start.files → ⊥) → new ≡ start.files) → (start.inputs_tell ≡ true → start.tells ≡ true → LacksName (Some (Clean names)) start → new ≡ start.files)
         → (start.tells ≡ true → IsIdle (Some (Clean names)) (answer_outcome r).status → new ≡ start.files)
         → (start.tells ≡ true → (name : List ℕ) → IsForeign store_folder name → get new name ≡ get start.files name) → Answered (Some (Clean names)) start new (answer_outcome r)
-    answered_clean r is stop listed keeps kept foreign = record {
+    answered_clean r is stop listed keeps refused absent kept foreign = record {
       ends = end_clean r is stop;
       works = record {
         stored = λ observes told nought. stored_clean r is (observes.1 tt) told nought;
         listed = listed;
         keeps = keeps;
         untouched = λ observes told some. absurd (some refl);
+        refused = refused;
+        absent = absent;
         kept = kept;
         foreign = foreign;
         malformed = ten_clean r stop;
@@ -199,7 +202,7 @@ module _ (start : Start) (new : Files) where
       let is_group : answer_outcome (Ok t) ≡ group_outcome bytes = ap (outcome 0) is ∙ sym (group_short bytes short) in
       MayEnd.early (λ observes. ap (λ (x : Outcome). Some x) (ap group_outcome (sym (told (observes.0 tt))) ∙ sym is_group)) (bytes, is_group)
   end_group (Err stop.OutOfMemory) is c = MayEnd.stopped (inl refl) refl
-  end_group (Err stop.Input) is c = MayEnd.stopped (inr (inl (refl, inl tt))) refl
+  end_group (Err stop.Input) is c = MayEnd.stopped (inr (inl (refl, tt))) refl
   end_group (Err stop.TooLarge) is c = MayEnd.early (λ observes. ap (λ (x : Outcome). Some x) (group_long start.input (c (observes.0 tt))))
       (long_group (max_input + 1) (omega arith))
   end_group (Err stop.Disk) is c = absurd c

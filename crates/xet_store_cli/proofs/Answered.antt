@@ -87,6 +87,8 @@ module _ (command : Option Command) (start : Start) where
     listed = λ told. subst (λ (x : Files). KeepsListed start.now start.files x) (sym same) (listed_same start.now start.files);
     keeps = λ told. subst (λ (x : Files). KeepsFolder start.now start.files x) (sym same) (folder_same start.now start.files);
     untouched = λ observes told some. same;
+    refused = λ told never. same;
+    absent = λ inputs_told told lacks. same;
     kept = λ told idle. same;
     foreign = λ told name is. ap (λ (x : Files). get x name) same;
     malformed = fine;
@@ -103,6 +105,8 @@ module _ (command : Option Command) (start : Start) where
       listed = works.listed;
       keeps = works.keeps;
       untouched = works.untouched;
+      refused = works.refused;
+      absent = works.absent;
       kept = λ told idle. kept_cut command (new ≡ start.files) status other cut (works.kept told) idle;
       foreign = works.foreign;
       malformed = λ ten. absurd (cut_ten status cut ten);

@@ -49,10 +49,11 @@ answer_of c start new o answer =
     let same : answer.asked ≡ c = cc (answer.is) in
     subst (λ (x : Command). Answers x start answer.contents new o) same answer.answer
 
-stopped_silent : (command : Option Command) (status : ℕ) → IsStoppedSilent command status → IsStopped status
-stopped_silent command status (inl one) = inl one
-stopped_silent command status (inr (inl (four, reads))) = inr (inl four)
-stopped_silent command status (inr (inr (six, opens))) = inr (inr (inr six))
+stopped_silent : (command : Option Command) (start : Start) (status : ℕ) → IsStoppedSilent command start status → IsStopped status
+stopped_silent command start status (inl one) = inl one
+stopped_silent command start status (inr (inl (four, reads))) = inr (inl four)
+stopped_silent command start status (inr (inr (inl (four, opens, valid)))) = inr (inl four)
+stopped_silent command start status (inr (inr (inr (six, opens, none)))) = inr (inr (inr six))
 
 module _ (start : Start) (new : Files) (o : Outcome) where
   abbrev Ends : Type 0
@@ -79,11 +80,11 @@ module _ (start : Start) (new : Files) (o : Outcome) where
   of_read h from to contents told fine valid (ReadAnswer.none absent is) =
       let one = records_once start.files store_folder start.now contents fine.0 (valid told) fine.1 in
       absurd (fine.2 (subst (λ (r : FileRecords). IsNoRange r h from to) one (absent told)))
-  of_read h from to contents told fine valid (ReadAnswer.read nought len is) = inl nought
+  of_read h from to contents told fine valid (ReadAnswer.read nought ordered len is) = inl nought
 
   end_of : (command : Option Command) → Observes start command → start.tells ≡ true → IsFaultless command start → MayEnd command start new o → Ends
   end_of None observes told fine may = absurd fine
-  end_of (Some c) observes told fine (stopped stop silent) = inr (stopped_silent (Some c) o.status stop)
+  end_of (Some c) observes told fine (stopped stop silent) = inr (stopped_silent (Some c) start o.status stop)
   end_of (Some c) observes told fine (malformed opens none never is) = not_malformed Ends told never
   end_of (Some (Pack s)) observes told fine (early e of) = absurd (cc (sym fine.0 ∙ e observes))
   end_of (Some (Pack s)) observes told fine (refused opens none rejected) = not_rejected Ends fine.1.0 told fine.1.1 rejected

@@ -13,7 +13,7 @@ use Rattle.xet_store_cli.specs.Start.{Start}
 use Rattle.xet_store_cli.specs.Early.{IsEarly, Outcome, bad_line_text, group_outcome, max_input, outcome}
 use Rattle.xet_store_cli.specs.Tasks.{store_folder}
 use Rattle.xet_store_cli.specs.Answers.{Answers, CleanAnswer, ReadAnswer}
-use Rattle.xet_store_cli.specs.Ending.{IsRejected, IsSilent, MayEnd, Prints, bad_shard_text}
+use Rattle.xet_store_cli.specs.Ending.{IsRejected, IsShardName, IsSilent, MayEnd, Prints, bad_shard_text}
 use Rattle.xet_store_cli.specs.Ending.MayEnd.{answered, early, malformed, refused, stopped}
 use Rattle.xet_store_cli.proofs.Answered.{none_of_six}
 
@@ -75,7 +75,7 @@ module _ (start : Start) (o : Outcome) where
   kind_answer (Clean names) contents new (CleanAnswer.too_long long is) = quiet_of start o 9 is (omega arith) (λ e. omega arith) (λ e. omega arith)
   kind_answer (Clean names) contents new (CleanAnswer.reported report) = Kind.done report.status
   kind_answer (Read h from to) contents new (ReadAnswer.none absent is) = quiet_of start o 8 is (omega arith) (λ e. omega arith) (λ e. omega arith)
-  kind_answer (Read h from to) contents new (ReadAnswer.read nought len is) = Kind.done nought
+  kind_answer (Read h from to) contents new (ReadAnswer.read nought ordered len is) = Kind.done nought
   kind_answer ListFiles contents new answer = Kind.done (ap (λ (x : Outcome). x.status) answer.is)
   kind_answer Group contents new never = absurd never
 
@@ -85,7 +85,8 @@ module _ (start : Start) (o : Outcome) where
   kind_of command new (answered none answer) = kind_answer answer.asked answer.contents new answer.answer
   kind_of command new (stopped (inl one) silent) = Kind.quiet 1 one (omega arith) (λ e. omega arith) (λ e. omega arith) silent
   kind_of command new (stopped (inr (inl (four, reads))) silent) = Kind.quiet 4 four (omega arith) (λ e. omega arith) (λ e. omega arith) silent
-  kind_of command new (stopped (inr (inr (six, opens))) silent) = Kind.quiet 6 six (omega arith) (λ e. omega arith) (λ e. omega arith) silent
+  kind_of command new (stopped (inr (inr (inl (four, opens, valid)))) silent) = Kind.quiet 4 four (omega arith) (λ e. omega arith) (λ e. omega arith) silent
+  kind_of command new (stopped (inr (inr (inr (six, opens, none)))) silent) = Kind.quiet 6 six (omega arith) (λ e. omega arith) (λ e. omega arith) silent
   kind_of command new (malformed opens none never is) = quiet_of start o 10 is (omega arith) (λ e. omega arith) (λ e. omega arith)
 
   -- ---- its status and text
@@ -138,10 +139,10 @@ module _ (command : Option Command) (start : Start) (new : Files) (output_tells 
   bad_line_of (o, may, inr (inr five, some, wrote)) told three = absurd (omega arith)
 
   pub bad_shard_of : Printed → status ≡ 7
-      → (name : List ℕ) × (start.tells ≡ true → (e : StoreError) × Refuses start.files store_folder start.now e name) × (output_tells ≡ true → after ≡ before ++ bad_shard_text name)
+      → (name : List ℕ) × IsShardName name × (start.tells ≡ true → (e : StoreError) × Refuses start.files store_folder start.now e name) × (output_tells ≡ true → after ≡ before ++ bad_shard_text name)
   bad_shard_of (o, may, inl (is, wrote)) seven =
       let rejected = kind_shard start o (kind_of start o command new may) (sym is ∙ seven) in
-      (rejected.name, rejected.fails, λ told. wrote told ∙ ap (λ (t : List ℕ). before ++ t) (ap (λ (x : Outcome). x.text) rejected.is))
+      (rejected.name, rejected.named, rejected.fails, λ told. wrote told ∙ ap (λ (t : List ℕ). before ++ t) (ap (λ (x : Outcome). x.text) rejected.is))
   bad_shard_of (o, may, inr (inl one, some, wrote)) seven = absurd (omega arith)
   bad_shard_of (o, may, inr (inr five, some, wrote)) seven = absurd (omega arith)
 

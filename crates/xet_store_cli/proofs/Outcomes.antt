@@ -27,7 +27,7 @@ use Rattle.xet_store_cli.specs.Ending.{MayEnd}
 use Rattle.xet_store_cli.specs.Parsing.{Said, are_good, parted}
 use Rattle.xet_store_cli.specs.Stops.{IsStop, answer_outcome, parsing_causes, session_causes, stop_of_unread}
 use Rattle.xet_store_cli.specs.internal.Stops.{IsSaid, reading_causes, storing_causes}
-use Rattle.xet_store_cli.specs.Stored.{AreStored, KeepsFolder, KeepsListed, Works}
+use Rattle.xet_store_cli.specs.Stored.{AreStored, IsAdmittedAt, KeepsFolder, KeepsListed, Works}
 use Rattle.xet_store_cli.proofs.Answered.{busy_status, works_idle}
 use Rattle.xet_store_cli.proofs.Lengths.{short_said}
 use Rattle.xet_store_cli.proofs.Said.{good_parted}
@@ -133,7 +133,7 @@ stop_status tells input (BadLine n) h = (λ e. omega arith, λ e. omega arith)
 module _ (s : LimitSettings) (start : Start) where
   end_unread : (stop : Stop) → IsStop (reading_causes start.input_tells start.input) stop → MayEnd (Some (Pack s)) start start.files (answer_outcome (Err stop))
   end_unread OutOfMemory h = MayEnd.stopped (inl refl) refl
-  end_unread Input h = MayEnd.stopped (inr (inl (refl, inl tt))) refl
+  end_unread Input h = MayEnd.stopped (inr (inl (refl, tt))) refl
   end_unread Disk h = absurd h
   end_unread Malformed h = absurd h
   end_unread (BadShard name) h = absurd h
@@ -174,6 +174,7 @@ pub record StandsAt (s : LimitSettings) (start : Start) (new : Files) (said : Sa
   pub stored : start.tells ≡ true → OnOk r (AreStored s said.files start.now start.files new)
   pub listed : start.tells ≡ true → KeepsListed start.now start.files new
   pub keeps : start.tells ≡ true → KeepsFolder start.now start.files new
+  pub refused : start.tells ≡ true → (IsAdmittedAt start.now start.files → ⊥) → new ≡ start.files
   pub kept : start.tells ≡ true → IsIdle (Some (Pack s)) (answer_outcome r).status → new ≡ start.files
   pub foreign : start.tells ≡ true → (name : List ℕ) → IsForeign store_folder name → get new name ≡ get start.files name
 
@@ -197,9 +198,9 @@ module _ (s : LimitSettings) (start : Start) (new : Files) (said : Said) where
   end_read (Ok t) is short valid stop report =
       MayEnd.answered (λ observes. (is (observes.0 tt)).fine) record { asked = Pack s; is = refl; contents = valid.0; valid = valid.1; answer = report }
   end_read (Err OutOfMemory) is short valid stop report = MayEnd.stopped (inl refl) refl
-  end_read (Err Disk) is short valid stop report = MayEnd.stopped (inr (inr (refl, tt))) refl
+  end_read (Err Disk) is short valid stop report = MayEnd.stopped (inr (inr (inr (refl, tt, λ observes. (is (observes.0 tt)).fine)))) refl
   end_read (Err TooLarge) is short valid stop report = absurd (false≢true (sym stop ∙ short))
-  end_read (Err (BadShard name)) is short valid stop report = MayEnd.refused tt (λ observes. (is (observes.0 tt)).fine) record { name = name; fails = stop; is = refl }
+  end_read (Err (BadShard name)) is short valid stop report = MayEnd.refused tt (λ observes. (is (observes.0 tt)).fine) record { name = name; named = stop.0; fails = stop.1; is = refl }
   end_read (Err Malformed) is short valid stop report = MayEnd.malformed tt (λ observes. (is (observes.0 tt)).fine) stop refl
   end_read (Err Input) is short valid stop report = absurd stop
   end_read (Err NotFound) is short valid stop report = absurd stop
@@ -213,6 +214,8 @@ module _ (s : LimitSettings) (start : Start) (new : Files) (said : Said) where
     listed = stands.listed;
     keeps = stands.keeps;
     untouched = λ observes told some. absurd (some (is (observes.0 tt)).fine);
+    refused = stands.refused;
+    absent = λ inputs_told told lacks. absurd lacks;
     kept = stands.kept;
     foreign = stands.foreign;
     malformed = ten_of start.tells s said start.now start.files r stop;

@@ -1,9 +1,14 @@
 -- Ranges that are read of a session.
-use Rattle.std.proofs.Common.{◌≡◌, ◌∙◌, ℕ, List, [], ◌∷◌, ◌++◌, append_assoc, refl, sym, ap, subst, arith}
+use Rattle.std.proofs.Common.{◌≡◌, ◌∙◌, inl, inr, ℕ, ◌≤◌, List, [], ◌∷◌, ◌++◌, Option, Some, None, Result, Ok, Err, OnOk, Vec, Global, append_assoc, refl, sym, ap, subst, arith}
+use Rattle.std.proofs.lemmas.Bool.{cases_lt}
 use Rattle.std.proofs.lemmas.List.{append-nil}
+use Rattle.std.specs.Result.{IsErrOf}
+use Rattle.xet_hash.specs.declared.error.StoreError.{StoreError}
+use Rattle.xet_hash.specs.declared.error.StoreError.TheVariants.{FileNotFound, InvalidRange}
+use Rattle.xet_shard_format.specs.declared.record.FileDataSequenceEntry.{FileDataSequenceEntry as Segment}
 use Rattle.xet_store.specs.Cleaning.{Keeps}
-use Rattle.xet_store.specs.Ranges.{IsUnchanged}
-use Rattle.xet_store.specs.Store.{State}
+use Rattle.xet_store.specs.Ranges.{IsOutside, IsUnchanged}
+use Rattle.xet_store.specs.Store.{State, plan_of}
 use Rattle.xet_store.specs.declared.info.XetFileInfo.{XetFileInfo}
 use Rattle.xet_store.specs.theorems.Keeping.{keeps_counted}
 use Rattle.xet_store_cli.specs.declared.lines.FileRange.{FileRange}
@@ -53,3 +58,23 @@ module _ (infos : List XetFileInfo) where
       (line, [], one, none ∙ sym (append-nil line), refl)
   read_more s (q ∷ rs) r text line (first, rest, of, is, more) one =
       (first, rest ++ line, of, ap (λ (t : List ℕ). t ++ line) is ∙ append_assoc first rest line, read_more s rs r rest line more one)
+
+-- ---- a range that was read is not reversed
+
+no_answer : {T E : Type 0} (X : Type 0) (r : Result T E) (e : E) → IsErrOf r e → OnOk r X
+no_answer X (Ok t) e is = absurd (cc is)
+no_answer X (Err f) e is = tt
+
+pub ordered_of : (s : State) (h : List ℕ) (from to : ℕ) (r : Result (Vec ℕ Global) StoreError) → (plan_of s.records h ≡ None → IsErrOf r FileNotFound) → (IsOutside s h from to → IsErrOf r InvalidRange) → OnOk r (from ≤ to)
+ordered_of s h from to r missing outside = go (plan_of s.records h) refl
+  where
+    given : (x : Result (Vec ℕ Global) StoreError) → from ≤ to → OnOk x (from ≤ to)
+    given (Ok t) le = le
+    given (Err e) le = tt
+
+    go : (o : Option (List Segment)) → plan_of s.records h ≡ o → OnOk r (from ≤ to)
+    go None none = no_answer (from ≤ to) r FileNotFound (missing none)
+    go (Some plan) planned = elim (cases_lt to from) [
+      | inl reversed ↦ no_answer (from ≤ to) r InvalidRange (outside record { plan = plan; planned = planned; outside = inl reversed })
+      | inr ordered ↦ given r ordered
+    ]

@@ -1,5 +1,5 @@
 -- What each command answers over a valid folder.
-use Rattle.std.specs.Prelude.{◌≡◌, ◌⊎◌, ℕ, ◌-◌, ◌<◌, Bool, true, false, List, [], ◌∷◌, ◌++◌, length, map, Some, None}
+use Rattle.std.specs.Prelude.{◌≡◌, ◌⊎◌, ℕ, ◌-◌, ◌<◌, ◌≤◌, Bool, true, false, List, [], ◌∷◌, ◌++◌, length, map, Some, None}
 use Rattle.std.specs.FinMap.{get}
 use Rattle.std.specs.Fmt.{decimal}
 use Rattle.std.specs.List.{Any, concat, flat_map}
@@ -76,7 +76,7 @@ pub record IsRangeOf (disk : Files) (records : FileRecords) (h : List ℕ) (from
 -- `read`: no such range; or its bytes
 pub data ReadAnswer (h : List ℕ) (from to : ℕ) (start : Start) (contents : Contents) (o : Outcome) : Type 0 where
   none : (start.tells ≡ true → IsNoRange contents.records h from to) → o ≡ outcome 8 [] → ReadAnswer h from to start contents o
-  read : o.status ≡ 0 → length o.text ≡ to - from → (start.tells ≡ true → IsRangeOf start.files contents.records h from to o.text)
+  read : o.status ≡ 0 → from ≤ to → length o.text ≡ to - from → (start.tells ≡ true → IsRangeOf start.files contents.records h from to o.text)
       → ReadAnswer h from to start contents o
 
 -- the line of a listed file: the text form of its hash, its length in decimal, and LF

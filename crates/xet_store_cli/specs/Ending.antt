@@ -2,6 +2,8 @@
 use Rattle.std.specs.Prelude.{◌≡◌, ◌≢◌, ◌⊎◌, ℕ, ◌≤◌, Bool, true, false, List, [], ◌∷◌, ◌++◌, codes, length, take, Option, Some, None}
 use Rattle.xet_io.specs.Disk.{Files}
 use Rattle.xet_hash.specs.declared.error.StoreError.{StoreError}
+use Rattle.xet_shard_format.specs.Names.{shard_name}
+use Rattle.xet_shard_file.specs.Names.{IsHash}
 use Rattle.xet_folder.specs.Admission.{Refuses}
 use Rattle.xet_folder.specs.Contents.{HasContents}
 use Rattle.xet_folder.specs.declared.contents.Contents.{Contents}
@@ -13,6 +15,10 @@ use Rattle.xet_store_cli.specs.Tasks.{default_limits, store_folder}
 use Rattle.xet_store_cli.specs.Allowed.{are_short}
 use Rattle.xet_store_cli.specs.Answers.{Answers, AreNamed, IsNoRange}
 
+-- the file name of a shard
+abbrev pub IsShardName : List ℕ → Type 0
+IsShardName name = (hash : List ℕ) × IsHash hash × (name ≡ shard_name hash)
+
 abbrev pub bad_shard_text : List ℕ → List ℕ
 bad_shard_text name = codes "bad shard " ++ name ++ 10 ∷ []
 
@@ -22,9 +28,10 @@ OpensStore None = ⊥
 OpensStore (Some Group) = ⊥
 OpensStore (Some _) = Unit {0}
 
--- A shard of the folder is the first with which a check fails, if the disk is observable; its name is printed.
+-- A shard of the folder is the first with which a check fails, if the disk is observable; its file name is printed.
 pub record IsRejected (start : Start) (o : Outcome) : Type 0 where
   pub name : List ℕ
+  pub named : IsShardName name
   pub fails : start.tells ≡ true → (e : StoreError) × Refuses start.files store_folder start.now e name
   pub is : o ≡ outcome 7 (bad_shard_text name)
 
@@ -36,11 +43,17 @@ pub record IsAnswer (command : Option Command) (start : Start) (new : Files) (o 
   pub valid : start.tells ≡ true → HasContents start.files store_folder start.now contents
   pub answer : Answers asked start contents new o
 
--- A run of a command is stopped before it prints if memory is out, if an input fails that the command reads, or if
--- the disk fails on which it opens the store.
-abbrev pub IsStoppedSilent : Option Command → ℕ → Type 0
-IsStoppedSilent command status =
-    (status ≡ 1) ⊎ ((status ≡ 4) × (ReadsInput command ⊎ OpensInputs command)) ⊎ ((status ≡ 6) × OpensStore command)
+-- The folder is valid at the start, and its contents have this.
+abbrev pub ForContents : Start → (Contents → Type 0) → Type 0
+ForContents start P = (contents : Contents) × HasContents start.files store_folder start.now contents × P contents
+
+-- A run of a command is stopped before it prints if memory is out; if the input fails while it is read; if a file that
+-- is opened by name fails, once the folder was found valid; or if the disk fails on which the store is opened, once
+-- nothing is due before that.
+abbrev pub IsStoppedSilent : Option Command → Start → ℕ → Type 0
+IsStoppedSilent command start status =
+    (status ≡ 1) ⊎ ((status ≡ 4) × ReadsInput command) ⊎ ((status ≡ 4) × OpensInputs command × (start.tells ≡ true → ForContents start (λ contents. Unit {0})))
+    ⊎ ((status ≡ 6) × OpensStore command × (Observes start command → early_outcome command start.input ≡ None))
 
 -- How the run of a command may end: before its store is opened, as is due then; at a shard that fails a check; with
 -- its answer; stopped, with no text; or, on a disk that is not observable, because a stored xorb changed after it
@@ -49,7 +62,7 @@ pub data MayEnd (command : Option Command) (start : Start) (new : Files) (o : Ou
   early : (Observes start command → early_outcome command start.input ≡ Some o) → IsEarly command o → MayEnd command start new o
   refused : OpensStore command → (Observes start command → early_outcome command start.input ≡ None) → IsRejected start o → MayEnd command start new o
   answered : (Observes start command → early_outcome command start.input ≡ None) → IsAnswer command start new o → MayEnd command start new o
-  stopped : IsStoppedSilent command o.status → o.text ≡ [] → MayEnd command start new o
+  stopped : IsStoppedSilent command start o.status → o.text ≡ [] → MayEnd command start new o
   malformed : OpensStore command → (Observes start command → early_outcome command start.input ≡ None) → start.tells ≡ false → o ≡ outcome 10 [] → MayEnd command start new o
 
 -- It is cut short while it prints if the output fails or runs out of memory.
@@ -70,10 +83,6 @@ IsStopped status = (status ≡ 1) ⊎ (status ≡ 4) ⊎ (status ≡ 5) ⊎ (sta
 -- the statuses with which nothing is printed
 abbrev pub IsSilent : ℕ → Type 0
 IsSilent status = (status ≡ 2) ⊎ (status ≡ 4) ⊎ (status ≡ 6) ⊎ (status ≡ 8) ⊎ (status ≡ 9) ⊎ (status ≡ 10)
-
--- The folder is valid at the start, and its contents have this.
-abbrev pub ForContents : Start → (Contents → Type 0) → Type 0
-ForContents start P = (contents : Contents) × HasContents start.files store_folder start.now contents × P contents
 
 -- Command, inputs and disk give no cause for another status than 0.
 abbrev pub IsFaultless : Option Command → Start → Type 0

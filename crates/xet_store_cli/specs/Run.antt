@@ -7,7 +7,7 @@ use Rattle.xet_store_cli.specs.Words.{Command}
 use Rattle.xet_store_cli.specs.Start.{Observes, Start}
 use Rattle.xet_store_cli.specs.Early.{Outcome, bad_line_text}
 use Rattle.xet_store_cli.specs.Tasks.{store_folder}
-use Rattle.xet_store_cli.specs.Ending.{IsFaultless, IsSilent, IsStopped, MayEnd, Prints, bad_shard_text}
+use Rattle.xet_store_cli.specs.Ending.{IsFaultless, IsShardName, IsSilent, IsStopped, MayEnd, Prints, bad_shard_text}
 use Rattle.xet_store_cli.specs.Stored.{IsAdmittedAt, Works}
 
 -- A run of a command, from a start. It has written from `before` to `after` on its output, the files of its disk
@@ -22,7 +22,7 @@ pub record Run (command : Option Command) (start : Start) (output_tells : Bool) 
   pub silent : output_tells ≡ true → IsSilent status → after ≡ before
   pub bad_line : output_tells ≡ true → status ≡ 3 → (n : ℕ) × (after ≡ before ++ bad_line_text n)
   -- a shard of the folder is the first with which a check fails, and its name was printed
-  pub bad_shard : status ≡ 7 → (name : List ℕ) × (start.tells ≡ true → (e : StoreError) × Refuses start.files store_folder start.now e name)
+  pub bad_shard : status ≡ 7 → (name : List ℕ) × IsShardName name × (start.tells ≡ true → (e : StoreError) × Refuses start.files store_folder start.now e name)
       × (output_tells ≡ true → after ≡ before ++ bad_shard_text name)
   -- without a cause for another status it is 0, unless the run was stopped
   pub complete : Observes start command → start.tells ≡ true → IsFaultless command start → (status ≡ 0) ⊎ IsStopped status

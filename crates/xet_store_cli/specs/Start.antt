@@ -1,5 +1,6 @@
 -- What a run starts from.
-use Rattle.std.specs.Prelude.{◌≡◌, ℕ, Bool, true, List, Option, Some}
+use Rattle.std.specs.Prelude.{◌≡◌, ℕ, Bool, true, List, Option, Some, None, Any}
+use Rattle.std.specs.FinMap.{get}
 use Rattle.xet_io.specs.Disk.{Files}
 use Rattle.xet_io.specs.Named.{Named}
 use Rattle.xet_store_cli.specs.Words.{Command}
@@ -34,3 +35,8 @@ OpensInputs _ = ⊥
 -- What the command reads besides the disk is observable.
 abbrev pub Observes : Start → Option Command → Type 0
 Observes start command = (ReadsInput command → start.input_tells ≡ true) × (OpensInputs command → start.inputs_tell ≡ true)
+
+-- The command opens files by name, and one of the names is absent.
+abbrev pub LacksName : Option Command → Start → Type 0
+LacksName (Some (Clean names)) start = Any (λ name. get start.inputs name ≡ None) names
+LacksName _ start = ⊥

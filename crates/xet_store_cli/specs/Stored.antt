@@ -17,7 +17,7 @@ use Rattle.xet_shard_file.specs.Shards.{IsThere, ShardFile, is_expired}
 use Rattle.xet_shard_format.specs.declared.record.MDBFileInfo.{MDBFileInfo}
 use Rattle.xet_shard_format.specs.Records.{file_record_hash}
 use Rattle.xet_store_cli.specs.Words.{Command}
-use Rattle.xet_store_cli.specs.Start.{Start, Observes}
+use Rattle.xet_store_cli.specs.Start.{LacksName, Observes, Start}
 use Rattle.xet_store_cli.specs.Early.{early_outcome}
 use Rattle.xet_store_cli.specs.Tasks.{IsIdle, files_to_store, limits_of, store_folder}
 use Rattle.xet_store_cli.specs.Report.{hash_of_file}
@@ -88,12 +88,15 @@ pub record KeepsFolder (now : ℕ) (old new : Files) : Type 0 where
   pub admitted : IsAdmittedAt now old → IsAdmittedAt now new
 
 -- What the run of a command does to the files of its disk, by the status with which it ends: what status 0
--- promises, what is kept whatever the status, and when no file has changed.
+-- promises, what is kept whatever the status, and when no file has changed: if an outcome is due before the store is
+-- opened, if the folder is not valid, if a name is absent, and by the status.
 pub record Works (command : Option Command) (start : Start) (new : Files) (status : ℕ) : Type 0 where
   pub stored : Observes start command → start.tells ≡ true → status ≡ 0 → IfSome command (λ c. AreStored (limits_of c) (files_to_store c start) start.now start.files new)
   pub listed : start.tells ≡ true → KeepsListed start.now start.files new
   pub keeps : start.tells ≡ true → KeepsFolder start.now start.files new
   pub untouched : Observes start command → start.tells ≡ true → early_outcome command start.input ≢ None → new ≡ start.files
+  pub refused : start.tells ≡ true → (IsAdmittedAt start.now start.files → ⊥) → new ≡ start.files
+  pub absent : start.inputs_tell ≡ true → start.tells ≡ true → LacksName command start → new ≡ start.files
   pub kept : start.tells ≡ true → IsIdle command status → new ≡ start.files
   pub foreign : start.tells ≡ true → (name : List ℕ) → IsForeign store_folder name → get new name ≡ get start.files name
   pub malformed : status ≡ 10 → start.tells ≡ false

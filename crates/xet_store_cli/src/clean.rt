@@ -1,6 +1,6 @@
 //! The command `clean`.
 
-ghost use Rattle.std.specs.Prelude.{◌≡◌, ◌≤◌, ◌<◌, ◌+◌, ◌-◌, ◌^◌, ℕ, List, true, [], Some, length, map, string_bytes, vec_capacity, Any, IfErr, IfOk, OnOk, IsErrOf};
+ghost use Rattle.std.specs.Prelude.{◌≡◌, ◌≤◌, ◌<◌, ◌+◌, ◌-◌, ◌^◌, ℕ, List, true, [], Some, None, length, map, string_bytes, vec_capacity, Any, IfErr, IfOk, OnOk, IsErrOf};
 ghost use Rattle.std.specs.FinMap.{get};
 ghost use Rattle.xet_folder.specs.Contents.{HasContents};
 ghost use Rattle.xet_folder.specs.Names.{IsForeign};
@@ -9,7 +9,7 @@ ghost use Rattle.xet_io.specs.Frame.{Called, Queried};
 ghost use Rattle.xet_store.specs.Cleaning.{Keeps};
 ghost use Rattle.xet_store.specs.Opening.{contents_of};
 ghost use Rattle.xet_store_cli.specs.Stops.{IsStop, answer_outcome};
-ghost use Rattle.xet_store_cli.specs.Stored.{KeepsFolder, KeepsListed};
+ghost use Rattle.xet_store_cli.specs.Stored.{IsAdmittedAt, KeepsFolder, KeepsListed};
 ghost use Rattle.xet_store_cli.specs.Tasks.{IsIdle, store_folder};
 ghost use Rattle.xet_store_cli.specs.internal.Cleaned.{AreOpened, IsCleanText, IsCleaned};
 ghost use Rattle.xet_store_cli.specs.internal.Stops.{ForValid, cleaning_store_causes, naming_causes, opening_causes};
@@ -38,6 +38,8 @@ pub fn clean<D: Disk + Send, F: Inputs>(
     ensures stop { IfErr result.1 (IsStop (cleaning_store_causes (F.tells inputs.old) (F.files inputs.old) (map string_bytes names.now) (D.tells disk) now (D.files disk))) }
     ensures listed { D.tells disk ≡ true → KeepsListed now (D.files disk) (D.files result.0) }
     ensures keeps { D.tells disk ≡ true → KeepsFolder now (D.files disk) (D.files result.0) }
+    ensures refused { D.tells disk ≡ true → (IsAdmittedAt now (D.files disk) → ⊥) → D.files result.0 ≡ D.files disk }
+    ensures absent { F.tells inputs.old ≡ true → D.tells disk ≡ true → Any (λ name. get (F.files inputs.old) name ≡ None) (map string_bytes names.now) → D.files result.0 ≡ D.files disk }
     ensures kept { D.tells disk ≡ true → IsIdle (Some (Clean (map string_bytes names.now))) (answer_outcome result.1).status → D.files result.0 ≡ D.files disk }
     ensures foreign { D.tells disk ≡ true → (name : List ℕ) → IsForeign store_folder name → get (D.files result.0) name ≡ get (D.files disk) name }
     ensures disk { Called D.tells D.faults disk result.0 (IsErrOf result.1 Stop.Disk) }
@@ -70,6 +72,7 @@ fn clean_names<D: Disk + Send, F: Inputs>(
     ensures cleaned { IfOk result.1 (λ text. IsCleaned (F.tells inputs.old) (F.files inputs.old) (map string_bytes names.now) session result.0 text.items) }
     ensures keeps { Keeps session result.0 }
     ensures stop { IfErr result.1 (IsStop (naming_causes (F.tells inputs.old) (F.files inputs.old) (map string_bytes names.now) session)) }
+    ensures absent { F.tells inputs.old ≡ true → Any (λ name. get (F.files inputs.old) name ≡ None) (map string_bytes names.now) → result.0 ≡ session }
     ensures kept { IsErrOf result.1 Stop.NotFound → result.0 ≡ session }
     ensures cause { HasCause session.faults result.0.faults (IsErrOf result.1 Stop.Disk) }
     ensures inputs { Queried F.files F.tells F.faults inputs.old inputs.new (IsErrOf result.1 Stop.Input) }

@@ -17,7 +17,7 @@ ghost use Rattle.xet_folder.specs.declared.contents.Contents.{Contents};
 ghost use Rattle.xet_store_cli.specs.Report.{IsReport};
 ghost use Rattle.xet_store_cli.specs.Stops.{IsStop, answer_outcome};
 ghost use Rattle.xet_store_cli.specs.internal.Stops.{IsSaid, reading_causes, storing_causes};
-ghost use Rattle.xet_store_cli.specs.Stored.{AreStored, KeepsFolder, KeepsListed};
+ghost use Rattle.xet_store_cli.specs.Stored.{AreStored, IsAdmittedAt, KeepsFolder, KeepsListed};
 
 use crate::ending::Stop;
 use crate::lines::{PackLines, parse};
@@ -91,6 +91,7 @@ fn store_lines<D: Disk + Send>(
     ensures stored { D.tells disk ≡ true → OnOk result.1 (AreStored limits.now lines.now.files now (D.files disk) (D.files result.0)) }
     ensures listed { D.tells disk ≡ true → KeepsListed now (D.files disk) (D.files result.0) }
     ensures keeps { D.tells disk ≡ true → KeepsFolder now (D.files disk) (D.files result.0) }
+    ensures refused { D.tells disk ≡ true → (IsAdmittedAt now (D.files disk) → ⊥) → D.files result.0 ≡ D.files disk }
     ensures kept { D.tells disk ≡ true → IsIdle (Some (Pack limits.now)) (answer_outcome result.1).status → D.files result.0 ≡ D.files disk }
     ensures foreign { D.tells disk ≡ true → (name : List ℕ) → IsForeign store_folder name → get (D.files result.0) name ≡ get (D.files disk) name }
     ensures frame { Called D.tells D.faults disk result.0 (IsErrOf result.1 Stop.Disk) }

@@ -1,6 +1,6 @@
 //! The command `read`.
 
-ghost use Rattle.std.specs.Prelude.{◌≡◌, ◌-◌, true, length, IfErr, IfOk, IsErrOf};
+ghost use Rattle.std.specs.Prelude.{◌≡◌, ◌-◌, ◌≤◌, true, length, IfErr, IfOk, OnOk, IsErrOf};
 ghost use Rattle.xet_io.specs.Faults.{HasCause};
 ghost use Rattle.xet_io.specs.Frame.{Called};
 ghost use Rattle.xet_store.specs.Ranges.{IsRange, IsUnchanged};
@@ -27,6 +27,7 @@ pub fn read<D: Disk + Send>(
     disk: D,
     now: u64,
 ) -> (D, Result<Vec<u8>, Stop>)
+    ensures ordered { OnOk result.1 (from ≤ to) }
     ensures length { IfOk result.1 (λ bytes. length bytes.items ≡ to - from) }
     ensures range { IfOk result.1 (λ bytes. ForValid (D.tells disk) (D.files disk) now (λ contents. D.tells disk ≡ true → IsRangeOf (D.files disk) contents.records hash.now from to bytes.items)) }
     ensures stop { IfErr result.1 (IsStop (reading_range_causes (D.tells disk) now (D.files disk) hash.now from to)) }
@@ -51,6 +52,7 @@ fn read_range<D: Disk + Send>(
     to: u64,
 ) -> Result<Vec<u8>, Stop>
     ensures range { session.old.tells ≡ true → IfOk result (λ bytes. IsRange session.old hash.now from to bytes.items) }
+    ensures ordered { OnOk result (from ≤ to) }
     ensures length { IfOk result (λ bytes. length bytes.items ≡ to - from) }
     ensures stop { IfErr result (IsStop (finding_causes session.old hash.now from to)) }
     ensures unchanged { IsUnchanged session.old session.new }

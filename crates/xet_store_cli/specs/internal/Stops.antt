@@ -20,6 +20,7 @@ use Rattle.xet_store.specs.Cleaning.{IsLongAt, RoseAt}
 use Rattle.xet_store.specs.Store.{State}
 use Rattle.xet_store_cli.specs.Allowed.{are_short}
 use Rattle.xet_store_cli.specs.Answers.{AreNamed, IsNoRange}
+use Rattle.xet_store_cli.specs.Ending.{IsShardName}
 use Rattle.xet_store_cli.specs.Stops.{Causes, no_causes, range_causes, session_causes, stop_of_error}
 
 -- What an input says whose lines and ranges are good.
@@ -42,7 +43,7 @@ reading_causes tells input = record no_causes {
 -- if it is the first with which a check fails.
 abbrev pub storing_causes : Bool → LimitSettings → Said → ℕ → Files → Causes
 storing_causes tells s said now files = record (session_causes tells s said) {
-  bad_shard = λ name. tells ≡ true → (e : StoreError) × Refuses files store_folder now e name;
+  bad_shard = λ name. IsShardName name × (tells ≡ true → (e : StoreError) × Refuses files store_folder now e name);
 }
 
 -- the stop for a folder that was not opened, with the name of the shard if there is one
@@ -94,7 +95,7 @@ ForValid tells files now P = (contents : Contents) × (tells ≡ true → HasCon
 abbrev pub folder_causes : Bool → ℕ → Files → Causes
 folder_causes tells now files = record no_causes {
   disk = Unit {0};
-  bad_shard = λ name. tells ≡ true → (e : StoreError) × Refuses files store_folder now e name;
+  bad_shard = λ name. IsShardName name × (tells ≡ true → (e : StoreError) × Refuses files store_folder now e name);
 }
 
 -- while a range is read in a folder: besides, not found only if there is no such range; malformed only if the disk
@@ -105,10 +106,10 @@ reading_range_causes tells now files h from to = record (folder_causes tells now
   malformed = tells ≡ false;
 }
 
--- while files are cleaned by name in a folder
+-- while files are cleaned by name in a folder: besides, an input fails only once the folder was found valid
 abbrev pub cleaning_store_causes : Bool → Named (List ℕ) → List (List ℕ) → Bool → ℕ → Files → Causes
 cleaning_store_causes inputs_tell inputs names tells now files = record (folder_causes tells now files) {
-  input = Unit {0};
+  input = ForValid tells files now (λ contents. Unit {0});
   not_found = ForValid tells files now (λ contents. inputs_tell ≡ true → Any (λ name. get inputs name ≡ None) names);
   too_large = ForValid tells files now (λ contents. inputs_tell ≡ true → (found : List (List ℕ)) × AreNamed inputs names found × (are_short default_limits found ≡ false));
   malformed = tells ≡ false;

@@ -3,6 +3,7 @@
 use super::{ABC, LISTED, words_of};
 use crate::run::run_program;
 use std::marker::Sync;
+use std::os::unix::fs::symlink;
 use std::sync::Wait;
 use std::test::Fail;
 use std::thread::Threads;
@@ -76,8 +77,10 @@ fn a_later_run_reads_what_an_earlier_one_stored(rt: HostRuntime) -> Result<(), F
 
 #[test]
 fn a_folder_that_cannot_be_written_is_status_6(rt: HostRuntime) -> Result<(), Fail> {
-    let root = folder_with_file(&rt, "no_folder")?;
-    fs::write(&rt, format!(in rt.alloc(); "{root}/store")?, "no folder")?;
+    let root = folder_with_file(&rt, "link")?;
+    fs::create_dir(&rt, format!(in rt.alloc(); "{root}/elsewhere")?)?;
+    symlink(&rt, "elsewhere", format!(in rt.alloc(); "{root}/store")?)?;
+    assert_eq!(rt; run_in(&rt, rt, &root, "list")?.1, 0);
     let found = run_in(&rt, rt, &root, "clean a")?;
     assert_eq!(rt; found.0.len(), 0);
     assert_eq!(rt; found.1, 6);

@@ -1,6 +1,7 @@
-use Rattle.std.proofs.Common.{◌∙◌, map, string_bytes, subst, arith}
+use Rattle.std.proofs.Common.{◌∙◌, map, string_bytes, subst, ap, arith}
 use Rattle.xet_cut.specs.declared.limits.LimitSettings.{LimitSettings}
 use Rattle.xet_store.specs.Opening.{IsOpened}
+use Rattle.xet_store.specs.Store.{State}
 use Rattle.xet_store_cli.specs.Tasks.{store_folder}
 use Rattle.xet_store_cli.proofs.Listing.{keeps_folder, keeps_listed}
 use Rattle.xet_store_cli.proofs.Named.{cleaned_text, idle_kept}
@@ -40,3 +41,11 @@ returns-in-Ok-clause-disk g c =
       later = omega (arith, later, cause.later, faults);
       rose = λ is. let rose = cause.rose is in omega (arith, later, rose, faults);
     }
+
+pub returns-in-Ok-clause-refused : goal.returns-in-Ok-clause-refused
+returns-in-Ok-clause-refused g c = λ told never.
+    let has = c.in-Ok.ensures.contents told in absurd (never (has.shards, has.admits))
+
+pub returns-in-Ok-clause-absent : goal.returns-in-Ok-clause-absent
+returns-in-Ok-clause-absent g c = λ inputs_told told lacks.
+    c.into_disk-disk.ensures.files ∙ ap (λ (s : State). s.files) (c.clean_names-session.ensures.absent inputs_told lacks) ∙ c.in-Ok.ensures.opened.same_files

@@ -6,7 +6,8 @@ use Rattle.xet_store.specs.theorems.Keeping.{keeps_nothing, keeps_then}
 use Rattle.xet_store_cli.specs.declared.ending.Stop.TheVariants as stop
 use Rattle.xet_store_cli.specs.Stops.{IsStop}
 use Rattle.xet_store_cli.specs.internal.Stops.{cleaning_causes, naming_causes}
-use Rattle.xet_store_cli.proofs.Opened.{on_ok_here, opened_count, opened_lent, rose_after, same_length, some_failed, stop_of_names}
+use Rattle.xet_store_cli.proofs.Complete.{none_absent}
+use Rattle.xet_store_cli.proofs.Opened.{on_ok_here, opened_count, opened_lent, opened_named, rose_after, same_length, some_failed, stop_of_names}
 use Rattle.xet_store_cli.proofs.Reported.{AreSteps, cause_all, cause_of, names_answer, no_bounds, stop_names}
 use Rattle.xet_store_cli.proofs.clean.clean_names.Goals as goal
 
@@ -59,6 +60,16 @@ returns-in-Ok-clause-stop g c =
     (λ e h. stop_of_names told files g.F.S.Source.tells g.F.S.Source.left g.F.S.Source.faults names old new session e opened h) c.clean_sources-session.ensures.stop in
     stop_names session c.clean_sources-session.result.0 c.report_all-session.result.0 told files names c.clean_sources-session.result.1 c.report_all-session.result.1 c.clean_sources-session.ensures.keeps.tells stops c.report_all-session.ensures.stop
     c.report_all-session.ensures.stopped
+
+pub returns-in-Ok-clause-absent : goal.returns-in-Ok-clause-absent
+returns-in-Ok-clause-absent g c = λ told lacks.
+    let source = g.F.S.Source in
+    let files = g.F.Inputs.files c.args.inputs.now in
+    let names = map string_bytes c.args.names.now in
+    let sources = c.open_all-sources.result.0.items in
+    let opened = on_ok_here c.in-Ok.is c.open_all-sources.ensures.opened in
+    let named = opened_named (g.F.Inputs.tells c.args.inputs.now) files source.tells source.left source.faults names sources told opened in
+    absurd (none_absent files names (map source.left sources) lacks.0 lacks.1 named lacks.2 lacks.3 lacks.4)
 
 pub returns-in-Ok-clause-kept : goal.returns-in-Ok-clause-kept
 returns-in-Ok-clause-kept g c = λ is.

@@ -23,6 +23,7 @@ returns-in-Ok-clause-answered g c = λ inputs_tell inputs.
       stored = c.store_lines.ensures.stored;
       listed = c.store_lines.ensures.listed;
       keeps = c.store_lines.ensures.keeps;
+      refused = c.store_lines.ensures.refused;
       kept = c.store_lines.ensures.kept;
       foreign = c.store_lines.ensures.foreign;
     } in

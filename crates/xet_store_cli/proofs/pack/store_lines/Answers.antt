@@ -35,3 +35,7 @@ pub returns-in-Ok-clause-report : goal.returns-in-Ok-clause-report
 returns-in-Ok-clause-report g c =
     report_on_disk (g.D.Disk.tells c.args.disk) (g.D.Disk.files c.args.disk) _ c.args.limits.now c.args.now c.in-Ok.session c.report_lines-session.result.0 c.args.lines.now c.in-Ok.ensures.opened c.into_disk-disk.ensures.files
     c.report_lines-session.result.1 c.report_lines-session.ensures.answer.report
+
+pub returns-in-Ok-clause-refused : goal.returns-in-Ok-clause-refused
+returns-in-Ok-clause-refused g c = λ told never.
+    let has = c.in-Ok.ensures.contents told in absurd (never (has.shards, has.admits))

@@ -18,7 +18,7 @@ pub returns-in-Clean-clause-answered : goal.returns-in-Clean-clause-answered
 returns-in-Clean-clause-answered g c =
     let from = start (g.I.Source.tells c.args.input.now) (g.I.Source.left c.args.input.now) (g.F.Inputs.tells c.args.inputs.now) (g.F.Inputs.files c.args.inputs.now) c.args.now (g.D.Disk.tells c.args.disk) (g.D.Disk.files c.args.disk) in
     subst (λ (x : Parsed). Answered (Some (asked x)) from (g.D.Disk.files c.clean.result.0) (answer_outcome c.clean.result.1)) (sym c.in-Clean.is)
-    (answered_clean from (g.D.Disk.files c.clean.result.0) (map string_bytes c.in-Clean.names.now) c.clean.result.1 c.clean.ensures.cleaned c.clean.ensures.stop c.clean.ensures.listed c.clean.ensures.keeps c.clean.ensures.kept c.clean.ensures.foreign)
+    (answered_clean from (g.D.Disk.files c.clean.result.0) (map string_bytes c.in-Clean.names.now) c.clean.result.1 c.clean.ensures.cleaned c.clean.ensures.stop c.clean.ensures.listed c.clean.ensures.keeps c.clean.ensures.refused c.clean.ensures.absent c.clean.ensures.kept c.clean.ensures.foreign)
 
 pub returns-in-Group-clause-answered : goal.returns-in-Group-clause-answered
 returns-in-Group-clause-answered g c =
