@@ -7,3 +7,5 @@ mod Counter
 mod Tail
 mod Blocks
 mod Hashing
+mod Vectors
+mod Rows

@@ -10,7 +10,7 @@ use crate::blake3::{
 use crate::data_hash::DataHash;
 
 /// The number of levels of the tree of any message.
-const LEVELS: u32 = 54;
+pub(crate) const LEVELS: u32 = 54;
 
 /// BLAKE3 with a key.
 pub fn keyed_digest(key: &[u8; 32], bytes: &[u8]) -> DataHash
@@ -29,7 +29,7 @@ pub fn plain_digest(bytes: &[u8]) -> DataHash
 }
 
 /// The number of bytes of 2^level chunks.
-fn subtree_len(level: u32) -> usize
+pub(crate) fn subtree_len(level: u32) -> usize
     requires { level < 54 }
     ensures { result ≡ subtree_len level }
 {
@@ -37,7 +37,7 @@ fn subtree_len(level: u32) -> usize
 }
 
 /// The number of chunks of a full subtree.
-fn chunk_count(level: u32) -> u64
+pub(crate) fn chunk_count(level: u32) -> u64
     requires { level < 54 }
     ensures { result ≡ 2 ^ level }
 {
@@ -45,7 +45,14 @@ fn chunk_count(level: u32) -> u64
 }
 
 /// The chaining value of the chunks of these bytes. The first chunk has the number `index`.
-fn subtree(key: &[u32; 8], flags: u32, last: u32, index: u64, bytes: &[u8], level: u32) -> [u32; 8]
+pub(crate) fn subtree(
+    key: &[u32; 8],
+    flags: u32,
+    last: u32,
+    index: u64,
+    bytes: &[u8],
+    level: u32,
+) -> [u32; 8]
     requires level { level ≤ 54 }
     requires fits { length bytes.now ≤ subtree_len level }
     requires index { index + 2 ^ level ≤ 2 ^ 54 }

@@ -1,11 +1,13 @@
 //! Digests of bytes that are all in memory. They allocate nothing.
 
-ghost use Rattle.std.specs.Prelude.{◌≡◌};
-ghost use Rattle.xet_hash.specs.Blake3.{keyed_digest, plain_digest};
+ghost use Rattle.std.specs.Prelude.{◌≡◌, ◌≤◌};
+ghost use Rattle.xet_hash.specs.Blake3.{digest_in_mode, keyed_digest, plain_digest, subtree_len};
 ghost use Rattle.xet_hash.specs.Keys.{data_key, node_key};
 
+use crate::blake3::{INITIAL_WORDS, KEYED_HASH, ROOT, bytes_of, key_words};
 use crate::data_hash::DataHash;
-use crate::hasher::DataHasher;
+use crate::definition::{LEVELS, subtree_len};
+use crate::subtrees::tree;
 
 /// The key of chunk hashes: the bytes 1 to 32.
 pub const DATA_KEY: [u8; 32] = [
@@ -43,16 +45,33 @@ pub fn compute_internal_node_hash(bytes: &[u8]) -> DataHash
 pub fn plain_hash(bytes: &[u8]) -> DataHash
     ensures { result ≡ plain_digest bytes.now }
 {
-    let mut hasher = DataHasher::plain();
-    hasher.update(bytes);
-    hasher.finish_in_mode()
+    digest_in_mode(&INITIAL_WORDS, 0, bytes)
 }
 
 /// BLAKE3 with a key.
 pub(crate) fn keyed_hash(key: &[u8; 32], bytes: &[u8]) -> DataHash
     ensures { result ≡ keyed_digest key.now bytes.now }
 {
-    let mut hasher = DataHasher::new(*key);
-    hasher.update(bytes);
-    hasher.finish()
+    digest_in_mode(&key_words(key), KEYED_HASH, bytes)
+}
+
+/// BLAKE3 with these key words and flags.
+fn digest_in_mode(key: &[u32; 8], flags: u32, bytes: &[u8]) -> DataHash
+    ensures { result ≡ digest_in_mode key.now flags bytes.now }
+{
+    let root = tree(key, flags, ROOT, 0, bytes, level_of(bytes.len()));
+    DataHash::from_bytes(bytes_of(&root))
+}
+
+/// The lowest level with room for so many bytes.
+fn level_of(len: usize) -> u32
+    ensures level { result ≤ 54 }
+    ensures fits { len ≤ subtree_len result }
+{
+    for level in 0..LEVELS {
+        if len <= subtree_len(level) {
+            return level;
+        }
+    }
+    LEVELS
 }

@@ -7,11 +7,13 @@ pub mod definition;
 mod digest;
 mod error;
 mod hasher;
+mod lanes;
 pub mod laws;
 mod maps;
 mod merkle;
 mod open_chunk;
 mod range;
+mod subtrees;
 mod value_stack;
 
 pub use data_hash::{

@@ -138,12 +138,12 @@ FailedAt (Io (Source i)) done = i ≡ done
 FailedAt (TooLarge (what.Source i)) done = i ≡ done
 FailedAt _ done = Unit {0}
 
--- After an error: the sources before some source, `done`, were read to their ends, and their files were added in turn,
--- none longer than the limits allow; the sources after it are untouched. Of the file of source `done` some first xorbs
--- were added, but no record is added for it. An error that names a source names that one. Each file that was added has a
--- plan, and each xorb of these sources is listed. If the disk and these sources are observable: each plan resolves to
--- its file's chunks, if there are no collisions among the data seen; and each xorb is stored, if there are none among
--- the chunks seen.
+-- After an error: the files of the sources before some source, `done`, were added in turn, and each has a plan; the
+-- sources after it are untouched. Of the file of source `done` some first xorbs were added, but no record is added for
+-- it. An error that names a source names that one. Each source before it that is observable was read to its end, had no
+-- more bytes than the limits allow, and its xorbs are listed. If the disk and all sources before it are observable: each
+-- plan resolves to its file's chunks, if there are no collisions among the data seen; and each xorb is stored, if there
+-- are none among the chunks seen.
 pub record StoresSome {S : Type 0} (tells : S → Bool) (left : S → List ℕ) (sources now : List S) (old new : State) (e : StoreError) : Type 0 where
   pub done : ℕ
   pub before : done < length sources

@@ -128,3 +128,11 @@ module _ (command : Option Command) (start : Start) where
     ends = MayEnd.early (λ observes. ap (λ (c : Option Command). early_outcome c start.input) none) (subst (λ (c : Option Command). IsEarly c (outcome 2 [])) (sym none) refl);
     works = works_idle start.files 2 refl (λ e. omega arith) (λ e. omega arith);
   }
+
+  -- ---- out of memory before the command is known
+
+  pub answered_memory : Answered command start start.files (outcome 1 [])
+  answered_memory = record {
+    ends = MayEnd.stopped (inl refl) refl;
+    works = works_idle start.files 1 refl (λ e. omega arith) (λ e. omega arith);
+  }

@@ -18,13 +18,14 @@ use Rattle.std.specs.Cmp.Lexicographic.{bytes_decides}
 use Rattle.xet_cut.specs.Limits.{bad_field, is_between, shown_settings}
 use Rattle.xet_cut.specs.Generator.{gear_table}
 use Rattle.xet_cut.specs.theorems.Ranges.{none_bad}
+use Rattle.xet_arguments.specs.Arguments.{is_option, some_of, three_of, two_of}
 use Rattle.xet_store_cli.specs.Words.{Command}
 use Rattle.xet_store_cli.specs.Words.Command.{Clean, ListFiles, Group}
 use Rattle.xet_store_cli.specs.declared.words.Command.{Command as Parsed}
 use Rattle.xet_store_cli.specs.Allowed.{AllowsInput}
 use Rattle.xet_store_cli.specs.internal.Asked.{asked}
 use Rattle.xet_store_cli.specs.Early.{max_input}
-use Rattle.xet_store_cli.specs.Words.{alone, clean_of, command_by, command_of, gear_of, hash_of_text, is_digits, is_option, is_target, max_names, number_of, pack_by, pack_of, pack_settings, read_by, read_of, target_if, target_of}
+use Rattle.xet_store_cli.specs.Words.{alone, clean_of, command_by, command_of, gear_of, hash_of_text, is_digits, is_target, max_names, number_of, pack_by, pack_of, pack_settings, read_by, read_of, target_if, target_of}
 
 -- ---- numbers
 
@@ -70,9 +71,54 @@ number_not_text word never = by_test (is_digits word) refl
 
 -- ---- commands
 
-pub any_map : {X : Type 0} (f : X → List ℕ) (ws : List X) → list_any (λ w. is_option (f w)) ws ≡ list_any is_option (map f ws)
-any_map f [] = refl
-any_map f (w ∷ ws) = ap (λ (t : Bool). is_option (f w) || t) (any_map f ws)
+-- the words after one that passes no test
+pub rest_passes_none : (word : List ℕ) (words : List (List ℕ)) → list_any is_option (word ∷ words) ≡ false → list_any is_option words ≡ false
+rest_passes_none word words e = go (is_option word) e
+  where
+    go : (t : Bool) → (t || list_any is_option words) ≡ false → list_any is_option words ≡ false
+    go false h = h
+    go true h = cc
+
+abbrev pack_found : Option (List ℕ × List ℕ) → Option Command
+pack_found None = None
+pack_found (Some (target, gear)) = pack_by (target_of target) (gear_of gear)
+
+pack_two : (words : List (List ℕ)) → pack_found (two_of words) ≡ pack_of words
+pack_two [] = refl
+pack_two (a ∷ []) = refl
+pack_two (a ∷ b ∷ []) = refl
+pack_two (a ∷ b ∷ c ∷ words) = refl
+
+pub pack_some : (target gear : List ℕ) (words : List (List ℕ)) → Some (target, gear) ≡ two_of words → pack_by (target_of target) (gear_of gear) ≡ pack_of words
+pack_some target gear words e = ap pack_found e ∙ pack_two words
+
+pub pack_none : (words : List (List ℕ)) → None ≡ two_of words → None ≡ pack_of words
+pack_none words e = ap pack_found e ∙ pack_two words
+
+abbrev read_found : Option (List ℕ × List ℕ × List ℕ) → Option Command
+read_found None = None
+read_found (Some (hash, from, to)) = read_by (hash_of_text hash) (number_of from) (number_of to)
+
+read_three : (words : List (List ℕ)) → read_found (three_of words) ≡ read_of words
+read_three [] = refl
+read_three (a ∷ []) = refl
+read_three (a ∷ b ∷ []) = refl
+read_three (a ∷ b ∷ c ∷ []) = refl
+read_three (a ∷ b ∷ c ∷ d ∷ words) = refl
+
+pub read_some : (hash from to : List ℕ) (words : List (List ℕ)) → Some (hash, from, to) ≡ three_of words → read_by (hash_of_text hash) (number_of from) (number_of to) ≡ read_of words
+read_some hash from to words e = ap read_found e ∙ read_three words
+
+pub read_none : (words : List (List ℕ)) → None ≡ three_of words → None ≡ read_of words
+read_none words e = ap read_found e ∙ read_three words
+
+pub clean_some : {X : Type 0} (f : X → List ℕ) (names : List X) (found : List (List ℕ)) → Some found ≡ some_of (map f names) → 1 ≤ length names
+clean_some f [] found e = cc
+clean_some f (name ∷ names) found e = omega arith
+
+pub clean_none : (names : List (List ℕ)) → None ≡ some_of names → None ≡ clean_of names
+clean_none [] e = refl
+clean_none (name ∷ names) e = cc
 
 -- a text that is not another
 other_bytes : (xs ys : List ℕ) → xs ≢ ys → bytes_eq xs ys ≡ false
@@ -210,9 +256,10 @@ pub command_first : (name : List ℕ) (words : List (List ℕ)) → list_any is_
 unfolding command_of
 command_first name words e = rw e refl
 
-pub command_option : (name : List ℕ) (words : List (List ℕ)) → list_any is_option (name ∷ words) ≡ true → command_of (name ∷ words) ≡ None
+pub command_option : (words : List (List ℕ)) → list_any is_option words ≡ true → command_of words ≡ None
 unfolding command_of
-command_option name words e = rw e refl
+command_option [] e = refl
+command_option (name ∷ words) e = rw e refl
 
 pub pack_in_range : (target : ℕ) (gear : List ℕ) → IsTrue (is_target target) → bad_field (pack_settings target gear) ≡ None
 pack_in_range target gear t =

@@ -1,5 +1,5 @@
 -- How a run may end, and what it prints then.
-use Rattle.std.proofs.Common.{◌≡◌, ◌≢◌, ◌⊎◌, ◌↔◌, ◌∙◌, ℕ, ◌<◌, ◌≤◌, inl, inr, Bool, true, List, [], ◌++◌, length, subst, Option, Some, None, refl, sym, ap, arith}
+use Rattle.std.proofs.Common.{◌≡◌, ◌≢◌, ◌⊎◌, ◌∙◌, ℕ, ◌<◌, ◌≤◌, inl, inr, Bool, true, List, [], ◌++◌, length, subst, Option, Some, None, refl, sym, ap, arith}
 use Rattle.std.proofs.lemmas.Bool.{cases_lt, lt-ltb, le-ltb}
 use Rattle.std.proofs.lemmas.List.{append-nil}
 use Rattle.xet_group.specs.Groups.{grouped}
@@ -148,13 +148,14 @@ module _ (command : Option Command) (start : Start) (new : Files) (output_tells 
 
 -- ---- invalid arguments
 
-pub words_of : (X : Type 0) (e : Outcome) (status : ℕ) → ((e.status ≡ 2) ↔ X) → (e.status ≡ 2 → e.text ≡ []) → (status ≡ e.status) ⊎ (status ≡ 1) ⊎ (status ≡ 5) → (e.text ≡ [] → status ≡ e.status) → (status ≡ 2) ↔ X
-words_of X e status words silent kinds same = (
-  λ two. forward two kinds,
-  λ x. let two = words.1 x in same (silent two) ∙ two,
-)
+pub invalid_of : (X : Type 0) (e : Outcome) (status : ℕ) → (e.status ≡ 2 → X) → (status ≡ e.status) ⊎ (status ≡ 1) ⊎ (status ≡ 5) → status ≡ 2 → X
+invalid_of X e status invalid (inl is) two = invalid (sym is ∙ two)
+invalid_of X e status invalid (inr (inl one)) two = absurd (omega arith)
+invalid_of X e status invalid (inr (inr five)) two = absurd (omega arith)
+
+pub words_of : (X : Type 0) (e : Outcome) (status : ℕ) → (X → (e.status ≡ 2) ⊎ (e.status ≡ 1)) → (X → e.text ≡ []) → (e.text ≡ [] → status ≡ e.status) → X → (status ≡ 2) ⊎ (status ≡ 1)
+words_of X e status words silent same x = go (same (silent x)) (words x)
   where
-    forward : status ≡ 2 → (status ≡ e.status) ⊎ (status ≡ 1) ⊎ (status ≡ 5) → X
-    forward two (inl is) = words.0 (sym is ∙ two)
-    forward two (inr (inl one)) = absurd (omega arith)
-    forward two (inr (inr five)) = absurd (omega arith)
+    go : status ≡ e.status → (e.status ≡ 2) ⊎ (e.status ≡ 1) → (status ≡ 2) ⊎ (status ≡ 1)
+    go is (inl two) = inl (is ∙ two)
+    go is (inr one) = inr (is ∙ one)

@@ -1,5 +1,5 @@
 -- What a run of the program promises.
-use Rattle.std.specs.Prelude.{◌≡◌, ◌⊎◌, ◌↔◌, ℕ, ◌≤◌, Bool, true, List, ◌++◌, Option, None}
+use Rattle.std.specs.Prelude.{◌≡◌, ◌⊎◌, ℕ, ◌≤◌, Bool, true, List, ◌++◌, Option, None}
 use Rattle.xet_io.specs.Disk.{Files}
 use Rattle.xet_hash.specs.declared.error.StoreError.{StoreError}
 use Rattle.xet_folder.specs.Admission.{Refuses}
@@ -14,8 +14,10 @@ use Rattle.xet_store_cli.specs.Stored.{IsAdmittedAt, Works}
 -- have become `new`, and it has ended with a status. A clause about what was written holds if the output is
 -- observable.
 pub record Run (command : Option Command) (start : Start) (output_tells : Bool) (before after : List ℕ) (new : Files) (status : ℕ) : Type 0 where
-  -- invalid arguments, and only then
-  pub words : (status ≡ 2) ↔ (command ≡ None)
+  -- status 2 only for invalid arguments
+  pub invalid : status ≡ 2 → command ≡ None
+  -- invalid arguments end with 2, or with 1 if memory is out
+  pub words : command ≡ None → (status ≡ 2) ⊎ (status ≡ 1)
   -- how it has ended, and what it has printed
   pub ends : (o : Outcome) × MayEnd command start new o × Prints output_tells o before after status
   pub bounded : status ≤ 10

@@ -1,5 +1,5 @@
 -- The arguments, each as the bytes of its text, and the command that they give.
-use Rattle.std.specs.Prelude.{ℕ, ◌*◌, ◌/◌, ◌^◌, ◌==◌, ◌&&◌, nat_lt, Bool, false, min, List, [], ◌∷◌, length, replicate, codes, Option, Some, None, if◌then◌else◌, option_and_then}
+use Rattle.std.specs.Prelude.{ℕ, ◌*◌, ◌/◌, ◌^◌, ◌&&◌, nat_lt, Bool, min, List, [], ◌∷◌, length, replicate, codes, Option, Some, None, if◌then◌else◌, option_and_then}
 use Rattle.std.specs.Option.{option_map}
 use Rattle.std.specs.Int.{is_power_of_two}
 use Rattle.std.specs.List.{list_all, list_any}
@@ -8,6 +8,7 @@ use Rattle.std.specs.Result.{is_ok, result_ok}
 use Rattle.std.specs.Str.{bytes_eq, str_to_ascii_lowercase}
 use Rattle.std.specs.Str.Parse.{digits_value}
 use Rattle.hex.specs.Hex.{decode_sized}
+use Rattle.xet_arguments.specs.Arguments.{is_option}
 use Rattle.xet_hash.specs.Order.{flipped}
 use Rattle.xet_cut.specs.declared.limits.LimitSettings.{LimitSettings}
 use Rattle.xet_cut.specs.Limits.{is_between, shown_settings}
@@ -107,11 +108,6 @@ command_by name words =
     else if bytes_eq name (codes "list") then alone ListFiles words
     else if bytes_eq name (codes "group") then alone Group words
     else None
-
--- whether a word begins with `-`
-abbrev pub is_option : List ℕ → Bool
-is_option [] = false
-is_option (b ∷ bs) = b == 45
 
 -- The command that the arguments give; none if they are invalid. No argument begins with `-`.
 unfoldable pub command_of : List (List ℕ) → Option Command

@@ -150,6 +150,13 @@ impl Ending {
         Ending::silent(alloc, BAD_WORDS)
     }
 
+    /// The ending if memory is out before the command is known.
+    pub fn of_no_memory(alloc: Global) -> Ending
+        ensures { result ≡ outcome 1 [] }
+    {
+        Ending::silent(alloc, OUT_OF_MEMORY)
+    }
+
     /// The ending for the result of a command, or the one for out of memory if the text cannot be allocated.
     pub fn of_answer(alloc: Global, answer: Result<Vec<u8>, Stop>) -> Ending
         ensures ends { (result ≡ answer_outcome answer) ⊎ (result ≡ outcome 1 []) }

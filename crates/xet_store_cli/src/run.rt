@@ -1,6 +1,6 @@
 //! The program as one call, over any input, output, disk and inputs.
 
-ghost use Rattle.std.specs.Prelude.{◌≡◌, ◌≢◌, ◌↔◌, ◌<◌, ◌^◌, true, None, Some, [], map, string_bytes, IsErrOf, OnOk};
+ghost use Rattle.std.specs.Prelude.{◌≡◌, ◌≢◌, ◌⊎◌, ◌<◌, ◌^◌, true, None, Some, [], map, string_bytes, IsErrOf, OnOk};
 ghost use Rattle.xet_io.specs.Frame.{Called, Queried};
 ghost use Rattle.xet_store_cli.specs.Allowed.{AllowsInput};
 ghost use Rattle.xet_store_cli.specs.Answered.{Answered};
@@ -32,7 +32,7 @@ use xet_io::{Disk, Inputs, Sink, Source};
 /// |---|---|
 /// | 0 | the answer was printed; the input was read to its end, and files were stored, where the command does so |
 /// | 1 | out of memory; also if digests collide |
-/// | 2 | invalid arguments, and only then |
+/// | 2 | invalid arguments, and only then; these may also end with 1 |
 /// | 3 | the input has a bad line; prints `bad line n` for the first, counted from 1 |
 /// | 4, 5, 6 | the input or a file, the output, or the disk failed in this call |
 /// | 7 | the folder `store` is not valid; prints `bad shard NAME` for the first shard that fails a check |
@@ -42,8 +42,8 @@ use xet_io::{Disk, Inputs, Sink, Source};
 ///
 /// A status but 1, 4, 5 and 6 is returned only if it is due, and of several that apply the first is due, in the
 /// order of the command's tests: `pack` 2, 9, 3, 8, 7; `clean` 2, 7, 8, 9; `read` 2, 7, 8; `list` 2, 7; `group` 2,
-/// 9. If another status than 2 is due, the run may be stopped with 1, 4 or 6 before it prints, and has then written
-/// nothing. An answer is printed once it is complete, and once files are stored and recorded. A text may be cut
+/// 9. The run may be stopped with 1 before it prints and, if another status than 2 is due, with 4 or 6, and has then
+/// written nothing. An answer is printed once it is complete, and once files are stored and recorded. A text may be cut
 /// short after a prefix of it, with 5, or with 1 if the output has no memory. No other status is returned, and 2, 4,
 /// 6, 8, 9 and 10 print nothing, also if inputs and disk are not observable. Clauses about contents apply to inputs,
 /// outputs and disks that are observable.
@@ -89,8 +89,9 @@ fn run_command<I: Source, D: Disk + Send, F: Inputs>(
     inputs: &mut F,
     now: u64,
 ) -> (D, Ending)
-    ensures words { (result.1.status ≡ 2) ↔ (command_of (map string_bytes words.now) ≡ None) }
-    ensures silent { result.1.status ≡ 2 → result.1.text ≡ [] }
+    ensures invalid { result.1.status ≡ 2 → command_of (map string_bytes words.now) ≡ None }
+    ensures words { command_of (map string_bytes words.now) ≡ None → (result.1.status ≡ 2) ⊎ (result.1.status ≡ 1) }
+    ensures silent { command_of (map string_bytes words.now) ≡ None → result.1.text ≡ [] }
     ensures answered { Answered (command_of (map string_bytes words.now)) (start (I.tells input.old) (I.left input.old) (F.tells inputs.old) (F.files inputs.old) now (D.tells disk) (D.files disk)) (D.files result.0) result.1 }
     ensures read { I.tells input.old ≡ true → ReadsInput (command_of (map string_bytes words.now)) → result.1.status ≡ 0 → I.left input.new ≡ [] }
     ensures input { Called I.tells I.faults input.old input.new ((result.1.status ≡ 4) × ReadsInput (command_of (map string_bytes words.now))) }
@@ -101,9 +102,10 @@ fn run_command<I: Source, D: Disk + Send, F: Inputs>(
     ensures unopened { (OpensInputs (command_of (map string_bytes words.now)) → ⊥) → inputs.new ≡ inputs.old }
     ensures closed { F.opened inputs.old < 2 ^ 63 → F.opened inputs.new ≡ F.opened inputs.old }
 {
-    match command_of(words) {
-        None => (disk, Ending::of_bad_words(alloc)),
-        Some(command) => {
+    match command_of(alloc, words) {
+        Err(_) => (disk, Ending::of_no_memory(alloc)),
+        Ok(None) => (disk, Ending::of_bad_words(alloc)),
+        Ok(Some(command)) => {
             let (disk, answer) = answer(alloc, &command, input, disk, inputs, now);
             (disk, Ending::of_answer(alloc, answer))
         }

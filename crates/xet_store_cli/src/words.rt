@@ -1,15 +1,18 @@
 //! Parsing of the arguments.
 
-ghost use Rattle.std.specs.Prelude.{◌≡◌, ◌≤◌, map, replicate, string_bytes, IsTrue, IfSome};
+ghost use Rattle.std.specs.Prelude.{◌≡◌, ◌≤◌, false, length, map, replicate, string_bytes, IsTrue, IfOk, IfSome};
 ghost use Rattle.std.specs.Char.{is_ascii_digit};
 ghost use Rattle.std.specs.List.{list_all, list_any};
 ghost use Rattle.std.specs.Option.{option_map};
+ghost use Rattle.xet_arguments.specs.Arguments.{is_option};
 ghost use Rattle.xet_store_cli.specs.Allowed.{AllowsInput};
 ghost use Rattle.xet_store_cli.specs.Tasks.{default_limits};
-ghost use Rattle.xet_store_cli.specs.Words.{alone, clean_of, command_by, command_of, gear_of, hash_of_text, is_digits, is_option, is_target, number_of, pack_of, pack_settings, read_of, target_of};
+ghost use Rattle.xet_store_cli.specs.Words.{alone, clean_of, command_by, command_of, gear_of, hash_of_text, is_digits, is_target, number_of, pack_by, pack_of, pack_settings, read_by, read_of, target_of};
 ghost use Rattle.xet_store_cli.specs.Words.Command.{Group, ListFiles};
 ghost use Rattle.xet_store_cli.specs.internal.Asked.{asked};
 
+use std::alloc::{AllocError, Global};
+use xet_arguments::{clean_arguments, has_option, no_arguments, pack_arguments, read_arguments};
 use xet_cut::{LimitSettings, Limits, gear_table};
 use xet_hash::{DataHash, MerkleHash};
 use xet_shard_file::recall_bytes;
@@ -33,63 +36,78 @@ pub enum Command<'a> {
 const MAX_NAMES: usize = 1 << 20;
 
 /// The command of these arguments; none if they are invalid. The limits of `pack` allow a source as long as the
-/// longest input.
-pub fn command_of(words: &[String]) -> Option<Command<'_>>
-    ensures command { option_map asked result ≡ command_of (map string_bytes words.now) }
-    ensures allows { IfSome result (λ command. AllowsInput (asked command)) }
+/// longest input. The only error is out of memory.
+pub fn command_of(alloc: Global, words: &[String]) -> Result<Option<Command<'_>>, AllocError>
+    ensures command { IfOk result (λ found. option_map asked found ≡ command_of (map string_bytes words.now)) }
+    ensures allows { IfOk result (λ found. IfSome found (λ command. AllowsInput (asked command))) }
 {
-    let (name, arguments) = words.split_first()?;
     if has_option(words) {
-        return None;
+        return Ok(None);
     }
-    command_by(name.as_str(), arguments)
-}
-
-/// Whether one of the words begins with `-`.
-fn has_option(words: &[String]) -> bool
-    ensures { result ≡ list_any (λ word. is_option (string_bytes word)) words.now }
-{
-    words.iter().any(|word| is_option(word.as_str()))
-}
-
-/// Whether a word begins with `-`.
-fn is_option(word: &str) -> bool
-    ensures { result ≡ is_option word.now }
-{
-    matches!(word.as_bytes(), [b'-', ..])
+    match words.split_first() {
+        Some((name, arguments)) => command_by(alloc, name.as_str(), arguments),
+        None => Ok(None),
+    }
 }
 
 /// The command of a name and its arguments.
-fn command_by<'a>(name: &str, arguments: &'a [String]) -> Option<Command<'a>>
-    ensures { option_map asked result ≡ command_by name.now (map string_bytes arguments.now) }
+fn command_by<'a>(
+    alloc: Global,
+    name: &str,
+    arguments: &'a [String],
+) -> Result<Option<Command<'a>>, AllocError>
+    requires { list_any is_option (map string_bytes arguments.now) ≡ false }
+    ensures { IfOk result (λ found. option_map asked found ≡ command_by name.now (map string_bytes arguments.now)) }
 {
     match name {
-        "pack" => pack_of(arguments),
-        "clean" => clean_of(arguments),
-        "read" => read_of(arguments),
-        "list" => list_of(arguments),
-        "group" => group_of(arguments),
-        _ => None,
+        "pack" => pack_of(alloc, arguments),
+        "clean" => clean_of(alloc, arguments),
+        "read" => read_of(alloc, arguments),
+        "list" => list_of(alloc, arguments),
+        "group" => group_of(alloc, arguments),
+        _ => Ok(None),
     }
 }
 
 /// `pack TARGET GEAR`
-fn pack_of<'a>(arguments: &[String]) -> Option<Command<'a>>
-    ensures { option_map asked result ≡ pack_of (map string_bytes arguments.now) }
+fn pack_of<'a>(alloc: Global, arguments: &[String]) -> Result<Option<Command<'a>>, AllocError>
+    requires { list_any is_option (map string_bytes arguments.now) ≡ false }
+    ensures { IfOk result (λ found. option_map asked found ≡ pack_of (map string_bytes arguments.now)) }
 {
-    let [target, gear] = arguments else {
-        return None;
-    };
-    let target = target_of(target.as_str())?;
-    let gear = gear_of(gear.as_str())?;
+    let found = pack_arguments(alloc, arguments)?;
+    match found {
+        Some(texts) => Ok(pack_by(texts.target, texts.gear)),
+        None => Ok(None),
+    }
+}
+
+/// `pack` with a target chunk size and a Gear table.
+fn pack_by<'a>(target: &str, gear: &str) -> Option<Command<'a>>
+    ensures { option_map asked result ≡ pack_by (target_of target.now) (gear_of gear.now) }
+{
+    let target = target_of(target)?;
+    let gear = gear_of(gear)?;
     Some(Command::Pack(pack_limits(target, gear)))
 }
 
 /// `clean NAME..`
-fn clean_of<'a>(names: &'a [String]) -> Option<Command<'a>>
+fn clean_of<'a>(alloc: Global, names: &'a [String]) -> Result<Option<Command<'a>>, AllocError>
+    requires { list_any is_option (map string_bytes names.now) ≡ false }
+    ensures { IfOk result (λ found. option_map asked found ≡ clean_of (map string_bytes names.now)) }
+{
+    let found = clean_arguments(alloc, names)?;
+    match found {
+        Some(_texts) => Ok(clean_by(names)),
+        None => Ok(None),
+    }
+}
+
+/// `clean` with these names.
+fn clean_by<'a>(names: &'a [String]) -> Option<Command<'a>>
+    requires { 1 ≤ length names.now }
     ensures { option_map asked result ≡ clean_of (map string_bytes names.now) }
 {
-    if names.is_empty() || names.len() > MAX_NAMES {
+    if names.len() > MAX_NAMES {
         None
     } else {
         Some(Command::Clean(names))
@@ -97,30 +115,43 @@ fn clean_of<'a>(names: &'a [String]) -> Option<Command<'a>>
 }
 
 /// `read HASH FROM TO`
-fn read_of<'a>(arguments: &[String]) -> Option<Command<'a>>
-    ensures { option_map asked result ≡ read_of (map string_bytes arguments.now) }
+fn read_of<'a>(alloc: Global, arguments: &[String]) -> Result<Option<Command<'a>>, AllocError>
+    requires { list_any is_option (map string_bytes arguments.now) ≡ false }
+    ensures { IfOk result (λ found. option_map asked found ≡ read_of (map string_bytes arguments.now)) }
 {
-    let [hash, from, to] = arguments else {
-        return None;
-    };
-    let hash = hash_of(hash.as_str())?;
-    let from = number_of(from.as_str())?;
-    let to = number_of(to.as_str())?;
+    let found = read_arguments(alloc, arguments)?;
+    match found {
+        Some(texts) => Ok(read_by(texts.hash, texts.from, texts.to)),
+        None => Ok(None),
+    }
+}
+
+/// `read` with a hash and two offsets.
+fn read_by<'a>(hash: &str, from: &str, to: &str) -> Option<Command<'a>>
+    ensures { option_map asked result ≡ read_by (hash_of_text hash.now) (number_of from.now) (number_of to.now) }
+{
+    let hash = hash_of(hash)?;
+    let from = number_of(from)?;
+    let to = number_of(to)?;
     Some(Command::Read(hash, from, to))
 }
 
 /// `list`
-fn list_of<'a>(arguments: &[String]) -> Option<Command<'a>>
-    ensures { option_map asked result ≡ alone ListFiles (map string_bytes arguments.now) }
+fn list_of<'a>(alloc: Global, arguments: &[String]) -> Result<Option<Command<'a>>, AllocError>
+    requires { list_any is_option (map string_bytes arguments.now) ≡ false }
+    ensures { IfOk result (λ found. option_map asked found ≡ alone ListFiles (map string_bytes arguments.now)) }
 {
-    arguments.is_empty().then_some(Command::ListFiles)
+    let empty = no_arguments(alloc, arguments)?;
+    Ok(empty.then_some(Command::ListFiles))
 }
 
 /// `group`
-fn group_of<'a>(arguments: &[String]) -> Option<Command<'a>>
-    ensures { option_map asked result ≡ alone Group (map string_bytes arguments.now) }
+fn group_of<'a>(alloc: Global, arguments: &[String]) -> Result<Option<Command<'a>>, AllocError>
+    requires { list_any is_option (map string_bytes arguments.now) ≡ false }
+    ensures { IfOk result (λ found. option_map asked found ≡ alone Group (map string_bytes arguments.now)) }
 {
-    arguments.is_empty().then_some(Command::Group)
+    let empty = no_arguments(alloc, arguments)?;
+    Ok(empty.then_some(Command::Group))
 }
 
 /// The hash of a text form.

@@ -8,7 +8,7 @@ use Rattle.xet_store_cli.specs.Tasks.{store_folder}
 use Rattle.xet_store_cli.specs.Words.{command_of}
 use Rattle.xet_store_cli.proofs.Answered.{works_printed}
 use Rattle.xet_store_cli.proofs.Complete.{complete_of}
-use Rattle.xet_store_cli.proofs.Endings.{bad_line_of, bad_shard_of, bounded_of, silent_of, words_of}
+use Rattle.xet_store_cli.proofs.Endings.{bad_line_of, bad_shard_of, bounded_of, invalid_of, silent_of, words_of}
 use Rattle.xet_store_cli.proofs.run.run_program.Goals as goal
 
 pub returns-clause-runs : goal.returns-clause-runs
@@ -24,7 +24,8 @@ returns-clause-runs g c =
     let status = c.print-status.result in
     let printed : (o : Outcome) × MayEnd command from new o × Prints tells o before after status = (e, answered.ends, c.print-status.ensures.prints) in
     record {
-      words = words_of (command ≡ None) e status c.run_command-disk.ensures.words c.run_command-disk.ensures.silent c.print-status.ensures.status c.print-status.ensures.silent;
+      invalid = invalid_of (command ≡ None) e status c.run_command-disk.ensures.invalid c.print-status.ensures.status;
+      words = words_of (command ≡ None) e status c.run_command-disk.ensures.words c.run_command-disk.ensures.silent c.print-status.ensures.silent;
       ends = printed;
       bounded = bounded_of command from new tells before after status printed;
       silent = silent_of command from new tells before after status printed;

@@ -4,4 +4,4 @@ use Rattle.xet_store_cli.proofs.Commands.{alone_by}
 use Rattle.xet_store_cli.proofs.words.list_of.Goals as goal
 
 pub returns : goal.returns
-returns c = alone_by string_bytes c.args.arguments.now c.is_empty.result ListFiles c.then_some.result c.is_empty.ensures c.then_some.ensures
+returns c = alone_by string_bytes c.args.arguments.now c.in_ok-empty.empty ListFiles c.then_some.result c.in_ok-empty.ensures c.then_some.ensures

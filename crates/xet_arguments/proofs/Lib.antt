@@ -1,0 +1,6 @@
+pub mod Hyphens
+pub mod Plain
+pub mod Pack
+pub mod Read
+pub mod Clean
+pub mod Alone

@@ -1,0 +1,32 @@
+-- The arguments of a command, each as the bytes of its text.
+use Rattle.std.specs.Prelude.{ℕ, ◌==◌, Bool, false, List, [], ◌∷◌, Option, Some, None}
+use Rattle.xet_arguments.specs.declared.arguments.PackArguments.{PackArguments}
+use Rattle.xet_arguments.specs.declared.arguments.ReadArguments.{ReadArguments}
+
+-- whether a word begins with `-`
+abbrev pub is_option : List ℕ → Bool
+is_option [] = false
+is_option (b ∷ bs) = b == 45
+
+-- the words, if there are two
+abbrev pub two_of : List (List ℕ) → Option (List ℕ × List ℕ)
+two_of (a ∷ b ∷ []) = Some (a, b)
+two_of _ = None
+
+-- the words, if there are three
+abbrev pub three_of : List (List ℕ) → Option (List ℕ × List ℕ × List ℕ)
+three_of (a ∷ b ∷ c ∷ []) = Some (a, b, c)
+three_of _ = None
+
+-- the words, if there is at least one
+abbrev pub some_of : List (List ℕ) → Option (List (List ℕ))
+some_of [] = None
+some_of (word ∷ words) = Some (word ∷ words)
+
+-- TARGET and GEAR
+abbrev pub pack_texts : PackArguments → List ℕ × List ℕ
+pack_texts arguments = (arguments.target.now, arguments.gear.now)
+
+-- HASH, FROM and TO
+abbrev pub read_texts : ReadArguments → List ℕ × List ℕ × List ℕ
+read_texts arguments = (arguments.hash.now, arguments.from.now, arguments.to.now)

@@ -1,0 +1,136 @@
+//! The arguments of each command. The only error is out of memory.
+
+ghost use Rattle.std.specs.Prelude.{◌≡◌, ◌≤◌, ◌==◌, IfOk, codes, false, length, map, option_map, string_bytes};
+ghost use Rattle.std.specs.List.{list_any};
+ghost use Rattle.clap.specs.Lexer.{usize_max};
+ghost use Rattle.clap.specs.Words.{first_value, found_of, matched_of, raw_values};
+ghost use Rattle.xet_arguments.specs.Arguments.{is_option, pack_texts, read_texts, some_of, three_of, two_of};
+ghost use Rattle.xet_arguments.specs.internal.Commands.{all_three, both};
+
+use crate::commands::{bare_command, clean_command, pack_command, read_command};
+use crate::parsing::matches_of_words;
+use clap::ArgMatches;
+use std::alloc::{AllocError, Global};
+
+/// The arguments of `pack`.
+#[derive(Clone, Copy, PartialEq, Eq, Debug)]
+pub struct PackArguments<'a> {
+    /// Target chunk size in bytes.
+    pub target: &'a str,
+    /// Gear table: its name or the number of a seed.
+    pub gear: &'a str,
+}
+
+/// The arguments of `read`.
+#[derive(Clone, Copy, PartialEq, Eq, Debug)]
+pub struct ReadArguments<'a> {
+    /// Hash of a file.
+    pub hash: &'a str,
+    /// Offset of the first byte.
+    pub from: &'a str,
+    /// Offset after the last byte.
+    pub to: &'a str,
+}
+
+/// `pack TARGET GEAR`: the arguments; none if the number of words is not 2.
+pub fn pack_arguments<'a>(
+    alloc: Global,
+    words: &'a [String],
+) -> Result<Option<PackArguments<'a>>, AllocError>
+    requires { list_any is_option (map string_bytes words.now) ≡ false }
+    ensures { IfOk result (λ found. option_map pack_texts found ≡ two_of (map string_bytes words.now)) }
+{
+    let command = pack_command(alloc)?;
+    let found = matches_of_words(command, words)?;
+    match found {
+        Some(matches) => Ok(pack_values(&matches)),
+        None => Ok(None),
+    }
+}
+
+fn pack_values<'a>(matches: &ArgMatches<'a>) -> Option<PackArguments<'a>>
+    ensures { option_map pack_texts result
+        ≡ both (first_value (found_of matches.now) (codes "target")) (first_value (found_of matches.now) (codes "gear")) }
+{
+    let target = matches.get_str("target")?;
+    let gear = matches.get_str("gear")?;
+    Some(PackArguments { target, gear })
+}
+
+/// `read HASH FROM TO`: the arguments; none if the number of words is not 3.
+pub fn read_arguments<'a>(
+    alloc: Global,
+    words: &'a [String],
+) -> Result<Option<ReadArguments<'a>>, AllocError>
+    requires { list_any is_option (map string_bytes words.now) ≡ false }
+    ensures { IfOk result (λ found. option_map read_texts found ≡ three_of (map string_bytes words.now)) }
+{
+    let command = read_command(alloc)?;
+    let found = matches_of_words(command, words)?;
+    match found {
+        Some(matches) => Ok(read_values(&matches)),
+        None => Ok(None),
+    }
+}
+
+fn read_values<'a>(matches: &ArgMatches<'a>) -> Option<ReadArguments<'a>>
+    ensures { option_map read_texts result
+        ≡ all_three (first_value (found_of matches.now) (codes "hash")) (first_value (found_of matches.now) (codes "from"))
+        (first_value (found_of matches.now) (codes "to")) }
+{
+    let hash = matches.get_str("hash")?;
+    let from = matches.get_str("from")?;
+    let to = matches.get_str("to")?;
+    Some(ReadArguments { hash, from, to })
+}
+
+/// `clean NAME..`: the names; none if there are no words.
+pub fn clean_arguments<'a>(
+    alloc: Global,
+    words: &'a [String],
+) -> Result<Option<Vec<&'a str>>, AllocError>
+    requires { list_any is_option (map string_bytes words.now) ≡ false }
+    ensures { IfOk result (λ found. option_map (λ names. map (λ name. name.now) names.items) found
+        ≡ some_of (map string_bytes words.now)) }
+{
+    note_count(words);
+    let command = clean_command(alloc)?;
+    let found = matches_of_words(command, words)?;
+    match found {
+        Some(matches) => clean_values(alloc, &matches),
+        None => Ok(None),
+    }
+}
+
+fn clean_values<'a>(
+    alloc: Global,
+    matches: &ArgMatches<'a>,
+) -> Result<Option<Vec<&'a str>>, AllocError>
+    ensures { IfOk result (λ found. option_map (λ names. map (λ name. name.now) names.items) found
+        ≡ option_map raw_values (matched_of (found_of matches.now) (codes "name"))) }
+{
+    match matches.get_raw("name") {
+        Some(values) => Ok(Some(values.to_vec(alloc)?)),
+        None => Ok(None),
+    }
+}
+
+/// Proof aid without effect: the number of words is a `usize`.
+fn note_count(words: &[String])
+    ensures { length words.now ≤ usize_max }
+{
+    let _count = words.len();
+}
+
+/// A command without arguments, as `list` and `group`: whether there are no words.
+pub fn no_arguments(alloc: Global, words: &[String]) -> Result<bool, AllocError>
+    requires { list_any is_option (map string_bytes words.now) ≡ false }
+    ensures { IfOk result (λ empty. empty ≡ (length words.now == 0)) }
+{
+    let command = bare_command(alloc, "list");
+    let found = matches_of_words(command, words)?;
+    match found {
+        Some(_matches) => Ok(true),
+        None => Ok(false),
+    }
+}

@@ -1,0 +1,13 @@
+//! The positional arguments of the program's commands, parsed by `clap`. Help is switched off, and the caller passes
+//! no word that begins with `-`.
+#![tactic(auto)]
+
+mod arguments;
+mod commands;
+mod options;
+mod parsing;
+
+pub use arguments::{
+    PackArguments, ReadArguments, clean_arguments, no_arguments, pack_arguments, read_arguments,
+};
+pub use options::has_option;

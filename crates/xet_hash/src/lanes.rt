@@ -1,0 +1,380 @@
+//! The steps of BLAKE3 on eight blocks at a time. A word is a vector, whose lane `j` belongs to block `j`.
+
+ghost use Rattle.std.specs.Prelude.{◌≡◌, ℕ, ◌+◌, ◌*◌, ◌/◌, ◌<◌, ◌%◌, ◌^◌, ◌≤◌, [], ◌∷◌, ◌++◌, length, take, drop, bit_xor, slice_index};
+ghost use Rattle.std.specs.Int.{w32, rotate_right};
+ghost use Rattle.xet_hash.specs.Blake3.{add32, block_words, chaining_value, chunk_value, compress, half_mix, initial_words, mix, parent_value, permuted, round, word_at};
+ghost use Rattle.xet_hash.specs.internal.Lanes.{lane};
+
+use crate::blake3::{CHUNK_END, INITIAL_WORDS, PARENT, load, start_flag};
+use std::simd::u32x8;
+
+#[inline(always)]
+fn added(a: u32x8, b: u32x8) -> u32x8
+    ensures { (j : ℕ) → j < 8 → slice_index result j ≡ add32 (slice_index a j) (slice_index b j) }
+{
+    a + b
+}
+
+#[inline(always)]
+fn xor_rotated(a: u32x8, b: u32x8, k: u32) -> u32x8
+    requires { (0 < k) × (k < 32) }
+    ensures { (j : ℕ) → j < 8 → slice_index result j ≡ rotate_right w32 (bit_xor (slice_index a j) (slice_index b j)) k }
+{
+    let x = a ^ b;
+    (x >> u32x8::splat(k)) | (x << u32x8::splat(32 - k))
+}
+
+#[inline(always)]
+fn half_mix(v: &mut [u32x8; 16], a: usize, b: usize, c: usize, d: usize, x: u32x8, m: u32, n: u32)
+    requires a_in { a < 16 }
+    requires b_in { b < 16 }
+    requires c_in { c < 16 }
+    requires d_in { d < 16 }
+    requires m_in { (0 < m) × (m < 32) }
+    requires n_in { (0 < n) × (n < 32) }
+    ensures { (j : ℕ) → j < 8 → lane j v.new ≡ half_mix (lane j v.old) a b c d (slice_index x j) m n }
+{
+    v[a] = added(added(v[a], v[b]), x);
+    v[d] = xor_rotated(v[d], v[a], m);
+    v[c] = added(v[c], v[d]);
+    v[b] = xor_rotated(v[b], v[c], n);
+}
+
+#[inline(always)]
+fn mix(v: &mut [u32x8; 16], a: usize, b: usize, c: usize, d: usize, x: u32x8, y: u32x8)
+    requires a_in { a < 16 }
+    requires b_in { b < 16 }
+    requires c_in { c < 16 }
+    requires d_in { d < 16 }
+    ensures { (j : ℕ) → j < 8 → lane j v.new ≡ mix (lane j v.old) a b c d (slice_index x j) (slice_index y j) }
+{
+    half_mix(v, a, b, c, d, x, 16, 12);
+    half_mix(v, a, b, c, d, y, 8, 7);
+}
+
+#[inline(always)]
+fn round(v: &mut [u32x8; 16], m: &[u32x8; 16])
+    ensures { (j : ℕ) → j < 8 → lane j v.new ≡ round (lane j v.old) (lane j m.now) }
+{
+    mix(v, 0, 4, 8, 12, m[0], m[1]);
+    mix(v, 1, 5, 9, 13, m[2], m[3]);
+    mix(v, 2, 6, 10, 14, m[4], m[5]);
+    mix(v, 3, 7, 11, 15, m[6], m[7]);
+    mix(v, 0, 5, 10, 15, m[8], m[9]);
+    mix(v, 1, 6, 11, 12, m[10], m[11]);
+    mix(v, 2, 7, 8, 13, m[12], m[13]);
+    mix(v, 3, 4, 9, 14, m[14], m[15]);
+}
+
+#[inline(always)]
+fn permuted(m: &[u32x8; 16]) -> [u32x8; 16]
+    ensures { (j : ℕ) → j < 8 → lane j result ≡ permuted (lane j m.now) }
+{
+    [
+        m[2], m[6], m[3], m[10], m[7], m[0], m[4], m[13], m[1], m[11], m[12], m[5], m[9], m[14],
+        m[15], m[8],
+    ]
+}
+
+#[inline(always)]
+fn start(h: &[u32x8; 8], low: u32x8, high: u32x8, len: u32, flags: u32) -> [u32x8; 16]
+    ensures { (j : ℕ) → j < 8 → lane j result
+        ≡ lane j h.now ++ take 4 initial_words ++ slice_index low j ∷ slice_index high j ∷ len ∷ flags ∷ [] }
+{
+    [
+        h[0],
+        h[1],
+        h[2],
+        h[3],
+        h[4],
+        h[5],
+        h[6],
+        h[7],
+        u32x8::splat(INITIAL_WORDS[0]),
+        u32x8::splat(INITIAL_WORDS[1]),
+        u32x8::splat(INITIAL_WORDS[2]),
+        u32x8::splat(INITIAL_WORDS[3]),
+        low,
+        high,
+        u32x8::splat(len),
+        u32x8::splat(flags),
+    ]
+}
+
+#[inline(always)]
+fn xored(a: u32x8, b: u32x8) -> u32x8
+    ensures { (j : ℕ) → j < 8 → slice_index result j ≡ bit_xor (slice_index a j) (slice_index b j) }
+{
+    a ^ b
+}
+
+#[inline(always)]
+fn folded(v: &[u32x8; 16]) -> [u32x8; 8]
+    ensures { (j : ℕ) → j < 8 → lane j result ≡ chaining_value (lane j v.now) }
+{
+    [
+        xored(v[0], v[8]),
+        xored(v[1], v[9]),
+        xored(v[2], v[10]),
+        xored(v[3], v[11]),
+        xored(v[4], v[12]),
+        xored(v[5], v[13]),
+        xored(v[6], v[14]),
+        xored(v[7], v[15]),
+    ]
+}
+
+/// Compresses each block into the chaining value in its lane. The counters are in two halves.
+#[inline(always)]
+fn compress(
+    h: &[u32x8; 8],
+    block: &[u32x8; 16],
+    low: u32x8,
+    high: u32x8,
+    len: u32,
+    flags: u32,
+) -> [u32x8; 8]
+    ensures { (j t : ℕ) → j < 8 → slice_index low j ≡ t % 2 ^ 32 → slice_index high j ≡ t / 2 ^ 32
+        → lane j result ≡ compress (lane j h.now) (lane j block.now) t len flags }
+{
+    let mut v = start(h, low, high, len, flags);
+    round(&mut v, block);
+    let m = permuted(block);
+    round(&mut v, &m);
+    let m = permuted(&m);
+    round(&mut v, &m);
+    let m = permuted(&m);
+    round(&mut v, &m);
+    let m = permuted(&m);
+    round(&mut v, &m);
+    let m = permuted(&m);
+    round(&mut v, &m);
+    let m = permuted(&m);
+    round(&mut v, &m);
+    folded(&v)
+}
+
+/// The words at an offset in each of eight consecutive chunks.
+#[inline(always)]
+fn load_lanes(bytes: &[u8], at: usize) -> u32x8
+    requires { at + 7172 ≤ length bytes.now }
+    ensures { (j : ℕ) → j < 8 → slice_index result j ≡ word_at bytes.now (1024 * j + at) }
+{
+    u32x8::from_array([
+        load(bytes, at),
+        load(bytes, 1024 + at),
+        load(bytes, 2048 + at),
+        load(bytes, 3072 + at),
+        load(bytes, 4096 + at),
+        load(bytes, 5120 + at),
+        load(bytes, 6144 + at),
+        load(bytes, 7168 + at),
+    ])
+}
+
+/// The blocks at an offset in each of eight consecutive chunks.
+#[inline(always)]
+fn block_lanes(bytes: &[u8], at: usize) -> [u32x8; 16]
+    requires { at + 7232 ≤ length bytes.now }
+    ensures { (j : ℕ) → j < 8 → lane j result ≡ block_words (take 64 (drop (1024 * j + at) bytes.now)) }
+{
+    [
+        load_lanes(bytes, at),
+        load_lanes(bytes, at + 4),
+        load_lanes(bytes, at + 8),
+        load_lanes(bytes, at + 12),
+        load_lanes(bytes, at + 16),
+        load_lanes(bytes, at + 20),
+        load_lanes(bytes, at + 24),
+        load_lanes(bytes, at + 28),
+        load_lanes(bytes, at + 32),
+        load_lanes(bytes, at + 36),
+        load_lanes(bytes, at + 40),
+        load_lanes(bytes, at + 44),
+        load_lanes(bytes, at + 48),
+        load_lanes(bytes, at + 52),
+        load_lanes(bytes, at + 56),
+        load_lanes(bytes, at + 60),
+    ]
+}
+
+fn low(x: u64) -> u32
+    ensures { result ≡ x % 2 ^ 32 }
+{
+    (x & 0xFFFF_FFFF) as u32
+}
+
+fn high(x: u64) -> u32
+    ensures { result ≡ x / 2 ^ 32 }
+{
+    (x >> 32) as u32
+}
+
+fn counters_low(index: u64) -> u32x8
+    requires { index + 8 ≤ 2 ^ 54 }
+    ensures { (j : ℕ) → j < 8 → slice_index result j ≡ (index + j) % 2 ^ 32 }
+{
+    u32x8::from_array([
+        low(index),
+        low(index + 1),
+        low(index + 2),
+        low(index + 3),
+        low(index + 4),
+        low(index + 5),
+        low(index + 6),
+        low(index + 7),
+    ])
+}
+
+fn counters_high(index: u64) -> u32x8
+    requires { index + 8 ≤ 2 ^ 54 }
+    ensures { (j : ℕ) → j < 8 → slice_index result j ≡ (index + j) / 2 ^ 32 }
+{
+    u32x8::from_array([
+        high(index),
+        high(index + 1),
+        high(index + 2),
+        high(index + 3),
+        high(index + 4),
+        high(index + 5),
+        high(index + 6),
+        high(index + 7),
+    ])
+}
+
+/// The same words in every lane.
+#[inline(always)]
+fn spread(words: &[u32; 8]) -> [u32x8; 8]
+    ensures { (j : ℕ) → j < 8 → lane j result ≡ words.now }
+{
+    [
+        u32x8::splat(words[0]),
+        u32x8::splat(words[1]),
+        u32x8::splat(words[2]),
+        u32x8::splat(words[3]),
+        u32x8::splat(words[4]),
+        u32x8::splat(words[5]),
+        u32x8::splat(words[6]),
+        u32x8::splat(words[7]),
+    ]
+}
+
+/// Compresses the block at an offset in each of eight consecutive chunks into the chaining value in its lane.
+fn add_block(h: &mut [u32x8; 8], bytes: &[u8], at: usize, low: u32x8, high: u32x8, flags: u32)
+    requires { at + 7232 ≤ length bytes.now }
+    ensures { (j t : ℕ) → j < 8 → slice_index low j ≡ t % 2 ^ 32 → slice_index high j ≡ t / 2 ^ 32
+        → lane j h.new ≡ compress (lane j h.old) (block_words (take 64 (drop (1024 * j + at) bytes.now))) t 64 flags }
+{
+    let before = *h;
+    let block = block_lanes(bytes, at);
+    *h = compress(&before, &block, low, high, 64, flags);
+}
+
+/// The chaining values of eight consecutive chunks. The first has the number `index`.
+pub(crate) fn chunk_lanes(key: &[u32; 8], flags: u32, index: u64, bytes: &[u8]) -> [u32x8; 8]
+    requires whole { length bytes.now ≡ 8192 }
+    requires index { index + 8 ≤ 2 ^ 54 }
+    ensures { (j : ℕ) → j < 8 → lane j result ≡ chunk_value key.now flags 0 (index + j) (take 1024 (drop (1024 * j) bytes.now)) }
+{
+    let low = counters_low(index);
+    let high = counters_high(index);
+    let mut h = spread(key);
+    'blocks: for n in 0..15usize {
+        add_block(&mut h, bytes, 64 * n, low, high, flags | start_flag(n));
+    }
+    add_block(&mut h, bytes, 960, low, high, flags | CHUNK_END);
+    h
+}
+
+/// The elements with even indices of one vector, and then of another.
+#[inline(always)]
+fn even(a: u32x8, b: u32x8) -> u32x8
+    ensures first_half { (j : ℕ) → j < 4 → slice_index result j ≡ slice_index a (2 * j) }
+    ensures second_half { (j : ℕ) → j < 4 → slice_index result (4 + j) ≡ slice_index b (2 * j) }
+{
+    a.shuffle(b, [0, 2, 4, 6, 8, 10, 12, 14])
+}
+
+/// The elements with odd indices of one vector, and then of another.
+#[inline(always)]
+fn odd(a: u32x8, b: u32x8) -> u32x8
+    ensures first_half { (j : ℕ) → j < 4 → slice_index result j ≡ slice_index a (2 * j + 1) }
+    ensures second_half { (j : ℕ) → j < 4 → slice_index result (4 + j) ≡ slice_index b (2 * j + 1) }
+{
+    a.shuffle(b, [1, 3, 5, 7, 9, 11, 13, 15])
+}
+
+/// The blocks of the eight parents of sixteen values. Each argument has eight of the values.
+#[inline(always)]
+fn pair_lanes(left: &[u32x8; 8], right: &[u32x8; 8]) -> [u32x8; 16]
+    ensures first_half { (j : ℕ) → j < 4 → lane j result ≡ lane (2 * j) left.now ++ lane (2 * j + 1) left.now }
+    ensures second_half { (j : ℕ) → j < 4 → lane (4 + j) result ≡ lane (2 * j) right.now ++ lane (2 * j + 1) right.now }
+{
+    [
+        even(left[0], right[0]),
+        even(left[1], right[1]),
+        even(left[2], right[2]),
+        even(left[3], right[3]),
+        even(left[4], right[4]),
+        even(left[5], right[5]),
+        even(left[6], right[6]),
+        even(left[7], right[7]),
+        odd(left[0], right[0]),
+        odd(left[1], right[1]),
+        odd(left[2], right[2]),
+        odd(left[3], right[3]),
+        odd(left[4], right[4]),
+        odd(left[5], right[5]),
+        odd(left[6], right[6]),
+        odd(left[7], right[7]),
+    ]
+}
+
+/// The chaining values of the eight parents of sixteen values. Each argument has eight of the values.
+pub(crate) fn parent_lanes(
+    key: &[u32; 8],
+    flags: u32,
+    left: &[u32x8; 8],
+    right: &[u32x8; 8],
+) -> [u32x8; 8]
+    ensures first_half { (j : ℕ) → j < 4
+        → lane j result ≡ parent_value key.now flags 0 (lane (2 * j) left.now) (lane (2 * j + 1) left.now) }
+    ensures second_half { (j : ℕ) → j < 4
+        → lane (4 + j) result ≡ parent_value key.now flags 0 (lane (2 * j) right.now) (lane (2 * j + 1) right.now) }
+{
+    let h = spread(key);
+    let block = pair_lanes(left, right);
+    compress(
+        &h,
+        &block,
+        u32x8::splat(0),
+        u32x8::splat(0),
+        64,
+        flags | PARENT,
+    )
+}
+
+fn lane_word(x: u32x8, j: usize) -> u32
+    requires { j < 8 }
+    ensures { result ≡ slice_index x j }
+{
+    let words = x.to_array();
+    words[j]
+}
+
+/// The words in lane `j`.
+pub(crate) fn lane_value(v: &[u32x8; 8], j: usize) -> [u32; 8]
+    requires { j < 8 }
+    ensures { result ≡ lane j v.now }
+{
+    [
+        lane_word(v[0], j),
+        lane_word(v[1], j),
+        lane_word(v[2], j),
+        lane_word(v[3], j),
+        lane_word(v[4], j),
+        lane_word(v[5], j),
+        lane_word(v[6], j),
+        lane_word(v[7], j),
+    ]
+}

@@ -1,0 +1,162 @@
+//! Subtrees of a message, of which eight chunks or eight parents are computed at a time.
+
+ghost use Rattle.std.specs.Prelude.{◌≡◌, ℕ, ◌+◌, ◌*◌, ◌%◌, ◌^◌, ◌<◌, ◌≤◌, length, take, drop};
+ghost use Rattle.xet_hash.specs.Blake3.{subtree, subtree_len};
+ghost use Rattle.xet_hash.specs.internal.Lanes.{HasChunkValues, lane};
+
+use crate::blake3::{CHUNK_LEN, chunk, parent};
+use crate::definition::{chunk_count, subtree, subtree_len};
+use crate::lanes::{chunk_lanes, lane_value, parent_lanes};
+use std::simd::u32x8;
+
+/// The number of bytes of eight chunks.
+const ROW_LEN: usize = 8 * CHUNK_LEN;
+
+/// The longest end of a message that is computed one chunk at a time.
+const LONGEST_BY_CHUNKS: usize = 3 * CHUNK_LEN;
+
+/// The chaining values of eight consecutive full subtrees of a level.
+fn row(key: &[u32; 8], flags: u32, index: u64, bytes: &[u8], level: u32) -> [u32x8; 8]
+    requires level { level ≤ 51 }
+    requires whole { length bytes.now ≡ 8 * subtree_len level }
+    requires index { index + 8 * 2 ^ level ≤ 2 ^ 54 }
+    ensures { (j : ℕ) → j < 8 → lane j result
+        ≡ subtree key.now flags 0 (index + j * 2 ^ level) (take (subtree_len level) (drop (j * subtree_len level) bytes.now)) level }
+{
+    if level == 0 {
+        return chunk_lanes(key, flags, index, bytes);
+    }
+    let below = level - 1;
+    let (prefix, back) = bytes.split_at(8 * subtree_len(below));
+    let left = row(key, flags, index, prefix, below);
+    let right = row(key, flags, index + 8 * chunk_count(below), back, below);
+    parent_lanes(key, flags, &left, &right)
+}
+
+/// The chaining value of a full subtree.
+pub(crate) fn full_subtree(
+    key: &[u32; 8],
+    flags: u32,
+    index: u64,
+    bytes: &[u8],
+    level: u32,
+) -> [u32; 8]
+    requires level { level < 54 }
+    requires whole { length bytes.now ≡ subtree_len level }
+    requires index { index + 2 ^ level ≤ 2 ^ 54 }
+    ensures { result ≡ subtree key.now flags 0 index bytes.now level }
+{
+    if level < 3 {
+        return subtree(key, flags, 0, index, bytes, level);
+    }
+    let eight = row(key, flags, index, bytes, level - 3);
+    let four = parent_lanes(key, flags, &eight, &eight);
+    let two = parent_lanes(key, flags, &four, &four);
+    parent(key, flags, 0, &lane_value(&two, 0), &lane_value(&two, 1))
+}
+
+/// The chaining value of at most eight chunks. They are padded to eight full chunks, and those that were full
+/// before are computed side by side.
+fn padded_subtree(key: &[u32; 8], flags: u32, last: u32, index: u64, bytes: &[u8]) -> [u32; 8]
+    requires fits { length bytes.now ≤ 8192 }
+    requires index { index + 8 ≤ 2 ^ 54 }
+    ensures { result ≡ subtree key.now flags last index bytes.now 3 }
+{
+    let mut padded = [0u8; ROW_LEN];
+    padded[..bytes.len()].copy_from_slice(bytes);
+    let values = chunk_lanes(key, flags, index, &padded);
+    subtree_of_values(key, flags, last, index, bytes, 3, &values, 0)
+}
+
+/// The chaining value of the chunks of these bytes. Those of full chunks are in the lanes from `at` on.
+fn subtree_of_values(
+    key: &[u32; 8],
+    flags: u32,
+    last: u32,
+    index: u64,
+    bytes: &[u8],
+    level: u32,
+    values: &[u32x8; 8],
+    at: usize,
+) -> [u32; 8]
+    requires level { level ≤ 3 }
+    requires fits { length bytes.now ≤ subtree_len level }
+    requires index { index + 2 ^ level ≤ 2 ^ 54 }
+    requires at { at + 2 ^ level ≤ 8 }
+    requires values { HasChunkValues values.now at key.now flags index bytes.now }
+    ensures { result ≡ subtree key.now flags last index bytes.now level }
+{
+    if level == 0 {
+        if last == 0 && bytes.len() == CHUNK_LEN {
+            return lane_value(values, at);
+        }
+        return chunk(key, flags, last, index, bytes);
+    }
+    let below = level - 1;
+    let half = subtree_len(below);
+    if bytes.len() <= half {
+        return subtree_of_values(key, flags, last, index, bytes, below, values, at);
+    }
+    let (prefix, back) = bytes.split_at(half);
+    let count = chunk_count(below);
+    let left = subtree_of_values(key, flags, 0, index, prefix, below, values, at);
+    let right = subtree_of_values(
+        key,
+        flags,
+        0,
+        index + count,
+        back,
+        below,
+        values,
+        at + count as usize,
+    );
+    parent(key, flags, last, &left, &right)
+}
+
+/// The chaining value of the chunks of these bytes. The first chunk has the number `index`.
+pub(crate) fn tree(
+    key: &[u32; 8],
+    flags: u32,
+    last: u32,
+    index: u64,
+    bytes: &[u8],
+    level: u32,
+) -> [u32; 8]
+    requires level { level ≤ 54 }
+    requires fits { length bytes.now ≤ subtree_len level }
+    requires index { index + 2 ^ level ≤ 2 ^ 54 }
+    ensures { result ≡ subtree key.now flags last index bytes.now level }
+{
+    if level == 0 {
+        return chunk(key, flags, last, index, bytes);
+    }
+    if level == 3 && bytes.len() > LONGEST_BY_CHUNKS {
+        return padded_subtree(key, flags, last, index, bytes);
+    }
+    let below = level - 1;
+    let half = subtree_len(below);
+    if bytes.len() <= half {
+        return tree(key, flags, last, index, bytes, below);
+    }
+    let (prefix, back) = bytes.split_at(half);
+    let left = full_subtree(key, flags, index, prefix, below);
+    let right = tree(key, flags, 0, index + chunk_count(below), back, below);
+    parent(key, flags, last, &left, &right)
+}
+
+/// The level of the full subtree to take next from `len` bytes, after `count` finished chunks. More bytes follow
+/// the subtree.
+pub(crate) fn next_level(count: u64, len: usize) -> u32
+    requires { 1024 < len }
+    ensures level { result < 54 }
+    ensures aligned { count % 2 ^ result ≡ 0 }
+    ensures fits { subtree_len result < len }
+{
+    if count % 64 == 0 && len > 8 * ROW_LEN {
+        return 6;
+    }
+    if count % 8 == 0 && len > ROW_LEN {
+        return 3;
+    }
+    0
+}
