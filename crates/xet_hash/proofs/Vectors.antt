@@ -166,3 +166,21 @@ lanes_len j (y ∷ v) = ap suc (lanes_len j v)
 -- a lane has one word of each vector
 pub lane_len : (j : ℕ) (v : List (List ℕ)) → length v ≡ 8 → length (lane j v) ≡ 8
 lane_len j v len = lanes_len j v ∙ len
+
+-- the words of a lane, one by one from the vectors
+pub words_of_lane : (j : ℕ) (v : List (List ℕ)) → length v ≡ 8
+    → slice_index (slice_index_or v 0 []) j ∷ slice_index (slice_index_or v 1 []) j
+    ∷ slice_index (slice_index_or v 2 []) j ∷ slice_index (slice_index_or v 3 []) j
+    ∷ slice_index (slice_index_or v 4 []) j ∷ slice_index (slice_index_or v 5 []) j
+    ∷ slice_index (slice_index_or v 6 []) j ∷ slice_index (slice_index_or v 7 []) j ∷ [] ≡ lane j v
+words_of_lane j v len =
+    rw (
+      lane_word j v 0,
+      lane_word j v 1,
+      lane_word j v 2,
+      lane_word j v 3,
+      lane_word j v 4,
+      lane_word j v 5,
+      lane_word j v 6,
+      lane_word j v 7,
+    ) (sym (eight (lane j v) (lane_len j v len)))

@@ -211,7 +211,7 @@ fn high(x: u64) -> u32
 }
 
 fn counters_low(index: u64) -> u32x8
-    requires { index + 8 ≤ 2 ^ 54 }
+    requires { index + 8 ≤ 2 ^ 64 }
     ensures { (j : ℕ) → j < 8 → slice_index result j ≡ (index + j) % 2 ^ 32 }
 {
     u32x8::from_array([
@@ -227,7 +227,7 @@ fn counters_low(index: u64) -> u32x8
 }
 
 fn counters_high(index: u64) -> u32x8
-    requires { index + 8 ≤ 2 ^ 54 }
+    requires { index + 8 ≤ 2 ^ 64 }
     ensures { (j : ℕ) → j < 8 → slice_index result j ≡ (index + j) / 2 ^ 32 }
 {
     u32x8::from_array([
@@ -273,7 +273,7 @@ fn add_block(h: &mut [u32x8; 8], bytes: &[u8], at: usize, low: u32x8, high: u32x
 /// The chaining values of eight consecutive chunks. The first has the number `index`.
 pub(crate) fn chunk_lanes(key: &[u32; 8], flags: u32, index: u64, bytes: &[u8]) -> [u32x8; 8]
     requires whole { length bytes.now ≡ 8192 }
-    requires index { index + 8 ≤ 2 ^ 54 }
+    requires index { index + 8 ≤ 2 ^ 64 }
     ensures { (j : ℕ) → j < 8 → lane j result ≡ chunk_value key.now flags 0 (index + j) (take 1024 (drop (1024 * j) bytes.now)) }
 {
     let low = counters_low(index);

@@ -12,7 +12,7 @@ use std::simd::u32x8;
 /// The number of bytes of eight chunks.
 const ROW_LEN: usize = 8 * CHUNK_LEN;
 
-/// The longest end of a message that is computed one chunk at a time.
+/// The longest end of a message whose chunks are computed one at a time.
 const LONGEST_BY_CHUNKS: usize = 3 * CHUNK_LEN;
 
 /// The chaining values of eight consecutive full subtrees of a level.
@@ -55,17 +55,15 @@ pub(crate) fn full_subtree(
     parent(key, flags, 0, &lane_value(&two, 0), &lane_value(&two, 1))
 }
 
-/// The chaining value of at most eight chunks. They are padded to eight full chunks, and those that were full
-/// before are computed side by side.
-fn padded_subtree(key: &[u32; 8], flags: u32, last: u32, index: u64, bytes: &[u8]) -> [u32; 8]
+/// The chaining values of the full chunks of these bytes, side by side. The bytes are padded to eight full chunks.
+pub(crate) fn chunk_values(key: &[u32; 8], flags: u32, index: u64, bytes: &[u8]) -> [u32x8; 8]
     requires fits { length bytes.now ≤ 8192 }
-    requires index { index + 8 ≤ 2 ^ 54 }
-    ensures { result ≡ subtree key.now flags last index bytes.now 3 }
+    requires index { index + 8 ≤ 2 ^ 64 }
+    ensures { HasChunkValues result 0 key.now flags index bytes.now }
 {
     let mut padded = [0u8; ROW_LEN];
     padded[..bytes.len()].copy_from_slice(bytes);
-    let values = chunk_lanes(key, flags, index, &padded);
-    subtree_of_values(key, flags, last, index, bytes, 3, &values, 0)
+    chunk_lanes(key, flags, index, &padded)
 }
 
 /// The chaining value of the chunks of these bytes. Those of full chunks are in the lanes from `at` on.
@@ -131,7 +129,8 @@ pub(crate) fn tree(
         return chunk(key, flags, last, index, bytes);
     }
     if level == 3 && bytes.len() > LONGEST_BY_CHUNKS {
-        return padded_subtree(key, flags, last, index, bytes);
+        let values = chunk_values(key, flags, index, bytes);
+        return subtree_of_values(key, flags, last, index, bytes, 3, &values, 0);
     }
     let below = level - 1;
     let half = subtree_len(below);
@@ -159,4 +158,17 @@ pub(crate) fn next_level(count: u64, len: usize) -> u32
         return 3;
     }
     0
+}
+
+/// The number of full chunks to take side by side from `len` bytes, after `count` finished chunks. More bytes follow
+/// them. It is 0 where one at a time is as fast.
+pub(crate) fn chunks_in_row(count: u64, len: usize) -> usize
+    ensures few { result ≤ 8 }
+    ensures fits { 0 < result → 1024 * result < len }
+{
+    if len <= LONGEST_BY_CHUNKS {
+        return 0;
+    }
+    let chunks = ((len - 1) / CHUNK_LEN).min(8 - (count % 8) as usize);
+    if chunks < 3 { 0 } else { chunks }
 }

@@ -1,6 +1,5 @@
-use Rattle.std.proofs.Common.{ℕ, List, ◌+◌, ◌*◌, ◌++◌, ap₂, sym}
-use Rattle.xet_hash.proofs.Vectors.{eight, lane_len, lane_word}
-use Rattle.xet_hash.specs.internal.Lanes.{lane}
+use Rattle.std.proofs.Common.{ℕ, List, ◌+◌, ◌*◌, ◌++◌, ap₂}
+use Rattle.xet_hash.proofs.Vectors.{words_of_lane}
 use Rattle.xet_hash.proofs.lanes.pair_lanes.Goals as goal
 
 pub returns-clause-first_half : goal.returns-clause-first_half
@@ -23,23 +22,7 @@ returns-clause-first_half c j h =
       c.odd-6.ensures.first_half j h,
       c.odd-7.ensures.first_half j h,
       c.odd-8.ensures.first_half j h,
-      lane_word (2 * j) v 0,
-      lane_word (2 * j) v 1,
-      lane_word (2 * j) v 2,
-      lane_word (2 * j) v 3,
-      lane_word (2 * j) v 4,
-      lane_word (2 * j) v 5,
-      lane_word (2 * j) v 6,
-      lane_word (2 * j) v 7,
-      lane_word (2 * j + 1) v 0,
-      lane_word (2 * j + 1) v 1,
-      lane_word (2 * j + 1) v 2,
-      lane_word (2 * j + 1) v 3,
-      lane_word (2 * j + 1) v 4,
-      lane_word (2 * j + 1) v 5,
-      lane_word (2 * j + 1) v 6,
-      lane_word (2 * j + 1) v 7,
-    ) (ap₂ (λ (xs ys : List ℕ). xs ++ ys) (sym (eight (lane (2 * j) v) (lane_len (2 * j) v c.told-left))) (sym (eight (lane (2 * j + 1) v) (lane_len (2 * j + 1) v c.told-left))))
+    ) (ap₂ (λ (xs ys : List ℕ). xs ++ ys) (words_of_lane (2 * j) v c.told-left) (words_of_lane (2 * j + 1) v c.told-left))
 
 pub returns-clause-second_half : goal.returns-clause-second_half
 returns-clause-second_half c j h =
@@ -61,20 +44,4 @@ returns-clause-second_half c j h =
       c.odd-6.ensures.second_half j h,
       c.odd-7.ensures.second_half j h,
       c.odd-8.ensures.second_half j h,
-      lane_word (2 * j) v 0,
-      lane_word (2 * j) v 1,
-      lane_word (2 * j) v 2,
-      lane_word (2 * j) v 3,
-      lane_word (2 * j) v 4,
-      lane_word (2 * j) v 5,
-      lane_word (2 * j) v 6,
-      lane_word (2 * j) v 7,
-      lane_word (2 * j + 1) v 0,
-      lane_word (2 * j + 1) v 1,
-      lane_word (2 * j + 1) v 2,
-      lane_word (2 * j + 1) v 3,
-      lane_word (2 * j + 1) v 4,
-      lane_word (2 * j + 1) v 5,
-      lane_word (2 * j + 1) v 6,
-      lane_word (2 * j + 1) v 7,
-    ) (ap₂ (λ (xs ys : List ℕ). xs ++ ys) (sym (eight (lane (2 * j) v) (lane_len (2 * j) v c.told-right))) (sym (eight (lane (2 * j + 1) v) (lane_len (2 * j + 1) v c.told-right))))
+    ) (ap₂ (λ (xs ys : List ℕ). xs ++ ys) (words_of_lane (2 * j) v c.told-right) (words_of_lane (2 * j + 1) v c.told-right))
