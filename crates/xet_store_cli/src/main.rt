@@ -1,28 +1,15 @@
 //! The program: it stores files in a folder, lists them and reads them back.
 //!
-//! `run_program` is the whole program, over any input, output, disk and inputs. `main` passes the standard streams,
-//! the current folder, and for `pack` a disk in memory, of which nothing is left when the program ends.
+//! `xet_program::run_program` is the whole program, over any input, output, disk and inputs. `main` passes the standard
+//! streams, the current folder, and for `pack` a disk in memory, of which nothing is left when the program ends.
 #![tactic(auto)]
 
-mod clean;
-mod ending;
-mod group;
-mod lines;
-mod list;
-mod opening;
-mod pack;
-mod read;
-mod report;
-mod run;
-mod session;
-mod words;
-
-use run::run_program;
 use std::process::ExitCode;
 use std::time::SystemTime;
 use std::{env, io};
 use xet_fs::{FolderDisk, FolderInputs};
 use xet_io::{MemoryDisk, StdSink, StdSource};
+use xet_program::run_program;
 
 #[cfg(test)]
 mod tests;

@@ -1,6 +1,5 @@
 //! Tests of the program over an input, an output and a disk in memory.
 
-use crate::run::run_program;
 use std::alloc::Global;
 use std::marker::Sync;
 use std::sync::Wait;
@@ -8,6 +7,7 @@ use std::test::Fail;
 use std::thread::Threads;
 use xet_hash::compute_data_hash;
 use xet_io::{Disk, MemoryDisk, MemoryInputs, MemorySink, Sink, SliceSource, Source};
+use xet_program::run_program;
 
 mod faults;
 mod folder;

@@ -1,7 +1,6 @@
 //! Tests of runs in which the input, a file, the output or the disk fails.
 
 use super::{ABC, INPUT, TWO_FILES, WORDS, named_files, run, run_over, words_of};
-use crate::run::run_program;
 use std::alloc::Global;
 use std::marker::Sync;
 use std::sync::Wait;
@@ -10,6 +9,7 @@ use std::thread::Threads;
 use xet_io::{
     Disk, FailingSink, FailingSource, MemoryDisk, MemoryInputs, MemorySink, Op, SliceSource,
 };
+use xet_program::run_program;
 
 /// Whether a run on the disk that another run returned prints its report.
 fn runs_again<R: Threads + Wait + Sync>(

@@ -1,7 +1,6 @@
 //! Tests of runs over a folder of the operating system, each run with a disk and inputs of its own.
 
 use super::{ABC, LISTED, words_of};
-use crate::run::run_program;
 use std::marker::Sync;
 use std::os::unix::fs::symlink;
 use std::sync::Wait;
@@ -10,6 +9,7 @@ use std::thread::Threads;
 use std::{env, fs, io, process};
 use xet_fs::{FolderDisk, FolderInputs};
 use xet_io::{MemorySink, SliceSource};
+use xet_program::run_program;
 
 /// A new folder for this process and test, with a file `a` that has the bytes `abc`.
 fn folder_with_file(rt: &HostRuntime, test: &str) -> io::Result<String> {

@@ -1,0 +1,171 @@
+-- What cleaning files gives.
+use Rattle.std.proofs.Common.{◌≡◌, ◌∙◌, inl, inr, ℕ, zero, suc, ◌<◌, ◌≤◌, Bool, true, false, leb, All, List, [], ◌∷◌, ◌++◌, length, map, get_or, is_some, subst, arith, refl, sym, ap}
+use Rattle.std.proofs.lemmas.Bool.{and_parts, cases_lt, false≢true, lt-leb}
+use Rattle.std.proofs.lemmas.List.Elements.{All-from_recursion}
+use Rattle.std.specs.List.{AllByRecursion, flat_map, list_all}
+use Rattle.xet_io.specs.Faults.{Rose}
+use Rattle.xet_hash.specs.declared.error.StoreError.{StoreError}
+use Rattle.xet_hash.specs.declared.error.StoreError.TheVariants.{Io, MalformedData, TooLarge}
+use Rattle.xet_hash.specs.declared.error.Place.TheVariants as place
+use Rattle.xet_hash.specs.declared.error.What.TheVariants as what
+use Rattle.xet_cut.specs.declared.limits.LimitSettings.{LimitSettings}
+use Rattle.xet_store.specs.declared.info.XetFileInfo.{XetFileInfo}
+use Rattle.xet_cut.specs.Chunking.{chunking}
+use Rattle.xet_store.specs.Cleaning.{EachTold, HasReason, IsLongAt, RoseAt, chunkings, info_of}
+use Rattle.xet_store.specs.Store.{State}
+use Rattle.xet_program.specs.declared.ending.Stop.{Stop}
+use Rattle.xet_program.specs.declared.ending.Stop.TheVariants as stop
+use Rattle.xet_program.specs.declared.lines.FileRange.{FileRange}
+use Rattle.xet_program.specs.Lines.{numbered, range_bytes}
+use Rattle.xet_program.specs.internal.Parsing.{Said, are_good}
+use Rattle.xet_program.specs.Report.{file_line}
+use Rattle.xet_program.specs.internal.Report.{info_line}
+use Rattle.xet_program.specs.internal.Cleaned.{AreCleaned}
+use Rattle.xet_program.specs.internal.Steps.{hash_at}
+use Rattle.xet_program.specs.internal.Stops.{IsStop, cleaning_causes, session_causes, stop_of_error}
+use Rattle.xet_program.proofs.Ranged.{numbered_past, numbered_zero, range_none}
+
+-- ---- pointer records
+
+-- the files that were read are those of the sources
+pub files_told : (sources files : List (List ℕ)) → EachTold (λ _. true) (λ f. f) (λ bytes file. file ≡ bytes) sources files → files ≡ sources
+files_told [] [] told = refl
+files_told [] (f ∷ fs) told = absurd told
+files_told (s ∷ ss) [] told = absurd told
+files_told (s ∷ ss) (f ∷ fs) told = ap (λ (x : List ℕ). x ∷ fs) (told.0 refl) ∙ ap (λ (xs : List (List ℕ)). s ∷ xs) (files_told ss fs told.1)
+
+pub all_tell : (sources : List (List ℕ)) → AllByRecursion (λ (f : List ℕ). true ≡ true) sources
+all_tell [] = tt
+all_tell (f ∷ fs) = (refl, all_tell fs)
+
+-- the pointer record of a file has the file's line
+line_of_info : (s : LimitSettings) (bytes : List ℕ) → info_line (info_of s bytes) ≡ file_line s bytes
+unfolding info_line file_line
+line_of_info s bytes = refl
+
+pub lines_of_infos : (s : LimitSettings) (files : List (List ℕ)) → flat_map info_line (map (info_of s) files) ≡ flat_map (file_line s) files
+lines_of_infos s [] = refl
+lines_of_infos s (f ∷ fs) =
+    ap (λ (t : List ℕ). t ++ flat_map info_line (map (info_of s) fs)) (line_of_info s f) ∙ ap (λ (t : List ℕ). file_line s f ++ t) (lines_of_infos s fs)
+
+-- the hash of one of them, by its number
+hash_next : (infos : List XetFileInfo) (k : ℕ) (d : XetFileInfo) → k < length infos → hash_at infos (suc k) ≡ (get_or infos k d).hash
+hash_next [] k d here = absurd (omega arith)
+hash_next (i ∷ is) zero d here = refl
+hash_next (i ∷ is) (suc k) d here = hash_next is k d (omega arith)
+
+pub hash_read : (infos : List XetFileInfo) (n k : ℕ) (info : XetFileInfo) → n ≡ suc k → k < length infos → info ≡ get_or infos k info → hash_at infos n ≡ info.hash
+hash_read infos n k info e here is = ap (hash_at infos) e ∙ hash_next infos k info here ∙ ap (λ (i : XetFileInfo). i.hash) (sym is)
+
+-- ---- good ranges have the number of a file
+
+bounds_of_one : (files : List (List ℕ)) (r : FileRange) → is_some (range_bytes files r) ≡ true → (0 < r.file) × (r.file ≤ length files)
+bounds_of_one files r good = (
+  elim (cases_lt 0 r.file) [
+    | inl low ↦ low
+    | inr least ↦
+        let first : r.file ≡ 0 = omega arith in
+        absurd (false≢true (sym (range_none files r (ap (numbered files) first ∙ numbered_zero files)) ∙ good))
+  ],
+  elim (cases_lt (length files) r.file) [
+    | inl past ↦ absurd (false≢true (sym (range_none files r (numbered_past files r.file past)) ∙ good))
+    | inr high ↦ high
+  ],
+)
+
+bounds_each : (files : List (List ℕ)) (rs : List FileRange) → list_all (λ r. is_some (range_bytes files r)) rs ≡ true → AllByRecursion (λ r. (0 < r.file) × (r.file ≤ length files)) rs
+bounds_each files [] good = tt
+bounds_each files (r ∷ rs) good =
+    let parts = and_parts (is_some (range_bytes files r)) (list_all (λ q. is_some (range_bytes files q)) rs) good in
+    (bounds_of_one files r parts.0, bounds_each files rs parts.1)
+
+pub bounds_of_good : (said : Said) → are_good said ≡ true → All (λ r. (0 < r.file) × (r.file ≤ length said.files)) said.ranges
+bounds_of_good said good = All-from_recursion (λ r. (0 < r.file) × (r.file ≤ length said.files)) said.ranges (bounds_each said.files said.ranges good)
+
+-- ---- why cleaning stops
+
+module _ {S : Type 0} (tells : S → Bool) (left : S → List ℕ) (faults : S → ℕ) (old new : List S) (before after : State) where
+  abbrev pub Reason : StoreError → Type 0
+  Reason e = HasReason tells left faults old new before after e
+
+  pub stop_of_reason : (e : StoreError) → Reason e → IsStop (cleaning_causes tells left faults old new before) (stop_of_error e)
+  stop_of_reason (Io (place.Source i)) reason = (i, reason)
+  stop_of_reason (Io place.Disk) reason = tt
+  stop_of_reason (Io place.Input) reason = absurd reason
+  stop_of_reason (Io place.Output) reason = absurd reason
+  stop_of_reason (TooLarge (what.Source i)) reason = (i, reason)
+  stop_of_reason (TooLarge what.Shards) reason = absurd reason
+  stop_of_reason (TooLarge what.Input) reason = absurd reason
+  stop_of_reason (MalformedData r) reason = absurd reason
+  stop_of_reason _ reason = tt
+
+  pub rose_of_reason : (e : StoreError) → Reason e → stop_of_error e ≡ stop.Disk → Rose before.faults after.faults
+  rose_of_reason (Io (place.Source i)) reason is = absurd (cc is)
+  rose_of_reason (Io place.Disk) reason is = reason
+  rose_of_reason (Io place.Input) reason is = absurd reason
+  rose_of_reason (Io place.Output) reason is = absurd reason
+  rose_of_reason (TooLarge w) reason is = absurd (cc is)
+  rose_of_reason (MalformedData r) reason is = absurd (cc is)
+  rose_of_reason _ reason is = absurd (cc is)
+
+-- a source that is too long
+pub long_one : {S : Type 0} (tells : S → Bool) (left : S → List ℕ) (most : ℕ) (sources : List S) (i : ℕ) → AllByRecursion (λ s. tells s ≡ true) sources → IsLongAt tells left sources most i
+    → list_all (λ f. leb (length f) most) (map left sources) ≡ false
+long_one tells left most [] i all long = absurd long
+long_one tells left most (s ∷ ss) zero all long = rw (lt-leb (length (left s)) most (long all.0)) refl
+long_one tells left most (s ∷ ss) (suc i) all long = by_cases (leb (length (left s)) most) refl (long_one tells left most ss i all.1 long)
+  where
+    by_cases : (b : Bool) → leb (length (left s)) most ≡ b → list_all (λ x. leb (length x) most) (map left ss) ≡ false → list_all (λ x. leb (length x) most) (map left (s ∷ ss)) ≡ false
+    by_cases true t rest = rw (t) rest
+    by_cases false t rest = rw (t) refl
+
+-- a source in memory never fails
+never_rose : (old new : List (List ℕ)) (i : ℕ) → RoseAt (λ _. 0) old new i → ⊥
+never_rose [] new i rose = rose
+never_rose (o ∷ os) [] i rose = rose
+never_rose (o ∷ os) (n ∷ ns) zero rose = omega arith
+never_rose (o ∷ os) (n ∷ ns) (suc i) rose = never_rose os ns i rose
+
+map_same : (xs : List (List ℕ)) → map (λ (f : List ℕ). f) xs ≡ xs
+map_same [] = refl
+map_same (x ∷ xs) = ap (λ (ys : List (List ℕ)). x ∷ ys) (map_same xs)
+
+-- files in memory that are cleaned
+pub stop_of_files : (said : Said) (new : List (List ℕ)) (s : State) (reason : Stop) → IsStop (cleaning_causes (λ _. true) (λ f. f) (λ _. 0) said.files new s) reason → IsStop (session_causes s.tells s.limits said) reason
+stop_of_files said new s stop.OutOfMemory h = tt
+stop_of_files said new s stop.Input (i, rose) = absurd (never_rose said.files new i rose)
+stop_of_files said new s stop.TooLarge (i, long) =
+    subst (λ (fs : List (List ℕ)). list_all (λ f. leb (length f) s.limits.max_source_bytes) fs ≡ false) (map_same said.files) (long_one (λ _. true) (λ f. f) s.limits.max_source_bytes said.files i (all_tell said.files) long)
+stop_of_files said new s stop.Disk h = tt
+stop_of_files said new s stop.Malformed h = absurd h
+stop_of_files said new s stop.NotFound h = absurd h
+stop_of_files said new s (stop.BadLine n) h = absurd h
+stop_of_files said new s (stop.BadShard name) h = absurd h
+
+-- ---- sources and their files
+
+pub files_of_sources : {S : Type 0} (tells : S → Bool) (left : S → List ℕ) (sources : List S) (files : List (List ℕ)) → EachTold tells left (λ bytes file. file ≡ bytes) sources files → AllByRecursion (λ s. tells s ≡ true) sources
+    → files ≡ map left sources
+files_of_sources tells left [] [] each all = refl
+files_of_sources tells left [] (f ∷ fs) each all = absurd each
+files_of_sources tells left (s ∷ ss) [] each all = absurd each
+files_of_sources tells left (s ∷ ss) (f ∷ fs) each all =
+    ap (λ (x : List ℕ). x ∷ fs) (each.0 all.0) ∙ ap (λ (xs : List (List ℕ)). left s ∷ xs) (files_of_sources tells left ss fs each.1 all.1)
+
+pub count_of_sources : {S : Type 0} (tells : S → Bool) (left : S → List ℕ) (sources : List S) (files : List (List ℕ)) → EachTold tells left (λ bytes file. file ≡ bytes) sources files → length files ≡ length sources
+count_of_sources tells left [] [] each = refl
+count_of_sources tells left [] (f ∷ fs) each = absurd each
+count_of_sources tells left (s ∷ ss) [] each = absurd each
+count_of_sources tells left (s ∷ ss) (f ∷ fs) each = ap suc (count_of_sources tells left ss fs each.1)
+
+chunked_map : {S : Type 0} (left : S → List ℕ) (l : LimitSettings) (sources : List S) → chunkings left l sources ≡ map (chunking l) (map left sources)
+chunked_map left l [] = refl
+chunked_map left l (s ∷ ss) = ap (λ (cs : List (List (List ℕ))). chunking l (left s) ∷ cs) (chunked_map left l ss)
+
+pub chunked_files : {S : Type 0} (tells : S → Bool) (left : S → List ℕ) (l : LimitSettings) (sources : List S) (files : List (List ℕ)) → EachTold tells left (λ bytes file. file ≡ bytes) sources files → AllByRecursion (λ s. tells s ≡ true) sources
+    → chunkings left l sources ≡ map (chunking l) files
+chunked_files tells left l sources files each all = chunked_map left l sources ∙ ap (map (chunking l)) (sym (files_of_sources tells left sources files each all))
+
+-- what is cleaned of files in memory
+pub cleaned_files : (files : List (List ℕ)) (old new : State) (infos : List XetFileInfo) → (c : AreCleaned (λ _. true) (λ f. f) files old new infos) → c.files ≡ files
+cleaned_files files old new infos c = files_told files c.files c.each

@@ -1,0 +1,26 @@
+use Rattle.std.proofs.Common.{Some, ◌≤◌, ◌^◌, arith, length, map, refl, string_bytes, subst, sym}
+use Rattle.std.proofs.lemmas.List.{length-map}
+use Rattle.xet_program.specs.declared.words.Command.{Command as Parsed}
+use Rattle.xet_program.specs.internal.Answered.{Answered}
+use Rattle.xet_program.specs.Start.{start}
+use Rattle.xet_program.specs.internal.Stops.{answer_outcome}
+use Rattle.xet_program.specs.internal.Asked.{AllowsInput, asked}
+use Rattle.xet_program.proofs.Alone.{answered_clean, answered_group}
+use Rattle.xet_program.proofs.run.answer.Goals as goal
+
+pub clean-requires-after_bounds : goal.clean-requires-after_bounds
+clean-requires-after_bounds g c = λ lives within.
+    let allowed : length (map string_bytes c.in-Clean.names.now) ≤ 2 ^ 20 = subst (λ (x : Parsed). AllowsInput (asked x)) c.in-Clean.is c.requires in
+    omega (arith, allowed, length-map c.in-Clean.names.now string_bytes)
+
+pub returns-in-Clean-clause-answered : goal.returns-in-Clean-clause-answered
+returns-in-Clean-clause-answered g c =
+    let from = start (g.I.Source.tells c.args.input.now) (g.I.Source.left c.args.input.now) (g.F.Inputs.tells c.args.inputs.now) (g.F.Inputs.files c.args.inputs.now) c.args.now (g.D.Disk.tells c.args.disk) (g.D.Disk.files c.args.disk) in
+    subst (λ (x : Parsed). Answered (Some (asked x)) from (g.D.Disk.files c.clean.result.0) (answer_outcome c.clean.result.1)) (sym c.in-Clean.is)
+    (answered_clean from (g.D.Disk.files c.clean.result.0) (map string_bytes c.in-Clean.names.now) c.clean.result.1 c.clean.ensures.cleaned c.clean.ensures.stop c.clean.ensures.listed c.clean.ensures.keeps c.clean.ensures.refused c.clean.ensures.absent c.clean.ensures.kept c.clean.ensures.foreign)
+
+pub returns-in-Group-clause-answered : goal.returns-in-Group-clause-answered
+returns-in-Group-clause-answered g c =
+    let from = start (g.I.Source.tells c.args.input.now) (g.I.Source.left c.args.input.now) (g.F.Inputs.tells c.args.inputs.now) (g.F.Inputs.files c.args.inputs.now) c.args.now (g.D.Disk.tells c.args.disk) (g.D.Disk.files c.args.disk) in
+    subst (λ (x : Parsed). Answered (Some (asked x)) from (g.D.Disk.files c.args.disk) (answer_outcome c.group.result)) (sym c.in-Group.is)
+    (answered_group from (g.D.Disk.files c.args.disk) c.group.result refl c.group.ensures.text c.group.ensures.stop)

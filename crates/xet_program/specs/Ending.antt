@@ -1,0 +1,95 @@
+-- How a run may end.
+use Rattle.std.specs.Prelude.{◌≡◌, ◌≢◌, ◌⊎◌, ℕ, ◌≤◌, Bool, true, false, List, [], ◌∷◌, ◌++◌, codes, length, take, Option, Some, None}
+use Rattle.xet_io.specs.Disk.{Files}
+use Rattle.xet_hash.specs.declared.error.StoreError.{StoreError}
+use Rattle.xet_shard_format.specs.Names.{shard_name}
+use Rattle.xet_shard_file.specs.Names.{IsHash}
+use Rattle.xet_folder.specs.Admission.{Refuses}
+use Rattle.xet_folder.specs.Contents.{HasContents}
+use Rattle.xet_folder.specs.declared.contents.Contents.{Contents}
+use Rattle.xet_program.specs.Words.{Command}
+use Rattle.xet_program.specs.Words.Command.{Pack, Clean, Read, ListFiles, Group}
+use Rattle.xet_program.specs.Start.{Observes, OpensInputs, ReadsInput, Start}
+use Rattle.xet_program.specs.Early.{IsEarly, Outcome, early_outcome, max_input, outcome, pack_early}
+use Rattle.xet_program.specs.Tasks.{default_limits, store_folder}
+use Rattle.xet_program.specs.Allowed.{are_short}
+use Rattle.xet_program.specs.Answers.{Answers, AreNamed, IsNoRange}
+
+-- the file name of a shard
+abbrev pub IsShardName : List ℕ → Type 0
+IsShardName name = (hash : List ℕ) × IsHash hash × (name ≡ shard_name hash)
+
+abbrev pub bad_shard_text : List ℕ → List ℕ
+bad_shard_text name = codes "bad shard " ++ name ++ 10 ∷ []
+
+-- The command opens the store.
+abbrev pub OpensStore : Option Command → Type 0
+OpensStore None = ⊥
+OpensStore (Some Group) = ⊥
+OpensStore (Some _) = Unit {0}
+
+-- A shard of the folder is the first with which a check fails, if the disk is observable; its file name is printed.
+pub record IsRejected (start : Start) (o : Outcome) : Type 0 where
+  pub name : List ℕ
+  pub named : IsShardName name
+  pub fails : start.tells ≡ true → (e : StoreError) × Refuses start.files store_folder start.now e name
+  pub is : o ≡ outcome 7 (bad_shard_text name)
+
+-- The folder is valid, if the disk is observable, and this is what the command answers.
+pub record IsAnswer (command : Option Command) (start : Start) (new : Files) (o : Outcome) : Type 0 where
+  pub asked : Command
+  pub is : command ≡ Some asked
+  pub contents : Contents
+  pub valid : start.tells ≡ true → HasContents start.files store_folder start.now contents
+  pub answer : Answers asked start contents new o
+
+-- The folder is valid at the start, and its contents have this.
+abbrev pub ForContents : Start → (Contents → Type 0) → Type 0
+ForContents start P = (contents : Contents) × HasContents start.files store_folder start.now contents × P contents
+
+-- A run of a command is stopped before it prints if memory is out; if the input fails while it is read; if a file that
+-- is opened by name fails, once the folder was found valid; or if the disk fails on which the store is opened, once
+-- nothing is due before that.
+abbrev pub IsStoppedSilent : Option Command → Start → ℕ → Type 0
+IsStoppedSilent command start status =
+    (status ≡ 1) ⊎ ((status ≡ 4) × ReadsInput command) ⊎ ((status ≡ 4) × OpensInputs command × (start.tells ≡ true → ForContents start (λ contents. Unit {0})))
+    ⊎ ((status ≡ 6) × OpensStore command × (Observes start command → early_outcome command start.input ≡ None))
+
+-- How the run of a command may end: before its store is opened, as is due then; at a shard that fails a check; with
+-- its answer; stopped, with no text; or, on a disk that is not observable, because a stored xorb changed after it
+-- was verified.
+pub data MayEnd (command : Option Command) (start : Start) (new : Files) (o : Outcome) : Type 0 where
+  early : (Observes start command → early_outcome command start.input ≡ Some o) → IsEarly command o → MayEnd command start new o
+  refused : OpensStore command → (Observes start command → early_outcome command start.input ≡ None) → IsRejected start o → MayEnd command start new o
+  answered : (Observes start command → early_outcome command start.input ≡ None) → IsAnswer command start new o → MayEnd command start new o
+  stopped : IsStoppedSilent command start o.status → o.text ≡ [] → MayEnd command start new o
+  malformed : OpensStore command → (Observes start command → early_outcome command start.input ≡ None) → start.tells ≡ false → o ≡ outcome 10 [] → MayEnd command start new o
+
+-- It is cut short while it prints if the output fails or runs out of memory.
+abbrev pub IsCutShort : ℕ → Type 0
+IsCutShort status = (status ≡ 1) ⊎ (status ≡ 5)
+
+-- What a run with this outcome has printed, if the output is observable: the whole text; or, if there is a
+-- text and the run was cut short, a prefix of it.
+abbrev pub Prints : Bool → Outcome → List ℕ → List ℕ → ℕ → Type 0
+Prints tells o before after status =
+    ((status ≡ o.status) × (tells ≡ true → after ≡ before ++ o.text))
+    ⊎ (IsCutShort status × (o.text ≢ []) × (tells ≡ true → (n : ℕ) × (after ≡ before ++ take n o.text)))
+
+-- a run that was stopped
+abbrev pub IsStopped : ℕ → Type 0
+IsStopped status = (status ≡ 1) ⊎ (status ≡ 4) ⊎ (status ≡ 5) ⊎ (status ≡ 6)
+
+-- the statuses with which nothing is printed
+abbrev pub IsSilent : ℕ → Type 0
+IsSilent status = (status ≡ 2) ⊎ (status ≡ 4) ⊎ (status ≡ 6) ⊎ (status ≡ 8) ⊎ (status ≡ 9) ⊎ (status ≡ 10)
+
+-- Command, inputs and disk give no cause for another status than 0.
+abbrev pub IsFaultless : Option Command → Start → Type 0
+IsFaultless None start = ⊥
+IsFaultless (Some (Pack s)) start = (pack_early start.input ≡ None) × ForContents start (λ contents. Unit {0})
+IsFaultless (Some (Clean names)) start =
+    (files : List (List ℕ)) × AreNamed start.inputs names files × (are_short default_limits files ≡ true) × ForContents start (λ contents. Unit {0})
+IsFaultless (Some (Read h from to)) start = ForContents start (λ contents. IsNoRange contents.records h from to → ⊥)
+IsFaultless (Some ListFiles) start = ForContents start (λ contents. Unit {0})
+IsFaultless (Some Group) start = length start.input ≤ max_input

@@ -1,0 +1,12 @@
+pub mod Words
+pub mod Start
+pub mod Lines
+pub mod Report
+pub mod Early
+pub mod Tasks
+pub mod Allowed
+pub mod Stored
+pub mod Answers
+pub mod Ending
+pub mod Run
+pub mod internal

@@ -1,0 +1,7 @@
+pub mod Answered
+pub mod Asked
+pub mod Cleaned
+pub mod Parsing
+pub mod Report
+pub mod Steps
+pub mod Stops
