@@ -4,28 +4,33 @@
 //! MIB` then opens the store again; `range MIB` then reads the file in ranges of 1 MiB, and prints the number
 //! of bytes read.
 //!
-//! Digests: `generate MIB` only generates the file; `digest MIB` then computes its data hash, and `define
-//! MIB` its digest under the verification key, by the definition. Both print the digest's first word.
+//! Digests: `generate MIB` only generates the file; `digest MIB` then computes its data hash, 1024 / MIB times, and at
+//! least once. It prints the digest's first word.
 //!
 //! Phases that time themselves and print microseconds: `scatter MIB` stores a generated file with a target
 //! chunk size of 512 bytes, opens the store again, and times 10,000 ranges of 512 bytes at scattered offsets;
-//! `merkle ROUNDS` times ROUNDS xorb hashes of 8,192 chunks, and `nodes ROUNDS` only the digests that they
-//! need.
+//! `reopen MIB` stores one at the default limits and times opening the store; `merkle ROUNDS` times ROUNDS xorb
+//! hashes of 8,192 chunks, and `nodes ROUNDS` only the digests that they need. Over a generated file of MIB
+//! mebibytes: `whole MIB` times its data hash, `pieces MIB` the same from pieces of 64 KiB, `messages MIB` the data
+//! hash of each 64 KiB, `define MIB` and `define-messages MIB` these by the definition; `chunks MIB` its chunking,
+//! and `hex MIB` decoding its hexadecimal digits.
 //!
 //! A store in the current folder: `sums MIB` opens the folder `store`, reads each of its files in ranges of MIB
 //! mebibytes, and prints a line for each: its hash, and the SHA-256 of what was read.
 #![tactic(auto)]
 
+mod digests;
 mod sums;
 mod timed;
 
+use crate::digests::Body;
 use crate::sums::print_sums;
 use crate::timed::{Timed, run_timed};
 use std::alloc::Global;
 use std::process::ExitCode;
 use std::{env, println};
 use xet_cut::{LimitSettings, Limits, gear_table, generated};
-use xet_hash::{MerkleHash, StoreError, VERIFICATION_KEY, compute_data_hash, definition};
+use xet_hash::{MerkleHash, StoreError, compute_data_hash};
 use xet_io::{MemoryDisk, SliceSource};
 use xet_store::{Cleaned, Store, clean_files};
 
@@ -35,6 +40,9 @@ const MAX: u64 = 1 << 12;
 /// The length of a range, in bytes: 1 MiB.
 const RANGE: u64 = 1 << 20;
 
+/// The number of mebibytes that are digested, at least.
+const DIGESTED: u64 = 1 << 10;
+
 /// The last phase of a run.
 #[derive(Clone, Copy, PartialEq, Eq)]
 enum Phase {
@@ -43,7 +51,6 @@ enum Phase {
     Range,
     Generate,
     Digest,
-    Define,
     Sums,
     Timed(Timed),
 }
@@ -77,24 +84,47 @@ fn status_of(answer: Result<u64, StoreError>) -> ExitCode {
 /// The phase and the number that the arguments give.
 fn read_words(rt: &HostRuntime) -> Option<(Phase, u64)> {
     let mut words = env::args(rt).ok()?.skip(1);
-    let phase = match words.next()?.as_str() {
-        "write" => Phase::Write,
-        "open" => Phase::Open,
-        "range" => Phase::Range,
-        "generate" => Phase::Generate,
-        "digest" => Phase::Digest,
-        "define" => Phase::Define,
-        "sums" => Phase::Sums,
-        "scatter" => Phase::Timed(Timed::Scatter),
-        "merkle" => Phase::Timed(Timed::Merkle),
-        "nodes" => Phase::Timed(Timed::Nodes),
-        _ => return None,
-    };
+    let phase = phase_of(words.next()?.as_str())?;
     let number = words.next()?.as_str().parse::<u64>().ok()?;
     if number > MAX {
         return None;
     }
     Some((phase, number))
+}
+
+fn phase_of(word: &str) -> Option<Phase> {
+    Some(match word {
+        "write" => Phase::Write,
+        "open" => Phase::Open,
+        "range" => Phase::Range,
+        "generate" => Phase::Generate,
+        "digest" => Phase::Digest,
+        "sums" => Phase::Sums,
+        _ => Phase::Timed(timed_of(word)?),
+    })
+}
+
+fn timed_of(word: &str) -> Option<Timed> {
+    Some(match word {
+        "scatter" => Timed::Scatter,
+        "reopen" => Timed::Reopen,
+        "merkle" => Timed::Merkle,
+        "nodes" => Timed::Nodes,
+        _ => Timed::Body(body_of(word)?),
+    })
+}
+
+fn body_of(word: &str) -> Option<Body> {
+    Some(match word {
+        "whole" => Body::Whole,
+        "pieces" => Body::Pieces,
+        "messages" => Body::Messages,
+        "define" => Body::Definition,
+        "define-messages" => Body::MessagesByDefinition,
+        "chunks" => Body::Chunks,
+        "hex" => Body::Hex,
+        _ => return None,
+    })
 }
 
 /// Runs the phases up to this one, and returns the number that is printed.
@@ -105,14 +135,15 @@ fn run(alloc: Global, phase: Phase, mebibytes: u64) -> Result<u64, StoreError> {
     }
 }
 
-/// Generates a file, digests it if the phase says so, and returns the first word of the digest.
+/// Generates a file, digests it for about a gibibyte if the phase says so, and returns the first word of the digest.
 fn run_digest(alloc: Global, phase: Phase, mebibytes: u64) -> Result<u64, StoreError> {
     let file = generated(alloc, 7, (mebibytes.min(MAX) * RANGE) as usize)?;
-    let hash = match phase {
-        Phase::Digest => compute_data_hash(&file),
-        Phase::Define => definition::keyed_digest(&VERIFICATION_KEY, &file),
-        _ => MerkleHash::default(),
-    };
+    let mut hash = MerkleHash::default();
+    if phase == Phase::Digest {
+        for _i in 0..(DIGESTED / mebibytes.max(1)).max(1) {
+            hash = compute_data_hash(&file);
+        }
+    }
     Ok(hash.word(0))
 }
 

@@ -3,7 +3,8 @@
 ghost use Rattle.std.specs.Prelude.{◌<◌, ◌^◌, IfOk};
 ghost use Rattle.xet_hash.specs.Merkle.{total_len};
 
-use crate::reopened;
+use crate::digests::{Body, time_body};
+use crate::{open, reopened, stored};
 use std::alloc::Global;
 use std::time::{Clock, Instant};
 use xet_cut::{LimitSettings, Limits, gear_table};
@@ -20,6 +21,10 @@ pub enum Timed {
     Merkle,
     /// The digests that a xorb hash needs.
     Nodes,
+    /// Opening a store of one generated file.
+    Reopen,
+    /// A body over a generated file.
+    Body(Body),
 }
 
 /// The number of ranges.
@@ -54,11 +59,15 @@ pub(crate) fn run_timed<R: Clock>(
         Timed::Scatter => time_scatter(clock, alloc, number.min(MAX)),
         Timed::Merkle => time_merkle(clock, alloc, number.min(MAX)),
         Timed::Nodes => Ok(time_nodes(clock, number.min(MAX))),
+        Timed::Reopen => time_reopen(clock, alloc, number.min(MAX)),
+        Timed::Body(body) => {
+            time_body(clock, alloc, body, (number.min(MAX) * MEBIBYTE) as usize)
+        }
     }
 }
 
 /// The microseconds since `start`; 0 if the clock fails.
-fn since<R: Clock>(clock: &R, start: Option<Instant>) -> u64 {
+pub(crate) fn since<R: Clock>(clock: &R, start: Option<Instant>) -> u64 {
     match start {
         Some(start) => match start.elapsed(clock) {
             Ok(time) => u64::try_from(time.as_micros()).unwrap_or(u64::MAX),
@@ -83,6 +92,34 @@ fn time_scatter<R: Clock>(clock: &R, alloc: Global, mebibytes: u64) -> Result<u6
             let answer = time_ranges(clock, &mut store, &hash, mebibytes);
             let _disk = store.into_disk();
             answer
+        }
+        Err(error) => Err(error),
+    }
+}
+
+/// Times the opening of a store with a file of this many mebibytes.
+fn time_reopen<R: Clock>(clock: &R, alloc: Global, mebibytes: u64) -> Result<u64, StoreError> {
+    let limits = Limits::new(LimitSettings::shown(gear_table(0)))?;
+    match stored(alloc, limits, mebibytes) {
+        Ok((store, _hash)) => time_open(clock, alloc, store.into_disk(), limits),
+        Err(error) => Err(error),
+    }
+}
+
+/// Times the opening of the store of a disk.
+fn time_open<R: Clock>(
+    clock: &R,
+    alloc: Global,
+    disk: MemoryDisk,
+    limits: Limits,
+) -> Result<u64, StoreError> {
+    let start = Instant::now(clock).ok();
+    let answer = open(alloc, disk, limits);
+    let time = since(clock, start);
+    match answer {
+        Ok(store) => {
+            let _disk = store.into_disk();
+            Ok(time)
         }
         Err(error) => Err(error),
     }
