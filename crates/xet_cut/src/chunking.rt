@@ -4,6 +4,7 @@ ghost use Rattle.std.specs.Prelude.{◌≡◌, ◌<◌, ◌≤◌, IfOk, IsOkUnl
 ghost use Rattle.xet_hash.specs.Merkle.{leaves_of, total_len};
 ghost use Rattle.xet_cut.specs.Chunking.{chunking, mask, first_chunk_len};
 
+use crate::boundary::first_boundary;
 use crate::limits::Limits;
 use std::alloc::Global;
 use xet_hash::{MerkleHash, StoreError, compute_data_hash};
@@ -14,19 +15,10 @@ pub fn first_chunk_len(limits: &Limits, bytes: &[u8]) -> usize
     ensures some { 0 < length bytes.now → 0 < result }
     ensures bound { result ≤ length bytes.now }
 {
-    let gear = limits.gear();
     let mask = mask(limits.target_chunk());
     let minimum = limits.minimum_chunk() as usize;
     let end = bytes.len().min(limits.maximum_chunk() as usize);
-    let start = minimum.saturating_sub(64);
-    let mut sum = 0u64;
-    for i in start..end {
-        sum = (sum << 1).wrapping_add(gear[bytes[i] as usize]);
-        if i + 1 >= minimum && sum & mask == 0 {
-            return i + 1;
-        }
-    }
-    end
+    first_boundary(limits.gear(), mask, minimum, bytes, end)
 }
 
 /// The mask for a power of two `target`: `target - 1` shifted left until its top bit is bit 63.

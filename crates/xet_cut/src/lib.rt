@@ -1,6 +1,7 @@
 //! The limits of a store, and content-defined chunking: where the bytes of a file are split into chunks.
 #![tactic(auto)]
 
+mod boundary;
 mod chunking;
 mod generator;
 mod limits;

@@ -46,6 +46,17 @@ gear_hash_more gear bs start i sum so_far from here =
     let last = gear_hash-append gear (drop start (take i bs)) (b ∷ []) in
     rw whole (omega (arith, last))
 
+-- the bytes at i and j, the next, after the sum of those from start on
+pub gear_hash_two : (gear bs : List ℕ) (start i sum j : ℕ) → sum ≡ gear_hash gear (drop start (take i bs)) → start ≤ i → j ≡ i + 1 → j < length bs
+    → (sum * 4 % 2 ^ 64 + (slice_index gear (get_or bs i 0) * 2 % 2 ^ 64 + slice_index gear (get_or bs j 0)) % 2 ^ 64) % 2 ^ 64 ≡ gear_hash gear (drop start (take (j + 1) bs))
+gear_hash_two gear bs start i sum j so_far from next here =
+    let one = gear_hash_more gear bs start i sum so_far from (omega arith) in
+    two_bytes sum (slice_index gear (get_or bs i 0)) (slice_index gear (get_or bs j 0))
+    ∙ gear_hash_more gear bs start j _ (one ∙ ap (λ (k : ℕ). gear_hash gear (drop start (take k bs))) (sym next)) (omega arith) here
+  where
+    two_bytes : (sum a b : ℕ) → (sum * 4 % 2 ^ 64 + (a * 2 % 2 ^ 64 + b) % 2 ^ 64) % 2 ^ 64 ≡ ((sum * 2 % 2 ^ 64 + a) % 2 ^ 64 * 2 % 2 ^ 64 + b) % 2 ^ 64
+    two_bytes sum a b = omega arith
+
 -- bytes more than 63 places before the last don't matter
 pub gear_hash_window : (gear bs : List ℕ) (start : ℕ) → start ≤ length bs - 64 → gear_hash gear (drop start bs) ≡ gear_hash gear (last_bytes bs)
 gear_hash_window gear bs start from = elim (cases_lt (length bs) 64) [
