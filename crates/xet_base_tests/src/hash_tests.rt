@@ -244,7 +244,7 @@ fn pieces_are_hashed_as_the_whole(rt: HostRuntime) -> Result<(), Fail> {
         ),
         (
             64,
-            &[64],
+            &[1, 63],
             "d8336ff3ce166a2eafcadee5dda0740440d0daf4cb040557a2298ea73b443601",
         ),
         (
@@ -279,7 +279,7 @@ fn pieces_are_hashed_as_the_whole(rt: HostRuntime) -> Result<(), Fail> {
         ),
         (
             8_191,
-            &[8_191],
+            &[1_024, 7_167],
             "164e8c72ff81cce23d24adad8f094e73e0ae7a8383b695f0517e27be23363783",
         ),
         (

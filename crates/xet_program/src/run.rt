@@ -42,7 +42,7 @@ use xet_io::{Disk, Inputs, Sink, Source};
 /// A status but 1, 4, 5 and 6 is returned only if it is due, and of several that apply the first is due, in the
 /// order of the command's tests: `pack` 2, 9, 3, 8, 7; `clean` 2, 7, 8, 9; `read` 2, 7, 8; `list` 2, 7; `group` 2,
 /// 9. The run may be stopped with 1 before it prints and, if another status than 2 is due, with 4 or 6, and has then
-/// written nothing. An answer is printed once it is complete, and once files are stored and recorded. A text may be cut
+/// printed nothing. An answer is printed once it is complete, and once files are stored and recorded. A text may be cut
 /// short after a prefix of it, with 5, or with 1 if the output has no memory. No other status is returned, and 2, 4,
 /// 6, 8, 9 and 10 print nothing, also if inputs and disk are not observable. Clauses about contents apply to inputs,
 /// outputs and disks that are observable.

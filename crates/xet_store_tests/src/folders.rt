@@ -8,6 +8,9 @@ use xet_shard_file::shard_path;
 use xet_shard_format::read_shard;
 use xet_store::XetFileInfo;
 
+/// The offset of the SHA-256 of the file in a shard of 672 bytes.
+pub const SHA256: usize = 192;
+
 /// The offset of the creation time in a shard of 672 bytes.
 pub const CREATION: usize = 576;
 

@@ -1,6 +1,6 @@
 //! Tests of stores that are opened over the files of another store.
 
-use crate::folders::{CREATION, EXPIRY, Flushed, encoding_of, put_changed, written};
+use crate::folders::{CREATION, EXPIRY, Flushed, SHA256, encoding_of, put_changed, written};
 use crate::session::{NOW, Session, Unopened, bytes_of, put_bytes, refusal, remove};
 use std::alloc::Global;
 use std::test::Fail;
@@ -121,8 +121,8 @@ fn remove_shard(
     remove(disk, name.as_str())
 }
 
-/// Writes a copy of the shard of `abc` that was created later, and replaces that of `abd` by a copy that has
-/// expired. Returns the hash of `abc`.
+/// Writes a copy of the shard of `abc` that was created later and has a SHA-256 that begins with 7, and replaces that of
+/// `abd` by a copy that has expired. Returns the hash of `abc`.
 fn change_two(
     alloc: Global,
     disk: &mut MemoryDisk,
@@ -130,14 +130,16 @@ fn change_two(
     abd: Result<Flushed, StoreError>,
 ) -> Result<MerkleHash, StoreError> {
     let (older, expired) = (abc?, abd?.shard);
-    put_changed(alloc, disk, &older.shard, CREATION, NOW + 1)?;
+    let marked = put_changed(alloc, disk, &older.shard, SHA256, 7)?;
+    put_changed(alloc, disk, &marked, CREATION, NOW + 1)?;
+    remove_shard(alloc, disk, &marked)?;
     put_changed(alloc, disk, &expired, EXPIRY, NOW - 1)?;
     remove_shard(alloc, disk, &expired)?;
     Ok(older.file)
 }
 
-/// The disk of a store with a shard of `abc`, a copy of it that was created later, and a shard of `abd` that
-/// has expired; and the hash of `abc`.
+/// The disk of a store with a shard of `abc`, such a copy of it, and a shard of `abd` that has expired; and the hash of
+/// `abc`.
 fn three_shards(alloc: Global) -> Result<(MemoryDisk, Result<MerkleHash, StoreError>), StoreError> {
     let (disk, abc) = written(alloc, MemoryDisk::new(alloc), b"abc")?;
     let (mut disk, abd) = written(alloc, disk, b"abd")?;
@@ -145,21 +147,22 @@ fn three_shards(alloc: Global) -> Result<(MemoryDisk, Result<MerkleHash, StoreEr
     Ok((disk, hash))
 }
 
-/// Whether only `abc` is listed, whether it is read, whether there is nothing to flush, and how many xorbs
-/// there are.
+/// Whether only `abc` is listed, whether its record is that of the newer shard, whether it is read, whether there is
+/// nothing to flush, and how many xorbs there are.
 fn shows_abc(
     session: &mut Session,
     abc: Result<MerkleHash, StoreError>,
-) -> Result<(bool, bool, bool, u64), StoreError> {
+) -> Result<(bool, bool, bool, bool, u64), StoreError> {
     let abc = abc?;
     let listed = session.files()?.as_slice() == [(abc, 3)].as_slice();
+    let newer = session.sha256_byte(&abc) == Some(7);
     let read = reads(session, &abc, 0, 3, b"abc")?;
     let idle = session.flush()?.is_none();
-    Ok((listed, read, idle, session.xorb_count()))
+    Ok((listed, newer, read, idle, session.xorb_count()))
 }
 
 /// Opens the three shards: what the store shows then.
-fn opens_three(alloc: Global) -> Result<(bool, bool, bool, u64), StoreError> {
+fn opens_three(alloc: Global) -> Result<(bool, bool, bool, bool, u64), StoreError> {
     let (disk, abc) = three_shards(alloc)?;
     let mut session = Session::open(alloc, disk)?;
     let answer = shows_abc(&mut session, abc);
@@ -168,7 +171,7 @@ fn opens_three(alloc: Global) -> Result<(bool, bool, bool, u64), StoreError> {
 
 #[test]
 fn older_newer_and_expired_shards(rt: HostRuntime) -> Result<(), Fail> {
-    assert_eq!(rt; opens_three(rt.alloc())?, (true, true, true, 1));
+    assert_eq!(rt; opens_three(rt.alloc())?, (true, true, true, true, 1));
     Ok(())
 }
 

@@ -89,6 +89,14 @@ impl Session {
         self.store.files(self.alloc)
     }
 
+    /// The first byte of the SHA-256 in the record of a file.
+    pub fn sha256_byte(&self, hash: &MerkleHash) -> Option<u8> {
+        match self.store.record(hash)?.metadata_ext {
+            Some(metadata) => Some(metadata.sha256.as_bytes()[0]),
+            None => None,
+        }
+    }
+
     /// The number of listed xorbs.
     pub fn xorb_count(&self) -> u64 {
         self.store.xorb_count()
