@@ -15,6 +15,9 @@
 //! hash of each 64 KiB, `define MIB` and `define-messages MIB` these by the definition; `chunks MIB` its chunking,
 //! and `hex MIB` decoding its hexadecimal digits.
 //!
+//! `vectors LENGTH` prints digests of the message of BLAKE3's vectors of that length: without a key, and with the data
+//! key, each also by the definition, and with the data key from two pieces.
+//!
 //! A store in the current folder: `sums MIB` opens the folder `store`, reads each of its files in ranges of MIB
 //! mebibytes, and prints a line for each: its hash, and the SHA-256 of what was read.
 #![tactic(auto)]
@@ -22,10 +25,12 @@
 mod digests;
 mod sums;
 mod timed;
+mod vectors;
 
 use crate::digests::Body;
 use crate::sums::print_sums;
 use crate::timed::{Timed, run_timed};
+use crate::vectors::print_vectors;
 use std::alloc::Global;
 use std::process::ExitCode;
 use std::{env, println};
@@ -52,6 +57,7 @@ enum Phase {
     Generate,
     Digest,
     Sums,
+    Vectors,
     Timed(Timed),
 }
 
@@ -61,6 +67,7 @@ fn main(rt: HostRuntime) -> ExitCode {
     };
     let answer = match phase {
         Phase::Sums => return status_of(print_sums(&rt, number)),
+        Phase::Vectors => return status_of(print_vectors(&rt, number)),
         Phase::Timed(timed) => run_timed(&rt, rt.alloc(), timed, number),
         _ => run(rt.alloc(), phase, number),
     };
@@ -86,7 +93,7 @@ fn read_words(rt: &HostRuntime) -> Option<(Phase, u64)> {
     let mut words = env::args(rt).ok()?.skip(1);
     let phase = phase_of(words.next()?.as_str())?;
     let number = words.next()?.as_str().parse::<u64>().ok()?;
-    if number > MAX {
+    if number > MAX && phase != Phase::Vectors {
         return None;
     }
     Some((phase, number))
@@ -100,6 +107,7 @@ fn phase_of(word: &str) -> Option<Phase> {
         "generate" => Phase::Generate,
         "digest" => Phase::Digest,
         "sums" => Phase::Sums,
+        "vectors" => Phase::Vectors,
         _ => Phase::Timed(timed_of(word)?),
     })
 }
