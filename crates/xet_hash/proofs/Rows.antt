@@ -2,6 +2,8 @@
 use Rattle.std.proofs.Common.{◌≡◌, ℕ, suc, ◌+◌, ◌-◌, ◌*◌, ◌^◌, ◌<◌, ◌≤◌, List, ◌++◌, length, length-drop, take, drop, refl, sym, ap, ◌∙◌, arith}
 use Rattle.std.proofs.lemmas.List.{drop-drop, length-take, take_all, take_at}
 use Rattle.std.proofs.lemmas.Simd.{length-chunk}
+use Rattle.std.proofs.Math.Nat.{add-mul, mul-add, mul_assoc}
+use Rattle.std.proofs.lemmas.Nat.{mul-le}
 use Rattle.std.proofs.Math.Seq.{take-add}
 use Rattle.xet_hash.proofs.Tree.{halves, merged, subtree_chunk, subtree_fits}
 use Rattle.xet_hash.proofs.Vectors.{below_eight, slice_of_slice}
@@ -46,6 +48,61 @@ parent_of_pair key flags b level below i o i' o' j k x l r el ei eo ej ek fits s
     let joined : x ≡ subtree key flags 0 i (p ++ q) (suc below) = ex ∙ rw (sl, sr, ei) (merged key flags i p q below lp lq) in
     let there : IsSubtreeValue key flags b level i o x = joined ∙ rw (whole, next) refl in
     there ∙ rw (ej, ek) refl
+
+-- the lanes of v are the values of n consecutive subtrees of a level, the first of which begins at byte o of b, with chunk number i
+abbrev pub AreSubtreeValues : List ℕ → ℕ → List ℕ → ℕ → ℕ → ℕ → ℕ → List (List ℕ) → Type 0
+AreSubtreeValues key flags b level i o n v =
+    (j : ℕ) → j < n → IsSubtreeValue key flags b level (i + j * 2 ^ level) (o + j * subtree_len level) (lane j v)
+
+-- place j of a level whose pieces are twice as long as x
+even_place : (j x y : ℕ) → y ≡ x + x → j * y ≡ 2 * j * x
+even_place j x y e = omega (arith, ap (λ (z : ℕ). j * z) e, mul-add j x x, mul_assoc 2 j x)
+
+odd_place : (j x : ℕ) → (2 * j + 1) * x ≡ 2 * j * x + x
+odd_place j x = omega (arith, add-mul (2 * j) 1 x)
+
+-- the parents of 2 * n consecutive subtrees, in the lanes from lane `at` on
+pub parents_of_row : (key : List ℕ) (flags : ℕ) (b : List ℕ) (level below i o n at : ℕ) (v r : List (List ℕ)) → level ≡ below + 1
+    → o + 2 * n * subtree_len below ≤ length b → AreSubtreeValues key flags b below i o (2 * n) v
+    → ((j : ℕ) → j < n → lane (at + j) r ≡ parent_value key flags 0 (lane (2 * j) v) (lane (2 * j + 1) v))
+    → (j : ℕ) → j < n → IsSubtreeValue key flags b level (i + j * 2 ^ level) (o + j * subtree_len level) (lane (at + j) r)
+parents_of_row key flags b level below i o n at v r el fits values parents j h =
+    let c : ℕ = 2 ^ below in
+    let s : ℕ = subtree_len below in
+    let two = halves level below el in
+    let length_is : subtree_len level ≡ s + s = omega arith in
+    let even_count = even_place j c (2 ^ level) two in
+    let odd_count = odd_place j c in
+    let even_length = even_place j s (subtree_len level) length_is in
+    let odd_length = odd_place j s in
+    let pair : (2 * j + 2) * s ≡ 2 * j * s + 2 * s = add-mul (2 * j) 2 s in
+    let within : (2 * j + 2) * s ≤ 2 * n * s = mul-le (2 * j + 2) s (2 * n) s (omega arith) (omega arith) in
+    parent_of_pair key flags b level below (i + 2 * j * c) (o + 2 * j * s) (i + (2 * j + 1) * c) (o + (2 * j + 1) * s)
+    (i + j * 2 ^ level) (o + j * subtree_len level) _ _ _ el (omega arith) (omega arith) (omega arith) (omega arith) (omega arith)
+    (values (2 * j) (omega arith)) (values (2 * j + 1) (omega arith)) (parents j h)
+
+-- a row of parents: those of a row in its first four lanes, and those of the next row in the others
+pub halves_of_row : (key : List ℕ) (flags : ℕ) (b : List ℕ) (level below i : ℕ) (left right r : List (List ℕ)) → level ≡ below + 1
+    → 16 * subtree_len below ≤ length b → AreSubtreeValues key flags b below i 0 8 left
+    → AreSubtreeValues key flags b below (i + 8 * 2 ^ below) (8 * subtree_len below) 8 right
+    → ((j : ℕ) → j < 4 → lane j r ≡ parent_value key flags 0 (lane (2 * j) left) (lane (2 * j + 1) left))
+    → ((j : ℕ) → j < 4 → lane (4 + j) r ≡ parent_value key flags 0 (lane (2 * j) right) (lane (2 * j + 1) right))
+    → (j : ℕ) → j < 8 → IsSubtreeValue key flags b level (i + j * 2 ^ level) (j * subtree_len level) (lane j r)
+halves_of_row key flags b level below i left right r el fits values values' parents parents' =
+    let s : ℕ = subtree_len below in
+    let two = halves level below el in
+    let zero_place : (n : ℕ) → 0 + n ≡ n = λ n. omega arith in
+    let low : (j : ℕ) → j < 4 → IsSubtreeValue key flags b level (i + j * 2 ^ level) (j * subtree_len level) (lane j r) =
+    λ j h. rw (zero_place j, zero_place (j * subtree_len level)) at (parents_of_row key flags b level below i 0 4 0 left r el (omega arith) values
+    (λ k few. rw (zero_place k) (parents k few)) j h) in
+    let high : (j : ℕ) → j < 4 → IsSubtreeValue key flags b level (i + 8 * 2 ^ below + j * 2 ^ level) (8 * s + j * subtree_len level) (lane (4 + j) r) =
+    parents_of_row key flags b level below (i + 8 * 2 ^ below) (8 * s) 4 4 right r el (omega arith) values' parents' in
+    let number : (j : ℕ) → i + 8 * 2 ^ below + j * 2 ^ level ≡ i + (4 + j) * 2 ^ level = λ j. omega (arith, two, add-mul 4 j (2 ^ level)) in
+    let offset : (j : ℕ) → 8 * s + j * subtree_len level ≡ (4 + j) * subtree_len level = λ j. omega (arith, two, add-mul 4 j (subtree_len level)) in
+    let last : (j : ℕ) → j < 4 → IsSubtreeValue key flags b level (i + (4 + j) * 2 ^ level) ((4 + j) * subtree_len level) (lane (4 + j) r) =
+    λ j h. rw (number j, offset j) at (high j h) in
+    below_eight _ (low 0 (omega arith)) (low 1 (omega arith)) (low 2 (omega arith)) (low 3 (omega arith))
+    (last 0 (omega arith)) (last 1 (omega arith)) (last 2 (omega arith)) (last 3 (omega arith))
 
 -- a subtree three levels higher has eight times as many chunks
 pub eights : (level below : ℕ) → level ≡ below + 3 → 2 ^ level ≡ 8 * 2 ^ below

@@ -1,12 +1,13 @@
 -- A step on vectors is the step on the words of each lane.
-use Rattle.std.proofs.Common.{◌≡◌, ℕ, zero, suc, ◌+◌, ◌-◌, ◌*◌, ◌/◌, ◌%◌, ◌^◌, ◌<◌, List, [], ◌∷◌, length, replicate, take, drop, ◌++◌, ◌≤◌, slice_index, slice_index_or, slice_set, bit_or, bit_xor, refl, sym, ap, ◌∙◌, arith}
+use Rattle.std.proofs.Common.{◌≡◌, ℕ, zero, suc, ◌+◌, ◌-◌, ◌*◌, ◌/◌, ◌%◌, ◌^◌, ◌<◌, List, [], ◌∷◌, length, replicate, map, take, drop, ◌++◌, ◌≤◌, slice_index, slice_index_or, slice_set, bit_or, bit_xor, refl, sym, ap, ap₂, ◌∙◌, add-one, arith}
 use Rattle.std.specs.Int.{w32, rotate_right}
+use Rattle.std.specs.List.{range_with_len}
 use Rattle.std.specs.Simd.Lanes.{zip2}
 use Rattle.std.proofs.lemmas.List.{append-nil, drop-drop, drop-take, take-take}
 use Rattle.std.proofs.lemmas.Simd.{get_or-chunk, length-chunk, get_or-replicate, get_or-zip2, length-replicate, length-zip2}
 use Rattle.xet_hash.specs.Blake3.{block_words, chunk_after, chunk_end, chunk_value, compress, full_blocks, start_flag, word_at, words}
 use Rattle.std.specs.Int.Bits.{or_zero_r}
-use Rattle.xet_hash.specs.theorems.Words.{reads_all}
+use Rattle.xet_hash.specs.theorems.Words.{reads, reads_all}
 use Rattle.xet_hash.proofs.Tree.{chunk_after_next, chunk_done}
 use Rattle.xet_hash.specs.internal.Lanes.{lane}
 
@@ -153,34 +154,15 @@ chunk_lane_done key flags t b p h r fits eh er =
     chunk_done key flags 0 t c 15 h rest r full eh (last_part b p fits)
     (er ∙ rw (count, or_zero_r flags, or_zero_r (bit_or flags chunk_end)) refl)
 
--- a list of eight words is its words, one by one
-pub eight : (xs : List ℕ) → length xs ≡ 8
-    → xs ≡ slice_index xs 0 ∷ slice_index xs 1 ∷ slice_index xs 2 ∷ slice_index xs 3
-    ∷ slice_index xs 4 ∷ slice_index xs 5 ∷ slice_index xs 6 ∷ slice_index xs 7 ∷ []
-eight xs len = reads_all xs 8 len
-
 lanes_len : (j : ℕ) (v : List (List ℕ)) → length (lane j v) ≡ length v
 lanes_len j [] = refl
 lanes_len j (y ∷ v) = ap suc (lanes_len j v)
 
--- a lane has one word of each vector
-pub lane_len : (j : ℕ) (v : List (List ℕ)) → length v ≡ 8 → length (lane j v) ≡ 8
-lane_len j v len = lanes_len j v ∙ len
+words_of_lanes : (j i : ℕ) (v : List (List ℕ)) (n : ℕ) → reads (lane j v) i n ≡ map (λ (k : ℕ). slice_index (slice_index_or v k []) j) (range_with_len i n)
+words_of_lanes j i v zero = refl
+words_of_lanes j i v (suc n) =
+    rw add-one (ap₂ (λ (x : ℕ) (xs : List ℕ). x ∷ xs) (sym (lane_word j v i)) (words_of_lanes j (suc i) v n))
 
--- the words of a lane, one by one from the vectors
-pub words_of_lane : (j : ℕ) (v : List (List ℕ)) → length v ≡ 8
-    → slice_index (slice_index_or v 0 []) j ∷ slice_index (slice_index_or v 1 []) j
-    ∷ slice_index (slice_index_or v 2 []) j ∷ slice_index (slice_index_or v 3 []) j
-    ∷ slice_index (slice_index_or v 4 []) j ∷ slice_index (slice_index_or v 5 []) j
-    ∷ slice_index (slice_index_or v 6 []) j ∷ slice_index (slice_index_or v 7 []) j ∷ [] ≡ lane j v
-words_of_lane j v len =
-    rw (
-      lane_word j v 0,
-      lane_word j v 1,
-      lane_word j v 2,
-      lane_word j v 3,
-      lane_word j v 4,
-      lane_word j v 5,
-      lane_word j v 6,
-      lane_word j v 7,
-    ) (sym (eight (lane j v) (lane_len j v len)))
+-- the words of a lane of n vectors, one by one from the vectors
+pub words_of_lane : (j : ℕ) (v : List (List ℕ)) (n : ℕ) → length v ≡ n → lane j v ≡ map (λ (k : ℕ). slice_index (slice_index_or v k []) j) (range_with_len 0 n)
+words_of_lane j v n len = reads_all (lane j v) n (lanes_len j v ∙ len) ∙ words_of_lanes j 0 v n

@@ -2,11 +2,11 @@
 
 ghost use Rattle.std.specs.Prelude.{◌≡◌, ℕ, ◌+◌, ◌*◌, ◌/◌, ◌<◌, ◌%◌, ◌^◌, ◌≤◌, [], ◌∷◌, ◌++◌, length, take, drop, bit_xor, slice_index};
 ghost use Rattle.std.specs.Int.{w32, rotate_right};
-ghost use Rattle.xet_hash.specs.Blake3.{add32, block_words, chaining_value, chunk_value, compress, half_mix, initial_words, mix, parent_value, permuted, round, word_at};
-ghost use Rattle.xet_hash.specs.internal.Lanes.{lane};
+ghost use Rattle.xet_hash.specs.Blake3.{add32, block_words, chaining_value, chunk_value, compress, half_mix, initial_words, mix, parent_value, permuted, round};
+ghost use Rattle.xet_hash.specs.internal.Lanes.{four_words, lane};
 
-use crate::blake3::{CHUNK_END, INITIAL_WORDS, PARENT, load, start_flag};
-use std::simd::u32x8;
+use crate::blake3::{CHUNK_END, INITIAL_WORDS, PARENT, start_flag};
+use std::simd::{u8x16, u32x4, u32x8};
 
 #[inline(always)]
 fn added(a: u32x8, b: u32x8) -> u32x8
@@ -154,22 +154,54 @@ fn compress(
     folded(&v)
 }
 
-/// The words at an offset in each of eight consecutive chunks.
+/// The four words at an offset.
 #[inline(always)]
-fn load_lanes(bytes: &[u8], at: usize) -> u32x8
-    requires { at + 7172 ≤ length bytes.now }
-    ensures { (j : ℕ) → j < 8 → slice_index result j ≡ word_at bytes.now (1024 * j + at) }
+fn load_four(bytes: &[u8], at: usize) -> u32x4
+    requires { at + 16 ≤ length bytes.now }
+    ensures { result ≡ four_words bytes.now at }
 {
-    u32x8::from_array([
-        load(bytes, at),
-        load(bytes, 1024 + at),
-        load(bytes, 2048 + at),
-        load(bytes, 3072 + at),
-        load(bytes, 4096 + at),
-        load(bytes, 5120 + at),
-        load(bytes, 6144 + at),
-        load(bytes, 7168 + at),
-    ])
+    u32x4::from_le_bytes(u8x16::from_slice(&bytes[at..]))
+}
+
+/// The four words at an offset, and then those four chunks further on.
+#[inline(always)]
+fn load_row(bytes: &[u8], at: usize) -> u32x8
+    requires { at + 4112 ≤ length bytes.now }
+    ensures { result ≡ four_words bytes.now at ++ four_words bytes.now (4096 + at) }
+{
+    load_four(bytes, at).shuffle(load_four(bytes, 4096 + at), [0, 1, 2, 3, 4, 5, 6, 7])
+}
+
+/// The columns of four rows. A column has one word of the first half of each row, and then of the second halves.
+#[inline(always)]
+fn columns(a: u32x8, b: u32x8, c: u32x8, d: u32x8) -> [u32x8; 4]
+    ensures first_half { (lane 0 result ≡ take 4 a) × (lane 1 result ≡ take 4 b) × (lane 2 result ≡ take 4 c) × (lane 3 result ≡ take 4 d) }
+    ensures second_half { (lane 4 result ≡ drop 4 a) × (lane 5 result ≡ drop 4 b) × (lane 6 result ≡ drop 4 c) × (lane 7 result ≡ drop 4 d) }
+{
+    let low_ab = a.shuffle(b, [0, 8, 1, 9, 4, 12, 5, 13]);
+    let high_ab = a.shuffle(b, [2, 10, 3, 11, 6, 14, 7, 15]);
+    let low_cd = c.shuffle(d, [0, 8, 1, 9, 4, 12, 5, 13]);
+    let high_cd = c.shuffle(d, [2, 10, 3, 11, 6, 14, 7, 15]);
+    [
+        low_ab.shuffle(low_cd, [0, 1, 8, 9, 4, 5, 12, 13]),
+        low_ab.shuffle(low_cd, [2, 3, 10, 11, 6, 7, 14, 15]),
+        high_ab.shuffle(high_cd, [0, 1, 8, 9, 4, 5, 12, 13]),
+        high_ab.shuffle(high_cd, [2, 3, 10, 11, 6, 7, 14, 15]),
+    ]
+}
+
+/// The four words at an offset in each of eight consecutive chunks.
+#[inline(always)]
+fn load_lanes(bytes: &[u8], at: usize) -> [u32x8; 4]
+    requires { at + 7184 ≤ length bytes.now }
+    ensures { (j : ℕ) → j < 8 → lane j result ≡ four_words bytes.now (1024 * j + at) }
+{
+    columns(
+        load_row(bytes, at),
+        load_row(bytes, 1024 + at),
+        load_row(bytes, 2048 + at),
+        load_row(bytes, 3072 + at),
+    )
 }
 
 /// The blocks at an offset in each of eight consecutive chunks.
@@ -178,23 +210,13 @@ fn block_lanes(bytes: &[u8], at: usize) -> [u32x8; 16]
     requires { at + 7232 ≤ length bytes.now }
     ensures { (j : ℕ) → j < 8 → lane j result ≡ block_words (take 64 (drop (1024 * j + at) bytes.now)) }
 {
+    let a = load_lanes(bytes, at);
+    let b = load_lanes(bytes, at + 16);
+    let c = load_lanes(bytes, at + 32);
+    let d = load_lanes(bytes, at + 48);
     [
-        load_lanes(bytes, at),
-        load_lanes(bytes, at + 4),
-        load_lanes(bytes, at + 8),
-        load_lanes(bytes, at + 12),
-        load_lanes(bytes, at + 16),
-        load_lanes(bytes, at + 20),
-        load_lanes(bytes, at + 24),
-        load_lanes(bytes, at + 28),
-        load_lanes(bytes, at + 32),
-        load_lanes(bytes, at + 36),
-        load_lanes(bytes, at + 40),
-        load_lanes(bytes, at + 44),
-        load_lanes(bytes, at + 48),
-        load_lanes(bytes, at + 52),
-        load_lanes(bytes, at + 56),
-        load_lanes(bytes, at + 60),
+        a[0], a[1], a[2], a[3], b[0], b[1], b[2], b[3], c[0], c[1], c[2], c[3], d[0], d[1], d[2],
+        d[3],
     ]
 }
 

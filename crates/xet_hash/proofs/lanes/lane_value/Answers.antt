@@ -1,3 +1,4 @@
+use Rattle.std.proofs.Common.{refl}
 use Rattle.xet_hash.proofs.Vectors.{words_of_lane}
 use Rattle.xet_hash.proofs.lanes.lane_value.Goals as goal
 
@@ -12,4 +13,5 @@ returns c =
       c.lane_word-6.ensures,
       c.lane_word-7.ensures,
       c.lane_word-8.ensures,
-    ) (words_of_lane c.args.j c.args.v.now c.told-v)
+      words_of_lane c.args.j c.args.v.now 8 c.told-v,
+    ) refl

@@ -1,4 +1,4 @@
-use Rattle.std.proofs.Common.{ℕ, List, ◌+◌, ◌*◌, ◌++◌, ap₂}
+use Rattle.std.proofs.Common.{◌+◌, ◌*◌, refl}
 use Rattle.xet_hash.proofs.Vectors.{words_of_lane}
 use Rattle.xet_hash.proofs.lanes.pair_lanes.Goals as goal
 
@@ -22,7 +22,9 @@ returns-clause-first_half c j h =
       c.odd-6.ensures.first_half j h,
       c.odd-7.ensures.first_half j h,
       c.odd-8.ensures.first_half j h,
-    ) (ap₂ (λ (xs ys : List ℕ). xs ++ ys) (words_of_lane (2 * j) v c.told-left) (words_of_lane (2 * j + 1) v c.told-left))
+      words_of_lane (2 * j) v 8 c.told-left,
+      words_of_lane (2 * j + 1) v 8 c.told-left,
+    ) refl
 
 pub returns-clause-second_half : goal.returns-clause-second_half
 returns-clause-second_half c j h =
@@ -44,4 +46,6 @@ returns-clause-second_half c j h =
       c.odd-6.ensures.second_half j h,
       c.odd-7.ensures.second_half j h,
       c.odd-8.ensures.second_half j h,
-    ) (ap₂ (λ (xs ys : List ℕ). xs ++ ys) (words_of_lane (2 * j) v c.told-right) (words_of_lane (2 * j + 1) v c.told-right))
+      words_of_lane (2 * j) v 8 c.told-right,
+      words_of_lane (2 * j + 1) v 8 c.told-right,
+    ) refl

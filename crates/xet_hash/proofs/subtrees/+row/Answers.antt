@@ -1,9 +1,7 @@
-use Rattle.std.proofs.Common.{◌≡◌, ℕ, ◌+◌, ◌-◌, ◌*◌, ◌^◌, ◌<◌, ◌∙◌, ap, refl, arith, take, drop}
-use Rattle.xet_hash.proofs.Rows.{IsSubtreeValue, chunk_is_subtree, in_rest, in_prefix, parent_of_pair, within}
+use Rattle.std.proofs.Common.{◌≡◌, ℕ, ◌+◌, ◌-◌, ◌*◌, ◌^◌, ◌∙◌, ap, refl, arith, take, drop}
+use Rattle.xet_hash.proofs.Rows.{AreSubtreeValues, chunk_is_subtree, halves_of_row, in_prefix, in_rest, within}
 use Rattle.xet_hash.proofs.Tree.{halves}
-use Rattle.xet_hash.proofs.Vectors.{below_eight}
 use Rattle.xet_hash.specs.Blake3.{subtree_len}
-use Rattle.xet_hash.specs.internal.Lanes.{lane}
 use Rattle.xet_hash.proofs.subtrees.+row.Goals as goal
 
 pub returns-then-level-eq0 : goal.returns-then-level-eq0
@@ -35,35 +33,13 @@ returns t c =
     let half : 8 * c.subtree_len.result ≡ 8 * subtree_len below = omega arith in
     let front = c.split_at.ensures.front ∙ ap (λ (n : ℕ). take n b) half in
     let back = c.split_at.ensures.back ∙ ap (λ (n : ℕ). drop n b) half in
-    let left : (k : ℕ) → k < 8 → IsSubtreeValue key flags b below (i + k * 2 ^ below) (k * subtree_len below) (lane k c.row-left.result) =
-    λ k h. in_prefix key flags b c.split_at.result.0.now (8 * subtree_len below)
-    below (i + k * 2 ^ below) (k * subtree_len below) _ front (within k (subtree_len below) h) (c.row-left.ensures k h) in
-    let right : (k : ℕ) → k < 8 → IsSubtreeValue key flags b below (i + 8 * 2 ^ below + k * 2 ^ below) (8 * subtree_len below + k * subtree_len below) (lane k c.row-right.result) =
+    let zero_place : (n : ℕ) → 0 + n ≡ n = λ n. omega arith in
+    let left : AreSubtreeValues key flags b below i 0 8 c.row-left.result =
+    λ k h. rw (zero_place (k * subtree_len below)) (in_prefix key flags b c.split_at.result.0.now (8 * subtree_len below)
+    below (i + k * 2 ^ below) (k * subtree_len below) _ front (within k (subtree_len below) h) (c.row-left.ensures k h)) in
+    let right : AreSubtreeValues key flags b below (i + 8 * 2 ^ below) (8 * subtree_len below) 8 c.row-right.result =
     λ k h. in_rest key flags b c.split_at.result.1.now (8 * subtree_len below)
     below (i + 8 * 2 ^ below + k * 2 ^ below) (k * subtree_len below) _ back
     (c.row-right.ensures k h ∙ rw c.chunk_count.ensures refl) in
-    below_eight _
-    (parent_of_pair key flags b level below (i + 0 * 2 ^ below) (0 * subtree_len below) (i + 1 * 2 ^ below) (1 * subtree_len below) (i + 0 * 2 ^ level) (0 * subtree_len level)
-    _ _ _ up (omega arith) (omega arith) (omega arith) (omega arith) (omega arith)
-    (left 0 (omega arith)) (left 1 (omega arith)) (c.parent_lanes.ensures.first_half 0 (omega arith)))
-    (parent_of_pair key flags b level below (i + 2 * 2 ^ below) (2 * subtree_len below) (i + 3 * 2 ^ below) (3 * subtree_len below) (i + 1 * 2 ^ level) (1 * subtree_len level)
-    _ _ _ up (omega arith) (omega arith) (omega arith) (omega arith) (omega arith)
-    (left 2 (omega arith)) (left 3 (omega arith)) (c.parent_lanes.ensures.first_half 1 (omega arith)))
-    (parent_of_pair key flags b level below (i + 4 * 2 ^ below) (4 * subtree_len below) (i + 5 * 2 ^ below) (5 * subtree_len below) (i + 2 * 2 ^ level) (2 * subtree_len level)
-    _ _ _ up (omega arith) (omega arith) (omega arith) (omega arith) (omega arith)
-    (left 4 (omega arith)) (left 5 (omega arith)) (c.parent_lanes.ensures.first_half 2 (omega arith)))
-    (parent_of_pair key flags b level below (i + 6 * 2 ^ below) (6 * subtree_len below) (i + 7 * 2 ^ below) (7 * subtree_len below) (i + 3 * 2 ^ level) (3 * subtree_len level)
-    _ _ _ up (omega arith) (omega arith) (omega arith) (omega arith) (omega arith)
-    (left 6 (omega arith)) (left 7 (omega arith)) (c.parent_lanes.ensures.first_half 3 (omega arith)))
-    (parent_of_pair key flags b level below (i + 8 * 2 ^ below + 0 * 2 ^ below) (8 * subtree_len below + 0 * subtree_len below) (i + 8 * 2 ^ below + 1 * 2 ^ below) (8 * subtree_len below + 1 * subtree_len below) (i + 4 * 2 ^ level) (4 * subtree_len level)
-    _ _ _ up (omega arith) (omega arith) (omega arith) (omega arith) (omega arith)
-    (right 0 (omega arith)) (right 1 (omega arith)) (c.parent_lanes.ensures.second_half 0 (omega arith)))
-    (parent_of_pair key flags b level below (i + 8 * 2 ^ below + 2 * 2 ^ below) (8 * subtree_len below + 2 * subtree_len below) (i + 8 * 2 ^ below + 3 * 2 ^ below) (8 * subtree_len below + 3 * subtree_len below) (i + 5 * 2 ^ level) (5 * subtree_len level)
-    _ _ _ up (omega arith) (omega arith) (omega arith) (omega arith) (omega arith)
-    (right 2 (omega arith)) (right 3 (omega arith)) (c.parent_lanes.ensures.second_half 1 (omega arith)))
-    (parent_of_pair key flags b level below (i + 8 * 2 ^ below + 4 * 2 ^ below) (8 * subtree_len below + 4 * subtree_len below) (i + 8 * 2 ^ below + 5 * 2 ^ below) (8 * subtree_len below + 5 * subtree_len below) (i + 6 * 2 ^ level) (6 * subtree_len level)
-    _ _ _ up (omega arith) (omega arith) (omega arith) (omega arith) (omega arith)
-    (right 4 (omega arith)) (right 5 (omega arith)) (c.parent_lanes.ensures.second_half 2 (omega arith)))
-    (parent_of_pair key flags b level below (i + 8 * 2 ^ below + 6 * 2 ^ below) (8 * subtree_len below + 6 * subtree_len below) (i + 8 * 2 ^ below + 7 * 2 ^ below) (8 * subtree_len below + 7 * subtree_len below) (i + 7 * 2 ^ level) (7 * subtree_len level)
-    _ _ _ up (omega arith) (omega arith) (omega arith) (omega arith) (omega arith)
-    (right 6 (omega arith)) (right 7 (omega arith)) (c.parent_lanes.ensures.second_half 3 (omega arith)))
+    halves_of_row key flags b level below i c.row-left.result c.row-right.result c.parent_lanes.result up (omega arith) left right
+    c.parent_lanes.ensures.first_half c.parent_lanes.ensures.second_half
