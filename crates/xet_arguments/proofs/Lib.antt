@@ -1,5 +1,6 @@
 pub mod Hyphens
 pub mod Plain
+pub mod Parses
 pub mod Pack
 pub mod Read
 pub mod Clean

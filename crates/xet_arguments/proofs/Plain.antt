@@ -103,7 +103,7 @@ plain_level s words =
     (or_else (settle_fault s.rules s.args_override_self end)
     (or_else (defaults_fault (settled s.rules end).rows s.rules) (check_fault s (finished s.rules end) false)))
 
-abbrev alone : Shape → App
+abbrev pub alone : Shape → App
 alone s = record { top = s; subs = [] }
 
 none_entered : (s : Shape) (stop : Option (Text × List Text)) → (is_some (entered (alone s) stop) ≡ false) × (entered_fault (alone s) stop ≡ [])

@@ -3,14 +3,17 @@
 ghost use Rattle.std.specs.Prelude.{◌≡◌, ◌≤◌, ◌==◌, IfOk, codes, false, length, map, option_map, string_bytes};
 ghost use Rattle.std.specs.List.{list_any};
 ghost use Rattle.clap.specs.Lexer.{usize_max};
-ghost use Rattle.clap.specs.Words.{first_value, found_of, matched_of, raw_values};
+ghost use Rattle.clap.specs.Words.{found_of, matched_of, raw_values};
 ghost use Rattle.xet_arguments.specs.Arguments.{is_option, pack_texts, read_texts, some_of, three_of, two_of};
-ghost use Rattle.xet_arguments.specs.internal.Commands.{all_three, both};
+ghost use Rattle.xet_arguments.specs.internal.Commands.{all_three, both, value_of};
 
 use crate::commands::{bare_command, clean_command, pack_command, read_command};
 use crate::parsing::matches_of_words;
 use clap::ArgMatches;
 use std::alloc::{AllocError, Global};
+
+/// What a parse gives: none if the words are rejected. The only error is out of memory.
+type Parsed<T> = Result<Option<T>, AllocError>;
 
 /// The arguments of `pack`.
 #[derive(Clone, Copy, PartialEq, Eq, Debug)]
@@ -32,63 +35,48 @@ pub struct ReadArguments<'a> {
     pub to: &'a str,
 }
 
-/// `pack TARGET GEAR`: the arguments; none if the number of words is not 2.
-pub fn pack_arguments<'a>(
-    alloc: Global,
-    words: &'a [String],
-) -> Result<Option<PackArguments<'a>>, AllocError>
-    requires { list_any is_option (map string_bytes words.now) ≡ false }
-    ensures { IfOk result (λ found. option_map pack_texts found ≡ two_of (map string_bytes words.now)) }
-{
-    let command = pack_command(alloc)?;
-    let found = matches_of_words(command, words)?;
-    match found {
-        Some(matches) => Ok(pack_values(&matches)),
-        None => Ok(None),
-    }
-}
-
-fn pack_values<'a>(matches: &ArgMatches<'a>) -> Option<PackArguments<'a>>
+fn pack_values<'a>(found: &Option<ArgMatches<'a>>) -> Option<PackArguments<'a>>
     ensures { option_map pack_texts result
-        ≡ both (first_value (found_of matches.now) (codes "target")) (first_value (found_of matches.now) (codes "gear")) }
+        ≡ both (value_of found.now (codes "target")) (value_of found.now (codes "gear")) }
 {
+    let matches = found.as_ref()?;
     let target = matches.get_str("target")?;
     let gear = matches.get_str("gear")?;
     Some(PackArguments { target, gear })
 }
 
-/// `read HASH FROM TO`: the arguments; none if the number of words is not 3.
-pub fn read_arguments<'a>(
-    alloc: Global,
-    words: &'a [String],
-) -> Result<Option<ReadArguments<'a>>, AllocError>
+/// `pack TARGET GEAR`: the arguments; none if the number of words is not 2.
+pub fn pack_arguments<'a>(alloc: Global, words: &'a [String]) -> Parsed<PackArguments<'a>>
     requires { list_any is_option (map string_bytes words.now) ≡ false }
-    ensures { IfOk result (λ found. option_map read_texts found ≡ three_of (map string_bytes words.now)) }
+    ensures { IfOk result (λ found. option_map pack_texts found ≡ two_of (map string_bytes words.now)) }
 {
-    let command = read_command(alloc)?;
-    let found = matches_of_words(command, words)?;
-    match found {
-        Some(matches) => Ok(read_values(&matches)),
-        None => Ok(None),
-    }
+    let found = matches_of_words(pack_command(alloc)?, words)?;
+    Ok(pack_values(&found))
 }
 
-fn read_values<'a>(matches: &ArgMatches<'a>) -> Option<ReadArguments<'a>>
+fn read_values<'a>(found: &Option<ArgMatches<'a>>) -> Option<ReadArguments<'a>>
     ensures { option_map read_texts result
-        ≡ all_three (first_value (found_of matches.now) (codes "hash")) (first_value (found_of matches.now) (codes "from"))
-        (first_value (found_of matches.now) (codes "to")) }
+        ≡ all_three (value_of found.now (codes "hash")) (value_of found.now (codes "from"))
+        (value_of found.now (codes "to")) }
 {
+    let matches = found.as_ref()?;
     let hash = matches.get_str("hash")?;
     let from = matches.get_str("from")?;
     let to = matches.get_str("to")?;
     Some(ReadArguments { hash, from, to })
 }
 
+/// `read HASH FROM TO`: the arguments; none if the number of words is not 3.
+pub fn read_arguments<'a>(alloc: Global, words: &'a [String]) -> Parsed<ReadArguments<'a>>
+    requires { list_any is_option (map string_bytes words.now) ≡ false }
+    ensures { IfOk result (λ found. option_map read_texts found ≡ three_of (map string_bytes words.now)) }
+{
+    let found = matches_of_words(read_command(alloc)?, words)?;
+    Ok(read_values(&found))
+}
+
 /// `clean NAME..`: the names; none if there are no words.
-pub fn clean_arguments<'a>(
-    alloc: Global,
-    words: &'a [String],
-) -> Result<Option<Vec<&'a str>>, AllocError>
+pub fn clean_arguments<'a>(alloc: Global, words: &'a [String]) -> Parsed<Vec<&'a str>>
     requires { list_any is_option (map string_bytes words.now) ≡ false }
     ensures { IfOk result (λ found. option_map (λ names. map (λ name. name.now) names.items) found
         ≡ some_of (map string_bytes words.now)) }
@@ -102,10 +90,7 @@ pub fn clean_arguments<'a>(
     }
 }
 
-fn clean_values<'a>(
-    alloc: Global,
-    matches: &ArgMatches<'a>,
-) -> Result<Option<Vec<&'a str>>, AllocError>
+fn clean_values<'a>(alloc: Global, matches: &ArgMatches<'a>) -> Parsed<Vec<&'a str>>
     ensures { IfOk result (λ found. option_map (λ names. map (λ name. name.now) names.items) found
         ≡ option_map raw_values (matched_of (found_of matches.now) (codes "name"))) }
 {

@@ -1,7 +1,8 @@
 -- The commands, as `clap` parses them, for private functions.
 use Rattle.std.specs.Prelude.{true, Option, Some, None, codes}
-use Rattle.clap.specs.Words.{App, IsAmong, Kinds, Rule, Text, new_app, new_rule, with_rule}
+use Rattle.clap.specs.Words.{App, IsAmong, Kinds, Rule, Text, first_value, found_of, new_app, new_rule, with_rule}
 use Rattle.clap.specs.Lexer.{usize_max}
+use Rattle.clap.specs.declared.parser.matches.ArgMatches.{ArgMatches}
 use Rattle.clap.specs.declared.error.kind.ErrorKind.{ErrorKind}
 
 -- the words have some kind of error
@@ -39,6 +40,11 @@ many_needed id =
 -- `clean NAME..`
 abbrev pub clean_app : App
 clean_app = with_rule (bare (codes "clean")) (many_needed (codes "name"))
+
+-- the value of an argument, if the words were accepted and it is there
+abbrev pub value_of : Option ArgMatches → Text → Option Text
+value_of None id = None
+value_of (Some matches) id = first_value (found_of matches) id
 
 -- two values, if both are there
 abbrev pub both : Option Text → Option Text → Option (Text × Text)
