@@ -6,3 +6,4 @@ mod Failures
 mod Growing
 mod Loops
 mod Sections
+mod Words

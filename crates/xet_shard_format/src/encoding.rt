@@ -1,7 +1,8 @@
 //! Encoding of rows, records, header and footer.
 
 ghost use Rattle.std.specs.Prelude.{◌≡◌, ◌<◌, ◌^◌, ◌++◌, OnOk, length, map};
-ghost use Rattle.std.specs.List.{All, AllByRecursion};
+ghost use Rattle.std.specs.Int.{to_le_bytes, w64};
+ghost use Rattle.std.specs.List.{All, AllByRecursion, flat_map};
 ghost use Rattle.xet_shard_format.specs.Rows.{RowFits, row_bytes, rows_bytes};
 ghost use Rattle.xet_shard_format.specs.Records.{ext_rows, file_rows, section, xorb_rows};
 ghost use Rattle.xet_shard_format.specs.Encoding.{shard_footer_bytes, shard_header_bytes};
@@ -156,22 +157,41 @@ pub fn push_header(encoding: &mut Vec<u8>, header: &MDBShardFileHeader) -> Resul
 pub fn push_footer(encoding: &mut Vec<u8>, f: &MDBShardFileFooter) -> Result<(), AllocError>
     ensures { OnOk result (encoding.new.items ≡ encoding.old.items ++ shard_footer_bytes f.now) }
 {
-    encoding.extend_from_slice(&f.version.to_le_bytes())?;
-    encoding.extend_from_slice(&f.file_info_offset.to_le_bytes())?;
-    encoding.extend_from_slice(&f.xorb_info_offset.to_le_bytes())?;
-    encoding.extend_from_slice(&f.file_lookup_offset.to_le_bytes())?;
-    encoding.extend_from_slice(&f.file_lookup_num_entry.to_le_bytes())?;
-    encoding.extend_from_slice(&f.xorb_lookup_offset.to_le_bytes())?;
-    encoding.extend_from_slice(&f.xorb_lookup_num_entry.to_le_bytes())?;
-    encoding.extend_from_slice(&f.chunk_lookup_offset.to_le_bytes())?;
-    encoding.extend_from_slice(&f.chunk_lookup_num_entry.to_le_bytes())?;
+    push_words(
+        encoding,
+        &[
+            f.version,
+            f.file_info_offset,
+            f.xorb_info_offset,
+            f.file_lookup_offset,
+            f.file_lookup_num_entry,
+            f.xorb_lookup_offset,
+            f.xorb_lookup_num_entry,
+            f.chunk_lookup_offset,
+            f.chunk_lookup_num_entry,
+        ],
+    )?;
     encoding.extend_from_slice(f.chunk_hash_hmac_key.as_bytes())?;
-    encoding.extend_from_slice(&f.shard_creation_timestamp.to_le_bytes())?;
-    encoding.extend_from_slice(&f.shard_key_expiry.to_le_bytes())?;
+    push_words(encoding, &[f.shard_creation_timestamp, f.shard_key_expiry])?;
     encoding.extend_from_slice(&[0; 48])?;
-    encoding.extend_from_slice(&f.stored_bytes_on_disk.to_le_bytes())?;
-    encoding.extend_from_slice(&f.materialized_bytes.to_le_bytes())?;
-    encoding.extend_from_slice(&f.stored_bytes.to_le_bytes())?;
-    encoding.extend_from_slice(&f.footer_offset.to_le_bytes())?;
+    push_words(
+        encoding,
+        &[
+            f.stored_bytes_on_disk,
+            f.materialized_bytes,
+            f.stored_bytes,
+            f.footer_offset,
+        ],
+    )?;
+    Ok(())
+}
+
+/// Appends the encodings of these numbers, eight bytes each.
+fn push_words(encoding: &mut Vec<u8>, words: &[u64]) -> Result<(), AllocError>
+    ensures { OnOk result (encoding.new.items ≡ encoding.old.items ++ flat_map (to_le_bytes w64) words.now) }
+{
+    for word in words {
+        encoding.extend_from_slice(&word.to_le_bytes())?;
+    }
     Ok(())
 }

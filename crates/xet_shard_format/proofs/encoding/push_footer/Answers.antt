@@ -1,41 +1,23 @@
-use Rattle.std.proofs.Common.{◌≡◌, ◌++◌, rules}
+use Rattle.std.proofs.Common.{◌≡◌, ◌∙◌, ◌++◌, ◌∷◌, [], ap, List, ℕ, rules}
 use Rattle.std.specs.Prelude.{replicate}
 use Rattle.std.specs.Int.{w64, to_le_bytes}
+use Rattle.std.specs.List.{flat_map}
 use Rattle.xet_shard_format.specs.theorems.Bytes.{piece_before}
+use Rattle.xet_shard_format.proofs.Words.{before_rest, four_words}
 use Rattle.xet_shard_format.proofs.encoding.push_footer.Goals as goal
 
 pub returns : goal.returns
 returns c =
-    let e1 : c.extend_from_slice.new.self.items ≡ c.args.encoding.now.items ++ to_le_bytes w64 c.args.f.now.version = search rules in
-    let e2 : c.extend_from_slice-2.new.self.items ≡ c.extend_from_slice.new.self.items ++ to_le_bytes w64 c.args.f.now.file_info_offset = search rules in
-    let e3 : c.extend_from_slice-3.new.self.items ≡ c.extend_from_slice-2.new.self.items ++ to_le_bytes w64 c.args.f.now.xorb_info_offset = search rules in
-    let e4 : c.extend_from_slice-4.new.self.items ≡ c.extend_from_slice-3.new.self.items ++ to_le_bytes w64 c.args.f.now.file_lookup_offset = search rules in
-    let e5 : c.extend_from_slice-5.new.self.items ≡ c.extend_from_slice-4.new.self.items ++ to_le_bytes w64 c.args.f.now.file_lookup_num_entry = search rules in
-    let e6 : c.extend_from_slice-6.new.self.items ≡ c.extend_from_slice-5.new.self.items ++ to_le_bytes w64 c.args.f.now.xorb_lookup_offset = search rules in
-    let e7 : c.extend_from_slice-7.new.self.items ≡ c.extend_from_slice-6.new.self.items ++ to_le_bytes w64 c.args.f.now.xorb_lookup_num_entry = search rules in
-    let e8 : c.extend_from_slice-8.new.self.items ≡ c.extend_from_slice-7.new.self.items ++ to_le_bytes w64 c.args.f.now.chunk_lookup_offset = search rules in
-    let e9 : c.extend_from_slice-9.new.self.items ≡ c.extend_from_slice-8.new.self.items ++ to_le_bytes w64 c.args.f.now.chunk_lookup_num_entry = search rules in
-    let e10 : c.extend_from_slice-10.new.self.items ≡ c.extend_from_slice-9.new.self.items ++ c.args.f.now.chunk_hash_hmac_key = search rules in
-    let e11 : c.extend_from_slice-11.new.self.items ≡ c.extend_from_slice-10.new.self.items ++ to_le_bytes w64 c.args.f.now.shard_creation_timestamp = search rules in
-    let e12 : c.extend_from_slice-12.new.self.items ≡ c.extend_from_slice-11.new.self.items ++ to_le_bytes w64 c.args.f.now.shard_key_expiry = search rules in
-    let e13 : c.extend_from_slice-13.new.self.items ≡ c.extend_from_slice-12.new.self.items ++ replicate 48 0 = search rules in
-    let e14 : c.extend_from_slice-14.new.self.items ≡ c.extend_from_slice-13.new.self.items ++ to_le_bytes w64 c.args.f.now.stored_bytes_on_disk = search rules in
-    let e15 : c.extend_from_slice-15.new.self.items ≡ c.extend_from_slice-14.new.self.items ++ to_le_bytes w64 c.args.f.now.materialized_bytes = search rules in
-    let e16 : c.extend_from_slice-16.new.self.items ≡ c.extend_from_slice-15.new.self.items ++ to_le_bytes w64 c.args.f.now.stored_bytes = search rules in
-    let e17 : c.extend_from_slice-17.new.self.items ≡ c.extend_from_slice-16.new.self.items ++ to_le_bytes w64 c.args.f.now.footer_offset = search rules in
-    let w16 = piece_before c.extend_from_slice-15.new.self.items c.extend_from_slice-16.new.self.items _ (to_le_bytes w64 c.args.f.now.stored_bytes) _ e16 e17 in
-    let w15 = piece_before c.extend_from_slice-14.new.self.items c.extend_from_slice-15.new.self.items _ (to_le_bytes w64 c.args.f.now.materialized_bytes) _ e15 w16 in
-    let w14 = piece_before c.extend_from_slice-13.new.self.items c.extend_from_slice-14.new.self.items _ (to_le_bytes w64 c.args.f.now.stored_bytes_on_disk) _ e14 w15 in
-    let w13 = piece_before c.extend_from_slice-12.new.self.items c.extend_from_slice-13.new.self.items _ (replicate 48 0) _ e13 w14 in
-    let w12 = piece_before c.extend_from_slice-11.new.self.items c.extend_from_slice-12.new.self.items _ (to_le_bytes w64 c.args.f.now.shard_key_expiry) _ e12 w13 in
-    let w11 = piece_before c.extend_from_slice-10.new.self.items c.extend_from_slice-11.new.self.items _ (to_le_bytes w64 c.args.f.now.shard_creation_timestamp) _ e11 w12 in
-    let w10 = piece_before c.extend_from_slice-9.new.self.items c.extend_from_slice-10.new.self.items _ (c.args.f.now.chunk_hash_hmac_key) _ e10 w11 in
-    let w9 = piece_before c.extend_from_slice-8.new.self.items c.extend_from_slice-9.new.self.items _ (to_le_bytes w64 c.args.f.now.chunk_lookup_num_entry) _ e9 w10 in
-    let w8 = piece_before c.extend_from_slice-7.new.self.items c.extend_from_slice-8.new.self.items _ (to_le_bytes w64 c.args.f.now.chunk_lookup_offset) _ e8 w9 in
-    let w7 = piece_before c.extend_from_slice-6.new.self.items c.extend_from_slice-7.new.self.items _ (to_le_bytes w64 c.args.f.now.xorb_lookup_num_entry) _ e7 w8 in
-    let w6 = piece_before c.extend_from_slice-5.new.self.items c.extend_from_slice-6.new.self.items _ (to_le_bytes w64 c.args.f.now.xorb_lookup_offset) _ e6 w7 in
-    let w5 = piece_before c.extend_from_slice-4.new.self.items c.extend_from_slice-5.new.self.items _ (to_le_bytes w64 c.args.f.now.file_lookup_num_entry) _ e5 w6 in
-    let w4 = piece_before c.extend_from_slice-3.new.self.items c.extend_from_slice-4.new.self.items _ (to_le_bytes w64 c.args.f.now.file_lookup_offset) _ e4 w5 in
-    let w3 = piece_before c.extend_from_slice-2.new.self.items c.extend_from_slice-3.new.self.items _ (to_le_bytes w64 c.args.f.now.xorb_info_offset) _ e3 w4 in
-    let w2 = piece_before c.extend_from_slice.new.self.items c.extend_from_slice-2.new.self.items _ (to_le_bytes w64 c.args.f.now.file_info_offset) _ e2 w3 in
-    piece_before c.args.encoding.now.items c.extend_from_slice.new.self.items _ (to_le_bytes w64 c.args.f.now.version) _ e1 w2
+    let t0 = c.args.encoding.now.items in let t1 = c.push_words.new.encoding.items in let t2 = c.extend_from_slice.new.self.items in
+    let t3 = c.push_words-2.new.encoding.items in let t4 = c.extend_from_slice-2.new.self.items in let t5 = c.push_words-3.new.encoding.items in
+    let f = c.args.f.now in
+    let first : List ℕ = f.version ∷ f.file_info_offset ∷ f.xorb_info_offset ∷ f.file_lookup_offset ∷ f.file_lookup_num_entry ∷ f.xorb_lookup_offset ∷ f.xorb_lookup_num_entry ∷ f.chunk_lookup_offset ∷ f.chunk_lookup_num_entry ∷ [] in
+    let times : List ℕ = f.shard_creation_timestamp ∷ f.shard_key_expiry ∷ [] in
+    let e1 : t1 ≡ t0 ++ flat_map (to_le_bytes w64) first = search rules in
+    let e2 : t2 ≡ t1 ++ f.chunk_hash_hmac_key = search rules in
+    let e3 : t3 ≡ t2 ++ flat_map (to_le_bytes w64) times = search rules in
+    let e4 : t4 ≡ t3 ++ replicate 48 0 = search rules in
+    let e5 : t5 ≡ t4 ++ flat_map (to_le_bytes w64) (f.stored_bytes_on_disk ∷ f.materialized_bytes ∷ f.stored_bytes ∷ f.footer_offset ∷ []) = search rules in
+    let last = e5 ∙ ap (λ (t : List ℕ). t4 ++ t) (four_words f.stored_bytes_on_disk f.materialized_bytes f.stored_bytes f.footer_offset) in
+    let after_times = piece_before t2 t3 t5 _ _ e3 (piece_before t3 t4 t5 _ _ e4 last) ∙ ap (λ (t : List ℕ). t2 ++ t) (before_rest times _) in
+    piece_before t0 t1 t5 _ _ e1 (piece_before t1 t2 t5 _ _ e2 after_times) ∙ ap (λ (t : List ℕ). t0 ++ t) (before_rest first _)
