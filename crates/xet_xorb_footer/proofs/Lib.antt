@@ -11,3 +11,4 @@ mod Decoding
 mod Placing
 mod Sections
 mod Puts
+mod Consumed
