@@ -1,6 +1,6 @@
 //! The map from chunk hashes to their last positions in a shard in memory.
 
-ghost use Rattle.std.specs.Prelude.{◌≡◌, ◌<◌, ◌≤◌, ◌^◌, ℕ, List, None, IsOk, OnErr, OnOk, length, nat_eq};
+ghost use Rattle.std.specs.Prelude.{◌≡◌, ◌<◌, ◌≤◌, ◌^◌, ℕ, List, [], None, IsOk, OnErr, OnOk, length, nat_eq};
 ghost use Rattle.std.specs.Cmp.Lexicographic.{pointwise};
 ghost use Rattle.indexmap.specs.IndexMap.{get, spare, values};
 ghost use Rattle.xet_shard.specs.Held.{DifferBy, Keyed, with_last};
@@ -81,18 +81,32 @@ fn put_again(
     ensures put { OnOk result (values blocks.new ≡ with_last xorb_record_hash (values blocks.old) block) }
     ensures kept { OnErr result (values blocks.new ≡ values blocks.old) }
 {
-    let hash = block.hash();
     let mut found = IndexMap::with_capacity(*places.allocator(), places.len())?;
+    note_all(&mut found, blocks, &block)?;
+    put_last(blocks, block)?;
+    *places = found;
+    Ok(())
+}
+
+/// Adds the chunks of all xorbs to an empty map, with `block` at the end in place of the one of its hash.
+fn note_all(
+    found: &mut LastPlaces,
+    blocks: &IndexMap<MerkleHash, MDBXorbInfo>,
+    block: &MDBXorbInfo,
+) -> Result<(), AllocError>
+    requires empty { found.old.entries ≡ [] }
+    requires few { length (xorb_section (with_last xorb_record_hash (values blocks.now) block.now)) < 2 ^ 32 }
+    ensures { OnOk result (HasPlaces found.new.entries (with_last xorb_record_hash (values blocks.now) block.now)) }
+{
+    let hash = block.hash();
     let mut index: u32 = 0;
     for other in blocks.values() {
         if other.hash() != hash {
-            note_chunks(&mut found, index, other.chunks.as_slice())?;
+            note_chunks(found, index, other.chunks.as_slice())?;
             index += 1;
         }
     }
-    note_chunks(&mut found, index, block.chunks.as_slice())?;
-    put_last(blocks, block)?;
-    *places = found;
+    note_chunks(found, index, block.chunks.as_slice())?;
     Ok(())
 }
 

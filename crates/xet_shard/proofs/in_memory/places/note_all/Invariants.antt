@@ -3,7 +3,7 @@ use Rattle.std.specs.Map.Iter.{deref}
 use Rattle.xet_shard.specs.LastPlaces.{HasPlaces}
 use Rattle.xet_shard_format.specs.Records.{xorb_record_hash, xorb_section}
 use Rattle.xet_shard.specs.theorems.Holding.{is_other}
-use Rattle.xet_shard.proofs.in_memory.places.put_again.Given as goal
+use Rattle.xet_shard.proofs.in_memory.places.note_all.Given as goal
 
 abbrev pub invariant-loop-other : goal.invariant-loop-other
 invariant-loop-other l = record {
