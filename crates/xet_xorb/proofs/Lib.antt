@@ -2,6 +2,7 @@ mod Checked
 mod Validated
 mod Ranged
 mod Listed
+mod Mapped
 mod Plain
 mod RawXorbs
 mod Built
