@@ -7,6 +7,7 @@ ghost use Rattle.xet_store.specs.Cleaning.{Keeps};
 ghost use Rattle.xet_store.specs.Flushing.{IsFlushed, IsUnflushed};
 
 use crate::store::Store;
+use std::alloc::Global;
 use std::marker::Send;
 use xet_folder::put_shard;
 use xet_hash::{MerkleHash, StoreError, compute_data_hash};
@@ -40,7 +41,14 @@ impl<D: Disk + Send> Store<D> {
         let folder = self.folder.as_str();
         put_shard(&mut self.disk, self.alloc, folder, &hash, &encoding)?;
         self.shards.push_reserved(hash);
-        self.pending = MDBInMemoryShard::new(self.alloc);
+        empty(&mut self.pending, self.alloc);
         Ok(Some(hash))
     }
+}
+
+/// Drops what is pending.
+fn empty(pending: &mut MDBInMemoryShard, alloc: Global)
+    ensures { pending.new ≡ nothing }
+{
+    *pending = MDBInMemoryShard::new(alloc);
 }

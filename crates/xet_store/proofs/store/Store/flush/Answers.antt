@@ -49,18 +49,18 @@ invariant_of-self-2 g c =
     let e = c.in_ok-encoding.ensures in let p = c.put_shard.ensures in let put = puts_shard c.self.invariant c.as_str-folder.ensures c.deref-2.ensures.value c.contains.ensures.value c.if-contains.false e.shard e.fits
     (c.recall_bytes.ensures.length, c.recall_bytes.ensures.bytes) c.compute_data_hash-hash.ensures c.deref.ensures.value c.deref-3.ensures.value e.encoding p.frame.tells p.frame.later p.xorbs p.shards p.others p.foreign in
     put_sound put (λ told. record { there = c.in_ok-put_shard.ensures.there told; durable = c.in_ok-put_shard.ensures.durable told; temp = c.in_ok-put_shard.ensures.temp told })
-    (c.push_reserved.ensures.items ∙ ap (λ (l : List (List ℕ)). l ++ c.compute_data_hash-hash.result ∷ []) c.reserve.ensures.items) c.new.ensures
+    (c.push_reserved.ensures.items ∙ ap (λ (l : List (List ℕ)). l ++ c.compute_data_hash-hash.result ∷ []) c.reserve.ensures.items) c.empty.ensures
 
 pub returns-clause-flushed : goal.returns-clause-flushed
 returns-clause-flushed g c =
     let e = c.in_ok-encoding.ensures in let p = c.put_shard.ensures in let put = puts_shard c.self.invariant c.as_str-folder.ensures c.deref-2.ensures.value c.contains.ensures.value c.if-contains.false e.shard e.fits
     (c.recall_bytes.ensures.length, c.recall_bytes.ensures.bytes) c.compute_data_hash-hash.ensures c.deref.ensures.value c.deref-3.ensures.value e.encoding p.frame.tells p.frame.later p.xorbs p.shards p.others p.foreign in
     put_flushed put (λ told. record { there = c.in_ok-put_shard.ensures.there told; durable = c.in_ok-put_shard.ensures.durable told; temp = c.in_ok-put_shard.ensures.temp told })
-    (c.push_reserved.ensures.items ∙ ap (λ (l : List (List ℕ)). l ++ c.compute_data_hash-hash.result ∷ []) c.reserve.ensures.items) c.new.ensures _ c.self.view_is
+    (c.push_reserved.ensures.items ∙ ap (λ (l : List (List ℕ)). l ++ c.compute_data_hash-hash.result ∷ []) c.reserve.ensures.items) c.empty.ensures _ c.self.view_is
 
 pub returns-clause-keeps : goal.returns-clause-keeps
 returns-clause-keeps g c =
     let e = c.in_ok-encoding.ensures in let p = c.put_shard.ensures in let put = puts_shard c.self.invariant c.as_str-folder.ensures c.deref-2.ensures.value c.contains.ensures.value c.if-contains.false e.shard e.fits
     (c.recall_bytes.ensures.length, c.recall_bytes.ensures.bytes) c.compute_data_hash-hash.ensures c.deref.ensures.value c.deref-3.ensures.value e.encoding p.frame.tells p.frame.later p.xorbs p.shards p.others p.foreign in
     put_keeps put (λ told. inr (record { there = c.in_ok-put_shard.ensures.there told; durable = c.in_ok-put_shard.ensures.durable told; temp = c.in_ok-put_shard.ensures.temp told }))
-    (c.push_reserved.ensures.items ∙ ap (λ (l : List (List ℕ)). l ++ c.compute_data_hash-hash.result ∷ []) c.reserve.ensures.items) c.new.ensures _ c.self.view_is
+    (c.push_reserved.ensures.items ∙ ap (λ (l : List (List ℕ)). l ++ c.compute_data_hash-hash.result ∷ []) c.reserve.ensures.items) c.empty.ensures _ c.self.view_is
