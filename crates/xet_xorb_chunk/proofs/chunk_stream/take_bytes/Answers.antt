@@ -1,6 +1,6 @@
 use Rattle.std.proofs.Common.{◌∙◌, ap, arith, rules, take}
 use Rattle.xet_xorb_chunk.proofs.Blocks.{block_taken}
-use Rattle.xet_xorb_chunk.proofs.Prefixes.{taken_prefix, prefix_then}
+use Rattle.xet_xorb_chunk.proofs.Prefixes.{fills_prefix, taken_prefix, prefix_then}
 use Rattle.xet_xorb_chunk.proofs.chunk_stream.take_bytes.Goals as goal
 
 pub reads-preserved : goal.reads-preserved
@@ -15,9 +15,23 @@ reads-preserved g c =
       later = omega (arith, c.in_ok-count.ensures.frame.later, i.later);
     }
 
+pub returns-in_err-resize-clause-consumed : goal.returns-in_err-resize-clause-consumed
+returns-in_err-resize-clause-consumed g c = λ told. taken_prefix (g.R.Source.left c.args.r.now) c.reads.bytes.items (g.R.Source.left c.reads.r) (c.reads.invariant.read told)
+
 pub returns-in_err-count-clause-consumed : goal.returns-in_err-count-clause-consumed
 returns-in_err-count-clause-consumed g c = λ told.
     let i = c.reads.invariant in
     let left = g.R.Source.left c.args.r.now in
     let middle = g.R.Source.left c.reads.r in
     prefix_then left middle (g.R.Source.left c.fill_behind.new.source) (taken_prefix left c.reads.bytes.items middle (i.read told)) (c.in_err-count.ensures.told (i.tells ∙ told))
+
+pub returns-then-count-len-clause-consumed : goal.returns-then-count-len-clause-consumed
+returns-then-count-len-clause-consumed g c = λ told.
+    let i = c.reads.invariant in
+    let left = g.R.Source.left c.args.r.now in
+    let middle = g.R.Source.left c.reads.r in
+    prefix_then left middle (g.R.Source.left c.fill_behind.new.source) (taken_prefix left c.reads.bytes.items middle (i.read told))
+    (fills_prefix middle _ _ c.fill_behind.result (c.fill_behind.ensures.told (i.tells ∙ told)))
+
+pub returns-clause-consumed : goal.returns-clause-consumed
+returns-clause-consumed g c = λ told. taken_prefix (g.R.Source.left c.args.r.now) c.reads.bytes.items (g.R.Source.left c.reads.r) (c.reads.invariant.read told)
