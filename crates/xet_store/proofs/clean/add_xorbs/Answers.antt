@@ -42,9 +42,6 @@ add_xorb-requires-clause-small g c = λ κs met.
 pub returns-in_err-hash-clause-keeps : goal.returns-in_err-hash-clause-keeps
 returns-in_err-hash-clause-keeps g c = keeps_then c.args.session.now c.xorbs.session c.add_xorb.new.self c.xorbs.invariant.keeps c.add_xorb.ensures.keeps
 
-pub returns-in_err-hash-clause-shards : goal.returns-in_err-hash-clause-shards
-returns-in_err-hash-clause-shards g c = c.add_xorb.ensures.shards ∙ c.xorbs.invariant.shards
-
 pub returns-in_err-hash-clause-some : goal.returns-in_err-hash-clause-some
 returns-in_err-hash-clause-some g c =
     let done = packed_some (tables_of c.args.session.now) (tables_of c.xorbs.session) c.limits.result.now c.xorbs.plan.items c.xorbs.rest.now c.args.chunks.now c.xorbs.invariant.packed in
@@ -53,9 +50,6 @@ returns-in_err-hash-clause-some g c =
 
 pub returns-in_err-push-clause-keeps : goal.returns-in_err-push-clause-keeps
 returns-in_err-push-clause-keeps g c = keeps_then c.args.session.now c.xorbs.session c.add_xorb.new.self c.xorbs.invariant.keeps c.add_xorb.ensures.keeps
-
-pub returns-in_err-push-clause-shards : goal.returns-in_err-push-clause-shards
-returns-in_err-push-clause-shards g c = c.add_xorb.ensures.shards ∙ c.xorbs.invariant.shards
 
 pub returns-in_err-push-clause-some : goal.returns-in_err-push-clause-some
 returns-in_err-push-clause-some g c =
