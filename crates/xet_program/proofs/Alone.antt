@@ -1,5 +1,5 @@
 -- How the commands end that are not `pack`.
-use Rattle.std.proofs.Common.{◌≡◌, ◌∙◌, inl, inr, ℕ, ◌+◌, ◌-◌, ◌<◌, ◌≤◌, true, false, List, [], ◌∷◌, length, map, replicate, Option, Some, Result, Ok, Err, IfErr, IfOk, OnOk, Vec, Global, unwrap_or, subst, refl, sym, ap, arith}
+use Rattle.std.proofs.Common.{◌≡◌, ◌∙◌, inl, inr, ℕ, ◌+◌, ◌-◌, ◌<◌, ◌≤◌, true, List, [], ◌∷◌, length, map, replicate, Option, Some, Result, Ok, Err, IfErr, IfOk, OnOk, Vec, Global, unwrap_or, subst, refl, sym, ap, arith}
 use Rattle.std.proofs.lemmas.List.{length-replicate}
 use Rattle.std.specs.FinMap.{get}
 use Rattle.std.specs.List.{flat_map}
@@ -20,7 +20,7 @@ use Rattle.xet_program.specs.Tasks.{IsIdle, default_limits, store_folder}
 use Rattle.xet_program.specs.Words.Command.{Clean, Group, ListFiles, Read}
 use Rattle.xet_program.specs.internal.Cleaned.{IsCleanText}
 use Rattle.xet_program.specs.internal.Stops.{ForValid, IsStop, answer_outcome, cleaning_store_causes, folder_causes, grouping_causes, reading_range_causes}
-use Rattle.xet_program.proofs.Answered.{none_stored, works_same}
+use Rattle.xet_program.proofs.Answered.{malformed_of_ten, none_stored, works_same}
 use Rattle.xet_program.proofs.Endings.{group_long, group_short}
 
 -- an input of a length
@@ -56,21 +56,10 @@ module _ (start : Start) (new : Files) where
   end_list (Err stop.Malformed) listed h = absurd h
   end_list (Err (stop.BadLine n)) listed h = absurd h
 
-  ten_list : (r : Answer) → IfErr r (IsStop (folder_causes start.tells start.now start.files)) → (answer_outcome r).status ≡ 10 → start.tells ≡ false
-  ten_list (Ok t) h ten = absurd (omega arith)
-  ten_list (Err stop.OutOfMemory) h ten = absurd (omega arith)
-  ten_list (Err stop.Disk) h ten = absurd (omega arith)
-  ten_list (Err (stop.BadShard name)) h ten = absurd (omega arith)
-  ten_list (Err stop.Input) h ten = absurd h
-  ten_list (Err stop.TooLarge) h ten = absurd h
-  ten_list (Err stop.NotFound) h ten = absurd h
-  ten_list (Err stop.Malformed) h ten = absurd h
-  ten_list (Err (stop.BadLine n)) h ten = absurd h
-
   pub answered_list : (r : Answer) → new ≡ start.files → IfOk r (λ text. Listed text.items) → IfErr r (IsStop (folder_causes start.tells start.now start.files)) → Answered (Some ListFiles) start new (answer_outcome r)
   answered_list r same listed stop = record {
     ends = end_list r listed stop;
-    works = works_same (Some ListFiles) start new (answer_outcome r).status same (λ nought. none_stored default_limits start.now start.files new) (ten_list r stop);
+    works = works_same (Some ListFiles) start new (answer_outcome r).status same (λ nought. none_stored default_limits start.now start.files new) (λ ten. absurd (malformed_of_ten (IsStop (folder_causes start.tells start.now start.files)) r stop ten));
   }
 
   -- ---- `read`
@@ -93,21 +82,10 @@ module _ (start : Start) (new : Files) where
     end_read (Err stop.TooLarge) ordered len is c = absurd c
     end_read (Err (stop.BadLine n)) ordered len is c = absurd c
 
-    ten_read : (r : Answer) → IfErr r Causes → (answer_outcome r).status ≡ 10 → start.tells ≡ false
-    ten_read (Ok t) c ten = absurd (omega arith)
-    ten_read (Err stop.OutOfMemory) c ten = absurd (omega arith)
-    ten_read (Err stop.Disk) c ten = absurd (omega arith)
-    ten_read (Err (stop.BadShard name)) c ten = absurd (omega arith)
-    ten_read (Err stop.NotFound) c ten = absurd (omega arith)
-    ten_read (Err stop.Malformed) c ten = c
-    ten_read (Err stop.Input) c ten = absurd c
-    ten_read (Err stop.TooLarge) c ten = absurd c
-    ten_read (Err (stop.BadLine n)) c ten = absurd c
-
     pub answered_read : (r : Answer) → new ≡ start.files → OnOk r (from ≤ to) → IfOk r (λ bytes. length bytes.items ≡ to - from) → IfOk r (λ bytes. IsRead bytes.items) → IfErr r Causes → Answered (Some (Read h from to)) start new (answer_outcome r)
     answered_read r same ordered len is stop = record {
       ends = end_read r ordered len is stop;
-      works = works_same (Some (Read h from to)) start new (answer_outcome r).status same (λ nought. none_stored default_limits start.now start.files new) (ten_read r stop);
+      works = works_same (Some (Read h from to)) start new (answer_outcome r).status same (λ nought. none_stored default_limits start.now start.files new) (malformed_of_ten Causes r stop);
     }
 
   -- ---- `clean`
@@ -135,17 +113,6 @@ module _ (start : Start) (new : Files) where
     end_clean (Err stop.TooLarge) is (contents, valid, long) = MayEnd.answered (λ observes. refl) record { asked = Clean names; is = refl; contents = contents; valid = valid; answer = CleanAnswer.too_long long refl }
     end_clean (Err stop.Malformed) is c = MayEnd.malformed tt (λ observes. refl) c refl
     end_clean (Err (stop.BadLine n)) is c = absurd c
-
-    ten_clean : (r : Answer) → IfErr r CleanCauses → (answer_outcome r).status ≡ 10 → start.tells ≡ false
-    ten_clean (Ok t) c ten = absurd (omega arith)
-    ten_clean (Err stop.OutOfMemory) c ten = absurd (omega arith)
-    ten_clean (Err stop.Disk) c ten = absurd (omega arith)
-    ten_clean (Err (stop.BadShard name)) c ten = absurd (omega arith)
-    ten_clean (Err stop.NotFound) c ten = absurd (omega arith)
-    ten_clean (Err stop.Malformed) c ten = c
-    ten_clean (Err stop.Input) c ten = absurd (omega arith)
-    ten_clean (Err stop.TooLarge) c ten = absurd (omega arith)
-    ten_clean (Err (stop.BadLine n)) c ten = absurd c
 
     named_are : (inputs : Named (List ℕ)) (ns files : List (List ℕ)) → AreNamed inputs ns files → map (λ name. unwrap_or (get inputs name) []) ns ≡ files
     named_are inputs [] [] named = refl
@@ -184,7 +151,7 @@ module _ (start : Start) (new : Files) where
         absent = absent;
         kept = kept;
         foreign = foreign;
-        malformed = ten_clean r stop;
+        malformed = malformed_of_ten CleanCauses r stop;
       };
     }
 
@@ -210,19 +177,8 @@ module _ (start : Start) (new : Files) where
   end_group (Err stop.Malformed) is c = absurd c
   end_group (Err (stop.BadLine n)) is c = absurd c
 
-  ten_group : (r : Answer) → IfErr r GroupCauses → (answer_outcome r).status ≡ 10 → start.tells ≡ false
-  ten_group (Ok t) c ten = absurd (omega arith)
-  ten_group (Err stop.OutOfMemory) c ten = absurd (omega arith)
-  ten_group (Err stop.Input) c ten = absurd (omega arith)
-  ten_group (Err stop.TooLarge) c ten = absurd (omega arith)
-  ten_group (Err stop.Disk) c ten = absurd c
-  ten_group (Err (stop.BadShard name)) c ten = absurd c
-  ten_group (Err stop.NotFound) c ten = absurd c
-  ten_group (Err stop.Malformed) c ten = absurd c
-  ten_group (Err (stop.BadLine n)) c ten = absurd c
-
   pub answered_group : (r : Answer) → new ≡ start.files → IfOk r (λ text. IsGroup text.items) → IfErr r GroupCauses → Answered (Some Group) start new (answer_outcome r)
   answered_group r same is stop = record {
     ends = end_group r is stop;
-    works = works_same (Some Group) start new (answer_outcome r).status same (λ nought. none_stored default_limits start.now start.files new) (ten_group r stop);
+    works = works_same (Some Group) start new (answer_outcome r).status same (λ nought. none_stored default_limits start.now start.files new) (λ ten. absurd (malformed_of_ten GroupCauses r stop ten));
   }

@@ -1,12 +1,15 @@
 -- What a command answers, by how it may end.
-use Rattle.std.proofs.Common.{◌≡◌, ◌≢◌, ◌⊎◌, ◌∙◌, ℕ, inl, inr, List, [], subst, false, Option, Some, None, IfSome, refl, sym, ap, arith}
+use Rattle.std.proofs.Common.{◌≡◌, ◌≢◌, ◌⊎◌, ◌∙◌, ℕ, inl, inr, List, [], subst, false, Option, Some, None, IfSome, Result, Ok, Err, IfErr, Vec, Global, refl, sym, ap, arith}
 use Rattle.std.specs.FinMap.{get}
 use Rattle.xet_io.specs.Disk.{Files}
 use Rattle.xet_cut.specs.declared.limits.LimitSettings.{LimitSettings}
+use Rattle.xet_program.specs.declared.ending.Stop.{Stop}
+use Rattle.xet_program.specs.declared.ending.Stop.TheVariants as stop
 use Rattle.xet_program.specs.Words.{Command}
 use Rattle.xet_program.specs.Words.Command.{Pack, Clean, Read, ListFiles, Group}
 use Rattle.xet_program.specs.Start.{Start}
 use Rattle.xet_program.specs.internal.Answered.{Answered}
+use Rattle.xet_program.specs.internal.Stops.{answer_outcome}
 use Rattle.xet_program.specs.Early.{IsEarly, Outcome, early_outcome, outcome}
 use Rattle.xet_program.specs.Ending.{IsCutShort, MayEnd}
 use Rattle.xet_program.specs.Stored.{AreStored, KeepsFolder, KeepsListed, Works}
@@ -58,6 +61,18 @@ kept_cut (Some (Clean names)) X status other cut kept idle = absurd (cut_clean n
 kept_cut (Some (Read h from to)) X status other cut kept idle = kept tt
 kept_cut (Some ListFiles) X status other cut kept idle = kept tt
 kept_cut (Some Group) X status other cut kept idle = kept tt
+
+-- status 10 is that of a stored xorb that changed
+pub malformed_of_ten : (P : Stop → Type 0) (r : Result (Vec ℕ Global) Stop) → IfErr r P → (answer_outcome r).status ≡ 10 → P stop.Malformed
+malformed_of_ten P (Ok t) stops ten = absurd (omega arith)
+malformed_of_ten P (Err stop.OutOfMemory) stops ten = absurd (omega arith)
+malformed_of_ten P (Err stop.Input) stops ten = absurd (omega arith)
+malformed_of_ten P (Err stop.Disk) stops ten = absurd (omega arith)
+malformed_of_ten P (Err stop.TooLarge) stops ten = absurd (omega arith)
+malformed_of_ten P (Err stop.NotFound) stops ten = absurd (omega arith)
+malformed_of_ten P (Err stop.Malformed) stops ten = stops
+malformed_of_ten P (Err (stop.BadLine n)) stops ten = absurd (omega arith)
+malformed_of_ten P (Err (stop.BadShard name)) stops ten = absurd (omega arith)
 
 -- no files are stored
 pub none_stored : (s : LimitSettings) (now : ℕ) (old new : Files) → AreStored s [] now old new

@@ -216,31 +216,6 @@ allows_asked (Some command) allows = allows
 
 -- ---- the command of a name
 
-pub by_pack : (name : List ℕ) (words : List (List ℕ)) → name ≡ codes "pack" → command_by name words ≡ pack_of words
-unfolding command_by
-by_pack name words e = rw e refl
-
-pub by_clean : (name : List ℕ) (words : List (List ℕ)) → name ≡ codes "clean" → command_by name words ≡ clean_of words
-unfolding command_by
-by_clean name words e = rw e refl
-
-pub by_read : (name : List ℕ) (words : List (List ℕ)) → name ≡ codes "read" → command_by name words ≡ read_of words
-unfolding command_by
-by_read name words e = rw e refl
-
-pub by_list : (name : List ℕ) (words : List (List ℕ)) → name ≡ codes "list" → command_by name words ≡ alone ListFiles words
-unfolding command_by
-by_list name words e = rw e refl
-
-pub by_group : (name : List ℕ) (words : List (List ℕ)) → name ≡ codes "group" → command_by name words ≡ alone Group words
-unfolding command_by
-by_group name words e = rw e refl
-
-pub by_other : (name : List ℕ) (words : List (List ℕ)) → name ≢ codes "pack" → name ≢ codes "clean" → name ≢ codes "read" → name ≢ codes "list" → name ≢ codes "group" → command_by name words ≡ None
-unfolding command_by
-by_other name words a b c d e =
-    rw (other_bytes name (codes "pack") a, other_bytes name (codes "clean") b, other_bytes name (codes "read") c, other_bytes name (codes "list") d, other_bytes name (codes "group") e) refl
-
 pub alone_by : {X : Type 0} (f : X → List ℕ) (ws : List X) (b : Bool) (command : Parsed) (o : Option Parsed) → b ≡ eqb (length ws) 0 → o ≡ then_some b command → option_map asked o ≡ alone (asked command) (map f ws)
 alone_by f [] b command o is e = ap (option_map asked) (e ∙ ap (λ (t : Bool). then_some t command) is)
 alone_by f (w ∷ ws) true command o is e = absurd (grind (arith, nat_tests))
@@ -293,28 +268,7 @@ pack_in_range target gear t =
       scheme_plain = refl;
     }
 
+-- the default settings are those of a target of 65,536
 pub shown_in_range : (gear : List ℕ) → bad_field (shown_settings gear) ≡ None
 unfolding lib.Count.ones
-shown_in_range gear = none_bad (shown_settings gear) record {
-  target_power = refl;
-  target_from = lit≤ tt;
-  target_to = lit≤ tt;
-  minimum_from = lit≤ tt;
-  minimum_to = lit< tt;
-  maximum_to = lit< tt;
-  cut_bytes_from = lit≤ tt;
-  cut_bytes_to = lit≤ tt;
-  cut_chunks_from = lit≤ tt;
-  cut_chunks_to = lit≤ tt;
-  shard_target_to = lit< tt;
-  guard_window_from = lit≤ tt;
-  guard_window_to = lit≤ tt;
-  min_range_from = lit≤ tt;
-  low_factor_from = lit≤ tt;
-  block_bytes_from = lit≤ tt;
-  block_bytes_to = lit≤ tt;
-  source_from = lit≤ tt;
-  source_to = lit≤ tt;
-  source_chunks = lit< tt;
-  scheme_plain = refl;
-}
+shown_in_range gear = pack_in_range 65536 gear refl

@@ -33,10 +33,10 @@ contents_then old now s files folder time contents =
     subst (λ (x : ℕ). HasContents s.files s.folder x (contents_of s)) (sym time) of_folder
 
 -- over the disk that it hands back
-pub keeps_listed : (tells : Bool) (old new : Files) (limits : LimitSettings) (now : ℕ) (s t : State) → tells ≡ true → IsOpened tells old store_folder limits now s
-    → HasContents old store_folder now (contents_of s) → Keeps s t → new ≡ t.files → KeepsListed now old new
-keeps_listed tells old new limits now s t told opened contents keeps is =
-    let then = contents_then old now s opened.same_files opened.same_folder opened.time contents in
+pub keeps_listed : (tells : Bool) (old new : Files) (limits : LimitSettings) (now : ℕ) (s t : State) → IsOpened tells old store_folder limits now s
+    → (tells ≡ true → HasContents old store_folder now (contents_of s)) → Keeps s t → new ≡ t.files → tells ≡ true → KeepsListed now old new
+keeps_listed tells old new limits now s t opened contents keeps is told =
+    let then = contents_then old now s opened.same_files opened.same_folder opened.time (contents told) in
     let kept : KeepsListed s.opened s.files t.files = kept_by s t (opened.same_tells ∙ told) opened.same_folder then keeps in
     let at : KeepsListed now s.files t.files = subst (λ (x : ℕ). KeepsListed x s.files t.files) opened.time kept in
     let from : KeepsListed now old t.files = subst (λ (x : Files). KeepsListed now x t.files) opened.same_files at in
@@ -74,10 +74,10 @@ keeps_names s t told folder contents keeps sound =
     shard h (inr has) = inr (subst (λ (x : List ℕ). HasShard t.files x h) (keeps.folder ∙ folder) has.shard)
 
 -- over the disk that it hands back
-pub keeps_folder : (tells : Bool) (old new : Files) (limits : LimitSettings) (now : ℕ) (s t : State) → tells ≡ true → IsOpened tells old store_folder limits now s
-    → HasContents old store_folder now (contents_of s) → Keeps s t → Sound t → new ≡ t.files → KeepsFolder now old new
-keeps_folder tells old new limits now s t told opened contents keeps sound is =
-    let kept : KeepsFolder s.opened s.files t.files = keeps_names s t (opened.same_tells ∙ told) opened.same_folder (contents_then old now s opened.same_files opened.same_folder opened.time contents) keeps sound in
+pub keeps_folder : (tells : Bool) (old new : Files) (limits : LimitSettings) (now : ℕ) (s t : State) → IsOpened tells old store_folder limits now s
+    → (tells ≡ true → HasContents old store_folder now (contents_of s)) → Keeps s t → Sound t → new ≡ t.files → tells ≡ true → KeepsFolder now old new
+keeps_folder tells old new limits now s t opened contents keeps sound is told =
+    let kept : KeepsFolder s.opened s.files t.files = keeps_names s t (opened.same_tells ∙ told) opened.same_folder (contents_then old now s opened.same_files opened.same_folder opened.time (contents told)) keeps sound in
     let at : KeepsFolder now s.files t.files = subst (λ (x : ℕ). KeepsFolder x s.files t.files) opened.time kept in
     let from : KeepsFolder now old t.files = subst (λ (x : Files). KeepsFolder now x t.files) opened.same_files at in
     subst (λ (x : Files). KeepsFolder now old x) (sym is) from

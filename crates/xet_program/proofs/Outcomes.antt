@@ -27,7 +27,7 @@ use Rattle.xet_program.specs.Ending.{MayEnd}
 use Rattle.xet_program.specs.internal.Parsing.{IsSaid, Said, are_good, parted}
 use Rattle.xet_program.specs.internal.Stops.{IsStop, answer_outcome, parsing_causes, reading_causes, session_causes, stop_of_unread, storing_causes}
 use Rattle.xet_program.specs.Stored.{AreStored, IsAdmittedAt, KeepsFolder, KeepsListed, Works}
-use Rattle.xet_program.proofs.Answered.{busy_status, works_idle}
+use Rattle.xet_program.proofs.Answered.{busy_status, malformed_of_ten, works_idle}
 use Rattle.xet_program.proofs.Lengths.{short_said}
 use Rattle.xet_program.proofs.Said.{good_parted}
 
@@ -177,17 +177,6 @@ pub record StandsAt (s : LimitSettings) (start : Start) (new : Files) (said : Sa
   pub kept : start.tells ≡ true → IsIdle (Some (Pack s)) (answer_outcome r).status → new ≡ start.files
   pub foreign : start.tells ≡ true → (name : List ℕ) → IsForeign store_folder name → get new name ≡ get start.files name
 
-ten_of : (tells : Bool) (s : LimitSettings) (said : Said) (now : ℕ) (files : Files) (r : Result (Vec ℕ Global) Stop) → IfErr r (IsStop (storing_causes tells s said now files)) → (answer_outcome r).status ≡ 10 → tells ≡ false
-ten_of tells s said now files (Ok t) stop ten = absurd (omega arith)
-ten_of tells s said now files (Err OutOfMemory) stop ten = absurd (omega arith)
-ten_of tells s said now files (Err Input) stop ten = absurd stop
-ten_of tells s said now files (Err Disk) stop ten = absurd (omega arith)
-ten_of tells s said now files (Err Malformed) stop ten = stop
-ten_of tells s said now files (Err TooLarge) stop ten = absurd (omega arith)
-ten_of tells s said now files (Err NotFound) stop ten = absurd stop
-ten_of tells s said now files (Err (BadLine n)) stop ten = absurd stop
-ten_of tells s said now files (Err (BadShard name)) stop ten = absurd (omega arith)
-
 module _ (s : LimitSettings) (start : Start) (new : Files) (said : Said) where
   abbrev Valid : Type 0
   Valid = (contents : Contents) × (start.tells ≡ true → HasContents start.files store_folder start.now contents)
@@ -217,7 +206,7 @@ module _ (s : LimitSettings) (start : Start) (new : Files) (said : Said) where
     absent = λ inputs_told told lacks. absurd lacks;
     kept = stands.kept;
     foreign = stands.foreign;
-    malformed = ten_of start.tells s said start.now start.files r stop;
+    malformed = malformed_of_ten (IsStop (storing_causes start.tells s said start.now start.files)) r stop;
   }
 
   pub answered_read : (r : Result (Vec ℕ Global) Stop) → (start.input_tells ≡ true → IsSaid start.input said) → are_short s said.files ≡ true → OnOk r Valid

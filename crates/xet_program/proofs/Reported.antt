@@ -5,53 +5,33 @@ use Rattle.std.specs.Result.{IsErrOf}
 use Rattle.std.specs.List.{AllByRecursion, flat_map}
 use Rattle.xet_io.specs.Faults.{HasCause}
 use Rattle.xet_io.specs.Named.{Named}
-use Rattle.xet_cut.specs.Limits.{AreInRange}
-use Rattle.xet_folder.specs.Contents.{HasContents}
 use Rattle.xet_store.specs.declared.info.Cleaned.{Cleaned}
 use Rattle.xet_store.specs.declared.info.XetFileInfo.{XetFileInfo}
-use Rattle.xet_store.specs.Cleaning.{Keeps, info_of}
-use Rattle.xet_store.specs.Opening.{contents_of}
-use Rattle.xet_store.specs.Store.{Sound, State}
+use Rattle.xet_store.specs.Cleaning.{info_of}
+use Rattle.xet_store.specs.Store.{State}
 use Rattle.xet_program.specs.declared.ending.Stop.{Stop}
 use Rattle.xet_program.specs.declared.ending.Stop.TheVariants as stop
 use Rattle.xet_program.specs.declared.lines.FileRange.{FileRange}
 use Rattle.xet_program.specs.Answers.{AreNamed}
 use Rattle.xet_program.specs.internal.Parsing.{Said, are_good}
 use Rattle.xet_program.specs.internal.Report.{info_line}
-use Rattle.xet_program.specs.Tasks.{store_folder}
 use Rattle.xet_program.specs.internal.Cleaned.{AreCleaned, IsCleaned, IsLinesAnswer}
 use Rattle.xet_program.specs.internal.Steps.{AreRead, IsSettled}
 use Rattle.xet_program.specs.internal.Stops.{Causes, IsStop, naming_causes, range_causes, session_causes}
 use Rattle.xet_program.proofs.Cleaned.{all_tell, bounds_of_good, cleaned_files, count_of_sources, files_of_sources, lines_of_infos}
 use Rattle.xet_program.proofs.Making.{made_in}
 use Rattle.xet_program.proofs.Opened.{Opened, opened_count, opened_named, opened_tell, rose_after, rose_then}
-use Rattle.xet_program.proofs.Settled.{IsDone, recorded_of, reports, stored_of}
+use Rattle.xet_program.proofs.Settled.{AreSteps, IsDone, recorded_of, reports, stored_of}
 
 abbrev Answer : Type 0
 Answer = Result (Vec ℕ Global) Stop
 
--- A session before files were cleaned, after that, and after it has kept what was pending.
-pub record AreSteps (first before after : State) : Type 0 where
-  pub cleaned : Keeps first before
-  pub keeps : Keeps before after
-  pub sound : Sound before
-  pub flushed : Sound after
-  pub folder : first.folder ≡ store_folder
-  pub fits : AreInRange first.limits
-  pub contents : first.tells ≡ true → HasContents first.files first.folder first.opened (contents_of first)
-
 done_of : {S : Type 0} (tells : S → Bool) (left : S → List ℕ) (sources : List S) (first before after : State) (infos : List XetFileInfo) → AreSteps first before after → AllByRecursion (λ s. tells s ≡ true) sources
     → (c : AreCleaned tells left sources first before infos) → IsDone first before after c.files
 done_of tells left sources first before after infos steps tell c = record {
-  cleaned = steps.cleaned;
-  keeps = steps.keeps;
-  sound = steps.sound;
-  flushed = steps.flushed;
-  folder = steps.folder;
-  fits = steps.fits;
+  steps = steps;
   has = λ told apart. c.has told tell apart;
   lists = c.lists tell;
-  contents = steps.contents;
   tables = c.tables;
 }
 

@@ -111,17 +111,21 @@ Listing xorbs l chunks = AllByRecursion (λ pack. IsListed xorbs (xorb_hash (lea
 
 -- ---- after files were cleaned, and nothing is pending
 
--- A session before and after these files were cleaned, and after it has kept what was pending.
-pub record IsDone (first before after : State) (files : List (List ℕ)) : Type 0 where
+-- A session before files were cleaned, after that, and after it has kept what was pending.
+pub record AreSteps (first before after : State) : Type 0 where
   pub cleaned : Keeps first before
   pub keeps : Keeps before after
   pub sound : Sound before
   pub flushed : Sound after
   pub folder : first.folder ≡ store_folder
   pub fits : AreInRange first.limits
+  pub contents : first.tells ≡ true → HasContents first.files first.folder first.opened (contents_of first)
+
+-- Such a session, and the files that were cleaned.
+pub record IsDone (first before after : State) (files : List (List ℕ)) : Type 0 where
+  pub steps : AreSteps first before after
   pub has : first.tells ≡ true → Separate before (map (chunking first.limits) files) → AllByRecursion (HasFile before) (map (chunking first.limits) files)
   pub lists : AllByRecursion (ListsXorbs before) (map (chunking first.limits) files)
-  pub contents : first.tells ≡ true → HasContents first.files first.folder first.opened (contents_of first)
   pub tables : tables_of before ≡ with_files first.limits (tables_of first) files
 
 module _ (first before after : State) (files : List (List ℕ)) (done : IsDone first before after files) where
@@ -129,10 +133,10 @@ module _ (first before after : State) (files : List (List ℕ)) (done : IsDone f
   chunked = map (chunking first.limits) files
 
   folder_after : after.folder ≡ store_folder
-  folder_after = done.keeps.folder ∙ done.cleaned.folder ∙ done.folder
+  folder_after = done.steps.keeps.folder ∙ done.steps.cleaned.folder ∙ done.steps.folder
 
   opened_after : after.opened ≡ first.opened
-  opened_after = done.keeps.opened ∙ done.cleaned.opened
+  opened_after = done.steps.keeps.opened ∙ done.steps.cleaned.opened
 
   -- each xorb that is then listed is met in the folder
   all_met : first.tells ≡ true → (h : List ℕ) → IsSome (found before.xorbs h) → IsMet after.files after.folder after.opened first.limits chunked h
@@ -140,8 +144,8 @@ module _ (first before after : State) (files : List (List ℕ)) (done : IsDone f
     where
       go : IsSome (found first.xorbs h) ⊎ IsPackOf first.limits chunked h → IsMet after.files after.folder after.opened first.limits chunked h
       go (inl listed) =
-          let named : IsNamed after.files first.folder first.opened h = named_stays first (done.contents told) after told (keeps_then first before after done.cleaned done.keeps) h listed in
-          let at : IsNamed after.files after.folder first.opened h = subst (λ (f : List ℕ). IsNamed after.files f first.opened h) (sym (done.keeps.folder ∙ done.cleaned.folder)) named in
+          let named : IsNamed after.files first.folder first.opened h = named_stays first (done.steps.contents told) after told (keeps_then first before after done.steps.cleaned done.steps.keeps) h listed in
+          let at : IsNamed after.files after.folder first.opened h = subst (λ (f : List ℕ). IsNamed after.files f first.opened h) (sym (done.steps.keeps.folder ∙ done.steps.cleaned.folder)) named in
           inl (subst (λ (n : ℕ). IsNamed after.files after.folder n h) (sym opened_after) at)
       go (inr pack) = inr pack
 
@@ -149,12 +153,12 @@ module _ (first before after : State) (files : List (List ℕ)) (done : IsDone f
     separates : first.tells ≡ true → SeparateIn after.files store_folder first.opened first.limits chunked → Separate before chunked
     separates told apart =
         let by_folder : SeparateIn after.files after.folder first.opened first.limits chunked = subst (λ (f : List ℕ). SeparateIn after.files f first.opened first.limits chunked) (sym folder_after) apart in
-        separate_by_folder before after (done.cleaned.tells ∙ told) done.sound done.flushed done.keeps settled.records settled.nothing_pending first.limits chunked (all_met told)
+        separate_by_folder before after (done.steps.cleaned.tells ∙ told) done.steps.sound done.steps.flushed done.steps.keeps settled.records settled.nothing_pending first.limits chunked (all_met told)
         (subst (λ (n : ℕ). SeparateIn after.files after.folder n first.limits chunked) (sym opened_after) by_folder)
 
     each_after : (cs : List (List (List ℕ))) → first.tells ≡ true → AllByRecursion (HasFile before) cs → AllByRecursion (HasFile after) cs
     each_after [] told all = tt
-    each_after (c ∷ cs) told all = (has_file_stays before after (done.cleaned.tells ∙ told) done.sound done.keeps settled.records c all.0, each_after cs told all.1)
+    each_after (c ∷ cs) told all = (has_file_stays before after (done.steps.cleaned.tells ∙ told) done.steps.sound done.steps.keeps settled.records c all.0, each_after cs told all.1)
 
     -- the report
     report_of : (infos : List XetFileInfo) (ranges : List FileRange) (text read_lines : List ℕ) → infos ≡ map (info_of first.limits) files → list_all (λ r. is_some (range_bytes files r)) ranges ≡ true
@@ -169,7 +173,7 @@ module _ (first before after : State) (files : List (List ℕ)) (done : IsDone f
               ∙ ap (λ (x : Said). flat_map (file_line first.limits) x.files ++ read_lines) (sym parts);
           exact = λ given.
               let apart : SeparateIn after.files store_folder first.opened first.limits chunked = subst (λ (x : Said). SeparateIn after.files store_folder first.opened first.limits (map (chunking first.limits) x.files)) parts given.1 in
-              lines_exact after first.limits files (done.keeps.tells ∙ done.cleaned.tells ∙ given.0) done.fits (each_after chunked given.0 (done.has given.0 (separates given.0 apart))) ranges read_lines good read_of
+              lines_exact after first.limits files (done.steps.keeps.tells ∙ done.steps.cleaned.tells ∙ given.0) done.steps.fits (each_after chunked given.0 (done.has given.0 (separates given.0 apart))) ranges read_lines good read_of
               ∙ ap (λ (x : Said). flat_map (λ r. bytes_line (unwrap_or (range_bytes x.files r) [])) x.ranges) (sym parts);
           none = λ none. subst (λ (rs : List FileRange). AreRead after infos rs read_lines) (ap (λ (x : Said). x.ranges) (sym parts) ∙ none) read;
         }
@@ -184,9 +188,9 @@ module _ (first before after : State) (files : List (List ℕ)) (done : IsDone f
         let met : (h : List ℕ) → IsSome (found after.xorbs h) → IsMet after.files after.folder after.opened first.limits chunked h =
         λ h is. all_met told h (subst (λ (x : Xorbs). IsSome (found x h)) settled.xorbs is) in
         let xorbs_same : AllByRecursion (Listing after.xorbs before.limits) chunked = subst (λ (x : Xorbs). AllByRecursion (Listing x before.limits) chunked) (sym settled.xorbs) done.lists in
-        let limits_same : AllByRecursion (ListsXorbs after) chunked = subst (λ (l : LimitSettings). AllByRecursion (Listing after.xorbs l) chunked) (sym done.keeps.limits) xorbs_same in
-        let all : AllByRecursion (HasXorbs after) chunked = xorbs_all after chunked done.flushed (done.keeps.tells ∙ done.cleaned.tells ∙ told) (apart_in_state after after.opened first.limits chunked met of_moment) chunked (λ c a. a) limits_same in
-        let packed = packed_all after first.limits files (done.keeps.limits ∙ done.cleaned.limits) all in
+        let limits_same : AllByRecursion (ListsXorbs after) chunked = subst (λ (l : LimitSettings). AllByRecursion (Listing after.xorbs l) chunked) (sym done.steps.keeps.limits) xorbs_same in
+        let all : AllByRecursion (HasXorbs after) chunked = xorbs_all after chunked done.steps.flushed (done.steps.keeps.tells ∙ done.steps.cleaned.tells ∙ told) (apart_in_state after after.opened first.limits chunked met of_moment) chunked (λ c a. a) limits_same in
+        let packed = packed_all after first.limits files (done.steps.keeps.limits ∙ done.steps.cleaned.limits) all in
         subst (λ (f : List ℕ). AllByRecursion (λ bytes. IsPacked after.files f first.limits (chunking first.limits bytes)) files) folder_after packed
 
     -- what is recorded
@@ -194,8 +198,8 @@ module _ (first before after : State) (files : List (List ℕ)) (done : IsDone f
         → IsRecorded first.limits after.files first.opened bytes
     record_one told apart bytes given there some =
         let chunks = chunking first.limits bytes in
-        let r = recorded_by_folder before after (done.cleaned.tells ∙ told) done.sound done.flushed done.keeps settled.records settled.nothing_pending chunks
-        (apart.lists.not_zero (leaves_of chunks) (inr (chunks, given, chunking_some first.limits bytes done.fits some, refl))) there in
+        let r = recorded_by_folder before after (done.steps.cleaned.tells ∙ told) done.steps.sound done.steps.flushed done.steps.keeps settled.records settled.nothing_pending chunks
+        (apart.lists.not_zero (leaves_of chunks) (inr (chunks, given, chunking_some first.limits bytes done.steps.fits some, refl))) there in
         let by_folder : Lists after.files store_folder after.opened r.0 = subst (λ (f : List ℕ). Lists after.files f after.opened r.0) folder_after r.1 in
         record {
           record_of_it = r.0;

@@ -16,7 +16,7 @@ use Rattle.xet_program.specs.Stored.{IsAdmittedAt, Works}
 pub record Run (command : Option Command) (start : Start) (output_tells : Bool) (before after : List ℕ) (new : Files) (status : ℕ) : Type 0 where
   -- status 2 only for invalid arguments
   pub invalid : status ≡ 2 → command ≡ None
-  -- invalid arguments end with 2, or with 1 if memory is out
+  -- invalid arguments end with status 2 or 1
   pub words : command ≡ None → (status ≡ 2) ⊎ (status ≡ 1)
   -- how it has ended, and what it has printed
   pub ends : (o : Outcome) × MayEnd command start new o × Prints output_tells o before after status

@@ -3,7 +3,7 @@
 ghost use Rattle.std.specs.Prelude.{◌≡◌, ◌⊎◌, [], true, IfOk};
 ghost use Rattle.xet_program.specs.Early.{bad_line_text, outcome};
 ghost use Rattle.xet_program.specs.Ending.{bad_shard_text, Prints};
-ghost use Rattle.xet_program.specs.internal.Stops.{answer_outcome};
+ghost use Rattle.xet_program.specs.internal.Stops.{answer_outcome, stop_of_error, stop_of_unread};
 ghost use Rattle.xet_io.specs.Frame.{Called};
 
 use std::alloc::{AllocError, AllocFailed, Global};
@@ -34,9 +34,6 @@ pub enum Stop {
 }
 
 impl From<Unread> for Stop {
-    ghost use Rattle.std.specs.Prelude.{◌≡◌};
-    ghost use Rattle.xet_program.specs.internal.Stops.{stop_of_unread};
-
     ghost from_gives = { λ unread e. e ≡ stop_of_unread unread };
 
     fn from(unread: Unread) -> Stop {
@@ -49,9 +46,6 @@ impl From<Unread> for Stop {
 }
 
 impl From<StoreError> for Stop {
-    ghost use Rattle.std.specs.Prelude.{◌≡◌};
-    ghost use Rattle.xet_program.specs.internal.Stops.{stop_of_error};
-
     ghost from_gives = { λ error e. e ≡ stop_of_error error };
 
     fn from(error: StoreError) -> Stop {

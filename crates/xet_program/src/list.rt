@@ -40,16 +40,8 @@ fn list_files<D: Disk + Send>(alloc: Global, session: &Store<D>) -> Result<Vec<u
     ensures memory { IsOkUnless result Stop.OutOfMemory }
 {
     let files = session.files(alloc)?;
-    push_lines(alloc, &files)
-}
-
-/// The line of each file, in order. The only error is `OutOfMemory`.
-fn push_lines(alloc: Global, files: &[(MerkleHash, u64)]) -> Result<Vec<u8>, Stop>
-    ensures text { IfOk result (λ text. text.items ≡ flat_map listed_line files.now) }
-    ensures memory { IsOkUnless result Stop.OutOfMemory }
-{
     let mut text = Vec::new(alloc);
-    for file in files {
+    for file in &files {
         push_line(alloc, file, &mut text)?;
     }
     Ok(text)

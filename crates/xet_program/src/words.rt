@@ -50,6 +50,7 @@ pub fn command_of(alloc: Global, words: &[String]) -> Result<Option<Command<'_>>
 }
 
 /// The command of a name and its arguments.
+#[tactic(auto, unfolding(crate::specs::Words::command_by))]
 fn command_by<'a>(
     alloc: Global,
     name: &str,

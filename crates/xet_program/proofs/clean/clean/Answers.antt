@@ -16,12 +16,12 @@ returns-in-Ok-clause-cleaned g c =
     c.into_disk-disk.ensures.files (λ told. c.in-Ok.ensures.contents told) c.clean_names-session.result.1 c.clean_names-session.ensures.cleaned
 
 pub returns-in-Ok-clause-listed : goal.returns-in-Ok-clause-listed
-returns-in-Ok-clause-listed g c = λ told.
-    keeps_listed (g.D.Disk.tells c.args.disk) _ _ _ _ _ _ told c.in-Ok.ensures.opened (c.in-Ok.ensures.contents told) c.clean_names-session.ensures.keeps c.into_disk-disk.ensures.files
+returns-in-Ok-clause-listed g c =
+    keeps_listed (g.D.Disk.tells c.args.disk) _ _ _ _ _ _ c.in-Ok.ensures.opened c.in-Ok.ensures.contents c.clean_names-session.ensures.keeps c.into_disk-disk.ensures.files
 
 pub returns-in-Ok-clause-keeps : goal.returns-in-Ok-clause-keeps
-returns-in-Ok-clause-keeps g c = λ told.
-    keeps_folder (g.D.Disk.tells c.args.disk) _ _ _ _ _ _ told c.in-Ok.ensures.opened (c.in-Ok.ensures.contents told) c.clean_names-session.ensures.keeps c.recall_invariant-in-Ok.ensures c.into_disk-disk.ensures.files
+returns-in-Ok-clause-keeps g c =
+    keeps_folder (g.D.Disk.tells c.args.disk) _ _ _ _ _ _ c.in-Ok.ensures.opened c.in-Ok.ensures.contents c.clean_names-session.ensures.keeps c.recall_invariant-in-Ok.ensures c.into_disk-disk.ensures.files
 
 pub returns-in-Ok-clause-kept : goal.returns-in-Ok-clause-kept
 returns-in-Ok-clause-kept g c = λ told idle.

@@ -7,7 +7,8 @@ use Rattle.xet_program.specs.declared.ending.Stop.TheVariants as stop
 use Rattle.xet_program.specs.internal.Stops.{IsStop, cleaning_causes, naming_causes}
 use Rattle.xet_program.proofs.Complete.{none_absent}
 use Rattle.xet_program.proofs.Opened.{on_ok_here, opened_count, opened_lent, opened_named, rose_after, same_length, some_failed, stop_of_names}
-use Rattle.xet_program.proofs.Reported.{AreSteps, cause_all, cause_of, names_answer, no_bounds, stop_names}
+use Rattle.xet_program.proofs.Settled.{AreSteps}
+use Rattle.xet_program.proofs.Reported.{cause_all, cause_of, names_answer, no_bounds, stop_names}
 use Rattle.xet_program.proofs.clean.clean_names.Goals as goal
 
 pub clean_sources-session-requires-after_bounds : goal.clean_sources-session-requires-after_bounds

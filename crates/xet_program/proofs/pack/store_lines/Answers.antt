@@ -12,12 +12,12 @@ pub returns-in-Ok-clause-valid : goal.returns-in-Ok-clause-valid
 returns-in-Ok-clause-valid g c = on_ok_given c.report_lines-session.result.1 (contents_of c.in-Ok.session, λ told. c.in-Ok.ensures.contents told)
 
 pub returns-in-Ok-clause-listed : goal.returns-in-Ok-clause-listed
-returns-in-Ok-clause-listed g c = λ told.
-    keeps_listed (g.D.Disk.tells c.args.disk) _ _ _ _ _ _ told c.in-Ok.ensures.opened (c.in-Ok.ensures.contents told) c.report_lines-session.ensures.keeps c.into_disk-disk.ensures.files
+returns-in-Ok-clause-listed g c =
+    keeps_listed (g.D.Disk.tells c.args.disk) _ _ _ _ _ _ c.in-Ok.ensures.opened c.in-Ok.ensures.contents c.report_lines-session.ensures.keeps c.into_disk-disk.ensures.files
 
 pub returns-in-Ok-clause-keeps : goal.returns-in-Ok-clause-keeps
-returns-in-Ok-clause-keeps g c = λ told.
-    keeps_folder (g.D.Disk.tells c.args.disk) _ _ _ _ _ _ told c.in-Ok.ensures.opened (c.in-Ok.ensures.contents told) c.report_lines-session.ensures.keeps c.recall_invariant-in-Ok.ensures c.into_disk-disk.ensures.files
+returns-in-Ok-clause-keeps g c =
+    keeps_folder (g.D.Disk.tells c.args.disk) _ _ _ _ _ _ c.in-Ok.ensures.opened c.in-Ok.ensures.contents c.report_lines-session.ensures.keeps c.recall_invariant-in-Ok.ensures c.into_disk-disk.ensures.files
 
 pub returns-in-Ok-clause-stored : goal.returns-in-Ok-clause-stored
 returns-in-Ok-clause-stored g c = λ told.

@@ -32,27 +32,20 @@ returns-in-Ok-clause-cleaned g c =
           (IfOk-at_ok (λ (x : Cleaned). AllByRecursion (ListsXorbs s) (chunkings left l sources)) c.in-Ok.is (c.clean_files-session.ensures.listed tell));
     }
 
-pub returns-in-Err-clause-stop : goal.returns-in-Err-clause-stop
-returns-in-Err-clause-stop g c =
+pub returns-in-Err : goal.returns-in-Err
+returns-in-Err g c =
     let tells = g.S.Source.tells in
     let left = g.S.Source.left in
     let faults = g.S.Source.faults in
     let old = c.args.sources.now in
     let new = c.clean_files-session.new.sources in
     let s = c.clean_files-session.result.0 in
-    subst (IsStop (cleaning_causes tells left faults old new c.args.session)) (sym c.from.ensures)
-    (stop_of_reason tells left faults old new c.args.session s c.in-Err.error (IfErr-at_err (Reason tells left faults old new c.args.session s) c.in-Err.is c.clean_files-session.ensures.reason))
-
-pub returns-in-Err-clause-cause : goal.returns-in-Err-clause-cause
-returns-in-Err-clause-cause g c =
-    let tells = g.S.Source.tells in
-    let left = g.S.Source.left in
-    let faults = g.S.Source.faults in
-    let old = c.args.sources.now in
-    let new = c.clean_files-session.new.sources in
-    let s = c.clean_files-session.result.0 in
+    let cleaning = c.clean_files-session.ensures in
+    let reason = IfErr-at_err (Reason tells left faults old new c.args.session s) c.in-Err.is cleaning.reason in
     record {
-      later = c.clean_files-session.ensures.keeps.later;
-      rose = λ is. rose_of_reason tells left faults old new c.args.session s c.in-Err.error
-          (IfErr-at_err (Reason tells left faults old new c.args.session s) c.in-Err.is c.clean_files-session.ensures.reason) (sym c.from.ensures ∙ cc is);
+      cleaned = tt;
+      keeps = cleaning.keeps;
+      stop = subst (IsStop (cleaning_causes tells left faults old new c.args.session)) (sym c.from.ensures) (stop_of_reason tells left faults old new c.args.session s c.in-Err.error reason);
+      sources = cleaning.sources_tell;
+      cause = record { later = cleaning.keeps.later; rose = λ is. rose_of_reason tells left faults old new c.args.session s c.in-Err.error reason (sym c.from.ensures ∙ cc is) };
     }
