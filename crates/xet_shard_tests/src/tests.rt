@@ -2,6 +2,7 @@
 
 mod abc_tests;
 mod asked_tests;
+mod directory_tests;
 mod empty_tests;
 mod export_tests;
 mod held_tests;

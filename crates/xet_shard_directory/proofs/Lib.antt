@@ -1,0 +1,3 @@
+mod LastPart
+mod ThroughDisk
+mod Written

@@ -1,0 +1,121 @@
+-- What a call leaves on a disk that writes a shard file into a folder.
+use Rattle.std.specs.Prelude.{◌≡◌, ◌≢◌, ◌++◌, ℕ, List, take, Option, Some, None, Ok, Err}
+use Rattle.std.specs.FinMap.{get}
+use Rattle.xet_hash.specs.Blake3.{keyed_digest}
+use Rattle.xet_hash.specs.Keys.{data_key}
+use Rattle.xet_hash.specs.declared.error.Place.TheVariants.{Disk, Input}
+use Rattle.xet_hash.specs.declared.error.StoreError.{StoreError}
+use Rattle.xet_hash.specs.declared.error.StoreError.TheVariants.{FileNotFound, Io, MalformedData, OutOfMemory, TooLarge, UnexpectedEof}
+use Rattle.xet_hash.specs.declared.error.What.TheVariants.{Input as InputLength}
+use Rattle.xet_io.specs.Disk.{Files}
+use Rattle.xet_io.specs.Faults.{Rose}
+use Rattle.xet_shard.specs.Sections.{info_at}
+use Rattle.xet_shard_directory.specs.Values.{loaded}
+use Rattle.xet_shard_directory.specs.declared.shard_file.MDBShardFile.{MDBShardFile}
+use Rattle.xet_shard_file.specs.Names.{shard_path, temp_name}
+use Rattle.xet_shard_file.specs.Puts.{IsDone, IsKeptOrDone}
+use Rattle.xet_shard_format.specs.Encoding.{shard_footer_bytes}
+use Rattle.xet_shard_format.specs.declared.header_footer.MDBShardFileFooter.{MDBShardFileFooter}
+
+abbrev pub digest : List ℕ → List ℕ
+digest bytes = keyed_digest data_key bytes
+
+-- the path of the shard with these bytes
+abbrev pub path_of : List ℕ → List ℕ → List ℕ
+path_of folder bytes = shard_path folder (digest bytes)
+
+-- no file has changed but the one at a path, and the temporary one beside it
+abbrev pub OthersStay : Files → Files → List ℕ → Type 0
+OthersStay old new path = (name : List ℕ) → name ≢ path → name ≢ temp_name path → get new name ≡ get old name
+
+-- The shard was written: its file has exactly these bytes under the name of their digest and is durable, no other file
+-- has changed, and the value is that of the file.
+pub record Wrote (old new : Files) (folder bytes : List ℕ) (s : MDBShardFile) : Type 0 where
+  pub hash : s.shard_hash ≡ digest bytes
+  pub path : s.path ≡ path_of folder bytes
+  pub done : IsDone new s.path bytes
+  pub others : OthersStay old new s.path
+  pub value : loaded new s.shard_hash s.path ≡ Ok s
+
+-- After a failed write the file is as it was, or the write has completed.
+pub record KeepsOthers (old new : Files) (folder bytes : List ℕ) : Type 0 where
+  pub file : IsKeptOrDone old new (path_of folder bytes) bytes
+  pub others : OthersStay old new (path_of folder bytes)
+
+-- Nothing was written, since the bytes are not those of a shard.
+pub record IsUnwritten (old new : Files) (bytes : List ℕ) (e : StoreError) : Type 0 where
+  pub read : info_at bytes ≡ Err e
+  pub same : new ≡ old
+
+-- If the error is one of the bytes, nothing was written.
+abbrev pub IsUnwrittenIfMalformed : Files → Files → List ℕ → StoreError → Type 0
+IsUnwrittenIfMalformed old new bytes UnexpectedEof = IsUnwritten old new bytes UnexpectedEof
+IsUnwrittenIfMalformed old new bytes (MalformedData reason) = IsUnwritten old new bytes (MalformedData reason)
+IsUnwrittenIfMalformed old new bytes e = Unit {0}
+
+-- ---- another file made from a file
+
+-- what a call wrote that makes other bytes from those of a file
+abbrev pub WroteFrom : Files → Files → List ℕ → Option (List ℕ) → (List ℕ → List ℕ) → MDBShardFile → Type 0
+WroteFrom old new folder None make s = ⊥
+WroteFrom old new folder (Some bytes) make s = Wrote old new folder (make bytes) s
+
+-- what a failed call of that kind leaves
+abbrev pub KeepsOthersFrom : Files → Files → List ℕ → Option (List ℕ) → (List ℕ → List ℕ) → Type 0
+KeepsOthersFrom old new folder None make = new ≡ old
+KeepsOthersFrom old new folder (Some bytes) make = KeepsOthers old new folder (make bytes)
+
+-- If the error is one of the new bytes, nothing was written. If there was no file, that is the error.
+abbrev pub IsUnwrittenFrom : Files → Files → Option (List ℕ) → (List ℕ → List ℕ) → StoreError → Type 0
+IsUnwrittenFrom old new found make FileNotFound = found ≡ None
+IsUnwrittenFrom old new None make UnexpectedEof = ⊥
+IsUnwrittenFrom old new None make (MalformedData reason) = ⊥
+IsUnwrittenFrom old new None make e = Unit {0}
+IsUnwrittenFrom old new (Some bytes) make e = IsUnwrittenIfMalformed old new (make bytes) e
+
+abbrev pub with_times : MDBShardFileFooter → ℕ → ℕ → MDBShardFileFooter
+with_times f creation expiry =
+    record {
+      version = f.version;
+      file_info_offset = f.file_info_offset;
+      xorb_info_offset = f.xorb_info_offset;
+      file_lookup_offset = f.file_lookup_offset;
+      file_lookup_num_entry = f.file_lookup_num_entry;
+      xorb_lookup_offset = f.xorb_lookup_offset;
+      xorb_lookup_num_entry = f.xorb_lookup_num_entry;
+      chunk_lookup_offset = f.chunk_lookup_offset;
+      chunk_lookup_num_entry = f.chunk_lookup_num_entry;
+      chunk_hash_hmac_key = f.chunk_hash_hmac_key;
+      shard_creation_timestamp = creation;
+      shard_key_expiry = expiry;
+      stored_bytes_on_disk = f.stored_bytes_on_disk;
+      materialized_bytes = f.materialized_bytes;
+      stored_bytes = f.stored_bytes;
+      footer_offset = f.footer_offset;
+    }
+
+-- the bytes of a shard with this footer, with another creation and expiry in it
+abbrev pub with_expiry : MDBShardFileFooter → ℕ → ℕ → List ℕ → List ℕ
+with_expiry f creation expiry bytes = take f.footer_offset bytes ++ shard_footer_bytes (with_times f creation expiry)
+
+-- ---- errors
+
+-- the errors of bytes that are not those of a shard
+abbrev pub IsFormatError : StoreError → Type 0
+IsFormatError UnexpectedEof = Unit {0}
+IsFormatError (MalformedData reason) = Unit {0}
+IsFormatError e = ⊥
+
+-- the errors of writing the bytes of a shard, with the disk's count of failures before and after
+abbrev pub IsPutError : ℕ → ℕ → StoreError → Type 0
+IsPutError before now (Io Disk) = Rose before now
+IsPutError before now OutOfMemory = Unit {0}
+IsPutError before now UnexpectedEof = Unit {0}
+IsPutError before now (MalformedData reason) = Unit {0}
+IsPutError before now e = ⊥
+
+-- the same where the bytes are read from a source, with its count of failures
+abbrev pub IsWriteError : ℕ → ℕ → ℕ → ℕ → StoreError → Type 0
+IsWriteError before now read_before read_now (Io Input) = Rose read_before read_now
+IsWriteError before now read_before read_now (TooLarge InputLength) = Unit {0}
+IsWriteError before now read_before read_now e = IsPutError before now e

@@ -1,0 +1,10 @@
+//! Shard files as values: loaded from their paths, read and queried where they lie.
+#![tactic(auto)]
+
+mod paths;
+mod queries;
+mod reading;
+mod shard_file;
+mod writing;
+
+pub use shard_file::MDBShardFile;
