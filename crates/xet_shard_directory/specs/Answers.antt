@@ -1,5 +1,6 @@
 -- What a call answers that reads a file of a disk.
 use Rattle.std.specs.Prelude.{◌≡◌, ℕ, nat_le, Bool, List, length, take, Option, Some, None, Result, Ok, Err, if◌then◌else◌}
+use Rattle.xet_codec.specs.Stops.{HasDiskReason}
 use Rattle.xet_hash.specs.declared.error.Place.TheVariants.{Disk}
 use Rattle.xet_hash.specs.declared.error.StoreError.{StoreError}
 use Rattle.xet_hash.specs.declared.error.StoreError.TheVariants.{BadFilename, FileNotFound, Io, MalformedData, OutOfMemory, TruncatedHashCollision, UnexpectedEof}
@@ -29,6 +30,16 @@ abbrev pub AnswersUnlessDisk : {X A : Type 0} → (X → Bool) → List X → Re
 AnswersUnlessDisk passes items (Err (Io Disk)) answer = Unit {0}
 AnswersUnlessDisk passes items (Err OutOfMemory) answer = Unit {0}
 AnswersUnlessDisk passes items result answer = (index : ℕ) × Bisects passes items index × (answer index ≡ result)
+
+-- the errors of a call that looks for a file, with the disk's count of failures before and after
+abbrev pub IsFindError : ℕ → ℕ → StoreError → Type 0
+IsFindError before now FileNotFound = Unit {0}
+IsFindError before now e = HasDiskReason before now e
+
+-- the errors of a call that reads bytes of a file and parses nothing
+abbrev pub IsBufferError : ℕ → ℕ → StoreError → Type 0
+IsBufferError before now UnexpectedEof = Unit {0}
+IsBufferError before now e = IsFindError before now e
 
 -- the errors of a call that reads a shard file, with the disk's count of failures before and after
 abbrev pub IsReadError : ℕ → ℕ → StoreError → Type 0

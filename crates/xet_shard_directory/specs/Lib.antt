@@ -1,6 +1,6 @@
 pub mod Answers
-pub mod Directory
-pub mod Expiry
+pub mod Asked
+pub mod Exporting
 pub mod Values
 pub mod Writing
 pub mod internal

@@ -17,6 +17,7 @@ use Rattle.xet_shard_file.specs.Puts.{IsDone, IsKeptOrDone}
 use Rattle.xet_shard_format.specs.Encoding.{shard_footer_bytes}
 use Rattle.xet_shard_format.specs.declared.header_footer.MDBShardFileFooter.{MDBShardFileFooter}
 
+-- the hash that names a shard file
 abbrev pub digest : List ℕ → List ℕ
 digest bytes = keyed_digest data_key bytes
 
@@ -37,12 +38,14 @@ pub record Wrote (old new : Files) (folder bytes : List ℕ) (s : MDBShardFile) 
   pub others : OthersStay old new s.path
   pub value : loaded new s.shard_hash s.path ≡ Ok s
 
--- After a failed write the file is as it was, or the write has completed.
-pub record KeepsOthers (old new : Files) (folder bytes : List ℕ) : Type 0 where
+-- After a failed write the file is as it was, or the write has completed. Bytes whose header or footer is malformed are
+-- not written.
+pub record KeptOrWrote (old new : Files) (folder bytes : List ℕ) : Type 0 where
   pub file : IsKeptOrDone old new (path_of folder bytes) bytes
   pub others : OthersStay old new (path_of folder bytes)
+  pub malformed : (e : StoreError) → info_at bytes ≡ Err e → new ≡ old
 
--- Nothing was written, since the bytes are not those of a shard.
+-- Nothing was written, since the header or the footer is malformed.
 pub record IsUnwritten (old new : Files) (bytes : List ℕ) (e : StoreError) : Type 0 where
   pub read : info_at bytes ≡ Err e
   pub same : new ≡ old
@@ -61,11 +64,12 @@ WroteFrom old new folder None make s = ⊥
 WroteFrom old new folder (Some bytes) make s = Wrote old new folder (make bytes) s
 
 -- what a failed call of that kind leaves
-abbrev pub KeepsOthersFrom : Files → Files → List ℕ → Option (List ℕ) → (List ℕ → List ℕ) → Type 0
-KeepsOthersFrom old new folder None make = new ≡ old
-KeepsOthersFrom old new folder (Some bytes) make = KeepsOthers old new folder (make bytes)
+abbrev pub KeptOrWroteFrom : Files → Files → List ℕ → Option (List ℕ) → (List ℕ → List ℕ) → Type 0
+KeptOrWroteFrom old new folder None make = new ≡ old
+KeptOrWroteFrom old new folder (Some bytes) make = KeptOrWrote old new folder (make bytes)
 
--- If the error is one of the new bytes, nothing was written. If there was no file, that is the error.
+-- `FileNotFound` is returned only if there was no file, and then no error of the bytes is. If the error is one of the new
+-- bytes, nothing was written.
 abbrev pub IsUnwrittenFrom : Files → Files → Option (List ℕ) → (List ℕ → List ℕ) → StoreError → Type 0
 IsUnwrittenFrom old new found make FileNotFound = found ≡ None
 IsUnwrittenFrom old new None make UnexpectedEof = ⊥
@@ -73,34 +77,14 @@ IsUnwrittenFrom old new None make (MalformedData reason) = ⊥
 IsUnwrittenFrom old new None make e = Unit {0}
 IsUnwrittenFrom old new (Some bytes) make e = IsUnwrittenIfMalformed old new (make bytes) e
 
-abbrev pub with_times : MDBShardFileFooter → ℕ → ℕ → MDBShardFileFooter
-with_times f creation expiry =
-    record {
-      version = f.version;
-      file_info_offset = f.file_info_offset;
-      xorb_info_offset = f.xorb_info_offset;
-      file_lookup_offset = f.file_lookup_offset;
-      file_lookup_num_entry = f.file_lookup_num_entry;
-      xorb_lookup_offset = f.xorb_lookup_offset;
-      xorb_lookup_num_entry = f.xorb_lookup_num_entry;
-      chunk_lookup_offset = f.chunk_lookup_offset;
-      chunk_lookup_num_entry = f.chunk_lookup_num_entry;
-      chunk_hash_hmac_key = f.chunk_hash_hmac_key;
-      shard_creation_timestamp = creation;
-      shard_key_expiry = expiry;
-      stored_bytes_on_disk = f.stored_bytes_on_disk;
-      materialized_bytes = f.materialized_bytes;
-      stored_bytes = f.stored_bytes;
-      footer_offset = f.footer_offset;
-    }
-
 -- the bytes of a shard with this footer, with another creation and expiry in it
 abbrev pub with_expiry : MDBShardFileFooter → ℕ → ℕ → List ℕ → List ℕ
-with_expiry f creation expiry bytes = take f.footer_offset bytes ++ shard_footer_bytes (with_times f creation expiry)
+with_expiry f creation expiry bytes =
+    take f.footer_offset bytes ++ shard_footer_bytes (record f { shard_creation_timestamp = creation; shard_key_expiry = expiry })
 
 -- ---- errors
 
--- the errors of bytes that are not those of a shard
+-- the errors of a malformed header or footer
 abbrev pub IsFormatError : StoreError → Type 0
 IsFormatError UnexpectedEof = Unit {0}
 IsFormatError (MalformedData reason) = Unit {0}

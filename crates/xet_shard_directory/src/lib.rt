@@ -1,6 +1,8 @@
-//! Shard files as values: loaded from their paths, read and queried where they lie.
+//! Shard files as values: loaded from their paths, read and queried where they lie, written, copied, and given another
+//! expiry or a key.
 #![tactic(auto)]
 
+mod keyed;
 mod paths;
 mod queries;
 mod reading;

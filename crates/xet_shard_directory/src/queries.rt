@@ -1,13 +1,12 @@
 //! The parts of a shard file, and queries to it, read from the file where it lies.
 
-ghost use Rattle.std.specs.Prelude.{◌≡◌, true, None, Ok, IfErr, nat_le, nat_lt, Some};
+ghost use Rattle.std.specs.Prelude.{◌≡◌, true, None, Ok, IfErr, Some};
 ghost use Rattle.xet_io.specs.Disk.{File, file_at};
 ghost use Rattle.xet_io.specs.Frame.{Unchanged};
-ghost use Rattle.xet_shard.specs.Queries.{chunk_table, direct_run, file_table, found_file, found_run, query_word, xorb_table};
 ghost use Rattle.xet_shard.specs.Sections.{block_heads_in, chunk_lookup_in, files_in, xorb_lookup_in};
-ghost use Rattle.xet_shard_directory.specs.Answers.{AnswersUnlessDisk, GivesUnlessDisk, IsFileQueryError, IsQueryError, IsReadError, in_file};
+ghost use Rattle.xet_shard_directory.specs.Asked.{AnswersFile, AnswersRun, AnswersRunAt};
+ghost use Rattle.xet_shard_directory.specs.Answers.{GivesUnlessDisk, IsFileQueryError, IsQueryError, IsReadError, in_file};
 ghost use Rattle.xet_shard_format.specs.Lookups.{flat_places};
-ghost use Rattle.xet_shard_format.specs.Records.{first_word};
 
 use crate::reading::{is_there, modified, of_disk};
 use crate::shard_file::MDBShardFile;
@@ -18,8 +17,8 @@ use xet_io::Disk;
 use xet_shard::{FileDataSequenceEntry, MDBFileInfo, XorbChunkSequenceHeader};
 
 impl MDBShardFile {
-    /// The header of each xorb, with its row from the start of the section. `FileNotFound` if there is no file; if the
-    /// section is malformed, the error is that of the first check that fails.
+    /// The header of each xorb, with its row from the start of the section. `FileNotFound` if there is no file; if
+    /// bytes are malformed, the error is that of the first check that fails.
     pub fn read_all_xorb_blocks<D: Disk>(
         &self,
         alloc: Global,
@@ -55,7 +54,8 @@ impl MDBShardFile {
         of_disk(answer, is_short)
     }
 
-    /// The xorb lookup table; an omitted one is made from the xorbs. Errors are those of `read_all_xorb_blocks`.
+    /// The xorb lookup table: for each xorb the first word of its hash, and the row of its header. An omitted table is
+    /// made from the xorbs. Errors are those of `read_all_xorb_blocks`.
     pub fn read_full_xorb_lookup<D: Disk>(
         &self,
         alloc: Global,
@@ -73,7 +73,8 @@ impl MDBShardFile {
         of_disk(answer, is_short)
     }
 
-    /// The chunk lookup table; an omitted one is made from the xorbs. Errors are those of `read_all_xorb_blocks`.
+    /// The chunk lookup table: for each chunk the first word of its hash, the row of its xorb's header, and its index in
+    /// the xorb. An omitted table is made from the xorbs. Errors are those of `read_all_xorb_blocks`.
     pub fn read_all_truncated_hashes<D: Disk>(
         &self,
         alloc: Global,
@@ -100,7 +101,7 @@ impl MDBShardFile {
         disk: &mut D,
         hash: &MerkleHash,
     ) -> Result<Option<MDBFileInfo>, StoreError>
-        ensures present { D.tells disk.old ≡ true → (f : File) → file_at (D.files disk.old) self.now.path ≡ Some f → AnswersUnlessDisk (λ i. nat_lt i.0 (first_word hash.now)) (file_table self.now.shard.metadata f.bytes) result (λ index. found_file self.now.shard.metadata hash.now index f.bytes) }
+        ensures present { D.tells disk.old ≡ true → (f : File) → file_at (D.files disk.old) self.now.path ≡ Some f → AnswersFile self.now.shard hash.now f.bytes result }
         ensures absent { D.tells disk.old ≡ true → file_at (D.files disk.old) self.now.path ≡ None → GivesUnlessDisk (λ found. found) result (Ok None) }
         ensures frame { Unchanged D.files D.tells D.faults disk.old disk.new }
         ensures reason { IfErr result (IsFileQueryError (D.faults disk.old) (D.faults disk.new)) }
@@ -125,7 +126,7 @@ impl MDBShardFile {
         disk: &mut D,
         query: &[MerkleHash],
     ) -> Result<Option<(usize, FileDataSequenceEntry)>, StoreError>
-        ensures present { D.tells disk.old ≡ true → (f : File) → file_at (D.files disk.old) self.now.path ≡ Some f → AnswersUnlessDisk (λ i. nat_le i.0 (query_word self.now.shard.metadata query.now)) (chunk_table self.now.shard.metadata f.bytes) result (λ index. found_run self.now.shard.metadata query.now index f.bytes) }
+        ensures present { D.tells disk.old ≡ true → (f : File) → file_at (D.files disk.old) self.now.path ≡ Some f → AnswersRun self.now.shard query.now f.bytes result }
         ensures absent { D.tells disk.old ≡ true → file_at (D.files disk.old) self.now.path ≡ None → GivesUnlessDisk (λ found. found) result (Ok None) }
         ensures frame { Unchanged D.files D.tells D.faults disk.old disk.new }
         ensures reason { IfErr result (IsQueryError (D.faults disk.old) (D.faults disk.new)) }
@@ -140,8 +141,8 @@ impl MDBShardFile {
         of_disk(answer, is_short)
     }
 
-    /// The run of a query that starts at index `place` of the xorb whose header is in row `row`. None also if there is
-    /// no file. Errors are those of `chunk_hash_dedup_query`.
+    /// The run of a query that starts at index `place` of the xorb whose header is in row `row`, as
+    /// `MDBShardInfo::chunk_hash_dedup_query_direct` finds it. None also if there is no file. Errors are those of `chunk_hash_dedup_query`.
     pub fn chunk_hash_dedup_query_direct<D: Disk>(
         &self,
         alloc: Global,
@@ -150,7 +151,7 @@ impl MDBShardFile {
         row: u32,
         place: u32,
     ) -> Result<Option<(usize, FileDataSequenceEntry)>, StoreError>
-        ensures present { D.tells disk.old ≡ true → (f : File) → file_at (D.files disk.old) self.now.path ≡ Some f → AnswersUnlessDisk (λ i. nat_lt i.1 row) (xorb_table self.now.shard.metadata f.bytes) result (λ index. direct_run self.now.shard.metadata query.now row place index f.bytes) }
+        ensures present { D.tells disk.old ≡ true → (f : File) → file_at (D.files disk.old) self.now.path ≡ Some f → AnswersRunAt self.now.shard query.now row place f.bytes result }
         ensures absent { D.tells disk.old ≡ true → file_at (D.files disk.old) self.now.path ≡ None → GivesUnlessDisk (λ found. found) result (Ok None) }
         ensures frame { Unchanged D.files D.tells D.faults disk.old disk.new }
         ensures reason { IfErr result (IsQueryError (D.faults disk.old) (D.faults disk.new)) }

@@ -5,7 +5,7 @@ ghost use Rattle.xet_codec.specs.Stops.{HasDiskReason};
 ghost use Rattle.xet_io.specs.Disk.{File, file_at};
 ghost use Rattle.xet_io.specs.Frame.{Unchanged};
 ghost use Rattle.xet_shard.specs.Sections.{info_at};
-ghost use Rattle.xet_shard_directory.specs.Answers.{GivesUnlessDisk, IsReadError, in_file};
+ghost use Rattle.xet_shard_directory.specs.Answers.{GivesUnlessDisk, IsFindError, IsReadError, in_file};
 ghost use Rattle.xet_shard_directory.specs.internal.Reading.{of_disk};
 
 use xet_codec::{FileReader, store_error};
@@ -17,7 +17,7 @@ use xet_shard::MDBShardInfo;
 pub(crate) fn modified<D: Disk>(disk: &mut D, path: &str) -> Result<u64, StoreError>
     ensures exact { D.tells disk.old ≡ true → GivesUnlessDisk (λ m. m) result (in_file (file_at (D.files disk.old) path.now) (λ f. Ok f.modified)) }
     ensures frame { Unchanged D.files D.tells D.faults disk.old disk.new }
-    ensures reason { IfErr result (IsReadError (D.faults disk.old) (D.faults disk.new)) }
+    ensures reason { IfErr result (IsFindError (D.faults disk.old) (D.faults disk.new)) }
 {
     match disk.stat(path) {
         Ok(Some((_, modified))) => Ok(modified),

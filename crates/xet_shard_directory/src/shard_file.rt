@@ -5,8 +5,8 @@ ghost use Rattle.xet_codec.specs.Stops.{HasDiskReason};
 ghost use Rattle.xet_io.specs.Disk.{File, file_at};
 ghost use Rattle.xet_io.specs.Frame.{Unchanged};
 ghost use Rattle.xet_shard.specs.Sections.{key_of};
-ghost use Rattle.xet_shard_directory.specs.Answers.{GivesUnlessDisk, IsLoadError, IsReadError, first_bytes, in_file};
-ghost use Rattle.xet_shard_directory.specs.Values.{is_stale, last_part, loaded, placed, stated_length};
+ghost use Rattle.xet_shard_directory.specs.Answers.{GivesUnlessDisk, IsBufferError, IsFindError, IsLoadError, IsReadError, first_bytes, in_file};
+ghost use Rattle.xet_shard_directory.specs.Values.{is_stale, last_part, loaded, placed, shard_value, stated_length};
 ghost use Rattle.xet_shard_file.specs.Names.{IsHash};
 ghost use Rattle.xet_shard_format.specs.Names.{shard_name};
 
@@ -21,21 +21,23 @@ use xet_shard::{MDBShardInfo, parse_shard_filename};
 use xet_shard_file::recall_bytes;
 
 /// A shard file on a disk: its path, and what was read of it.
+///
+/// Every call that takes a disk may also return `OutOfMemory`, or `Io(Disk)`, which is returned only if the disk failed.
 #[derive(Debug, Drop)]
 pub struct MDBShardFile {
-    /// The hash in the file's name.
+    /// The hash of the shard, which names its file.
     pub shard_hash: MerkleHash,
     /// The path of the file.
     pub path: Text,
     /// Its header and its footer.
     pub shard: MDBShardInfo,
-    /// Its modification time, as the disk states it.
+    /// Its modification time, as the disk states it; 0 if it vanished right after it was written.
     pub last_modified_time: u64,
 }
 
 impl MDBShardFile {
-    /// The shard file at this path, with the modification time that the disk states. Its bytes are not read.
-    /// `FileNotFound` if there is no such file.
+    /// The shard file at this path, with the modification time that the disk states. Its bytes are not read: neither the
+    /// hash nor `shard` is compared with them. `FileNotFound` if there is no such file.
     pub fn new<D: Disk>(
         disk: &mut D,
         hash: MerkleHash,
@@ -43,8 +45,9 @@ impl MDBShardFile {
         shard: MDBShardInfo,
     ) -> Result<MDBShardFile, StoreError>
         ensures exact { D.tells disk.old ≡ true → GivesUnlessDisk (λ s. s) result (placed (D.files disk.old) hash (string_bytes path) shard) }
+        ensures value { IfOk result (λ s. s ≡ shard_value hash (string_bytes path) shard s.last_modified_time) }
         ensures frame { Unchanged D.files D.tells D.faults disk.old disk.new }
-        ensures reason { IfErr result (IsReadError (D.faults disk.old) (D.faults disk.new)) }
+        ensures reason { IfErr result (IsFindError (D.faults disk.old) (D.faults disk.new)) }
     {
         let last_modified_time = modified(disk, path.as_str())?;
         Ok(MDBShardFile {
@@ -66,6 +69,7 @@ impl MDBShardFile {
     ) -> Result<MDBShardFile, StoreError>
         ensures named { D.tells disk.old ≡ true → (h : List ℕ) → IsHash h → last_part path.now ≡ shard_name h → GivesUnlessDisk (λ s. s) result (loaded (D.files disk.old) h path.now) }
         ensures unnamed { ((h : List ℕ) → IsHash h → last_part path.now ≢ shard_name h) → result ≡ Err StoreError.BadFilename }
+        ensures value { IfOk result (λ s. IsHash s.shard_hash × (last_part path.now ≡ shard_name s.shard_hash) × (s.path ≡ path.now)) }
         ensures bad { IsErrOf result StoreError.BadFilename → (h : List ℕ) → IsHash h → last_part path.now ≢ shard_name h }
         ensures frame { Unchanged D.files D.tells D.faults disk.old disk.new }
         ensures reason { IfErr result (IsLoadError (D.faults disk.old) (D.faults disk.new)) }
@@ -103,7 +107,7 @@ impl MDBShardFile {
         ensures exact { D.tells disk.old ≡ true → GivesUnlessDisk (λ _. buffer.new.items) result (in_file (file_at (D.files disk.old) self.now.path) (λ f. first_bytes (stated_length self.now.shard) f.bytes)) }
         ensures kept { OnErr result ((buffer.new.items ≡ buffer.old.items) ⊎ (buffer.new.items ≡ [])) }
         ensures frame { Unchanged D.files D.tells D.faults disk.old disk.new }
-        ensures reason { IfErr result (IsReadError (D.faults disk.old) (D.faults disk.new)) }
+        ensures reason { IfErr result (IsBufferError (D.faults disk.old) (D.faults disk.new)) }
     {
         let path = self.path.as_str();
         let length = self.shard.num_bytes();
@@ -131,6 +135,7 @@ fn load<D: Disk>(
     path: &str,
 ) -> Result<MDBShardFile, StoreError>
     ensures exact { D.tells disk.old ≡ true → GivesUnlessDisk (λ s. s) result (loaded (D.files disk.old) hash path.now) }
+    ensures value { IfOk result (λ s. (s.shard_hash ≡ hash) × (s.path ≡ path.now)) }
     ensures frame { Unchanged D.files D.tells D.faults disk.old disk.new }
     ensures reason { IfErr result (IsReadError (D.faults disk.old) (D.faults disk.new)) }
 {
@@ -156,7 +161,7 @@ fn fill<D: Disk>(
     ensures exact { D.tells disk.old ≡ true → (f : File) → file_at (D.files disk.old) path.now ≡ Some f → GivesUnlessDisk (λ _. buffer.new.items) result (first_bytes length f.bytes) }
     ensures kept { OnErr result ((buffer.new.items ≡ buffer.old.items) ⊎ (buffer.new.items ≡ [])) }
     ensures frame { Unchanged D.files D.tells D.faults disk.old disk.new }
-    ensures reason { IfErr result (IsReadError (D.faults disk.old) (D.faults disk.new)) }
+    ensures reason { IfErr result (IsBufferError (D.faults disk.old) (D.faults disk.new)) }
 {
     buffer.clear();
     buffer.resize(length as usize, 0)?;

@@ -1,13 +1,14 @@
 //! Writing of shard files: from a source, as a copy, and with another expiry or key.
 
-ghost use Rattle.std.specs.Prelude.{◌≡◌, ◌<◌, ◌+◌, ◌^◌, [], min, true, length, IfErr, IfOk, OnErr, OnOk, Some};
+ghost use Rattle.std.specs.Prelude.{◌≡◌, ◌<◌, ◌+◌, ◌^◌, ℕ, List, [], min, true, length, Ok, Err, IfErr, IfOk, IsErrOf, OnErr, OnOk, Some};
 ghost use Rattle.xet_codec.specs.Stops.{HasDiskReason};
 ghost use Rattle.xet_io.specs.Disk.{File, bytes_at, file_at};
 ghost use Rattle.xet_io.specs.Frame.{Stays, Unchanged};
 ghost use Rattle.xet_shard.specs.Sections.{info_at};
 ghost use Rattle.xet_shard.specs.Held.{never};
 ghost use Rattle.xet_shard_directory.specs.Answers.{IsReadError};
-ghost use Rattle.xet_shard_directory.specs.Writing.{IsFormatError, IsPutError, IsUnwrittenFrom, IsUnwrittenIfMalformed, IsWriteError, KeepsOthers, KeepsOthersFrom, Wrote, WroteFrom, with_expiry};
+ghost use Rattle.xet_shard_file.specs.Names.{shard_path};
+ghost use Rattle.xet_shard_directory.specs.Writing.{IsFormatError, IsPutError, IsUnwrittenFrom, IsUnwrittenIfMalformed, IsWriteError, KeptOrWrote, KeptOrWroteFrom, Wrote, WroteFrom, digest, path_of, with_expiry};
 
 use crate::shard_file::MDBShardFile;
 use std::alloc::{AllocError, Global};
@@ -27,9 +28,11 @@ const BLOCK: usize = 1 << 20;
 
 impl MDBShardFile {
     /// Reads a source to its end and writes its bytes into a folder, durably, under the name of their digest. Returns
-    /// the new shard file. The caller ensures that fewer than 2^40 bytes are left, if the source can be observed.
+    /// the new shard file. The caller ensures that fewer than 2^40 bytes are left, if the source is observable.
     /// Nothing is written if the header or the footer is malformed; then the error is that of the first check that
-    /// fails. `TooLarge(Input)` if the source has more than 2^40 bytes, and `Io(Input)` if it failed.
+    /// fails. `TooLarge(Input)` if a source that is not observable has more than 2^40 bytes, and `Io(Input)` if
+    /// it failed. After any other error the new file is as it was, or the write has completed; a temporary file may be
+    /// left.
     pub fn write_out_from_reader<D: Disk, R: Source>(
         alloc: Global,
         disk: &mut D,
@@ -39,8 +42,14 @@ impl MDBShardFile {
         requires { R.tells source.old ≡ true → length (R.left source.old) < 2 ^ 40 }
         ensures written { D.tells disk.old ≡ true → R.tells source.old ≡ true → IfOk result (Wrote (D.files disk.old) (D.files disk.new) target.now (R.left source.old)) }
         ensures ended { R.tells source.old ≡ true → OnOk result (R.left source.new ≡ []) }
-        ensures refused { D.tells disk.old ≡ true → R.tells source.old ≡ true → OnErr result (KeepsOthers (D.files disk.old) (D.files disk.new) target.now (R.left source.old)) }
+        ensures refused { D.tells disk.old ≡ true → R.tells source.old ≡ true → OnErr result (KeptOrWrote (D.files disk.old) (D.files disk.new) target.now (R.left source.old)) }
         ensures malformed { D.tells disk.old ≡ true → R.tells source.old ≡ true → IfErr result (IsUnwrittenIfMalformed (D.files disk.old) (D.files disk.new) (R.left source.old)) }
+        ensures format { R.tells source.old ≡ true → IfErr result (λ e. IsFormatError e → info_at (R.left source.old) ≡ Err e) }
+        ensures value { R.tells source.old ≡ true → IfOk result (λ s. (s.shard_hash ≡ digest (R.left source.old)) × (s.path ≡ path_of target.now (R.left source.old)) × (info_at (R.left source.old) ≡ Ok s.shard)) }
+        ensures fits { R.tells source.old ≡ true → IsErrOf result (StoreError.TooLarge What.Input) → ⊥ }
+        // The same for a source that is not observable: some bytes are written.
+        ensures some { D.tells disk.old ≡ true → IfOk result (λ s. (bytes : List ℕ) × Wrote (D.files disk.old) (D.files disk.new) target.now bytes s) }
+        ensures others { D.tells disk.old ≡ true → OnErr result ((bytes : List ℕ) × KeptOrWrote (D.files disk.old) (D.files disk.new) target.now bytes) }
         ensures disk { Stays D.tells D.faults disk.old disk.new }
         ensures source { Stays R.tells R.faults source.old source.new }
         ensures reason { IfErr result (IsWriteError (D.faults disk.old) (D.faults disk.new) (R.faults source.old) (R.faults source.new)) }
@@ -63,8 +72,9 @@ impl MDBShardFile {
         target: &str,
     ) -> Result<MDBShardFile, StoreError>
         ensures written { D.tells disk.old ≡ true → IfOk result (WroteFrom (D.files disk.old) (D.files disk.new) target.now (bytes_at (D.files disk.old) self.now.path) (λ bytes. bytes)) }
-        ensures refused { D.tells disk.old ≡ true → OnErr result (KeepsOthersFrom (D.files disk.old) (D.files disk.new) target.now (bytes_at (D.files disk.old) self.now.path) (λ bytes. bytes)) }
+        ensures refused { D.tells disk.old ≡ true → OnErr result (KeptOrWroteFrom (D.files disk.old) (D.files disk.new) target.now (bytes_at (D.files disk.old) self.now.path) (λ bytes. bytes)) }
         ensures unwritten { D.tells disk.old ≡ true → IfErr result (IsUnwrittenFrom (D.files disk.old) (D.files disk.new) (bytes_at (D.files disk.old) self.now.path) (λ bytes. bytes)) }
+        ensures named { IfOk result (λ s. s.path ≡ shard_path target.now s.shard_hash) }
         ensures frame { Stays D.tells D.faults disk.old disk.new }
         ensures reason { IfErr result (IsReadError (D.faults disk.old) (D.faults disk.new)) }
     {
@@ -75,8 +85,10 @@ impl MDBShardFile {
         }
     }
 
-    /// Writes the shard into a folder with another creation time and expiry, in seconds since the Unix epoch, and
-    /// returns the new shard file. Errors are those of `copy_into_target_directory`.
+    /// Writes the bytes of the shard file before its footer into a folder, and after them the footer of this value with
+    /// another creation time and expiry, in seconds since the Unix epoch. Returns the new shard file. The footer in the
+    /// file is not read. `FileNotFound` if the file is not there. Nothing is written if the header or the new footer is
+    /// malformed; then the error is that of the first check that fails.
     pub fn export_with_specific_expiration<D: Disk>(
         &self,
         alloc: Global,
@@ -86,8 +98,9 @@ impl MDBShardFile {
         creation: u64,
     ) -> Result<MDBShardFile, StoreError>
         ensures written { D.tells disk.old ≡ true → IfOk result (WroteFrom (D.files disk.old) (D.files disk.new) target.now (bytes_at (D.files disk.old) self.now.path) (with_expiry self.now.shard.metadata creation expiration)) }
-        ensures refused { D.tells disk.old ≡ true → OnErr result (KeepsOthersFrom (D.files disk.old) (D.files disk.new) target.now (bytes_at (D.files disk.old) self.now.path) (with_expiry self.now.shard.metadata creation expiration)) }
+        ensures refused { D.tells disk.old ≡ true → OnErr result (KeptOrWroteFrom (D.files disk.old) (D.files disk.new) target.now (bytes_at (D.files disk.old) self.now.path) (with_expiry self.now.shard.metadata creation expiration)) }
         ensures unwritten { D.tells disk.old ≡ true → IfErr result (IsUnwrittenFrom (D.files disk.old) (D.files disk.new) (bytes_at (D.files disk.old) self.now.path) (with_expiry self.now.shard.metadata creation expiration)) }
+        ensures named { IfOk result (λ s. s.path ≡ shard_path target.now s.shard_hash) }
         ensures frame { Stays D.tells D.faults disk.old disk.new }
         ensures reason { IfErr result (IsReadError (D.faults disk.old) (D.faults disk.new)) }
     {
@@ -102,7 +115,7 @@ impl MDBShardFile {
     }
 
     /// Writes the shard into a folder as created at the time `now` and valid for `valid_for` seconds from then; it
-    /// expires at 2^64 - 1 at the latest. Errors are those of `copy_into_target_directory`.
+    /// expires at 2^64 - 1 at the latest. The rest is as in `export_with_specific_expiration`.
     pub fn export_with_expiration<D: Disk>(
         &self,
         alloc: Global,
@@ -112,8 +125,9 @@ impl MDBShardFile {
         now: u64,
     ) -> Result<MDBShardFile, StoreError>
         ensures written { D.tells disk.old ≡ true → IfOk result (WroteFrom (D.files disk.old) (D.files disk.new) target.now (bytes_at (D.files disk.old) self.now.path) (with_expiry self.now.shard.metadata now (min (now + valid_for) never))) }
-        ensures refused { D.tells disk.old ≡ true → OnErr result (KeepsOthersFrom (D.files disk.old) (D.files disk.new) target.now (bytes_at (D.files disk.old) self.now.path) (with_expiry self.now.shard.metadata now (min (now + valid_for) never))) }
+        ensures refused { D.tells disk.old ≡ true → OnErr result (KeptOrWroteFrom (D.files disk.old) (D.files disk.new) target.now (bytes_at (D.files disk.old) self.now.path) (with_expiry self.now.shard.metadata now (min (now + valid_for) never))) }
         ensures unwritten { D.tells disk.old ≡ true → IfErr result (IsUnwrittenFrom (D.files disk.old) (D.files disk.new) (bytes_at (D.files disk.old) self.now.path) (with_expiry self.now.shard.metadata now (min (now + valid_for) never))) }
+        ensures named { IfOk result (λ s. s.path ≡ shard_path target.now s.shard_hash) }
         ensures frame { Stays D.tells D.faults disk.old disk.new }
         ensures reason { IfErr result (IsReadError (D.faults disk.old) (D.faults disk.new)) }
     {
@@ -123,15 +137,17 @@ impl MDBShardFile {
 }
 
 /// Writes the bytes of a shard into a folder, durably, under the name of their digest.
-fn write_shard_file<D: Disk>(
+pub(crate) fn write_shard_file<D: Disk>(
     alloc: Global,
     disk: &mut D,
     target: &str,
     bytes: &[u8],
 ) -> Result<MDBShardFile, StoreError>
     ensures written { D.tells disk.old ≡ true → IfOk result (Wrote (D.files disk.old) (D.files disk.new) target.now bytes.now) }
-    ensures refused { D.tells disk.old ≡ true → OnErr result (KeepsOthers (D.files disk.old) (D.files disk.new) target.now bytes.now) }
+    ensures refused { D.tells disk.old ≡ true → OnErr result (KeptOrWrote (D.files disk.old) (D.files disk.new) target.now bytes.now) }
     ensures malformed { D.tells disk.old ≡ true → IfErr result (IsUnwrittenIfMalformed (D.files disk.old) (D.files disk.new) bytes.now) }
+    ensures format { IfErr result (λ e. IsFormatError e → info_at bytes.now ≡ Err e) }
+    ensures value { IfOk result (λ s. (s.shard_hash ≡ digest bytes.now) × (s.path ≡ path_of target.now bytes.now) × (info_at bytes.now ≡ Ok s.shard)) }
     ensures frame { Stays D.tells D.faults disk.old disk.new }
     ensures reason { IfErr result (IsPutError (D.faults disk.old) (D.faults disk.new)) }
 {

@@ -3,7 +3,7 @@
 use crate::tests::abc_tests::shard_of_abc;
 use std::alloc::Global;
 use std::test::Fail;
-use xet_hash::{StoreError, compute_data_hash, file_hash};
+use xet_hash::{HMACKey, StoreError, compute_data_hash, file_hash};
 use xet_io::{Disk, MemoryDisk, SliceSource};
 use xet_shard_directory::MDBShardFile;
 
@@ -158,5 +158,36 @@ fn is_copied_with_other_times(rt: HostRuntime) -> Result<(), Fail> {
         copied(alloc, &mut disk, &shard, &long)?,
         (false, 5, u64::MAX, found)
     );
+    Ok(())
+}
+
+/// The shard under the key of these bytes, as it is exported with or without its lookup tables.
+fn keyed(
+    alloc: Global,
+    disk: &mut MemoryDisk,
+    shard: &MDBShardFile,
+    lookups: bool,
+) -> Result<MDBShardFile, StoreError> {
+    let none = HMACKey::default();
+    let key = compute_data_hash(b"key");
+    if key == none || shard.shard.metadata.chunk_hash_hmac_key != none {
+        return Err(StoreError::HashMismatch);
+    }
+    shard.export_as_keyed_shard(alloc, disk, "b", key, 10, true, lookups, lookups, 100)
+}
+
+#[test]
+fn is_exported_under_a_key(rt: HostRuntime) -> Result<(), Fail> {
+    let alloc = rt.alloc();
+    let mut disk = MemoryDisk::new(alloc);
+    let shard = written(alloc, &mut disk)?;
+    for lookups in [true, false] {
+        let export = keyed(alloc, &mut disk, &shard, lookups)?;
+        assert_eq!(rt; export.chunk_hmac_key().is_some(), true);
+        assert_eq!(rt;
+            copied(alloc, &mut disk, &shard, &export)?,
+            (false, 100, 110, [true; 3])
+        );
+    }
     Ok(())
 }
