@@ -1,3 +1,4 @@
+mod ErrorKinds
 mod LastPart
 mod ThroughDisk
 mod Written

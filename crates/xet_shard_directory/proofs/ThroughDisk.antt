@@ -25,61 +25,22 @@ gives_of_disk view short (Err (error.Io place.Disk)) read h = tt
 gives_of_disk view short (Err (error.Io place.Output)) read h = absurd (subst IsNoInput h tt)
 gives_of_disk view short (Err (error.Io (place.Source i))) read h = absurd (subst IsNoInput h tt)
 gives_of_disk view short (Err error.OutOfMemory) read h = tt
-gives_of_disk view short (Err error.UnexpectedEof) read h = h
-gives_of_disk view short (Err (error.TooLarge w)) read h = h
-gives_of_disk view short (Err error.FileNotFound) read h = h
-gives_of_disk view short (Err error.InvalidRange) read h = h
-gives_of_disk view short (Err error.InvalidArguments) read h = h
-gives_of_disk view short (Err (error.MalformedData r)) read h = h
-gives_of_disk view short (Err error.ChunkHeaderParse) read h = h
-gives_of_disk view short (Err error.HashMismatch) read h = h
-gives_of_disk view short (Err (error.InvalidShard s r)) read h = h
-gives_of_disk view short (Err error.TruncatedHashCollision) read h = h
-gives_of_disk view short (Err error.BadFilename) read h = h
-gives_of_disk view short (Err (error.CompressionError n)) read h = h
-gives_of_disk view short (Err (error.BadLimits f)) read h = h
+gives_of_disk view short (Err e) read h = h
 
 -- the same where nothing is allocated
 pub gives_of_equal : {X : Type 0} (answer read : Result X StoreError) → IsUnlessFault answer read → GivesUnlessFault (λ x. x) answer read
 gives_of_equal (Ok x) read h = sym h
 gives_of_equal (Err (error.Io p)) read h = h
 gives_of_equal (Err error.OutOfMemory) read h = tt
-gives_of_equal (Err error.UnexpectedEof) read h = sym h
-gives_of_equal (Err (error.TooLarge w)) read h = sym h
-gives_of_equal (Err error.FileNotFound) read h = sym h
-gives_of_equal (Err error.InvalidRange) read h = sym h
-gives_of_equal (Err error.InvalidArguments) read h = sym h
-gives_of_equal (Err (error.MalformedData r)) read h = sym h
-gives_of_equal (Err error.ChunkHeaderParse) read h = sym h
-gives_of_equal (Err error.HashMismatch) read h = sym h
-gives_of_equal (Err (error.InvalidShard s r)) read h = sym h
-gives_of_equal (Err error.TruncatedHashCollision) read h = sym h
-gives_of_equal (Err error.BadFilename) read h = sym h
-gives_of_equal (Err (error.CompressionError n)) read h = sym h
-gives_of_equal (Err (error.BadLimits f)) read h = sym h
+gives_of_equal (Err e) read h = sym h
 
 -- a query, from its answer at an index
 answers_from : {X A : Type 0} (passes : X → Bool) (items : List X) (result : Result A StoreError) (answer : ℕ → Result A StoreError)
     → (index : ℕ) × Bisects passes items index × GivesUnlessDisk (λ x. x) result (answer index) → AnswersUnlessDisk passes items result answer
 answers_from passes items (Ok x) answer h = h
 answers_from passes items (Err (error.Io place.Disk)) answer h = tt
-answers_from passes items (Err (error.Io place.Input)) answer h = h
-answers_from passes items (Err (error.Io place.Output)) answer h = h
-answers_from passes items (Err (error.Io (place.Source i))) answer h = h
 answers_from passes items (Err error.OutOfMemory) answer h = tt
-answers_from passes items (Err error.UnexpectedEof) answer h = h
-answers_from passes items (Err (error.TooLarge w)) answer h = h
-answers_from passes items (Err error.FileNotFound) answer h = h
-answers_from passes items (Err error.InvalidRange) answer h = h
-answers_from passes items (Err error.InvalidArguments) answer h = h
-answers_from passes items (Err (error.MalformedData r)) answer h = h
-answers_from passes items (Err error.ChunkHeaderParse) answer h = h
-answers_from passes items (Err error.HashMismatch) answer h = h
-answers_from passes items (Err (error.InvalidShard s r)) answer h = h
-answers_from passes items (Err error.TruncatedHashCollision) answer h = h
-answers_from passes items (Err error.BadFilename) answer h = h
-answers_from passes items (Err (error.CompressionError n)) answer h = h
-answers_from passes items (Err (error.BadLimits f)) answer h = h
+answers_from passes items (Err e) answer h = h
 
 -- a query that reads from the reader, in terms of the disk
 pub answers_of_disk : {X A : Type 0} (passes : X → Bool) (items : List X) (short : Bool) (answer : Result A StoreError) (read : ℕ → Result A StoreError)

@@ -1,6 +1,7 @@
 pub mod Answers
 pub mod Asked
 pub mod Exporting
+pub mod Integrity
 pub mod Values
 pub mod Writing
 pub mod internal

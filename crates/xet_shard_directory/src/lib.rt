@@ -1,7 +1,8 @@
-//! Shard files as values: loaded from their paths, read and queried where they lie, written, copied, and given another
-//! expiry or a key.
+//! Shard files as values: loaded from their paths, verified, read and queried where they lie, written, copied, and given
+//! another expiry or a key.
 #![tactic(auto)]
 
+mod integrity;
 mod keyed;
 mod paths;
 mod queries;

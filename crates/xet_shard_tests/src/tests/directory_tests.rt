@@ -3,7 +3,7 @@
 use crate::tests::abc_tests::shard_of_abc;
 use std::alloc::Global;
 use std::test::Fail;
-use xet_hash::{HMACKey, StoreError, compute_data_hash, file_hash};
+use xet_hash::{HMACKey, Reason, StoreError, compute_data_hash, file_hash};
 use xet_io::{Disk, MemoryDisk, SliceSource};
 use xet_shard_directory::MDBShardFile;
 
@@ -189,5 +189,37 @@ fn is_exported_under_a_key(rt: HostRuntime) -> Result<(), Fail> {
             (false, 100, 110, [true; 3])
         );
     }
+    Ok(())
+}
+
+/// The first check that fails of the file that was moved to another name, and then given other bytes.
+fn failing(
+    alloc: Global,
+    disk: &mut MemoryDisk,
+    shard: &MDBShardFile,
+) -> Result<[Option<Reason>; 2], StoreError> {
+    let other = "a/other.mdb";
+    let _ = disk.rename(shard.path.as_str(), other);
+    let path = String::from_str(alloc, other)?;
+    let moved = MDBShardFile::new(disk, shard.shard_hash, path, shard.shard)?;
+    let named = moved.verify_shard_integrity(alloc, disk)?;
+    let _ = disk.write(other, b"abc");
+    Ok([named, moved.verify_shard_integrity(alloc, disk)?])
+}
+
+#[test]
+fn is_verified(rt: HostRuntime) -> Result<(), Fail> {
+    let alloc = rt.alloc();
+    let mut disk = MemoryDisk::new(alloc);
+    let shard = written(alloc, &mut disk)?;
+    assert_eq!(rt; shard.verify_shard_integrity(alloc, &mut disk)?, None);
+    assert_eq!(rt;
+        shard.verify_shard_integrity_debug_only(alloc, &mut disk)?,
+        None
+    );
+    assert_eq!(rt;
+        failing(alloc, &mut disk, &shard)?,
+        [Some(Reason::ShardName), Some(Reason::ShardHash)]
+    );
     Ok(())
 }
