@@ -77,46 +77,93 @@ fn bytes_of(
     Ok(buffer.len())
 }
 
+/// Drops a disk.
+fn release(disk: MemoryDisk) {
+    let _ = &disk;
+}
+
+/// What is seen of a shard file: counts, whether its chunk and its file are found, its length, whether it is loaded as it
+/// was written, and whether it is stale.
+type Seen = ([usize; 4], [bool; 3], usize, bool, bool);
+
+fn seen(alloc: Global, disk: &mut MemoryDisk, shard: &MDBShardFile) -> Result<Seen, StoreError> {
+    Ok((
+        counts(alloc, disk, shard)?,
+        finds(alloc, disk, shard)?,
+        bytes_of(alloc, disk, shard)?,
+        is_loaded(alloc, disk, shard)?,
+        shard.purge_if_needed(disk)?,
+    ))
+}
+
+/// Whether the shard of `abc` has its path, and what is seen of it.
+fn written_and_seen(alloc: Global, disk: &mut MemoryDisk) -> Result<(bool, Seen), StoreError> {
+    let shard = written(alloc, disk)?;
+    let path = "a/8285f56118ed97b102aafe3e2cc404ca510a016dde7acaa2c16d8c935fb38ae3.mdb";
+    Ok((shard.path.as_str() == path, seen(alloc, disk, &shard)?))
+}
+
 #[test]
 fn is_written_loaded_and_queried(rt: HostRuntime) -> Result<(), Fail> {
     let alloc = rt.alloc();
     let mut disk = MemoryDisk::new(alloc);
-    let shard = written(alloc, &mut disk)?;
-    assert_eq!(rt;
-        shard.path.as_str(),
-        "a/8285f56118ed97b102aafe3e2cc404ca510a016dde7acaa2c16d8c935fb38ae3.mdb"
-    );
-    assert_eq!(rt; is_loaded(alloc, &mut disk, &shard)?, true);
-    assert_eq!(rt; counts(alloc, &mut disk, &shard)?, [1; 4]);
-    assert_eq!(rt; finds(alloc, &mut disk, &shard)?, [true; 3]);
-    assert_eq!(rt; bytes_of(alloc, &mut disk, &shard)?, 672);
-    assert_eq!(rt; shard.purge_if_needed(&mut disk)?, false);
+    let answer = written_and_seen(alloc, &mut disk);
+    release(disk);
+    assert_eq!(rt; answer?, (true, ([1; 4], [true; 3], 672, true, false)));
     Ok(())
+}
+
+/// What is seen of an absent shard file: three errors, what is found, and whether it is stale.
+type Missed = ([Option<StoreError>; 3], [bool; 3], bool);
+
+fn missed(
+    alloc: Global,
+    disk: &mut MemoryDisk,
+    shard: &MDBShardFile,
+) -> Result<Missed, StoreError> {
+    let errors = [
+        counts(alloc, disk, shard).err(),
+        is_loaded(alloc, disk, shard).err(),
+        bytes_of(alloc, disk, shard).err(),
+    ];
+    let found = finds(alloc, disk, shard)?;
+    Ok((errors, found, shard.purge_if_needed(disk)?))
+}
+
+/// What is seen of the shard of `abc` once its file is removed.
+fn removed_and_missed(alloc: Global, disk: &mut MemoryDisk) -> Result<Missed, StoreError> {
+    let shard = written(alloc, disk)?;
+    let _ = disk.remove(shard.path.as_str());
+    missed(alloc, disk, &shard)
 }
 
 #[test]
 fn is_gone(rt: HostRuntime) -> Result<(), Fail> {
     let alloc = rt.alloc();
     let mut disk = MemoryDisk::new(alloc);
-    let shard = written(alloc, &mut disk)?;
-    let _ = disk.remove(shard.path.as_str());
+    let answer = removed_and_missed(alloc, &mut disk);
+    release(disk);
     let missing = Some(StoreError::FileNotFound);
-    assert_eq!(rt; counts(alloc, &mut disk, &shard).err(), missing);
-    assert_eq!(rt; is_loaded(alloc, &mut disk, &shard).err(), missing);
-    assert_eq!(rt; bytes_of(alloc, &mut disk, &shard).err(), missing);
-    assert_eq!(rt; finds(alloc, &mut disk, &shard)?, [false; 3]);
-    assert_eq!(rt; shard.purge_if_needed(&mut disk)?, true);
+    assert_eq!(rt; answer?, ([missing; 3], [false; 3], true));
     Ok(())
+}
+
+/// The errors for paths that do not end in the name of a shard.
+fn refused(alloc: Global, disk: &mut MemoryDisk) -> [Option<StoreError>; 3] {
+    [
+        MDBShardFile::load_from_file(alloc, disk, "x.txt").err(),
+        MDBShardFile::load_from_file(alloc, disk, "a/b.mdb").err(),
+        MDBShardFile::load_from_file(alloc, disk, "").err(),
+    ]
 }
 
 #[test]
 fn name_is_no_shards(rt: HostRuntime) -> Result<(), Fail> {
     let alloc = rt.alloc();
     let mut disk = MemoryDisk::new(alloc);
-    for path in ["x.txt", "a/x.txt", "a/b.mdb", ""] {
-        let loaded = MDBShardFile::load_from_file(alloc, &mut disk, path);
-        assert_eq!(rt; loaded.err(), Some(StoreError::BadFilename));
-    }
+    let answer = refused(alloc, &mut disk);
+    release(disk);
+    assert_eq!(rt; answer, [Some(StoreError::BadFilename); 3]);
     Ok(())
 }
 
@@ -137,27 +184,30 @@ fn copied(
     ))
 }
 
+/// A copy, and two exports with other times.
+fn copies(alloc: Global, disk: &mut MemoryDisk) -> Result<[Copied; 3], StoreError> {
+    let shard = written(alloc, disk)?;
+    let same = shard.copy_into_target_directory(alloc, disk, "b")?;
+    let same = copied(alloc, disk, &shard, &same)?;
+    let timed = shard.export_with_specific_expiration(alloc, disk, "b", 100, 50)?;
+    let timed = copied(alloc, disk, &shard, &timed)?;
+    let long = shard.export_with_expiration(alloc, disk, "b", u64::MAX, 5)?;
+    Ok([same, timed, copied(alloc, disk, &shard, &long)?])
+}
+
 #[test]
 fn is_copied_with_other_times(rt: HostRuntime) -> Result<(), Fail> {
     let alloc = rt.alloc();
     let mut disk = MemoryDisk::new(alloc);
-    let shard = written(alloc, &mut disk)?;
-    let same = shard.copy_into_target_directory(alloc, &mut disk, "b")?;
+    let answer = copies(alloc, &mut disk);
+    release(disk);
     let found = [true; 3];
-    assert_eq!(rt;
-        copied(alloc, &mut disk, &shard, &same)?,
-        (true, 0, u64::MAX, found)
-    );
-    let timed = shard.export_with_specific_expiration(alloc, &mut disk, "b", 100, 50)?;
-    assert_eq!(rt;
-        copied(alloc, &mut disk, &shard, &timed)?,
-        (false, 50, 100, found)
-    );
-    let long = shard.export_with_expiration(alloc, &mut disk, "b", u64::MAX, 5)?;
-    assert_eq!(rt;
-        copied(alloc, &mut disk, &shard, &long)?,
-        (false, 5, u64::MAX, found)
-    );
+    let rows = [
+        (true, 0, u64::MAX, found),
+        (false, 50, 100, found),
+        (false, 5, u64::MAX, found),
+    ];
+    assert_eq!(rt; answer?, rows);
     Ok(())
 }
 
@@ -176,19 +226,22 @@ fn keyed(
     shard.export_as_keyed_shard(alloc, disk, "b", key, 10, true, lookups, lookups, 100)
 }
 
+/// The exports under a key, with and without lookup tables.
+fn exports(alloc: Global, disk: &mut MemoryDisk) -> Result<[Copied; 2], StoreError> {
+    let shard = written(alloc, disk)?;
+    let whole = keyed(alloc, disk, &shard, true)?;
+    let whole = copied(alloc, disk, &shard, &whole)?;
+    let bare = keyed(alloc, disk, &shard, false)?;
+    Ok([whole, copied(alloc, disk, &shard, &bare)?])
+}
+
 #[test]
 fn is_exported_under_a_key(rt: HostRuntime) -> Result<(), Fail> {
     let alloc = rt.alloc();
     let mut disk = MemoryDisk::new(alloc);
-    let shard = written(alloc, &mut disk)?;
-    for lookups in [true, false] {
-        let export = keyed(alloc, &mut disk, &shard, lookups)?;
-        assert_eq!(rt; export.chunk_hmac_key().is_some(), true);
-        assert_eq!(rt;
-            copied(alloc, &mut disk, &shard, &export)?,
-            (false, 100, 110, [true; 3])
-        );
-    }
+    let answer = exports(alloc, &mut disk);
+    release(disk);
+    assert_eq!(rt; answer?, [(false, 100, 110, [true; 3]); 2]);
     Ok(())
 }
 
@@ -207,19 +260,22 @@ fn failing(
     Ok([named, moved.verify_shard_integrity(alloc, disk)?])
 }
 
+/// The first check that fails of a shard file as it was written, moved, and given other bytes.
+fn verified(alloc: Global, disk: &mut MemoryDisk) -> Result<[Option<Reason>; 4], StoreError> {
+    let shard = written(alloc, disk)?;
+    let whole = shard.verify_shard_integrity(alloc, disk)?;
+    let again = shard.verify_shard_integrity_debug_only(alloc, disk)?;
+    let [named, hashed] = failing(alloc, disk, &shard)?;
+    Ok([whole, again, named, hashed])
+}
+
 #[test]
 fn is_verified(rt: HostRuntime) -> Result<(), Fail> {
     let alloc = rt.alloc();
     let mut disk = MemoryDisk::new(alloc);
-    let shard = written(alloc, &mut disk)?;
-    assert_eq!(rt; shard.verify_shard_integrity(alloc, &mut disk)?, None);
-    assert_eq!(rt;
-        shard.verify_shard_integrity_debug_only(alloc, &mut disk)?,
-        None
-    );
-    assert_eq!(rt;
-        failing(alloc, &mut disk, &shard)?,
-        [Some(Reason::ShardName), Some(Reason::ShardHash)]
-    );
+    let answer = verified(alloc, &mut disk);
+    release(disk);
+    let named = Some(Reason::ShardName);
+    assert_eq!(rt; answer?, [None, None, named, Some(Reason::ShardHash)]);
     Ok(())
 }
