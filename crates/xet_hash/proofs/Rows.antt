@@ -6,23 +6,13 @@ use Rattle.std.proofs.Math.Nat.{add-mul, mul-add, mul_assoc}
 use Rattle.std.proofs.lemmas.Nat.{mul-le}
 use Rattle.std.proofs.Math.Seq.{take-add}
 use Rattle.xet_hash.proofs.Tree.{halves, merged, subtree_chunk, subtree_fits}
-use Rattle.xet_hash.proofs.Vectors.{below_eight, slice_of_slice}
+use Rattle.xet_hash.proofs.Vectors.{slice_of_slice}
 use Rattle.xet_hash.specs.internal.Lanes.{HasChunkValues, lane}
 use Rattle.xet_hash.specs.Blake3.{chunk_value, parent_value, subtree, subtree_len, tree}
 
 -- x is the chaining value of the full subtree of a level that begins at byte o of b, with chunk number i
 abbrev pub IsSubtreeValue : List ℕ → ℕ → List ℕ → ℕ → ℕ → ℕ → List ℕ → Type 0
 IsSubtreeValue key flags b level i o x = x ≡ subtree key flags 0 i (take (subtree_len level) (drop o b)) level
-
--- from a prefix to all bytes
-pub in_prefix : (key : List ℕ) (flags : ℕ) (b part : List ℕ) (n level i o : ℕ) (x : List ℕ) → part ≡ take n b → o + subtree_len level ≤ n
-    → IsSubtreeValue key flags part level i o x → IsSubtreeValue key flags b level i o x
-in_prefix key flags b part n level i o x ep fits s =
-    s ∙ ap (λ (ys : List ℕ). subtree key flags 0 i ys level)
-    (ap (λ (ys : List ℕ). take (subtree_len level) (drop o ys)) ep ∙ slice_of_slice b 0 o (subtree_len level) n fits ∙ rw zero_plus refl)
-  where
-    zero_plus : 0 + o ≡ o
-    zero_plus = omega arith
 
 -- from the bytes after the first n to all bytes
 pub in_rest : (key : List ℕ) (flags : ℕ) (b part : List ℕ) (n level i o : ℕ) (x : List ℕ) → part ≡ drop n b
@@ -49,10 +39,19 @@ parent_of_pair key flags b level below i o i' o' j k x l r el ei eo ej ek fits s
     let there : IsSubtreeValue key flags b level i o x = joined ∙ rw (whole, next) refl in
     there ∙ rw (ej, ek) refl
 
--- the lanes of v are the values of n consecutive subtrees of a level, the first of which begins at byte o of b, with chunk number i
-abbrev pub AreSubtreeValues : List ℕ → ℕ → List ℕ → ℕ → ℕ → ℕ → ℕ → List (List ℕ) → Type 0
-AreSubtreeValues key flags b level i o n v =
-    (j : ℕ) → j < n → IsSubtreeValue key flags b level (i + j * 2 ^ level) (o + j * subtree_len level) (lane j v)
+-- two consecutive subtrees, the second of which lies in the bytes after the first n, have a parent
+pub parent_in_rest : (key : List ℕ) (flags : ℕ) (b back : List ℕ) (level below i o i' n : ℕ) (x l r : List ℕ) → level ≡ below + 1
+    → back ≡ drop n b → n ≡ subtree_len below → i' ≡ i + 2 ^ below → o + 2 * subtree_len below ≤ length b
+    → IsSubtreeValue key flags b below i o l → IsSubtreeValue key flags back below i' o r → x ≡ parent_value key flags 0 l r
+    → IsSubtreeValue key flags b level i o x
+parent_in_rest key flags b back level below i o i' n x l r el eb en ei fits sl sr ex =
+    parent_of_pair key flags b level below i o i' (n + o) i o x l r el ei (omega arith) refl refl fits sl
+    (in_rest key flags b back n below i' o r eb sr) ex
+
+-- the lanes of v are the values of n consecutive subtrees of a level, the first of which begins with the bytes, with chunk number i
+abbrev pub AreSubtreeValues : List ℕ → ℕ → List ℕ → ℕ → ℕ → ℕ → List (List ℕ) → Type 0
+AreSubtreeValues key flags b level i n v =
+    (j : ℕ) → j < n → IsSubtreeValue key flags b level (i + j * 2 ^ level) (j * subtree_len level) (lane j v)
 
 -- place j of a level whose pieces are twice as long as x
 even_place : (j x y : ℕ) → y ≡ x + x → j * y ≡ 2 * j * x
@@ -61,12 +60,12 @@ even_place j x y e = omega (arith, ap (λ (z : ℕ). j * z) e, mul-add j x x, mu
 odd_place : (j x : ℕ) → (2 * j + 1) * x ≡ 2 * j * x + x
 odd_place j x = omega (arith, add-mul (2 * j) 1 x)
 
--- the parents of 2 * n consecutive subtrees, in the lanes from lane `at` on
-pub parents_of_row : (key : List ℕ) (flags : ℕ) (b : List ℕ) (level below i o n at : ℕ) (v r : List (List ℕ)) → level ≡ below + 1
-    → o + 2 * n * subtree_len below ≤ length b → AreSubtreeValues key flags b below i o (2 * n) v
-    → ((j : ℕ) → j < n → lane (at + j) r ≡ parent_value key flags 0 (lane (2 * j) v) (lane (2 * j + 1) v))
-    → (j : ℕ) → j < n → IsSubtreeValue key flags b level (i + j * 2 ^ level) (o + j * subtree_len level) (lane (at + j) r)
-parents_of_row key flags b level below i o n at v r el fits values parents j h =
+-- the parents of 2 * n consecutive subtrees
+pub parents_of_pairs : (key : List ℕ) (flags : ℕ) (b : List ℕ) (level below i n : ℕ) (v r : List (List ℕ)) → level ≡ below + 1
+    → 2 * n * subtree_len below ≤ length b → AreSubtreeValues key flags b below i (2 * n) v
+    → ((j : ℕ) → j < n → lane j r ≡ parent_value key flags 0 (lane (2 * j) v) (lane (2 * j + 1) v))
+    → AreSubtreeValues key flags b level i n r
+parents_of_pairs key flags b level below i n v r el fits values parents j h =
     let c : ℕ = 2 ^ below in
     let s : ℕ = subtree_len below in
     let two = halves level below el in
@@ -77,32 +76,9 @@ parents_of_row key flags b level below i o n at v r el fits values parents j h =
     let odd_length = odd_place j s in
     let pair : (2 * j + 2) * s ≡ 2 * j * s + 2 * s = add-mul (2 * j) 2 s in
     let within : (2 * j + 2) * s ≤ 2 * n * s = mul-le (2 * j + 2) s (2 * n) s (omega arith) (omega arith) in
-    parent_of_pair key flags b level below (i + 2 * j * c) (o + 2 * j * s) (i + (2 * j + 1) * c) (o + (2 * j + 1) * s)
-    (i + j * 2 ^ level) (o + j * subtree_len level) _ _ _ el (omega arith) (omega arith) (omega arith) (omega arith) (omega arith)
+    parent_of_pair key flags b level below (i + 2 * j * c) (2 * j * s) (i + (2 * j + 1) * c) ((2 * j + 1) * s)
+    (i + j * 2 ^ level) (j * subtree_len level) _ _ _ el (omega arith) (omega arith) (omega arith) (omega arith) (omega arith)
     (values (2 * j) (omega arith)) (values (2 * j + 1) (omega arith)) (parents j h)
-
--- a row of parents: those of a row in its first four lanes, and those of the next row in the others
-pub halves_of_row : (key : List ℕ) (flags : ℕ) (b : List ℕ) (level below i : ℕ) (left right r : List (List ℕ)) → level ≡ below + 1
-    → 16 * subtree_len below ≤ length b → AreSubtreeValues key flags b below i 0 8 left
-    → AreSubtreeValues key flags b below (i + 8 * 2 ^ below) (8 * subtree_len below) 8 right
-    → ((j : ℕ) → j < 4 → lane j r ≡ parent_value key flags 0 (lane (2 * j) left) (lane (2 * j + 1) left))
-    → ((j : ℕ) → j < 4 → lane (4 + j) r ≡ parent_value key flags 0 (lane (2 * j) right) (lane (2 * j + 1) right))
-    → (j : ℕ) → j < 8 → IsSubtreeValue key flags b level (i + j * 2 ^ level) (j * subtree_len level) (lane j r)
-halves_of_row key flags b level below i left right r el fits values values' parents parents' =
-    let s : ℕ = subtree_len below in
-    let two = halves level below el in
-    let zero_place : (n : ℕ) → 0 + n ≡ n = λ n. omega arith in
-    let low : (j : ℕ) → j < 4 → IsSubtreeValue key flags b level (i + j * 2 ^ level) (j * subtree_len level) (lane j r) =
-    λ j h. rw (zero_place j, zero_place (j * subtree_len level)) at (parents_of_row key flags b level below i 0 4 0 left r el (omega arith) values
-    (λ k few. rw (zero_place k) (parents k few)) j h) in
-    let high : (j : ℕ) → j < 4 → IsSubtreeValue key flags b level (i + 8 * 2 ^ below + j * 2 ^ level) (8 * s + j * subtree_len level) (lane (4 + j) r) =
-    parents_of_row key flags b level below (i + 8 * 2 ^ below) (8 * s) 4 4 right r el (omega arith) values' parents' in
-    let number : (j : ℕ) → i + 8 * 2 ^ below + j * 2 ^ level ≡ i + (4 + j) * 2 ^ level = λ j. omega (arith, two, add-mul 4 j (2 ^ level)) in
-    let offset : (j : ℕ) → 8 * s + j * subtree_len level ≡ (4 + j) * subtree_len level = λ j. omega (arith, two, add-mul 4 j (subtree_len level)) in
-    let last : (j : ℕ) → j < 4 → IsSubtreeValue key flags b level (i + (4 + j) * 2 ^ level) ((4 + j) * subtree_len level) (lane (4 + j) r) =
-    λ j h. rw (number j, offset j) at (high j h) in
-    below_eight _ (low 0 (omega arith)) (low 1 (omega arith)) (low 2 (omega arith)) (low 3 (omega arith))
-    (last 0 (omega arith)) (last 1 (omega arith)) (last 2 (omega arith)) (last 3 (omega arith))
 
 -- a subtree three levels higher has eight times as many chunks
 pub eights : (level below : ℕ) → level ≡ below + 3 → 2 ^ level ≡ 8 * 2 ^ below
@@ -110,22 +86,15 @@ eights level below e =
     omega (arith, halves level (below + 2) (omega arith), halves (below + 2) (below + 1) (omega arith), halves (below + 1) below refl)
 
 -- a chunk is a subtree of level 0
-pub chunk_is_subtree : (key : List ℕ) (flags : ℕ) (b : List ℕ) (level i j : ℕ) (x : List ℕ) → level ≡ 0
-    → x ≡ chunk_value key flags 0 (i + j) (take 1024 (drop (1024 * j) b)) → IsSubtreeValue key flags b level (i + j * 2 ^ level) (j * subtree_len level) x
-chunk_is_subtree key flags b level i j x el ex =
-    let place : j * 1024 ≡ 1024 * j = omega arith in
-    let number : i + j * 1 ≡ i + j = omega arith in
-    rw el (rw (number, place) (ex ∙ sym (subtree_chunk key flags 0 (i + j) (take 1024 (drop (1024 * j) b)) 0 refl)))
+pub chunk_is_subtree : (key : List ℕ) (flags : ℕ) (b : List ℕ) (level i o : ℕ) (x : List ℕ) → level ≡ 0
+    → x ≡ chunk_value key flags 0 i (take 1024 (drop o b)) → IsSubtreeValue key flags b level i o x
+chunk_is_subtree key flags b level i o x el ex =
+    rw el (ex ∙ sym (subtree_chunk key flags 0 i (take 1024 (drop o b)) 0 refl))
 
 -- the subtree of all bytes
 pub whole_is_subtree : (key : List ℕ) (flags : ℕ) (b : List ℕ) (level i : ℕ) (x : List ℕ) → length b ≡ subtree_len level
     → IsSubtreeValue key flags b level i 0 x → x ≡ subtree key flags 0 i b level
 whole_is_subtree key flags b level i x len s = s ∙ ap (λ (ys : List ℕ). subtree key flags 0 i ys level) (take_all (subtree_len level) b (omega arith))
-
--- each of eight equal pieces ends within their total length
-pub within : (k n : ℕ) → k < 8 → k * n + n ≤ 8 * n
-within k n h = below_eight (λ k. k * n + n ≤ 8 * n) (omega arith) (omega arith) (omega arith) (omega arith)
-    (omega arith) (omega arith) (omega arith) (omega arith) k h
 
 -- the tree of a message is its subtree at any level with room for it
 pub tree_at : (key : List ℕ) (flags last i : ℕ) (b : List ℕ) (level : ℕ) → level ≤ 54 → length b ≤ subtree_len level
@@ -171,12 +140,14 @@ value_of_chunk v at key flags i b len holds =
 
 -- the full chunks of bytes that were padded
 pub values_of_padded : (v : List (List ℕ)) (key : List ℕ) (flags i : ℕ) (b padded : List ℕ) → length b ≤ 8192 → b ≡ take (length b) padded
-    → ((j : ℕ) → j < 8 → lane j v ≡ chunk_value key flags 0 (i + j) (take 1024 (drop (1024 * j) padded))) → HasChunkValues v 0 key flags i b
+    → ((j : ℕ) → j < 8 → lane j v ≡ chunk_value key flags 0 (i + j * 1) (take 1024 (drop (j * (1024 * 1)) padded))) → HasChunkValues v 0 key flags i b
 values_of_padded v key flags i b padded fits front lanes j room =
     let place : 0 + j ≡ j = omega arith in
+    let number : i + j * 1 ≡ i + j = omega arith in
+    let offset : j * (1024 * 1) ≡ 1024 * j = omega arith in
     let same : take 1024 (drop (1024 * j) b) ≡ take 1024 (drop (1024 * j) padded) =
     ap (λ (ys : List ℕ). take 1024 (drop (1024 * j) ys)) front ∙ slice_of_prefix padded (1024 * j) 1024 (length b) room in
-    rw (place, same) (lanes j (omega arith))
+    rw (place, same) (rw (number, offset) at (lanes j (omega arith)))
 
 -- the bytes are a prefix of the padded bytes
 pub padded_prefix : (ys rest b : List ℕ) → ys ≡ b → b ≡ take (length b) (ys ++ rest)

@@ -4,6 +4,7 @@ use Rattle.std.specs.Int.{w32, rotate_right}
 use Rattle.std.specs.List.{range_with_len}
 use Rattle.std.specs.Simd.Lanes.{zip2}
 use Rattle.std.proofs.lemmas.List.{append-nil, drop-drop, drop-take, take-take}
+use Rattle.std.proofs.lemmas.Nat.{mul-le}
 use Rattle.std.proofs.lemmas.Simd.{get_or-chunk, length-chunk, get_or-replicate, get_or-zip2, length-replicate, length-zip2}
 use Rattle.xet_hash.specs.Blake3.{block_words, chunk_after, chunk_end, chunk_value, compress, full_blocks, start_flag, word_at, words}
 use Rattle.std.specs.Int.Bits.{or_zero_r}
@@ -119,6 +120,10 @@ below_four P p0 p1 p2 p3 (suc zero) h = p1
 below_four P p0 p1 p2 p3 (suc (suc zero)) h = p2
 below_four P p0 p1 p2 p3 (suc (suc (suc zero))) h = p3
 below_four P p0 p1 p2 p3 (suc (suc (suc (suc n)))) h = absurd (omega arith)
+
+-- each of eight places that are the same distance from one another is at most the last
+pub up_to_last : (j distance : ℕ) → j < 8 → j * distance ≤ 7 * distance
+up_to_last j distance h = mul-le j distance 7 distance (omega arith) (omega arith)
 
 -- a slice of a slice
 pub slice_of_slice : (b : List ℕ) (p i n m : ℕ) → i + n ≤ m → take n (drop i (take m (drop p b))) ≡ take n (drop (p + i) b)

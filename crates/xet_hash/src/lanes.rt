@@ -5,7 +5,7 @@ ghost use Rattle.std.specs.Int.{w32, rotate_right};
 ghost use Rattle.xet_hash.specs.Blake3.{add32, block_words, chaining_value, chunk_value, compress, half_mix, initial_words, mix, parent_value, permuted, round};
 ghost use Rattle.xet_hash.specs.internal.Lanes.{four_words, lane};
 
-use crate::blake3::{CHUNK_END, INITIAL_WORDS, PARENT, start_flag};
+use crate::blake3::{CHUNK_END, CHUNK_LEN, INITIAL_WORDS, PARENT, start_flag};
 use std::simd::{u8x16, u32x4, u32x8};
 
 #[inline(always)]
@@ -163,13 +163,13 @@ fn load_four(bytes: &[u8], at: usize) -> u32x4
     u32x4::from_le_bytes(u8x16::from_slice(&bytes[at..]))
 }
 
-/// The four words at an offset, and then those four chunks further on.
+/// The four words at an offset, and then those `distance` bytes further on.
 #[inline(always)]
-fn load_row(bytes: &[u8], at: usize) -> u32x8
-    requires { at + 4112 ≤ length bytes.now }
-    ensures { result ≡ four_words bytes.now at ++ four_words bytes.now (4096 + at) }
+fn load_row(bytes: &[u8], at: usize, distance: usize) -> u32x8
+    requires { distance + at + 16 ≤ length bytes.now }
+    ensures { result ≡ four_words bytes.now at ++ four_words bytes.now (distance + at) }
 {
-    load_four(bytes, at).shuffle(load_four(bytes, 4096 + at), [0, 1, 2, 3, 4, 5, 6, 7])
+    load_four(bytes, at).shuffle(load_four(bytes, distance + at), [0, 1, 2, 3, 4, 5, 6, 7])
 }
 
 /// The columns of four rows. A column has one word of the first half of each row, and then of the second halves.
@@ -190,30 +190,31 @@ fn columns(a: u32x8, b: u32x8, c: u32x8, d: u32x8) -> [u32x8; 4]
     ]
 }
 
-/// The four words at an offset in each of eight consecutive chunks.
+/// The four words at each of eight offsets. The first is `at`, and each other is `distance` more than the one before.
 #[inline(always)]
-fn load_lanes(bytes: &[u8], at: usize) -> [u32x8; 4]
-    requires { at + 7184 ≤ length bytes.now }
-    ensures { (j : ℕ) → j < 8 → lane j result ≡ four_words bytes.now (1024 * j + at) }
+fn load_lanes(bytes: &[u8], at: usize, distance: usize) -> [u32x8; 4]
+    requires { 7 * distance + at + 16 ≤ length bytes.now }
+    ensures { (j : ℕ) → j < 8 → lane j result ≡ four_words bytes.now (j * distance + at) }
 {
+    let half = 4 * distance;
     columns(
-        load_row(bytes, at),
-        load_row(bytes, 1024 + at),
-        load_row(bytes, 2048 + at),
-        load_row(bytes, 3072 + at),
+        load_row(bytes, at, half),
+        load_row(bytes, distance + at, half),
+        load_row(bytes, 2 * distance + at, half),
+        load_row(bytes, 3 * distance + at, half),
     )
 }
 
-/// The blocks at an offset in each of eight consecutive chunks.
+/// The blocks at eight offsets. The first is `at`, and each other is `distance` more than the one before.
 #[inline(always)]
-fn block_lanes(bytes: &[u8], at: usize) -> [u32x8; 16]
-    requires { at + 7232 ≤ length bytes.now }
-    ensures { (j : ℕ) → j < 8 → lane j result ≡ block_words (take 64 (drop (1024 * j + at) bytes.now)) }
+fn block_lanes(bytes: &[u8], at: usize, distance: usize) -> [u32x8; 16]
+    requires { 7 * distance + at + 64 ≤ length bytes.now }
+    ensures { (j : ℕ) → j < 8 → lane j result ≡ block_words (take 64 (drop (j * distance + at) bytes.now)) }
 {
-    let a = load_lanes(bytes, at);
-    let b = load_lanes(bytes, at + 16);
-    let c = load_lanes(bytes, at + 32);
-    let d = load_lanes(bytes, at + 48);
+    let a = load_lanes(bytes, at, distance);
+    let b = load_lanes(bytes, at + 16, distance);
+    let c = load_lanes(bytes, at + 32, distance);
+    let d = load_lanes(bytes, at + 48, distance);
     [
         a[0], a[1], a[2], a[3], b[0], b[1], b[2], b[3], c[0], c[1], c[2], c[3], d[0], d[1], d[2],
         d[3],
@@ -232,35 +233,37 @@ fn high(x: u64) -> u32
     (x >> 32) as u32
 }
 
-fn counters_low(index: u64) -> u32x8
-    requires { index + 8 ≤ 2 ^ 64 }
-    ensures { (j : ℕ) → j < 8 → slice_index result j ≡ (index + j) % 2 ^ 32 }
+/// The low halves of eight counters. The first is `index`, and each other is `apart` more than the one before.
+fn counters_low(index: u64, apart: u64) -> u32x8
+    requires { index + 7 * apart < 2 ^ 64 }
+    ensures { (j : ℕ) → j < 8 → slice_index result j ≡ (index + j * apart) % 2 ^ 32 }
 {
     u32x8::from_array([
         low(index),
-        low(index + 1),
-        low(index + 2),
-        low(index + 3),
-        low(index + 4),
-        low(index + 5),
-        low(index + 6),
-        low(index + 7),
+        low(index + apart),
+        low(index + 2 * apart),
+        low(index + 3 * apart),
+        low(index + 4 * apart),
+        low(index + 5 * apart),
+        low(index + 6 * apart),
+        low(index + 7 * apart),
     ])
 }
 
-fn counters_high(index: u64) -> u32x8
-    requires { index + 8 ≤ 2 ^ 64 }
-    ensures { (j : ℕ) → j < 8 → slice_index result j ≡ (index + j) / 2 ^ 32 }
+/// The high halves of eight counters. The first is `index`, and each other is `apart` more than the one before.
+fn counters_high(index: u64, apart: u64) -> u32x8
+    requires { index + 7 * apart < 2 ^ 64 }
+    ensures { (j : ℕ) → j < 8 → slice_index result j ≡ (index + j * apart) / 2 ^ 32 }
 {
     u32x8::from_array([
         high(index),
-        high(index + 1),
-        high(index + 2),
-        high(index + 3),
-        high(index + 4),
-        high(index + 5),
-        high(index + 6),
-        high(index + 7),
+        high(index + apart),
+        high(index + 2 * apart),
+        high(index + 3 * apart),
+        high(index + 4 * apart),
+        high(index + 5 * apart),
+        high(index + 6 * apart),
+        high(index + 7 * apart),
     ])
 }
 
@@ -281,91 +284,72 @@ fn spread(words: &[u32; 8]) -> [u32x8; 8]
     ]
 }
 
-/// Compresses the block at an offset in each of eight consecutive chunks into the chaining value in its lane.
-fn add_block(h: &mut [u32x8; 8], bytes: &[u8], at: usize, low: u32x8, high: u32x8, flags: u32)
-    requires { at + 7232 ≤ length bytes.now }
+/// Compresses the blocks at eight offsets into the chaining values in the lanes.
+fn add_block(
+    h: &mut [u32x8; 8],
+    bytes: &[u8],
+    at: usize,
+    distance: usize,
+    low: u32x8,
+    high: u32x8,
+    flags: u32,
+)
+    requires { 7 * distance + at + 64 ≤ length bytes.now }
     ensures { (j t : ℕ) → j < 8 → slice_index low j ≡ t % 2 ^ 32 → slice_index high j ≡ t / 2 ^ 32
-        → lane j h.new ≡ compress (lane j h.old) (block_words (take 64 (drop (1024 * j + at) bytes.now))) t 64 flags }
+        → lane j h.new ≡ compress (lane j h.old) (block_words (take 64 (drop (j * distance + at) bytes.now))) t 64 flags }
 {
     let before = *h;
-    let block = block_lanes(bytes, at);
+    let block = block_lanes(bytes, at, distance);
     *h = compress(&before, &block, low, high, 64, flags);
 }
 
-/// The chaining values of eight consecutive chunks. The first has the number `index`.
-pub(crate) fn chunk_lanes(key: &[u32; 8], flags: u32, index: u64, bytes: &[u8]) -> [u32x8; 8]
-    requires whole { length bytes.now ≡ 8192 }
-    requires index { index + 8 ≤ 2 ^ 64 }
-    ensures { (j : ℕ) → j < 8 → lane j result ≡ chunk_value key.now flags 0 (index + j) (take 1024 (drop (1024 * j) bytes.now)) }
+/// The chaining values of eight chunks. The first has the number `index` and begins with the bytes, and each other
+/// begins `apart` chunks after the one before.
+pub(crate) fn chunk_lanes(
+    key: &[u32; 8],
+    flags: u32,
+    index: u64,
+    bytes: &[u8],
+    apart: u64,
+) -> [u32x8; 8]
+    requires room { 1024 * (7 * apart + 1) ≤ length bytes.now }
+    requires index { index + 7 * apart < 2 ^ 64 }
+    ensures { (j : ℕ) → j < 8
+        → lane j result ≡ chunk_value key.now flags 0 (index + j * apart) (take 1024 (drop (j * (1024 * apart)) bytes.now)) }
 {
-    let low = counters_low(index);
-    let high = counters_high(index);
+    let distance = CHUNK_LEN * apart as usize;
+    let low = counters_low(index, apart);
+    let high = counters_high(index, apart);
     let mut h = spread(key);
     'blocks: for n in 0..15usize {
-        add_block(&mut h, bytes, 64 * n, low, high, flags | start_flag(n));
+        add_block(
+            &mut h,
+            bytes,
+            64 * n,
+            distance,
+            low,
+            high,
+            flags | start_flag(n),
+        );
     }
-    add_block(&mut h, bytes, 960, low, high, flags | CHUNK_END);
+    add_block(&mut h, bytes, 960, distance, low, high, flags | CHUNK_END);
     h
 }
 
-/// The elements with even indices of one vector, and then of another.
-#[inline(always)]
-fn even(a: u32x8, b: u32x8) -> u32x8
-    ensures first_half { (j : ℕ) → j < 4 → slice_index result j ≡ slice_index a (2 * j) }
-    ensures second_half { (j : ℕ) → j < 4 → slice_index result (4 + j) ≡ slice_index b (2 * j) }
-{
-    a.shuffle(b, [0, 2, 4, 6, 8, 10, 12, 14])
-}
-
-/// The elements with odd indices of one vector, and then of another.
-#[inline(always)]
-fn odd(a: u32x8, b: u32x8) -> u32x8
-    ensures first_half { (j : ℕ) → j < 4 → slice_index result j ≡ slice_index a (2 * j + 1) }
-    ensures second_half { (j : ℕ) → j < 4 → slice_index result (4 + j) ≡ slice_index b (2 * j + 1) }
-{
-    a.shuffle(b, [1, 3, 5, 7, 9, 11, 13, 15])
-}
-
-/// The blocks of the eight parents of sixteen values. Each argument has eight of the values.
-#[inline(always)]
-fn pair_lanes(left: &[u32x8; 8], right: &[u32x8; 8]) -> [u32x8; 16]
-    ensures first_half { (j : ℕ) → j < 4 → lane j result ≡ lane (2 * j) left.now ++ lane (2 * j + 1) left.now }
-    ensures second_half { (j : ℕ) → j < 4 → lane (4 + j) result ≡ lane (2 * j) right.now ++ lane (2 * j + 1) right.now }
-{
-    [
-        even(left[0], right[0]),
-        even(left[1], right[1]),
-        even(left[2], right[2]),
-        even(left[3], right[3]),
-        even(left[4], right[4]),
-        even(left[5], right[5]),
-        even(left[6], right[6]),
-        even(left[7], right[7]),
-        odd(left[0], right[0]),
-        odd(left[1], right[1]),
-        odd(left[2], right[2]),
-        odd(left[3], right[3]),
-        odd(left[4], right[4]),
-        odd(left[5], right[5]),
-        odd(left[6], right[6]),
-        odd(left[7], right[7]),
-    ]
-}
-
-/// The chaining values of the eight parents of sixteen values. Each argument has eight of the values.
+/// The chaining value of the parent of the two values in each lane.
 pub(crate) fn parent_lanes(
     key: &[u32; 8],
     flags: u32,
     left: &[u32x8; 8],
     right: &[u32x8; 8],
 ) -> [u32x8; 8]
-    ensures first_half { (j : ℕ) → j < 4
-        → lane j result ≡ parent_value key.now flags 0 (lane (2 * j) left.now) (lane (2 * j + 1) left.now) }
-    ensures second_half { (j : ℕ) → j < 4
-        → lane (4 + j) result ≡ parent_value key.now flags 0 (lane (2 * j) right.now) (lane (2 * j + 1) right.now) }
+    ensures { (j : ℕ) → j < 8 → lane j result ≡ parent_value key.now flags 0 (lane j left.now) (lane j right.now) }
 {
     let h = spread(key);
-    let block = pair_lanes(left, right);
+    let block = [
+        left[0], left[1], left[2], left[3], left[4], left[5], left[6], left[7], right[0], right[1],
+        right[2], right[3], right[4], right[5], right[6], right[7],
+    ];
     compress(
         &h,
         &block,
@@ -374,6 +358,63 @@ pub(crate) fn parent_lanes(
         64,
         flags | PARENT,
     )
+}
+
+/// The elements with even indices, in the first four places.
+#[inline(always)]
+fn even(a: u32x8) -> u32x8
+    ensures { (j : ℕ) → j < 4 → slice_index result j ≡ slice_index a (2 * j) }
+{
+    a.shuffle(a, [0, 2, 4, 6, 0, 2, 4, 6])
+}
+
+/// The elements with odd indices, in the first four places.
+#[inline(always)]
+fn odd(a: u32x8) -> u32x8
+    ensures { (j : ℕ) → j < 4 → slice_index result j ≡ slice_index a (2 * j + 1) }
+{
+    a.shuffle(a, [1, 3, 5, 7, 1, 3, 5, 7])
+}
+
+/// The values in the lanes with even numbers, in the first four lanes.
+#[inline(always)]
+fn even_lanes(v: &[u32x8; 8]) -> [u32x8; 8]
+    ensures { (j : ℕ) → j < 4 → lane j result ≡ lane (2 * j) v.now }
+{
+    [
+        even(v[0]),
+        even(v[1]),
+        even(v[2]),
+        even(v[3]),
+        even(v[4]),
+        even(v[5]),
+        even(v[6]),
+        even(v[7]),
+    ]
+}
+
+/// The values in the lanes with odd numbers, in the first four lanes.
+#[inline(always)]
+fn odd_lanes(v: &[u32x8; 8]) -> [u32x8; 8]
+    ensures { (j : ℕ) → j < 4 → lane j result ≡ lane (2 * j + 1) v.now }
+{
+    [
+        odd(v[0]),
+        odd(v[1]),
+        odd(v[2]),
+        odd(v[3]),
+        odd(v[4]),
+        odd(v[5]),
+        odd(v[6]),
+        odd(v[7]),
+    ]
+}
+
+/// The chaining values of the parents of the pairs of adjacent lanes, in the first four lanes.
+pub(crate) fn parents_of_pairs(key: &[u32; 8], flags: u32, v: &[u32x8; 8]) -> [u32x8; 8]
+    ensures { (j : ℕ) → j < 4 → lane j result ≡ parent_value key.now flags 0 (lane (2 * j) v.now) (lane (2 * j + 1) v.now) }
+{
+    parent_lanes(key, flags, &even_lanes(v), &odd_lanes(v))
 }
 
 fn lane_word(x: u32x8, j: usize) -> u32

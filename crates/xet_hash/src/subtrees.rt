@@ -1,12 +1,12 @@
 //! Subtrees of a message, of which eight chunks or eight parents are computed at a time.
 
-ghost use Rattle.std.specs.Prelude.{◌≡◌, ℕ, ◌+◌, ◌*◌, ◌%◌, ◌^◌, ◌<◌, ◌≤◌, length, take, drop};
+ghost use Rattle.std.specs.Prelude.{◌≡◌, ℕ, true, ◌+◌, ◌*◌, ◌%◌, ◌^◌, ◌<◌, ◌≤◌, length, take, drop};
 ghost use Rattle.xet_hash.specs.Blake3.{subtree, subtree_len};
 ghost use Rattle.xet_hash.specs.internal.Lanes.{HasChunkValues, lane};
 
 use crate::blake3::{CHUNK_LEN, chunk, parent};
 use crate::definition::{chunk_count, subtree, subtree_len};
-use crate::lanes::{chunk_lanes, lane_value, parent_lanes};
+use crate::lanes::{chunk_lanes, lane_value, parent_lanes, parents_of_pairs};
 use std::simd::u32x8;
 
 /// The number of bytes of eight chunks.
@@ -15,21 +15,23 @@ const ROW_LEN: usize = 8 * CHUNK_LEN;
 /// The longest end of a message whose chunks are computed one at a time.
 const LONGEST_BY_CHUNKS: usize = 3 * CHUNK_LEN;
 
-/// The chaining values of eight consecutive full subtrees of a level.
-fn row(key: &[u32; 8], flags: u32, index: u64, bytes: &[u8], level: u32) -> [u32x8; 8]
+/// The chaining values of eight full subtrees of a level. The first begins with the bytes, at the chunk with the
+/// number `index`, and each other begins `apart` chunks after the one before. So a large message is read in eight
+/// places at a time, each of which goes straight through its own memory.
+fn row(key: &[u32; 8], flags: u32, index: u64, bytes: &[u8], level: u32, apart: u64) -> [u32x8; 8]
     requires level { level ≤ 51 }
-    requires whole { length bytes.now ≡ 8 * subtree_len level }
-    requires index { index + 8 * 2 ^ level ≤ 2 ^ 54 }
+    requires room { 1024 * (7 * apart + 2 ^ level) ≤ length bytes.now }
+    requires index { index + 7 * apart + 2 ^ level ≤ 2 ^ 54 }
     ensures { (j : ℕ) → j < 8 → lane j result
-        ≡ subtree key.now flags 0 (index + j * 2 ^ level) (take (subtree_len level) (drop (j * subtree_len level) bytes.now)) level }
+        ≡ subtree key.now flags 0 (index + j * apart) (take (subtree_len level) (drop (j * (1024 * apart)) bytes.now)) level }
 {
     if level == 0 {
-        return chunk_lanes(key, flags, index, bytes);
+        return chunk_lanes(key, flags, index, bytes, apart);
     }
     let below = level - 1;
-    let (prefix, back) = bytes.split_at(8 * subtree_len(below));
-    let left = row(key, flags, index, prefix, below);
-    let right = row(key, flags, index + 8 * chunk_count(below), back, below);
+    let (_, back) = bytes.split_at(subtree_len(below));
+    let left = row(key, flags, index, bytes, below, apart);
+    let right = row(key, flags, index + chunk_count(below), back, below, apart);
     parent_lanes(key, flags, &left, &right)
 }
 
@@ -49,9 +51,10 @@ pub(crate) fn full_subtree(
     if level < 3 {
         return subtree(key, flags, 0, index, bytes, level);
     }
-    let eight = row(key, flags, index, bytes, level - 3);
-    let four = parent_lanes(key, flags, &eight, &eight);
-    let two = parent_lanes(key, flags, &four, &four);
+    let below = level - 3;
+    let eight = row(key, flags, index, bytes, below, chunk_count(below));
+    let four = parents_of_pairs(key, flags, &eight);
+    let two = parents_of_pairs(key, flags, &four);
     parent(key, flags, 0, &lane_value(&two, 0), &lane_value(&two, 1))
 }
 
@@ -63,7 +66,7 @@ pub(crate) fn chunk_values(key: &[u32; 8], flags: u32, index: u64, bytes: &[u8])
 {
     let mut padded = [0u8; ROW_LEN];
     padded[..bytes.len()].copy_from_slice(bytes);
-    chunk_lanes(key, flags, index, &padded)
+    chunk_lanes(key, flags, index, &padded, 1)
 }
 
 /// The chaining value of the chunks of these bytes. Those of full chunks are in the lanes from `at` on.
@@ -143,21 +146,34 @@ pub(crate) fn tree(
     parent(key, flags, last, &left, &right)
 }
 
+/// Whether a full subtree of a level can be taken next from `len` bytes, after `count` finished chunks, so that more
+/// bytes follow it.
+fn is_next(level: u32, count: u64, len: usize) -> bool
+    requires { level < 54 }
+    ensures aligned { result ≡ true → count % 2 ^ level ≡ 0 }
+    ensures fits { result ≡ true → subtree_len level < len }
+{
+    count % chunk_count(level) == 0 && len > subtree_len(level)
+}
+
 /// The level of the full subtree to take next from `len` bytes, after `count` finished chunks. More bytes follow
-/// the subtree.
+/// the subtree. Levels of which eight chunks lie far apart in memory come first.
 pub(crate) fn next_level(count: u64, len: usize) -> u32
     requires { 1024 < len }
     ensures level { result < 54 }
     ensures aligned { count % 2 ^ result ≡ 0 }
     ensures fits { subtree_len result < len }
 {
-    if count % 64 == 0 && len > 8 * ROW_LEN {
+    if is_next(6, count, len) {
         return 6;
     }
-    if count % 8 == 0 && len > ROW_LEN {
-        return 3;
+    if is_next(5, count, len) {
+        return 5;
     }
-    0
+    if is_next(4, count, len) {
+        return 4;
+    }
+    if is_next(3, count, len) { 3 } else { 0 }
 }
 
 /// The number of full chunks to take side by side from `len` bytes, after `count` finished chunks. More bytes follow

@@ -1,5 +1,5 @@
 use Rattle.std.proofs.Common.{◌≡◌, ◌+◌, ◌*◌, ◌∙◌, arith, refl}
-use Rattle.xet_hash.proofs.Vectors.{chunk_lane_next, chunk_lane_done}
+use Rattle.xet_hash.proofs.Vectors.{chunk_lane_next, chunk_lane_done, up_to_last}
 use Rattle.xet_hash.specs.Blake3.{chunk_after}
 use Rattle.xet_hash.proofs.lanes.chunk_lanes.Goals as goal
 
@@ -9,14 +9,15 @@ blocks-2-init c = c.spread-h.ensures
 
 pub blocks-2-preserved : goal.blocks-2-preserved
 blocks-2-preserved c j h =
-    chunk_lane_next c.args.key.now c.args.flags (c.args.index + j) c.args.bytes.now (1024 * j) c.blocks-2.n _ _ (omega arith)
+    chunk_lane_next c.args.key.now c.args.flags (c.args.index + j * c.args.apart) c.args.bytes.now (j * (1024 * c.args.apart)) c.blocks-2.n _ _ (omega arith)
     (c.blocks-2.invariant j h)
-    (c.add_block.ensures j (c.args.index + j) h (c.counters_low-low.ensures j h) (c.counters_high-high.ensures j h)
+    (c.add_block.ensures j (c.args.index + j * c.args.apart) h (c.counters_low-low.ensures j h) (c.counters_high-high.ensures j h)
     ∙ rw c.start_flag.ensures refl)
 
 pub returns : goal.returns
 returns c j h =
     let done : c.blocks-2.n ≡ 15 = omega arith in
-    chunk_lane_done c.args.key.now c.args.flags (c.args.index + j) c.args.bytes.now (1024 * j) _ _ (omega arith)
+    let last = up_to_last j (1024 * c.args.apart) h in
+    chunk_lane_done c.args.key.now c.args.flags (c.args.index + j * c.args.apart) c.args.bytes.now (j * (1024 * c.args.apart)) _ _ (omega arith)
     (rw done at (c.blocks-2.invariant j h))
-    (c.add_block-2.ensures j (c.args.index + j) h (c.counters_low-low.ensures j h) (c.counters_high-high.ensures j h))
+    (c.add_block-2.ensures j (c.args.index + j * c.args.apart) h (c.counters_low-low.ensures j h) (c.counters_high-high.ensures j h))

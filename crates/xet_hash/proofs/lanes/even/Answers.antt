@@ -1,11 +1,11 @@
 use Rattle.std.proofs.Common.{arith}
-use Rattle.std.proofs.lemmas.List.{get_or-append_right}
+use Rattle.std.proofs.lemmas.List.{get_or_append_left}
 use Rattle.xet_hash.proofs.Vectors.{below_four}
 use Rattle.xet_hash.proofs.lanes.even.Goals as goal
 
-pub returns-clause-second_half : goal.returns-clause-second_half
-returns-clause-second_half c =
-    below_four _ (get_or-append_right c.args.a c.args.b 8 8 0 c.fits-a.0 (omega arith))
-    (get_or-append_right c.args.a c.args.b 8 10 0 c.fits-a.0 (omega arith))
-    (get_or-append_right c.args.a c.args.b 8 12 0 c.fits-a.0 (omega arith))
-    (get_or-append_right c.args.a c.args.b 8 14 0 c.fits-a.0 (omega arith))
+pub returns : goal.returns
+returns c =
+    below_four _ (get_or_append_left c.args.a c.args.a 0 0 (omega (arith, c.fits-a.0)))
+    (get_or_append_left c.args.a c.args.a 0 2 (omega (arith, c.fits-a.0)))
+    (get_or_append_left c.args.a c.args.a 0 4 (omega (arith, c.fits-a.0)))
+    (get_or_append_left c.args.a c.args.a 0 6 (omega (arith, c.fits-a.0)))

@@ -1,11 +1,11 @@
 use Rattle.std.proofs.Common.{arith}
-use Rattle.std.proofs.lemmas.List.{get_or-append_right}
+use Rattle.std.proofs.lemmas.List.{get_or_append_left}
 use Rattle.xet_hash.proofs.Vectors.{below_four}
 use Rattle.xet_hash.proofs.lanes.odd.Goals as goal
 
-pub returns-clause-second_half : goal.returns-clause-second_half
-returns-clause-second_half c =
-    below_four _ (get_or-append_right c.args.a c.args.b 8 9 0 c.fits-a.0 (omega arith))
-    (get_or-append_right c.args.a c.args.b 8 11 0 c.fits-a.0 (omega arith))
-    (get_or-append_right c.args.a c.args.b 8 13 0 c.fits-a.0 (omega arith))
-    (get_or-append_right c.args.a c.args.b 8 15 0 c.fits-a.0 (omega arith))
+pub returns : goal.returns
+returns c =
+    below_four _ (get_or_append_left c.args.a c.args.a 0 1 (omega (arith, c.fits-a.0)))
+    (get_or_append_left c.args.a c.args.a 0 3 (omega (arith, c.fits-a.0)))
+    (get_or_append_left c.args.a c.args.a 0 5 (omega (arith, c.fits-a.0)))
+    (get_or_append_left c.args.a c.args.a 0 7 (omega (arith, c.fits-a.0)))
