@@ -1,8 +1,8 @@
 //! Queries to a shard in memory.
 
-ghost use Rattle.std.specs.Prelude.{◌≡◌, IfOk, IsOkUnless, length};
+ghost use Rattle.std.specs.Prelude.{◌≡◌, IfOk, IsOkUnless, length, option_map};
 ghost use Rattle.xet_shard.specs.Held.{record_of};
-ghost use Rattle.xet_shard_format.specs.Records.{file_record_hash};
+ghost use Rattle.xet_shard_format.specs.Records.{file_record_hash, xorb_record_hash};
 ghost use Rattle.xet_shard.specs.Runs.{held_run};
 ghost use Rattle.xet_shard_format.specs.Encoding.{materialized, stored};
 
@@ -10,9 +10,23 @@ use super::MDBInMemoryShard;
 use crate::query::run::run_at;
 use std::alloc::Global;
 use xet_hash::{HMACKey, MerkleHash, StoreError};
-use xet_shard_format::{FileDataSequenceEntry, MDBFileInfo};
+use xet_shard_format::{FileDataSequenceEntry, MDBFileInfo, MDBXorbInfo};
 
 impl MDBInMemoryShard {
+    /// The xorb with a hash, or none if the shard has none.
+    pub fn xorb_block(&self, hash: &MerkleHash) -> Option<&MDBXorbInfo>
+        ensures { option_map (λ block. block.now) result ≡ record_of xorb_record_hash hash.now self.now.blocks }
+    {
+        self.blocks.get(hash)
+    }
+
+    /// The file record with a hash, or none if the shard has none.
+    pub fn file_info(&self, hash: &MerkleHash) -> Option<&MDBFileInfo>
+        ensures { option_map (λ file. file.now) result ≡ record_of file_record_hash hash.now self.now.files }
+    {
+        self.files.get(hash)
+    }
+
     /// A copy of the file record with a hash, or none if the shard has none. The only error is
     /// `StoreError::OutOfMemory`.
     pub fn get_file_reconstruction_info(

@@ -95,6 +95,23 @@ impl MDBShardInfo {
             Ok(None)
         }
     }
+
+    /// The same for a row that is known to have a header, such as one of an item of the chunk lookup table: no lookup
+    /// table is read. If the row has none, it is read as if it had.
+    pub fn chunk_hash_dedup_query_in_row<R: ReadAt>(
+        &self,
+        alloc: Global,
+        reader: &mut R,
+        query: &[MerkleHash],
+        row: u32,
+        place: u32,
+    ) -> Result<Option<(usize, FileDataSequenceEntry)>, StoreError>
+        ensures exact { R.tells reader.old ≡ true → GivesUnlessFault (λ run. run) result (run_in self.now.metadata query.now row place (R.bytes reader.old)) }
+        ensures errors { IfErr result IsShardError }
+        ensures frame { ReadFrom R.bytes R.tells R.faults R.lent reader.old reader.new (IsErrOf result (StoreError.Io Place.Input)) }
+    {
+        run_in(alloc, reader, &self.metadata, query, row, place)
+    }
 }
 
 /// The number of items with this word.
