@@ -36,7 +36,7 @@ impl MDBShardInfo {
         load(reader, len)
     }
 
-    /// The files, read from the bytes of their section alone. If the section is malformed, the error is that
+    /// The files, in ascending order of hash, read from the bytes of their section alone. If the section is malformed, the error is that
     /// of the first check that fails. It is `Io(Input)` if the reader failed.
     pub fn read_all_file_info_sections<R: ReadAt>(
         &self,
@@ -44,13 +44,15 @@ impl MDBShardInfo {
         reader: &mut R,
     ) -> Result<Vec<MDBFileInfo>, StoreError>
         ensures exact { R.tells reader.old ≡ true → GivesUnlessFault (λ v. v.items) result (files_in self.now.metadata (R.bytes reader.old)) }
+        ensures form { IfOk result (λ v. AreRecords file_record_hash IsFile None v.items) }
+        ensures few { IfOk result (λ v. length (file_section v.items) < 2 ^ 32) }
         ensures errors { IfErr result IsShardError }
         ensures frame { ReadFrom R.bytes R.tells R.faults R.lent reader.old reader.new (IsErrOf result (StoreError.Io Place.Input)) }
     {
         files(alloc, reader, &self.metadata)
     }
 
-    /// The xorbs, read from the bytes of their section alone. If the section is malformed, the error is that
+    /// The xorbs, in ascending order of hash, read from the bytes of their section alone. If the section is malformed, the error is that
     /// of the first check that fails. It is `Io(Input)` if the reader failed.
     pub fn read_all_xorb_blocks_full<R: ReadAt>(
         &self,
@@ -58,6 +60,8 @@ impl MDBShardInfo {
         reader: &mut R,
     ) -> Result<Vec<MDBXorbInfo>, StoreError>
         ensures exact { R.tells reader.old ≡ true → GivesUnlessFault (λ v. v.items) result (blocks_in self.now.metadata (R.bytes reader.old)) }
+        ensures form { IfOk result (λ v. AreRecords xorb_record_hash IsXorb None v.items) }
+        ensures few { IfOk result (λ v. length (xorb_section v.items) < 2 ^ 32) }
         ensures errors { IfErr result IsShardError }
         ensures frame { ReadFrom R.bytes R.tells R.faults R.lent reader.old reader.new (IsErrOf result (StoreError.Io Place.Input)) }
     {
