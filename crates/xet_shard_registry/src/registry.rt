@@ -1,0 +1,228 @@
+//! The registered shards, and their collections by key.
+
+ghost use Rattle.std.specs.Prelude.{◌≡◌, ◌+◌, ◌++◌, ◌∷◌, ◌<◌, ◌^◌, ◌-◌, [], ℕ, List, Some, IfNone, IfOk, IfSome, IsOkUnless, OnErr, OnOk, length, map, nat_eq, slice_get, option_map, false};
+ghost use Rattle.std.specs.Cmp.Lexicographic.{pointwise};
+ghost use Rattle.std.specs.List.{list_any};
+ghost use Rattle.indexmap.specs.IndexSet.{spare};
+ghost use Rattle.xet_shard_registry.specs.declared.collection.Collection.{Collection};
+ghost use Rattle.xet_shard_registry.specs.Registered.{Registered, key_of, keys_of, place_among, with_shard};
+ghost use Rattle.xet_shard_registry.specs.Collections.{AddsTo, IsKeyless, IsRegistryOf, StayCollections, words_in};
+ghost use Rattle.xet_shard.specs.Union.{ShardRecords};
+ghost use Rattle.xet_shard_format.specs.Lookups.{chunk_items, flat_places};
+
+use crate::collection::Collection;
+use indexmap::IndexSet;
+use std::alloc::Global;
+use std::marker::Model;
+use xet_hash::{HMACKey, MerkleHash, StoreError};
+use xet_shard_directory::MDBShardFile;
+use xet_shard_index::WordPlace;
+
+/// Registered shards in order of registration, each hash once, and where their chunks are. Contracts relate it to the
+/// list of registered shards with their xorbs and files, which it does not keep.
+#[derive(Drop)]
+pub struct ShardRegistry {
+    /// The values of their files, in order of registration.
+    files: Vec<MDBShardFile>,
+    /// One for each key; that of the shards without a key is the first.
+    collections: Vec<Collection>,
+    /// The number of different words in the indexes, counted for each and summed.
+    words: u64,
+    /// The hashes of the shards.
+    hashes: IndexSet<MerkleHash>,
+}
+
+impl Model for ShardRegistry {
+    ghost use Rattle.xet_shard_registry.specs.Collections.{Tables};
+
+    ghost Value = { Tables };
+
+    ghost view = { λ s. record { files = s.files.items; collections = s.collections.items; words = s.words; hashes = s.hashes.keys } };
+}
+
+impl ShardRegistry {
+    /// A registry without shards. The only error is `StoreError::OutOfMemory`.
+    pub fn new(alloc: Global) -> Result<ShardRegistry, StoreError>
+        ensures empty { IfOk result (IsRegistryOf []) }
+        ensures memory { IsOkUnless result StoreError.OutOfMemory }
+    {
+        let mut collections = Vec::new(alloc);
+        collections.push(Collection::new(alloc, HMACKey::default()))?;
+        Ok(ShardRegistry {
+            files: Vec::new(alloc),
+            collections,
+            words: 0,
+            hashes: IndexSet::new(alloc),
+        })
+    }
+
+    /// Registers a shard after the others, with the items of its chunk lookup table: for each chunk the first word of its
+    /// hash, the row of its xorb, and its index in the xorb. Its chunks enter the index of its key if the indexes of all
+    /// keys have fewer words than `cap`. The caller ensures that its hash is not registered, and that fewer than 2^32
+    /// shards are. The only error is `StoreError::OutOfMemory`; the same shards are registered then.
+    pub fn register(
+        &mut self,
+        alloc: Global,
+        file: MDBShardFile,
+        items: &[(u64, (u32, u32))],
+        cap: u64,
+    ) -> Result<(), StoreError>
+        requires few { length self.old.files < 2 ^ 32 }
+        requires new { list_any (pointwise nat_eq file.shard_hash) self.old.hashes ≡ false }
+        ensures registered { OnOk result ((shards : List Registered) (records : ShardRecords) → IsRegistryOf shards self.old → flat_places items.now ≡ chunk_items records.0
+            → IsRegistryOf (with_shard cap shards file records) self.new) }
+        ensures kept { OnErr result ((shards : List Registered) → IsRegistryOf shards self.old → IsRegistryOf shards self.new) }
+        ensures memory { IsOkUnless result StoreError.OutOfMemory }
+    {
+        let enters = self.words < cap;
+        let hash = file.shard_hash;
+        self.hashes.reserve(1)?;
+        let added = put(
+            &mut self.files,
+            &mut self.collections,
+            alloc,
+            file,
+            items,
+            enters,
+        )?;
+        self.words = self.words.saturating_add(added);
+        insert_hash(&mut self.hashes, hash);
+        Ok(())
+    }
+
+    /// The values of the files, in order of registration.
+    pub fn files(&self) -> &[MDBShardFile]
+        ensures { result.now ≡ self.now.files }
+    {
+        &self.files
+    }
+
+    /// The key with an index, in their order: zero for the shards without one, and then the keys of the registered shards
+    /// in order of first occurrence.
+    pub fn key(&self, index: usize) -> Option<HMACKey>
+        ensures { (shards : List Registered) → IsRegistryOf shards self.now → result ≡ slice_get (keys_of shards) index }
+    {
+        let collection = self.collections.get(index)?;
+        Some(collection.key)
+    }
+
+    /// The place of a word in the shards of the key with an index: where the last chunk with it is in the last of them
+    /// that entered and has one. The shard has its number in order of registration.
+    pub fn find(&self, index: usize, word: u64) -> Option<WordPlace>
+        ensures { (shards : List Registered) (key : List ℕ) → IsRegistryOf shards self.now → slice_get (keys_of shards) index ≡ Some key → result ≡ place_among key word shards }
+    {
+        let collection = self.collections.get(index)?;
+        collection.find(word)
+    }
+
+    /// Whether a shard with this hash is registered.
+    pub fn contains(&self, hash: &MerkleHash) -> bool
+        ensures { result ≡ list_any (pointwise nat_eq hash.now) self.now.hashes }
+    {
+        self.hashes.contains(hash)
+    }
+}
+
+/// Inserts a hash for which there is room.
+fn insert_hash(hashes: &mut IndexSet<MerkleHash>, hash: MerkleHash)
+    requires room { 0 < spare hashes.old }
+    requires new { list_any (pointwise nat_eq hash) hashes.old.keys ≡ false }
+    ensures { hashes.new.keys ≡ hashes.old.keys ++ hash ∷ [] }
+{
+    let _inserted = hashes.insert(hash);
+}
+
+/// Adds the value of a shard's file after the others, and the shard to the collection of its key. Returns the number of
+/// words that are new.
+fn put(
+    files: &mut Vec<MDBShardFile>,
+    collections: &mut Vec<Collection>,
+    alloc: Global,
+    file: MDBShardFile,
+    items: &[(u64, (u32, u32))],
+    enters: bool,
+) -> Result<u64, StoreError>
+    requires few { length files.old.items < 2 ^ 32 }
+    ensures added { OnOk result ((s : Registered) → s.file ≡ file → enters ≡ s.entered → flat_places items.now ≡ chunk_items s.records.0 → AddsTo collections.old.items collections.new.items (length files.old.items) s) }
+    ensures files { OnOk result (files.new.items ≡ files.old.items ++ file ∷ []) }
+    ensures count { IfOk result (λ added. words_in collections.new.items ≡ words_in collections.old.items + added) }
+    ensures kept { OnErr result (files.new.items ≡ files.old.items) }
+    ensures stay { OnErr result (StayCollections collections.old.items collections.new.items) }
+    ensures words { OnErr result (words_in collections.new.items ≡ words_in collections.old.items) }
+    ensures memory { IsOkUnless result StoreError.OutOfMemory }
+{
+    files.reserve(1)?;
+    let number = files.len() as u32;
+    let key = key_of(&file);
+    let added = add(collections, alloc, key, number, enters, items)?;
+    match files.push(file) {
+        Ok(()) => Ok(added),
+        Err(failed) => Err(failed.into()),
+    }
+}
+
+/// The key of a shard's chunk hashes.
+fn key_of(file: &MDBShardFile) -> HMACKey
+    ensures { result ≡ file.now.shard.metadata.chunk_hash_hmac_key }
+{
+    file.shard.metadata.chunk_hash_hmac_key
+}
+
+/// Adds the shard with this number to the collection of its key, which may be a new one. Returns the number of words that
+/// are new.
+fn add(
+    collections: &mut Vec<Collection>,
+    alloc: Global,
+    key: HMACKey,
+    number: u32,
+    enters: bool,
+    items: &[(u64, (u32, u32))],
+) -> Result<u64, StoreError>
+    ensures added { OnOk result ((s : Registered) → key ≡ key_of s → enters ≡ s.entered → flat_places items.now ≡ chunk_items s.records.0 → AddsTo collections.old.items collections.new.items number s) }
+    ensures count { IfOk result (λ added. words_in collections.new.items ≡ words_in collections.old.items + added) }
+    ensures kept { OnErr result (StayCollections collections.old.items collections.new.items) }
+    ensures words { OnErr result (words_in collections.new.items ≡ words_in collections.old.items) }
+    ensures memory { IsOkUnless result StoreError.OutOfMemory }
+{
+    match find_key(collections, &key) {
+        Some(at) => collections[at].add(number, enters, items),
+        None => add_key(collections, alloc, key, number, enters, items),
+    }
+}
+
+/// Adds a collection that has only the shard with this number.
+fn add_key(
+    collections: &mut Vec<Collection>,
+    alloc: Global,
+    key: HMACKey,
+    number: u32,
+    enters: bool,
+    items: &[(u64, (u32, u32))],
+) -> Result<u64, StoreError>
+    requires absent { IsKeyless key (map (λ c. c.key) collections.old.items) }
+    ensures added { OnOk result ((s : Registered) → key ≡ key_of s → enters ≡ s.entered → flat_places items.now ≡ chunk_items s.records.0 → AddsTo collections.old.items collections.new.items number s) }
+    ensures count { IfOk result (λ added. words_in collections.new.items ≡ words_in collections.old.items + added) }
+    ensures kept { OnErr result (collections.new.items ≡ collections.old.items) }
+    ensures memory { IsOkUnless result StoreError.OutOfMemory }
+{
+    let mut collection = Collection::new(alloc, key);
+    let added = collection.add(number, enters, items)?;
+    collections.push(collection)?;
+    Ok(added)
+}
+
+/// The index of the collection of a key.
+fn find_key(collections: &[Collection], key: &HMACKey) -> Option<usize>
+    ensures within { IfSome result (λ at. at < length collections.now) }
+    ensures found { IfSome result (λ at. (c : Collection) → slice_get collections.now at ≡ Some c → c.key ≡ key.now) }
+    ensures absent { IfNone result (IsKeyless key.now (map (λ c. c.key) collections.now)) }
+{
+    let mut at = 0;
+    for collection in collections {
+        if collection.key == *key {
+            return Some(at);
+        }
+        at += 1;
+    }
+    None
+}
