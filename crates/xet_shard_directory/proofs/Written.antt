@@ -1,13 +1,14 @@
 -- The value of a shard file that was written.
 use Rattle.std.proofs.Common.{◌≡◌, ◌≢◌, ℕ, true, List, Option, Some, None, Ok, option_map, refl, ap, ◌∙◌, subst}
 use Rattle.std.specs.FinMap.{get}
+use Rattle.xet_hash.specs.Merkle.{chunk_hash}
 use Rattle.xet_io.specs.Disk.{File, Files, bytes_at, file_at}
 use Rattle.xet_codec.specs.Parsing.{◌>>=◌}
 use Rattle.xet_shard.specs.Sections.{info_at}
 use Rattle.xet_shard.specs.declared.info.MDBShardInfo.{MDBShardInfo}
 use Rattle.xet_shard_directory.specs.Answers.{in_file}
 use Rattle.xet_shard_directory.specs.Values.{shard_value}
-use Rattle.xet_shard_directory.specs.Writing.{Wrote, digest}
+use Rattle.xet_shard_directory.specs.Writing.{Wrote}
 use Rattle.xet_shard_file.specs.Names.{shard_path, temp_name}
 
 abbrev IsAbsent : Option (List ℕ) → Type 0
@@ -33,7 +34,7 @@ value_of_file found bytes hash path shard m there times info =
 
 -- The bytes were put under the path of their digest.
 pub wrote : (old new : Files) (folder bytes hash path : List ℕ) (shard : MDBShardInfo) (m : ℕ)
-    → hash ≡ digest bytes → path ≡ shard_path folder hash
+    → hash ≡ chunk_hash bytes → path ≡ shard_path folder hash
     → bytes_at new (shard_path folder hash) ≡ Some bytes
     → option_map (λ e. e.durable) (get new (shard_path folder hash)) ≡ Some true
     → get new (temp_name (shard_path folder hash)) ≡ None

@@ -1,8 +1,7 @@
 -- What a call leaves on a disk that writes a shard file into a folder.
 use Rattle.std.specs.Prelude.{◌≡◌, ◌≢◌, ◌++◌, ℕ, List, take, Option, Some, None, Ok, Err}
 use Rattle.std.specs.FinMap.{get}
-use Rattle.xet_hash.specs.Blake3.{keyed_digest}
-use Rattle.xet_hash.specs.Keys.{data_key}
+use Rattle.xet_hash.specs.Merkle.{chunk_hash}
 use Rattle.xet_hash.specs.declared.error.Place.TheVariants.{Disk, Input}
 use Rattle.xet_hash.specs.declared.error.StoreError.{StoreError}
 use Rattle.xet_hash.specs.declared.error.StoreError.TheVariants.{FileNotFound, Io, MalformedData, OutOfMemory, TooLarge, UnexpectedEof}
@@ -17,13 +16,9 @@ use Rattle.xet_shard_file.specs.Puts.{IsDone, IsKeptOrDone}
 use Rattle.xet_shard_format.specs.Encoding.{shard_footer_bytes}
 use Rattle.xet_shard_format.specs.declared.header_footer.MDBShardFileFooter.{MDBShardFileFooter}
 
--- the hash that names a shard file
-abbrev pub digest : List ℕ → List ℕ
-digest bytes = keyed_digest data_key bytes
-
--- the path of the shard with these bytes
+-- the path of the shard with these bytes, whose hash names it
 abbrev pub path_of : List ℕ → List ℕ → List ℕ
-path_of folder bytes = shard_path folder (digest bytes)
+path_of folder bytes = shard_path folder (chunk_hash bytes)
 
 -- no file has changed but the one at a path, and the temporary one beside it
 abbrev pub OthersStay : Files → Files → List ℕ → Type 0
@@ -32,7 +27,7 @@ OthersStay old new path = (name : List ℕ) → name ≢ path → name ≢ temp_
 -- The shard was written: its file has exactly these bytes under the name of their digest and is durable, no other file
 -- has changed, and the value is that of the file.
 pub record Wrote (old new : Files) (folder bytes : List ℕ) (s : MDBShardFile) : Type 0 where
-  pub hash : s.shard_hash ≡ digest bytes
+  pub hash : s.shard_hash ≡ chunk_hash bytes
   pub path : s.path ≡ path_of folder bytes
   pub done : IsDone new s.path bytes
   pub others : OthersStay old new s.path

@@ -7,6 +7,7 @@ ghost use Rattle.xet_io.specs.Frame.{Stays, Unchanged};
 ghost use Rattle.xet_shard.specs.Export.{exported};
 ghost use Rattle.xet_shard_directory.specs.Answers.{IsReadError};
 ghost use Rattle.xet_shard_directory.specs.Exporting.{Exports, IsUnexported, IsUnwrittenExport, KeptOrWroteExport, WroteExport};
+ghost use Rattle.xet_shard_file.specs.Names.{shard_path};
 
 use crate::reading::{modified, of_disk};
 use crate::shard_file::MDBShardFile;
@@ -22,7 +23,8 @@ impl MDBShardFile {
     /// Writes the shard into a folder as a keyed shard, as `MDBShardInfo::export_as_keyed_shard` does, durably, under
     /// the name of its digest, and returns the new shard file. The caller ensures that the key is not zero, and that
     /// the shard is not keyed. `FileNotFound` if the file is not there; if the xorbs, or the files where they are
-    /// selected, are malformed, the error is that of the first check that fails, and nothing is written.
+    /// selected, are malformed, the error is that of the first check that fails, and nothing is written. After any other
+    /// error the new file is as it was, or the write has completed; a temporary file may be left.
     pub fn export_as_keyed_shard<D: Disk>(
         &self,
         alloc: Global,
@@ -40,6 +42,7 @@ impl MDBShardFile {
         ensures written { D.tells disk.old ≡ true → IfOk result (WroteExport (D.files disk.old) (D.files disk.new) target.now (file_at (D.files disk.old) self.now.path) (record { files = files; xorbs = xorb_lookup; chunks = chunk_lookup }) (exported files key valid_for now self.now.shard.metadata)) }
         ensures refused { D.tells disk.old ≡ true → OnErr result (KeptOrWroteExport (D.files disk.old) (D.files disk.new) target.now (file_at (D.files disk.old) self.now.path) (record { files = files; xorbs = xorb_lookup; chunks = chunk_lookup }) (exported files key valid_for now self.now.shard.metadata)) }
         ensures unwritten { D.tells disk.old ≡ true → IfErr result (IsUnwrittenExport (D.files disk.old) (D.files disk.new) (file_at (D.files disk.old) self.now.path) (exported files key valid_for now self.now.shard.metadata)) }
+        ensures named { IfOk result (λ s. s.path ≡ shard_path target.now s.shard_hash) }
         ensures frame { Stays D.tells D.faults disk.old disk.new }
         ensures reason { IfErr result (IsReadError (D.faults disk.old) (D.faults disk.new)) }
     {

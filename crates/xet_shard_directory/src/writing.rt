@@ -1,14 +1,15 @@
 //! Writing of shard files: from a source, as a copy, and with another expiry or key.
 
-ghost use Rattle.std.specs.Prelude.{◌≡◌, ◌<◌, ◌+◌, ◌^◌, ℕ, List, [], min, true, length, Ok, Err, IfErr, IfOk, IsErrOf, OnErr, OnOk, Some};
+ghost use Rattle.std.specs.Prelude.{◌≡◌, ◌<◌, ◌+◌, ◌^◌, ℕ, List, [], drop, min, true, length, Ok, Err, IfErr, IfOk, IsErrOf, OnErr, OnOk, Some};
 ghost use Rattle.xet_codec.specs.Stops.{HasDiskReason};
+ghost use Rattle.xet_hash.specs.Merkle.{chunk_hash};
 ghost use Rattle.xet_io.specs.Disk.{File, bytes_at, file_at};
 ghost use Rattle.xet_io.specs.Frame.{Stays, Unchanged};
 ghost use Rattle.xet_shard.specs.Sections.{info_at};
 ghost use Rattle.xet_shard.specs.Held.{never};
 ghost use Rattle.xet_shard_directory.specs.Answers.{IsReadError};
 ghost use Rattle.xet_shard_file.specs.Names.{shard_path};
-ghost use Rattle.xet_shard_directory.specs.Writing.{IsFormatError, IsPutError, IsUnwrittenFrom, IsUnwrittenIfMalformed, IsWriteError, KeptOrWrote, KeptOrWroteFrom, Wrote, WroteFrom, digest, path_of, with_expiry};
+ghost use Rattle.xet_shard_directory.specs.Writing.{IsFormatError, IsPutError, IsUnwrittenFrom, IsUnwrittenIfMalformed, IsWriteError, KeptOrWrote, KeptOrWroteFrom, Wrote, WroteFrom, path_of, with_expiry};
 
 use crate::shard_file::MDBShardFile;
 use std::alloc::{AllocError, Global};
@@ -32,7 +33,7 @@ impl MDBShardFile {
     /// Nothing is written if the header or the footer is malformed; then the error is that of the first check that
     /// fails. `TooLarge(Input)` if a source that is not observable has more than 2^40 bytes, and `Io(Input)` if
     /// it failed. After any other error the new file is as it was, or the write has completed; a temporary file may be
-    /// left.
+    /// left. After an error a prefix of the source was taken.
     pub fn write_out_from_reader<D: Disk, R: Source>(
         alloc: Global,
         disk: &mut D,
@@ -42,10 +43,11 @@ impl MDBShardFile {
         requires { R.tells source.old ≡ true → length (R.left source.old) < 2 ^ 40 }
         ensures written { D.tells disk.old ≡ true → R.tells source.old ≡ true → IfOk result (Wrote (D.files disk.old) (D.files disk.new) target.now (R.left source.old)) }
         ensures ended { R.tells source.old ≡ true → OnOk result (R.left source.new ≡ []) }
+        ensures taken { R.tells source.old ≡ true → OnErr result ((n : ℕ) × (R.left source.new ≡ drop n (R.left source.old))) }
         ensures refused { D.tells disk.old ≡ true → R.tells source.old ≡ true → OnErr result (KeptOrWrote (D.files disk.old) (D.files disk.new) target.now (R.left source.old)) }
         ensures malformed { D.tells disk.old ≡ true → R.tells source.old ≡ true → IfErr result (IsUnwrittenIfMalformed (D.files disk.old) (D.files disk.new) (R.left source.old)) }
         ensures format { R.tells source.old ≡ true → IfErr result (λ e. IsFormatError e → info_at (R.left source.old) ≡ Err e) }
-        ensures value { R.tells source.old ≡ true → IfOk result (λ s. (s.shard_hash ≡ digest (R.left source.old)) × (s.path ≡ path_of target.now (R.left source.old)) × (info_at (R.left source.old) ≡ Ok s.shard)) }
+        ensures value { R.tells source.old ≡ true → IfOk result (λ s. (s.shard_hash ≡ chunk_hash (R.left source.old)) × (s.path ≡ path_of target.now (R.left source.old)) × (info_at (R.left source.old) ≡ Ok s.shard)) }
         ensures fits { R.tells source.old ≡ true → IsErrOf result (StoreError.TooLarge What.Input) → ⊥ }
         // The same for a source that is not observable: some bytes are written.
         ensures some { D.tells disk.old ≡ true → IfOk result (λ s. (bytes : List ℕ) × Wrote (D.files disk.old) (D.files disk.new) target.now bytes s) }
@@ -64,7 +66,8 @@ impl MDBShardFile {
 
     /// Writes the bytes of the shard file into a folder, durably, under the name of their digest, and returns the new
     /// shard file. `FileNotFound` if the file is not there. Nothing is written if its header or footer is malformed;
-    /// then the error is that of the first check that fails.
+    /// then the error is that of the first check that fails. After any other error the new file is as it was, or the
+    /// write has completed; a temporary file may be left.
     pub fn copy_into_target_directory<D: Disk>(
         &self,
         alloc: Global,
@@ -88,7 +91,8 @@ impl MDBShardFile {
     /// Writes the bytes of the shard file before its footer into a folder, and after them the footer of this value with
     /// another creation time and expiry, in seconds since the Unix epoch. Returns the new shard file. The footer in the
     /// file is not read. `FileNotFound` if the file is not there. Nothing is written if the header or the new footer is
-    /// malformed; then the error is that of the first check that fails.
+    /// malformed; then the error is that of the first check that fails. After any other error the new file is as it was,
+    /// or the write has completed; a temporary file may be left.
     pub fn export_with_specific_expiration<D: Disk>(
         &self,
         alloc: Global,
@@ -147,7 +151,7 @@ pub(crate) fn write_shard_file<D: Disk>(
     ensures refused { D.tells disk.old ≡ true → OnErr result (KeptOrWrote (D.files disk.old) (D.files disk.new) target.now bytes.now) }
     ensures malformed { D.tells disk.old ≡ true → IfErr result (IsUnwrittenIfMalformed (D.files disk.old) (D.files disk.new) bytes.now) }
     ensures format { IfErr result (λ e. IsFormatError e → info_at bytes.now ≡ Err e) }
-    ensures value { IfOk result (λ s. (s.shard_hash ≡ digest bytes.now) × (s.path ≡ path_of target.now bytes.now) × (info_at bytes.now ≡ Ok s.shard)) }
+    ensures value { IfOk result (λ s. (s.shard_hash ≡ chunk_hash bytes.now) × (s.path ≡ path_of target.now bytes.now) × (info_at bytes.now ≡ Ok s.shard)) }
     ensures frame { Stays D.tells D.faults disk.old disk.new }
     ensures reason { IfErr result (IsPutError (D.faults disk.old) (D.faults disk.new)) }
 {
