@@ -1,4 +1,11 @@
+mod Ages
+mod Apart
+mod AtPath
 mod ErrorKinds
+mod FolderShards
 mod LastPart
+mod Pruned
+mod Removed
+mod Skipping
 mod ThroughDisk
 mod Written

@@ -1,5 +1,6 @@
 pub mod Answers
 pub mod Asked
+pub mod Directories
 pub mod Exporting
 pub mod Integrity
 pub mod Values

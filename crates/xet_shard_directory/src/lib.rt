@@ -2,9 +2,12 @@
 //! another expiry or a key.
 #![tactic(auto)]
 
+mod directory;
+mod folder;
 mod integrity;
 mod keyed;
 mod paths;
+mod pruning;
 mod queries;
 mod reading;
 mod shard_file;

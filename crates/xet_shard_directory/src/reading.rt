@@ -1,6 +1,6 @@
 //! Reading through a `FileReader`, whose failures are those of its disk.
 
-ghost use Rattle.std.specs.Prelude.{◌≡◌, true, is_some, IfErr, IfOk, Ok, Some};
+ghost use Rattle.std.specs.Prelude.{◌≡◌, true, is_some, IfErr, IfOk, IsErrOf, Ok, Some};
 ghost use Rattle.xet_codec.specs.Stops.{HasDiskReason};
 ghost use Rattle.xet_io.specs.Disk.{File, file_at};
 ghost use Rattle.xet_io.specs.Frame.{Unchanged};
@@ -53,6 +53,7 @@ pub(crate) fn of_disk<T>(answer: Result<T, StoreError>, is_short: bool) -> Resul
 /// The header and the footer of the file at a path.
 pub(crate) fn info_of<D: Disk>(disk: &mut D, path: &str) -> Result<MDBShardInfo, StoreError>
     ensures exact { D.tells disk.old ≡ true → (f : File) → file_at (D.files disk.old) path.now ≡ Some f → GivesUnlessDisk (λ info. info) result (info_at f.bytes) }
+    ensures present { IsErrOf result StoreError.FileNotFound → ⊥ }
     ensures frame { Unchanged D.files D.tells D.faults disk.old disk.new }
     ensures reason { IfErr result (IsReadError (D.faults disk.old) (D.faults disk.new)) }
 {

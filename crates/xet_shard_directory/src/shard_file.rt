@@ -1,12 +1,13 @@
 //! `MDBShardFile`: a shard file on a disk.
 
-ghost use Rattle.std.specs.Prelude.{◌≡◌, ◌≢◌, ◌<◌, ◌⊎◌, ℕ, List, [], true, OnErr, Some, IfErr, IfOk, IsErrOf, Err, string_bytes};
+ghost use Rattle.std.specs.Prelude.{◌≡◌, ◌≢◌, ◌<◌, ◌⊎◌, ℕ, List, [], true, None, OnErr, Some, IfErr, IfOk, IsErrOf, Err, string_bytes};
 ghost use Rattle.xet_codec.specs.Stops.{HasDiskReason};
+ghost use Rattle.xet_hash.specs.Hash.{zero_hash};
 ghost use Rattle.xet_io.specs.Disk.{File, file_at};
 ghost use Rattle.xet_io.specs.Frame.{Unchanged};
 ghost use Rattle.xet_shard.specs.Sections.{key_of};
 ghost use Rattle.xet_shard_directory.specs.Answers.{GivesUnlessDisk, IsBufferError, IsFindError, IsLoadError, IsReadError, first_bytes, in_file};
-ghost use Rattle.xet_shard_directory.specs.Values.{is_stale, last_part, loaded, placed, shard_value, stated_length};
+ghost use Rattle.xet_shard_directory.specs.Values.{is_stale, last_part, loaded, no_info, placed, shard_value, stated_length};
 ghost use Rattle.xet_shard_file.specs.Names.{IsHash};
 ghost use Rattle.xet_shard_format.specs.Names.{shard_name};
 
@@ -36,6 +37,18 @@ pub struct MDBShardFile {
 }
 
 impl MDBShardFile {
+    /// No shard file: no path, a zero hash, and zeros for the rest. Allocates nothing.
+    pub fn default(alloc: Global) -> MDBShardFile
+        ensures { result ≡ shard_value zero_hash [] no_info 0 }
+    {
+        MDBShardFile {
+            shard_hash: MerkleHash::default(),
+            path: Text::new(String::new(alloc)),
+            shard: MDBShardInfo::default(),
+            last_modified_time: 0,
+        }
+    }
+
     /// The shard file at this path, with the modification time that the disk states. Its bytes are not read: neither the
     /// hash nor `shard` is compared with them. `FileNotFound` if there is no such file.
     pub fn new<D: Disk>(
@@ -128,7 +141,7 @@ impl MDBShardFile {
 }
 
 /// The shard file at this path, whose name has this hash.
-fn load<D: Disk>(
+pub(crate) fn load<D: Disk>(
     alloc: Global,
     disk: &mut D,
     hash: MerkleHash,
@@ -136,6 +149,7 @@ fn load<D: Disk>(
 ) -> Result<MDBShardFile, StoreError>
     ensures exact { D.tells disk.old ≡ true → GivesUnlessDisk (λ s. s) result (loaded (D.files disk.old) hash path.now) }
     ensures value { IfOk result (λ s. (s.shard_hash ≡ hash) × (s.path ≡ path.now)) }
+    ensures absent { D.tells disk.old ≡ true → IsErrOf result StoreError.FileNotFound → file_at (D.files disk.old) path.now ≡ None }
     ensures frame { Unchanged D.files D.tells D.faults disk.old disk.new }
     ensures reason { IfErr result (IsReadError (D.faults disk.old) (D.faults disk.new)) }
 {

@@ -1,0 +1,15 @@
+use Rattle.std.proofs.Common.{◌∙◌}
+use Rattle.std.proofs.lemmas.Result.{IfErr-weaker}
+use Rattle.xet_shard_directory.specs.Directories.{IsUnloaded}
+use Rattle.xet_shard_directory.specs.internal.Folders.{IsUnreadIn}
+use Rattle.xet_shard_directory.proofs.AtPath.{folder_unloaded}
+use Rattle.xet_shard_directory.proofs.folder.read_at_path.Goals as goal
+
+pub returns-in-None-clause-refused : goal.returns-in-None-clause-refused
+returns-in-None-clause-refused g c = λ told.
+    let files = g.D.Disk.files c.args.disk.now in
+    let path = c.args.path.now in
+    let skip = c.args.skip_on_error in
+    IfErr-weaker c.read_folder.result (IsUnreadIn files path skip) (IsUnloaded files path skip)
+    (folder_unloaded files path (λ h is name. absurd (cc (c.in-None.ensures.every h is.0 is.1 (c.last_part.ensures ∙ name)))) skip)
+    (c.read_folder.ensures.refused told)
