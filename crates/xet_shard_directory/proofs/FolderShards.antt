@@ -115,6 +115,12 @@ module _ (files : Files) (folder : List ℕ) where
   shard_among (x ∷ es) (suc k) e s below at is =
       Contains-append_right (listed_shard files folder x) (shards es) s (shard_among es k e s (omega arith) at is)
 
+  -- all listed files were loaded, said of equal files and entries
+  pub all_listed : (here : Files) (es shown : List ShardEntry) (before items : List MDBShardFile) → here ≡ files → shown ≡ es → before ≡ [] → items ≡ before ++ flat_map (listed_shard here folder) shown
+      → items ≡ shards es
+  all_listed here es shown before items same is empty adds =
+      adds ∙ ap (λ (xs : List MDBShardFile). xs ++ flat_map (listed_shard here folder) shown) empty ∙ ap (λ (fs : Files). flat_map (listed_shard fs folder) shown) same ∙ ap shards is
+
   -- one more listed file was loaded
   pub listed_more : (es : List ShardEntry) (i : ℕ) (e : ShardEntry) (before items more found : List MDBShardFile) → i < length es → e ≡ get_or es i e → items ≡ before ++ shards (take i es)
       → more ≡ items ++ found → found ≡ listed_shard files folder e → more ≡ before ++ shards (take (i + 1) es)

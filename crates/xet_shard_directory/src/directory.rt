@@ -11,7 +11,7 @@ ghost use Rattle.xet_shard_file.specs.Names.{IsHash};
 ghost use Rattle.xet_shard_format.specs.Names.{shard_name};
 
 use crate::folder::read_at_path;
-use crate::pruning::{is_valid, may_be_deleted, planned};
+use crate::pruning::{deletable, planned, valid};
 use crate::shard_file::MDBShardFile;
 use std::alloc::Global;
 use xet_codec::store_error;
@@ -80,9 +80,8 @@ impl MDBShardFile {
         ensures frame { Unchanged D.files D.tells D.faults disk.old disk.new }
         ensures reason { IfErr result (IsFindError (D.faults disk.old) (D.faults disk.new)) }
     {
-        let mut shards = read_at_path(alloc, disk, path, true)?;
-        shards.retain(|shard| is_valid(shard, now));
-        Ok(shards)
+        let read = read_at_path(alloc, disk, path, true)?;
+        Ok(valid(read, now))
     }
 
     /// Removes the shard files of a folder, or the one at this path, that may be deleted at the time `now`: those whose
@@ -102,9 +101,8 @@ impl MDBShardFile {
         ensures frame { Stays D.tells D.faults disk.old disk.new }
         ensures reason { IfErr result (IsFindError (D.faults disk.old) (D.faults disk.new)) }
     {
-        let mut shards = read_at_path(alloc, disk, path, true)?;
-        shards.retain(|shard| may_be_deleted(shard, buffer, now));
-        remove_all(disk, &shards)
+        let read = read_at_path(alloc, disk, path, true)?;
+        remove_all(disk, &deletable(read, buffer, now))
     }
 }
 

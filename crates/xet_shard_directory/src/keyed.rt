@@ -88,8 +88,7 @@ impl MDBShardFile {
             lookups.chunks,
             now,
         );
-        let is_short = reader.was_out_of_memory();
-        match of_disk(answer, is_short) {
+        match of_disk(answer, reader.was_out_of_memory()) {
             Ok(()) => Ok(sink.into_bytes()),
             Err(error) => Err(error),
         }

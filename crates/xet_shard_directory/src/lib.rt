@@ -1,5 +1,5 @@
 //! Shard files as values: loaded from their paths, verified, read and queried where they lie, written, copied, and given
-//! another expiry or a key.
+//! another expiry or a key; and folders of them, with expiry and pruning.
 #![tactic(auto)]
 
 mod directory;

@@ -116,15 +116,31 @@ fn age_order(a: &MDBShardFile, b: &MDBShardFile) -> Ordering
         .then(a.path.as_str().cmp(b.path.as_str()))
 }
 
+/// The shard files that are valid at a time.
+pub(crate) fn valid(mut shards: Vec<MDBShardFile>, now: u64) -> Vec<MDBShardFile>
+    ensures { result.items ≡ filter (is_valid now) shards.items }
+{
+    shards.retain(|shard| is_valid(shard, now));
+    shards
+}
+
+/// The shard files that may be deleted at a time.
+pub(crate) fn deletable(mut shards: Vec<MDBShardFile>, buffer: u64, now: u64) -> Vec<MDBShardFile>
+    ensures { result.items ≡ filter (may_be_deleted buffer now) shards.items }
+{
+    shards.retain(|shard| may_be_deleted(shard, buffer, now));
+    shards
+}
+
 /// Whether a shard is valid at a time: up to its expiry.
-pub(crate) fn is_valid(shard: &MDBShardFile, now: u64) -> bool
+fn is_valid(shard: &MDBShardFile, now: u64) -> bool
     ensures { result ≡ is_valid now shard.now }
 {
     now <= shard.shard.metadata.shard_key_expiry
 }
 
 /// Whether a shard may be deleted at a time: from `buffer` seconds after its expiry on.
-pub(crate) fn may_be_deleted(shard: &MDBShardFile, buffer: u64, now: u64) -> bool
+fn may_be_deleted(shard: &MDBShardFile, buffer: u64, now: u64) -> bool
     ensures { result ≡ may_be_deleted buffer now shard.now }
 {
     shard.shard.metadata.shard_key_expiry.saturating_add(buffer) <= now

@@ -32,8 +32,7 @@ impl MDBShardFile {
         modified(disk, path)?;
         let mut reader = FileReader::new(disk, path);
         let answer = self.shard.read_all_xorb_blocks(alloc, &mut reader);
-        let is_short = reader.was_out_of_memory();
-        of_disk(answer, is_short)
+        of_disk(answer, reader.was_out_of_memory())
     }
 
     /// The files of the shard. Errors are those of `read_all_xorb_blocks`.
@@ -50,8 +49,7 @@ impl MDBShardFile {
         modified(disk, path)?;
         let mut reader = FileReader::new(disk, path);
         let answer = self.shard.read_all_file_info_sections(alloc, &mut reader);
-        let is_short = reader.was_out_of_memory();
-        of_disk(answer, is_short)
+        of_disk(answer, reader.was_out_of_memory())
     }
 
     /// The xorb lookup table: for each xorb the first word of its hash, and the row of its header. An omitted table is
@@ -69,8 +67,7 @@ impl MDBShardFile {
         modified(disk, path)?;
         let mut reader = FileReader::new(disk, path);
         let answer = self.shard.read_full_xorb_lookup(alloc, &mut reader);
-        let is_short = reader.was_out_of_memory();
-        of_disk(answer, is_short)
+        of_disk(answer, reader.was_out_of_memory())
     }
 
     /// The chunk lookup table: for each chunk the first word of its hash, the row of its xorb's header, and its index in
@@ -88,8 +85,7 @@ impl MDBShardFile {
         modified(disk, path)?;
         let mut reader = FileReader::new(disk, path);
         let answer = self.shard.read_all_truncated_hashes(alloc, &mut reader);
-        let is_short = reader.was_out_of_memory();
-        of_disk(answer, is_short)
+        of_disk(answer, reader.was_out_of_memory())
     }
 
     /// The file record with a hash. None if the shard has none, or if there is no file. If eight or more files share
@@ -114,8 +110,7 @@ impl MDBShardFile {
         let answer = self
             .shard
             .get_file_reconstruction_info(alloc, &mut reader, hash);
-        let is_short = reader.was_out_of_memory();
-        of_disk(answer, is_short)
+        of_disk(answer, reader.was_out_of_memory())
     }
 
     /// The run of a query, as `MDBShardInfo::chunk_hash_dedup_query` finds it. None also if there is no file. If bytes
@@ -137,8 +132,7 @@ impl MDBShardFile {
         }
         let mut reader = FileReader::new(disk, path);
         let answer = self.shard.chunk_hash_dedup_query(alloc, &mut reader, query);
-        let is_short = reader.was_out_of_memory();
-        of_disk(answer, is_short)
+        of_disk(answer, reader.was_out_of_memory())
     }
 
     /// The run of a query that starts at index `place` of the xorb whose header is in row `row`, as
@@ -164,7 +158,6 @@ impl MDBShardFile {
         let answer = self
             .shard
             .chunk_hash_dedup_query_direct(alloc, &mut reader, query, row, place);
-        let is_short = reader.was_out_of_memory();
-        of_disk(answer, is_short)
+        of_disk(answer, reader.was_out_of_memory())
     }
 }

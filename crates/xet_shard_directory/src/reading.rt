@@ -59,6 +59,5 @@ pub(crate) fn info_of<D: Disk>(disk: &mut D, path: &str) -> Result<MDBShardInfo,
 {
     let mut reader = FileReader::new(disk, path);
     let answer = MDBShardInfo::load_from_reader(&mut reader);
-    let is_short = reader.was_out_of_memory();
-    of_disk(answer, is_short)
+    of_disk(answer, reader.was_out_of_memory())
 }

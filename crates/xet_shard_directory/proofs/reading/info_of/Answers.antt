@@ -12,7 +12,7 @@ pub returns-clause-exact : goal.returns-clause-exact
 returns-clause-exact g c = λ tells f there.
     let files = g.D.Disk.files in
     let answer = c.load_from_reader-answer.result in
-    let short = c.was_out_of_memory-is_short.result in
+    let short = c.was_out_of_memory.result in
     let disk = c.new-reader.ensures.now in
     let bytes : bytes_of (files c.new-reader.result.disk.now) c.new-reader.result.name.now ≡ f.bytes =
     ap (λ d. bytes_of (files d) c.new-reader.result.name.now) disk ∙ ap (bytes_of (files c.args.disk.now)) c.new-reader.ensures.name ∙ ap bytes_if there in
