@@ -97,6 +97,13 @@ impl ShardRegistry {
         &self.files
     }
 
+    /// The number of keys, with that of the shards without one.
+    pub fn key_count(&self) -> usize
+        ensures { (shards : List Registered) → IsRegistryOf shards self.now → result ≡ length (keys_of shards) }
+    {
+        self.collections.len()
+    }
+
     /// The key with an index, in their order: zero for the shards without one, and then the keys of the registered shards
     /// in order of first occurrence.
     pub fn key(&self, index: usize) -> Option<HMACKey>

@@ -1,0 +1,6 @@
+//! Look-ups in the shards of a store: what is pending, and the registered shards on a disk.
+#![tactic(auto)]
+
+mod queries;
+
+pub use queries::find_run;
