@@ -8,4 +8,5 @@ mod export_tests;
 mod held_tests;
 mod part_tests;
 mod query_tests;
+mod registry_tests;
 mod section_tests;
