@@ -279,3 +279,156 @@ fn is_verified(rt: HostRuntime) -> Result<(), Fail> {
     assert_eq!(rt; answer?, [None, None, named, Some(Reason::ShardHash)]);
     Ok(())
 }
+
+/// How long an expired shard is retained, in seconds.
+const BUFFER: u64 = 604_800;
+
+/// How many shard files of the folder `b` are loaded at a time; the expired ones are deleted where the buffer is over.
+fn loaded_at(alloc: Global, disk: &mut MemoryDisk, now: u64) -> Result<usize, StoreError> {
+    let shards = MDBShardFile::load_managed_directory(
+        alloc, disk, "b", false, false, true, 0, BUFFER, now,
+    )?;
+    Ok(shards.len())
+}
+
+/// How many shard files the folder `b` has.
+fn all_in_b(alloc: Global, disk: &mut MemoryDisk) -> Result<usize, StoreError> {
+    let shards = MDBShardFile::load_managed_directory(
+        alloc,
+        disk,
+        "b",
+        false,
+        true,
+        true,
+        0,
+        0,
+        u64::MAX,
+    )?;
+    Ok(shards.len())
+}
+
+/// How many shard files are loaded at a time, and how many the folder then has.
+fn at(alloc: Global, disk: &mut MemoryDisk, now: u64) -> Result<(usize, usize), StoreError> {
+    let loaded = loaded_at(alloc, disk, now)?;
+    Ok((loaded, all_in_b(alloc, disk)?))
+}
+
+/// What is loaded of a keyed shard that expires at 110: up to its expiry, a second later, and around the end of the
+/// buffer.
+fn expiring(alloc: Global, disk: &mut MemoryDisk) -> Result<[(usize, usize); 4], StoreError> {
+    let shard = written(alloc, disk)?;
+    let shard = keyed(alloc, disk, &shard, true)?;
+    if shard.shard.metadata.shard_key_expiry != 110 {
+        return Err(StoreError::HashMismatch);
+    }
+    Ok([
+        at(alloc, disk, 110)?,
+        at(alloc, disk, 111)?,
+        at(alloc, disk, 110 + BUFFER - 1)?,
+        at(alloc, disk, 110 + BUFFER)?,
+    ])
+}
+
+#[test]
+fn expires_and_is_deleted(rt: HostRuntime) -> Result<(), Fail> {
+    let alloc = rt.alloc();
+    let mut disk = MemoryDisk::new(alloc);
+    let answer = expiring(alloc, &mut disk);
+    release(disk);
+    assert_eq!(rt; answer?, [(1, 1), (0, 1), (0, 1), (0, 0)]);
+    Ok(())
+}
+
+/// The creation time of the one shard file that is left of three, of 672 bytes each, that are pruned to 1,343 bytes; 0 if
+/// not one is left.
+fn newest(alloc: Global, disk: &mut MemoryDisk) -> Result<u64, StoreError> {
+    let shard = written(alloc, disk)?;
+    for creation in [60, 70, 50] {
+        shard.export_with_specific_expiration(alloc, disk, "b", u64::MAX, creation)?;
+    }
+    let kept = MDBShardFile::load_managed_directory(
+        alloc, disk, "b", false, false, false, 1343, 0, 100,
+    )?;
+    match kept.as_slice() {
+        [one] => Ok(one.shard.metadata.shard_creation_timestamp),
+        _ => Ok(0),
+    }
+}
+
+/// The same, and how many shard files the folder then has.
+fn pruned(alloc: Global, disk: &mut MemoryDisk) -> Result<(u64, usize), StoreError> {
+    let newest = newest(alloc, disk)?;
+    Ok((newest, all_in_b(alloc, disk)?))
+}
+
+#[test]
+fn is_pruned_oldest_first(rt: HostRuntime) -> Result<(), Fail> {
+    let alloc = rt.alloc();
+    let mut disk = MemoryDisk::new(alloc);
+    let answer = pruned(alloc, &mut disk);
+    release(disk);
+    assert_eq!(rt; answer?, (70, 1));
+    Ok(())
+}
+
+/// How many shard files are valid at a time, and how many there are after the folder was cleaned at that time.
+fn cleaned(alloc: Global, disk: &mut MemoryDisk, now: u64) -> Result<(usize, usize), StoreError> {
+    let valid = MDBShardFile::load_all_valid(alloc, disk, "b", now)?;
+    MDBShardFile::clean_shard_cache(alloc, disk, "b", BUFFER, now)?;
+    Ok((valid.len(), all_in_b(alloc, disk)?))
+}
+
+/// The same for a folder of two shards, one of which expires at 110: at that time, and at the end of the buffer.
+fn two_shards(alloc: Global, disk: &mut MemoryDisk) -> Result<[(usize, usize); 2], StoreError> {
+    let shard = written(alloc, disk)?;
+    shard.copy_into_target_directory(alloc, disk, "b")?;
+    keyed(alloc, disk, &shard, true)?;
+    Ok([
+        cleaned(alloc, disk, 110)?,
+        cleaned(alloc, disk, 110 + BUFFER)?,
+    ])
+}
+
+#[test]
+fn is_cleaned(rt: HostRuntime) -> Result<(), Fail> {
+    let alloc = rt.alloc();
+    let mut disk = MemoryDisk::new(alloc);
+    let answer = two_shards(alloc, &mut disk);
+    release(disk);
+    assert_eq!(rt; answer?, [(2, 2), (1, 1)]);
+    Ok(())
+}
+
+/// The error for a malformed file with the name of a shard, and how many are loaded where errors are skipped.
+fn malformed(
+    alloc: Global,
+    disk: &mut MemoryDisk,
+) -> Result<(Option<StoreError>, usize), StoreError> {
+    let shard = written(alloc, disk)?;
+    let _ = disk.write(shard.path.as_str(), b"abc");
+    let error = MDBShardFile::load_managed_directory(
+        alloc, disk, "a", false, true, false, 0, 0, 0,
+    ).err();
+    let skipped = MDBShardFile::load_managed_directory(
+        alloc, disk, "a", true, true, false, 0, 0, 0,
+    )?;
+    Ok((error, skipped.len()))
+}
+
+#[test]
+fn malformed_file_is_skipped_if_wanted(rt: HostRuntime) -> Result<(), Fail> {
+    let alloc = rt.alloc();
+    let mut disk = MemoryDisk::new(alloc);
+    let answer = malformed(alloc, &mut disk);
+    release(disk);
+    assert_eq!(rt; answer?, (Some(StoreError::UnexpectedEof), 0));
+    Ok(())
+}
+
+#[test]
+fn default_is_empty(rt: HostRuntime) -> Result<(), Fail> {
+    let shard = MDBShardFile::default(rt.alloc());
+    assert_eq!(rt; shard.path.as_str(), "");
+    assert_eq!(rt; shard.shard.num_bytes(), 200);
+    Ok(())
+}
