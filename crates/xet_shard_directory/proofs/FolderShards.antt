@@ -36,7 +36,7 @@ value_in (Ok shard) h p m s e =
     let same : shard_value h p shard m ≡ s = cc e in (sym (ap (λ (x : MDBShardFile). x.shard_hash) same), sym (ap (λ (x : MDBShardFile). x.path) same))
 value_in (Err d) h p m s e = absurd (cc e)
 
-loaded_in : (found : Option File) (h p : List ℕ) (s : MDBShardFile) → in_file found (λ f. info_at f.bytes >>= λ shard. Ok (shard_value h p shard f.modified)) ≡ Ok s
+pub loaded_in : (found : Option File) (h p : List ℕ) (s : MDBShardFile) → in_file found (λ f. info_at f.bytes >>= λ shard. Ok (shard_value h p shard f.modified)) ≡ Ok s
     → IsSome found × (s.shard_hash ≡ h) × (s.path ≡ p)
 loaded_in None h p s e = absurd (cc e)
 loaded_in (Some f) h p s e = let value = value_in (info_at f.bytes) h p f.modified s e in (refl, value.0, value.1)

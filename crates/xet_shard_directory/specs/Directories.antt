@@ -43,6 +43,10 @@ IsShardAt path h p =
     × (((last_part path ≡ shard_name h) × (p ≡ path))
     ⊎ (((g : List ℕ) → IsHash g → last_part path ≢ shard_name g) × (p ≡ shard_path path h)))
 
+-- the shard file is one at a path, or of the folder there, and its header and footer are well formed
+abbrev pub IsReadAt : Files → List ℕ → MDBShardFile → Type 0
+IsReadAt files path s = IsShardAt path s.shard_hash s.path × (loaded files s.shard_hash s.path ≡ Ok s)
+
 -- the header and the footer of every shard file there are well formed
 abbrev pub AllRead : Files → List ℕ → Type 0
 AllRead files path = (h p : List ℕ) → IsShardAt path h p → IsSome (file_at files p) → IsOk (loaded files h p)

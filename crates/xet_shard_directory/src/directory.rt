@@ -1,10 +1,10 @@
 //! Folders of shard files: loading, expiry and pruning.
 
-ghost use Rattle.std.specs.Prelude.{◌≡◌, ℕ, List, filter, take, false, true, IfErr, IfOk, IsErrOf, OnErr, OnOk};
+ghost use Rattle.std.specs.Prelude.{◌≡◌, ℕ, List, All, AllPairs, filter, take, false, true, IfErr, IfOk, IsErrOf, OnErr, OnOk};
 ghost use Rattle.xet_codec.specs.Stops.{HasDiskReason};
 ghost use Rattle.xet_io.specs.Frame.{Stays, Unchanged};
 ghost use Rattle.xet_shard_directory.specs.Answers.{IsFindError, IsReadError};
-ghost use Rattle.xet_shard_directory.specs.Directories.{AllRead, Cleans, IsUnloaded, KeptOrCleaned, KeptOrRemoved, Loads, ReadsPath, all_removed, is_valid, paths};
+ghost use Rattle.xet_shard_directory.specs.Directories.{AllRead, Cleans, IsBeforeByPath, IsReadAt, IsUnloaded, KeptOrCleaned, KeptOrRemoved, Loads, ReadsPath, all_removed, is_valid, paths};
 ghost use Rattle.xet_shard_directory.specs.Values.{last_part};
 ghost use Rattle.xet_shard_directory.specs.declared.shard_file.MDBShardFile.{MDBShardFile};
 ghost use Rattle.xet_shard_file.specs.Names.{IsHash};
@@ -75,6 +75,8 @@ impl MDBShardFile {
         now: u64,
     ) -> Result<Vec<MDBShardFile>, StoreError>
         ensures told { D.tells disk.old ≡ true → IfOk result (λ shards. (read : List MDBShardFile) × ReadsPath (D.files disk.old) path.now read × (shards.items ≡ filter (is_valid now) read)) }
+        ensures order { D.tells disk.old ≡ true → IfOk result (λ shards. AllPairs IsBeforeByPath shards.items) }
+        ensures each { D.tells disk.old ≡ true → IfOk result (λ shards. All (IsReadAt (D.files disk.old) path.now) shards.items) }
         ensures refused { D.tells disk.old ≡ true → IfErr result (IsUnloaded (D.files disk.old) path.now true) }
         ensures absent { IsErrOf result StoreError.FileNotFound → (h : List ℕ) × IsHash h × (last_part path.now ≡ shard_name h) }
         ensures frame { Unchanged D.files D.tells D.faults disk.old disk.new }
@@ -106,8 +108,9 @@ impl MDBShardFile {
     }
 }
 
-/// Removes these files, one after the other.
-fn remove_all<D: Disk>(disk: &mut D, shards: &[MDBShardFile]) -> Result<(), StoreError>
+/// Removes the files of these shards, one after the other; one that is not there is passed over. After an error the first
+/// ones may have been removed.
+pub fn remove_all<D: Disk>(disk: &mut D, shards: &[MDBShardFile]) -> Result<(), StoreError>
     ensures removed { D.tells disk.old ≡ true → OnOk result (D.files disk.new ≡ all_removed (D.files disk.old) (paths shards.now)) }
     ensures kept { D.tells disk.old ≡ true → OnErr result ((n : ℕ) × (D.files disk.new ≡ all_removed (D.files disk.old) (take n (paths shards.now)))) }
     ensures frame { Stays D.tells D.faults disk.old disk.new }

@@ -8,7 +8,7 @@ ghost use Rattle.xet_codec.specs.Stops.{HasDiskReason};
 ghost use Rattle.xet_io.specs.Disk.{file_at};
 ghost use Rattle.xet_io.specs.Frame.{Unchanged};
 ghost use Rattle.xet_shard_directory.specs.Answers.{IsFindError, IsReadError};
-ghost use Rattle.xet_shard_directory.specs.Directories.{AllRead, IsBeforeByPath, IsUnloaded, ReadsFile, ReadsFolder, ReadsPath};
+ghost use Rattle.xet_shard_directory.specs.Directories.{AllRead, IsBeforeByPath, IsReadAt, IsUnloaded, ReadsFile, ReadsFolder, ReadsPath};
 ghost use Rattle.xet_shard_directory.specs.Values.{last_part, loaded};
 ghost use Rattle.xet_shard_directory.specs.internal.Folders.{IsListedRead, IsUnread, IsUnreadIn, listed, listed_shard, path_order, shard_in, unless_skipped, unless_vanished};
 ghost use Rattle.xet_shard_file.specs.Names.{IsHash, shard_path};
@@ -33,6 +33,7 @@ pub(crate) fn read_at_path<D: Disk>(
 ) -> Result<Vec<MDBShardFile>, StoreError>
     ensures told { D.tells disk.old ≡ true → IfOk result (λ read. ReadsPath (D.files disk.old) path.now read.items) }
     ensures order { D.tells disk.old ≡ true → IfOk result (λ read. AllPairs IsBeforeByPath read.items) }
+    ensures each { D.tells disk.old ≡ true → IfOk result (λ read. All (IsReadAt (D.files disk.old) path.now) read.items) }
     ensures all { D.tells disk.old ≡ true → skip_on_error ≡ false → OnOk result (AllRead (D.files disk.old) path.now) }
     ensures refused { D.tells disk.old ≡ true → IfErr result (IsUnloaded (D.files disk.old) path.now skip_on_error) }
     ensures skipped { skip_on_error ≡ true → IfErr result (IsFindError (D.faults disk.old) (D.faults disk.new)) }

@@ -13,4 +13,6 @@ mod reading;
 mod shard_file;
 mod writing;
 
+pub use directory::remove_all;
 pub use shard_file::MDBShardFile;
+pub use writing::write_shard_file;

@@ -141,7 +141,7 @@ impl MDBShardFile {
 }
 
 /// Writes the bytes of a shard into a folder, durably, under the name of their digest.
-pub(crate) fn write_shard_file<D: Disk>(
+pub fn write_shard_file<D: Disk>(
     alloc: Global,
     disk: &mut D,
     target: &str,
