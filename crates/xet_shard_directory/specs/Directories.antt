@@ -65,7 +65,7 @@ expiry s = s.shard.metadata.shard_key_expiry
 abbrev pub is_valid : ℕ → MDBShardFile → Bool
 is_valid now s = nat_le now (expiry s)
 
--- a shard may be deleted from `buffer` seconds after its expiry on
+-- a shard may be deleted from `buffer` seconds after its expiry on, at the latest at the maximum time
 abbrev pub may_be_deleted : ℕ → ℕ → MDBShardFile → Bool
 may_be_deleted buffer now s = nat_le (min (expiry s + buffer) never) now
 

@@ -6,6 +6,7 @@ ghost use Rattle.xet_io.specs.Frame.{Stays, Unchanged};
 ghost use Rattle.xet_shard_directory.specs.Answers.{IsFindError, IsReadError};
 ghost use Rattle.xet_shard_directory.specs.Directories.{AllRead, Cleans, IsBeforeByPath, IsReadAt, IsUnloaded, KeptOrCleaned, KeptOrRemoved, Loads, ReadsPath, all_removed, is_valid, paths};
 ghost use Rattle.xet_shard_directory.specs.Values.{last_part};
+ghost use Rattle.xet_shard_directory.specs.Writing.{IsFormatError};
 ghost use Rattle.xet_shard_directory.specs.declared.shard_file.MDBShardFile.{MDBShardFile};
 ghost use Rattle.xet_shard_file.specs.Names.{IsHash};
 ghost use Rattle.xet_shard_format.specs.Names.{shard_name};
@@ -24,8 +25,9 @@ impl MDBShardFile {
     ///
     /// Loaded are the shards that are valid at the time `now`, that is up to their expiry, and with `load_expired` the
     /// others too. With `prune_expired` those that are not loaded are deleted from `buffer` seconds after their expiry
-    /// on. If `prune_to` is not 0, loaded shards are pruned too, the oldest creation first and equal ones by path, until
-    /// the others are no longer than `prune_to` bytes together. Times are in seconds since the Unix epoch.
+    /// on; this sum is at most 2^64 - 1. If `prune_to` is not 0, loaded shards are pruned too, the oldest creation first
+    /// and equal ones by path, until the lengths that the footers of the others state sum to at most `prune_to` bytes.
+    /// Times are in seconds since the Unix epoch.
     ///
     /// A malformed header or footer is an error, or with `skip_on_error` that file is passed over; it is never removed.
     /// The disk's failures are always errors. Nothing is removed before all files were read; after an error some of the
@@ -45,6 +47,7 @@ impl MDBShardFile {
         ensures all { D.tells disk.old ≡ true → skip_on_error ≡ false → OnOk result (AllRead (D.files disk.old) path.now) }
         ensures kept { D.tells disk.old ≡ true → OnErr result (KeptOrRemoved (D.files disk.old) (D.files disk.new) path.now load_expired prune_expired prune_to buffer now) }
         ensures refused { D.tells disk.old ≡ true → IfErr result (IsUnloaded (D.files disk.old) path.now skip_on_error) }
+        ensures unchanged { IfErr result (λ e. IsFormatError e → D.files disk.new ≡ D.files disk.old) }
         ensures skipped { skip_on_error ≡ true → IfErr result (IsFindError (D.faults disk.old) (D.faults disk.new)) }
         ensures absent { IsErrOf result StoreError.FileNotFound → (h : List ℕ) × IsHash h × (last_part path.now ≡ shard_name h) }
         ensures frame { Stays D.tells D.faults disk.old disk.new }
@@ -87,7 +90,7 @@ impl MDBShardFile {
     }
 
     /// Removes the shard files of a folder, or the one at this path, that may be deleted at the time `now`: those whose
-    /// expiry was `buffer` seconds ago or earlier. Malformed ones are passed over. After an error some of the files may
+    /// expiry was `buffer` seconds ago or earlier; the sum of the two is at most 2^64 - 1. Malformed ones are passed over. After an error some of the files may
     /// have been removed that would have been.
     pub fn clean_shard_cache<D: Disk>(
         alloc: Global,
