@@ -53,7 +53,7 @@ run_of_file law files query p s file result h hs same holds eq present absent = 
     by None e = rw e (absent (rw same at e))
     by (Some f) e =
         let enc : IsEncodingOf s f.bytes = holds f.bytes (ap (option_map (λ (g : File). g.bytes)) e) in
-        rw e (encoded_run law enc.lookups (shard_of s) enc.form enc.fits file.shard f.bytes query h hs p.row p.chunk result eq (ap (λ (m : MDBShardFile). m.shard) (sym same) ∙ enc.info) enc.encoding (present f (rw same at e)))
+        rw e (encoded_run law enc.encoding.lookups (shard_of s) enc.encoding.shard enc.encoding.fits file.shard f.bytes query h hs p.row p.chunk result eq (ap (λ (m : MDBShardFile). m.shard) (sym same) ∙ enc.info) enc.encoding.encoding (present f (rw same at e)))
 
 -- ---- the file of a place
 

@@ -5,8 +5,7 @@ use Rattle.xet_io.specs.Disk.{Files, bytes_at, file_at}
 use Rattle.xet_shard.specs.Held.{Held}
 use Rattle.xet_shard.specs.Queries.{kept_hash, shard_run_at}
 use Rattle.xet_shard.specs.Runs.{held_run}
-use Rattle.xet_shard_format.specs.Encoding.{Fits, IsShard, Shard, footer_of, header, shard, shard_bytes}
-use Rattle.xet_shard_format.specs.Lookups.{Lookups}
+use Rattle.xet_shard_format.specs.Encoding.{IsShardEncoding, Shard, footer_of, header, shard}
 use Rattle.xet_shard_format.specs.Records.{first_word}
 use Rattle.xet_shard_format.specs.declared.record.FileDataSequenceEntry.{FileDataSequenceEntry}
 use Rattle.xet_shard_index.specs.declared.word_index.WordPlace.{WordPlace}
@@ -23,13 +22,10 @@ shard_of s = shard s.records.0 s.records.1 (key_of s) s.file.shard.metadata.shar
 
 -- The bytes are a well-formed encoding of the registered shard, and its value has their header and footer.
 pub record IsEncodingOf (s : Registered) (bytes : List ℕ) : Type 0 where
-  pub lookups : Lookups
-  pub form : IsShard (shard_of s)
-  pub fits : Fits (shard_of s)
-  pub encoding : bytes ≡ shard_bytes lookups (shard_of s)
-  pub info : s.file.shard ≡ record { header = header; metadata = footer_of lookups (shard_of s) }
+  pub encoding : IsShardEncoding bytes (shard_of s)
+  pub info : s.file.shard ≡ record { header = header; metadata = footer_of encoding.lookups (shard_of s) }
 
--- the file of a registered shard is gone, or is as it was when the shard was registered
+-- the file of a registered shard is gone, or encodes it
 abbrev pub HoldsFile : Files → Registered → Type 0
 HoldsFile files s = (bytes : List ℕ) → bytes_at files s.file.path ≡ Some bytes → IsEncodingOf s bytes
 

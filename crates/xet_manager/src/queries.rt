@@ -21,7 +21,8 @@ use xet_shard_registry::{ShardRegistry, WordPlace};
 /// What is pending is asked first, then the registered shards, those of one key after those of another: first the shards
 /// without a key. Of each key the last chunk is asked that has the first word of the query's first hash, in the last shard
 /// that is indexed and has one; it answers if it has the whole hash. A shard whose file is gone does not answer. None if
-/// there is no answer, or if the query is empty.
+/// there is no answer, or if the query is empty. `Io(Disk)` if the disk failed; `UnexpectedEof` or `MalformedData` only if
+/// the file of a registered shard is not an encoding of it.
 pub fn find_run<D: Disk>(
     alloc: Global,
     disk: &mut D,

@@ -1,15 +1,16 @@
 -- The entries of an index, after the items of one more shard were inserted.
-use Rattle.std.proofs.Common.{◌≡◌, ◌≢◌, ◌⊎◌, inl, inr, ℕ, ◌+◌, ◌<◌, ◌==◌, nat_eq, nat_le, Bool, true, false, cond, not, List, [], ◌∷◌, ◌++◌, filter, get_or, length, map, take, Option, Some, None, option_map, refl, sym, ap, ◌∙◌}
+use Rattle.std.proofs.Common.{◌≡◌, ◌≢◌, ◌⊎◌, inl, inr, ℕ, ◌+◌, ◌<◌, ◌==◌, nat_eq, nat_le, Bool, true, false, cond, List, [], ◌∷◌, ◌++◌, get_or, length, map, take, Option, Some, None, option_map, refl, sym, ap, ◌∙◌}
 use Rattle.indexmap.specs.IndexMap.{insert_entry}
 use Rattle.indexmap.specs.IndexSet.{insert_key}
 use Rattle.std.proofs.lemmas.Bool.Decides.{eqb_tells}
 use Rattle.std.proofs.lemmas.List.{append_assoc, append-nil, map-append, take_more}
-use Rattle.std.proofs.lemmas.List.Elements.{filter-append}
 use Rattle.std.specs.List.{list_any}
 use Rattle.std.specs.Map.{lookup}
 use Rattle.xet_shard.specs.Queries.{last_of}
 use Rattle.xet_shard_format.specs.Lookups.{flat_place, flat_places}
-use Rattle.xet_shard_index.specs.Places.{IndexedShard, IsIndexOf, all_words, different, indexed_shard, place_in, place_of, within_reach, word_place}
+use Rattle.xet_shard_index.specs.Different.{different}
+use Rattle.xet_shard_index.specs.theorems.Different.{different_with}
+use Rattle.xet_shard_index.specs.Places.{IndexedShard, IsIndexOf, all_words, indexed_shard, place_in, place_of, within_reach, word_place}
 use Rattle.xet_shard_index.specs.declared.word_index.WordPlace.{WordPlace}
 use Rattle.xet_shard_index.specs.internal.Noting.{noted, noted_one}
 
@@ -124,50 +125,19 @@ words_inserted (x ∷ e) k v = by (nat_eq k x.0) refl (list_any (nat_eq k) (map 
     by false eb true ec later = rw (eb, ec) (ap (λ (ys : List ℕ). x.0 ∷ ys) (later ∙ rw ec refl))
     by false eb false ec later = rw (eb, ec) (ap (λ (ys : List ℕ). x.0 ∷ ys) (later ∙ rw ec refl))
 
--- a word is among those of a list without another word
-any_without : (x w : ℕ) (ws : List ℕ) → nat_eq w x ≡ false → list_any (nat_eq w) (filter (λ v. not (v == x)) ws) ≡ list_any (nat_eq w) ws
-any_without x w [] eb = refl
-any_without x w (y ∷ ws) eb = by (eqb_tells y x) (eqb_tells w y) (any_without x w ws eb)
-  where
-    by : ((nat_eq y x ≡ true) × (y ≡ x)) ⊎ ((nat_eq y x ≡ false) × (y ≢ x)) → ((nat_eq w y ≡ true) × (w ≡ y)) ⊎ ((nat_eq w y ≡ false) × (w ≢ y))
-        → list_any (nat_eq w) (filter (λ v. not (v == x)) ws) ≡ list_any (nat_eq w) ws
-        → list_any (nat_eq w) (filter (λ v. not (v == x)) (y ∷ ws)) ≡ list_any (nat_eq w) (y ∷ ws)
-    by (inl a) (inl b) later = absurd (cc (eb, a.1, b.0))
-    by (inl a) (inr b) later = rw (a.0, b.0) later
-    by (inr a) (inl b) later = rw (a.0, b.0) refl
-    by (inr a) (inr b) later = rw (a.0, b.0) later
-
--- the different words where a word comes last
-different_last : (ws : List ℕ) (w : ℕ) → different (ws ++ w ∷ []) ≡ insert_key nat_eq (different ws) w
-unfolding different
-different_last [] w = refl
-different_last (x ∷ ws) w =
-    ap (λ (ys : List ℕ). x ∷ filter (λ v. not (v == x)) ys) (different_last ws w)
-    ∙ by (eqb_tells w x) (list_any (nat_eq w) (different ws)) refl
-  where
-    d : List ℕ
-    d = different ws
-
-    by : ((nat_eq w x ≡ true) × (w ≡ x)) ⊎ ((nat_eq w x ≡ false) × (w ≢ x)) → (c : Bool) → list_any (nat_eq w) d ≡ c
-        → x ∷ filter (λ v. not (v == x)) (insert_key nat_eq d w) ≡ insert_key nat_eq (x ∷ filter (λ v. not (v == x)) d) w
-    by (inl a) true ec = rw (ec, a.0) refl
-    by (inl a) false ec = rw (ec, a.0) (ap (λ (ys : List ℕ). x ∷ ys) (filter-append (λ v. not (v == x)) d (w ∷ []) ∙ rw a.0 (append-nil (filter (λ v. not (v == x)) d))))
-    by (inr a) true ec = rw (ec, a.0, any_without x w d a.0, ec) refl
-    by (inr a) false ec = rw (ec, a.0, any_without x w d a.0, ec) (ap (λ (ys : List ℕ). x ∷ ys) (filter-append (λ v. not (v == x)) d (w ∷ []) ∙ rw a.0 refl))
-
 -- the words of the entries after the items of a shard were inserted
-noted_words : (shard : ℕ) (items : List Item) (e : Entries) (ws : List ℕ) → map (λ (x : ℕ × WordPlace). x.0) e ≡ different ws
-    → map (λ (x : ℕ × WordPlace). x.0) (noted shard items e) ≡ different (ws ++ map (λ (i : Item). i.0) (within_reach items))
+noted_words : (shard : ℕ) (items : List Item) (e : Entries) (ws : List ℕ) → map (λ (x : ℕ × WordPlace). x.0) e ≡ different nat_eq ws
+    → map (λ (x : ℕ × WordPlace). x.0) (noted shard items e) ≡ different nat_eq (ws ++ map (λ (i : Item). i.0) (within_reach items))
 unfolding noted
-noted_words shard [] e ws held = held ∙ ap different (sym (append-nil ws))
+noted_words shard [] e ws held = held ∙ ap (different nat_eq) (sym (append-nil ws))
 noted_words shard (i ∷ is) e ws held = by (nat_le i.2 65535) refl (noted_words shard is)
   where
-    by : (b : Bool) → nat_le i.2 65535 ≡ b → ((e : Entries) (ws : List ℕ) → map (λ (x : ℕ × WordPlace). x.0) e ≡ different ws → map (λ (x : ℕ × WordPlace). x.0) (noted shard is e) ≡ different (ws ++ map (λ (j : Item). j.0) (within_reach is)))
-        → map (λ (x : ℕ × WordPlace). x.0) (noted shard is (noted_one shard e i)) ≡ different (ws ++ map (λ (j : Item). j.0) (within_reach (i ∷ is)))
+    by : (b : Bool) → nat_le i.2 65535 ≡ b → ((e : Entries) (ws : List ℕ) → map (λ (x : ℕ × WordPlace). x.0) e ≡ different nat_eq ws → map (λ (x : ℕ × WordPlace). x.0) (noted shard is e) ≡ different nat_eq (ws ++ map (λ (j : Item). j.0) (within_reach is)))
+        → map (λ (x : ℕ × WordPlace). x.0) (noted shard is (noted_one shard e i)) ≡ different nat_eq (ws ++ map (λ (j : Item). j.0) (within_reach (i ∷ is)))
     by true eb later =
         rw eb (later (insert_entry nat_eq e i.0 (word_place shard (i.1, i.2))) (ws ++ i.0 ∷ [])
-        (words_inserted e i.0 (word_place shard (i.1, i.2)) ∙ ap (λ (ys : List ℕ). insert_key nat_eq ys i.0) held ∙ sym (different_last ws i.0))
-        ∙ ap different (append_assoc ws (i.0 ∷ []) (map (λ (j : Item). j.0) (within_reach is))))
+        (words_inserted e i.0 (word_place shard (i.1, i.2)) ∙ ap (λ (ys : List ℕ). insert_key nat_eq ys i.0) held ∙ sym (different_with nat_eq eqb_tells ws i.0))
+        ∙ ap (different nat_eq) (append_assoc ws (i.0 ∷ []) (map (λ (j : Item). j.0) (within_reach is))))
     by false eb later = rw eb (later e ws held)
 
 -- ---- both
@@ -183,7 +153,7 @@ pub index_of_more : (shard : ℕ) (items : List Item) (e : Entries) (ss : List I
 unfolding or_else
 index_of_more shard items e ss held = record {
   places = λ w. noted_places shard w items e ∙ ap (or_else (place_in w (indexed_shard shard items))) (held.places w) ∙ sym (place_last w ss (indexed_shard shard items));
-  words = noted_words shard items e (all_words ss) held.words ∙ ap different (sym (words_last ss (indexed_shard shard items)));
+  words = noted_words shard items e (all_words ss) held.words ∙ ap (different nat_eq) (sym (words_last ss (indexed_shard shard items)));
 }
 
 -- ---- the loop

@@ -1,2 +1,4 @@
+pub mod Different
 pub mod Places
 pub mod internal
+pub mod theorems

@@ -1,7 +1,8 @@
 -- The place of a chunk in the shards of an index, by the first word of its hash.
-use Rattle.std.specs.Prelude.{◌≡◌, ℕ, ◌==◌, nat_eq, nat_le, List, [], ◌∷◌, ◌++◌, filter, map, not, Option, Some, None, option_map}
+use Rattle.std.specs.Prelude.{◌≡◌, ℕ, nat_eq, nat_le, List, [], ◌∷◌, ◌++◌, filter, map, Option, Some, None, option_map}
 use Rattle.std.specs.Map.{lookup}
 use Rattle.xet_shard.specs.Queries.{last_of}
+use Rattle.xet_shard_index.specs.Different.{different}
 use Rattle.xet_shard_index.specs.declared.word_index.WordPlace.{WordPlace}
 
 -- a shard of an index: its number, and its chunk lookup table: for each chunk the first word of its hash, the row of its
@@ -34,12 +35,7 @@ unfoldable pub all_words : List IndexedShard → List ℕ
 all_words [] = []
 all_words (s ∷ ss) = map (λ i. i.0) (within_reach s.items) ++ all_words ss
 
--- the different numbers of a list, in order of first occurrence
-unfoldable pub different : List ℕ → List ℕ
-different [] = []
-different (w ∷ ws) = w ∷ filter (λ v. not (v == w)) (different ws)
-
 -- The entries are the places of all words of the shards, each word once.
 pub record IsIndexOf (entries : List (ℕ × WordPlace)) (shards : List IndexedShard) : Type 0 where
   pub places : (word : ℕ) → lookup {X = WordPlace} (nat_eq word) entries ≡ place_of word shards
-  pub words : map (λ e. e.0) entries ≡ different (all_words shards)
+  pub words : map (λ e. e.0) entries ≡ different nat_eq (all_words shards)

@@ -9,14 +9,16 @@ use Rattle.std.proofs.lemmas.List.Sums.{sum_by-cons}
 use Rattle.std.specs.Cmp.Lexicographic.{other_text, pointwise, same_text}
 use Rattle.std.specs.List.{AllByRecursion, list_any, sum_by}
 use Rattle.xet_hash.specs.Hash.{zero_hash}
-use Rattle.xet_shard_registry.proofs.Keys.{Distinct, any_different, different_is_distinct, different_with_key, key_same, key_tells, with_key}
+use Rattle.xet_shard_registry.proofs.Keys.{key_same, key_tells}
 use Rattle.xet_shard.specs.Union.{ShardRecords}
 use Rattle.xet_shard_directory.specs.declared.shard_file.MDBShardFile.{MDBShardFile}
-use Rattle.xet_shard_registry.specs.Registered.{Registered, with_shard, word_count, collection, different_keys, entered_from, has_key, indexed, key_of, keys_of, numbers, numbers_from}
+use Rattle.xet_shard_registry.specs.Registered.{Registered, with_shard, word_count, collection, entered_from, has_key, indexed, key_of, keys_of, numbers, numbers_from}
 use Rattle.xet_shard_registry.specs.declared.collection.Collection.{Collection}
 use Rattle.xet_shard_registry.specs.Collections.{AddsTo, AreCollectionsOf, HasAdded, HasKept, IsCollectionOf, IsKeyless, IsRegistryOf, StayCollections, Tables, words_in}
-use Rattle.xet_shard_format.specs.Lookups.{chunk_items}
-use Rattle.xet_shard_index.specs.Places.{IndexedShard, IsIndexOf, all_words, different, indexed_shard}
+use Rattle.indexmap.specs.IndexSet.{insert_key}
+use Rattle.xet_shard_index.specs.Different.{different}
+use Rattle.xet_shard_index.specs.theorems.Different.{Distinct, any_different, different_is_distinct, different_with}
+use Rattle.xet_shard_index.specs.Places.{IndexedShard, IsIndexOf, all_words, indexed_shard}
 use Rattle.xet_shard_index.specs.declared.word_index.WordPlace.{WordPlace}
 
 -- ---- one key
@@ -64,13 +66,13 @@ numbers_count n key (t ∷ ss) = by (has_key key t) refl (numbers_count (n + 1) 
 
 -- the shard that comes last enters last, or does not
 abbrev pub last_entered : ℕ → Registered → List IndexedShard
-last_entered n s = if s.entered then indexed_shard n (chunk_items s.records.0) ∷ [] else []
+last_entered n s = if s.entered then indexed_shard n s.items ∷ [] else []
 
 entered_last : (n : ℕ) (shards : List Registered) (s : Registered) → entered_from n (shards ++ s ∷ []) ≡ entered_from n shards ++ last_entered (n + length shards) s
 unfolding entered_from
 entered_last n [] s = let here : n + 0 ≡ n = add-zero n in rw here (by s.entered)
   where
-    by : (b : Bool) → (if b then indexed_shard n (chunk_items s.records.0) ∷ [] else []) ≡ (if b then indexed_shard n (chunk_items s.records.0) ∷ [] else [])
+    by : (b : Bool) → (if b then indexed_shard n s.items ∷ [] else []) ≡ (if b then indexed_shard n s.items ∷ [] else [])
     by b = refl
 entered_last n (t ∷ ss) s = by t.entered (entered_last (n + 1) ss s)
   where
@@ -78,9 +80,9 @@ entered_last n (t ∷ ss) s = by t.entered (entered_last (n + 1) ss s)
     place = omega arith
 
     by : (b : Bool) → entered_from (n + 1) (ss ++ s ∷ []) ≡ entered_from (n + 1) ss ++ last_entered (n + 1 + length ss) s
-        → (if b then indexed_shard n (chunk_items t.records.0) ∷ entered_from (n + 1) (ss ++ s ∷ []) else entered_from (n + 1) (ss ++ s ∷ []))
-        ≡ (if b then indexed_shard n (chunk_items t.records.0) ∷ entered_from (n + 1) ss else entered_from (n + 1) ss) ++ last_entered (n + suc (length ss)) s
-    by true later = ap (λ (ys : List IndexedShard). indexed_shard n (chunk_items t.records.0) ∷ ys) (later ∙ rw place refl)
+        → (if b then indexed_shard n t.items ∷ entered_from (n + 1) (ss ++ s ∷ []) else entered_from (n + 1) (ss ++ s ∷ []))
+        ≡ (if b then indexed_shard n t.items ∷ entered_from (n + 1) ss else entered_from (n + 1) ss) ++ last_entered (n + suc (length ss)) s
+    by true later = ap (λ (ys : List IndexedShard). indexed_shard n t.items ∷ ys) (later ∙ rw place refl)
     by false later = later ∙ rw place refl
 
 -- ---- one collection
@@ -94,7 +96,7 @@ collection_stays shards s c other held = record {
 
 -- that of the shard's key has it
 collection_grows : (shards : List Registered) (s : Registered) (c next : Collection) (number : ℕ) (enters : Bool) (items : List (ℕ × ℕ × ℕ)) → has_key c.key s ≡ true → number ≡ length shards
-    → enters ≡ s.entered → items ≡ chunk_items s.records.0 → HasAdded c next number enters items → IsCollectionOf shards c → IsCollectionOf (shards ++ s ∷ []) next
+    → enters ≡ s.entered → items ≡ s.items → HasAdded c next number enters items → IsCollectionOf shards c → IsCollectionOf (shards ++ s ∷ []) next
 collection_grows shards s c next number enters items own en ee ei added held = record {
   members = added.members ∙ rw (added.key, held.members, en) (rw start at (sym (numbers_own 0 c.key shards s own)));
   index = rw (added.key, collection_own c.key shards s own, entered_last 0 (collection c.key shards) s) (by enters refl);
@@ -152,7 +154,7 @@ key_there (x ∷ cs) (suc at) c e = by (key_tells c.key x.key) (key_there cs at 
 
 -- that of the shard's key is replaced by one that has the shard
 each_set : (shards : List Registered) (s : Registered) (cs : List Collection) (at : ℕ) (c next : Collection) → slice_get cs at ≡ Some c → c.key ≡ key_of s
-    → Distinct (map key_in cs) → IsCollectionOf (shards ++ s ∷ []) next → AllByRecursion (IsCollectionOf shards) cs → AllByRecursion (IsCollectionOf (shards ++ s ∷ [])) (slice_set cs at next)
+    → Distinct (pointwise nat_eq) key_tells (map key_in cs) → IsCollectionOf (shards ++ s ∷ []) next → AllByRecursion (IsCollectionOf shards) cs → AllByRecursion (IsCollectionOf (shards ++ s ∷ [])) (slice_set cs at next)
 unfolding Distinct
 each_set shards s [] at c next e ek distinct grown held = tt
 each_set shards s (x ∷ cs) zero c next e ek distinct grown held =
@@ -174,14 +176,14 @@ keys_set (x ∷ cs) zero c next e same = let first : x ≡ c = cc e in rw (first
 keys_set (x ∷ cs) (suc at) c next e same = ap (λ (ks : List (List ℕ)). x.key ∷ ks) (keys_set cs at c next e same)
 
 -- the keys after one more shard
-keys_more : (shards : List Registered) (s : Registered) → keys_of (shards ++ s ∷ []) ≡ with_key (keys_of shards) (key_of s)
+keys_more : (shards : List Registered) (s : Registered) → keys_of (shards ++ s ∷ []) ≡ insert_key (pointwise nat_eq) (keys_of shards) (key_of s)
 keys_more shards s =
-    ap (λ (ks : List (List ℕ)). different_keys (zero_hash ∷ ks)) (map-append key_of shards (s ∷ []))
-    ∙ different_with_key (zero_hash ∷ map key_of shards) (key_of s)
+    ap (λ (ks : List (List ℕ)). different (pointwise nat_eq) (zero_hash ∷ ks)) (map-append key_of shards (s ∷ []))
+    ∙ different_with (pointwise nat_eq) key_tells (zero_hash ∷ map key_of shards) (key_of s)
 
 -- the collections after one more shard whose key has a collection
 pub add_to_key : (shards : List Registered) (s : Registered) (cs : List Collection) (at : ℕ) (c next : Collection) (number : ℕ) (enters : Bool) (items : List (ℕ × ℕ × ℕ))
-    → slice_get cs at ≡ Some c → c.key ≡ key_of s → number ≡ length shards → enters ≡ s.entered → items ≡ chunk_items s.records.0
+    → slice_get cs at ≡ Some c → c.key ≡ key_of s → number ≡ length shards → enters ≡ s.entered → items ≡ s.items
     → HasAdded c next number enters items → AreCollectionsOf shards cs → AreCollectionsOf (shards ++ s ∷ []) (slice_set cs at next)
 add_to_key shards s cs at c next number enters items e ek en ee ei added held = record {
   keys = keys_set cs at c next e added.key ∙ held.keys ∙ sym (keys_more shards s ∙ rw present refl);
@@ -191,8 +193,8 @@ add_to_key shards s cs at c next number enters items e ek en ee ei added held = 
     present : list_any (pointwise nat_eq (key_of s)) (keys_of shards) ≡ true
     present = rw (ek, held.keys) at (key_there cs at c e)
 
-    distinct : Distinct (map key_in cs)
-    distinct = rw held.keys (different_is_distinct (zero_hash ∷ map key_of shards))
+    distinct : Distinct (pointwise nat_eq) key_tells (map key_in cs)
+    distinct = rw held.keys (different_is_distinct (pointwise nat_eq) key_tells (zero_hash ∷ map key_of shards))
 
     own : has_key c.key s ≡ true
     own = rw ek (key_same (key_of s))
@@ -231,7 +233,7 @@ empty_collection shards c members index none = record {
 }
   where
     nothing : collection c.key shards ≡ []
-    nothing = no_shards c.key shards (no_keys c.key (map key_of shards) (sym (any_different c.key (zero_hash ∷ map key_of shards)) ∙ none))
+    nothing = no_shards c.key shards (no_keys c.key (map key_of shards) (sym (any_different (pointwise nat_eq) key_tells c.key (zero_hash ∷ map key_of shards)) ∙ none))
 
 each_push : {X : Type 0} (P : X → Type 0) (xs : List X) (x : X) → AllByRecursion P xs → P x → AllByRecursion P (xs ++ x ∷ [])
 each_push P [] x all p = (p, tt)
@@ -239,7 +241,7 @@ each_push P (y ∷ xs) x all p = (all.0, each_push P xs x all.1 p)
 
 -- the collections after one more shard whose key has none
 pub add_new_key : (shards : List Registered) (s : Registered) (cs : List Collection) (c next : Collection) (number : ℕ) (enters : Bool) (items : List (ℕ × ℕ × ℕ))
-    → IsKeyless c.key (map key_in cs) → c.members.items ≡ [] → IsIndexOf c.index [] → c.key ≡ key_of s → number ≡ length shards → enters ≡ s.entered → items ≡ chunk_items s.records.0
+    → IsKeyless c.key (map key_in cs) → c.members.items ≡ [] → IsIndexOf c.index [] → c.key ≡ key_of s → number ≡ length shards → enters ≡ s.entered → items ≡ s.items
     → HasAdded c next number enters items → AreCollectionsOf shards cs → AreCollectionsOf (shards ++ s ∷ []) (cs ++ next ∷ [])
 add_new_key shards s cs c next number enters items none members index ek en ee ei added held = record {
   keys = map-append key_in cs (next ∷ []) ∙ ap (λ (ks : List (List ℕ)). ks ++ next.key ∷ []) held.keys ∙ rw (added.key, ek) (sym (keys_more shards s ∙ rw absent refl));
@@ -338,7 +340,7 @@ on_err_then (Err e) p f = f p
 
 -- no shard is registered at first
 pub no_collections : (c : Collection) → c.key ≡ zero_hash → c.members.items ≡ [] → IsIndexOf c.index [] → AreCollectionsOf [] (c ∷ [])
-unfolding different_keys numbers_from entered_from
+unfolding different numbers_from entered_from
 no_collections c ek em index = record {
   keys = rw ek refl;
   each = (record { members = em; index = index }, tt);
@@ -347,7 +349,7 @@ no_collections c ek em index = record {
 -- ---- words in all collections
 
 -- an index has as many entries as words
-index_length : (e : List (ℕ × WordPlace)) (shards : List IndexedShard) → IsIndexOf e shards → length e ≡ length (different (all_words shards))
+index_length : (e : List (ℕ × WordPlace)) (shards : List IndexedShard) → IsIndexOf e shards → length e ≡ length (different nat_eq (all_words shards))
 index_length e shards held = sym (length-map e (λ (x : ℕ × WordPlace). x.0)) ∙ ap length held.words
 
 pub empty_index : (e : List (ℕ × WordPlace)) → IsIndexOf e [] → length e ≡ 0
@@ -358,12 +360,12 @@ pub words_counted : (shards : List Registered) (cs : List Collection) → AreCol
 words_counted shards cs held = rw (← held.keys) (go cs held.each)
   where
     count : List ℕ → ℕ
-    count key = length (different (all_words (indexed key shards)))
+    count key = length (different nat_eq (all_words (indexed key shards)))
 
-    go : (ds : List Collection) → AllByRecursion (IsCollectionOf shards) ds → sum_by (λ key. length (different (all_words (indexed key shards)))) (map key_in ds) ≡ words_in ds
+    go : (ds : List Collection) → AllByRecursion (IsCollectionOf shards) ds → sum_by (λ key. length (different nat_eq (all_words (indexed key shards)))) (map key_in ds) ≡ words_in ds
     go [] all = refl
     go (d ∷ ds) all =
-        sum_by-cons (λ key. length (different (all_words (indexed key shards)))) d.key (map key_in ds)
+        sum_by-cons (λ key. length (different nat_eq (all_words (indexed key shards)))) d.key (map key_in ds)
         ∙ rw (go ds all.1, ← index_length d.index (indexed d.key shards) all.0.index) (sym (sum_by-cons (λ (c : Collection). length c.index) d ds))
 
 -- a new collection has no words
@@ -383,18 +385,18 @@ capped w bound top fits = by (nat_lt w bound) refl
 -- one more shard is registered
 pub registry_more : (cap : ℕ) (shards : List Registered) (file : MDBShardFile) (records : ShardRecords) (t next : Tables) (added : ℕ) (enters : Bool) (items : List (ℕ × ℕ × ℕ))
     → cap ≤ 2 ^ 64 - 1 → enters ≡ nat_lt t.words cap
-    → ((s : Registered) → s.file ≡ file → enters ≡ s.entered → items ≡ chunk_items s.records.0 → AddsTo t.collections next.collections (length t.files) s)
+    → ((s : Registered) → s.file ≡ file → enters ≡ s.entered → items ≡ s.items → AddsTo t.collections next.collections (length t.files) s)
     → next.files ≡ t.files ++ file ∷ [] → next.hashes ≡ t.hashes ++ file.shard_hash ∷ [] → words_in next.collections ≡ words_in t.collections + added → next.words ≡ min (t.words + added) (2 ^ 64 - 1)
-    → items ≡ chunk_items records.0 → IsRegistryOf shards t → IsRegistryOf (with_shard cap shards file records) next
-registry_more cap shards file records t next added enters items fits ee adds files hashes words sum ei held = record {
+    → IsRegistryOf shards t → IsRegistryOf (with_shard cap shards file items records) next
+registry_more cap shards file records t next added enters items fits ee adds files hashes words sum held = record {
   files = files ∙ rw held.files (sym (map-append (λ (x : Registered). x.file) shards (s ∷ [])));
-  collections = adds s refl enters_too ei shards held.collections (ap length held.files ∙ length-map shards (λ (x : Registered). x.file));
+  collections = adds s refl enters_too refl shards held.collections (ap length held.files ∙ length-map shards (λ (x : Registered). x.file));
   words = sum ∙ rw (held.words, words) (together (words_in t.collections) added);
   hashes = hashes ∙ rw held.hashes (sym (map-append (λ (x : Registered). x.file.shard_hash) shards (s ∷ [])));
 }
   where
     s : Registered
-    s = record { file = file; records = records; entered = nat_lt (word_count shards) cap }
+    s = record { file = file; items = items; records = records; entered = nat_lt (word_count shards) cap }
 
     enters_too : enters ≡ nat_lt (word_count shards) cap
     enters_too = ee ∙ rw (held.words, words_counted shards t.collections held.collections) (capped (words_in t.collections) cap (2 ^ 64 - 1) fits)

@@ -1,18 +1,19 @@
 -- The registered shards in order of registration, their collections by key, and where their chunks are found.
-use Rattle.std.specs.Prelude.{ℕ, ◌+◌, nat_eq, nat_lt, Bool, List, [], ◌∷◌, ◌++◌, filter, length, map, not, Option, option_and_then, option_map, if◌then◌else◌}
+use Rattle.std.specs.Prelude.{ℕ, ◌+◌, nat_eq, nat_lt, Bool, List, [], ◌∷◌, ◌++◌, filter, length, map, Option, option_and_then, option_map, if◌then◌else◌}
 use Rattle.std.specs.Cmp.Lexicographic.{pointwise}
 use Rattle.std.specs.List.{slice_get, sum_by}
 use Rattle.xet_hash.specs.Hash.{zero_hash}
 use Rattle.xet_shard.specs.Union.{ShardRecords}
 use Rattle.xet_shard_directory.specs.declared.shard_file.MDBShardFile.{MDBShardFile}
-use Rattle.xet_shard_format.specs.Lookups.{chunk_items}
-use Rattle.xet_shard_index.specs.Places.{IndexedShard, all_words, different, indexed_shard, place_of, word_place}
+use Rattle.xet_shard_index.specs.Different.{different}
+use Rattle.xet_shard_index.specs.Places.{IndexedShard, all_words, indexed_shard, place_of, word_place}
 use Rattle.xet_shard_index.specs.declared.word_index.WordPlace.{WordPlace}
 
--- a registered shard: the value of its file, its xorbs and files as they were when it was registered, and whether its
--- chunks entered the index
+-- a registered shard: the value of its file, the chunk lookup table with which it was registered, its xorbs and files then,
+-- and whether its chunks entered the index
 pub record Registered : Type 0 where
   pub file : MDBShardFile
+  pub items : List (ℕ × ℕ × ℕ)
   pub records : ShardRecords
   pub entered : Bool
 
@@ -34,33 +35,28 @@ numbers_from n key (s ∷ ss) = if has_key key s then n ∷ numbers_from (n + 1)
 abbrev pub numbers : List ℕ → List Registered → List ℕ
 numbers key shards = numbers_from 0 key shards
 
--- the different keys of a list, in order of first occurrence
-unfoldable pub different_keys : List (List ℕ) → List (List ℕ)
-different_keys [] = []
-different_keys (k ∷ ks) = k ∷ filter (λ l. not (pointwise nat_eq l k)) (different_keys ks)
-
 -- the keys of the collections: first that of the shards without a key, and then those of the registered shards, in order
 -- of first occurrence
 abbrev pub keys_of : List Registered → List (List ℕ)
-keys_of shards = different_keys (zero_hash ∷ map key_of shards)
+keys_of shards = different (pointwise nat_eq) (zero_hash ∷ map key_of shards)
 
 -- ---- the index
 
 -- of the shards of a collection those that entered the index, each with its number in the collection
 unfoldable pub entered_from : ℕ → List Registered → List IndexedShard
 entered_from n [] = []
-entered_from n (s ∷ ss) = if s.entered then indexed_shard n (chunk_items s.records.0) ∷ entered_from (n + 1) ss else entered_from (n + 1) ss
+entered_from n (s ∷ ss) = if s.entered then indexed_shard n s.items ∷ entered_from (n + 1) ss else entered_from (n + 1) ss
 
 abbrev pub indexed : List ℕ → List Registered → List IndexedShard
 indexed key shards = entered_from 0 (collection key shards)
 
 -- the number of different words in the index, counted for each key and summed
 abbrev pub word_count : List Registered → ℕ
-word_count shards = sum_by (λ key. length (different (all_words (indexed key shards)))) (keys_of shards)
+word_count shards = sum_by (λ key. length (different nat_eq (all_words (indexed key shards)))) (keys_of shards)
 
 -- One more shard is registered. It enters the index if fewer words than the cap were counted before it.
-abbrev pub with_shard : ℕ → List Registered → MDBShardFile → ShardRecords → List Registered
-with_shard cap shards file records = shards ++ (record { file = file; records = records; entered = nat_lt (word_count shards) cap }) ∷ []
+abbrev pub with_shard : ℕ → List Registered → MDBShardFile → List (ℕ × ℕ × ℕ) → ShardRecords → List Registered
+with_shard cap shards file items records = shards ++ (record { file = file; items = items; records = records; entered = nat_lt (word_count shards) cap }) ∷ []
 
 -- The place of a word: where the last chunk with it is in the last shard of the key that entered and has one. The shard
 -- has its number among all.

@@ -1,6 +1,6 @@
 //! The registered shards, and their collections by key.
 
-ghost use Rattle.std.specs.Prelude.{◌≡◌, ◌+◌, ◌++◌, ◌∷◌, ◌<◌, ◌^◌, ◌-◌, [], ℕ, List, Some, IfNone, IfOk, IfSome, IsOkUnless, OnErr, OnOk, length, map, nat_eq, slice_get, option_map, false};
+ghost use Rattle.std.specs.Prelude.{◌≡◌, ◌+◌, ◌++◌, ◌∷◌, ◌<◌, ◌^◌, ◌-◌, [], ℕ, List, None, Some, IfNone, IfOk, IfSome, IsOkUnless, OnErr, OnOk, length, map, nat_eq, slice_get, option_map, false};
 ghost use Rattle.std.specs.Cmp.Lexicographic.{pointwise};
 ghost use Rattle.std.specs.List.{list_any};
 ghost use Rattle.indexmap.specs.IndexSet.{spare};
@@ -8,7 +8,7 @@ ghost use Rattle.xet_shard_registry.specs.declared.collection.Collection.{Collec
 ghost use Rattle.xet_shard_registry.specs.Registered.{Registered, key_of, keys_of, place_among, with_shard};
 ghost use Rattle.xet_shard_registry.specs.Collections.{AddsTo, IsKeyless, IsRegistryOf, StayCollections, words_in};
 ghost use Rattle.xet_shard.specs.Union.{ShardRecords};
-ghost use Rattle.xet_shard_format.specs.Lookups.{chunk_items, flat_places};
+ghost use Rattle.xet_shard_format.specs.Lookups.{flat_places};
 
 use crate::collection::Collection;
 use indexmap::IndexSet;
@@ -69,8 +69,7 @@ impl ShardRegistry {
     ) -> Result<(), StoreError>
         requires few { length self.old.files < 2 ^ 32 }
         requires new { list_any (pointwise nat_eq file.shard_hash) self.old.hashes ≡ false }
-        ensures registered { OnOk result ((shards : List Registered) (records : ShardRecords) → IsRegistryOf shards self.old → flat_places items.now ≡ chunk_items records.0
-            → IsRegistryOf (with_shard cap shards file records) self.new) }
+        ensures registered { OnOk result ((shards : List Registered) (records : ShardRecords) → IsRegistryOf shards self.old → IsRegistryOf (with_shard cap shards file (flat_places items.now) records) self.new) }
         ensures kept { OnErr result ((shards : List Registered) → IsRegistryOf shards self.old → IsRegistryOf shards self.new) }
         ensures memory { IsOkUnless result StoreError.OutOfMemory }
     {
@@ -114,9 +113,10 @@ impl ShardRegistry {
     }
 
     /// The place of a word in the shards of the key with an index: where the last chunk with it is in the last of them
-    /// that entered and has one. The shard has its number in order of registration.
+    /// that entered and has one. The shard has its number in order of registration. None if there is no such key.
     pub fn find(&self, index: usize, word: u64) -> Option<WordPlace>
-        ensures { (shards : List Registered) (key : List ℕ) → IsRegistryOf shards self.now → slice_get (keys_of shards) index ≡ Some key → result ≡ place_among key word shards }
+        ensures place { (shards : List Registered) (key : List ℕ) → IsRegistryOf shards self.now → slice_get (keys_of shards) index ≡ Some key → result ≡ place_among key word shards }
+        ensures none { (shards : List Registered) → IsRegistryOf shards self.now → slice_get (keys_of shards) index ≡ None → result ≡ None }
     {
         let collection = self.collections.get(index)?;
         collection.find(word)
@@ -150,7 +150,7 @@ fn put(
     enters: bool,
 ) -> Result<u64, StoreError>
     requires few { length files.old.items < 2 ^ 32 }
-    ensures added { OnOk result ((s : Registered) → s.file ≡ file → enters ≡ s.entered → flat_places items.now ≡ chunk_items s.records.0 → AddsTo collections.old.items collections.new.items (length files.old.items) s) }
+    ensures added { OnOk result ((s : Registered) → s.file ≡ file → enters ≡ s.entered → flat_places items.now ≡ s.items → AddsTo collections.old.items collections.new.items (length files.old.items) s) }
     ensures files { OnOk result (files.new.items ≡ files.old.items ++ file ∷ []) }
     ensures count { IfOk result (λ added. words_in collections.new.items ≡ words_in collections.old.items + added) }
     ensures kept { OnErr result (files.new.items ≡ files.old.items) }
@@ -185,7 +185,7 @@ fn add(
     enters: bool,
     items: &[(u64, (u32, u32))],
 ) -> Result<u64, StoreError>
-    ensures added { OnOk result ((s : Registered) → key ≡ key_of s → enters ≡ s.entered → flat_places items.now ≡ chunk_items s.records.0 → AddsTo collections.old.items collections.new.items number s) }
+    ensures added { OnOk result ((s : Registered) → key ≡ key_of s → enters ≡ s.entered → flat_places items.now ≡ s.items → AddsTo collections.old.items collections.new.items number s) }
     ensures count { IfOk result (λ added. words_in collections.new.items ≡ words_in collections.old.items + added) }
     ensures kept { OnErr result (StayCollections collections.old.items collections.new.items) }
     ensures words { OnErr result (words_in collections.new.items ≡ words_in collections.old.items) }
@@ -207,7 +207,7 @@ fn add_key(
     items: &[(u64, (u32, u32))],
 ) -> Result<u64, StoreError>
     requires absent { IsKeyless key (map (λ c. c.key) collections.old.items) }
-    ensures added { OnOk result ((s : Registered) → key ≡ key_of s → enters ≡ s.entered → flat_places items.now ≡ chunk_items s.records.0 → AddsTo collections.old.items collections.new.items number s) }
+    ensures added { OnOk result ((s : Registered) → key ≡ key_of s → enters ≡ s.entered → flat_places items.now ≡ s.items → AddsTo collections.old.items collections.new.items number s) }
     ensures count { IfOk result (λ added. words_in collections.new.items ≡ words_in collections.old.items + added) }
     ensures kept { OnErr result (collections.new.items ≡ collections.old.items) }
     ensures memory { IsOkUnless result StoreError.OutOfMemory }

@@ -3,8 +3,8 @@ use Rattle.xet_shard_registry.proofs.Collecting.{registry_more}
 use Rattle.xet_shard_registry.proofs.registry.ShardRegistry.register.Goals as goal
 
 pub returns-clause-registered : goal.returns-clause-registered
-returns-clause-registered c shards records held ei =
+returns-clause-registered c shards records held =
     registry_more c.args.cap shards c.args.file records _ _ c.in_ok-added.added _ _ (omega (arith, c.ranges.cap.fits)) refl
     c.in_ok-added.ensures.added c.in_ok-added.ensures.files
     (c.insert_hash.ensures ∙ ap (λ (ks : List (List ℕ)). ks ++ c.args.file.shard_hash ∷ []) c.in_ok-reserve.ensures.keys)
-    c.in_ok-added.ensures.count c.saturating_add-self-inside.ensures ei (rw (← c.self.view_is) at held)
+    c.in_ok-added.ensures.count c.saturating_add-self-inside.ensures (rw (← c.self.view_is) at held)
