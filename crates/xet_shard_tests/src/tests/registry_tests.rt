@@ -4,7 +4,7 @@ use crate::tests::abc_tests::shard_of_abc;
 use std::alloc::Global;
 use std::test::Fail;
 use xet_hash::{HMACKey, StoreError, compute_data_hash};
-use xet_io::{MemoryDisk, SliceSource};
+use xet_io::{MemoryDisk, SliceReader, SliceSource};
 use xet_manager::find_run;
 use xet_shard::MDBInMemoryShard;
 use xet_shard_directory::MDBShardFile;
@@ -46,7 +46,12 @@ fn shard(alloc: Global, disk: &mut MemoryDisk, keyed: bool) -> Result<MDBShardFi
     if bytes.len() != 672 {
         return Err(StoreError::UnexpectedEof);
     }
-    let shard = MDBShardFile::write_out_from_reader(alloc, disk, "a", &mut SliceSource::new(&bytes))?;
+    let shard = MDBShardFile::write_out_from_reader(
+        alloc,
+        disk,
+        "a",
+        &mut SliceSource::new(&bytes),
+    )?;
     let key = compute_data_hash(b"key");
     let none = HMACKey::default();
     if key == none || shard.shard.metadata.chunk_hash_hmac_key != none {
@@ -81,10 +86,7 @@ fn found(
 }
 
 /// The same for a shard, for one under a key, and for one that does not enter the index.
-fn all_found(
-    alloc: Global,
-    disk: &mut MemoryDisk,
-) -> Result<[[Option<usize>; 2]; 3], StoreError> {
+fn all_found(alloc: Global, disk: &mut MemoryDisk) -> Result<[[Option<usize>; 2]; 3], StoreError> {
     Ok([
         found(alloc, disk, false, 1)?,
         found(alloc, disk, true, 1)?,
@@ -104,5 +106,22 @@ fn runs_are_found_in_registered_shards(rt: HostRuntime) -> Result<(), Fail> {
     let answer = all_found(alloc, &mut disk);
     release(disk);
     assert_eq!(rt; answer?, [[Some(1), None], [Some(1), None], [None, None]]);
+    Ok(())
+}
+
+/// The lengths of the runs of `abc` in the first row, from its only chunk and from behind it.
+fn in_first_row(alloc: Global) -> Result<[Option<usize>; 2], StoreError> {
+    let (bytes, info) = shard_of_abc(alloc)?;
+    let abc = [compute_data_hash(b"abc")];
+    let mut reader = SliceReader::new(&bytes);
+    let first = info.chunk_hash_dedup_query_in_row(alloc, &mut reader, &abc, 0, 0)?;
+    let behind = info.chunk_hash_dedup_query_in_row(alloc, &mut reader, &abc, 0, 1)?;
+    Ok([first.map(|run| run.0), behind.map(|run| run.0)])
+}
+
+#[test]
+fn run_is_read_in_a_known_row(rt: HostRuntime) -> Result<(), Fail> {
+    let found = in_first_row(rt.alloc())?;
+    assert_eq!(rt; found, [Some(1), None]);
     Ok(())
 }
