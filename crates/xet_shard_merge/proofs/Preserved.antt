@@ -1,0 +1,65 @@
+-- What the write of a shard file leaves of the others.
+use Rattle.std.proofs.Common.{◌≡◌, ◌≢◌, ◌∙◌, ◌⊎◌, ℕ, ◌<◌, Bool, true, false, List, [], ◌∷◌, length, get_or, nat_eq, None, Option, Some, option_map, is_some, Result, Ok, Err, IfOk, OnErr, inl, inr, refl, sym, ap, subst, arith}
+use Rattle.std.proofs.lemmas.Bool.{true≢false}
+use Rattle.std.specs.Cmp.Lexicographic.{bytes_decides, pointwise}
+use Rattle.std.specs.FinMap.{get}
+use Rattle.xet_hash.specs.declared.error.StoreError.{StoreError}
+use Rattle.xet_io.specs.Disk.{Entry, Files, bytes_at, file_at, file_of}
+use Rattle.xet_shard_directory.specs.Writing.{KeptOrWrote, OthersStay, Wrote, path_of}
+use Rattle.xet_shard_directory.specs.declared.shard_file.MDBShardFile.{MDBShardFile}
+use Rattle.xet_shard_file.specs.Puts.{IsDone, IsKeptOrDone}
+use Rattle.xet_shard_merge.specs.Merging.{AddsResults, IsNoTemp}
+use Rattle.xet_shard_merge.specs.internal.Keeping.{IsFree, Preserves, durable_at}
+
+at_path : (name path : List ℕ) → (name ≡ path) ⊎ (name ≢ path)
+at_path name path = by (pointwise nat_eq name path) refl
+  where
+    by : (t : Bool) → pointwise nat_eq name path ≡ t → (name ≡ path) ⊎ (name ≢ path)
+    by true e = inl ((bytes_decides name path).0 e)
+    by false e = inr (λ same. true≢false (sym ((bytes_decides name path).1 same) ∙ e))
+
+abbrev bytes_in : Option Entry → Option (List ℕ)
+bytes_in e = option_map (λ f. f.bytes) (file_of e)
+
+abbrev durable_in : Option Entry → Option Bool
+durable_in e = option_map (λ x. x.durable) e
+
+module _ (old new : Files) (path : List ℕ) (others : OthersStay old new path) where
+  pub adds_one : (s : MDBShardFile) → s.path ≡ path → AddsResults old new (s ∷ [])
+  adds_one s at name plain absent there = by (at_path name path)
+    where
+      by : (name ≡ path) ⊎ (name ≢ path) → (k : ℕ) × (x : MDBShardFile) × (k < length (s ∷ [])) × (get_or (s ∷ []) k x ≡ x) × (x.path ≡ name)
+      by (inl same) = (0, s, omega arith, refl, at ∙ sym same)
+      by (inr ne) =
+          let gone : file_at new name ≡ None = ap file_of (others name ne (plain path)) ∙ absent in
+          absurd (true≢false (sym there ∙ ap is_some gone))
+
+  module _ (bytes : List ℕ) (free : IsFree (bytes_at old path) bytes) (kept : IsKeptOrDone old new path bytes) where
+    kept_bytes : (name b : List ℕ) → IsNoTemp name → bytes_at old name ≡ Some b → (name ≡ path) ⊎ (name ≢ path) → IsKeptOrDone old new path bytes → bytes_at new name ≡ Some b
+    kept_bytes name b plain there (inl same) (inl stays) =
+        subst (λ (n : List ℕ). bytes_at new n ≡ Some b) (sym same) (ap bytes_in stays ∙ subst (λ (n : List ℕ). bytes_at old n ≡ Some b) same there)
+    kept_bytes name b plain there (inl same) (inr done) =
+        let is : b ≡ bytes = free b (subst (λ (n : List ℕ). bytes_at old n ≡ Some b) same there) in
+        subst (λ (n : List ℕ). bytes_at new n ≡ Some b) (sym same) (done.there ∙ ap (λ (x : List ℕ). Some x) (sym is))
+    kept_bytes name b plain there (inr ne) k = ap bytes_in (others name ne (plain path)) ∙ there
+
+    kept_durable : (name : List ℕ) → IsNoTemp name → durable_at old name ≡ Some true → (name ≡ path) ⊎ (name ≢ path) → IsKeptOrDone old new path bytes → durable_at new name ≡ Some true
+    kept_durable name plain was (inl same) (inl stays) =
+        subst (λ (n : List ℕ). durable_at new n ≡ Some true) (sym same) (ap durable_in stays ∙ subst (λ (n : List ℕ). durable_at old n ≡ Some true) same was)
+    kept_durable name plain was (inl same) (inr done) = subst (λ (n : List ℕ). durable_at new n ≡ Some true) (sym same) done.durable
+    kept_durable name plain was (inr ne) k = ap durable_in (others name ne (plain path)) ∙ was
+
+    pub preserved : Preserves old new
+    preserved = record {
+      bytes = λ name b plain there. kept_bytes name b plain there (at_path name path) kept;
+      durable = λ name b plain there was. kept_durable name plain was (at_path name path) kept;
+    }
+
+pub wrote_adds : (old new : Files) (folder bytes : List ℕ) (result : Result MDBShardFile StoreError) → IfOk result (Wrote old new folder bytes) → IfOk result (λ s. AddsResults old new (s ∷ []))
+wrote_adds old new folder bytes (Ok s) w = adds_one old new s.path w.others s refl
+wrote_adds old new folder bytes (Err e) w = tt
+
+pub wrote_keeps : (old new : Files) (folder bytes : List ℕ) (result : Result MDBShardFile StoreError) → IfOk result (Wrote old new folder bytes) → OnErr result (KeptOrWrote old new folder bytes)
+    → IsFree (bytes_at old (path_of folder bytes)) bytes → Preserves old new
+wrote_keeps old new folder bytes (Ok s) w k free = preserved old new s.path w.others bytes (subst (λ (p : List ℕ). IsFree (bytes_at old p) bytes) (sym w.path) free) (inr w.done)
+wrote_keeps old new folder bytes (Err e) w k free = preserved old new (path_of folder bytes) k.others bytes free k.file

@@ -1,0 +1,37 @@
+use Rattle.std.proofs.Common.{refl, subst}
+use Rattle.xet_shard.specs.Union.{ShardRecords}
+use Rattle.xet_shard_merge.specs.Groups.{Offered}
+use Rattle.xet_shard_merge.specs.internal.Progressing.{HasFate, offer}
+use Rattle.xet_shard_merge.proofs.Stepping.{entered, followed, skipped, started}
+use Rattle.xet_shard_merge.proofs.taking.take_read.Goals as goal
+
+pub returns-in-Skipped-clause-went : goal.returns-in-Skipped-clause-went
+returns-in-Skipped-clause-went g c = λ tells start skip all rest whole w.
+    let records : ShardRecords = (c.args.records.0.items, c.args.records.1.items) in
+    let o : Offered = offer c.args.shard c.args.length records in
+    skipped start (g.D.Disk.files c.args.disk.now) c.args.target.now c.args.limit skip all o rest (λ _. refl) c.args.progress.now c.skip.new.self c.skip.result
+    (subst (HasFate c.args.limit c.args.progress.now.open o records) c.in-Skipped.is c.fate_of.ensures) c.skip.ensures.skipped w
+
+pub returns-in-Enters-clause-went : goal.returns-in-Enters-clause-went
+returns-in-Enters-clause-went g c = λ tells start skip all rest whole w.
+    let records : ShardRecords = (c.args.records.0.items, c.args.records.1.items) in
+    let o : Offered = offer c.args.shard c.args.length records in
+    entered start (g.D.Disk.files c.args.disk.now) c.args.target.now c.args.limit skip all o rest (λ _. refl) records whole c.args.progress.now c.join.new.self c.join.result
+    (subst (HasFate c.args.limit c.args.progress.now.open o records) c.in-Enters.is c.fate_of.ensures) c.join.ensures.joined w
+
+pub returns-in-Starts-clause-went : goal.returns-in-Starts-clause-went
+returns-in-Starts-clause-went g c = λ tells start skip all rest whole w.
+    let records : ShardRecords = (c.args.records.0.items, c.args.records.1.items) in
+    let o : Offered = offer c.args.shard c.args.length records in
+    started start (g.D.Disk.files c.args.disk.now) c.args.target.now c.args.limit skip all o rest (λ _. refl) records whole c.args.progress.now c.begin_next.new.progress
+    (g.D.Disk.files c.begin_next.new.disk) c.begin_next.result
+    (subst (HasFate c.args.limit c.args.progress.now.open o records) c.in-Starts.is c.fate_of.ensures) (c.begin_next.ensures.begun tells) w
+
+pub returns-in-Follows-clause-went : goal.returns-in-Follows-clause-went
+returns-in-Follows-clause-went g c = λ tells start skip all rest whole w.
+    let records : ShardRecords = (c.args.records.0.items, c.args.records.1.items) in
+    let o : Offered = offer c.args.shard c.args.length records in
+    followed start (g.D.Disk.files c.args.disk.now) c.args.target.now c.args.limit skip all o rest (λ _. refl) records whole c.args.progress.now c.begin_next-in-Follows.new.progress
+    (g.D.Disk.files c.begin_next-in-Follows.new.disk) c.begin_next-in-Follows.result
+    (subst (HasFate c.args.limit c.args.progress.now.open o records) c.in-Follows.is c.fate_of.ensures) (c.begin_next-in-Follows.ensures.begun tells)
+    (c.begin_next-in-Follows.ensures.keeps tells) w

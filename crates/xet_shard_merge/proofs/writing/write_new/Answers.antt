@@ -1,0 +1,24 @@
+use Rattle.std.proofs.Common.{◌≡◌, ◌∙◌, List, ℕ, IfOk, OnErr, ap, subst}
+use Rattle.xet_io.specs.Disk.{Files, bytes_at}
+use Rattle.xet_shard_directory.specs.Writing.{KeptOrWrote, Wrote, path_of}
+use Rattle.xet_shard_file.specs.Names.{shard_path}
+use Rattle.xet_shard_merge.specs.internal.Keeping.{IsFree}
+use Rattle.xet_shard_merge.proofs.Preserved.{wrote_adds, wrote_keeps}
+use Rattle.xet_shard_merge.proofs.writing.write_new.Goals as goal
+
+pub returns-in-Ok-true-clause-adds : goal.returns-in-Ok-true-clause-adds
+returns-in-Ok-true-clause-adds g c = λ tells.
+    let files = g.D.Disk.files in
+    let frame = c.in-Ok-true.ensures.frame in
+    wrote_adds (files c.args.disk.now) (files c.write_shard_file.new.disk) c.args.target.now c.args.bytes.now c.write_shard_file.result
+    (subst (λ (fs : Files). IfOk c.write_shard_file.result (Wrote fs (files c.write_shard_file.new.disk) c.args.target.now c.args.bytes.now)) frame.same (c.write_shard_file.ensures.written (frame.tells ∙ tells)))
+
+pub returns-in-Ok-true-clause-keeps : goal.returns-in-Ok-true-clause-keeps
+returns-in-Ok-true-clause-keeps g c = λ tells.
+    let files = g.D.Disk.files in
+    let frame = c.in-Ok-true.ensures.frame in
+    let at : c.as_str.result.now ≡ path_of c.args.target.now c.args.bytes.now = c.as_str.ensures.value ∙ c.in_ok-path.ensures.path ∙ ap (shard_path c.args.target.now) c.compute_data_hash.ensures in
+    wrote_keeps (files c.args.disk.now) (files c.write_shard_file.new.disk) c.args.target.now c.args.bytes.now c.write_shard_file.result
+    (subst (λ (fs : Files). IfOk c.write_shard_file.result (Wrote fs (files c.write_shard_file.new.disk) c.args.target.now c.args.bytes.now)) frame.same (c.write_shard_file.ensures.written (frame.tells ∙ tells)))
+    (subst (λ (fs : Files). OnErr c.write_shard_file.result (KeptOrWrote fs (files c.write_shard_file.new.disk) c.args.target.now c.args.bytes.now)) frame.same (c.write_shard_file.ensures.refused (frame.tells ∙ tells)))
+    (subst (λ (p : List ℕ). IsFree (bytes_at (files c.args.disk.now) p) c.args.bytes.now) at (c.in-Ok-true.ensures.free tells c.in-Ok-true.field-0-test))

@@ -1,0 +1,46 @@
+-- What calls that write results leave of the other files.
+use Rattle.std.specs.Prelude.{◌≡◌, ◌⊎◌, ℕ, length, Bool, true, false, List, Option, Some, None, Result, Ok, Err, option_map}
+use Rattle.std.specs.FinMap.{get}
+use Rattle.xet_hash.specs.declared.error.Place.TheVariants.{Disk}
+use Rattle.xet_hash.specs.declared.error.StoreError.{StoreError}
+use Rattle.xet_hash.specs.declared.error.StoreError.TheVariants.{Io, MalformedData, OutOfMemory, UnexpectedEof}
+use Rattle.xet_io.specs.Disk.{Files, bytes_at}
+use Rattle.xet_shard.specs.Sections.{info_at}
+use Rattle.xet_shard.specs.Union.{ShardRecords}
+use Rattle.xet_shard_directory.specs.declared.shard_file.MDBShardFile.{MDBShardFile}
+use Rattle.xet_shard_merge.specs.Merging.{IsNoTemp, KeepsFiles}
+
+-- whether a crash keeps what there is of a name
+abbrev pub durable_at : Files → List ℕ → Option Bool
+durable_at files name = option_map (λ e. e.durable) (get files name)
+
+-- Every file that was there has its bytes, and is durable if it was.
+pub record Preserves (old new : Files) : Type 0 where
+  pub bytes : KeepsFiles old new
+  pub durable : (name bytes : List ℕ) → IsNoTemp name → bytes_at old name ≡ Some bytes → durable_at old name ≡ Some true → durable_at new name ≡ Some true
+
+-- nothing is there, or these bytes are
+abbrev pub IsFree : Option (List ℕ) → List ℕ → Type 0
+IsFree found bytes = (b : List ℕ) → found ≡ Some b → b ≡ bytes
+
+-- The file is there, its header and footer are the value's, and its name is no temporary one.
+pub record IsIntact (files : Files) (s : MDBShardFile) : Type 0 where
+  pub bytes : List ℕ
+  pub there : bytes_at files s.path ≡ Some bytes
+  pub value : info_at bytes ≡ Ok s.shard
+  pub name : IsNoTemp s.path
+
+-- ---- reading
+
+-- The length and the records of a file; none, if it can't be read and that is skipped.
+abbrev pub IsOffer : Bool → Option (ℕ × ShardRecords) → ℕ → Result ShardRecords StoreError → Type 0
+IsOffer skip None n read = (skip ≡ true) × ((e : StoreError) × (read ≡ Err e))
+IsOffer skip (Some x) n read = (x.0 ≡ n) × (read ≡ Ok x.1)
+
+-- why a file is not read, unless the disk failed or memory was out
+abbrev pub IsUnreadable : Bool → Result ShardRecords StoreError → StoreError → Type 0
+IsUnreadable skip read (Io Disk) = Unit {0}
+IsUnreadable skip read OutOfMemory = Unit {0}
+IsUnreadable skip read UnexpectedEof = (skip ≡ false) × (read ≡ Err UnexpectedEof)
+IsUnreadable skip read (MalformedData reason) = (skip ≡ false) × (read ≡ Err (MalformedData reason))
+IsUnreadable skip read e = ⊥

@@ -1,0 +1,154 @@
+//! Merging of the shard files of a directory.
+
+ghost use Rattle.std.specs.Prelude.{◌≡◌, [], ◌≤◌, ◌^◌, All, filter, not, nat_eq, IfErr, IfOk, map, true};
+ghost use Rattle.std.specs.Cmp.Lexicographic.{pointwise};
+ghost use Rattle.std.specs.List.{list_any};
+ghost use Rattle.xet_io.specs.Frame.{Stays};
+ghost use Rattle.xet_shard_directory.specs.Answers.{IsReadError};
+ghost use Rattle.xet_shard_merge.specs.Merging.{AddsResults, IsUnmerged, KeepsFiles, Merges};
+ghost use Rattle.xet_shard_merge.specs.internal.Keeping.{IsIntact, Preserves};
+ghost use Rattle.xet_shard_merge.specs.internal.Order.{MergedAll};
+ghost use Rattle.xet_shard_merge.specs.internal.Progressing.{IsUnmergedOf, offered_of};
+
+use crate::order::in_merge_order;
+use crate::progress::Progress;
+use crate::taking::take_all;
+use std::alloc::Global;
+use xet_hash::StoreError;
+use xet_io::Disk;
+use xet_shard_directory::MDBShardFile;
+
+/// The most bytes of a merged shard: 2^36.
+const MAX_TARGET: u64 = 1 << 36;
+
+/// The result of merging shards.
+#[derive(Debug, Drop)]
+pub struct ShardMergeResult {
+    /// The shards that there are now in place of those that were taken, in the order in which these were taken.
+    pub merged_shards: Vec<MDBShardFile>,
+    /// The shards that were taken, and whose file is no result's, in order.
+    pub obsolete_shards: Vec<MDBShardFile>,
+    /// The shards that were not taken: keyed ones, those that disagree with the group that was open, and those that
+    /// can't be read.
+    pub skipped_shards: Vec<MDBShardFile>,
+}
+
+impl ShardMergeResult {
+    /// No shards.
+    pub fn default(alloc: Global) -> ShardMergeResult
+        ensures merged { result.merged_shards.items ≡ [] }
+        ensures obsolete { result.obsolete_shards.items ≡ [] }
+        ensures skipped { result.skipped_shards.items ≡ [] }
+    {
+        ShardMergeResult {
+            merged_shards: Vec::new(alloc),
+            obsolete_shards: Vec::new(alloc),
+            skipped_shards: Vec::new(alloc),
+        }
+    }
+}
+
+/// Merges the valid shards of a folder, or the one at this path, into the folder `target`: the oldest modification time
+/// first, and equal ones by path. Shards are put together as long as the merged one has no more than `max_size` bytes, and
+/// no more than 2^36. A keyed shard is skipped, and so is one that fits but disagrees with the open group: a xorb or a
+/// file of the same hash is another there. Nothing is removed or replaced.
+///
+/// `FileNotFound` if the path names a shard and it is not there. If a section is malformed, the error is that of the first
+/// check that fails, or with `skip_on_error` that shard is skipped. After an error some of the results may have been
+/// written. If a file has the name of a result, and other bytes, the error is `OutOfMemory`.
+pub fn merge_shards<D: Disk>(
+    alloc: Global,
+    disk: &mut D,
+    source: &str,
+    target: &str,
+    max_size: u64,
+    skip_on_error: bool,
+    now: u64,
+) -> Result<ShardMergeResult, StoreError>
+    ensures merged { D.tells disk.old ≡ true → IfOk result (Merges (D.files disk.old) (D.files disk.new) source.now target.now max_size skip_on_error now) }
+    ensures keeps { D.tells disk.old ≡ true → KeepsFiles (D.files disk.old) (D.files disk.new) }
+    ensures adds { D.tells disk.old ≡ true → IfOk result (λ r. AddsResults (D.files disk.old) (D.files disk.new) r.merged_shards.items) }
+    ensures refused { D.tells disk.old ≡ true → IfErr result (IsUnmerged (D.files disk.old) source.now skip_on_error now) }
+    ensures frame { Stays D.tells D.faults disk.old disk.new }
+    ensures reason { IfErr result (IsReadError (D.faults disk.old) (D.faults disk.new)) }
+{
+    match MDBShardFile::load_all_valid(alloc, disk, source, now) {
+        Ok(read) => {
+            let shards = in_merge_order(read);
+            let limit = max_size.min(MAX_TARGET);
+            merge_read(alloc, disk, target, limit, skip_on_error, shards)
+        }
+        Err(error) => Err(error),
+    }
+}
+
+/// Merges these shards in order.
+fn merge_read<D: Disk>(
+    alloc: Global,
+    disk: &mut D,
+    target: &str,
+    limit: u64,
+    skip_on_error: bool,
+    shards: Vec<MDBShardFile>,
+) -> Result<ShardMergeResult, StoreError>
+    requires { limit ≤ 2 ^ 36 }
+    ensures merged { D.tells disk.old ≡ true → All (IsIntact (D.files disk.old)) shards.items → IfOk result (MergedAll (D.files disk.old) (D.files disk.new) target.now limit skip_on_error (map (offered_of (D.files disk.old)) shards.items)) }
+    ensures refused { D.tells disk.old ≡ true → All (IsIntact (D.files disk.old)) shards.items → IfErr result (IsUnmergedOf skip_on_error (map (offered_of (D.files disk.old)) shards.items)) }
+    ensures keeps { D.tells disk.old ≡ true → Preserves (D.files disk.old) (D.files disk.new) }
+    ensures frame { Stays D.tells D.faults disk.old disk.new }
+    ensures reason { IfErr result (IsReadError (D.faults disk.old) (D.faults disk.new)) }
+{
+    let mut progress = Progress::new(alloc);
+    match take_all(
+        alloc,
+        disk,
+        target,
+        limit,
+        skip_on_error,
+        shards,
+        &mut progress,
+    ) {
+        Ok(()) => Ok(result_of(progress)),
+        Err(error) => Err(error),
+    }
+}
+
+/// The result, when all groups are closed.
+fn result_of(progress: Progress) -> ShardMergeResult
+    ensures merged { result.merged_shards.items ≡ progress.merged.items }
+    ensures obsolete { result.obsolete_shards.items ≡ filter (λ s. not (list_any (λ r. pointwise nat_eq r.path s.path) progress.merged.items)) progress.taken.items }
+    ensures skipped { result.skipped_shards.items ≡ progress.skipped.items }
+{
+    let Progress {
+        taken,
+        merged,
+        skipped,
+        ..
+    } = progress;
+    let obsolete = without_results(taken, &merged);
+    ShardMergeResult {
+        merged_shards: merged,
+        obsolete_shards: obsolete,
+        skipped_shards: skipped,
+    }
+}
+
+/// The shards whose file is no result's.
+fn without_results(mut shards: Vec<MDBShardFile>, results: &[MDBShardFile]) -> Vec<MDBShardFile>
+    ensures { result.items ≡ filter (λ s. not (list_any (λ r. pointwise nat_eq r.path s.path) results.now)) shards.items }
+{
+    shards.retain(|shard| !is_result(shard, results));
+    shards
+}
+
+/// Whether a shard's file is that of a result.
+fn is_result(shard: &MDBShardFile, results: &[MDBShardFile]) -> bool
+    ensures { result ≡ list_any (λ r. pointwise nat_eq r.path shard.now.path) results.now }
+{
+    for merged in results {
+        if merged.path.as_str() == shard.path.as_str() {
+            return true;
+        }
+    }
+    false
+}

@@ -1,0 +1,159 @@
+//! Writing of the result of a group.
+
+ghost use Rattle.std.specs.Prelude.{◌≡◌, ◌∷◌, [], ℕ, List, All, IfErr, IfOk, IsOk, IsOkUnless, IsTrue, Some, true};
+ghost use Rattle.xet_codec.specs.Stops.{HasDiskReason};
+ghost use Rattle.xet_io.specs.Disk.{bytes_at};
+ghost use Rattle.xet_io.specs.Frame.{Stays, Unchanged};
+ghost use Rattle.xet_shard.specs.Sections.{info_at};
+ghost use Rattle.xet_shard_directory.specs.Answers.{IsReadError};
+ghost use Rattle.xet_shard_directory.specs.Writing.{IsPutError};
+ghost use Rattle.xet_shard_merge.specs.Merging.{AddsResults, IsCopy, IsMerged, IsResult, Stands};
+ghost use Rattle.xet_shard_merge.specs.internal.Keeping.{IsFree, IsIntact, Preserves};
+
+use crate::group::OpenGroup;
+use std::alloc::Global;
+use xet_base::Text;
+use xet_codec::store_error;
+use xet_hash::{StoreError, compute_data_hash};
+use xet_io::{Disk, read_file};
+use xet_shard_directory::{MDBShardFile, write_shard_file};
+use xet_shard_file::shard_path;
+
+/// Writes the result of a group into a folder. One shard alone is copied, unless it is in the folder already; several
+/// become one shard. If a file with other bytes has the result's name, the error is `OutOfMemory`: nothing is replaced.
+pub(crate) fn write_result<D: Disk>(
+    alloc: Global,
+    disk: &mut D,
+    target: &str,
+    group: &OpenGroup,
+) -> Result<MDBShardFile, StoreError>
+    ensures result { D.tells disk.old ≡ true → IfOk result (IsResult (D.files disk.old) (D.files disk.new) target.now group.now) }
+    ensures adds { D.tells disk.old ≡ true → IfOk result (λ s. AddsResults (D.files disk.old) (D.files disk.new) (s ∷ [])) }
+    ensures keeps { D.tells disk.old ≡ true → Preserves (D.files disk.old) (D.files disk.new) }
+    ensures intact { D.tells disk.old ≡ true → All (IsIntact (D.files disk.old)) group.now.taken → IfErr result (HasDiskReason (D.faults disk.old) (D.faults disk.new)) }
+    ensures frame { Stays D.tells D.faults disk.old disk.new }
+    ensures reason { IfErr result (IsReadError (D.faults disk.old) (D.faults disk.new)) }
+{
+    match group.only() {
+        Some(shard) => write_copy(alloc, disk, target, shard),
+        None => write_merged(alloc, disk, target, group),
+    }
+}
+
+/// Copies a shard file into a folder, unless it is there already.
+fn write_copy<D: Disk>(
+    alloc: Global,
+    disk: &mut D,
+    target: &str,
+    shard: &MDBShardFile,
+) -> Result<MDBShardFile, StoreError>
+    ensures copy { D.tells disk.old ≡ true → IfOk result (IsCopy (D.files disk.old) (D.files disk.new) target.now shard.now) }
+    ensures adds { D.tells disk.old ≡ true → IfOk result (λ s. AddsResults (D.files disk.old) (D.files disk.new) (s ∷ [])) }
+    ensures keeps { D.tells disk.old ≡ true → Preserves (D.files disk.old) (D.files disk.new) }
+    ensures intact { D.tells disk.old ≡ true → IsIntact (D.files disk.old) shard.now → IfErr result (HasDiskReason (D.faults disk.old) (D.faults disk.new)) }
+    ensures frame { Stays D.tells D.faults disk.old disk.new }
+    ensures reason { IfErr result (IsReadError (D.faults disk.old) (D.faults disk.new)) }
+{
+    let path = shard_path(alloc, target, &shard.shard_hash)?;
+    if shard.path.as_str() == path.as_str() {
+        return copy_of(alloc, shard);
+    }
+    match read_file(disk, alloc, shard.path.as_str()) {
+        Ok(Some(bytes)) => write_new(alloc, disk, target, &bytes),
+        Ok(None) => Err(StoreError::FileNotFound),
+        Err(refusal) => Err(store_error(refusal)),
+    }
+}
+
+/// A copy of a value.
+fn copy_of(alloc: Global, shard: &MDBShardFile) -> Result<MDBShardFile, StoreError>
+    ensures copy { IfOk result (λ s. s ≡ shard.now) }
+    ensures memory { IsOkUnless result StoreError.OutOfMemory }
+{
+    let path = String::from_str(alloc, shard.path.as_str())?;
+    Ok(MDBShardFile {
+        shard_hash: shard.shard_hash,
+        path: Text::new(path),
+        shard: shard.shard,
+        last_modified_time: shard.last_modified_time,
+    })
+}
+
+/// Writes the shard that has the records of a group.
+fn write_merged<D: Disk>(
+    alloc: Global,
+    disk: &mut D,
+    target: &str,
+    group: &OpenGroup,
+) -> Result<MDBShardFile, StoreError>
+    ensures merged { D.tells disk.old ≡ true → IfOk result (IsMerged (D.files disk.new) target.now group.now) }
+    ensures adds { D.tells disk.old ≡ true → IfOk result (λ s. AddsResults (D.files disk.old) (D.files disk.new) (s ∷ [])) }
+    ensures keeps { D.tells disk.old ≡ true → Preserves (D.files disk.old) (D.files disk.new) }
+    ensures frame { Stays D.tells D.faults disk.old disk.new }
+    ensures reason { IfErr result (HasDiskReason (D.faults disk.old) (D.faults disk.new)) }
+{
+    match group.bytes(alloc) {
+        Ok(bytes) => write_new(alloc, disk, target, &bytes),
+        Err(error) => Err(error),
+    }
+}
+
+/// Writes the bytes of a shard into a folder, durably, under the name of their hash. If a file with other bytes has that
+/// name, the error is `OutOfMemory`.
+fn write_new<D: Disk>(
+    alloc: Global,
+    disk: &mut D,
+    target: &str,
+    bytes: &[u8],
+) -> Result<MDBShardFile, StoreError>
+    ensures stands { D.tells disk.old ≡ true → IfOk result (Stands (D.files disk.new) target.now bytes.now) }
+    ensures adds { D.tells disk.old ≡ true → IfOk result (λ s. AddsResults (D.files disk.old) (D.files disk.new) (s ∷ [])) }
+    ensures keeps { D.tells disk.old ≡ true → Preserves (D.files disk.old) (D.files disk.new) }
+    ensures intact { IsOk (info_at bytes.now) → IfErr result (HasDiskReason (D.faults disk.old) (D.faults disk.new)) }
+    ensures frame { Stays D.tells D.faults disk.old disk.new }
+    ensures reason { IfErr result (IsPutError (D.faults disk.old) (D.faults disk.new)) }
+{
+    let path = shard_path(alloc, target, &compute_data_hash(bytes))?;
+    match is_free(alloc, disk, path.as_str(), bytes) {
+        Ok(true) => write_shard_file(alloc, disk, target, bytes),
+        Ok(false) => Err(StoreError::OutOfMemory),
+        Err(error) => Err(error),
+    }
+}
+
+/// Whether there is no file with other bytes at a path.
+fn is_free<D: Disk>(
+    alloc: Global,
+    disk: &mut D,
+    path: &str,
+    bytes: &[u8],
+) -> Result<bool, StoreError>
+    ensures free { D.tells disk.old ≡ true → IfOk result (λ free. IsTrue free → IsFree (bytes_at (D.files disk.old) path.now) bytes.now) }
+    ensures frame { Unchanged D.files D.tells D.faults disk.old disk.new }
+    ensures reason { IfErr result (HasDiskReason (D.faults disk.old) (D.faults disk.new)) }
+{
+    match disk.stat(path) {
+        Ok(None) => Ok(true),
+        Ok(Some((length, _))) if length != bytes.len() as u64 => Ok(false),
+        Ok(Some(_)) => has_bytes(alloc, disk, path, bytes),
+        Err(refusal) => Err(store_error(refusal)),
+    }
+}
+
+/// Whether the file at a path, if there is one, has these bytes.
+fn has_bytes<D: Disk>(
+    alloc: Global,
+    disk: &mut D,
+    path: &str,
+    bytes: &[u8],
+) -> Result<bool, StoreError>
+    ensures free { D.tells disk.old ≡ true → IfOk result (λ free. IsTrue free → IsFree (bytes_at (D.files disk.old) path.now) bytes.now) }
+    ensures frame { Unchanged D.files D.tells D.faults disk.old disk.new }
+    ensures reason { IfErr result (HasDiskReason (D.faults disk.old) (D.faults disk.new)) }
+{
+    match read_file(disk, alloc, path) {
+        Ok(Some(found)) => Ok(found.as_slice() == bytes),
+        Ok(None) => Ok(true),
+        Err(refusal) => Err(store_error(refusal)),
+    }
+}
