@@ -1,0 +1,5 @@
+//! Tests of merging through its public functions.
+#![tactic(auto)]
+
+#[cfg(test)]
+mod tests;

@@ -1,0 +1,3 @@
+//! The modules of tests.
+
+mod merge_tests;

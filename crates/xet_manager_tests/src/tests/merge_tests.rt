@@ -1,0 +1,131 @@
+//! Tests of merging shard files on a disk in memory.
+
+ghost use Rattle.std.specs.Prelude.{◌≡◌, IfOk, length};
+ghost use Rattle.xet_shard_format.specs.Records.{file_rows, xorb_rows};
+
+use std::alloc::Global;
+use std::test::Fail;
+use xet_base::Items;
+use xet_hash::{
+    HMACKey, MerkleHash, StoreError, compute_data_hash, file_hash, range_hash_from_chunks,
+};
+use xet_io::{MemoryDisk, SliceSource};
+use xet_shard::*;
+use xet_shard_directory::MDBShardFile;
+use xet_shard_merge::{consolidate_shards_in_directory, merge_shards};
+
+/// The xorb with one chunk of 3 bytes.
+fn xorb_of(alloc: Global, chunk: MerkleHash) -> Result<MDBXorbInfo, StoreError>
+    ensures rows { IfOk result (λ xorb. length (xorb_rows xorb) ≡ 2) }
+{
+    Ok(MDBXorbInfo {
+        metadata: XorbChunkSequenceHeader::new(chunk, 1, 3),
+        chunks: Items::from_vec(vec![in alloc; XorbChunkSequenceEntry::new(chunk, 3, 0)]?),
+    })
+}
+
+/// The file whose one segment is that chunk.
+fn file_of(alloc: Global, chunk: MerkleHash) -> Result<MDBFileInfo, StoreError>
+    ensures rows { IfOk result (λ file. length (file_rows file) ≡ 4) }
+{
+    let hash = file_hash(alloc, &[(chunk, 3)])?;
+    let digest = Sha256::from_hex(
+        "ba7816bf8f01cfea414140de5dae2223b00361a396177a9cb410ff61f20015ad",
+    )?;
+    let range_hash = range_hash_from_chunks(&[chunk]);
+    Ok(MDBFileInfo {
+        metadata: FileDataSequenceHeader::new(hash, 1, true, true),
+        segments: Items::from_vec(vec![in alloc; FileDataSequenceEntry::new(chunk, 3, 0, 1)]?),
+        verification: Items::from_vec(vec![in alloc; FileVerificationEntry::new(range_hash)]?),
+        metadata_ext: Some(FileMetadataExt::new(digest)),
+    })
+}
+
+/// The bytes of the shard with the xorb and the file of three bytes.
+fn shard_of(alloc: Global, bytes: &[u8]) -> Result<Vec<u8>, StoreError> {
+    let chunk = compute_data_hash(bytes);
+    let xorb = xorb_of(alloc, chunk)?;
+    let file = file_of(alloc, chunk)?;
+    let (bytes, _) = write_shard(alloc, &[&xorb], &[&file], HMACKey::default(), 0, u64::MAX)?;
+    Ok(bytes)
+}
+
+/// Writes the shard of three bytes into the folder `a`, and returns its length.
+fn write(alloc: Global, disk: &mut MemoryDisk, bytes: &[u8]) -> Result<usize, StoreError> {
+    let bytes = shard_of(alloc, bytes)?;
+    if bytes.len() > 1_000 {
+        return Err(StoreError::UnexpectedEof);
+    }
+    MDBShardFile::write_out_from_reader(alloc, disk, "a", &mut SliceSource::new(&bytes))?;
+    Ok(bytes.len())
+}
+
+/// The numbers of merged, obsolete and skipped shards of `abc` and `abd`, and the length of the first that is merged.
+fn merged(
+    alloc: Global,
+    disk: &mut MemoryDisk,
+    target: &str,
+    max_size: u64,
+) -> Result<[u64; 4], StoreError> {
+    write(alloc, disk, b"abc")?;
+    write(alloc, disk, b"abd")?;
+    let result = merge_shards(alloc, disk, "a", target, max_size, false, 0)?;
+    let length = result
+        .merged_shards
+        .first()
+        .map_or(0, |shard| shard.shard.num_bytes());
+    Ok([
+        result.merged_shards.len() as u64,
+        result.obsolete_shards.len() as u64,
+        result.skipped_shards.len() as u64,
+        length,
+    ])
+}
+
+/// The same in one folder at two sizes, and into another folder.
+fn all_merged(alloc: Global, disk: &mut MemoryDisk) -> Result<[[u64; 4]; 3], StoreError> {
+    Ok([
+        merged(alloc, disk, "a", 1_095)?,
+        merged(alloc, disk, "b", 1_096)?,
+        merged(alloc, disk, "a", 1_096)?,
+    ])
+}
+
+/// Drops a disk.
+fn release(disk: MemoryDisk) {
+    let _ = &disk;
+}
+
+#[test]
+fn two_shards_are_merged_where_they_fit(rt: HostRuntime) -> Result<(), Fail> {
+    let alloc = rt.alloc();
+    let mut disk = MemoryDisk::new(alloc);
+    let answer = all_merged(alloc, &mut disk);
+    release(disk);
+    assert_eq!(rt;
+        answer?,
+        [[2, 0, 0, 672], [1, 2, 0, 1_000], [1, 2, 0, 1_000]]
+    );
+    Ok(())
+}
+
+/// The length of the shard of `abc`; how many shards consolidation leaves at two sizes, and how many are loaded then.
+fn consolidated(alloc: Global, disk: &mut MemoryDisk) -> Result<[usize; 5], StoreError> {
+    let length = write(alloc, disk, b"abc")?;
+    write(alloc, disk, b"abd")?;
+    let apart = consolidate_shards_in_directory(alloc, disk, "a", 1_095, false, 0)?;
+    let two = MDBShardFile::load_all_valid(alloc, disk, "a", 0)?;
+    let joined = consolidate_shards_in_directory(alloc, disk, "a", 1_096, false, 0)?;
+    let one = MDBShardFile::load_all_valid(alloc, disk, "a", 0)?;
+    Ok([length, apart.len(), two.len(), joined.len(), one.len()])
+}
+
+#[test]
+fn folder_is_consolidated(rt: HostRuntime) -> Result<(), Fail> {
+    let alloc = rt.alloc();
+    let mut disk = MemoryDisk::new(alloc);
+    let answer = consolidated(alloc, &mut disk);
+    release(disk);
+    assert_eq!(rt; answer?, [672, 2, 2, 1, 1]);
+    Ok(())
+}
