@@ -1,4 +1,4 @@
-//! Tests of merging through its public functions.
+//! Tests of shard files, of registered shards and of merging, through their public functions.
 #![tactic(auto)]
 
 #[cfg(test)]

@@ -2,11 +2,9 @@
 
 mod abc_tests;
 mod asked_tests;
-mod directory_tests;
 mod empty_tests;
 mod export_tests;
 mod held_tests;
 mod part_tests;
 mod query_tests;
-mod registry_tests;
 mod section_tests;

@@ -1,58 +1,16 @@
 //! Tests of merging shard files on a disk in memory.
 
-ghost use Rattle.std.specs.Prelude.{◌≡◌, IfOk, length};
-ghost use Rattle.xet_shard_format.specs.Records.{file_rows, xorb_rows};
-
+use crate::tests::samples::shard_of;
 use std::alloc::Global;
 use std::test::Fail;
-use xet_base::Items;
-use xet_hash::{
-    HMACKey, MerkleHash, StoreError, compute_data_hash, file_hash, range_hash_from_chunks,
-};
+use xet_hash::StoreError;
 use xet_io::{MemoryDisk, SliceSource};
-use xet_shard::*;
 use xet_shard_directory::MDBShardFile;
 use xet_shard_merge::{consolidate_shards_in_directory, merge_shards};
 
-/// The xorb with one chunk of 3 bytes.
-fn xorb_of(alloc: Global, chunk: MerkleHash) -> Result<MDBXorbInfo, StoreError>
-    ensures rows { IfOk result (λ xorb. length (xorb_rows xorb) ≡ 2) }
-{
-    Ok(MDBXorbInfo {
-        metadata: XorbChunkSequenceHeader::new(chunk, 1, 3),
-        chunks: Items::from_vec(vec![in alloc; XorbChunkSequenceEntry::new(chunk, 3, 0)]?),
-    })
-}
-
-/// The file whose one segment is that chunk.
-fn file_of(alloc: Global, chunk: MerkleHash) -> Result<MDBFileInfo, StoreError>
-    ensures rows { IfOk result (λ file. length (file_rows file) ≡ 4) }
-{
-    let hash = file_hash(alloc, &[(chunk, 3)])?;
-    let digest = Sha256::from_hex(
-        "ba7816bf8f01cfea414140de5dae2223b00361a396177a9cb410ff61f20015ad",
-    )?;
-    let range_hash = range_hash_from_chunks(&[chunk]);
-    Ok(MDBFileInfo {
-        metadata: FileDataSequenceHeader::new(hash, 1, true, true),
-        segments: Items::from_vec(vec![in alloc; FileDataSequenceEntry::new(chunk, 3, 0, 1)]?),
-        verification: Items::from_vec(vec![in alloc; FileVerificationEntry::new(range_hash)]?),
-        metadata_ext: Some(FileMetadataExt::new(digest)),
-    })
-}
-
-/// The bytes of the shard with the xorb and the file of three bytes.
-fn shard_of(alloc: Global, bytes: &[u8]) -> Result<Vec<u8>, StoreError> {
-    let chunk = compute_data_hash(bytes);
-    let xorb = xorb_of(alloc, chunk)?;
-    let file = file_of(alloc, chunk)?;
-    let (bytes, _) = write_shard(alloc, &[&xorb], &[&file], HMACKey::default(), 0, u64::MAX)?;
-    Ok(bytes)
-}
-
 /// Writes the shard of three bytes into the folder `a`, and returns its length.
 fn write(alloc: Global, disk: &mut MemoryDisk, bytes: &[u8]) -> Result<usize, StoreError> {
-    let bytes = shard_of(alloc, bytes)?;
+    let (bytes, _) = shard_of(alloc, bytes)?;
     if bytes.len() > 1_000 {
         return Err(StoreError::UnexpectedEof);
     }

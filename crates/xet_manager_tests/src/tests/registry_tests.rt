@@ -1,6 +1,6 @@
 //! Tests of indexes, and of queries to registered shards on a disk in memory.
 
-use crate::tests::abc_tests::shard_of_abc;
+use crate::tests::samples::shard_of_abc;
 use std::alloc::Global;
 use std::test::Fail;
 use xet_hash::{HMACKey, StoreError, compute_data_hash};
