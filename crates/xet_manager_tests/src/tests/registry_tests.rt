@@ -25,7 +25,7 @@ fn places(alloc: Global) -> Result<([u64; 3], [Option<WordPlace>; 4]), StoreErro
 #[test]
 fn later_shard_has_the_word(rt: HostRuntime) -> Result<(), Fail> {
     let (counts, found) = places(rt.alloc())?;
-    assert_eq!(rt; counts, [2, 2, 4]);
+    assert_eq!(rt; counts, [2, 1, 3]);
     let first = WordPlace {
         shard: 0,
         row: 0,
