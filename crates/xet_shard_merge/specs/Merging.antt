@@ -106,21 +106,26 @@ KeepsFiles old new = (name bytes : List ℕ) → IsNoTemp name → bytes_at old 
 abbrev pub AddsResults : Files → Files → List MDBShardFile → Type 0
 AddsResults old new results = (name : List ℕ) → IsNoTemp name → file_at old name ≡ None → IsSome (file_at new name) → Any (λ r. r.path ≡ name) results
 
--- Shards of a directory were merged in it, and then the obsolete ones were removed.
+-- The valid shards of a folder were merged within it. Nothing else was written, and nothing was removed.
+pub record MergesWithin (old new : Files) (folder : List ℕ) (max_size : ℕ) (skip : Bool) (now : ℕ) (merge : ShardMergeResult) : Type 0 where
+  pub merges : Merges old new folder folder max_size skip now merge
+  pub keeps : KeepsFiles old new
+  pub adds : AddsResults old new merge.merged_shards.items
+
+-- Shards were merged within a folder, and then the obsolete ones were removed.
 pub record Consolidates (old new : Files) (folder : List ℕ) (max_size : ℕ) (skip : Bool) (now : ℕ) (results : List MDBShardFile) : Type 0 where
   pub between : Files
   pub merge : ShardMergeResult
-  pub merges : Merges old between folder folder max_size skip now merge
-  pub keeps : KeepsFiles old between
+  pub merges : MergesWithin old between folder max_size skip now merge
   pub removes : new ≡ all_removed between (paths merge.obsolete_shards.items)
   pub merged : results ≡ merge.merged_shards.items
 
--- After an error every file has its bytes, or all results stand and some of the obsolete files were removed, the first
--- ones.
+-- After an error every file has its bytes, or the shards were merged, and some of the obsolete ones were removed, the
+-- first ones.
 abbrev pub KeptOrConsolidated : Files → Files → List ℕ → ℕ → Bool → ℕ → Type 0
 KeptOrConsolidated old new folder max_size skip now =
     KeepsFiles old new
-    ⊎ ((between : Files) × (merge : ShardMergeResult) × (n : ℕ) × Merges old between folder folder max_size skip now merge × KeepsFiles old between
+    ⊎ ((between : Files) × (merge : ShardMergeResult) × (n : ℕ) × MergesWithin old between folder max_size skip now merge
     × (new ≡ all_removed between (take n (paths merge.obsolete_shards.items))))
 
 -- ---- errors

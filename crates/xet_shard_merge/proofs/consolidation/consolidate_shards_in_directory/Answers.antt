@@ -5,31 +5,31 @@ use Rattle.xet_hash.specs.declared.error.StoreError.{StoreError}
 use Rattle.xet_io.specs.Disk.{Files}
 use Rattle.xet_shard_directory.specs.Directories.{all_removed, paths}
 use Rattle.xet_shard_directory.specs.declared.shard_file.MDBShardFile.{MDBShardFile}
-use Rattle.xet_shard_merge.specs.Merging.{Consolidates, KeepsFiles, KeptOrConsolidated, Merges}
+use Rattle.xet_shard_merge.specs.Merging.{Consolidates, KeptOrConsolidated, MergesWithin}
 use Rattle.xet_shard_merge.specs.declared.merge.ShardMergeResult.{ShardMergeResult}
 use Rattle.xet_shard_merge.proofs.consolidation.consolidate_shards_in_directory.Goals as goal
 
-module _ (old between new : Files) (folder : List ℕ) (max_size : ℕ) (skip : Bool) (now : ℕ) (m : ShardMergeResult) (merges : Merges old between folder folder max_size skip now m) (keeps : KeepsFiles old between) where
+module _ (old between new : Files) (folder : List ℕ) (max_size : ℕ) (skip : Bool) (now : ℕ) (m : ShardMergeResult) (merges : MergesWithin old between folder max_size skip now m) where
   consolidated : (result : Result (Vec MDBShardFile Global) StoreError) → IfOk result (λ rs. rs.items ≡ m.merged_shards.items) → IfOk result (λ rs. new ≡ all_removed between (paths m.obsolete_shards.items))
       → IfOk result (λ rs. Consolidates old new folder max_size skip now rs.items)
-  consolidated (Ok rs) merged removed = record { between = between; merge = m; merges = merges; keeps = keeps; removes = removed; merged = merged }
+  consolidated (Ok rs) merged removed = record { between = between; merge = m; merges = merges; removes = removed; merged = merged }
   consolidated (Err e) merged removed = tt
 
   kept : (result : Result (Vec MDBShardFile Global) StoreError) → OnErr result ((n : ℕ) × (new ≡ all_removed between (take n (paths m.obsolete_shards.items))))
       → OnErr result (KeptOrConsolidated old new folder max_size skip now)
   kept (Ok rs) some = tt
-  kept (Err e) (n, some) = inr (between, m, n, merges, keeps, some)
+  kept (Err e) (n, some) = inr (between, m, n, merges, some)
 
 pub returns-in-Ok-clause-consolidated : goal.returns-in-Ok-clause-consolidated
 returns-in-Ok-clause-consolidated g c = λ tells.
     let files = g.D.Disk.files in
     let merge = c.in-Ok.ensures in
     consolidated (files c.args.disk.now) (files c.merge_shards.new.disk) (files c.remove_obsolete.new.disk) c.args.dir.now c.args.max_size c.args.skip_on_error c.args.now c.in-Ok.merge
-    (merge.merged tells) (merge.keeps tells) c.remove_obsolete.result c.remove_obsolete.ensures.merged (c.remove_obsolete.ensures.removed (merge.frame.tells ∙ tells))
+    (record { merges = merge.merged tells; keeps = merge.keeps tells; adds = merge.adds tells }) c.remove_obsolete.result c.remove_obsolete.ensures.merged (c.remove_obsolete.ensures.removed (merge.frame.tells ∙ tells))
 
 pub returns-in-Ok-clause-kept : goal.returns-in-Ok-clause-kept
 returns-in-Ok-clause-kept g c = λ tells.
     let files = g.D.Disk.files in
     let merge = c.in-Ok.ensures in
     kept (files c.args.disk.now) (files c.merge_shards.new.disk) (files c.remove_obsolete.new.disk) c.args.dir.now c.args.max_size c.args.skip_on_error c.args.now c.in-Ok.merge
-    (merge.merged tells) (merge.keeps tells) c.remove_obsolete.result (c.remove_obsolete.ensures.kept (merge.frame.tells ∙ tells))
+    (record { merges = merge.merged tells; keeps = merge.keeps tells; adds = merge.adds tells }) c.remove_obsolete.result (c.remove_obsolete.ensures.kept (merge.frame.tells ∙ tells))
