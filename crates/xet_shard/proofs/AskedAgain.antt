@@ -2,7 +2,7 @@
 use Rattle.std.proofs.Common.{◌≡◌, ◌≢◌, ℕ, zero, suc, ◌+◌, ◌-◌, ◌*◌, ◌^◌, ◌<◌, ◌≤◌, Bool, true, false, cond, eqb, List, [], ◌∷◌, ◌++◌, drop, filter, length, map, nat_eq, nat_le, nat_lt, take, None, Option, Some, Result, Ok, refl, sym, ap, subst, ◌∙◌, arith, inl, inr}
 use Rattle.std.specs.Cmp.Lexicographic.{bytes_decides, pointwise}
 use Rattle.std.specs.List.{AllByRecursion, list_any}
-use Rattle.std.specs.Prelude.{◌==◌, if◌then◌else◌}
+use Rattle.std.specs.Prelude.{◌==◌, if◌then◌else◌, is_some}
 use Rattle.std.proofs.lemmas.Bool.{cases_Bool, cases_lt, eq-eqb, eqb-false, eqb-true, le-leb, le-ltb, lt-ltb, ne_eqb}
 use Rattle.std.proofs.lemmas.List.{drop-drop, drop_at, length-append, length-take, take_all}
 use Rattle.std.proofs.lemmas.Option.{same_Some}
@@ -279,3 +279,39 @@ module _ (w : Lookups) (s : Shard) (form : IsShard s) (fits : Fits s) where
       let all = sorted_all (λ (i : ℕ × ℕ × ℕ). Stands foot encoding s.blocks (i.1)) place_cmp (chunks_from 0 s.blocks) (chunks_stand foot encoding s.blocks 0 s.blocks blocks_there placed) in
       rw (chunk_again (query_word foot (h ∷ hs)) index b) (place_again foot encoding s.blocks (h ∷ hs) s.key (first_word (kept_hash foot.chunk_hash_hmac_key h)) (chunk_items s.blocks) key_again all
       ∙ ap (λ (key : List ℕ). Ok (elim (last_of (first_word (kept_hash key h)) (chunk_items s.blocks)) [ None ↦ None | Some found ↦ shard_run_at s (h ∷ hs) found.0 found.1 ])) key_again)
+
+  -- the run of a query in the row of a header
+  pub run_in_again : (query : List (List ℕ)) (row place : ℕ) (block : MDBXorbInfo) → block_at row 0 s.blocks ≡ Some block → run_in foot query row place encoding ≡ Ok (run_at (map (kept_hash s.key) query) block place)
+  unfolding block_at
+  run_in_again query row place block is = read_at 0 s.blocks blocks_there is
+    where
+      read_at : (at : ℕ) (xs : List MDBXorbInfo) → Each xorb_rows (RunsAt foot encoding) at xs → block_at row at xs ≡ Some block → run_in foot query row place encoding ≡ Ok (run_at (map (kept_hash s.key) query) block place)
+      read_at at [] there e = absurd cc
+      read_at at (x ∷ xs) there e = elim (cases_Bool (eqb row at)) [
+        | inl same ↦
+            let here : x ≡ block = same_Some _ _ (subst (λ (b : Bool). cond b (Some x) (block_at row (at + length (xorb_rows x)) xs) ≡ Some block) same e) in
+            let read : run_in foot query row place encoding ≡ Ok (run_at (map (kept_hash foot.chunk_hash_hmac_key) query) x place) = ap (λ (r : ℕ). run_in foot query r place encoding) (eqb-true row at same) ∙ there.0 query place in
+            read ∙ ap (λ (b : MDBXorbInfo). Ok (run_at (map (kept_hash foot.chunk_hash_hmac_key) query) b place)) here ∙ ap (λ (key : List ℕ). Ok (run_at (map (kept_hash key) query) block place)) key_again
+        | inr other ↦ read_at (at + length (xorb_rows x)) xs there.1 (subst (λ (b : Bool). cond b (Some x) (block_at row (at + length (xorb_rows x)) xs) ≡ Some block) other e)
+      ]
+
+-- ---- the items of the chunk lookup table
+
+module _ (blocks : List MDBXorbInfo) where
+  abbrev IsHead : ℕ → Type 0
+  IsHead row = is_some (block_at row 0 blocks) ≡ true
+
+  rows_are_heads : (at place : ℕ) (cs : List XorbChunkSequenceEntry) → IsHead at → AllByRecursion (λ i. IsHead (i.1)) (lookup_rows_from at place cs)
+  unfolding lookup_rows_from
+  rows_are_heads at place [] is = tt
+  rows_are_heads at place (c ∷ cs) is = (is, rows_are_heads at (place + 1) cs is)
+
+  chunks_are_in_heads : (at : ℕ) (xs : List MDBXorbInfo) → Each xorb_rows (λ r x. block_at r 0 blocks ≡ Some x) at xs → AllByRecursion (λ i. IsHead (i.1)) (chunks_from at xs)
+  unfolding chunks_from
+  chunks_are_in_heads at [] placed = tt
+  chunks_are_in_heads at (x ∷ xs) placed =
+      all_both (λ (i : ℕ × ℕ × ℕ). IsHead (i.1)) (lookup_rows_from at 0 x.chunks) (chunks_from (at + length (xorb_rows x)) xs) (rows_are_heads at 0 x.chunks (ap is_some placed.0))
+      (chunks_are_in_heads (at + length (xorb_rows x)) xs placed.1)
+
+  pub item_rows_are_heads : AllByRecursion (λ i. is_some (block_at (i.1) 0 blocks) ≡ true) (chunk_items blocks)
+  item_rows_are_heads = sorted_all (λ (i : ℕ × ℕ × ℕ). IsHead (i.1)) place_cmp (chunks_from 0 blocks) (chunks_are_in_heads 0 blocks (placed_in blocks 0 blocks (λ r le. refl)))

@@ -13,6 +13,7 @@ mod write;
 
 pub use in_memory::MDBInMemoryShard;
 pub use info::MDBShardInfo;
+pub use query::run::kept_hash;
 pub use union::shard_set_union;
 pub use write::write_shard;
 pub use xet_shard_format::{

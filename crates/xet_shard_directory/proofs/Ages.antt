@@ -12,7 +12,7 @@ use Rattle.std.specs.declared.cmp.Ordering.TheVariants.{Less, Equal, Greater}
 use Rattle.xet_shard_directory.specs.Directories.{IsBeforeByPath, IsOlder}
 use Rattle.xet_shard_directory.specs.declared.shard_file.MDBShardFile.{MDBShardFile}
 use Rattle.xet_shard_directory.specs.internal.Folders.{age_order, path_order}
-use Rattle.xet_shard_directory.proofs.Apart.{apart_moved, strictly_sorted}
+use Rattle.xet_shard_directory.specs.theorems.Apart.{apart_moved, strictly_sorted}
 
 -- two shard files have different paths
 abbrev pub Differ : MDBShardFile → MDBShardFile → Type 0

@@ -1,5 +1,4 @@
 mod Ages
-mod Apart
 mod AtPath
 mod ErrorKinds
 mod FolderShards

@@ -5,4 +5,5 @@ pub mod Exporting
 pub mod Integrity
 pub mod Values
 pub mod Writing
+pub mod theorems
 pub mod internal

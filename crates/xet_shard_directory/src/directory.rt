@@ -90,8 +90,8 @@ impl MDBShardFile {
     }
 
     /// Removes the shard files of a folder, or the one at this path, that may be deleted at the time `now`: those whose
-    /// expiry was `buffer` seconds ago or earlier; the sum of the two is at most 2^64 - 1. Malformed ones are passed over. After an error some of the files may
-    /// have been removed that would have been.
+    /// expiry was `buffer` seconds ago or earlier; the sum of the two is at most 2^64 - 1. Malformed ones are passed over.
+    /// After an error some of the files may have been removed that would have been.
     pub fn clean_shard_cache<D: Disk>(
         alloc: Global,
         disk: &mut D,

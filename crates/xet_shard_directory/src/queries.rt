@@ -3,6 +3,7 @@
 ghost use Rattle.std.specs.Prelude.{◌≡◌, true, None, Ok, IfErr, Some};
 ghost use Rattle.xet_io.specs.Disk.{File, file_at};
 ghost use Rattle.xet_io.specs.Frame.{Unchanged};
+ghost use Rattle.xet_shard.specs.Queries.{run_in};
 ghost use Rattle.xet_shard.specs.Sections.{block_heads_in, chunk_lookup_in, files_in, xorb_lookup_in};
 ghost use Rattle.xet_shard_directory.specs.Asked.{AnswersFile, AnswersRun, AnswersRunAt};
 ghost use Rattle.xet_shard_directory.specs.Answers.{GivesUnlessDisk, IsFileQueryError, IsQueryError, IsReadError, in_file};
@@ -136,7 +137,8 @@ impl MDBShardFile {
     }
 
     /// The run of a query that starts at index `place` of the xorb whose header is in row `row`, as
-    /// `MDBShardInfo::chunk_hash_dedup_query_direct` finds it. None also if there is no file. Errors are those of `chunk_hash_dedup_query`.
+    /// `MDBShardInfo::chunk_hash_dedup_query_direct` finds it. None also if there is no file. Errors are those of
+    /// `chunk_hash_dedup_query`.
     pub fn chunk_hash_dedup_query_direct<D: Disk>(
         &self,
         alloc: Global,
@@ -158,6 +160,31 @@ impl MDBShardFile {
         let answer = self
             .shard
             .chunk_hash_dedup_query_direct(alloc, &mut reader, query, row, place);
+        of_disk(answer, reader.was_out_of_memory())
+    }
+
+    /// The same for a row that is known to have a header, as `MDBShardInfo::chunk_hash_dedup_query_in_row` finds it.
+    pub fn chunk_hash_dedup_query_in_row<D: Disk>(
+        &self,
+        alloc: Global,
+        disk: &mut D,
+        query: &[MerkleHash],
+        row: u32,
+        place: u32,
+    ) -> Result<Option<(usize, FileDataSequenceEntry)>, StoreError>
+        ensures present { D.tells disk.old ≡ true → (f : File) → file_at (D.files disk.old) self.now.path ≡ Some f → GivesUnlessDisk (λ run. run) result (run_in self.now.shard.metadata query.now row place f.bytes) }
+        ensures absent { D.tells disk.old ≡ true → file_at (D.files disk.old) self.now.path ≡ None → GivesUnlessDisk (λ found. found) result (Ok None) }
+        ensures frame { Unchanged D.files D.tells D.faults disk.old disk.new }
+        ensures reason { IfErr result (IsQueryError (D.faults disk.old) (D.faults disk.new)) }
+    {
+        let path = self.path.as_str();
+        if !is_there(disk, path)? {
+            return Ok(None);
+        }
+        let mut reader = FileReader::new(disk, path);
+        let answer = self
+            .shard
+            .chunk_hash_dedup_query_in_row(alloc, &mut reader, query, row, place);
         of_disk(answer, reader.was_out_of_memory())
     }
 }

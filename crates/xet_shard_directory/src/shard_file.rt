@@ -1,6 +1,6 @@
 //! `MDBShardFile`: a shard file on a disk.
 
-ghost use Rattle.std.specs.Prelude.{◌≡◌, ◌≢◌, ◌<◌, ◌⊎◌, ℕ, List, [], true, None, OnErr, Some, IfErr, IfOk, IsErrOf, Err, string_bytes};
+ghost use Rattle.std.specs.Prelude.{◌≡◌, ◌≢◌, ◌<◌, ◌⊎◌, ℕ, List, [], true, None, OnErr, Some, IfErr, IfOk, IsErrOf, IsOkUnless, Err, string_bytes};
 ghost use Rattle.xet_codec.specs.Stops.{HasDiskReason};
 ghost use Rattle.xet_hash.specs.Hash.{zero_hash};
 ghost use Rattle.xet_io.specs.Disk.{File, file_at};
@@ -137,6 +137,20 @@ impl MDBShardFile {
         ensures { key_of self.now.shard.metadata result }
     {
         self.shard.chunk_hmac_key()
+    }
+
+    /// A copy of the value. The only error is `StoreError::OutOfMemory`.
+    pub fn copy(&self, alloc: Global) -> Result<MDBShardFile, StoreError>
+        ensures copy { IfOk result (λ copy. copy ≡ self.now) }
+        ensures memory { IsOkUnless result StoreError.OutOfMemory }
+    {
+        let path = String::from_str(alloc, self.path.as_str())?;
+        Ok(MDBShardFile {
+            shard_hash: self.shard_hash,
+            path: Text::new(path),
+            shard: self.shard,
+            last_modified_time: self.last_modified_time,
+        })
     }
 }
 

@@ -68,6 +68,16 @@ impl WordIndex {
         Ok((self.places.len() - before) as u64)
     }
 
+    /// Takes the memory that `insert_shard` needs for a table of so many items, so that it then allocates nothing. The
+    /// only error is `StoreError::OutOfMemory`. The index is unchanged in either case.
+    pub fn reserve(&mut self, items: usize) -> Result<(), StoreError>
+        ensures kept { self.new ≡ self.old }
+        ensures memory { IsOkUnless result StoreError.OutOfMemory }
+    {
+        self.places.reserve(items)?;
+        Ok(())
+    }
+
     /// The number of different words.
     pub fn words(&self) -> u64
         ensures { result ≡ length self.now }

@@ -1,4 +1,3 @@
-pub mod Apart
 pub mod EachOnce
 pub mod Loading
 pub mod Merged

@@ -31,7 +31,7 @@ use Rattle.xet_shard_merge.specs.Merging.{IsEarlier, IsNoTemp, IsOfFile, Offers}
 use Rattle.xet_shard_merge.specs.internal.Keeping.{IsIntact}
 use Rattle.xet_shard_merge.specs.internal.Order.{merge_order}
 use Rattle.xet_shard_merge.specs.internal.Progressing.{offered_in, offered_of}
-use Rattle.xet_shard_merge.proofs.Apart.{apart_moved, strictly_sorted}
+use Rattle.xet_shard_directory.specs.theorems.Apart.{apart_moved, strictly_sorted}
 
 -- ---- names
 

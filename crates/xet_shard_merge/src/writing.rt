@@ -1,6 +1,6 @@
 //! Writing of the result of a group.
 
-ghost use Rattle.std.specs.Prelude.{◌≡◌, ◌∷◌, [], ℕ, List, All, IfErr, IfOk, IsOk, IsOkUnless, IsTrue, Some, true};
+ghost use Rattle.std.specs.Prelude.{◌≡◌, ◌∷◌, [], ℕ, List, All, IfErr, IfOk, IsOk, IsTrue, Some, true};
 ghost use Rattle.xet_codec.specs.Stops.{HasDiskReason};
 ghost use Rattle.xet_io.specs.Disk.{bytes_at};
 ghost use Rattle.xet_io.specs.Frame.{Stays, Unchanged};
@@ -12,7 +12,6 @@ ghost use Rattle.xet_shard_merge.specs.internal.Keeping.{IsFree, IsIntact, Prese
 
 use crate::group::OpenGroup;
 use std::alloc::Global;
-use xet_base::Text;
 use xet_codec::store_error;
 use xet_hash::{StoreError, compute_data_hash};
 use xet_io::{Disk, read_file};
@@ -56,27 +55,13 @@ fn write_copy<D: Disk>(
 {
     let path = shard_path(alloc, target, &shard.shard_hash)?;
     if shard.path.as_str() == path.as_str() {
-        return copy_of(alloc, shard);
+        return shard.copy(alloc);
     }
     match read_file(disk, alloc, shard.path.as_str()) {
         Ok(Some(bytes)) => write_new(alloc, disk, target, &bytes),
         Ok(None) => Err(StoreError::FileNotFound),
         Err(refusal) => Err(store_error(refusal)),
     }
-}
-
-/// A copy of a value.
-fn copy_of(alloc: Global, shard: &MDBShardFile) -> Result<MDBShardFile, StoreError>
-    ensures copy { IfOk result (λ s. s ≡ shard.now) }
-    ensures memory { IsOkUnless result StoreError.OutOfMemory }
-{
-    let path = String::from_str(alloc, shard.path.as_str())?;
-    Ok(MDBShardFile {
-        shard_hash: shard.shard_hash,
-        path: Text::new(path),
-        shard: shard.shard,
-        last_modified_time: shard.last_modified_time,
-    })
 }
 
 /// Writes the shard that has the records of a group.

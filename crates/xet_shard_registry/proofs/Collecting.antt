@@ -12,7 +12,7 @@ use Rattle.xet_hash.specs.Hash.{zero_hash}
 use Rattle.xet_shard_registry.proofs.Keys.{key_same, key_tells}
 use Rattle.xet_shard.specs.Union.{ShardRecords}
 use Rattle.xet_shard_directory.specs.declared.shard_file.MDBShardFile.{MDBShardFile}
-use Rattle.xet_shard_registry.specs.Registered.{Registered, with_shard, word_count, collection, entered_from, has_key, indexed, key_of, keys_of, numbers, numbers_from}
+use Rattle.xet_shard_registry.specs.Registered.{collection, entered_from, has_key, indexed, key_of, keys_of, materialized_of, numbers, numbers_from, Registered, stored_of, with_shard, word_count}
 use Rattle.xet_shard_registry.specs.declared.collection.Collection.{Collection}
 use Rattle.xet_shard_registry.specs.Collections.{AddsTo, AreCollectionsOf, HasAdded, HasKept, IsCollectionOf, IsKeyless, IsRegistryOf, StayCollections, Tables, words_in}
 use Rattle.indexmap.specs.IndexSet.{insert_key}
@@ -387,12 +387,15 @@ pub registry_more : (cap : ℕ) (shards : List Registered) (file : MDBShardFile)
     → cap ≤ 2 ^ 64 - 1 → enters ≡ nat_lt t.words cap
     → ((s : Registered) → s.file ≡ file → enters ≡ s.entered → items ≡ s.items → AddsTo t.collections next.collections (length t.files) s)
     → next.files ≡ t.files ++ file ∷ [] → next.hashes ≡ t.hashes ++ file.shard_hash ∷ [] → words_in next.collections ≡ words_in t.collections + added → next.words ≡ min (t.words + added) (2 ^ 64 - 1)
+    → next.materialized ≡ min (t.materialized + file.shard.metadata.materialized_bytes) (2 ^ 64 - 1) → next.stored ≡ min (t.stored + file.shard.metadata.stored_bytes) (2 ^ 64 - 1)
     → IsRegistryOf shards t → IsRegistryOf (with_shard cap shards file items records) next
-registry_more cap shards file records t next added enters items fits ee adds files hashes words sum held = record {
+registry_more cap shards file records t next added enters items fits ee adds files hashes words sum materialized stored held = record {
   files = files ∙ rw held.files (sym (map-append (λ (x : Registered). x.file) shards (s ∷ [])));
   collections = adds s refl enters_too refl shards held.collections (ap length held.files ∙ length-map shards (λ (x : Registered). x.file));
   words = sum ∙ rw (held.words, words) (together (words_in t.collections) added);
   hashes = hashes ∙ rw held.hashes (sym (map-append (λ (x : Registered). x.file.shard_hash) shards (s ∷ [])));
+  materialized = materialized ∙ total materialized_of t.materialized held.materialized;
+  stored = stored ∙ total stored_of t.stored held.stored;
 }
   where
     s : Registered
@@ -404,12 +407,17 @@ registry_more cap shards file records t next added enters items fits ee adds fil
     together : (w a : ℕ) → min (min w (2 ^ 64 - 1) + a) (2 ^ 64 - 1) ≡ min (w + a) (2 ^ 64 - 1)
     together w a = omega arith
 
+    total : (size : Registered → ℕ) (before : ℕ) → before ≡ min (sum_by size shards) (2 ^ 64 - 1) → min (before + size s) (2 ^ 64 - 1) ≡ min (sum_by size (shards ++ s ∷ [])) (2 ^ 64 - 1)
+    total size before is = rw (is, sum_push size shards s) (together (sum_by size shards) (size s))
+
 -- the same shards are registered after an error
 pub registry_kept : (shards : List Registered) (t next : Tables) → next.files ≡ t.files → StayCollections t.collections next.collections
-    → words_in next.collections ≡ words_in t.collections → next.words ≡ t.words → next.hashes ≡ t.hashes → IsRegistryOf shards t → IsRegistryOf shards next
-registry_kept shards t next files stay words same hashes held = record {
+    → words_in next.collections ≡ words_in t.collections → next.words ≡ t.words → next.hashes ≡ t.hashes → next.materialized ≡ t.materialized → next.stored ≡ t.stored → IsRegistryOf shards t → IsRegistryOf shards next
+registry_kept shards t next files stay words same hashes materialized stored held = record {
   files = files ∙ held.files;
   collections = stay shards held.collections;
   words = same ∙ held.words ∙ ap (λ (w : ℕ). min w (2 ^ 64 - 1)) (sym words);
   hashes = hashes ∙ held.hashes;
+  materialized = materialized ∙ held.materialized;
+  stored = stored ∙ held.stored;
 }

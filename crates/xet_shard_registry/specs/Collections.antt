@@ -2,7 +2,7 @@
 use Rattle.std.specs.Prelude.{◌≡◌, ◌++◌, ◌∷◌, ◌-◌, ◌^◌, [], ℕ, Bool, true, false, List, length, map, min, nat_eq}
 use Rattle.std.specs.Cmp.Lexicographic.{pointwise}
 use Rattle.std.specs.List.{AllByRecursion, list_any, sum_by}
-use Rattle.xet_shard_registry.specs.Registered.{Registered, indexed, keys_of, numbers}
+use Rattle.xet_shard_registry.specs.Registered.{Registered, indexed, keys_of, materialized_of, numbers, stored_of}
 use Rattle.xet_shard_registry.specs.declared.collection.Collection.{Collection}
 use Rattle.xet_shard_directory.specs.declared.shard_file.MDBShardFile.{MDBShardFile}
 use Rattle.xet_shard_index.specs.Places.{IndexedShard, IsIndexOf, indexed_shard}
@@ -50,13 +50,15 @@ AddsTo old new number s =
 abbrev pub StayCollections : List Collection → List Collection → Type 0
 StayCollections old new = (shards : List Registered) → AreCollectionsOf shards old → AreCollectionsOf shards new
 
--- what a registry has: the values of the files, the collections, the number of words in these up to 2^64 - 1, and the
--- hashes
+-- What a registry has: the values of the files, the collections, the number of words in these, the hashes, and the sums of
+-- the totals in the footers. Numbers are at most 2^64 - 1.
 pub record Tables : Type 0 where
   pub files : List MDBShardFile
   pub collections : List Collection
   pub words : ℕ
   pub hashes : List (List ℕ)
+  pub materialized : ℕ
+  pub stored : ℕ
 
 -- The tables are those of these registered shards.
 pub record IsRegistryOf (shards : List Registered) (t : Tables) : Type 0 where
@@ -64,3 +66,5 @@ pub record IsRegistryOf (shards : List Registered) (t : Tables) : Type 0 where
   pub collections : AreCollectionsOf shards t.collections
   pub words : t.words ≡ min (words_in t.collections) (2 ^ 64 - 1)
   pub hashes : t.hashes ≡ map (λ s. s.file.shard_hash) shards
+  pub materialized : t.materialized ≡ min (sum_by materialized_of shards) (2 ^ 64 - 1)
+  pub stored : t.stored ≡ min (sum_by stored_of shards) (2 ^ 64 - 1)

@@ -1,7 +1,7 @@
 -- The registered shards in order of registration, their collections by key, and where their chunks are found.
 use Rattle.std.specs.Prelude.{ℕ, ◌+◌, nat_eq, nat_lt, Bool, List, [], ◌∷◌, ◌++◌, filter, length, map, Option, option_and_then, option_map, if◌then◌else◌}
 use Rattle.std.specs.Cmp.Lexicographic.{pointwise}
-use Rattle.std.specs.List.{slice_get, sum_by}
+use Rattle.std.specs.List.{list_any, slice_get, sum_by}
 use Rattle.xet_hash.specs.Hash.{zero_hash}
 use Rattle.xet_shard.specs.Union.{ShardRecords}
 use Rattle.xet_shard_directory.specs.declared.shard_file.MDBShardFile.{MDBShardFile}
@@ -19,6 +19,13 @@ pub record Registered : Type 0 where
 
 abbrev pub key_of : Registered → List ℕ
 key_of s = s.file.shard.metadata.chunk_hash_hmac_key
+
+-- the uncompressed bytes of its files and of its chunks, as its footer states them
+abbrev pub materialized_of : Registered → ℕ
+materialized_of s = s.file.shard.metadata.materialized_bytes
+
+abbrev pub stored_of : Registered → ℕ
+stored_of s = s.file.shard.metadata.stored_bytes
 
 abbrev pub has_key : List ℕ → Registered → Bool
 has_key key s = pointwise nat_eq key (key_of s)
@@ -39,6 +46,10 @@ numbers key shards = numbers_from 0 key shards
 -- of first occurrence
 abbrev pub keys_of : List Registered → List (List ℕ)
 keys_of shards = different (pointwise nat_eq) (zero_hash ∷ map key_of shards)
+
+-- whether a shard with this hash is registered
+abbrev pub is_registered : List ℕ → List Registered → Bool
+is_registered hash shards = list_any (pointwise nat_eq hash) (map (λ s. s.file.shard_hash) shards)
 
 -- ---- the index
 

@@ -57,6 +57,15 @@ impl Collection {
         Ok(added)
     }
 
+    /// Takes the memory for one more shard with this number of chunks. The only error is `StoreError::OutOfMemory`.
+    pub(crate) fn reserve(&mut self, chunks: usize) -> Result<(), StoreError>
+        ensures kept { HasKept self.old self.new }
+        ensures memory { IsOkUnless result StoreError.OutOfMemory }
+    {
+        self.members.reserve(1)?;
+        self.index.reserve(chunks)
+    }
+
     /// The place of a word. The shard has its number among all.
     pub(crate) fn find(&self, word: u64) -> Option<WordPlace>
         ensures { (shards : List Registered) → IsCollectionOf shards self.now → result ≡ place_among self.now.key word shards }

@@ -5,7 +5,7 @@ ghost use Rattle.std.specs.Cmp.Lexicographic.{pointwise};
 ghost use Rattle.std.specs.List.{list_any};
 ghost use Rattle.indexmap.specs.IndexSet.{spare};
 ghost use Rattle.xet_shard_registry.specs.declared.collection.Collection.{Collection};
-ghost use Rattle.xet_shard_registry.specs.Registered.{Registered, key_of, keys_of, place_among, with_shard};
+ghost use Rattle.xet_shard_registry.specs.Registered.{Registered, key_of, keys_of, numbers, place_among, with_shard};
 ghost use Rattle.xet_shard_registry.specs.Collections.{AddsTo, IsKeyless, IsRegistryOf, StayCollections, words_in};
 ghost use Rattle.xet_shard.specs.Union.{ShardRecords};
 ghost use Rattle.xet_shard_format.specs.Lookups.{flat_places};
@@ -30,6 +30,9 @@ pub struct ShardRegistry {
     words: u64,
     /// The hashes of the shards.
     hashes: IndexSet<MerkleHash>,
+    /// The uncompressed bytes of the files of all shards, and of their chunks, as the footers state them.
+    materialized: u64,
+    stored: u64,
 }
 
 impl Model for ShardRegistry {
@@ -37,7 +40,7 @@ impl Model for ShardRegistry {
 
     ghost Value = { Tables };
 
-    ghost view = { λ s. record { files = s.files.items; collections = s.collections.items; words = s.words; hashes = s.hashes.keys } };
+    ghost view = { λ s. record { files = s.files.items; collections = s.collections.items; words = s.words; hashes = s.hashes.keys; materialized = s.materialized; stored = s.stored } };
 }
 
 impl ShardRegistry {
@@ -53,6 +56,8 @@ impl ShardRegistry {
             collections,
             words: 0,
             hashes: IndexSet::new(alloc),
+            materialized: 0,
+            stored: 0,
         })
     }
 
@@ -75,6 +80,8 @@ impl ShardRegistry {
     {
         let enters = self.words < cap;
         let hash = file.shard_hash;
+        let materialized = file.shard.metadata.materialized_bytes;
+        let stored = file.shard.metadata.stored_bytes;
         self.hashes.reserve(1)?;
         let added = put(
             &mut self.files,
@@ -85,8 +92,23 @@ impl ShardRegistry {
             enters,
         )?;
         self.words = self.words.saturating_add(added);
+        self.materialized = self.materialized.saturating_add(materialized);
+        self.stored = self.stored.saturating_add(stored);
         insert_hash(&mut self.hashes, hash);
         Ok(())
+    }
+
+    /// Takes the memory that `register` needs for a shard without a key and with this number of chunks, so that it then
+    /// allocates nothing. The only error is `StoreError::OutOfMemory`. The same shards are registered in either case.
+    pub fn reserve(&mut self, chunks: usize) -> Result<(), StoreError>
+        ensures kept { (shards : List Registered) → IsRegistryOf shards self.old → IsRegistryOf shards self.new }
+        ensures files { self.new.files ≡ self.old.files }
+        ensures hashes { self.new.hashes ≡ self.old.hashes }
+        ensures memory { IsOkUnless result StoreError.OutOfMemory }
+    {
+        self.hashes.reserve(1)?;
+        self.files.reserve(1)?;
+        reserve_first(&mut self.collections, chunks)
     }
 
     /// The values of the files, in order of registration.
@@ -122,11 +144,48 @@ impl ShardRegistry {
         collection.find(word)
     }
 
+    /// The numbers of the shards of the key with an index, in order of registration; none if there is no such key.
+    pub fn members(&self, index: usize) -> &[u32]
+        ensures { (shards : List Registered) (key : List ℕ) → IsRegistryOf shards self.now → slice_get (keys_of shards) index ≡ Some key → result.now ≡ numbers key shards }
+    {
+        match self.collections.get(index) {
+            Some(collection) => collection.members.as_slice(),
+            None => &[],
+        }
+    }
+
+    /// The uncompressed bytes of the files of all shards, as the footers state them, and at most 2^64 - 1.
+    pub fn materialized_bytes(&self) -> u64
+        ensures { result ≡ self.now.materialized }
+    {
+        self.materialized
+    }
+
+    /// The uncompressed bytes of the chunks of all shards, as the footers state them, and at most 2^64 - 1.
+    pub fn stored_bytes(&self) -> u64
+        ensures { result ≡ self.now.stored }
+    {
+        self.stored
+    }
+
     /// Whether a shard with this hash is registered.
     pub fn contains(&self, hash: &MerkleHash) -> bool
         ensures { result ≡ list_any (pointwise nat_eq hash.now) self.now.hashes }
     {
         self.hashes.contains(hash)
+    }
+}
+
+/// Takes the memory for one more shard in the first collection.
+fn reserve_first(collections: &mut Vec<Collection>, chunks: usize) -> Result<(), StoreError>
+    ensures stay { StayCollections collections.old.items collections.new.items }
+    ensures words { words_in collections.new.items ≡ words_in collections.old.items }
+    ensures memory { IsOkUnless result StoreError.OutOfMemory }
+{
+    if collections.is_empty() {
+        Ok(())
+    } else {
+        collections[0].reserve(chunks)
     }
 }
 

@@ -1,12 +1,12 @@
 //! Queries to a shard in memory.
 
-ghost use Rattle.std.specs.Prelude.{◌≡◌, IfOk, IsOkUnless, length, option_map};
-ghost use Rattle.xet_shard.specs.Held.{record_of};
+ghost use Rattle.std.specs.Prelude.{◌≡◌, IfOk, IsOkUnless, length, map, option_map};
+ghost use Rattle.xet_shard.specs.Held.{by_hash, record_of};
 ghost use Rattle.xet_shard_format.specs.Records.{file_record_hash, xorb_record_hash};
 ghost use Rattle.xet_shard.specs.Runs.{held_run};
 ghost use Rattle.xet_shard_format.specs.Encoding.{materialized, stored};
 
-use super::MDBInMemoryShard;
+use super::{MDBInMemoryShard, by_hash};
 use crate::query::run::run_at;
 use std::alloc::Global;
 use xet_hash::{HMACKey, MerkleHash, StoreError};
@@ -41,6 +41,15 @@ impl MDBInMemoryShard {
             Some(file) => Ok(Some(file.copy(alloc)?)),
             None => Ok(None),
         }
+    }
+
+    /// Copies of the file records in ascending order of hash. The only error is `StoreError::OutOfMemory`.
+    pub fn all_file_info(&self, alloc: Global) -> Result<Vec<MDBFileInfo>, StoreError>
+        ensures files { IfOk result (λ files. files.items ≡ by_hash file_record_hash self.now.files) }
+        ensures memory { IsOkUnless result StoreError.OutOfMemory }
+    {
+        let files = by_hash(alloc, &self.files)?;
+        copies(alloc, &files)
     }
 
     /// The run of a query: how many of its first hashes are those of consecutive chunks of a xorb, and the
@@ -94,4 +103,16 @@ impl MDBInMemoryShard {
         }
         total
     }
+}
+
+/// Copies of these file records.
+fn copies(alloc: Global, files: &[&MDBFileInfo]) -> Result<Vec<MDBFileInfo>, StoreError>
+    ensures copies { IfOk result (λ copies. copies.items ≡ map (λ file. file.now) files.now) }
+    ensures memory { IsOkUnless result StoreError.OutOfMemory }
+{
+    let mut copies = Vec::with_capacity(alloc, files.len())?;
+    for file in files {
+        copies.push(file.copy(alloc)?)?;
+    }
+    Ok(copies)
 }

@@ -96,8 +96,10 @@ impl MDBShardInfo {
         }
     }
 
-    /// The same for a row that is known to have a header, such as one of an item of the chunk lookup table: no lookup
-    /// table is read. If the row has none, it is read as if it had.
+    /// The run of a query that starts at index `place` of the xorb whose header is in row `row`, for a row that is known
+    /// to have a header, such as that of an item of the chunk lookup table. No lookup table is read: a row without a
+    /// header is read as if it had one, and a row that the section does not have is `MalformedData`, also for an empty
+    /// query. Errors are those of `chunk_hash_dedup_query`.
     pub fn chunk_hash_dedup_query_in_row<R: ReadAt>(
         &self,
         alloc: Global,

@@ -10,7 +10,7 @@ use xet_shard_format::{FileDataSequenceEntry, MDBXorbInfo, XorbChunkSequenceEntr
 
 /// A chunk hash as a shard stores it: keyed, if the shard's key is not zero.
 #[tactic(auto, unfolding(crate::specs::Queries::kept_hash))]
-pub(crate) fn kept_hash(key: &HMACKey, hash: &MerkleHash) -> MerkleHash
+pub fn kept_hash(key: &HMACKey, hash: &MerkleHash) -> MerkleHash
     ensures { result ≡ kept_hash key.now hash.now }
 {
     if *key == HMACKey::default() {

@@ -36,8 +36,8 @@ impl MDBShardInfo {
         load(reader, len)
     }
 
-    /// The files, in ascending order of hash, read from the bytes of their section alone. If the section is malformed, the error is that
-    /// of the first check that fails. It is `Io(Input)` if the reader failed.
+    /// The files, in ascending order of hash, read from the bytes of their section alone. If the section is malformed, the
+    /// error is that of the first check that fails. It is `Io(Input)` if the reader failed.
     pub fn read_all_file_info_sections<R: ReadAt>(
         &self,
         alloc: Global,
@@ -52,8 +52,8 @@ impl MDBShardInfo {
         files(alloc, reader, &self.metadata)
     }
 
-    /// The xorbs, in ascending order of hash, read from the bytes of their section alone. If the section is malformed, the error is that
-    /// of the first check that fails. It is `Io(Input)` if the reader failed.
+    /// The xorbs, in ascending order of hash, read from the bytes of their section alone. If the section is malformed, the
+    /// error is that of the first check that fails. It is `Io(Input)` if the reader failed.
     pub fn read_all_xorb_blocks_full<R: ReadAt>(
         &self,
         alloc: Global,

@@ -7,4 +7,4 @@ returns-clause-registered c shards records held =
     registry_more c.args.cap shards c.args.file records _ _ c.in_ok-added.added _ _ (omega (arith, c.ranges.cap.fits)) refl
     c.in_ok-added.ensures.added c.in_ok-added.ensures.files
     (c.insert_hash.ensures ∙ ap (λ (ks : List (List ℕ)). ks ++ c.args.file.shard_hash ∷ []) c.in_ok-reserve.ensures.keys)
-    c.in_ok-added.ensures.count c.saturating_add-self-inside.ensures (rw (← c.self.view_is) at held)
+    c.in_ok-added.ensures.count c.saturating_add-self-inside.ensures c.saturating_add-self-inside-2.ensures c.saturating_add-self-inside-3.ensures (rw (← c.self.view_is) at held)
