@@ -1,1 +1,3 @@
-pub mod Found
+pub mod Adding
+pub mod Coding
+pub mod Manager

@@ -1,6 +1,8 @@
-//! Look-ups in the shards of a store: what is pending, and the registered shards on a disk.
+//! The manager of the shards of a folder: those registered, and what is pending.
 #![tactic(auto)]
 
-mod queries;
+mod manager;
+mod settings;
 
-pub use queries::find_run;
+pub use manager::{FileReconstructor, ShardFileManager};
+pub use settings::ManagerSettings;

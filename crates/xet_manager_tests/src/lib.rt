@@ -1,4 +1,4 @@
-//! Tests of shard files, of registered shards and of merging, through their public functions.
+//! Tests of the manager of the shards of a folder, through its public calls.
 #![tactic(auto)]
 
 #[cfg(test)]

@@ -1,6 +1,12 @@
 //! The modules of tests.
 
-mod directory_tests;
-mod merge_tests;
-mod registry_tests;
+mod adding_tests;
+mod cache_tests;
+mod cutting_tests;
+mod exports;
+mod failing_tests;
+mod import_tests;
+mod keyed_tests;
+mod records;
+mod registering_tests;
 mod samples;

@@ -14,8 +14,8 @@ use xet_io::Disk;
 use xet_shard_directory::{MDBShardFile, remove_all};
 
 /// Merges the valid shards of a folder within it, as `merge_shards` does, then removes the obsolete ones, and returns the
-/// results. Nothing else is written or removed then. No shard is removed before all results are durable. After an error no
-/// shard was removed, or all results are there, and some of the obsolete ones may have been removed.
+/// results. Nothing else is written or removed then. No shard is removed before all results that are written are durable.
+/// After an error no shard was removed, or all results are there, and some of the obsolete ones may have been removed.
 pub fn consolidate_shards_in_directory<D: Disk>(
     alloc: Global,
     disk: &mut D,

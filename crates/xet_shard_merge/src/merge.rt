@@ -49,9 +49,10 @@ impl ShardMergeResult {
 }
 
 /// Merges the valid shards of a folder, or the one at this path, into the folder `target`: the oldest modification time
-/// first, and equal ones by path. Shards are put together as long as the merged one has no more than `max_size` bytes, and
-/// no more than 2^36. A keyed shard is skipped, and so is one that fits but disagrees with the open group: a xorb or a
-/// file of the same hash is another there. Nothing is removed or replaced.
+/// first, and equal ones by path. A shard joins the open group if its length, together with that of the shard of the
+/// group so far, less 248, is at most `max_size`, which counts as 2^36 if it is more; otherwise it begins the next group.
+/// A keyed shard is skipped, and so is one that fits but disagrees with the open group: a xorb or a file of the same hash
+/// is another there. Nothing is removed or replaced.
 ///
 /// `FileNotFound` if the path names a shard and it is not there. If a section is malformed, the error is that of the first
 /// check that fails, or with `skip_on_error` that shard is skipped. After an error some of the results may have been

@@ -1,4 +1,4 @@
-//! Tests of shards through their public functions.
+//! Tests of writing, checking, exporting and uniting shards, through public functions.
 #![tactic(auto)]
 
 #[cfg(test)]

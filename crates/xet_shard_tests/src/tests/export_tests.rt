@@ -1,11 +1,11 @@
 //! Tests of export under a key, and of unions.
 
-use super::abc_tests::{Written, file_of_abc, release, shard_of, shard_of_abc};
 use std::alloc::Global;
 use std::test::Fail;
 use xet_hash::{HMACKey, MerkleHash, StoreError, compute_data_hash};
 use xet_io::{MemorySink, SliceReader};
 use xet_shard::*;
+use xet_shard_samples::{Written, file_of_abc, shard_of, shard_of_abc};
 
 /// The shard, exported under the key of 32 bytes 1, created at 5 and valid for 10 seconds, with its files and
 /// all lookup tables, or without them.

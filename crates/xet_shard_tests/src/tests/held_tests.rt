@@ -1,10 +1,15 @@
 //! Tests of names, of SHA-256 text, of boundary offsets and of a shard in memory.
 
+ghost use Rattle.std.specs.Prelude.{◌≡◌};
+ghost use Rattle.xet_shard.specs.Held.{nothing};
+
+use std::alloc::Global;
 use std::test::Fail;
 use xet_base::Items;
 use xet_hash::{MerkleHash, Reason, StoreError};
 use xet_io::{MemorySink, SliceReader};
 use xet_shard::*;
+use xet_shard_samples::release;
 
 #[test]
 fn a_shard_has_its_digests_name(rt: HostRuntime) -> Result<(), Fail> {
@@ -70,20 +75,34 @@ fn boundaries_are_running_sums(rt: HostRuntime) -> Result<(), Fail> {
     Ok(())
 }
 
+/// Adds a xorb and a file to an empty shard, and writes it at time 7. Returns its header and footer, and its length.
+fn added_and_written(
+    alloc: Global,
+    shard: &mut MDBInMemoryShard,
+    sink: &mut MemorySink,
+) -> Result<(MDBShardInfo, u64), StoreError>
+    requires { shard.old ≡ nothing }
+{
+    shard.add_xorb_block(MDBXorbInfo::default(alloc))?;
+    shard.add_file_reconstruction_info(MDBFileInfo::default(alloc))?;
+    let info = shard.serialize_from(alloc, sink, 7, None)?;
+    Ok((info, shard.shard_file_size()))
+}
+
 #[test]
 fn what_is_held_is_written(rt: HostRuntime) -> Result<(), Fail> {
     let alloc = rt.alloc();
     let mut shard = MDBInMemoryShard::new(alloc);
-    shard.add_xorb_block(MDBXorbInfo::default(alloc))?;
-    shard.add_file_reconstruction_info(MDBFileInfo::default(alloc))?;
     let mut sink = MemorySink::new(alloc);
-    let info = shard.serialize_from(alloc, &mut sink, 7, None)?;
-    assert_eq!(rt; sink.bytes().len() as u64, shard.shard_file_size());
-    let (blocks, files, footer) = MDBShardInfo::check_whole(
-        alloc,
-        &mut SliceReader::new(sink.bytes()),
-    )?;
-    assert_eq!(rt; (blocks.len(), files.len()), (1, 1));
+    let answer = added_and_written(alloc, &mut shard, &mut sink);
+    release(shard);
+    let (info, size) = answer?;
+    let bytes = sink.bytes();
+    let (blocks, files, footer) = MDBShardInfo::check_whole(alloc, &mut SliceReader::new(bytes))?;
+    assert_eq!(rt;
+        (bytes.len() as u64, blocks.len(), files.len()),
+        (size, 1, 1)
+    );
     assert_eq!(rt; footer, info.metadata);
     Ok(())
 }

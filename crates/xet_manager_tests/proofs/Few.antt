@@ -1,0 +1,58 @@
+-- How many rows the pending xorbs have.
+use Rattle.std.proofs.Common.{◌≡◌, ℕ, ◌+◌, ◌^◌, ◌<◌, ◌≤◌, Bool, false, true, List, [], ◌∷◌, ◌++◌, filter, length, nat_eq, not, if◌then◌else◌, ap, refl, arith}
+use Rattle.std.proofs.lemmas.List.{length-append}
+use Rattle.std.proofs.lemmas.List.Concat.{length-flat_map}
+use Rattle.std.proofs.lemmas.List.Filters.{sum_by-filter_both}
+use Rattle.std.proofs.lemmas.List.Sums.{sum_by-append, sum_by-cons}
+use Rattle.std.specs.Cmp.Lexicographic.{pointwise}
+use Rattle.std.specs.List.{flat_map, sum_by}
+use Rattle.xet_manager.specs.Adding.{IsCut, blocks_before, cut_due}
+use Rattle.xet_manager.specs.Manager.{ManagerState}
+use Rattle.xet_shard.specs.Held.{held, with_last}
+use Rattle.xet_shard_format.specs.RecordSizes.{xorb_record_size}
+use Rattle.xet_shard_format.specs.Records.{end_row, section, xorb_record_hash, xorb_rows, xorb_section}
+use Rattle.xet_shard_format.specs.declared.record.MDBXorbInfo.{MDBXorbInfo}
+use Rattle.xet_shard_format.specs.declared.row.Row.{Row}
+
+-- a section has the rows of its records, and one more
+rows_of : {X : Type 0} (rows : X → List Row) (xs : List X) → length (section rows xs) ≡ sum_by (λ x. length (rows x)) xs + 1
+rows_of rows xs = omega (arith, length-append (flat_map rows xs) (end_row ∷ []), length-flat_map rows xs)
+
+-- with one more record it has at most the rows of that one more
+pub rows_last : {X : Type 0} (rows : X → List Row) (hash : X → List ℕ) (xs : List X) (x : X) → length (section rows (with_last hash xs x)) ≤ length (section rows xs) + length (rows x)
+rows_last {X} rows hash xs x =
+    let counts : X → ℕ = λ y. length (rows y) in
+    let others : X → Bool = λ y. not (pointwise nat_eq (hash y) (hash x)) in
+    let whole = rows_of rows (with_last hash xs x) in
+    let before = rows_of rows xs in
+    let split : sum_by counts (filter others xs ++ x ∷ []) ≡ sum_by counts (filter others xs) + sum_by counts (x ∷ []) = sum_by-append counts (filter others xs) (x ∷ []) in
+    let one : sum_by counts (x ∷ []) ≡ counts x + 0 = sum_by-cons counts x [] in
+    let part = sum_by-filter_both others (λ y. not (others y)) (λ y. refl) counts xs in
+    omega (arith, whole, before, split, one, part)
+
+-- few rows are pending, whether what is pending is written before or not
+few_of : (due : Bool) (blocks : List MDBXorbInfo) (x : MDBXorbInfo) → length (xorb_rows x) ≡ 2 → length (xorb_section blocks) ≤ 1000
+    → length (xorb_section (with_last xorb_record_hash (if due then [] else blocks) x)) < 2 ^ 32
+few_of true blocks x two few = omega (arith, rows_last xorb_rows xorb_record_hash [] x, two)
+few_of false blocks x two few = omega (arith, rows_last xorb_rows xorb_record_hash blocks x, two, few)
+
+pub few_before : (m : ManagerState) (bytes : ℕ) (x : MDBXorbInfo) → length (xorb_rows x) ≡ 2 → length (xorb_section m.pending.blocks) ≤ 1000
+    → length (xorb_section (with_last xorb_record_hash (blocks_before m bytes) x)) < 2 ^ 32
+few_before m bytes x = few_of (cut_due m bytes) m.pending.blocks x
+
+-- after a xorb of two rows was added there are at most two rows more
+pub rows_after : (old new : ManagerState) (x : MDBXorbInfo) → length (xorb_rows x) ≡ 2
+    → (cut_due old (xorb_record_size x) ≡ false → new ≡ record old { pending = held (with_last xorb_record_hash old.pending.blocks x) old.pending.files })
+    → (cut_due old (xorb_record_size x) ≡ true → IsCut old new (held (x ∷ []) []))
+    → length (xorb_section new.pending.blocks) ≤ length (xorb_section old.pending.blocks) + 2
+rows_after old new x two added cut = by_cases (cut_due old (xorb_record_size x)) added cut
+  where
+    by_cases : (due : Bool) → (due ≡ false → new ≡ record old { pending = held (with_last xorb_record_hash old.pending.blocks x) old.pending.files })
+        → (due ≡ true → IsCut old new (held (x ∷ []) []))
+        → length (xorb_section new.pending.blocks) ≤ length (xorb_section old.pending.blocks) + 2
+    by_cases false added cut =
+        let e : length (xorb_section new.pending.blocks) ≡ length (xorb_section (with_last xorb_record_hash old.pending.blocks x)) = ap (λ (m : ManagerState). length (xorb_section m.pending.blocks)) (added refl) in
+        omega (arith, e, rows_last xorb_rows xorb_record_hash old.pending.blocks x, two)
+    by_cases true added cut =
+        let e : length (xorb_section new.pending.blocks) ≡ length (xorb_section (x ∷ [])) = ap (λ (m : ManagerState). length (xorb_section m.pending.blocks)) ((cut refl).1.rest) in
+        omega (arith, e, rows_last xorb_rows xorb_record_hash [] x, two, length-append (flat_map xorb_rows old.pending.blocks) (end_row ∷ []))

@@ -1,0 +1,7 @@
+//! The modules of tests.
+
+mod background_tests;
+mod directory_tests;
+mod merge_tests;
+mod registry_tests;
+mod samples;

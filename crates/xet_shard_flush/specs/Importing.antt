@@ -1,0 +1,83 @@
+-- A shard is written into a folder and registered: one whose bytes are given, or that of what is pending.
+use Rattle.std.specs.Prelude.{◌≡◌, ◌≢◌, ◌^◌, ◌-◌, ℕ, Bool, true, false, nat_eq, nat_le, List, length, All, None, Some, Result, Ok, Err, if◌then◌else◌}
+use Rattle.std.specs.Cmp.Lexicographic.{pointwise}
+use Rattle.std.specs.List.{list_any}
+use Rattle.xet_codec.specs.Parsing.{◌>>=◌}
+use Rattle.xet_codec.specs.Stops.{HasDiskReason}
+use Rattle.xet_hash.specs.Merkle.{chunk_hash}
+use Rattle.xet_hash.specs.declared.error.Place.TheVariants.{Disk}
+use Rattle.xet_hash.specs.declared.error.StoreError.{StoreError}
+use Rattle.xet_hash.specs.declared.error.StoreError.TheVariants.{Io, OutOfMemory, TooLarge}
+use Rattle.xet_hash.specs.declared.error.What.TheVariants.{Shards}
+use Rattle.xet_io.specs.Disk.{Files, bytes_at}
+use Rattle.xet_shard.specs.Held.{Held, held_shard}
+use Rattle.xet_shard.specs.Sections.{chunk_lookup_in, info_at}
+use Rattle.xet_shard.specs.Union.{ShardRecords}
+use Rattle.xet_shard_directory.specs.Writing.{IsPutError, Wrote, path_of}
+use Rattle.xet_shard_directory.specs.declared.shard_file.MDBShardFile.{MDBShardFile}
+use Rattle.xet_shard_file.specs.Names.{temp_name}
+use Rattle.xet_shard_format.specs.Encoding.{full_shard_bytes}
+use Rattle.xet_shard_registry.specs.Collections.{IsRegistryOf, Tables}
+use Rattle.xet_shard_registry.specs.Registered.{Registered, is_registered, with_shard}
+
+-- The checks before a shard with these bytes is written, in their order. The chunk lookup table is read only if the
+-- shard is not registered.
+abbrev pub import_check : List ℕ → Tables → Result (Unit {0}) StoreError
+import_check bytes t =
+    info_at bytes >>= λ info. if list_any (pointwise nat_eq (chunk_hash bytes)) t.hashes then Ok tt
+    else (if nat_le (2 ^ 32 - 1) (length t.files) then Err (TooLarge Shards)
+    else (chunk_lookup_in info.metadata bytes >>= λ items. Ok tt))
+
+-- The shard file with these bytes is registered after the others.
+pub record Registers (cap : ℕ) (bytes : List ℕ) (file : MDBShardFile) (shards : List Registered) (after : Tables) : Type 0 where
+  pub items : List (ℕ × ℕ × ℕ)
+  pub read : chunk_lookup_in file.shard.metadata bytes ≡ Ok items
+  pub tables : (records : ShardRecords) → IsRegistryOf (with_shard cap shards file items records) after
+
+-- A shard with these bytes was written into a folder and registered after the others, unless its hash was registered.
+pub record Imports (tells : Bool) (cap : ℕ) (old new : Files) (folder bytes : List ℕ) (before after : Tables) (returned : List ℕ) : Type 0 where
+  pub file : MDBShardFile
+  pub hash : file.shard_hash ≡ chunk_hash bytes
+  pub path : file.path ≡ returned
+  pub name : returned ≡ path_of folder bytes
+  pub info : info_at bytes ≡ Ok file.shard
+  pub written : tells ≡ true → Wrote old new folder bytes file
+  pub known : (shards : List Registered) → IsRegistryOf shards before → is_registered file.shard_hash shards ≡ true → IsRegistryOf shards after
+  pub fresh : (shards : List Registered) → IsRegistryOf shards before → is_registered file.shard_hash shards ≡ false → Registers cap bytes file shards after
+
+-- ---- what is pending
+
+-- the bytes of the shard that is written of it at a moment, without expiry
+abbrev pub flushed_bytes : Held → ℕ → List ℕ
+flushed_bytes pending moment = full_shard_bytes (held_shard pending moment None)
+
+-- the check before it is written
+abbrev pub flush_check : List ℕ → Tables → Result (Unit {0}) StoreError
+flush_check bytes t =
+    if list_any (pointwise nat_eq (chunk_hash bytes)) t.hashes then Ok tt
+    else (if nat_le (2 ^ 32 - 1) (length t.files) then Err (TooLarge Shards) else Ok tt)
+
+-- ---- what never changes
+
+-- when a file is written at a path, the files of registered shards keep their bytes, but for one at the path of its
+-- temporary file
+abbrev pub KeepsFiles : Files → Files → List ℕ → List MDBShardFile → Type 0
+KeepsFiles old new path ss = All (λ s. s.path ≢ temp_name path → (bytes : List ℕ) → bytes_at old s.path ≡ Some bytes → bytes_at new s.path ≡ Some bytes) ss
+
+-- ---- errors
+
+-- the errors of importing a shard, with the disk's count of failures before and after
+abbrev pub IsImportError : ℕ → ℕ → StoreError → Type 0
+IsImportError before now (TooLarge Shards) = Unit {0}
+IsImportError before now e = IsPutError before now e
+
+-- the errors of a flush
+abbrev pub IsFlushError : ℕ → ℕ → StoreError → Type 0
+IsFlushError before now (TooLarge Shards) = Unit {0}
+IsFlushError before now e = HasDiskReason before now e
+
+-- whether an error is that of a check, after which nothing was written
+abbrev pub IsCheckError : StoreError → Type 0
+IsCheckError (Io Disk) = ⊥
+IsCheckError OutOfMemory = ⊥
+IsCheckError e = Unit {0}

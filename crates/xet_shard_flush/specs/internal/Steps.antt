@@ -1,0 +1,76 @@
+-- The steps of an import: what is read of the bytes, the check of the path, the room in the registry, and the write.
+use Rattle.std.specs.Prelude.{◌≡◌, ◌≢◌, ◌⊎◌, ◌<◌, ◌^◌, ◌-◌, ℕ, nat_eq, nat_le, Bool, true, false, List, length, All, Option, Some, Result, Ok, Err, if◌then◌else◌}
+use Rattle.std.specs.Cmp.Lexicographic.{pointwise}
+use Rattle.std.specs.List.{list_any}
+use Rattle.xet_codec.specs.Parsing.{◌>>=◌}
+use Rattle.xet_hash.specs.Merkle.{chunk_hash}
+use Rattle.xet_hash.specs.declared.error.StoreError.{StoreError}
+use Rattle.xet_hash.specs.declared.error.StoreError.TheVariants.{OutOfMemory, TooLarge}
+use Rattle.xet_hash.specs.declared.error.What.TheVariants.{Shards}
+use Rattle.xet_io.specs.Disk.{Files, bytes_at}
+use Rattle.xet_shard.specs.Sections.{chunk_lookup_in, info_at}
+use Rattle.xet_shard.specs.Union.{ShardRecords}
+use Rattle.xet_shard_directory.specs.Writing.{IsFormatError, Wrote, path_of}
+use Rattle.xet_shard_directory.specs.declared.shard_file.MDBShardFile.{MDBShardFile}
+use Rattle.xet_shard_format.specs.declared.header_footer.MDBShardFileFooter.{MDBShardFileFooter}
+use Rattle.xet_shard_registry.specs.Collections.{IsRegistryOf, Tables}
+use Rattle.xet_shard_registry.specs.Registered.{Registered, with_shard}
+
+-- ---- what is read of the bytes
+
+-- the chunk lookup table of a shard that is to be registered after the others, unless there are too many
+abbrev pub new_lookup : MDBShardFileFooter → List ℕ → Tables → Result (List (ℕ × ℕ × ℕ)) StoreError
+new_lookup f bytes t = if nat_le (2 ^ 32 - 1) (length t.files) then Err (TooLarge Shards) else chunk_lookup_in f bytes
+
+-- the check of such a shard
+abbrev pub new_check : MDBShardFileFooter → List ℕ → Tables → Result (Unit {0}) StoreError
+new_check f bytes t = new_lookup f bytes t >>= λ _. Ok tt
+
+-- the errors of reading a part
+abbrev pub IsPartError : StoreError → Type 0
+IsPartError OutOfMemory = Unit {0}
+IsPartError e = IsFormatError e
+
+-- the errors of `new_lookup`
+abbrev pub IsNewError : StoreError → Type 0
+IsNewError (TooLarge Shards) = Unit {0}
+IsNewError e = IsPartError e
+
+-- ---- the path
+
+-- nothing is there, or these bytes are
+abbrev pub IsFree : Option (List ℕ) → List ℕ → Type 0
+IsFree found bytes = (b : List ℕ) → found ≡ Some b → b ≡ bytes
+
+-- no shard has this path
+abbrev pub IsUnused : List ℕ → List MDBShardFile → Type 0
+IsUnused path ss = All (λ s. s.path ≢ path) ss
+
+-- Bytes may be written at a path: no other bytes are there, or it is that of no registered shard.
+abbrev pub MayWrite : Files → List ℕ → List ℕ → List MDBShardFile → Type 0
+MayWrite files path bytes ss = IsFree (bytes_at files path) bytes ⊎ IsUnused path ss
+
+-- ---- the registry
+
+-- One more shard can be registered, with this hash.
+pub record HasRoom (hash : List ℕ) (t : Tables) : Type 0 where
+  pub few : length t.files < 2 ^ 32
+  pub new : list_any (pointwise nat_eq hash) t.hashes ≡ false
+
+-- the tables are those of the same shards
+abbrev pub SameShards : Tables → Tables → Type 0
+SameShards old new = (shards : List Registered) → IsRegistryOf shards old → IsRegistryOf shards new
+
+-- the shard file is registered after the others, with these items
+abbrev pub Adds : ℕ → List (ℕ × ℕ × ℕ) → MDBShardFile → Tables → Tables → Type 0
+Adds cap items file old new =
+    (shards : List Registered) (records : ShardRecords) → IsRegistryOf shards old → IsRegistryOf (with_shard cap shards file items records) new
+
+-- ---- the write
+
+-- A shard file with these bytes was written into a folder, if the disk is observable.
+pub record IsWritten (tells : Bool) (old new : Files) (folder bytes : List ℕ) (file : MDBShardFile) : Type 0 where
+  pub hash : file.shard_hash ≡ chunk_hash bytes
+  pub path : file.path ≡ path_of folder bytes
+  pub info : info_at bytes ≡ Ok file.shard
+  pub written : tells ≡ true → Wrote old new folder bytes file

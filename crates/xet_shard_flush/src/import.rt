@@ -1,0 +1,174 @@
+//! Import of a shard whose bytes are given.
+
+ghost use Rattle.std.specs.Prelude.{◌≡◌, List, IfErr, IfOk, IsOk, IsOkUnless, OnErr, OnOk, Ok, false, nat_eq, string_bytes, true, length, ◌<◌, ◌^◌};
+ghost use Rattle.std.specs.Cmp.Lexicographic.{pointwise};
+ghost use Rattle.std.specs.List.{list_any};
+ghost use Rattle.xet_codec.specs.Stops.{HasDiskReason};
+ghost use Rattle.xet_hash.specs.Merkle.{chunk_hash};
+ghost use Rattle.xet_io.specs.Frame.{Stays, Unchanged};
+ghost use Rattle.xet_shard.specs.Sections.{info_at};
+ghost use Rattle.xet_shard_directory.specs.Answers.{GivesUnlessDisk};
+ghost use Rattle.xet_shard_directory.specs.Writing.{KeptOrWrote, path_of};
+ghost use Rattle.xet_shard_directory.specs.declared.shard_file.MDBShardFile.{MDBShardFile};
+ghost use Rattle.xet_shard_flush.specs.Importing.{Imports, IsCheckError, IsImportError, KeepsFiles, import_check};
+ghost use Rattle.xet_shard_flush.specs.internal.Steps.{Adds, HasRoom, IsNewError, IsWritten, MayWrite, SameShards, new_check, new_lookup};
+ghost use Rattle.xet_shard_format.specs.Lookups.{flat_places};
+ghost use Rattle.xet_shard_registry.specs.Collections.{IsRegistryOf};
+ghost use Rattle.xet_shard_registry.specs.Registered.{Registered};
+
+use crate::parts::{info_of_bytes, items_of_bytes};
+use crate::paths::free_path;
+use std::alloc::Global;
+use xet_hash::{MerkleHash, StoreError, What, compute_data_hash};
+use xet_io::Disk;
+use xet_shard::MDBShardInfo;
+use xet_shard_directory::{MDBShardFile, write_shard_file};
+use xet_shard_registry::ShardRegistry;
+
+/// The maximum number of registered shards.
+const MAX_SHARDS: usize = (1 << 32) - 1;
+
+/// Writes the bytes of a shard into a folder, durably, under the name of their digest, and registers the shard file
+/// after the others; if its hash is registered, it is only written. Returns its path. Its chunks enter the index if it
+/// has fewer than `cap` words. Nothing is written if the header or the footer is malformed, if 2^32 - 1 shards are
+/// registered and one more is due (`TooLarge(Shards)`), or if the chunk lookup table is malformed; the error is that of
+/// the first check that fails. `OutOfMemory` also if the path is that of a registered shard, whose file has other
+/// bytes: it is not replaced. For a shard without a key, all memory is taken before the first write. After an error the
+/// same shards are registered; the file is as it was, or the write has completed.
+pub fn import_shard<D: Disk>(
+    alloc: Global,
+    disk: &mut D,
+    folder: &str,
+    registry: &mut ShardRegistry,
+    bytes: &[u8],
+    cap: u64,
+) -> Result<String, StoreError>
+    ensures imported { IfOk result (λ path. Imports (D.tells disk.old) cap (D.files disk.old) (D.files disk.new) folder.now bytes.now registry.old registry.new (string_bytes path)) }
+    ensures checked { GivesUnlessDisk (λ _. tt) result (import_check bytes.now registry.old) }
+    ensures kept { OnErr result ((shards : List Registered) → IsRegistryOf shards registry.old → IsRegistryOf shards registry.new) }
+    ensures refused { D.tells disk.old ≡ true → OnErr result (KeptOrWrote (D.files disk.old) (D.files disk.new) folder.now bytes.now) }
+    ensures unwritten { D.tells disk.old ≡ true → IfErr result (λ e. IsCheckError e → D.files disk.new ≡ D.files disk.old) }
+    ensures safe { D.tells disk.old ≡ true → KeepsFiles (D.files disk.old) (D.files disk.new) (path_of folder.now bytes.now) registry.old.files }
+    ensures frame { Stays D.tells D.faults disk.old disk.new }
+    ensures reason { IfErr result (IsImportError (D.faults disk.old) (D.faults disk.new)) }
+{
+    let info = info_of_bytes(bytes)?;
+    let hash = compute_data_hash(bytes);
+    if registry.contains(&hash) {
+        write_known(alloc, disk, folder, registry.files(), bytes, &hash)
+    } else {
+        import_new(alloc, disk, folder, registry, bytes, &hash, &info, cap)
+    }
+}
+
+/// Writes the bytes of a shard whose hash is registered. Returns the path.
+fn write_known<D: Disk>(
+    alloc: Global,
+    disk: &mut D,
+    folder: &str,
+    files: &[MDBShardFile],
+    bytes: &[u8],
+    hash: &MerkleHash,
+) -> Result<String, StoreError>
+    requires hash { hash.now ≡ chunk_hash bytes.now }
+    requires info { IsOk (info_at bytes.now) }
+    ensures path { IfOk result (λ path. string_bytes path ≡ path_of folder.now bytes.now) }
+    ensures written { OnOk result ((file : MDBShardFile) × IsWritten (D.tells disk.old) (D.files disk.old) (D.files disk.new) folder.now bytes.now file) }
+    ensures refused { D.tells disk.old ≡ true → OnErr result (KeptOrWrote (D.files disk.old) (D.files disk.new) folder.now bytes.now) }
+    ensures safe { D.tells disk.old ≡ true → KeepsFiles (D.files disk.old) (D.files disk.new) (path_of folder.now bytes.now) files.now }
+    ensures frame { Stays D.tells D.faults disk.old disk.new }
+    ensures reason { IfErr result (HasDiskReason (D.faults disk.old) (D.faults disk.new)) }
+{
+    let path = free_path(alloc, disk, folder, files, bytes, hash)?;
+    write_shard_file(alloc, disk, folder, bytes)?;
+    Ok(path)
+}
+
+/// Writes the bytes of a shard whose hash is not registered, and registers the shard file. Returns the path.
+fn import_new<D: Disk>(
+    alloc: Global,
+    disk: &mut D,
+    folder: &str,
+    registry: &mut ShardRegistry,
+    bytes: &[u8],
+    hash: &MerkleHash,
+    info: &MDBShardInfo,
+    cap: u64,
+) -> Result<String, StoreError>
+    requires hash { hash.now ≡ chunk_hash bytes.now }
+    requires info { info_at bytes.now ≡ Ok info.now }
+    requires new { list_any (pointwise nat_eq hash.now) registry.old.hashes ≡ false }
+    ensures imported { IfOk result (λ path. Imports (D.tells disk.old) cap (D.files disk.old) (D.files disk.new) folder.now bytes.now registry.old registry.new (string_bytes path)) }
+    ensures checked { GivesUnlessDisk (λ _. tt) result (new_check info.now.metadata bytes.now registry.old) }
+    ensures kept { OnErr result (SameShards registry.old registry.new) }
+    ensures refused { D.tells disk.old ≡ true → OnErr result (KeptOrWrote (D.files disk.old) (D.files disk.new) folder.now bytes.now) }
+    ensures unwritten { D.tells disk.old ≡ true → IfErr result (λ e. IsCheckError e → D.files disk.new ≡ D.files disk.old) }
+    ensures safe { D.tells disk.old ≡ true → KeepsFiles (D.files disk.old) (D.files disk.new) (path_of folder.now bytes.now) registry.old.files }
+    ensures frame { Stays D.tells D.faults disk.old disk.new }
+    ensures reason { IfErr result (IsImportError (D.faults disk.old) (D.faults disk.new)) }
+{
+    let items = new_items(alloc, registry, info, bytes)?;
+    let path = free_path(alloc, disk, folder, registry.files(), bytes, hash)?;
+    reserve(registry, info, items.len())?;
+    write_and_register(alloc, disk, folder, registry, bytes, &items, cap)?;
+    Ok(path)
+}
+
+/// The chunk lookup table of a shard that is to be registered after the others. `TooLarge(Shards)` if there are too
+/// many.
+fn new_items(
+    alloc: Global,
+    registry: &ShardRegistry,
+    info: &MDBShardInfo,
+    bytes: &[u8],
+) -> Result<Vec<(u64, (u32, u32))>, StoreError>
+    ensures exact { GivesUnlessDisk (λ v. flat_places v.items) result (new_lookup info.now.metadata bytes.now registry.now) }
+    ensures few { OnOk result (length registry.now.files < 2 ^ 32) }
+    ensures error { IfErr result IsNewError }
+{
+    if registry.files().len() >= MAX_SHARDS {
+        return Err(StoreError::TooLarge(What::Shards));
+    }
+    items_of_bytes(alloc, info, bytes)
+}
+
+/// Takes the memory for one more shard, if it has no key.
+fn reserve(
+    registry: &mut ShardRegistry,
+    info: &MDBShardInfo,
+    chunks: usize,
+) -> Result<(), StoreError>
+    ensures kept { SameShards registry.old registry.new }
+    ensures files { registry.new.files ≡ registry.old.files }
+    ensures hashes { registry.new.hashes ≡ registry.old.hashes }
+    ensures memory { IsOkUnless result StoreError.OutOfMemory }
+{
+    match info.chunk_hmac_key() {
+        Some(_) => Ok(()),
+        None => registry.reserve(chunks),
+    }
+}
+
+/// Writes the bytes of a shard and registers the shard file with the items of its chunk lookup table.
+fn write_and_register<D: Disk>(
+    alloc: Global,
+    disk: &mut D,
+    folder: &str,
+    registry: &mut ShardRegistry,
+    bytes: &[u8],
+    items: &[(u64, (u32, u32))],
+    cap: u64,
+) -> Result<(), StoreError>
+    requires info { IsOk (info_at bytes.now) }
+    requires room { HasRoom (chunk_hash bytes.now) registry.old }
+    ensures registered { OnOk result ((file : MDBShardFile) × IsWritten (D.tells disk.old) (D.files disk.old) (D.files disk.new) folder.now bytes.now file × Adds cap (flat_places items.now) file registry.old registry.new) }
+    ensures kept { OnErr result (SameShards registry.old registry.new) }
+    ensures refused { D.tells disk.old ≡ true → OnErr result (KeptOrWrote (D.files disk.old) (D.files disk.new) folder.now bytes.now) }
+    ensures frame { Stays D.tells D.faults disk.old disk.new }
+    ensures reason { IfErr result (HasDiskReason (D.faults disk.old) (D.faults disk.new)) }
+{
+    match write_shard_file(alloc, disk, folder, bytes) {
+        Ok(file) => registry.register(alloc, file, items, cap),
+        Err(error) => Err(error),
+    }
+}

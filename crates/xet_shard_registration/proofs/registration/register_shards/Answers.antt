@@ -1,0 +1,19 @@
+use Rattle.std.proofs.Common.{List}
+use Rattle.xet_base.specs.theorems.Exits.{on_exit}
+use Rattle.xet_hash.specs.declared.error.StoreError.{StoreError}
+use Rattle.xet_hash.specs.declared.error.StoreError.TheVariants.{OutOfMemory}
+use Rattle.xet_shard.specs.Union.{ShardRecords}
+use Rattle.xet_shard_directory.specs.declared.shard_file.MDBShardFile.{MDBShardFile}
+use Rattle.xet_shard_registry.specs.Collections.{IsRegistryOf}
+use Rattle.xet_shard_registry.specs.Registered.{Registered}
+use Rattle.xet_shard_registration.specs.Registering.{Stops, newest_first}
+use Rattle.xet_shard_registration.proofs.InOrder.{stops_short}
+use Rattle.xet_shard_registration.proofs.registration.register_shards.Goals as goal
+
+pub returns-in_err-ordered-clause-stopped : goal.returns-in_err-ordered-clause-stopped
+returns-in_err-ordered-clause-stopped g c = λ told.
+    let files = g.D.Disk.files c.args.disk.now in
+    on_exit c.from_residual.result OutOfMemory
+    (λ (d : StoreError). (shards : List Registered) (records : MDBShardFile → ShardRecords) → IsRegistryOf shards c.args.registry.now
+    → Stops c.args.cap files records shards (newest_first c.args.files.now) c.args.registry.now d)
+    c.from_residual.ensures.1 (λ shards records held. stops_short c.args.cap files records shards (newest_first c.args.files.now) c.args.registry.now held)

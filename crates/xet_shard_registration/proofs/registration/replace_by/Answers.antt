@@ -1,0 +1,12 @@
+use Rattle.std.proofs.Common.{[], map, Bor}
+use Rattle.xet_shard_directory.specs.declared.shard_file.MDBShardFile.{MDBShardFile}
+use Rattle.xet_shard_registration.proofs.InOrder.{stops_all}
+use Rattle.xet_shard_registration.proofs.registration.replace_by.Goals as goal
+
+pub returns-in-Ok-clause-some : goal.returns-in-Ok-clause-some
+returns-in-Ok-clause-some g c = c.register_in_order.ensures.grows [] c.requires.empty
+
+pub returns-in-Err-clause-refused : goal.returns-in-Err-clause-refused
+returns-in-Err-clause-refused g c = λ told records.
+    stops_all c.args.cap (g.D.Disk.files c.args.disk.now) records [] (map (λ (a : Bor MDBShardFile). a.now) c.args.files.now) c.register_in_order.new.registry c.in-Err.error
+    (c.in-Err.ensures.stopped told [] records c.requires.empty)

@@ -1,0 +1,3 @@
+pub mod Refreshing
+pub mod Registering
+pub mod internal
