@@ -78,8 +78,8 @@ impl<D: Disk> ShardFileManager<D> {
         self.disk
     }
 
-    /// The uncompressed bytes of the pending files, and of those of the registered shards as their footers state them; at
-    /// most 2^64 - 1.
+    /// The uncompressed bytes of the pending files, and of those of the registered shards as their footers state them;
+    /// at most 2^64 - 1.
     pub fn calculate_total_materialized_bytes(&self) -> u64
         ensures { (shards : List Registered) → IsRegistryOf shards self.now.registry → result ≡ min (materialized self.now.pending.files + sum_by materialized_of shards) (2 ^ 64 - 1) }
     {
@@ -88,8 +88,8 @@ impl<D: Disk> ShardFileManager<D> {
             .saturating_add(self.registry.materialized_bytes())
     }
 
-    /// The uncompressed bytes of the chunks of the pending xorbs, and of those of the registered shards as their footers
-    /// state them; at most 2^64 - 1.
+    /// The uncompressed bytes of the chunks of the pending xorbs, and of those of the registered shards as their
+    /// footers state them; at most 2^64 - 1.
     pub fn calculate_total_stored_bytes(&self) -> u64
         ensures { (shards : List Registered) → IsRegistryOf shards self.now.registry → result ≡ min (stored self.now.pending.blocks + sum_by stored_of shards) (2 ^ 64 - 1) }
     {

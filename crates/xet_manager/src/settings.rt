@@ -3,8 +3,8 @@
 /// The settings of a manager.
 #[derive(Clone, Copy, PartialEq, Eq, Debug)]
 pub struct ManagerSettings {
-    /// The length in bytes up to which records become one shard file: if something is pending and the file would be longer
-    /// with one more record, what is pending is written first.
+    /// The length in bytes up to which records become one shard file: if something is pending and the file would be
+    /// longer with one more record, what is pending is written first.
     pub target: u64,
     /// The number of first words from which on the chunks of a shard are not indexed any more.
     pub index_cap: u64,

@@ -1,3 +1,4 @@
+mod Due
 mod InOrder
 mod LoadedPaths
 mod Newest

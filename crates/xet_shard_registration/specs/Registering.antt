@@ -1,5 +1,7 @@
 -- Registration of shard files, one after the other, each hash once.
-use Rattle.std.specs.Prelude.{◌≡◌, ◌-◌, ◌^◌, ◌++◌, ◌∷◌, [], ℕ, nat_le, List, length, Result, Ok, Err, if◌then◌else◌}
+use Rattle.std.specs.Prelude.{◌≡◌, ◌-◌, ◌^◌, ◌++◌, ◌∷◌, [], ℕ, nat_eq, nat_le, List, length, map, Result, Ok, Err, if◌then◌else◌}
+use Rattle.std.specs.Cmp.Lexicographic.{pointwise}
+use Rattle.std.specs.List.{list_any}
 use Rattle.std.specs.Ordering.{nat_cmp}
 use Rattle.xet_codec.specs.Parsing.{◌>>=◌}
 use Rattle.xet_hash.specs.declared.error.StoreError.{StoreError}
@@ -54,6 +56,27 @@ pub record Stops (cap : ℕ) (files : Files) (records : MDBShardFile → ShardRe
   pub parts : ss ≡ before ++ after
   pub first : RegistersAll cap files records shards before tables
   pub refused : GivesUnlessDisk (λ (x : List Registered). x) (Err e) (first_registered cap files records first.registered after)
+
+-- ---- which files are registered, whatever the disk tells
+
+-- the shard files of a list whose hash is none of these, each hash once
+unfoldable pub due : List (List ℕ) → List MDBShardFile → List MDBShardFile
+due known [] = []
+due known (s ∷ ss) = if list_any (pointwise nat_eq s.shard_hash) known then due known ss else s ∷ due (known ++ s.shard_hash ∷ []) ss
+
+-- those of a list were registered after the others
+pub record AddsDue (ss : List MDBShardFile) (old new : Tables) : Type 0 where
+  pub files : new.files ≡ old.files ++ due old.hashes ss
+  pub hashes : new.hashes ≡ old.hashes ++ map (λ s. s.shard_hash) (due old.hashes ss)
+
+-- the first ones of a list were
+pub record AddsFirst (ss : List MDBShardFile) (old new : Tables) : Type 0 where
+  pub before : List MDBShardFile
+  pub after : List MDBShardFile
+  pub parts : ss ≡ before ++ after
+  pub due : AddsDue before old new
+
+-- ---- errors
 
 -- the errors of registration, with the disk's count of failures before and after
 abbrev pub IsRegistrationError : ℕ → ℕ → StoreError → Type 0

@@ -2,12 +2,12 @@
 
 ghost use Rattle.std.specs.Cmp.Lexicographic.{pointwise};
 ghost use Rattle.std.specs.List.{list_any};
-ghost use Rattle.std.specs.Prelude.{◌≡◌, ◌++◌, ◌^◌, ◌<◌, [], ℕ, List, Err, IfErr, IfOk, Ok, OnErr, OnOk, false, length, map, nat_eq, true};
+ghost use Rattle.std.specs.Prelude.{◌≡◌, ◌++◌, ◌∷◌, ◌^◌, ◌<◌, [], ℕ, List, Err, IfErr, IfOk, Ok, OnErr, OnOk, false, length, map, nat_eq, true};
 ghost use Rattle.xet_io.specs.Frame.{Unchanged};
 ghost use Rattle.xet_shard.specs.Union.{ShardRecords};
 ghost use Rattle.xet_shard_directory.specs.Answers.{GivesUnlessDisk, IsReadError};
 ghost use Rattle.xet_shard_directory.specs.declared.shard_file.MDBShardFile.{MDBShardFile};
-ghost use Rattle.xet_shard_registration.specs.Registering.{IsRegistrationError, RegistersAll, Stops, items_in, newest_first, registered_all, registered_one};
+ghost use Rattle.xet_shard_registration.specs.Registering.{AddsDue, AddsFirst, IsRegistrationError, RegistersAll, Stops, due, items_in, newest_first, registered_all, registered_one};
 ghost use Rattle.xet_shard_registration.specs.internal.Steps.{RegistersOne};
 ghost use Rattle.xet_shard_registry.specs.Collections.{IsRegistryOf};
 ghost use Rattle.xet_shard_registry.specs.Registered.{Registered, with_shard};
@@ -35,7 +35,9 @@ pub fn register_shards<D: Disk>(
 ) -> Result<(), StoreError>
     ensures registered { D.tells disk.old ≡ true → OnOk result ((shards : List Registered) (records : MDBShardFile → ShardRecords) → IsRegistryOf shards registry.old → RegistersAll cap (D.files disk.old) records shards (newest_first files.now) registry.new) }
     ensures stopped { D.tells disk.old ≡ true → IfErr result (λ e. (shards : List Registered) (records : MDBShardFile → ShardRecords) → IsRegistryOf shards registry.old → Stops cap (D.files disk.old) records shards (newest_first files.now) registry.new e) }
-    // Also on a disk that is not observable: registered shards stay, in their order.
+    // Also on a disk that is not observable: which files are registered, and that registered shards stay, in their order.
+    ensures due { OnOk result (AddsDue (newest_first files.now) registry.old registry.new) }
+    ensures front { OnErr result (AddsFirst (newest_first files.now) registry.old registry.new) }
     ensures grows { (shards : List Registered) → IsRegistryOf shards registry.old → (more : List Registered) × IsRegistryOf (shards ++ more) registry.new }
     ensures frame { Unchanged D.files D.tells D.faults disk.old disk.new }
     ensures reason { IfErr result (IsRegistrationError (D.faults disk.old) (D.faults disk.new)) }
@@ -55,6 +57,7 @@ pub fn replace_shards<D: Disk>(
 ) -> Result<(), StoreError>
     ensures replaced { D.tells disk.old ≡ true → OnOk result ((records : MDBShardFile → ShardRecords) → RegistersAll cap (D.files disk.old) records [] files.now registry.new) }
     ensures some { OnOk result ((shards : List Registered) × IsRegistryOf shards registry.new) }
+    ensures due { OnOk result (registry.new.files ≡ due [] files.now) }
     ensures kept { OnErr result (registry.new ≡ registry.old) }
     ensures refused { D.tells disk.old ≡ true → IfErr result (λ e. (records : MDBShardFile → ShardRecords) → GivesUnlessDisk (λ (x : List Registered). x) (Err e) (registered_all cap (D.files disk.old) records [] files.now)) }
     ensures frame { Unchanged D.files D.tells D.faults disk.old disk.new }
@@ -79,6 +82,7 @@ fn replace_by<D: Disk>(
     requires empty { IsRegistryOf [] fresh }
     ensures replaced { D.tells disk.old ≡ true → OnOk result ((records : MDBShardFile → ShardRecords) → RegistersAll cap (D.files disk.old) records [] (map (λ s. s.now) files.now) registry.new) }
     ensures some { OnOk result ((shards : List Registered) × IsRegistryOf shards registry.new) }
+    ensures due { OnOk result (registry.new.files ≡ due [] (map (λ s. s.now) files.now)) }
     ensures kept { OnErr result (registry.new ≡ registry.old) }
     ensures refused { D.tells disk.old ≡ true → IfErr result (λ e. (records : MDBShardFile → ShardRecords) → GivesUnlessDisk (λ (x : List Registered). x) (Err e) (registered_all cap (D.files disk.old) records [] (map (λ s. s.now) files.now))) }
     ensures frame { Unchanged D.files D.tells D.faults disk.old disk.new }
@@ -123,6 +127,8 @@ fn register_in_order<D: Disk>(
 ) -> Result<(), StoreError>
     ensures registered { D.tells disk.old ≡ true → OnOk result ((shards : List Registered) (records : MDBShardFile → ShardRecords) → IsRegistryOf shards registry.old → RegistersAll cap (D.files disk.old) records shards (map (λ s. s.now) files.now) registry.new) }
     ensures stopped { D.tells disk.old ≡ true → IfErr result (λ e. (shards : List Registered) (records : MDBShardFile → ShardRecords) → IsRegistryOf shards registry.old → Stops cap (D.files disk.old) records shards (map (λ s. s.now) files.now) registry.new e) }
+    ensures due { OnOk result (AddsDue (map (λ s. s.now) files.now) registry.old registry.new) }
+    ensures front { OnErr result (AddsFirst (map (λ s. s.now) files.now) registry.old registry.new) }
     ensures grows { (shards : List Registered) → IsRegistryOf shards registry.old → (more : List Registered) × IsRegistryOf (shards ++ more) registry.new }
     ensures frame { Unchanged D.files D.tells D.faults disk.old disk.new }
     ensures reason { IfErr result (IsRegistrationError (D.faults disk.old) (D.faults disk.new)) }
@@ -143,6 +149,8 @@ fn register_one<D: Disk>(
 ) -> Result<(), StoreError>
     ensures registered { D.tells disk.old ≡ true → OnOk result ((shards : List Registered) (records : MDBShardFile → ShardRecords) → IsRegistryOf shards registry.old → RegistersOne cap (D.files disk.old) records shards file.now registry.new) }
     ensures refused { D.tells disk.old ≡ true → IfErr result (λ e. (shards : List Registered) (records : MDBShardFile → ShardRecords) → IsRegistryOf shards registry.old → GivesUnlessDisk (λ (x : List Registered). x) (Err e) (registered_one cap (D.files disk.old) records shards file.now)) }
+    ensures due { OnOk result (AddsDue (file.now ∷ []) registry.old registry.new) }
+    ensures same { OnErr result (AddsDue [] registry.old registry.new) }
     ensures kept { OnErr result ((shards : List Registered) → IsRegistryOf shards registry.old → IsRegistryOf shards registry.new) }
     ensures grows { (shards : List Registered) → IsRegistryOf shards registry.old → (more : List Registered) × IsRegistryOf (shards ++ more) registry.new }
     ensures frame { Unchanged D.files D.tells D.faults disk.old disk.new }
@@ -169,6 +177,8 @@ fn register_new<D: Disk>(
     requires new { list_any (pointwise nat_eq file.now.shard_hash) registry.old.hashes ≡ false }
     ensures registered { OnOk result ((items : List (ℕ × ℕ × ℕ)) × (D.tells disk.old ≡ true → items_in (D.files disk.old) file.now ≡ Ok items) × ((shards : List Registered) (records : ShardRecords) → IsRegistryOf shards registry.old → IsRegistryOf (with_shard cap shards file.now items records) registry.new)) }
     ensures refused { D.tells disk.old ≡ true → IfErr result (λ e. GivesUnlessDisk (λ (x : List (ℕ × ℕ × ℕ)). x) (Err e) (items_in (D.files disk.old) file.now)) }
+    ensures due { OnOk result (AddsDue (file.now ∷ []) registry.old registry.new) }
+    ensures same { OnErr result (AddsDue [] registry.old registry.new) }
     ensures kept { OnErr result ((shards : List Registered) → IsRegistryOf shards registry.old → IsRegistryOf shards registry.new) }
     ensures frame { Unchanged D.files D.tells D.faults disk.old disk.new }
     ensures reason { IfErr result (IsReadError (D.faults disk.old) (D.faults disk.new)) }

@@ -75,7 +75,10 @@ impl ShardRegistry {
         requires few { length self.old.files < 2 ^ 32 }
         requires new { list_any (pointwise nat_eq file.shard_hash) self.old.hashes ≡ false }
         ensures registered { OnOk result ((shards : List Registered) (records : ShardRecords) → IsRegistryOf shards self.old → IsRegistryOf (with_shard cap shards file (flat_places items.now) records) self.new) }
+        ensures files { OnOk result (self.new.files ≡ self.old.files ++ file ∷ []) }
+        ensures hashes { OnOk result (self.new.hashes ≡ self.old.hashes ++ file.shard_hash ∷ []) }
         ensures kept { OnErr result ((shards : List Registered) → IsRegistryOf shards self.old → IsRegistryOf shards self.new) }
+        ensures same { OnErr result ((self.new.files ≡ self.old.files) × (self.new.hashes ≡ self.old.hashes)) }
         ensures memory { IsOkUnless result StoreError.OutOfMemory }
     {
         let enters = self.words < cap;

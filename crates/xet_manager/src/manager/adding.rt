@@ -17,10 +17,10 @@ use xet_shard::{MDBFileInfo, MDBInMemoryShard, MDBXorbInfo};
 use xet_shard_flush::flush_pending;
 
 impl<D: Disk> ShardFileManager<D> {
-    /// Adds a xorb at the end of what is pending, and removes one of an equal hash. If something is pending and the shard
-    /// would be longer than the target with this xorb, what is pending is written first, as `flush` does, and the xorb is
-    /// pending alone. The caller ensures that the record is well formed, that its hash is not the sentinel, and that the
-    /// section has fewer than 2^32 rows then. After an error the same is pending, without the xorb.
+    /// Adds a xorb at the end of what is pending, and removes one of an equal hash. If something is pending and the
+    /// shard would be longer than the target with this xorb, what is pending is written first, as `flush` does, and the
+    /// xorb is pending alone. The caller ensures that the record is well formed, that its hash is not the sentinel, and
+    /// that the section has fewer than 2^32 rows then. After an error the same is pending, without the xorb.
     pub fn add_xorb_block(&mut self, block: MDBXorbInfo) -> Result<(), StoreError>
         requires form { IsXorb block }
         requires hash { xorb_record_hash block ≢ sentinel }
@@ -42,7 +42,8 @@ impl<D: Disk> ShardFileManager<D> {
         }
     }
 
-    /// Adds a file at the end of what is pending, and removes one of an equal hash. The rest is as for `add_xorb_block`.
+    /// Adds a file at the end of what is pending, and removes one of an equal hash. The rest is as for
+    /// `add_xorb_block`.
     pub fn add_file_reconstruction_info(&mut self, file: MDBFileInfo) -> Result<(), StoreError>
         requires form { IsFile file }
         requires hash { file_record_hash file ≢ sentinel }
@@ -64,10 +65,10 @@ impl<D: Disk> ShardFileManager<D> {
         }
     }
 
-    /// Writes what is pending as a shard file into the folder, durably, created at the time that was last passed and without
-    /// expiry, and registers it after the others, unless its hash is registered. Returns its path, and nothing is pending
-    /// then; `None` if nothing is pending. `TooLarge(Shards)` if 2^32 - 1 shards are registered and one more is due; nothing
-    /// is written then. After an error the same is pending, and the same shards are registered.
+    /// Writes what is pending as a shard file into the folder, durably, created at the time that was last passed and
+    /// without expiry, and registers it after the others, unless its hash is registered. Returns its path, and nothing
+    /// is pending then; `None` if nothing is pending. `TooLarge(Shards)` if 2^32 - 1 shards are registered and one more
+    /// is due; nothing is written then. After an error the same is pending, and the same shards are registered.
     pub fn flush(&mut self) -> Result<Option<String>, StoreError>
         ensures none { IfOk result (λ path. (path ≡ None) ↔ (self.old.pending ≡ nothing)) }
         ensures idle { self.old.pending ≡ nothing → (result ≡ Ok None) × (self.new ≡ self.old) }

@@ -28,12 +28,12 @@ use xet_shard_directory::MDBShardFile;
 use xet_shard_lookup::{find_file, find_run};
 
 impl<D: Disk> ShardFileManager<D> {
-    /// How many of the first hashes of a query are those of consecutive chunks of a xorb, and the segment of these chunks.
-    /// What is pending is asked first, then the registered shards, those of one key after those of another: first the
-    /// shards without a key. Of each key the last chunk is asked that has the first word of the query's first hash, in the
-    /// last shard that is indexed and has one; it answers if it has the whole hash. A shard whose file is gone does not
-    /// answer. None if there is no answer, or if the query is empty. `Io(Disk)` if the disk failed; `UnexpectedEof` or
-    /// `MalformedData` only if the file of a registered shard is not an encoding of it.
+    /// How many of the first hashes of a query are those of consecutive chunks of a xorb, and the segment of these
+    /// chunks. What is pending is asked first, then the registered shards, those of one key after those of another:
+    /// first the shards without a key. Of each key the last chunk is asked that has the first word of the query's first
+    /// hash, in the last shard that is indexed and has one; it answers if it has the whole hash. A shard whose file is
+    /// gone does not answer. None if there is no answer, or if the query is empty. `Io(Disk)` if the disk failed;
+    /// `UnexpectedEof` or `MalformedData` only if the file of a registered shard is not an encoding of it.
     pub fn chunk_hash_dedup_query(
         &mut self,
         query: &[MerkleHash],
@@ -43,7 +43,7 @@ impl<D: Disk> ShardFileManager<D> {
         // Nothing else is asked for an empty query, or if the run is pending.
         ensures empty { query.now ≡ [] → (result ≡ Ok None) × (self.new ≡ self.old) }
         ensures pending { (run : Run) → held_run self.old.pending.blocks query.now ≡ Some run → (result ≡ Ok (Some run)) × (self.new ≡ self.old) }
-        // Also over files that are not those of the registered shards: the rows of a file have the whole hashes of the run.
+        // Also over files that are not those of the registered shards: a file's rows have the whole hashes of the run.
         ensures there { self.old.tells ≡ true → IfOk result (IsThere self.old.files self.old.pending self.old.registry.files query.now) }
         ensures rest { self.new ≡ record self.old { faults = self.new.faults } }
         ensures later { self.old.faults ≤ self.new.faults }
@@ -58,11 +58,12 @@ impl<D: Disk> ShardFileManager<D> {
         )
     }
 
-    /// The file record of a hash, and the hash of the registered shard that has it; `None` for the latter if it is pending.
-    /// What is pending is asked first, then the registered shards in order of registration, those of one key after those of
-    /// another: first the shards without a key. A shard whose file is gone has no records. For a zero hash the answer is
-    /// the record without segments, and nothing is looked up. `TruncatedHashCollision` if eight files of a shard that is
-    /// asked share the first word of the hash; the other errors are those of `chunk_hash_dedup_query`.
+    /// The file record of a hash, and the hash of the registered shard that has it; `None` for the latter if it is
+    /// pending. What is pending is asked first, then the registered shards in order of registration, those of one key
+    /// after those of another: first the shards without a key. A shard whose file is gone has no records. For a zero
+    /// hash the answer is the record without segments, and nothing is looked up. `TruncatedHashCollision` if eight
+    /// files of a shard that is asked share the first word of the hash; the other errors are those of
+    /// `chunk_hash_dedup_query`.
     pub fn get_file_reconstruction_info(
         &mut self,
         hash: &MerkleHash,
@@ -87,9 +88,9 @@ impl<D: Disk> ShardFileManager<D> {
         )
     }
 
-    /// The records of the pending files in ascending order of hash, and then those of the shard files of the folder that are
-    /// valid at the time `now`, in ascending order of path. Malformed headers and footers are passed over; if a section of
-    /// files is malformed, the error is that of the first check that fails. No file changes.
+    /// The records of the pending files in ascending order of hash, and then those of the shard files of the folder
+    /// that are valid at the time `now`, in ascending order of path. Malformed headers and footers are passed over; if
+    /// a section of files is malformed, the error is that of the first check that fails. No file changes.
     pub fn all_file_info(&mut self, now: u64) -> Result<Vec<MDBFileInfo>, StoreError>
         ensures list { self.old.tells ≡ true → IfOk result (λ infos. ListsFiles self.old now infos.items) }
         ensures done { OnOk result (self.new ≡ record self.old { faults = self.new.faults; moment = now }) }
@@ -110,9 +111,9 @@ impl<D: Disk> ShardFileManager<D> {
         answer
     }
 
-    /// At its first call that returns Ok, removes the shard files of the folder that may be deleted at the time `now`: those
-    /// whose expiry was the settings' buffer of seconds ago or earlier. Malformed ones are passed over. Later calls change
-    /// no file. After an error some of the files may have been removed that would have been.
+    /// At its first call that returns Ok, removes the shard files of the folder that may be deleted at the time `now`:
+    /// those whose expiry was the settings' buffer of seconds ago or earlier. Malformed ones are passed over. Later
+    /// calls change no file. After an error some of the files may have been removed that would have been.
     pub fn clean_expired_shards_if_needed(&mut self, now: u64) -> Result<(), StoreError>
         ensures cleaned { self.old.tells ≡ true → self.old.cleaned ≡ false → OnOk result (Cleans self.old.files self.new.files self.old.folder self.old.settings.buffer now) }
         ensures once { self.old.cleaned ≡ true → (result ≡ Ok tt) × (self.new ≡ record self.old { moment = now }) }
@@ -189,8 +190,8 @@ pub trait FileReconstructor<E> {
     // What a call returns and leaves.
     ghost IsAnswer: { Self → Self → List ℕ → Result (Option (MDBFileInfo × Option (List ℕ))) E → Type 0 };
 
-    /// The record of a hash, and the hash of the shard that has it; `None` for the latter if it is in no shard yet. None if
-    /// there is no record.
+    /// The record of a hash, and the hash of the shard that has it; `None` for the latter if it is in no shard yet.
+    /// None if there is no record.
     fn get_file_reconstruction_info(
         &mut self,
         hash: &MerkleHash,

@@ -18,9 +18,9 @@ use xet_shard::MDBInMemoryShard;
 use xet_shard_registry::ShardRegistry;
 
 impl<D: Disk> ShardFileManager<D> {
-    /// A manager over the folder of a session at the time `now`, in seconds since the Unix epoch. Nothing is pending. If
-    /// `scan`, the valid shard files of the folder are registered, the newest modification time first and equal ones in
-    /// ascending order of path; malformed ones are passed over. No file changes. An error returns the disk.
+    /// A manager over the folder of a session at the time `now`, in seconds since the Unix epoch. Nothing is pending.
+    /// If `scan`, the valid shard files of the folder are registered, the newest modification time first and equal ones
+    /// in ascending order of path; malformed ones are passed over. No file changes. An error returns the disk.
     pub fn new_in_session_directory(
         alloc: Global,
         disk: D,
@@ -60,9 +60,10 @@ impl<D: Disk> ShardFileManager<D> {
         }
     }
 
-    /// A manager over a folder that is a cache, at the time `now`. The folder is scanned as by `new_in_session_directory`;
-    /// its expired shard files that may be deleted are, and the valid ones are pruned to the cache limit of the settings, the
-    /// oldest creation first. After an error some of these may have been removed; it returns the disk.
+    /// A manager over a folder that is a cache, at the time `now`. The folder is scanned as by
+    /// `new_in_session_directory`; its expired shard files that may be deleted are, and the valid ones are pruned to
+    /// the cache limit of the settings, the oldest creation first. After an error some of these may have been removed;
+    /// it returns the disk.
     pub fn new_in_cache_directory(
         alloc: Global,
         disk: D,

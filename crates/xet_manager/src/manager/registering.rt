@@ -7,7 +7,7 @@ ghost use Rattle.xet_shard_directory.specs.Writing.{KeptOrWrote, path_of};
 ghost use Rattle.xet_shard_directory.specs.declared.shard_file.MDBShardFile.{MDBShardFile};
 ghost use Rattle.xet_shard_flush.specs.Importing.{Imports, IsCheckError, IsImportError, KeepsFiles, import_check};
 ghost use Rattle.xet_shard_registration.specs.Refreshing.{IsUnloadedAmong, IsUnloadedDirectory, RegistersDirectory, RegistersNewest, RegistersPaths, StopsAmong, StopsInDirectory, StopsInPaths};
-ghost use Rattle.xet_shard_registration.specs.Registering.{IsRegistrationError, RegistersAll, registered_all};
+ghost use Rattle.xet_shard_registration.specs.Registering.{AddsDue, AddsFirst, IsRegistrationError, RegistersAll, due, newest_first, registered_all};
 ghost use Rattle.xet_shard_registry.specs.Collections.{IsRegistryOf};
 ghost use Rattle.xet_shard_registry.specs.Registered.{Registered};
 
@@ -21,14 +21,17 @@ use xet_shard_flush::import_shard;
 use xet_shard_registration::{register_directory, register_paths, register_shards, replace_shards};
 
 impl<D: Disk> ShardFileManager<D> {
-    /// Registers shard files, the newest modification time first; of equal ones the first in the list. A file whose hash is
-    /// registered is passed over. `TooLarge(Shards)` if 2^32 - 1 shards are registered and one more is due; `FileNotFound` if
-    /// a file is not there; if its chunk lookup table is malformed, the error is that of the first check that fails;
-    /// `Io(Disk)` if the disk failed. After an error the files before the one with the error are registered.
+    /// Registers shard files, the newest modification time first; of equal ones the first in the list. A file whose
+    /// hash is registered is passed over. `TooLarge(Shards)` if 2^32 - 1 shards are registered and one more is due;
+    /// `FileNotFound` if a file is not there; if its chunk lookup table is malformed, the error is that of the first
+    /// check that fails; `Io(Disk)` if the disk failed. After an error the files before the one with the error are
+    /// registered.
     pub fn register_shards(&mut self, files: &[MDBShardFile]) -> Result<(), StoreError>
         ensures registered { self.old.tells ≡ true → OnOk result (RegistersNewest self.old.settings.index_cap self.old.files files.now self.old.registry self.new.registry) }
         ensures stopped { self.old.tells ≡ true → IfErr result (StopsAmong self.old.settings.index_cap self.old.files files.now self.old.registry self.new.registry) }
-        // Also on a disk that is not observable: registered shards stay, in their order.
+        // Also on a disk that is not observable: which files are registered, and that registered shards stay, in order.
+        ensures due { OnOk result (AddsDue (newest_first files.now) self.old.registry self.new.registry) }
+        ensures front { OnErr result (AddsFirst (newest_first files.now) self.old.registry self.new.registry) }
         ensures grows { (shards : List Registered) → IsRegistryOf shards self.old.registry → (more : List Registered) × IsRegistryOf (shards ++ more) self.new.registry }
         ensures rest { self.new ≡ record self.old { registry = self.new.registry; faults = self.new.faults } }
         ensures later { self.old.faults ≤ self.new.faults }
@@ -43,9 +46,9 @@ impl<D: Disk> ShardFileManager<D> {
         )
     }
 
-    /// Registers the shard files of all paths that are valid at the time `now`, as `register_shards` does. A path is that of
-    /// a folder, or of a shard file if its last part is the name of a shard; `FileNotFound` if that file is not there.
-    /// Malformed files are passed over. No file changes.
+    /// Registers the shard files of all paths that are valid at the time `now`, as `register_shards` does. A path is
+    /// that of a folder, or of a shard file if its last part is the name of a shard; `FileNotFound` if that file is not
+    /// there. Malformed files are passed over. No file changes.
     pub fn register_shards_by_path(&mut self, paths: &[Text], now: u64) -> Result<(), StoreError>
         ensures registered { self.old.tells ≡ true → OnOk result (RegistersPaths self.old.settings.index_cap self.old.files now paths.now self.old.registry self.new.registry) }
         ensures stopped { self.old.tells ≡ true → IfErr result (λ e. (IsUnloadedAmong self.old.files now paths.now e × (self.new.registry ≡ self.old.registry)) ⊎ StopsInPaths self.old.settings.index_cap self.old.files now paths.now self.old.registry self.new.registry e) }
@@ -70,9 +73,9 @@ impl<D: Disk> ShardFileManager<D> {
     }
 
     /// Loads the shard files of the folder that are valid at the time `now`, and registers those that were not. If
-    /// `prune_expired`, expired ones are deleted that may be; if `prune_to` is not 0, loaded ones are pruned to it, the oldest
-    /// creation first. Malformed files are passed over. After an error some of the files may have been removed that would
-    /// have been, and the first shards are registered.
+    /// `prune_expired`, expired ones are deleted that may be; if `prune_to` is not 0, loaded ones are pruned to it, the
+    /// oldest creation first. Malformed files are passed over. After an error some of the files may have been removed
+    /// that would have been, and the first shards are registered.
     pub fn refresh_shard_dir(
         &mut self,
         prune_expired: bool,
@@ -106,11 +109,12 @@ impl<D: Disk> ShardFileManager<D> {
         answer
     }
 
-    /// Writes the bytes of a shard into the folder, durably, under the name of their digest, and registers the shard; if its
-    /// hash is registered, it is only written. Returns its path. Nothing is written if the header, the footer or the chunk
-    /// lookup table is malformed, or if 2^32 - 1 shards are registered and one more is due (`TooLarge(Shards)`). `OutOfMemory`
-    /// also if the path is that of a registered shard, whose file has other bytes: it is not replaced. After an error the
-    /// same shards are registered; the file is as it was, or the write has completed.
+    /// Writes the bytes of a shard into the folder, durably, under the name of their digest, and registers the shard;
+    /// if its hash is registered, it is only written. Returns its path. Nothing is written if the header, the footer or
+    /// the chunk lookup table is malformed, or if 2^32 - 1 shards are registered and one more is due
+    /// (`TooLarge(Shards)`). `OutOfMemory` also if the path is that of a registered shard, whose file has other bytes:
+    /// it is not replaced. After an error the same shards are registered; the file is as it was, or the write has
+    /// completed.
     pub fn import_shard_from_bytes(&mut self, bytes: &[u8]) -> Result<String, StoreError>
         ensures imported { IfOk result (λ path. Imports self.old.tells self.old.settings.index_cap self.old.files self.new.files self.old.folder bytes.now self.old.registry self.new.registry (string_bytes path)) }
         ensures checked { GivesUnlessDisk (λ _. tt) result (import_check bytes.now self.old.registry) }
@@ -132,11 +136,12 @@ impl<D: Disk> ShardFileManager<D> {
         )
     }
 
-    /// Replaces the registered shards by those of these files, in the order of the list; a hash that comes again is passed
-    /// over. Errors are those of `register_shards`; after an error the registered shards are unchanged.
+    /// Replaces the registered shards by those of these files, in the order of the list; a hash that comes again is
+    /// passed over. Errors are those of `register_shards`; after an error the registered shards are unchanged.
     pub fn replace_shards(&mut self, files: &[MDBShardFile]) -> Result<(), StoreError>
         ensures replaced { self.old.tells ≡ true → OnOk result ((records : MDBShardFile → ShardRecords) → RegistersAll self.old.settings.index_cap self.old.files records [] files.now self.new.registry) }
         ensures some { OnOk result ((shards : List Registered) × IsRegistryOf shards self.new.registry) }
+        ensures due { OnOk result (self.new.registry.files ≡ due [] files.now) }
         ensures kept { OnErr result (self.new.registry ≡ self.old.registry) }
         ensures refused { self.old.tells ≡ true → IfErr result (λ e. (records : MDBShardFile → ShardRecords) → GivesUnlessDisk (λ (x : List Registered). x) (Err e) (registered_all self.old.settings.index_cap self.old.files records [] files.now)) }
         ensures rest { self.new ≡ record self.old { registry = self.new.registry; faults = self.new.faults } }

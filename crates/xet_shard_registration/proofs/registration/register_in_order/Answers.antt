@@ -8,8 +8,9 @@ use Rattle.xet_shard_directory.specs.Answers.{GivesUnlessDisk}
 use Rattle.xet_shard_directory.specs.declared.shard_file.MDBShardFile.{MDBShardFile}
 use Rattle.xet_shard_registry.specs.Collections.{IsRegistryOf}
 use Rattle.xet_shard_registry.specs.Registered.{Registered}
-use Rattle.xet_shard_registration.specs.Registering.{Stops, registered_one}
+use Rattle.xet_shard_registration.specs.Registering.{AddsFirst, Stops, registered_one}
 use Rattle.xet_shard_registration.specs.internal.Steps.{RegistersOne}
+use Rattle.xet_shard_registration.proofs.Due.{adds_end, adds_front, adds_more, adds_none}
 use Rattle.xet_shard_registration.proofs.InOrder.{registers_end, registers_more, registers_none, registers_stop}
 use Rattle.xet_shard_registration.proofs.registration.register_in_order.Goals as goal
 
@@ -19,6 +20,7 @@ lent a = a.now
 pub loop-file-init : goal.loop-file-init
 loop-file-init g c = record {
   registered = λ told shards records held. registers_none c.args.cap (g.D.Disk.files c.args.disk.now) records shards c.args.registry.now held;
+  due = adds_none c.args.registry.now;
   grows = λ shards held. ([], subst (λ (l : List Registered). IsRegistryOf l c.args.registry.now) (sym (append-nil shards)) held);
   frame = record { same = refl; tells = refl; later = omega arith };
 }
@@ -39,6 +41,7 @@ loop-file-preserved g c =
           let more = i.grows shards held in
           let next = done.grows (shards ++ more.0) more.1 in
           (more.0 ++ next.0, subst (λ (l : List Registered). IsRegistryOf l after) (append_assoc shards more.0 next.0) next.1);
+      due = adds_more lent c.args.files.now c.loop-file.file-index file c.args.registry.now before after c.loop-file-test.true c.file-item.is i.due done.due;
       frame = record { same = done.frame.same ∙ i.frame.same; tells = done.frame.tells ∙ i.frame.tells; later = omega (arith, i.frame.later, done.frame.later) };
     }
 
@@ -58,6 +61,15 @@ returns-in_err-register_one-clause-stopped g c = λ told.
     registers_stop c.args.cap files records lent shards c.args.files.now c.loop-file.file-index file before after c.loop-file-test.true c.file-item.is (i.registered told shards records held) e done.kept
     (λ registered at.
     subst (λ (fs : Files). GivesUnlessDisk (λ (x : List Registered). x) (Err e) (registered_one c.args.cap fs records registered file.now)) i.frame.same (done.refused (i.frame.tells ∙ told) registered records at)))
+
+pub returns-in_err-register_one-clause-front : goal.returns-in_err-register_one-clause-front
+returns-in_err-register_one-clause-front g c =
+    on_exit c.from_residual.result c.in_err-register_one.field-0.0 (λ (d : StoreError). AddsFirst (map lent c.args.files.now) c.args.registry.now c.register_one.new.registry)
+    c.from_residual.ensures.1
+    (adds_front lent c.args.files.now c.loop-file.file-index c.args.registry.now c.loop-file.registry c.register_one.new.registry c.loop-file.invariant.due c.in_err-register_one.ensures.same)
+
+pub returns-clause-due : goal.returns-clause-due
+returns-clause-due g c = adds_end lent c.args.files.now c.loop-file.file-index c.args.registry.now c.loop-file.registry (omega arith) c.loop-file.invariant.due
 
 pub returns-clause-registered : goal.returns-clause-registered
 returns-clause-registered g c = λ told shards records held.

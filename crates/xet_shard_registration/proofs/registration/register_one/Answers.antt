@@ -1,4 +1,5 @@
-use Rattle.std.proofs.Common.{◌≡◌, false, true}
+use Rattle.std.proofs.Common.{◌≡◌, ◌∙◌, false, sym, true}
+use Rattle.xet_shard_registration.proofs.Due.{adds_known, adds_none}
 use Rattle.xet_shard_registration.proofs.InOrder.{few_by, many_by, new_grows, new_refused, new_registered, one_known, one_many, registered_by}
 use Rattle.xet_shard_registration.proofs.registration.register_one.Goals as goal
 
@@ -31,3 +32,9 @@ pub returns-else-files-ge-MAX_SHARDS-clause-grows : goal.returns-else-files-ge-M
 returns-else-files-ge-MAX_SHARDS-clause-grows g c =
     new_grows c.args.cap (g.D.Disk.files c.args.disk.now) c.args.file.now c.args.registry.now c.register_new.new.registry
     (g.D.Disk.tells c.args.disk.now ≡ true) c.register_new.result c.register_new.ensures.registered c.register_new.ensures.kept
+
+pub returns-then-contains-clause-due : goal.returns-then-contains-clause-due
+returns-then-contains-clause-due g c = adds_known c.args.file.now c.args.registry.now (sym c.contains.ensures ∙ c.if-contains.true)
+
+pub returns-then-files-ge-MAX_SHARDS-clause-same : goal.returns-then-files-ge-MAX_SHARDS-clause-same
+returns-then-files-ge-MAX_SHARDS-clause-same g c = adds_none c.args.registry.now

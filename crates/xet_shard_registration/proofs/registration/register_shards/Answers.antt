@@ -6,7 +6,8 @@ use Rattle.xet_shard.specs.Union.{ShardRecords}
 use Rattle.xet_shard_directory.specs.declared.shard_file.MDBShardFile.{MDBShardFile}
 use Rattle.xet_shard_registry.specs.Collections.{IsRegistryOf}
 use Rattle.xet_shard_registry.specs.Registered.{Registered}
-use Rattle.xet_shard_registration.specs.Registering.{Stops, newest_first}
+use Rattle.xet_shard_registration.specs.Registering.{AddsFirst, Stops, newest_first}
+use Rattle.xet_shard_registration.proofs.Due.{adds_nothing}
 use Rattle.xet_shard_registration.proofs.InOrder.{stops_short}
 use Rattle.xet_shard_registration.proofs.registration.register_shards.Goals as goal
 
@@ -17,3 +18,8 @@ returns-in_err-ordered-clause-stopped g c = λ told.
     (λ (d : StoreError). (shards : List Registered) (records : MDBShardFile → ShardRecords) → IsRegistryOf shards c.args.registry.now
     → Stops c.args.cap files records shards (newest_first c.args.files.now) c.args.registry.now d)
     c.from_residual.ensures.1 (λ shards records held. stops_short c.args.cap files records shards (newest_first c.args.files.now) c.args.registry.now held)
+
+pub returns-in_err-ordered-clause-front : goal.returns-in_err-ordered-clause-front
+returns-in_err-ordered-clause-front g c =
+    on_exit c.from_residual.result OutOfMemory (λ (d : StoreError). AddsFirst (newest_first c.args.files.now) c.args.registry.now c.args.registry.now) c.from_residual.ensures.1
+    (adds_nothing (newest_first c.args.files.now) c.args.registry.now)

@@ -1,5 +1,6 @@
 use Rattle.std.proofs.Common.{[], map, Bor}
 use Rattle.xet_shard_directory.specs.declared.shard_file.MDBShardFile.{MDBShardFile}
+use Rattle.xet_shard_registration.proofs.Due.{due_fresh}
 use Rattle.xet_shard_registration.proofs.InOrder.{stops_all}
 use Rattle.xet_shard_registration.proofs.registration.replace_by.Goals as goal
 
@@ -10,3 +11,6 @@ pub returns-in-Err-clause-refused : goal.returns-in-Err-clause-refused
 returns-in-Err-clause-refused g c = λ told records.
     stops_all c.args.cap (g.D.Disk.files c.args.disk.now) records [] (map (λ (a : Bor MDBShardFile). a.now) c.args.files.now) c.register_in_order.new.registry c.in-Err.error
     (c.in-Err.ensures.stopped told [] records c.requires.empty)
+
+pub returns-in-Ok-clause-due : goal.returns-in-Ok-clause-due
+returns-in-Ok-clause-due g c = due_fresh (map (λ (a : Bor MDBShardFile). a.now) c.args.files.now) c.args.fresh c.register_in_order.new.registry c.requires.empty c.in-Ok.ensures.due
