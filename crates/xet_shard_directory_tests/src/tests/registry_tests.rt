@@ -5,10 +5,10 @@ use std::alloc::Global;
 use std::test::Fail;
 use xet_hash::{HMACKey, StoreError, compute_data_hash};
 use xet_io::{MemoryDisk, SliceReader, SliceSource};
-use xet_shard_lookup::find_run;
 use xet_shard::MDBInMemoryShard;
 use xet_shard_directory::MDBShardFile;
 use xet_shard_index::{WordIndex, WordPlace};
+use xet_shard_lookup::find_run;
 use xet_shard_registry::ShardRegistry;
 
 /// The numbers of words that two shards add, the number of all, and the places of 5, 6, 7 and 8.
