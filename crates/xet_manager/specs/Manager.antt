@@ -1,11 +1,12 @@
 -- The model of a manager, and what its calls leave.
-use Rattle.std.specs.Prelude.{◌≡◌, ◌⊎◌, ◌++◌, ◌∷◌, [], ◌≤◌, ℕ, Bool, false, true, List, IfErr, IfOk, Option, Result, Ok}
+use Rattle.std.specs.Prelude.{◌≡◌, ◌⊎◌, ◌++◌, ◌∷◌, [], ◌≤◌, ℕ, Bool, false, true, List, Err, IfErr, IfOk, Option, Result, Ok}
 use Rattle.std.specs.List.{flat_map}
 use Rattle.xet_io.specs.Disk.{Files, file_at}
 use Rattle.xet_manager.specs.declared.settings.ManagerSettings.{ManagerSettings}
 use Rattle.xet_shard.specs.Held.{Held, by_hash, nothing}
 use Rattle.xet_shard.specs.Sections.{files_in}
 use Rattle.xet_shard_directory.specs.Answers.{GivesUnlessDisk, IsFileQueryError, in_file}
+use Rattle.xet_shard_directory.specs.Directories.{IsUnloaded}
 use Rattle.xet_shard_directory.specs.declared.shard_file.MDBShardFile.{MDBShardFile}
 use Rattle.xet_shard_format.specs.Records.{file_record_hash}
 use Rattle.xet_shard_format.specs.declared.record.MDBFileInfo.{MDBFileInfo}
@@ -14,7 +15,7 @@ use Rattle.xet_hash.specs.declared.error.StoreError.TheVariants.{OutOfMemory}
 use Rattle.xet_shard_lookup.specs.Found.{HoldsFiles}
 use Rattle.xet_shard_lookup.specs.Records.{Answer, IsRecorded, found_record}
 use Rattle.xet_shard_registry.specs.Registered.{Registered}
-use Rattle.xet_shard_registration.specs.Refreshing.{IsUnloadedDirectory, LoadsValid, RegistersDirectory, StopsInDirectory}
+use Rattle.xet_shard_registration.specs.Refreshing.{IsLoadingError, IsUnloadedDirectory, LoadsValid, RegistersDirectory, StopsInDirectory}
 use Rattle.xet_shard_registry.specs.Collections.{IsRegistryOf, Tables}
 
 -- A manager: whether the disk is observable, its files and its count of failures; the folder, the settings, and the time
@@ -66,6 +67,22 @@ unfoldable pub ReadsEach : Files → List MDBShardFile → List (List MDBFileInf
 ReadsEach files [] [] = Unit {0}
 ReadsEach files (s ∷ ss) (l ∷ ls) = (in_file (file_at files s.path) (λ f. files_in s.shard.metadata f.bytes) ≡ Ok l) × ReadsEach files ss ls
 ReadsEach files ss ls = ⊥
+
+-- The section of files of one of these shard files is malformed or can't be read; those before it were read.
+pub record FailsAt (files : Files) (ss : List MDBShardFile) (e : StoreError) : Type 0 where
+  pub before : List MDBShardFile
+  pub at : MDBShardFile
+  pub after : List MDBShardFile
+  pub parts : ss ≡ before ++ at ∷ after
+  pub lists : List (List MDBFileInfo)
+  pub reads : ReadsEach files before lists
+  pub failed : GivesUnlessDisk (λ (l : List MDBFileInfo). l) (Err e) (in_file (file_at files at.path) (λ f. files_in at.shard.metadata f.bytes))
+
+-- Why the files are not listed: the folder was not loaded, or a section of its valid shard files was not read, or memory
+-- was out.
+abbrev pub IsUnlisted : Files → List ℕ → ℕ → StoreError → Type 0
+IsUnlisted files folder now e =
+    (e ≡ OutOfMemory) ⊎ (IsUnloaded files folder true e × IsLoadingError e) ⊎ ((valid : List MDBShardFile) × LoadsValid files now folder valid × FailsAt files valid e)
 
 -- The files that are pending in ascending order of hash, and then those of the valid shards of a folder.
 pub record ListsFolder (files : Files) (folder : List ℕ) (now : ℕ) (pending : Held) (infos : List MDBFileInfo) : Type 0 where

@@ -2,6 +2,7 @@
 
 mod adding_tests;
 mod cache_tests;
+mod consolidating_tests;
 mod cutting_tests;
 mod exports;
 mod failing_tests;

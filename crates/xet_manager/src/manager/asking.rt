@@ -3,7 +3,7 @@
 ghost use Rattle.std.specs.Prelude.{◌≡◌, ◌≢◌, ◌≤◌, ◌++◌, [], ℕ, IsOkUnless, List, None, Some, Ok, IfErr, IfOk, IsErrOf, OnErr, OnOk, false, true};
 ghost use Rattle.std.specs.List.{flat_map};
 ghost use Rattle.xet_io.specs.Frame.{Unchanged};
-ghost use Rattle.xet_manager.specs.Manager.{ListsFiles, ListsFolder, ReadsEach};
+ghost use Rattle.xet_manager.specs.Manager.{FailsAt, IsUnlisted, ListsFiles, ListsFolder, ReadsEach};
 ghost use Rattle.xet_shard_directory.specs.Answers.{GivesUnlessDisk, IsFileQueryError, IsFindError, IsQueryError, IsReadError};
 ghost use Rattle.xet_shard_directory.specs.Directories.{Cleans, IsUnloaded, KeptOrCleaned};
 ghost use Rattle.xet_shard_directory.specs.Values.{last_part};
@@ -93,6 +93,7 @@ impl<D: Disk> ShardFileManager<D> {
     /// a section of files is malformed, the error is that of the first check that fails. No file changes.
     pub fn all_file_info(&mut self, now: u64) -> Result<Vec<MDBFileInfo>, StoreError>
         ensures list { self.old.tells ≡ true → IfOk result (λ infos. ListsFiles self.old now infos.items) }
+        ensures unlisted { self.old.tells ≡ true → IfErr result (IsUnlisted self.old.files self.old.folder now) }
         ensures done { OnOk result (self.new ≡ record self.old { faults = self.new.faults; moment = now }) }
         ensures refused { OnErr result (self.new ≡ record self.old { faults = self.new.faults }) }
         ensures later { self.old.faults ≤ self.new.faults }
@@ -152,6 +153,7 @@ fn list_files<D: Disk>(
     folder: &str,
     now: u64,
 ) -> Result<Vec<MDBFileInfo>, StoreError>
+    ensures unlisted { D.tells disk.old ≡ true → IfErr result (IsUnlisted (D.files disk.old) folder.now now) }
     ensures list { D.tells disk.old ≡ true → IfOk result (λ infos. ListsFolder (D.files disk.old) folder.now now pending.now infos.items) }
     ensures frame { Unchanged D.files D.tells D.faults disk.old disk.new }
     ensures reason { IfErr result (IsReadError (D.faults disk.old) (D.faults disk.new)) }
@@ -172,6 +174,7 @@ fn add_files<D: Disk>(
     infos: &mut Vec<MDBFileInfo>,
 ) -> Result<(), StoreError>
     ensures added { D.tells disk.old ≡ true → OnOk result ((lists : List (List MDBFileInfo)) × ReadsEach (D.files disk.old) shards.now lists × (infos.new.items ≡ infos.old.items ++ flat_map (λ l. l) lists)) }
+    ensures failed { D.tells disk.old ≡ true → IfErr result (FailsAt (D.files disk.old) shards.now) }
     ensures frame { Unchanged D.files D.tells D.faults disk.old disk.new }
     ensures reason { IfErr result (IsReadError (D.faults disk.old) (D.faults disk.new)) }
 {
