@@ -1,2 +1,5 @@
 mod Boundaries
 mod Outputs
+mod Parts
+mod Splitting
+mod Steps

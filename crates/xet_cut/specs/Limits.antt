@@ -85,3 +85,7 @@ shown_settings gear = record {
   expiry_buffer = 604800;
   gear = gear;
 }
+
+-- the same settings with another minimum chunk
+abbrev pub with_minimum : LimitSettings → ℕ → LimitSettings
+with_minimum s n = record s { minimum_chunk = n }

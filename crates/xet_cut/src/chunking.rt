@@ -2,9 +2,9 @@
 
 ghost use Rattle.std.specs.Prelude.{◌≡◌, ◌<◌, ◌≤◌, IfOk, IsOkUnless, length, map};
 ghost use Rattle.xet_hash.specs.Merkle.{leaves_of, total_len};
-ghost use Rattle.xet_cut.specs.Chunking.{chunking, mask, first_chunk_len};
+ghost use Rattle.xet_cut.specs.Chunking.{chunking, first_chunk_len};
 
-use crate::boundary::first_boundary;
+use crate::boundary::boundary;
 use crate::limits::Limits;
 use std::alloc::Global;
 use xet_hash::{MerkleHash, StoreError, compute_data_hash};
@@ -15,19 +15,11 @@ pub fn first_chunk_len(limits: &Limits, bytes: &[u8]) -> usize
     ensures some { 0 < length bytes.now → 0 < result }
     ensures bound { result ≤ length bytes.now }
 {
-    let mask = mask(limits.target_chunk());
-    let minimum = limits.minimum_chunk() as usize;
-    let end = bytes.len().min(limits.maximum_chunk() as usize);
-    first_boundary(limits.gear(), mask, minimum, bytes, end)
-}
-
-/// The mask for a power of two `target`: `target - 1` shifted left until its top bit is bit 63.
-fn mask(target: u32) -> u64
-    requires { 2 ≤ target }
-    ensures { result ≡ mask target }
-{
-    let shift = (1u128 << 64) / u128::from(target);
-    u64::from(target - 1) * (shift as u64)
+    limits.recall_invariant();
+    match boundary(limits, &[], bytes) {
+        Some(end) => end,
+        None => bytes.len(),
+    }
 }
 
 /// The lengths of the chunks of these bytes. The only error is out of memory.

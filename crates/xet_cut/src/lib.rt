@@ -2,10 +2,15 @@
 #![tactic(auto)]
 
 mod boundary;
+mod chunker;
 mod chunking;
 mod generator;
+pub mod laws;
 mod limits;
+mod partitions;
 
+pub use chunker::Chunker;
 pub use chunking::{chunk_lengths, chunk_list, first_chunk_len};
 pub use generator::{gear_table, generated};
 pub use limits::{LimitSettings, Limits};
+pub use partitions::find_partitions;

@@ -1,11 +1,14 @@
-use Rattle.std.proofs.Common.{◌≡◌, ◌∙◌, length, min, sym, ap, arith}
-use Rattle.xet_cut.specs.Chunking.{mask}
-use Rattle.xet_cut.proofs.Boundaries.{chunk_end}
+use Rattle.std.proofs.Common.{◌∙◌, length, unwrap_or, sym, ap, arith}
+use Rattle.xet_cut.specs.theorems.FirstBoundary.{first_chunk_len_is, none_in_nothing}
 use Rattle.xet_cut.proofs.chunking.first_chunk_len.Goals as goal
 
-pub returns-clause-value : goal.returns-clause-value
-returns-clause-value c =
-    let s = c.args.limits.now in let bytes = c.args.bytes.now in
-    let mask_is : c.mask-mask.result ≡ mask s.target_chunk = c.mask-mask.ensures ∙ ap mask c.target_chunk.ensures.value in
-    let end_is : c.min-end.result ≡ min s.maximum_chunk (length bytes) = omega arith in
-    c.first_boundary.ensures.value ∙ rw (c.gear.ensures, mask_is, c.minimum_chunk-minimum.ensures.value, end_is) (sym (chunk_end s bytes))
+pub boundary-requires : goal.boundary-requires
+boundary-requires c = none_in_nothing c.args.limits.now c.recall_invariant.ensures.minimum_from c.recall_invariant.ensures.minimum_to
+
+pub returns-in-Some-clause-value : goal.returns-in-Some-clause-value
+returns-in-Some-clause-value c =
+    omega (arith, first_chunk_len_is c.args.limits.now c.args.bytes.now ∙ ap (λ o. unwrap_or o (length c.args.bytes.now)) c.in-Some.ensures.value)
+
+pub returns-in-None-clause-value : goal.returns-in-None-clause-value
+returns-in-None-clause-value c =
+    sym (first_chunk_len_is c.args.limits.now c.args.bytes.now ∙ ap (λ o. unwrap_or o (length c.args.bytes.now)) c.in-None.ensures.value)
