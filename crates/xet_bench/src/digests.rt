@@ -5,7 +5,7 @@ ghost use Rattle.std.specs.Prelude.{◌<◌, ◌^◌, length};
 use crate::timed::since;
 use std::alloc::Global;
 use std::time::{Clock, Instant};
-use xet_cut::{LimitSettings, Limits, chunk_lengths, gear_table, generated};
+use xet_cut::{Chunker, LimitSettings, Limits, chunk_lengths, gear_table, generated};
 use xet_hash::{DATA_KEY, DataHash, DataHasher, StoreError, compute_data_hash, definition};
 
 /// What is done with the bytes of the file.
@@ -23,6 +23,8 @@ pub enum Body {
     MessagesByDefinition,
     /// The lengths of its chunks, at the default limits.
     Chunks,
+    /// The boundaries of its chunks alone, at the default limits.
+    Boundaries,
     /// Decoding of its hexadecimal digits.
     Hex,
 }
@@ -40,6 +42,7 @@ pub(crate) fn time_body<R: Clock>(
     let file = generated(alloc, 7, length)?;
     match body {
         Body::Chunks => time_chunks(clock, alloc, &file),
+        Body::Boundaries => time_boundaries(clock, alloc, &file),
         Body::Hex => time_hex(clock, alloc, &file),
         _ => Ok(time_digest(clock, body, &file)),
     }
@@ -96,6 +99,24 @@ fn time_chunks<R: Clock>(clock: &R, alloc: Global, file: &[u8]) -> Result<u64, S
     let lengths = chunk_lengths(alloc, &limits, file)?;
     let time = since(clock, start);
     Ok(if lengths.is_empty() { 0 } else { time })
+}
+
+fn time_boundaries<R: Clock>(clock: &R, alloc: Global, file: &[u8]) -> Result<u64, StoreError> {
+    let limits = Limits::new(LimitSettings::shown(gear_table(0)))?;
+    let chunker = Chunker::new(alloc, &limits)?;
+    let start = Instant::now(clock).ok();
+    let left = after_last_boundary(&chunker, file);
+    let time = since(clock, start);
+    Ok(if left == file.len() { 0 } else { time })
+}
+
+/// The number of bytes after the last boundary of a file.
+fn after_last_boundary(chunker: &Chunker, file: &[u8]) -> usize {
+    let mut rest = file;
+    'chunks: while let Some(length) = chunker.next_boundary(rest) {
+        rest = &rest[length..];
+    }
+    rest.len()
 }
 
 fn time_hex<R: Clock>(clock: &R, alloc: Global, file: &[u8]) -> Result<u64, StoreError> {

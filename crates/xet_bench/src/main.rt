@@ -13,7 +13,7 @@
 //! hashes of 8,192 chunks, and `nodes ROUNDS` only the digests that they need. Over a generated file of MIB
 //! mebibytes: `whole MIB` times its data hash, `pieces MIB` the same from pieces of 64 KiB, `messages MIB` the data
 //! hash of each 64 KiB, `define MIB` and `define-messages MIB` these by the definition; `chunks MIB` its chunking,
-//! and `hex MIB` decoding its hexadecimal digits.
+//! `boundaries MIB` its boundaries as a chunker finds them, and `hex MIB` decoding its hexadecimal digits.
 //!
 //! `vectors LENGTH` prints digests of the message of BLAKE3's vectors of that length: without a key, and with the data
 //! key, each also by the definition, and with the data key from two pieces.
@@ -130,6 +130,7 @@ fn body_of(word: &str) -> Option<Body> {
         "define" => Body::Definition,
         "define-messages" => Body::MessagesByDefinition,
         "chunks" => Body::Chunks,
+        "boundaries" => Body::Boundaries,
         "hex" => Body::Hex,
         _ => return None,
     })
