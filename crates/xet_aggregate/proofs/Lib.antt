@@ -1,0 +1,2 @@
+mod CanMerge
+mod InPlace

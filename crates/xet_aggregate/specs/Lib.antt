@@ -1,0 +1,4 @@
+pub mod Aggregate
+pub mod Metrics
+pub mod internal
+pub mod theorems
