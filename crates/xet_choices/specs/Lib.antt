@@ -1,0 +1,5 @@
+pub mod Calls
+pub mod Ranges
+pub mod Choices
+pub mod Sums
+pub mod theorems

@@ -1,0 +1,7 @@
+pub mod Calls
+pub mod Choices
+pub mod Entries
+pub mod Folds
+pub mod Guard
+pub mod Ranges
+pub mod Sums
