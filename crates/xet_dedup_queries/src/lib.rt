@@ -1,0 +1,9 @@
+//! Queries for chunks that are stored already: the interface that answers them, and the places of the chunks of a batch.
+#![tactic(auto)]
+
+mod interface;
+mod passing;
+mod places;
+
+pub use interface::{DeduplicationDataInterface, FileXorbDependency};
+pub use places::{DedupError, Place, Places, find_places};
