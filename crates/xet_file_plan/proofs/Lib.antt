@@ -1,0 +1,4 @@
+mod Changing
+mod Joins
+mod Keeping
+mod LastSegment

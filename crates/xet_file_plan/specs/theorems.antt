@@ -1,0 +1,9 @@
+pub mod Bytes
+pub mod Closing
+pub mod Counts
+pub mod Joining
+pub mod Placed
+pub mod Plans
+pub mod Runs
+pub mod Since
+pub mod Storing
