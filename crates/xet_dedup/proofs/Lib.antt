@@ -1,1 +1,17 @@
+mod Batches
+mod Begins
+mod Chosen
+mod Counting
+mod Cuts
+mod Ends
 mod Fitting
+mod Further
+mod Joins
+mod LastBlock
+mod Lists
+mod OpenSegments
+mod Placed
+mod Registering
+mod Steps
+mod Stores
+mod Walking

@@ -1,16 +1,13 @@
 -- The records of files, as shards store them.
-use Rattle.std.specs.Prelude.{◌≡◌, ℕ, ◌-◌, true, List, [], ◌∷◌, length, map, take, drop, Option, is_some}
+use Rattle.std.specs.Prelude.{◌≡◌, ℕ, true, List, [], ◌∷◌, length, map, take, drop, Option, is_some}
 use Rattle.std.specs.Option.{option_map}
 use Rattle.xet_hash.specs.Merkle.{file_hash, range_hash}
 use Rattle.xet_shard_format.specs.declared.record.FileDataSequenceEntry.{FileDataSequenceEntry as Segment}
 use Rattle.xet_shard_format.specs.declared.record.FileVerificationEntry.{FileVerificationEntry}
 use Rattle.xet_shard_format.specs.declared.record.MDBFileInfo.{MDBFileInfo}
 use Rattle.xet_shard_format.specs.Records.{flags_of}
+pub use Rattle.xet_dedup_queries.specs.Interface.{run_len}
 pub use Rattle.xet_xorb.specs.Raw.{entries_from, xorb_record}
-
--- the number of chunks of a segment
-abbrev pub run_len : Segment → ℕ
-run_len s = s.chunk_index_end - s.chunk_index_start
 
 -- the range hash of each segment, if the plan resolves to these chunks
 abbrev pub range_hashes : List Segment → List (List ℕ × ℕ) → List FileVerificationEntry

@@ -1,0 +1,4 @@
+pub mod Batches
+pub mod Counting
+pub mod Joining
+pub mod Walking
