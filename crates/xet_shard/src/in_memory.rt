@@ -130,6 +130,20 @@ impl MDBInMemoryShard {
         Ok(())
     }
 
+    /// Takes the memory for one more record: a file, or a xorb of at most this many chunks. Adding it then allocates
+    /// nothing if its hash is new. A xorb that replaces one of an equal hash still takes memory, since the map of its
+    /// chunk hashes is built anew. The only error is `StoreError::OutOfMemory`. The records are the same in either
+    /// case.
+    pub fn reserve(&mut self, chunks: usize) -> Result<(), StoreError>
+        ensures kept { self.new ≡ self.old }
+        ensures memory { IsOkUnless result StoreError.OutOfMemory }
+    {
+        self.blocks.reserve(1)?;
+        self.files.reserve(1)?;
+        self.places.reserve(chunks)?;
+        Ok(())
+    }
+
     /// Writes the shard to a sink, and returns its header and footer. Files and xorbs are in ascending order
     /// of hash; all lookup tables are there, and there is no key. `creation` and `expiry` are in seconds
     /// since the Unix epoch; with `None` the shard does not expire. The error is `Io(Output)` if the sink
