@@ -1,7 +1,7 @@
 //! Durable writing of shard files.
 
 ghost use Rattle.std.specs.FinMap.{get};
-ghost use Rattle.std.specs.Prelude.{◌≡◌, ◌≢◌, ◌≤◌, ℕ, List, true, OnErr, OnOk, IfErr, Some, None, option_map};
+ghost use Rattle.std.specs.Prelude.{◌≡◌, ◌≢◌, ◌≤◌, ℕ, List, true, IsOkUnless, OnErr, OnOk, IfErr, IfOk, Some, None, option_map, string_bytes};
 ghost use Rattle.xet_codec.specs.Stops.{HasDiskReason};
 ghost use Rattle.xet_io.specs.Disk.{bytes_at};
 ghost use Rattle.xet_io.specs.Frame.{Stays};
@@ -56,9 +56,38 @@ pub fn put_named_file<D: Disk>(
     ensures frame { Stays D.tells D.faults disk.old disk.new }
     ensures reason { IfErr result (HasDiskReason (D.faults disk.old) (D.faults disk.new)) }
 {
+    let temp = temp_name(alloc, name)?;
+    put_through(disk, temp.as_str(), name, encoding)
+}
+
+/// The name of the temporary file through which a file is written. The only error is `StoreError::OutOfMemory`.
+pub fn temp_name(alloc: Global, name: &str) -> Result<String, StoreError>
+    ensures name { IfOk result (λ temp. string_bytes temp ≡ temp_name name.now) }
+    ensures memory { IsOkUnless result StoreError.OutOfMemory }
+{
     let mut temp = String::from_str(alloc, name)?;
     temp.push_str("_temp")?;
-    match put_file(disk, temp.as_str(), name, encoding) {
+    Ok(temp)
+}
+
+/// Writes bytes under a name as `put_named_file` does. The caller passes the name of the temporary file. Allocates
+/// nothing itself.
+pub fn put_through<D: Disk>(
+    disk: &mut D,
+    temp: &str,
+    name: &str,
+    encoding: &[u8],
+) -> Result<(), StoreError>
+    requires { temp.now ≡ temp_name name.now }
+    ensures there { D.tells disk.old ≡ true → OnOk result (bytes_at (D.files disk.new) name.now ≡ Some encoding.now) }
+    ensures durable { D.tells disk.old ≡ true → OnOk result (option_map (λ e. e.durable) (get (D.files disk.new) name.now) ≡ Some true) }
+    ensures temp { D.tells disk.old ≡ true → OnOk result (get (D.files disk.new) (temp_name name.now) ≡ None) }
+    ensures refused { D.tells disk.old ≡ true → OnErr result (IsKeptOrDone (D.files disk.old) (D.files disk.new) name.now encoding.now) }
+    ensures others { D.tells disk.old ≡ true → (other : List ℕ) → other ≢ name.now → other ≢ temp_name name.now → get (D.files disk.new) other ≡ get (D.files disk.old) other }
+    ensures frame { Stays D.tells D.faults disk.old disk.new }
+    ensures reason { IfErr result (HasDiskReason (D.faults disk.old) (D.faults disk.new)) }
+{
+    match put_file(disk, temp, name, encoding) {
         Ok(()) => Ok(()),
         Err(refusal) => Err(store_error(refusal)),
     }
