@@ -1,15 +1,14 @@
 -- The value of a shard file that was written.
-use Rattle.std.proofs.Common.{◌≡◌, ◌≢◌, ℕ, true, List, Option, Some, None, Ok, option_map, refl, ap, ◌∙◌, subst}
-use Rattle.std.specs.FinMap.{get}
+use Rattle.std.proofs.Common.{◌≡◌, ℕ, List, Option, Some, None, Ok, option_map, refl, ap, subst, sym}
 use Rattle.xet_hash.specs.Merkle.{chunk_hash}
-use Rattle.xet_io.specs.Disk.{File, Files, bytes_at, file_at}
+use Rattle.xet_io.specs.Disk.{File, Files, file_at}
 use Rattle.xet_codec.specs.Parsing.{◌>>=◌}
 use Rattle.xet_shard.specs.Sections.{info_at}
 use Rattle.xet_shard.specs.declared.info.MDBShardInfo.{MDBShardInfo}
 use Rattle.xet_shard_directory.specs.Answers.{in_file}
 use Rattle.xet_shard_directory.specs.Values.{shard_value}
-use Rattle.xet_shard_directory.specs.Writing.{Wrote}
-use Rattle.xet_shard_file.specs.Names.{shard_path, temp_name}
+use Rattle.xet_shard_directory.specs.Writing.{OthersStay, Wrote, path_of}
+use Rattle.xet_shard_file.specs.Puts.{IsDone}
 
 abbrev IsAbsent : Option (List ℕ) → Type 0
 IsAbsent None = Unit {0}
@@ -34,18 +33,14 @@ value_of_file found bytes hash path shard m there times info =
 
 -- The bytes were put under the path of their digest.
 pub wrote : (old new : Files) (folder bytes hash path : List ℕ) (shard : MDBShardInfo) (m : ℕ)
-    → hash ≡ chunk_hash bytes → path ≡ shard_path folder hash
-    → bytes_at new (shard_path folder hash) ≡ Some bytes
-    → option_map (λ e. e.durable) (get new (shard_path folder hash)) ≡ Some true
-    → get new (temp_name (shard_path folder hash)) ≡ None
-    → ((other : List ℕ) → other ≢ shard_path folder hash → other ≢ temp_name (shard_path folder hash) → get new other ≡ get old other)
-    → ((f : File) → file_at new path ≡ Some f → m ≡ f.modified) → Ok shard ≡ info_at bytes
+    → hash ≡ chunk_hash bytes → path ≡ path_of folder bytes → IsDone new path bytes → OthersStay old new path
+    → ((f : File) → file_at new path ≡ Some f → m ≡ f.modified) → info_at bytes ≡ Ok shard
     → Wrote old new folder bytes (shard_value hash path shard m)
-wrote old new folder bytes hash path shard m eh ep there durable temp others times info =
+wrote old new folder bytes hash path shard m eh ep done others times info =
     record {
       hash = eh;
-      path = ep ∙ ap (shard_path folder) eh;
-      done = rw ep (record { there = there; durable = durable; temp = temp });
-      others = rw ep others;
-      value = value_of_file (file_at new path) bytes hash path shard m (rw ep there) times info;
+      path = ep;
+      done = done;
+      others = others;
+      value = value_of_file (file_at new path) bytes hash path shard m done.there times (sym info);
     }

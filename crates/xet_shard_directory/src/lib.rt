@@ -15,4 +15,4 @@ mod writing;
 
 pub use directory::remove_all;
 pub use shard_file::MDBShardFile;
-pub use writing::write_shard_file;
+pub use writing::{write_named_file, write_shard_file};

@@ -8,17 +8,17 @@ ghost use Rattle.xet_io.specs.Frame.{Stays, Unchanged};
 ghost use Rattle.xet_shard.specs.Sections.{info_at};
 ghost use Rattle.xet_shard.specs.Held.{never};
 ghost use Rattle.xet_shard_directory.specs.Answers.{IsReadError};
-ghost use Rattle.xet_shard_file.specs.Names.{shard_path};
+ghost use Rattle.xet_shard_file.specs.Names.{shard_path, temp_name};
 ghost use Rattle.xet_shard_directory.specs.Writing.{IsFormatError, IsPutError, IsUnwrittenFrom, IsUnwrittenIfMalformed, IsWriteError, KeptOrWrote, KeptOrWroteFrom, Wrote, WroteFrom, path_of, with_expiry};
 
 use crate::shard_file::MDBShardFile;
 use std::alloc::{AllocError, Global};
 use xet_base::Text;
 use xet_codec::store_error;
-use xet_hash::{Place, StoreError, What, compute_data_hash};
+use xet_hash::{MerkleHash, Place, StoreError, What, compute_data_hash};
 use xet_io::{Disk, SliceReader, Source, Unread, read_all, read_file};
 use xet_shard::{MDBShardFileFooter, MDBShardInfo};
-use xet_shard_file::{put_shard_file, shard_path};
+use xet_shard_file::{put_through, shard_path, temp_name};
 use xet_shard_format::encoding::push_footer;
 
 /// The maximum number of bytes that are read of a source: 2^40.
@@ -157,12 +157,35 @@ pub fn write_shard_file<D: Disk>(
 {
     let shard = info_of_bytes(bytes)?;
     let hash = compute_data_hash(bytes);
-    let path = shard_path(alloc, target, &hash)?;
-    put_shard_file(disk, alloc, target, &hash, bytes)?;
+    let path = Text::new(shard_path(alloc, target, &hash)?);
+    let temp = temp_name(alloc, path.as_str())?;
+    write_named_file(disk, temp.as_str(), path, hash, shard, bytes)
+}
+
+/// Writes the bytes of a shard under a path, durably, as `write_shard_file` does. The caller passes the name of the
+/// temporary file, and the value of the new file but for its modification time. Allocates nothing itself.
+pub fn write_named_file<D: Disk>(
+    disk: &mut D,
+    temp: &str,
+    path: Text,
+    hash: MerkleHash,
+    shard: MDBShardInfo,
+    bytes: &[u8],
+) -> Result<MDBShardFile, StoreError>
+    requires temp { temp.now ≡ temp_name path }
+    requires hash { hash ≡ chunk_hash bytes.now }
+    requires shard { info_at bytes.now ≡ Ok shard }
+    ensures written { D.tells disk.old ≡ true → (target : List ℕ) → path ≡ path_of target bytes.now → IfOk result (Wrote (D.files disk.old) (D.files disk.new) target bytes.now) }
+    ensures refused { D.tells disk.old ≡ true → (target : List ℕ) → path ≡ path_of target bytes.now → OnErr result (KeptOrWrote (D.files disk.old) (D.files disk.new) target bytes.now) }
+    ensures value { IfOk result (λ s. (s.shard_hash ≡ hash) × (s.path ≡ path) × (s.shard ≡ shard)) }
+    ensures frame { Stays D.tells D.faults disk.old disk.new }
+    ensures reason { IfErr result (HasDiskReason (D.faults disk.old) (D.faults disk.new)) }
+{
+    put_through(disk, temp, path.as_str(), bytes)?;
     let last_modified_time = modification_time(disk, path.as_str())?;
     Ok(MDBShardFile {
         shard_hash: hash,
-        path: Text::new(path),
+        path,
         shard,
         last_modified_time,
     })
