@@ -45,7 +45,8 @@ not_covered start m (Missed entry) e = cc e
 not_covered start m (Covered other) e = cc e
 not_covered start m Unasked e = cc e
 
-kept_before : (start : ℕ) (run : Segment) (is_external : Bool) (p : Place) → Kept run is_external ≡ covered start p → p ≡ Kept run is_external
+-- a place that is covered and at which a run is kept had the run before
+pub kept_before : (start : ℕ) (run : Segment) (is_external : Bool) (p : Place) → Kept run is_external ≡ covered start p → p ≡ Kept run is_external
 kept_before start run is_external (Kept r x) e = sym e
 kept_before start run is_external (Missed entry) e = absurd (cc e)
 kept_before start run is_external (Covered other) e = absurd (cc e)

@@ -1,5 +1,5 @@
 -- A pass begins, and ends.
-use Rattle.std.proofs.Common.{◌≡◌, ◌⊎◌, ℕ, ◌+◌, ◌<◌, ◌≤◌, inl, inr, Bool, List, [], ◌++◌, Option, Some, length, map, replicate, refl, sym, ap, ◌∙◌, subst, arith}
+use Rattle.std.proofs.Common.{◌≡◌, ◌⊎◌, ℕ, ◌+◌, ◌<◌, ◌≤◌, inl, inr, Bool, true, false, List, [], ◌++◌, Option, Some, length, map, replicate, refl, sym, ap, ◌∙◌, subst, arith}
 use Rattle.std.specs.List.{slice_get, sum_by}
 use Rattle.std.proofs.lemmas.List.{append-nil, length-replicate}
 use Rattle.std.proofs.lemmas.Option.{slice_get_within}
@@ -66,7 +66,7 @@ module _ (listing grown : List ℕ → Option (List ℕ)) (standing stands_now :
     appended = same ∙ was.appended;
     passes = was.passes;
     each = λ i h p is_h is. elim (was.each i h p is_h is) [
-      | inl true ↦ inl (place_grows listing grown standing stands_now lists stands (began.asked ++ was.added) [] (began.asked ++ was.added) hashes places i h p (sym (append-nil (began.asked ++ was.added))) true)
+      | inl holds ↦ inl (place_grows listing grown standing stands_now lists stands (began.asked ++ was.added) [] (began.asked ++ was.added) hashes places i h p (sym (append-nil (began.asked ++ was.added))) holds)
       | inr not ↦ inr not
     ];
     inside = was.inside;
@@ -81,7 +81,7 @@ module _ (listing grown : List ℕ → Option (List ℕ)) (standing stands_now :
 module _ (listing : List ℕ → Option (List ℕ)) (standing : List (List ℕ) → Segment → Type 0) (hashes : List (List ℕ)) (began : Began) (calls : List Call) (places : List Place) (at chunks bytes : ℕ) (was : IsPassing listing standing hashes began calls places at chunks bytes) (end : at ≡ length hashes) where
   all_true : (i : ℕ) (h : List ℕ) (p : Place) → slice_get hashes i ≡ Some h → slice_get places i ≡ Some p → IsPlace listing standing (began.asked ++ was.added) hashes places i h p
   all_true i h p is_h is = elim (was.each i h p is_h is) [
-    | inl true ↦ true
+    | inl holds ↦ holds
     | inr not ↦ absurd (omega (arith, not.0, slice_get_within hashes i h is_h))
   ]
 
@@ -118,37 +118,48 @@ from_none hashes start places at calls are end passes =
     let from = subst (λ (k : List (Option Segment)). PassesTo hashes k at (map kept_run places) calls) (unasked_none hashes start are) passes in
     subst (λ (n : ℕ). PassesTo hashes (none_kept hashes) n (map kept_run places) calls) end from
 
-module _ (listing : List ℕ → Option (List ℕ)) (standing : List (List ℕ) → Segment → Type 0) (hashes : List (List ℕ)) (old mid : List Call) (start places : List Place) (at chunks bytes : ℕ) (are : start ≡ replicate (length hashes) Unasked) (was : IsPassing listing standing hashes (first_start old start) mid places at chunks bytes) (end : at ≡ length hashes) where
+module _ {I : Type 0} (calling : I → List Call) (ending : I → I → Bool → Type 0) (listing : List ℕ → Option (List ℕ)) (standing : List (List ℕ) → Segment → Type 0) (hashes : List (List ℕ)) (old mid : I) (start places : List Place) (at chunks bytes : ℕ) (are : start ≡ replicate (length hashes) Unasked) (was : IsPassing listing standing hashes (first_start (calling old) start) (calling mid) places at chunks bytes) (end : at ≡ length hashes) where
   -- The batch was queried in one pass.
-  pub asked_once : (after : List Call) → after ≡ mid → IsAskedOnce hashes old after places
+  pub asked_once : (after : List Call) → after ≡ calling mid → IsAskedOnce hashes (calling old) after places
   asked_once after same = record {
     first = was.added;
     calls = same ∙ was.appended;
     first_pass = from_none hashes start places at was.added are end was.passes;
   }
 
-  pub asked_first : (after : List Call) → after ≡ mid → IsAsked hashes old after places 0 0
-  asked_first after same = record {
+  -- The queries elsewhere found nothing.
+  pub asked_first : (after : I) (found : Bool) → calling after ≡ calling mid → ending mid after found → found ≡ false → IsAsked calling ending hashes old after places 0 0
+  asked_first after found same ended not = record {
     first = was.added;
     second = [];
     between = map kept_run places;
-    calls = same ∙ was.appended ∙ ap (λ (c : List Call). old ++ c) (sym (append-nil was.added));
+    calls = same ∙ was.appended ∙ ap (λ (c : List Call). calling old ++ c) (sym (append-nil was.added));
     first_pass = from_none hashes start places at was.added are end was.passes;
-    second_pass = inl (refl, refl);
+    passed = mid;
+    passed_calls = was.appended;
+    next = after;
+    found = found;
+    ended = ended;
+    second_pass = inl (not, refl, refl, refl);
     chunks_found = ap (sum_by run_len) (sym (new_runs-same (map kept_run places)));
     bytes_found = ap (sum_by (λ run. run.unpacked_segment_bytes)) (sym (new_runs-same (map kept_run places)));
   }
 
-  module _ (grown : List ℕ → Option (List ℕ)) (stands_now : List (List ℕ) → Segment → Type 0) (last : List Call) (new : List Place) (upto chunks_now bytes_now : ℕ) (now : IsPassing grown stands_now hashes (second_start old was.added places) last new upto chunks_now bytes_now) (over : upto ≡ length hashes) where
+  module _ (next : I) (found : Bool) (ended : ending mid next found) (yes : found ≡ true) (grown : List ℕ → Option (List ℕ)) (stands_now : List (List ℕ) → Segment → Type 0) (last : I) (new : List Place) (upto chunks_now bytes_now : ℕ) (now : IsPassing grown stands_now hashes (second_start (calling old) was.added places) (calling last) new upto chunks_now bytes_now) (over : upto ≡ length hashes) where
     -- The batch was queried in two passes.
-    pub asked_twice : (after : List Call) → after ≡ last → IsAsked hashes old after new chunks_now bytes_now
-    asked_twice after is_last = record {
+    pub asked_twice : (after : I) (again : Bool) → calling after ≡ calling last → ending last after again → IsAsked calling ending hashes old after new chunks_now bytes_now
+    asked_twice after again is_last ended_again = record {
       first = was.added;
       second = now.added;
       between = map kept_run places;
       calls = is_last ∙ now.appended;
       first_pass = from_none hashes start places at was.added are end was.passes;
-      second_pass = inr (subst (λ (n : ℕ). PassesTo hashes (map kept_run places) n (map kept_run new) now.added) over now.passes);
+      passed = mid;
+      passed_calls = was.appended;
+      next = next;
+      found = found;
+      ended = ended;
+      second_pass = inr (yes, subst (λ (n : ℕ). PassesTo hashes (map kept_run places) n (map kept_run new) now.added) over now.passes, (last, again, ended_again));
       chunks_found = now.chunks_found;
       bytes_found = now.bytes_found;
     }

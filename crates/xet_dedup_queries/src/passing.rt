@@ -6,7 +6,7 @@ ghost use Rattle.xet_dedup_queries.specs.Asking.{AddsQueries, kept_run};
 ghost use Rattle.xet_dedup_queries.specs.Batch.{IsAsked, IsAskedOnce};
 ghost use Rattle.xet_dedup_queries.specs.Interface.{Extends};
 ghost use Rattle.xet_dedup_queries.specs.Passing.{Began, Covers, IsPassing, covered, missed};
-ghost use Rattle.xet_dedup_queries.specs.Places.{ArePlaces};
+ghost use Rattle.xet_dedup_queries.specs.Places.{AreAnswered, ArePlaces};
 ghost use Rattle.xet_dedup_queries.specs.declared.places.Place.TheVariants.{Kept, Unasked};
 
 use crate::interface::DeduplicationDataInterface;
@@ -139,6 +139,7 @@ fn ask<I: DeduplicationDataInterface>(
     requires free { slice_get (map kept_run places.old) progress.at ≡ Some None }
     requires few { length hashes.now < 2 ^ 32 }
     ensures passing { (began : Began) → IsPassing (I.lists interface.old) (I.stands interface.old) hashes.now began (I.calls interface.old) places.old progress.at progress.chunks progress.bytes → IfOk result (λ next. IsPassing (I.lists interface.new) (I.stands interface.new) hashes.now began (I.calls interface.new) places.new next.at next.chunks next.bytes) }
+    ensures answered { AreAnswered I.answered hashes.now places.old → OnOk result (AreAnswered I.answered hashes.now places.new) }
     ensures on { IfOk result (λ next. progress.at < next.at) }
     ensures extends { Extends I.lists I.stands I.refused I.cut_limits interface.old interface.new }
     ensures prefix { AddsQueries (I.calls interface.old) (I.calls interface.new) }
@@ -172,6 +173,7 @@ fn next_place<I: DeduplicationDataInterface>(
     requires more { progress.at < length hashes.now }
     requires few { length hashes.now < 2 ^ 32 }
     ensures passing { (began : Began) → IsPassing (I.lists interface.old) (I.stands interface.old) hashes.now began (I.calls interface.old) places.old progress.at progress.chunks progress.bytes → IfOk result (λ next. IsPassing (I.lists interface.new) (I.stands interface.new) hashes.now began (I.calls interface.new) places.new next.at next.chunks next.bytes) }
+    ensures answered { AreAnswered I.answered hashes.now places.old → OnOk result (AreAnswered I.answered hashes.now places.new) }
     ensures on { IfOk result (λ next. progress.at < next.at) }
     ensures extends { Extends I.lists I.stands I.refused I.cut_limits interface.old interface.new }
     ensures prefix { AddsQueries (I.calls interface.old) (I.calls interface.new) }
@@ -199,6 +201,7 @@ fn pass<I: DeduplicationDataInterface>(
     requires begins { (began : Began) × IsPassing (I.lists interface.old) (I.stands interface.old) hashes.now began (I.calls interface.old) places.old 0 0 0 }
     requires few { length hashes.now < 2 ^ 32 }
     ensures ends { (began : Began) → IsPassing (I.lists interface.old) (I.stands interface.old) hashes.now began (I.calls interface.old) places.old 0 0 0 → IfOk result (λ found. IsPassing (I.lists interface.new) (I.stands interface.new) hashes.now began (I.calls interface.new) places.new found.at found.chunks found.bytes × (found.at ≡ length hashes.now)) }
+    ensures answered { AreAnswered I.answered hashes.now places.old → OnOk result (AreAnswered I.answered hashes.now places.new) }
     ensures extends { Extends I.lists I.stands I.refused I.cut_limits interface.old interface.new }
     ensures prefix { AddsQueries (I.calls interface.old) (I.calls interface.new) }
     ensures refused { IfErr result (λ e. I.refused interface.old interface.new e) }
@@ -226,7 +229,8 @@ pub fn ask_all<I: DeduplicationDataInterface>(
     requires unasked { places.old ≡ replicate (length hashes.now) Unasked }
     requires few { length hashes.now < 2 ^ 32 }
     ensures places { OnOk result ((added : List Call) × (I.calls interface.new ≡ I.calls interface.old ++ added) × ArePlaces (I.lists interface.new) (I.stands interface.new) (I.calls interface.old) added hashes.now places.new) }
-    ensures asked { IfOk result (λ found. IsAsked hashes.now (I.calls interface.old) (I.calls interface.new) places.new found.chunks found.bytes) }
+    ensures answered { OnOk result (AreAnswered I.answered hashes.now places.new) }
+    ensures asked { IfOk result (λ found. IsAsked I.calls I.ended hashes.now interface.old interface.new places.new found.chunks found.bytes) }
     ensures once { I.is_global ≡ false → IfOk result (λ found. IsAskedOnce hashes.now (I.calls interface.old) (I.calls interface.new) places.new × (found.chunks ≡ 0) × (found.bytes ≡ 0)) }
     ensures extends { Extends I.lists I.stands I.refused I.cut_limits interface.old interface.new }
     ensures prefix { AddsQueries (I.calls interface.old) (I.calls interface.new) }

@@ -1,5 +1,5 @@
 -- How many queries a pass makes, and which calls they are.
-use Rattle.std.proofs.Common.{◌*◌, inl, inr, length, map, take, drop, ◌≡◌, ℕ, ◌+◌, ◌≤◌, List, [], ◌∷◌, ◌++◌, Option, Some, None, refl, sym, ap, ◌∙◌, arith}
+use Rattle.std.proofs.Common.{◌*◌, inl, inr, length, map, take, drop, ◌≡◌, ℕ, ◌+◌, ◌≤◌, Bool, List, [], ◌∷◌, ◌++◌, Option, Some, None, refl, sym, ap, ◌∙◌, arith}
 use Rattle.std.proofs.lemmas.List.{append_assoc, append-nil}
 use Rattle.xet_choices.specs.Calls.{Call, queries_of, registered_chunks}
 use Rattle.xet_choices.specs.Calls.Call.{Asked, Registered}
@@ -28,14 +28,15 @@ queries_of-asked_once hashes old new places is =
     omega (arith, ap queries_of is.calls, queries_of-append old is.first, few)
 
 -- and one that is queried in at most two passes, at most two.
-pub queries_of-asked : (hashes : List (List ℕ)) (old new : List Call) (places : List Place) (chunks bytes : ℕ) → IsAsked hashes old new places chunks bytes → queries_of new ≤ queries_of old + 2 * length hashes
-queries_of-asked hashes old new places chunks bytes is =
+pub queries_of-asked : {I : Type 0} (calling : I → List Call) (ending : I → I → Bool → Type 0) (hashes : List (List ℕ)) (old new : I) (places : List Place) (chunks bytes : ℕ)
+    → IsAsked calling ending hashes old new places chunks bytes → queries_of (calling new) ≤ queries_of (calling old) + 2 * length hashes
+queries_of-asked calling ending hashes old new places chunks bytes is =
     let few = queries_of-passes hashes (none_kept hashes) (length hashes) is.between is.first is.first_pass in
     let again : queries_of is.second ≤ length hashes = elim is.second_pass [
-      | inl none ↦ omega (arith, ap queries_of none.0)
-      | inr passes ↦ queries_of-passes hashes is.between (length hashes) (map kept_run places) is.second passes
+      | inl none ↦ omega (arith, ap queries_of none.2)
+      | inr passes ↦ queries_of-passes hashes is.between (length hashes) (map kept_run places) is.second passes.1
     ] in
-    omega (arith, ap queries_of is.calls, queries_of-append old (is.first ++ is.second), queries_of-append is.first is.second, few, again)
+    omega (arith, ap queries_of is.calls, queries_of-append (calling old) (is.first ++ is.second), queries_of-append is.first is.second, few, again)
 
 pub queries-append : (xs ys : List Call) → AreQueries xs → AreQueries ys → AreQueries (xs ++ ys)
 queries-append [] ys xs_are ys_are = ys_are

@@ -2,6 +2,7 @@ use Rattle.std.proofs.Common.{refl, sym, ◌∙◌, [], ◌++◌}
 use Rattle.std.proofs.lemmas.List.{append-nil}
 use Rattle.xet_dedup_queries.specs.theorems.Growing.{places_grow}
 use Rattle.xet_dedup_queries.specs.theorems.Queries.{adds_more, adds_same}
+use Rattle.xet_dedup_queries.proofs.Answered.{answered_none}
 use Rattle.xet_dedup_queries.proofs.Rounds.{asked_first, asked_once, asked_twice, first_begins, first_start, passing_ends, second_grows, second_start}
 use Rattle.xet_dedup_queries.proofs.passing.ask_all.Goals as goal
 
@@ -38,8 +39,13 @@ returns-then-not-branch-clause-asked g c =
     let found = c.in_ok-pass.field-0 in
     let begun = first_begins (I.lists s) (I.stands s) hashes (I.calls s) c.args.places.now c.requires.unasked in
     let passed = c.in_ok-pass.ensures.ends (first_start (I.calls s) c.args.places.now) begun in
-    asked_first (I.lists mid) (I.stands mid) hashes (I.calls s) (I.calls mid) c.args.places.now c.pass.new.places found.at found.chunks found.bytes c.requires.unasked passed.0 passed.1
-    (I.calls c.complete_global_dedup_queries.new.self) c.complete_global_dedup_queries.ensures.calls
+    asked_first I.calls I.ended (I.lists mid) (I.stands mid) hashes s mid c.args.places.now c.pass.new.places found.at found.chunks found.bytes c.requires.unasked passed.0 passed.1
+    c.complete_global_dedup_queries.new.self c.in_ok-complete_global_dedup_queries.field-0 c.complete_global_dedup_queries.ensures.calls c.in_ok-complete_global_dedup_queries.ensures.ended c.if-not-branch.true
+
+pub returns-then-not-branch-clause-answered : goal.returns-then-not-branch-clause-answered
+returns-then-not-branch-clause-answered g c =
+    let I = g.I.DeduplicationDataInterface in
+    c.in_ok-pass.ensures.answered (answered_none I.answered c.args.hashes.now c.args.places.now c.requires.unasked)
 
 pub returns-then-not-branch-clause-once : goal.returns-then-not-branch-clause-once
 returns-then-not-branch-clause-once g c = λ is.
@@ -50,7 +56,7 @@ returns-then-not-branch-clause-once g c = λ is.
     let found = c.in_ok-pass.field-0 in
     let begun = first_begins (I.lists s) (I.stands s) hashes (I.calls s) c.args.places.now c.requires.unasked in
     let passed = c.in_ok-pass.ensures.ends (first_start (I.calls s) c.args.places.now) begun in (
-      asked_once (I.lists mid) (I.stands mid) hashes (I.calls s) (I.calls mid) c.args.places.now c.pass.new.places found.at found.chunks found.bytes c.requires.unasked passed.0 passed.1
+      asked_once I.calls I.ended (I.lists mid) (I.stands mid) hashes s mid c.args.places.now c.pass.new.places found.at found.chunks found.bytes c.requires.unasked passed.0 passed.1
           (I.calls c.complete_global_dedup_queries.new.self) c.complete_global_dedup_queries.ensures.calls,
       refl,
       refl,
@@ -131,9 +137,14 @@ returns-clause-asked g c =
     let ready = second_grows (I.lists one) (I.lists mid) (I.stands one) (I.stands mid) f.extends.lists f.extends.stands hashes (first_start (I.calls s) c.args.places.now) (I.calls one) (I.calls mid) c.pass.new.places first.at first.chunks first.bytes f.calls passed.0 passed.1 in
     let start = second_start (I.calls s) passed.0.added c.pass.new.places in
     let again = c.in_ok-found.ensures.ends start ready in
-    asked_twice (I.lists one) (I.stands one) hashes (I.calls s) (I.calls one) c.args.places.now c.pass.new.places first.at first.chunks first.bytes c.requires.unasked passed.0 passed.1
-    (I.lists two) (I.stands two) (I.calls two) c.pass-2.new.places found.at found.chunks found.bytes again.0 again.1
-    (I.calls c.complete_global_dedup_queries-2.new.self) c.complete_global_dedup_queries-2.ensures.calls
+    asked_twice I.calls I.ended (I.lists one) (I.stands one) hashes s one c.args.places.now c.pass.new.places first.at first.chunks first.bytes c.requires.unasked passed.0 passed.1
+    mid c.in_ok-complete_global_dedup_queries.field-0 c.in_ok-complete_global_dedup_queries.ensures.ended c.if-not-branch.false (I.lists two) (I.stands two) two c.pass-2.new.places found.at found.chunks found.bytes again.0 again.1
+    c.complete_global_dedup_queries-2.new.self c.in_ok-complete_global_dedup_queries-2.field-0 c.complete_global_dedup_queries-2.ensures.calls c.in_ok-complete_global_dedup_queries-2.ensures.ended
+
+pub returns-clause-answered : goal.returns-clause-answered
+returns-clause-answered g c =
+    let I = g.I.DeduplicationDataInterface in
+    c.in_ok-found.ensures.answered (c.in_ok-pass.ensures.answered (answered_none I.answered c.args.hashes.now c.args.places.now c.requires.unasked))
 
 pub returns-clause-prefix : goal.returns-clause-prefix
 returns-clause-prefix g c =

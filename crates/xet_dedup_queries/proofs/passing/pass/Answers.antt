@@ -14,6 +14,7 @@ loop-progress-preserved g c =
     let old = c.args.interface.now in
     record {
       passing = λ began begins. c.in_ok-progress.ensures.passing began (c.loop-progress.invariant.passing began begins);
+      answered = λ was. c.in_ok-progress.ensures.answered (c.loop-progress.invariant.answered was);
       extends = extends_more I.lists I.stands I.refused I.cut_limits old c.loop-progress.interface c.next_place.new.interface c.loop-progress.invariant.extends c.next_place.ensures.extends;
       prefix = adds_more (I.calls old) (I.calls c.loop-progress.interface) (I.calls c.next_place.new.interface) c.loop-progress.invariant.prefix c.next_place.ensures.prefix;
       passed = c.in_ok-progress.ensures.passed ∙ c.loop-progress.invariant.passed;
