@@ -19,7 +19,7 @@ use Rattle.xet_shard_format.specs.declared.record.FileDataSequenceEntry.{FileDat
 use Rattle.xet_xorb.specs.Raw.{ArePartsOfXorb}
 use Rattle.xet_xorb_chunk.specs.declared.chunk.Chunk.{Chunk}
 use Rattle.xet_xorb_chunk.specs.Chunks.{bytes_of_chunk, chunk_leaf, total}
-use Rattle.xet_file_plan.specs.Kept.{IsRunOf, joined_bytes, max_chunks}
+use Rattle.xet_file_plan.specs.Kept.{IsBlockRun, joined_bytes, max_chunks}
 use Rattle.xet_file_plan.specs.Moves.{extended, filled, goes_on, is_open, next_run, with_run}
 use Rattle.xet_file_plan.specs.Kept.{IsBlockWithin}
 use Rattle.xet_file_plan.specs.internal.Invariant.{EndsWithin, IsKept, NoneOpen, OpenEndWithin}
@@ -51,13 +51,13 @@ bytes_to : (block : List Chunk) (start count : ℕ) → total (take (start + cou
 bytes_to block start count =
     ap total (take-add start count block) ∙ sum_by-append (λ (c : Chunk). length c.bytes) (take start block) (take count (drop start block))
 
-run_end : (block : List Chunk) (run : Segment) → IsRunOf block run → run.chunk_index_end ≡ run.chunk_index_start + run_len run
+run_end : (block : List Chunk) (run : Segment) → IsBlockRun block run → run.chunk_index_end ≡ run.chunk_index_start + run_len run
 run_end block run is = λ i. (is.same i).chunk_index_end
 
-run_bytes : (block : List Chunk) (run : Segment) → IsRunOf block run → run.unpacked_segment_bytes ≡ total (take (run_len run) (drop run.chunk_index_start block))
+run_bytes : (block : List Chunk) (run : Segment) → IsBlockRun block run → run.unpacked_segment_bytes ≡ total (take (run_len run) (drop run.chunk_index_start block))
 run_bytes block run is = λ i. (is.same i).unpacked_segment_bytes
 
-run_ends : (block : List Chunk) (run : Segment) → IsRunOf block run → EndsWithin block run
+run_ends : (block : List Chunk) (run : Segment) → IsBlockRun block run → EndsWithin block run
 run_ends block run is = record {
   end = omega (arith, run_end block run is, is.within);
   bytes =
@@ -66,7 +66,7 @@ run_ends block run is = record {
       omega (arith, sum, end, run_bytes block run is));
 }
 
-extended_ends : (block : List Chunk) (s run : Segment) → goes_on s run ≡ true → EndsWithin block s → IsRunOf block run → EndsWithin block (extended s run)
+extended_ends : (block : List Chunk) (s run : Segment) → goes_on s run ≡ true → EndsWithin block s → IsBlockRun block run → EndsWithin block (extended s run)
 extended_ends block s run goes before is = record {
   end = (run_ends block run is).end;
   bytes =
@@ -77,7 +77,7 @@ extended_ends block s run goes before is = record {
 }
 
 -- a run joins the segments
-opened_run : (block : List Chunk) (ss : List Segment) (run : Segment) → OpenEndWithin block ss → (is_open run ≡ true → IsRunOf block run) → OpenEndWithin block (with_run ss run)
+opened_run : (block : List Chunk) (ss : List Segment) (run : Segment) → OpenEndWithin block ss → (is_open run ≡ true → IsBlockRun block run) → OpenEndWithin block (with_run ss run)
 unfolding with_run
 opened_run block [] run opened is = (λ o. run_ends block run (is o), tt)
 opened_run block (s ∷ []) run opened is = by (goes_on s run) refl
@@ -187,7 +187,7 @@ parts_of_xorb settings block range within = record {
 -- ---- a chunk is stored
 
 -- its run
-pub next_is_run : (block : List Chunk) (chunk : Chunk) → IsRunOf (block ++ chunk ∷ []) (next_run block chunk)
+pub next_is_run : (block : List Chunk) (chunk : Chunk) → IsBlockRun (block ++ chunk ∷ []) (next_run block chunk)
 next_is_run block chunk =
     let one : run_len (next_run block chunk) ≡ 1 = omega arith in
     let seam : drop (length block) (block ++ chunk ∷ []) ≡ chunk ∷ [] = drop_at block (chunk ∷ []) (length block) refl in
@@ -220,7 +220,7 @@ next_bytes block chunk (s ∷ t ∷ ss) opened = next_bytes block chunk (t ∷ s
 -- ---- the invariant
 
 pub kept_joined : (settings : LimitSettings) (leaves more : List (List ℕ × ℕ)) (ss now : List Segment) (run : Segment) (block : List Chunk) (guard next : Fragmentation) (closed : ℕ)
-    → IsKept settings leaves ss block guard closed → length leaves ≤ length more → length more ≤ max_chunks → (is_open run ≡ true → IsRunOf block run) → now ≡ with_run ss run
+    → IsKept settings leaves ss block guard closed → length leaves ≤ length more → length more ≤ max_chunks → (is_open run ≡ true → IsBlockRun block run) → now ≡ with_run ss run
     → chunks_in next ≤ length more → IsKept settings more now block next closed
 kept_joined settings leaves more ss now run block guard next closed kept longer few is joined ranges =
     let count = more_segments ss run in

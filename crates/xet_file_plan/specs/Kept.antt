@@ -20,7 +20,7 @@ joined_bytes (s ∷ []) run = if goes_on s run then s.unpacked_segment_bytes + r
 joined_bytes (s ∷ t ∷ ss) run = joined_bytes (t ∷ ss) run
 
 -- an open run is one of the open block
-pub record IsRunOf (block : List Chunk) (run : Segment) : Type 0 where
+pub record IsBlockRun (block : List Chunk) (run : Segment) : Type 0 where
   pub within : run.chunk_index_start + run_len run ≤ length block
   pub same : run ≡ block_run block run.chunk_index_start (run_len run)
 

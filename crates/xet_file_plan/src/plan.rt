@@ -4,7 +4,7 @@ ghost use Rattle.std.specs.Prelude.{◌≡◌, ◌≢◌, ◌<◌, ◌≤◌, �
 ghost use Rattle.xet_choices.specs.Choices.{fits, hashes_of, last_place};
 ghost use Rattle.xet_dedup_queries.specs.Interface.{run_len};
 ghost use Rattle.xet_dedup_queries.specs.Registering.{max_chunk_len};
-ghost use Rattle.xet_file_plan.specs.Kept.{IsBlockWithin, IsRunOf, joined_bytes, max_chunks};
+ghost use Rattle.xet_file_plan.specs.Kept.{IsBlockWithin, IsBlockRun, joined_bytes, max_chunks};
 ghost use Rattle.xet_cut.specs.Limits.{AreInRange};
 ghost use Rattle.xet_file_plan.specs.Moves.{PlanState, block_run, closed, continues, empty_plan, is_open, joined, rejected, stored};
 ghost use Rattle.xet_fragmentation.specs.Fragmentation.{chunks_in, is_allowed, with_longer_range, with_range};
@@ -126,7 +126,7 @@ impl FilePlan {
         ensures first { IfSome result (λ r. first_place hashes.now (map chunk_leaf self.now.block) ≡ Some r.1.chunk_index_start) }
         ensures counted { IfSome result (λ r. (0 < r.0) × (r.0 ≤ length hashes.now) × (run_len r.1 ≡ r.0)) }
         ensures open { IfSome result (λ r. is_open r.1 ≡ true) }
-        ensures run { IfSome result (λ r. IsRunOf self.now.block r.1) }
+        ensures run { IfSome result (λ r. IsBlockRun self.now.block r.1) }
         ensures same { IfSome result (λ r. take r.0 (drop r.1.chunk_index_start (hashes_of (map chunk_leaf self.now.block))) ≡ take r.0 hashes.now) }
     {
         let (start, count) = self.block.find_run(hashes)?;
@@ -152,7 +152,7 @@ impl FilePlan {
         requires some { 0 < length leaves.now }
         requires room { length self.old.leaves + length leaves.now ≤ max_chunks }
         requires bytes { joined_bytes self.old.segments run < 2 ^ 32 }
-        requires open { is_open run ≡ true → IsRunOf self.old.block run }
+        requires open { is_open run ≡ true → IsBlockRun self.old.block run }
         ensures joined { IfOk result (λ is. is ≡ true → self.new ≡ joined self.old run leaves.now) }
         ensures allowed { IfOk result (λ is. is ≡ true → continues self.old.segments run ≡ false → is_allowed self.old.guard (length leaves.now) ≡ true) }
         ensures rejected { IfOk result (λ is. is ≡ false → self.new ≡ rejected self.old (length leaves.now)) }

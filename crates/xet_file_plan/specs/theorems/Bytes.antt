@@ -10,7 +10,7 @@ use Rattle.xet_hash.specs.Hash.{sentinel}
 use Rattle.xet_shard_format.specs.declared.record.FileDataSequenceEntry.{FileDataSequenceEntry as Segment}
 use Rattle.xet_xorb_chunk.specs.declared.chunk.Chunk.{Chunk}
 use Rattle.xet_xorb_chunk.specs.Chunks.{total}
-use Rattle.xet_file_plan.specs.Kept.{IsRunOf, joined_bytes}
+use Rattle.xet_file_plan.specs.Kept.{IsBlockRun, joined_bytes}
 use Rattle.xet_file_plan.specs.Moves.{goes_on, is_open}
 use Rattle.xet_file_plan.specs.Placed.{ArePlaced, HasHashes, LiesInBlock, LiesInXorb}
 
@@ -97,7 +97,7 @@ module _ (listing : List ℕ → Option (List ℕ)) (standing : List (List ℕ) 
   joined_bytes_placed (s ∷ t ∷ ss) hashes run placed lies = joined_bytes_placed (t ∷ ss) (drop (run_len s) hashes) run placed.3 lies
 
   -- a run of the open block: no more bytes than the block
-  pub joined_bytes_open : (segments : List Segment) (hashes : List (List ℕ)) (run : Segment) → ArePlaced listing standing block segments hashes → IsRunOf block run
+  pub joined_bytes_open : (segments : List Segment) (hashes : List (List ℕ)) (run : Segment) → ArePlaced listing standing block segments hashes → IsBlockRun block run
       → joined_bytes segments run ≤ total block
   unfolding ArePlaced joined_bytes
   joined_bytes_open [] hashes run placed is =
@@ -118,6 +118,6 @@ module _ (listing : List ℕ → Option (List ℕ)) (standing : List (List ℕ) 
       by false e = omega (arith, bytes, part_le (λ (c : Chunk). length c.bytes) block run.chunk_index_start (run_len run))
   joined_bytes_open (s ∷ t ∷ ss) hashes run placed is = joined_bytes_open (t ∷ ss) (drop (run_len s) hashes) run placed.3 is
 
-  pub joined_bytes_open_small : (segments : List Segment) (hashes : List (List ℕ)) (run : Segment) → ArePlaced listing standing block segments hashes → IsRunOf block run
+  pub joined_bytes_open_small : (segments : List Segment) (hashes : List (List ℕ)) (run : Segment) → ArePlaced listing standing block segments hashes → IsBlockRun block run
       → total block < 2 ^ 32 → joined_bytes segments run < 2 ^ 32
   joined_bytes_open_small segments hashes run placed is small = omega (arith, joined_bytes_open segments hashes run placed is, small)

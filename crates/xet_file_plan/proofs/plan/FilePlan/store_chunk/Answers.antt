@@ -2,7 +2,7 @@ use Rattle.std.proofs.Common.{◌≡◌, ◌∙◌, ◌+◌, ◌≤◌, ◌++◌
 use Rattle.xet_choices.specs.Choices.{fits}
 use Rattle.xet_xorb_chunk.specs.declared.chunk.Chunk.{Chunk}
 use Rattle.xet_xorb_chunk.specs.Chunks.{chunk_leaf}
-use Rattle.xet_file_plan.specs.Kept.{IsRunOf, joined_bytes, max_chunks}
+use Rattle.xet_file_plan.specs.Kept.{IsBlockRun, joined_bytes, max_chunks}
 use Rattle.xet_file_plan.specs.Moves.{PlanState, next_run}
 use Rattle.xet_file_plan.proofs.Keeping.{fitting, kept_block, kept_joined, next_bytes, next_is_run}
 use Rattle.xet_file_plan.proofs.plan.FilePlan.store_chunk.Goals as goal
@@ -53,9 +53,9 @@ invariant_of-self-2 c =
     let one = length-append plan.leaves.items ((c.args.chunk.hash, c.len-length.result) ∷ []) in
     let kept = kept_block plan.limits plan.leaves.items c.push.new.self.items plan.segments.items plan.segments.items plan.block c.push-3.new.self c.args.chunk plan.guard plan.closed c.self.invariant
     (omega (arith, more, one)) (omega (arith, more, one, room)) fit c.requires.small c.in_ok-push-3.ensures.pushed refl in
-    let of_block : IsRunOf c.push-3.new.self c.new-run.result =
-    subst (λ (cs : List Chunk). IsRunOf cs c.new-run.result) (sym c.in_ok-push-3.ensures.pushed) (
-    subst (IsRunOf (plan.block ++ c.args.chunk ∷ [])) (sym run) (next_is_run plan.block c.args.chunk)
+    let of_block : IsBlockRun c.push-3.new.self c.new-run.result =
+    subst (λ (cs : List Chunk). IsBlockRun cs c.new-run.result) (sym c.in_ok-push-3.ensures.pushed) (
+    subst (IsBlockRun (plan.block ++ c.args.chunk ∷ [])) (sym run) (next_is_run plan.block c.args.chunk)
     ) in
     kept_joined plan.limits c.push.new.self.items c.push.new.self.items plan.segments.items c.add_run.new.segments.items c.new-run.result c.push-3.new.self plan.guard c.add_range.new.guard plan.closed kept
     (omega arith) (omega (arith, more, one, room)) (λ opened. of_block) c.in_ok-continued.ensures.added (omega (arith, c.add_range.ensures.bound, c.self.invariant.ranges, more, one))

@@ -3,7 +3,7 @@ use Rattle.std.specs.Prelude.{replicate}
 use Rattle.xet_choices.specs.declared.choice.Choice.TheVariants.{Reused}
 use Rattle.xet_shard_format.specs.declared.record.FileDataSequenceEntry.{FileDataSequenceEntry as Segment}
 use Rattle.xet_xorb_chunk.specs.declared.chunk.Chunk.{Chunk}
-use Rattle.xet_file_plan.specs.Kept.{IsRunOf, max_chunks}
+use Rattle.xet_file_plan.specs.Kept.{IsBlockRun, max_chunks}
 use Rattle.xet_file_plan.specs.Moves.{PlanState, continues, is_open, last_index, with_run}
 use Rattle.xet_file_plan.proofs.Joins.{asked_same, guard_joined, more_choices}
 use Rattle.xet_file_plan.proofs.Keeping.{kept_joined, more_segments}
@@ -21,7 +21,7 @@ invariant_of-self-in_err-resize c =
     let same = asked_same c.args.self.now now c.args.run (length c.args.leaves.now) c.may_join.result
     (λ e. let r = c.may_join.ensures.continued e in (r.0, c.self.view_is ∙ r.1))
     (λ e. let r = c.may_join.ensures.asked e in (r.0, c.self.view_is ∙ r.1)) in
-    let is : is_open c.args.run ≡ true → IsRunOf plan.block c.args.run = λ o. subst (λ (cs : List Chunk). IsRunOf cs c.args.run) (sym same.block) (c.requires.open o) in
+    let is : is_open c.args.run ≡ true → IsBlockRun plan.block c.args.run = λ o. subst (λ (cs : List Chunk). IsBlockRun cs c.args.run) (sym same.block) (c.requires.open o) in
     let room : length plan.leaves.items + length c.args.leaves.now ≤ max_chunks =
     subst (λ (ls : List (List ℕ × ℕ)). length ls + length c.args.leaves.now ≤ max_chunks) (sym same.leaves) c.requires.room in
     let more = ap length c.in_ok-extend_from_slice.ensures.items in
@@ -36,7 +36,7 @@ invariant_of-self-2 c =
     let same = asked_same c.args.self.now now c.args.run (length c.args.leaves.now) c.may_join.result
     (λ e. let r = c.may_join.ensures.continued e in (r.0, c.self.view_is ∙ r.1))
     (λ e. let r = c.may_join.ensures.asked e in (r.0, c.self.view_is ∙ r.1)) in
-    let is : is_open c.args.run ≡ true → IsRunOf plan.block c.args.run = λ o. subst (λ (cs : List Chunk). IsRunOf cs c.args.run) (sym same.block) (c.requires.open o) in
+    let is : is_open c.args.run ≡ true → IsBlockRun plan.block c.args.run = λ o. subst (λ (cs : List Chunk). IsBlockRun cs c.args.run) (sym same.block) (c.requires.open o) in
     let room : length plan.leaves.items + length c.args.leaves.now ≤ max_chunks =
     subst (λ (ls : List (List ℕ × ℕ)). length ls + length c.args.leaves.now ≤ max_chunks) (sym same.leaves) c.requires.room in
     let more = ap length c.in_ok-extend_from_slice.ensures.items in
