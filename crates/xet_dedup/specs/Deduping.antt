@@ -1,5 +1,5 @@
 -- The deduplication of a file: what a batch of chunks adds to its plan, and its metrics.
-use Rattle.std.specs.Prelude.{◌≡◌, ◌<◌, ◌≤◌, ◌+◌, ◌-◌, ◌^◌, ◌++◌, ℕ, List, [], ◌∷◌, length, min, Option, if◌then◌else◌}
+use Rattle.std.specs.Prelude.{◌≡◌, ◌<◌, ◌≤◌, ◌+◌, ◌-◌, ◌^◌, ◌++◌, ℕ, Bool, List, [], ◌∷◌, length, min, Option, if◌then◌else◌}
 use Rattle.std.specs.List.{AllByRecursion}
 use Rattle.xet_aggregate.specs.Metrics.{added}
 use Rattle.xet_aggregate.specs.declared.metrics.DeduplicationMetrics.{DeduplicationMetrics}
@@ -67,11 +67,11 @@ pub record RegistersAlone (old new : List Call) : Type 0 where
 
 -- The calls of a batch: its queries, and then registrations alone. These are the numbers of chunks and of bytes of the runs
 -- that the second pass of the queries found.
-pub record IsQueried (hashes : List (List ℕ)) (old new : List Call) (chunks bytes : ℕ) : Type 0 where
+pub record IsQueried {I : Type 0} (calling : I → List Call) (ending : I → I → Bool → Type 0) (hashes : List (List ℕ)) (old new : I) (chunks bytes : ℕ) : Type 0 where
   pub places : List Place
-  pub queried : List Call
-  pub asked : IsAsked hashes old queried places chunks bytes
-  pub registered : RegistersAlone queried new
+  pub queried : I
+  pub asked : IsAsked calling ending hashes old queried places chunks bytes
+  pub registered : RegistersAlone (calling queried) (calling new)
 
 -- The calls of a batch that was queried in one pass.
 pub record IsQueriedOnce (hashes : List (List ℕ)) (old new : List Call) : Type 0 where

@@ -1,5 +1,5 @@
 -- How a batch is placed: step by step, its chunks join the plan of the file with runs that were found, or are stored.
-use Rattle.std.specs.Prelude.{◌≡◌, ◌≢◌, ◌⊎◌, ◌<◌, ◌≤◌, ◌+◌, ◌^◌, ◌++◌, ◌∷◌, [], ℕ, Bool, true, false, List, length, map, take, drop, Option, Some, None, slice_get}
+use Rattle.std.specs.Prelude.{◌≡◌, ◌≢◌, ◌⊎◌, ◌<◌, ◌≤◌, ◌+◌, ◌^◌, ◌++◌, ◌∷◌, [], ℕ, Bool, true, false, List, length, map, take, drop, Option, Some, None, slice_get, if◌then◌else◌}
 use Rattle.xet_choices.specs.Calls.{Call}
 use Rattle.xet_choices.specs.Calls.Call.{Registered}
 use Rattle.xet_choices.specs.Choices.{fits, hashes_of}
@@ -7,16 +7,18 @@ use Rattle.xet_choices.specs.declared.choice.Choice.{Choice}
 use Rattle.xet_choices.specs.declared.choice.Choice.TheVariants.{Inside, NoPlace, Refused}
 use Rattle.xet_dedup_queries.specs.Batch.{IsAsked}
 use Rattle.xet_dedup_queries.specs.Interface.{run_len}
-use Rattle.xet_dedup_queries.specs.Places.{ArePlaces}
+use Rattle.xet_dedup_queries.specs.Places.{AreAnswered, ArePlaces}
 use Rattle.xet_dedup_queries.specs.Registering.{EachPartStands}
+use Rattle.xet_dedup_queries.specs.declared.interface.FileXorbDependency.{FileXorbDependency}
 use Rattle.xet_dedup_queries.specs.declared.places.Place.{Place}
-use Rattle.xet_dedup_queries.specs.declared.places.Place.TheVariants.{Covered, Kept, Missed}
-use Rattle.xet_file_plan.specs.Kept.{IsRunOf}
+use Rattle.xet_dedup_queries.specs.declared.places.Place.TheVariants.{Covered, Kept, Missed, Unasked}
+use Rattle.xet_file_plan.specs.Kept.{IsBlockRun}
 use Rattle.xet_file_plan.specs.Moves.{PlanState, closed, continues, is_open, joined, rejected, stored}
 use Rattle.xet_fragmentation.specs.Fragmentation.{is_allowed}
 use Rattle.xet_hash.specs.Hash.{sentinel}
 use Rattle.xet_hash.specs.Merkle.{total_len}
 use Rattle.xet_open_block.specs.OpenBlock.{first_place, open_run}
+use Rattle.xet_shard_format.specs.Records.{chunk_bytes}
 use Rattle.xet_shard_format.specs.declared.record.FileDataSequenceEntry.{FileDataSequenceEntry as Segment}
 use Rattle.xet_xorb.specs.Raw.{raw_leaves, raw_of}
 use Rattle.xet_xorb.specs.declared.raw.RawXorbData.{RawXorbData}
@@ -31,7 +33,7 @@ pub record IsOpenRun (p : PlanState) (hashes : List (List ℕ)) (count : ℕ) (r
   pub few : count ≤ length hashes
   pub counted : run_len run ≡ count
   pub opened : is_open run ≡ true
-  pub of_block : IsRunOf p.block run
+  pub of_block : IsBlockRun p.block run
   pub same : take count (drop run.chunk_index_start (hashes_of (map chunk_leaf p.block))) ≡ take count hashes
 
 -- the run at a place: the one that is kept there, else that of the open block
@@ -85,32 +87,56 @@ Stores listing standing calling old new p q chunk choice =
     ⊎ ((fits p.settings (map chunk_leaf p.block) (length chunk.bytes) ≡ false)
     × ((x : RawXorbData) × Registers listing standing calling old new p.block (chunk_leaf chunk ∷ []) x × (q ≡ stored (closed p x.xorb_info.metadata.xorb_hash) chunk choice)))
 
--- The chunks of a batch before an index are placed. Each step goes on from the interface and the plan of the step before: the
--- run at a place joins the plan, or it is rejected or there is none, and the chunk there is stored.
-pub data PlacesTo {I : Type 0} (listing : I → List ℕ → Option (List ℕ)) (standing : I → List (List ℕ) → Segment → Type 0) (calling : I → List Call) (chunks : List Chunk) (places : List Place) (base : ℕ) (old : I) (p : PlanState) : I → PlanState → ℕ → Type 0 where
-  begins : PlacesTo listing standing calling chunks places base old p old p 0
-  joins : (now : I) (q r : PlanState) (at count : ℕ) → PlacesTo listing standing calling chunks places base old p now q at
+-- What is noted of the run at a place that joins the plan: the run that is kept there, with its bytes, and whether the query
+-- answered that it is external. Nothing is noted of a run of the open block.
+abbrev pub run_dependencies : ℕ → Option Place → List FileXorbDependency
+run_dependencies file_id (Some (Kept run is_external)) =
+    record { file_id = file_id; xorb_hash = run.xorb_hash; n_bytes = run.unpacked_segment_bytes; is_external = is_external } ∷ []
+run_dependencies file_id (Some (Missed entry)) = []
+run_dependencies file_id (Some (Covered start)) = []
+run_dependencies file_id (Some Unasked) = []
+run_dependencies file_id None = []
+
+-- what is noted of a new xorb: all its bytes, and that it is not external
+abbrev pub xorb_dependency : ℕ → RawXorbData → FileXorbDependency
+xorb_dependency file_id x = record { file_id = file_id; xorb_hash = x.xorb_info.metadata.xorb_hash; n_bytes = chunk_bytes x.xorb_info.chunks; is_external = false }
+
+-- What is noted when a chunk is stored: the xorb of the open block, if the chunk does not fit into it.
+abbrev pub block_dependencies : ℕ → PlanState → Chunk → List FileXorbDependency
+block_dependencies file_id p chunk =
+    if fits p.settings (map chunk_leaf p.block) (length chunk.bytes) then [] else xorb_dependency file_id (raw_of p.block (0 ∷ [])) ∷ []
+
+-- The chunks of a batch before an index are placed, and these dependencies of the file are to be noted. Each step goes on from
+-- the interface and the plan of the step before: the run at a place joins the plan, or it is rejected or there is none, and
+-- the chunk there is stored.
+pub data PlacesTo {I : Type 0} (listing : I → List ℕ → Option (List ℕ)) (standing : I → List (List ℕ) → Segment → Type 0) (calling : I → List Call) (chunks : List Chunk) (places : List Place) (base file_id : ℕ) (old : I) (p : PlanState) : I → PlanState → ℕ → List FileXorbDependency → Type 0 where
+  begins : PlacesTo listing standing calling chunks places base file_id old p old p 0 []
+  joins : (now : I) (q r : PlanState) (at count : ℕ) (noted : List FileXorbDependency) → PlacesTo listing standing calling chunks places base file_id old p now q at noted
       → Joins q r (map chunk_leaf chunks) (hashes_of (map chunk_leaf chunks)) places at count
-      → PlacesTo listing standing calling chunks places base old p now r (at + count)
-  stores : (now new : I) (q m r : PlanState) (at : ℕ) (chunk : Chunk) (choice : Choice) → PlacesTo listing standing calling chunks places base old p now q at
+      → PlacesTo listing standing calling chunks places base file_id old p now r (at + count) (noted ++ run_dependencies file_id (slice_get places at))
+  stores : (now new : I) (q m r : PlanState) (at : ℕ) (chunk : Chunk) (choice : Choice) (noted : List FileXorbDependency) → PlacesTo listing standing calling chunks places base file_id old p now q at noted
       → slice_get chunks at ≡ Some chunk
       → Rejects q m (hashes_of (map chunk_leaf chunks)) places at choice ⊎ HasNone q m (hashes_of (map chunk_leaf chunks)) places base at choice
       → Stores listing standing calling now new m r chunk choice
-      → PlacesTo listing standing calling chunks places base old p new r (at + 1)
+      → PlacesTo listing standing calling chunks places base file_id old p new r (at + 1) (noted ++ block_dependencies file_id m chunk)
 
--- All chunks of a batch are placed, and then no further call is among those that are listed.
-pub record ArePlaced {I : Type 0} (listing : I → List ℕ → Option (List ℕ)) (standing : I → List (List ℕ) → Segment → Type 0) (calling : I → List Call) (chunks : List Chunk) (places : List Place) (base : ℕ) (old : I) (p : PlanState) (new : I) (q : PlanState) : Type 0 where
+-- All chunks of a batch are placed. Then the dependencies of the file are noted in one call, if there are any, and no further
+-- call is among those that are listed.
+pub record ArePlaced {I : Type 0} (listing : I → List ℕ → Option (List ℕ)) (standing : I → List (List ℕ) → Segment → Type 0) (calling : I → List Call) (noting : I → I → List FileXorbDependency → Type 0) (chunks : List Chunk) (places : List Place) (base file_id : ℕ) (old : I) (p : PlanState) (new : I) (q : PlanState) : Type 0 where
   pub last : I
-  pub placed : PlacesTo listing standing calling chunks places base old p last q (length chunks)
+  pub noted : List FileXorbDependency
+  pub placed : PlacesTo listing standing calling chunks places base file_id old p last q (length chunks) noted
   pub calls : calling new ≡ calling last
+  pub dependencies : ((noted ≡ []) × (new ≡ last)) ⊎ ((noted ≢ []) × noting last new noted)
 
--- A batch is placed: queries find these places of its chunks, and by them the chunks are placed. These are the numbers of
--- chunks and of bytes of the runs that the second pass of the queries found.
-pub record IsPlaced {I : Type 0} (listing : I → List ℕ → Option (List ℕ)) (standing : I → List (List ℕ) → Segment → Type 0) (calling : I → List Call) (chunks : List Chunk) (old : I) (p : PlanState) (new : I) (q : PlanState) (global_chunks global_bytes : ℕ) : Type 0 where
+-- A batch of the file with this number is placed: queries find these places of its chunks, and by them the chunks are placed.
+-- These are the numbers of chunks and of bytes of the runs that the second pass of the queries found.
+pub record IsPlaced {I : Type 0} (listing : I → List ℕ → Option (List ℕ)) (standing : I → List (List ℕ) → Segment → Type 0) (calling : I → List Call) (answering : I → I → List (List ℕ) → Segment → Bool → Type 0) (ending : I → I → Bool → Type 0) (noting : I → I → List FileXorbDependency → Type 0) (file_id : ℕ) (chunks : List Chunk) (old : I) (p : PlanState) (new : I) (q : PlanState) (global_chunks global_bytes : ℕ) : Type 0 where
   pub queried : I
   pub added : List Call
   pub calls : calling queried ≡ calling old ++ added
   pub places : List Place
-  pub asked : IsAsked (hashes_of (map chunk_leaf chunks)) (calling old) (calling queried) places global_chunks global_bytes
+  pub asked : IsAsked calling ending (hashes_of (map chunk_leaf chunks)) old queried places global_chunks global_bytes
   pub found : ArePlaces (listing queried) (standing queried) (calling old) added (hashes_of (map chunk_leaf chunks)) places
-  pub placed : ArePlaced listing standing calling chunks places (length p.leaves) queried p new q
+  pub answered : AreAnswered answering (hashes_of (map chunk_leaf chunks)) places
+  pub placed : ArePlaced listing standing calling noting chunks places (length p.leaves) file_id queried p new q

@@ -88,12 +88,12 @@ impl<I: DeduplicationDataInterface> FileDeduper<I> {
         ensures whole { self.new.whole ≡ is_ok result }
         ensures plan { OnOk result (IsDeduped (I.lists self.new.interface) (I.stands self.new.interface) (I.calls self.new.start.value) (I.calls self.new.interface) (I.cut_limits self.new.interface) self.new.plan) }
         ensures leaves { OnOk result (self.new.plan.leaves ≡ self.old.plan.leaves ++ map chunk_leaf chunks.now) }
-        ensures placed { IfOk result (λ m. IsPlaced I.lists I.stands I.calls chunks.now self.old.interface self.old.plan self.new.interface self.new.plan m.deduped_chunks_by_global_dedup m.deduped_bytes_by_global_dedup) }
+        ensures placed { IfOk result (λ m. IsPlaced I.lists I.stands I.calls I.answered I.ended I.noted self.old.file_id chunks.now self.old.interface self.old.plan self.new.interface self.new.plan m.deduped_chunks_by_global_dedup m.deduped_bytes_by_global_dedup) }
         ensures choices { OnOk result (self.new.plan.choices ≡ self.old.plan.choices ++ drop (length self.old.plan.choices) self.new.plan.choices) }
         ensures runs { OnOk result (RunsEnd (map chunk_leaf chunks.now) (drop (length self.old.plan.choices) self.new.plan.choices)) }
         ensures metrics { IfOk result (λ m. m ≡ metrics_of (map chunk_leaf chunks.now) (drop (length self.old.plan.choices) self.new.plan.choices) m.deduped_chunks_by_global_dedup m.deduped_bytes_by_global_dedup) }
         ensures global { IfOk result (λ m. self.new.global ≡ (min (self.old.global.0 + m.deduped_chunks_by_global_dedup) (2 ^ 64 - 1), min (self.old.global.1 + m.deduped_bytes_by_global_dedup) (2 ^ 64 - 1))) }
-        ensures asked { IfOk result (λ m. IsQueried (hashes_of (map chunk_leaf chunks.now)) (I.calls self.old.interface) (I.calls self.new.interface) m.deduped_chunks_by_global_dedup m.deduped_bytes_by_global_dedup) }
+        ensures asked { IfOk result (λ m. IsQueried I.calls I.ended (hashes_of (map chunk_leaf chunks.now)) self.old.interface self.new.interface m.deduped_chunks_by_global_dedup m.deduped_bytes_by_global_dedup) }
         ensures once { I.is_global ≡ false → IfOk result (λ m. IsQueriedOnce (hashes_of (map chunk_leaf chunks.now)) (I.calls self.old.interface) (I.calls self.new.interface) × (m.deduped_chunks_by_global_dedup ≡ 0) × (m.deduped_bytes_by_global_dedup ≡ 0)) }
         ensures same { (self.new.start.value ≡ self.old.start.value) × (self.new.file_id ≡ self.old.file_id) }
         ensures settings { OnOk result (self.new.plan.settings ≡ self.old.plan.settings) }

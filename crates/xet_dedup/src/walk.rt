@@ -4,7 +4,7 @@ ghost use Rattle.std.specs.Prelude.{◌≡◌, ◌≢◌, ◌⊎◌, ◌<◌, �
 ghost use Rattle.std.specs.List.{AllByRecursion};
 ghost use Rattle.xet_choices.specs.Choices.{fits};
 ghost use Rattle.xet_dedup.specs.Deduping.{IsChunk, RegistersAlone};
-ghost use Rattle.xet_dedup.specs.Placing.{HasNone, IsReason, IsRunAt, Joins, PlacesTo, Registers, Rejects, Stores};
+ghost use Rattle.xet_dedup.specs.Placing.{HasNone, IsReason, IsRunAt, Joins, PlacesTo, Registers, Rejects, Stores, block_dependencies, run_dependencies, xorb_dependency};
 ghost use Rattle.xet_dedup.specs.internal.Batches.{AddsChoices, Places, Walks};
 ghost use Rattle.xet_dedup.specs.internal.Joining.{CanJoin, IsBatch};
 ghost use Rattle.xet_open_block.specs.OpenBlock.{first_place};
@@ -57,9 +57,10 @@ pub(crate) fn walk<I: DeduplicationDataInterface>(
     requires walking { Walks I.lists I.stands I.calls start.now.value interface.old batch.now 0 plan.old }
     requires limits { I.cut_limits interface.old ≡ (plan.old.settings.cut_bytes, plan.old.settings.cut_chunks) }
     requires room { batch.now.base + length batch.now.chunks.now ≤ max_chunks }
+    requires fresh { dependencies.old.items ≡ [] }
     ensures walked { OnOk result (Walks I.lists I.stands I.calls start.now.value interface.new batch.now (length batch.now.chunks.now) plan.new) }
     ensures leaves { OnOk result (plan.new.leaves ≡ plan.old.leaves ++ batch.now.leaves.now) }
-    ensures placed { OnOk result (PlacesTo I.lists I.stands I.calls batch.now.chunks.now batch.now.places.now batch.now.base interface.old plan.old interface.new plan.new (length batch.now.chunks.now)) }
+    ensures placed { OnOk result (PlacesTo I.lists I.stands I.calls batch.now.chunks.now batch.now.places.now batch.now.base batch.now.file_id interface.old plan.old interface.new plan.new (length batch.now.chunks.now) dependencies.new.items) }
     ensures added { OnOk result (AddsChoices batch.now.leaves.now plan.old.choices plan.new.choices (length batch.now.chunks.now)) }
     ensures settings { OnOk result (plan.new.settings ≡ plan.old.settings) }
     ensures calls { RegistersAlone (I.calls interface.old) (I.calls interface.new) }
@@ -93,7 +94,7 @@ fn step<I: DeduplicationDataInterface>(
     ensures some { IfOk result (λ count. (0 < count) × (at + count ≤ length batch.now.chunks.now)) }
     ensures walked { IfOk result (λ count. Walks I.lists I.stands I.calls start.now.value interface.new batch.now (at + count) plan.new) }
     ensures leaves { IfOk result (λ count. plan.new.leaves ++ drop (at + count) batch.now.leaves.now ≡ plan.old.leaves ++ drop at batch.now.leaves.now) }
-    ensures placed { IfOk result (λ count. Places I.lists I.stands I.calls batch.now interface.old plan.old at interface.new plan.new (at + count)) }
+    ensures placed { IfOk result (λ count. Places I.lists I.stands I.calls batch.now interface.old plan.old at dependencies.old.items interface.new plan.new (at + count) dependencies.new.items) }
     ensures added { IfOk result (λ count. AddsChoices (drop at batch.now.leaves.now) plan.old.choices plan.new.choices count) }
     ensures settings { OnOk result (plan.new.settings ≡ plan.old.settings) }
     ensures calls { RegistersAlone (I.calls interface.old) (I.calls interface.new) }
@@ -143,6 +144,8 @@ fn run_at(plan: &FilePlan, batch: &Batch, at: usize) -> Option<RunAt>
     ensures within { IfSome result (λ r. (0 < r.count) × (at + r.count ≤ length batch.now.chunks.now)) }
     ensures found { IfSome result (λ r. IsRunAt plan.now batch.now.hashes.now batch.now.places.now at r.count r.run) }
     ensures none { result ≡ None → first_place (drop at batch.now.hashes.now) (map chunk_leaf plan.now.block) ≡ None }
+    ensures kept { IfSome result (λ r. (is_external : Bool) → r.is_external ≡ Some is_external → slice_get batch.now.places.now at ≡ Some (Place.Kept r.run is_external)) }
+    ensures of_block { IfSome result (λ r. r.is_external ≡ None → (run : Segment) (is_external : Bool) → slice_get batch.now.places.now at ≢ Some (Place.Kept run is_external)) }
     ensures not_kept { result ≡ None → (run : Segment) (is_external : Bool) → slice_get batch.now.places.now at ≢ Some (Place.Kept run is_external) }
 {
     if let Place::Kept { run, is_external } = &batch.places[at] {
@@ -176,6 +179,8 @@ fn join(
     ensures some { IfOk result (λ j. (count : ℕ) → j ≡ Joining.Joined count → (0 < count) × (at + count ≤ length batch.now.chunks.now)) }
     ensures joined { IfOk result (λ j. (count : ℕ) → j ≡ Joining.Joined count → Joins plan.old plan.new batch.now.leaves.now batch.now.hashes.now batch.now.places.now at count) }
     ensures stored { IfOk result (λ j. (choice : Choice) → j ≡ Joining.New choice → Rejects plan.old plan.new batch.now.hashes.now batch.now.places.now at choice ⊎ HasNone plan.old plan.new batch.now.hashes.now batch.now.places.now batch.now.base at choice) }
+    ensures noted { IfOk result (λ j. (count : ℕ) → j ≡ Joining.Joined count → dependencies.new.items ≡ dependencies.old.items ++ run_dependencies batch.now.file_id (slice_get batch.now.places.now at)) }
+    ensures not_noted { IfOk result (λ j. (choice : Choice) → j ≡ Joining.New choice → dependencies.new.items ≡ dependencies.old.items) }
     ensures memory { IsOkUnless result StoreError.OutOfMemory }
 {
     let Some(found) = run_at(plan, batch, at) else {
@@ -235,6 +240,7 @@ pub(crate) fn store<I: DeduplicationDataInterface>(
     requires room { length plan.old.leaves + 1 ≤ max_chunks }
     requires limits { I.cut_limits interface.old ≡ (plan.old.settings.cut_bytes, plan.old.settings.cut_chunks) }
     ensures stored { OnOk result (Stores I.lists I.stands I.calls interface.old interface.new plan.old plan.new chunk.now choice) }
+    ensures noted { OnOk result (dependencies.new.items ≡ dependencies.old.items ++ block_dependencies file_id plan.old chunk.now) }
     ensures calls { RegistersAlone (I.calls interface.old) (I.calls interface.new) }
     ensures extends { Extends I.lists I.stands I.refused I.cut_limits interface.old interface.new }
     ensures refused { IfErr result (λ e. (d : I.ErrorType) → e ≡ DedupError.Interface d → I.refused interface.old interface.new d) }
@@ -267,6 +273,7 @@ fn cut<I: DeduplicationDataInterface>(
     requires due { IsDue (I.cut_limits interface.old) (map chunk_leaf plan.old.block) next.now }
     ensures registered { OnOk result ((x : RawXorbData) × Registers I.lists I.stands I.calls interface.old interface.new plan.old.block next.now x × (plan.new ≡ closed plan.old x.xorb_info.metadata.xorb_hash)) }
     ensures extends { Extends I.lists I.stands I.refused I.cut_limits interface.old interface.new }
+    ensures noted { OnOk result (dependencies.new.items ≡ dependencies.old.items ++ xorb_dependency file_id (raw_of plan.old.block (0 ∷ [])) ∷ []) }
     ensures same { OnErr result (I.calls interface.new ≡ I.calls interface.old) }
     ensures refused { IfErr result (λ e. (d : I.ErrorType) → e ≡ DedupError.Interface d → I.refused interface.old interface.new d) }
     ensures passed { OnOk result (I.failed interface.new ≡ I.failed interface.old) }
@@ -296,6 +303,7 @@ fn xorb_of(
 ) -> Result<RawXorbData, StoreError>
     ensures exact { IfOk result (λ raw. raw ≡ raw_of plan.now.block (0 ∷ [])) }
     ensures leaves { IfOk result (λ raw. raw_leaves raw ≡ map chunk_leaf plan.now.block) }
+    ensures noted { IfOk result (λ raw. dependencies.new.items ≡ dependencies.old.items ++ xorb_dependency file_id raw ∷ []) }
     ensures memory { IsOkUnless result StoreError.OutOfMemory }
 {
     dependencies.reserve(1)?;

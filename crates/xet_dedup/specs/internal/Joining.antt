@@ -8,7 +8,7 @@ use Rattle.xet_dedup_queries.specs.Interface.{run_len}
 use Rattle.xet_dedup_queries.specs.declared.places.Place.{Place}
 use Rattle.xet_dedup_queries.specs.declared.places.Place.TheVariants.{Covered, Kept, Unasked}
 use Rattle.xet_cut.specs.declared.limits.LimitSettings.{LimitSettings}
-use Rattle.xet_file_plan.specs.Kept.{IsRunOf, joined_bytes}
+use Rattle.xet_file_plan.specs.Kept.{IsBlockRun, joined_bytes}
 use Rattle.xet_file_plan.specs.Moves.{PlanState, is_open}
 use Rattle.xet_shard_format.specs.declared.record.FileDataSequenceEntry.{FileDataSequenceEntry as Segment}
 use Rattle.xet_xorb_chunk.specs.Chunks.{chunk_leaf}
@@ -24,6 +24,6 @@ pub record IsBatch (settings : LimitSettings) (b : Batch) : Type 0 where
 pub record CanJoin (p : PlanState) (hashes : List (List ℕ)) (places : List Place) (at : ℕ) : Type 0 where
   pub kept : (run : Segment) (is_external : Bool) → slice_get places at ≡ Some (Kept run is_external)
       → (0 < run_len run) × (at + run_len run ≤ length hashes) × (joined_bytes p.segments run < 2 ^ 32) × (is_open run ≡ false)
-  pub of_block : (run : Segment) → is_open run ≡ true → IsRunOf p.block run → joined_bytes p.segments run < 2 ^ 32
+  pub of_block : (run : Segment) → is_open run ≡ true → IsBlockRun p.block run → joined_bytes p.segments run < 2 ^ 32
   pub covered : (start : ℕ) → slice_get places at ≡ Some (Covered start) → start < at
   pub asked : slice_get places at ≢ Some Unasked

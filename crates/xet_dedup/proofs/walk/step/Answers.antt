@@ -50,7 +50,7 @@ returns-in-Ok-Joined-clause-walked g c =
 pub returns-in-Ok-Joined-clause-placed : goal.returns-in-Ok-Joined-clause-placed
 returns-in-Ok-Joined-clause-placed g c =
     places_joined g.I.DeduplicationDataInterface.lists g.I.DeduplicationDataInterface.stands g.I.DeduplicationDataInterface.calls c.args.plan.now.settings c.args.batch.now c.requires.batch c.args.interface.now c.args.plan.now c.args.at
-    c.join.new.plan c.in-Ok-Joined.count (c.in-Ok-Joined.ensures.joined c.in-Ok-Joined.count c.in-Ok-Joined.field-0-is)
+    c.join.new.plan c.in-Ok-Joined.count c.args.dependencies.now.items c.join.new.dependencies.items (c.in-Ok-Joined.ensures.joined c.in-Ok-Joined.count c.in-Ok-Joined.field-0-is) (c.in-Ok-Joined.ensures.noted c.in-Ok-Joined.count c.in-Ok-Joined.field-0-is)
 
 pub returns-in-Ok-Joined-clause-leaves : goal.returns-in-Ok-Joined-clause-leaves
 returns-in-Ok-Joined-clause-leaves g c =
@@ -77,8 +77,9 @@ returns-in_ok-store-in-Ok-New-clause-walked g c =
 pub returns-in_ok-store-in-Ok-New-clause-placed : goal.returns-in_ok-store-in-Ok-New-clause-placed
 returns-in_ok-store-in-Ok-New-clause-placed g c =
     places_stored g.I.DeduplicationDataInterface.lists g.I.DeduplicationDataInterface.stands g.I.DeduplicationDataInterface.calls c.args.plan.now.settings c.args.batch.now c.requires.batch c.args.interface.now c.args.plan.now c.args.at
-    c.store.new.interface c.join.new.plan c.store.new.plan (get_or c.args.batch.now.chunks.now c.args.at c.index-batch-at.result) c.in-Ok-New.choice (slice_get-get_or c.args.batch.now.chunks.now c.args.at c.index-batch-at.result c.requires.at)
+    c.store.new.interface c.join.new.plan c.store.new.plan (get_or c.args.batch.now.chunks.now c.args.at c.index-batch-at.result) c.in-Ok-New.choice c.args.dependencies.now.items c.join.new.dependencies.items c.store.new.dependencies.items (slice_get-get_or c.args.batch.now.chunks.now c.args.at c.index-batch-at.result c.requires.at)
     (c.in-Ok-New.ensures.stored c.in-Ok-New.choice c.in-Ok-New.field-0-is) c.in_ok-store-in-Ok-New.ensures.stored
+    (c.in-Ok-New.ensures.not_noted c.in-Ok-New.choice c.in-Ok-New.field-0-is) c.in_ok-store-in-Ok-New.ensures.noted
 
 pub returns-in_ok-store-in-Ok-New-clause-leaves : goal.returns-in_ok-store-in-Ok-New-clause-leaves
 returns-in_ok-store-in-Ok-New-clause-leaves g c =

@@ -1,7 +1,8 @@
-use Rattle.std.proofs.Common.{◌∙◌, refl, arith}
+use Rattle.std.proofs.Common.{◌∙◌, refl, sym, subst, arith}
 use Rattle.xet_dedup_queries.specs.theorems.Growing.{extends_more, extends_same}
 use Rattle.xet_dedup.proofs.Ends.{adds_more, adds_none}
 use Rattle.xet_dedup.proofs.Registering.{registers_more, registers_none}
+use Rattle.xet_dedup.specs.Placing.{PlacesTo}
 use Rattle.xet_dedup.specs.Placing.PlacesTo.{begins}
 use Rattle.xet_dedup.proofs.walk.walk.Goals as goal
 
@@ -9,7 +10,12 @@ pub places-init : goal.places-init
 places-init g c = record {
   within = omega arith;
   walking = c.requires.walking;
-  placed = begins;
+  placed =
+      (let I = g.I.DeduplicationDataInterface in
+      let b = c.args.batch.now in
+      let s = c.args.interface.now in
+      let p = c.args.plan.now in
+      subst (PlacesTo I.lists I.stands I.calls b.chunks.now b.places.now b.base b.file_id s p s p 0) (sym c.requires.fresh) begins);
   leaves = refl;
   added = adds_none _ _;
   settings = refl;
