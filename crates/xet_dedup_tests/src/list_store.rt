@@ -243,6 +243,12 @@ impl DeduplicationDataInterface for ListStore {
 
     ghost refused = { λ _ _ _. Unit {0} };
 
+    ghost answered = { λ _ _ _ _ _. Unit {0} };
+
+    ghost ended = { λ _ _ _. Unit {0} };
+
+    ghost noted = { λ _ _ _. Unit {0} };
+
     ghost failed = { λ s. s.has_failed };
 
     ghost cut_limits = { λ s. s.cut_limits };
