@@ -1,5 +1,5 @@
 -- What queries answered of the runs that are kept, as a pass goes on.
-use Rattle.std.proofs.Common.{◌≡◌, ℕ, ◌+◌, ◌<◌, inl, inr, Bool, List, Some, length, drop, replicate, set, refl, sym, ap, ◌∙◌, subst, arith}
+use Rattle.std.proofs.Common.{◌≡◌, ℕ, ◌+◌, ◌<◌, inl, inr, Bool, List, Some, length, drop, replicate, set, sym, ap, ◌∙◌, subst, arith}
 use Rattle.std.specs.List.{slice_get}
 use Rattle.std.proofs.lemmas.Bool.{cases_eq, cases_lt}
 use Rattle.std.proofs.lemmas.List.{length-set}
@@ -42,8 +42,7 @@ module _ {I : Type 0} (answering : I → I → List (List ℕ) → Segment → B
               let here = covers.before at (omega arith) ∙ get-set_here places at (Kept run is_external) within in
               let same : Kept r x ≡ Kept run is_external = same_at (slice_get new at) (Kept r x) (Kept run is_external) (rw e at is) here in
               let is_run : run ≡ r = cc same in
-              let is_flag : is_external ≡ x = cc same in
-              (
+              let is_flag : is_external ≡ x = cc same in (
                 old,
                 next,
                 subst (λ (n : ℕ). answering old next (drop n hashes) r x) (sym e) (subst (λ (s : Segment). answering old next (drop at hashes) s x) is_run (subst (λ (b : Bool). answering old next (drop at hashes) run b) is_flag answer)),

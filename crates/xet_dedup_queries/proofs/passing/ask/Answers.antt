@@ -21,7 +21,7 @@ returns-in-Some-clause-passing g c = λ began was.
     let asked = rw (c.in-Some.is, rest) at c.in_ok-count.ensures.asked in
     let found = rw (c.in-Some.is, rest) at c.in_ok-count.ensures.found in
     rw c.keep.ensures.progress
-    (found_step (I.lists old) (I.lists new) (I.stands old) (I.stands new) extends.lists extends.stands hashes began (I.calls old) (I.calls new) c.args.places.now c.keep.new.places at c.args.progress.chunks c.args.progress.bytes asked.0 c.in-Some.count c.in-Some.run' c.in-Some.is_external
+    (found_step (I.lists old) (I.lists new) (I.stands old) (I.stands new) extends.lists extends.stands hashes began (I.calls old) (I.calls new) c.args.places.now c.keep.new.places at c.args.progress.chunks c.args.progress.bytes asked.0 c.in-Some.count c.in-Some.run' _
     was c.requires.more c.requires.free asked.2 found c.keep.ensures.covers)
 
 pub returns-in-Some-clause-answered : goal.returns-in-Some-clause-answered
