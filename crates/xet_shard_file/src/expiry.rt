@@ -1,6 +1,6 @@
 //! The expiry of a shard file, read from its header and footer alone.
 
-ghost use Rattle.std.specs.Prelude.{◌≡◌, ◌<◌, ◌≤◌, ◌+◌, ◌^◌, ℕ, IfErr, IfOk, IsTrue, List, Some, Err, length, true};
+ghost use Rattle.std.specs.Prelude.{◌≡◌, ◌<◌, ◌≤◌, ◌+◌, ◌^◌, ℕ, IfErr, IfOk, List, Some, Err, length, true};
 ghost use Rattle.xet_codec.specs.Stops.{HasDiskReason};
 ghost use Rattle.xet_io.specs.Disk.{FillsFrom, bytes_at};
 ghost use Rattle.xet_io.specs.Frame.{Unchanged};
@@ -24,7 +24,7 @@ const ENDS_LEN: u64 = 248;
 /// a footer. If these are malformed, the error is that of the first check that fails; a failed disk is
 /// `Io(Disk)`.
 pub fn is_past_expiry<D: Disk>(disk: &mut D, name: &str, now: u64) -> Result<bool, StoreError>
-    ensures told { D.tells disk.old ≡ true → IfOk result (λ past. IsTrue past → (bytes : List ℕ) → bytes_at (D.files disk.old) name.now ≡ Some bytes → is_expired now bytes ≡ true) }
+    ensures told { D.tells disk.old ≡ true → IfOk result (λ past. (bytes : List ℕ) → bytes_at (D.files disk.old) name.now ≡ Some bytes → past ≡ is_expired now bytes) }
     ensures refused { IfErr result (IsShardCheckError (D.tells disk.old ≡ true) (EndsFail (bytes_at (D.files disk.old) name.now)) (D.faults disk.old) (D.faults disk.new)) }
     ensures error { (shard : List ℕ) → IfErr result (IsShardFileError shard) }
     ensures frame { Unchanged D.files D.tells D.faults disk.old disk.new }
@@ -44,7 +44,7 @@ pub fn is_past_expiry<D: Disk>(disk: &mut D, name: &str, now: u64) -> Result<boo
 /// `is_past_expiry` for a file of `len` bytes.
 fn is_past_in<D: Disk>(disk: &mut D, name: &str, len: u64, now: u64) -> Result<bool, StoreError>
     requires { 248 ≤ len }
-    ensures told { D.tells disk.old ≡ true → IfOk result (λ past. IsTrue past → (bytes : List ℕ) → bytes_at (D.files disk.old) name.now ≡ Some bytes → len ≡ length bytes → is_expired now bytes ≡ true) }
+    ensures told { D.tells disk.old ≡ true → IfOk result (λ past. (bytes : List ℕ) → bytes_at (D.files disk.old) name.now ≡ Some bytes → len ≡ length bytes → past ≡ is_expired now bytes) }
     ensures refused { IfErr result (IsShardCheckError (D.tells disk.old ≡ true) (λ e. (bytes : List ℕ) → bytes_at (D.files disk.old) name.now ≡ Some bytes → len ≡ length bytes → ends_of bytes ≡ Err e) (D.faults disk.old) (D.faults disk.new)) }
     ensures error { (shard : List ℕ) → IfErr result (IsShardFileError shard) }
     ensures frame { Unchanged D.files D.tells D.faults disk.old disk.new }
