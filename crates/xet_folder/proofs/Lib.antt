@@ -17,3 +17,4 @@ mod MoreShards
 mod Stopping
 mod Spans
 mod Distinct
+mod Removing

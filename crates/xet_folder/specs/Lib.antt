@@ -9,6 +9,7 @@ pub mod Xorbs
 pub mod Checks
 pub mod Contents
 pub mod Gathering
+pub mod Pruning
 pub mod Runs
 pub mod theorems
 pub mod internal
