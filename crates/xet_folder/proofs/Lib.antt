@@ -14,6 +14,7 @@ mod Refused
 mod Registering
 mod Firsts
 mod MoreShards
+mod Keeping
 mod Stopping
 mod Spans
 mod Distinct

@@ -8,6 +8,7 @@ pub mod Listed
 pub mod Xorbs
 pub mod Checks
 pub mod Contents
+pub mod Registered
 pub mod Gathering
 pub mod Pruning
 pub mod Runs
