@@ -1,0 +1,6 @@
+pub mod Core
+pub mod Found
+pub mod History
+pub mod Sound
+pub mod Interleaving
+pub mod theorems
