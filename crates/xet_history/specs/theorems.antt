@@ -1,3 +1,5 @@
 pub mod Joining
 pub mod Staying
 pub mod Finding
+pub mod Soundness
+pub mod Interleaving
