@@ -3,4 +3,5 @@ pub mod Found
 pub mod History
 pub mod Sound
 pub mod Interleaving
+pub mod Coding
 pub mod theorems

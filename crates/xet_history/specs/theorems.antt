@@ -3,3 +3,4 @@ pub mod Staying
 pub mod Finding
 pub mod Soundness
 pub mod Interleaving
+pub mod Examples
