@@ -1,5 +1,5 @@
 -- The core of a store, as lists, and what each step makes of it.
-use Rattle.std.specs.Prelude.{ℕ, ◌+◌, ◌==◌, nat_lt, Bool, not, ◌&&◌, List, [], ◌∷◌, ◌++◌, length, None, is_some, if◌then◌else◌}
+use Rattle.std.specs.Prelude.{ℕ, ◌+◌, nat_lt, Bool, not, ◌&&◌, List, [], ◌∷◌, ◌++◌, length, None, is_some, if◌then◌else◌}
 use Rattle.xet_hash.specs.Merkle.{chunk_hash, xorb_hash}
 use Rattle.xet_shard.specs.Held.{Held, held, held_shard, held_size, nothing, with_last}
 use Rattle.xet_shard_format.specs.Encoding.{Shard, full_shard_bytes}

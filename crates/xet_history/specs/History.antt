@@ -12,7 +12,6 @@ use Rattle.xet_history.specs.Found.{found_run}
 use Rattle.xet_history.specs.declared.entry.Entry.{Entry}
 use Rattle.xet_history.specs.declared.entry.Entry.TheVariants.{Query, Register, Complete, Flush, Fault}
 use Rattle.xet_history.specs.declared.entry.Run.{Run}
-use Rattle.xet_history.specs.declared.entry.StepKind.{StepKind}
 
 -- ---- queries
 

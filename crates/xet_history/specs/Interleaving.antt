@@ -1,5 +1,5 @@
 -- Steps of several callers, in any order.
-use Rattle.std.specs.Prelude.{◌≡◌, ◌≢◌, ◌⊎◌, ℕ, Bool, true, false, List, [], ◌∷◌, ◌++◌, Any, Some, IsSome, if◌then◌else◌}
+use Rattle.std.specs.Prelude.{◌≡◌, ◌≢◌, ◌⊎◌, ℕ, Bool, true, false, List, [], ◌∷◌, ◌++◌, Any, Some, IsSome}
 use Rattle.std.specs.List.{AllByRecursion}
 use Rattle.xet_io.specs.Disk.{Files, bytes_at}
 use Rattle.xet_hash.specs.Merkle.{chunk_hash, xorb_hash}
@@ -10,10 +10,10 @@ use Rattle.xet_shard_file.specs.Names.{shard_path}
 use Rattle.xet_folder.specs.Names.{xorb_path}
 use Rattle.xet_folder.specs.Stored.{IsBacked}
 use Rattle.xet_folder.specs.Xorbs.{found}
-use Rattle.xet_history.specs.Core.{Core, RegisteredShard, has_pending, is_new, pending_hash, pending_shard}
+use Rattle.xet_history.specs.Core.{Core, has_pending, is_new, pending_hash, pending_shard}
 use Rattle.xet_history.specs.Found.{found_run}
-use Rattle.xet_history.specs.History.{Legal, after, reply_of}
-use Rattle.xet_history.specs.Sound.{IsShardFile, IsSound, Rebuilds}
+use Rattle.xet_history.specs.History.{after, reply_of}
+use Rattle.xet_history.specs.Sound.{IsSound, Rebuilds}
 use Rattle.xet_history.specs.declared.entry.Entry.{Entry}
 use Rattle.xet_history.specs.declared.entry.Entry.TheVariants.{Query, Register, Complete, Flush}
 

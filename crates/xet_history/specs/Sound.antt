@@ -1,8 +1,8 @@
 -- When a core is sound: everything that it names is stored.
-use Rattle.std.specs.Prelude.{◌≡◌, ◌≢◌, ℕ, ◌<◌, List, map, length, Some}
+use Rattle.std.specs.Prelude.{◌≡◌, ℕ, List, map, Some}
 use Rattle.std.specs.List.{AllByRecursion}
 use Rattle.xet_io.specs.Disk.{Files, bytes_at}
-use Rattle.xet_hash.specs.Hash.{sentinel, zero_hash}
+use Rattle.xet_hash.specs.Hash.{zero_hash}
 use Rattle.xet_hash.specs.Merkle.{chunk_hash}
 use Rattle.xet_shard.specs.Queries.{kept_hash}
 use Rattle.xet_shard_format.specs.Encoding.{IsShardEncoding}

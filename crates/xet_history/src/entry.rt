@@ -73,9 +73,15 @@ pub enum Entry {
         added: bool,
     },
     /// What was pending was written as the shard of this hash.
-    Flush { pass: u32, shard: MerkleHash },
+    Flush {
+        pass: u32,
+        shard: MerkleHash,
+    },
     /// The disk failed in a call of this kind.
-    Fault { pass: u32, kind: StepKind },
+    Fault {
+        pass: u32,
+        kind: StepKind,
+    },
 }
 
 impl Entry {

@@ -1,7 +1,6 @@
 -- Small examples: what the definitions say of few things.
-use Rattle.std.proofs.Common.{◌≡◌, ◌∙◌, ℕ, ◌+◌, Bool, true, false, nat_eq, List, [], ◌∷◌, length, Some, None, refl, sym, ap}
+use Rattle.std.proofs.Common.{◌≡◌, ◌∙◌, ℕ, ◌+◌, Bool, true, false, List, [], ◌∷◌, length, Some, None, refl, sym, ap}
 use Rattle.std.specs.Prelude.{nat_lt}
-use Rattle.std.specs.Cmp.Lexicographic.{pointwise}
 use Rattle.xet_io.specs.Disk.{Files}
 use Rattle.xet_hash.specs.Hash.{zero_hash}
 use Rattle.xet_hash.specs.Merkle.{xorb_hash}
@@ -13,7 +12,7 @@ use Rattle.xet_folder.specs.Xorbs.{IsListed}
 use Rattle.xet_history.specs.Core.{Core, flushed, has_pending, is_new, registered}
 use Rattle.xet_history.specs.Found.{first_some, found_run, indexed_after, place_of}
 use Rattle.xet_history.specs.History.{Legal, reply_of}
-use Rattle.xet_history.specs.Interleaving.{Move, Run, entries_of}
+use Rattle.xet_history.specs.Interleaving.{Run, entries_of}
 use Rattle.xet_history.specs.Interleaving.Step.{query}
 use Rattle.xet_history.specs.Sound.{IsSound}
 use Rattle.xet_history.specs.declared.entry.Entry.{Entry}

@@ -1,20 +1,20 @@
 -- Steps of several callers, in any order: their entries are legal, and the core stays sound.
-use Rattle.std.proofs.Common.{◌≡◌, ◌≢◌, ◌∙◌, ◌⊎◌, inl, inr, ℕ, zero, suc, ◌+◌, ◌<◌, Bool, true, false, List, [], ◌∷◌, ◌++◌, length, Option, Some, None, refl, sym, ap, subst, arith}
+use Rattle.std.proofs.Common.{◌≡◌, ◌≢◌, ◌∙◌, ◌⊎◌, inl, inr, ℕ, zero, suc, Bool, true, List, [], ◌∷◌, ◌++◌, Some, refl, sym, ap, subst, arith}
 use Rattle.std.specs.List.{AllByRecursion, Any}
 use Rattle.xet_base.specs.theorems.Elements.{all_more, all_push}
 use Rattle.xet_io.specs.Disk.{Files, bytes_at}
-use Rattle.xet_hash.specs.Merkle.{chunk_hash, xorb_hash}
+use Rattle.xet_hash.specs.Merkle.{chunk_hash}
 use Rattle.xet_shard_format.specs.Encoding.{full_shard_bytes}
 use Rattle.xet_shard_format.specs.declared.record.MDBFileInfo.{MDBFileInfo}
 use Rattle.xet_shard_file.specs.Names.{shard_path}
-use Rattle.xet_history.specs.Core.{Core, RegisteredShard, completed, flushed, is_new, pending_hash, pending_shard, registered}
+use Rattle.xet_history.specs.Core.{Core, RegisteredShard, completed, pending_hash, pending_shard}
 use Rattle.xet_history.specs.History.{IsRight, Legal, after}
-use Rattle.xet_history.specs.Interleaving.{AreApart, Brings, BringsIfNew, BringsShard, IsAllowed, IsMet, IsWritten, KeepsShards, Move, Run, SameBytes, StaysSound, Step, entries_of, entry_of, is_flush}
+use Rattle.xet_history.specs.Interleaving.{AreApart, Brings, BringsIfNew, IsAllowed, IsMet, KeepsShards, Move, Run, SameBytes, StaysSound, Step, entries_of, entry_of, is_flush}
 use Rattle.xet_history.specs.Interleaving.Step.{query, register, complete, flush}
 use Rattle.xet_history.specs.declared.entry.Entry.{Entry}
 use Rattle.xet_history.specs.Sound.{IsShardFile, IsSound, Rebuilds}
 use Rattle.xet_history.specs.theorems.Soundness.{IsApart, ListsAll, hash_cases, pending_registered, rebuilds_more, sound_completed, sound_flushed, sound_registered}
-use Rattle.xet_history.specs.theorems.Staying.{Leaves, completed_cases, listed_after, registered_cases}
+use Rattle.xet_history.specs.theorems.Staying.{completed_cases, listed_after, registered_cases}
 
 -- ---- elements of which something holds
 
@@ -96,10 +96,10 @@ module _ (files : Files) (folder : List ℕ) (c : Core) where
       → AllByRecursion (λ s. s.hash ≡ pending_hash c → (bytes : List ℕ) → HasBytes files folder bytes s → bytes ≡ full_shard_bytes (pending_shard c)) shards
   apart_shards [] apart stored = tt
   apart_shards (s ∷ ss) apart stored = (
-      λ is bytes there.
+    λ is bytes there.
         let same : bytes ≡ stored.0.bytes = cc (there, stored.0.there) in
         apart bytes (any_first (HasBytes files folder bytes) s ss there) (ap chunk_hash same ∙ stored.0.named ∙ is),
-      apart_shards ss (λ bytes any. apart bytes (any_later (HasBytes files folder bytes) s ss any)) stored.1,
+    apart_shards ss (λ bytes any. apart bytes (any_later (HasBytes files folder bytes) s ss any)) stored.1,
   )
 
   -- where a flush follows, a registered shard with the hash of the pending one has its bytes
@@ -163,7 +163,7 @@ stays_sound folder before c files (m ∷ ms) all sound apart run =
     let e : Entry = entry_of m.pass c m.step in
     let seen : AllByRecursion (λ d. ListsAll d.xorbs c.xorbs) (before ++ c ∷ []) = all_push (λ d. ListsAll d.xorbs c.xorbs) before c all (λ h leaves listed. listed) in
     let later : AllByRecursion (λ d. ListsAll d.xorbs (after c e).xorbs) (before ++ c ∷ []) =
-        all_more (λ d. ListsAll d.xorbs c.xorbs) (λ d. ListsAll d.xorbs (after c e).xorbs) (before ++ c ∷ []) (λ d more h leaves listed. listed_after c e h leaves (more h leaves listed)) seen in
+    all_more (λ d. ListsAll d.xorbs c.xorbs) (λ d. ListsAll d.xorbs (after c e).xorbs) (before ++ c ∷ []) (λ d more h leaves listed. listed_after c e h leaves (more h leaves listed)) seen in
     let next : IsSound m.files folder (after c e) =
-        sound_step folder (before ++ c ∷ []) c files m.pass m.step m.files seen (λ is. apart_flush files folder c m ms is apart sound.stored) run.0 run.1 sound in
+    sound_step folder (before ++ c ∷ []) c files m.pass m.step m.files seen (λ is. apart_flush files folder c m ms is apart sound.stored) run.0 run.1 sound in
     (sound, stays_sound folder (before ++ c ∷ []) (after c e) m.files ms later next (apart_after files folder c m ms run.1 apart) run.2)

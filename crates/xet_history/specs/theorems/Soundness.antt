@@ -1,5 +1,5 @@
 -- Each step keeps a core sound.
-use Rattle.std.proofs.Common.{◌≡◌, ◌≢◌, ◌∙◌, ◌⊎◌, inl, inr, ℕ, ◌+◌, Bool, true, false, nat_eq, List, [], ◌∷◌, ◌++◌, map, Option, Some, None, is_some, refl, sym, ap, subst}
+use Rattle.std.proofs.Common.{◌≡◌, ◌≢◌, ◌∙◌, inl, inr, ℕ, ◌+◌, Bool, true, false, nat_eq, List, [], ◌∷◌, ◌++◌, map, Some, is_some, refl, sym, ap, subst}
 use Rattle.std.specs.Cmp.Lexicographic.{bytes_decides, pointwise}
 use Rattle.std.specs.List.{AllByRecursion}
 use Rattle.std.specs.Ordering.{is_lt}
@@ -7,9 +7,9 @@ use Rattle.std.specs.declared.cmp.Ordering.{Ordering}
 use Rattle.xet_base.specs.theorems.Elements.{all_more, all_push}
 use Rattle.xet_io.specs.Disk.{Files, bytes_at}
 use Rattle.xet_hash.specs.Hash.{zero_hash}
-use Rattle.xet_hash.specs.Merkle.{chunk_hash, xorb_hash}
+use Rattle.xet_hash.specs.Merkle.{xorb_hash}
 use Rattle.xet_hash.specs.Order.{hash_cmp}
-use Rattle.xet_shard.specs.Held.{by_hash, with_last}
+use Rattle.xet_shard.specs.Held.{by_hash}
 use Rattle.xet_shard.specs.Queries.{kept_hash}
 use Rattle.xet_shard.specs.theorems.Holding.{all_last}
 use Rattle.xet_shard_format.specs.Encoding.{IsShardEncoding, full_shard_bytes}
@@ -21,12 +21,12 @@ use Rattle.xet_shard_format.specs.declared.record.MDBFileInfo.{MDBFileInfo}
 use Rattle.xet_shard_format.specs.declared.record.MDBXorbInfo.{MDBXorbInfo}
 use Rattle.xet_shard_file.specs.Names.{shard_path}
 use Rattle.xet_xorb.specs.Raw.{entries_from, xorb_record}
-use Rattle.xet_folder.specs.Admission.{block_leaves, entry_leaf}
+use Rattle.xet_folder.specs.Admission.{entry_leaf}
 use Rattle.xet_folder.specs.Contents.{IsRecord}
 use Rattle.xet_folder.specs.Names.{xorb_path}
 use Rattle.xet_folder.specs.Plan.{Resolves}
 use Rattle.xet_folder.specs.Stored.{IsBacked, IsStored}
-use Rattle.xet_folder.specs.Xorbs.{IsListed, Xorbs, found}
+use Rattle.xet_folder.specs.Xorbs.{IsListed, Xorbs}
 use Rattle.xet_folder.specs.theorems.Tables.{found_either, found_kept}
 use Rattle.xet_history.specs.Core.{Core, RegisteredShard, completed, flushed, is_new, pending_hash, pending_shard, registered}
 use Rattle.xet_history.specs.Interleaving.{BringsIfNew, BringsShard, BringsXorb, KeepsShards, KeepsXorbs, SameBytes}
@@ -220,13 +220,13 @@ module _ (old new : Files) (folder : List ℕ) (c : Core) (sound : IsSound old f
   flushed_files [] same apart all = tt
   flushed_files (s ∷ ss) same apart all = (
     hash_cases s.hash (pending_hash c)
-      (λ is. let f = all.0 in let bytes : f.bytes ≡ full_shard_bytes (pending_shard c) = apart.0 is f.bytes f.there in record {
-        bytes = full_shard_bytes (pending_shard c);
-        there = ap (λ (h : List ℕ). bytes_at new (shard_path folder h)) is ∙ brings.stored;
-        named = sym is;
-        encoding = subst (λ (b : List ℕ). IsShardEncoding b s.contents) bytes f.encoding;
-      })
-      (λ other. shard_file_same old new folder s (same.0 other) all.0),
+        (λ is. let f = all.0 in let bytes : f.bytes ≡ full_shard_bytes (pending_shard c) = apart.0 is f.bytes f.there in record {
+          bytes = full_shard_bytes (pending_shard c);
+          there = ap (λ (h : List ℕ). bytes_at new (shard_path folder h)) is ∙ brings.stored;
+          named = sym is;
+          encoding = subst (λ (b : List ℕ). IsShardEncoding b s.contents) bytes f.encoding;
+        })
+        (λ other. shard_file_same old new folder s (same.0 other) all.0),
     flushed_files ss same.1 apart.1 all.1,
   )
 

@@ -10,7 +10,7 @@ use Rattle.xet_shard_format.specs.declared.record.MDBFileInfo.{MDBFileInfo}
 use Rattle.xet_xorb.specs.Raw.{xorb_record}
 use Rattle.xet_folder.specs.Xorbs.{IsListed, found}
 use Rattle.xet_folder.specs.theorems.Tables.{found_here, found_kept}
-use Rattle.xet_history.specs.Core.{Core, RegisteredShard, completed, flushed, is_new, pending_hash, pending_shard, registered}
+use Rattle.xet_history.specs.Core.{Core, completed, is_new, pending_hash, pending_shard, registered}
 use Rattle.xet_history.specs.History.{after, after_all}
 use Rattle.xet_history.specs.declared.entry.Entry.{Entry}
 use Rattle.xet_history.specs.declared.entry.Entry.TheVariants.{Query, Register, Complete, Flush, Fault}
@@ -104,7 +104,7 @@ module _ (c : Core) (file : MDBFileInfo) where
 pub completed_twice : (c : Core) (file : MDBFileInfo) → completed (completed c file) file ≡ completed c file
 completed_twice c file = completed_cases c file (λ (d : Core). completed d file ≡ d)
     (λ new. completed_same (with_record c file) file (not_new_if_found (with_record c file).records (file_record_hash file) file
-        (found_here c.records (file_record_hash file) file (none_if_new c.records (file_record_hash file) new))))
+    (found_here c.records (file_record_hash file) file (none_if_new c.records (file_record_hash file) new))))
     (λ old. completed_same c file old)
 
 -- ---- each step
