@@ -1,6 +1,7 @@
 pub mod Joining
 pub mod Staying
 pub mod Finding
+pub mod Entries
 pub mod Soundness
 pub mod Interleaving
 pub mod Examples
