@@ -1,0 +1,5 @@
+//! Tests of whether a file may be recorded.
+#![tactic(auto)]
+
+#[cfg(test)]
+mod tests;

@@ -1,0 +1,4 @@
+//! The modules of tests.
+
+mod completing_tests;
+mod samples;
