@@ -1,6 +1,7 @@
 //! Whether a file may be recorded.
 
 ghost use Rattle.std.specs.Prelude.{◌≡◌, ◌<◌, ◌^◌, ◌↔◌, IfOk, IsOkUnless, IsTrue};
+ghost use Rattle.xet_hash.specs.Hash.{sentinel};
 ghost use Rattle.xet_hash.specs.Merkle.{total_len};
 ghost use Rattle.xet_shard_format.specs.Records.{IsFile, file_record_hash};
 ghost use Rattle.xet_folder.specs.Contents.{IsRecord};
@@ -28,13 +29,20 @@ pub fn can_complete(
     ensures recorded { IfOk result (λ can. IsTrue can → IsRecord xorbs.now.entries (file_record_hash file.now, file.now)) }
     ensures memory { IsOkUnless result StoreError.OutOfMemory }
 {
-    if file.hash() == MerkleHash::marker() {
+    if has_sentinel(file) {
         return Ok(false);
     }
     match resolved(alloc, xorbs, file)? {
         Some(leaves) => gives_hashes(alloc, file, &leaves),
         None => Ok(false),
     }
+}
+
+/// Whether the hash of a record is the sentinel.
+fn has_sentinel(file: &MDBFileInfo) -> bool
+    ensures { IsTrue result ↔ (file_record_hash file.now ≡ sentinel) }
+{
+    file.hash() == MerkleHash::marker()
 }
 
 /// Whether these chunks are at least one, and give the hashes of a record.

@@ -1,6 +1,5 @@
 use Rattle.std.proofs.Common.{◌≡◌, ◌≢◌, ◌∙◌, ◌↔◌, List, ℕ, true, false, IsTrue, sym, subst}
 use Rattle.std.proofs.lemmas.Result.{IfOk-weaker}
-use Rattle.std.specs.Cmp.Lexicographic.{bytes_decides}
 use Rattle.xet_hash.specs.Hash.{sentinel}
 use Rattle.xet_shard_format.specs.Records.{file_record_hash}
 use Rattle.xet_completion.specs.Completing.{Completes}
@@ -15,7 +14,7 @@ returns-in-Some-clause-can c =
     let leaves = c.in-Some.leaves.items in
     let resolves = rw c.in-Some.is at c.in_ok-leaves.ensures.resolves in
     let named : file_record_hash f ≢ sentinel = λ e.
-    let bad : true ≡ false = sym ((bytes_decides c.hash.result c.marker.result).1 (c.hash.ensures ∙ e ∙ sym c.marker.ensures)) ∙ sym c.eq.ensures ∙ c.if-eq.false in cc bad in
+    let bad : true ≡ false = sym (c.has_sentinel.ensures.1 e) ∙ c.if-has_sentinel.false in cc bad in
     IfOk-weaker c.gives_hashes.result _ (λ b. IsTrue b ↔ Completes xorbs f)
     (λ b gives. (
       λ t. completes_if_gives xorbs f leaves resolves named (subst (λ (l : List (List ℕ × ℕ)). GivesHashes f l) c.deref.ensures.value (gives.0 t)),
