@@ -6,6 +6,7 @@ use Rattle.std.specs.Cmp.Lexicographic.{bytes_decides, pointwise}
 use Rattle.std.specs.List.{AllByRecursion, IsAmong, list_any}
 use Rattle.std.specs.Ordering.{is_lt}
 use Rattle.std.specs.declared.cmp.Ordering.{Ordering}
+use Rattle.xet_hash.specs.Hash.{zero_hash}
 use Rattle.xet_hash.specs.declared.error.StoreError.{StoreError}
 use Rattle.xet_io.specs.Disk.{Files, File, bytes_at, file_at}
 use Rattle.xet_shard_format.specs.declared.header_footer.MDBShardFileFooter.{MDBShardFileFooter}
@@ -32,6 +33,7 @@ use Rattle.xet_shard_file.specs.Puts.{IsDone, IsKeptOrDone}
 use Rattle.xet_shard_file.specs.Shards.{is_expired, is_past}
 use Rattle.xet_folder.specs.Stored.{IsBacked}
 use Rattle.xet_folder.specs.Xorbs.{AreBacked, IsListed, FileRecords, Xorbs, found}
+use Rattle.xet_folder.specs.theorems.Keyed.{unkeyed_holds}
 use Rattle.xet_base.specs.theorems.Elements.{all_push, all_more}
 use Rattle.xet_store.specs.Cleaning.{HasWholeShard, Keeps, SameEntry}
 use Rattle.xet_store.specs.Flushing.{IsFlushed, IsUnflushed, KeepsOtherNames, pending_bytes}
@@ -164,8 +166,8 @@ module _ (s : State) (sound : Sound s) (shard : IsShard (held_shard s.pending s.
     parts = parts;
     read = ap all_of is ∙ read_again s.pending s.opened shard fits;
     named = ap shard_hash is ∙ sym hash;
-    plain = refl;
-    blocks = all_more (λ b. IsListed s.xorbs (xorb_record_hash b) (block_leaves b)) (BlockHolds files s.folder h) (by_hash xorb_record_hash s.pending.blocks) (λ b l. backed (xorb_record_hash b) (block_leaves b) l) blocks_listed;
+    blocks = all_more (λ b. IsListed s.xorbs (xorb_record_hash b) (block_leaves b)) (BlockHolds files s.folder h zero_hash) (by_hash xorb_record_hash s.pending.blocks)
+        (λ b l. unkeyed_holds files s.folder h b (backed (xorb_record_hash b) (block_leaves b) l)) blocks_listed;
     files_hold = all_more (λ f. IsRecord s.xorbs (file_record_hash f, f)) (FileHolds files s.folder h) (by_hash file_record_hash s.pending.files)
         (λ f r. record { leaves = r.leaves; resolves = resolves_more (IsListed s.xorbs) (IsBacked files s.folder) (λ (m : List ℕ × ℕ). m.1) backed f.segments r.leaves r.resolves; some = r.some; hash = r.hash }) files_recorded;
   }

@@ -16,7 +16,7 @@ use Rattle.xet_shard_format.specs.declared.record.MDBFileInfo.{MDBFileInfo}
 use Rattle.xet_shard_format.specs.declared.record.MDBXorbInfo.{MDBXorbInfo}
 use Rattle.xet_shard_format.specs.Names.{shard_name}
 use Rattle.xet_shard_format.specs.Records.{xorb_record_hash}
-use Rattle.xet_folder.specs.Admission.{BlockHolds, FileHolds, ShardHolds}
+use Rattle.xet_folder.specs.Admission.{BlockHolds, FileHolds, ShardHolds, key_of}
 use Rattle.xet_folder.specs.Checks.{OfBlocks, OfBytes, OfFiles, OfSegments}
 use Rattle.xet_shard_file.specs.Names.{IsHash, shard_path}
 use Rattle.xet_folder.specs.Names.{xorb_path}
@@ -78,12 +78,16 @@ module _ (old new : Files) (folder : List ℕ) where
   pub backed_same : (h : List ℕ) (leaves : List (List ℕ × ℕ)) → SameXorb h → IsBacked old folder h leaves → IsBacked new folder h leaves
   backed_same h leaves same b = record { chunks = b.chunks; stored = stored_same h b.chunks same b.stored; same = b.same }
 
-  blocks_same : (shard : List ℕ) (blocks : List MDBXorbInfo) → ((h : List ℕ) → OfBlocks blocks h → SameXorb h) → AllByRecursion (BlockHolds old folder shard) blocks
-      → AllByRecursion (BlockHolds new folder shard) blocks
-  blocks_same shard [] same all = tt
-  blocks_same shard (b ∷ bs) same all = (
-    backed_same (xorb_record_hash b) _ (same (xorb_record_hash b) (among_first (xorb_record_hash b) (map xorb_record_hash bs))) all.0,
-    blocks_same shard bs (λ h of. same h (among_later (xorb_record_hash b) (map xorb_record_hash bs) h of)) all.1,
+  blocks_same : (shard key : List ℕ) (blocks : List MDBXorbInfo) → ((h : List ℕ) → OfBlocks blocks h → SameXorb h) → AllByRecursion (BlockHolds old folder shard key) blocks
+      → AllByRecursion (BlockHolds new folder shard key) blocks
+  blocks_same shard key [] same all = tt
+  blocks_same shard key (b ∷ bs) same all = (
+    record {
+      leaves = all.0.leaves;
+      backed = backed_same (xorb_record_hash b) all.0.leaves (same (xorb_record_hash b) (among_first (xorb_record_hash b) (map xorb_record_hash bs))) all.0.backed;
+      lists = all.0.lists;
+    },
+    blocks_same shard key bs (λ h of. same h (among_later (xorb_record_hash b) (map xorb_record_hash bs) h of)) all.1,
   )
 
   resolves_same : (plan : List Segment) (out : List (List ℕ × ℕ)) → ((h : List ℕ) → OfSegments plan h → SameXorb h) → Resolves (IsBacked old folder) (λ m. m.1) plan out
@@ -112,8 +116,7 @@ module _ (old new : Files) (folder : List ℕ) where
     parts = holds.parts;
     read = holds.read;
     named = holds.named;
-    plain = holds.plain;
-    blocks = blocks_same s.hash holds.parts.0 (λ h of. same h (holds.parts, holds.read, inl of)) holds.blocks;
+    blocks = blocks_same s.hash (key_of holds.parts) holds.parts.0 (λ h of. same h (holds.parts, holds.read, inl of)) holds.blocks;
     files_hold = files_same s.hash holds.parts.1 (λ h of. same h (holds.parts, holds.read, inr of)) holds.files_hold;
   }
 

@@ -19,10 +19,11 @@ use xet_shard::MDBInMemoryShard;
 
 impl<D: Disk + Send> Store<D> {
     /// Opens the folder of a disk at a time, in seconds since 1970. The folder is validated, its shards that
-    /// are unexpired then are registered, and the files are the first record of each hash. No file changes.
-    /// `prune` must be false: there is no pruning yet. An error returns the disk. It is that of the first
-    /// check that fails, with the file name of the shard; or `OutOfMemory`; or `Io(Disk)`, which is returned
-    /// only if the disk failed.
+    /// are unexpired then are registered, keyed ones too, and the files are the first record of each hash. No
+    /// file changes. `prune` must be false: there is no pruning yet. An error returns the disk. It is that of
+    /// the first check that fails, with the file name of the shard; if none fails, `TooLarge(Shards)` if and
+    /// only if more than 2^32 - 1 shards are unexpired; `OutOfMemory`; or `Io(Disk)`, which is returned only
+    /// if the disk failed.
     pub fn open(
         alloc: Global,
         mut disk: D,
