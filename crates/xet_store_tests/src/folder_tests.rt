@@ -5,10 +5,13 @@ use bytes::Bytes;
 use std::alloc::Global;
 use std::test::Fail;
 use xet_base::Items;
-use xet_folder::{XorbFile, XorbTable, admit_folder, admit_shard, put_shard, put_xorb, read_xorb};
+use xet_folder::{
+    XorbFile, XorbTable, admit_folder, admit_shard, prune_folder, put_shard, put_xorb, read_xorb,
+};
 use xet_hash::{MerkleHash, Reason, StoreError, compute_data_hash, file_hash, xorb_hash};
 use xet_io::MemoryDisk;
 use xet_shard::write_shard;
+use xet_shard_file::list_shards;
 use xet_shard_format::{
     FileDataSequenceEntry, FileDataSequenceHeader, MDBFileInfo, MDBXorbInfo,
     XorbChunkSequenceEntry, XorbChunkSequenceHeader, shard_file_name,
@@ -156,6 +159,73 @@ fn admits_a_folder(rt: HostRuntime) -> Result<(), Fail> {
         }
         Err(_) => assert!(rt; false),
     }
+    Ok(())
+}
+
+/// Writes a keyed shard whose record of the xorb of `abc` lists this hash, and returns the shard's hash.
+fn put_keyed(
+    disk: &mut MemoryDisk,
+    alloc: Global,
+    listed: MerkleHash,
+    expiry: u64,
+) -> Result<MerkleHash, StoreError> {
+    let block = MDBXorbInfo {
+        metadata: XorbChunkSequenceHeader::new(compute_data_hash(b"abc"), 1, 3),
+        chunks: Items::from_vec(vec![in alloc; XorbChunkSequenceEntry::new(listed, 3, 0)]?),
+    };
+    let written = write_shard(alloc, &[&block], &[], compute_data_hash(b"key"), 0, expiry)?;
+    let hash = compute_data_hash(&written.0);
+    put_shard(disk, alloc, "store", &hash, &written.0)?;
+    Ok(hash)
+}
+
+#[test]
+fn admits_a_keyed_shard(rt: HostRuntime) -> Result<(), Fail> {
+    let alloc = rt.alloc();
+    let mut disk = stored(alloc)?;
+    let listed = compute_data_hash(b"abc").hmac(compute_data_hash(b"key"));
+    let keyed = put_keyed(&mut disk, alloc, listed, 10)?;
+    match admit_folder(&mut disk, alloc, "store", 10) {
+        Ok(contents) => {
+            assert_eq!(rt; contents.shards.as_slice(), [keyed].as_slice());
+            assert_eq!(rt; contents.xorbs.len(), 1);
+        }
+        Err(_) => assert!(rt; false),
+    }
+    Ok(())
+}
+
+#[test]
+fn refuses_a_keyed_shard_of_other_chunks(rt: HostRuntime) -> Result<(), Fail> {
+    let alloc = rt.alloc();
+    let mut disk = stored(alloc)?;
+    let keyed = put_keyed(&mut disk, alloc, compute_data_hash(b"abc"), 10)?;
+    match admit_folder(&mut disk, alloc, "store", 10) {
+        Ok(_) => assert!(rt; false),
+        Err(refused) => assert_eq!(rt;
+            refused.error,
+            StoreError::InvalidShard(keyed, Reason::OtherChunks)
+        ),
+    }
+    Ok(())
+}
+
+/// How many shards a folder has after it is pruned at a time, with a buffer of five seconds.
+fn left_at(disk: &mut MemoryDisk, alloc: Global, now: u64) -> Result<usize, StoreError> {
+    prune_folder(disk, alloc, "store", 5, now)?;
+    Ok(list_shards(disk, alloc, "store")?.len())
+}
+
+#[test]
+fn prunes_expired_shards(rt: HostRuntime) -> Result<(), Fail> {
+    let alloc = rt.alloc();
+    let mut disk = MemoryDisk::new(alloc);
+    put_plan(&mut disk, alloc, MerkleHash::default(), 10)?;
+    put_plan(&mut disk, alloc, MerkleHash::default(), u64::MAX)?;
+    assert_eq!(rt; left_at(&mut disk, alloc, 10)?, 2);
+    assert_eq!(rt; left_at(&mut disk, alloc, 14)?, 2);
+    assert_eq!(rt; left_at(&mut disk, alloc, 15)?, 1);
+    assert_eq!(rt; left_at(&mut disk, alloc, u64::MAX)?, 1);
     Ok(())
 }
 
