@@ -8,6 +8,7 @@ use Rattle.xet_io.specs.declared.whole.Unread.{Unread}
 use Rattle.xet_io.specs.declared.whole.Unread.TheVariants as unread
 use Rattle.xet_hash.specs.declared.error.StoreError.{StoreError}
 use Rattle.xet_hash.specs.declared.error.Place.TheVariants.{Source}
+use Rattle.xet_hash.specs.declared.error.What.TheVariants.{Shards}
 use Rattle.xet_hash.specs.declared.error.StoreError.TheVariants.{FileNotFound, InvalidRange, Io, MalformedData}
 use Rattle.xet_hash.specs.declared.error.StoreError.TheVariants as error
 use Rattle.xet_folder.specs.Admission.{Refuses}
@@ -43,9 +44,11 @@ stop_of_error (error.TooLarge what) = TooLarge
 stop_of_error (MalformedData reason) = Malformed
 stop_of_error _ = OutOfMemory
 
--- the stop for a folder that was not opened, with the name of the shard if there is one
+-- The stop for a folder that was not opened, with the name of the shard if there is one. More unexpired shards
+-- than can be registered count as out of memory.
 abbrev pub stop_of_refusal : StoreError → Option (List ℕ) → Stop
 stop_of_refusal e (Some name) = BadShard name
+stop_of_refusal (error.TooLarge Shards) None = OutOfMemory
 stop_of_refusal e None = stop_of_error e
 
 -- the stop for an error of reading a range
