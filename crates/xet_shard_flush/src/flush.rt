@@ -1,22 +1,23 @@
 //! Flush of what is pending.
 
-ghost use Rattle.std.specs.Prelude.{◌≡◌, List, None, IfErr, IfOk, OnErr, OnOk, string_bytes, true};
+ghost use Rattle.std.specs.Prelude.{◌≡◌, List, None, IsOkUnless, IfErr, IfOk, OnErr, OnOk, string_bytes, true};
+ghost use Rattle.std.specs.Option.{ForSome};
 ghost use Rattle.xet_io.specs.Frame.{Stays};
 ghost use Rattle.xet_shard.specs.Held.{held_shard};
 ghost use Rattle.xet_shard_directory.specs.Answers.{GivesUnlessDisk};
 ghost use Rattle.xet_shard_directory.specs.Writing.{KeptOrWrote, path_of};
+ghost use Rattle.xet_shard_flush.specs.Due.{IsDue};
 ghost use Rattle.xet_shard_flush.specs.Importing.{Imports, IsCheckError, IsFlushError, KeepsFiles, flush_check, flushed_bytes};
 ghost use Rattle.xet_shard_format.specs.Encoding.{Fits, IsShard};
 ghost use Rattle.xet_shard_flush.specs.internal.Steps.{SameShards};
 ghost use Rattle.xet_shard_registry.specs.Collections.{IsRegistryOf};
 ghost use Rattle.xet_shard_registry.specs.Registered.{Registered};
 
-use crate::import::import_shard;
+use crate::due::{DueShard, prepare_flush, write_due};
 use std::alloc::Global;
 use xet_hash::StoreError;
 use xet_io::Disk;
 use xet_shard::MDBInMemoryShard;
-use xet_shard::laws::parts_are_read;
 use xet_shard_registry::ShardRegistry;
 
 /// Writes what is pending as a shard file into a folder, created at `moment` and without expiry, registers it as
@@ -45,38 +46,62 @@ pub fn flush_pending<D: Disk>(
     ensures frame { Stays D.tells D.faults disk.old disk.new }
     ensures reason { IfErr result (IsFlushError (D.faults disk.old) (D.faults disk.new)) }
 {
-    match write_pending(alloc, disk, folder, registry, pending, cap, moment) {
-        Ok(path) => {
-            *pending = next;
-            Ok(path)
-        }
-        Err(error) => Err(error),
-    }
+    flush_prepared(
+        alloc, disk, folder, registry, pending, None, next, cap, moment,
+    )
 }
 
-/// Writes what is pending as a shard file into a folder and registers it. Returns the path.
-fn write_pending<D: Disk>(
+/// Writes what is pending as `flush_pending` does: the shard that `prepare_flush` returned for it, if it is passed. If no
+/// shard was registered since then, memory is taken only to compare its bytes with those of a file of the same length
+/// that is at its path.
+pub fn flush_prepared<D: Disk>(
     alloc: Global,
     disk: &mut D,
     folder: &str,
     registry: &mut ShardRegistry,
-    pending: &MDBInMemoryShard,
+    pending: &mut MDBInMemoryShard,
+    due: Option<DueShard>,
+    next: MDBInMemoryShard,
     cap: u64,
     moment: u64,
 ) -> Result<String, StoreError>
-    ensures flushed { IfOk result (λ path. Imports (D.tells disk.old) cap (D.files disk.old) (D.files disk.new) folder.now (flushed_bytes pending.now moment) registry.old registry.new (string_bytes path)) }
-    ensures form { OnOk result (IsShard (held_shard pending.now moment None) × Fits (held_shard pending.now moment None)) }
-    ensures checked { GivesUnlessDisk (λ _. tt) result (flush_check (flushed_bytes pending.now moment) registry.old) }
-    ensures kept { OnErr result (SameShards registry.old registry.new) }
-    ensures refused { D.tells disk.old ≡ true → OnErr result (KeptOrWrote (D.files disk.old) (D.files disk.new) folder.now (flushed_bytes pending.now moment)) }
+    requires { ForSome due (IsDue folder.now pending.old moment) }
+    ensures flushed { IfOk result (λ path. Imports (D.tells disk.old) cap (D.files disk.old) (D.files disk.new) folder.now (flushed_bytes pending.old moment) registry.old registry.new (string_bytes path)) }
+    ensures form { OnOk result (IsShard (held_shard pending.old moment None) × Fits (held_shard pending.old moment None)) }
+    ensures next { OnOk result (pending.new ≡ next) }
+    ensures pending { OnErr result (pending.new ≡ pending.old) }
+    ensures checked { GivesUnlessDisk (λ _. tt) result (flush_check (flushed_bytes pending.old moment) registry.old) }
+    ensures kept { OnErr result ((shards : List Registered) → IsRegistryOf shards registry.old → IsRegistryOf shards registry.new) }
+    ensures refused { D.tells disk.old ≡ true → OnErr result (KeptOrWrote (D.files disk.old) (D.files disk.new) folder.now (flushed_bytes pending.old moment)) }
     ensures unwritten { D.tells disk.old ≡ true → IfErr result (λ e. IsCheckError e → D.files disk.new ≡ D.files disk.old) }
-    ensures safe { D.tells disk.old ≡ true → KeepsFiles (D.files disk.old) (D.files disk.new) (path_of folder.now (flushed_bytes pending.now moment)) registry.old.files }
+    ensures safe { D.tells disk.old ≡ true → KeepsFiles (D.files disk.old) (D.files disk.new) (path_of folder.now (flushed_bytes pending.old moment)) registry.old.files }
     ensures frame { Stays D.tells D.faults disk.old disk.new }
     ensures reason { IfErr result (IsFlushError (D.faults disk.old) (D.faults disk.new)) }
 {
-    parts_are_read();
-    match pending.shard_bytes(alloc, moment, None) {
-        Ok((encoding, _)) => import_shard(alloc, disk, folder, registry, &encoding, cap),
+    match due_shard(alloc, folder, registry, pending, due, moment) {
+        Ok(due) => write_due(alloc, disk, registry, pending, due, next, cap),
         Err(error) => Err(error),
+    }
+}
+
+/// The shard that is due: the one that is passed, or that of what is pending.
+fn due_shard(
+    alloc: Global,
+    folder: &str,
+    registry: &mut ShardRegistry,
+    pending: &MDBInMemoryShard,
+    due: Option<DueShard>,
+    moment: u64,
+) -> Result<DueShard, StoreError>
+    requires { ForSome due (IsDue folder.now pending.now moment) }
+    ensures due { IfOk result (IsDue folder.now pending.now moment) }
+    ensures kept { SameShards registry.old registry.new }
+    ensures files { registry.new.files ≡ registry.old.files }
+    ensures hashes { registry.new.hashes ≡ registry.old.hashes }
+    ensures memory { IsOkUnless result StoreError.OutOfMemory }
+{
+    match due {
+        Some(due) => Ok(due),
+        None => prepare_flush(alloc, folder, registry, pending, moment),
     }
 }

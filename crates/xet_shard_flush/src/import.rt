@@ -16,17 +16,14 @@ ghost use Rattle.xet_shard_format.specs.Lookups.{flat_places};
 ghost use Rattle.xet_shard_registry.specs.Collections.{IsRegistryOf};
 ghost use Rattle.xet_shard_registry.specs.Registered.{Registered};
 
+use crate::file::new_file;
 use crate::parts::{info_of_bytes, items_of_bytes};
-use crate::paths::free_path;
+use crate::registering::{MAX_SHARDS, write_known, write_new};
 use std::alloc::Global;
 use xet_hash::{MerkleHash, StoreError, What, compute_data_hash};
 use xet_io::Disk;
 use xet_shard::MDBShardInfo;
-use xet_shard_directory::{MDBShardFile, write_shard_file};
 use xet_shard_registry::ShardRegistry;
-
-/// The maximum number of registered shards.
-const MAX_SHARDS: usize = (1 << 32) - 1;
 
 /// Writes the bytes of a shard into a folder, durably, under the name of their digest, and registers the shard file
 /// after the others; if its hash is registered, it is only written. Returns its path. Its chunks enter the index if it
@@ -55,33 +52,11 @@ pub fn import_shard<D: Disk>(
     let info = info_of_bytes(bytes)?;
     let hash = compute_data_hash(bytes);
     if registry.contains(&hash) {
-        write_known(alloc, disk, folder, registry.files(), bytes, &hash)
+        let file = new_file(alloc, folder, hash, info)?;
+        write_known(alloc, disk, registry, file, bytes)
     } else {
-        import_new(alloc, disk, folder, registry, bytes, &hash, &info, cap)
+        import_new(alloc, disk, folder, registry, bytes, hash, info, cap)
     }
-}
-
-/// Writes the bytes of a shard whose hash is registered. Returns the path.
-fn write_known<D: Disk>(
-    alloc: Global,
-    disk: &mut D,
-    folder: &str,
-    files: &[MDBShardFile],
-    bytes: &[u8],
-    hash: &MerkleHash,
-) -> Result<String, StoreError>
-    requires hash { hash.now ≡ chunk_hash bytes.now }
-    requires info { IsOk (info_at bytes.now) }
-    ensures path { IfOk result (λ path. string_bytes path ≡ path_of folder.now bytes.now) }
-    ensures written { OnOk result ((file : MDBShardFile) × IsWritten (D.tells disk.old) (D.files disk.old) (D.files disk.new) folder.now bytes.now file) }
-    ensures refused { D.tells disk.old ≡ true → OnErr result (KeptOrWrote (D.files disk.old) (D.files disk.new) folder.now bytes.now) }
-    ensures safe { D.tells disk.old ≡ true → KeepsFiles (D.files disk.old) (D.files disk.new) (path_of folder.now bytes.now) files.now }
-    ensures frame { Stays D.tells D.faults disk.old disk.new }
-    ensures reason { IfErr result (HasDiskReason (D.faults disk.old) (D.faults disk.new)) }
-{
-    let path = free_path(alloc, disk, folder, files, bytes, hash)?;
-    write_shard_file(alloc, disk, folder, bytes)?;
-    Ok(path)
 }
 
 /// Writes the bytes of a shard whose hash is not registered, and registers the shard file. Returns the path.
@@ -91,15 +66,15 @@ fn import_new<D: Disk>(
     folder: &str,
     registry: &mut ShardRegistry,
     bytes: &[u8],
-    hash: &MerkleHash,
-    info: &MDBShardInfo,
+    hash: MerkleHash,
+    info: MDBShardInfo,
     cap: u64,
 ) -> Result<String, StoreError>
-    requires hash { hash.now ≡ chunk_hash bytes.now }
-    requires info { info_at bytes.now ≡ Ok info.now }
-    requires new { list_any (pointwise nat_eq hash.now) registry.old.hashes ≡ false }
+    requires hash { hash ≡ chunk_hash bytes.now }
+    requires info { info_at bytes.now ≡ Ok info }
+    requires new { list_any (pointwise nat_eq hash) registry.old.hashes ≡ false }
     ensures imported { IfOk result (λ path. Imports (D.tells disk.old) cap (D.files disk.old) (D.files disk.new) folder.now bytes.now registry.old registry.new (string_bytes path)) }
-    ensures checked { GivesUnlessDisk (λ _. tt) result (new_check info.now.metadata bytes.now registry.old) }
+    ensures checked { GivesUnlessDisk (λ _. tt) result (new_check info.metadata bytes.now registry.old) }
     ensures kept { OnErr result (SameShards registry.old registry.new) }
     ensures refused { D.tells disk.old ≡ true → OnErr result (KeptOrWrote (D.files disk.old) (D.files disk.new) folder.now bytes.now) }
     ensures unwritten { D.tells disk.old ≡ true → IfErr result (λ e. IsCheckError e → D.files disk.new ≡ D.files disk.old) }
@@ -107,11 +82,10 @@ fn import_new<D: Disk>(
     ensures frame { Stays D.tells D.faults disk.old disk.new }
     ensures reason { IfErr result (IsImportError (D.faults disk.old) (D.faults disk.new)) }
 {
-    let items = new_items(alloc, registry, info, bytes)?;
-    let path = free_path(alloc, disk, folder, registry.files(), bytes, hash)?;
-    reserve(registry, info, items.len())?;
-    write_and_register(alloc, disk, folder, registry, bytes, &items, cap)?;
-    Ok(path)
+    let items = new_items(alloc, registry, &info, bytes)?;
+    let file = new_file(alloc, folder, hash, info)?;
+    reserve(registry, &file.info, items.len())?;
+    write_new(alloc, disk, registry, file, bytes, &items, cap)
 }
 
 /// The chunk lookup table of a shard that is to be registered after the others. `TooLarge(Shards)` if there are too
@@ -146,29 +120,5 @@ fn reserve(
     match info.chunk_hmac_key() {
         Some(_) => Ok(()),
         None => registry.reserve(chunks),
-    }
-}
-
-/// Writes the bytes of a shard and registers the shard file with the items of its chunk lookup table.
-fn write_and_register<D: Disk>(
-    alloc: Global,
-    disk: &mut D,
-    folder: &str,
-    registry: &mut ShardRegistry,
-    bytes: &[u8],
-    items: &[(u64, (u32, u32))],
-    cap: u64,
-) -> Result<(), StoreError>
-    requires info { IsOk (info_at bytes.now) }
-    requires room { HasRoom (chunk_hash bytes.now) registry.old }
-    ensures registered { OnOk result ((file : MDBShardFile) × IsWritten (D.tells disk.old) (D.files disk.old) (D.files disk.new) folder.now bytes.now file × Adds cap (flat_places items.now) file registry.old registry.new) }
-    ensures kept { OnErr result (SameShards registry.old registry.new) }
-    ensures refused { D.tells disk.old ≡ true → OnErr result (KeptOrWrote (D.files disk.old) (D.files disk.new) folder.now bytes.now) }
-    ensures frame { Stays D.tells D.faults disk.old disk.new }
-    ensures reason { IfErr result (HasDiskReason (D.faults disk.old) (D.faults disk.new)) }
-{
-    match write_shard_file(alloc, disk, folder, bytes) {
-        Ok(file) => registry.register(alloc, file, items, cap),
-        Err(error) => Err(error),
     }
 }

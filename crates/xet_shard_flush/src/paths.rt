@@ -1,46 +1,19 @@
 //! Paths under which a shard may be written.
 
-ghost use Rattle.std.specs.Prelude.{◌≡◌, IfErr, IfOk, IsTrue, OnOk, false, string_bytes, true};
+ghost use Rattle.std.specs.Prelude.{◌≡◌, IfErr, IfOk, IsTrue, true};
 ghost use Rattle.xet_codec.specs.Stops.{HasDiskReason};
-ghost use Rattle.xet_hash.specs.Merkle.{chunk_hash};
 ghost use Rattle.xet_io.specs.Disk.{bytes_at};
 ghost use Rattle.xet_io.specs.Frame.{Unchanged};
-ghost use Rattle.xet_shard_directory.specs.Writing.{path_of};
 ghost use Rattle.xet_shard_flush.specs.internal.Steps.{IsFree, IsUnused, MayWrite};
 
 use std::alloc::Global;
 use xet_codec::store_error;
-use xet_hash::{MerkleHash, StoreError};
+use xet_hash::StoreError;
 use xet_io::{Disk, read_file};
 use xet_shard_directory::MDBShardFile;
-use xet_shard_file::shard_path;
-
-/// The path of the shard with these bytes, whose digest is `hash`, in a folder. `OutOfMemory` if one of these
-/// shard files has the path and a file with other bytes is there.
-pub(crate) fn free_path<D: Disk>(
-    alloc: Global,
-    disk: &mut D,
-    folder: &str,
-    files: &[MDBShardFile],
-    bytes: &[u8],
-    hash: &MerkleHash,
-) -> Result<String, StoreError>
-    requires hash { hash.now ≡ chunk_hash bytes.now }
-    ensures path { IfOk result (λ path. string_bytes path ≡ path_of folder.now bytes.now) }
-    ensures free { D.tells disk.old ≡ true → OnOk result (MayWrite (D.files disk.old) (path_of folder.now bytes.now) bytes.now files.now) }
-    ensures frame { Unchanged D.files D.tells D.faults disk.old disk.new }
-    ensures reason { IfErr result (HasDiskReason (D.faults disk.old) (D.faults disk.new)) }
-{
-    let path = shard_path(alloc, folder, hash)?;
-    match may_write(alloc, disk, path.as_str(), files, bytes) {
-        Ok(true) => Ok(path),
-        Ok(false) => Err(StoreError::OutOfMemory),
-        Err(error) => Err(error),
-    }
-}
 
 /// Whether no other bytes are at a path, or none of these shard files has it.
-fn may_write<D: Disk>(
+pub(crate) fn may_write<D: Disk>(
     alloc: Global,
     disk: &mut D,
     path: &str,

@@ -12,6 +12,8 @@ use Rattle.xet_shard.specs.Sections.{chunk_lookup_in, info_at}
 use Rattle.xet_shard.specs.Union.{ShardRecords}
 use Rattle.xet_shard_directory.specs.Writing.{IsFormatError, Wrote, path_of}
 use Rattle.xet_shard_directory.specs.declared.shard_file.MDBShardFile.{MDBShardFile}
+use Rattle.xet_shard_file.specs.Names.{temp_name}
+use Rattle.xet_shard_flush.specs.declared.file.NewFile.{NewFile}
 use Rattle.xet_shard_format.specs.declared.header_footer.MDBShardFileFooter.{MDBShardFileFooter}
 use Rattle.xet_shard_registry.specs.Collections.{IsRegistryOf, Tables}
 use Rattle.xet_shard_registry.specs.Registered.{Registered, with_shard}
@@ -49,6 +51,13 @@ IsUnused path ss = All (λ s. s.path ≢ path) ss
 -- Bytes may be written at a path: no other bytes are there, or it is that of no registered shard.
 abbrev pub MayWrite : Files → List ℕ → List ℕ → List MDBShardFile → Type 0
 MayWrite files path bytes ss = IsFree (bytes_at files path) bytes ⊎ IsUnused path ss
+
+-- the header and the footer of a file are those of these bytes, and so are its hash and its names
+pub record IsFileOf (bytes : List ℕ) (f : NewFile) : Type 0 where
+  pub hash : f.hash ≡ chunk_hash bytes
+  pub info : info_at bytes ≡ Ok f.info
+  pub name : f.name ≡ f.path
+  pub temp : f.temp ≡ temp_name f.path
 
 -- ---- the registry
 
