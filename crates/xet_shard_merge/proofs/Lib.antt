@@ -1,7 +1,10 @@
+pub mod Due
 pub mod EachOnce
 pub mod Loading
 pub mod Merged
 pub mod Offering
+pub mod Placing
 pub mod Preserved
 pub mod Stepping
 pub mod ThroughDisk
+pub mod Unique

@@ -1,5 +1,5 @@
 -- The result of a merge.
-use Rattle.std.proofs.Common.{◌≡◌, ◌∙◌, ◌||◌, ◌+◌, ◌<◌, ◌≤◌, ℕ, Bool, true, false, drop, get_or, length, List, [], ◌++◌, None, Option, Result, Ok, Err, IfErr, IfOk, refl, sym, ap, subst}
+use Rattle.std.proofs.Common.{◌≡◌, ◌∙◌, ◌||◌, ◌+◌, ◌<◌, ◌≤◌, ℕ, Bool, true, false, drop, get_or, length, List, [], ◌++◌, None, Option, Result, Ok, Err, IfErr, IfOk, inr, refl, sym, ap, subst}
 use Rattle.std.proofs.lemmas.List.Elements.{All-from_recursion}
 use Rattle.std.proofs.lemmas.List.{drop_all}
 use Rattle.std.specs.List.{flat_map, list_any}
@@ -12,12 +12,13 @@ use Rattle.xet_shard_directory.specs.Directories.{IsUnloaded}
 use Rattle.xet_shard_directory.specs.declared.shard_file.MDBShardFile.{MDBShardFile}
 use Rattle.xet_shard_format.specs.theorems.Steps.{left}
 use Rattle.xet_shard_merge.specs.Groups.{Group, Groups, Offered}
-use Rattle.xet_shard_merge.specs.Merging.{AddsResults, AreResults, IsUnmerged, Merges, Offers, obsolete_of, target_of}
+use Rattle.xet_shard_merge.specs.Merging.{AddsResults, AreResults, IsDue, IsUnmerged, KeptOrMerged, Merges, Offers, WritesOnly, obsolete_of, target_of}
 use Rattle.xet_shard_merge.specs.declared.merge.ShardMergeResult.{ShardMergeResult}
 use Rattle.xet_shard_merge.specs.declared.progress.Progress.{Progress}
-use Rattle.xet_shard_merge.specs.internal.Keeping.{Preserves}
+use Rattle.xet_shard_merge.specs.internal.Keeping.{IsOneDue, Preserves}
 use Rattle.xet_shard_merge.specs.internal.Order.{MergedAll}
-use Rattle.xet_shard_merge.specs.internal.Progressing.{Ended, IsIntactIfOpen, IsUnmergedOf, Went}
+use Rattle.xet_shard_merge.specs.internal.Progressing.{Ended, IsIntactIfOpen, IsUnmergedOf, Went, WritesOfAll}
+use Rattle.xet_shard_merge.proofs.Placing.{writes_nothing}
 use Rattle.xet_shard_merge.proofs.Stepping.{adds_nothing, preserves_itself}
 
 nothing_done : (start : Files) (folder : List ℕ) → AreResults start start folder [] []
@@ -30,9 +31,11 @@ pub none_went : (start : Files) (folder : List ℕ) (limit : ℕ) (skip : Bool) 
 none_went start folder limit skip all p opened taken merged skipped = record {
   closed = [];
   on = λ gs ss h. subst (λ (l : List MDBShardFile). Groups limit None all gs (l ++ ss)) (sym skipped) (subst (λ (c : Option Group). Groups limit c all gs ss) opened h);
+  first = λ gs ss h. record { more = gs; skipped = ss; first = refl; grouped = subst (λ (c : Option Group). Groups limit c all gs ss) (sym opened) h };
   results = subst (AreResults start start folder []) (sym merged) (nothing_done start folder);
   taken = taken;
   adds = subst (AddsResults start start) (sym merged) (adds_nothing start []);
+  writes = writes_nothing start start folder (IsOneDue start folder []) refl;
   keeps = preserves_itself start;
   intact = subst (IsIntactIfOpen start) (sym opened) tt;
   reads = λ e h. h;
@@ -61,6 +64,11 @@ merges old new source folder max_size limit skip now offered r same offers m = r
   obsolete = m.obsolete;
   strict = λ e. All-from_recursion (λ o. IsOk o.records) offered (m.reads e);
 }
+
+pub may_merge : (old new : Files) (source folder : List ℕ) (max_size limit now : ℕ) (offered : List Offered) → limit ≡ target_of max_size → Offers old source now offered
+    → WritesOfAll old new folder limit offered → KeptOrMerged old new source folder max_size now
+may_merge old new source folder max_size limit now offered same offers writes =
+    inr (record { offered = offered; offers = offers; writes = subst (λ (n : ℕ). WritesOfAll old new folder n offered) same writes })
 
 pub unmerged : (files : Files) (source : List ℕ) (skip : Bool) (now : ℕ) (offered : List Offered) → Offers files source now offered → (e : StoreError) → IsUnmergedOf skip offered e → IsUnmerged files source skip now e
 unmerged files source skip now offered offers (error.Io place.Disk) h = tt

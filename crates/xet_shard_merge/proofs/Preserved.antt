@@ -11,7 +11,7 @@ use Rattle.xet_shard_file.specs.Puts.{IsDone, IsKeptOrDone}
 use Rattle.xet_shard_merge.specs.Merging.{AddsResults, IsNoTemp}
 use Rattle.xet_shard_merge.specs.internal.Keeping.{IsFree, Preserves, durable_at}
 
-at_path : (name path : List ℕ) → (name ≡ path) ⊎ (name ≢ path)
+pub at_path : (name path : List ℕ) → (name ≡ path) ⊎ (name ≢ path)
 at_path name path = by (pointwise nat_eq name path) refl
   where
     by : (t : Bool) → pointwise nat_eq name path ≡ t → (name ≡ path) ⊎ (name ≢ path)

@@ -17,6 +17,8 @@ use Rattle.xet_shard_merge.specs.Merging.{AddsResults, AreResults, IsCopy, IsNoT
 use Rattle.xet_shard_merge.specs.declared.progress.Progress.{Progress}
 use Rattle.xet_shard_merge.specs.internal.Keeping.{IsIntact, Preserves}
 use Rattle.xet_shard_merge.specs.internal.Progressing.{Closes, ClosesGroup, ClosesIf, Ended, IsIntactIfOpen, IsJoined, NowOpen, NowOpenIs, NowSkipped, Went}
+use Rattle.xet_shard_merge.proofs.Placing.{writes_more}
+use Rattle.xet_shard_merge.proofs.Unique.{enter_only, follow_only, skip_only, start_only}
 
 -- ---- files that are kept
 
@@ -142,9 +144,14 @@ module _ (start now : Files) (folder : List ℕ) (limit : ℕ) (skip : Bool) (al
     on = λ gs ss h.
         subst (λ (l : List MDBShardFile). Groups limit None all (w.closed ++ gs) l) (sym (append_assoc p.skipped.items (o.file ∷ []) ss) ∙ ap (λ (l : List MDBShardFile). l ++ ss) (sym done.skipped))
         (w.on gs (o.file ∷ ss) (skip_step limit p.open o rest gs ss is (subst (λ (c : Option Group). Groups limit c rest gs ss) done.open_is h)));
+    first = λ gs ss h.
+        let f = w.first gs ss h in
+        let left = skip_only limit p.open o rest f.more f.skipped is f.grouped in
+        record { more = f.more; skipped = left.0; first = f.first; grouped = subst (λ (c : Option Group). Groups limit c rest f.more left.0) (sym done.open_is) left.1 };
     results = subst (AreResults start now folder w.closed) (sym done.merged) w.results;
     taken = done.taken ∙ w.taken;
     adds = subst (AddsResults start now) (sym done.merged) w.adds;
+    writes = w.writes;
     keeps = w.keeps;
     intact = subst (IsIntactIfOpen start) (sym done.open_is) w.intact;
     reads = λ e more. w.reads e (ok e, more);
@@ -164,9 +171,18 @@ module _ (start now : Files) (folder : List ℕ) (limit : ℕ) (skip : Bool) (al
           on = λ gs ss k.
               subst (λ (l : List MDBShardFile). Groups limit None all (w.closed ++ gs) (l ++ ss)) (sym done.now.skipped)
               (w.on gs ss (enter_step limit p.open o rest gs ss h records joins (subst (λ (c : Option Group). Groups limit c rest gs ss) done.now.open_is k)));
+          first = λ gs ss k.
+              let f = w.first gs ss k in
+              record {
+                more = f.more;
+                skipped = f.skipped;
+                first = f.first;
+                grouped = subst (λ (c : Option Group). Groups limit c rest f.more f.skipped) (sym done.now.open_is) (enter_only limit p.open o rest f.more f.skipped h records joins f.grouped);
+              };
           results = subst (AreResults start now folder w.closed) (sym done.now.merged) w.results;
           taken = done.now.taken ∙ w.taken;
           adds = subst (AddsResults start now) (sym done.now.merged) w.adds;
+          writes = w.writes;
           keeps = w.keeps;
           intact = subst (IsIntactIfOpen start) (sym done.now.open_is) (All-append (IsIntact start) h.taken (o.file ∷ []) intact (All-cons (IsIntact start) o.file [] whole (All-nil (IsIntact start))));
           reads = λ e more. w.reads e (ok e, more);
@@ -183,9 +199,18 @@ module _ (start now : Files) (folder : List ℕ) (limit : ℕ) (skip : Bool) (al
           on = λ gs ss k.
               subst (λ (l : List MDBShardFile). Groups limit None all (w.closed ++ gs) (l ++ ss)) (sym skipped)
               (w.on gs ss (start_step limit p.open o rest gs ss records is (subst (λ (c : Option Group). Groups limit c rest gs ss) done.open_is k)));
+          first = λ gs ss k.
+              let f = w.first gs ss k in
+              record {
+                more = f.more;
+                skipped = f.skipped;
+                first = f.first;
+                grouped = subst (λ (c : Option Group). Groups limit c rest f.more f.skipped) (sym done.open_is) (start_only limit p.open o rest f.more f.skipped records is f.grouped);
+              };
           results = subst (AreResults start now folder w.closed) (sym merged) w.results;
           taken = done.taken ∙ none.1.taken ∙ w.taken;
           adds = subst (AddsResults start now) (sym merged) w.adds;
+          writes = w.writes;
           keeps = w.keeps;
           intact = subst (IsIntactIfOpen start) (sym done.open_is) (All-cons (IsIntact start) o.file [] whole (All-nil (IsIntact start)));
           reads = λ e more. w.reads e (ok e, more);
@@ -220,9 +245,19 @@ went_follow start now after folder limit skip all o rest ok records whole p q r 
           subst (λ (l : List MDBShardFile). Groups limit None all ((w.closed ++ g ∷ []) ++ gs) (l ++ ss)) (sym (opens.skipped ∙ done.skipped))
           (subst (λ (l : List Group). Groups limit None all l (p.skipped.items ++ ss)) (sym (append_assoc w.closed (g ∷ []) gs))
           (w.on (g ∷ gs) ss (follow_step limit p.open o rest gs ss g records is (subst (λ (c : Option Group). Groups limit c rest gs ss) opens.open_is k))));
+      first = λ gs ss k.
+          let f = w.first gs ss k in
+          let left = follow_only limit p.open o rest f.more f.skipped g records is f.grouped in
+          record {
+            more = left.0;
+            skipped = f.skipped;
+            first = f.first ∙ ap (λ (l : List Group). w.closed ++ l) left.1 ∙ sym (append_assoc w.closed (g ∷ []) left.0);
+            grouped = subst (λ (c : Option Group). Groups limit c rest left.0 f.skipped) (sym opens.open_is) left.2;
+          };
       results = subst (AreResults start after folder (w.closed ++ g ∷ [])) (sym opens.merged) (closed_results start now after folder limit skip all (o ∷ rest) p q g is.is_open done keeps w);
       taken = opens.taken ∙ closed_taken start now after folder limit skip all (o ∷ rest) p q g is.is_open done keeps w;
       adds = subst (AddsResults start after) (sym opens.merged) (closed_adds start now after folder limit skip all (o ∷ rest) p q g is.is_open done keeps w);
+      writes = writes_more start now after folder w.keeps w.closed g (subst (IsIntactIfOpen start) is.is_open w.intact) w.writes done.writes;
       keeps = preserves_then start now after w.keeps keeps;
       intact = subst (IsIntactIfOpen start) (sym opens.open_is) (All-cons (IsIntact start) o.file [] whole (All-nil (IsIntact start)));
       reads = λ e more. w.reads e (ok e, more);

@@ -106,11 +106,44 @@ KeepsFiles old new = (name bytes : List ℕ) → IsNoTemp name → bytes_at old 
 abbrev pub AddsResults : Files → Files → List MDBShardFile → Type 0
 AddsResults old new results = (name : List ℕ) → IsNoTemp name → file_at old name ≡ None → IsSome (file_at new name) → Any (λ r. r.path ≡ name) results
 
+-- ---- what was written
+
+-- The bytes of the result of a group, if it is due to be written: those of one shard that is not in the folder yet, or
+-- the full encoding of the records of several.
+abbrev pub IsDue : Files → List ℕ → Group → List ℕ → Type 0
+IsDue files folder g bytes = elim g.taken [
+  | [] ↦ ⊥
+  | s ∷ [] ↦ (s.path ≢ shard_path folder s.shard_hash) × (bytes_at files s.path ≡ Some bytes)
+  | s ∷ t ∷ more ↦ bytes ≡ full_shard_bytes (held_shard g.records g.creation None)
+]
+
+-- The name is that of the shard file with these bytes, which is whole and durable; or it is the temporary one beside it.
+abbrev pub IsPlaced : Files → List ℕ → List ℕ → List ℕ → Type 0
+IsPlaced new folder bytes name =
+    ((name ≡ path_of folder bytes) × (bytes_at new name ≡ Some bytes) × (option_map (λ e. e.durable) (get new name) ≡ Some true))
+    ⊎ (name ≡ temp_name (path_of folder bytes))
+
+-- Every name has the entry that it had, unless bytes that are due were written there.
+abbrev pub WritesOnly : Files → Files → List ℕ → (List ℕ → Type 0) → Type 0
+WritesOnly old new folder Due = (name : List ℕ) → (get new name ≡ get old name) ⊎ ((bytes : List ℕ) × Due bytes × IsPlaced new folder bytes name)
+
+-- Of the results of merging the valid shards of `source` any were written, each whole and durable; else nothing has
+-- changed but the temporary files beside them.
+pub record MayMerge (old new : Files) (source target : List ℕ) (max_size now : ℕ) : Type 0 where
+  pub offered : List Offered
+  pub offers : Offers old source now offered
+  pub writes : (groups : List Group) (skipped : List MDBShardFile) → Groups (target_of max_size) None offered groups skipped → WritesOnly old new target (λ bytes. Any (λ g. IsDue old target g bytes) groups)
+
+-- What a merge has done, also after an error: nothing, or any of its results were written.
+abbrev pub KeptOrMerged : Files → Files → List ℕ → List ℕ → ℕ → ℕ → Type 0
+KeptOrMerged old new source target max_size now = (new ≡ old) ⊎ MayMerge old new source target max_size now
+
 -- The valid shards of a folder were merged within it. Nothing else was written, and nothing was removed.
 pub record MergesWithin (old new : Files) (folder : List ℕ) (max_size : ℕ) (skip : Bool) (now : ℕ) (merge : ShardMergeResult) : Type 0 where
   pub merges : Merges old new folder folder max_size skip now merge
   pub keeps : KeepsFiles old new
   pub adds : AddsResults old new merge.merged_shards.items
+  pub writes : KeptOrMerged old new folder folder max_size now
 
 -- Shards were merged within a folder, and then the obsolete ones were removed.
 pub record Consolidates (old new : Files) (folder : List ℕ) (max_size : ℕ) (skip : Bool) (now : ℕ) (results : List MDBShardFile) : Type 0 where
@@ -120,11 +153,11 @@ pub record Consolidates (old new : Files) (folder : List ℕ) (max_size : ℕ) (
   pub removes : new ≡ all_removed between (paths merge.obsolete_shards.items)
   pub merged : results ≡ merge.merged_shards.items
 
--- After an error every file has its bytes, or the shards were merged, and some of the obsolete ones were removed, the
--- first ones.
+-- After an error no file was removed, and any of the results were written; or the shards were merged, so that all results
+-- are there, and some of the obsolete ones were removed, the first ones.
 abbrev pub KeptOrConsolidated : Files → Files → List ℕ → ℕ → Bool → ℕ → Type 0
 KeptOrConsolidated old new folder max_size skip now =
-    KeepsFiles old new
+    (KeepsFiles old new × KeptOrMerged old new folder folder max_size now)
     ⊎ ((between : Files) × (merge : ShardMergeResult) × (n : ℕ) × MergesWithin old between folder max_size skip now merge
     × (new ≡ all_removed between (take n (paths merge.obsolete_shards.items))))
 

@@ -7,7 +7,7 @@ ghost use Rattle.xet_shard.specs.Union.{IsKeyed};
 ghost use Rattle.xet_shard_directory.specs.Answers.{IsReadError};
 ghost use Rattle.xet_shard_merge.specs.Groups.{alone};
 ghost use Rattle.xet_shard_merge.specs.internal.Grouping.{IsRead};
-ghost use Rattle.xet_shard_merge.specs.internal.Keeping.{Preserves};
+ghost use Rattle.xet_shard_merge.specs.internal.Keeping.{Preserves, WritesIfOpen};
 ghost use Rattle.xet_shard_merge.specs.internal.Progressing.{Closes, HasAdded, HasFate, HasFateIn, IsIntactIfOpen, IsJoined, NowOpen, NowSkipped, offer};
 
 use crate::group::{OpenGroup, Records};
@@ -130,6 +130,7 @@ impl Progress {
     ) -> Result<(), StoreError>
         ensures closed { D.tells disk.old ≡ true → OnOk result (Closes (D.files disk.old) (D.files disk.new) target.now self.old self.new) }
         ensures keeps { D.tells disk.old ≡ true → Preserves (D.files disk.old) (D.files disk.new) }
+        ensures writes { D.tells disk.old ≡ true → WritesIfOpen (D.files disk.old) (D.files disk.new) target.now self.old.open }
         ensures intact { D.tells disk.old ≡ true → IsIntactIfOpen (D.files disk.old) self.old.open → IfErr result (HasDiskReason (D.faults disk.old) (D.faults disk.new)) }
         ensures frame { Stays D.tells D.faults disk.old disk.new }
         ensures reason { IfErr result (IsReadError (D.faults disk.old) (D.faults disk.new)) }

@@ -1,14 +1,16 @@
 //! Writing of the result of a group.
 
-ghost use Rattle.std.specs.Prelude.{◌≡◌, ◌∷◌, [], ℕ, List, All, IfErr, IfOk, IsOk, IsTrue, Some, true};
+ghost use Rattle.std.specs.Prelude.{◌≡◌, ◌∷◌, [], ℕ, List, All, IfErr, IfOk, IsOk, IsTrue, None, Some, true};
 ghost use Rattle.xet_codec.specs.Stops.{HasDiskReason};
 ghost use Rattle.xet_io.specs.Disk.{bytes_at};
 ghost use Rattle.xet_io.specs.Frame.{Stays, Unchanged};
+ghost use Rattle.xet_shard.specs.Held.{held_shard};
 ghost use Rattle.xet_shard.specs.Sections.{info_at};
 ghost use Rattle.xet_shard_directory.specs.Answers.{IsReadError};
 ghost use Rattle.xet_shard_directory.specs.Writing.{IsPutError};
-ghost use Rattle.xet_shard_merge.specs.Merging.{AddsResults, IsCopy, IsMerged, IsResult, Stands};
-ghost use Rattle.xet_shard_merge.specs.internal.Keeping.{IsFree, IsIntact, Preserves};
+ghost use Rattle.xet_shard_format.specs.Encoding.{full_shard_bytes};
+ghost use Rattle.xet_shard_merge.specs.Merging.{AddsResults, IsCopy, IsDue, IsMerged, IsResult, Stands, WritesOnly};
+ghost use Rattle.xet_shard_merge.specs.internal.Keeping.{IsCopyDue, IsFree, IsIntact, IsOnlyDue, Preserves};
 
 use crate::group::OpenGroup;
 use std::alloc::Global;
@@ -29,6 +31,7 @@ pub(crate) fn write_result<D: Disk>(
     ensures result { D.tells disk.old ≡ true → IfOk result (IsResult (D.files disk.old) (D.files disk.new) target.now group.now) }
     ensures adds { D.tells disk.old ≡ true → IfOk result (λ s. AddsResults (D.files disk.old) (D.files disk.new) (s ∷ [])) }
     ensures keeps { D.tells disk.old ≡ true → Preserves (D.files disk.old) (D.files disk.new) }
+    ensures writes { D.tells disk.old ≡ true → WritesOnly (D.files disk.old) (D.files disk.new) target.now (IsDue (D.files disk.old) target.now group.now) }
     ensures intact { D.tells disk.old ≡ true → All (IsIntact (D.files disk.old)) group.now.taken → IfErr result (HasDiskReason (D.faults disk.old) (D.faults disk.new)) }
     ensures frame { Stays D.tells D.faults disk.old disk.new }
     ensures reason { IfErr result (IsReadError (D.faults disk.old) (D.faults disk.new)) }
@@ -49,6 +52,7 @@ fn write_copy<D: Disk>(
     ensures copy { D.tells disk.old ≡ true → IfOk result (IsCopy (D.files disk.old) (D.files disk.new) target.now shard.now) }
     ensures adds { D.tells disk.old ≡ true → IfOk result (λ s. AddsResults (D.files disk.old) (D.files disk.new) (s ∷ [])) }
     ensures keeps { D.tells disk.old ≡ true → Preserves (D.files disk.old) (D.files disk.new) }
+    ensures writes { D.tells disk.old ≡ true → WritesOnly (D.files disk.old) (D.files disk.new) target.now (IsCopyDue (D.files disk.old) target.now shard.now) }
     ensures intact { D.tells disk.old ≡ true → IsIntact (D.files disk.old) shard.now → IfErr result (HasDiskReason (D.faults disk.old) (D.faults disk.new)) }
     ensures frame { Stays D.tells D.faults disk.old disk.new }
     ensures reason { IfErr result (IsReadError (D.faults disk.old) (D.faults disk.new)) }
@@ -74,6 +78,7 @@ fn write_merged<D: Disk>(
     ensures merged { D.tells disk.old ≡ true → IfOk result (IsMerged (D.files disk.new) target.now group.now) }
     ensures adds { D.tells disk.old ≡ true → IfOk result (λ s. AddsResults (D.files disk.old) (D.files disk.new) (s ∷ [])) }
     ensures keeps { D.tells disk.old ≡ true → Preserves (D.files disk.old) (D.files disk.new) }
+    ensures writes { D.tells disk.old ≡ true → WritesOnly (D.files disk.old) (D.files disk.new) target.now (IsOnlyDue (full_shard_bytes (held_shard group.now.records group.now.creation None))) }
     ensures frame { Stays D.tells D.faults disk.old disk.new }
     ensures reason { IfErr result (HasDiskReason (D.faults disk.old) (D.faults disk.new)) }
 {
@@ -94,6 +99,7 @@ fn write_new<D: Disk>(
     ensures stands { D.tells disk.old ≡ true → IfOk result (Stands (D.files disk.new) target.now bytes.now) }
     ensures adds { D.tells disk.old ≡ true → IfOk result (λ s. AddsResults (D.files disk.old) (D.files disk.new) (s ∷ [])) }
     ensures keeps { D.tells disk.old ≡ true → Preserves (D.files disk.old) (D.files disk.new) }
+    ensures writes { D.tells disk.old ≡ true → WritesOnly (D.files disk.old) (D.files disk.new) target.now (IsOnlyDue bytes.now) }
     ensures intact { IsOk (info_at bytes.now) → IfErr result (HasDiskReason (D.faults disk.old) (D.faults disk.new)) }
     ensures frame { Stays D.tells D.faults disk.old disk.new }
     ensures reason { IfErr result (IsPutError (D.faults disk.old) (D.faults disk.new)) }

@@ -1,5 +1,5 @@
 -- What calls that write results leave of the other files.
-use Rattle.std.specs.Prelude.{◌≡◌, ◌⊎◌, ℕ, length, Bool, true, false, List, Option, Some, None, Result, Ok, Err, option_map}
+use Rattle.std.specs.Prelude.{◌≡◌, ◌≢◌, ◌⊎◌, ℕ, length, Any, Bool, true, false, List, Option, Some, None, Result, Ok, Err, option_map}
 use Rattle.std.specs.FinMap.{get}
 use Rattle.xet_hash.specs.declared.error.Place.TheVariants.{Disk}
 use Rattle.xet_hash.specs.declared.error.StoreError.{StoreError}
@@ -8,7 +8,9 @@ use Rattle.xet_io.specs.Disk.{Files, bytes_at}
 use Rattle.xet_shard.specs.Sections.{info_at}
 use Rattle.xet_shard.specs.Union.{ShardRecords}
 use Rattle.xet_shard_directory.specs.declared.shard_file.MDBShardFile.{MDBShardFile}
-use Rattle.xet_shard_merge.specs.Merging.{IsNoTemp, KeepsFiles}
+use Rattle.xet_shard_file.specs.Names.{shard_path}
+use Rattle.xet_shard_merge.specs.Groups.{Group}
+use Rattle.xet_shard_merge.specs.Merging.{IsDue, IsNoTemp, KeepsFiles, WritesOnly}
 
 -- whether a crash keeps what there is of a name
 abbrev pub durable_at : Files → List ℕ → Option Bool
@@ -18,6 +20,23 @@ durable_at files name = option_map (λ e. e.durable) (get files name)
 pub record Preserves (old new : Files) : Type 0 where
   pub bytes : KeepsFiles old new
   pub durable : (name bytes : List ℕ) → IsNoTemp name → bytes_at old name ≡ Some bytes → durable_at old name ≡ Some true → durable_at new name ≡ Some true
+
+-- these bytes alone
+abbrev pub IsOnlyDue : List ℕ → List ℕ → Type 0
+IsOnlyDue bytes b = b ≡ bytes
+
+-- the bytes of a shard that is not in the folder yet
+abbrev pub IsCopyDue : Files → List ℕ → MDBShardFile → List ℕ → Type 0
+IsCopyDue files folder s b = (s.path ≢ shard_path folder s.shard_hash) × (bytes_at files s.path ≡ Some b)
+
+-- the bytes of the result of one of these groups
+abbrev pub IsOneDue : Files → List ℕ → List Group → List ℕ → Type 0
+IsOneDue files folder groups b = Any (λ g. IsDue files folder g b) groups
+
+-- the result of the open group alone was written, if there is one
+abbrev pub WritesIfOpen : Files → Files → List ℕ → Option Group → Type 0
+WritesIfOpen old new folder None = new ≡ old
+WritesIfOpen old new folder (Some g) = WritesOnly old new folder (IsDue old folder g)
 
 -- nothing is there, or these bytes are
 abbrev pub IsFree : Option (List ℕ) → List ℕ → Type 0

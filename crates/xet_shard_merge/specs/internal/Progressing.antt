@@ -8,8 +8,8 @@ use Rattle.xet_io.specs.Disk.{Files, bytes_at}
 use Rattle.xet_shard.specs.Union.{ShardRecords, records_in}
 use Rattle.xet_shard_directory.specs.declared.shard_file.MDBShardFile.{MDBShardFile}
 use Rattle.xet_shard_merge.specs.Groups.{Agrees, Begins, Ends, Group, Groups, IsSkipped, Joins, Offered, joined}
-use Rattle.xet_shard_merge.specs.Merging.{AddsResults, AreResults, IsResult}
-use Rattle.xet_shard_merge.specs.internal.Keeping.{IsIntact, Preserves}
+use Rattle.xet_shard_merge.specs.Merging.{AddsResults, AreResults, IsDue, IsResult, WritesOnly}
+use Rattle.xet_shard_merge.specs.internal.Keeping.{IsIntact, IsOneDue, Preserves}
 use Rattle.xet_shard_merge.specs.declared.progress.Fate.{Fate}
 use Rattle.xet_shard_merge.specs.declared.progress.Fate.TheVariants.{Enters, Follows, Skipped, Starts}
 use Rattle.xet_shard_merge.specs.declared.progress.Progress.{Progress}
@@ -49,6 +49,7 @@ pub record ClosesGroup (before after : Files) (folder : List ℕ) (old : Progres
   pub result : MDBShardFile
   pub is_result : IsResult before after folder g result
   pub adds : AddsResults before after (result ∷ [])
+  pub writes : WritesOnly before after folder (IsDue before folder g)
   pub open_is : new.open ≡ None
   pub taken : new.taken.items ≡ old.taken.items ++ g.taken
   pub merged : new.merged.items ≡ old.merged.items ++ result ∷ []
@@ -82,13 +83,22 @@ HasFateIn limit g n records Starts = ⊥
 HasFateIn limit g n records Follows = g.length + n ≤ limit + 248 → ⊥
 HasFateIn limit g n records Enters = (g.length + n ≤ limit + 248) × Agrees g.records records
 
+-- After the closed groups come those of the shards that are left.
+pub record Follow (limit : ℕ) (rest : List Offered) (p : Progress) (closed gs : List Group) : Type 0 where
+  pub more : List Group
+  pub skipped : List MDBShardFile
+  pub first : gs ≡ closed ++ more
+  pub grouped : Groups limit p.open rest more skipped
+
 -- The shards before `rest` were taken or skipped: whatever groups follow, these are the first ones of all.
 pub record Went (start now : Files) (folder : List ℕ) (limit : ℕ) (skip : Bool) (all rest : List Offered) (p : Progress) : Type 0 where
   pub closed : List Group
   pub on : (gs : List Group) (ss : List MDBShardFile) → Groups limit p.open rest gs ss → Groups limit None all (closed ++ gs) (p.skipped.items ++ ss)
+  pub first : (gs : List Group) (ss : List MDBShardFile) → Groups limit None all gs ss → Follow limit rest p closed gs
   pub results : AreResults start now folder closed p.merged.items
   pub taken : p.taken.items ≡ flat_map (λ g. g.taken) closed
   pub adds : AddsResults start now p.merged.items
+  pub writes : WritesOnly start now folder (IsOneDue start folder closed)
   pub keeps : Preserves start now
   pub intact : IsIntactIfOpen start p.open
   pub reads : skip ≡ false → AllByRecursion (λ o. IsOk o.records) rest → AllByRecursion (λ o. IsOk o.records) all
@@ -105,6 +115,10 @@ pub record Ended (start now : Files) (folder : List ℕ) (limit : ℕ) (skip : B
 abbrev pub offered_in : MDBShardFile → Option (List ℕ) → Offered
 offered_in s None = record { file = s; length = 0; records = Err FileNotFound }
 offered_in s (Some bytes) = record { file = s; length = length bytes; records = records_in s.shard.metadata bytes }
+
+-- What was written is due for the groups of all shards, whatever these are.
+abbrev pub WritesOfAll : Files → Files → List ℕ → ℕ → List Offered → Type 0
+WritesOfAll start now folder limit all = (gs : List Group) (ss : List MDBShardFile) → Groups limit None all gs ss → WritesOnly start now folder (IsOneDue start folder gs)
 
 -- a shard as it is offered
 abbrev pub offered_of : Files → MDBShardFile → Offered

@@ -1,6 +1,6 @@
 use Rattle.std.specs.Prelude.{Vec}
 use Rattle.std.specs.Global.{Global}
-use Rattle.std.proofs.Common.{◌≡◌, ◌∙◌, ℕ, Bool, List, IfOk, OnErr, Result, Ok, Err, inr, take}
+use Rattle.std.proofs.Common.{◌≡◌, ◌∙◌, ℕ, Bool, List, IfOk, OnErr, Result, Ok, Err, inl, inr, take}
 use Rattle.xet_hash.specs.declared.error.StoreError.{StoreError}
 use Rattle.xet_io.specs.Disk.{Files}
 use Rattle.xet_shard_directory.specs.Directories.{all_removed, paths}
@@ -25,11 +25,14 @@ returns-in-Ok-clause-consolidated g c = λ tells.
     let files = g.D.Disk.files in
     let merge = c.in-Ok.ensures in
     consolidated (files c.args.disk.now) (files c.merge_shards.new.disk) (files c.remove_obsolete.new.disk) c.args.dir.now c.args.max_size c.args.skip_on_error c.args.now c.in-Ok.merge
-    (record { merges = merge.merged tells; keeps = merge.keeps tells; adds = merge.adds tells }) c.remove_obsolete.result c.remove_obsolete.ensures.merged (c.remove_obsolete.ensures.removed (merge.frame.tells ∙ tells))
+    (record { merges = merge.merged tells; keeps = merge.keeps tells; adds = merge.adds tells; writes = merge.writes tells }) c.remove_obsolete.result c.remove_obsolete.ensures.merged (c.remove_obsolete.ensures.removed (merge.frame.tells ∙ tells))
 
 pub returns-in-Ok-clause-kept : goal.returns-in-Ok-clause-kept
 returns-in-Ok-clause-kept g c = λ tells.
     let files = g.D.Disk.files in
     let merge = c.in-Ok.ensures in
     kept (files c.args.disk.now) (files c.merge_shards.new.disk) (files c.remove_obsolete.new.disk) c.args.dir.now c.args.max_size c.args.skip_on_error c.args.now c.in-Ok.merge
-    (record { merges = merge.merged tells; keeps = merge.keeps tells; adds = merge.adds tells }) c.remove_obsolete.result (c.remove_obsolete.ensures.kept (merge.frame.tells ∙ tells))
+    (record { merges = merge.merged tells; keeps = merge.keeps tells; adds = merge.adds tells; writes = merge.writes tells }) c.remove_obsolete.result (c.remove_obsolete.ensures.kept (merge.frame.tells ∙ tells))
+
+pub returns-in-Err-clause-kept : goal.returns-in-Err-clause-kept
+returns-in-Err-clause-kept g c = λ tells. inl (c.in-Err.ensures.keeps tells, c.in-Err.ensures.writes tells)

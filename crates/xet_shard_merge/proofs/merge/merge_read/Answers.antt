@@ -24,3 +24,17 @@ returns-in-Err-clause-refused g c = λ tells intact.
     let all = map (offered_of files) c.args.shards.items in
     let new = c.new-progress.ensures in
     c.in-Err.ensures.refused tells files all intact (none_went files c.args.target.now c.args.limit c.args.skip_on_error all c.new-progress.result new.open new.taken new.merged new.skipped)
+
+pub returns-in-Ok-clause-writes : goal.returns-in-Ok-clause-writes
+returns-in-Ok-clause-writes g c = λ tells intact.
+    let files = g.D.Disk.files c.args.disk.now in
+    let all = map (offered_of files) c.args.shards.items in
+    let new = c.new-progress.ensures in
+    c.in-Ok.ensures.writes tells files all intact (none_went files c.args.target.now c.args.limit c.args.skip_on_error all c.new-progress.result new.open new.taken new.merged new.skipped)
+
+pub returns-in-Err-clause-writes : goal.returns-in-Err-clause-writes
+returns-in-Err-clause-writes g c = λ tells intact.
+    let files = g.D.Disk.files c.args.disk.now in
+    let all = map (offered_of files) c.args.shards.items in
+    let new = c.new-progress.ensures in
+    c.in-Err.ensures.writes tells files all intact (none_went files c.args.target.now c.args.limit c.args.skip_on_error all c.new-progress.result new.open new.taken new.merged new.skipped)

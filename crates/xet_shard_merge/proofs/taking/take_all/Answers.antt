@@ -10,6 +10,7 @@ use Rattle.xet_shard_merge.specs.internal.Keeping.{IsIntact}
 use Rattle.xet_shard_merge.specs.internal.Progressing.{IsUnmergedOf, Went, offered_of}
 use Rattle.xet_shard_merge.proofs.Offering.{any_later, disk_unmerged, ended, one_unmerged}
 use Rattle.xet_shard_merge.proofs.Stepping.{open_later, preserves_itself, preserves_then}
+use Rattle.xet_shard_merge.proofs.Due.{end_writes}
 use Rattle.xet_shard_merge.proofs.taking.take_all.Goals as goal
 
 pub loop-shard-init : goal.loop-shard-init
@@ -94,3 +95,24 @@ returns-in-Err-clause-keeps g c = λ tells.
     let at = c.loop-shard in
     let files = g.D.Disk.files in
     preserves_then (files c.args.disk.now) (files at.disk) (files c.take_next.new.disk) (at.invariant.keeps tells) (c.take_next.ensures.keeps (at.invariant.tells ∙ tells))
+
+pub returns-in-Err-clause-writes : goal.returns-in-Err-clause-writes
+returns-in-Err-clause-writes g c = λ tells start all intact w.
+    let at = c.loop-shard in
+    let files = g.D.Disk.files in
+    let rest : List MDBShardFile = into_iter_items c.next.new.self in
+    let steps : into_iter_items at.shard-iterator ≡ c.in-Some.shard ∷ rest = c.in-Some.ensures.steps.0 in
+    let h = at.invariant.went tells start all intact w in
+    let whole = subst (All (IsIntact start)) steps h.1 in
+    c.take_next.ensures.writes (at.invariant.tells ∙ tells) start all (map (offered_of start) rest) (All-head (IsIntact start) c.in-Some.shard rest whole)
+    (subst (λ (l : List MDBShardFile). Went start (files at.disk) c.args.target.now c.args.limit c.args.skip_on_error all (map (offered_of start) l) at.progress) steps h.0)
+
+pub returns-clause-writes : goal.returns-clause-writes
+returns-clause-writes g c = λ tells start all intact w.
+    let at = c.loop-shard in
+    let files = g.D.Disk.files in
+    let empty : into_iter_items at.shard-iterator ≡ [] = nil_from_length (into_iter_items at.shard-iterator) (sym at.invariant.counted ∙ c.in-None.ensures.steps.0) in
+    let h = at.invariant.went tells start all intact w in
+    end_writes start (files at.disk) (files c.close.new.disk) c.args.target.now c.args.limit c.args.skip_on_error all at.progress
+    (subst (λ (l : List MDBShardFile). Went start (files at.disk) c.args.target.now c.args.limit c.args.skip_on_error all (map (offered_of start) l) at.progress) empty h.0)
+    (c.close.ensures.writes (at.invariant.tells ∙ tells))

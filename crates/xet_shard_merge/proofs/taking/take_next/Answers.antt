@@ -14,6 +14,7 @@ use Rattle.xet_shard_merge.specs.internal.Keeping.{IsOffer, IsUnreadable, Preser
 use Rattle.xet_shard_merge.specs.internal.Progressing.{Went, offer, offered_of}
 use Rattle.xet_shard_merge.proofs.Offering.{disk_unreadable, file_now, offer_now, records_now, unread_now}
 use Rattle.xet_shard_merge.proofs.Stepping.{skipped}
+use Rattle.xet_shard_merge.proofs.Due.{unchanged_writes}
 use Rattle.xet_shard_merge.proofs.taking.take_next.Goals as goal
 
 abbrev Found : Type 0
@@ -61,3 +62,25 @@ returns-in-Err-clause-refused g c = λ tells start is keeps intact.
     let file = file_now start now c.args.shard is keeps in
     subst (λ (read : Result ShardRecords StoreError). IsUnreadable c.args.skip_on_error read c.in-Err.error) (sym (records_now start now c.args.shard is keeps))
     (c.in-Err.ensures.refused tells file.0 file.1)
+
+pub returns-in-Ok-Some-clause-writes : goal.returns-in-Ok-Some-clause-writes
+returns-in-Ok-Some-clause-writes g c = λ tells start all rest is w.
+    let now = g.D.Disk.files c.args.disk.now in
+    let frame = c.in-Ok-Some.ensures.frame in
+    let file = file_now start now c.args.shard is w.keeps in
+    let records : ShardRecords = (c.in-Ok-Some.records.0.items, c.in-Ok-Some.records.1.items) in
+    let read = subst (λ (found : Option Found). IsOffer c.args.skip_on_error (option_map records_of found) (length file.0.bytes) (records_in c.args.shard.shard.metadata file.0.bytes)) c.in-Ok-Some.field-0-is (c.in-Ok-Some.ensures.offer tells file.0 file.1) in
+    let same = offer_now start now c.args.shard is w.keeps c.in-Ok-Some.length records read.0 read.1 in
+    c.take_read.ensures.writes (frame.tells ∙ tells) start c.args.skip_on_error all rest is
+    (subst (λ (fs : Files). Went start fs c.args.target.now c.args.limit c.args.skip_on_error all (offer c.args.shard c.in-Ok-Some.length records ∷ rest) c.args.progress.now) (sym frame.same)
+    (subst (λ (o : Offered). Went start now c.args.target.now c.args.limit c.args.skip_on_error all (o ∷ rest) c.args.progress.now) same w))
+
+pub returns-in-Ok-None-clause-writes : goal.returns-in-Ok-None-clause-writes
+returns-in-Ok-None-clause-writes g c = λ tells start all rest is w.
+    unchanged_writes start (g.D.Disk.files c.args.disk.now) c.args.target.now c.args.limit c.args.skip_on_error all (offered_of start c.args.shard ∷ rest) c.args.progress.now w
+    (g.D.Disk.files c.read_offered.new.disk) c.in-Ok-None.ensures.frame.same
+
+pub returns-in-Err-clause-writes : goal.returns-in-Err-clause-writes
+returns-in-Err-clause-writes g c = λ tells start all rest is w.
+    unchanged_writes start (g.D.Disk.files c.args.disk.now) c.args.target.now c.args.limit c.args.skip_on_error all (offered_of start c.args.shard ∷ rest) c.args.progress.now w
+    (g.D.Disk.files c.read_offered.new.disk) c.in-Err.ensures.frame.same
