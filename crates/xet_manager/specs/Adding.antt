@@ -1,7 +1,7 @@
 -- What is pending, and when it is written.
 use Rattle.std.specs.Prelude.{◌≡◌, ◌+◌, ◌==◌, ℕ, nat_lt, Bool, true, false, List, [], length, None, Ok, Err, if◌then◌else◌}
 use Rattle.xet_hash.specs.declared.error.StoreError.{StoreError}
-use Rattle.xet_manager.specs.Manager.{ManagerState}
+use Rattle.xet_manager.specs.Manager.{ManagerState, SameButRoom}
 use Rattle.xet_shard.specs.Held.{Held, held_shard, held_size}
 use Rattle.xet_shard_directory.specs.Answers.{GivesUnlessDisk}
 use Rattle.xet_shard_directory.specs.Writing.{KeptOrWrote}
@@ -35,7 +35,7 @@ pub record Cuts (old new : ManagerState) (pending : Held) (path : List ℕ) : Ty
   pub checked : flush_check (flushed_bytes old.pending old.moment) old.registry ≡ Ok tt
   pub form : IsShard (held_shard old.pending old.moment None)
   pub fits : Fits (held_shard old.pending old.moment None)
-  pub rest : new ≡ record old { files = new.files; faults = new.faults; registry = new.registry; pending = pending }
+  pub rest : SameButRoom (record old { files = new.files; faults = new.faults; registry = new.registry; pending = pending }) new
 
 -- The same for some path.
 abbrev pub IsCut : ManagerState → ManagerState → Held → Type 0
@@ -44,7 +44,7 @@ IsCut old new pending = (path : List ℕ) × Cuts old new pending path
 -- A cut failed: the same is pending, and the same shards are registered. The error is that of the check, after which nothing
 -- was written, unless the disk failed or memory was out; then the file is as it was, or the write has completed.
 pub record IsUncut (old new : ManagerState) (e : StoreError) : Type 0 where
-  pub rest : new ≡ record old { files = new.files; faults = new.faults; registry = new.registry }
+  pub rest : SameButRoom (record old { files = new.files; faults = new.faults; registry = new.registry }) new
   pub kept : (shards : List Registered) → IsRegistryOf shards old.registry → IsRegistryOf shards new.registry
   pub file : old.tells ≡ true → KeptOrWrote old.files new.files old.folder (flushed_bytes old.pending old.moment)
   pub checked : GivesUnlessDisk (λ (u : Unit {0}). u) (Err e) (flush_check (flushed_bytes old.pending old.moment) old.registry)

@@ -1,3 +1,4 @@
 pub mod Adding
 pub mod Coding
 pub mod Manager
+pub mod internal

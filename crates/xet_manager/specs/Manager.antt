@@ -19,7 +19,8 @@ use Rattle.xet_shard_registration.specs.Refreshing.{IsLoadingError, IsUnloadedDi
 use Rattle.xet_shard_registry.specs.Collections.{IsRegistryOf, Tables}
 
 -- A manager: whether the disk is observable, its files and its count of failures; the folder, the settings, and the time
--- that was last passed; the registered shards, what is pending, and whether the folder was cleaned.
+-- that was last passed; the registered shards, what is pending, and whether the folder was cleaned. The room is the length
+-- of the longest record for which memory was taken.
 pub record ManagerState : Type 0 where
   pub tells : Bool
   pub files : Files
@@ -30,15 +31,27 @@ pub record ManagerState : Type 0 where
   pub registry : Tables
   pub pending : Held
   pub cleaned : Bool
+  pub room : ℕ
 
-abbrev pub manager_state : Bool → Files → ℕ → List ℕ → ManagerSettings → ℕ → Tables → Held → Bool → ManagerState
-manager_state t f n d s m r p c = record { tells = t; files = f; faults = n; folder = d; settings = s; moment = m; registry = r; pending = p; cleaned = c }
+abbrev pub manager_state : Bool → Files → ℕ → List ℕ → ManagerSettings → ℕ → Tables → Held → Bool → ℕ → ManagerState
+manager_state t f n d s m r p c b = record { tells = t; files = f; faults = n; folder = d; settings = s; moment = m; registry = r; pending = p; cleaned = c; room = b }
+
+-- the state is the first but for the room
+abbrev pub SameButRoom : ManagerState → ManagerState → Type 0
+SameButRoom m new = new ≡ record m { room = new.room }
+
+-- The state is the first, with other tables of the same shards.
+pub record HasSameShards (old new : ManagerState) : Type 0 where
+  pub rest : SameButRoom (record old { registry = new.registry }) new
+  pub shards : (shards : List Registered) → IsRegistryOf shards old.registry → IsRegistryOf shards new.registry
+  pub files : new.registry.files ≡ old.registry.files
+  pub hashes : new.registry.hashes ≡ old.registry.hashes
 
 -- ---- opening
 
 -- The manager is new: nothing is pending.
 pub record IsOpened (tells : Bool) (faults : ℕ) (folder : List ℕ) (settings : ManagerSettings) (now : ℕ) (m : ManagerState) : Type 0 where
-  pub state : m ≡ manager_state tells m.files m.faults folder settings now m.registry nothing false
+  pub state : m ≡ manager_state tells m.files m.faults folder settings now m.registry nothing false m.room
   pub later : faults ≤ m.faults
 
 -- The valid shards of the folder are registered, and no others.

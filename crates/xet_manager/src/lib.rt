@@ -2,6 +2,7 @@
 #![tactic(auto)]
 
 mod manager;
+mod room;
 mod settings;
 
 pub use manager::{FileReconstructor, ShardFileManager};

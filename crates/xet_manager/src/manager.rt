@@ -11,7 +11,9 @@ mod adding;
 mod asking;
 mod opening;
 mod registering;
+mod reserving;
 
+use crate::room::Room;
 use crate::settings::ManagerSettings;
 pub use asking::FileReconstructor;
 use std::alloc::Global;
@@ -35,18 +37,23 @@ pub struct ShardFileManager<D: Disk> {
     pending: MDBInMemoryShard,
     /// Whether the folder was cleaned of expired shards.
     cleaned: bool,
+    /// The memory that was taken ahead.
+    room: Room,
 }
 
 impl<D: Disk> Model for ShardFileManager<D> {
     ghost use Rattle.std.specs.Coded.{codes};
     ghost use Rattle.xet_manager.specs.Coding.{files_code};
     ghost use Rattle.xet_manager.specs.Manager.{ManagerState, manager_state};
+    ghost use Rattle.xet_manager.specs.internal.Room.{HasRoomFor};
 
     ghost Value = { ManagerState };
 
     ghost coded = { Prim.hlevel (codes, files_code) };
 
-    ghost view = { λ m. manager_state (D.tells m.disk) (D.files m.disk) (D.faults m.disk) m.folder m.settings m.moment m.registry m.pending m.cleaned };
+    ghost view = { λ m. manager_state (D.tells m.disk) (D.files m.disk) (D.faults m.disk) m.folder m.settings m.moment m.registry m.pending m.cleaned m.room.bytes };
+
+    ghost invariant = { λ m. HasRoomFor m.folder m.pending m.moment m.room };
 }
 
 impl<D: Disk> ShardFileManager<D> {

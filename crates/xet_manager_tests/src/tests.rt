@@ -10,4 +10,5 @@ mod import_tests;
 mod keyed_tests;
 mod records;
 mod registering_tests;
+mod reserving_tests;
 mod samples;

@@ -1,8 +1,10 @@
 //! What is pending: xorbs and files are added, and it is written as a shard.
+#![tactic(auto, using(crate::proofs::Rooms::none_due))]
 
 ghost use Rattle.std.specs.Prelude.{◌≡◌, ◌≢◌, ◌↔◌, ◌≤◌, ◌<◌, ◌^◌, ◌∷◌, [], None, IfErr, IfOk, IfSome, IsOkUnless, Ok, OnErr, OnOk, false, length, string_bytes, true};
 ghost use Rattle.xet_hash.specs.Hash.{sentinel};
 ghost use Rattle.xet_manager.specs.Adding.{Cuts, IsCut, IsUncut, blocks_before, cut_due, files_before};
+ghost use Rattle.xet_manager.specs.Manager.{SameButRoom};
 ghost use Rattle.xet_shard.specs.Held.{held, nothing, with_last};
 ghost use Rattle.xet_shard_directory.specs.Writing.{path_of};
 ghost use Rattle.xet_shard_flush.specs.Importing.{IsFlushError, KeepsFiles, flushed_bytes};
@@ -14,7 +16,7 @@ use std::alloc::Global;
 use xet_hash::StoreError;
 use xet_io::Disk;
 use xet_shard::{MDBFileInfo, MDBInMemoryShard, MDBXorbInfo};
-use xet_shard_flush::flush_pending;
+use xet_shard_flush::flush_prepared;
 
 impl<D: Disk> ShardFileManager<D> {
     /// Adds a xorb at the end of what is pending, and removes one of an equal hash. If something is pending and the
@@ -25,8 +27,8 @@ impl<D: Disk> ShardFileManager<D> {
         requires form { IsXorb block }
         requires hash { xorb_record_hash block ≢ sentinel }
         requires few { length (xorb_section (with_last xorb_record_hash (blocks_before self.old (xorb_record_size block)) block)) < 2 ^ 32 }
-        ensures added { cut_due self.old (xorb_record_size block) ≡ false → OnOk result (self.new ≡ record self.old { pending = held (with_last xorb_record_hash self.old.pending.blocks block) self.old.pending.files }) }
-        ensures kept { cut_due self.old (xorb_record_size block) ≡ false → OnErr result (self.new ≡ self.old) }
+        ensures added { cut_due self.old (xorb_record_size block) ≡ false → OnOk result (SameButRoom (record self.old { pending = held (with_last xorb_record_hash self.old.pending.blocks block) self.old.pending.files }) self.new) }
+        ensures kept { cut_due self.old (xorb_record_size block) ≡ false → OnErr result (SameButRoom self.old self.new) }
         ensures memory { cut_due self.old (xorb_record_size block) ≡ false → IsOkUnless result StoreError.OutOfMemory }
         ensures cut { cut_due self.old (xorb_record_size block) ≡ true → OnOk result (IsCut self.old self.new (held (block ∷ []) [])) }
         ensures uncut { cut_due self.old (xorb_record_size block) ≡ true → IfErr result (IsUncut self.old self.new) }
@@ -35,9 +37,11 @@ impl<D: Disk> ShardFileManager<D> {
         ensures reason { IfErr result (IsFlushError self.old.faults self.new.faults) }
     {
         if self.is_cut_due(block.num_bytes()) {
-            let next = shard_of_block(self.alloc, block)?;
+            let next = self.next();
+            let next = shard_of_block(next, block)?;
             self.cut_to(next)
         } else {
+            self.room.clear();
             self.pending.add_xorb_block(block)
         }
     }
@@ -48,8 +52,8 @@ impl<D: Disk> ShardFileManager<D> {
         requires form { IsFile file }
         requires hash { file_record_hash file ≢ sentinel }
         requires few { length (file_section (with_last file_record_hash (files_before self.old (file_record_size file)) file)) < 2 ^ 32 }
-        ensures added { cut_due self.old (file_record_size file) ≡ false → OnOk result (self.new ≡ record self.old { pending = held self.old.pending.blocks (with_last file_record_hash self.old.pending.files file) }) }
-        ensures kept { cut_due self.old (file_record_size file) ≡ false → OnErr result (self.new ≡ self.old) }
+        ensures added { cut_due self.old (file_record_size file) ≡ false → OnOk result (SameButRoom (record self.old { pending = held self.old.pending.blocks (with_last file_record_hash self.old.pending.files file) }) self.new) }
+        ensures kept { cut_due self.old (file_record_size file) ≡ false → OnErr result (SameButRoom self.old self.new) }
         ensures memory { cut_due self.old (file_record_size file) ≡ false → IsOkUnless result StoreError.OutOfMemory }
         ensures cut { cut_due self.old (file_record_size file) ≡ true → OnOk result (IsCut self.old self.new (held [] (file ∷ []))) }
         ensures uncut { cut_due self.old (file_record_size file) ≡ true → IfErr result (IsUncut self.old self.new) }
@@ -58,9 +62,11 @@ impl<D: Disk> ShardFileManager<D> {
         ensures reason { IfErr result (IsFlushError self.old.faults self.new.faults) }
     {
         if self.is_cut_due(file.num_bytes()) {
-            let next = shard_of_file(self.alloc, file)?;
+            let next = self.next();
+            let next = shard_of_file(next, file)?;
             self.cut_to(next)
         } else {
+            self.room.clear();
             self.pending.add_file_reconstruction_info(file)
         }
     }
@@ -81,15 +87,15 @@ impl<D: Disk> ShardFileManager<D> {
         if self.pending.is_empty() {
             return Ok(None);
         }
-        let nothing = MDBInMemoryShard::new(self.alloc);
-        match self.cut(nothing) {
+        let next = self.room.take_next(self.alloc);
+        match self.cut(next) {
             Ok(path) => Ok(Some(path)),
             Err(error) => Err(error),
         }
     }
 
     /// Whether what is pending is written before a record of this many bytes is added.
-    fn is_cut_due(&self, bytes: u64) -> bool
+    pub fn is_cut_due(&self, bytes: u64) -> bool
         ensures { result ≡ cut_due self.now bytes }
     {
         if self.pending.is_empty() {
@@ -97,6 +103,15 @@ impl<D: Disk> ShardFileManager<D> {
         }
         let target = self.settings.target;
         bytes > target || self.pending.shard_file_size() > target - bytes
+    }
+
+    /// The shard that is to be pending with a record after what is pending was written. The room is used.
+    fn next(&mut self) -> MDBInMemoryShard
+        ensures next { result ≡ nothing }
+        ensures rest { self.new ≡ record self.old { room = 0 } }
+    {
+        self.room.bytes = 0;
+        self.room.take_next(self.alloc)
     }
 
     /// Writes what is pending, and lets the records of `next` be pending.
@@ -119,43 +134,58 @@ impl<D: Disk> ShardFileManager<D> {
         ensures later { self.old.faults ≤ self.new.faults }
         ensures reason { IfErr result (IsFlushError self.old.faults self.new.faults) }
     {
-        flush_pending(
+        let room = self.room.bytes;
+        let due = self.room.due.take();
+        self.room.bytes = 0;
+        match flush_prepared(
             self.alloc,
             &mut self.disk,
             self.folder.as_str(),
             &mut self.registry,
             &mut self.pending,
+            due,
             next,
             self.settings.index_cap,
             self.moment,
-        )
+        ) {
+            Ok(path) => {
+                self.room.bytes = room;
+                Ok(path)
+            }
+            Err(error) => Err(error),
+        }
     }
 }
 
-/// The shard that has only this xorb.
-fn shard_of_block(alloc: Global, block: MDBXorbInfo) -> Result<MDBInMemoryShard, StoreError>
+/// The shard without records, with this xorb.
+fn shard_of_block(
+    empty: MDBInMemoryShard,
+    block: MDBXorbInfo,
+) -> Result<MDBInMemoryShard, StoreError>
+    requires empty { empty ≡ nothing }
     requires form { IsXorb block }
     requires hash { xorb_record_hash block ≢ sentinel }
     requires few { length (xorb_section (block ∷ [])) < 2 ^ 32 }
     ensures shard { IfOk result (λ shard. shard ≡ held (block ∷ []) []) }
     ensures memory { IsOkUnless result StoreError.OutOfMemory }
 {
-    let mut shard = MDBInMemoryShard::new(alloc);
+    let mut shard = empty;
     match shard.add_xorb_block(block) {
         Ok(()) => Ok(shard),
         Err(error) => Err(error),
     }
 }
 
-/// The shard that has only this file.
-fn shard_of_file(alloc: Global, file: MDBFileInfo) -> Result<MDBInMemoryShard, StoreError>
+/// The shard without records, with this file.
+fn shard_of_file(empty: MDBInMemoryShard, file: MDBFileInfo) -> Result<MDBInMemoryShard, StoreError>
+    requires empty { empty ≡ nothing }
     requires form { IsFile file }
     requires hash { file_record_hash file ≢ sentinel }
     requires few { length (file_section (file ∷ [])) < 2 ^ 32 }
     ensures shard { IfOk result (λ shard. shard ≡ held [] (file ∷ [])) }
     ensures memory { IsOkUnless result StoreError.OutOfMemory }
 {
-    let mut shard = MDBInMemoryShard::new(alloc);
+    let mut shard = empty;
     match shard.add_file_reconstruction_info(file) {
         Ok(()) => Ok(shard),
         Err(error) => Err(error),

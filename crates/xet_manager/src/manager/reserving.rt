@@ -1,0 +1,68 @@
+//! Memory that is taken before it is needed.
+
+ghost use Rattle.std.specs.Prelude.{◌≡◌, ◌≤◌, IsOkUnless, OnErr, OnOk};
+ghost use Rattle.xet_manager.specs.Manager.{HasSameShards, SameButRoom};
+
+use crate::manager::ShardFileManager;
+use xet_hash::StoreError;
+use xet_io::Disk;
+use xet_shard_flush::prepare_flush;
+
+/// The bytes that a chunk adds to a shard: a row, and an item of the chunk lookup table.
+const CHUNK_BYTES: u64 = 64;
+
+impl<D: Disk> ShardFileManager<D> {
+    /// Takes the memory for one `flush` of what is pending, and for adding, after it or without it, one xorb or file
+    /// whose record has at most so many bytes. The flush then takes memory only as the disk does, and to compare its
+    /// bytes with those of a file of the same length that is at its path; the adding takes none, if no record has its
+    /// hash. This ends when a record is added, when shards are registered, and when another time is passed. What is
+    /// pending is encoded. The only error is `OutOfMemory`. The same shards are registered in either case.
+    pub fn reserve(&mut self, bytes: u64) -> Result<(), StoreError>
+        ensures room { OnOk result (bytes ≤ self.new.room) }
+        ensures kept { OnErr result (self.new.room ≡ self.old.room) }
+        ensures rest { HasSameShards self.old self.new }
+        ensures memory { IsOkUnless result StoreError.OutOfMemory }
+    {
+        self.prepare()?;
+        self.reserve_record(bytes)
+    }
+
+    /// Takes the memory for adding one xorb or file whose record has at most so many bytes, as `reserve` does. Nothing
+    /// is encoded, so this is enough if no cut is due.
+    pub fn reserve_record(&mut self, bytes: u64) -> Result<(), StoreError>
+        ensures room { OnOk result (bytes ≤ self.new.room) }
+        ensures rest { SameButRoom self.old self.new }
+        ensures kept { OnErr result (self.new ≡ self.old) }
+        ensures memory { IsOkUnless result StoreError.OutOfMemory }
+    {
+        let chunks = (bytes / CHUNK_BYTES) as usize;
+        self.room.next.reserve(chunks)?;
+        self.pending.reserve(chunks)?;
+        self.room.bytes = self.room.bytes.max(bytes);
+        Ok(())
+    }
+
+    /// Takes the memory for a flush of what is pending.
+    fn prepare(&mut self) -> Result<(), StoreError>
+        ensures room { self.new.room ≡ self.old.room }
+        ensures rest { HasSameShards self.old self.new }
+        ensures memory { IsOkUnless result StoreError.OutOfMemory }
+    {
+        if self.pending.is_empty() || self.room.due.is_some() {
+            return Ok(());
+        }
+        match prepare_flush(
+            self.alloc,
+            self.folder.as_str(),
+            &mut self.registry,
+            &self.pending,
+            self.moment,
+        ) {
+            Ok(due) => {
+                self.room.due = Some(due);
+                Ok(())
+            }
+            Err(error) => Err(error),
+        }
+    }
+}
