@@ -40,6 +40,8 @@ pub struct MDBInMemoryShard {
     files: IndexMap<MerkleHash, MDBFileInfo>,
     /// The last position of each chunk hash in the xorbs.
     places: LastPlaces,
+    /// Memory for that map when it is built anew. Its entries are of no use.
+    spare_places: LastPlaces,
     /// The length in bytes of the shard that would be written.
     size: u64,
 }
@@ -70,6 +72,7 @@ impl MDBInMemoryShard {
             blocks: IndexMap::new(alloc),
             files: IndexMap::new(alloc),
             places: IndexMap::new(alloc),
+            spare_places: IndexMap::new(alloc),
             size: EMPTY_SIZE,
         }
     }
@@ -108,7 +111,12 @@ impl MDBInMemoryShard {
     {
         let replaced = size_at(&self.blocks, &block.hash());
         let added = block.num_bytes();
-        put_block(&mut self.blocks, &mut self.places, block)?;
+        put_block(
+            &mut self.blocks,
+            &mut self.places,
+            &mut self.spare_places,
+            block,
+        )?;
         self.size = self.size - replaced + added;
         Ok(())
     }
@@ -131,9 +139,8 @@ impl MDBInMemoryShard {
     }
 
     /// Takes the memory for one more record: a file, or a xorb of at most this many chunks. Adding it then allocates
-    /// nothing if its hash is new. A xorb that replaces one of an equal hash still takes memory, since the map of its
-    /// chunk hashes is built anew. The only error is `StoreError::OutOfMemory`. The records are the same in either
-    /// case.
+    /// nothing, also if it replaces one of an equal hash. The only error is `StoreError::OutOfMemory`. The records are the
+    /// same in either case.
     pub fn reserve(&mut self, chunks: usize) -> Result<(), StoreError>
         ensures kept { self.new ≡ self.old }
         ensures memory { IsOkUnless result StoreError.OutOfMemory }
@@ -141,6 +148,9 @@ impl MDBInMemoryShard {
         self.blocks.reserve(1)?;
         self.files.reserve(1)?;
         self.places.reserve(chunks)?;
+        self.spare_places.clear();
+        self.spare_places
+            .reserve(self.places.len().saturating_add(chunks))?;
         Ok(())
     }
 

@@ -11,16 +11,19 @@ ghost use Rattle.xet_shard_format.specs.Records.{xorb_record_hash, xorb_section}
 use super::put_last;
 use indexmap::IndexMap;
 use std::alloc::AllocError;
+use std::mem;
 use xet_hash::MerkleHash;
 use xet_shard_format::{MDBXorbInfo, XorbChunkSequenceEntry};
 
 /// For each chunk hash: the index of the last xorb that has it, and its last index in this xorb.
 pub(super) type LastPlaces = IndexMap<MerkleHash, (u32, u32)>;
 
-/// Adds a xorb at the end, removes one of an equal hash, and updates the map.
+/// Adds a xorb at the end, removes one of an equal hash, and updates the map, with the memory of `spare` if it has to be
+/// built anew.
 pub(super) fn put_block(
     blocks: &mut IndexMap<MerkleHash, MDBXorbInfo>,
     places: &mut LastPlaces,
+    spare: &mut LastPlaces,
     block: MDBXorbInfo,
 ) -> Result<(), AllocError>
     requires keyed { Keyed xorb_record_hash blocks.old.entries }
@@ -33,7 +36,7 @@ pub(super) fn put_block(
     ensures kept { OnErr result (values blocks.new ≡ values blocks.old) }
 {
     if blocks.contains_key(&block.hash()) {
-        put_again(blocks, places, block)
+        put_again(blocks, places, spare, block)
     } else {
         put_new(blocks, places, block)
     }
@@ -66,10 +69,11 @@ fn put_new(
 }
 
 /// Adds a xorb at the end, and removes the one of its hash. The map is built anew, since chunks of the
-/// removed xorb may also be in other xorbs.
+/// removed xorb may also be in other xorbs; it allocates nothing if `spare` has room for the chunks of both.
 fn put_again(
     blocks: &mut IndexMap<MerkleHash, MDBXorbInfo>,
     places: &mut LastPlaces,
+    spare: &mut LastPlaces,
     block: MDBXorbInfo,
 ) -> Result<(), AllocError>
     requires keyed { Keyed xorb_record_hash blocks.old.entries }
@@ -81,10 +85,11 @@ fn put_again(
     ensures put { OnOk result (values blocks.new ≡ with_last xorb_record_hash (values blocks.old) block) }
     ensures kept { OnErr result (values blocks.new ≡ values blocks.old) }
 {
-    let mut found = IndexMap::with_capacity(*places.allocator(), places.len())?;
-    note_all(&mut found, blocks, &block)?;
+    spare.clear();
+    spare.reserve(places.len())?;
+    note_all(spare, blocks, &block)?;
     put_last(blocks, block)?;
-    *places = found;
+    mem::swap(places, spare);
     Ok(())
 }
 
