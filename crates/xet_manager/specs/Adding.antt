@@ -4,7 +4,7 @@ use Rattle.xet_hash.specs.declared.error.StoreError.{StoreError}
 use Rattle.xet_manager.specs.Manager.{ManagerState}
 use Rattle.xet_shard.specs.Held.{Held, held_shard, held_size}
 use Rattle.xet_shard_directory.specs.Answers.{GivesUnlessDisk}
-use Rattle.xet_shard_directory.specs.Writing.{KeptOrWrote}
+use Rattle.xet_shard_directory.specs.Writing.{MayAddShard}
 use Rattle.xet_shard_flush.specs.Importing.{Imports, IsCheckError, flush_check, flushed_bytes}
 use Rattle.xet_shard_format.specs.Encoding.{Fits, IsShard}
 use Rattle.xet_shard_format.specs.declared.record.MDBFileInfo.{MDBFileInfo}
@@ -47,6 +47,6 @@ IsCut old new pending = (path : List ℕ) × Cuts old new pending 0 path
 pub record IsUncut (old new : ManagerState) (e : StoreError) : Type 0 where
   pub rest : new ≡ record old { files = new.files; faults = new.faults; registry = new.registry; room = 0 }
   pub kept : (shards : List Registered) → IsRegistryOf shards old.registry → IsRegistryOf shards new.registry
-  pub file : old.tells ≡ true → KeptOrWrote old.files new.files old.folder (flushed_bytes old.pending old.moment)
+  pub file : old.tells ≡ true → MayAddShard old.files new.files old.folder (flushed_bytes old.pending old.moment)
   pub checked : GivesUnlessDisk (λ (u : Unit {0}). u) (Err e) (flush_check (flushed_bytes old.pending old.moment) old.registry)
   pub unwritten : old.tells ≡ true → IsCheckError e → new.files ≡ old.files

@@ -8,7 +8,7 @@ use Rattle.xet_hash.specs.declared.error.StoreError.{StoreError}
 use Rattle.xet_io.specs.Disk.{Files}
 use Rattle.xet_shard.specs.Sections.{chunk_lookup_in, info_at}
 use Rattle.xet_shard.specs.declared.info.MDBShardInfo.{MDBShardInfo}
-use Rattle.xet_shard_directory.specs.Writing.{Wrote, path_of}
+use Rattle.xet_shard_directory.specs.Writing.{AddsShard, path_of}
 use Rattle.xet_shard_directory.specs.declared.shard_file.MDBShardFile.{MDBShardFile}
 use Rattle.xet_shard_flush.specs.Importing.{Imports, flush_check}
 use Rattle.xet_shard_flush.specs.internal.Steps.{Adds, IsWritten, SameShards}
@@ -25,7 +25,7 @@ registered_in t shards hash bytes b r eh is =
 pub written_over : (tells then : Bool) (old read new : Files) (folder bytes : List ℕ) (file : MDBShardFile) → then ≡ tells → read ≡ old
     → IsWritten then read new folder bytes file → IsWritten tells old new folder bytes file
 written_over tells then old read new folder bytes file et ef w =
-    record { hash = w.hash; path = w.path; info = w.info; written = λ told. subst (λ (fs : Files). Wrote fs new folder bytes file) ef (w.written (et ∙ told)) }
+    record { hash = w.hash; path = w.path; info = w.info; written = λ told. subst (λ (fs : Files). AddsShard fs new folder bytes file) ef (w.written (et ∙ told)) }
 
 module _ (tells : Bool) (cap : ℕ) (old new : Files) (folder bytes path : List ℕ) (name : path ≡ path_of folder bytes) where
   -- its hash was not registered: the items are those that are read of the bytes

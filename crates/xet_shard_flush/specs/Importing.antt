@@ -13,7 +13,7 @@ use Rattle.xet_io.specs.Disk.{File, Files, bytes_at, file_at}
 use Rattle.xet_shard.specs.Held.{Held, held_shard}
 use Rattle.xet_shard.specs.Sections.{chunk_lookup_in, info_at}
 use Rattle.xet_shard.specs.Union.{ShardRecords}
-use Rattle.xet_shard_directory.specs.Writing.{IsPutError, Wrote, path_of}
+use Rattle.xet_shard_directory.specs.Writing.{AddsShard, IsPutError, path_of}
 use Rattle.xet_shard_directory.specs.declared.shard_file.MDBShardFile.{MDBShardFile}
 use Rattle.xet_shard_file.specs.Names.{temp_name}
 use Rattle.xet_shard_format.specs.Encoding.{full_shard_bytes}
@@ -34,14 +34,15 @@ pub record Registers (cap : ℕ) (bytes : List ℕ) (file : MDBShardFile) (shard
   pub read : chunk_lookup_in file.shard.metadata bytes ≡ Ok items
   pub tables : (records : ShardRecords) → IsRegistryOf (with_shard cap shards file items records) after
 
--- A shard with these bytes was written into a folder and registered after the others, unless its hash was registered.
+-- A shard with these bytes is in a folder, where it was written if it was not there, and was registered after the others,
+-- unless its hash was registered.
 pub record Imports (tells : Bool) (cap : ℕ) (old new : Files) (folder bytes : List ℕ) (before after : Tables) (returned : List ℕ) : Type 0 where
   pub file : MDBShardFile
   pub hash : file.shard_hash ≡ chunk_hash bytes
   pub path : file.path ≡ returned
   pub name : returned ≡ path_of folder bytes
   pub info : info_at bytes ≡ Ok file.shard
-  pub written : tells ≡ true → Wrote old new folder bytes file
+  pub written : tells ≡ true → AddsShard old new folder bytes file
   pub known : (shards : List Registered) → IsRegistryOf shards before → is_registered file.shard_hash shards ≡ true → IsRegistryOf shards after
   pub fresh : (shards : List Registered) → IsRegistryOf shards before → is_registered file.shard_hash shards ≡ false → Registers cap bytes file shards after
 

@@ -3,7 +3,7 @@
 ghost use Rattle.std.specs.Prelude.{◌≡◌, List, ℕ, IfErr, IfOk, IsOkUnless, OnErr, OnOk, string_bytes, true};
 ghost use Rattle.xet_io.specs.Frame.{Stays};
 ghost use Rattle.xet_shard_directory.specs.Answers.{GivesUnlessDisk};
-ghost use Rattle.xet_shard_directory.specs.Writing.{KeptOrWrote, path_of};
+ghost use Rattle.xet_shard_directory.specs.Writing.{MayAddShard, path_of};
 ghost use Rattle.xet_shard_flush.specs.Due.{IsDue};
 ghost use Rattle.xet_shard_flush.specs.Importing.{Imports, IsCheckError, IsFlushError, KeepsFiles, flush_check};
 ghost use Rattle.xet_shard_flush.specs.internal.Steps.{SameShards};
@@ -87,7 +87,7 @@ pub(crate) fn write_due<D: Disk>(
     ensures pending { OnErr result (pending.new ≡ pending.old) }
     ensures checked { GivesUnlessDisk (λ _. tt) result (flush_check due.bytes registry.old) }
     ensures kept { OnErr result (SameShards registry.old registry.new) }
-    ensures refused { D.tells disk.old ≡ true → (folder : List ℕ) → due.path ≡ path_of folder due.bytes → OnErr result (KeptOrWrote (D.files disk.old) (D.files disk.new) folder due.bytes) }
+    ensures refused { D.tells disk.old ≡ true → (folder : List ℕ) → due.path ≡ path_of folder due.bytes → OnErr result (MayAddShard (D.files disk.old) (D.files disk.new) folder due.bytes) }
     ensures unwritten { D.tells disk.old ≡ true → IfErr result (λ e. IsCheckError e → D.files disk.new ≡ D.files disk.old) }
     ensures safe { D.tells disk.old ≡ true → (folder : List ℕ) → due.path ≡ path_of folder due.bytes → KeepsFiles (D.files disk.old) (D.files disk.new) (path_of folder due.bytes) registry.old.files }
     ensures frame { Stays D.tells D.faults disk.old disk.new }
@@ -113,7 +113,7 @@ fn write_shard<D: Disk>(
     ensures flushed { (folder : List ℕ) → due.path ≡ path_of folder due.bytes → IfOk result (λ path. Imports (D.tells disk.old) cap (D.files disk.old) (D.files disk.new) folder due.bytes registry.old registry.new (string_bytes path)) }
     ensures checked { GivesUnlessDisk (λ _. tt) result (flush_check due.bytes registry.old) }
     ensures kept { OnErr result (SameShards registry.old registry.new) }
-    ensures refused { D.tells disk.old ≡ true → (folder : List ℕ) → due.path ≡ path_of folder due.bytes → OnErr result (KeptOrWrote (D.files disk.old) (D.files disk.new) folder due.bytes) }
+    ensures refused { D.tells disk.old ≡ true → (folder : List ℕ) → due.path ≡ path_of folder due.bytes → OnErr result (MayAddShard (D.files disk.old) (D.files disk.new) folder due.bytes) }
     ensures unwritten { D.tells disk.old ≡ true → IfErr result (λ e. IsCheckError e → D.files disk.new ≡ D.files disk.old) }
     ensures safe { D.tells disk.old ≡ true → (folder : List ℕ) → due.path ≡ path_of folder due.bytes → KeepsFiles (D.files disk.old) (D.files disk.new) (path_of folder due.bytes) registry.old.files }
     ensures frame { Stays D.tells D.faults disk.old disk.new }

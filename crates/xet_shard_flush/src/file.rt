@@ -1,10 +1,10 @@
 //! The file of a shard that is to be written.
 
-ghost use Rattle.std.specs.Prelude.{◌≡◌, List, ℕ, IfErr, IfOk, IsOkUnless, Some, string_bytes, true};
+ghost use Rattle.std.specs.Prelude.{◌≡◌, ◌⊎◌, List, ℕ, IfErr, IfOk, IsOkUnless, Some, string_bytes, true};
 ghost use Rattle.xet_codec.specs.Stops.{HasDiskReason};
 ghost use Rattle.xet_io.specs.Frame.{Stays};
-ghost use Rattle.xet_io.specs.Disk.{bytes_at};
-ghost use Rattle.xet_shard_directory.specs.Writing.{KeepsFileAt, KeptOrWrote, path_of};
+ghost use Rattle.xet_io.specs.Disk.{bytes_at, synced};
+ghost use Rattle.xet_shard_directory.specs.Writing.{MayAddShard, path_of};
 ghost use Rattle.xet_shard_file.specs.Names.{shard_path, temp_name};
 ghost use Rattle.xet_shard_flush.specs.Importing.{KeepsFiles};
 ghost use Rattle.xet_shard_flush.specs.internal.Steps.{IsFileOf, IsWritten};
@@ -70,7 +70,7 @@ pub(crate) fn write_free<D: Disk>(
     ensures path { IfOk result (λ x. string_bytes x.1 ≡ file.path) }
     ensures hash { IfOk result (λ x. x.0.shard_hash ≡ file.hash) }
     ensures written { (folder : List ℕ) → file.path ≡ path_of folder bytes.now → IfOk result (λ x. IsWritten (D.tells disk.old) (D.files disk.old) (D.files disk.new) folder bytes.now x.0) }
-    ensures left { D.tells disk.old ≡ true → (folder : List ℕ) → file.path ≡ path_of folder bytes.now → KeptOrWrote (D.files disk.old) (D.files disk.new) folder bytes.now }
+    ensures left { D.tells disk.old ≡ true → (folder : List ℕ) → file.path ≡ path_of folder bytes.now → MayAddShard (D.files disk.old) (D.files disk.new) folder bytes.now }
     ensures safe { D.tells disk.old ≡ true → (folder : List ℕ) → file.path ≡ path_of folder bytes.now → KeepsFiles (D.files disk.old) (D.files disk.new) (path_of folder bytes.now) files.now }
     ensures frame { Stays D.tells D.faults disk.old disk.new }
     ensures reason { IfErr result (HasDiskReason (D.faults disk.old) (D.faults disk.new)) }
@@ -95,8 +95,7 @@ fn keep_file<D: Disk>(
     ensures path { IfOk result (λ x. string_bytes x.1 ≡ file.path) }
     ensures hash { IfOk result (λ x. x.0.shard_hash ≡ file.hash) }
     ensures written { (folder : List ℕ) → file.path ≡ path_of folder bytes.now → IfOk result (λ x. IsWritten (D.tells disk.old) (D.files disk.old) (D.files disk.new) folder bytes.now x.0) }
-    ensures left { D.tells disk.old ≡ true → (folder : List ℕ) → file.path ≡ path_of folder bytes.now → KeptOrWrote (D.files disk.old) (D.files disk.new) folder bytes.now }
-    ensures kept { D.tells disk.old ≡ true → KeepsFileAt (D.files disk.old) (D.files disk.new) file.path }
+    ensures done { D.tells disk.old ≡ true → (folder : List ℕ) → file.path ≡ path_of folder bytes.now → (D.files disk.new ≡ D.files disk.old) ⊎ (D.files disk.new ≡ synced (D.files disk.old) file.path) }
     ensures frame { Stays D.tells D.faults disk.old disk.new }
     ensures reason { IfErr result (HasDiskReason (D.faults disk.old) (D.faults disk.new)) }
 {
@@ -124,7 +123,7 @@ fn write_file<D: Disk>(
     ensures path { IfOk result (λ x. string_bytes x.1 ≡ file.path) }
     ensures hash { IfOk result (λ x. x.0.shard_hash ≡ file.hash) }
     ensures written { (folder : List ℕ) → file.path ≡ path_of folder bytes.now → IfOk result (λ x. IsWritten (D.tells disk.old) (D.files disk.old) (D.files disk.new) folder bytes.now x.0) }
-    ensures left { D.tells disk.old ≡ true → (folder : List ℕ) → file.path ≡ path_of folder bytes.now → KeptOrWrote (D.files disk.old) (D.files disk.new) folder bytes.now }
+    ensures left { D.tells disk.old ≡ true → (folder : List ℕ) → file.path ≡ path_of folder bytes.now → MayAddShard (D.files disk.old) (D.files disk.new) folder bytes.now }
     ensures frame { Stays D.tells D.faults disk.old disk.new }
     ensures reason { IfErr result (HasDiskReason (D.faults disk.old) (D.faults disk.new)) }
 {

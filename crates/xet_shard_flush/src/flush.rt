@@ -5,7 +5,7 @@ ghost use Rattle.std.specs.Option.{ForSome};
 ghost use Rattle.xet_io.specs.Frame.{Stays};
 ghost use Rattle.xet_shard.specs.Held.{held_shard};
 ghost use Rattle.xet_shard_directory.specs.Answers.{GivesUnlessDisk};
-ghost use Rattle.xet_shard_directory.specs.Writing.{KeptOrWrote, path_of};
+ghost use Rattle.xet_shard_directory.specs.Writing.{MayAddShard, path_of};
 ghost use Rattle.xet_shard_flush.specs.Due.{IsDue};
 ghost use Rattle.xet_shard_flush.specs.Importing.{Imports, IsCheckError, IsFlushError, KeepsFiles, flush_check, flushed_bytes};
 ghost use Rattle.xet_shard_format.specs.Encoding.{Fits, IsShard};
@@ -40,7 +40,7 @@ pub fn flush_pending<D: Disk>(
     ensures pending { OnErr result (pending.new ≡ pending.old) }
     ensures checked { GivesUnlessDisk (λ _. tt) result (flush_check (flushed_bytes pending.old moment) registry.old) }
     ensures kept { OnErr result ((shards : List Registered) → IsRegistryOf shards registry.old → IsRegistryOf shards registry.new) }
-    ensures refused { D.tells disk.old ≡ true → OnErr result (KeptOrWrote (D.files disk.old) (D.files disk.new) folder.now (flushed_bytes pending.old moment)) }
+    ensures refused { D.tells disk.old ≡ true → OnErr result (MayAddShard (D.files disk.old) (D.files disk.new) folder.now (flushed_bytes pending.old moment)) }
     ensures unwritten { D.tells disk.old ≡ true → IfErr result (λ e. IsCheckError e → D.files disk.new ≡ D.files disk.old) }
     ensures safe { D.tells disk.old ≡ true → KeepsFiles (D.files disk.old) (D.files disk.new) (path_of folder.now (flushed_bytes pending.old moment)) registry.old.files }
     ensures frame { Stays D.tells D.faults disk.old disk.new }
@@ -71,7 +71,7 @@ pub fn flush_prepared<D: Disk>(
     ensures pending { OnErr result (pending.new ≡ pending.old) }
     ensures checked { GivesUnlessDisk (λ _. tt) result (flush_check (flushed_bytes pending.old moment) registry.old) }
     ensures kept { OnErr result ((shards : List Registered) → IsRegistryOf shards registry.old → IsRegistryOf shards registry.new) }
-    ensures refused { D.tells disk.old ≡ true → OnErr result (KeptOrWrote (D.files disk.old) (D.files disk.new) folder.now (flushed_bytes pending.old moment)) }
+    ensures refused { D.tells disk.old ≡ true → OnErr result (MayAddShard (D.files disk.old) (D.files disk.new) folder.now (flushed_bytes pending.old moment)) }
     ensures unwritten { D.tells disk.old ≡ true → IfErr result (λ e. IsCheckError e → D.files disk.new ≡ D.files disk.old) }
     ensures safe { D.tells disk.old ≡ true → KeepsFiles (D.files disk.old) (D.files disk.new) (path_of folder.now (flushed_bytes pending.old moment)) registry.old.files }
     ensures frame { Stays D.tells D.faults disk.old disk.new }

@@ -8,10 +8,10 @@ ghost use Rattle.xet_hash.specs.Merkle.{chunk_hash};
 ghost use Rattle.xet_io.specs.Frame.{Stays, Unchanged};
 ghost use Rattle.xet_shard.specs.Sections.{info_at};
 ghost use Rattle.xet_shard_directory.specs.Answers.{GivesUnlessDisk};
-ghost use Rattle.xet_shard_directory.specs.Writing.{KeptOrWrote, path_of};
+ghost use Rattle.xet_shard_directory.specs.Writing.{MayAddShard, path_of};
 ghost use Rattle.xet_shard_directory.specs.declared.shard_file.MDBShardFile.{MDBShardFile};
 ghost use Rattle.xet_shard_flush.specs.Importing.{Imports, IsCheckError, IsImportError, KeepsFiles, import_check};
-ghost use Rattle.xet_shard_flush.specs.internal.Steps.{Adds, HasRoom, IsNewError, IsWritten, MayWrite, SameShards, new_check, new_lookup};
+ghost use Rattle.xet_shard_flush.specs.internal.Steps.{Adds, HasRoom, IsNewError, IsWritten, SameShards, new_check, new_lookup};
 ghost use Rattle.xet_shard_format.specs.Lookups.{flat_places};
 ghost use Rattle.xet_shard_registry.specs.Collections.{IsRegistryOf};
 ghost use Rattle.xet_shard_registry.specs.Registered.{Registered};
@@ -44,7 +44,7 @@ pub fn import_shard<D: Disk>(
     ensures imported { IfOk result (λ path. Imports (D.tells disk.old) cap (D.files disk.old) (D.files disk.new) folder.now bytes.now registry.old registry.new (string_bytes path)) }
     ensures checked { GivesUnlessDisk (λ _. tt) result (import_check bytes.now registry.old) }
     ensures kept { OnErr result ((shards : List Registered) → IsRegistryOf shards registry.old → IsRegistryOf shards registry.new) }
-    ensures refused { D.tells disk.old ≡ true → OnErr result (KeptOrWrote (D.files disk.old) (D.files disk.new) folder.now bytes.now) }
+    ensures refused { D.tells disk.old ≡ true → OnErr result (MayAddShard (D.files disk.old) (D.files disk.new) folder.now bytes.now) }
     ensures unwritten { D.tells disk.old ≡ true → IfErr result (λ e. IsCheckError e → D.files disk.new ≡ D.files disk.old) }
     ensures safe { D.tells disk.old ≡ true → KeepsFiles (D.files disk.old) (D.files disk.new) (path_of folder.now bytes.now) registry.old.files }
     ensures frame { Stays D.tells D.faults disk.old disk.new }
@@ -77,7 +77,7 @@ fn import_new<D: Disk>(
     ensures imported { IfOk result (λ path. Imports (D.tells disk.old) cap (D.files disk.old) (D.files disk.new) folder.now bytes.now registry.old registry.new (string_bytes path)) }
     ensures checked { GivesUnlessDisk (λ _. tt) result (new_check info.metadata bytes.now registry.old) }
     ensures kept { OnErr result (SameShards registry.old registry.new) }
-    ensures refused { D.tells disk.old ≡ true → OnErr result (KeptOrWrote (D.files disk.old) (D.files disk.new) folder.now bytes.now) }
+    ensures refused { D.tells disk.old ≡ true → OnErr result (MayAddShard (D.files disk.old) (D.files disk.new) folder.now bytes.now) }
     ensures unwritten { D.tells disk.old ≡ true → IfErr result (λ e. IsCheckError e → D.files disk.new ≡ D.files disk.old) }
     ensures safe { D.tells disk.old ≡ true → KeepsFiles (D.files disk.old) (D.files disk.new) (path_of folder.now bytes.now) registry.old.files }
     ensures frame { Stays D.tells D.faults disk.old disk.new }

@@ -6,7 +6,7 @@ ghost use Rattle.std.specs.List.{list_any};
 ghost use Rattle.xet_codec.specs.Stops.{HasDiskReason};
 ghost use Rattle.xet_io.specs.Frame.{Stays};
 ghost use Rattle.xet_shard.specs.Sections.{chunk_lookup_in};
-ghost use Rattle.xet_shard_directory.specs.Writing.{KeptOrWrote, path_of};
+ghost use Rattle.xet_shard_directory.specs.Writing.{MayAddShard, path_of};
 ghost use Rattle.xet_shard_flush.specs.Importing.{Imports, KeepsFiles};
 ghost use Rattle.xet_shard_flush.specs.internal.Steps.{HasRoom, IsFileOf, SameShards};
 ghost use Rattle.xet_shard_format.specs.Lookups.{flat_places};
@@ -30,7 +30,7 @@ pub(crate) fn write_known<D: Disk>(
     requires file { IsFileOf bytes.now file }
     requires known { list_any (pointwise nat_eq file.hash) registry.now.hashes ≡ true }
     ensures imported { (folder : List ℕ) (cap : ℕ) → file.path ≡ path_of folder bytes.now → IfOk result (λ path. Imports (D.tells disk.old) cap (D.files disk.old) (D.files disk.new) folder bytes.now registry.now registry.now (string_bytes path)) }
-    ensures refused { D.tells disk.old ≡ true → (folder : List ℕ) → file.path ≡ path_of folder bytes.now → OnErr result (KeptOrWrote (D.files disk.old) (D.files disk.new) folder bytes.now) }
+    ensures refused { D.tells disk.old ≡ true → (folder : List ℕ) → file.path ≡ path_of folder bytes.now → OnErr result (MayAddShard (D.files disk.old) (D.files disk.new) folder bytes.now) }
     ensures safe { D.tells disk.old ≡ true → (folder : List ℕ) → file.path ≡ path_of folder bytes.now → KeepsFiles (D.files disk.old) (D.files disk.new) (path_of folder bytes.now) registry.now.files }
     ensures frame { Stays D.tells D.faults disk.old disk.new }
     ensures reason { IfErr result (HasDiskReason (D.faults disk.old) (D.faults disk.new)) }
@@ -57,7 +57,7 @@ pub(crate) fn write_new<D: Disk>(
     requires room { HasRoom file.hash registry.old }
     ensures imported { (folder : List ℕ) → file.path ≡ path_of folder bytes.now → IfOk result (λ path. Imports (D.tells disk.old) cap (D.files disk.old) (D.files disk.new) folder bytes.now registry.old registry.new (string_bytes path)) }
     ensures kept { OnErr result (SameShards registry.old registry.new) }
-    ensures refused { D.tells disk.old ≡ true → (folder : List ℕ) → file.path ≡ path_of folder bytes.now → OnErr result (KeptOrWrote (D.files disk.old) (D.files disk.new) folder bytes.now) }
+    ensures refused { D.tells disk.old ≡ true → (folder : List ℕ) → file.path ≡ path_of folder bytes.now → OnErr result (MayAddShard (D.files disk.old) (D.files disk.new) folder bytes.now) }
     ensures safe { D.tells disk.old ≡ true → (folder : List ℕ) → file.path ≡ path_of folder bytes.now → KeepsFiles (D.files disk.old) (D.files disk.new) (path_of folder bytes.now) registry.old.files }
     ensures frame { Stays D.tells D.faults disk.old disk.new }
     ensures reason { IfErr result (HasDiskReason (D.faults disk.old) (D.faults disk.new)) }

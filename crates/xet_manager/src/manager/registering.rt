@@ -4,7 +4,7 @@
 ghost use Rattle.std.specs.Prelude.{◌≡◌, ◌≤◌, ◌++◌, ◌⊎◌, [], List, Err, IfErr, IfOk, IsOkUnless, OnErr, OnOk, false, string_bytes, true};
 ghost use Rattle.xet_shard.specs.Union.{ShardRecords};
 ghost use Rattle.xet_shard_directory.specs.Answers.{GivesUnlessDisk};
-ghost use Rattle.xet_shard_directory.specs.Writing.{KeptOrWrote, path_of};
+ghost use Rattle.xet_shard_directory.specs.Writing.{MayAddShard, path_of};
 ghost use Rattle.xet_shard_directory.specs.declared.shard_file.MDBShardFile.{MDBShardFile};
 ghost use Rattle.xet_shard_flush.specs.Importing.{Imports, IsCheckError, IsImportError, KeepsFiles, import_check};
 ghost use Rattle.xet_shard_registration.specs.Refreshing.{IsUnloadedAmong, IsUnloadedDirectory, RegistersDirectory, RegistersNewest, RegistersPaths, StopsAmong, StopsInDirectory, StopsInPaths};
@@ -123,7 +123,7 @@ impl<D: Disk> ShardFileManager<D> {
         ensures imported { IfOk result (λ path. Imports self.old.tells self.old.settings.index_cap self.old.files self.new.files self.old.folder bytes.now self.old.registry self.new.registry (string_bytes path)) }
         ensures checked { GivesUnlessDisk (λ _. tt) result (import_check bytes.now self.old.registry) }
         ensures kept { OnErr result ((shards : List Registered) → IsRegistryOf shards self.old.registry → IsRegistryOf shards self.new.registry) }
-        ensures refused { self.old.tells ≡ true → OnErr result (KeptOrWrote self.old.files self.new.files self.old.folder bytes.now) }
+        ensures refused { self.old.tells ≡ true → OnErr result (MayAddShard self.old.files self.new.files self.old.folder bytes.now) }
         ensures unwritten { self.old.tells ≡ true → IfErr result (λ e. IsCheckError e → self.new.files ≡ self.old.files) }
         ensures safe { self.old.tells ≡ true → KeepsFiles self.old.files self.new.files (path_of self.old.folder bytes.now) self.old.registry.files }
         ensures rest { self.new ≡ record self.old { files = self.new.files; registry = self.new.registry; faults = self.new.faults; room = 0 } }

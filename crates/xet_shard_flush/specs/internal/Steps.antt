@@ -1,5 +1,5 @@
 -- The steps of an import: what is read of the bytes, the check of the path, the room in the registry, and the write.
-use Rattle.std.specs.Prelude.{◌≡◌, ◌≢◌, ◌⊎◌, ◌<◌, ◌^◌, ◌-◌, ℕ, nat_eq, nat_le, Bool, true, false, List, length, All, Option, None, Some, Result, Ok, Err, if◌then◌else◌}
+use Rattle.std.specs.Prelude.{◌≡◌, ◌≢◌, ◌⊎◌, ◌<◌, ◌^◌, ◌-◌, ℕ, nat_eq, nat_le, Bool, true, false, List, length, All, None, Some, Result, Ok, Err, if◌then◌else◌}
 use Rattle.std.specs.Cmp.Lexicographic.{pointwise}
 use Rattle.std.specs.List.{list_any}
 use Rattle.xet_codec.specs.Parsing.{◌>>=◌}
@@ -11,7 +11,7 @@ use Rattle.xet_io.specs.Disk.{Files, bytes_at}
 use Rattle.xet_shard.specs.Sections.{chunk_lookup_in, info_at}
 use Rattle.xet_shard.specs.declared.info.MDBShardInfo.{MDBShardInfo}
 use Rattle.xet_shard.specs.Union.{ShardRecords}
-use Rattle.xet_shard_directory.specs.Writing.{IsFormatError, Wrote, path_of}
+use Rattle.xet_shard_directory.specs.Writing.{AddsShard, IsFormatError, path_of}
 use Rattle.xet_shard_directory.specs.declared.shard_file.MDBShardFile.{MDBShardFile}
 use Rattle.xet_shard_file.specs.Names.{temp_name}
 use Rattle.xet_shard_flush.specs.declared.file.NewFile.{NewFile}
@@ -88,4 +88,4 @@ pub record IsWritten (tells : Bool) (old new : Files) (folder bytes : List ℕ) 
   pub hash : file.shard_hash ≡ chunk_hash bytes
   pub path : file.path ≡ path_of folder bytes
   pub info : info_at bytes ≡ Ok file.shard
-  pub written : tells ≡ true → Wrote old new folder bytes file
+  pub written : tells ≡ true → AddsShard old new folder bytes file

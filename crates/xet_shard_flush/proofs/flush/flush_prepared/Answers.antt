@@ -3,7 +3,7 @@ use Rattle.std.proofs.lemmas.Result.{IfOk-weaker, on_err_weaker}
 use Rattle.std.specs.Prelude.{OnErr}
 use Rattle.xet_hash.specs.declared.error.StoreError.{StoreError}
 use Rattle.xet_shard_directory.specs.Answers.{GivesUnlessDisk}
-use Rattle.xet_shard_directory.specs.Writing.{KeptOrWrote, path_of}
+use Rattle.xet_shard_directory.specs.Writing.{MayAddShard, path_of}
 use Rattle.xet_shard_flush.specs.Importing.{Imports, KeepsFiles, flush_check, flushed_bytes}
 use Rattle.xet_shard_flush.proofs.Registered.{imports_over, same_check}
 use Rattle.xet_shard_flush.proofs.flush.flush_prepared.Goals as goal
@@ -33,7 +33,7 @@ pub returns-in-Ok-clause-refused : goal.returns-in-Ok-clause-refused
 returns-in-Ok-clause-refused g c = λ told.
     let files = g.D.Disk.files in
     let due = c.in-Ok.ensures.due in
-    subst (λ (b : List ℕ). OnErr c.write_due.result (KeptOrWrote (files c.args.disk.now) (files c.write_due.new.disk) c.args.folder.now b)) due.bytes (c.write_due.ensures.refused told c.args.folder.now due.path)
+    subst (λ (b : List ℕ). OnErr c.write_due.result (MayAddShard (files c.args.disk.now) (files c.write_due.new.disk) c.args.folder.now b)) due.bytes (c.write_due.ensures.refused told c.args.folder.now due.path)
 
 pub returns-in-Ok-clause-safe : goal.returns-in-Ok-clause-safe
 returns-in-Ok-clause-safe g c = λ told.
