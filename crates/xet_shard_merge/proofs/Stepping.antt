@@ -115,23 +115,23 @@ module _ (start now after : Files) (folder : List ℕ) (keeps : Preserves start 
 -- ---- the rules
 
 module _ (limit : ℕ) (cur : Option Group) (o : Offered) (os : List Offered) (gs : List Group) (ss : List MDBShardFile) where
-  skip_step : IsSkipped limit cur o → Groups limit cur os gs ss → Groups limit cur (o ∷ os) gs (o.file ∷ ss)
+  pub skip_step : IsSkipped limit cur o → Groups limit cur os gs ss → Groups limit cur (o ∷ os) gs (o.file ∷ ss)
   unfolding Groups
   skip_step is rest = inl (is, (ss, refl, rest))
 
-  start_step : (records : ShardRecords) → Begins cur o records → Groups limit (Some (alone o.file o.length records)) os gs ss → Groups limit cur (o ∷ os) gs ss
+  pub start_step : (records : ShardRecords) → Begins cur o records → Groups limit (Some (alone o.file o.length records)) os gs ss → Groups limit cur (o ∷ os) gs ss
   unfolding Groups
   start_step records is rest = inr (inl (records, is, rest))
 
-  follow_step : (g : Group) (records : ShardRecords) → Ends limit cur o g records → Groups limit (Some (alone o.file o.length records)) os gs ss → Groups limit cur (o ∷ os) (g ∷ gs) ss
+  pub follow_step : (g : Group) (records : ShardRecords) → Ends limit cur o g records → Groups limit (Some (alone o.file o.length records)) os gs ss → Groups limit cur (o ∷ os) (g ∷ gs) ss
   unfolding Groups
   follow_step g records is rest = inr (inr (inl (g, records, gs, is, refl, rest)))
 
-  enter_step : (g : Group) (records : ShardRecords) → Joins limit cur o g records → Groups limit (Some (joined g o.file records)) os gs ss → Groups limit cur (o ∷ os) gs ss
+  pub enter_step : (g : Group) (records : ShardRecords) → Joins limit cur o g records → Groups limit (Some (joined g o.file records)) os gs ss → Groups limit cur (o ∷ os) gs ss
   unfolding Groups
   enter_step g records is rest = inr (inr (inr (g, records, is, rest)))
 
-end_step : (limit : ℕ) (cur : Option Group) → Groups limit cur [] (if_open cur) []
+pub end_step : (limit : ℕ) (cur : Option Group) → Groups limit cur [] (if_open cur) []
 unfolding Groups
 end_step limit cur = (refl, refl)
 

@@ -132,7 +132,10 @@ WritesOnly old new folder Due = (name : List ℕ) → (get new name ≡ get old 
 pub record MayMerge (old new : Files) (source target : List ℕ) (max_size now : ℕ) : Type 0 where
   pub offered : List Offered
   pub offers : Offers old source now offered
-  pub writes : (groups : List Group) (skipped : List MDBShardFile) → Groups (target_of max_size) None offered groups skipped → WritesOnly old new target (λ bytes. Any (λ g. IsDue old target g bytes) groups)
+  pub groups : List Group
+  pub skipped : List MDBShardFile
+  pub grouped : Groups (target_of max_size) None offered groups skipped
+  pub writes : WritesOnly old new target (λ bytes. Any (λ g. IsDue old target g bytes) groups)
 
 -- What a merge has done, also after an error: nothing, or any of its results were written.
 abbrev pub KeptOrMerged : Files → Files → List ℕ → List ℕ → ℕ → ℕ → Type 0
