@@ -14,7 +14,7 @@ use Rattle.xet_shard_merge.specs.Groups.{Group}
 use Rattle.xet_shard_merge.specs.Merging.{IsDue, IsPlaced, WritesOnly}
 use Rattle.xet_shard_merge.specs.internal.Grouping.{IsOnly}
 use Rattle.xet_shard_merge.specs.internal.Keeping.{IsCopyDue, IsIntact, IsOneDue, IsOnlyDue, Preserves}
-use Rattle.xet_shard_merge.proofs.Preserved.{at_path}
+use Rattle.xet_shard_merge.proofs.Preserved.{at_path, same_bytes}
 
 -- nothing was written
 pub writes_nothing : (old new : Files) (folder : List ℕ) (Due : List ℕ → Type 0) → new ≡ old → WritesOnly old new folder Due
@@ -86,7 +86,7 @@ copy_is_due files folder g s only bytes due = subst (λ (taken : List MDBShardFi
 module _ (start now : Files) (folder : List ℕ) (keeps : Preserves start now) where
   copy_due_at_start : (s : MDBShardFile) (bytes : List ℕ) → IsIntact start s → IsCopyDue now folder s bytes → IsCopyDue start folder s bytes
   copy_due_at_start s bytes is due =
-      let later : bytes_at now s.path ≡ Some is.bytes = keeps.bytes s.path is.bytes is.name is.there in
+      let later : bytes_at now s.path ≡ Some is.bytes = same_bytes start now keeps.files s.path is.bytes is.name is.there in
       let found : bytes_at now s.path ≡ Some bytes = due.1 in
       let same : is.bytes ≡ bytes = cc in
       (due.0, is.there ∙ ap (λ (b : List ℕ). Some b) same)
