@@ -1,5 +1,6 @@
 mod Ages
 mod AtPath
+mod Comparing
 mod ErrorKinds
 mod FolderShards
 mod LastPart

@@ -1,13 +1,16 @@
 -- The value of a shard file that was written.
-use Rattle.std.proofs.Common.{◌≡◌, ℕ, List, Option, Some, None, Ok, option_map, refl, ap, subst, sym}
+use Rattle.std.proofs.Common.{◌≡◌, ◌⊎◌, ℕ, List, Option, Some, None, Result, Ok, Err, IfOk, OnErr, inl, inr, ◌∙◌, option_map, refl, ap, subst, sym}
 use Rattle.xet_hash.specs.Merkle.{chunk_hash}
-use Rattle.xet_io.specs.Disk.{File, Files, file_at}
+use Rattle.xet_hash.specs.declared.error.StoreError.{StoreError}
+use Rattle.xet_io.specs.Disk.{File, Files, bytes_at, file_at, synced}
 use Rattle.xet_codec.specs.Parsing.{◌>>=◌}
 use Rattle.xet_shard.specs.Sections.{info_at}
 use Rattle.xet_shard.specs.declared.info.MDBShardInfo.{MDBShardInfo}
 use Rattle.xet_shard_directory.specs.Answers.{in_file}
 use Rattle.xet_shard_directory.specs.Values.{shard_value}
-use Rattle.xet_shard_directory.specs.Writing.{OthersStay, Wrote, path_of}
+use Rattle.xet_shard_directory.specs.theorems.Syncing.{synced_file}
+use Rattle.xet_shard_directory.specs.Writing.{KeepsFileAt, OthersStay, Stood, Wrote, path_of}
+use Rattle.xet_shard_directory.specs.declared.shard_file.MDBShardFile.{MDBShardFile}
 use Rattle.xet_shard_file.specs.Puts.{IsDone}
 
 abbrev IsAbsent : Option (List ℕ) → Type 0
@@ -44,3 +47,38 @@ wrote old new folder bytes hash path shard m eh ep done others times info =
       others = others;
       value = value_of_file (file_at new path) bytes hash path shard m done.there times (sym info);
     }
+
+-- The same for the result of a call that returns the value.
+pub wrote_value : (old new : Files) (folder bytes hash path : List ℕ) (shard : MDBShardInfo) (r : Result MDBShardFile StoreError)
+    → hash ≡ chunk_hash bytes → path ≡ path_of folder bytes → IsDone new path bytes → OthersStay old new path
+    → ((f : File) → file_at new path ≡ Some f → IfOk r (λ s. s.last_modified_time ≡ f.modified)) → IfOk r (λ s. s ≡ shard_value hash path shard s.last_modified_time)
+    → info_at bytes ≡ Ok shard → IfOk r (Wrote old new folder bytes)
+wrote_value old new folder bytes hash path shard (Ok s) eh ep done others times is info =
+    subst (Wrote old new folder bytes) (sym is) (wrote old new folder bytes hash path shard s.last_modified_time eh ep done others times info)
+wrote_value old new folder bytes hash path shard (Err e) eh ep done others times is info = tt
+
+-- The same where the bytes were there already.
+pub stood_value : (old new : Files) (folder bytes hash path : List ℕ) (shard : MDBShardInfo) (r : Result MDBShardFile StoreError)
+    → hash ≡ chunk_hash bytes → path ≡ path_of folder bytes → bytes_at old path ≡ Some bytes → new ≡ synced old path
+    → ((f : File) → file_at new path ≡ Some f → IfOk r (λ s. s.last_modified_time ≡ f.modified)) → IfOk r (λ s. s ≡ shard_value hash path shard s.last_modified_time)
+    → info_at bytes ≡ Ok shard → IfOk r (Stood old new folder bytes)
+stood_value old new folder bytes hash path shard (Ok s) eh ep there same times is info =
+    let now : bytes_at new path ≡ Some bytes = subst (λ (fs : Files). bytes_at fs path ≡ Some bytes) (sym same) (ap (λ (f : Option File). option_map (λ g. g.bytes) f) (synced_file old path bytes there path) ∙ there) in
+    subst (Stood old new folder bytes) (sym is) (record {
+      hash = eh;
+      path = ep;
+      there = there;
+      same = same;
+      value = value_of_file (file_at new path) bytes hash path shard s.last_modified_time now times (sym info);
+    })
+stood_value old new folder bytes hash path shard (Err e) eh ep there same times is info = tt
+
+-- A file whose bytes were there keeps its bytes and its modification time, whether it was made durable or not.
+pub stood_keeps : (old new : Files) (folder bytes : List ℕ) (r : Result MDBShardFile StoreError) → bytes_at old (path_of folder bytes) ≡ Some bytes
+    → IfOk r (Stood old new folder bytes) → OnErr r ((new ≡ old) ⊎ (new ≡ synced old (path_of folder bytes))) → KeepsFileAt old new (path_of folder bytes)
+stood_keeps old new folder bytes (Ok s) there stood e f was =
+    let same : new ≡ synced old (path_of folder bytes) = subst (λ (p : List ℕ). new ≡ synced old p) stood.path stood.same in
+    subst (λ (fs : Files). file_at fs (path_of folder bytes) ≡ Some f) (sym same) (synced_file old (path_of folder bytes) bytes there (path_of folder bytes) ∙ was)
+stood_keeps old new folder bytes (Err e) there stood (inl same) f was = subst (λ (fs : Files). file_at fs (path_of folder bytes) ≡ Some f) (sym same) was
+stood_keeps old new folder bytes (Err e) there stood (inr same) f was =
+    subst (λ (fs : Files). file_at fs (path_of folder bytes) ≡ Some f) (sym same) (synced_file old (path_of folder bytes) bytes there (path_of folder bytes) ∙ was)

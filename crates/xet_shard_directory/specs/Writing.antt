@@ -1,12 +1,12 @@
 -- What a call leaves on a disk that writes a shard file into a folder.
-use Rattle.std.specs.Prelude.{◌≡◌, ◌≢◌, ◌++◌, ℕ, List, take, Option, Some, None, Ok, Err}
+use Rattle.std.specs.Prelude.{◌≡◌, ◌≢◌, ◌⊎◌, ◌++◌, ℕ, List, take, Option, Some, None, Ok, Err}
 use Rattle.std.specs.FinMap.{get}
 use Rattle.xet_hash.specs.Merkle.{chunk_hash}
 use Rattle.xet_hash.specs.declared.error.Place.TheVariants.{Disk, Input}
 use Rattle.xet_hash.specs.declared.error.StoreError.{StoreError}
 use Rattle.xet_hash.specs.declared.error.StoreError.TheVariants.{FileNotFound, Io, MalformedData, OutOfMemory, TooLarge, UnexpectedEof}
 use Rattle.xet_hash.specs.declared.error.What.TheVariants.{Input as InputLength}
-use Rattle.xet_io.specs.Disk.{Files}
+use Rattle.xet_io.specs.Disk.{File, Files, bytes_at, file_at, synced}
 use Rattle.xet_io.specs.Faults.{Rose}
 use Rattle.xet_shard.specs.Sections.{info_at}
 use Rattle.xet_shard_directory.specs.Values.{loaded}
@@ -24,6 +24,10 @@ path_of folder bytes = shard_path folder (chunk_hash bytes)
 abbrev pub OthersStay : Files → Files → List ℕ → Type 0
 OthersStay old new path = (name : List ℕ) → name ≢ path → name ≢ temp_name path → get new name ≡ get old name
 
+-- the file at a path, if there is one, keeps its bytes and its modification time
+abbrev pub KeepsFileAt : Files → Files → List ℕ → Type 0
+KeepsFileAt old new path = (f : File) → file_at old path ≡ Some f → file_at new path ≡ Some f
+
 -- The shard was written: its file has exactly these bytes under the name of their digest and is durable, no other file
 -- has changed, and the value is that of the file.
 pub record Wrote (old new : Files) (folder bytes : List ℕ) (s : MDBShardFile) : Type 0 where
@@ -39,6 +43,24 @@ pub record KeptOrWrote (old new : Files) (folder bytes : List ℕ) : Type 0 wher
   pub file : IsKeptOrDone old new (path_of folder bytes) bytes
   pub others : OthersStay old new (path_of folder bytes)
   pub malformed : (e : StoreError) → info_at bytes ≡ Err e → new ≡ old
+
+-- The shard was there: its file has exactly these bytes under the name of their digest, and was made durable. Nothing else
+-- has changed, and the value is that of the file.
+pub record Stood (old new : Files) (folder bytes : List ℕ) (s : MDBShardFile) : Type 0 where
+  pub hash : s.shard_hash ≡ chunk_hash bytes
+  pub path : s.path ≡ path_of folder bytes
+  pub there : bytes_at old s.path ≡ Some bytes
+  pub same : new ≡ synced old s.path
+  pub value : loaded new s.shard_hash s.path ≡ Ok s
+
+-- The shard is in the folder: it was written, or it was there.
+abbrev pub AddsShard : Files → Files → List ℕ → List ℕ → MDBShardFile → Type 0
+AddsShard old new folder bytes s = Wrote old new folder bytes s ⊎ Stood old new folder bytes s
+
+-- After a failed call of that kind the file is as it was, or the write has completed, or the bytes were there, and are durable.
+abbrev pub MayAddShard : Files → Files → List ℕ → List ℕ → Type 0
+MayAddShard old new folder bytes =
+    KeptOrWrote old new folder bytes ⊎ ((bytes_at old (path_of folder bytes) ≡ Some bytes) × (new ≡ synced old (path_of folder bytes)))
 
 -- Nothing was written, since the header or the footer is malformed.
 pub record IsUnwritten (old new : Files) (bytes : List ℕ) (e : StoreError) : Type 0 where

@@ -8,6 +8,7 @@ ghost use Rattle.xet_io.specs.Frame.{Stays, Unchanged};
 ghost use Rattle.xet_shard.specs.Sections.{info_at};
 ghost use Rattle.xet_shard.specs.Held.{never};
 ghost use Rattle.xet_shard_directory.specs.Answers.{IsReadError};
+ghost use Rattle.xet_shard_directory.specs.Values.{shard_value};
 ghost use Rattle.xet_shard_file.specs.Names.{shard_path, temp_name};
 ghost use Rattle.xet_shard_directory.specs.Writing.{IsFormatError, IsPutError, IsUnwrittenFrom, IsUnwrittenIfMalformed, IsWriteError, KeptOrWrote, KeptOrWroteFrom, Wrote, WroteFrom, path_of, with_expiry};
 
@@ -182,6 +183,21 @@ pub fn write_named_file<D: Disk>(
     ensures reason { IfErr result (HasDiskReason (D.faults disk.old) (D.faults disk.new)) }
 {
     put_through(disk, temp, path.as_str(), bytes)?;
+    value_of(disk, path, hash, shard)
+}
+
+/// The value of the shard file at a path. The caller passes its hash, and its header and footer.
+pub(crate) fn value_of<D: Disk>(
+    disk: &mut D,
+    path: Text,
+    hash: MerkleHash,
+    shard: MDBShardInfo,
+) -> Result<MDBShardFile, StoreError>
+    ensures time { D.tells disk.old ≡ true → (f : File) → file_at (D.files disk.old) path ≡ Some f → IfOk result (λ s. s.last_modified_time ≡ f.modified) }
+    ensures value { IfOk result (λ s. s ≡ shard_value hash path shard s.last_modified_time) }
+    ensures frame { Unchanged D.files D.tells D.faults disk.old disk.new }
+    ensures reason { IfErr result (HasDiskReason (D.faults disk.old) (D.faults disk.new)) }
+{
     let last_modified_time = modification_time(disk, path.as_str())?;
     Ok(MDBShardFile {
         shard_hash: hash,
@@ -192,7 +208,7 @@ pub fn write_named_file<D: Disk>(
 }
 
 /// The header and the footer of a shard with these bytes.
-fn info_of_bytes(bytes: &[u8]) -> Result<MDBShardInfo, StoreError>
+pub(crate) fn info_of_bytes(bytes: &[u8]) -> Result<MDBShardInfo, StoreError>
     ensures exact { result ≡ info_at bytes.now }
     ensures error { IfErr result IsFormatError }
 {
