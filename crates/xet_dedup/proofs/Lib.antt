@@ -10,6 +10,7 @@ mod Joins
 mod LastBlock
 mod Lists
 mod OpenSegments
+mod Outcomes
 mod Placed
 mod Registering
 mod Steps

@@ -8,6 +8,7 @@ use Rattle.xet_choices.specs.Choices.{fits, hashes_of}
 use Rattle.xet_cut.specs.declared.limits.LimitSettings.{LimitSettings}
 use Rattle.xet_fragmentation.specs.Fragmentation.{Fragmentation}
 use Rattle.xet_cut.specs.Limits.{AreInRange}
+use Rattle.xet_dedup_queries.specs.Acts.{Act}
 use Rattle.xet_dedup_queries.specs.declared.places.Place.{Place}
 use Rattle.xet_dedup_queries.specs.declared.places.Place.TheVariants.{Covered, Kept, Unasked}
 use Rattle.xet_file_plan.specs.Kept.{IsBlockWithin}
@@ -91,7 +92,7 @@ module _ {I : Type 0} (listing : I → List ℕ → Option (List ℕ)) (standing
         (omega (arith, within, length_leaves)) joins.run joins.found joins.allowed))
 
   -- a chunk that was stored
-  module _ (new : I) (lists : (h lengths : List ℕ) → listing old h ≡ Some lengths → listing new h ≡ Some lengths) (stands : (hashes : List (List ℕ)) (run : Segment) → standing old hashes run → standing new hashes run)
+  module _ (acting : I → List Act) (new : I) (lists : (h lengths : List ℕ) → listing old h ≡ Some lengths → listing new h ≡ Some lengths) (stands : (hashes : List (List ℕ)) (run : Segment) → standing old hashes run → standing new hashes run)
       (range : AreInRange p.settings) (m q : PlanState) (chunk : Chunk) (c : Choice) (here : slice_get b.chunks.now at ≡ Some chunk)
       (none : Rejects p m b.hashes.now b.places.now at c ⊎ HasNone p m b.hashes.now b.places.now b.base at c) where
     storable : IsStorable chunk
@@ -107,7 +108,7 @@ module _ {I : Type 0} (listing : I → List ℕ → Option (List ℕ)) (standing
         ∙ ap (λ (r : PlanState). (r.leaves ++ chunk_leaf chunk ∷ []) ++ drop (at + 1) b.leaves.now) (sym (rest_kept p m b.hashes.now b.places.now b.base at c none))
 
     -- no leaf is lost
-    pub leaves_stored : Stores listing standing calling old new m q chunk c → q.leaves ++ drop (at + 1) b.leaves.now ≡ p.leaves ++ drop at b.leaves.now
+    pub leaves_stored : Stores listing standing calling acting old new m q chunk c → q.leaves ++ drop (at + 1) b.leaves.now ≡ p.leaves ++ drop at b.leaves.now
     leaves_stored (inl fitted) = ap (λ (r : PlanState). r.leaves ++ drop (at + 1) b.leaves.now) fitted.2 ∙ sym leaves_then
     leaves_stored (inr cut) = ap (λ (r : PlanState). r.leaves ++ drop (at + 1) b.leaves.now) cut.1.2 ∙ sym leaves_then
 
@@ -122,7 +123,7 @@ module _ {I : Type 0} (listing : I → List ℕ → Option (List ℕ)) (standing
     fits_as_before : fits m.settings (map chunk_leaf m.block) (length chunk.bytes) ≡ fits p.settings (map chunk_leaf p.block) (length chunk.bytes)
     fits_as_before = ap (λ (r : PlanState). fits r.settings (map chunk_leaf r.block) (length chunk.bytes)) (rest_kept p m b.hashes.now b.places.now b.base at c none)
 
-    pub step_stored : Stores listing standing calling old new m q chunk c → Walks listing standing calling start new b (at + 1) q
+    pub step_stored : Stores listing standing calling acting old new m q chunk c → Walks listing standing calling start new b (at + 1) q
     step_stored (inl fitted) =
         subst (λ (s : I). Walks listing standing calling start s b (at + 1) q) (sym fitted.1)
         (subst (λ (r : PlanState). Walks listing standing calling start old b (at + 1) r) (sym fitted.2)
@@ -141,11 +142,11 @@ module _ {I : Type 0} (listing : I → List ℕ → Option (List ℕ)) (standing
         (sym fits_as_before ∙ cut.0))))
 
 -- what was stored adds its choice, and leaves the limits
-module _ {I : Type 0} (listing : I → List ℕ → Option (List ℕ)) (standing : I → List (List ℕ) → Segment → Type 0) (calling : I → List Call) (old new : I) (m q : PlanState) (chunk : Chunk) (c : Choice) where
-  pub stores_choice : Stores listing standing calling old new m q chunk c → q.choices ≡ m.choices ++ c ∷ []
+module _ {I : Type 0} (listing : I → List ℕ → Option (List ℕ)) (standing : I → List (List ℕ) → Segment → Type 0) (calling : I → List Call) (acting : I → List Act) (old new : I) (m q : PlanState) (chunk : Chunk) (c : Choice) where
+  pub stores_choice : Stores listing standing calling acting old new m q chunk c → q.choices ≡ m.choices ++ c ∷ []
   stores_choice (inl fitted) = ap (λ (r : PlanState). r.choices) fitted.2
   stores_choice (inr cut) = ap (λ (r : PlanState). r.choices) cut.1.2
 
-  pub stores_settings : Stores listing standing calling old new m q chunk c → q.settings ≡ m.settings
+  pub stores_settings : Stores listing standing calling acting old new m q chunk c → q.settings ≡ m.settings
   stores_settings (inl fitted) = ap (λ (r : PlanState). r.settings) fitted.2
   stores_settings (inr cut) = ap (λ (r : PlanState). r.settings) cut.1.2

@@ -8,6 +8,7 @@ use Rattle.xet_choices.specs.Calls.{Call, queries_of}
 use Rattle.xet_choices.specs.Choices.{new_chunks}
 use Rattle.xet_choices.specs.Sums.{deduped_bytes, deduped_chunks, new_bytes, prevented_bytes, prevented_chunks}
 use Rattle.xet_cut.specs.declared.limits.LimitSettings.{LimitSettings}
+use Rattle.xet_dedup_queries.specs.Acts.{Act}
 use Rattle.xet_dedup_queries.specs.Batch.{IsAsked, IsAskedOnce}
 use Rattle.xet_dedup_queries.specs.Registering.{max_chunk_len}
 use Rattle.xet_dedup_queries.specs.declared.places.Place.{Place}
@@ -66,19 +67,19 @@ pub record RegistersAlone (old new : List Call) : Type 0 where
   pub none : queries_of added ≡ 0
 
 -- The calls of a batch: its queries, and then registrations alone. These are the numbers of chunks and of bytes of the runs
--- that the second pass of the queries found.
-pub record IsQueried {I : Type 0} (calling : I → List Call) (ending : I → I → Bool → Type 0) (hashes : List (List ℕ)) (old new : I) (chunks bytes : ℕ) : Type 0 where
+-- that the second pass of the queries found. `is_first`: the batch begins with the first chunk of its file.
+pub record IsQueried {I : Type 0} (calling : I → List Call) (acting : I → List Act) (is_first : Bool) (hashes : List (List ℕ)) (old new : I) (chunks bytes : ℕ) : Type 0 where
   pub places : List Place
   pub queried : I
-  pub asked : IsAsked calling ending hashes old queried places chunks bytes
+  pub asked : IsAsked is_first hashes (calling old) (calling queried) (acting old) (acting queried) places chunks bytes
   pub registered : RegistersAlone (calling queried) (calling new)
 
 -- The calls of a batch that was queried in one pass.
-pub record IsQueriedOnce (hashes : List (List ℕ)) (old new : List Call) : Type 0 where
+pub record IsQueriedOnce {I : Type 0} (calling : I → List Call) (acting : I → List Act) (is_first : Bool) (hashes : List (List ℕ)) (old new : I) : Type 0 where
   pub places : List Place
-  pub queried : List Call
-  pub asked : IsAskedOnce hashes old queried places
-  pub registered : RegistersAlone queried new
+  pub queried : I
+  pub asked : IsAskedOnce is_first hashes (calling old) (calling queried) (acting old) (acting queried) places
+  pub registered : RegistersAlone (calling queried) (calling new)
 
 -- the indices of the open ones among these segments, the first of which has this index
 unfoldable pub open_from : ℕ → List Segment → List ℕ

@@ -1,13 +1,15 @@
 -- How a batch is placed: step by step, its chunks join the plan of the file with runs that were found, or are stored.
-use Rattle.std.specs.Prelude.{◌≡◌, ◌≢◌, ◌⊎◌, ◌<◌, ◌≤◌, ◌+◌, ◌^◌, ◌++◌, ◌∷◌, [], ℕ, Bool, true, false, List, length, map, take, drop, Option, Some, None, slice_get, if◌then◌else◌}
+use Rattle.std.specs.Prelude.{◌≡◌, ◌≢◌, ◌⊎◌, ◌<◌, ◌≤◌, ◌+◌, ◌^◌, ◌++◌, ◌∷◌, ◌==◌, [], ℕ, Bool, true, false, List, length, map, take, drop, Option, Some, None, slice_get, if◌then◌else◌}
 use Rattle.xet_choices.specs.Calls.{Call}
 use Rattle.xet_choices.specs.Calls.Call.{Registered}
 use Rattle.xet_choices.specs.Choices.{fits, hashes_of}
 use Rattle.xet_choices.specs.declared.choice.Choice.{Choice}
 use Rattle.xet_choices.specs.declared.choice.Choice.TheVariants.{Inside, NoPlace, Refused}
-use Rattle.xet_dedup_queries.specs.Batch.{IsAsked}
+use Rattle.xet_dedup_queries.specs.Acts.{Act}
+use Rattle.xet_dedup_queries.specs.Acts.Act.{Noted, Stored}
+use Rattle.xet_dedup_queries.specs.Batch.{IsAsked, StopsAsking}
 use Rattle.xet_dedup_queries.specs.Interface.{run_len}
-use Rattle.xet_dedup_queries.specs.Places.{AreAnswered, ArePlaces}
+use Rattle.xet_dedup_queries.specs.Places.{ArePlaces}
 use Rattle.xet_dedup_queries.specs.Registering.{EachPartStands}
 use Rattle.xet_dedup_queries.specs.declared.interface.FileXorbDependency.{FileXorbDependency}
 use Rattle.xet_dedup_queries.specs.declared.places.Place.{Place}
@@ -72,20 +74,21 @@ pub record HasNone (p q : PlanState) (hashes : List (List ℕ)) (places : List P
   pub reason : IsReason places base at choice
 
 -- The open block of a plan was registered as a xorb, which is known now. `next` lists the chunks that did not fit into it.
-pub record Registers {I : Type 0} (listing : I → List ℕ → Option (List ℕ)) (standing : I → List (List ℕ) → Segment → Type 0) (calling : I → List Call) (old new : I) (block : List Chunk) (next : List (List ℕ × ℕ)) (x : RawXorbData) : Type 0 where
+pub record Registers {I : Type 0} (listing : I → List ℕ → Option (List ℕ)) (standing : I → List (List ℕ) → Segment → Type 0) (calling : I → List Call) (acting : I → List Act) (old new : I) (block : List Chunk) (next : List (List ℕ × ℕ)) (x : RawXorbData) : Type 0 where
   pub made : x ≡ raw_of block (0 ∷ [])
   pub named : x.xorb_info.metadata.xorb_hash ≢ sentinel
   pub listed : listing new x.xorb_info.metadata.xorb_hash ≡ Some (map (λ m. m.1) (raw_leaves x))
   pub stands : EachPartStands (standing new) x
   pub small : total_len (raw_leaves x) < 2 ^ 32
   pub calls : calling new ≡ calling old ++ Registered (raw_leaves x) next ∷ []
+  pub acts : acting new ≡ acting old ++ Stored x next ∷ []
 
 -- The chunk joined the open block; or it did not fit, the block was registered, and the chunk is in a new block.
-abbrev pub Stores : {I : Type 0} → (I → List ℕ → Option (List ℕ)) → (I → List (List ℕ) → Segment → Type 0) → (I → List Call) → I → I → PlanState → PlanState → Chunk → Choice → Type 0
-Stores listing standing calling old new p q chunk choice =
+abbrev pub Stores : {I : Type 0} → (I → List ℕ → Option (List ℕ)) → (I → List (List ℕ) → Segment → Type 0) → (I → List Call) → (I → List Act) → I → I → PlanState → PlanState → Chunk → Choice → Type 0
+Stores listing standing calling acting old new p q chunk choice =
     ((fits p.settings (map chunk_leaf p.block) (length chunk.bytes) ≡ true) × (new ≡ old) × (q ≡ stored p chunk choice))
     ⊎ ((fits p.settings (map chunk_leaf p.block) (length chunk.bytes) ≡ false)
-    × ((x : RawXorbData) × Registers listing standing calling old new p.block (chunk_leaf chunk ∷ []) x × (q ≡ stored (closed p x.xorb_info.metadata.xorb_hash) chunk choice)))
+    × ((x : RawXorbData) × Registers listing standing calling acting old new p.block (chunk_leaf chunk ∷ []) x × (q ≡ stored (closed p x.xorb_info.metadata.xorb_hash) chunk choice)))
 
 -- What is noted of the run at a place that joins the plan: the run that is kept there, with its bytes, and whether the query
 -- answered that it is external. Nothing is noted of a run of the open block.
@@ -109,34 +112,64 @@ block_dependencies file_id p chunk =
 -- The chunks of a batch before an index are placed, and these dependencies of the file are to be noted. Each step goes on from
 -- the interface and the plan of the step before: the run at a place joins the plan, or it is rejected or there is none, and
 -- the chunk there is stored.
-pub data PlacesTo {I : Type 0} (listing : I → List ℕ → Option (List ℕ)) (standing : I → List (List ℕ) → Segment → Type 0) (calling : I → List Call) (chunks : List Chunk) (places : List Place) (base file_id : ℕ) (old : I) (p : PlanState) : I → PlanState → ℕ → List FileXorbDependency → Type 0 where
-  begins : PlacesTo listing standing calling chunks places base file_id old p old p 0 []
-  joins : (now : I) (q r : PlanState) (at count : ℕ) (noted : List FileXorbDependency) → PlacesTo listing standing calling chunks places base file_id old p now q at noted
+pub data PlacesTo {I : Type 0} (listing : I → List ℕ → Option (List ℕ)) (standing : I → List (List ℕ) → Segment → Type 0) (calling : I → List Call) (acting : I → List Act) (chunks : List Chunk) (places : List Place) (base file_id : ℕ) (old : I) (p : PlanState) : I → PlanState → ℕ → List FileXorbDependency → Type 0 where
+  begins : PlacesTo listing standing calling acting chunks places base file_id old p old p 0 []
+  joins : (now : I) (q r : PlanState) (at count : ℕ) (noted : List FileXorbDependency) → PlacesTo listing standing calling acting chunks places base file_id old p now q at noted
       → Joins q r (map chunk_leaf chunks) (hashes_of (map chunk_leaf chunks)) places at count
-      → PlacesTo listing standing calling chunks places base file_id old p now r (at + count) (noted ++ run_dependencies file_id (slice_get places at))
-  stores : (now new : I) (q m r : PlanState) (at : ℕ) (chunk : Chunk) (choice : Choice) (noted : List FileXorbDependency) → PlacesTo listing standing calling chunks places base file_id old p now q at noted
+      → PlacesTo listing standing calling acting chunks places base file_id old p now r (at + count) (noted ++ run_dependencies file_id (slice_get places at))
+  stores : (now new : I) (q m r : PlanState) (at : ℕ) (chunk : Chunk) (choice : Choice) (noted : List FileXorbDependency) → PlacesTo listing standing calling acting chunks places base file_id old p now q at noted
       → slice_get chunks at ≡ Some chunk
       → Rejects q m (hashes_of (map chunk_leaf chunks)) places at choice ⊎ HasNone q m (hashes_of (map chunk_leaf chunks)) places base at choice
-      → Stores listing standing calling now new m r chunk choice
-      → PlacesTo listing standing calling chunks places base file_id old p new r (at + 1) (noted ++ block_dependencies file_id m chunk)
+      → Stores listing standing calling acting now new m r chunk choice
+      → PlacesTo listing standing calling acting chunks places base file_id old p new r (at + 1) (noted ++ block_dependencies file_id m chunk)
 
--- All chunks of a batch are placed. Then the dependencies of the file are noted in one call, if there are any, and no further
--- call is among those that are listed.
-pub record ArePlaced {I : Type 0} (listing : I → List ℕ → Option (List ℕ)) (standing : I → List (List ℕ) → Segment → Type 0) (calling : I → List Call) (noting : I → I → List FileXorbDependency → Type 0) (chunks : List Chunk) (places : List Place) (base file_id : ℕ) (old : I) (p : PlanState) (new : I) (q : PlanState) : Type 0 where
+-- What is done at the end of a batch: its dependencies are noted in one call, if there are any.
+abbrev pub noted_at_end : List FileXorbDependency → List Act
+noted_at_end [] = []
+noted_at_end (d ∷ ds) = Noted (d ∷ ds) ∷ []
+
+-- All chunks of a batch are placed. Then the dependencies of the file are noted.
+pub record ArePlaced {I : Type 0} (listing : I → List ℕ → Option (List ℕ)) (standing : I → List (List ℕ) → Segment → Type 0) (calling : I → List Call) (acting : I → List Act) (chunks : List Chunk) (places : List Place) (base file_id : ℕ) (old : I) (p : PlanState) (new : I) (q : PlanState) : Type 0 where
   pub last : I
   pub noted : List FileXorbDependency
-  pub placed : PlacesTo listing standing calling chunks places base file_id old p last q (length chunks) noted
+  pub placed : PlacesTo listing standing calling acting chunks places base file_id old p last q (length chunks) noted
   pub calls : calling new ≡ calling last
-  pub dependencies : ((noted ≡ []) × (new ≡ last)) ⊎ ((noted ≢ []) × noting last new noted)
+  pub acts : acting new ≡ acting last ++ noted_at_end noted
 
 -- A batch of the file with this number is placed: queries find these places of its chunks, and by them the chunks are placed.
 -- These are the numbers of chunks and of bytes of the runs that the second pass of the queries found.
-pub record IsPlaced {I : Type 0} (listing : I → List ℕ → Option (List ℕ)) (standing : I → List (List ℕ) → Segment → Type 0) (calling : I → List Call) (answering : I → I → List (List ℕ) → Segment → Bool → Type 0) (ending : I → I → Bool → Type 0) (noting : I → I → List FileXorbDependency → Type 0) (file_id : ℕ) (chunks : List Chunk) (old : I) (p : PlanState) (new : I) (q : PlanState) (global_chunks global_bytes : ℕ) : Type 0 where
+pub record IsPlaced {I : Type 0} (listing : I → List ℕ → Option (List ℕ)) (standing : I → List (List ℕ) → Segment → Type 0) (calling : I → List Call) (acting : I → List Act) (file_id : ℕ) (chunks : List Chunk) (old : I) (p : PlanState) (new : I) (q : PlanState) (global_chunks global_bytes : ℕ) : Type 0 where
   pub queried : I
   pub added : List Call
   pub calls : calling queried ≡ calling old ++ added
   pub places : List Place
-  pub asked : IsAsked calling ending (hashes_of (map chunk_leaf chunks)) old queried places global_chunks global_bytes
+  pub asked : IsAsked (length p.leaves == 0) (hashes_of (map chunk_leaf chunks)) (calling old) (calling queried) (acting old) (acting queried) places global_chunks global_bytes
   pub found : ArePlaces (listing queried) (standing queried) (calling old) added (hashes_of (map chunk_leaf chunks)) places
-  pub answered : AreAnswered answering (hashes_of (map chunk_leaf chunks)) places
-  pub placed : ArePlaced listing standing calling noting chunks places (length p.leaves) file_id queried p new q
+  pub placed : ArePlaced listing standing calling acting chunks places (length p.leaves) file_id queried p new q
+
+-- A chunk could not be stored: nothing was done, or the open block was registered, into which the chunk does not fit.
+abbrev pub StopsStoring : List Chunk → Chunk → List Act → List Act → Type 0
+StopsStoring block chunk old new = (new ≡ old) ⊎ (new ≡ old ++ Stored (raw_of block (0 ∷ [])) (chunk_leaf chunk ∷ []) ∷ [])
+
+-- The placing of a batch stopped at a place: nothing was done there, or the open block was registered, into which the chunk
+-- there does not fit.
+abbrev pub StopsAt : List Chunk → ℕ → List Chunk → List Act → List Act → Type 0
+StopsAt chunks at block old new =
+    (new ≡ old) ⊎ ((chunk : Chunk) × (slice_get chunks at ≡ Some chunk) × (new ≡ old ++ Stored (raw_of block (0 ∷ [])) (chunk_leaf chunk ∷ []) ∷ []))
+
+-- The placing of a batch stopped at a place, after the chunks before it were placed.
+pub record StopsPlacing {I : Type 0} (listing : I → List ℕ → Option (List ℕ)) (standing : I → List (List ℕ) → Segment → Type 0) (calling : I → List Call) (acting : I → List Act) (chunks : List Chunk) (places : List Place) (base file_id : ℕ) (old : I) (p : PlanState) (new : I) : Type 0 where
+  pub now : I
+  pub plan : PlanState
+  pub at : ℕ
+  pub noted : List FileXorbDependency
+  pub placed : PlacesTo listing standing calling acting chunks places base file_id old p now plan at noted
+  pub acts : StopsAt chunks at plan.block (acting now) (acting new)
+
+-- A batch was not placed. Its queries stopped; or they were all made, and the placing stopped. No dependency was noted.
+pub data StopsBatch {I : Type 0} (listing : I → List ℕ → Option (List ℕ)) (standing : I → List (List ℕ) → Segment → Type 0) (calling : I → List Call) (acting : I → List Act) (file_id : ℕ) (chunks : List Chunk) (old : I) (p : PlanState) (new : I) : Type 0 where
+  asking : StopsAsking (length p.leaves == 0) (hashes_of (map chunk_leaf chunks)) (acting old) (acting new) → StopsBatch listing standing calling acting file_id chunks old p new
+  placing : (queried : I) (places : List Place) (global_chunks global_bytes : ℕ)
+      → IsAsked (length p.leaves == 0) (hashes_of (map chunk_leaf chunks)) (calling old) (calling queried) (acting old) (acting queried) places global_chunks global_bytes
+      → StopsPlacing listing standing calling acting chunks places (length p.leaves) file_id queried p new
+      → StopsBatch listing standing calling acting file_id chunks old p new

@@ -1,12 +1,12 @@
 //! `FileDeduper`: deduplication of the chunks of one file.
 
-ghost use Rattle.std.specs.Prelude.{◌≡◌, ◌≤◌, ◌+◌, ◌-◌, ◌^◌, ◌++◌, IfErr, IfOk, IsErrOf, List, OnOk, drop, false, is_ok, length, map, min, true};
+ghost use Rattle.std.specs.Prelude.{◌≡◌, ◌==◌, ◌≤◌, ◌+◌, ◌-◌, ◌^◌, ◌++◌, IfErr, IfOk, IsErrOf, List, OnErr, OnOk, drop, false, is_ok, length, map, min, true};
 ghost use Rattle.std.specs.List.{AllByRecursion};
 ghost use Rattle.xet_choices.specs.Calls.{Call};
 ghost use Rattle.xet_choices.specs.Choices.{hashes_of};
 ghost use Rattle.xet_choices.specs.Sums.{RunsEnd};
 ghost use Rattle.xet_dedup.specs.Deduping.{IsChunk, IsDeduped, IsQueried, IsQueriedOnce, metrics_of};
-ghost use Rattle.xet_dedup.specs.Placing.{IsPlaced};
+ghost use Rattle.xet_dedup.specs.Placing.{IsPlaced, StopsBatch};
 ghost use Rattle.xet_dedup_queries.specs.Interface.{Extends};
 ghost use Rattle.xet_file_plan.specs.Kept.{max_chunks};
 ghost use Rattle.xet_file_plan.specs.Moves.{empty_plan};
@@ -76,7 +76,8 @@ impl<I: DeduplicationDataInterface> FileDeduper<I> {
     /// Places the chunks of a batch, which follow those that came before, and returns the metrics of this batch. Each is a
     /// chunk of the chunking by the limits, and the file has at most 2^30 chunks. Each run that is rejected ends within the
     /// batch. The error is one of the interface, which is as that call left it, or `OutOfMemory`; the plan is of no use then.
-    /// `Ok` only if no call failed, and `OutOfMemory` likewise. The calls before stay, also after an error.
+    /// `Ok` only if no call failed, and `OutOfMemory` likewise. The calls before stay, also after an error; those of the batch
+    /// are then its queries up to some place, or all of them and what the placing did up to some place.
     pub fn process_chunks(
         &mut self,
         chunks: &[Chunk],
@@ -88,13 +89,14 @@ impl<I: DeduplicationDataInterface> FileDeduper<I> {
         ensures whole { self.new.whole ≡ is_ok result }
         ensures plan { OnOk result (IsDeduped (I.lists self.new.interface) (I.stands self.new.interface) (I.calls self.new.start.value) (I.calls self.new.interface) (I.cut_limits self.new.interface) self.new.plan) }
         ensures leaves { OnOk result (self.new.plan.leaves ≡ self.old.plan.leaves ++ map chunk_leaf chunks.now) }
-        ensures placed { IfOk result (λ m. IsPlaced I.lists I.stands I.calls I.answered I.ended I.noted self.old.file_id chunks.now self.old.interface self.old.plan self.new.interface self.new.plan m.deduped_chunks_by_global_dedup m.deduped_bytes_by_global_dedup) }
+        ensures placed { IfOk result (λ m. IsPlaced I.lists I.stands I.calls I.acts self.old.file_id chunks.now self.old.interface self.old.plan self.new.interface self.new.plan m.deduped_chunks_by_global_dedup m.deduped_bytes_by_global_dedup) }
+        ensures stopped { OnErr result (StopsBatch I.lists I.stands I.calls I.acts self.old.file_id chunks.now self.old.interface self.old.plan self.new.interface) }
         ensures choices { OnOk result (self.new.plan.choices ≡ self.old.plan.choices ++ drop (length self.old.plan.choices) self.new.plan.choices) }
         ensures runs { OnOk result (RunsEnd (map chunk_leaf chunks.now) (drop (length self.old.plan.choices) self.new.plan.choices)) }
         ensures metrics { IfOk result (λ m. m ≡ metrics_of (map chunk_leaf chunks.now) (drop (length self.old.plan.choices) self.new.plan.choices) m.deduped_chunks_by_global_dedup m.deduped_bytes_by_global_dedup) }
         ensures global { IfOk result (λ m. self.new.global ≡ (min (self.old.global.0 + m.deduped_chunks_by_global_dedup) (2 ^ 64 - 1), min (self.old.global.1 + m.deduped_bytes_by_global_dedup) (2 ^ 64 - 1))) }
-        ensures asked { IfOk result (λ m. IsQueried I.calls I.ended (hashes_of (map chunk_leaf chunks.now)) self.old.interface self.new.interface m.deduped_chunks_by_global_dedup m.deduped_bytes_by_global_dedup) }
-        ensures once { I.is_global ≡ false → IfOk result (λ m. IsQueriedOnce (hashes_of (map chunk_leaf chunks.now)) (I.calls self.old.interface) (I.calls self.new.interface) × (m.deduped_chunks_by_global_dedup ≡ 0) × (m.deduped_bytes_by_global_dedup ≡ 0)) }
+        ensures asked { IfOk result (λ m. IsQueried I.calls I.acts (length self.old.plan.leaves == 0) (hashes_of (map chunk_leaf chunks.now)) self.old.interface self.new.interface m.deduped_chunks_by_global_dedup m.deduped_bytes_by_global_dedup) }
+        ensures once { I.is_global ≡ false → IfOk result (λ m. IsQueriedOnce I.calls I.acts (length self.old.plan.leaves == 0) (hashes_of (map chunk_leaf chunks.now)) self.old.interface self.new.interface × (m.deduped_chunks_by_global_dedup ≡ 0) × (m.deduped_bytes_by_global_dedup ≡ 0)) }
         ensures same { (self.new.start.value ≡ self.old.start.value) × (self.new.file_id ≡ self.old.file_id) }
         ensures settings { OnOk result (self.new.plan.settings ≡ self.old.plan.settings) }
         ensures prefix { (added : List Call) × (I.calls self.new.interface ≡ I.calls self.old.interface ++ added) }

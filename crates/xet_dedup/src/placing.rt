@@ -1,11 +1,11 @@
 //! A batch of chunks is looked up, and placed.
 
-ghost use Rattle.std.specs.Prelude.{◌≡◌, ◌≤◌, ◌+◌, ◌++◌, List, IfErr, IfOk, IsErrOf, IsOkUnless, OnOk, false, length, map};
+ghost use Rattle.std.specs.Prelude.{◌≡◌, ◌==◌, ◌≤◌, ◌+◌, ◌++◌, List, IfErr, IfOk, IsErrOf, IsOkUnless, OnErr, OnOk, false, length, map};
 ghost use Rattle.std.specs.List.{AllByRecursion};
 ghost use Rattle.xet_choices.specs.Calls.{Call};
 ghost use Rattle.xet_choices.specs.Choices.{hashes_of};
 ghost use Rattle.xet_dedup.specs.Deduping.{IsChunk, IsDeduped, IsQueried, IsQueriedOnce, RegistersAlone};
-ghost use Rattle.xet_dedup.specs.Placing.{ArePlaced, IsPlaced};
+ghost use Rattle.xet_dedup.specs.Placing.{ArePlaced, IsPlaced, StopsBatch, StopsPlacing};
 ghost use Rattle.xet_dedup.specs.internal.Batches.{AddsChoices, Walks};
 ghost use Rattle.xet_dedup.specs.internal.Joining.{IsBatch};
 ghost use Rattle.xet_dedup_queries.specs.Interface.{Extends};
@@ -36,11 +36,12 @@ pub(crate) fn place_batch<I: DeduplicationDataInterface>(
     requires few { length plan.old.leaves + length chunks.now ≤ max_chunks }
     ensures plan { OnOk result (IsDeduped (I.lists interface.new) (I.stands interface.new) (I.calls start.now.value) (I.calls interface.new) (I.cut_limits interface.new) plan.new) }
     ensures leaves { OnOk result (plan.new.leaves ≡ plan.old.leaves ++ map chunk_leaf chunks.now) }
-    ensures placed { IfOk result (λ global. IsPlaced I.lists I.stands I.calls I.answered I.ended I.noted file_id chunks.now interface.old plan.old interface.new plan.new global.0 global.1) }
+    ensures placed { IfOk result (λ global. IsPlaced I.lists I.stands I.calls I.acts file_id chunks.now interface.old plan.old interface.new plan.new global.0 global.1) }
+    ensures stopped { OnErr result (StopsBatch I.lists I.stands I.calls I.acts file_id chunks.now interface.old plan.old interface.new) }
     ensures choices { OnOk result (AddsChoices (map chunk_leaf chunks.now) plan.old.choices plan.new.choices (length chunks.now)) }
     ensures settings { OnOk result (plan.new.settings ≡ plan.old.settings) }
-    ensures asked { IfOk result (λ global. IsQueried I.calls I.ended (hashes_of (map chunk_leaf chunks.now)) interface.old interface.new global.0 global.1) }
-    ensures once { I.is_global ≡ false → IfOk result (λ global. IsQueriedOnce (hashes_of (map chunk_leaf chunks.now)) (I.calls interface.old) (I.calls interface.new) × (global.0 ≡ 0) × (global.1 ≡ 0)) }
+    ensures asked { IfOk result (λ global. IsQueried I.calls I.acts (length plan.old.leaves == 0) (hashes_of (map chunk_leaf chunks.now)) interface.old interface.new global.0 global.1) }
+    ensures once { I.is_global ≡ false → IfOk result (λ global. IsQueriedOnce I.calls I.acts (length plan.old.leaves == 0) (hashes_of (map chunk_leaf chunks.now)) interface.old interface.new × (global.0 ≡ 0) × (global.1 ≡ 0)) }
     ensures prefix { (added : List Call) × (I.calls interface.new ≡ I.calls interface.old ++ added) }
     ensures extends { Extends I.lists I.stands I.refused I.cut_limits interface.old interface.new }
     ensures refused { IfErr result (λ e. (d : I.ErrorType) → e ≡ DedupError.Interface d → I.refused interface.old interface.new d) }
@@ -87,11 +88,12 @@ fn place_listed<I: DeduplicationDataInterface>(
     requires hashes { hashes.now ≡ hashes_of leaves.now }
     ensures plan { OnOk result (IsDeduped (I.lists interface.new) (I.stands interface.new) (I.calls start.now.value) (I.calls interface.new) (I.cut_limits interface.new) plan.new) }
     ensures leaves { OnOk result (plan.new.leaves ≡ plan.old.leaves ++ leaves.now) }
-    ensures placed { IfOk result (λ global. IsPlaced I.lists I.stands I.calls I.answered I.ended I.noted file_id chunks.now interface.old plan.old interface.new plan.new global.0 global.1) }
+    ensures placed { IfOk result (λ global. IsPlaced I.lists I.stands I.calls I.acts file_id chunks.now interface.old plan.old interface.new plan.new global.0 global.1) }
+    ensures stopped { OnErr result (StopsBatch I.lists I.stands I.calls I.acts file_id chunks.now interface.old plan.old interface.new) }
     ensures choices { OnOk result (AddsChoices leaves.now plan.old.choices plan.new.choices (length chunks.now)) }
     ensures settings { OnOk result (plan.new.settings ≡ plan.old.settings) }
-    ensures asked { IfOk result (λ global. IsQueried I.calls I.ended hashes.now interface.old interface.new global.0 global.1) }
-    ensures once { I.is_global ≡ false → IfOk result (λ global. IsQueriedOnce hashes.now (I.calls interface.old) (I.calls interface.new) × (global.0 ≡ 0) × (global.1 ≡ 0)) }
+    ensures asked { IfOk result (λ global. IsQueried I.calls I.acts (length plan.old.leaves == 0) hashes.now interface.old interface.new global.0 global.1) }
+    ensures once { I.is_global ≡ false → IfOk result (λ global. IsQueriedOnce I.calls I.acts (length plan.old.leaves == 0) hashes.now interface.old interface.new × (global.0 ≡ 0) × (global.1 ≡ 0)) }
     ensures prefix { (added : List Call) × (I.calls interface.new ≡ I.calls interface.old ++ added) }
     ensures extends { Extends I.lists I.stands I.refused I.cut_limits interface.old interface.new }
     ensures refused { IfErr result (λ e. (d : I.ErrorType) → e ≡ DedupError.Interface d → I.refused interface.old interface.new d) }
@@ -127,7 +129,8 @@ fn place_found<I: DeduplicationDataInterface>(
     requires room { batch.now.base + length batch.now.chunks.now ≤ max_chunks }
     ensures plan { OnOk result (IsPlanSince (I.lists interface.new) (I.stands interface.new) (I.calls start.now.value) (I.calls interface.new) plan.new.leaves plan.new) }
     ensures leaves { OnOk result (plan.new.leaves ≡ plan.old.leaves ++ batch.now.leaves.now) }
-    ensures placed { OnOk result (ArePlaced I.lists I.stands I.calls I.noted batch.now.chunks.now batch.now.places.now batch.now.base batch.now.file_id interface.old plan.old interface.new plan.new) }
+    ensures placed { OnOk result (ArePlaced I.lists I.stands I.calls I.acts batch.now.chunks.now batch.now.places.now batch.now.base batch.now.file_id interface.old plan.old interface.new plan.new) }
+    ensures stopped { OnErr result (StopsPlacing I.lists I.stands I.calls I.acts batch.now.chunks.now batch.now.places.now batch.now.base batch.now.file_id interface.old plan.old interface.new) }
     ensures added { OnOk result (AddsChoices batch.now.leaves.now plan.old.choices plan.new.choices (length batch.now.chunks.now)) }
     ensures settings { OnOk result (plan.new.settings ≡ plan.old.settings) }
     ensures calls { RegistersAlone (I.calls interface.old) (I.calls interface.new) }

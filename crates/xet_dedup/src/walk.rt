@@ -4,7 +4,7 @@ ghost use Rattle.std.specs.Prelude.{◌≡◌, ◌≢◌, ◌⊎◌, ◌<◌, �
 ghost use Rattle.std.specs.List.{AllByRecursion};
 ghost use Rattle.xet_choices.specs.Choices.{fits};
 ghost use Rattle.xet_dedup.specs.Deduping.{IsChunk, RegistersAlone};
-ghost use Rattle.xet_dedup.specs.Placing.{HasNone, IsReason, IsRunAt, Joins, PlacesTo, Registers, Rejects, Stores, block_dependencies, run_dependencies, xorb_dependency};
+ghost use Rattle.xet_dedup.specs.Placing.{HasNone, IsReason, IsRunAt, Joins, PlacesTo, Registers, Rejects, Stores, StopsAt, StopsPlacing, StopsStoring, block_dependencies, run_dependencies, xorb_dependency};
 ghost use Rattle.xet_dedup.specs.internal.Batches.{AddsChoices, Places, Walks};
 ghost use Rattle.xet_dedup.specs.internal.Joining.{CanJoin, IsBatch};
 ghost use Rattle.xet_open_block.specs.OpenBlock.{first_place};
@@ -60,7 +60,8 @@ pub(crate) fn walk<I: DeduplicationDataInterface>(
     requires fresh { dependencies.old.items ≡ [] }
     ensures walked { OnOk result (Walks I.lists I.stands I.calls start.now.value interface.new batch.now (length batch.now.chunks.now) plan.new) }
     ensures leaves { OnOk result (plan.new.leaves ≡ plan.old.leaves ++ batch.now.leaves.now) }
-    ensures placed { OnOk result (PlacesTo I.lists I.stands I.calls batch.now.chunks.now batch.now.places.now batch.now.base batch.now.file_id interface.old plan.old interface.new plan.new (length batch.now.chunks.now) dependencies.new.items) }
+    ensures placed { OnOk result (PlacesTo I.lists I.stands I.calls I.acts batch.now.chunks.now batch.now.places.now batch.now.base batch.now.file_id interface.old plan.old interface.new plan.new (length batch.now.chunks.now) dependencies.new.items) }
+    ensures stopped { OnErr result (StopsPlacing I.lists I.stands I.calls I.acts batch.now.chunks.now batch.now.places.now batch.now.base batch.now.file_id interface.old plan.old interface.new) }
     ensures added { OnOk result (AddsChoices batch.now.leaves.now plan.old.choices plan.new.choices (length batch.now.chunks.now)) }
     ensures settings { OnOk result (plan.new.settings ≡ plan.old.settings) }
     ensures calls { RegistersAlone (I.calls interface.old) (I.calls interface.new) }
@@ -94,7 +95,8 @@ fn step<I: DeduplicationDataInterface>(
     ensures some { IfOk result (λ count. (0 < count) × (at + count ≤ length batch.now.chunks.now)) }
     ensures walked { IfOk result (λ count. Walks I.lists I.stands I.calls start.now.value interface.new batch.now (at + count) plan.new) }
     ensures leaves { IfOk result (λ count. plan.new.leaves ++ drop (at + count) batch.now.leaves.now ≡ plan.old.leaves ++ drop at batch.now.leaves.now) }
-    ensures placed { IfOk result (λ count. Places I.lists I.stands I.calls batch.now interface.old plan.old at dependencies.old.items interface.new plan.new (at + count) dependencies.new.items) }
+    ensures placed { IfOk result (λ count. Places I.lists I.stands I.calls I.acts batch.now interface.old plan.old at dependencies.old.items interface.new plan.new (at + count) dependencies.new.items) }
+    ensures stopped { OnErr result (StopsAt batch.now.chunks.now at plan.old.block (I.acts interface.old) (I.acts interface.new)) }
     ensures added { IfOk result (λ count. AddsChoices (drop at batch.now.leaves.now) plan.old.choices plan.new.choices count) }
     ensures settings { OnOk result (plan.new.settings ≡ plan.old.settings) }
     ensures calls { RegistersAlone (I.calls interface.old) (I.calls interface.new) }
@@ -239,7 +241,8 @@ pub(crate) fn store<I: DeduplicationDataInterface>(
     requires block { AllByRecursion IsStorable plan.old.block }
     requires room { length plan.old.leaves + 1 ≤ max_chunks }
     requires limits { I.cut_limits interface.old ≡ (plan.old.settings.cut_bytes, plan.old.settings.cut_chunks) }
-    ensures stored { OnOk result (Stores I.lists I.stands I.calls interface.old interface.new plan.old plan.new chunk.now choice) }
+    ensures stored { OnOk result (Stores I.lists I.stands I.calls I.acts interface.old interface.new plan.old plan.new chunk.now choice) }
+    ensures stopped { OnErr result (StopsStoring plan.old.block chunk.now (I.acts interface.old) (I.acts interface.new)) }
     ensures noted { OnOk result (dependencies.new.items ≡ dependencies.old.items ++ block_dependencies file_id plan.old chunk.now) }
     ensures calls { RegistersAlone (I.calls interface.old) (I.calls interface.new) }
     ensures extends { Extends I.lists I.stands I.refused I.cut_limits interface.old interface.new }
@@ -271,10 +274,11 @@ fn cut<I: DeduplicationDataInterface>(
     requires block { AllByRecursion IsStorable plan.old.block }
     requires limits { I.cut_limits interface.old ≡ (plan.old.settings.cut_bytes, plan.old.settings.cut_chunks) }
     requires due { IsDue (I.cut_limits interface.old) (map chunk_leaf plan.old.block) next.now }
-    ensures registered { OnOk result ((x : RawXorbData) × Registers I.lists I.stands I.calls interface.old interface.new plan.old.block next.now x × (plan.new ≡ closed plan.old x.xorb_info.metadata.xorb_hash)) }
+    ensures registered { OnOk result ((x : RawXorbData) × Registers I.lists I.stands I.calls I.acts interface.old interface.new plan.old.block next.now x × (plan.new ≡ closed plan.old x.xorb_info.metadata.xorb_hash)) }
     ensures extends { Extends I.lists I.stands I.refused I.cut_limits interface.old interface.new }
     ensures noted { OnOk result (dependencies.new.items ≡ dependencies.old.items ++ xorb_dependency file_id (raw_of plan.old.block (0 ∷ [])) ∷ []) }
     ensures same { OnErr result (I.calls interface.new ≡ I.calls interface.old) }
+    ensures kept_acts { OnErr result (I.acts interface.new ≡ I.acts interface.old) }
     ensures refused { IfErr result (λ e. (d : I.ErrorType) → e ≡ DedupError.Interface d → I.refused interface.old interface.new d) }
     ensures passed { OnOk result (I.failed interface.new ≡ I.failed interface.old) }
     ensures memory { IsErrOf result DedupError.OutOfMemory → I.failed interface.new ≡ I.failed interface.old }

@@ -6,11 +6,13 @@ use Rattle.std.proofs.lemmas.List.Elements.{All-head, All-tail}
 use Rattle.std.proofs.lemmas.List.Sums.{sum_by-cons}
 use Rattle.xet_choices.specs.Calls.{Call, IsAskedIn, entries_of}
 use Rattle.xet_choices.specs.Calls.Call.{Asked, Registered}
-use Rattle.xet_dedup_queries.specs.Asking.{PassesTo, kept_run, new_runs}
+use Rattle.xet_dedup_queries.specs.Acts.{Act, Found}
+use Rattle.xet_dedup_queries.specs.Asking.{PassesTo, kept_found, new_runs}
 use Rattle.xet_dedup_queries.specs.Interface.{asked, found_count}
 use Rattle.xet_dedup_queries.specs.Asking.PassesTo.{begins, passes_over, finds, misses}
 use Rattle.xet_shard_format.specs.declared.record.FileDataSequenceEntry.{FileDataSequenceEntry as Segment}
 use Rattle.xet_dedup_queries.specs.Passing.{Covers, covered, missed}
+use Rattle.xet_dedup_queries.specs.declared.passing.Round.{Round}
 use Rattle.xet_dedup_queries.specs.declared.places.Place.{Place}
 use Rattle.xet_dedup_queries.specs.declared.places.Place.TheVariants.{Kept, Missed, Covered, Unasked}
 use Rattle.xet_dedup_queries.proofs.Lists.{get-set_here, get-set_other, same_at, take_from}
@@ -19,37 +21,39 @@ use Rattle.std.proofs.lemmas.Bool.{cases_eq, cases_lt}
 use Rattle.std.proofs.lemmas.Option.{get_or_from_slice_get, slice_get_within}
 
 -- a sum over the new runs, when one more is kept
-pub new_runs-set : (f : Segment → ℕ) (before kept : List (Option Segment)) (i : ℕ) (run : Segment) → slice_get before i ≡ Some None → slice_get kept i ≡ Some None
-    → sum_by f (new_runs before (set kept i (Some run))) ≡ sum_by f (new_runs before kept) + f run
-new_runs-set f [] kept i run none is = absurd (cc none)
-new_runs-set f (b ∷ before) [] i run none is = absurd (cc is)
-new_runs-set f (None ∷ before) (None ∷ kept) zero run none is = sum_by-cons f run (new_runs before kept) ∙ omega arith
-new_runs-set f (None ∷ before) (Some k ∷ kept) zero run none is = absurd (cc is)
-new_runs-set f (Some b ∷ before) (k ∷ kept) zero run none is = absurd (cc none)
-new_runs-set f (None ∷ before) (None ∷ kept) (suc i) run none is = new_runs-set f before kept i run none is
-new_runs-set f (None ∷ before) (Some k ∷ kept) (suc i) run none is =
-    omega (arith, new_runs-set f before kept i run none is, sum_by-cons f k (new_runs before (set kept i (Some run))), sum_by-cons f k (new_runs before kept))
-new_runs-set f (Some b ∷ before) (k ∷ kept) (suc i) run none is = new_runs-set f before kept i run none is
+pub new_runs-set : (f : Segment → ℕ) (before kept : List (Option Found)) (i : ℕ) (found : Found) → slice_get before i ≡ Some None → slice_get kept i ≡ Some None
+    → sum_by f (new_runs before (set kept i (Some found))) ≡ sum_by f (new_runs before kept) + f found.0
+new_runs-set f [] kept i found none is = absurd (cc none)
+new_runs-set f (b ∷ before) [] i found none is = absurd (cc is)
+new_runs-set f (None ∷ before) (None ∷ kept) zero found none is = sum_by-cons f found.0 (new_runs before kept) ∙ omega arith
+new_runs-set f (None ∷ before) (Some k ∷ kept) zero found none is = absurd (cc is)
+new_runs-set f (Some b ∷ before) (k ∷ kept) zero found none is = absurd (cc none)
+new_runs-set f (None ∷ before) (None ∷ kept) (suc i) found none is = new_runs-set f before kept i found none is
+new_runs-set f (None ∷ before) (Some k ∷ kept) (suc i) found none is =
+    omega (arith, new_runs-set f before kept i found none is, sum_by-cons f k.0 (new_runs before (set kept i (Some found))), sum_by-cons f k.0 (new_runs before kept))
+new_runs-set f (Some b ∷ before) (k ∷ kept) (suc i) found none is = new_runs-set f before kept i found none is
 
 -- none is new
-pub new_runs-same : (kept : List (Option Segment)) → new_runs kept kept ≡ []
+pub new_runs-same : (kept : List (Option Found)) → new_runs kept kept ≡ []
 new_runs-same [] = refl
 new_runs-same (None ∷ kept) = new_runs-same kept
-new_runs-same (Some run ∷ kept) = new_runs-same kept
+new_runs-same (Some found ∷ kept) = new_runs-same kept
 
--- a place where a pass keeps no run had none before it
-pub was_none : (hashes : List (List ℕ)) (before : List (Option Segment)) (at : ℕ) (kept : List (Option Segment)) (calls : List Call) (i : ℕ)
-    → PassesTo hashes before at kept calls → slice_get kept i ≡ Some None → slice_get before i ≡ Some None
-was_none hashes before at kept calls i begins is = is
-was_none hashes before at kept calls i (passes_over j run k cs p here) is = was_none hashes before j k cs i p is
-was_none hashes before at kept calls i (finds j entry run k cs p here within some) is = elim (cases_eq i j) [
-  | inl e ↦
-      let found : slice_get (set k j (Some run)) i ≡ Some (Some run) = rw e (get-set_here k j (Some run) (slice_get_within k j None here)) in
-      let no : None ≡ Some run = same_at (slice_get (set k j (Some run)) i) None (Some run) is found in
-      absurd (cc no)
-  | inr other ↦ was_none hashes before j k cs i p (sym (get-set_other k j i (Some run) other) ∙ is)
-]
-was_none hashes before at kept calls i (misses j entry k cs p here within) is = was_none hashes before j k cs i p is
+module _ (round : Round) (hashes : List (List ℕ)) (before : List (Option Found)) (earlier : List (Option ℕ)) where
+  -- a place where a pass keeps no run had none before it
+  pub was_none : (at : ℕ) (kept : List (Option Found)) (entries : List (Option ℕ)) (calls : List Call) (acts : List Act) (i : ℕ)
+      → PassesTo round hashes before earlier at kept entries calls acts → slice_get kept i ≡ Some None → slice_get before i ≡ Some None
+  was_none at kept entries calls acts i begins is = is
+  was_none at kept entries calls acts i (passes_over j run is_external k es cs done p here) is = was_none j k es cs done i p is
+  was_none at kept entries calls acts i (finds j entry run is_external k es cs done p here within some) is = elim (cases_eq i j) [
+    | inl e ↦
+        let one : Found = (run, is_external) in
+        let found : slice_get (set k j (Some one)) i ≡ Some (Some one) = rw e (get-set_here k j (Some one) (slice_get_within k j None here)) in
+        let no : None ≡ Some one = same_at (slice_get (set k j (Some one)) i) None (Some one) is found in
+        absurd (cc no)
+    | inr other ↦ was_none j k es cs done i p (sym (get-set_other k j i (Some (run, is_external)) other) ∙ is)
+  ]
+  was_none at kept entries calls acts i (misses j entry hash k es cs done p here first) is = was_none j k es cs done i p is
 
 -- the entry of a query is one of the entries, so what holds of those holds of it
 pub below_asked : (e : ℕ) (calls : List Call) (n : ℕ) (h : List ℕ) (reply : Option ℕ) → All (λ k. k < e) (entries_of calls) → IsAskedIn calls n h reply → n < e
@@ -73,13 +77,13 @@ pub asked_at : (calls : List Call) (entry : ℕ) (hashes : List (List ℕ)) (i n
 asked_at calls entry hashes i n h reply is contains =
     (take n (drop (suc i) hashes), subst (λ (l : List (List ℕ)). Contains calls (Asked entry l reply)) (take_from hashes i n h is) contains)
 
-covered-keeps : (start : ℕ) (p : Place) → kept_run (covered start p) ≡ kept_run p
+covered-keeps : (start : ℕ) (p : Place) → kept_found (covered start p) ≡ kept_found p
 covered-keeps start (Kept run is_external) = refl
 covered-keeps start (Missed entry) = refl
 covered-keeps start (Covered other) = refl
 covered-keeps start Unasked = refl
 
-pub missed-keeps : (entry : ℕ) (p : Place) → kept_run (missed entry p) ≡ kept_run p
+pub missed-keeps : (entry : ℕ) (p : Place) → kept_found (missed entry p) ≡ kept_found p
 missed-keeps entry (Kept run is_external) = refl
 missed-keeps entry (Missed other) = refl
 missed-keeps entry (Covered start) = refl
@@ -93,7 +97,7 @@ map-set_keeps f places i p q is same = map-set_same f places i q p (same ∙ ap 
 pub covers_more : (start i : ℕ) (old mid : List Place) (p : Place) → start < i → slice_get mid i ≡ Some p → Covers start i old mid → Covers start (i + 1) old (set mid i (covered start p))
 covers_more start i old mid p later here c = record {
   counted = length-set mid i (covered start p) ∙ c.counted;
-  kept = map-set_keeps kept_run mid i p (covered start p) here (covered-keeps start p) ∙ c.kept;
+  kept = map-set_keeps kept_found mid i p (covered start p) here (covered-keeps start p) ∙ c.kept;
   before = λ j le. get-set_other mid i j (covered start p) (λ e. omega (arith, e)) ∙ c.before j le;
   inside = λ j q lt below is. elim (cases_lt j i) [
     | inl less ↦ get-set_other mid i j (covered start p) (λ e. omega (arith, e)) ∙ c.inside j q lt less is

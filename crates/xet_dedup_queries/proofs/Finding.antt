@@ -1,5 +1,5 @@
 -- A pass goes on, after a query that found a run.
-use Rattle.std.proofs.Common.{◌≡◌, ◌⊎◌, ◌^◌, ℕ, suc, ◌+◌, ◌<◌, ◌≤◌, inl, inr, Bool, List, [], ◌∷◌, ◌++◌, Option, Some, None, length, map, take, drop, set, refl, sym, ap, ◌∙◌, subst, arith, length-drop}
+use Rattle.std.proofs.Common.{◌≡◌, ◌≢◌, ◌⊎◌, ◌^◌, ℕ, suc, ◌+◌, ◌<◌, ◌≤◌, inl, inr, Bool, List, [], ◌∷◌, ◌++◌, Option, Some, None, length, map, take, drop, set, refl, sym, ap, ◌∙◌, subst, arith, length-drop}
 use Rattle.std.specs.List.{Contains, slice_get, sum_by}
 use Rattle.std.proofs.lemmas.Bool.{cases_eq, cases_lt}
 use Rattle.std.proofs.lemmas.List.{append_assoc, length-set, map-set}
@@ -8,11 +8,14 @@ use Rattle.std.proofs.lemmas.List.Sums.{sum_by-take-drop, sum_by-take-le}
 use Rattle.std.proofs.lemmas.Option.{slice_get-map, slice_get_within}
 use Rattle.xet_choices.specs.Calls.{Call}
 use Rattle.xet_choices.specs.Calls.Call.{Asked}
-use Rattle.xet_dedup_queries.specs.Asking.{PassesTo, kept_run, new_runs}
+use Rattle.xet_dedup_queries.specs.Acts.{Act, Found}
+use Rattle.xet_dedup_queries.specs.Acts.Act.{Queried}
+use Rattle.xet_dedup_queries.specs.Asking.{PassesTo, kept_found, new_runs}
 use Rattle.xet_dedup_queries.specs.Asking.PassesTo.{finds}
 use Rattle.xet_dedup_queries.specs.Interface.{IsFoundRun, LiesIn, asked, run_len}
 use Rattle.xet_dedup_queries.specs.Passing.{Began, Covers, IsPassing, covered}
 use Rattle.xet_dedup_queries.specs.Places.{IsPlace, IsTaken}
+use Rattle.xet_dedup_queries.specs.declared.passing.Round.{Round}
 use Rattle.xet_dedup_queries.specs.declared.places.Place.{Place}
 use Rattle.xet_dedup_queries.specs.declared.places.Place.TheVariants.{Kept, Missed, Covered, Unasked}
 use Rattle.xet_dedup_queries.specs.theorems.Growing.{place_grows}
@@ -52,7 +55,7 @@ kept_before start run is_external (Missed entry) e = absurd (cc e)
 kept_before start run is_external (Covered other) e = absurd (cc e)
 kept_before start run is_external Unasked e = absurd (cc e)
 
-module _ (listing grown : List ℕ → Option (List ℕ)) (standing stands_now : List (List ℕ) → Segment → Type 0) (lists : (h lengths : List ℕ) → listing h ≡ Some lengths → grown h ≡ Some lengths) (stands : (hs : List (List ℕ)) (r : Segment) → standing hs r → stands_now hs r) (hashes : List (List ℕ)) (began : Began) (calls : List Call) (places : List Place) (at chunks bytes : ℕ) (was : IsPassing listing standing hashes began calls places at chunks bytes) (after : List Call) (entry : ℕ) (run : Segment) (is_external : Bool) (old : Place) (new : List Place) (more : at < length hashes) (here : slice_get places at ≡ Some old) (none : kept_run old ≡ None) (calls_are : after ≡ calls ++ Asked entry (take (run_len run + 1) (drop at hashes)) (Some (run_len run)) ∷ []) (found : IsFoundRun grown stands_now (drop at hashes) (run_len run) run) (fits : run.unpacked_segment_bytes < 2 ^ 32) (covers : Covers at (at + run_len run) (set places at (Kept run is_external)) new) where
+module _ (listing grown : List ℕ → Option (List ℕ)) (standing stands_now : List (List ℕ) → Segment → Type 0) (lists : (h lengths : List ℕ) → listing h ≡ Some lengths → grown h ≡ Some lengths) (stands : (hs : List (List ℕ)) (r : Segment) → standing hs r → stands_now hs r) (round : Round) (hashes : List (List ℕ)) (began : Began) (calls : List Call) (acts : List Act) (places : List Place) (at chunks bytes : ℕ) (was : IsPassing listing standing round hashes began calls acts places at chunks bytes) (after : List Call) (acts_after : List Act) (entry : ℕ) (run : Segment) (is_external : Bool) (old : Place) (new : List Place) (more : at < length hashes) (here : slice_get places at ≡ Some old) (none : kept_found old ≡ None) (calls_are : after ≡ calls ++ Asked entry (take (run_len run + 1) (drop at hashes)) (Some (run_len run)) ∷ []) (acts_are : acts_after ≡ acts ++ Queried (drop at hashes) (Some (run, is_external)) ∷ []) (found : IsFoundRun grown stands_now (drop at hashes) (run_len run) run) (fits : run.unpacked_segment_bytes < 2 ^ 32) (covers : Covers at (at + run_len run) (set places at (Kept run is_external)) new) where
   -- the calls of the batch
   abbrev all_asked : List Call
   all_asked = began.asked ++ (was.added ++ Asked entry (take (run_len run + 1) (drop at hashes)) (Some (run_len run)) ∷ [])
@@ -60,8 +63,8 @@ module _ (listing grown : List ℕ → Option (List ℕ)) (standing stands_now :
   start : at < length places
   start = slice_get_within places at old here
 
-  kept_here : slice_get (map kept_run places) at ≡ Some None
-  kept_here = slice_get-map kept_run places at ∙ rw (here, none) refl
+  kept_here : slice_get (map kept_found places) at ≡ Some None
+  kept_here = slice_get-map kept_found places at ∙ rw (here, none) refl
 
   long : length new ≡ length places
   long = covers.counted ∙ length-set places at (Kept run is_external)
@@ -98,7 +101,8 @@ module _ (listing grown : List ℕ → Option (List ℕ)) (standing stands_now :
     | inr more ↦ elim (cases_eq i at) [
       | inl e ↦
           let one : old ≡ Kept r x = same_at (slice_get places at) old (Kept r x) here (rw e at is) in
-          let no : None ≡ Some r = sym none ∙ ap kept_run one in
+          let kept : Found = (r, x) in
+          let no : None ≡ Some kept = sym none ∙ ap kept_found one in
           absurd (cc no)
       | inr other ↦ elim (cases_lt i (at + run_len run)) [
         | inl within ↦ inside_now i (Kept r x) (omega (arith, other)) within is
@@ -160,22 +164,40 @@ module _ (listing grown : List ℕ → Option (List ℕ)) (standing stands_now :
     | inr past ↦ absurd (omega arith)
   ]
 
-  runs_now : map kept_run new ≡ set (map kept_run places) at (Some run)
-  runs_now = covers.kept ∙ map-set kept_run places at (Kept run is_external)
+  missed_apart : (i m : ℕ) (p : Place) → p ≡ Missed m → Now places at run is_external i p → (i ≢ at) × (slice_get places i ≡ Some (Missed m))
+  missed_apart i m p is (itself e is_p) = absurd (cc (sym is ∙ is_p))
+  missed_apart i m p is (under q l b is_q e) = absurd (not_covered at m q (sym is ∙ e))
+  missed_apart i m p is (apart (inl less) is_p) = ((λ e. omega (arith, e)), is_p ∙ ap Some is)
+  missed_apart i m p is (apart (inr past) is_p) = ((λ e. omega (arith, e, found.some)), is_p ∙ ap Some is)
 
-  sums_now : (f : Segment → ℕ) → sum_by f (new_runs began.kept (map kept_run new)) ≡ sum_by f (new_runs began.kept (map kept_run places)) + f run
+  latest_now : (i m : ℕ) → slice_get new i ≡ Some (Missed m) → slice_get (set was.entries at (Some entry)) i ≡ Some (Some m)
+  latest_now i m is =
+      let at_i = missed_apart i m (Missed m) refl (now i (Missed m) is) in
+      get-set_other was.entries at i (Some entry) at_i.0 ∙ was.latest.each i m at_i.1
+
+  runs_now : map kept_found new ≡ set (map kept_found places) at (Some (run, is_external))
+  runs_now = covers.kept ∙ map-set kept_found places at (Kept run is_external)
+
+  sums_now : (f : Segment → ℕ) → sum_by f (new_runs began.kept (map kept_found new)) ≡ sum_by f (new_runs began.kept (map kept_found places)) + f run
   sums_now f =
-      let was_free = was_none hashes began.kept at (map kept_run places) was.added at was.passes kept_here in
-      ap (λ (k : List (Option Segment)). sum_by f (new_runs began.kept k)) runs_now ∙ new_runs-set f began.kept (map kept_run places) at run was_free kept_here
+      let was_free = was_none round hashes began.kept began.entries at (map kept_found places) was.entries was.added was.done at was.passes kept_here in
+      ap (λ (k : List (Option Found)). sum_by f (new_runs began.kept k)) runs_now ∙ new_runs-set f began.kept (map kept_found places) at (run, is_external) was_free kept_here
 
   -- The run is kept, and the pass goes on after it.
-  pub passing_found : IsPassing grown stands_now hashes began after new (at + run_len run) (chunks + run_len run) (bytes + run.unpacked_segment_bytes)
+  pub passing_found : IsPassing grown stands_now round hashes began after acts_after new (at + run_len run) (chunks + run_len run) (bytes + run.unpacked_segment_bytes)
   passing_found = record {
     within = omega (arith, found.within, found.some, length-drop at hashes);
     counted = long ∙ was.counted;
     added = was.added ++ Asked entry (take (run_len run + 1) (drop at hashes)) (Some (run_len run)) ∷ [];
     appended = calls_are ∙ ap (λ (c : List Call). c ++ Asked entry (take (run_len run + 1) (drop at hashes)) (Some (run_len run)) ∷ []) was.appended ∙ append_assoc began.old (began.asked ++ was.added) (Asked entry (take (run_len run + 1) (drop at hashes)) (Some (run_len run)) ∷ []) ∙ ap (λ (c : List Call). began.old ++ c) (append_assoc began.asked was.added (Asked entry (take (run_len run + 1) (drop at hashes)) (Some (run_len run)) ∷ []));
-    passes = subst (λ (k : List (Option Segment)). PassesTo hashes began.kept (at + run_len run) k (was.added ++ Asked entry (take (run_len run + 1) (drop at hashes)) (Some (run_len run)) ∷ [])) (sym runs_now) (finds at entry run (map kept_run places) was.added was.passes kept_here more found.some);
+    done = was.done ++ Queried (drop at hashes) (Some (run, is_external)) ∷ [];
+    acted = acts_are ∙ ap (λ (a : List Act). a ++ Queried (drop at hashes) (Some (run, is_external)) ∷ []) was.acted ∙ append_assoc began.acts was.done (Queried (drop at hashes) (Some (run, is_external)) ∷ []);
+    entries = set was.entries at (Some entry);
+    noted = length-set was.entries at (Some entry) ∙ was.noted;
+    passes =
+        subst (λ (k : List (Option Found)). PassesTo round hashes began.kept began.entries (at + run_len run) k (set was.entries at (Some entry)) (was.added ++ Asked entry (take (run_len run + 1) (drop at hashes)) (Some (run_len run)) ∷ []) (was.done ++ Queried (drop at hashes) (Some (run, is_external)) ∷ []))
+        (sym runs_now) (finds at entry run is_external (map kept_found places) was.entries was.added was.done was.passes kept_here more found.some);
+    latest = record { each = latest_now };
     each = λ i h p is_h is. each_now i h p is_h (now i p is);
     inside = λ i j r x p is_i lt below is_j. taken_now r x i j (Kept r x) p refl lt below (now i (Kept r x) is_i) (now j p is_j);
     ascend = λ i j m n lt below is_m is_n.
@@ -191,22 +213,22 @@ module _ (listing grown : List ℕ → Option (List ℕ)) (standing stands_now :
     small = omega (arith, was.small, fits, found.some);
   }
 
-module _ (listing grown : List ℕ → Option (List ℕ)) (standing stands_now : List (List ℕ) → Segment → Type 0) (lists : (h lengths : List ℕ) → listing h ≡ Some lengths → grown h ≡ Some lengths) (stands : (hs : List (List ℕ)) (r : Segment) → standing hs r → stands_now hs r) (hashes : List (List ℕ)) (began : Began) (calls after : List Call) (places new : List Place) (at chunks bytes entry count : ℕ) (run : Segment) (is_external : Bool) where
+module _ (listing grown : List ℕ → Option (List ℕ)) (standing stands_now : List (List ℕ) → Segment → Type 0) (lists : (h lengths : List ℕ) → listing h ≡ Some lengths → grown h ≡ Some lengths) (stands : (hs : List (List ℕ)) (r : Segment) → standing hs r → stands_now hs r) (round : Round) (hashes : List (List ℕ)) (began : Began) (calls after : List Call) (acts acts_after : List Act) (places new : List Place) (at chunks bytes entry count : ℕ) (run : Segment) (is_external : Bool) where
   counted_step : run_len run ≡ count → Covers at (at + count) (set places at (Kept run is_external)) new → Covers at (at + run_len run) (set places at (Kept run is_external)) new
   counted_step e covers = subst (λ (n : ℕ). Covers at (at + n) (set places at (Kept run is_external)) new) (sym e) covers
 
   -- The pass after a query that found a run of `count` chunks.
-  pub found_step : IsPassing listing standing hashes began calls places at chunks bytes → at < length hashes → slice_get (map kept_run places) at ≡ Some None
-      → after ≡ calls ++ asked entry (drop at hashes) (Some count) → IsFoundRun grown stands_now (drop at hashes) count run
+  pub found_step : IsPassing listing standing round hashes began calls acts places at chunks bytes → at < length hashes → slice_get (map kept_found places) at ≡ Some None
+      → after ≡ calls ++ asked entry (drop at hashes) (Some count) → acts_after ≡ acts ++ Queried (drop at hashes) (Some (run, is_external)) ∷ [] → IsFoundRun grown stands_now (drop at hashes) count run
       → Covers at (at + count) (set places at (Kept run is_external)) new
-      → IsPassing grown stands_now hashes began after new (at + count) (chunks + count) (bytes + run.unpacked_segment_bytes)
-  found_step was more free calls_are found covers =
+      → IsPassing grown stands_now round hashes began after acts_after new (at + count) (chunks + count) (bytes + run.unpacked_segment_bytes)
+  found_step was more free calls_are acts_are found covers =
       let first = get_within hashes at more in
-      let old = get_mapped kept_run places at None free in
+      let old = get_mapped kept_found places at None free in
       let e = found.counted in
       let rest = drop_from hashes at first.0 first.1 in
       let one : after ≡ calls ++ Asked entry (take (count + 1) (drop at hashes)) (Some count) ∷ [] = calls_are ∙ ap (λ (c : List Call). calls ++ c) (asked_one entry (drop at hashes) (Some count) first.0 (drop (suc at) hashes) rest) in
       let same : after ≡ calls ++ Asked entry (take (run_len run + 1) (drop at hashes)) (Some (run_len run)) ∷ [] = one ∙ ap (λ (n : ℕ). calls ++ Asked entry (take (n + 1) (drop at hashes)) (Some n) ∷ []) (sym e) in
       let found_len = subst (λ (n : ℕ). IsFoundRun grown stands_now (drop at hashes) n run) (sym e) found in
-      subst (λ (n : ℕ). IsPassing grown stands_now hashes began after new (at + n) (chunks + n) (bytes + run.unpacked_segment_bytes)) e
-      (passing_found listing grown standing stands_now lists stands hashes began calls places at chunks bytes was after entry run is_external old.0 new more old.1 old.2 same found_len (bytes_fit grown run found.lies) (counted_step e covers))
+      subst (λ (n : ℕ). IsPassing grown stands_now round hashes began after acts_after new (at + n) (chunks + n) (bytes + run.unpacked_segment_bytes)) e
+      (passing_found listing grown standing stands_now lists stands round hashes began calls acts places at chunks bytes was after acts_after entry run is_external old.0 new more old.1 old.2 same acts_are found_len (bytes_fit grown run found.lies) (counted_step e covers))

@@ -5,11 +5,13 @@ use Rattle.std.proofs.lemmas.Bool.{cases_eq, cases_lt}
 use Rattle.std.proofs.lemmas.Option.{slice_get-get_or, slice_get-map, slice_get_within}
 use Rattle.std.specs.Option.{option_map}
 use Rattle.xet_choices.specs.Calls.{Call}
-use Rattle.xet_dedup_queries.specs.Asking.{kept_run}
+use Rattle.xet_dedup_queries.specs.Acts.{Act}
+use Rattle.xet_dedup_queries.specs.Asking.{kept_found}
 use Rattle.xet_dedup_queries.specs.Asking.PassesTo.{passes_over}
 use Rattle.xet_dedup_queries.specs.Interface.{IsFoundRun, run_len}
 use Rattle.xet_dedup_queries.specs.Passing.{Began, IsPassing}
 use Rattle.xet_dedup_queries.specs.Places.{IsPlace, IsTaken}
+use Rattle.xet_dedup_queries.specs.declared.passing.Round.{Round}
 use Rattle.xet_dedup_queries.specs.declared.places.Place.{Place}
 use Rattle.xet_dedup_queries.specs.declared.places.Place.TheVariants.{Kept, Missed, Covered, Unasked}
 use Rattle.xet_shard_format.specs.declared.record.FileDataSequenceEntry.{FileDataSequenceEntry as Segment}
@@ -29,17 +31,17 @@ place_in listing standing calls hashes places new keeps i h Unasked is = is
 pub read_is : (places : List Place) (i : ℕ) (d p : Place) → i < length places → get_or places i d ≡ p → slice_get places i ≡ Some p
 read_is places i d p lt is = slice_get-get_or places i d lt ∙ ap Some is
 
-kept_none : (p : Place) → ((run : Segment) (is_external : Bool) → p ≡ Kept run is_external → ⊥) → kept_run p ≡ None
+kept_none : (p : Place) → ((run : Segment) (is_external : Bool) → p ≡ Kept run is_external → ⊥) → kept_found p ≡ None
 kept_none (Kept run is_external) not = absurd (not run is_external refl)
 kept_none (Missed entry) not = refl
 kept_none (Covered start) not = refl
 kept_none Unasked not = refl
 
 -- no run is kept at a place that was read
-pub free_at : (places : List Place) (i : ℕ) (d : Place) → i < length places → ((run : Segment) (is_external : Bool) → get_or places i d ≡ Kept run is_external → ⊥) → slice_get (map kept_run places) i ≡ Some None
-free_at places i d lt not = slice_get-map kept_run places i ∙ ap (option_map kept_run) (slice_get-get_or places i d lt) ∙ ap Some (kept_none (get_or places i d) not)
+pub free_at : (places : List Place) (i : ℕ) (d : Place) → i < length places → ((run : Segment) (is_external : Bool) → get_or places i d ≡ Kept run is_external → ⊥) → slice_get (map kept_found places) i ≡ Some None
+free_at places i d lt not = slice_get-map kept_found places i ∙ ap (option_map kept_found) (slice_get-get_or places i d lt) ∙ ap Some (kept_none (get_or places i d) not)
 
-module _ (listing : List ℕ → Option (List ℕ)) (standing : List (List ℕ) → Segment → Type 0) (hashes : List (List ℕ)) (began : Began) (calls : List Call) (places : List Place) (at chunks bytes : ℕ) (was : IsPassing listing standing hashes began calls places at chunks bytes) where
+module _ (listing : List ℕ → Option (List ℕ)) (standing : List (List ℕ) → Segment → Type 0) (round : Round) (hashes : List (List ℕ)) (began : Began) (calls : List Call) (acts : List Act) (places : List Place) (at chunks bytes : ℕ) (was : IsPassing listing standing round hashes began calls acts places at chunks bytes) where
   -- a run that is kept at the index is one that a query found
   pub kept_is_found : (run : Segment) (is_external : Bool) → slice_get places at ≡ Some (Kept run is_external) → IsFoundRun listing standing (drop at hashes) (run_len run) run
   kept_is_found run is_external here =
@@ -60,7 +62,7 @@ module _ (listing : List ℕ → Option (List ℕ)) (standing : List (List ℕ) 
     ]
 
     -- The pass goes on after the run.
-    pub passing_over : IsPassing listing standing hashes began calls places (at + run_len run) chunks bytes
+    pub passing_over : IsPassing listing standing round hashes began calls acts places (at + run_len run) chunks bytes
     passing_over =
         let found = kept_is_found run is_external here in
         let fits : at + run_len run ≤ length hashes = omega (arith, found.within, found.some, length-drop at hashes) in
@@ -69,7 +71,12 @@ module _ (listing : List ℕ → Option (List ℕ)) (standing : List (List ℕ) 
           counted = was.counted;
           added = was.added;
           appended = was.appended;
-          passes = passes_over at run (map kept_run places) was.added was.passes (slice_get-map kept_run places at ∙ rw here refl);
+          done = was.done;
+          acted = was.acted;
+          entries = was.entries;
+          noted = was.noted;
+          passes = passes_over at run is_external (map kept_found places) was.entries was.added was.done was.passes (slice_get-map kept_found places at ∙ rw here refl);
+          latest = was.latest;
           each = λ i h p first is. elim (was.each i h p first is) [
             | inl true ↦ inl true
             | inr not ↦ elim (cases_lt i (at + run_len run)) [

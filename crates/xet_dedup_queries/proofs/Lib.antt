@@ -1,4 +1,3 @@
-pub mod Answered
 pub mod Changed
 pub mod Finding
 pub mod Keeping

@@ -1,37 +1,74 @@
 -- How a batch was queried.
-use Rattle.std.specs.Prelude.{◌≡◌, ◌⊎◌, ◌++◌, ℕ, Bool, true, false, List, [], length, map, replicate, Option, None}
+use Rattle.std.specs.Prelude.{◌≡◌, ◌++◌, ◌∷◌, ℕ, Bool, true, false, List, [], length, map, replicate, Option, Some, None, slice_get}
 use Rattle.std.specs.List.{sum_by}
 use Rattle.xet_choices.specs.Calls.{Call}
-use Rattle.xet_dedup_queries.specs.Asking.{PassesTo, kept_run, new_runs}
+use Rattle.xet_dedup_queries.specs.Acts.{Act, Found}
+use Rattle.xet_dedup_queries.specs.Acts.Act.{Ended}
+use Rattle.xet_dedup_queries.specs.Asking.{PassesTo, PassesUpTo, kept_found, new_runs}
 use Rattle.xet_dedup_queries.specs.Interface.{run_len}
+use Rattle.xet_dedup_queries.specs.declared.passing.Round.TheVariants.{First, Second}
 use Rattle.xet_dedup_queries.specs.declared.places.Place.{Place}
-use Rattle.xet_shard_format.specs.declared.record.FileDataSequenceEntry.{FileDataSequenceEntry as Segment}
+use Rattle.xet_dedup_queries.specs.declared.places.Place.TheVariants.{Missed}
 
 -- no run is kept at a place of the batch
-abbrev pub none_kept : List (List ℕ) → List (Option Segment)
+abbrev pub none_kept : List (List ℕ) → List (Option Found)
 none_kept hashes = replicate (length hashes) None
 
--- A batch was queried in one pass.
-pub record IsAskedOnce (hashes : List (List ℕ)) (old new : List Call) (places : List Place) : Type 0 where
-  pub first : List Call
-  pub calls : new ≡ old ++ first
-  pub first_pass : PassesTo hashes (none_kept hashes) (length hashes) (map kept_run places) first
+-- no query came from a place of the batch
+abbrev pub none_asked : List (List ℕ) → List (Option ℕ)
+none_asked hashes = replicate (length hashes) None
 
--- A batch was queried in one pass, or in two: in two if the call that ended the queries elsewhere after the first pass
--- answered that they found something. After a second pass that call comes again, and its answer does not matter. These are
--- the numbers of chunks and of bytes of the runs that the second pass found.
-pub record IsAsked {I : Type 0} (calling : I → List Call) (ending : I → I → Bool → Type 0) (hashes : List (List ℕ)) (old new : I) (places : List Place) (chunks bytes : ℕ) : Type 0 where
+-- Each place from which a query found nothing has the entry of the last query from there.
+pub record AreLatest (entries : List (Option ℕ)) (places : List Place) : Type 0 where
+  pub each : (i entry : ℕ) → slice_get places i ≡ Some (Missed entry) → slice_get entries i ≡ Some (Some entry)
+
+-- A batch was queried in one pass. Then the queries elsewhere were ended, and had found nothing.
+pub record IsAskedOnce (is_first : Bool) (hashes : List (List ℕ)) (old new : List Call) (acts_before acts_after : List Act) (places : List Place) : Type 0 where
+  pub first : List Call
+  pub first_acts : List Act
+  pub entries : List (Option ℕ)
+  pub calls : new ≡ old ++ first
+  pub acts : acts_after ≡ acts_before ++ (first_acts ++ Ended false ∷ [])
+  pub first_pass : PassesTo (First is_first) hashes (none_kept hashes) (none_asked hashes) (length hashes) (map kept_found places) entries first first_acts
+  pub latest : AreLatest entries places
+
+-- What follows the first pass. The queries elsewhere are ended. If they had found nothing, that is all. Else there is a second
+-- pass, and they are ended again; what is answered then does not matter.
+pub data GoesOn (hashes : List (List ℕ)) (before : List (Option Found)) (earlier : List (Option ℕ)) : List (Option Found) → List (Option ℕ) → List Call → List Act → Type 0 where
+  no_more : GoesOn hashes before earlier before earlier [] (Ended false ∷ [])
+  once_more : (kept : List (Option Found)) (entries : List (Option ℕ)) (calls : List Call) (acts : List Act) (again : Bool)
+      → PassesTo Second hashes before earlier (length hashes) kept entries calls acts
+      → GoesOn hashes before earlier kept entries calls (Ended true ∷ (acts ++ Ended again ∷ []))
+
+-- A batch was queried in one pass, or in two, and these are all acts of it. Of the runs that the second pass found the numbers
+-- of chunks and of bytes are given.
+pub record IsAsked (is_first : Bool) (hashes : List (List ℕ)) (old new : List Call) (acts_before acts_after : List Act) (places : List Place) (chunks bytes : ℕ) : Type 0 where
   pub first : List Call
   pub second : List Call
-  pub between : List (Option Segment)
-  pub calls : calling new ≡ calling old ++ (first ++ second)
-  pub first_pass : PassesTo hashes (none_kept hashes) (length hashes) between first
-  pub passed : I
-  pub passed_calls : calling passed ≡ calling old ++ first
-  pub next : I
-  pub found : Bool
-  pub ended : ending passed next found
-  pub second_pass : ((found ≡ false) × (new ≡ next) × (second ≡ []) × (map kept_run places ≡ between))
-      ⊎ ((found ≡ true) × PassesTo hashes between (length hashes) (map kept_run places) second × ((last : I) × (again : Bool) × ending last new again))
-  pub chunks_found : chunks ≡ sum_by run_len (new_runs between (map kept_run places))
-  pub bytes_found : bytes ≡ sum_by (λ run. run.unpacked_segment_bytes) (new_runs between (map kept_run places))
+  pub first_acts : List Act
+  pub second_acts : List Act
+  pub between : List (Option Found)
+  pub entries_between : List (Option ℕ)
+  pub entries : List (Option ℕ)
+  pub calls : new ≡ old ++ (first ++ second)
+  pub acts : acts_after ≡ acts_before ++ (first_acts ++ second_acts)
+  pub first_pass : PassesTo (First is_first) hashes (none_kept hashes) (none_asked hashes) (length hashes) between entries_between first first_acts
+  pub second_pass : GoesOn hashes between entries_between (map kept_found places) entries second second_acts
+  pub latest : AreLatest entries places
+  pub chunks_found : chunks ≡ sum_by run_len (new_runs between (map kept_found places))
+  pub bytes_found : bytes ≡ sum_by (λ run. run.unpacked_segment_bytes) (new_runs between (map kept_found places))
+
+-- The acts of a batch up to a call that failed, or that was not made: those of the first pass up to there; or those of the
+-- first pass, the end of the queries elsewhere, which had found something, and those of the second pass up to there.
+pub data AsksUpTo (is_first : Bool) (hashes : List (List ℕ)) : List Act → Type 0 where
+  in_first : (acts : List Act) → PassesUpTo (First is_first) hashes (none_kept hashes) (none_asked hashes) acts → AsksUpTo is_first hashes acts
+  in_second : (between : List (Option Found)) (entries_between : List (Option ℕ)) (calls : List Call) (acts more : List Act)
+      → PassesTo (First is_first) hashes (none_kept hashes) (none_asked hashes) (length hashes) between entries_between calls acts
+      → PassesUpTo Second hashes between entries_between more
+      → AsksUpTo is_first hashes (acts ++ Ended true ∷ more)
+
+-- The acts after are those before and then those of a batch up to a call that failed, or that was not made.
+pub record StopsAsking (is_first : Bool) (hashes : List (List ℕ)) (acts_before acts_after : List Act) : Type 0 where
+  pub done : List Act
+  pub acts : acts_after ≡ acts_before ++ done
+  pub asks : AsksUpTo is_first hashes done

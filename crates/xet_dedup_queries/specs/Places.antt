@@ -28,7 +28,3 @@ pub record ArePlaces (listing : List ℕ → Option (List ℕ)) (standing : List
   pub each : (i : ℕ) (h : List ℕ) (p : Place) → slice_get hashes i ≡ Some h → slice_get places i ≡ Some p → IsPlace listing standing calls hashes places i h p
   pub ascend : (i j m n : ℕ) → i < j → slice_get places i ≡ Some (Missed m) → slice_get places j ≡ Some (Missed n) → m < n
   pub later : (i m n : ℕ) (h : List ℕ) (reply : Option ℕ) → slice_get places i ≡ Some (Missed m) → IsAskedIn before n h reply → n < m
-
--- Each run that is kept at a place was found by a query from there, which answered whether it is external.
-pub record AreAnswered {I : Type 0} (answering : I → I → List (List ℕ) → Segment → Bool → Type 0) (hashes : List (List ℕ)) (places : List Place) : Type 0 where
-  pub each : (i : ℕ) (run : Segment) (is_external : Bool) → slice_get places i ≡ Some (Kept run is_external) → (old : I) × (new : I) × answering old new (drop i hashes) run is_external

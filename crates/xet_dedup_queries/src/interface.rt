@@ -3,9 +3,10 @@
 ghost use Rattle.std.specs.Prelude.{◌≡◌, ◌≢◌, ◌<◌, ◌++◌, ◌∷◌, All, Bool, ℕ, List, [], length, map, Option, Some, option_map, false, true, IfErr, IfOk, IfSome, OnErr, OnOk};
 ghost use Rattle.xet_choices.specs.Calls.{Call, entries_of};
 ghost use Rattle.xet_choices.specs.Calls.Call.{Registered};
+ghost use Rattle.xet_dedup_queries.specs.Acts.{Act};
+ghost use Rattle.xet_dedup_queries.specs.Acts.Act.{Begun, Ended, Noted, Queried, Stored};
 ghost use Rattle.xet_dedup_queries.specs.Interface.{Extends, IsFoundRun, asked};
 ghost use Rattle.xet_dedup_queries.specs.Registering.{EachPartStands, IsDue, IsNewXorb};
-ghost use Rattle.xet_dedup_queries.specs.declared.interface.FileXorbDependency.{FileXorbDependency};
 ghost use Rattle.xet_hash.specs.Hash.{sentinel};
 ghost use Rattle.xet_shard_format.specs.declared.record.FileDataSequenceEntry.{FileDataSequenceEntry as Segment};
 ghost use Rattle.xet_xorb.specs.Raw.{raw_leaves};
@@ -44,16 +45,8 @@ pub trait DeduplicationDataInterface {
     /// That a call between an earlier and a later state failed with this error.
     ghost refused: { Self → Self → Self.ErrorType → Type 0 };
 
-    /// That a query for these chunk hashes found this run, and whether it answered that the run is external. The states are
-    /// those before the query and after it.
-    ghost answered: { Self → Self → List (List ℕ) → Segment → Bool → Type 0 };
-
-    /// That a call ended the queries elsewhere, and whether it answered that they found something. The states are those
-    /// before the call and after it.
-    ghost ended: { Self → Self → Bool → Type 0 };
-
-    /// That a call noted these dependencies, in order. The states are those before the call and after it.
-    ghost noted: { Self → Self → List FileXorbDependency → Type 0 };
+    /// The calls of this value that did not fail, in order, each with its arguments and its answer.
+    ghost acts: { Self → List Act };
 
     /// Whether a call has failed.
     ghost failed: { Self → Bool };
@@ -71,7 +64,8 @@ pub trait DeduplicationDataInterface {
         hashes: &[MerkleHash],
     ) -> Result<Option<(usize, FileDataSequenceEntry, bool)>, Self::ErrorType>
         ensures found { IfOk result (λ reply. IfSome reply (λ r. IsFoundRun (lists self.new) (stands self.new) hashes.now r.0 r.1)) }
-        ensures answered { IfOk result (λ reply. IfSome reply (λ r. answered self.old self.new hashes.now r.1 r.2)) }
+        ensures acted { IfOk result (λ reply. acts self.new ≡ acts self.old ++ Queried hashes.now (option_map (λ r. (r.1, r.2)) reply) ∷ []) }
+        ensures kept_acts { OnErr result (acts self.new ≡ acts self.old) }
         ensures asked { IfOk result (λ reply. (entry : ℕ) × All (λ n. n < entry) (entries_of (calls self.old)) × (calls self.new ≡ calls self.old ++ asked entry hashes.now (option_map (λ r. r.0) reply))) }
         ensures kept { OnErr result (calls self.new ≡ calls self.old) }
         ensures refused { IfErr result (λ e. refused self.old self.new e) }
@@ -85,6 +79,8 @@ pub trait DeduplicationDataInterface {
 
     /// Begins a query for a chunk hash elsewhere.
     fn register_global_dedup_query(&mut self, hash: MerkleHash) -> Result<(), Self::ErrorType>
+        ensures acted { OnOk result (acts self.new ≡ acts self.old ++ Begun hash ∷ []) }
+        ensures kept_acts { OnErr result (acts self.new ≡ acts self.old) }
         ensures calls { calls self.new ≡ calls self.old }
         ensures refused { IfErr result (λ e. refused self.old self.new e) }
         ensures passed { OnOk result (failed self.new ≡ failed self.old) }
@@ -93,7 +89,8 @@ pub trait DeduplicationDataInterface {
 
     /// Ends the queries elsewhere. Returns whether they found something, so that queries are worth repeating.
     fn complete_global_dedup_queries(&mut self) -> Result<bool, Self::ErrorType>
-        ensures ended { IfOk result (λ found. ended self.old self.new found) }
+        ensures acted { IfOk result (λ found. acts self.new ≡ acts self.old ++ Ended found ∷ []) }
+        ensures kept_acts { OnErr result (acts self.new ≡ acts self.old) }
         ensures none { is_global ≡ false → IfOk result (λ found. found ≡ false) }
         ensures calls { calls self.new ≡ calls self.old }
         ensures refused { IfErr result (λ e. refused self.old self.new e) }
@@ -112,6 +109,8 @@ pub trait DeduplicationDataInterface {
         ensures listed { OnOk result (lists self.new xorb.xorb_info.metadata.xorb_hash ≡ Some (map (λ m. m.1) (raw_leaves xorb))) }
         ensures stands { OnOk result (EachPartStands (stands self.new) xorb) }
         ensures named { OnOk result (xorb.xorb_info.metadata.xorb_hash ≢ sentinel) }
+        ensures acted { OnOk result (acts self.new ≡ acts self.old ++ Stored xorb next.now ∷ []) }
+        ensures kept_acts { OnErr result (acts self.new ≡ acts self.old) }
         ensures registered { OnOk result (calls self.new ≡ calls self.old ++ Registered (raw_leaves xorb) next.now ∷ []) }
         ensures kept { OnErr result (calls self.new ≡ calls self.old) }
         ensures refused { IfErr result (λ e. refused self.old self.new e) }
@@ -121,7 +120,7 @@ pub trait DeduplicationDataInterface {
 
     /// Takes note of the xorbs that files use.
     fn register_xorb_dependencies(&mut self, dependencies: &[FileXorbDependency])
-        ensures noted { noted self.old self.new dependencies.now }
+        ensures acted { acts self.new ≡ acts self.old ++ Noted dependencies.now ∷ [] }
         ensures calls { calls self.new ≡ calls self.old }
         ensures passed { failed self.new ≡ failed self.old }
         ensures extends { Extends lists stands refused cut_limits self.old self.new };

@@ -1,12 +1,12 @@
 //! The passes over the places of a batch.
 
-ghost use Rattle.std.specs.Prelude.{◌≡◌, ◌<◌, ◌≤◌, ◌+◌, ◌*◌, ◌^◌, ◌++◌, List, length, map, Option, None, Some, false, IfErr, IfOk, OnOk, replicate, slice_get, slice_set};
+ghost use Rattle.std.specs.Prelude.{◌≡◌, ◌<◌, ◌≤◌, ◌+◌, ◌*◌, ◌^◌, ◌++◌, List, length, map, Option, None, Some, false, true, IfErr, IfOk, OnErr, OnOk, replicate, slice_get, slice_set};
 ghost use Rattle.xet_choices.specs.Calls.{Call};
-ghost use Rattle.xet_dedup_queries.specs.Asking.{AddsQueries, kept_run};
-ghost use Rattle.xet_dedup_queries.specs.Batch.{IsAsked, IsAskedOnce};
+ghost use Rattle.xet_dedup_queries.specs.Asking.{AddsQueries, begun, is_worth_asking, kept_found};
+ghost use Rattle.xet_dedup_queries.specs.Batch.{IsAsked, IsAskedOnce, StopsAsking};
 ghost use Rattle.xet_dedup_queries.specs.Interface.{Extends};
-ghost use Rattle.xet_dedup_queries.specs.Passing.{Began, Covers, IsPassing, covered, missed};
-ghost use Rattle.xet_dedup_queries.specs.Places.{AreAnswered, ArePlaces};
+ghost use Rattle.xet_dedup_queries.specs.Passing.{Began, Covers, IsPassing, StopsPassing, covered, missed};
+ghost use Rattle.xet_dedup_queries.specs.Places.{ArePlaces};
 ghost use Rattle.xet_dedup_queries.specs.declared.places.Place.TheVariants.{Kept, Unasked};
 
 use crate::interface::DeduplicationDataInterface;
@@ -71,7 +71,9 @@ fn missed(place: Place, entry: u64) -> Place
 }
 
 /// Whether a query for a hash at this index of the batch, which was not found, is begun elsewhere too.
-fn is_worth_asking(round: Round, at: usize, hash: &MerkleHash) -> bool {
+fn is_worth_asking(round: Round, at: usize, hash: &MerkleHash) -> bool
+    ensures { result ≡ is_worth_asking round at hash.now }
+{
     match round {
         Round::First { is_first } => {
             (is_first && at == 0) || hash_is_global_dedup_eligible(hash)
@@ -87,6 +89,9 @@ fn ask_elsewhere<I: DeduplicationDataInterface>(
     at: usize,
     hash: &MerkleHash,
 ) -> Result<(), I::ErrorType>
+    ensures acted { OnOk result (I.acts interface.new ≡ I.acts interface.old ++ begun round at hash.now) }
+    ensures kept_acts { OnErr result (I.acts interface.new ≡ I.acts interface.old) }
+    ensures worth { OnErr result (is_worth_asking round at hash.now ≡ true) }
     ensures calls { I.calls interface.new ≡ I.calls interface.old }
     ensures extends { Extends I.lists I.stands I.refused I.cut_limits interface.old interface.new }
     ensures refused { IfErr result (λ e. I.refused interface.old interface.new e) }
@@ -134,12 +139,12 @@ fn ask<I: DeduplicationDataInterface>(
     progress: Progress,
     round: Round,
 ) -> Result<Progress, I::ErrorType>
-    requires passing { (began : Began) × IsPassing (I.lists interface.old) (I.stands interface.old) hashes.now began (I.calls interface.old) places.old progress.at progress.chunks progress.bytes }
+    requires passing { (began : Began) × IsPassing (I.lists interface.old) (I.stands interface.old) round hashes.now began (I.calls interface.old) (I.acts interface.old) places.old progress.at progress.chunks progress.bytes }
     requires more { progress.at < length hashes.now }
-    requires free { slice_get (map kept_run places.old) progress.at ≡ Some None }
+    requires free { slice_get (map kept_found places.old) progress.at ≡ Some None }
     requires few { length hashes.now < 2 ^ 32 }
-    ensures passing { (began : Began) → IsPassing (I.lists interface.old) (I.stands interface.old) hashes.now began (I.calls interface.old) places.old progress.at progress.chunks progress.bytes → IfOk result (λ next. IsPassing (I.lists interface.new) (I.stands interface.new) hashes.now began (I.calls interface.new) places.new next.at next.chunks next.bytes) }
-    ensures answered { AreAnswered I.answered hashes.now places.old → OnOk result (AreAnswered I.answered hashes.now places.new) }
+    ensures passing { (began : Began) → IsPassing (I.lists interface.old) (I.stands interface.old) round hashes.now began (I.calls interface.old) (I.acts interface.old) places.old progress.at progress.chunks progress.bytes → IfOk result (λ next. IsPassing (I.lists interface.new) (I.stands interface.new) round hashes.now began (I.calls interface.new) (I.acts interface.new) places.new next.at next.chunks next.bytes) }
+    ensures stopped { (began : Began) → IsPassing (I.lists interface.old) (I.stands interface.old) round hashes.now began (I.calls interface.old) (I.acts interface.old) places.old progress.at progress.chunks progress.bytes → OnErr result (StopsPassing round hashes.now began (I.acts interface.new)) }
     ensures on { IfOk result (λ next. progress.at < next.at) }
     ensures extends { Extends I.lists I.stands I.refused I.cut_limits interface.old interface.new }
     ensures prefix { AddsQueries (I.calls interface.old) (I.calls interface.new) }
@@ -169,11 +174,11 @@ fn next_place<I: DeduplicationDataInterface>(
     progress: Progress,
     round: Round,
 ) -> Result<Progress, I::ErrorType>
-    requires passing { (began : Began) × IsPassing (I.lists interface.old) (I.stands interface.old) hashes.now began (I.calls interface.old) places.old progress.at progress.chunks progress.bytes }
+    requires passing { (began : Began) × IsPassing (I.lists interface.old) (I.stands interface.old) round hashes.now began (I.calls interface.old) (I.acts interface.old) places.old progress.at progress.chunks progress.bytes }
     requires more { progress.at < length hashes.now }
     requires few { length hashes.now < 2 ^ 32 }
-    ensures passing { (began : Began) → IsPassing (I.lists interface.old) (I.stands interface.old) hashes.now began (I.calls interface.old) places.old progress.at progress.chunks progress.bytes → IfOk result (λ next. IsPassing (I.lists interface.new) (I.stands interface.new) hashes.now began (I.calls interface.new) places.new next.at next.chunks next.bytes) }
-    ensures answered { AreAnswered I.answered hashes.now places.old → OnOk result (AreAnswered I.answered hashes.now places.new) }
+    ensures passing { (began : Began) → IsPassing (I.lists interface.old) (I.stands interface.old) round hashes.now began (I.calls interface.old) (I.acts interface.old) places.old progress.at progress.chunks progress.bytes → IfOk result (λ next. IsPassing (I.lists interface.new) (I.stands interface.new) round hashes.now began (I.calls interface.new) (I.acts interface.new) places.new next.at next.chunks next.bytes) }
+    ensures stopped { (began : Began) → IsPassing (I.lists interface.old) (I.stands interface.old) round hashes.now began (I.calls interface.old) (I.acts interface.old) places.old progress.at progress.chunks progress.bytes → OnErr result (StopsPassing round hashes.now began (I.acts interface.new)) }
     ensures on { IfOk result (λ next. progress.at < next.at) }
     ensures extends { Extends I.lists I.stands I.refused I.cut_limits interface.old interface.new }
     ensures prefix { AddsQueries (I.calls interface.old) (I.calls interface.new) }
@@ -198,10 +203,10 @@ fn pass<I: DeduplicationDataInterface>(
     places: &mut [Place],
     round: Round,
 ) -> Result<Progress, I::ErrorType>
-    requires begins { (began : Began) × IsPassing (I.lists interface.old) (I.stands interface.old) hashes.now began (I.calls interface.old) places.old 0 0 0 }
+    requires begins { (began : Began) × IsPassing (I.lists interface.old) (I.stands interface.old) round hashes.now began (I.calls interface.old) (I.acts interface.old) places.old 0 0 0 }
     requires few { length hashes.now < 2 ^ 32 }
-    ensures ends { (began : Began) → IsPassing (I.lists interface.old) (I.stands interface.old) hashes.now began (I.calls interface.old) places.old 0 0 0 → IfOk result (λ found. IsPassing (I.lists interface.new) (I.stands interface.new) hashes.now began (I.calls interface.new) places.new found.at found.chunks found.bytes × (found.at ≡ length hashes.now)) }
-    ensures answered { AreAnswered I.answered hashes.now places.old → OnOk result (AreAnswered I.answered hashes.now places.new) }
+    ensures ends { (began : Began) → IsPassing (I.lists interface.old) (I.stands interface.old) round hashes.now began (I.calls interface.old) (I.acts interface.old) places.old 0 0 0 → IfOk result (λ found. IsPassing (I.lists interface.new) (I.stands interface.new) round hashes.now began (I.calls interface.new) (I.acts interface.new) places.new found.at found.chunks found.bytes × (found.at ≡ length hashes.now)) }
+    ensures stopped { (began : Began) → IsPassing (I.lists interface.old) (I.stands interface.old) round hashes.now began (I.calls interface.old) (I.acts interface.old) places.old 0 0 0 → OnErr result (StopsPassing round hashes.now began (I.acts interface.new)) }
     ensures extends { Extends I.lists I.stands I.refused I.cut_limits interface.old interface.new }
     ensures prefix { AddsQueries (I.calls interface.old) (I.calls interface.new) }
     ensures refused { IfErr result (λ e. I.refused interface.old interface.new e) }
@@ -229,9 +234,9 @@ pub fn ask_all<I: DeduplicationDataInterface>(
     requires unasked { places.old ≡ replicate (length hashes.now) Unasked }
     requires few { length hashes.now < 2 ^ 32 }
     ensures places { OnOk result ((added : List Call) × (I.calls interface.new ≡ I.calls interface.old ++ added) × ArePlaces (I.lists interface.new) (I.stands interface.new) (I.calls interface.old) added hashes.now places.new) }
-    ensures answered { OnOk result (AreAnswered I.answered hashes.now places.new) }
-    ensures asked { IfOk result (λ found. IsAsked I.calls I.ended hashes.now interface.old interface.new places.new found.chunks found.bytes) }
-    ensures once { I.is_global ≡ false → IfOk result (λ found. IsAskedOnce hashes.now (I.calls interface.old) (I.calls interface.new) places.new × (found.chunks ≡ 0) × (found.bytes ≡ 0)) }
+    ensures asked { IfOk result (λ found. IsAsked is_first hashes.now (I.calls interface.old) (I.calls interface.new) (I.acts interface.old) (I.acts interface.new) places.new found.chunks found.bytes) }
+    ensures once { I.is_global ≡ false → IfOk result (λ found. IsAskedOnce is_first hashes.now (I.calls interface.old) (I.calls interface.new) (I.acts interface.old) (I.acts interface.new) places.new × (found.chunks ≡ 0) × (found.bytes ≡ 0)) }
+    ensures stopped { OnErr result (StopsAsking is_first hashes.now (I.acts interface.old) (I.acts interface.new)) }
     ensures extends { Extends I.lists I.stands I.refused I.cut_limits interface.old interface.new }
     ensures prefix { AddsQueries (I.calls interface.old) (I.calls interface.new) }
     ensures refused { IfErr result (λ e. I.refused interface.old interface.new e) }

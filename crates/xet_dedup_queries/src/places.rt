@@ -1,11 +1,11 @@
 //! Where the chunks of a batch are stored already.
 
-ghost use Rattle.std.specs.Prelude.{◌≡◌, ◌<◌, ◌^◌, ◌++◌, List, length, false, IfErr, IfOk, IsErrOf, OnOk};
+ghost use Rattle.std.specs.Prelude.{◌≡◌, ◌<◌, ◌^◌, ◌++◌, List, length, false, IfErr, IfOk, IsErrOf, OnErr, OnOk};
 ghost use Rattle.xet_choices.specs.Calls.{Call};
 ghost use Rattle.xet_dedup_queries.specs.Asking.{AddsQueries};
-ghost use Rattle.xet_dedup_queries.specs.Batch.{IsAsked, IsAskedOnce};
+ghost use Rattle.xet_dedup_queries.specs.Batch.{IsAsked, IsAskedOnce, StopsAsking};
 ghost use Rattle.xet_dedup_queries.specs.Interface.{Extends};
-ghost use Rattle.xet_dedup_queries.specs.Places.{AreAnswered, ArePlaces};
+ghost use Rattle.xet_dedup_queries.specs.Places.{ArePlaces};
 
 use crate::interface::DeduplicationDataInterface;
 use crate::passing::ask_all;
@@ -60,8 +60,9 @@ pub enum DedupError<E> {
 
 /// Finds where the chunks of a batch are stored already, in one pass of queries, or in two if queries elsewhere found
 /// something; in one if the interface sends no queries elsewhere. `is_first`: whether the batch begins with the first chunk
-/// of its file. No clause says which queries are sent elsewhere. Fails with an error of the interface, or with `DedupError::OutOfMemory` before the first
-/// query. `Ok` only if no call failed.
+/// of its file, for which a query that found nothing is begun elsewhere, as for each eligible hash. Fails with an error of
+/// the interface, after the calls up to the one that failed, or with `DedupError::OutOfMemory` before the first query. `Ok`
+/// only if no call failed.
 pub fn find_places<I: DeduplicationDataInterface>(
     alloc: Global,
     interface: &mut I,
@@ -70,9 +71,9 @@ pub fn find_places<I: DeduplicationDataInterface>(
 ) -> Result<Places, DedupError<I::ErrorType>>
     requires { length hashes.now < 2 ^ 32 }
     ensures places { IfOk result (λ r. (added : List Call) × (I.calls interface.new ≡ I.calls interface.old ++ added) × ArePlaces (I.lists interface.new) (I.stands interface.new) (I.calls interface.old) added hashes.now r.places) }
-    ensures answered { IfOk result (λ r. AreAnswered I.answered hashes.now r.places) }
-    ensures asked { IfOk result (λ r. IsAsked I.calls I.ended hashes.now interface.old interface.new r.places r.global_chunks r.global_bytes) }
-    ensures once { I.is_global ≡ false → IfOk result (λ r. IsAskedOnce hashes.now (I.calls interface.old) (I.calls interface.new) r.places × (r.global_chunks ≡ 0) × (r.global_bytes ≡ 0)) }
+    ensures asked { IfOk result (λ r. IsAsked is_first hashes.now (I.calls interface.old) (I.calls interface.new) (I.acts interface.old) (I.acts interface.new) r.places r.global_chunks r.global_bytes) }
+    ensures once { I.is_global ≡ false → IfOk result (λ r. IsAskedOnce is_first hashes.now (I.calls interface.old) (I.calls interface.new) (I.acts interface.old) (I.acts interface.new) r.places × (r.global_chunks ≡ 0) × (r.global_bytes ≡ 0)) }
+    ensures stopped { OnErr result (StopsAsking is_first hashes.now (I.acts interface.old) (I.acts interface.new)) }
     ensures extends { Extends I.lists I.stands I.refused I.cut_limits interface.old interface.new }
     ensures prefix { AddsQueries (I.calls interface.old) (I.calls interface.new) }
     ensures refused { IfErr result (λ e. (d : I.ErrorType) → e ≡ DedupError.Interface d → I.refused interface.old interface.new d) }

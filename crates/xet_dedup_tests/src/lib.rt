@@ -1,6 +1,7 @@
 //! A store in memory, and tests of the deduplication of files against it.
 #![tactic(auto)]
 
+mod acts;
 mod errors;
 mod finding;
 mod known;
@@ -8,6 +9,7 @@ mod list_store;
 #[cfg(test)]
 mod tests;
 
+pub use acts::Acts;
 pub use errors::TestError;
 pub use known::KnownXorb;
 pub use list_store::{ListStore, LoggedCall};

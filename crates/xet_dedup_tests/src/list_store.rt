@@ -8,6 +8,7 @@ ghost use Rattle.xet_choices.specs.Calls.{Call, entries_of};
 ghost use Rattle.xet_hash.specs.Hash.{sentinel};
 ghost use Rattle.xet_xorb.specs.Raw.{raw_leaves};
 
+use crate::acts::Acts;
 use crate::errors::TestError;
 use crate::finding::{find_run, have_same_lengths, index_of};
 use crate::known::KnownXorb;
@@ -62,13 +63,15 @@ pub struct ListStore {
     pub fails_at: Option<u64>,
     /// Whether a call has failed.
     pub has_failed: bool,
+    /// The calls that did not fail, for clauses.
+    pub acts: Acts,
 }
 
 impl ListStore {
     /// A store that knows nothing, with the maximum numbers of bytes and of chunks of a xorb. Does not allocate.
     pub fn new(alloc: Global, cut_limits: (u32, u32)) -> ListStore
         ensures limits { result.cut_limits ≡ cut_limits }
-        ensures empty { (result.xorbs.items ≡ []) × (result.log.items ≡ []) }
+        ensures empty { (result.xorbs.items ≡ []) × (result.log.items ≡ []) × (result.acts.items ≡ []) }
     {
         ListStore {
             alloc,
@@ -82,6 +85,7 @@ impl ListStore {
             calls: 0,
             fails_at: None,
             has_failed: false,
+            acts: Acts::new(),
         }
     }
 
@@ -243,11 +247,7 @@ impl DeduplicationDataInterface for ListStore {
 
     ghost refused = { λ _ _ _. Unit {0} };
 
-    ghost answered = { λ _ _ _ _ _. Unit {0} };
-
-    ghost ended = { λ _ _ _. Unit {0} };
-
-    ghost noted = { λ _ _ _. Unit {0} };
+    ghost acts = { λ s. s.acts.items };
 
     ghost failed = { λ s. s.has_failed };
 
@@ -261,7 +261,10 @@ impl DeduplicationDataInterface for ListStore {
         hashes: &[MerkleHash],
     ) -> Result<Option<(usize, FileDataSequenceEntry, bool)>, TestError> {
         match self.query(hashes) {
-            Ok(found) => Ok(found),
+            Ok(found) => {
+                self.acts = self.acts.queried(hashes, &found);
+                Ok(found)
+            }
             Err(error) => Err(self.fail(error)),
         }
     }
@@ -273,7 +276,10 @@ impl DeduplicationDataInterface for ListStore {
     /// Notes the hash.
     fn register_global_dedup_query(&mut self, hash: MerkleHash) -> Result<(), TestError> {
         match self.begin_query(hash) {
-            Ok(()) => Ok(()),
+            Ok(()) => {
+                self.acts = self.acts.begun(&hash);
+                Ok(())
+            }
             Err(error) => Err(self.fail(error)),
         }
     }
@@ -281,7 +287,10 @@ impl DeduplicationDataInterface for ListStore {
     /// Knows the xorbs of elsewhere from now on. Returns whether there were any.
     fn complete_global_dedup_queries(&mut self) -> Result<bool, TestError> {
         match self.end_queries() {
-            Ok(found) => Ok(found),
+            Ok(found) => {
+                self.acts = self.acts.ended(found);
+                Ok(found)
+            }
             Err(error) => Err(self.fail(error)),
         }
     }
@@ -294,7 +303,10 @@ impl DeduplicationDataInterface for ListStore {
         next: &[(MerkleHash, u64)],
     ) -> Result<(), TestError> {
         match self.register(&xorb, next) {
-            Ok(()) => Ok(()),
+            Ok(()) => {
+                self.acts = self.acts.stored(&xorb, next);
+                Ok(())
+            }
             Err(error) => Err(self.fail(error)),
         }
     }
@@ -304,6 +316,7 @@ impl DeduplicationDataInterface for ListStore {
         if self.dependencies.extend_from_slice(dependencies).is_err() {
             self.is_out_of_memory = true;
         }
+        self.acts = self.acts.noted(dependencies);
     }
 }
 

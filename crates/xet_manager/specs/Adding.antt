@@ -1,7 +1,7 @@
 -- What is pending, and when it is written.
 use Rattle.std.specs.Prelude.{◌≡◌, ◌+◌, ◌==◌, ℕ, nat_lt, Bool, true, false, List, [], length, None, Ok, Err, if◌then◌else◌}
 use Rattle.xet_hash.specs.declared.error.StoreError.{StoreError}
-use Rattle.xet_manager.specs.Manager.{ManagerState, SameButRoom}
+use Rattle.xet_manager.specs.Manager.{ManagerState}
 use Rattle.xet_shard.specs.Held.{Held, held_shard, held_size}
 use Rattle.xet_shard_directory.specs.Answers.{GivesUnlessDisk}
 use Rattle.xet_shard_directory.specs.Writing.{KeptOrWrote}
@@ -29,22 +29,23 @@ blocks_before m bytes = if cut_due m bytes then [] else m.pending.blocks
 abbrev pub files_before : ManagerState → ℕ → List MDBFileInfo
 files_before m bytes = if cut_due m bytes then [] else m.pending.files
 
--- What was pending was written as a shard of this path and registered, and these records are pending now.
-pub record Cuts (old new : ManagerState) (pending : Held) (path : List ℕ) : Type 0 where
+-- What was pending was written as a shard of this path and registered, and these records are pending now. There is this
+-- room.
+pub record Cuts (old new : ManagerState) (pending : Held) (room : ℕ) (path : List ℕ) : Type 0 where
   pub imports : Imports old.tells old.settings.index_cap old.files new.files old.folder (flushed_bytes old.pending old.moment) old.registry new.registry path
   pub checked : flush_check (flushed_bytes old.pending old.moment) old.registry ≡ Ok tt
   pub form : IsShard (held_shard old.pending old.moment None)
   pub fits : Fits (held_shard old.pending old.moment None)
-  pub rest : SameButRoom (record old { files = new.files; faults = new.faults; registry = new.registry; pending = pending }) new
+  pub rest : new ≡ record old { files = new.files; faults = new.faults; registry = new.registry; pending = pending; room = room }
 
--- The same for some path.
+-- The same for some path, and no room is left.
 abbrev pub IsCut : ManagerState → ManagerState → Held → Type 0
-IsCut old new pending = (path : List ℕ) × Cuts old new pending path
+IsCut old new pending = (path : List ℕ) × Cuts old new pending 0 path
 
--- A cut failed: the same is pending, and the same shards are registered. The error is that of the check, after which nothing
+-- A cut failed: the same is pending, the same shards are registered, and no room is left. The error is that of the check, after which nothing
 -- was written, unless the disk failed or memory was out; then the file is as it was, or the write has completed.
 pub record IsUncut (old new : ManagerState) (e : StoreError) : Type 0 where
-  pub rest : SameButRoom (record old { files = new.files; faults = new.faults; registry = new.registry }) new
+  pub rest : new ≡ record old { files = new.files; faults = new.faults; registry = new.registry; room = 0 }
   pub kept : (shards : List Registered) → IsRegistryOf shards old.registry → IsRegistryOf shards new.registry
   pub file : old.tells ≡ true → KeptOrWrote old.files new.files old.folder (flushed_bytes old.pending old.moment)
   pub checked : GivesUnlessDisk (λ (u : Unit {0}). u) (Err e) (flush_check (flushed_bytes old.pending old.moment) old.registry)

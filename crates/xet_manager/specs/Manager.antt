@@ -1,9 +1,10 @@
 -- The model of a manager, and what its calls leave.
-use Rattle.std.specs.Prelude.{◌≡◌, ◌⊎◌, ◌++◌, ◌∷◌, [], ◌≤◌, ℕ, Bool, false, true, List, Err, IfErr, IfOk, Option, Result, Ok}
+use Rattle.std.specs.Prelude.{◌≡◌, ◌≢◌, ◌⊎◌, ◌++◌, ◌∷◌, [], ◌≤◌, ℕ, Bool, false, true, List, Err, IfErr, IfOk, IsOkUnless, None, Option, Result, Ok, Some}
 use Rattle.std.specs.List.{flat_map}
+use Rattle.xet_hash.specs.Hash.{zero_hash}
 use Rattle.xet_io.specs.Disk.{Files, file_at}
 use Rattle.xet_manager.specs.declared.settings.ManagerSettings.{ManagerSettings}
-use Rattle.xet_shard.specs.Held.{Held, by_hash, nothing}
+use Rattle.xet_shard.specs.Held.{Held, by_hash, nothing, record_of}
 use Rattle.xet_shard.specs.Sections.{files_in}
 use Rattle.xet_shard_directory.specs.Answers.{GivesUnlessDisk, IsFileQueryError, in_file}
 use Rattle.xet_shard_directory.specs.Directories.{IsUnloaded}
@@ -13,7 +14,7 @@ use Rattle.xet_shard_format.specs.declared.record.MDBFileInfo.{MDBFileInfo}
 use Rattle.xet_hash.specs.declared.error.StoreError.{StoreError}
 use Rattle.xet_hash.specs.declared.error.StoreError.TheVariants.{OutOfMemory}
 use Rattle.xet_shard_lookup.specs.Found.{HoldsFiles}
-use Rattle.xet_shard_lookup.specs.Records.{Answer, IsRecorded, found_record}
+use Rattle.xet_shard_lookup.specs.Records.{Answer, IsRecorded, found_record, no_record}
 use Rattle.xet_shard_registry.specs.Registered.{Registered}
 use Rattle.xet_shard_registration.specs.Refreshing.{IsLoadingError, IsUnloadedDirectory, LoadsValid, RegistersDirectory, StopsInDirectory}
 use Rattle.xet_shard_registry.specs.Collections.{IsRegistryOf, Tables}
@@ -36,22 +37,18 @@ pub record ManagerState : Type 0 where
 abbrev pub manager_state : Bool → Files → ℕ → List ℕ → ManagerSettings → ℕ → Tables → Held → Bool → ℕ → ManagerState
 manager_state t f n d s m r p c b = record { tells = t; files = f; faults = n; folder = d; settings = s; moment = m; registry = r; pending = p; cleaned = c; room = b }
 
--- the state is the first but for the room
-abbrev pub SameButRoom : ManagerState → ManagerState → Type 0
-SameButRoom m new = new ≡ record m { room = new.room }
-
--- The state is the first, with other tables of the same shards.
+-- The state is the first, with other tables of the same shards, and with another room.
 pub record HasSameShards (old new : ManagerState) : Type 0 where
-  pub rest : SameButRoom (record old { registry = new.registry }) new
+  pub rest : new ≡ record old { registry = new.registry; room = new.room }
   pub shards : (shards : List Registered) → IsRegistryOf shards old.registry → IsRegistryOf shards new.registry
   pub files : new.registry.files ≡ old.registry.files
   pub hashes : new.registry.hashes ≡ old.registry.hashes
 
 -- ---- opening
 
--- The manager is new: nothing is pending.
+-- The manager is new: nothing is pending, and no memory was taken ahead.
 pub record IsOpened (tells : Bool) (faults : ℕ) (folder : List ℕ) (settings : ManagerSettings) (now : ℕ) (m : ManagerState) : Type 0 where
-  pub state : m ≡ manager_state tells m.files m.faults folder settings now m.registry nothing false m.room
+  pub state : m ≡ manager_state tells m.files m.faults folder settings now m.registry nothing false 0
   pub later : faults ≤ m.faults
 
 -- The valid shards of the folder are registered, and no others.
@@ -111,6 +108,8 @@ ListsFiles m now infos = ListsFolder m.files m.folder now m.pending infos
 -- What a look-up of a file returns and leaves.
 pub record IsFileAnswer (old new : ManagerState) (h : List ℕ) (result : Result (Option Answer) StoreError) : Type 0 where
   pub found : old.tells ≡ true → (shards : List Registered) → IsRegistryOf shards old.registry → HoldsFiles old.files shards → GivesUnlessDisk (λ (a : Option Answer). a) result (found_record old.files old.pending shards h)
+  pub zero : h ≡ zero_hash → (result ≡ Ok (Some (no_record, None))) × (new ≡ old)
+  pub pending : h ≢ zero_hash → (f : MDBFileInfo) → record_of file_record_hash h old.pending.files ≡ Some f → IfOk result (λ a. a ≡ Some (f, None)) × IsOkUnless result OutOfMemory × (new ≡ old)
   pub there : old.tells ≡ true → IfOk result (IsRecorded old.files old.pending old.registry.files h)
   pub rest : new ≡ record old { faults = new.faults }
   pub later : old.faults ≤ new.faults

@@ -9,7 +9,7 @@ use Rattle.xet_hash.specs.declared.error.Place.TheVariants.{Disk}
 use Rattle.xet_hash.specs.declared.error.StoreError.{StoreError}
 use Rattle.xet_hash.specs.declared.error.StoreError.TheVariants.{Io, OutOfMemory, TooLarge}
 use Rattle.xet_hash.specs.declared.error.What.TheVariants.{Shards}
-use Rattle.xet_io.specs.Disk.{Files, bytes_at}
+use Rattle.xet_io.specs.Disk.{File, Files, bytes_at, file_at}
 use Rattle.xet_shard.specs.Held.{Held, held_shard}
 use Rattle.xet_shard.specs.Sections.{chunk_lookup_in, info_at}
 use Rattle.xet_shard.specs.Union.{ShardRecords}
@@ -59,10 +59,15 @@ flush_check bytes t =
 
 -- ---- what never changes
 
--- when a file is written at a path, the files of registered shards keep their bytes, but for one at the path of its
--- temporary file
+-- The file of a shard keeps its bytes and its modification time. If it was gone, it comes back only with the header and the
+-- footer of the shard.
+pub record KeepsFile (old new : Files) (s : MDBShardFile) : Type 0 where
+  pub kept : (f : File) → file_at old s.path ≡ Some f → file_at new s.path ≡ Some f
+  pub back : (bytes : List ℕ) → bytes_at old s.path ≡ None → bytes_at new s.path ≡ Some bytes → info_at bytes ≡ Ok s.shard
+
+-- the same of all registered shards, when a file is written at a path, but for one at the path of its temporary file
 abbrev pub KeepsFiles : Files → Files → List ℕ → List MDBShardFile → Type 0
-KeepsFiles old new path ss = All (λ s. s.path ≢ temp_name path → (bytes : List ℕ) → bytes_at old s.path ≡ Some bytes → bytes_at new s.path ≡ Some bytes) ss
+KeepsFiles old new path ss = All (λ s. s.path ≢ temp_name path → KeepsFile old new s) ss
 
 -- ---- errors
 

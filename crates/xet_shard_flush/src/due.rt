@@ -125,7 +125,7 @@ fn write_shard<D: Disk>(
         file,
     } = due;
     if registry.contains(&file.hash) {
-        write_known(alloc, disk, registry, file, &encoding)
+        write_known(disk, registry, file, &encoding)
     } else if registry.files().len() >= MAX_SHARDS {
         Err(StoreError::TooLarge(What::Shards))
     } else {

@@ -1,20 +1,21 @@
 //! The file of a shard that is to be written.
 
-ghost use Rattle.std.specs.Prelude.{◌≡◌, List, ℕ, IfErr, IfOk, IsOkUnless, string_bytes, true};
+ghost use Rattle.std.specs.Prelude.{◌≡◌, List, ℕ, IfErr, IfOk, IsOkUnless, Some, string_bytes, true};
 ghost use Rattle.xet_codec.specs.Stops.{HasDiskReason};
 ghost use Rattle.xet_io.specs.Frame.{Stays};
-ghost use Rattle.xet_shard_directory.specs.Writing.{KeptOrWrote, path_of};
+ghost use Rattle.xet_io.specs.Disk.{bytes_at};
+ghost use Rattle.xet_shard_directory.specs.Writing.{KeepsFileAt, KeptOrWrote, path_of};
 ghost use Rattle.xet_shard_file.specs.Names.{shard_path, temp_name};
 ghost use Rattle.xet_shard_flush.specs.Importing.{KeepsFiles};
-ghost use Rattle.xet_shard_flush.specs.internal.Steps.{IsFileOf, IsWritten, MayWrite};
+ghost use Rattle.xet_shard_flush.specs.internal.Steps.{IsFileOf, IsWritten};
 
-use crate::paths::may_write;
+use crate::paths::{Way, way_of};
 use std::alloc::Global;
 use xet_base::Text;
 use xet_hash::{MerkleHash, StoreError};
 use xet_io::Disk;
 use xet_shard::MDBShardInfo;
-use xet_shard_directory::{MDBShardFile, write_named_file};
+use xet_shard_directory::{MDBShardFile, keep_named_file, write_named_file};
 use xet_shard_file::{shard_path, temp_name};
 
 /// The file of a shard that is to be written: all of it but its bytes and its modification time.
@@ -56,10 +57,10 @@ pub(crate) fn new_file(
     })
 }
 
-/// Writes the bytes of a shard to its file, durably, and returns the value of the file, and its path. `OutOfMemory` if
-/// one of these shard files has the path and other bytes are there.
+/// Ensures that the bytes of a shard are in its file, durably, and returns the value of the file, and its path. If they are
+/// there, the file keeps its modification time. `OutOfMemory` if one of these shard files has the path and other bytes
+/// are there, or if it is gone and had another header or footer. Allocates nothing itself.
 pub(crate) fn write_free<D: Disk>(
-    alloc: Global,
     disk: &mut D,
     files: &[MDBShardFile],
     file: NewFile,
@@ -74,9 +75,40 @@ pub(crate) fn write_free<D: Disk>(
     ensures frame { Stays D.tells D.faults disk.old disk.new }
     ensures reason { IfErr result (HasDiskReason (D.faults disk.old) (D.faults disk.new)) }
 {
-    match may_write(alloc, disk, file.path.as_str(), files, bytes) {
-        Ok(true) => write_file(disk, file, bytes),
-        Ok(false) => Err(StoreError::OutOfMemory),
+    match way_of(disk, file.path.as_str(), &file.info, files, bytes) {
+        Ok(Way::Keep) => keep_file(disk, file, bytes),
+        Ok(Way::Write) => write_file(disk, file, bytes),
+        Ok(Way::Refuse) => Err(StoreError::OutOfMemory),
+        Err(error) => Err(error),
+    }
+}
+
+/// Makes the file of a shard durable, which has its bytes, and returns the value of the file, and its path. Allocates nothing
+/// itself.
+fn keep_file<D: Disk>(
+    disk: &mut D,
+    file: NewFile,
+    bytes: &[u8],
+) -> Result<(MDBShardFile, String), StoreError>
+    requires file { IsFileOf bytes.now file }
+    requires there { D.tells disk.old ≡ true → bytes_at (D.files disk.old) file.path ≡ Some bytes.now }
+    ensures path { IfOk result (λ x. string_bytes x.1 ≡ file.path) }
+    ensures hash { IfOk result (λ x. x.0.shard_hash ≡ file.hash) }
+    ensures written { (folder : List ℕ) → file.path ≡ path_of folder bytes.now → IfOk result (λ x. IsWritten (D.tells disk.old) (D.files disk.old) (D.files disk.new) folder bytes.now x.0) }
+    ensures left { D.tells disk.old ≡ true → (folder : List ℕ) → file.path ≡ path_of folder bytes.now → KeptOrWrote (D.files disk.old) (D.files disk.new) folder bytes.now }
+    ensures kept { D.tells disk.old ≡ true → KeepsFileAt (D.files disk.old) (D.files disk.new) file.path }
+    ensures frame { Stays D.tells D.faults disk.old disk.new }
+    ensures reason { IfErr result (HasDiskReason (D.faults disk.old) (D.faults disk.new)) }
+{
+    let NewFile {
+        hash,
+        info,
+        path,
+        name,
+        temp,
+    } = file;
+    match keep_named_file(disk, temp.as_str(), name, hash, info, bytes) {
+        Ok(kept) => Ok((kept, path.into_string())),
         Err(error) => Err(error),
     }
 }

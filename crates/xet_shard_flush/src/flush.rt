@@ -52,8 +52,7 @@ pub fn flush_pending<D: Disk>(
 }
 
 /// Writes what is pending as `flush_pending` does: the shard that `prepare_flush` returned for it, if it is passed. If no
-/// shard was registered since then, memory is taken only to compare its bytes with those of a file of the same length
-/// that is at its path.
+/// shard was registered since then, no memory is taken.
 pub fn flush_prepared<D: Disk>(
     alloc: Global,
     disk: &mut D,

@@ -26,11 +26,12 @@ use xet_shard::MDBShardInfo;
 use xet_shard_registry::ShardRegistry;
 
 /// Writes the bytes of a shard into a folder, durably, under the name of their digest, and registers the shard file
-/// after the others; if its hash is registered, it is only written. Returns its path. Its chunks enter the index if it
+/// after the others; if its hash is registered, it is only written. If a file of that name has these bytes, it is only
+/// made durable, and keeps its modification time. Returns the path. Its chunks enter the index if it
 /// has fewer than `cap` words. Nothing is written if the header or the footer is malformed, if 2^32 - 1 shards are
 /// registered and one more is due (`TooLarge(Shards)`), or if the chunk lookup table is malformed; the error is that of
-/// the first check that fails. `OutOfMemory` also if the path is that of a registered shard, whose file has other
-/// bytes: it is not replaced. For a shard without a key, all memory is taken before the first write. After an error the
+/// the first check that fails. `OutOfMemory` also if the path is that of a registered shard whose file has other
+/// bytes, or is gone and had another header or footer: it is not replaced. For a shard without a key, all memory is taken before the first write. After an error the
 /// same shards are registered; the file is as it was, or the write has completed.
 pub fn import_shard<D: Disk>(
     alloc: Global,
@@ -53,7 +54,7 @@ pub fn import_shard<D: Disk>(
     let hash = compute_data_hash(bytes);
     if registry.contains(&hash) {
         let file = new_file(alloc, folder, hash, info)?;
-        write_known(alloc, disk, registry, file, bytes)
+        write_known(disk, registry, file, bytes)
     } else {
         import_new(alloc, disk, folder, registry, bytes, hash, info, cap)
     }

@@ -1,34 +1,52 @@
 //! Paths under which a shard may be written.
 
-ghost use Rattle.std.specs.Prelude.{◌≡◌, IfErr, IfOk, IsTrue, true};
+ghost use Rattle.std.specs.Prelude.{◌≡◌, IfErr, IfOk, true};
 ghost use Rattle.xet_codec.specs.Stops.{HasDiskReason};
-ghost use Rattle.xet_io.specs.Disk.{bytes_at};
 ghost use Rattle.xet_io.specs.Frame.{Unchanged};
-ghost use Rattle.xet_shard_flush.specs.internal.Steps.{IsFree, IsUnused, MayWrite};
+ghost use Rattle.xet_shard_flush.specs.internal.Steps.{AreExpected, IsUnused, IsWay};
 
-use std::alloc::Global;
-use xet_codec::store_error;
 use xet_hash::StoreError;
-use xet_io::{Disk, read_file};
-use xet_shard_directory::MDBShardFile;
+use xet_io::Disk;
+use xet_shard::MDBShardInfo;
+use xet_shard_directory::{MDBShardFile, Standing, standing_of};
 
-/// Whether no other bytes are at a path, or none of these shard files has it.
-pub(crate) fn may_write<D: Disk>(
-    alloc: Global,
+/// What is to be done with the bytes of a shard at a path.
+#[derive(Clone, Copy, PartialEq, Eq, Debug)]
+pub(crate) enum Way {
+    /// They are there, and are only made durable.
+    Keep,
+    /// They are written.
+    Write,
+    /// Nothing: a registered shard has the path, and other bytes.
+    Refuse,
+}
+
+/// What is to be done with the bytes of a shard at a path, where these shard files are registered. They are not written
+/// over other bytes that are at the path of one of these, nor where one of them is gone that had another header or footer.
+pub(crate) fn way_of<D: Disk>(
     disk: &mut D,
     path: &str,
+    info: &MDBShardInfo,
     files: &[MDBShardFile],
     bytes: &[u8],
-) -> Result<bool, StoreError>
-    ensures free { D.tells disk.old ≡ true → IfOk result (λ free. IsTrue free → MayWrite (D.files disk.old) path.now bytes.now files.now) }
+) -> Result<Way, StoreError>
+    ensures way { D.tells disk.old ≡ true → IfOk result (IsWay (D.files disk.old) path.now info.now files.now bytes.now) }
     ensures frame { Unchanged D.files D.tells D.faults disk.old disk.new }
     ensures reason { IfErr result (HasDiskReason (D.faults disk.old) (D.faults disk.new)) }
 {
-    match is_free(alloc, disk, path, bytes) {
-        Ok(true) => Ok(true),
-        Ok(false) => Ok(is_unused(path, files)),
+    match standing_of(disk, path, bytes) {
+        Ok(Standing::Same) => Ok(Way::Keep),
+        Ok(Standing::Absent) => Ok(write_if(are_expected(path, info, files))),
+        Ok(Standing::Other) => Ok(write_if(is_unused(path, files))),
         Err(error) => Err(error),
     }
+}
+
+/// They are written if that is allowed.
+fn write_if(is_allowed: bool) -> Way
+    ensures { result ≡ (if is_allowed then Way.Write else Way.Refuse) }
+{
+    if is_allowed { Way::Write } else { Way::Refuse }
 }
 
 /// Whether none of these shard files has a path.
@@ -43,39 +61,14 @@ fn is_unused(path: &str, files: &[MDBShardFile]) -> bool
     true
 }
 
-/// Whether there is no file with other bytes at a path.
-fn is_free<D: Disk>(
-    alloc: Global,
-    disk: &mut D,
-    path: &str,
-    bytes: &[u8],
-) -> Result<bool, StoreError>
-    ensures free { D.tells disk.old ≡ true → IfOk result (λ free. IsTrue free → IsFree (bytes_at (D.files disk.old) path.now) bytes.now) }
-    ensures frame { Unchanged D.files D.tells D.faults disk.old disk.new }
-    ensures reason { IfErr result (HasDiskReason (D.faults disk.old) (D.faults disk.new)) }
+/// Whether those of these shard files that have a path have this header and footer.
+fn are_expected(path: &str, info: &MDBShardInfo, files: &[MDBShardFile]) -> bool
+    ensures { result ≡ true → AreExpected path.now info.now files.now }
 {
-    match disk.stat(path) {
-        Ok(None) => Ok(true),
-        Ok(Some((length, _))) if length != bytes.len() as u64 => Ok(false),
-        Ok(Some(_)) => has_bytes(alloc, disk, path, bytes),
-        Err(refusal) => Err(store_error(refusal)),
+    for file in files {
+        if file.path.as_str() == path && file.shard != *info {
+            return false;
+        }
     }
-}
-
-/// Whether the file at a path, if there is one, has these bytes.
-fn has_bytes<D: Disk>(
-    alloc: Global,
-    disk: &mut D,
-    path: &str,
-    bytes: &[u8],
-) -> Result<bool, StoreError>
-    ensures free { D.tells disk.old ≡ true → IfOk result (λ free. IsTrue free → IsFree (bytes_at (D.files disk.old) path.now) bytes.now) }
-    ensures frame { Unchanged D.files D.tells D.faults disk.old disk.new }
-    ensures reason { IfErr result (HasDiskReason (D.faults disk.old) (D.faults disk.new)) }
-{
-    match read_file(disk, alloc, path) {
-        Ok(Some(found)) => Ok(found.as_slice() == bytes),
-        Ok(None) => Ok(true),
-        Err(refusal) => Err(store_error(refusal)),
-    }
+    true
 }

@@ -6,6 +6,7 @@ use Rattle.xet_choices.specs.declared.choice.Choice.{Choice}
 use Rattle.xet_dedup.specs.declared.walk.Batch.{Batch}
 use Rattle.xet_dedup.specs.Placing.{PlacesTo}
 use Rattle.xet_dedup.specs.internal.Walking.{IsWalking}
+use Rattle.xet_dedup_queries.specs.Acts.{Act}
 use Rattle.xet_dedup_queries.specs.declared.interface.FileXorbDependency.{FileXorbDependency}
 use Rattle.xet_file_plan.specs.Moves.{PlanState}
 use Rattle.xet_shard_format.specs.declared.record.FileDataSequenceEntry.{FileDataSequenceEntry as Segment}
@@ -16,9 +17,9 @@ Walks listing standing calling start now b at p =
     IsWalking (listing now) (standing now) (calling start) (calling now) (p.leaves ++ drop at b.leaves.now) b.hashes.now b.places.now b.base at p
 
 -- A batch that was placed before `at`, with some dependencies, is placed before `to`, with more.
-abbrev pub Places : {I : Type 0} → (I → List ℕ → Option (List ℕ)) → (I → List (List ℕ) → Segment → Type 0) → (I → List Call) → Batch → I → PlanState → ℕ → List FileXorbDependency → I → PlanState → ℕ → List FileXorbDependency → Type 0
-Places {I} listing standing calling b old p at noted new q to more =
-    (first : I) (start : PlanState) → PlacesTo listing standing calling b.chunks.now b.places.now b.base b.file_id first start old p at noted → PlacesTo listing standing calling b.chunks.now b.places.now b.base b.file_id first start new q to more
+abbrev pub Places : {I : Type 0} → (I → List ℕ → Option (List ℕ)) → (I → List (List ℕ) → Segment → Type 0) → (I → List Call) → (I → List Act) → Batch → I → PlanState → ℕ → List FileXorbDependency → I → PlanState → ℕ → List FileXorbDependency → Type 0
+Places {I} listing standing calling acting b old p at noted new q to more =
+    (first : I) (start : PlanState) → PlacesTo listing standing calling acting b.chunks.now b.places.now b.base b.file_id first start old p at noted → PlacesTo listing standing calling acting b.chunks.now b.places.now b.base b.file_id first start new q to more
 
 -- One choice was added for each of so many chunks. Each run that was rejected ends within these leaves, which begin with that
 -- of the first of them.

@@ -4,7 +4,6 @@
 ghost use Rattle.std.specs.Prelude.{◌≡◌, ◌≢◌, ◌↔◌, ◌≤◌, ◌<◌, ◌^◌, ◌∷◌, [], None, IfErr, IfOk, IfSome, IsOkUnless, Ok, OnErr, OnOk, false, length, string_bytes, true};
 ghost use Rattle.xet_hash.specs.Hash.{sentinel};
 ghost use Rattle.xet_manager.specs.Adding.{Cuts, IsCut, IsUncut, blocks_before, cut_due, files_before};
-ghost use Rattle.xet_manager.specs.Manager.{SameButRoom};
 ghost use Rattle.xet_shard.specs.Held.{held, nothing, with_last};
 ghost use Rattle.xet_shard_directory.specs.Writing.{path_of};
 ghost use Rattle.xet_shard_flush.specs.Importing.{IsFlushError, KeepsFiles, flushed_bytes};
@@ -27,8 +26,8 @@ impl<D: Disk> ShardFileManager<D> {
         requires form { IsXorb block }
         requires hash { xorb_record_hash block ≢ sentinel }
         requires few { length (xorb_section (with_last xorb_record_hash (blocks_before self.old (xorb_record_size block)) block)) < 2 ^ 32 }
-        ensures added { cut_due self.old (xorb_record_size block) ≡ false → OnOk result (SameButRoom (record self.old { pending = held (with_last xorb_record_hash self.old.pending.blocks block) self.old.pending.files }) self.new) }
-        ensures kept { cut_due self.old (xorb_record_size block) ≡ false → OnErr result (SameButRoom self.old self.new) }
+        ensures added { cut_due self.old (xorb_record_size block) ≡ false → OnOk result (self.new ≡ record self.old { pending = held (with_last xorb_record_hash self.old.pending.blocks block) self.old.pending.files; room = 0 }) }
+        ensures kept { cut_due self.old (xorb_record_size block) ≡ false → OnErr result (self.new ≡ record self.old { room = 0 }) }
         ensures memory { cut_due self.old (xorb_record_size block) ≡ false → IsOkUnless result StoreError.OutOfMemory }
         ensures cut { cut_due self.old (xorb_record_size block) ≡ true → OnOk result (IsCut self.old self.new (held (block ∷ []) [])) }
         ensures uncut { cut_due self.old (xorb_record_size block) ≡ true → IfErr result (IsUncut self.old self.new) }
@@ -52,8 +51,8 @@ impl<D: Disk> ShardFileManager<D> {
         requires form { IsFile file }
         requires hash { file_record_hash file ≢ sentinel }
         requires few { length (file_section (with_last file_record_hash (files_before self.old (file_record_size file)) file)) < 2 ^ 32 }
-        ensures added { cut_due self.old (file_record_size file) ≡ false → OnOk result (SameButRoom (record self.old { pending = held self.old.pending.blocks (with_last file_record_hash self.old.pending.files file) }) self.new) }
-        ensures kept { cut_due self.old (file_record_size file) ≡ false → OnErr result (SameButRoom self.old self.new) }
+        ensures added { cut_due self.old (file_record_size file) ≡ false → OnOk result (self.new ≡ record self.old { pending = held self.old.pending.blocks (with_last file_record_hash self.old.pending.files file); room = 0 }) }
+        ensures kept { cut_due self.old (file_record_size file) ≡ false → OnErr result (self.new ≡ record self.old { room = 0 }) }
         ensures memory { cut_due self.old (file_record_size file) ≡ false → IsOkUnless result StoreError.OutOfMemory }
         ensures cut { cut_due self.old (file_record_size file) ≡ true → OnOk result (IsCut self.old self.new (held [] (file ∷ []))) }
         ensures uncut { cut_due self.old (file_record_size file) ≡ true → IfErr result (IsUncut self.old self.new) }
@@ -78,7 +77,7 @@ impl<D: Disk> ShardFileManager<D> {
     pub fn flush(&mut self) -> Result<Option<String>, StoreError>
         ensures none { IfOk result (λ path. (path ≡ None) ↔ (self.old.pending ≡ nothing)) }
         ensures idle { self.old.pending ≡ nothing → (result ≡ Ok None) × (self.new ≡ self.old) }
-        ensures flushed { IfOk result (λ path. IfSome path (λ p. Cuts self.old self.new nothing (string_bytes p))) }
+        ensures flushed { IfOk result (λ path. IfSome path (λ p. Cuts self.old self.new nothing self.old.room (string_bytes p))) }
         ensures refused { IfErr result (IsUncut self.old self.new) }
         ensures safe { self.old.tells ≡ true → KeepsFiles self.old.files self.new.files (path_of self.old.folder (flushed_bytes self.old.pending self.old.moment)) self.old.registry.files }
         ensures later { self.old.faults ≤ self.new.faults }
@@ -116,7 +115,7 @@ impl<D: Disk> ShardFileManager<D> {
 
     /// Writes what is pending, and lets the records of `next` be pending.
     fn cut_to(&mut self, next: MDBInMemoryShard) -> Result<(), StoreError>
-        ensures cut { OnOk result (IsCut self.old self.new next) }
+        ensures cut { OnOk result ((path : List ℕ) × Cuts self.old self.new next self.old.room path) }
         ensures uncut { IfErr result (IsUncut self.old self.new) }
         ensures safe { self.old.tells ≡ true → KeepsFiles self.old.files self.new.files (path_of self.old.folder (flushed_bytes self.old.pending self.old.moment)) self.old.registry.files }
         ensures later { self.old.faults ≤ self.new.faults }
@@ -128,7 +127,7 @@ impl<D: Disk> ShardFileManager<D> {
 
     /// The same. Returns the path of the shard file.
     fn cut(&mut self, next: MDBInMemoryShard) -> Result<String, StoreError>
-        ensures cut { IfOk result (λ path. Cuts self.old self.new next (string_bytes path)) }
+        ensures cut { IfOk result (λ path. Cuts self.old self.new next self.old.room (string_bytes path)) }
         ensures uncut { IfErr result (IsUncut self.old self.new) }
         ensures safe { self.old.tells ≡ true → KeepsFiles self.old.files self.new.files (path_of self.old.folder (flushed_bytes self.old.pending self.old.moment)) self.old.registry.files }
         ensures later { self.old.faults ≤ self.new.faults }

@@ -4,7 +4,7 @@
 ghost use Rattle.std.specs.Prelude.{◌≡◌, ◌≢◌, ◌≤◌, ◌++◌, [], ℕ, IsOkUnless, List, None, Some, Ok, IfErr, IfOk, IsErrOf, OnErr, OnOk, false, true};
 ghost use Rattle.std.specs.List.{flat_map};
 ghost use Rattle.xet_io.specs.Frame.{Unchanged};
-ghost use Rattle.xet_manager.specs.Manager.{FailsAt, IsUnlisted, ListsFiles, ListsFolder, ReadsEach, SameButRoom};
+ghost use Rattle.xet_manager.specs.Manager.{FailsAt, IsUnlisted, ListsFiles, ListsFolder, ReadsEach};
 ghost use Rattle.xet_shard_directory.specs.Answers.{GivesUnlessDisk, IsFileQueryError, IsFindError, IsQueryError, IsReadError};
 ghost use Rattle.xet_shard_directory.specs.Directories.{Cleans, IsUnloaded, KeptOrCleaned};
 ghost use Rattle.xet_shard_directory.specs.Values.{last_part};
@@ -95,7 +95,7 @@ impl<D: Disk> ShardFileManager<D> {
     pub fn all_file_info(&mut self, now: u64) -> Result<Vec<MDBFileInfo>, StoreError>
         ensures list { self.old.tells ≡ true → IfOk result (λ infos. ListsFiles self.old now infos.items) }
         ensures unlisted { self.old.tells ≡ true → IfErr result (IsUnlisted self.old.files self.old.folder now) }
-        ensures done { OnOk result (SameButRoom (record self.old { faults = self.new.faults; moment = now }) self.new) }
+        ensures done { OnOk result (self.new ≡ record self.old { faults = self.new.faults; moment = now; room = 0 }) }
         ensures refused { OnErr result (self.new ≡ record self.old { faults = self.new.faults }) }
         ensures later { self.old.faults ≤ self.new.faults }
         ensures reason { IfErr result (IsReadError self.old.faults self.new.faults) }
@@ -119,11 +119,11 @@ impl<D: Disk> ShardFileManager<D> {
     /// calls change no file. After an error some of the files may have been removed that would have been.
     pub fn clean_expired_shards_if_needed(&mut self, now: u64) -> Result<(), StoreError>
         ensures cleaned { self.old.tells ≡ true → self.old.cleaned ≡ false → OnOk result (Cleans self.old.files self.new.files self.old.folder self.old.settings.buffer now) }
-        ensures once { self.old.cleaned ≡ true → (result ≡ Ok tt) × SameButRoom (record self.old { moment = now }) self.new }
+        ensures once { self.old.cleaned ≡ true → (result ≡ Ok tt) × (self.new ≡ record self.old { moment = now; room = 0 }) }
         ensures unloaded { self.old.tells ≡ true → IfErr result (IsUnloaded self.old.files self.old.folder true) }
         ensures absent { IsErrOf result StoreError.FileNotFound → (h : List ℕ) × IsHash h × (last_part self.old.folder ≡ shard_name h) }
         ensures kept { self.old.tells ≡ true → OnErr result (KeptOrCleaned self.old.files self.new.files self.old.folder self.old.settings.buffer now) }
-        ensures done { OnOk result (SameButRoom (record self.old { files = self.new.files; faults = self.new.faults; cleaned = true; moment = now }) self.new) }
+        ensures done { OnOk result (self.new ≡ record self.old { files = self.new.files; faults = self.new.faults; cleaned = true; moment = now; room = 0 }) }
         ensures refused { OnErr result (self.new ≡ record self.old { files = self.new.files; faults = self.new.faults }) }
         ensures later { self.old.faults ≤ self.new.faults }
         ensures reason { IfErr result (IsFindError self.old.faults self.new.faults) }

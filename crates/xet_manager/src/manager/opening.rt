@@ -1,7 +1,7 @@
 //! Opening a manager over a folder.
 
 ghost use Rattle.std.specs.Prelude.{◌≡◌, ◌≤◌, List, [], IfErr, IfOk, IsOkUnless, None, false, true};
-ghost use Rattle.xet_manager.specs.Manager.{IsOpened, IsUnopened, IsUnscanned, SameButRoom, ScansFolder, manager_state};
+ghost use Rattle.xet_manager.specs.Manager.{IsOpened, IsUnopened, IsUnscanned, ScansFolder, manager_state};
 ghost use Rattle.xet_shard.specs.Held.{nothing};
 ghost use Rattle.xet_shard_registration.specs.Refreshing.{RegistersDirectory};
 ghost use Rattle.xet_shard_registration.specs.Registering.{IsRegistrationError};
@@ -128,7 +128,7 @@ impl<D: Disk> ShardFileManager<D> {
         now: u64,
     ) -> Result<ShardFileManager<D>, Refused<D>>
         ensures registered { self.tells ≡ true → IfOk result (λ m. RegistersDirectory self.settings.index_cap self.files m.files self.folder prune_expired prune_to self.settings.buffer now self.registry m.registry) }
-        ensures rest { IfOk result (λ m. SameButRoom (record self { files = m.files; registry = m.registry; faults = m.faults; moment = now }) m) }
+        ensures rest { IfOk result (λ m. m ≡ record self { files = m.files; registry = m.registry; faults = m.faults; moment = now; room = 0 }) }
         ensures later { IfOk result (λ m. self.faults ≤ m.faults) }
         ensures unchanged { self.tells ≡ true → prune_expired ≡ false → prune_to ≡ 0 → IfOk result (λ m. m.files ≡ self.files) }
         ensures refused { IfErr result (λ r. IsRegistrationError self.faults (D.faults r.disk) r.error) }

@@ -2,7 +2,6 @@
 #![tactic(auto, using(crate::proofs::Rooms::none_due))]
 
 ghost use Rattle.std.specs.Prelude.{◌≡◌, ◌≤◌, ◌++◌, ◌⊎◌, [], List, Err, IfErr, IfOk, IsOkUnless, OnErr, OnOk, false, string_bytes, true};
-ghost use Rattle.xet_manager.specs.Manager.{SameButRoom};
 ghost use Rattle.xet_shard.specs.Union.{ShardRecords};
 ghost use Rattle.xet_shard_directory.specs.Answers.{GivesUnlessDisk};
 ghost use Rattle.xet_shard_directory.specs.Writing.{KeptOrWrote, path_of};
@@ -35,7 +34,7 @@ impl<D: Disk> ShardFileManager<D> {
         ensures due { OnOk result (AddsDue (newest_first files.now) self.old.registry self.new.registry) }
         ensures front { OnErr result (AddsFirst (newest_first files.now) self.old.registry self.new.registry) }
         ensures grows { (shards : List Registered) → IsRegistryOf shards self.old.registry → (more : List Registered) × IsRegistryOf (shards ++ more) self.new.registry }
-        ensures rest { SameButRoom (record self.old { registry = self.new.registry; faults = self.new.faults }) self.new }
+        ensures rest { self.new ≡ record self.old { registry = self.new.registry; faults = self.new.faults; room = 0 } }
         ensures later { self.old.faults ≤ self.new.faults }
         ensures reason { IfErr result (IsRegistrationError self.old.faults self.new.faults) }
     {
@@ -56,8 +55,8 @@ impl<D: Disk> ShardFileManager<D> {
         ensures registered { self.old.tells ≡ true → OnOk result (RegistersPaths self.old.settings.index_cap self.old.files now paths.now self.old.registry self.new.registry) }
         ensures stopped { self.old.tells ≡ true → IfErr result (λ e. (IsUnloadedAmong self.old.files now paths.now e × (self.new.registry ≡ self.old.registry)) ⊎ StopsInPaths self.old.settings.index_cap self.old.files now paths.now self.old.registry self.new.registry e) }
         ensures grows { (shards : List Registered) → IsRegistryOf shards self.old.registry → (more : List Registered) × IsRegistryOf (shards ++ more) self.new.registry }
-        ensures done { OnOk result (SameButRoom (record self.old { registry = self.new.registry; faults = self.new.faults; moment = now }) self.new) }
-        ensures refused { OnErr result (SameButRoom (record self.old { registry = self.new.registry; faults = self.new.faults }) self.new) }
+        ensures done { OnOk result (self.new ≡ record self.old { registry = self.new.registry; faults = self.new.faults; moment = now; room = 0 }) }
+        ensures refused { OnErr result (self.new ≡ record self.old { registry = self.new.registry; faults = self.new.faults; room = 0 }) }
         ensures later { self.old.faults ≤ self.new.faults }
         ensures reason { IfErr result (IsRegistrationError self.old.faults self.new.faults) }
     {
@@ -91,8 +90,8 @@ impl<D: Disk> ShardFileManager<D> {
             ⊎ StopsInDirectory self.old.settings.index_cap self.old.files self.new.files self.old.folder prune_expired prune_to self.old.settings.buffer now self.old.registry self.new.registry e) }
         ensures unchanged { self.old.tells ≡ true → prune_expired ≡ false → prune_to ≡ 0 → self.new.files ≡ self.old.files }
         ensures grows { (shards : List Registered) → IsRegistryOf shards self.old.registry → (more : List Registered) × IsRegistryOf (shards ++ more) self.new.registry }
-        ensures done { OnOk result (SameButRoom (record self.old { files = self.new.files; registry = self.new.registry; faults = self.new.faults; moment = now }) self.new) }
-        ensures refused { OnErr result (SameButRoom (record self.old { files = self.new.files; registry = self.new.registry; faults = self.new.faults }) self.new) }
+        ensures done { OnOk result (self.new ≡ record self.old { files = self.new.files; registry = self.new.registry; faults = self.new.faults; moment = now; room = 0 }) }
+        ensures refused { OnErr result (self.new ≡ record self.old { files = self.new.files; registry = self.new.registry; faults = self.new.faults; room = 0 }) }
         ensures later { self.old.faults ≤ self.new.faults }
         ensures reason { IfErr result (IsRegistrationError self.old.faults self.new.faults) }
     {
@@ -127,7 +126,7 @@ impl<D: Disk> ShardFileManager<D> {
         ensures refused { self.old.tells ≡ true → OnErr result (KeptOrWrote self.old.files self.new.files self.old.folder bytes.now) }
         ensures unwritten { self.old.tells ≡ true → IfErr result (λ e. IsCheckError e → self.new.files ≡ self.old.files) }
         ensures safe { self.old.tells ≡ true → KeepsFiles self.old.files self.new.files (path_of self.old.folder bytes.now) self.old.registry.files }
-        ensures rest { SameButRoom (record self.old { files = self.new.files; registry = self.new.registry; faults = self.new.faults }) self.new }
+        ensures rest { self.new ≡ record self.old { files = self.new.files; registry = self.new.registry; faults = self.new.faults; room = 0 } }
         ensures later { self.old.faults ≤ self.new.faults }
         ensures reason { IfErr result (IsImportError self.old.faults self.new.faults) }
     {
@@ -150,7 +149,7 @@ impl<D: Disk> ShardFileManager<D> {
         ensures due { OnOk result (self.new.registry.files ≡ due [] files.now) }
         ensures kept { OnErr result (self.new.registry ≡ self.old.registry) }
         ensures refused { self.old.tells ≡ true → IfErr result (λ e. (records : MDBShardFile → ShardRecords) → GivesUnlessDisk (λ (x : List Registered). x) (Err e) (registered_all self.old.settings.index_cap self.old.files records [] files.now)) }
-        ensures rest { SameButRoom (record self.old { registry = self.new.registry; faults = self.new.faults }) self.new }
+        ensures rest { self.new ≡ record self.old { registry = self.new.registry; faults = self.new.faults; room = 0 } }
         ensures later { self.old.faults ≤ self.new.faults }
         ensures reason { IfErr result (IsRegistrationError self.old.faults self.new.faults) }
     {

@@ -1,7 +1,7 @@
 //! Memory that is taken before it is needed.
 
-ghost use Rattle.std.specs.Prelude.{◌≡◌, ◌≤◌, IsOkUnless, OnErr, OnOk};
-ghost use Rattle.xet_manager.specs.Manager.{HasSameShards, SameButRoom};
+ghost use Rattle.std.specs.Prelude.{◌≡◌, IsOkUnless, OnErr, OnOk, max};
+ghost use Rattle.xet_manager.specs.Manager.{HasSameShards};
 
 use crate::manager::ShardFileManager;
 use xet_hash::StoreError;
@@ -13,12 +13,12 @@ const CHUNK_BYTES: u64 = 64;
 
 impl<D: Disk> ShardFileManager<D> {
     /// Takes the memory for one `flush` of what is pending, and for adding, after it or without it, one xorb or file
-    /// whose record has at most so many bytes. The flush then takes memory only as the disk does, and to compare its
-    /// bytes with those of a file of the same length that is at its path; the adding takes none, if no record has its
-    /// hash. This ends when a record is added, when shards are registered, and when another time is passed. What is
-    /// pending is encoded. The only error is `OutOfMemory`. The same shards are registered in either case.
+    /// whose record has at most so many bytes. The flush then takes memory only as the disk does, and the adding takes
+    /// none. This ends when a record is added, when shards are registered, when another time is passed, and after a
+    /// flush that failed; after one that did not, the memory for the record is there still. What is pending is encoded.
+    /// The only error is `OutOfMemory`. The same shards are registered in either case.
     pub fn reserve(&mut self, bytes: u64) -> Result<(), StoreError>
-        ensures room { OnOk result (bytes ≤ self.new.room) }
+        ensures room { OnOk result (self.new.room ≡ max self.old.room bytes) }
         ensures kept { OnErr result (self.new.room ≡ self.old.room) }
         ensures rest { HasSameShards self.old self.new }
         ensures memory { IsOkUnless result StoreError.OutOfMemory }
@@ -30,8 +30,7 @@ impl<D: Disk> ShardFileManager<D> {
     /// Takes the memory for adding one xorb or file whose record has at most so many bytes, as `reserve` does. Nothing
     /// is encoded, so this is enough if no cut is due.
     pub fn reserve_record(&mut self, bytes: u64) -> Result<(), StoreError>
-        ensures room { OnOk result (bytes ≤ self.new.room) }
-        ensures rest { SameButRoom self.old self.new }
+        ensures room { OnOk result (self.new ≡ record self.old { room = max self.old.room bytes }) }
         ensures kept { OnErr result (self.new ≡ self.old) }
         ensures memory { IsOkUnless result StoreError.OutOfMemory }
     {

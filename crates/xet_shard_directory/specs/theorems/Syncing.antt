@@ -4,7 +4,7 @@ use Rattle.std.specs.FinMap.{get, insert}
 use Rattle.xet_io.specs.Disk.{Entry, File, Files, bytes_at, durable_if, entry, file_at, file_of, synced}
 use Rattle.xet_io.specs.theorems.Names.{either_name, get_here, get_other}
 use Rattle.xet_shard_directory.specs.Values.{loaded}
-use Rattle.xet_shard_directory.specs.Writing.{AddsShard, KeptOrWrote, MayAddShard, OthersStay, path_of}
+use Rattle.xet_shard_directory.specs.Writing.{AddsShard, MayAddShard, OthersStay, path_of}
 use Rattle.xet_shard_directory.specs.declared.shard_file.MDBShardFile.{MDBShardFile}
 use Rattle.xet_shard_file.specs.Puts.{IsKeptOrDone}
 

@@ -1,5 +1,5 @@
 -- The steps of an import: what is read of the bytes, the check of the path, the room in the registry, and the write.
-use Rattle.std.specs.Prelude.{◌≡◌, ◌≢◌, ◌⊎◌, ◌<◌, ◌^◌, ◌-◌, ℕ, nat_eq, nat_le, Bool, true, false, List, length, All, Option, Some, Result, Ok, Err, if◌then◌else◌}
+use Rattle.std.specs.Prelude.{◌≡◌, ◌≢◌, ◌⊎◌, ◌<◌, ◌^◌, ◌-◌, ℕ, nat_eq, nat_le, Bool, true, false, List, length, All, Option, None, Some, Result, Ok, Err, if◌then◌else◌}
 use Rattle.std.specs.Cmp.Lexicographic.{pointwise}
 use Rattle.std.specs.List.{list_any}
 use Rattle.xet_codec.specs.Parsing.{◌>>=◌}
@@ -9,11 +9,14 @@ use Rattle.xet_hash.specs.declared.error.StoreError.TheVariants.{OutOfMemory, To
 use Rattle.xet_hash.specs.declared.error.What.TheVariants.{Shards}
 use Rattle.xet_io.specs.Disk.{Files, bytes_at}
 use Rattle.xet_shard.specs.Sections.{chunk_lookup_in, info_at}
+use Rattle.xet_shard.specs.declared.info.MDBShardInfo.{MDBShardInfo}
 use Rattle.xet_shard.specs.Union.{ShardRecords}
 use Rattle.xet_shard_directory.specs.Writing.{IsFormatError, Wrote, path_of}
 use Rattle.xet_shard_directory.specs.declared.shard_file.MDBShardFile.{MDBShardFile}
 use Rattle.xet_shard_file.specs.Names.{temp_name}
 use Rattle.xet_shard_flush.specs.declared.file.NewFile.{NewFile}
+use Rattle.xet_shard_flush.specs.declared.paths.Way.{Way}
+use Rattle.xet_shard_flush.specs.declared.paths.Way.TheVariants.{Keep, Refuse, Write}
 use Rattle.xet_shard_format.specs.declared.header_footer.MDBShardFileFooter.{MDBShardFileFooter}
 use Rattle.xet_shard_registry.specs.Collections.{IsRegistryOf, Tables}
 use Rattle.xet_shard_registry.specs.Registered.{Registered, with_shard}
@@ -40,17 +43,20 @@ IsNewError e = IsPartError e
 
 -- ---- the path
 
--- nothing is there, or these bytes are
-abbrev pub IsFree : Option (List ℕ) → List ℕ → Type 0
-IsFree found bytes = (b : List ℕ) → found ≡ Some b → b ≡ bytes
-
 -- no shard has this path
 abbrev pub IsUnused : List ℕ → List MDBShardFile → Type 0
 IsUnused path ss = All (λ s. s.path ≢ path) ss
 
--- Bytes may be written at a path: no other bytes are there, or it is that of no registered shard.
-abbrev pub MayWrite : Files → List ℕ → List ℕ → List MDBShardFile → Type 0
-MayWrite files path bytes ss = IsFree (bytes_at files path) bytes ⊎ IsUnused path ss
+-- the shards of this path have this header and footer
+abbrev pub AreExpected : List ℕ → MDBShardInfo → List MDBShardFile → Type 0
+AreExpected path info ss = All (λ s. s.path ≡ path → s.shard ≡ info) ss
+
+-- The bytes are there; or they may be written: nothing is there, and the registered shards of this path have their header
+-- and footer, or there is none of this path.
+abbrev pub IsWay : Files → List ℕ → MDBShardInfo → List MDBShardFile → List ℕ → Way → Type 0
+IsWay files path info ss bytes Keep = bytes_at files path ≡ Some bytes
+IsWay files path info ss bytes Write = ((bytes_at files path ≡ None) × AreExpected path info ss) ⊎ IsUnused path ss
+IsWay files path info ss bytes Refuse = Unit {0}
 
 -- the header and the footer of a file are those of these bytes, and so are its hash and its names
 pub record IsFileOf (bytes : List ℕ) (f : NewFile) : Type 0 where

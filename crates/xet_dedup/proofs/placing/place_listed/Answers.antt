@@ -1,8 +1,10 @@
 use Rattle.std.proofs.Common.{◌∙◌, ◌++◌, List, ap, sym, subst}
+use Rattle.xet_base.specs.theorems.Exits.{exit_on}
 use Rattle.xet_cut.specs.declared.limits.LimitSettings.{LimitSettings}
 use Rattle.xet_dedup_queries.specs.theorems.Growing.{extends_more}
 use Rattle.xet_dedup_queries.specs.declared.places.Place.{Place}
 use Rattle.xet_dedup.specs.internal.Walking.{IsWalking}
+use Rattle.xet_dedup.proofs.Outcomes.{is_placed, is_queried, is_queried_once, stops_asking, stops_placing}
 use Rattle.xet_dedup.proofs.Placed.{batch_begins, leaves_small}
 use Rattle.xet_dedup.proofs.Registering.{grows_by_both}
 use Rattle.xet_dedup.proofs.placing.place_listed.Goals as goal
@@ -41,3 +43,52 @@ returns-in_err-place_found-clause-prefix g c = grows_by_both _ _ _ c.find_places
 
 pub returns-clause-prefix : goal.returns-clause-prefix
 returns-clause-prefix g c = grows_by_both _ _ _ c.find_places.ensures.prefix c.place_found.ensures.calls
+
+pub returns-in_err-found-clause-stopped : goal.returns-in_err-found-clause-stopped
+returns-in_err-found-clause-stopped g c =
+    let I = g.I.DeduplicationDataInterface in
+    let a = c.args in
+    exit_on _ c.from_residual.result c.from_residual.ensures.1
+    (stops_asking I.lists I.stands I.calls I.acts a.file_id a.chunks.now a.leaves.now a.hashes.now c.len-base.result a.interface.now a.plan.now c.requires.leaves c.requires.hashes c.len-base.ensures.value
+    c.find_places.new.interface c.in_err-found.ensures.stopped)
+
+pub returns-in_err-place_found-clause-stopped : goal.returns-in_err-place_found-clause-stopped
+returns-in_err-place_found-clause-stopped g c =
+    let I = g.I.DeduplicationDataInterface in
+    let a = c.args in
+    let queried = c.find_places.new.interface in
+    let found = c.in_ok-found.found in
+    exit_on _ c.from_residual-in_err-place_found.result c.from_residual-in_err-place_found.ensures.1
+    (stops_placing I.lists I.stands I.calls I.acts a.file_id a.chunks.now a.leaves.now a.hashes.now c.len-base.result a.interface.now a.plan.now c.requires.leaves c.requires.hashes c.len-base.ensures.value
+    queried c.place_found.new.interface found.places c.as_slice.result.now found.global_chunks found.global_bytes c.as_slice.ensures c.in_ok-found.ensures.asked c.in_err-place_found.ensures.stopped)
+
+pub returns-clause-placed : goal.returns-clause-placed
+returns-clause-placed g c =
+    let I = g.I.DeduplicationDataInterface in
+    let a = c.args in
+    let queried = c.find_places.new.interface in
+    let found = c.in_ok-found.found in
+    is_placed I.lists I.stands I.calls I.acts a.file_id a.chunks.now a.leaves.now a.hashes.now c.len-base.result a.interface.now a.plan.now c.requires.leaves c.requires.hashes c.len-base.ensures.value
+    queried c.place_found.new.interface found.places c.as_slice.result.now found.global_chunks found.global_bytes c.as_slice.ensures c.in_ok-found.ensures.asked c.place_found.new.plan c.in_ok-found.ensures.places c.in_ok-place_found.ensures.placed
+
+pub returns-clause-asked : goal.returns-clause-asked
+returns-clause-asked g c =
+    let I = g.I.DeduplicationDataInterface in
+    let a = c.args in
+    let queried = c.find_places.new.interface in
+    let found = c.in_ok-found.found in
+    is_queried I.lists I.stands I.calls I.acts a.file_id a.chunks.now a.leaves.now a.hashes.now c.len-base.result a.interface.now a.plan.now c.requires.leaves c.requires.hashes c.len-base.ensures.value
+    queried c.place_found.new.interface found.places c.as_slice.result.now found.global_chunks found.global_bytes c.as_slice.ensures c.in_ok-found.ensures.asked c.place_found.ensures.calls
+
+pub returns-clause-once : goal.returns-clause-once
+returns-clause-once g c = λ alone.
+    let I = g.I.DeduplicationDataInterface in
+    let a = c.args in
+    let queried = c.find_places.new.interface in
+    let found = c.in_ok-found.found in
+    let once = c.in_ok-found.ensures.once alone in (
+      is_queried_once I.lists I.stands I.calls I.acts a.file_id a.chunks.now a.leaves.now a.hashes.now c.len-base.result a.interface.now a.plan.now c.requires.leaves c.requires.hashes c.len-base.ensures.value
+          queried c.place_found.new.interface found.places once.0 c.place_found.ensures.calls,
+      once.1,
+      once.2,
+    )

@@ -2,6 +2,7 @@ use Rattle.std.proofs.Common.{◌∙◌, ◌++◌, [], ◌∷◌, get_or, sym, s
 use Rattle.std.specs.List.{AllByRecursion}
 use Rattle.std.proofs.lemmas.List.{length-map}
 use Rattle.std.proofs.lemmas.Option.{slice_get-get_or}
+use Rattle.xet_base.specs.theorems.Exits.{exit_on}
 use Rattle.xet_cut.specs.declared.limits.LimitSettings.{LimitSettings}
 use Rattle.xet_dedup.specs.Deduping.{IsChunk}
 use Rattle.xet_file_plan.specs.Moves.{PlanState}
@@ -9,7 +10,7 @@ use Rattle.xet_file_plan.specs.Plan.{IsStorable}
 use Rattle.xet_xorb_chunk.specs.Chunks.{chunk_leaf}
 use Rattle.xet_dedup.proofs.Lists.{all_at}
 use Rattle.xet_dedup.proofs.Ends.{adds_joined, adds_stored}
-use Rattle.xet_dedup.proofs.Further.{places_joined, places_stored}
+use Rattle.xet_dedup.proofs.Further.{places_joined, places_stored, stops_at}
 use Rattle.xet_dedup.proofs.Steps.{can_join, leaves_joined, leaves_stored, length_hashes, rest_kept, step_joined, step_stored, stores_choice, stores_settings}
 use Rattle.xet_dedup.proofs.walk.step.Goals as goal
 
@@ -49,7 +50,7 @@ returns-in-Ok-Joined-clause-walked g c =
 
 pub returns-in-Ok-Joined-clause-placed : goal.returns-in-Ok-Joined-clause-placed
 returns-in-Ok-Joined-clause-placed g c =
-    places_joined g.I.DeduplicationDataInterface.lists g.I.DeduplicationDataInterface.stands g.I.DeduplicationDataInterface.calls c.args.plan.now.settings c.args.batch.now c.requires.batch c.args.interface.now c.args.plan.now c.args.at
+    places_joined g.I.DeduplicationDataInterface.lists g.I.DeduplicationDataInterface.stands g.I.DeduplicationDataInterface.calls g.I.DeduplicationDataInterface.acts c.args.plan.now.settings c.args.batch.now c.requires.batch c.args.interface.now c.args.plan.now c.args.at
     c.join.new.plan c.in-Ok-Joined.count c.args.dependencies.now.items c.join.new.dependencies.items (c.in-Ok-Joined.ensures.joined c.in-Ok-Joined.count c.in-Ok-Joined.field-0-is) (c.in-Ok-Joined.ensures.noted c.in-Ok-Joined.count c.in-Ok-Joined.field-0-is)
 
 pub returns-in-Ok-Joined-clause-leaves : goal.returns-in-Ok-Joined-clause-leaves
@@ -71,12 +72,12 @@ returns-in-Ok-Joined-clause-settings g c = ap (λ (m : PlanState). m.settings) (
 pub returns-in_ok-store-in-Ok-New-clause-walked : goal.returns-in_ok-store-in-Ok-New-clause-walked
 returns-in_ok-store-in-Ok-New-clause-walked g c =
     step_stored g.I.DeduplicationDataInterface.lists g.I.DeduplicationDataInterface.stands g.I.DeduplicationDataInterface.calls c.args.start.now.value c.args.interface.now c.args.batch.now c.args.at c.args.plan.now c.requires.batch c.requires.walking
-    c.store.new.interface c.store.ensures.extends.lists c.store.ensures.extends.stands c.recall_invariant.ensures.range c.join.new.plan c.store.new.plan (get_or c.args.batch.now.chunks.now c.args.at c.index-batch-at.result) c.in-Ok-New.choice (slice_get-get_or c.args.batch.now.chunks.now c.args.at c.index-batch-at.result c.requires.at)
+    g.I.DeduplicationDataInterface.acts c.store.new.interface c.store.ensures.extends.lists c.store.ensures.extends.stands c.recall_invariant.ensures.range c.join.new.plan c.store.new.plan (get_or c.args.batch.now.chunks.now c.args.at c.index-batch-at.result) c.in-Ok-New.choice (slice_get-get_or c.args.batch.now.chunks.now c.args.at c.index-batch-at.result c.requires.at)
     (c.in-Ok-New.ensures.stored c.in-Ok-New.choice c.in-Ok-New.field-0-is) c.in_ok-store-in-Ok-New.ensures.stored
 
 pub returns-in_ok-store-in-Ok-New-clause-placed : goal.returns-in_ok-store-in-Ok-New-clause-placed
 returns-in_ok-store-in-Ok-New-clause-placed g c =
-    places_stored g.I.DeduplicationDataInterface.lists g.I.DeduplicationDataInterface.stands g.I.DeduplicationDataInterface.calls c.args.plan.now.settings c.args.batch.now c.requires.batch c.args.interface.now c.args.plan.now c.args.at
+    places_stored g.I.DeduplicationDataInterface.lists g.I.DeduplicationDataInterface.stands g.I.DeduplicationDataInterface.calls g.I.DeduplicationDataInterface.acts c.args.plan.now.settings c.args.batch.now c.requires.batch c.args.interface.now c.args.plan.now c.args.at
     c.store.new.interface c.join.new.plan c.store.new.plan (get_or c.args.batch.now.chunks.now c.args.at c.index-batch-at.result) c.in-Ok-New.choice c.args.dependencies.now.items c.join.new.dependencies.items c.store.new.dependencies.items (slice_get-get_or c.args.batch.now.chunks.now c.args.at c.index-batch-at.result c.requires.at)
     (c.in-Ok-New.ensures.stored c.in-Ok-New.choice c.in-Ok-New.field-0-is) c.in_ok-store-in-Ok-New.ensures.stored
     (c.in-Ok-New.ensures.not_noted c.in-Ok-New.choice c.in-Ok-New.field-0-is) c.in_ok-store-in-Ok-New.ensures.noted
@@ -84,13 +85,13 @@ returns-in_ok-store-in-Ok-New-clause-placed g c =
 pub returns-in_ok-store-in-Ok-New-clause-leaves : goal.returns-in_ok-store-in-Ok-New-clause-leaves
 returns-in_ok-store-in-Ok-New-clause-leaves g c =
     leaves_stored g.I.DeduplicationDataInterface.lists g.I.DeduplicationDataInterface.stands g.I.DeduplicationDataInterface.calls c.args.start.now.value c.args.interface.now c.args.batch.now c.args.at c.args.plan.now c.requires.batch c.requires.walking
-    c.store.new.interface c.store.ensures.extends.lists c.store.ensures.extends.stands c.recall_invariant.ensures.range c.join.new.plan c.store.new.plan (get_or c.args.batch.now.chunks.now c.args.at c.index-batch-at.result) c.in-Ok-New.choice (slice_get-get_or c.args.batch.now.chunks.now c.args.at c.index-batch-at.result c.requires.at)
+    g.I.DeduplicationDataInterface.acts c.store.new.interface c.store.ensures.extends.lists c.store.ensures.extends.stands c.recall_invariant.ensures.range c.join.new.plan c.store.new.plan (get_or c.args.batch.now.chunks.now c.args.at c.index-batch-at.result) c.in-Ok-New.choice (slice_get-get_or c.args.batch.now.chunks.now c.args.at c.index-batch-at.result c.requires.at)
     (c.in-Ok-New.ensures.stored c.in-Ok-New.choice c.in-Ok-New.field-0-is) c.in_ok-store-in-Ok-New.ensures.stored
 
 pub returns-in_ok-store-in-Ok-New-clause-added : goal.returns-in_ok-store-in-Ok-New-clause-added
 returns-in_ok-store-in-Ok-New-clause-added g c =
     let kept = rest_kept c.args.plan.now c.join.new.plan c.args.batch.now.hashes.now c.args.batch.now.places.now c.args.batch.now.base c.args.at c.in-Ok-New.choice (c.in-Ok-New.ensures.stored c.in-Ok-New.choice c.in-Ok-New.field-0-is) in
-    let choice = stores_choice g.I.DeduplicationDataInterface.lists g.I.DeduplicationDataInterface.stands g.I.DeduplicationDataInterface.calls c.args.interface.now c.store.new.interface c.join.new.plan c.store.new.plan (get_or c.args.batch.now.chunks.now c.args.at c.index-batch-at.result) c.in-Ok-New.choice c.in_ok-store-in-Ok-New.ensures.stored in
+    let choice = stores_choice g.I.DeduplicationDataInterface.lists g.I.DeduplicationDataInterface.stands g.I.DeduplicationDataInterface.calls g.I.DeduplicationDataInterface.acts c.args.interface.now c.store.new.interface c.join.new.plan c.store.new.plan (get_or c.args.batch.now.chunks.now c.args.at c.index-batch-at.result) c.in-Ok-New.choice c.in_ok-store-in-Ok-New.ensures.stored in
     let b = c.args.batch.now in
     adds_stored c.args.plan.now b.leaves.now b.hashes.now b.places.now b.base c.args.at c.requires.batch.hashes c.join.new.plan c.store.new.plan c.in-Ok-New.choice
     (can_join (g.I.DeduplicationDataInterface.lists c.args.interface.now) (g.I.DeduplicationDataInterface.stands c.args.interface.now) (g.I.DeduplicationDataInterface.calls c.args.start.now.value)
@@ -103,5 +104,13 @@ returns-in_ok-store-in-Ok-New-clause-added g c =
 pub returns-in_ok-store-in-Ok-New-clause-settings : goal.returns-in_ok-store-in-Ok-New-clause-settings
 returns-in_ok-store-in-Ok-New-clause-settings g c =
     let kept = rest_kept c.args.plan.now c.join.new.plan c.args.batch.now.hashes.now c.args.batch.now.places.now c.args.batch.now.base c.args.at c.in-Ok-New.choice (c.in-Ok-New.ensures.stored c.in-Ok-New.choice c.in-Ok-New.field-0-is) in
-    stores_settings g.I.DeduplicationDataInterface.lists g.I.DeduplicationDataInterface.stands g.I.DeduplicationDataInterface.calls c.args.interface.now c.store.new.interface c.join.new.plan c.store.new.plan (get_or c.args.batch.now.chunks.now c.args.at c.index-batch-at.result) c.in-Ok-New.choice c.in_ok-store-in-Ok-New.ensures.stored
+    stores_settings g.I.DeduplicationDataInterface.lists g.I.DeduplicationDataInterface.stands g.I.DeduplicationDataInterface.calls g.I.DeduplicationDataInterface.acts c.args.interface.now c.store.new.interface c.join.new.plan c.store.new.plan (get_or c.args.batch.now.chunks.now c.args.at c.index-batch-at.result) c.in-Ok-New.choice c.in_ok-store-in-Ok-New.ensures.stored
     ∙ ap (λ (m : PlanState). m.settings) kept
+
+pub returns-in_err-store-in-Ok-New-clause-stopped : goal.returns-in_err-store-in-Ok-New-clause-stopped
+returns-in_err-store-in-Ok-New-clause-stopped g c =
+    let kept = rest_kept c.args.plan.now c.join.new.plan c.args.batch.now.hashes.now c.args.batch.now.places.now c.args.batch.now.base c.args.at c.in-Ok-New.choice (c.in-Ok-New.ensures.stored c.in-Ok-New.choice c.in-Ok-New.field-0-is) in
+    exit_on _ c.from_residual.result c.from_residual.ensures.1
+    (stops_at c.args.batch.now.chunks.now c.args.at c.join.new.plan.block c.args.plan.now.block (get_or c.args.batch.now.chunks.now c.args.at c.index-batch-at.result)
+    (g.I.DeduplicationDataInterface.acts c.args.interface.now) (g.I.DeduplicationDataInterface.acts c.store.new.interface)
+    (slice_get-get_or c.args.batch.now.chunks.now c.args.at c.index-batch-at.result c.requires.at) (ap (λ (m : PlanState). m.block) kept) c.in_err-store-in-Ok-New.ensures.stopped)

@@ -1,4 +1,5 @@
 use Rattle.std.proofs.Common.{◌∙◌, refl, sym, subst, arith}
+use Rattle.xet_base.specs.theorems.Exits.{exit_on}
 use Rattle.xet_dedup_queries.specs.theorems.Growing.{extends_more, extends_same}
 use Rattle.xet_dedup.proofs.Ends.{adds_more, adds_none}
 use Rattle.xet_dedup.proofs.Registering.{registers_more, registers_none}
@@ -15,7 +16,7 @@ places-init g c = record {
       let b = c.args.batch.now in
       let s = c.args.interface.now in
       let p = c.args.plan.now in
-      subst (PlacesTo I.lists I.stands I.calls b.chunks.now b.places.now b.base b.file_id s p s p 0) (sym c.requires.fresh) begins);
+      subst (PlacesTo I.lists I.stands I.calls I.acts b.chunks.now b.places.now b.base b.file_id s p s p 0) (sym c.requires.fresh) begins);
   leaves = refl;
   added = adds_none _ _;
   settings = refl;
@@ -26,6 +27,18 @@ places-init g c = record {
 
 pub returns-in_err-at-clause-calls : goal.returns-in_err-at-clause-calls
 returns-in_err-at-clause-calls g c = registers_more _ _ _ c.places.invariant.calls c.step.ensures.calls
+
+pub returns-in_err-at-clause-stopped : goal.returns-in_err-at-clause-stopped
+returns-in_err-at-clause-stopped g c =
+    exit_on _ c.from_residual.result c.from_residual.ensures.1
+    (record {
+      now = c.places.interface;
+      plan = c.places.plan;
+      at = c.places.at;
+      noted = c.places.dependencies.items;
+      placed = c.places.invariant.placed;
+      acts = c.in_err-at.ensures.stopped;
+    })
 
 pub places-preserved : goal.places-preserved
 places-preserved g c = record {

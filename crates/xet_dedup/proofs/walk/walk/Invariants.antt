@@ -9,7 +9,7 @@ abbrev pub invariant-places : goal.invariant-places
 invariant-places g l = record {
   within : l.at ≤ length l.batch.chunks.now;
   walking : Walks g.I.DeduplicationDataInterface.lists g.I.DeduplicationDataInterface.stands g.I.DeduplicationDataInterface.calls l.start.value l.interface l.batch l.at l.plan;
-  placed : PlacesTo g.I.DeduplicationDataInterface.lists g.I.DeduplicationDataInterface.stands g.I.DeduplicationDataInterface.calls l.batch.chunks.now l.batch.places.now l.batch.base l.batch.file_id l.initial.interface l.initial.plan l.interface l.plan l.at l.dependencies.items;
+  placed : PlacesTo g.I.DeduplicationDataInterface.lists g.I.DeduplicationDataInterface.stands g.I.DeduplicationDataInterface.calls g.I.DeduplicationDataInterface.acts l.batch.chunks.now l.batch.places.now l.batch.base l.batch.file_id l.initial.interface l.initial.plan l.interface l.plan l.at l.dependencies.items;
   leaves : l.plan.leaves ++ drop l.at l.batch.leaves.now ≡ l.initial.plan.leaves ++ l.batch.leaves.now;
   added : AddsChoices l.batch.leaves.now l.initial.plan.choices l.plan.choices l.at;
   settings : l.plan.settings ≡ l.initial.plan.settings;

@@ -10,7 +10,7 @@ overflow_sub-result g c =
     let at = c.args.progress.at in
     let was = c.requires.passing.1 in
     let here = read_is places at _ _ (omega (arith, c.requires.more, was.counted)) c.in-Kept.is in
-    let found = kept_is_found (I.lists s) (I.stands s) c.args.hashes.now c.requires.passing.0 (I.calls s) places at c.args.progress.chunks c.args.progress.bytes was c.in-Kept.run' c.in-Kept.is_external here in
+    let found = kept_is_found (I.lists s) (I.stands s) c.args.round c.args.hashes.now c.requires.passing.0 (I.calls s) (I.acts s) places at c.args.progress.chunks c.args.progress.bytes was c.in-Kept.run' c.in-Kept.is_external here in
     omega (arith, found.lies.some)
 
 pub ask-requires : goal.ask-requires
@@ -30,7 +30,7 @@ returns-in-Kept-clause-passing g c = λ began was.
     let places = c.args.places.now in
     let at = c.args.progress.at in
     let here = read_is places at _ _ (omega (arith, c.requires.more, was.counted)) c.in-Kept.is in
-    passing_over (I.lists s) (I.stands s) c.args.hashes.now began (I.calls s) places at c.args.progress.chunks c.args.progress.bytes was c.in-Kept.run' c.in-Kept.is_external here
+    passing_over (I.lists s) (I.stands s) c.args.round c.args.hashes.now began (I.calls s) (I.acts s) places at c.args.progress.chunks c.args.progress.bytes was c.in-Kept.run' c.in-Kept.is_external here
 
 pub returns-in-Kept-clause-on : goal.returns-in-Kept-clause-on
 returns-in-Kept-clause-on g c =
@@ -40,5 +40,5 @@ returns-in-Kept-clause-on g c =
     let at = c.args.progress.at in
     let was = c.requires.passing.1 in
     let here = read_is places at _ _ (omega (arith, c.requires.more, was.counted)) c.in-Kept.is in
-    let found = kept_is_found (I.lists s) (I.stands s) c.args.hashes.now c.requires.passing.0 (I.calls s) places at c.args.progress.chunks c.args.progress.bytes was c.in-Kept.run' c.in-Kept.is_external here in
+    let found = kept_is_found (I.lists s) (I.stands s) c.args.round c.args.hashes.now c.requires.passing.0 (I.calls s) (I.acts s) places at c.args.progress.chunks c.args.progress.bytes was c.in-Kept.run' c.in-Kept.is_external here in
     omega (arith, found.lies.some)

@@ -1,5 +1,4 @@
-use Rattle.std.proofs.Common.{◌∙◌, ℕ, List, ap, subst}
-use Rattle.xet_io.specs.Disk.{file_at}
+use Rattle.std.proofs.Common.{◌∙◌, ℕ, List, subst}
 use Rattle.xet_shard_directory.proofs.Written.{wrote_value}
 use Rattle.xet_shard_directory.specs.Writing.{OthersStay}
 use Rattle.xet_shard_file.specs.Puts.{IsDone}
