@@ -1,5 +1,5 @@
 -- The result of a merge.
-use Rattle.std.proofs.Common.{◌≡◌, ◌∙◌, ◌||◌, ◌+◌, ◌<◌, ◌≤◌, ℕ, Bool, true, false, drop, get_or, length, List, [], ◌++◌, None, Option, Result, Ok, Err, IfErr, IfOk, inr, refl, sym, ap, subst}
+use Rattle.std.proofs.Common.{◌≡◌, ◌∙◌, ◌||◌, ◌+◌, ◌<◌, ◌≤◌, ℕ, Bool, true, false, drop, get_or, length, List, [], ◌++◌, None, Option, inr, refl, sym, ap, subst}
 use Rattle.std.proofs.lemmas.List.Elements.{All-from_recursion}
 use Rattle.std.proofs.lemmas.List.{drop_all}
 use Rattle.std.specs.List.{flat_map, list_any}
@@ -12,10 +12,10 @@ use Rattle.xet_shard_directory.specs.Directories.{IsUnloaded}
 use Rattle.xet_shard_directory.specs.declared.shard_file.MDBShardFile.{MDBShardFile}
 use Rattle.xet_shard_format.specs.theorems.Steps.{left}
 use Rattle.xet_shard_merge.specs.Groups.{Group, Groups, Offered}
-use Rattle.xet_shard_merge.specs.Merging.{AddsResults, AreResults, IsDue, IsUnmerged, KeptOrMerged, Merges, Offers, WritesOnly, obsolete_of, target_of}
+use Rattle.xet_shard_merge.specs.Merging.{AddsResults, AreResults, IsUnmerged, KeptOrMerged, Merges, Offers, obsolete_of, target_of}
 use Rattle.xet_shard_merge.specs.declared.merge.ShardMergeResult.{ShardMergeResult}
 use Rattle.xet_shard_merge.specs.declared.progress.Progress.{Progress}
-use Rattle.xet_shard_merge.specs.internal.Keeping.{IsOneDue, Preserves}
+use Rattle.xet_shard_merge.specs.internal.Keeping.{IsOneDue}
 use Rattle.xet_shard_merge.specs.internal.Order.{MergedAll}
 use Rattle.xet_shard_merge.specs.internal.Progressing.{Ended, IsIntactIfOpen, IsUnmergedOf, Went, WritesOfAll}
 use Rattle.xet_shard_merge.proofs.Existing.{groups_exist}

@@ -1,11 +1,11 @@
 -- Shards as they are offered, and why one of them is not taken.
-use Rattle.std.proofs.Common.{◌≡◌, ◌∙◌, ℕ, zero, suc, ◌<◌, ◌+◌, Bool, false, List, [], ◌∷◌, length, get_or, map, None, OnOk, Option, Some, option_map, IfErr, Result, Ok, Err, refl, sym, ap, subst, arith}
+use Rattle.std.proofs.Common.{◌≡◌, ◌∙◌, ℕ, suc, Bool, List, [], ◌∷◌, length, None, OnOk, Option, Some, option_map, Result, Ok, Err, refl, sym, ap, arith}
 use Rattle.std.specs.List.{Any}
 use Rattle.xet_codec.specs.Stops.{HasDiskReason}
 use Rattle.xet_hash.specs.declared.error.Place.TheVariants as place
 use Rattle.xet_hash.specs.declared.error.StoreError.{StoreError}
 use Rattle.xet_hash.specs.declared.error.StoreError.TheVariants as error
-use Rattle.xet_io.specs.Disk.{File, Files, bytes_at, file_at}
+use Rattle.xet_io.specs.Disk.{File, Files, file_at}
 use Rattle.xet_shard.specs.Union.{ShardRecords, records_in}
 use Rattle.xet_shard_directory.specs.declared.shard_file.MDBShardFile.{MDBShardFile}
 use Rattle.xet_shard_merge.specs.Groups.{Offered}

@@ -1,10 +1,10 @@
 -- Shards that are merged one after the other: how the groups and their results grow.
-use Rattle.std.proofs.Common.{◌≡◌, ◌≢◌, ◌∙◌, ◌⊎◌, ℕ, OnOk, Result, Ok, Err, zero, suc, ◌<◌, ◌+◌, Bool, true, false, List, [], ◌∷◌, ◌++◌, length, get_or, None, Option, Some, is_some, inl, inr, refl, sym, ap, subst, append_assoc, append-nil, arith}
+use Rattle.std.proofs.Common.{◌≡◌, ◌∙◌, ℕ, OnOk, Result, Ok, Err, zero, suc, Bool, true, false, List, [], ◌∷◌, ◌++◌, get_or, None, Option, Some, is_some, inl, inr, refl, sym, ap, subst, append_assoc, append-nil, arith}
 use Rattle.std.proofs.lemmas.Grind.{flat_map-append}
 use Rattle.std.proofs.lemmas.List.{get_or_append_left, length-append}
 use Rattle.std.proofs.lemmas.List.Elements.{All-append, All-cons, All-nil}
 use Rattle.std.proofs.lemmas.List.Quantifiers.{Any-push}
-use Rattle.std.specs.List.{All, AllByRecursion, Any, flat_map}
+use Rattle.std.specs.List.{All, Any, flat_map}
 use Rattle.std.specs.Prelude.{IsOk}
 use Rattle.xet_codec.specs.Parsing.{◌>>=◌}
 use Rattle.xet_hash.specs.Merkle.{chunk_hash}

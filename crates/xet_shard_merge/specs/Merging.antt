@@ -1,5 +1,5 @@
 -- What merging the shards of a directory leaves.
-use Rattle.std.specs.Prelude.{◌≡◌, ◌≢◌, ◌⊎◌, ◌^◌, ◌<◌, ℕ, nat_eq, Bool, true, false, not, List, [], ◌∷◌, ◌++◌, filter, flat_map, length, map, min, take, Option, Some, None, Result, Ok, Err, IsOk, IsSome, All, AllPairs, Any, option_map}
+use Rattle.std.specs.Prelude.{◌≡◌, ◌≢◌, ◌⊎◌, ◌^◌, ◌<◌, ℕ, nat_eq, Bool, true, false, not, List, [], ◌∷◌, filter, flat_map, length, map, min, take, Some, None, Ok, Err, IsOk, IsSome, All, AllPairs, Any, option_map}
 use Rattle.std.specs.Cmp.Lexicographic.{pointwise}
 use Rattle.std.specs.FinMap.{get}
 use Rattle.std.specs.List.{list_any}

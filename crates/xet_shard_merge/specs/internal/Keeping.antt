@@ -1,5 +1,5 @@
 -- What calls that write results leave of the other files.
-use Rattle.std.specs.Prelude.{◌≡◌, ◌≢◌, ◌⊎◌, ℕ, length, Any, Bool, true, false, List, Option, Some, None, Result, Ok, Err, option_map}
+use Rattle.std.specs.Prelude.{◌≡◌, ◌≢◌, ℕ, Any, Bool, true, false, List, Option, Some, None, Result, Ok, Err, option_map}
 use Rattle.std.specs.FinMap.{get}
 use Rattle.xet_hash.specs.declared.error.Place.TheVariants.{Disk}
 use Rattle.xet_hash.specs.declared.error.StoreError.{StoreError}
