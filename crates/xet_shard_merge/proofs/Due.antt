@@ -5,7 +5,7 @@ use Rattle.xet_hash.specs.declared.error.StoreError.{StoreError}
 use Rattle.xet_io.specs.Disk.{Files}
 use Rattle.xet_shard.specs.Union.{ShardRecords}
 use Rattle.xet_shard_directory.specs.declared.shard_file.MDBShardFile.{MDBShardFile}
-use Rattle.xet_shard_merge.specs.Groups.{Begins, Ends, Group, Groups, Offered, if_open}
+use Rattle.xet_shard_merge.specs.Groups.{Begins, Ends, Group, Offered, if_open}
 use Rattle.xet_shard_merge.specs.Merging.{AddsResults, IsDue, IsResult, WritesOnly}
 use Rattle.xet_shard_merge.specs.declared.progress.Progress.{Progress}
 use Rattle.xet_shard_merge.specs.internal.Keeping.{IsIntact, IsOneDue, WritesIfOpen}

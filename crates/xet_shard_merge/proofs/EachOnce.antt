@@ -14,7 +14,7 @@ use Rattle.xet_hash.specs.Hash.{sentinel}
 use Rattle.xet_hash.specs.Order.{flipped, hash_cmp}
 use Rattle.xet_hash.specs.theorems.Ties.{hash_tied}
 use Rattle.xet_shard.specs.Held.{DifferBy, Held, held, held_size, nothing, record_of, with_last}
-use Rattle.xet_shard.specs.Union.{Agree, ShardRecords}
+use Rattle.xet_shard.specs.Union.{ShardRecords}
 use Rattle.xet_shard_directory.specs.declared.shard_file.MDBShardFile.{MDBShardFile}
 use Rattle.xet_shard_format.specs.RecordSizes.{file_record_size, xorb_record_size}
 use Rattle.xet_shard_format.specs.Records.{AreRecords, IsFile, chunk_row, ext_rows, file_record_hash, file_rows, file_section, section, segment_row, verification_row, xorb_record_hash, xorb_rows, xorb_section}

@@ -1,5 +1,6 @@
 pub mod Due
 pub mod EachOnce
+pub mod Existing
 pub mod Loading
 pub mod Merged
 pub mod Offering

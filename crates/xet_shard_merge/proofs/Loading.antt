@@ -1,13 +1,13 @@
 -- The shards that are offered: what is loaded, in the order in which it is merged.
-use Rattle.std.proofs.Common.{◌≡◌, ◌≢◌, ◌∙◌, ◌⊎◌, ℕ, ◌<◌, Bool, true, false, cond, codes, IsTrue, List, [], ◌∷◌, ◌++◌, filter, get_or, map, None, Option, Some, option_map, Result, Ok, Err, inl, inr, refl, sym, ap, subst, append_assoc, arith}
+use Rattle.std.proofs.Common.{◌≡◌, ◌≢◌, ◌∙◌, ℕ, ◌<◌, Bool, true, false, cond, codes, IsTrue, List, [], ◌∷◌, ◌++◌, filter, get_or, map, None, Option, Some, option_map, Result, Ok, Err, inl, inr, refl, sym, ap, subst, append_assoc, arith}
 use Rattle.std.proofs.lemmas.Cmp.{by_ranked, nat_cmp_total, nat_list_cmp_total, on_total, ranked, then_total, tied_itself}
 use Rattle.std.proofs.lemmas.List.{same_from_push}
-use Rattle.std.proofs.lemmas.List.Elements.{All-from_recursion, All-map, recursion_from_All}
+use Rattle.std.proofs.lemmas.List.Elements.{All-map}
 use Rattle.std.proofs.lemmas.List.Sorted.{All-permutation}
 use Rattle.std.specs.Cmp.{IsTotalOrder}
 use Rattle.std.specs.Cmp.Lexicographic.{slice_cmp}
 use Rattle.std.specs.FinMap.{nat_cmp-IsAntisymmetric, slice_cmp-IsAntisymmetric}
-use Rattle.std.specs.List.{All, AllByRecursion, AllPairs}
+use Rattle.std.specs.List.{All, AllPairs}
 use Rattle.std.specs.List.Sorted.{IsPermutation, IsSorted}
 use Rattle.std.specs.Ordering.{is_lt, nat_cmp, ordering_then}
 use Rattle.std.specs.declared.cmp.Ordering.{Ordering}
@@ -26,7 +26,6 @@ use Rattle.xet_shard_directory.specs.declared.shard_file.MDBShardFile.{MDBShardF
 use Rattle.xet_shard_file.specs.Names.{temp_name}
 use Rattle.xet_shard_file.specs.theorems.Paths.{shard_no_temp}
 use Rattle.xet_shard_format.specs.Names.{shard_name}
-use Rattle.xet_shard_merge.specs.Groups.{Offered}
 use Rattle.xet_shard_merge.specs.Merging.{IsEarlier, IsNoTemp, IsOfFile, Offers}
 use Rattle.xet_shard_merge.specs.internal.Keeping.{IsIntact}
 use Rattle.xet_shard_merge.specs.internal.Order.{merge_order}

@@ -1,5 +1,5 @@
 -- The result of a merge.
-use Rattle.std.proofs.Common.{◌≡◌, ◌∙◌, ◌||◌, ◌+◌, ◌<◌, ◌≤◌, ℕ, Bool, true, false, drop, get_or, length, List, [], ◌++◌, None, Option, Result, Ok, Err, IfErr, IfOk, inr, refl, sym, ap, subst}
+use Rattle.std.proofs.Common.{◌≡◌, ◌∙◌, ◌||◌, ◌+◌, ◌<◌, ◌≤◌, ℕ, Bool, true, false, drop, get_or, length, List, [], ◌++◌, None, Option, inr, refl, sym, ap, subst}
 use Rattle.std.proofs.lemmas.List.Elements.{All-from_recursion}
 use Rattle.std.proofs.lemmas.List.{drop_all}
 use Rattle.std.specs.List.{flat_map, list_any}
@@ -12,12 +12,13 @@ use Rattle.xet_shard_directory.specs.Directories.{IsUnloaded}
 use Rattle.xet_shard_directory.specs.declared.shard_file.MDBShardFile.{MDBShardFile}
 use Rattle.xet_shard_format.specs.theorems.Steps.{left}
 use Rattle.xet_shard_merge.specs.Groups.{Group, Groups, Offered}
-use Rattle.xet_shard_merge.specs.Merging.{AddsResults, AreResults, IsDue, IsUnmerged, KeptOrMerged, Merges, Offers, WritesOnly, obsolete_of, target_of}
+use Rattle.xet_shard_merge.specs.Merging.{AddsResults, AreResults, IsUnmerged, KeptOrMerged, Merges, Offers, obsolete_of, target_of}
 use Rattle.xet_shard_merge.specs.declared.merge.ShardMergeResult.{ShardMergeResult}
 use Rattle.xet_shard_merge.specs.declared.progress.Progress.{Progress}
-use Rattle.xet_shard_merge.specs.internal.Keeping.{IsOneDue, Preserves}
+use Rattle.xet_shard_merge.specs.internal.Keeping.{IsOneDue}
 use Rattle.xet_shard_merge.specs.internal.Order.{MergedAll}
 use Rattle.xet_shard_merge.specs.internal.Progressing.{Ended, IsIntactIfOpen, IsUnmergedOf, Went, WritesOfAll}
+use Rattle.xet_shard_merge.proofs.Existing.{groups_exist}
 use Rattle.xet_shard_merge.proofs.Placing.{writes_nothing}
 use Rattle.xet_shard_merge.proofs.Stepping.{adds_nothing, preserves_itself}
 
@@ -68,7 +69,15 @@ merges old new source folder max_size limit skip now offered r same offers m = r
 pub may_merge : (old new : Files) (source folder : List ℕ) (max_size limit now : ℕ) (offered : List Offered) → limit ≡ target_of max_size → Offers old source now offered
     → WritesOfAll old new folder limit offered → KeptOrMerged old new source folder max_size now
 may_merge old new source folder max_size limit now offered same offers writes =
-    inr (record { offered = offered; offers = offers; writes = subst (λ (n : ℕ). WritesOfAll old new folder n offered) same writes })
+    let all = groups_exist limit None offered in
+    inr (record {
+      offered = offered;
+      offers = offers;
+      groups = all.0;
+      skipped = all.1;
+      grouped = subst (λ (n : ℕ). Groups n None offered all.0 all.1) same all.2;
+      writes = writes all.0 all.1 all.2;
+    })
 
 pub unmerged : (files : Files) (source : List ℕ) (skip : Bool) (now : ℕ) (offered : List Offered) → Offers files source now offered → (e : StoreError) → IsUnmergedOf skip offered e → IsUnmerged files source skip now e
 unmerged files source skip now offered offers (error.Io place.Disk) h = tt

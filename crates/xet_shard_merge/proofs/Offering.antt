@@ -1,17 +1,18 @@
 -- Shards as they are offered, and why one of them is not taken.
-use Rattle.std.proofs.Common.{◌≡◌, ◌∙◌, ℕ, zero, suc, ◌<◌, ◌+◌, Bool, false, List, [], ◌∷◌, length, get_or, map, None, OnOk, Option, Some, option_map, IfErr, Result, Ok, Err, refl, sym, ap, subst, arith}
+use Rattle.std.proofs.Common.{◌≡◌, ◌∙◌, ℕ, suc, Bool, List, [], ◌∷◌, length, None, OnOk, Option, Some, option_map, Result, Ok, Err, refl, sym, ap, arith}
 use Rattle.std.specs.List.{Any}
 use Rattle.xet_codec.specs.Stops.{HasDiskReason}
 use Rattle.xet_hash.specs.declared.error.Place.TheVariants as place
 use Rattle.xet_hash.specs.declared.error.StoreError.{StoreError}
 use Rattle.xet_hash.specs.declared.error.StoreError.TheVariants as error
-use Rattle.xet_io.specs.Disk.{File, Files, bytes_at, file_at}
+use Rattle.xet_io.specs.Disk.{File, Files, file_at}
 use Rattle.xet_shard.specs.Union.{ShardRecords, records_in}
 use Rattle.xet_shard_directory.specs.declared.shard_file.MDBShardFile.{MDBShardFile}
 use Rattle.xet_shard_merge.specs.Groups.{Offered}
 use Rattle.xet_shard_merge.specs.declared.progress.Progress.{Progress}
 use Rattle.xet_shard_merge.specs.internal.Keeping.{IsIntact, IsUnreadable, Preserves}
 use Rattle.xet_shard_merge.specs.internal.Progressing.{Closes, Ended, IsUnmergedOf, Went, offer, offered_in, offered_of}
+use Rattle.xet_shard_merge.proofs.Preserved.{same_bytes}
 use Rattle.xet_shard_merge.proofs.Stepping.{went_all}
 
 file_in : (found : Option File) (b : List ℕ) → option_map (λ (f : File). f.bytes) found ≡ Some b → (f : File) × (found ≡ Some f) × (f.bytes ≡ b)
@@ -22,7 +23,7 @@ file_in (Some f) b is = let same : f.bytes ≡ b = cc is in (f, refl, same)
 
 module _ (start now : Files) (s : MDBShardFile) (is : IsIntact start s) (keeps : Preserves start now) where
   pub file_now : (f : File) × (file_at now s.path ≡ Some f) × (f.bytes ≡ is.bytes)
-  file_now = file_in (file_at now s.path) is.bytes (keeps.bytes s.path is.bytes is.name is.there)
+  file_now = file_in (file_at now s.path) is.bytes (same_bytes start now keeps.files s.path is.bytes is.name is.there)
 
   as_there : offered_of start s ≡ offered_in s (Some file_now.0.bytes)
   as_there = ap (offered_in s) (is.there ∙ ap (λ (b : List ℕ). Some b) (sym file_now.2))

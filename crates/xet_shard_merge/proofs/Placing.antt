@@ -1,20 +1,19 @@
 -- Which names the results of a merge are written under.
-use Rattle.std.proofs.Common.{◌≡◌, ◌≢◌, ◌∙◌, ◌⊎◌, ℕ, ◌<◌, Bool, true, false, List, [], ◌∷◌, ◌++◌, length, get_or, nat_eq, None, Option, Some, option_map, Result, Ok, Err, IfOk, OnErr, inl, inr, refl, sym, ap, subst, arith}
+use Rattle.std.proofs.Common.{◌≡◌, ◌≢◌, ◌∙◌, ◌⊎◌, ℕ, Bool, true, List, [], ◌∷◌, ◌++◌, Option, Some, option_map, Result, IfOk, OnErr, inl, inr, refl, sym, ap, subst, arith}
 use Rattle.std.proofs.lemmas.List.{get_or_append_left, length-append}
 use Rattle.std.proofs.lemmas.List.Quantifiers.{Any-push}
 use Rattle.std.specs.FinMap.{get}
-use Rattle.std.specs.List.{All, Any}
+use Rattle.std.specs.List.{All}
 use Rattle.xet_hash.specs.declared.error.StoreError.{StoreError}
 use Rattle.xet_io.specs.Disk.{Entry, Files, bytes_at, file_of}
-use Rattle.xet_shard_directory.specs.Writing.{KeptOrWrote, OthersStay, Wrote, path_of}
+use Rattle.xet_shard_directory.specs.Writing.{AddsShard, MayAddShard, OthersStay, path_of}
 use Rattle.xet_shard_directory.specs.declared.shard_file.MDBShardFile.{MDBShardFile}
 use Rattle.xet_shard_file.specs.Names.{temp_name}
-use Rattle.xet_shard_file.specs.Puts.{IsDone, IsKeptOrDone}
 use Rattle.xet_shard_merge.specs.Groups.{Group}
 use Rattle.xet_shard_merge.specs.Merging.{IsDue, IsPlaced, WritesOnly}
 use Rattle.xet_shard_merge.specs.internal.Grouping.{IsOnly}
 use Rattle.xet_shard_merge.specs.internal.Keeping.{IsCopyDue, IsIntact, IsOneDue, IsOnlyDue, Preserves}
-use Rattle.xet_shard_merge.proofs.Preserved.{at_path}
+use Rattle.xet_shard_merge.proofs.Preserved.{IsHere, at_path, is_here, others_stay, same_bytes}
 
 -- nothing was written
 pub writes_nothing : (old new : Files) (folder : List ℕ) (Due : List ℕ → Type 0) → new ≡ old → WritesOnly old new folder Due
@@ -54,28 +53,23 @@ module _ (old new : Files) (path bytes : List ℕ) (others : OthersStay old new 
   abbrev Placed : List ℕ → Type 0
   Placed name = ((name ≡ path) × (bytes_at new name ≡ Some bytes) × (option_map (λ e. e.durable) (get new name) ≡ Some true)) ⊎ (name ≡ temp_name path)
 
-  placed : IsKeptOrDone old new path bytes → (name : List ℕ) → (get new name ≡ get old name) ⊎ Placed name
-  placed kept name = by kept (at_path name path) (at_path name (temp_name path))
+  placed : IsHere old new path bytes → (name : List ℕ) → (get new name ≡ get old name) ⊎ Placed name
+  placed here name = by here (at_path name path) (at_path name (temp_name path))
     where
-      by : IsKeptOrDone old new path bytes → (name ≡ path) ⊎ (name ≢ path) → (name ≡ temp_name path) ⊎ (name ≢ temp_name path) → (get new name ≡ get old name) ⊎ Placed name
+      by : IsHere old new path bytes → (name ≡ path) ⊎ (name ≢ path) → (name ≡ temp_name path) ⊎ (name ≢ temp_name path) → (get new name ≡ get old name) ⊎ Placed name
       by (inl stays) (inl same) t = inl (subst (λ (n : List ℕ). get new n ≡ get old n) (sym same) stays)
-      by (inr done) (inl same) t =
-          inr (inl (same, subst (λ (n : List ℕ). bytes_at new n ≡ Some bytes) (sym same) done.there, subst (λ (n : List ℕ). option_map (λ e. e.durable) (get new n) ≡ Some true) (sym same) done.durable))
-      by k (inr other) (inl temp) = inr (inr temp)
-      by k (inr other) (inr also) = inl (others name other also)
+      by (inr (there, durable)) (inl same) t =
+          inr (inl (same, subst (λ (n : List ℕ). bytes_at new n ≡ Some bytes) (sym same) there, subst (λ (n : List ℕ). option_map (λ e. e.durable) (get new n) ≡ Some true) (sym same) durable))
+      by h (inr other) (inl temp) = inr (inr temp)
+      by h (inr other) (inr also) = inl (others name other also)
 
-pub wrote_writes : (old new : Files) (folder bytes : List ℕ) (result : Result MDBShardFile StoreError) → IfOk result (Wrote old new folder bytes) → OnErr result (KeptOrWrote old new folder bytes)
-    → WritesOnly old new folder (IsOnlyDue bytes)
-wrote_writes old new folder bytes result wrote kept name = by (one result wrote kept)
-  where
-    one : (r : Result MDBShardFile StoreError) → IfOk r (Wrote old new folder bytes) → OnErr r (KeptOrWrote old new folder bytes) → (get new name ≡ get old name) ⊎ IsPlaced new folder bytes name
-    one (Ok s) w k =
-        placed old new (path_of folder bytes) bytes (subst (OthersStay old new) w.path w.others) (inr (subst (λ (p : List ℕ). IsDone new p bytes) w.path w.done)) name
-    one (Err e) w k = placed old new (path_of folder bytes) bytes k.others k.file name
-
-    by : (get new name ≡ get old name) ⊎ IsPlaced new folder bytes name → (get new name ≡ get old name) ⊎ ((b : List ℕ) × IsOnlyDue bytes b × IsPlaced new folder b name)
-    by (inl same) = inl same
-    by (inr at) = inr (bytes, refl, at)
+module _ (old new : Files) (folder bytes : List ℕ) where
+  pub added_writes : (result : Result MDBShardFile StoreError) → IfOk result (AddsShard old new folder bytes) → OnErr result (MayAddShard old new folder bytes) → WritesOnly old new folder (IsOnlyDue bytes)
+  added_writes result added may name = by (placed old new (path_of folder bytes) bytes (others_stay old new folder bytes result added may) (is_here old new folder bytes result added may) name)
+    where
+      by : (get new name ≡ get old name) ⊎ IsPlaced new folder bytes name → (get new name ≡ get old name) ⊎ ((b : List ℕ) × IsOnlyDue bytes b × IsPlaced new folder b name)
+      by (inl same) = inl same
+      by (inr at) = inr (bytes, refl, at)
 
 -- ---- groups
 
@@ -86,7 +80,7 @@ copy_is_due files folder g s only bytes due = subst (λ (taken : List MDBShardFi
 module _ (start now : Files) (folder : List ℕ) (keeps : Preserves start now) where
   copy_due_at_start : (s : MDBShardFile) (bytes : List ℕ) → IsIntact start s → IsCopyDue now folder s bytes → IsCopyDue start folder s bytes
   copy_due_at_start s bytes is due =
-      let later : bytes_at now s.path ≡ Some is.bytes = keeps.bytes s.path is.bytes is.name is.there in
+      let later : bytes_at now s.path ≡ Some is.bytes = same_bytes start now keeps.files s.path is.bytes is.name is.there in
       let found : bytes_at now s.path ≡ Some bytes = due.1 in
       let same : is.bytes ≡ bytes = cc in
       (due.0, is.there ∙ ap (λ (b : List ℕ). Some b) same)

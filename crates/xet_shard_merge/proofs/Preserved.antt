@@ -3,13 +3,14 @@ use Rattle.std.proofs.Common.{◌≡◌, ◌≢◌, ◌∙◌, ◌⊎◌, ℕ, �
 use Rattle.std.proofs.lemmas.Bool.{true≢false}
 use Rattle.std.specs.Cmp.Lexicographic.{bytes_decides, pointwise}
 use Rattle.std.specs.FinMap.{get}
+use Rattle.xet_hash.specs.Merkle.{chunk_hash}
 use Rattle.xet_hash.specs.declared.error.StoreError.{StoreError}
-use Rattle.xet_io.specs.Disk.{Entry, Files, bytes_at, file_at, file_of}
-use Rattle.xet_shard_directory.specs.Writing.{KeptOrWrote, OthersStay, Wrote, path_of}
+use Rattle.xet_io.specs.Disk.{Entry, File, Files, bytes_at, file_at, file_of}
+use Rattle.xet_shard_directory.specs.Writing.{AddsShard, KeepsFileAt, MayAddShard, OthersStay, path_of}
 use Rattle.xet_shard_directory.specs.declared.shard_file.MDBShardFile.{MDBShardFile}
-use Rattle.xet_shard_file.specs.Puts.{IsDone, IsKeptOrDone}
-use Rattle.xet_shard_merge.specs.Merging.{AddsResults, IsNoTemp}
-use Rattle.xet_shard_merge.specs.internal.Keeping.{IsFree, Preserves, durable_at}
+use Rattle.xet_shard_directory.specs.theorems.Syncing.{added_durable, added_others, added_path, added_there, added_value, may_here, may_others}
+use Rattle.xet_shard_merge.specs.Merging.{AddsResults, IsNoTemp, KeepsFiles, Stands}
+use Rattle.xet_shard_merge.specs.internal.Keeping.{Preserves, durable_at}
 
 pub at_path : (name path : List ℕ) → (name ≡ path) ⊎ (name ≢ path)
 at_path name path = by (pointwise nat_eq name path) refl
@@ -18,11 +19,12 @@ at_path name path = by (pointwise nat_eq name path) refl
     by true e = inl ((bytes_decides name path).0 e)
     by false e = inr (λ same. true≢false (sym ((bytes_decides name path).1 same) ∙ e))
 
-abbrev bytes_in : Option Entry → Option (List ℕ)
-bytes_in e = option_map (λ f. f.bytes) (file_of e)
-
 abbrev durable_in : Option Entry → Option Bool
 durable_in e = option_map (λ x. x.durable) e
+
+-- What there is at a path is as it was, or it is these bytes, and they are durable.
+abbrev pub IsHere : Files → Files → List ℕ → List ℕ → Type 0
+IsHere old new path bytes = (get new path ≡ get old path) ⊎ ((bytes_at new path ≡ Some bytes) × (durable_at new path ≡ Some true))
 
 module _ (old new : Files) (path : List ℕ) (others : OthersStay old new path) where
   pub adds_one : (s : MDBShardFile) → s.path ≡ path → AddsResults old new (s ∷ [])
@@ -34,32 +36,76 @@ module _ (old new : Files) (path : List ℕ) (others : OthersStay old new path) 
           let gone : file_at new name ≡ None = ap file_of (others name ne (plain path)) ∙ absent in
           absurd (true≢false (sym there ∙ ap is_some gone))
 
-  module _ (bytes : List ℕ) (free : IsFree (bytes_at old path) bytes) (kept : IsKeptOrDone old new path bytes) where
-    kept_bytes : (name b : List ℕ) → IsNoTemp name → bytes_at old name ≡ Some b → (name ≡ path) ⊎ (name ≢ path) → IsKeptOrDone old new path bytes → bytes_at new name ≡ Some b
-    kept_bytes name b plain there (inl same) (inl stays) =
-        subst (λ (n : List ℕ). bytes_at new n ≡ Some b) (sym same) (ap bytes_in stays ∙ subst (λ (n : List ℕ). bytes_at old n ≡ Some b) same there)
-    kept_bytes name b plain there (inl same) (inr done) =
-        let is : b ≡ bytes = free b (subst (λ (n : List ℕ). bytes_at old n ≡ Some b) same there) in
-        subst (λ (n : List ℕ). bytes_at new n ≡ Some b) (sym same) (done.there ∙ ap (λ (x : List ℕ). Some x) (sym is))
-    kept_bytes name b plain there (inr ne) k = ap bytes_in (others name ne (plain path)) ∙ there
+  module _ (bytes : List ℕ) (same_file : KeepsFileAt old new path) (here : IsHere old new path bytes) where
+    kept_file : (name : List ℕ) (f : File) → IsNoTemp name → file_at old name ≡ Some f → (name ≡ path) ⊎ (name ≢ path) → file_at new name ≡ Some f
+    kept_file name f plain there (inl same) =
+        subst (λ (n : List ℕ). file_at new n ≡ Some f) (sym same) (same_file f (subst (λ (n : List ℕ). file_at old n ≡ Some f) same there))
+    kept_file name f plain there (inr ne) = ap file_of (others name ne (plain path)) ∙ there
 
-    kept_durable : (name : List ℕ) → IsNoTemp name → durable_at old name ≡ Some true → (name ≡ path) ⊎ (name ≢ path) → IsKeptOrDone old new path bytes → durable_at new name ≡ Some true
+    kept_durable : (name : List ℕ) → IsNoTemp name → durable_at old name ≡ Some true → (name ≡ path) ⊎ (name ≢ path) → IsHere old new path bytes → durable_at new name ≡ Some true
     kept_durable name plain was (inl same) (inl stays) =
         subst (λ (n : List ℕ). durable_at new n ≡ Some true) (sym same) (ap durable_in stays ∙ subst (λ (n : List ℕ). durable_at old n ≡ Some true) same was)
-    kept_durable name plain was (inl same) (inr done) = subst (λ (n : List ℕ). durable_at new n ≡ Some true) (sym same) done.durable
-    kept_durable name plain was (inr ne) k = ap durable_in (others name ne (plain path)) ∙ was
+    kept_durable name plain was (inl same) (inr (there, durable)) = subst (λ (n : List ℕ). durable_at new n ≡ Some true) (sym same) durable
+    kept_durable name plain was (inr ne) h = ap durable_in (others name ne (plain path)) ∙ was
 
     pub preserved : Preserves old new
     preserved = record {
-      bytes = λ name b plain there. kept_bytes name b plain there (at_path name path) kept;
-      durable = λ name b plain there was. kept_durable name plain was (at_path name path) kept;
+      files = λ name f plain there. kept_file name f plain there (at_path name path);
+      durable = λ name plain was. kept_durable name plain was (at_path name path) here;
     }
 
-pub wrote_adds : (old new : Files) (folder bytes : List ℕ) (result : Result MDBShardFile StoreError) → IfOk result (Wrote old new folder bytes) → IfOk result (λ s. AddsResults old new (s ∷ []))
-wrote_adds old new folder bytes (Ok s) w = adds_one old new s.path w.others s refl
-wrote_adds old new folder bytes (Err e) w = tt
+module _ (old new : Files) (keeps : KeepsFiles old new) (name bytes : List ℕ) (plain : IsNoTemp name) (there : bytes_at old name ≡ Some bytes) where
+  -- a file that was there is the same
+  pub still_there : file_at new name ≡ file_at old name
+  still_there = by (file_at old name) refl there
+    where
+      by : (found : Option File) → file_at old name ≡ found → option_map (λ f. f.bytes) found ≡ Some bytes → file_at new name ≡ file_at old name
+      by None is has = absurd (cc has)
+      by (Some f) is has = keeps name f plain is ∙ sym is
 
-pub wrote_keeps : (old new : Files) (folder bytes : List ℕ) (result : Result MDBShardFile StoreError) → IfOk result (Wrote old new folder bytes) → OnErr result (KeptOrWrote old new folder bytes)
-    → IsFree (bytes_at old (path_of folder bytes)) bytes → Preserves old new
-wrote_keeps old new folder bytes (Ok s) w k free = preserved old new s.path w.others bytes (subst (λ (p : List ℕ). IsFree (bytes_at old p) bytes) (sym w.path) free) (inr w.done)
-wrote_keeps old new folder bytes (Err e) w k free = preserved old new (path_of folder bytes) k.others bytes free k.file
+  pub same_bytes : bytes_at new name ≡ Some bytes
+  same_bytes = ap (option_map (λ (f : File). f.bytes)) still_there ∙ there
+
+-- ---- the call that adds a shard file
+
+module _ (old new : Files) (folder bytes : List ℕ) where
+  at_new : (s : MDBShardFile) → AddsShard old new folder bytes s → IsHere old new (path_of folder bytes) bytes
+  at_new s added =
+      let at : s.path ≡ path_of folder bytes = added_path old new folder bytes s added in
+      inr (
+        subst (λ (p : List ℕ). bytes_at new p ≡ Some bytes) at (added_there old new folder bytes s added),
+        subst (λ (p : List ℕ). durable_at new p ≡ Some true) at (added_durable old new folder bytes s added),
+      )
+
+  pub is_here : (result : Result MDBShardFile StoreError) → IfOk result (AddsShard old new folder bytes) → OnErr result (MayAddShard old new folder bytes) → IsHere old new (path_of folder bytes) bytes
+  is_here (Ok s) added may = at_new s added
+  is_here (Err e) added may = may_here old new folder bytes may
+
+  pub others_stay : (result : Result MDBShardFile StoreError) → IfOk result (AddsShard old new folder bytes) → OnErr result (MayAddShard old new folder bytes) → OthersStay old new (path_of folder bytes)
+  others_stay (Ok s) added may = subst (OthersStay old new) (added_path old new folder bytes s added) (added_others old new folder bytes s added)
+  others_stay (Err e) added may = may_others old new folder bytes may
+
+  new_hash : (s : MDBShardFile) → AddsShard old new folder bytes s → s.shard_hash ≡ chunk_hash bytes
+  new_hash s (inl wrote) = wrote.hash
+  new_hash s (inr stood) = stood.hash
+
+  new_stands : (s : MDBShardFile) → AddsShard old new folder bytes s → Stands new folder bytes s
+  new_stands s added = record {
+    hash = new_hash s added;
+    path = added_path old new folder bytes s added;
+    there = added_there old new folder bytes s added;
+    durable = added_durable old new folder bytes s added;
+    value = added_value old new folder bytes s added;
+  }
+
+  pub added_stands : (result : Result MDBShardFile StoreError) → IfOk result (AddsShard old new folder bytes) → IfOk result (Stands new folder bytes)
+  added_stands (Ok s) added = new_stands s added
+  added_stands (Err e) added = tt
+
+  pub added_results : (result : Result MDBShardFile StoreError) → IfOk result (AddsShard old new folder bytes) → IfOk result (λ s. AddsResults old new (s ∷ []))
+  added_results (Ok s) added = adds_one old new s.path (added_others old new folder bytes s added) s refl
+  added_results (Err e) added = tt
+
+  pub added_preserves : (result : Result MDBShardFile StoreError) → IfOk result (AddsShard old new folder bytes) → OnErr result (MayAddShard old new folder bytes)
+      → KeepsFileAt old new (path_of folder bytes) → Preserves old new
+  added_preserves result added may same = preserved old new (path_of folder bytes) (others_stay result added may) bytes same (is_here result added may)

@@ -1,15 +1,19 @@
 -- Shards that are merged one after the other: how the groups and their results grow.
-use Rattle.std.proofs.Common.{◌≡◌, ◌≢◌, ◌∙◌, ◌⊎◌, ℕ, OnOk, Result, Ok, Err, zero, suc, ◌<◌, ◌+◌, Bool, true, false, List, [], ◌∷◌, ◌++◌, length, get_or, None, Option, Some, is_some, inl, inr, refl, sym, ap, subst, append_assoc, append-nil, arith}
+use Rattle.std.proofs.Common.{◌≡◌, ◌∙◌, ℕ, OnOk, Result, Ok, Err, zero, suc, Bool, true, false, List, [], ◌∷◌, ◌++◌, get_or, None, Option, Some, is_some, inl, inr, refl, sym, ap, subst, append_assoc, append-nil, arith}
 use Rattle.std.proofs.lemmas.Grind.{flat_map-append}
 use Rattle.std.proofs.lemmas.List.{get_or_append_left, length-append}
 use Rattle.std.proofs.lemmas.List.Elements.{All-append, All-cons, All-nil}
 use Rattle.std.proofs.lemmas.List.Quantifiers.{Any-push}
-use Rattle.std.specs.List.{All, AllByRecursion, Any, flat_map}
+use Rattle.std.specs.List.{All, Any, flat_map}
 use Rattle.std.specs.Prelude.{IsOk}
+use Rattle.xet_codec.specs.Parsing.{◌>>=◌}
 use Rattle.xet_hash.specs.Merkle.{chunk_hash}
 use Rattle.xet_hash.specs.declared.error.StoreError.{StoreError}
 use Rattle.xet_io.specs.Disk.{File, Files, bytes_at, file_at}
+use Rattle.xet_shard.specs.Sections.{info_at}
 use Rattle.xet_shard.specs.Union.{ShardRecords}
+use Rattle.xet_shard_directory.specs.Answers.{in_file}
+use Rattle.xet_shard_directory.specs.Values.{loaded, shard_value}
 use Rattle.xet_shard_directory.specs.declared.shard_file.MDBShardFile.{MDBShardFile}
 use Rattle.xet_shard_file.specs.theorems.Paths.{shard_no_temp}
 use Rattle.xet_shard_merge.specs.Groups.{Begins, Ends, Group, Groups, IsSkipped, Joins, Offered, alone, if_open, joined}
@@ -18,21 +22,22 @@ use Rattle.xet_shard_merge.specs.declared.progress.Progress.{Progress}
 use Rattle.xet_shard_merge.specs.internal.Keeping.{IsIntact, Preserves}
 use Rattle.xet_shard_merge.specs.internal.Progressing.{Closes, ClosesGroup, ClosesIf, Ended, IsIntactIfOpen, IsJoined, NowOpen, NowOpenIs, NowSkipped, Went}
 use Rattle.xet_shard_merge.proofs.Placing.{writes_more}
+use Rattle.xet_shard_merge.proofs.Preserved.{same_bytes, still_there}
 use Rattle.xet_shard_merge.proofs.Unique.{enter_only, follow_only, skip_only, start_only}
 
 -- ---- files that are kept
 
 pub preserves_then : (a b c : Files) → Preserves a b → Preserves b c → Preserves a c
 preserves_then a b c first then = record {
-  bytes = λ name x plain there. then.bytes name x plain (first.bytes name x plain there);
-  durable = λ name x plain there was. then.durable name x plain (first.bytes name x plain there) (first.durable name x plain there was);
+  files = λ name f plain there. then.files name f plain (first.files name f plain there);
+  durable = λ name plain was. then.durable name plain (first.durable name plain was);
 }
 
 pub preserves_itself : (a : Files) → Preserves a a
-preserves_itself a = record { bytes = λ name x plain there. there; durable = λ name x plain there was. was }
+preserves_itself a = record { files = λ name f plain there. there; durable = λ name plain was. was }
 
 pub intact_later : (a b : Files) (s : MDBShardFile) → Preserves a b → IsIntact a s → IsIntact b s
-intact_later a b s keeps is = record { bytes = is.bytes; there = keeps.bytes s.path is.bytes is.name is.there; value = is.value; name = is.name }
+intact_later a b s keeps is = record { bytes = is.bytes; there = same_bytes a b keeps.files s.path is.bytes is.name is.there; value = is.value; name = is.name }
 
 pub adds_nothing : (a : Files) (rs : List MDBShardFile) → AddsResults a a rs
 adds_nothing a rs name plain absent there = let bad : ◌≡◌ {A = Bool} true false = sym there ∙ ap is_some absent in absurd (cc bad)
@@ -40,15 +45,18 @@ adds_nothing a rs name plain absent there = let bad : ◌≡◌ {A = Bool} true 
 -- ---- results
 
 module _ (now after : Files) (folder : List ℕ) (keeps : Preserves now after) where
+  value_in : (s : MDBShardFile) → file_at after s.path ≡ file_at now s.path → loaded now s.shard_hash s.path ≡ Ok s → loaded after s.shard_hash s.path ≡ Ok s
+  value_in s same value = ap (λ (found : Option File). in_file found (λ f. info_at f.bytes >>= λ shard. Ok (shard_value s.shard_hash s.path shard f.modified))) same ∙ value
+
   stands_kept : (bytes : List ℕ) (s : MDBShardFile) → Stands now folder bytes s → Stands after folder bytes s
   stands_kept bytes s st =
       let plain : IsNoTemp s.path = λ p e. shard_no_temp folder (chunk_hash bytes) p (sym st.path ∙ e) in
       record {
         hash = st.hash;
         path = st.path;
-        there = keeps.bytes s.path bytes plain st.there;
-        durable = keeps.durable s.path bytes plain st.there st.durable;
-        value = st.value;
+        there = same_bytes now after keeps.files s.path bytes plain st.there;
+        durable = keeps.durable s.path plain st.durable;
+        value = value_in s (still_there now after keeps.files s.path bytes plain st.there) st.value;
       }
 
   copy_kept : (start : Files) (s r : MDBShardFile) → IsCopy start now folder s r → IsCopy start after folder s r
@@ -83,7 +91,7 @@ module _ (start now after : Files) (folder : List ℕ) (keeps : Preserves start 
   copy_of_start : (s r : MDBShardFile) → IsIntact start s → IsCopy now after folder s r → IsCopy start after folder s r
   copy_of_start s r is (inl here) = inl here
   copy_of_start s r is (inr (other, bytes, there, st)) =
-      let later : bytes_at now s.path ≡ Some is.bytes = keeps.bytes s.path is.bytes is.name is.there in
+      let later : bytes_at now s.path ≡ Some is.bytes = same_bytes start now keeps.files s.path is.bytes is.name is.there in
       let same : is.bytes ≡ bytes = cc in
       inr (other, bytes, is.there ∙ ap (λ (b : List ℕ). Some b) same, st)
 
@@ -115,23 +123,23 @@ module _ (start now after : Files) (folder : List ℕ) (keeps : Preserves start 
 -- ---- the rules
 
 module _ (limit : ℕ) (cur : Option Group) (o : Offered) (os : List Offered) (gs : List Group) (ss : List MDBShardFile) where
-  skip_step : IsSkipped limit cur o → Groups limit cur os gs ss → Groups limit cur (o ∷ os) gs (o.file ∷ ss)
+  pub skip_step : IsSkipped limit cur o → Groups limit cur os gs ss → Groups limit cur (o ∷ os) gs (o.file ∷ ss)
   unfolding Groups
   skip_step is rest = inl (is, (ss, refl, rest))
 
-  start_step : (records : ShardRecords) → Begins cur o records → Groups limit (Some (alone o.file o.length records)) os gs ss → Groups limit cur (o ∷ os) gs ss
+  pub start_step : (records : ShardRecords) → Begins cur o records → Groups limit (Some (alone o.file o.length records)) os gs ss → Groups limit cur (o ∷ os) gs ss
   unfolding Groups
   start_step records is rest = inr (inl (records, is, rest))
 
-  follow_step : (g : Group) (records : ShardRecords) → Ends limit cur o g records → Groups limit (Some (alone o.file o.length records)) os gs ss → Groups limit cur (o ∷ os) (g ∷ gs) ss
+  pub follow_step : (g : Group) (records : ShardRecords) → Ends limit cur o g records → Groups limit (Some (alone o.file o.length records)) os gs ss → Groups limit cur (o ∷ os) (g ∷ gs) ss
   unfolding Groups
   follow_step g records is rest = inr (inr (inl (g, records, gs, is, refl, rest)))
 
-  enter_step : (g : Group) (records : ShardRecords) → Joins limit cur o g records → Groups limit (Some (joined g o.file records)) os gs ss → Groups limit cur (o ∷ os) gs ss
+  pub enter_step : (g : Group) (records : ShardRecords) → Joins limit cur o g records → Groups limit (Some (joined g o.file records)) os gs ss → Groups limit cur (o ∷ os) gs ss
   unfolding Groups
   enter_step g records is rest = inr (inr (inr (g, records, is, rest)))
 
-end_step : (limit : ℕ) (cur : Option Group) → Groups limit cur [] (if_open cur) []
+pub end_step : (limit : ℕ) (cur : Option Group) → Groups limit cur [] (if_open cur) []
 unfolding Groups
 end_step limit cur = (refl, refl)
 

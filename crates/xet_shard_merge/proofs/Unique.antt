@@ -1,6 +1,5 @@
 -- The rules of merging exclude each other, so that there is one way for each shard.
-use Rattle.std.proofs.Common.{◌≡◌, ◌∙◌, ◌⊎◌, List, [], ◌∷◌, ℕ, None, Option, Some, Result, Ok, Err, inl, inr, refl, sym, subst}
-use Rattle.xet_hash.specs.declared.error.StoreError.{StoreError}
+use Rattle.std.proofs.Common.{◌≡◌, List, [], ◌∷◌, ℕ, None, Option, Some, Ok, inl, inr, subst}
 use Rattle.xet_shard.specs.Union.{ShardRecords}
 use Rattle.xet_shard_directory.specs.declared.shard_file.MDBShardFile.{MDBShardFile}
 use Rattle.xet_shard_merge.specs.Groups.{Agrees, Begins, Disagrees, Ends, Fits, Group, Groups, IsPlain, IsSkipped, Joins, Offered, alone, if_open, joined}

@@ -1,7 +1,5 @@
 -- Merge groups: which shards of a directory become one.
 use Rattle.std.specs.Prelude.{◌≡◌, ◌⊎◌, ◌+◌, ◌≤◌, ℕ, List, [], ◌∷◌, ◌++◌, filter, is_none, max, Option, Some, None, Result, Ok, Err}
-use Rattle.std.specs.List.{AllByRecursion}
-use Rattle.xet_hash.specs.Hash.{zero_hash}
 use Rattle.xet_hash.specs.declared.error.StoreError.{StoreError}
 use Rattle.xet_shard.specs.Held.{Held, held, held_size, record_of}
 use Rattle.xet_shard.specs.Union.{Agree, IsKeyed, ShardRecords}

@@ -1,5 +1,5 @@
 -- What merging the shards of a directory leaves.
-use Rattle.std.specs.Prelude.{◌≡◌, ◌≢◌, ◌⊎◌, ◌^◌, ◌<◌, ℕ, nat_eq, Bool, true, false, not, List, [], ◌∷◌, ◌++◌, filter, flat_map, length, map, min, take, Option, Some, None, Result, Ok, Err, IsOk, IsSome, All, AllPairs, Any, option_map}
+use Rattle.std.specs.Prelude.{◌≡◌, ◌≢◌, ◌⊎◌, ◌^◌, ◌<◌, ℕ, nat_eq, Bool, true, false, not, List, [], ◌∷◌, filter, flat_map, length, map, min, take, Some, None, Ok, Err, IsOk, IsSome, All, AllPairs, Any, option_map}
 use Rattle.std.specs.Cmp.Lexicographic.{pointwise}
 use Rattle.std.specs.FinMap.{get}
 use Rattle.std.specs.List.{list_any}
@@ -7,12 +7,11 @@ use Rattle.std.specs.List.Sorted.{IsPermutation}
 use Rattle.xet_hash.specs.Merkle.{chunk_hash}
 use Rattle.xet_hash.specs.declared.error.StoreError.{StoreError}
 use Rattle.xet_hash.specs.declared.error.StoreError.TheVariants.{FileNotFound, MalformedData, UnexpectedEof}
-use Rattle.xet_io.specs.Disk.{Files, bytes_at, file_at}
+use Rattle.xet_io.specs.Disk.{File, Files, bytes_at, file_at}
 use Rattle.xet_shard.specs.Held.{held_shard}
-use Rattle.xet_shard.specs.Sections.{info_at}
 use Rattle.xet_shard.specs.Union.{records_in}
 use Rattle.xet_shard_directory.specs.Directories.{IsBeforeByPath, ReadsPath, all_removed, is_valid, paths}
-use Rattle.xet_shard_directory.specs.Values.{last_part}
+use Rattle.xet_shard_directory.specs.Values.{last_part, loaded}
 use Rattle.xet_shard_directory.specs.Writing.{path_of}
 use Rattle.xet_shard_directory.specs.declared.shard_file.MDBShardFile.{MDBShardFile}
 use Rattle.xet_shard_file.specs.Names.{IsHash, shard_path, temp_name}
@@ -44,13 +43,13 @@ pub record Offers (files : Files) (path : List ℕ) (now : ℕ) (offered : List 
 
 -- ---- results
 
--- a shard file with these bytes, durable under the name of their digest
+-- a shard file with these bytes, durable under the name of their digest; the value is that of the file
 pub record Stands (files : Files) (folder bytes : List ℕ) (s : MDBShardFile) : Type 0 where
   pub hash : s.shard_hash ≡ chunk_hash bytes
   pub path : s.path ≡ path_of folder bytes
   pub there : bytes_at files s.path ≡ Some bytes
   pub durable : option_map (λ e. e.durable) (get files s.path) ≡ Some true
-  pub value : info_at bytes ≡ Ok s.shard
+  pub value : loaded files s.shard_hash s.path ≡ Ok s
 
 -- One shard alone is its own result. It is copied, unless it is in the folder already.
 abbrev pub IsCopy : Files → Files → List ℕ → MDBShardFile → MDBShardFile → Type 0
@@ -98,9 +97,9 @@ pub record Merges (old new : Files) (source target : List ℕ) (max_size : ℕ) 
 abbrev pub IsNoTemp : List ℕ → Type 0
 IsNoTemp name = (p : List ℕ) → name ≢ temp_name p
 
--- Every file that was there has its bytes; temporary files may be gone.
+-- Every file that was there has its bytes and its modification time; temporary files may be gone.
 abbrev pub KeepsFiles : Files → Files → Type 0
-KeepsFiles old new = (name bytes : List ℕ) → IsNoTemp name → bytes_at old name ≡ Some bytes → bytes_at new name ≡ Some bytes
+KeepsFiles old new = (name : List ℕ) (f : File) → IsNoTemp name → file_at old name ≡ Some f → file_at new name ≡ Some f
 
 -- A file that is new is a result's, or a temporary one.
 abbrev pub AddsResults : Files → Files → List MDBShardFile → Type 0
@@ -132,7 +131,10 @@ WritesOnly old new folder Due = (name : List ℕ) → (get new name ≡ get old 
 pub record MayMerge (old new : Files) (source target : List ℕ) (max_size now : ℕ) : Type 0 where
   pub offered : List Offered
   pub offers : Offers old source now offered
-  pub writes : (groups : List Group) (skipped : List MDBShardFile) → Groups (target_of max_size) None offered groups skipped → WritesOnly old new target (λ bytes. Any (λ g. IsDue old target g bytes) groups)
+  pub groups : List Group
+  pub skipped : List MDBShardFile
+  pub grouped : Groups (target_of max_size) None offered groups skipped
+  pub writes : WritesOnly old new target (λ bytes. Any (λ g. IsDue old target g bytes) groups)
 
 -- What a merge has done, also after an error: nothing, or any of its results were written.
 abbrev pub KeptOrMerged : Files → Files → List ℕ → List ℕ → ℕ → ℕ → Type 0

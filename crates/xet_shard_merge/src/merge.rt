@@ -26,7 +26,7 @@ const MAX_TARGET: u64 = 1 << 36;
 pub struct ShardMergeResult {
     /// The shards that there are now in place of those that were taken, in the order in which these were taken.
     pub merged_shards: Vec<MDBShardFile>,
-    /// The shards that were taken, and whose file is no result's, in order.
+    /// The shards that were taken, and whose path is no result's, in order.
     pub obsolete_shards: Vec<MDBShardFile>,
     /// The shards that were not taken: keyed ones, those that disagree with the group that was open, and those that
     /// can't be read.
@@ -53,6 +53,14 @@ impl ShardMergeResult {
 /// group so far, less 248, is at most `max_size`, which counts as 2^36 if it is more; otherwise it begins the next group.
 /// A keyed shard is skipped, and so is one that fits but disagrees with the open group: a xorb or a file of the same hash
 /// is another there. Nothing is removed or replaced.
+///
+/// Two groups may have the same result. It is then written once, keeps its modification time, and is listed for each of
+/// them. A result that was there before keeps its time too.
+///
+/// Folders are compared by name alone. If `source` is "dir/" and `target` is "dir", the paths that are read are not those
+/// of the same files in `target`. A shard that is alone in its group is copied onto itself then: it is found there, so
+/// nothing is written, but it is listed as obsolete, and its file as a result. Removing the obsolete shards would remove
+/// that result.
 ///
 /// `FileNotFound` if the path names a shard and it is not there. If a section is malformed, the error is that of the first
 /// check that fails, or with `skip_on_error` that shard is skipped. After an error some of the results may have been

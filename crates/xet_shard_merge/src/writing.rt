@@ -1,23 +1,22 @@
 //! Writing of the result of a group.
 
-ghost use Rattle.std.specs.Prelude.{◌≡◌, ◌∷◌, [], ℕ, List, All, IfErr, IfOk, IsOk, IsTrue, None, Some, true};
+ghost use Rattle.std.specs.Prelude.{◌≡◌, ◌∷◌, [], All, IfErr, IfOk, IsOk, None, true};
 ghost use Rattle.xet_codec.specs.Stops.{HasDiskReason};
-ghost use Rattle.xet_io.specs.Disk.{bytes_at};
-ghost use Rattle.xet_io.specs.Frame.{Stays, Unchanged};
+ghost use Rattle.xet_io.specs.Frame.{Stays};
 ghost use Rattle.xet_shard.specs.Held.{held_shard};
 ghost use Rattle.xet_shard.specs.Sections.{info_at};
 ghost use Rattle.xet_shard_directory.specs.Answers.{IsReadError};
 ghost use Rattle.xet_shard_directory.specs.Writing.{IsPutError};
 ghost use Rattle.xet_shard_format.specs.Encoding.{full_shard_bytes};
 ghost use Rattle.xet_shard_merge.specs.Merging.{AddsResults, IsCopy, IsDue, IsMerged, IsResult, Stands, WritesOnly};
-ghost use Rattle.xet_shard_merge.specs.internal.Keeping.{IsCopyDue, IsFree, IsIntact, IsOnlyDue, Preserves};
+ghost use Rattle.xet_shard_merge.specs.internal.Keeping.{IsCopyDue, IsIntact, IsOnlyDue, Preserves};
 
 use crate::group::OpenGroup;
 use std::alloc::Global;
 use xet_codec::store_error;
-use xet_hash::{StoreError, compute_data_hash};
+use xet_hash::StoreError;
 use xet_io::{Disk, read_file};
-use xet_shard_directory::{MDBShardFile, write_shard_file};
+use xet_shard_directory::{MDBShardFile, add_shard_file};
 use xet_shard_file::shard_path;
 
 /// Writes the result of a group into a folder. One shard alone is copied, unless it is in the folder already; several
@@ -88,8 +87,8 @@ fn write_merged<D: Disk>(
     }
 }
 
-/// Writes the bytes of a shard into a folder, durably, under the name of their hash. If a file with other bytes has that
-/// name, the error is `OutOfMemory`.
+/// Writes the bytes of a shard into a folder, durably, under the name of their hash. If they are there already, they keep
+/// their modification time; if a file with other bytes has that name, the error is `OutOfMemory`.
 fn write_new<D: Disk>(
     alloc: Global,
     disk: &mut D,
@@ -104,47 +103,5 @@ fn write_new<D: Disk>(
     ensures frame { Stays D.tells D.faults disk.old disk.new }
     ensures reason { IfErr result (IsPutError (D.faults disk.old) (D.faults disk.new)) }
 {
-    let path = shard_path(alloc, target, &compute_data_hash(bytes))?;
-    match is_free(alloc, disk, path.as_str(), bytes) {
-        Ok(true) => write_shard_file(alloc, disk, target, bytes),
-        Ok(false) => Err(StoreError::OutOfMemory),
-        Err(error) => Err(error),
-    }
-}
-
-/// Whether there is no file with other bytes at a path.
-fn is_free<D: Disk>(
-    alloc: Global,
-    disk: &mut D,
-    path: &str,
-    bytes: &[u8],
-) -> Result<bool, StoreError>
-    ensures free { D.tells disk.old ≡ true → IfOk result (λ free. IsTrue free → IsFree (bytes_at (D.files disk.old) path.now) bytes.now) }
-    ensures frame { Unchanged D.files D.tells D.faults disk.old disk.new }
-    ensures reason { IfErr result (HasDiskReason (D.faults disk.old) (D.faults disk.new)) }
-{
-    match disk.stat(path) {
-        Ok(None) => Ok(true),
-        Ok(Some((length, _))) if length != bytes.len() as u64 => Ok(false),
-        Ok(Some(_)) => has_bytes(alloc, disk, path, bytes),
-        Err(refusal) => Err(store_error(refusal)),
-    }
-}
-
-/// Whether the file at a path, if there is one, has these bytes.
-fn has_bytes<D: Disk>(
-    alloc: Global,
-    disk: &mut D,
-    path: &str,
-    bytes: &[u8],
-) -> Result<bool, StoreError>
-    ensures free { D.tells disk.old ≡ true → IfOk result (λ free. IsTrue free → IsFree (bytes_at (D.files disk.old) path.now) bytes.now) }
-    ensures frame { Unchanged D.files D.tells D.faults disk.old disk.new }
-    ensures reason { IfErr result (HasDiskReason (D.faults disk.old) (D.faults disk.new)) }
-{
-    match read_file(disk, alloc, path) {
-        Ok(Some(found)) => Ok(found.as_slice() == bytes),
-        Ok(None) => Ok(true),
-        Err(refusal) => Err(store_error(refusal)),
-    }
+    add_shard_file(alloc, disk, target, bytes)
 }

@@ -1,5 +1,5 @@
 -- What calls that write results leave of the other files.
-use Rattle.std.specs.Prelude.{◌≡◌, ◌≢◌, ◌⊎◌, ℕ, length, Any, Bool, true, false, List, Option, Some, None, Result, Ok, Err, option_map}
+use Rattle.std.specs.Prelude.{◌≡◌, ◌≢◌, ℕ, Any, Bool, true, false, List, Option, Some, None, Result, Ok, Err, option_map}
 use Rattle.std.specs.FinMap.{get}
 use Rattle.xet_hash.specs.declared.error.Place.TheVariants.{Disk}
 use Rattle.xet_hash.specs.declared.error.StoreError.{StoreError}
@@ -16,10 +16,10 @@ use Rattle.xet_shard_merge.specs.Merging.{IsDue, IsNoTemp, KeepsFiles, WritesOnl
 abbrev pub durable_at : Files → List ℕ → Option Bool
 durable_at files name = option_map (λ e. e.durable) (get files name)
 
--- Every file that was there has its bytes, and is durable if it was.
+-- Every file that was there has its bytes and its modification time, and is durable if it was.
 pub record Preserves (old new : Files) : Type 0 where
-  pub bytes : KeepsFiles old new
-  pub durable : (name bytes : List ℕ) → IsNoTemp name → bytes_at old name ≡ Some bytes → durable_at old name ≡ Some true → durable_at new name ≡ Some true
+  pub files : KeepsFiles old new
+  pub durable : (name : List ℕ) → IsNoTemp name → durable_at old name ≡ Some true → durable_at new name ≡ Some true
 
 -- these bytes alone
 abbrev pub IsOnlyDue : List ℕ → List ℕ → Type 0
@@ -37,10 +37,6 @@ IsOneDue files folder groups b = Any (λ g. IsDue files folder g b) groups
 abbrev pub WritesIfOpen : Files → Files → List ℕ → Option Group → Type 0
 WritesIfOpen old new folder None = new ≡ old
 WritesIfOpen old new folder (Some g) = WritesOnly old new folder (IsDue old folder g)
-
--- nothing is there, or these bytes are
-abbrev pub IsFree : Option (List ℕ) → List ℕ → Type 0
-IsFree found bytes = (b : List ℕ) → found ≡ Some b → b ≡ bytes
 
 -- The file is there, its header and footer are the value's, and its name is no temporary one.
 pub record IsIntact (files : Files) (s : MDBShardFile) : Type 0 where

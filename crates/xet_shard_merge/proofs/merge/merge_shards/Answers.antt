@@ -1,7 +1,7 @@
 use Rattle.std.proofs.Common.{◌∙◌, ap, map, IfErr, IfOk, inl, subst, sym}
 use Rattle.std.proofs.lemmas.Result.{IfErr-weaker, IfOk-weaker}
 use Rattle.std.specs.List.{All}
-use Rattle.xet_io.specs.Disk.{Files, bytes_at}
+use Rattle.xet_io.specs.Disk.{Files, file_at}
 use Rattle.xet_shard_merge.specs.Merging.{AddsResults, IsUnmerged, Merges}
 use Rattle.xet_shard_merge.specs.internal.Keeping.{IsIntact, Preserves}
 use Rattle.xet_shard_merge.specs.internal.Order.{MergedAll}
@@ -30,7 +30,7 @@ pub returns-in-Ok-clause-keeps : goal.returns-in-Ok-clause-keeps
 returns-in-Ok-clause-keeps g c = λ tells.
     let files = g.D.Disk.files in
     let frame = c.in-Ok.ensures.frame in
-    (subst (λ (fs : Files). Preserves fs (files c.merge_read.new.disk)) frame.same (c.merge_read.ensures.keeps (frame.tells ∙ tells))).bytes
+    (subst (λ (fs : Files). Preserves fs (files c.merge_read.new.disk)) frame.same (c.merge_read.ensures.keeps (frame.tells ∙ tells))).files
 
 pub returns-in-Ok-clause-adds : goal.returns-in-Ok-clause-adds
 returns-in-Ok-clause-adds g c = λ tells.
@@ -65,8 +65,8 @@ pub returns-in-Err-clause-refused : goal.returns-in-Err-clause-refused
 returns-in-Err-clause-refused g c = λ tells. unloaded (g.D.Disk.files c.args.disk.now) c.args.source.now c.args.skip_on_error c.args.now c.in-Err.error (c.in-Err.ensures.refused tells)
 
 pub returns-in-Err-clause-keeps : goal.returns-in-Err-clause-keeps
-returns-in-Err-clause-keeps g c = λ tells name b plain there.
-    ap (λ (fs : Files). bytes_at fs name) c.in-Err.ensures.frame.same ∙ there
+returns-in-Err-clause-keeps g c = λ tells name f plain there.
+    ap (λ (fs : Files). file_at fs name) c.in-Err.ensures.frame.same ∙ there
 
 pub returns-in-Ok-clause-writes : goal.returns-in-Ok-clause-writes
 returns-in-Ok-clause-writes g c = λ tells.
