@@ -1,5 +1,5 @@
 -- A batch that was placed up to a place is placed one step further.
-use Rattle.std.proofs.Common.{◌≡◌, ◌⊎◌, inl, inr, ◌∙◌, ℕ, ◌+◌, List, [], ◌∷◌, ◌++◌, map, Option, Some, ap, sym, subst}
+use Rattle.std.proofs.Common.{◌≡◌, ◌⊎◌, inr, ◌∙◌, ℕ, ◌+◌, List, ◌++◌, map, Option, Some, ap, sym, subst}
 use Rattle.std.specs.Prelude.{slice_get}
 use Rattle.xet_choices.specs.Calls.{Call}
 use Rattle.xet_choices.specs.declared.choice.Choice.{Choice}
@@ -11,11 +11,9 @@ use Rattle.xet_dedup.specs.declared.walk.Batch.{Batch}
 use Rattle.xet_dedup.specs.internal.Batches.{Places}
 use Rattle.xet_dedup.specs.internal.Joining.{IsBatch}
 use Rattle.xet_dedup_queries.specs.Acts.{Act}
-use Rattle.xet_dedup_queries.specs.Acts.Act.{Stored}
 use Rattle.xet_dedup_queries.specs.declared.interface.FileXorbDependency.{FileXorbDependency}
 use Rattle.xet_file_plan.specs.Moves.{PlanState}
 use Rattle.xet_shard_format.specs.declared.record.FileDataSequenceEntry.{FileDataSequenceEntry as Segment}
-use Rattle.xet_xorb.specs.Raw.{raw_of}
 use Rattle.xet_xorb_chunk.specs.declared.chunk.Chunk.{Chunk}
 use Rattle.xet_xorb_chunk.specs.Chunks.{chunk_leaf}
 
@@ -32,17 +30,20 @@ module _ {I : Type 0} (listing : I → List ℕ → Option (List ℕ)) (standing
       (subst (λ (leaves : List (List ℕ × ℕ)). Joins p q leaves (hashes_of (map chunk_leaf b.chunks.now)) b.places.now at count) batch.leaves
       (subst (λ (hashes : List (List ℕ)). Joins p q b.leaves.now hashes b.places.now at count) hashes_are is)))
 
+  of_chunks : (m : PlanState) (choice : Choice) → Rejects p m b.hashes.now b.places.now at choice ⊎ HasNone p m b.hashes.now b.places.now b.base at choice
+      → Rejects p m (hashes_of (map chunk_leaf b.chunks.now)) b.places.now at choice ⊎ HasNone p m (hashes_of (map chunk_leaf b.chunks.now)) b.places.now b.base at choice
+  of_chunks m choice = subst (λ (hashes : List (List ℕ)). Rejects p m hashes b.places.now at choice ⊎ HasNone p m hashes b.places.now b.base at choice) hashes_are
+
   pub places_stored : (new : I) (m q : PlanState) (chunk : Chunk) (choice : Choice) (noted same more : List FileXorbDependency) → slice_get b.chunks.now at ≡ Some chunk
       → Rejects p m b.hashes.now b.places.now at choice ⊎ HasNone p m b.hashes.now b.places.now b.base at choice
       → Stores listing standing calling acting old new m q chunk choice → same ≡ noted → more ≡ same ++ block_dependencies b.file_id m chunk
       → Places listing standing calling acting b old p at noted new q (at + 1) more
   places_stored new m q chunk choice noted same more here none is not_yet notes = λ first start so_far.
       subst (PlacesTo listing standing calling acting b.chunks.now b.places.now b.base b.file_id first start new q (at + 1)) (sym (notes ∙ ap (λ (l : List FileXorbDependency). l ++ block_dependencies b.file_id m chunk) not_yet))
-      (stores old new p m q at chunk choice noted so_far here
-      (subst (λ (hashes : List (List ℕ)). Rejects p m hashes b.places.now at choice ⊎ HasNone p m hashes b.places.now b.base at choice) hashes_are none) is)
+      (stores old new p m q at chunk choice noted so_far here (of_chunks m choice none) is)
 
--- A chunk of a batch could not be stored.
-pub stops_at : (chunks : List Chunk) (at : ℕ) (block now : List Chunk) (chunk : Chunk) (old new : List Act) → slice_get chunks at ≡ Some chunk → block ≡ now → StopsStoring block chunk old new → StopsAt chunks at now old new
-stops_at chunks at block now chunk old new here same (inl none) = inl none
-stops_at chunks at block now chunk old new here same (inr one) =
-    inr (chunk, here, one ∙ ap (λ (b : List Chunk). old ++ Stored (raw_of b (0 ∷ [])) (chunk_leaf chunk ∷ []) ∷ []) same)
+  -- The chunk could not be stored.
+  pub stops_at : (new : I) (m : PlanState) (chunk : Chunk) (choice : Choice) → slice_get b.chunks.now at ≡ Some chunk
+      → Rejects p m b.hashes.now b.places.now at choice ⊎ HasNone p m b.hashes.now b.places.now b.base at choice
+      → StopsStoring m chunk (acting old) (acting new) → StopsAt b.chunks.now b.places.now b.base p at (acting old) (acting new)
+  stops_at new m chunk choice here none stops = inr (chunk, m, choice, here, of_chunks m choice none, stops)

@@ -147,15 +147,21 @@ pub record IsPlaced {I : Type 0} (listing : I → List ℕ → Option (List ℕ)
   pub found : ArePlaces (listing queried) (standing queried) (calling old) added (hashes_of (map chunk_leaf chunks)) places
   pub placed : ArePlaced listing standing calling acting chunks places (length p.leaves) file_id queried p new q
 
--- A chunk could not be stored: nothing was done, or the open block was registered, into which the chunk does not fit.
-abbrev pub StopsStoring : List Chunk → Chunk → List Act → List Act → Type 0
-StopsStoring block chunk old new = (new ≡ old) ⊎ (new ≡ old ++ Stored (raw_of block (0 ∷ [])) (chunk_leaf chunk ∷ []) ∷ [])
+-- A chunk could not be stored: nothing was done; or the chunk does not fit into the open block, which was registered.
+abbrev pub StopsStoring : PlanState → Chunk → List Act → List Act → Type 0
+StopsStoring p chunk old new =
+    (new ≡ old)
+    ⊎ ((fits p.settings (map chunk_leaf p.block) (length chunk.bytes) ≡ false)
+    × (new ≡ old ++ Stored (raw_of p.block (0 ∷ [])) (chunk_leaf chunk ∷ []) ∷ []))
 
--- The placing of a batch stopped at a place: nothing was done there, or the open block was registered, into which the chunk
--- there does not fit.
-abbrev pub StopsAt : List Chunk → ℕ → List Chunk → List Act → List Act → Type 0
-StopsAt chunks at block old new =
-    (new ≡ old) ⊎ ((chunk : Chunk) × (slice_get chunks at ≡ Some chunk) × (new ≡ old ++ Stored (raw_of block (0 ∷ [])) (chunk_leaf chunk ∷ []) ∷ []))
+-- The placing of a batch stopped at a place, where `q` is the plan: nothing was done there; or the run at the place was
+-- rejected or there is none, and the chunk there could not be stored.
+abbrev pub StopsAt : List Chunk → List Place → ℕ → PlanState → ℕ → List Act → List Act → Type 0
+StopsAt chunks places base q at old new =
+    (new ≡ old)
+    ⊎ ((chunk : Chunk) × (m : PlanState) × (choice : Choice) × (slice_get chunks at ≡ Some chunk)
+    × (Rejects q m (hashes_of (map chunk_leaf chunks)) places at choice ⊎ HasNone q m (hashes_of (map chunk_leaf chunks)) places base at choice)
+    × StopsStoring m chunk old new)
 
 -- The placing of a batch stopped at a place, after the chunks before it were placed.
 pub record StopsPlacing {I : Type 0} (listing : I → List ℕ → Option (List ℕ)) (standing : I → List (List ℕ) → Segment → Type 0) (calling : I → List Call) (acting : I → List Act) (chunks : List Chunk) (places : List Place) (base file_id : ℕ) (old : I) (p : PlanState) (new : I) : Type 0 where
@@ -164,7 +170,7 @@ pub record StopsPlacing {I : Type 0} (listing : I → List ℕ → Option (List 
   pub at : ℕ
   pub noted : List FileXorbDependency
   pub placed : PlacesTo listing standing calling acting chunks places base file_id old p now plan at noted
-  pub acts : StopsAt chunks at plan.block (acting now) (acting new)
+  pub acts : StopsAt chunks places base plan at (acting now) (acting new)
 
 -- A batch was not placed. Its queries stopped; or they were all made, and the placing stopped. No dependency was noted.
 pub data StopsBatch {I : Type 0} (listing : I → List ℕ → Option (List ℕ)) (standing : I → List (List ℕ) → Segment → Type 0) (calling : I → List Call) (acting : I → List Act) (file_id : ℕ) (chunks : List Chunk) (old : I) (p : PlanState) (new : I) : Type 0 where

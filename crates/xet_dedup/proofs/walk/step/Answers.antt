@@ -109,8 +109,9 @@ returns-in_ok-store-in-Ok-New-clause-settings g c =
 
 pub returns-in_err-store-in-Ok-New-clause-stopped : goal.returns-in_err-store-in-Ok-New-clause-stopped
 returns-in_err-store-in-Ok-New-clause-stopped g c =
-    let kept = rest_kept c.args.plan.now c.join.new.plan c.args.batch.now.hashes.now c.args.batch.now.places.now c.args.batch.now.base c.args.at c.in-Ok-New.choice (c.in-Ok-New.ensures.stored c.in-Ok-New.choice c.in-Ok-New.field-0-is) in
+    let I = g.I.DeduplicationDataInterface in
+    let b = c.args.batch.now in
     exit_on _ c.from_residual.result c.from_residual.ensures.1
-    (stops_at c.args.batch.now.chunks.now c.args.at c.join.new.plan.block c.args.plan.now.block (get_or c.args.batch.now.chunks.now c.args.at c.index-batch-at.result)
-    (g.I.DeduplicationDataInterface.acts c.args.interface.now) (g.I.DeduplicationDataInterface.acts c.store.new.interface)
-    (slice_get-get_or c.args.batch.now.chunks.now c.args.at c.index-batch-at.result c.requires.at) (ap (λ (m : PlanState). m.block) kept) c.in_err-store-in-Ok-New.ensures.stopped)
+    (stops_at I.lists I.stands I.calls I.acts c.args.plan.now.settings b c.requires.batch c.args.interface.now c.args.plan.now c.args.at
+    c.store.new.interface c.join.new.plan (get_or b.chunks.now c.args.at c.index-batch-at.result) c.in-Ok-New.choice (slice_get-get_or b.chunks.now c.args.at c.index-batch-at.result c.requires.at)
+    (c.in-Ok-New.ensures.stored c.in-Ok-New.choice c.in-Ok-New.field-0-is) c.in_err-store-in-Ok-New.ensures.stopped)

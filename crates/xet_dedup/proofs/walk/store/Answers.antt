@@ -54,10 +54,11 @@ returns-in_err-cut-clause-stopped g c = exit_on _ c.from_residual.result c.from_
 pub returns-in-Err-clause-stopped : goal.returns-in-Err-clause-stopped
 returns-in-Err-clause-stopped g c = elim c.if-not-fits.branch [
   | then-not-fits+in_ok-cut w ↦ inr (
-      ap g.I.DeduplicationDataInterface.acts w.interface-is
-      ∙ w.in_ok-cut.ensures.registered.1.acts
-      ∙ ap (λ (n : ℕ). g.I.DeduplicationDataInterface.acts c.args.interface.now ++ Stored w.in_ok-cut.ensures.registered.0 ((c.args.chunk.now.hash, n) ∷ []) ∷ []) w.len-then-not-fits.ensures.value
-      ∙ ap (λ (x : RawXorbData). g.I.DeduplicationDataInterface.acts c.args.interface.now ++ Stored x (chunk_leaf c.args.chunk.now ∷ []) ∷ []) w.in_ok-cut.ensures.registered.1.made
-      )
+    ap (fits c.args.plan.now.settings (map chunk_leaf c.args.plan.now.block)) (sym c.len.ensures.value) ∙ sym w.if-not-fits.ensures,
+    ap g.I.DeduplicationDataInterface.acts w.interface-is
+        ∙ w.in_ok-cut.ensures.registered.1.acts
+        ∙ ap (λ (n : ℕ). g.I.DeduplicationDataInterface.acts c.args.interface.now ++ Stored w.in_ok-cut.ensures.registered.0 ((c.args.chunk.now.hash, n) ∷ []) ∷ []) w.len-then-not-fits.ensures.value
+        ∙ ap (λ (x : RawXorbData). g.I.DeduplicationDataInterface.acts c.args.interface.now ++ Stored x (chunk_leaf c.args.chunk.now ∷ []) ∷ []) w.in_ok-cut.ensures.registered.1.made,
+  )
   | else-not-fits w ↦ inl (ap g.I.DeduplicationDataInterface.acts w.interface-is)
 ]
