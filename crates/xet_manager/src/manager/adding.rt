@@ -1,7 +1,7 @@
 //! What is pending: xorbs and files are added, and it is written as a shard.
 #![tactic(auto, using(crate::proofs::Rooms::none_due))]
 
-ghost use Rattle.std.specs.Prelude.{◌≡◌, ◌≢◌, ◌↔◌, ◌≤◌, ◌<◌, ◌^◌, ◌∷◌, [], None, IfErr, IfOk, IfSome, IsOkUnless, Ok, OnErr, OnOk, false, length, string_bytes, true};
+ghost use Rattle.std.specs.Prelude.{◌≡◌, ◌≢◌, ◌↔◌, ◌≤◌, ◌<◌, ◌^◌, ◌∷◌, [], List, ℕ, None, IfErr, IfOk, IfSome, IsOkUnless, Ok, OnErr, OnOk, false, length, string_bytes, true};
 ghost use Rattle.xet_hash.specs.Hash.{sentinel};
 ghost use Rattle.xet_manager.specs.Adding.{Cuts, IsCut, IsUncut, blocks_before, cut_due, files_before};
 ghost use Rattle.xet_shard.specs.Held.{held, nothing, with_last};
