@@ -18,7 +18,7 @@ module _ (old mid new : ManagerState) (room : ℕ) (same : mid ≡ record old { 
       let d : IsUncut (record old { room = room }) new e = subst (λ (m : ManagerState). IsUncut m new e) same c in
       record { rest = d.rest; kept = d.kept; file = d.file; checked = d.checked; unwritten = d.unwritten }
 
-  pub safe_over : (mid.tells ≡ true → KeepsFiles mid.files new.files (path_of mid.folder (flushed_bytes mid.pending mid.moment)) mid.registry.files)
-      → old.tells ≡ true → KeepsFiles old.files new.files (path_of old.folder (flushed_bytes old.pending old.moment)) old.registry.files
+  pub safe_over : (mid.tells ≡ true → KeepsFiles mid.files new.files mid.folder (flushed_bytes mid.pending mid.moment) mid.registry.files)
+      → old.tells ≡ true → KeepsFiles old.files new.files old.folder (flushed_bytes old.pending old.moment) old.registry.files
   safe_over safe =
-      subst (λ (m : ManagerState). m.tells ≡ true → KeepsFiles m.files new.files (path_of m.folder (flushed_bytes m.pending m.moment)) m.registry.files) same safe
+      subst (λ (m : ManagerState). m.tells ≡ true → KeepsFiles m.files new.files m.folder (flushed_bytes m.pending m.moment) m.registry.files) same safe

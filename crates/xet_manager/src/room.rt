@@ -16,7 +16,8 @@ pub(crate) struct Room {
     pub due: Option<DueShard>,
     /// What is pending after the next flush: a shard without records.
     pub next: MDBInMemoryShard,
-    /// The length in bytes of the longest record for which there is memory: in what is pending, and in `next`.
+    /// The length in bytes of the longest record for which there is memory: in what is pending, and, if something is
+    /// pending, in `next`.
     pub bytes: u64,
 }
 

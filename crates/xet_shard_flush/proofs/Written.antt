@@ -1,5 +1,5 @@
 -- What the write of a shard file leaves of the other files.
-use Rattle.std.proofs.Common.{◌≡◌, ◌≢◌, ◌∙◌, ◌⊎◌, ℕ, List, get_or, None, Option, Ok, Some, true, option_map, inl, inr, sym, ap, subst}
+use Rattle.std.proofs.Common.{◌≡◌, ◌≢◌, ◌∙◌, ◌⊎◌, ◌<◌, ℕ, List, get_or, length, None, Option, Ok, Some, true, option_map, inl, inr, sym, ap, subst}
 use Rattle.std.proofs.lemmas.Bool.{true≢false}
 use Rattle.std.specs.FinMap.{get}
 use Rattle.std.specs.Prelude.{IsOk}
@@ -10,6 +10,7 @@ use Rattle.xet_shard.specs.declared.info.MDBShardInfo.{MDBShardInfo}
 use Rattle.xet_shard_directory.specs.Writing.{AddsShard, MayAddShard, OthersStay, path_of}
 use Rattle.xet_shard_directory.specs.declared.shard_file.MDBShardFile.{MDBShardFile}
 use Rattle.xet_shard_directory.specs.theorems.Syncing.{may_here, may_others, synced_file}
+use Rattle.xet_shard_file.specs.Names.{temp_name}
 use Rattle.xet_shard_file.specs.Puts.{IsDone}
 use Rattle.xet_shard_flush.specs.Importing.{KeepsFile, KeepsFiles}
 use Rattle.xet_shard_flush.specs.internal.Steps.{AreExpected, IsUnused, IsWay}
@@ -46,11 +47,20 @@ module _ (old new : Files) (folder bytes : List ℕ) where
   abbrev path : List ℕ
   path = path_of folder bytes
 
+  -- nothing has changed
+  pub nothing_keeps : new ≡ old → (ss : List MDBShardFile) → KeepsFiles old new folder bytes ss
+  nothing_keeps same ss = record {
+    each = λ i d lt plain. same_file old new (get_or ss i d) (ap (λ (fs : Files). file_at fs (get_or ss i d).path) same);
+    same = λ there f was. ap (λ (fs : Files). file_at fs path) same ∙ was;
+  }
+
   -- nothing has changed, or a file was made durable: no file is another
-  pub synced_keeps : bytes_at old path ≡ Some bytes → (new ≡ old) ⊎ (new ≡ synced old path) → (ss : List MDBShardFile) → KeepsFiles old new path ss
-  synced_keeps there (inl same) ss i d lt plain = same_file old new (get_or ss i d) (ap (λ (fs : Files). file_at fs (get_or ss i d).path) same)
-  synced_keeps there (inr same) ss i d lt plain =
-      same_file old new (get_or ss i d) (ap (λ (fs : Files). file_at fs (get_or ss i d).path) same ∙ synced_file old path bytes there (get_or ss i d).path)
+  pub synced_keeps : bytes_at old path ≡ Some bytes → (new ≡ old) ⊎ (new ≡ synced old path) → (ss : List MDBShardFile) → KeepsFiles old new folder bytes ss
+  synced_keeps there (inl same) ss = nothing_keeps same ss
+  synced_keeps there (inr same) ss = record {
+    each = λ i d lt plain. same_file old new (get_or ss i d) (ap (λ (fs : Files). file_at fs (get_or ss i d).path) same ∙ synced_file old path bytes there (get_or ss i d).path);
+    same = λ _ f was. ap (λ (fs : Files). file_at fs path) same ∙ synced_file old path bytes there path ∙ was;
+  }
 
   pub synced_may : bytes_at old path ≡ Some bytes → (new ≡ old) ⊎ (new ≡ synced old path) → MayAddShard old new folder bytes
   synced_may there (inl same) = inl (record {
@@ -61,17 +71,25 @@ module _ (old new : Files) (folder bytes : List ℕ) where
   synced_may there (inr same) = inr (there, same)
 
   -- a write: no registered file was replaced, whether it has completed or not
-  pub written_keeps : (ss : List MDBShardFile) (info : MDBShardInfo) → IsWay old path info ss bytes Write → info_at bytes ≡ Ok info → MayAddShard old new folder bytes → KeepsFiles old new path ss
-  written_keeps ss info way read may i d lt plain = by (either_name (get_or ss i d).path path) way
+  pub written_keeps : (ss : List MDBShardFile) (info : MDBShardInfo) → IsWay old path info ss bytes Write → info_at bytes ≡ Ok info → MayAddShard old new folder bytes → KeepsFiles old new folder bytes ss
+  written_keeps ss info way read may = record {
+    each = λ i d lt plain. by i d lt plain (either_name (get_or ss i d).path path) way;
+    same = λ there f was. absurd (not_there way there);
+  }
     where
+      not_there : ((bytes_at old path ≡ None) × AreExpected path info ss) ⊎ (IsUnused path ss × (bytes_at old path ≢ Some bytes)) → bytes_at old path ≡ Some bytes → ⊥
+      not_there (inl (none, expected)) there = none_there (bytes_at old path) bytes none there
+      not_there (inr (unused, other)) there = other there
+
       here : (get new path ≡ get old path) ⊎ ((bytes_at new path ≡ Some bytes) × (option_map (λ e. e.durable) (get new path) ≡ Some true)) → bytes_at old path ≡ None → (bytes_at new path ≡ None) ⊎ (bytes_at new path ≡ Some bytes)
       here (inl stays) none = inl (ap (λ (e : Option Entry). bytes_of (file_of e)) stays ∙ none)
       here (inr done) none = inr done.0
 
-      by : ((get_or ss i d).path ≡ path) ⊎ ((get_or ss i d).path ≢ path) → ((bytes_at old path ≡ None) × AreExpected path info ss) ⊎ IsUnused path ss → KeepsFile old new (get_or ss i d)
-      by (inr ne) w = same_file old new (get_or ss i d) (ap file_of (may_others old new folder bytes may (get_or ss i d).path ne plain))
-      by (inl same) (inr unused) = absurd (unused i d lt same)
-      by (inl same) (inl (none, expected)) =
+      by : (i : ℕ) (d : MDBShardFile) → i < length ss → (get_or ss i d).path ≢ temp_name path → ((get_or ss i d).path ≡ path) ⊎ ((get_or ss i d).path ≢ path)
+          → ((bytes_at old path ≡ None) × AreExpected path info ss) ⊎ (IsUnused path ss × (bytes_at old path ≢ Some bytes)) → KeepsFile old new (get_or ss i d)
+      by i d lt plain (inr ne) w = same_file old new (get_or ss i d) (ap file_of (may_others old new folder bytes may (get_or ss i d).path ne plain))
+      by i d lt plain (inl same) (inr unused) = absurd (unused.0 i d lt same)
+      by i d lt plain (inl same) (inl (none, expected)) =
           comes_back old new path bytes (get_or ss i d) same none (read ∙ ap (λ (x : MDBShardInfo). Ok x) (sym (expected i d lt same)))
           (here (may_here old new folder bytes may) none)
 

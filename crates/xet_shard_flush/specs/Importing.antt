@@ -13,7 +13,7 @@ use Rattle.xet_io.specs.Disk.{File, Files, bytes_at, file_at}
 use Rattle.xet_shard.specs.Held.{Held, held_shard}
 use Rattle.xet_shard.specs.Sections.{chunk_lookup_in, info_at}
 use Rattle.xet_shard.specs.Union.{ShardRecords}
-use Rattle.xet_shard_directory.specs.Writing.{AddsShard, IsPutError, path_of}
+use Rattle.xet_shard_directory.specs.Writing.{AddsShard, IsPutError, KeepsFileAt, path_of}
 use Rattle.xet_shard_directory.specs.declared.shard_file.MDBShardFile.{MDBShardFile}
 use Rattle.xet_shard_file.specs.Names.{temp_name}
 use Rattle.xet_shard_format.specs.Encoding.{full_shard_bytes}
@@ -66,9 +66,11 @@ pub record KeepsFile (old new : Files) (s : MDBShardFile) : Type 0 where
   pub kept : (f : File) → file_at old s.path ≡ Some f → file_at new s.path ≡ Some f
   pub back : (bytes : List ℕ) → bytes_at old s.path ≡ None → bytes_at new s.path ≡ Some bytes → info_at bytes ≡ Ok s.shard
 
--- the same of all registered shards, when a file is written at a path, but for one at the path of its temporary file
-abbrev pub KeepsFiles : Files → Files → List ℕ → List MDBShardFile → Type 0
-KeepsFiles old new path ss = All (λ s. s.path ≢ temp_name path → KeepsFile old new s) ss
+-- When the bytes of a shard are added to a folder, so do the files of all registered shards, but for one at the path of
+-- the temporary file; and a file at the path of these bytes stays as it is, if it has them.
+pub record KeepsFiles (old new : Files) (folder bytes : List ℕ) (ss : List MDBShardFile) : Type 0 where
+  pub each : All (λ s. s.path ≢ temp_name (path_of folder bytes) → KeepsFile old new s) ss
+  pub same : bytes_at old (path_of folder bytes) ≡ Some bytes → KeepsFileAt old new (path_of folder bytes)
 
 -- ---- errors
 

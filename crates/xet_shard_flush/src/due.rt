@@ -89,7 +89,7 @@ pub(crate) fn write_due<D: Disk>(
     ensures kept { OnErr result (SameShards registry.old registry.new) }
     ensures refused { D.tells disk.old ≡ true → (folder : List ℕ) → due.path ≡ path_of folder due.bytes → OnErr result (MayAddShard (D.files disk.old) (D.files disk.new) folder due.bytes) }
     ensures unwritten { D.tells disk.old ≡ true → IfErr result (λ e. IsCheckError e → D.files disk.new ≡ D.files disk.old) }
-    ensures safe { D.tells disk.old ≡ true → (folder : List ℕ) → due.path ≡ path_of folder due.bytes → KeepsFiles (D.files disk.old) (D.files disk.new) (path_of folder due.bytes) registry.old.files }
+    ensures safe { D.tells disk.old ≡ true → (folder : List ℕ) → due.path ≡ path_of folder due.bytes → KeepsFiles (D.files disk.old) (D.files disk.new) folder due.bytes registry.old.files }
     ensures frame { Stays D.tells D.faults disk.old disk.new }
     ensures reason { IfErr result (IsFlushError (D.faults disk.old) (D.faults disk.new)) }
 {
@@ -115,7 +115,7 @@ fn write_shard<D: Disk>(
     ensures kept { OnErr result (SameShards registry.old registry.new) }
     ensures refused { D.tells disk.old ≡ true → (folder : List ℕ) → due.path ≡ path_of folder due.bytes → OnErr result (MayAddShard (D.files disk.old) (D.files disk.new) folder due.bytes) }
     ensures unwritten { D.tells disk.old ≡ true → IfErr result (λ e. IsCheckError e → D.files disk.new ≡ D.files disk.old) }
-    ensures safe { D.tells disk.old ≡ true → (folder : List ℕ) → due.path ≡ path_of folder due.bytes → KeepsFiles (D.files disk.old) (D.files disk.new) (path_of folder due.bytes) registry.old.files }
+    ensures safe { D.tells disk.old ≡ true → (folder : List ℕ) → due.path ≡ path_of folder due.bytes → KeepsFiles (D.files disk.old) (D.files disk.new) folder due.bytes registry.old.files }
     ensures frame { Stays D.tells D.faults disk.old disk.new }
     ensures reason { IfErr result (IsFlushError (D.faults disk.old) (D.faults disk.new)) }
 {

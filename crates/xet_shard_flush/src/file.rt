@@ -71,7 +71,7 @@ pub(crate) fn write_free<D: Disk>(
     ensures hash { IfOk result (λ x. x.0.shard_hash ≡ file.hash) }
     ensures written { (folder : List ℕ) → file.path ≡ path_of folder bytes.now → IfOk result (λ x. IsWritten (D.tells disk.old) (D.files disk.old) (D.files disk.new) folder bytes.now x.0) }
     ensures left { D.tells disk.old ≡ true → (folder : List ℕ) → file.path ≡ path_of folder bytes.now → MayAddShard (D.files disk.old) (D.files disk.new) folder bytes.now }
-    ensures safe { D.tells disk.old ≡ true → (folder : List ℕ) → file.path ≡ path_of folder bytes.now → KeepsFiles (D.files disk.old) (D.files disk.new) (path_of folder bytes.now) files.now }
+    ensures safe { D.tells disk.old ≡ true → (folder : List ℕ) → file.path ≡ path_of folder bytes.now → KeepsFiles (D.files disk.old) (D.files disk.new) folder bytes.now files.now }
     ensures frame { Stays D.tells D.faults disk.old disk.new }
     ensures reason { IfErr result (HasDiskReason (D.faults disk.old) (D.faults disk.new)) }
 {

@@ -42,7 +42,7 @@ pub fn flush_pending<D: Disk>(
     ensures kept { OnErr result ((shards : List Registered) → IsRegistryOf shards registry.old → IsRegistryOf shards registry.new) }
     ensures refused { D.tells disk.old ≡ true → OnErr result (MayAddShard (D.files disk.old) (D.files disk.new) folder.now (flushed_bytes pending.old moment)) }
     ensures unwritten { D.tells disk.old ≡ true → IfErr result (λ e. IsCheckError e → D.files disk.new ≡ D.files disk.old) }
-    ensures safe { D.tells disk.old ≡ true → KeepsFiles (D.files disk.old) (D.files disk.new) (path_of folder.now (flushed_bytes pending.old moment)) registry.old.files }
+    ensures safe { D.tells disk.old ≡ true → KeepsFiles (D.files disk.old) (D.files disk.new) folder.now (flushed_bytes pending.old moment) registry.old.files }
     ensures frame { Stays D.tells D.faults disk.old disk.new }
     ensures reason { IfErr result (IsFlushError (D.faults disk.old) (D.faults disk.new)) }
 {
@@ -73,7 +73,7 @@ pub fn flush_prepared<D: Disk>(
     ensures kept { OnErr result ((shards : List Registered) → IsRegistryOf shards registry.old → IsRegistryOf shards registry.new) }
     ensures refused { D.tells disk.old ≡ true → OnErr result (MayAddShard (D.files disk.old) (D.files disk.new) folder.now (flushed_bytes pending.old moment)) }
     ensures unwritten { D.tells disk.old ≡ true → IfErr result (λ e. IsCheckError e → D.files disk.new ≡ D.files disk.old) }
-    ensures safe { D.tells disk.old ≡ true → KeepsFiles (D.files disk.old) (D.files disk.new) (path_of folder.now (flushed_bytes pending.old moment)) registry.old.files }
+    ensures safe { D.tells disk.old ≡ true → KeepsFiles (D.files disk.old) (D.files disk.new) folder.now (flushed_bytes pending.old moment) registry.old.files }
     ensures frame { Stays D.tells D.faults disk.old disk.new }
     ensures reason { IfErr result (IsFlushError (D.faults disk.old) (D.faults disk.new)) }
 {

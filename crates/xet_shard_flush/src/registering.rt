@@ -31,7 +31,7 @@ pub(crate) fn write_known<D: Disk>(
     requires known { list_any (pointwise nat_eq file.hash) registry.now.hashes ≡ true }
     ensures imported { (folder : List ℕ) (cap : ℕ) → file.path ≡ path_of folder bytes.now → IfOk result (λ path. Imports (D.tells disk.old) cap (D.files disk.old) (D.files disk.new) folder bytes.now registry.now registry.now (string_bytes path)) }
     ensures refused { D.tells disk.old ≡ true → (folder : List ℕ) → file.path ≡ path_of folder bytes.now → OnErr result (MayAddShard (D.files disk.old) (D.files disk.new) folder bytes.now) }
-    ensures safe { D.tells disk.old ≡ true → (folder : List ℕ) → file.path ≡ path_of folder bytes.now → KeepsFiles (D.files disk.old) (D.files disk.new) (path_of folder bytes.now) registry.now.files }
+    ensures safe { D.tells disk.old ≡ true → (folder : List ℕ) → file.path ≡ path_of folder bytes.now → KeepsFiles (D.files disk.old) (D.files disk.new) folder bytes.now registry.now.files }
     ensures frame { Stays D.tells D.faults disk.old disk.new }
     ensures reason { IfErr result (HasDiskReason (D.faults disk.old) (D.faults disk.new)) }
 {
@@ -58,7 +58,7 @@ pub(crate) fn write_new<D: Disk>(
     ensures imported { (folder : List ℕ) → file.path ≡ path_of folder bytes.now → IfOk result (λ path. Imports (D.tells disk.old) cap (D.files disk.old) (D.files disk.new) folder bytes.now registry.old registry.new (string_bytes path)) }
     ensures kept { OnErr result (SameShards registry.old registry.new) }
     ensures refused { D.tells disk.old ≡ true → (folder : List ℕ) → file.path ≡ path_of folder bytes.now → OnErr result (MayAddShard (D.files disk.old) (D.files disk.new) folder bytes.now) }
-    ensures safe { D.tells disk.old ≡ true → (folder : List ℕ) → file.path ≡ path_of folder bytes.now → KeepsFiles (D.files disk.old) (D.files disk.new) (path_of folder bytes.now) registry.old.files }
+    ensures safe { D.tells disk.old ≡ true → (folder : List ℕ) → file.path ≡ path_of folder bytes.now → KeepsFiles (D.files disk.old) (D.files disk.new) folder bytes.now registry.old.files }
     ensures frame { Stays D.tells D.faults disk.old disk.new }
     ensures reason { IfErr result (HasDiskReason (D.faults disk.old) (D.faults disk.new)) }
 {

@@ -31,7 +31,7 @@ impl<D: Disk> ShardFileManager<D> {
         ensures memory { cut_due self.old (xorb_record_size block) ≡ false → IsOkUnless result StoreError.OutOfMemory }
         ensures cut { cut_due self.old (xorb_record_size block) ≡ true → OnOk result (IsCut self.old self.new (held (block ∷ []) [])) }
         ensures uncut { cut_due self.old (xorb_record_size block) ≡ true → IfErr result (IsUncut self.old self.new) }
-        ensures safe { self.old.tells ≡ true → KeepsFiles self.old.files self.new.files (path_of self.old.folder (flushed_bytes self.old.pending self.old.moment)) self.old.registry.files }
+        ensures safe { self.old.tells ≡ true → KeepsFiles self.old.files self.new.files self.old.folder (flushed_bytes self.old.pending self.old.moment) self.old.registry.files }
         ensures later { self.old.faults ≤ self.new.faults }
         ensures reason { IfErr result (IsFlushError self.old.faults self.new.faults) }
     {
@@ -56,7 +56,7 @@ impl<D: Disk> ShardFileManager<D> {
         ensures memory { cut_due self.old (file_record_size file) ≡ false → IsOkUnless result StoreError.OutOfMemory }
         ensures cut { cut_due self.old (file_record_size file) ≡ true → OnOk result (IsCut self.old self.new (held [] (file ∷ []))) }
         ensures uncut { cut_due self.old (file_record_size file) ≡ true → IfErr result (IsUncut self.old self.new) }
-        ensures safe { self.old.tells ≡ true → KeepsFiles self.old.files self.new.files (path_of self.old.folder (flushed_bytes self.old.pending self.old.moment)) self.old.registry.files }
+        ensures safe { self.old.tells ≡ true → KeepsFiles self.old.files self.new.files self.old.folder (flushed_bytes self.old.pending self.old.moment) self.old.registry.files }
         ensures later { self.old.faults ≤ self.new.faults }
         ensures reason { IfErr result (IsFlushError self.old.faults self.new.faults) }
     {
@@ -79,7 +79,7 @@ impl<D: Disk> ShardFileManager<D> {
         ensures idle { self.old.pending ≡ nothing → (result ≡ Ok None) × (self.new ≡ self.old) }
         ensures flushed { IfOk result (λ path. IfSome path (λ p. Cuts self.old self.new nothing self.old.room (string_bytes p))) }
         ensures refused { IfErr result (IsUncut self.old self.new) }
-        ensures safe { self.old.tells ≡ true → KeepsFiles self.old.files self.new.files (path_of self.old.folder (flushed_bytes self.old.pending self.old.moment)) self.old.registry.files }
+        ensures safe { self.old.tells ≡ true → KeepsFiles self.old.files self.new.files self.old.folder (flushed_bytes self.old.pending self.old.moment) self.old.registry.files }
         ensures later { self.old.faults ≤ self.new.faults }
         ensures reason { IfErr result (IsFlushError self.old.faults self.new.faults) }
     {
@@ -117,7 +117,7 @@ impl<D: Disk> ShardFileManager<D> {
     fn cut_to(&mut self, next: MDBInMemoryShard) -> Result<(), StoreError>
         ensures cut { OnOk result ((path : List ℕ) × Cuts self.old self.new next self.old.room path) }
         ensures uncut { IfErr result (IsUncut self.old self.new) }
-        ensures safe { self.old.tells ≡ true → KeepsFiles self.old.files self.new.files (path_of self.old.folder (flushed_bytes self.old.pending self.old.moment)) self.old.registry.files }
+        ensures safe { self.old.tells ≡ true → KeepsFiles self.old.files self.new.files self.old.folder (flushed_bytes self.old.pending self.old.moment) self.old.registry.files }
         ensures later { self.old.faults ≤ self.new.faults }
         ensures reason { IfErr result (IsFlushError self.old.faults self.new.faults) }
     {
@@ -129,7 +129,7 @@ impl<D: Disk> ShardFileManager<D> {
     fn cut(&mut self, next: MDBInMemoryShard) -> Result<String, StoreError>
         ensures cut { IfOk result (λ path. Cuts self.old self.new next self.old.room (string_bytes path)) }
         ensures uncut { IfErr result (IsUncut self.old self.new) }
-        ensures safe { self.old.tells ≡ true → KeepsFiles self.old.files self.new.files (path_of self.old.folder (flushed_bytes self.old.pending self.old.moment)) self.old.registry.files }
+        ensures safe { self.old.tells ≡ true → KeepsFiles self.old.files self.new.files self.old.folder (flushed_bytes self.old.pending self.old.moment) self.old.registry.files }
         ensures later { self.old.faults ≤ self.new.faults }
         ensures reason { IfErr result (IsFlushError self.old.faults self.new.faults) }
     {

@@ -114,10 +114,11 @@ impl<D: Disk> ShardFileManager<D> {
     }
 
     /// Writes the bytes of a shard into the folder, durably, under the name of their digest, and registers the shard;
-    /// if its hash is registered, it is only written. Returns its path. Nothing is written if the header, the footer or
-    /// the chunk lookup table is malformed, or if 2^32 - 1 shards are registered and one more is due
-    /// (`TooLarge(Shards)`). `OutOfMemory` also if the path is that of a registered shard, whose file has other bytes:
-    /// it is not replaced. After an error the same shards are registered; the file is as it was, or the write has
+    /// if its hash is registered, it is only written. If a file of that name has these bytes, it is only made durable, and
+    /// keeps its modification time. Returns its path. Nothing is written if the header, the footer or the chunk lookup
+    /// table is malformed, or if 2^32 - 1 shards are registered and one more is due (`TooLarge(Shards)`). `OutOfMemory`
+    /// also if the path is that of a registered shard whose file has other bytes, or is gone and had another header or
+    /// footer: it is not replaced. After an error the same shards are registered; the file is as it was, or the write has
     /// completed.
     pub fn import_shard_from_bytes(&mut self, bytes: &[u8]) -> Result<String, StoreError>
         ensures imported { IfOk result (λ path. Imports self.old.tells self.old.settings.index_cap self.old.files self.new.files self.old.folder bytes.now self.old.registry self.new.registry (string_bytes path)) }
@@ -125,7 +126,7 @@ impl<D: Disk> ShardFileManager<D> {
         ensures kept { OnErr result ((shards : List Registered) → IsRegistryOf shards self.old.registry → IsRegistryOf shards self.new.registry) }
         ensures refused { self.old.tells ≡ true → OnErr result (MayAddShard self.old.files self.new.files self.old.folder bytes.now) }
         ensures unwritten { self.old.tells ≡ true → IfErr result (λ e. IsCheckError e → self.new.files ≡ self.old.files) }
-        ensures safe { self.old.tells ≡ true → KeepsFiles self.old.files self.new.files (path_of self.old.folder bytes.now) self.old.registry.files }
+        ensures safe { self.old.tells ≡ true → KeepsFiles self.old.files self.new.files self.old.folder bytes.now self.old.registry.files }
         ensures rest { self.new ≡ record self.old { files = self.new.files; registry = self.new.registry; faults = self.new.faults; room = 0 } }
         ensures later { self.old.faults ≤ self.new.faults }
         ensures reason { IfErr result (IsImportError self.old.faults self.new.faults) }

@@ -52,10 +52,10 @@ abbrev pub AreExpected : List ℕ → MDBShardInfo → List MDBShardFile → Typ
 AreExpected path info ss = All (λ s. s.path ≡ path → s.shard ≡ info) ss
 
 -- The bytes are there; or they may be written: nothing is there, and the registered shards of this path have their header
--- and footer, or there is none of this path.
+-- and footer; or other bytes are there, and no registered shard has this path.
 abbrev pub IsWay : Files → List ℕ → MDBShardInfo → List MDBShardFile → List ℕ → Way → Type 0
 IsWay files path info ss bytes Keep = bytes_at files path ≡ Some bytes
-IsWay files path info ss bytes Write = ((bytes_at files path ≡ None) × AreExpected path info ss) ⊎ IsUnused path ss
+IsWay files path info ss bytes Write = ((bytes_at files path ≡ None) × AreExpected path info ss) ⊎ (IsUnused path ss × (bytes_at files path ≢ Some bytes))
 IsWay files path info ss bytes Refuse = Unit {0}
 
 -- the header and the footer of a file are those of these bytes, and so are its hash and its names

@@ -3,7 +3,7 @@ use Rattle.std.proofs.lemmas.Result.{IfOk-weaker, on_err_weaker}
 use Rattle.std.specs.Prelude.{OnErr}
 use Rattle.xet_hash.specs.declared.error.StoreError.{StoreError}
 use Rattle.xet_shard_directory.specs.Answers.{GivesUnlessDisk}
-use Rattle.xet_shard_directory.specs.Writing.{MayAddShard, path_of}
+use Rattle.xet_shard_directory.specs.Writing.{MayAddShard}
 use Rattle.xet_shard_flush.specs.Importing.{Imports, KeepsFiles, flush_check, flushed_bytes}
 use Rattle.xet_shard_flush.proofs.Registered.{imports_over, same_check}
 use Rattle.xet_shard_flush.proofs.flush.flush_prepared.Goals as goal
@@ -39,6 +39,5 @@ pub returns-in-Ok-clause-safe : goal.returns-in-Ok-clause-safe
 returns-in-Ok-clause-safe g c = λ told.
     let files = g.D.Disk.files in
     let due = c.in-Ok.ensures.due in
-    let path = path_of c.args.folder.now (flushed_bytes c.args.pending.now c.args.moment) in
-    subst (KeepsFiles (files c.args.disk.now) (files c.write_due.new.disk) path) c.in-Ok.ensures.files
-    (subst (λ (b : List ℕ). KeepsFiles (files c.args.disk.now) (files c.write_due.new.disk) (path_of c.args.folder.now b) c.due_shard.new.registry.files) due.bytes (c.write_due.ensures.safe told c.args.folder.now due.path))
+    subst (KeepsFiles (files c.args.disk.now) (files c.write_due.new.disk) c.args.folder.now (flushed_bytes c.args.pending.now c.args.moment)) c.in-Ok.ensures.files
+    (subst (λ (b : List ℕ). KeepsFiles (files c.args.disk.now) (files c.write_due.new.disk) c.args.folder.now b c.due_shard.new.registry.files) due.bytes (c.write_due.ensures.safe told c.args.folder.now due.path))

@@ -49,5 +49,5 @@ pub returns-clause-safe : goal.returns-clause-safe
 returns-clause-safe g c = λ told.
     let files = g.D.Disk.files in
     let folder = c.args.folder.now in
-    subst (KeepsFiles (files c.args.disk.now) (files c.write_new.new.disk) (path_of folder c.args.bytes.now)) c.reserve.ensures.files
+    subst (KeepsFiles (files c.args.disk.now) (files c.write_new.new.disk) folder c.args.bytes.now) c.reserve.ensures.files
     (c.write_new.ensures.safe told folder (c.in_ok-file.ensures.path ∙ ap (shard_path folder) c.requires.hash))

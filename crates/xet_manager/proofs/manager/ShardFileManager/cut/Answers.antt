@@ -17,5 +17,5 @@ returns-in-Ok-clause-safe g c =
     let old = c.self.inside in
     let new = c.flush_prepared.new.disk in
     let folder : c.as_str.result.now ≡ old.folder = cc c.as_str.ensures in
-    subst (λ (m : ManagerState). m.tells ≡ true → KeepsFiles m.files (files new) (path_of m.folder (flushed_bytes m.pending m.moment)) m.registry.files) c.self.view_is
-    (subst (λ (f : List ℕ). g.D.Disk.tells old.disk ≡ true → KeepsFiles (files old.disk) (files new) (path_of f (flushed_bytes old.pending old.moment)) old.registry.files) folder c.flush_prepared.ensures.safe)
+    subst (λ (m : ManagerState). m.tells ≡ true → KeepsFiles m.files (files new) m.folder (flushed_bytes m.pending m.moment) m.registry.files) c.self.view_is
+    (subst (λ (f : List ℕ). g.D.Disk.tells old.disk ≡ true → KeepsFiles (files old.disk) (files new) f (flushed_bytes old.pending old.moment) old.registry.files) folder c.flush_prepared.ensures.safe)
