@@ -7,7 +7,7 @@ use Rattle.std.proofs.lemmas.List.Sums.{sum_by-append, sum_by-cons}
 use Rattle.std.specs.Cmp.Lexicographic.{pointwise}
 use Rattle.std.specs.List.{flat_map, sum_by}
 use Rattle.xet_manager.specs.Adding.{IsCut, blocks_before, cut_due}
-use Rattle.xet_manager.specs.Manager.{ManagerState, SameButRoom}
+use Rattle.xet_manager.specs.Manager.{ManagerState}
 use Rattle.xet_shard.specs.Held.{held, with_last}
 use Rattle.xet_shard_format.specs.RecordSizes.{xorb_record_size}
 use Rattle.xet_shard_format.specs.Records.{end_row, section, xorb_record_hash, xorb_rows, xorb_section}
@@ -42,12 +42,12 @@ few_before m bytes x = few_of (cut_due m bytes) m.pending.blocks x
 
 -- after a xorb of two rows was added there are at most two rows more
 pub rows_after : (old new : ManagerState) (x : MDBXorbInfo) → length (xorb_rows x) ≡ 2
-    → (cut_due old (xorb_record_size x) ≡ false → SameButRoom (record old { pending = held (with_last xorb_record_hash old.pending.blocks x) old.pending.files }) new)
+    → (cut_due old (xorb_record_size x) ≡ false → new ≡ record old { pending = held (with_last xorb_record_hash old.pending.blocks x) old.pending.files; room = 0 })
     → (cut_due old (xorb_record_size x) ≡ true → IsCut old new (held (x ∷ []) []))
     → length (xorb_section new.pending.blocks) ≤ length (xorb_section old.pending.blocks) + 2
 rows_after old new x two added cut = by_cases (cut_due old (xorb_record_size x)) added cut
   where
-    by_cases : (due : Bool) → (due ≡ false → SameButRoom (record old { pending = held (with_last xorb_record_hash old.pending.blocks x) old.pending.files }) new)
+    by_cases : (due : Bool) → (due ≡ false → new ≡ record old { pending = held (with_last xorb_record_hash old.pending.blocks x) old.pending.files; room = 0 })
         → (due ≡ true → IsCut old new (held (x ∷ []) []))
         → length (xorb_section new.pending.blocks) ≤ length (xorb_section old.pending.blocks) + 2
     by_cases false added cut =
