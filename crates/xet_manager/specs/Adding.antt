@@ -42,8 +42,8 @@ pub record Cuts (old new : ManagerState) (pending : Held) (room : ℕ) (path : L
 abbrev pub IsCut : ManagerState → ManagerState → Held → Type 0
 IsCut old new pending = (path : List ℕ) × Cuts old new pending 0 path
 
--- A cut failed: the same is pending, the same shards are registered, and no room is left. The error is that of the check, after which nothing
--- was written, unless the disk failed or memory was out; then the file is as it was, or the write has completed.
+-- A cut failed: the same is pending, the same shards are registered, and no room is left. The error is that of the check,
+-- after which nothing was written, unless the disk failed or memory was out; then the file is as it was, or the write has completed.
 pub record IsUncut (old new : ManagerState) (e : StoreError) : Type 0 where
   pub rest : new ≡ record old { files = new.files; faults = new.faults; registry = new.registry; room = 0 }
   pub kept : (shards : List Registered) → IsRegistryOf shards old.registry → IsRegistryOf shards new.registry

@@ -31,7 +31,8 @@ use xet_shard_registry::ShardRegistry;
 /// has fewer than `cap` words. Nothing is written if the header or the footer is malformed, if 2^32 - 1 shards are
 /// registered and one more is due (`TooLarge(Shards)`), or if the chunk lookup table is malformed; the error is that of
 /// the first check that fails. `OutOfMemory` also if the path is that of a registered shard whose file has other
-/// bytes, or is gone and had another header or footer: it is not replaced. For a shard without a key, all memory is taken before the first write. After an error the
+/// bytes, or is gone and had another header or footer: it is not replaced. For a shard without a key, all memory is taken
+/// before the first write. After an error the
 /// same shards are registered; the file is as it was, or the write has completed.
 pub fn import_shard<D: Disk>(
     alloc: Global,

@@ -17,7 +17,7 @@ pub(crate) enum Way {
     Keep,
     /// They are written.
     Write,
-    /// Nothing: a registered shard has the path, and other bytes.
+    /// Nothing: a registered shard has the path, and its file has other bytes, or is gone and had another header or footer.
     Refuse,
 }
 
