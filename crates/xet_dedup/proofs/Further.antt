@@ -45,5 +45,5 @@ module _ {I : Type 0} (listing : I → List ℕ → Option (List ℕ)) (standing
   -- The chunk could not be stored.
   pub stops_at : (new : I) (m : PlanState) (chunk : Chunk) (choice : Choice) → slice_get b.chunks.now at ≡ Some chunk
       → Rejects p m b.hashes.now b.places.now at choice ⊎ HasNone p m b.hashes.now b.places.now b.base at choice
-      → StopsStoring m chunk (acting old) (acting new) → StopsAt b.chunks.now b.places.now b.base p at (acting old) (acting new)
+      → StopsStoring m chunk (calling old) (calling new) (acting old) (acting new) → StopsAt b.chunks.now b.places.now b.base p at (calling old) (calling new) (acting old) (acting new)
   stops_at new m chunk choice here none stops = inr (chunk, m, choice, here, of_chunks m choice none, stops)

@@ -1,5 +1,5 @@
 -- What is known of a batch once its queries and its placing are known.
-use Rattle.std.proofs.Common.{◌≡◌, ◌∙◌, ◌==◌, ℕ, true, false, true≢false, List, [], ◌∷◌, ◌++◌, length, map, Option, sym, ap, subst, arith}
+use Rattle.std.proofs.Common.{◌≡◌, ◌∙◌, ◌==◌, ℕ, Bool, true, false, true≢false, List, [], ◌∷◌, ◌++◌, length, map, Option, sym, ap, subst, arith}
 use Rattle.std.proofs.lemmas.Bool.Decides.{nat_tests}
 use Rattle.std.proofs.lemmas.List.{append-nil}
 use Rattle.xet_choices.specs.Calls.{Call}
@@ -17,6 +17,10 @@ use Rattle.xet_file_plan.specs.Moves.{PlanState}
 use Rattle.xet_shard_format.specs.declared.record.FileDataSequenceEntry.{FileDataSequenceEntry as Segment}
 use Rattle.xet_xorb_chunk.specs.declared.chunk.Chunk.{Chunk}
 use Rattle.xet_xorb_chunk.specs.Chunks.{chunk_leaf}
+
+-- a list that is not empty
+pub is_some : (ds : List FileXorbDependency) → (length ds == 0) ≡ false → ds ≡ [] → ⊥
+is_some ds some none = true≢false (sym (ap (λ (l : List FileXorbDependency). length l == 0) none) ∙ some)
 
 -- The dependencies of a batch are noted at its end, if there are any.
 pub notes_some : (ds : List FileXorbDependency) (old new : List Act) → (length ds == 0) ≡ false → new ≡ old ++ Noted ds ∷ [] → new ≡ old ++ noted_at_end ds
@@ -36,11 +40,11 @@ module _ {I : Type 0} (listing : I → List ℕ → Option (List ℕ)) (standing
   of_chunks = hashes_are ∙ ap hashes_of leaves_are
 
   -- The queries stopped.
-  pub stops_asking : (new : I) → StopsAsking (base == 0) hashes (acting old) (acting new) → StopsBatch listing standing calling acting file_id chunks old p new
-  stops_asking new stops =
+  pub stops_asking : (is_global : Bool) (new : I) → StopsAsking is_global (base == 0) hashes (calling old) (calling new) (acting old) (acting new) → StopsBatch is_global listing standing calling acting file_id chunks old p new
+  stops_asking is_global new stops =
       asking
-      (subst (λ (n : ℕ). StopsAsking (n == 0) (hashes_of (map chunk_leaf chunks)) (acting old) (acting new)) base_is
-      (subst (λ (hs : List (List ℕ)). StopsAsking (base == 0) hs (acting old) (acting new)) of_chunks stops))
+      (subst (λ (n : ℕ). StopsAsking is_global (n == 0) (hashes_of (map chunk_leaf chunks)) (calling old) (calling new) (acting old) (acting new)) base_is
+      (subst (λ (hs : List (List ℕ)). StopsAsking is_global (base == 0) hs (calling old) (calling new) (acting old) (acting new)) of_chunks stops))
 
   -- All queries were made.
   module _ (queried new : I) (places seen : List Place) (global_chunks global_bytes : ℕ) (same : seen ≡ places) (asked : IsAsked (base == 0) hashes (calling old) (calling queried) (acting old) (acting queried) places global_chunks global_bytes) where
@@ -53,10 +57,15 @@ module _ {I : Type 0} (listing : I → List ℕ → Option (List ℕ)) (standing
     pub is_queried : RegistersAlone (calling queried) (calling new) → IsQueried calling acting (length p.leaves == 0) hashes old new global_chunks global_bytes
     is_queried registers = record { places = places; queried = queried; asked = asked_of_plan; registered = registers }
 
+    -- the places, by the chunks
+    found_of_chunks : (added : List Call) → ArePlaces (listing queried) (standing queried) (calling old) added hashes places → ArePlaces (listing queried) (standing queried) (calling old) added (hashes_of (map chunk_leaf chunks)) places
+    found_of_chunks added = subst (λ (hs : List (List ℕ)). ArePlaces (listing queried) (standing queried) (calling old) added hs places) of_chunks
+
     -- The placing stopped.
-    pub stops_placing : StopsPlacing listing standing calling acting chunks seen base file_id queried p new → StopsBatch listing standing calling acting file_id chunks old p new
-    stops_placing stops =
-        placing queried places global_chunks global_bytes asked_of_chunks
+    pub stops_placing : (is_global : Bool) → (added : List Call) × (calling queried ≡ calling old ++ added) × ArePlaces (listing queried) (standing queried) (calling old) added hashes places
+        → StopsPlacing listing standing calling acting chunks seen base file_id queried p new → StopsBatch is_global listing standing calling acting file_id chunks old p new
+    stops_placing is_global found stops =
+        placing queried found.0 places global_chunks global_bytes found.1 (found_of_chunks found.0 found.2) asked_of_chunks
         (subst (λ (n : ℕ). StopsPlacing listing standing calling acting chunks places n file_id queried p new) base_is
         (subst (λ (ps : List Place). StopsPlacing listing standing calling acting chunks ps base file_id queried p new) same stops))
 
@@ -69,7 +78,7 @@ module _ {I : Type 0} (listing : I → List ℕ → Option (List ℕ)) (standing
       calls = found.1;
       places = places;
       asked = asked_of_chunks;
-      found = subst (λ (hs : List (List ℕ)). ArePlaces (listing queried) (standing queried) (calling old) found.0 hs places) of_chunks found.2;
+      found = found_of_chunks found.0 found.2;
       placed =
           subst (λ (n : ℕ). ArePlaced listing standing calling acting chunks places n file_id queried p new q) base_is
           (subst (λ (ps : List Place). ArePlaced listing standing calling acting chunks ps base file_id queried p new q) same are);

@@ -47,6 +47,7 @@ module _ (listing listing' : List ℕ → Option (List ℕ)) (standing standing'
   places_stay before calls hashes places are = record {
     counted = are.counted;
     each = λ i h place e f. place_stays calls hashes places i h place (are.each i h place e f);
+    inside = are.inside;
     ascend = are.ascend;
     later = are.later;
   }

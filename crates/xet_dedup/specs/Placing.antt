@@ -128,13 +128,14 @@ abbrev pub noted_at_end : List FileXorbDependency → List Act
 noted_at_end [] = []
 noted_at_end (d ∷ ds) = Noted (d ∷ ds) ∷ []
 
--- All chunks of a batch are placed. Then the dependencies of the file are noted.
+-- All chunks of a batch are placed. Then the dependencies of the file are noted. If there are none, nothing more is done.
 pub record ArePlaced {I : Type 0} (listing : I → List ℕ → Option (List ℕ)) (standing : I → List (List ℕ) → Segment → Type 0) (calling : I → List Call) (acting : I → List Act) (chunks : List Chunk) (places : List Place) (base file_id : ℕ) (old : I) (p : PlanState) (new : I) (q : PlanState) : Type 0 where
   pub last : I
   pub noted : List FileXorbDependency
   pub placed : PlacesTo listing standing calling acting chunks places base file_id old p last q (length chunks) noted
   pub calls : calling new ≡ calling last
   pub acts : acting new ≡ acting last ++ noted_at_end noted
+  pub same : noted ≡ [] → new ≡ last
 
 -- A batch of the file with this number is placed: queries find these places of its chunks, and by them the chunks are placed.
 -- These are the numbers of chunks and of bytes of the runs that the second pass of the queries found.
@@ -147,21 +148,23 @@ pub record IsPlaced {I : Type 0} (listing : I → List ℕ → Option (List ℕ)
   pub found : ArePlaces (listing queried) (standing queried) (calling old) added (hashes_of (map chunk_leaf chunks)) places
   pub placed : ArePlaced listing standing calling acting chunks places (length p.leaves) file_id queried p new q
 
--- A chunk could not be stored: nothing was done; or the chunk does not fit into the open block, which was registered.
-abbrev pub StopsStoring : PlanState → Chunk → List Act → List Act → Type 0
-StopsStoring p chunk old new =
-    (new ≡ old)
+-- A chunk could not be stored: nothing was called; or the chunk does not fit into the open block, which was registered. The
+-- calls and the acts before and after are given.
+abbrev pub StopsStoring : PlanState → Chunk → List Call → List Call → List Act → List Act → Type 0
+StopsStoring p chunk old new acts_before acts_after =
+    ((new ≡ old) × (acts_after ≡ acts_before))
     ⊎ ((fits p.settings (map chunk_leaf p.block) (length chunk.bytes) ≡ false)
-    × (new ≡ old ++ Stored (raw_of p.block (0 ∷ [])) (chunk_leaf chunk ∷ []) ∷ []))
+    × (new ≡ old ++ Registered (raw_leaves (raw_of p.block (0 ∷ []))) (chunk_leaf chunk ∷ []) ∷ [])
+    × (acts_after ≡ acts_before ++ Stored (raw_of p.block (0 ∷ [])) (chunk_leaf chunk ∷ []) ∷ []))
 
--- The placing of a batch stopped at a place, where `q` is the plan: nothing was done there; or the run at the place was
+-- The placing of a batch stopped at a place, where `q` is the plan: nothing was called there; or the run at the place was
 -- rejected or there is none, and the chunk there could not be stored.
-abbrev pub StopsAt : List Chunk → List Place → ℕ → PlanState → ℕ → List Act → List Act → Type 0
-StopsAt chunks places base q at old new =
-    (new ≡ old)
+abbrev pub StopsAt : List Chunk → List Place → ℕ → PlanState → ℕ → List Call → List Call → List Act → List Act → Type 0
+StopsAt chunks places base q at old new acts_before acts_after =
+    ((new ≡ old) × (acts_after ≡ acts_before))
     ⊎ ((chunk : Chunk) × (m : PlanState) × (choice : Choice) × (slice_get chunks at ≡ Some chunk)
     × (Rejects q m (hashes_of (map chunk_leaf chunks)) places at choice ⊎ HasNone q m (hashes_of (map chunk_leaf chunks)) places base at choice)
-    × StopsStoring m chunk old new)
+    × StopsStoring m chunk old new acts_before acts_after)
 
 -- The placing of a batch stopped at a place, after the chunks before it were placed.
 pub record StopsPlacing {I : Type 0} (listing : I → List ℕ → Option (List ℕ)) (standing : I → List (List ℕ) → Segment → Type 0) (calling : I → List Call) (acting : I → List Act) (chunks : List Chunk) (places : List Place) (base file_id : ℕ) (old : I) (p : PlanState) (new : I) : Type 0 where
@@ -170,12 +173,15 @@ pub record StopsPlacing {I : Type 0} (listing : I → List ℕ → Option (List 
   pub at : ℕ
   pub noted : List FileXorbDependency
   pub placed : PlacesTo listing standing calling acting chunks places base file_id old p now plan at noted
-  pub acts : StopsAt chunks places base plan at (acting now) (acting new)
+  pub stops : StopsAt chunks places base plan at (calling now) (calling new) (acting now) (acting new)
 
--- A batch was not placed. Its queries stopped; or they were all made, and the placing stopped. No dependency was noted.
-pub data StopsBatch {I : Type 0} (listing : I → List ℕ → Option (List ℕ)) (standing : I → List (List ℕ) → Segment → Type 0) (calling : I → List Call) (acting : I → List Act) (file_id : ℕ) (chunks : List Chunk) (old : I) (p : PlanState) (new : I) : Type 0 where
-  asking : StopsAsking (length p.leaves == 0) (hashes_of (map chunk_leaf chunks)) (acting old) (acting new) → StopsBatch listing standing calling acting file_id chunks old p new
-  placing : (queried : I) (places : List Place) (global_chunks global_bytes : ℕ)
+-- A batch was not placed. Its queries stopped; or they were all made, and found these places, and the placing stopped. No
+-- dependency was noted.
+pub data StopsBatch {I : Type 0} (is_global : Bool) (listing : I → List ℕ → Option (List ℕ)) (standing : I → List (List ℕ) → Segment → Type 0) (calling : I → List Call) (acting : I → List Act) (file_id : ℕ) (chunks : List Chunk) (old : I) (p : PlanState) (new : I) : Type 0 where
+  asking : StopsAsking is_global (length p.leaves == 0) (hashes_of (map chunk_leaf chunks)) (calling old) (calling new) (acting old) (acting new) → StopsBatch is_global listing standing calling acting file_id chunks old p new
+  placing : (queried : I) (added : List Call) (places : List Place) (global_chunks global_bytes : ℕ)
+      → calling queried ≡ calling old ++ added
+      → ArePlaces (listing queried) (standing queried) (calling old) added (hashes_of (map chunk_leaf chunks)) places
       → IsAsked (length p.leaves == 0) (hashes_of (map chunk_leaf chunks)) (calling old) (calling queried) (acting old) (acting queried) places global_chunks global_bytes
       → StopsPlacing listing standing calling acting chunks places (length p.leaves) file_id queried p new
-      → StopsBatch listing standing calling acting file_id chunks old p new
+      → StopsBatch is_global listing standing calling acting file_id chunks old p new

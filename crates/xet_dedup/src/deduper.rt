@@ -90,7 +90,7 @@ impl<I: DeduplicationDataInterface> FileDeduper<I> {
         ensures plan { OnOk result (IsDeduped (I.lists self.new.interface) (I.stands self.new.interface) (I.calls self.new.start.value) (I.calls self.new.interface) (I.cut_limits self.new.interface) self.new.plan) }
         ensures leaves { OnOk result (self.new.plan.leaves ≡ self.old.plan.leaves ++ map chunk_leaf chunks.now) }
         ensures placed { IfOk result (λ m. IsPlaced I.lists I.stands I.calls I.acts self.old.file_id chunks.now self.old.interface self.old.plan self.new.interface self.new.plan m.deduped_chunks_by_global_dedup m.deduped_bytes_by_global_dedup) }
-        ensures stopped { OnErr result (StopsBatch I.lists I.stands I.calls I.acts self.old.file_id chunks.now self.old.interface self.old.plan self.new.interface) }
+        ensures stopped { OnErr result (StopsBatch I.is_global I.lists I.stands I.calls I.acts self.old.file_id chunks.now self.old.interface self.old.plan self.new.interface) }
         ensures choices { OnOk result (self.new.plan.choices ≡ self.old.plan.choices ++ drop (length self.old.plan.choices) self.new.plan.choices) }
         ensures runs { OnOk result (RunsEnd (map chunk_leaf chunks.now) (drop (length self.old.plan.choices) self.new.plan.choices)) }
         ensures metrics { IfOk result (λ m. m ≡ metrics_of (map chunk_leaf chunks.now) (drop (length self.old.plan.choices) self.new.plan.choices) m.deduped_chunks_by_global_dedup m.deduped_bytes_by_global_dedup) }

@@ -37,7 +37,7 @@ pub(crate) fn place_batch<I: DeduplicationDataInterface>(
     ensures plan { OnOk result (IsDeduped (I.lists interface.new) (I.stands interface.new) (I.calls start.now.value) (I.calls interface.new) (I.cut_limits interface.new) plan.new) }
     ensures leaves { OnOk result (plan.new.leaves ≡ plan.old.leaves ++ map chunk_leaf chunks.now) }
     ensures placed { IfOk result (λ global. IsPlaced I.lists I.stands I.calls I.acts file_id chunks.now interface.old plan.old interface.new plan.new global.0 global.1) }
-    ensures stopped { OnErr result (StopsBatch I.lists I.stands I.calls I.acts file_id chunks.now interface.old plan.old interface.new) }
+    ensures stopped { OnErr result (StopsBatch I.is_global I.lists I.stands I.calls I.acts file_id chunks.now interface.old plan.old interface.new) }
     ensures choices { OnOk result (AddsChoices (map chunk_leaf chunks.now) plan.old.choices plan.new.choices (length chunks.now)) }
     ensures settings { OnOk result (plan.new.settings ≡ plan.old.settings) }
     ensures asked { IfOk result (λ global. IsQueried I.calls I.acts (length plan.old.leaves == 0) (hashes_of (map chunk_leaf chunks.now)) interface.old interface.new global.0 global.1) }
@@ -89,7 +89,7 @@ fn place_listed<I: DeduplicationDataInterface>(
     ensures plan { OnOk result (IsDeduped (I.lists interface.new) (I.stands interface.new) (I.calls start.now.value) (I.calls interface.new) (I.cut_limits interface.new) plan.new) }
     ensures leaves { OnOk result (plan.new.leaves ≡ plan.old.leaves ++ leaves.now) }
     ensures placed { IfOk result (λ global. IsPlaced I.lists I.stands I.calls I.acts file_id chunks.now interface.old plan.old interface.new plan.new global.0 global.1) }
-    ensures stopped { OnErr result (StopsBatch I.lists I.stands I.calls I.acts file_id chunks.now interface.old plan.old interface.new) }
+    ensures stopped { OnErr result (StopsBatch I.is_global I.lists I.stands I.calls I.acts file_id chunks.now interface.old plan.old interface.new) }
     ensures choices { OnOk result (AddsChoices leaves.now plan.old.choices plan.new.choices (length chunks.now)) }
     ensures settings { OnOk result (plan.new.settings ≡ plan.old.settings) }
     ensures asked { IfOk result (λ global. IsQueried I.calls I.acts (length plan.old.leaves == 0) hashes.now interface.old interface.new global.0 global.1) }

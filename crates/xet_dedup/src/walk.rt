@@ -96,7 +96,7 @@ fn step<I: DeduplicationDataInterface>(
     ensures walked { IfOk result (λ count. Walks I.lists I.stands I.calls start.now.value interface.new batch.now (at + count) plan.new) }
     ensures leaves { IfOk result (λ count. plan.new.leaves ++ drop (at + count) batch.now.leaves.now ≡ plan.old.leaves ++ drop at batch.now.leaves.now) }
     ensures placed { IfOk result (λ count. Places I.lists I.stands I.calls I.acts batch.now interface.old plan.old at dependencies.old.items interface.new plan.new (at + count) dependencies.new.items) }
-    ensures stopped { OnErr result (StopsAt batch.now.chunks.now batch.now.places.now batch.now.base plan.old at (I.acts interface.old) (I.acts interface.new)) }
+    ensures stopped { OnErr result (StopsAt batch.now.chunks.now batch.now.places.now batch.now.base plan.old at (I.calls interface.old) (I.calls interface.new) (I.acts interface.old) (I.acts interface.new)) }
     ensures added { IfOk result (λ count. AddsChoices (drop at batch.now.leaves.now) plan.old.choices plan.new.choices count) }
     ensures settings { OnOk result (plan.new.settings ≡ plan.old.settings) }
     ensures calls { RegistersAlone (I.calls interface.old) (I.calls interface.new) }
@@ -242,7 +242,7 @@ pub(crate) fn store<I: DeduplicationDataInterface>(
     requires room { length plan.old.leaves + 1 ≤ max_chunks }
     requires limits { I.cut_limits interface.old ≡ (plan.old.settings.cut_bytes, plan.old.settings.cut_chunks) }
     ensures stored { OnOk result (Stores I.lists I.stands I.calls I.acts interface.old interface.new plan.old plan.new chunk.now choice) }
-    ensures stopped { OnErr result (StopsStoring plan.old chunk.now (I.acts interface.old) (I.acts interface.new)) }
+    ensures stopped { OnErr result (StopsStoring plan.old chunk.now (I.calls interface.old) (I.calls interface.new) (I.acts interface.old) (I.acts interface.new)) }
     ensures noted { OnOk result (dependencies.new.items ≡ dependencies.old.items ++ block_dependencies file_id plan.old chunk.now) }
     ensures calls { RegistersAlone (I.calls interface.old) (I.calls interface.new) }
     ensures extends { Extends I.lists I.stands I.refused I.cut_limits interface.old interface.new }

@@ -184,6 +184,14 @@ module _ (listing grown : List ℕ → Option (List ℕ)) (standing stands_now :
     small = omega (arith, was.small);
   }
 
+-- the calls after a query that found nothing
+asked_more : (old asked_before added calls after : List Call) (hashes : List (List ℕ)) (at entry : ℕ) (first : List ℕ) → slice_get hashes at ≡ Some first → after ≡ calls ++ asked entry (drop at hashes) None
+    → calls ≡ old ++ (asked_before ++ added) → after ≡ old ++ (asked_before ++ (added ++ Asked entry (take 1 (drop at hashes)) None ∷ []))
+asked_more old asked_before added calls after hashes at entry first begins_with calls_are appended =
+    let one : List Call = Asked entry (take 1 (drop at hashes)) None ∷ [] in
+    calls_are ∙ ap (λ (c : List Call). calls ++ c) (asked_one entry (drop at hashes) None first (drop (suc at) hashes) (drop_from hashes at first begins_with))
+    ∙ ap (λ (c : List Call). c ++ one) appended ∙ append_assoc old (asked_before ++ added) one ∙ ap (λ (c : List Call). old ++ c) (append_assoc asked_before added one)
+
 -- The pass after a query that found nothing. `last` is the number of the latest query.
 pub missed_step : (listing grown : List ℕ → Option (List ℕ)) (standing stands_now : List (List ℕ) → Segment → Type 0) → ((h lengths : List ℕ) → listing h ≡ Some lengths → grown h ≡ Some lengths) → ((hs : List (List ℕ)) (r : Segment) → standing hs r → stands_now hs r)
     → (round : Round) (hashes : List (List ℕ)) (began : Began) (calls after : List Call) (acts acts_after : List Act) (places : List Place) (at chunks bytes entry last : ℕ) (first : List ℕ) (old : Place)
@@ -201,18 +209,22 @@ missed_step listing grown standing stands_now lists stands round hashes began ca
 
 module _ (listing : List ℕ → Option (List ℕ)) (standing : List (List ℕ) → Segment → Type 0) (round : Round) (hashes : List (List ℕ)) (began : Began) (calls : List Call) (acts : List Act) (places : List Place) (at chunks bytes : ℕ) (was : IsPassing listing standing round hashes began calls acts places at chunks bytes) where
   -- A call fails before the next query is answered.
-  pub stops_here : (after : List Act) → after ≡ acts → StopsPassing round hashes began after
-  stops_here after same = record {
+  pub stops_here : (later : List Call) (after : List Act) → later ≡ calls → after ≡ acts → StopsPassing round hashes began later after
+  stops_here later after uncalled same = record {
+    added = was.added;
+    appended = uncalled ∙ was.appended;
     done = was.done;
     acted = same ∙ was.acted;
     passes = to_place at (map kept_found places) was.entries was.added was.done was.passes;
   }
 
   -- A query finds nothing, and can't be begun elsewhere.
-  pub stops_missed : (after : List Act) (first : List ℕ) → slice_get (map kept_found places) at ≡ Some None → slice_get hashes at ≡ Some first → is_worth_asking round at first ≡ true
-      → after ≡ acts ++ Queried (drop at hashes) None ∷ [] → StopsPassing round hashes began after
-  stops_missed after first free begins_with worth same = record {
+  pub stops_missed : (later : List Call) (after : List Act) (entry : ℕ) (first : List ℕ) → slice_get (map kept_found places) at ≡ Some None → slice_get hashes at ≡ Some first → is_worth_asking round at first ≡ true
+      → later ≡ calls ++ asked entry (drop at hashes) None → after ≡ acts ++ Queried (drop at hashes) None ∷ [] → StopsPassing round hashes began later after
+  stops_missed later after entry first free begins_with worth called same = record {
+    added = was.added ++ Asked entry (take 1 (drop at hashes)) None ∷ [];
+    appended = asked_more began.old began.asked was.added calls later hashes at entry first begins_with called was.appended;
     done = was.done ++ Queried (drop at hashes) None ∷ [];
     acted = same ∙ ap (λ (a : List Act). a ++ Queried (drop at hashes) None ∷ []) was.acted ∙ append_assoc began.acts was.done (Queried (drop at hashes) None ∷ []);
-    passes = to_query at first (map kept_found places) was.entries was.added was.done was.passes free begins_with worth;
+    passes = to_query at entry first (map kept_found places) was.entries was.added was.done was.passes free begins_with worth;
   }

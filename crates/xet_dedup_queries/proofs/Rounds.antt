@@ -113,6 +113,7 @@ module _ (listing : List ℕ → Option (List ℕ)) (standing : List (List ℕ) 
   passing_ends = record {
     counted = was.counted;
     each = all_true;
+    inside = was.inside;
     ascend = λ i j m n lt is_m is_n. was.ascend i j m n lt (omega (arith, slice_get_within places j (Missed n) is_n, was.counted)) is_m is_n;
     later = λ i m n h reply is_m is. was.later i m n h reply (omega (arith, slice_get_within places i (Missed m) is_m, was.counted)) is_m
         (asked_stays began.old began.asked (began.old ++ began.asked) n h reply refl is);
@@ -131,12 +132,19 @@ second_grows listing grown standing stands_now lists stands round next hashes be
     passing_grows listing grown standing stands_now lists stands next hashes (second_start began.old (began.asked ++ was.added) acts_after was.entries places) calls after acts_after places same 0 0 0
     (second_begins listing standing round hashes began calls acts places at chunks bytes was end next acts_after)
 
+-- Where queries elsewhere have found something, they were sent.
+is_sent : (is_global found : Bool) → (is_global ≡ false → found ≡ false) → found ≡ true → is_global ≡ true
+is_sent true found none is = refl
+is_sent false found none is = absurd (cc (none refl, is))
+
 -- A call of the first pass failed.
-pub stops_in_first : (is_first : Bool) (hashes : List (List ℕ)) (old : List Call) (acts after : List Act) → StopsPassing (First is_first) hashes (first_start hashes old acts) after → StopsAsking is_first hashes acts after
-stops_in_first is_first hashes old acts after stops = record {
+pub stops_in_first : (is_global is_first : Bool) (hashes : List (List ℕ)) (old later : List Call) (acts after : List Act) → StopsPassing (First is_first) hashes (first_start hashes old acts) later after → StopsAsking is_global is_first hashes old later acts after
+stops_in_first is_global is_first hashes old later acts after stops = record {
+  added = stops.added;
   done = stops.done;
+  calls = stops.appended;
   acts = stops.acted;
-  asks = in_first stops.done stops.passes;
+  asks = in_first stops.added stops.done stops.passes;
 }
 
 module _ (listing : List ℕ → Option (List ℕ)) (standing : List (List ℕ) → Segment → Type 0) (is_first : Bool) (hashes : List (List ℕ)) (old mid : List Call) (acts_old acts_mid : List Act) (places : List Place) (at chunks bytes : ℕ) (was : IsPassing listing standing (First is_first) hashes (first_start hashes old acts_old) mid acts_mid places at chunks bytes) (end : at ≡ length hashes) where
@@ -181,12 +189,12 @@ module _ (listing : List ℕ → Option (List ℕ)) (standing : List (List ℕ) 
   }
 
   -- The queries elsewhere can't be ended.
-  pub stops_ending : (after : List Act) → after ≡ acts_mid → StopsAsking is_first hashes acts_old after
-  stops_ending after same =
-      stops_in_first is_first hashes old acts_old after
-      (stops_here listing standing (First is_first) hashes (first_start hashes old acts_old) mid acts_mid places at chunks bytes was after same)
+  pub stops_ending : (is_global : Bool) (later : List Call) (after : List Act) → later ≡ mid → after ≡ acts_mid → StopsAsking is_global is_first hashes old later acts_old after
+  stops_ending is_global later after uncalled same =
+      stops_in_first is_global is_first hashes old later acts_old after
+      (stops_here listing standing (First is_first) hashes (first_start hashes old acts_old) mid acts_mid places at chunks bytes was later after uncalled same)
 
-  module _ (acts_next : List Act) (found : Bool) (ended : acts_next ≡ acts_mid ++ Ended found ∷ []) (yes : found ≡ true) where
+  module _ (acts_next : List Act) (is_global found : Bool) (ended : acts_next ≡ acts_mid ++ Ended found ∷ []) (yes : found ≡ true) (none : is_global ≡ false → found ≡ false) where
     -- the acts of the first pass, the end of the queries elsewhere and further acts
     acts_on : (after more : List Act) → after ≡ acts_next ++ more → after ≡ acts_old ++ (was.done ++ Ended true ∷ more)
     acts_on after more same =
@@ -195,19 +203,21 @@ module _ (listing : List ℕ → Option (List ℕ)) (standing : List (List ℕ) 
         ∙ ap (λ (a : List Act). acts_old ++ a) (append_assoc was.done (Ended true ∷ []) more)
 
     -- A call of the second pass failed.
-    pub stops_in_second : (after : List Act) → StopsPassing Second hashes (second_start old was.added acts_next was.entries places) after → StopsAsking is_first hashes acts_old after
-    stops_in_second after stops = record {
+    pub stops_in_second : (later : List Call) (after : List Act) → StopsPassing Second hashes (second_start old was.added acts_next was.entries places) later after → StopsAsking is_global is_first hashes old later acts_old after
+    stops_in_second later after stops = record {
+      added = was.added ++ stops.added;
       done = was.done ++ Ended true ∷ stops.done;
+      calls = stops.appended;
       acts = acts_on after stops.done stops.acted;
-      asks = in_second (map kept_found places) was.entries was.added was.done stops.done first_whole stops.passes;
+      asks = in_second (map kept_found places) was.entries was.added stops.added was.done stops.done (is_sent is_global found none yes) first_whole stops.passes;
     }
 
     module _ (grown : List ℕ → Option (List ℕ)) (stands_now : List (List ℕ) → Segment → Type 0) (last : List Call) (acts_last : List Act) (new : List Place) (upto chunks_now bytes_now : ℕ) (now : IsPassing grown stands_now Second hashes (second_start old was.added acts_next was.entries places) last acts_last new upto chunks_now bytes_now) (over : upto ≡ length hashes) where
       -- The queries elsewhere can't be ended again.
-      pub stops_ending_again : (after : List Act) → after ≡ acts_last → StopsAsking is_first hashes acts_old after
-      stops_ending_again after same =
-          stops_in_second after
-          (stops_here grown stands_now Second hashes (second_start old was.added acts_next was.entries places) last acts_last new upto chunks_now bytes_now now after same)
+      pub stops_ending_again : (later : List Call) (after : List Act) → later ≡ last → after ≡ acts_last → StopsAsking is_global is_first hashes old later acts_old after
+      stops_ending_again later after uncalled same =
+          stops_in_second later after
+          (stops_here grown stands_now Second hashes (second_start old was.added acts_next was.entries places) last acts_last new upto chunks_now bytes_now now later after uncalled same)
 
       -- The batch was queried in two passes.
       pub asked_twice : (after : List Call) (acts_after : List Act) (again : Bool) → after ≡ last → acts_after ≡ acts_last ++ Ended again ∷ [] → IsAsked is_first hashes old after acts_old acts_after new chunks_now bytes_now

@@ -1,4 +1,5 @@
--- What was done with a store: each call that did not fail, with its arguments and its answer.
+-- What was done with a store: each call that did not fail, with its arguments and its answer. To ask for the number of the
+-- last query is none.
 use Rattle.std.specs.Prelude.{ℕ, Bool, List, Option}
 use Rattle.xet_dedup_queries.specs.declared.interface.FileXorbDependency.{FileXorbDependency}
 use Rattle.xet_shard_format.specs.declared.record.FileDataSequenceEntry.{FileDataSequenceEntry as Segment}

@@ -53,14 +53,15 @@ pub data PassesTo (round : Round) (hashes : List (List ℕ)) (before : List (Opt
       (calls ++ Asked entry (take 1 (drop i hashes)) None ∷ [])
       (acts ++ Queried (drop i hashes) None ∷ begun round i hash)
 
--- The acts of a pass up to some index; or up to a query there that found nothing, and was to be begun elsewhere, which failed.
-pub data PassesUpTo (round : Round) (hashes : List (List ℕ)) (before : List (Option Found)) (earlier : List (Option ℕ)) : List Act → Type 0 where
+-- The queries and the acts of a pass up to some index; or up to a query there that found nothing, and was to be begun
+-- elsewhere, which failed.
+pub data PassesUpTo (round : Round) (hashes : List (List ℕ)) (before : List (Option Found)) (earlier : List (Option ℕ)) : List Call → List Act → Type 0 where
   to_place : (i : ℕ) (kept : List (Option Found)) (entries : List (Option ℕ)) (calls : List Call) (acts : List Act)
-      → PassesTo round hashes before earlier i kept entries calls acts → PassesUpTo round hashes before earlier acts
-  to_query : (i : ℕ) (hash : List ℕ) (kept : List (Option Found)) (entries : List (Option ℕ)) (calls : List Call) (acts : List Act)
+      → PassesTo round hashes before earlier i kept entries calls acts → PassesUpTo round hashes before earlier calls acts
+  to_query : (i entry : ℕ) (hash : List ℕ) (kept : List (Option Found)) (entries : List (Option ℕ)) (calls : List Call) (acts : List Act)
       → PassesTo round hashes before earlier i kept entries calls acts
       → slice_get kept i ≡ Some None → slice_get hashes i ≡ Some hash → is_worth_asking round i hash ≡ true
-      → PassesUpTo round hashes before earlier (acts ++ Queried (drop i hashes) None ∷ [])
+      → PassesUpTo round hashes before earlier (calls ++ Asked entry (take 1 (drop i hashes)) None ∷ []) (acts ++ Queried (drop i hashes) None ∷ [])
 
 -- the runs that are kept at places where none was kept before
 abbrev pub new_runs : List (Option Found) → List (Option Found) → List Segment

@@ -18,7 +18,7 @@ none_kept hashes = replicate (length hashes) None
 abbrev pub none_asked : List (List ℕ) → List (Option ℕ)
 none_asked hashes = replicate (length hashes) None
 
--- Each place from which a query found nothing has the entry of the last query from there.
+-- Each missed place has the entry of the last query from there.
 pub record AreLatest (entries : List (Option ℕ)) (places : List Place) : Type 0 where
   pub each : (i entry : ℕ) → slice_get places i ≡ Some (Missed entry) → slice_get entries i ≡ Some (Some entry)
 
@@ -58,17 +58,21 @@ pub record IsAsked (is_first : Bool) (hashes : List (List ℕ)) (old new : List 
   pub chunks_found : chunks ≡ sum_by run_len (new_runs between (map kept_found places))
   pub bytes_found : bytes ≡ sum_by (λ run. run.unpacked_segment_bytes) (new_runs between (map kept_found places))
 
--- The acts of a batch up to a call that failed, or that was not made: those of the first pass up to there; or those of the
--- first pass, the end of the queries elsewhere, which had found something, and those of the second pass up to there.
-pub data AsksUpTo (is_first : Bool) (hashes : List (List ℕ)) : List Act → Type 0 where
-  in_first : (acts : List Act) → PassesUpTo (First is_first) hashes (none_kept hashes) (none_asked hashes) acts → AsksUpTo is_first hashes acts
-  in_second : (between : List (Option Found)) (entries_between : List (Option ℕ)) (calls : List Call) (acts more : List Act)
+-- The queries and the acts of a batch up to a call that failed, or that was not made: those of the first pass up to there; or,
+-- if queries may be sent elsewhere, those of the first pass, the end of the queries elsewhere, which had found something, and
+-- those of the second pass up to there.
+pub data AsksUpTo (is_global is_first : Bool) (hashes : List (List ℕ)) : List Call → List Act → Type 0 where
+  in_first : (calls : List Call) (acts : List Act) → PassesUpTo (First is_first) hashes (none_kept hashes) (none_asked hashes) calls acts → AsksUpTo is_global is_first hashes calls acts
+  in_second : (between : List (Option Found)) (entries_between : List (Option ℕ)) (calls again : List Call) (acts more : List Act)
+      → is_global ≡ true
       → PassesTo (First is_first) hashes (none_kept hashes) (none_asked hashes) (length hashes) between entries_between calls acts
-      → PassesUpTo Second hashes between entries_between more
-      → AsksUpTo is_first hashes (acts ++ Ended true ∷ more)
+      → PassesUpTo Second hashes between entries_between again more
+      → AsksUpTo is_global is_first hashes (calls ++ again) (acts ++ Ended true ∷ more)
 
--- The acts after are those before and then those of a batch up to a call that failed, or that was not made.
-pub record StopsAsking (is_first : Bool) (hashes : List (List ℕ)) (acts_before acts_after : List Act) : Type 0 where
+-- The calls and the acts after are those before and then those of a batch up to a call that failed, or that was not made.
+pub record StopsAsking (is_global is_first : Bool) (hashes : List (List ℕ)) (old new : List Call) (acts_before acts_after : List Act) : Type 0 where
+  pub added : List Call
   pub done : List Act
+  pub calls : new ≡ old ++ added
   pub acts : acts_after ≡ acts_before ++ done
-  pub asks : AsksUpTo is_first hashes done
+  pub asks : AsksUpTo is_global is_first hashes added done

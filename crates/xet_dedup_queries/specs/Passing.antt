@@ -46,11 +46,13 @@ pub record IsPassing (listing : List ℕ → Option (List ℕ)) (standing : List
   pub few : chunks ≤ at
   pub small : bytes ≤ at * 4294967295
 
--- A pass that began so stopped at a call that failed. The acts are given.
-pub record StopsPassing (round : Round) (hashes : List (List ℕ)) (began : Began) (acts : List Act) : Type 0 where
+-- A pass that began so stopped at a call that failed. The calls and the acts are given.
+pub record StopsPassing (round : Round) (hashes : List (List ℕ)) (began : Began) (calls : List Call) (acts : List Act) : Type 0 where
+  pub added : List Call
+  pub appended : calls ≡ began.old ++ (began.asked ++ added)
   pub done : List Act
   pub acted : acts ≡ began.acts ++ done
-  pub passes : PassesUpTo round hashes began.kept began.entries done
+  pub passes : PassesUpTo round hashes began.kept began.entries added done
 
 -- what a place is once a run from an earlier one covers it
 abbrev pub covered : ℕ → Place → Place

@@ -22,9 +22,12 @@ IsTaken (Missed entry) = ⊥
 IsTaken (Covered start) = Unit {0}
 IsTaken Unasked = ⊥
 
--- All places of a batch are true. The entries of the queries that found nothing ascend, and are none of those before.
+-- All places of a batch are true. Inside a kept run each place is kept or covered. The entries of the missed places ascend,
+-- and are none of those before.
 pub record ArePlaces (listing : List ℕ → Option (List ℕ)) (standing : List (List ℕ) → Segment → Type 0) (before calls : List Call) (hashes : List (List ℕ)) (places : List Place) : Type 0 where
   pub counted : length places ≡ length hashes
   pub each : (i : ℕ) (h : List ℕ) (p : Place) → slice_get hashes i ≡ Some h → slice_get places i ≡ Some p → IsPlace listing standing calls hashes places i h p
+  pub inside : (i j : ℕ) (run : Segment) (is_external : Bool) (p : Place) → slice_get places i ≡ Some (Kept run is_external)
+      → i < j → j < i + run_len run → slice_get places j ≡ Some p → IsTaken p
   pub ascend : (i j m n : ℕ) → i < j → slice_get places i ≡ Some (Missed m) → slice_get places j ≡ Some (Missed n) → m < n
   pub later : (i m n : ℕ) (h : List ℕ) (reply : Option ℕ) → slice_get places i ≡ Some (Missed m) → IsAskedIn before n h reply → n < m

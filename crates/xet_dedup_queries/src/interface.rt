@@ -45,7 +45,8 @@ pub trait DeduplicationDataInterface {
     /// That a call between an earlier and a later state failed with this error.
     ghost refused: { Self → Self → Self.ErrorType → Type 0 };
 
-    /// The calls of this value that did not fail, in order, each with its arguments and its answer.
+    /// The calls of this value that did not fail, in order, each with its arguments and its answer; all but `last_query`,
+    /// which changes nothing.
     ghost acts: { Self → List Act };
 
     /// Whether a call has failed.

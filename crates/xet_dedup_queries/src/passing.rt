@@ -144,7 +144,7 @@ fn ask<I: DeduplicationDataInterface>(
     requires free { slice_get (map kept_found places.old) progress.at ≡ Some None }
     requires few { length hashes.now < 2 ^ 32 }
     ensures passing { (began : Began) → IsPassing (I.lists interface.old) (I.stands interface.old) round hashes.now began (I.calls interface.old) (I.acts interface.old) places.old progress.at progress.chunks progress.bytes → IfOk result (λ next. IsPassing (I.lists interface.new) (I.stands interface.new) round hashes.now began (I.calls interface.new) (I.acts interface.new) places.new next.at next.chunks next.bytes) }
-    ensures stopped { (began : Began) → IsPassing (I.lists interface.old) (I.stands interface.old) round hashes.now began (I.calls interface.old) (I.acts interface.old) places.old progress.at progress.chunks progress.bytes → OnErr result (StopsPassing round hashes.now began (I.acts interface.new)) }
+    ensures stopped { (began : Began) → IsPassing (I.lists interface.old) (I.stands interface.old) round hashes.now began (I.calls interface.old) (I.acts interface.old) places.old progress.at progress.chunks progress.bytes → OnErr result (StopsPassing round hashes.now began (I.calls interface.new) (I.acts interface.new)) }
     ensures on { IfOk result (λ next. progress.at < next.at) }
     ensures extends { Extends I.lists I.stands I.refused I.cut_limits interface.old interface.new }
     ensures prefix { AddsQueries (I.calls interface.old) (I.calls interface.new) }
@@ -178,7 +178,7 @@ fn next_place<I: DeduplicationDataInterface>(
     requires more { progress.at < length hashes.now }
     requires few { length hashes.now < 2 ^ 32 }
     ensures passing { (began : Began) → IsPassing (I.lists interface.old) (I.stands interface.old) round hashes.now began (I.calls interface.old) (I.acts interface.old) places.old progress.at progress.chunks progress.bytes → IfOk result (λ next. IsPassing (I.lists interface.new) (I.stands interface.new) round hashes.now began (I.calls interface.new) (I.acts interface.new) places.new next.at next.chunks next.bytes) }
-    ensures stopped { (began : Began) → IsPassing (I.lists interface.old) (I.stands interface.old) round hashes.now began (I.calls interface.old) (I.acts interface.old) places.old progress.at progress.chunks progress.bytes → OnErr result (StopsPassing round hashes.now began (I.acts interface.new)) }
+    ensures stopped { (began : Began) → IsPassing (I.lists interface.old) (I.stands interface.old) round hashes.now began (I.calls interface.old) (I.acts interface.old) places.old progress.at progress.chunks progress.bytes → OnErr result (StopsPassing round hashes.now began (I.calls interface.new) (I.acts interface.new)) }
     ensures on { IfOk result (λ next. progress.at < next.at) }
     ensures extends { Extends I.lists I.stands I.refused I.cut_limits interface.old interface.new }
     ensures prefix { AddsQueries (I.calls interface.old) (I.calls interface.new) }
@@ -206,7 +206,7 @@ fn pass<I: DeduplicationDataInterface>(
     requires begins { (began : Began) × IsPassing (I.lists interface.old) (I.stands interface.old) round hashes.now began (I.calls interface.old) (I.acts interface.old) places.old 0 0 0 }
     requires few { length hashes.now < 2 ^ 32 }
     ensures ends { (began : Began) → IsPassing (I.lists interface.old) (I.stands interface.old) round hashes.now began (I.calls interface.old) (I.acts interface.old) places.old 0 0 0 → IfOk result (λ found. IsPassing (I.lists interface.new) (I.stands interface.new) round hashes.now began (I.calls interface.new) (I.acts interface.new) places.new found.at found.chunks found.bytes × (found.at ≡ length hashes.now)) }
-    ensures stopped { (began : Began) → IsPassing (I.lists interface.old) (I.stands interface.old) round hashes.now began (I.calls interface.old) (I.acts interface.old) places.old 0 0 0 → OnErr result (StopsPassing round hashes.now began (I.acts interface.new)) }
+    ensures stopped { (began : Began) → IsPassing (I.lists interface.old) (I.stands interface.old) round hashes.now began (I.calls interface.old) (I.acts interface.old) places.old 0 0 0 → OnErr result (StopsPassing round hashes.now began (I.calls interface.new) (I.acts interface.new)) }
     ensures extends { Extends I.lists I.stands I.refused I.cut_limits interface.old interface.new }
     ensures prefix { AddsQueries (I.calls interface.old) (I.calls interface.new) }
     ensures refused { IfErr result (λ e. I.refused interface.old interface.new e) }
@@ -236,7 +236,7 @@ pub fn ask_all<I: DeduplicationDataInterface>(
     ensures places { OnOk result ((added : List Call) × (I.calls interface.new ≡ I.calls interface.old ++ added) × ArePlaces (I.lists interface.new) (I.stands interface.new) (I.calls interface.old) added hashes.now places.new) }
     ensures asked { IfOk result (λ found. IsAsked is_first hashes.now (I.calls interface.old) (I.calls interface.new) (I.acts interface.old) (I.acts interface.new) places.new found.chunks found.bytes) }
     ensures once { I.is_global ≡ false → IfOk result (λ found. IsAskedOnce is_first hashes.now (I.calls interface.old) (I.calls interface.new) (I.acts interface.old) (I.acts interface.new) places.new × (found.chunks ≡ 0) × (found.bytes ≡ 0)) }
-    ensures stopped { OnErr result (StopsAsking is_first hashes.now (I.acts interface.old) (I.acts interface.new)) }
+    ensures stopped { OnErr result (StopsAsking I.is_global is_first hashes.now (I.calls interface.old) (I.calls interface.new) (I.acts interface.old) (I.acts interface.new)) }
     ensures extends { Extends I.lists I.stands I.refused I.cut_limits interface.old interface.new }
     ensures prefix { AddsQueries (I.calls interface.old) (I.calls interface.new) }
     ensures refused { IfErr result (λ e. I.refused interface.old interface.new e) }

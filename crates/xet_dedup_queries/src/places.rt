@@ -73,7 +73,7 @@ pub fn find_places<I: DeduplicationDataInterface>(
     ensures places { IfOk result (λ r. (added : List Call) × (I.calls interface.new ≡ I.calls interface.old ++ added) × ArePlaces (I.lists interface.new) (I.stands interface.new) (I.calls interface.old) added hashes.now r.places) }
     ensures asked { IfOk result (λ r. IsAsked is_first hashes.now (I.calls interface.old) (I.calls interface.new) (I.acts interface.old) (I.acts interface.new) r.places r.global_chunks r.global_bytes) }
     ensures once { I.is_global ≡ false → IfOk result (λ r. IsAskedOnce is_first hashes.now (I.calls interface.old) (I.calls interface.new) (I.acts interface.old) (I.acts interface.new) r.places × (r.global_chunks ≡ 0) × (r.global_bytes ≡ 0)) }
-    ensures stopped { OnErr result (StopsAsking is_first hashes.now (I.acts interface.old) (I.acts interface.new)) }
+    ensures stopped { OnErr result (StopsAsking I.is_global is_first hashes.now (I.calls interface.old) (I.calls interface.new) (I.acts interface.old) (I.acts interface.new)) }
     ensures extends { Extends I.lists I.stands I.refused I.cut_limits interface.old interface.new }
     ensures prefix { AddsQueries (I.calls interface.old) (I.calls interface.new) }
     ensures refused { IfErr result (λ e. (d : I.ErrorType) → e ≡ DedupError.Interface d → I.refused interface.old interface.new d) }

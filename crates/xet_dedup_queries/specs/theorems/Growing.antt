@@ -70,6 +70,7 @@ module _ (listing grown : List ℕ → Option (List ℕ)) (standing stands_now :
   places_grow before calls more after hashes places e are = record {
     counted = are.counted;
     each = λ i h p here is. place_grows calls more after hashes places i h p e (are.each i h p here is);
+    inside = are.inside;
     ascend = are.ascend;
     later = are.later;
   }
@@ -95,6 +96,7 @@ pub places_known : (listing : List ℕ → Option (List ℕ)) (standing : List (
 places_known listing standing before old calls after hashes places e are = record {
   counted = are.counted;
   each = λ i h p is_h is. place_known listing standing old calls after hashes places i h p e (are.each i h p is_h is);
+  inside = are.inside;
   ascend = are.ascend;
   later = are.later;
 }

@@ -4,4 +4,4 @@ use Rattle.xet_dedup.specs.Placing.StopsBatch.{asking}
 use Rattle.xet_dedup.proofs.placing.place_batch.Goals as goal
 
 pub returns-in-Err-clause-stopped : goal.returns-in-Err-clause-stopped
-returns-in-Err-clause-stopped g c = asking (stops_at_once _ _ _ _ refl)
+returns-in-Err-clause-stopped g c = asking (stops_at_once _ _ _ _ _ _ _ refl refl)

@@ -2,7 +2,7 @@ use Rattle.std.proofs.Common.{◌∙◌, List, [], ◌∷◌, ◌++◌, ap, sym,
 use Rattle.xet_dedup_queries.specs.Acts.Act.{Noted}
 use Rattle.xet_dedup_queries.specs.declared.interface.FileXorbDependency.{FileXorbDependency}
 use Rattle.xet_base.specs.theorems.Exits.{exit_on}
-use Rattle.xet_dedup.proofs.Outcomes.{notes_none, notes_some}
+use Rattle.xet_dedup.proofs.Outcomes.{is_some, notes_none, notes_some}
 use Rattle.xet_file_plan.specs.Plan.{IsPlanSince}
 use Rattle.xet_dedup.proofs.Placed.{batch_ends, plan_kept}
 use Rattle.xet_dedup.proofs.placing.place_found.Goals as goal
@@ -39,6 +39,11 @@ returns-clause-placed g c =
           elim c.if-not-is_empty.branch [
             | then-not-is_empty w ↦ ap I.acts w.interface-is ∙ notes_some noted (I.acts last) (I.acts w.register_xorb_dependencies.new.self) (cc) (w.register_xorb_dependencies.ensures.acted ∙ ap (λ (ds : List FileXorbDependency). I.acts last ++ Noted ds ∷ []) w.deref.ensures.value)
             | else-not-is_empty w ↦ notes_none noted (I.acts last) _ (cc) (ap I.acts w.interface-is)
+          ];
+      same =
+          λ none. elim c.if-not-is_empty.branch [
+            | then-not-is_empty w ↦ absurd (is_some noted (cc) none)
+            | else-not-is_empty w ↦ w.interface-is
           ];
     }
 

@@ -50,7 +50,7 @@ returns-in_err-found-clause-stopped g c =
     let a = c.args in
     exit_on _ c.from_residual.result c.from_residual.ensures.1
     (stops_asking I.lists I.stands I.calls I.acts a.file_id a.chunks.now a.leaves.now a.hashes.now c.len-base.result a.interface.now a.plan.now c.requires.leaves c.requires.hashes c.len-base.ensures.value
-    c.find_places.new.interface c.in_err-found.ensures.stopped)
+    I.is_global c.find_places.new.interface c.in_err-found.ensures.stopped)
 
 pub returns-in_err-place_found-clause-stopped : goal.returns-in_err-place_found-clause-stopped
 returns-in_err-place_found-clause-stopped g c =
@@ -60,7 +60,7 @@ returns-in_err-place_found-clause-stopped g c =
     let found = c.in_ok-found.found in
     exit_on _ c.from_residual-in_err-place_found.result c.from_residual-in_err-place_found.ensures.1
     (stops_placing I.lists I.stands I.calls I.acts a.file_id a.chunks.now a.leaves.now a.hashes.now c.len-base.result a.interface.now a.plan.now c.requires.leaves c.requires.hashes c.len-base.ensures.value
-    queried c.place_found.new.interface found.places c.as_slice.result.now found.global_chunks found.global_bytes c.as_slice.ensures c.in_ok-found.ensures.asked c.in_err-place_found.ensures.stopped)
+    queried c.place_found.new.interface found.places c.as_slice.result.now found.global_chunks found.global_bytes c.as_slice.ensures c.in_ok-found.ensures.asked I.is_global c.in_ok-found.ensures.places c.in_err-place_found.ensures.stopped)
 
 pub returns-clause-placed : goal.returns-clause-placed
 returns-clause-placed g c =

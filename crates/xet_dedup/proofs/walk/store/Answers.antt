@@ -6,6 +6,7 @@ use Rattle.xet_xorb_chunk.specs.declared.chunk.Chunk.{Chunk}
 use Rattle.xet_xorb_chunk.specs.Chunks.{chunk_leaf}
 use Rattle.xet_xorb.specs.Raw.{raw_leaves}
 use Rattle.xet_xorb.specs.declared.raw.RawXorbData.{RawXorbData}
+use Rattle.xet_choices.specs.Calls.Call.{Registered}
 use Rattle.xet_dedup_queries.specs.Acts.Act.{Stored}
 use Rattle.xet_dedup.proofs.Cuts.{empty_has_room}
 use Rattle.xet_dedup.proofs.Registering.{registers_none, registers_one}
@@ -49,16 +50,20 @@ returns-in-Err-clause-calls g c = elim c.if-not-fits.branch [
 ]
 
 pub returns-in_err-cut-clause-stopped : goal.returns-in_err-cut-clause-stopped
-returns-in_err-cut-clause-stopped g c = exit_on _ c.from_residual.result c.from_residual.ensures.1 (inl c.in_err-cut.ensures.kept_acts)
+returns-in_err-cut-clause-stopped g c = exit_on _ c.from_residual.result c.from_residual.ensures.1 (inl (c.in_err-cut.ensures.same, c.in_err-cut.ensures.kept_acts))
 
 pub returns-in-Err-clause-stopped : goal.returns-in-Err-clause-stopped
 returns-in-Err-clause-stopped g c = elim c.if-not-fits.branch [
   | then-not-fits+in_ok-cut w ↦ inr (
     ap (fits c.args.plan.now.settings (map chunk_leaf c.args.plan.now.block)) (sym c.len.ensures.value) ∙ sym w.if-not-fits.ensures,
+    ap g.I.DeduplicationDataInterface.calls w.interface-is
+        ∙ w.in_ok-cut.ensures.registered.1.calls
+        ∙ ap (λ (n : ℕ). g.I.DeduplicationDataInterface.calls c.args.interface.now ++ Registered (raw_leaves w.in_ok-cut.ensures.registered.0) ((c.args.chunk.now.hash, n) ∷ []) ∷ []) w.len-then-not-fits.ensures.value
+        ∙ ap (λ (x : RawXorbData). g.I.DeduplicationDataInterface.calls c.args.interface.now ++ Registered (raw_leaves x) (chunk_leaf c.args.chunk.now ∷ []) ∷ []) w.in_ok-cut.ensures.registered.1.made,
     ap g.I.DeduplicationDataInterface.acts w.interface-is
         ∙ w.in_ok-cut.ensures.registered.1.acts
         ∙ ap (λ (n : ℕ). g.I.DeduplicationDataInterface.acts c.args.interface.now ++ Stored w.in_ok-cut.ensures.registered.0 ((c.args.chunk.now.hash, n) ∷ []) ∷ []) w.len-then-not-fits.ensures.value
         ∙ ap (λ (x : RawXorbData). g.I.DeduplicationDataInterface.acts c.args.interface.now ++ Stored x (chunk_leaf c.args.chunk.now ∷ []) ∷ []) w.in_ok-cut.ensures.registered.1.made,
   )
-  | else-not-fits w ↦ inl (ap g.I.DeduplicationDataInterface.acts w.interface-is)
+  | else-not-fits w ↦ inl (ap g.I.DeduplicationDataInterface.calls w.interface-is, ap g.I.DeduplicationDataInterface.acts w.interface-is)
 ]

@@ -37,7 +37,7 @@ returns-in_err-at-clause-stopped g c =
       at = c.places.at;
       noted = c.places.dependencies.items;
       placed = c.places.invariant.placed;
-      acts = c.in_err-at.ensures.stopped;
+      stops = c.in_err-at.ensures.stopped;
     })
 
 pub places-preserved : goal.places-preserved

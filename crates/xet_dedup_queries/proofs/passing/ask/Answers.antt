@@ -33,7 +33,7 @@ returns-in_err-count-clause-stopped g c = λ began was.
     let old = c.args.interface.now in
     exit_on _ c.from_residual.result c.from_residual.ensures.1
     (stops_here (I.lists old) (I.stands old) c.args.round c.args.hashes.now began (I.calls old) (I.acts old) c.args.places.now c.args.progress.at c.args.progress.chunks c.args.progress.bytes was
-    (I.acts c.chunk_hash_dedup_query.new.self) c.in_err-count.ensures.kept_acts)
+    (I.calls c.chunk_hash_dedup_query.new.self) (I.acts c.chunk_hash_dedup_query.new.self) c.in_err-count.ensures.kept c.in_err-count.ensures.kept_acts)
 
 pub returns-in_err-ask_elsewhere-in-None-clause-stopped :
     goal.returns-in_err-ask_elsewhere-in-None-clause-stopped
@@ -43,13 +43,14 @@ returns-in_err-ask_elsewhere-in-None-clause-stopped g c = λ began was.
     let at = c.args.progress.at in
     let hashes = c.args.hashes.now in
     let rest = take_rest hashes at in
+    let asked = rw (c.in-None.is, rest) at c.in_ok-count.ensures.asked in
     let acted = rw (c.in-None.is, rest) at c.in_ok-count.ensures.acted in
     let e = c.in_err-ask_elsewhere-in-None.ensures in
     let first = c.index-hashes-at.result in
     let begins_with = slice_get_read hashes (length hashes) at first refl c.requires.more c.index-hashes-at.is in
     exit_on _ c.from_residual-in_err-ask_elsewhere-in-None.result c.from_residual-in_err-ask_elsewhere-in-None.ensures.1
     (stops_missed (I.lists old) (I.stands old) c.args.round hashes began (I.calls old) (I.acts old) c.args.places.now at c.args.progress.chunks c.args.progress.bytes was
-    (I.acts c.ask_elsewhere.new.interface) first c.requires.free begins_with e.worth (e.kept_acts ∙ acted))
+    (I.calls c.ask_elsewhere.new.interface) (I.acts c.ask_elsewhere.new.interface) asked.0 first c.requires.free begins_with e.worth (c.ask_elsewhere.ensures.calls ∙ asked.2) (e.kept_acts ∙ acted))
 
 pub returns-in_ok-ask_elsewhere-in-None-clause-passing :
     goal.returns-in_ok-ask_elsewhere-in-None-clause-passing

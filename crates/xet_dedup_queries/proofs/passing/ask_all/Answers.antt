@@ -22,7 +22,7 @@ returns-in_err-pass-clause-stopped g c =
     let start = first_start hashes (I.calls s) (I.acts s) in
     let begun = first_begins (I.lists s) (I.stands s) (First c.args.is_first) hashes (I.calls s) (I.acts s) c.args.places.now c.requires.unasked in
     exit_on _ c.from_residual.result c.from_residual.ensures.1
-    (stops_in_first c.args.is_first hashes (I.calls s) (I.acts s) (I.acts c.pass.new.interface) (c.in_err-pass.ensures.stopped start begun))
+    (stops_in_first I.is_global c.args.is_first hashes (I.calls s) (I.calls c.pass.new.interface) (I.acts s) (I.acts c.pass.new.interface) (c.in_err-pass.ensures.stopped start begun))
 
 pub returns-in_err-complete_global_dedup_queries-clause-stopped :
     goal.returns-in_err-complete_global_dedup_queries-clause-stopped
@@ -37,7 +37,7 @@ returns-in_err-complete_global_dedup_queries-clause-stopped g c =
     let passed = c.in_ok-pass.ensures.ends start begun in
     exit_on _ c.from_residual-in_err-complete_global_dedup_queries.result c.from_residual-in_err-complete_global_dedup_queries.ensures.1
     (stops_ending (I.lists one) (I.stands one) c.args.is_first hashes (I.calls s) (I.calls one) (I.acts s) (I.acts one) c.pass.new.places first.at first.chunks first.bytes passed.0 passed.1
-    (I.acts c.complete_global_dedup_queries.new.self) c.in_err-complete_global_dedup_queries.ensures.kept_acts)
+    I.is_global (I.calls c.complete_global_dedup_queries.new.self) (I.acts c.complete_global_dedup_queries.new.self) c.complete_global_dedup_queries.ensures.calls c.in_err-complete_global_dedup_queries.ensures.kept_acts)
 
 pub returns-then-not-branch-clause-places : goal.returns-then-not-branch-clause-places
 returns-then-not-branch-clause-places g c =
@@ -122,7 +122,7 @@ returns-in_err-found-clause-stopped g c =
     let next = second_start (I.calls s) passed.0.added (I.acts mid) passed.0.entries c.pass.new.places in
     exit_on _ c.from_residual-in_err-found.result c.from_residual-in_err-found.ensures.1
     (stops_in_second (I.lists one) (I.stands one) c.args.is_first hashes (I.calls s) (I.calls one) (I.acts s) (I.acts one) c.pass.new.places first.at first.chunks first.bytes passed.0 passed.1
-    (I.acts mid) c.in_ok-complete_global_dedup_queries.field-0 ended c.if-not-branch.false (I.acts c.pass-2.new.interface) (c.in_err-found.ensures.stopped next ready))
+    (I.acts mid) I.is_global c.in_ok-complete_global_dedup_queries.field-0 ended c.if-not-branch.false c.in_ok-complete_global_dedup_queries.ensures.none (I.calls c.pass-2.new.interface) (I.acts c.pass-2.new.interface) (c.in_err-found.ensures.stopped next ready))
 
 pub returns-in_err-found-clause-prefix : goal.returns-in_err-found-clause-prefix
 returns-in_err-found-clause-prefix g c =
@@ -154,8 +154,8 @@ returns-in_err-complete_global_dedup_queries-2-clause-stopped g c =
     let e = c.complete_global_dedup_queries-2.ensures in
     exit_on _ c.from_residual-in_err-complete_global_dedup_queries-2.result c.from_residual-in_err-complete_global_dedup_queries-2.ensures.1
     (stops_ending_again (I.lists one) (I.stands one) c.args.is_first hashes (I.calls s) (I.calls one) (I.acts s) (I.acts one) c.pass.new.places first.at first.chunks first.bytes passed.0 passed.1
-    (I.acts mid) c.in_ok-complete_global_dedup_queries.field-0 ended c.if-not-branch.false
-    (I.lists two) (I.stands two) (I.calls two) (I.acts two) c.pass-2.new.places found.at found.chunks found.bytes again.0 again.1 (I.acts new) c.in_err-complete_global_dedup_queries-2.ensures.kept_acts)
+    (I.acts mid) I.is_global c.in_ok-complete_global_dedup_queries.field-0 ended c.if-not-branch.false c.in_ok-complete_global_dedup_queries.ensures.none
+    (I.lists two) (I.stands two) (I.calls two) (I.acts two) c.pass-2.new.places found.at found.chunks found.bytes again.0 again.1 (I.calls new) (I.acts new) e.calls c.in_err-complete_global_dedup_queries-2.ensures.kept_acts)
 
 pub returns-in_err-complete_global_dedup_queries-2-clause-prefix :
     goal.returns-in_err-complete_global_dedup_queries-2-clause-prefix
@@ -215,7 +215,7 @@ returns-clause-asked g c =
     let new = c.complete_global_dedup_queries-2.new.self in
     let e = c.complete_global_dedup_queries-2.ensures in
     asked_twice (I.lists one) (I.stands one) c.args.is_first hashes (I.calls s) (I.calls one) (I.acts s) (I.acts one) c.pass.new.places first.at first.chunks first.bytes passed.0 passed.1
-    (I.acts mid) c.in_ok-complete_global_dedup_queries.field-0 ended c.if-not-branch.false
+    (I.acts mid) I.is_global c.in_ok-complete_global_dedup_queries.field-0 ended c.if-not-branch.false c.in_ok-complete_global_dedup_queries.ensures.none
     (I.lists two) (I.stands two) (I.calls two) (I.acts two) c.pass-2.new.places found.at found.chunks found.bytes again.0 again.1
     (I.calls new) (I.acts new) c.in_ok-complete_global_dedup_queries-2.field-0 e.calls c.in_ok-complete_global_dedup_queries-2.ensures.acted
 
