@@ -7,7 +7,7 @@ ghost use Rattle.xet_io.specs.Disk.{bytes_at, synced};
 ghost use Rattle.xet_io.specs.Frame.{Stays, Unchanged};
 ghost use Rattle.xet_shard.specs.Sections.{info_at};
 ghost use Rattle.xet_shard_file.specs.Names.{temp_name};
-ghost use Rattle.xet_shard_directory.specs.Writing.{AddsShard, IsFormatError, IsPutError, KeepsFileAt, MayAddShard, Stood, path_of};
+ghost use Rattle.xet_shard_directory.specs.Writing.{AddsShard, IsFormatError, IsPutError, IsUnwrittenIfMalformed, KeepsFileAt, MayAddShard, Stood, path_of};
 ghost use Rattle.xet_shard_directory.specs.Standing.{IsSame, IsStanding};
 
 use crate::shard_file::MDBShardFile;
@@ -129,7 +129,9 @@ pub fn add_shard_file<D: Disk>(
     ensures added { D.tells disk.old ≡ true → IfOk result (AddsShard (D.files disk.old) (D.files disk.new) target.now bytes.now) }
     ensures refused { D.tells disk.old ≡ true → OnErr result (MayAddShard (D.files disk.old) (D.files disk.new) target.now bytes.now) }
     ensures kept { D.tells disk.old ≡ true → KeepsFileAt (D.files disk.old) (D.files disk.new) (path_of target.now bytes.now) }
+    ensures malformed { D.tells disk.old ≡ true → IfErr result (IsUnwrittenIfMalformed (D.files disk.old) (D.files disk.new) bytes.now) }
     ensures format { IfErr result (λ e. IsFormatError e → info_at bytes.now ≡ Err e) }
+    ensures value { IfOk result (λ s. (s.shard_hash ≡ chunk_hash bytes.now) × (s.path ≡ path_of target.now bytes.now) × (info_at bytes.now ≡ Ok s.shard)) }
     ensures frame { Stays D.tells D.faults disk.old disk.new }
     ensures reason { IfErr result (IsPutError (D.faults disk.old) (D.faults disk.new)) }
 {
