@@ -1,5 +1,5 @@
 -- What a call leaves on a disk that writes a shard file into a folder.
-use Rattle.std.specs.Prelude.{◌≡◌, ◌≢◌, ◌⊎◌, ◌++◌, ℕ, List, take, Option, Some, None, Ok, Err}
+use Rattle.std.specs.Prelude.{◌≡◌, ◌≢◌, ◌⊎◌, ◌++◌, ℕ, Bool, List, take, Option, Some, None, Ok, Err, option_map}
 use Rattle.std.specs.FinMap.{get}
 use Rattle.xet_hash.specs.Merkle.{chunk_hash}
 use Rattle.xet_hash.specs.declared.error.Place.TheVariants.{Disk, Input}
@@ -19,6 +19,10 @@ use Rattle.xet_shard_format.specs.declared.header_footer.MDBShardFileFooter.{MDB
 -- the path of the shard with these bytes, whose hash names it
 abbrev pub path_of : List ℕ → List ℕ → List ℕ
 path_of folder bytes = shard_path folder (chunk_hash bytes)
+
+-- whether the entry of a name is durable, if it has one
+abbrev pub durable_at : Files → List ℕ → Option Bool
+durable_at files name = option_map (λ e. e.durable) (get files name)
 
 -- no file has changed but the one at a path, and the temporary one beside it
 abbrev pub OthersStay : Files → Files → List ℕ → Type 0

@@ -1,19 +1,20 @@
 -- Which names the results of a merge are written under.
-use Rattle.std.proofs.Common.{◌≡◌, ◌≢◌, ◌∙◌, ◌⊎◌, ℕ, Bool, true, List, [], ◌∷◌, ◌++◌, Option, Some, option_map, Result, IfOk, OnErr, inl, inr, refl, sym, ap, subst, arith}
+use Rattle.std.proofs.Common.{◌≡◌, ◌≢◌, ◌∙◌, ◌⊎◌, ℕ, true, List, [], ◌∷◌, ◌++◌, Option, Some, option_map, Result, IfOk, OnErr, inl, inr, refl, sym, ap, subst, arith}
 use Rattle.std.proofs.lemmas.List.{get_or_append_left, length-append}
 use Rattle.std.proofs.lemmas.List.Quantifiers.{Any-push}
 use Rattle.std.specs.FinMap.{get}
 use Rattle.std.specs.List.{All}
 use Rattle.xet_hash.specs.declared.error.StoreError.{StoreError}
 use Rattle.xet_io.specs.Disk.{Entry, Files, bytes_at, file_of}
-use Rattle.xet_shard_directory.specs.Writing.{AddsShard, MayAddShard, OthersStay, path_of}
+use Rattle.xet_io.specs.theorems.Names.{either_name}
+use Rattle.xet_shard_directory.specs.Writing.{AddsShard, MayAddShard, OthersStay, durable_at, path_of}
 use Rattle.xet_shard_directory.specs.declared.shard_file.MDBShardFile.{MDBShardFile}
 use Rattle.xet_shard_file.specs.Names.{temp_name}
 use Rattle.xet_shard_merge.specs.Groups.{Group}
 use Rattle.xet_shard_merge.specs.Merging.{IsDue, IsPlaced, WritesOnly}
 use Rattle.xet_shard_merge.specs.internal.Grouping.{IsOnly}
 use Rattle.xet_shard_merge.specs.internal.Keeping.{IsCopyDue, IsIntact, IsOneDue, IsOnlyDue, Preserves}
-use Rattle.xet_shard_merge.proofs.Preserved.{IsHere, at_path, is_here, others_stay, same_bytes}
+use Rattle.xet_shard_merge.proofs.Preserved.{IsHere, is_here, others_stay, same_bytes}
 
 -- nothing was written
 pub writes_nothing : (old new : Files) (folder : List ℕ) (Due : List ℕ → Type 0) → new ≡ old → WritesOnly old new folder Due
@@ -30,11 +31,8 @@ writes_also old new folder Due Other more writes name = by (writes name)
 abbrev bytes_in : Option Entry → Option (List ℕ)
 bytes_in e = option_map (λ f. f.bytes) (file_of e)
 
-abbrev durable_in : Option Entry → Option Bool
-durable_in e = option_map (λ x. x.durable) e
-
 placed_still : (now after : Files) (folder bytes name : List ℕ) → get after name ≡ get now name → IsPlaced now folder bytes name → IsPlaced after folder bytes name
-placed_still now after folder bytes name same (inl (at, there, durable)) = inl (at, ap bytes_in same ∙ there, ap durable_in same ∙ durable)
+placed_still now after folder bytes name same (inl (at, there, durable)) = inl (at, ap bytes_in same ∙ there, ap (option_map (λ (e : Entry). e.durable)) same ∙ durable)
 placed_still now after folder bytes name same (inr temp) = inr temp
 
 -- one write after the other
@@ -51,15 +49,15 @@ writes_then start now after folder Due first then name = by (first name) (then n
 
 module _ (old new : Files) (path bytes : List ℕ) (others : OthersStay old new path) where
   abbrev Placed : List ℕ → Type 0
-  Placed name = ((name ≡ path) × (bytes_at new name ≡ Some bytes) × (option_map (λ e. e.durable) (get new name) ≡ Some true)) ⊎ (name ≡ temp_name path)
+  Placed name = ((name ≡ path) × (bytes_at new name ≡ Some bytes) × (durable_at new name ≡ Some true)) ⊎ (name ≡ temp_name path)
 
   placed : IsHere old new path bytes → (name : List ℕ) → (get new name ≡ get old name) ⊎ Placed name
-  placed here name = by here (at_path name path) (at_path name (temp_name path))
+  placed here name = by here (either_name name path) (either_name name (temp_name path))
     where
       by : IsHere old new path bytes → (name ≡ path) ⊎ (name ≢ path) → (name ≡ temp_name path) ⊎ (name ≢ temp_name path) → (get new name ≡ get old name) ⊎ Placed name
       by (inl stays) (inl same) t = inl (subst (λ (n : List ℕ). get new n ≡ get old n) (sym same) stays)
       by (inr (there, durable)) (inl same) t =
-          inr (inl (same, subst (λ (n : List ℕ). bytes_at new n ≡ Some bytes) (sym same) there, subst (λ (n : List ℕ). option_map (λ e. e.durable) (get new n) ≡ Some true) (sym same) durable))
+          inr (inl (same, subst (λ (n : List ℕ). bytes_at new n ≡ Some bytes) (sym same) there, subst (λ (n : List ℕ). durable_at new n ≡ Some true) (sym same) durable))
       by h (inr other) (inl temp) = inr (inr temp)
       by h (inr other) (inr also) = inl (others name other also)
 

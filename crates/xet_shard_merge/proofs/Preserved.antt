@@ -1,26 +1,16 @@
 -- What the write of a shard file leaves of the others.
-use Rattle.std.proofs.Common.{◌≡◌, ◌≢◌, ◌∙◌, ◌⊎◌, ℕ, ◌<◌, Bool, true, false, List, [], ◌∷◌, length, get_or, nat_eq, None, Option, Some, option_map, is_some, Result, Ok, Err, IfOk, OnErr, inl, inr, refl, sym, ap, subst, arith}
+use Rattle.std.proofs.Common.{◌≡◌, ◌≢◌, ◌∙◌, ◌⊎◌, ℕ, ◌<◌, true, false, List, [], ◌∷◌, length, get_or, None, Option, Some, option_map, is_some, Result, Ok, Err, IfOk, OnErr, inl, inr, refl, sym, ap, subst, arith}
 use Rattle.std.proofs.lemmas.Bool.{true≢false}
-use Rattle.std.specs.Cmp.Lexicographic.{bytes_decides, pointwise}
 use Rattle.std.specs.FinMap.{get}
 use Rattle.xet_hash.specs.Merkle.{chunk_hash}
 use Rattle.xet_hash.specs.declared.error.StoreError.{StoreError}
 use Rattle.xet_io.specs.Disk.{Entry, File, Files, bytes_at, file_at, file_of}
-use Rattle.xet_shard_directory.specs.Writing.{AddsShard, KeepsFileAt, MayAddShard, OthersStay, path_of}
+use Rattle.xet_io.specs.theorems.Names.{either_name}
+use Rattle.xet_shard_directory.specs.Writing.{AddsShard, KeepsFileAt, MayAddShard, OthersStay, durable_at, path_of}
 use Rattle.xet_shard_directory.specs.declared.shard_file.MDBShardFile.{MDBShardFile}
 use Rattle.xet_shard_directory.specs.theorems.Syncing.{added_durable, added_others, added_path, added_there, added_value, may_here, may_others}
 use Rattle.xet_shard_merge.specs.Merging.{AddsResults, IsNoTemp, KeepsFiles, Stands}
-use Rattle.xet_shard_merge.specs.internal.Keeping.{Preserves, durable_at}
-
-pub at_path : (name path : List ℕ) → (name ≡ path) ⊎ (name ≢ path)
-at_path name path = by (pointwise nat_eq name path) refl
-  where
-    by : (t : Bool) → pointwise nat_eq name path ≡ t → (name ≡ path) ⊎ (name ≢ path)
-    by true e = inl ((bytes_decides name path).0 e)
-    by false e = inr (λ same. true≢false (sym ((bytes_decides name path).1 same) ∙ e))
-
-abbrev durable_in : Option Entry → Option Bool
-durable_in e = option_map (λ x. x.durable) e
+use Rattle.xet_shard_merge.specs.internal.Keeping.{Preserves}
 
 -- What there is at a path is as it was, or it is these bytes, and they are durable.
 abbrev pub IsHere : Files → Files → List ℕ → List ℕ → Type 0
@@ -28,7 +18,7 @@ IsHere old new path bytes = (get new path ≡ get old path) ⊎ ((bytes_at new p
 
 module _ (old new : Files) (path : List ℕ) (others : OthersStay old new path) where
   pub adds_one : (s : MDBShardFile) → s.path ≡ path → AddsResults old new (s ∷ [])
-  adds_one s at name plain absent there = by (at_path name path)
+  adds_one s at name plain absent there = by (either_name name path)
     where
       by : (name ≡ path) ⊎ (name ≢ path) → (k : ℕ) × (x : MDBShardFile) × (k < length (s ∷ [])) × (get_or (s ∷ []) k x ≡ x) × (x.path ≡ name)
       by (inl same) = (0, s, omega arith, refl, at ∙ sym same)
@@ -44,14 +34,14 @@ module _ (old new : Files) (path : List ℕ) (others : OthersStay old new path) 
 
     kept_durable : (name : List ℕ) → IsNoTemp name → durable_at old name ≡ Some true → (name ≡ path) ⊎ (name ≢ path) → IsHere old new path bytes → durable_at new name ≡ Some true
     kept_durable name plain was (inl same) (inl stays) =
-        subst (λ (n : List ℕ). durable_at new n ≡ Some true) (sym same) (ap durable_in stays ∙ subst (λ (n : List ℕ). durable_at old n ≡ Some true) same was)
+        subst (λ (n : List ℕ). durable_at new n ≡ Some true) (sym same) (ap (option_map (λ (e : Entry). e.durable)) stays ∙ subst (λ (n : List ℕ). durable_at old n ≡ Some true) same was)
     kept_durable name plain was (inl same) (inr (there, durable)) = subst (λ (n : List ℕ). durable_at new n ≡ Some true) (sym same) durable
-    kept_durable name plain was (inr ne) h = ap durable_in (others name ne (plain path)) ∙ was
+    kept_durable name plain was (inr ne) h = ap (option_map (λ (e : Entry). e.durable)) (others name ne (plain path)) ∙ was
 
     pub preserved : Preserves old new
     preserved = record {
-      files = λ name f plain there. kept_file name f plain there (at_path name path);
-      durable = λ name plain was. kept_durable name plain was (at_path name path) here;
+      files = λ name f plain there. kept_file name f plain there (either_name name path);
+      durable = λ name plain was. kept_durable name plain was (either_name name path) here;
     }
 
 module _ (old new : Files) (keeps : KeepsFiles old new) (name bytes : List ℕ) (plain : IsNoTemp name) (there : bytes_at old name ≡ Some bytes) where

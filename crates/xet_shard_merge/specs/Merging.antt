@@ -1,5 +1,5 @@
 -- What merging the shards of a directory leaves.
-use Rattle.std.specs.Prelude.{◌≡◌, ◌≢◌, ◌⊎◌, ◌^◌, ◌<◌, ℕ, nat_eq, Bool, true, false, not, List, [], ◌∷◌, filter, flat_map, length, map, min, take, Some, None, Ok, Err, IsOk, IsSome, All, AllPairs, Any, option_map}
+use Rattle.std.specs.Prelude.{◌≡◌, ◌≢◌, ◌⊎◌, ◌^◌, ◌<◌, ℕ, nat_eq, Bool, true, false, not, List, [], ◌∷◌, filter, flat_map, length, map, min, take, Some, None, Ok, Err, IsOk, IsSome, All, AllPairs, Any}
 use Rattle.std.specs.Cmp.Lexicographic.{pointwise}
 use Rattle.std.specs.FinMap.{get}
 use Rattle.std.specs.List.{list_any}
@@ -12,7 +12,7 @@ use Rattle.xet_shard.specs.Held.{held_shard}
 use Rattle.xet_shard.specs.Union.{records_in}
 use Rattle.xet_shard_directory.specs.Directories.{IsBeforeByPath, ReadsPath, all_removed, is_valid, paths}
 use Rattle.xet_shard_directory.specs.Values.{last_part, loaded}
-use Rattle.xet_shard_directory.specs.Writing.{path_of}
+use Rattle.xet_shard_directory.specs.Writing.{durable_at, path_of}
 use Rattle.xet_shard_directory.specs.declared.shard_file.MDBShardFile.{MDBShardFile}
 use Rattle.xet_shard_file.specs.Names.{IsHash, shard_path, temp_name}
 use Rattle.xet_shard_format.specs.Encoding.{full_shard_bytes}
@@ -48,7 +48,7 @@ pub record Stands (files : Files) (folder bytes : List ℕ) (s : MDBShardFile) :
   pub hash : s.shard_hash ≡ chunk_hash bytes
   pub path : s.path ≡ path_of folder bytes
   pub there : bytes_at files s.path ≡ Some bytes
-  pub durable : option_map (λ e. e.durable) (get files s.path) ≡ Some true
+  pub durable : durable_at files s.path ≡ Some true
   pub value : loaded files s.shard_hash s.path ≡ Ok s
 
 -- One shard alone is its own result. It is copied, unless it is in the folder already.
@@ -119,7 +119,7 @@ IsDue files folder g bytes = elim g.taken [
 -- The name is that of the shard file with these bytes, which is whole and durable; or it is the temporary one beside it.
 abbrev pub IsPlaced : Files → List ℕ → List ℕ → List ℕ → Type 0
 IsPlaced new folder bytes name =
-    ((name ≡ path_of folder bytes) × (bytes_at new name ≡ Some bytes) × (option_map (λ e. e.durable) (get new name) ≡ Some true))
+    ((name ≡ path_of folder bytes) × (bytes_at new name ≡ Some bytes) × (durable_at new name ≡ Some true))
     ⊎ (name ≡ temp_name (path_of folder bytes))
 
 -- Every name has the entry that it had, unless bytes that are due were written there.

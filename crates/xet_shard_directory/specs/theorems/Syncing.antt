@@ -1,15 +1,12 @@
 -- What is true of the files when a shard was added to a folder.
-use Rattle.std.proofs.Common.{◌≡◌, ◌≢◌, ◌∙◌, ◌⊎◌, Bool, List, ℕ, Option, None, Some, Ok, true, option_map, inl, inr, refl, ap, subst, sym}
+use Rattle.std.proofs.Common.{◌≡◌, ◌≢◌, ◌∙◌, ◌⊎◌, List, ℕ, Option, None, Some, Ok, true, option_map, inl, inr, refl, ap, subst, sym}
 use Rattle.std.specs.FinMap.{get, insert}
 use Rattle.xet_io.specs.Disk.{Entry, File, Files, bytes_at, durable_if, entry, file_at, file_of, synced}
 use Rattle.xet_io.specs.theorems.Names.{either_name, get_here, get_other}
 use Rattle.xet_shard_directory.specs.Values.{loaded}
-use Rattle.xet_shard_directory.specs.Writing.{AddsShard, MayAddShard, OthersStay, path_of}
+use Rattle.xet_shard_directory.specs.Writing.{AddsShard, MayAddShard, OthersStay, durable_at, path_of}
 use Rattle.xet_shard_directory.specs.declared.shard_file.MDBShardFile.{MDBShardFile}
 use Rattle.xet_shard_file.specs.Puts.{IsKeptOrDone}
-
-abbrev pub durable_of : Option Entry → Option Bool
-durable_of e = option_map (λ x. x.durable) e
 
 some_file : (found : Option File) (bytes : List ℕ) → option_map (λ f. f.bytes) found ≡ Some bytes → (f : File) × (found ≡ Some f)
 some_file None bytes e = absurd (cc e)
@@ -29,8 +26,8 @@ module _ (files : Files) (path bytes : List ℕ) (there : bytes_at files path �
   synced_here : get (synced files path) path ≡ Some (entry (Some at_file.0) true)
   synced_here = ap (λ (fs : Files). get fs path) is_put ∙ get_here files path (entry (Some at_file.0) true)
 
-  pub synced_durable : durable_of (get (synced files path) path) ≡ Some true
-  synced_durable = ap durable_of synced_here
+  pub synced_durable : durable_at (synced files path) path ≡ Some true
+  synced_durable = ap (option_map (λ (e : Entry). e.durable)) synced_here
 
   -- every file stays
   pub synced_file : (name : List ℕ) → file_at (synced files path) name ≡ file_at files name
@@ -46,9 +43,9 @@ module _ (old new : Files) (folder bytes : List ℕ) (s : MDBShardFile) where
   added_there (inl w) = w.done.there
   added_there (inr k) = subst (λ (fs : Files). bytes_at fs s.path ≡ Some bytes) (sym k.same) (ap (λ (f : Option File). option_map (λ g. g.bytes) f) (synced_file old s.path bytes k.there s.path) ∙ k.there)
 
-  pub added_durable : AddsShard old new folder bytes s → durable_of (get new s.path) ≡ Some true
+  pub added_durable : AddsShard old new folder bytes s → durable_at new s.path ≡ Some true
   added_durable (inl w) = w.done.durable
-  added_durable (inr k) = subst (λ (fs : Files). durable_of (get fs s.path) ≡ Some true) (sym k.same) (synced_durable old s.path bytes k.there)
+  added_durable (inr k) = subst (λ (fs : Files). durable_at fs s.path ≡ Some true) (sym k.same) (synced_durable old s.path bytes k.there)
 
   pub added_others : AddsShard old new folder bytes s → OthersStay old new s.path
   added_others (inl w) = w.others
@@ -68,13 +65,13 @@ module _ (old new : Files) (folder bytes : List ℕ) where
   may_others (inl k) = k.others
   may_others (inr (there, same)) = λ name ne temp. subst (λ (fs : Files). get fs name ≡ get old name) (sym same) (synced_other old (path_of folder bytes) bytes there name ne)
 
-  pub may_here : MayAddShard old new folder bytes → (get new (path_of folder bytes) ≡ get old (path_of folder bytes)) ⊎ ((bytes_at new (path_of folder bytes) ≡ Some bytes) × (durable_of (get new (path_of folder bytes)) ≡ Some true))
+  pub may_here : MayAddShard old new folder bytes → (get new (path_of folder bytes) ≡ get old (path_of folder bytes)) ⊎ ((bytes_at new (path_of folder bytes) ≡ Some bytes) × (durable_at new (path_of folder bytes) ≡ Some true))
   may_here (inl k) = by k.file
     where
-      by : IsKeptOrDone old new (path_of folder bytes) bytes → (get new (path_of folder bytes) ≡ get old (path_of folder bytes)) ⊎ ((bytes_at new (path_of folder bytes) ≡ Some bytes) × (durable_of (get new (path_of folder bytes)) ≡ Some true))
+      by : IsKeptOrDone old new (path_of folder bytes) bytes → (get new (path_of folder bytes) ≡ get old (path_of folder bytes)) ⊎ ((bytes_at new (path_of folder bytes) ≡ Some bytes) × (durable_at new (path_of folder bytes) ≡ Some true))
       by (inl stays) = inl stays
       by (inr done) = inr (done.there, done.durable)
   may_here (inr (there, same)) = inr (
     subst (λ (fs : Files). bytes_at fs (path_of folder bytes) ≡ Some bytes) (sym same) (ap (λ (f : Option File). option_map (λ g. g.bytes) f) (synced_file old (path_of folder bytes) bytes there (path_of folder bytes)) ∙ there),
-    subst (λ (fs : Files). durable_of (get fs (path_of folder bytes)) ≡ Some true) (sym same) (synced_durable old (path_of folder bytes) bytes there),
+    subst (λ (fs : Files). durable_at fs (path_of folder bytes) ≡ Some true) (sym same) (synced_durable old (path_of folder bytes) bytes there),
   )

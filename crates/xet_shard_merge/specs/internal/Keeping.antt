@@ -1,20 +1,16 @@
 -- What calls that write results leave of the other files.
-use Rattle.std.specs.Prelude.{◌≡◌, ◌≢◌, ℕ, Any, Bool, true, false, List, Option, Some, None, Result, Ok, Err, option_map}
-use Rattle.std.specs.FinMap.{get}
+use Rattle.std.specs.Prelude.{◌≡◌, ◌≢◌, ℕ, Any, Bool, true, false, List, Option, Some, None, Result, Ok, Err}
 use Rattle.xet_hash.specs.declared.error.Place.TheVariants.{Disk}
 use Rattle.xet_hash.specs.declared.error.StoreError.{StoreError}
 use Rattle.xet_hash.specs.declared.error.StoreError.TheVariants.{Io, MalformedData, OutOfMemory, UnexpectedEof}
 use Rattle.xet_io.specs.Disk.{Files, bytes_at}
 use Rattle.xet_shard.specs.Sections.{info_at}
 use Rattle.xet_shard.specs.Union.{ShardRecords}
+use Rattle.xet_shard_directory.specs.Writing.{durable_at}
 use Rattle.xet_shard_directory.specs.declared.shard_file.MDBShardFile.{MDBShardFile}
 use Rattle.xet_shard_file.specs.Names.{shard_path}
 use Rattle.xet_shard_merge.specs.Groups.{Group}
 use Rattle.xet_shard_merge.specs.Merging.{IsDue, IsNoTemp, KeepsFiles, WritesOnly}
-
--- whether a crash keeps what there is of a name
-abbrev pub durable_at : Files → List ℕ → Option Bool
-durable_at files name = option_map (λ e. e.durable) (get files name)
 
 -- Every file that was there has its bytes and its modification time, and is durable if it was.
 pub record Preserves (old new : Files) : Type 0 where
