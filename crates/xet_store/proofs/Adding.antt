@@ -1,34 +1,30 @@
 -- A xorb more.
-use Rattle.std.proofs.Common.{◌≡◌, ◌≢◌, ◌⊎◌, inl, inr, ◌∙◌, ℕ, ◌<◌, ◌≤◌, ◌^◌, arith, Bool, true, false, not, ◌&&◌, List, [], ◌∷◌, ◌++◌, length, map, Option, Some, None, IsSome, is_some, if◌then◌else◌, refl, sym, ap, subst, nat_eq}
+use Rattle.std.proofs.Common.{◌≡◌, ◌≢◌, ◌⊎◌, inl, inr, Result, Ok, Err, OnErr, OnOk, ◌∙◌, ℕ, ◌≤◌, Bool, true, false, not, ◌&&◌, List, [], ◌∷◌, ◌++◌, map, Option, Some, None, IsSome, is_some, if◌then◌else◌, refl, sym, ap, subst, nat_eq}
 use Rattle.std.specs.List.{AllByRecursion}
+use Rattle.std.specs.FinMap.{get}
+use Rattle.std.proofs.lemmas.Result.{on_ok_weaker}
 use Rattle.std.specs.Cmp.Lexicographic.{pointwise, bytes_decides}
 use Rattle.std.proofs.lemmas.Bool.{and_parts, eqb-true}
-use Rattle.std.proofs.lemmas.List.{append-nil, length-map}
+use Rattle.std.proofs.lemmas.List.{append-nil}
 use Rattle.std.proofs.lemmas.List.Elements.{All-from_recursion}
-use Rattle.std.proofs.lemmas.List.Sums.{sum_by-cons}
 use Rattle.xet_io.specs.Disk.{Files, bytes_at}
-use Rattle.xet_hash.specs.Merkle.{chunk_hash, leaves_of, total_len, xorb_hash}
+use Rattle.xet_hash.specs.Merkle.{chunk_hash, leaves_of, xorb_hash}
 use Rattle.xet_xorb_chunk.specs.declared.chunk.Chunk.{Chunk}
-use Rattle.xet_xorb_chunk.specs.Chunks.{bytes_of_chunk, chunk_leaf, total}
-use Rattle.xet_xorb.specs.Xorb.{IsXorbEncoding}
-use Rattle.xet_xorb_chunk.specs.theorems.Grammar.{leaves_are, total-bytes}
-use Rattle.xet_xorb.specs.declared.raw.RawXorbData.{RawXorbData}
-use Rattle.xet_xorb.specs.Raw.{ArePartsOfXorb, raw_leaves, raw_of}
+use Rattle.xet_xorb_chunk.specs.Chunks.{bytes_of_chunk, chunk_leaf}
+use Rattle.xet_xorb_chunk.specs.theorems.Grammar.{leaves_are}
 use Rattle.xet_shard_format.specs.declared.record.MDBFileInfo.{MDBFileInfo}
-use Rattle.xet_shard_format.specs.declared.record.MDBXorbInfo.{MDBXorbInfo}
 use Rattle.xet_shard.specs.Held.{Held, IsHeld, held as the_held, with_last}
 use Rattle.xet_shard_format.specs.Records.{xorb_record_hash}
 use Rattle.xet_shard.specs.theorems.Holding.{all_last}
 use Rattle.xet_folder.specs.Admission.{block_leaves}
 use Rattle.xet_folder.specs.Names.{IsForeign, xorb_path}
-use Rattle.xet_shard_file.specs.Names.{IsHash, shard_path}
+use Rattle.xet_shard_file.specs.Names.{IsHash, shard_path, temp_name}
 use Rattle.xet_shard_file.specs.Puts.{IsKeptOrDone}
 use Rattle.xet_folder.specs.Stored.{IsBacked}
-use Rattle.xet_folder.specs.Runs.{stored_len}
 use Rattle.xet_folder.specs.Xorbs.{IsListed, FileRecords, Xorbs, found}
-use Rattle.xet_folder.specs.theorems.Placing.{stored_is}
 use Rattle.xet_folder.specs.theorems.Tables.{found_either, found_here, found_kept}
 use Rattle.xet_store.specs.Cleaning.{HasXorb, IsDurable, Keeps, SameEntry}
+use Rattle.xet_store.specs.DueXorb.{IsDueXorb, due_xorb}
 use Rattle.xet_dedup.specs.Records.{xorb_record}
 use Rattle.xet_store.specs.Tables.{Tables, tables, tables_of, with_leaves, with_xorb as with_xorb_of}
 use Rattle.xet_folder.specs.Contents.{IsRecord}
@@ -53,7 +49,7 @@ module _ (old new : Xorbs) (more : (h : List ℕ) (ms : Leaves) → IsListed old
   pub files_more : (rs : FileRecords) (fs : List MDBFileInfo) → AllByRecursion (IsPendingFile old rs) fs → AllByRecursion (IsPendingFile new rs) fs
   files_more rs [] all = tt
   files_more rs (f ∷ fs) all = (
-    record { recorded = all.0.recorded; leaves = all.0.leaves; resolves = resolves_more (IsListed old) (IsListed new) (λ (m : List ℕ × ℕ). m.1) more f.segments all.0.leaves all.0.resolves; form = all.0.form },
+    record { recorded = all.0.recorded; leaves = all.0.leaves; resolves = resolves_more (IsListed old) (IsListed new) (λ (m : List ℕ × ℕ). m.1) more f.segments all.0.leaves all.0.resolves; ranges = all.0.ranges },
     files_more rs fs all.1,
   )
 
@@ -151,50 +147,6 @@ tables_by_chunks t h ms chunks digests hash leaves =
     let same : map chunk_leaf chunks ≡ leaves_of (map bytes_of_chunk chunks) = leaves_are chunks (All-from_recursion _ chunks digests) in
     λ i. with_leaves t ((hash ∙ ap xorb_hash same) i) ((leaves ∙ same) i)
 
-all_readable : (chunks : List Chunk) → AllByRecursion (λ c. length c.bytes < 2 ^ 23) chunks → AllByRecursion (λ b. length b < 2 ^ 23) (map bytes_of_chunk chunks)
-all_readable [] h = tt
-all_readable (c ∷ cs) h = (h.0, all_readable cs h.1)
-
--- a xorb's text under its name is what backs the leaves of its chunks
-pub backed_by_encoding : (files : Files) (folder h encoding : List ℕ) (chunks : List Chunk) → AllByRecursion (λ c. c.hash ≡ chunk_hash c.bytes) chunks → AllByRecursion (λ c. length c.bytes < 2 ^ 23) chunks
-    → IsXorbEncoding encoding (map bytes_of_chunk chunks) → h ≡ xorb_hash (map chunk_leaf chunks) → bytes_at files (xorb_path folder h) ≡ Some encoding → IsBacked files folder h (map chunk_leaf chunks)
-backed_by_encoding files folder h encoding chunks digests small is_text is_hash there =
-    let same : map chunk_leaf chunks ≡ leaves_of (map bytes_of_chunk chunks) = leaves_are chunks (All-from_recursion _ chunks digests) in record {
-      chunks = map bytes_of_chunk chunks;
-      stored = record { bytes = encoding; there = there; encoding = is_text; readable = all_readable chunks small; hash = sym (is_hash ∙ ap xorb_hash same) };
-      same = sym same;
-    }
-
--- the hash and the record of a raw xorb of chunks
-module _ (raw : RawXorbData) (chunks : List Chunk) (boundaries : List ℕ) (exact : raw ≡ raw_of chunks boundaries) (h : List ℕ) (hash : h ≡ raw.xorb_info.metadata.xorb_hash) where
-  pub raw_hash : h ≡ xorb_hash (map chunk_leaf chunks)
-  raw_hash = hash ∙ ap (λ (r : RawXorbData). r.xorb_info.metadata.xorb_hash) exact
-
-  pub raw_block : (block : MDBXorbInfo) (ms : Leaves) → ms ≡ map chunk_leaf chunks → block ≡ raw.xorb_info → block ≡ xorb_record h ms
-  raw_block block ms same copied =
-      copied ∙ ap (λ (r : RawXorbData). r.xorb_info) exact ∙ ap (λ (x : List ℕ). xorb_record x (map chunk_leaf chunks)) (sym raw_hash) ∙ ap (xorb_record h) (sym same)
-
-  -- its text is a xorb of their bytes
-  pub raw_encoding : (encoding : List ℕ) → AllByRecursion (λ c. c.hash ≡ chunk_hash c.bytes) chunks → 0 < length chunks → raw_leaves raw ≡ map chunk_leaf chunks
-      → (0 < length raw.parts → raw_leaves raw ≡ leaves_of raw.parts → raw.xorb_info.metadata.xorb_hash ≡ xorb_hash (leaves_of raw.parts) → IsXorbEncoding encoding raw.parts) → IsXorbEncoding encoding (map bytes_of_chunk chunks)
-  raw_encoding encoding digests some leaves is_text =
-      let parts : raw.parts ≡ map bytes_of_chunk chunks = ap (λ (r : RawXorbData). r.parts) exact in
-      let same : map chunk_leaf chunks ≡ leaves_of raw.parts = leaves_are chunks (All-from_recursion _ chunks digests) ∙ ap leaves_of (sym parts) in
-      let many : length raw.parts ≡ length chunks = ap length parts ∙ length-map chunks bytes_of_chunk in
-      subst (λ (l : List (List ℕ)). IsXorbEncoding encoding l) parts (is_text (omega arith) (leaves ∙ same) (sym hash ∙ raw_hash ∙ ap xorb_hash same))
-
--- chunks that a xorb may have
-pub parts_fit : (chunks : List Chunk) → AllByRecursion (λ c. length c.bytes < 2 ^ 23) chunks → length chunks ≤ 65536 → total chunks ≤ 2 ^ 30 → ArePartsOfXorb (map bytes_of_chunk chunks)
-parts_fit chunks small count bytes = record {
-  count = let many = length-map chunks bytes_of_chunk in omega arith;
-  small = small_parts chunks small;
-  total = let all = total-bytes chunks in omega arith;
-}
-  where
-    small_parts : (cs : List Chunk) → AllByRecursion (λ c. length c.bytes < 2 ^ 23) cs → AllByRecursion (λ p. length p < 2 ^ 24) (map bytes_of_chunk cs)
-    small_parts [] all = tt
-    small_parts (c ∷ cs) all = (let here = all.0 in omega arith, small_parts cs all.1)
-
 -- ---- a put of a xorb, in a folder by another name
 
 -- What it shows of the disk, done or not.
@@ -209,19 +161,26 @@ pub record PutsXorb (s : State) (folder h encoding : List ℕ) (leaves : Leaves)
   pub foreign : s.tells ≡ true → (name : List ℕ) → IsForeign folder name → SameEntry s.files files name
   pub backs : bytes_at files (xorb_path s.folder h) ≡ Some encoding → IsBacked files s.folder h leaves
 
--- It is shown by what the calls before the put say, and by the put's own clauses.
-pub puts_xorb : {s : State} {folder h text built ends : List ℕ} {ms : Leaves} {tells : Bool} {files : Files} {faults : ℕ} {raw : RawXorbData} (chunks : List Chunk) → Sound s → folder ≡ s.folder
-    → found s.xorbs h ≡ None → raw ≡ raw_of chunks ends → h ≡ raw.xorb_info.metadata.xorb_hash → raw_leaves raw ≡ map chunk_leaf chunks
-    → (0 < length raw.parts → raw_leaves raw ≡ leaves_of raw.parts → raw.xorb_info.metadata.xorb_hash ≡ xorb_hash (leaves_of raw.parts) → IsXorbEncoding built raw.parts) → text ≡ built
-    → ms ≡ map chunk_leaf chunks → AllByRecursion (λ c. c.hash ≡ chunk_hash c.bytes) chunks → AllByRecursion (λ c. length c.bytes < 2 ^ 23) chunks → 0 < length chunks → tells ≡ s.tells → s.faults ≤ faults
+-- It is shown by what is so of the xorb, and by the put's own clauses.
+pub puts_due : {s : State} {folder h encoding : List ℕ} {leaves : Leaves} {tells : Bool} {files : Files} {faults : ℕ} → Sound s → folder ≡ s.folder → found s.xorbs h ≡ None
+    → IsDueXorb (due_xorb h leaves encoding) → tells ≡ s.tells → s.faults ≤ faults
     → (s.tells ≡ true → (k : List ℕ) → IsHash k → k ≢ h → SameEntry s.files files (xorb_path folder k)) → (s.tells ≡ true → (k : List ℕ) → IsHash k → SameEntry s.files files (shard_path folder k))
-    → (s.tells ≡ true → (name : List ℕ) → IsForeign folder name → SameEntry s.files files name) → PutsXorb s folder h text ms tells files faults
-puts_xorb {s} {folder} {h} {text} {built} {ends} {ms} {tells} {files} {faults} {raw} cs sound same none exact hash raw_are grammar text_is ms_are digests small some same_tells later xorbs shards foreign =
-    let backs : bytes_at files (xorb_path s.folder h) ≡ Some text → IsBacked files s.folder h ms = λ there.
-    subst (λ (l : Leaves). IsBacked files s.folder h l) (sym ms_are)
-    (backed_by_encoding files s.folder h built cs digests small (raw_encoding raw cs ends exact h hash built digests some raw_are grammar)
-    (raw_hash raw cs ends exact h hash) (there ∙ ap Some text_is)) in
-    record { sound = sound; same = same; tells_same = same_tells; later = later; none = none; xorbs = xorbs; shards = shards; foreign = foreign; backs = backs }
+    → (s.tells ≡ true → (name : List ℕ) → IsForeign folder name → SameEntry s.files files name) → PutsXorb s folder h encoding leaves tells files faults
+puts_due {s} {folder} {h} {encoding} {leaves} {tells} {files} {faults} sound same none due same_tells later xorbs shards foreign = record {
+  sound = sound;
+  same = same;
+  tells_same = same_tells;
+  later = later;
+  none = none;
+  xorbs = xorbs;
+  shards = shards;
+  foreign = foreign;
+  backs = λ there. record {
+    chunks = due.chunks;
+    stored = record { bytes = encoding; there = there; encoding = due.encoded; readable = due.readable; hash = ap xorb_hash due.same ∙ due.hashed };
+    same = due.same;
+  };
+}
 
 module _ {s : State} {folder h encoding : List ℕ} {leaves : Leaves} {tells : Bool} {files : Files} {faults : ℕ} (p : PutsXorb s folder h encoding leaves tells files faults) where
   shards_here : s.tells ≡ true → (k : List ℕ) → IsHash k → SameEntry s.files files (shard_path s.folder k)
@@ -247,23 +206,23 @@ module _ {s : State} {folder h encoding : List ℕ} {leaves : Leaves} {tells : B
       pub unput_keeps : (t : State) → s ≡ t → Keeps t (changed s tells files faults xorbs records shards pending)
       unput_keeps t e = keeps_refused s tells files faults xorb_stays p.sound t e ex er es ep
 
-    -- done
-    module _ {xorbs : Xorbs} {pending : Held} (listed : xorbs ≡ s.xorbs ++ (h, leaves) ∷ [])
-        (held : pending ≡ record { blocks = with_last xorb_record_hash s.pending.blocks (xorb_record h leaves); files = s.pending.files }) where
-      pub put_sound : IsHash h → IsHeld pending → (s.tells ≡ true → bytes_at files (xorb_path folder h) ≡ Some encoding) → Sound (changed s tells files faults xorbs s.records s.shards pending)
-      put_sound is form there = sound_added_at s h leaves tells files faults xorb_stays p.sound listed held p.none is form
-          (λ told. p.backs (subst (λ (f : List ℕ). bytes_at files (xorb_path f h) ≡ Some encoding) p.same (there told))) shards_here
+  -- done, under a hash by another name
+  module _ {T E : Type 0} (k : List ℕ) (named : h ≡ k) (r : Result T E) where
+    pub put_backed : OnOk r (bytes_at files (xorb_path folder h) ≡ Some encoding) → OnOk r (IsBacked files s.folder k leaves)
+    put_backed there =
+        on_ok_weaker r (λ (done : bytes_at files (xorb_path folder h) ≡ Some encoding). subst (λ (x : List ℕ). IsBacked files s.folder x leaves) named
+        (p.backs (subst (λ (f : List ℕ). bytes_at files (xorb_path f h) ≡ Some encoding) p.same done))) there
 
-      pub put_keeps : (s.tells ≡ true → IsDurable files (xorb_path folder h)) → (t : State) → s ≡ t → Keeps t (changed s tells files faults xorbs s.records s.shards pending)
-      put_keeps durable t e = keeps_added_at s h leaves tells files faults xorb_stays p.sound listed held (λ told. subst (λ (f : List ℕ). IsDurable files (xorb_path f h)) p.same (durable told)) t e
+    pub put_durable : OnOk r (IsDurable files (xorb_path folder h)) → OnOk r (IsDurable files (xorb_path s.folder k))
+    put_durable durable =
+        on_ok_weaker r (λ (done : IsDurable files (xorb_path folder h)). subst (λ (x : List ℕ). IsDurable files (xorb_path s.folder x)) named
+        (subst (λ (f : List ℕ). IsDurable files (xorb_path f h)) p.same done)) durable
 
-  -- the tables then
-  pub put_tables : {xorbs : Xorbs} {pending : Held} → xorbs ≡ s.xorbs ++ (h, leaves) ∷ [] → pending ≡ record { blocks = with_last xorb_record_hash s.pending.blocks (xorb_record h leaves); files = s.pending.files }
-      → (t : State) → s ≡ t → (chunks : List Chunk) → AllByRecursion (λ c. c.hash ≡ chunk_hash c.bytes) chunks → h ≡ xorb_hash (map chunk_leaf chunks) → leaves ≡ map chunk_leaf chunks
-      → tables xorbs s.records pending ≡ with_xorb_of (tables_of t) (map bytes_of_chunk chunks)
-  put_tables {xorbs} {pending} listed held t e chunks digests is_hash is_leaves =
-      tables_added s h leaves p.none xorbs pending listed held ∙ tables_by_chunks (tables_of s) h leaves chunks digests is_hash is_leaves
-      ∙ ap (λ (x : State). with_xorb_of (tables_of x) (map bytes_of_chunk chunks)) e
+-- a put is done, or leaves what is kept or done
+pub put_left : {T E : Type 0} (old new : Files) (name encoding : List ℕ) (r : Result T E) → OnErr r (IsKeptOrDone old new name encoding) → OnOk r (bytes_at new name ≡ Some encoding)
+    → OnOk r (IsDurable new name) → OnOk r (get new (temp_name name) ≡ None) → IsKeptOrDone old new name encoding
+put_left old new name encoding (Ok x) refused there durable temp = inr (record { there = there; durable = durable; temp = temp })
+put_left old new name encoding (Err e) refused there durable temp = refused
 
 -- ---- the comparison with the leaves that are listed
 
@@ -282,16 +241,6 @@ same_leaves (x ∷ xs) (y ∷ ys) e =
     let lengths : x.1 ≡ y.1 = eqb-true x.1 y.1 one.1 in
     let rest : xs ≡ ys = same_leaves xs ys both.1 in
     λ i. (hashes i, lengths i) ∷ rest i
-
-total_of : (chunks : List Chunk) → total_len (map chunk_leaf chunks) ≡ total chunks
-total_of [] = refl
-total_of (c ∷ cs) = omega (arith, sum_by-cons (λ (m : List ℕ × ℕ). m.1) (chunk_leaf c) (map chunk_leaf cs), sum_by-cons (λ (d : Chunk). length d.bytes) c cs, total_of cs)
-
--- a new xorb's chunks are stored in fewer than 2 ^ 32 bytes
-pub leaves_below : (ms : List (List ℕ × ℕ)) (chunks : List Chunk) → ms ≡ map chunk_leaf chunks → length chunks ≤ 65536 → total chunks ≤ 2 ^ 30 → stored_len ms < 2 ^ 32
-leaves_below ms chunks same count bytes =
-    subst (λ (l : List (List ℕ × ℕ)). stored_len l < 2 ^ 32) (sym same)
-    (omega (arith, stored_is (map chunk_leaf chunks), total_of chunks, length-map chunks chunk_leaf))
 
 pub true_from : (b : Bool) → false ≡ not b → b ≡ true
 true_from true e = refl

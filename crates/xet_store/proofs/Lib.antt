@@ -3,6 +3,7 @@ mod Answering
 mod Rows
 mod Differing
 mod Pending
+mod Encoding
 mod Adding
 mod Recording
 mod Storing

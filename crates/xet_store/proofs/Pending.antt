@@ -101,7 +101,7 @@ few_ext : (o : Option FileMetadataExt) → length (ext_rows o) ≤ 1
 few_ext None = omega arith
 few_ext (Some m) = omega arith
 
-file_row_count : (f : MDBFileInfo) (n : ℕ) → length f.segments ≡ n → length f.verification ≡ n → length (file_rows f) ≤ 2 + 2 * n
+file_row_count : (f : MDBFileInfo) (n : ℕ) → length f.segments ≡ n → length f.verification ≤ n → length (file_rows f) ≤ 2 + 2 * n
 file_row_count f n segments verification =
     let rest = length-append (map verification_row f.verification) (ext_rows f.metadata_ext) in
     omega (arith, length-append (map segment_row f.segments) (map verification_row f.verification ++ ext_rows f.metadata_ext), rest, length-map f.segments segment_row, length-map f.verification verification_row, few_ext f.metadata_ext, segments, verification)
@@ -120,9 +120,17 @@ module _ (b : MDBXorbInfo) (h : List ℕ) (ms : List (List ℕ × ℕ)) (exact :
   few_blocks_of p n count room =
       subst (λ (x : MDBXorbInfo). length (xorb_section (with_last xorb_record_hash p.blocks x)) < 2 ^ 32) (sym exact) (few_blocks p h ms (omega (arith, count, room)))
 
-pub few_files : (p : Held) (ms : List (List ℕ × ℕ)) (f : MDBFileInfo) → IsRecordOf ms f → held_size p + 48 * (2 + 2 * f.metadata.num_entries) < 2 ^ 37 → length (file_section (with_last file_record_hash p.files f)) < 2 ^ 32
-few_files p ms f form room =
+-- as many verification rows as segments, or none
+few_verifications : (f : MDBFileInfo) → IsFile f → length f.verification ≤ length f.segments
+few_verifications f form = go form.verified form.verifications
+  where
+    go : (b : Bool) → length f.verification ≡ cond b (length f.segments) 0 → length f.verification ≤ length f.segments
+    go true e = omega (arith, e)
+    go false e = omega (arith, e)
+
+pub few_files : (p : Held) (f : MDBFileInfo) → IsFile f → held_size p + 48 * (2 + 2 * f.metadata.num_entries) < 2 ^ 37 → length (file_section (with_last file_record_hash p.files f)) < 2 ^ 32
+few_files p f form room =
     let n : ℕ = f.metadata.num_entries in
-    let segments : length f.segments ≡ n = sym (ap (λ (g : MDBFileInfo). g.metadata.num_entries) form.is) in
-    let verification : length f.verification ≡ n = ap (λ (g : MDBFileInfo). length g.verification) form.is ∙ ranges_count f.segments ms ∙ segments in
+    let segments : length f.segments ≡ n = sym form.counted in
+    let verification : length f.verification ≤ n = omega (arith, few_verifications f form, segments) in
     few_rows file_rows file_record_size file_rows_size file_record_hash p.files f (2 + 2 * n) (file_row_count f n segments verification) (omega (arith, room))

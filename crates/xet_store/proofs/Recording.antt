@@ -15,9 +15,9 @@ use Rattle.xet_folder.specs.Plan.{Resolves}
 use Rattle.xet_folder.specs.Xorbs.{IsListed, FileRecords, Xorbs, found}
 use Rattle.xet_folder.specs.theorems.Tables.{found_either, found_here, found_kept}
 use Rattle.xet_store.specs.Cleaning.{Adds, Keeps}
-use Rattle.xet_dedup.specs.Records.{file_record}
-use Rattle.xet_store.specs.Store.{State, IsKept, IsPendingFile, Sound}
-use Rattle.xet_store.specs.internal.Store.{IsNewFile}
+use Rattle.xet_dedup.specs.Records.{file_record, range_hashes}
+use Rattle.xet_store.proofs.Pending.{file_form}
+use Rattle.xet_store.specs.Store.{State, IsKept, IsNewFile, IsPendingFile, Sound}
 use Rattle.xet_store.specs.Tables.{tables, tables_of, with_record}
 use Rattle.xet_store.specs.theorems.Rows.{among_filter, among_last, among_more, apart_found, from_among, is_some_found, to_among}
 use Rattle.xet_store.proofs.Rows.{Lacks, absent_first, absent_rest, differ_more, differ_none, differ_then, found_later, found_more}
@@ -71,14 +71,14 @@ module _ (s : State) (f : MDBFileInfo) where
     sound_recorded sound new held = record {
       backed = sound.backed;
       recorded = all_push _ s.records (file_record_hash f, f) sound.recorded
-          (record { named = refl; leaves = new.leaves; resolves = new.resolves; hash = sym (ap (λ (g : MDBFileInfo). file_record_hash g) new.form.is); some = new.some; bound = new.bound });
+          (record { named = refl; leaves = new.leaves; resolves = new.resolves; hash = new.hash; some = new.some; bound = new.bound });
       kept = λ h g e. kept_recorded sound h g (found_either s.records (file_record_hash f) h f g e);
       held = held;
       blocks = sound.blocks;
       pending_files = all_last (IsPendingFile s.xorbs recorded_too) file_record_hash s.pending.files f
           (all_more (IsPendingFile s.xorbs s.records) (IsPendingFile s.xorbs recorded_too) s.pending.files
-          (λ g is. record { recorded = found_kept s.records ((file_record_hash f, f) ∷ []) (file_record_hash g) g is.recorded; leaves = is.leaves; resolves = is.resolves; form = is.form }) sound.pending_files)
-          (record { recorded = found_here s.records (file_record_hash f) f none; leaves = new.leaves; resolves = new.resolves; form = new.form });
+          (λ g is. record { recorded = found_kept s.records ((file_record_hash f, f) ∷ []) (file_record_hash g) g is.recorded; leaves = is.leaves; resolves = is.resolves; ranges = is.ranges }) sound.pending_files)
+          (record { recorded = found_here s.records (file_record_hash f) f none; leaves = new.leaves; resolves = new.resolves; ranges = new.ranges });
       admitted = sound.admitted;
       hashes = sound.hashes;
       shards_hashes = sound.shards_hashes;
@@ -124,8 +124,9 @@ new_file xorbs ms plan sha256 f exact resolves plain some bound =
     let same : plan ≡ f.segments = sym (ap (λ (g : MDBFileInfo). g.segments) exact) in record {
       leaves = ms;
       resolves = subst (λ (p : List Segment). Resolves (IsListed xorbs) (λ m. m.1) p ms) same resolves;
-      form = record { sha256 = sha256; is = exact ∙ ap (λ (p : List Segment). file_record ms p sha256) same };
-      plain = subst (AllByRecursion (λ (s : Segment). s.xorb_flags ≡ 0)) same plain;
+      form = file_form ms f (record { sha256 = sha256; is = exact ∙ ap (λ (p : List Segment). file_record ms p sha256) same }) (subst (AllByRecursion (λ (s : Segment). s.xorb_flags ≡ 0)) same plain);
+      hash = sym (ap (λ (g : MDBFileInfo). file_record_hash g) exact);
+      ranges = inr (ap (λ (g : MDBFileInfo). g.verification) exact ∙ ap (λ (p : List Segment). range_hashes p ms) same);
       some = some;
       bound = bound;
     }

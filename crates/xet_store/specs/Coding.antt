@@ -1,20 +1,15 @@
 -- Codes of the model of a store, which the toolchain requires (`ghost coded`).
-use Rattle.std.specs.Prelude.{ℕ, zero, suc, ◌≡◌, Bool, List, Option, refl}
-use Rattle.std.specs.Coded.{Coded, code_by, coded×, coded_ℕ, coded_bool, coded_list, coded_option}
+use Rattle.std.specs.Prelude.{ℕ, zero, suc, ◌≡◌, Bool, List, refl}
+use Rattle.std.specs.Coded.{Coded, code_by, coded×, coded_ℕ, coded_bool, coded_list}
 use Rattle.std.specs.FinMap as map
 use Rattle.xet_io.specs.Disk.{Files}
 use Rattle.xet_io.specs.Memory.{entry_code}
 use Rattle.xet_xorb_chunk.specs.declared.scheme.CompressionScheme.{CompressionScheme}
 use Rattle.xet_xorb_chunk.specs.declared.scheme.CompressionScheme.TheVariants as scheme
 use Rattle.xet_cut.specs.declared.limits.LimitSettings.{LimitSettings}
-use Rattle.xet_shard_format.specs.declared.record.FileDataSequenceEntry.{FileDataSequenceEntry as Segment}
-use Rattle.xet_shard_format.specs.declared.record.FileMetadataExt.{FileMetadataExt}
-use Rattle.xet_shard_format.specs.declared.record.FileVerificationEntry.{FileVerificationEntry}
-use Rattle.xet_shard_format.specs.declared.record.MDBFileInfo.{MDBFileInfo}
-use Rattle.xet_shard_format.specs.declared.record.MDBXorbInfo.{MDBXorbInfo}
-use Rattle.xet_shard_format.specs.declared.record.XorbChunkSequenceEntry.{XorbChunkSequenceEntry}
 use Rattle.xet_shard.specs.Held.{Held}
 use Rattle.xet_folder.specs.Xorbs.{FileRecords, Xorbs}
+use Rattle.xet_history.specs.Coding.{Bytes, Pair, bytes_code, held_code, pair_code, records_code, xorbs_code}
 use Rattle.xet_store.specs.Store.{State, state}
 
 abbrev pub scheme_index : CompressionScheme → ℕ
@@ -37,12 +32,6 @@ scheme_back scheme.Auto = refl
 
 abbrev pub scheme_code : Coded CompressionScheme
 scheme_code = code_by ℕ coded_ℕ scheme_index scheme_at scheme_back
-
-abbrev pub Pair : Type 0
-Pair = ℕ × ℕ
-
-abbrev pub pair_code : Coded Pair
-pair_code = coded× coded_ℕ coded_ℕ
 
 abbrev pub limits_code : Coded LimitSettings
 limits_code = code_by
@@ -67,61 +56,6 @@ limits_code = code_by
       gear = p.1.1.1.1;
     })
     (λ _. refl)
-
-abbrev pub segment_code : Coded Segment
-segment_code = code_by (List ℕ × (Pair × Pair)) (coded× (coded_list coded_ℕ) (coded× pair_code pair_code))
-    (λ s. (s.xorb_hash, ((s.xorb_flags, s.unpacked_segment_bytes), (s.chunk_index_start, s.chunk_index_end))))
-    (λ p. record { xorb_hash = p.0; xorb_flags = p.1.0.0; unpacked_segment_bytes = p.1.0.1; chunk_index_start = p.1.1.0; chunk_index_end = p.1.1.1 })
-    (λ _. refl)
-
--- bytes, such as a hash
-abbrev pub Bytes : Type 0
-Bytes = List ℕ
-
-abbrev pub bytes_code : Coded Bytes
-bytes_code = coded_list coded_ℕ
-
-abbrev pub xorbs_code : Coded Xorbs
-xorbs_code = coded_list (coded× bytes_code (coded_list (coded× bytes_code coded_ℕ)))
-
-abbrev pub chunk_code : Coded XorbChunkSequenceEntry
-chunk_code = code_by (Bytes × Pair) (coded× bytes_code pair_code)
-    (λ c. (c.chunk_hash, (c.chunk_byte_range_start, c.unpacked_segment_bytes)))
-    (λ p. record { chunk_hash = p.0; chunk_byte_range_start = p.1.0; unpacked_segment_bytes = p.1.1 })
-    (λ _. refl)
-
-abbrev pub block_code : Coded MDBXorbInfo
-block_code = code_by ((Bytes × (Pair × Pair)) × List XorbChunkSequenceEntry) (coded× (coded× bytes_code (coded× pair_code pair_code)) (coded_list chunk_code))
-    (λ b. ((b.metadata.xorb_hash, ((b.metadata.xorb_flags, b.metadata.num_entries), (b.metadata.num_bytes_in_xorb, b.metadata.num_bytes_on_disk))), b.chunks))
-    (λ p. record {
-      metadata = record { xorb_hash = p.0.0; xorb_flags = p.0.1.0.0; num_entries = p.0.1.0.1; num_bytes_in_xorb = p.0.1.1.0; num_bytes_on_disk = p.0.1.1.1 };
-      chunks = p.1;
-    })
-    (λ _. refl)
-
-abbrev pub verification_code : Coded FileVerificationEntry
-verification_code = code_by Bytes bytes_code (λ v. v.range_hash) (λ h. record { range_hash = h }) (λ _. refl)
-
-abbrev pub ext_code : Coded FileMetadataExt
-ext_code = code_by Bytes bytes_code (λ m. m.sha256) (λ h. record { sha256 = h }) (λ _. refl)
-
-abbrev pub record_code : Coded MDBFileInfo
-record_code = code_by ((Bytes × Pair) × (List Segment × (List FileVerificationEntry × Option FileMetadataExt)))
-    (coded× (coded× bytes_code pair_code) (coded× (coded_list segment_code) (coded× (coded_list verification_code) (coded_option ext_code))))
-    (λ f. ((f.metadata.file_hash, (f.metadata.file_flags, f.metadata.num_entries)), (f.segments, (f.verification, f.metadata_ext))))
-    (λ p. record {
-      metadata = record { file_hash = p.0.0; file_flags = p.0.1.0; num_entries = p.0.1.1 };
-      segments = p.1.0;
-      verification = p.1.1.0;
-      metadata_ext = p.1.1.1;
-    })
-    (λ _. refl)
-
-abbrev pub records_code : Coded FileRecords
-records_code = coded_list (coded× bytes_code record_code)
-
-abbrev pub held_code : Coded Held
-held_code = code_by (List MDBXorbInfo × List MDBFileInfo) (coded× (coded_list block_code) (coded_list record_code)) (λ h. (h.blocks, h.files)) (λ p. record { blocks = p.0; files = p.1 }) (λ _. refl)
 
 abbrev pub state_code : Coded State
 state_code = code_by ((Bool × (Files × ℕ)) × ((Bytes × (LimitSettings × ℕ)) × ((Xorbs × FileRecords) × (List Bytes × Held))))

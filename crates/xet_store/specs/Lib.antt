@@ -5,6 +5,7 @@ pub mod Ranges
 pub mod Coding
 pub mod Separate
 pub mod Tables
+pub mod DueXorb
 pub mod Cleaning
 pub mod Steps
 pub mod theorems

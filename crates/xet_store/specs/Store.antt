@@ -1,5 +1,5 @@
 -- The state of a session, and its invariant.
-use Rattle.std.specs.Prelude.{◌≡◌, ◌≢◌, ◌⊎◌, ℕ, Bool, true, false, List, [], map, AllPairs, Any, Option, Some, IsSome, nat_eq}
+use Rattle.std.specs.Prelude.{◌≡◌, ◌≢◌, ◌⊎◌, ℕ, ◌<◌, ◌^◌, Bool, true, false, List, [], length, map, AllPairs, Any, Option, Some, IsSome, nat_eq}
 use Rattle.std.specs.Cmp.Lexicographic.{pointwise}
 use Rattle.std.specs.List.{AllByRecursion, IsAmong}
 use Rattle.std.specs.Option.{option_map}
@@ -18,7 +18,9 @@ use Rattle.xet_folder.specs.Contents.{IsRecord}
 use Rattle.xet_shard_file.specs.Shards.{ShardFile}
 use Rattle.xet_folder.specs.Xorbs.{AreBacked, IsListed, FileRecords, Xorbs, found}
 use Rattle.xet_cut.specs.declared.limits.LimitSettings.{LimitSettings}
-use Rattle.xet_dedup.specs.Records.{IsRecordOf}
+use Rattle.xet_dedup.specs.Records.{range_hashes}
+use Rattle.xet_hash.specs.Merkle.{file_hash, total_len}
+use Rattle.xet_shard_format.specs.Records.{IsFile}
 
 -- What contracts see of a session: whether its disk is observable, the disk's files and count of failures;
 -- its folder, limits and time of opening; its listed xorbs, recorded files and registered shards; and what is
@@ -39,13 +41,27 @@ pub record State : Type 0 where
 abbrev pub state : Bool → Files → ℕ → List ℕ → LimitSettings → ℕ → Xorbs → FileRecords → List (List ℕ) → Held → State
 state t f n d l o xs rs hs p = record { tells = t; files = f; faults = n; folder = d; limits = l; opened = o; xorbs = xs; records = rs; shards = hs; pending = p }
 
--- A pending record is the one recorded for its file, and its plan resolves to the chunk list of which it is
--- the record.
+-- Of a record with verification rows these are the range hashes over this chunk list.
+abbrev pub HasRanges : MDBFileInfo → List (List ℕ × ℕ) → Type 0
+HasRanges f leaves = (f.verification ≡ []) ⊎ (f.verification ≡ range_hashes f.segments leaves)
+
+-- A file can be recorded with this record, which is well formed: its plan resolves to a chunk list, not empty, which gives
+-- its file hash and its range hashes.
+pub record IsNewFile (xorbs : Xorbs) (f : MDBFileInfo) : Type 0 where
+  pub leaves : List (List ℕ × ℕ)
+  pub resolves : Resolves (IsListed xorbs) (λ m. m.1) f.segments leaves
+  pub form : IsFile f
+  pub hash : file_hash leaves ≡ file_record_hash f
+  pub ranges : HasRanges f leaves
+  pub some : 0 < length leaves
+  pub bound : total_len leaves < 2 ^ 64
+
+-- A pending record is the one recorded for its file, and its plan resolves to a chunk list that gives its range hashes.
 pub record IsPendingFile (xorbs : Xorbs) (records : FileRecords) (f : MDBFileInfo) : Type 0 where
   pub recorded : found records (file_record_hash f) ≡ Some f
   pub leaves : List (List ℕ × ℕ)
   pub resolves : Resolves (IsListed xorbs) (λ m. m.1) f.segments leaves
-  pub form : IsRecordOf leaves f
+  pub ranges : HasRanges f leaves
 
 -- A registered shard, unexpired at a time, lists the record.
 pub record IsKept (files : Files) (folder : List ℕ) (now : ℕ) (shards : List (List ℕ)) (f : MDBFileInfo) : Type 0 where

@@ -1,4 +1,3 @@
 pub mod Reading
 pub mod Cleaning
 pub mod Steps
-pub mod Store

@@ -1,6 +1,6 @@
 //! A session: xorbs and shards in a folder of a disk, and the reconstruction plans of files over them.
 
-ghost use Rattle.std.specs.Prelude.{◌≡◌, length, IfOk, IsOkUnless};
+ghost use Rattle.std.specs.Prelude.{◌≡◌, is_some, length, IfOk, IsOkUnless};
 ghost use Rattle.std.specs.Option.{option_map};
 ghost use Rattle.xet_folder.specs.Xorbs.{found};
 ghost use Rattle.xet_store.specs.Store.{Differ, recorded_files, plan_of};
@@ -80,6 +80,34 @@ impl<D: Disk + Send> Store<D> {
         ensures { result ≡ length self.now.xorbs }
     {
         self.xorbs.len() as u64
+    }
+
+    /// The number of registered shards.
+    pub fn shard_count(&self) -> u64
+        ensures { result ≡ length self.now.shards }
+    {
+        self.shards.len() as u64
+    }
+
+    /// Whether a xorb of this hash is listed.
+    pub fn lists_xorb(&self, hash: &MerkleHash) -> bool
+        ensures { result ≡ is_some (found self.now.xorbs hash.now) }
+    {
+        self.xorbs.contains_key(hash)
+    }
+
+    /// The hashes and lengths of each listed xorb's chunks.
+    pub fn xorbs(&self) -> &IndexMap<MerkleHash, Leaves>
+        ensures { result.now.entries ≡ self.now.xorbs }
+    {
+        &self.xorbs
+    }
+
+    /// What is recorded, but in no shard on the disk yet.
+    pub fn pending(&self) -> &MDBInMemoryShard
+        ensures { result.now ≡ self.now.pending }
+    {
+        &self.pending
     }
 
     /// The segments of a file's reconstruction plan; none if the file is not recorded. The empty file, whose
