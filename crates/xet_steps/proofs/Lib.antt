@@ -1,0 +1,9 @@
+mod Contents
+mod Joining
+mod Moving
+mod Refusing
+mod Registering
+mod Completing
+mod Cutting
+mod Known
+mod Opening

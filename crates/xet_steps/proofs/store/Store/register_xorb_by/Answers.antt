@@ -1,0 +1,78 @@
+use Rattle.std.proofs.Common.{◌≡◌, ◌∙◌, ℕ, Bool, true, false, List, IfOk, refl, sym, ap, subst}
+use Rattle.xet_base.specs.theorems.Exits.{exit_with}
+use Rattle.xet_hash.specs.declared.error.StoreError.TheVariants.{OutOfMemory}
+use Rattle.xet_history.specs.declared.entry.StepKind.TheVariants.{Register}
+use Rattle.xet_folder.specs.Xorbs.{found}
+use Rattle.xet_hash.specs.Merkle.{xorb_hash}
+use Rattle.xet_history.specs.Core.{is_new}
+use Rattle.xet_history.specs.theorems.Staying.{none_if_new}
+use Rattle.xet_store.specs.Store.{State}
+use Rattle.xet_xorb.specs.Raw.{raw_leaves}
+use Rattle.xet_steps.specs.Recorded.{RecordedState}
+use Rattle.xet_steps.proofs.Known.{new_if_unlisted, pushed_register, recorded_registered, registers_known}
+use Rattle.xet_steps.proofs.Refusing.{exit_of_memory, recorded_after, recorded_same, refuses_memory, same_view, same_view_kept}
+use Rattle.xet_steps.proofs.store.Store.register_xorb_by.Goals as goal
+
+pub returns-in_err-reserve-clause-refused : goal.returns-in_err-reserve-clause-refused
+returns-in_err-reserve-clause-refused g c =
+    exit_with _ _ OutOfMemory c.from_residual.ensures.1 (refuses_memory _ Register _ _ _ (same_view _ _ _ _ c.self.view_is refl c.reserve.ensures.items))
+
+pub returns-in_err-reserve-2-clause-refused : goal.returns-in_err-reserve-2-clause-refused
+returns-in_err-reserve-2-clause-refused g c =
+    exit_with _ _ OutOfMemory c.from_residual-in_err-reserve-2.ensures.1 (refuses_memory _ Register _ _ _ (same_view _ _ _ _ c.self.view_is c.reserve-2.ensures.items c.reserve.ensures.items))
+
+pub returns-in_err-next-clause-refused : goal.returns-in_err-next-clause-refused
+returns-in_err-next-clause-refused g c =
+    exit_of_memory _ _ _ c.from_residual-in_err-next.ensures.1 c.in_err-next.ensures.memory
+    (refuses_memory _ Register _ _ _ (same_view _ _ _ _ c.self.view_is c.reserve-2.ensures.items c.reserve.ensures.items))
+
+pub returns-in_err-leaves_of_raw-clause-refused : goal.returns-in_err-leaves_of_raw-clause-refused
+returns-in_err-leaves_of_raw-clause-refused g c =
+    exit_of_memory _ _ _ c.from_residual-in_err-leaves_of_raw.ensures.1 c.in_err-leaves_of_raw.ensures.memory
+    (refuses_memory _ Register _ _ _ (same_view _ _ _ _ c.self.view_is c.reserve-2.ensures.items c.reserve.ensures.items))
+
+pub invariant_of-self-then-lists_xorb : goal.invariant_of-self-then-lists_xorb
+invariant_of-self-then-lists_xorb g c =
+    recorded_registered _ _ c.self.inside.store _ _ _ _ c.args.pass (raw_leaves c.args.xorb) c.args.next.now c.self.invariant c.reserve-2.ensures.items
+    (pushed_register _ c.push_reserved.ensures.items c.reserve.ensures.items (c.from_vec-chunks.ensures ∙ c.in_ok-leaves_of_raw.ensures.leaves) c.in_ok-next.ensures.list)
+    (new_if_unlisted _ c.args.xorb c.requires.new c.self.inside.store.xorbs _ c.hash.ensures c.lists_xorb.result true c.lists_xorb.ensures c.if-lists_xorb.true)
+
+pub returns-then-lists_xorb-clause-added : goal.returns-then-lists_xorb-clause-added
+returns-then-lists_xorb-clause-added g c =
+    let old : is_new c.self.inside.store.xorbs (xorb_hash (raw_leaves c.args.xorb)) ≡ false = new_if_unlisted _ c.args.xorb c.requires.new c.self.inside.store.xorbs _ c.hash.ensures c.lists_xorb.result true c.lists_xorb.ensures c.if-lists_xorb.true in
+    sym (ap (λ (x : RecordedState). is_new x.store.xorbs (xorb_hash (raw_leaves c.args.xorb))) (sym c.self.view_is) ∙ old)
+
+pub returns-then-lists_xorb-clause-steps : goal.returns-then-lists_xorb-clause-steps
+returns-then-lists_xorb-clause-steps g c =
+    let old : is_new c.self.inside.store.xorbs (xorb_hash (raw_leaves c.args.xorb)) ≡ false = new_if_unlisted _ c.args.xorb c.requires.new c.self.inside.store.xorbs _ c.hash.ensures c.lists_xorb.result true c.lists_xorb.ensures c.if-lists_xorb.true in
+    (registers_known (λ g'. g'.value) (g.D.Disk.files c.self.inside.opened.value) c.self.inside.store c.self.inside.flushed.items c.reserve-2.new.self.items c.self.inside.history.items c.push_reserved.new.self.items c.args.pass c.args.self.now (raw_leaves c.args.xorb) c.args.next.now
+    c.self.view_is c.reserve-2.ensures.items (pushed_register _ c.push_reserved.ensures.items c.reserve.ensures.items (c.from_vec-chunks.ensures ∙ c.in_ok-leaves_of_raw.ensures.leaves) c.in_ok-next.ensures.list)
+    (ap (λ (x : RecordedState). is_new x.store.xorbs (xorb_hash (raw_leaves c.args.xorb))) (sym c.self.view_is) ∙ old)).steps
+
+pub returns-in_err-due-clause-refused : goal.returns-in_err-due-clause-refused
+returns-in_err-due-clause-refused g c =
+    exit_of_memory _ _ _ c.from_residual-in_err-due.ensures.1 c.in_err-due.ensures.memory
+    (refuses_memory _ Register _ _ _ (same_view _ _ _ _ c.self.view_is c.reserve-2.ensures.items c.reserve.ensures.items))
+
+pub returns-in_err-reserve_xorb-clause-refused : goal.returns-in_err-reserve_xorb-clause-refused
+returns-in_err-reserve_xorb-clause-refused g c =
+    exit_of_memory _ _ _ c.from_residual-in_err-reserve_xorb.ensures.1 c.in_err-reserve_xorb.ensures.memory
+    (refuses_memory _ Register _ _ _ (same_view_kept _ _ _ _ _ c.self.view_is c.in_err-reserve_xorb.ensures.kept c.reserve-2.ensures.items c.reserve.ensures.items))
+
+pub register_due-requires-clause-new : goal.register_due-requires-clause-new
+register_due-requires-clause-new g c κs within =
+    let new : is_new c.self.inside.store.xorbs (xorb_hash (raw_leaves c.args.xorb)) ≡ true = new_if_unlisted _ c.args.xorb c.requires.new c.self.inside.store.xorbs _ c.hash.ensures c.lists_xorb.result false c.lists_xorb.ensures c.if-lists_xorb.false in
+    ap (λ (s : State). found s.xorbs c.in_ok-due.due.hash) c.reserve_xorb.ensures.kept
+    ∙ ap (λ (h : List ℕ). found c.self.inside.store.xorbs h) c.in_ok-due.ensures.hash
+    ∙ none_if_new c.self.inside.store.xorbs (xorb_hash (raw_leaves c.args.xorb)) new
+
+pub invariant_of-self-2 : goal.invariant_of-self-2
+invariant_of-self-2 g c =
+    recorded_after _ _ c.register_due.result _ _ _ _ _ (recorded_same _ _ _ _ _ _ c.reserve_xorb.ensures.kept c.self.invariant) c.reserve-2.ensures.items c.reserve.ensures.items c.register_due.ensures.count
+    c.register_due.ensures.steps c.register_due.ensures.refused (λ p. (_, (p _).steps)) (λ e q. (_, (q _).refuses.steps))
+
+pub returns-clause-added : goal.returns-clause-added
+returns-clause-added g c =
+    let new : is_new c.self.inside.store.xorbs (xorb_hash (raw_leaves c.args.xorb)) ≡ true = new_if_unlisted _ c.args.xorb c.requires.new c.self.inside.store.xorbs _ c.hash.ensures c.lists_xorb.result false c.lists_xorb.ensures c.if-lists_xorb.false in
+    subst (λ (b : Bool). IfOk c.register_due.result (λ added. added ≡ b))
+    (sym (ap (λ (x : RecordedState). is_new x.store.xorbs (xorb_hash (raw_leaves c.args.xorb))) (sym c.self.view_is) ∙ new)) c.register_due.ensures.added

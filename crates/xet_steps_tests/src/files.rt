@@ -1,0 +1,49 @@
+//! A xorb of two chunks, and the file of these.
+
+ghost use Rattle.std.specs.Prelude.{IfOk};
+ghost use Rattle.xet_dedup_queries.specs.Registering.{IsNewXorb};
+ghost use Rattle.xet_shard_format.specs.Records.{IsFile};
+
+use bytes::Bytes;
+use std::alloc::Global;
+use xet_base::Items;
+use xet_cut::Limits;
+use xet_hash::{Field, MerkleHash, StoreError, file_hash, range_hash_from_chunks};
+use xet_shard_format::{
+    FileDataSequenceEntry, FileDataSequenceHeader, FileVerificationEntry, MDBFileInfo,
+};
+use xet_xorb::RawXorbData;
+use xet_xorb_chunk::{Chunk, chunk_leaves};
+
+/// The two chunks.
+fn chunks() -> [Chunk; 2] {
+    [
+        Chunk::new(Bytes::from_static(b"abc")),
+        Chunk::new(Bytes::from_static(b"defg")),
+    ]
+}
+
+/// The xorb of the two chunks; `BadLimits` if it passes these limits.
+pub fn xorb(alloc: Global, limits: &Limits) -> Result<RawXorbData, StoreError>
+    ensures { IfOk result (IsNewXorb (limits.now.cut_bytes, limits.now.cut_chunks)) }
+{
+    if limits.cut_chunks() < 2 || limits.cut_bytes() < 7 {
+        return Err(StoreError::BadLimits(Field::CutBytes));
+    }
+    RawXorbData::from_chunks(alloc, &chunks(), vec![in alloc; 0]?)
+}
+
+/// The record of the file, which lies in the xorb of this hash.
+pub fn record(alloc: Global, xorb: MerkleHash) -> Result<MDBFileInfo, StoreError>
+    ensures { IfOk result IsFile }
+{
+    let leaves = chunk_leaves(alloc, &chunks())?;
+    let range = range_hash_from_chunks(&[leaves[0].0, leaves[1].0]);
+    let segments = vec![in alloc; FileDataSequenceEntry::new(xorb, 7, 0, 2)]?;
+    Ok(MDBFileInfo {
+        metadata: FileDataSequenceHeader::new(file_hash(alloc, &leaves)?, 1, true, false),
+        segments: Items::from_vec(segments),
+        verification: Items::from_vec(vec![in alloc; FileVerificationEntry::new(range)]?),
+        metadata_ext: None,
+    })
+}

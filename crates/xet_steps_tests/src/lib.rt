@@ -1,0 +1,9 @@
+//! Tests of a store whose steps are recorded.
+#![tactic(auto)]
+
+#[cfg(test)]
+mod files;
+#[cfg(test)]
+mod recorded;
+#[cfg(test)]
+mod step_tests;

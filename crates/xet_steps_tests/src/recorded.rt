@@ -1,0 +1,108 @@
+//! A recorded store behind calls that have no contract.
+
+use crate::files::{record, xorb};
+use std::alloc::Global;
+use xet_cut::{LimitSettings, Limits};
+use xet_hash::{MerkleHash, StoreError};
+use xet_history::{Entry, StepKind};
+use xet_io::MemoryDisk;
+use xet_shard_format::MDBFileInfo;
+use xet_steps::Store;
+
+/// A store in the folder `store` of a disk in memory.
+#[derive(Drop)]
+pub struct Recorded {
+    alloc: Global,
+    store: Store<MemoryDisk>,
+}
+
+impl Recorded {
+    /// Opens the folder of a disk. Shards have at most this target length if they can be shorter.
+    pub fn open(
+        alloc: Global,
+        disk: MemoryDisk,
+        shard_target: u64,
+    ) -> Result<Recorded, StoreError> {
+        let limits = Limits::new(LimitSettings {
+            shard_target,
+            ..LimitSettings::shown([0; 256])
+        })?;
+        match Store::open(alloc, disk, "store", limits, 1_000, false) {
+            Ok(store) => Ok(Recorded { alloc, store }),
+            Err(refused) => Err(refused.error),
+        }
+    }
+
+    /// Registers the xorb.
+    pub fn register(&mut self) -> Result<bool, StoreError> {
+        let xorb = xorb(self.alloc, self.store.limits())?;
+        self.store.register_xorb(xorb, &[])
+    }
+
+    /// Records the file.
+    pub fn complete(&mut self) -> Result<bool, StoreError> {
+        let file = self.file()?;
+        self.store.complete_file(file)
+    }
+
+    /// Whether the file may be recorded.
+    pub fn can_complete(&self) -> Result<bool, StoreError> {
+        self.store.can_complete(&self.file()?)
+    }
+
+    /// The record of the file.
+    fn file(&self) -> Result<MDBFileInfo, StoreError> {
+        let xorb = xorb(self.alloc, self.store.limits())?;
+        record(self.alloc, xorb.hash())
+    }
+
+    /// Writes a shard of what is pending. Returns whether anything was.
+    pub fn flush(&mut self) -> Result<bool, StoreError> {
+        Ok(self.store.flush()?.is_some())
+    }
+
+    /// Bytes 2..6 of the only file.
+    pub fn part(&mut self) -> Result<Vec<u8>, StoreError> {
+        let files = self.store.files(self.alloc)?;
+        match files.first() {
+            Some((hash, _)) => self.store.read_range(hash, 2, 6),
+            None => Err(StoreError::FileNotFound),
+        }
+    }
+
+    /// The numbers of listed xorbs, of recorded files and of registered shards.
+    pub fn counts(&self) -> Result<[u64; 3], StoreError> {
+        let files = self.store.files(self.alloc)?.len() as u64;
+        Ok([self.store.xorb_count(), files, self.store.shard_count()])
+    }
+
+    /// For each entry its letter, in capitals if something was added.
+    pub fn history(&self) -> Result<String, StoreError> {
+        let mut letters = String::new(self.alloc);
+        for entry in self.store.history() {
+            letters.push(letter(entry))?;
+        }
+        Ok(letters)
+    }
+
+    /// Closes the store and returns the disk.
+    pub fn into_disk(self) -> MemoryDisk {
+        self.store.into_disk()
+    }
+}
+
+/// The letter of an entry.
+fn letter(entry: &Entry) -> char {
+    match entry {
+        Entry::Query { .. } => 'Q',
+        Entry::Register { added: true, .. } => 'R',
+        Entry::Register { .. } => 'r',
+        Entry::Complete { added: true, .. } => 'C',
+        Entry::Complete { .. } => 'c',
+        Entry::Flush { .. } => 'F',
+        Entry::Fault { kind, .. } => match kind {
+            StepKind::Flush => '!',
+            _ => '?',
+        },
+    }
+}
