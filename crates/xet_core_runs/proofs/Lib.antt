@@ -1,0 +1,4 @@
+mod Sums
+mod Words
+mod Places
+mod Runs
