@@ -16,17 +16,17 @@ pub struct Recorded {
     store: Store<MemoryDisk>,
 }
 
+/// The limits of a store whose shards have at most this target length if they can be shorter.
+pub fn limits(shard_target: u64) -> Result<Limits, StoreError> {
+    Limits::new(LimitSettings {
+        shard_target,
+        ..LimitSettings::shown([0; 256])
+    })
+}
+
 impl Recorded {
-    /// Opens the folder of a disk. Shards have at most this target length if they can be shorter.
-    pub fn open(
-        alloc: Global,
-        disk: MemoryDisk,
-        shard_target: u64,
-    ) -> Result<Recorded, StoreError> {
-        let limits = Limits::new(LimitSettings {
-            shard_target,
-            ..LimitSettings::shown([0; 256])
-        })?;
+    /// Opens the folder of a disk.
+    pub fn open(alloc: Global, disk: MemoryDisk, limits: Limits) -> Result<Recorded, StoreError> {
         match Store::open(alloc, disk, "store", limits, 1_000, false) {
             Ok(store) => Ok(Recorded { alloc, store }),
             Err(refused) => Err(refused.error),
@@ -88,6 +88,11 @@ impl Recorded {
     /// Closes the store and returns the disk.
     pub fn into_disk(self) -> MemoryDisk {
         self.store.into_disk()
+    }
+
+    /// Closes the store.
+    pub fn close(self) {
+        let _disk = self.store.into_disk();
     }
 }
 

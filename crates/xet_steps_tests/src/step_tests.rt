@@ -1,6 +1,6 @@
 //! Tests of steps and their entries.
 
-use crate::recorded::Recorded;
+use crate::recorded::{Recorded, limits};
 use std::alloc::Global;
 use std::test::Fail;
 use xet_hash::{Place, Reason, StoreError};
@@ -9,9 +9,11 @@ use xet_io::{MemoryDisk, Op};
 /// A target length of shards that nothing here passes.
 const LONG: u64 = 1 << 20;
 
-/// Registers the xorb twice, records the file twice, and flushes twice. Returns the six answers and the history.
-fn twice(alloc: Global) -> Result<([bool; 6], String, MemoryDisk), StoreError> {
-    let mut store = Recorded::open(alloc, MemoryDisk::new(alloc), LONG)?;
+/// The answers of a store, and its history.
+type Seen<T> = Result<(T, String), StoreError>;
+
+/// Registers the xorb twice, records the file twice, and flushes twice.
+fn step_twice(store: &mut Recorded) -> Seen<[bool; 6]> {
     let answers = [
         store.register()?,
         store.register()?,
@@ -20,30 +22,64 @@ fn twice(alloc: Global) -> Result<([bool; 6], String, MemoryDisk), StoreError> {
         store.flush()?,
         store.flush()?,
     ];
-    let history = store.history()?;
-    Ok((answers, history, store.into_disk()))
+    Ok((answers, store.history()?))
+}
+
+/// The same in a new store, whose disk is returned too.
+fn twice(alloc: Global) -> Result<(Seen<[bool; 6]>, MemoryDisk), StoreError> {
+    let limits = limits(LONG)?;
+    let mut store = Recorded::open(alloc, MemoryDisk::new(alloc), limits)?;
+    let seen = step_twice(&mut store);
+    Ok((seen, store.into_disk()))
+}
+
+/// The numbers of xorbs, files and shards of a store, and a part of its file.
+fn contents(store: &mut Recorded) -> Result<([u64; 3], Vec<u8>, String), StoreError> {
+    Ok((store.counts()?, store.part()?, store.history()?))
+}
+
+/// The same of a disk.
+fn contents_of_disk(
+    alloc: Global,
+    disk: MemoryDisk,
+) -> Result<([u64; 3], Vec<u8>, String), StoreError> {
+    let limits = limits(LONG)?;
+    let mut store = Recorded::open(alloc, disk, limits)?;
+    let contents = contents(&mut store);
+    store.close();
+    contents
 }
 
 #[test]
 fn steps_have_their_entries(rt: HostRuntime) -> Result<(), Fail> {
-    let (answers, history, disk) = twice(rt.alloc())?;
+    let (seen, disk) = twice(rt.alloc())?;
+    let contents = contents_of_disk(rt.alloc(), disk);
+    let (answers, history) = seen?;
     assert_eq!(rt; answers, [true, false, true, false, true, false]);
     assert_eq!(rt; history.as_str(), "RrCcF");
-    let mut store = Recorded::open(rt.alloc(), disk, LONG)?;
-    assert_eq!(rt; store.counts()?, [1, 1, 1]);
-    assert_eq!(rt; store.part()?.as_slice(), b"cdef".as_slice());
-    assert_eq!(rt; store.history()?.as_str(), "");
+    let (counts, part, history) = contents?;
+    assert_eq!(rt; counts, [1, 1, 1]);
+    assert_eq!(rt; part.as_slice(), b"cdef".as_slice());
+    assert_eq!(rt; history.as_str(), "");
     Ok(())
 }
 
-/// Steps over a target length of shards that each shard passes.
-fn cuts(alloc: Global) -> Result<String, StoreError> {
-    let mut store = Recorded::open(alloc, MemoryDisk::new(alloc), 1)?;
+/// Registers the xorb, records the file, registers the xorb again, and flushes.
+fn step_and_flush(store: &mut Recorded) -> Result<String, StoreError> {
     let _added = store.register()?;
     let _added = store.complete()?;
     let _added = store.register()?;
     let _flushed = store.flush()?;
     store.history()
+}
+
+/// The same in a store with a target length of shards that each shard passes.
+fn cuts(alloc: Global) -> Result<String, StoreError> {
+    let limits = limits(1)?;
+    let mut store = Recorded::open(alloc, MemoryDisk::new(alloc), limits)?;
+    let history = step_and_flush(&mut store);
+    store.close();
+    history
 }
 
 #[test]
@@ -60,23 +96,30 @@ fn is_fault(answer: &Result<bool, StoreError>) -> bool {
     }
 }
 
-/// Steps over a disk that fails in the first registration and in the first flush. Returns whether these calls told so, and
-/// the history.
-fn faults(alloc: Global) -> Result<(bool, bool, String), StoreError> {
-    let fails = vec![in alloc; (Op::Rename, 0), (Op::Rename, 2)]?;
-    let mut store = Recorded::open(alloc, MemoryDisk::failing(alloc, fails), LONG)?;
+/// Whether the first registration and the first flush failed.
+fn step_on(store: &mut Recorded) -> Seen<[bool; 2]> {
     let unregistered = is_fault(&store.register());
     let _added = store.register()?;
     let _added = store.complete()?;
     let unflushed = is_fault(&store.flush());
     let _flushed = store.flush()?;
-    Ok((unregistered, unflushed, store.history()?))
+    Ok(([unregistered, unflushed], store.history()?))
+}
+
+/// The same over a disk that fails in the first registration and in the first flush.
+fn faults(alloc: Global) -> Seen<[bool; 2]> {
+    let limits = limits(LONG)?;
+    let fails = vec![in alloc; (Op::Rename, 0), (Op::Rename, 2)]?;
+    let mut store = Recorded::open(alloc, MemoryDisk::failing(alloc, fails), limits)?;
+    let seen = step_on(&mut store);
+    store.close();
+    seen
 }
 
 #[test]
 fn failures_of_the_disk_have_their_entries(rt: HostRuntime) -> Result<(), Fail> {
-    let (unregistered, unflushed, history) = faults(rt.alloc())?;
-    assert!(rt; unregistered && unflushed);
+    let (failed, history) = faults(rt.alloc())?;
+    assert_eq!(rt; failed, [true, true]);
     assert_eq!(rt; history.as_str(), "?RC!F");
     Ok(())
 }
@@ -89,15 +132,22 @@ fn is_other_file(answer: &Result<bool, StoreError>) -> bool {
     }
 }
 
-/// Whether the file may be recorded and is refused, before its xorb is registered; whether it may be after that; and the
-/// history.
-fn refusals(alloc: Global) -> Result<([bool; 3], String), StoreError> {
-    let mut store = Recorded::open(alloc, MemoryDisk::new(alloc), LONG)?;
+/// Whether the file may be recorded and is refused, before its xorb is registered; and whether it may be after that.
+fn step_early(store: &mut Recorded) -> Seen<[bool; 3]> {
     let before = store.can_complete()?;
     let refused = is_other_file(&store.complete());
     let _added = store.register()?;
     let after = store.can_complete()?;
     Ok(([before, refused, after], store.history()?))
+}
+
+/// The same in a new store.
+fn refusals(alloc: Global) -> Seen<[bool; 3]> {
+    let limits = limits(LONG)?;
+    let mut store = Recorded::open(alloc, MemoryDisk::new(alloc), limits)?;
+    let seen = step_early(&mut store);
+    store.close();
+    seen
 }
 
 #[test]
