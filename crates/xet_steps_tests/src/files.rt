@@ -1,8 +1,9 @@
 //! A xorb of two chunks, and the file of these.
 
-ghost use Rattle.std.specs.Prelude.{IfOk};
+ghost use Rattle.std.specs.Prelude.{◌≡◌, ◌∷◌, [], IfOk};
 ghost use Rattle.xet_dedup_queries.specs.Registering.{IsNewXorb};
 ghost use Rattle.xet_shard_format.specs.Records.{IsFile};
+ghost use Rattle.xet_xorb_chunk.specs.Chunks.{chunk_of};
 
 use bytes::Bytes;
 use std::alloc::Global;
@@ -16,7 +17,9 @@ use xet_xorb::RawXorbData;
 use xet_xorb_chunk::{Chunk, chunk_leaves};
 
 /// The two chunks.
-fn chunks() -> [Chunk; 2] {
+fn chunks() -> [Chunk; 2]
+    ensures { result ≡ chunk_of (97 ∷ 98 ∷ 99 ∷ []) ∷ chunk_of (100 ∷ 101 ∷ 102 ∷ 103 ∷ []) ∷ [] }
+{
     [
         Chunk::new(Bytes::from_static(b"abc")),
         Chunk::new(Bytes::from_static(b"defg")),
@@ -30,7 +33,8 @@ pub fn xorb(alloc: Global, limits: &Limits) -> Result<RawXorbData, StoreError>
     if limits.cut_chunks() < 2 || limits.cut_bytes() < 7 {
         return Err(StoreError::BadLimits(Field::CutBytes));
     }
-    RawXorbData::from_chunks(alloc, &chunks(), vec![in alloc; 0]?)
+    let raw = RawXorbData::from_chunks(alloc, &chunks(), vec![in alloc; 0]?)?;
+    Ok(raw)
 }
 
 /// The record of the file, which lies in the xorb of this hash.

@@ -1,5 +1,8 @@
 //! A recorded store behind calls that have no contract.
 
+ghost use Rattle.std.specs.Prelude.{IfOk};
+ghost use Rattle.xet_shard_format.specs.Records.{IsFile};
+
 use crate::files::{record, xorb};
 use std::alloc::Global;
 use xet_cut::{LimitSettings, Limits};
@@ -51,7 +54,9 @@ impl Recorded {
     }
 
     /// The record of the file.
-    fn file(&self) -> Result<MDBFileInfo, StoreError> {
+    fn file(&self) -> Result<MDBFileInfo, StoreError>
+        ensures { IfOk result IsFile }
+    {
         let xorb = xorb(self.alloc, self.store.limits())?;
         record(self.alloc, xorb.hash())
     }
