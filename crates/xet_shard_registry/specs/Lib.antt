@@ -1,2 +1,3 @@
 pub mod Collections
+pub mod Paths
 pub mod Registered

@@ -1,9 +1,10 @@
 //! The registered shards, and their collections by key.
 
-ghost use Rattle.std.specs.Prelude.{◌≡◌, ◌+◌, ◌++◌, ◌∷◌, ◌<◌, ◌^◌, ◌-◌, [], ℕ, List, None, Some, IfNone, IfOk, IfSome, IsOkUnless, OnErr, OnOk, length, map, nat_eq, slice_get, option_map, false};
+ghost use Rattle.std.specs.Prelude.{◌≡◌, ◌≢◌, All, Any, true, ◌+◌, ◌++◌, ◌∷◌, ◌<◌, ◌^◌, ◌-◌, [], ℕ, List, None, Some, IfNone, IfOk, IfSome, IsOkUnless, OnErr, OnOk, length, map, nat_eq, slice_get, option_map, false};
 ghost use Rattle.std.specs.Cmp.Lexicographic.{pointwise};
 ghost use Rattle.std.specs.List.{list_any};
-ghost use Rattle.indexmap.specs.IndexSet.{spare};
+ghost use Rattle.indexmap.specs.IndexSet.{insert_key, spare};
+ghost use Rattle.xet_hash.specs.Merkle.{chunk_hash};
 ghost use Rattle.xet_shard_registry.specs.declared.collection.Collection.{Collection};
 ghost use Rattle.xet_shard_registry.specs.Registered.{Registered, key_of, keys_of, numbers, place_among, with_shard};
 ghost use Rattle.xet_shard_registry.specs.Collections.{AddsTo, IsKeyless, IsRegistryOf, StayCollections, words_in};
@@ -14,7 +15,7 @@ use crate::collection::Collection;
 use indexmap::IndexSet;
 use std::alloc::Global;
 use std::marker::Model;
-use xet_hash::{HMACKey, MerkleHash, StoreError};
+use xet_hash::{HMACKey, MerkleHash, StoreError, compute_data_hash};
 use xet_shard_directory::MDBShardFile;
 use xet_shard_index::WordPlace;
 
@@ -30,6 +31,8 @@ pub struct ShardRegistry {
     words: u64,
     /// The hashes of the shards.
     hashes: IndexSet<MerkleHash>,
+    /// The digests of their paths.
+    paths: IndexSet<MerkleHash>,
     /// The uncompressed bytes of the files of all shards, and of their chunks, as the footers state them.
     materialized: u64,
     stored: u64,
@@ -37,10 +40,13 @@ pub struct ShardRegistry {
 
 impl Model for ShardRegistry {
     ghost use Rattle.xet_shard_registry.specs.Collections.{Tables};
+    ghost use Rattle.xet_shard_registry.specs.Paths.{HavePaths};
 
     ghost Value = { Tables };
 
     ghost view = { λ s. record { files = s.files.items; collections = s.collections.items; words = s.words; hashes = s.hashes.keys; materialized = s.materialized; stored = s.stored } };
+
+    ghost invariant = { λ s. HavePaths s.files.items s.paths.keys };
 }
 
 impl ShardRegistry {
@@ -56,6 +62,7 @@ impl ShardRegistry {
             collections,
             words: 0,
             hashes: IndexSet::new(alloc),
+            paths: IndexSet::new(alloc),
             materialized: 0,
             stored: 0,
         })
@@ -83,9 +90,11 @@ impl ShardRegistry {
     {
         let enters = self.words < cap;
         let hash = file.shard_hash;
+        let path = digest_of(file.path.as_str());
         let materialized = file.shard.metadata.materialized_bytes;
         let stored = file.shard.metadata.stored_bytes;
         self.hashes.reserve(1)?;
+        self.paths.reserve(1)?;
         let added = put(
             &mut self.files,
             &mut self.collections,
@@ -98,6 +107,7 @@ impl ShardRegistry {
         self.materialized = self.materialized.saturating_add(materialized);
         self.stored = self.stored.saturating_add(stored);
         insert_hash(&mut self.hashes, hash);
+        insert_path(&mut self.paths, path);
         Ok(())
     }
 
@@ -110,6 +120,7 @@ impl ShardRegistry {
         ensures memory { IsOkUnless result StoreError.OutOfMemory }
     {
         self.hashes.reserve(1)?;
+        self.paths.reserve(1)?;
         self.files.reserve(1)?;
         reserve_first(&mut self.collections, chunks)
     }
@@ -177,6 +188,34 @@ impl ShardRegistry {
     {
         self.hashes.contains(hash)
     }
+
+    /// Whether a registered shard has this path. The shards are walked only if one has a path of this digest.
+    pub fn has_path(&self, path: &str) -> bool
+        ensures some { result ≡ true → Any (λ s. s.path ≡ path.now) self.now.files }
+        ensures none { result ≡ false → All (λ s. s.path ≢ path.now) self.now.files }
+    {
+        self.paths.contains(&digest_of(path)) && is_path_of(path, &self.files)
+    }
+}
+
+/// The digest of a path.
+fn digest_of(path: &str) -> MerkleHash
+    ensures { result ≡ chunk_hash path.now }
+{
+    compute_data_hash(path.as_bytes())
+}
+
+/// Whether one of these shard files has this path.
+fn is_path_of(path: &str, files: &[MDBShardFile]) -> bool
+    ensures some { result ≡ true → Any (λ s. s.path ≡ path.now) files.now }
+    ensures none { result ≡ false → All (λ s. s.path ≢ path.now) files.now }
+{
+    for file in files {
+        if file.path.as_str() == path {
+            return true;
+        }
+    }
+    false
 }
 
 /// Takes the memory for one more shard in the first collection.
@@ -199,6 +238,14 @@ fn insert_hash(hashes: &mut IndexSet<MerkleHash>, hash: MerkleHash)
     ensures { hashes.new.keys ≡ hashes.old.keys ++ hash ∷ [] }
 {
     let _inserted = hashes.insert(hash);
+}
+
+/// Inserts the digest of a path, for which there is room.
+fn insert_path(paths: &mut IndexSet<MerkleHash>, path: MerkleHash)
+    requires room { 0 < spare paths.old }
+    ensures { paths.new.keys ≡ insert_key (pointwise nat_eq) paths.old.keys path }
+{
+    let _inserted = paths.insert(path);
 }
 
 /// Adds the value of a shard's file after the others, and the shard to the collection of its key. Returns the number of
