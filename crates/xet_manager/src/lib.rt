@@ -1,4 +1,5 @@
-//! The manager of the shards of a folder: those registered, and what is pending.
+//! The manager of the shards of a folder: those registered, and what is pending. Re-exports shard files, their readers and
+//! their merging.
 #![tactic(auto)]
 
 mod manager;
@@ -6,4 +7,11 @@ mod room;
 mod settings;
 
 pub use manager::{FileReconstructor, ShardFileManager};
-pub use settings::ManagerSettings;
+pub use settings::{
+    MDB_SHARD_EXPIRATION_BUFFER, MDB_SHARD_LOCAL_CACHE_EXPIRATION, ManagerSettings,
+};
+pub use xet_codec::FileReader as ShardReader;
+pub use xet_hash::Refused;
+pub use xet_shard_directory::MDBShardFile;
+pub use xet_shard_merge::{ShardMergeResult, consolidate_shards_in_directory, merge_shards};
+pub use xet_shard_merge_background::merge_shards_background;

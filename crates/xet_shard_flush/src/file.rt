@@ -17,6 +17,7 @@ use xet_io::Disk;
 use xet_shard::MDBShardInfo;
 use xet_shard_directory::{MDBShardFile, keep_named_file, write_named_file};
 use xet_shard_file::{shard_path, temp_name};
+use xet_shard_registry::ShardRegistry;
 
 /// The file of a shard that is to be written: all of it but its bytes and its modification time.
 #[derive(Drop)]
@@ -58,11 +59,11 @@ pub(crate) fn new_file(
 }
 
 /// Ensures that the bytes of a shard are in its file, durably, and returns the value of the file, and its path. If they are
-/// there, the file keeps its modification time. `OutOfMemory` if one of these shard files has the path and other bytes
-/// are there, or if it is gone and had another header or footer. Allocates nothing itself.
+/// there, the file keeps its modification time. `OutOfMemory` if a registered shard has the path and other bytes are
+/// there, or if its file is gone and had another header or footer. Allocates nothing itself.
 pub(crate) fn write_free<D: Disk>(
     disk: &mut D,
-    files: &[MDBShardFile],
+    registry: &ShardRegistry,
     file: NewFile,
     bytes: &[u8],
 ) -> Result<(MDBShardFile, String), StoreError>
@@ -71,11 +72,11 @@ pub(crate) fn write_free<D: Disk>(
     ensures hash { IfOk result (λ x. x.0.shard_hash ≡ file.hash) }
     ensures written { (folder : List ℕ) → file.path ≡ path_of folder bytes.now → IfOk result (λ x. IsWritten (D.tells disk.old) (D.files disk.old) (D.files disk.new) folder bytes.now x.0) }
     ensures left { D.tells disk.old ≡ true → (folder : List ℕ) → file.path ≡ path_of folder bytes.now → MayAddShard (D.files disk.old) (D.files disk.new) folder bytes.now }
-    ensures safe { D.tells disk.old ≡ true → (folder : List ℕ) → file.path ≡ path_of folder bytes.now → KeepsFiles (D.files disk.old) (D.files disk.new) folder bytes.now files.now }
+    ensures safe { D.tells disk.old ≡ true → (folder : List ℕ) → file.path ≡ path_of folder bytes.now → KeepsFiles (D.files disk.old) (D.files disk.new) folder bytes.now registry.now.files }
     ensures frame { Stays D.tells D.faults disk.old disk.new }
     ensures reason { IfErr result (HasDiskReason (D.faults disk.old) (D.faults disk.new)) }
 {
-    match way_of(disk, file.path.as_str(), &file.info, files, bytes) {
+    match way_of(disk, file.path.as_str(), &file.info, registry, bytes) {
         Ok(Way::Keep) => keep_file(disk, file, bytes),
         Ok(Way::Write) => write_file(disk, file, bytes),
         Ok(Way::Refuse) => Err(StoreError::OutOfMemory),

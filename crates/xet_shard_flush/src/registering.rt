@@ -35,7 +35,7 @@ pub(crate) fn write_known<D: Disk>(
     ensures frame { Stays D.tells D.faults disk.old disk.new }
     ensures reason { IfErr result (HasDiskReason (D.faults disk.old) (D.faults disk.new)) }
 {
-    match write_free(disk, registry.files(), file, bytes) {
+    match write_free(disk, registry, file, bytes) {
         Ok((_, path)) => Ok(path),
         Err(error) => Err(error),
     }
@@ -62,7 +62,7 @@ pub(crate) fn write_new<D: Disk>(
     ensures frame { Stays D.tells D.faults disk.old disk.new }
     ensures reason { IfErr result (HasDiskReason (D.faults disk.old) (D.faults disk.new)) }
 {
-    match write_free(disk, registry.files(), file, bytes) {
+    match write_free(disk, registry, file, bytes) {
         Ok((written, path)) => match registry.register(alloc, written, items, cap) {
             Ok(()) => Ok(path),
             Err(error) => Err(error),

@@ -1,6 +1,0 @@
-use Rattle.std.proofs.Common.{ℕ, ◌<◌, ◌≢◌, get_or}
-use Rattle.xet_shard_directory.specs.declared.shard_file.MDBShardFile.{MDBShardFile}
-use Rattle.xet_shard_flush.proofs.paths.is_unused.Given as goal
-
-abbrev pub invariant-loop-file : goal.invariant-loop-file
-invariant-loop-file l = (i : ℕ) (d : MDBShardFile) → i < l.file-index → (get_or l.files i d).path ≢ l.path
