@@ -49,7 +49,7 @@ module _ (old new : Xorbs) (more : (h : List ℕ) (ms : Leaves) → IsListed old
   pub files_more : (rs : FileRecords) (fs : List MDBFileInfo) → AllByRecursion (IsPendingFile old rs) fs → AllByRecursion (IsPendingFile new rs) fs
   files_more rs [] all = tt
   files_more rs (f ∷ fs) all = (
-    record { recorded = all.0.recorded; leaves = all.0.leaves; resolves = resolves_more (IsListed old) (IsListed new) (λ (m : List ℕ × ℕ). m.1) more f.segments all.0.leaves all.0.resolves; ranges = all.0.ranges },
+    record { recorded = all.0.recorded; leaves = all.0.leaves; resolves = resolves_more (IsListed old) (IsListed new) (λ (m : List ℕ × ℕ). m.1) more f.segments all.0.leaves all.0.resolves; form = all.0.form },
     files_more rs fs all.1,
   )
 
