@@ -2,11 +2,13 @@
 
 use std::alloc::Global;
 use std::marker::Sync;
+use std::mem;
+use std::process::Abort;
 use std::sync::Wait;
 use std::test::Fail;
 use std::thread::Threads;
 use xet_hash::compute_data_hash;
-use xet_io::{Disk, MemoryDisk, MemoryInputs, MemorySink, Sink, SliceSource, Source};
+use xet_io::{Disk, MemoryDisk, MemoryInputs, MemorySink, Refusal, Sink, SliceSource, Source};
 use xet_program::run_program;
 
 mod faults;
@@ -30,7 +32,7 @@ const TWO_ZEROS: &str =
     "b118eb6b1e0b61b6af72793e29bf136ad42b7d2052b0be0fae9a04a58e48f3b7 1 6e340b9cffb37a989ca544e6bb780a2c78901d3fb33738768511a30617afa01d\nb118eb6b1e0b61b6af72793e29bf136ad42b7d2052b0be0fae9a04a58e48f3b7 1 6e340b9cffb37a989ca544e6bb780a2c78901d3fb33738768511a30617afa01d\n";
 
 /// The files `a`, which has the bytes `abc`, and `empty`.
-fn named_files(alloc: Global) -> Result<Vec<(String, Vec<u8>)>, Fail> {
+fn named_files(alloc: Global) -> Result<Vec<(String, Vec<u8>)>, Refusal> {
     let mut files = Vec::new(alloc);
     files.push((
         String::from_str(alloc, "a")?,
@@ -41,7 +43,7 @@ fn named_files(alloc: Global) -> Result<Vec<(String, Vec<u8>)>, Fail> {
 }
 
 /// The arguments of a run, which are separated by spaces.
-fn words_of(alloc: Global, words: &str) -> Result<Vec<String>, Fail> {
+fn words_of(alloc: Global, words: &str) -> Result<Vec<String>, Refusal> {
     let mut list = Vec::new(alloc);
     for word in words.split_whitespace() {
         list.push(String::from_str(alloc, word)?)?;
@@ -49,32 +51,96 @@ fn words_of(alloc: Global, words: &str) -> Result<Vec<String>, Fail> {
     Ok(list)
 }
 
-/// Runs the program with these arguments. Returns the disk and the status.
+/// Drops a disk.
+fn release(disk: MemoryDisk) {
+    let _ = &disk;
+}
+
+/// Runs the program with these inputs, which it drops. Returns the status.
+fn run_with<R: Threads + Wait + Sync, I: Source, O: Sink>(
+    rt: &R,
+    alloc: Global,
+    words: &[String],
+    input: &mut I,
+    output: &mut O,
+    disk: &mut MemoryDisk,
+    mut inputs: MemoryInputs,
+) -> u8 {
+    let before = mem::replace(disk, MemoryDisk::new(alloc));
+    let (after, status) = run_program(alloc, rt, words, input, output, before, &mut inputs, 0);
+    release(mem::replace(disk, after));
+    status
+}
+
+/// Runs the program with these arguments. Returns the status.
 fn run_over<R: Threads + Wait + Sync, I: Source, O: Sink>(
     rt: &R,
     alloc: Global,
     words: &str,
     input: &mut I,
     output: &mut O,
-    disk: MemoryDisk,
-) -> Result<(MemoryDisk, u8), Fail> {
+    disk: &mut MemoryDisk,
+) -> Result<u8, Refusal> {
     let list = words_of(alloc, words)?;
-    let mut inputs = MemoryInputs::new(alloc, named_files(alloc)?);
-    Ok(run_program(alloc, rt, &list, input, output, disk, &mut inputs, 0))
+    let inputs = MemoryInputs::new(alloc, named_files(alloc)?);
+    Ok(run_with(rt, alloc, &list, input, output, disk, inputs))
 }
 
-/// The same over this input. Returns also what was printed.
+/// The same over this input. Returns what was printed, and the status.
 fn run<R: Threads + Wait + Sync>(
     rt: &R,
     alloc: Global,
     words: &str,
     input: &str,
-    disk: MemoryDisk,
-) -> Result<(MemoryDisk, String, u8), Fail> {
+    disk: &mut MemoryDisk,
+) -> Result<(String, u8), Refusal> {
     let mut source = SliceSource::new(input.as_bytes());
     let mut sink = MemorySink::new(alloc);
-    let (disk, status) = run_over(rt, alloc, words, &mut source, &mut sink, disk)?;
-    Ok((disk, String::from_utf8_lossy(alloc, sink.bytes())?, status))
+    let status = run_over(rt, alloc, words, &mut source, &mut sink, disk)?;
+    Ok((String::from_utf8_lossy(alloc, sink.bytes())?, status))
+}
+
+/// The same over a new disk.
+fn run_once<R: Threads + Wait + Sync>(
+    rt: &R,
+    alloc: Global,
+    words: &str,
+    input: &str,
+) -> Result<(String, u8), Refusal> {
+    let mut disk = MemoryDisk::new(alloc);
+    let found = run(rt, alloc, words, input, &mut disk);
+    release(disk);
+    found
+}
+
+/// The number of files in the folder of a disk.
+fn count_files(alloc: Global, disk: &mut MemoryDisk) -> Result<usize, Refusal> {
+    Ok(disk.list(alloc, "store")?.len())
+}
+
+/// Runs the program. Returns what was printed, the status, and the number of files in the folder afterwards.
+fn run_and_count<R: Threads + Wait + Sync>(
+    rt: &R,
+    alloc: Global,
+    words: &str,
+    input: &str,
+    disk: &mut MemoryDisk,
+) -> Result<(String, u8, usize), Refusal> {
+    let (text, status) = run(rt, alloc, words, input, disk)?;
+    Ok((text, status, count_files(alloc, disk)?))
+}
+
+/// The same over a new disk.
+fn run_and_count_once<R: Threads + Wait + Sync>(
+    rt: &R,
+    alloc: Global,
+    words: &str,
+    input: &str,
+) -> Result<(String, u8, usize), Refusal> {
+    let mut disk = MemoryDisk::new(alloc);
+    let found = run_and_count(rt, alloc, words, input, &mut disk);
+    release(disk);
+    found
 }
 
 #[test]
@@ -104,10 +170,12 @@ fn lines_of_an_input(rt: HostRuntime) -> Result<(), Fail> {
         ("File 00\n", "bad line 1\n", 3),
     ];
     for (input, text, status) in rows {
-        let disk = MemoryDisk::new(rt.alloc());
-        let found = run(&rt, rt.alloc(), "pack 512 zero", input, disk)?;
-        assert_eq!(rt; found.1.as_str(), text, "over {input:?}");
-        assert_eq!(rt; found.2, status, "over {input:?}");
+        let found = run_once(&rt, rt.alloc(), "pack 512 zero", input)?;
+        assert_eq!(rt;
+            (found.0.as_str(), found.1),
+            (text, status),
+            "over {input:?}"
+        );
     }
     Ok(())
 }
@@ -170,9 +238,8 @@ fn words_of_a_command(rt: HostRuntime) -> Result<(), Fail> {
         ("merge 1", 2),
     ];
     for (words, status) in rows {
-        let found = run(&rt, rt.alloc(), words, "", MemoryDisk::new(rt.alloc()))?;
-        assert_eq!(rt; found.1.as_str(), "", "with {words}");
-        assert_eq!(rt; found.2, status, "with {words}");
+        let found = run_once(&rt, rt.alloc(), words, "")?;
+        assert_eq!(rt; (found.0.as_str(), found.1), ("", status), "with {words}");
     }
     Ok(())
 }
@@ -198,18 +265,18 @@ fn ranges_of_a_file(rt: HostRuntime) -> Result<(), Fail> {
         ("file 616263\nfile\nrange 2 0 1\n", "", "", 8),
     ];
     for (input, line, ranges, status) in rows {
-        let disk = MemoryDisk::new(alloc);
-        let (mut disk, text, found) = run(&rt, alloc, "pack 512 zero", input, disk)?;
-        let mut due = String::from_str(alloc, line)?;
-        due.push_str(ranges)?;
-        assert_eq!(rt; text.as_str(), due.as_str(), "over {input:?}");
-        assert_eq!(rt; found, status, "over {input:?}");
         let files = if line == ABC || line == TWO_FILES {
             2usize
         } else {
             0
         };
-        assert_eq!(rt; disk.list(alloc, "store")?.len(), files, "over {input:?}");
+        let due = format!(in alloc; "{line}{ranges}")?;
+        let found = run_and_count_once(&rt, alloc, WORDS, input)?;
+        assert_eq!(rt;
+            (found.0.as_str(), found.1, found.2),
+            (due.as_str(), status, files),
+            "over {input:?}"
+        );
     }
     Ok(())
 }
@@ -228,17 +295,20 @@ fn groups_of_an_input(rt: HostRuntime) -> Result<(), Fail> {
     for (input, text) in rows {
         let mut source = SliceSource::new(input);
         let mut sink = MemorySink::new(alloc);
-        let disk = MemoryDisk::new(alloc);
-        let (_, status) = run_over(&rt, alloc, "group", &mut source, &mut sink, disk)?;
-        assert_eq!(rt; sink.bytes(), text, "over {input:?}");
-        assert_eq!(rt; status, 0, "over {input:?}");
+        let mut disk = MemoryDisk::new(alloc);
+        let status = run_over(&rt, alloc, "group", &mut source, &mut sink, &mut disk);
+        release(disk);
+        assert_eq!(rt; (sink.bytes(), status?), (text, 0), "over {input:?}");
     }
     Ok(())
 }
 
-#[test]
-fn files_by_name(rt: HostRuntime) -> Result<(), Fail> {
-    let alloc = rt.alloc();
+/// Runs commands on a disk, one after another.
+fn run_by_name<R: Threads + Wait + Sync + Abort>(
+    rt: &R,
+    alloc: Global,
+    disk: &mut MemoryDisk,
+) -> Result<(), Refusal> {
     let rows = [
         ("list", "", 0u8, 0usize),
         ("clean missing", "", 8, 0),
@@ -296,31 +366,41 @@ fn files_by_name(rt: HostRuntime) -> Result<(), Fail> {
             2,
         ),
     ];
-    let mut disk = MemoryDisk::new(alloc);
     for (words, due, status, files) in rows {
-        let (next, text, found) = run(&rt, alloc, words, "", disk)?;
-        disk = next;
-        assert_eq!(rt; text.as_str(), due, "with {words}");
-        assert_eq!(rt; found, status, "with {words}");
-        assert_eq!(rt; disk.list(alloc, "store")?.len(), files, "with {words}");
+        let found = run_and_count(rt, alloc, words, "", disk)?;
+        assert_eq!(rt;
+            (found.0.as_str(), found.1, found.2),
+            (due, status, files),
+            "with {words}"
+        );
     }
     Ok(())
 }
 
 #[test]
+fn files_by_name(rt: HostRuntime) -> Result<(), Fail> {
+    let mut disk = MemoryDisk::new(rt.alloc());
+    let answer = run_by_name(&rt, rt.alloc(), &mut disk);
+    release(disk);
+    Ok(answer?)
+}
+
+#[test]
 fn a_file_that_is_named_twice_is_listed_once(rt: HostRuntime) -> Result<(), Fail> {
     let alloc = rt.alloc();
-    let (disk, text, status) = run(&rt, alloc, "clean a a", "", MemoryDisk::new(alloc))?;
+    let mut disk = MemoryDisk::new(alloc);
+    let found = run(&rt, alloc, "clean a a", "", &mut disk);
+    let listed = run(&rt, alloc, "list", "", &mut disk);
+    release(disk);
+    let (text, status) = found?;
     let due = format!(in alloc; "{ABC}{ABC}")?;
-    assert_eq!(rt; text.as_str(), due.as_str());
-    assert_eq!(rt; status, 0);
-    let (_, text, _) = run(&rt, alloc, "list", "", disk)?;
-    assert_eq!(rt; text.as_str(), LISTED);
+    assert_eq!(rt; (text.as_str(), status), (due.as_str(), 0));
+    assert_eq!(rt; listed?.0.as_str(), LISTED);
     Ok(())
 }
 
 /// The name of the one shard in the folder of a disk.
-fn shard_name(alloc: Global, disk: &mut MemoryDisk) -> Result<String, Fail> {
+fn shard_name(alloc: Global, disk: &mut MemoryDisk) -> Result<String, Refusal> {
     let mut found = String::new(alloc);
     for entry in disk.list(alloc, "store")? {
         let name = entry.name.as_str();
@@ -332,7 +412,7 @@ fn shard_name(alloc: Global, disk: &mut MemoryDisk) -> Result<String, Fail> {
 }
 
 /// The bytes of a file in the folder of a disk; no bytes if it does not exist.
-fn bytes_of(alloc: Global, disk: &MemoryDisk, name: &str) -> Result<Vec<u8>, Fail> {
+fn bytes_of(alloc: Global, disk: &MemoryDisk, name: &str) -> Result<Vec<u8>, Refusal> {
     let path = format!(in alloc; "store/{name}")?;
     match disk.get(path.as_str()) {
         Some(bytes) => Ok(Vec::from_slice(alloc, bytes)?),
@@ -340,72 +420,148 @@ fn bytes_of(alloc: Global, disk: &MemoryDisk, name: &str) -> Result<Vec<u8>, Fai
     }
 }
 
-/// The name of the xorb of `abc`, and a disk on which that file is stored.
-fn stored<R: Threads + Wait + Sync>(rt: &R, alloc: Global) -> Result<(String, MemoryDisk), Fail> {
-    let (disk, _, _) = run(rt, alloc, WORDS, INPUT, MemoryDisk::new(alloc))?;
-    let hash = compute_data_hash(b"abc").hex(alloc)?;
-    Ok((format!(in alloc; "{hash}.xorb")?, disk))
+/// The name of a file in the folder that is the hash of these bytes and an extension.
+fn name_of(alloc: Global, bytes: &[u8], extension: &str) -> Result<String, Refusal> {
+    let hash = compute_data_hash(bytes)
+        .hex(alloc)
+        .map_err(|_| Refusal::OutOfMemory)?;
+    Ok(format!(in alloc; "{hash}.{extension}")?)
+}
+
+/// Stores `abc` on a disk. Returns the name of its xorb.
+fn store<R: Threads + Wait + Sync>(
+    rt: &R,
+    alloc: Global,
+    disk: &mut MemoryDisk,
+) -> Result<String, Refusal> {
+    let _told = run(rt, alloc, WORDS, INPUT, disk)?;
+    name_of(alloc, b"abc", "xorb")
+}
+
+/// The number of files once `abc` is stored, and the length of its xorb.
+fn store_and_count<R: Threads + Wait + Sync>(
+    rt: &R,
+    alloc: Global,
+    disk: &mut MemoryDisk,
+) -> Result<(usize, usize), Refusal> {
+    let xorb = store(rt, alloc, disk)?;
+    let length = bytes_of(alloc, disk, xorb.as_str())?.len();
+    Ok((count_files(alloc, disk)?, length))
+}
+
+/// The name of the shard on a disk, and the name that is due by its bytes.
+fn shard_names(alloc: Global, disk: &mut MemoryDisk) -> Result<(String, String), Refusal> {
+    let name = shard_name(alloc, disk)?;
+    let shard = bytes_of(alloc, disk, name.as_str())?;
+    Ok((name, name_of(alloc, &shard, "mdb")?))
 }
 
 #[test]
 fn stores_what_it_reports(rt: HostRuntime) -> Result<(), Fail> {
     let alloc = rt.alloc();
-    let (xorb, mut disk) = stored(&rt, alloc)?;
-    assert_eq!(rt; disk.list(alloc, "store")?.len(), 2);
-    assert_eq!(rt; bytes_of(alloc, &disk, xorb.as_str())?.len(), 147);
-    let name = shard_name(alloc, &mut disk)?;
-    let shard = bytes_of(alloc, &disk, name.as_str())?;
-    let hash = compute_data_hash(&shard).hex(alloc)?;
-    let due = format!(in alloc; "{hash}.mdb")?;
+    let mut disk = MemoryDisk::new(alloc);
+    let stored = store_and_count(&rt, alloc, &mut disk);
+    let names = shard_names(alloc, &mut disk);
+    release(disk);
+    assert_eq!(rt; stored?, (2, 147));
+    let (name, due) = names?;
     assert_eq!(rt; name.as_str(), due.as_str());
     Ok(())
 }
 
-#[test]
-fn later_runs_keep_earlier_files(rt: HostRuntime) -> Result<(), Fail> {
-    let alloc = rt.alloc();
-    let (_, mut disk) = stored(&rt, alloc)?;
-    let name = shard_name(alloc, &mut disk)?;
-    let shard = bytes_of(alloc, &disk, name.as_str())?;
-    let rows = [("file 00\n", ONE_ZERO, 4usize), ("file 616263\n", ABC, 4)];
+/// Stores files on a disk that has `abc` already: the shard of that stays as it is.
+fn run_later<R: Threads + Wait + Sync + Abort>(
+    rt: &R,
+    alloc: Global,
+    disk: &mut MemoryDisk,
+) -> Result<(), Refusal> {
+    let _xorb = store(rt, alloc, disk)?;
+    let name = shard_name(alloc, disk)?;
+    let shard = bytes_of(alloc, disk, name.as_str())?;
+    let rows = [
+        (
+            "file 00
+",
+            ONE_ZERO,
+            4usize,
+        ),
+        (
+            "file 616263
+",
+            ABC,
+            4,
+        ),
+    ];
     for (input, due, files) in rows {
-        let (next, text, status) = run(&rt, alloc, WORDS, input, disk)?;
-        disk = next;
-        assert_eq!(rt; text.as_str(), due, "over {input:?}");
-        assert_eq!(rt; status, 0, "over {input:?}");
-        assert_eq!(rt; disk.list(alloc, "store")?.len(), files, "over {input:?}");
+        let found = run_and_count(rt, alloc, WORDS, input, disk)?;
+        let kept = bytes_of(alloc, disk, name.as_str())?;
         assert_eq!(rt;
-            bytes_of(alloc, &disk, name.as_str())?.as_slice(),
-            shard.as_slice()
+            (found.0.as_str(), found.1, found.2),
+            (due, 0, files),
+            "over {input:?}"
         );
+        assert_eq!(rt; kept.as_slice(), shard.as_slice(), "over {input:?}");
     }
     Ok(())
 }
 
 #[test]
+fn later_runs_keep_earlier_files(rt: HostRuntime) -> Result<(), Fail> {
+    let mut disk = MemoryDisk::new(rt.alloc());
+    let answer = run_later(&rt, rt.alloc(), &mut disk);
+    release(disk);
+    Ok(answer?)
+}
+
+/// Writes the shard of a disk under another name, too.
+fn copy_shard(alloc: Global, disk: &mut MemoryDisk, shard: &str) -> Result<(), Refusal> {
+    let bytes = bytes_of(alloc, disk, shard)?;
+    let path = format!(in alloc; "store/{ZEROS}")?;
+    disk.write(path.as_str(), &bytes)
+}
+
+/// Changes a byte of the xorb of a disk.
+fn change_xorb(alloc: Global, disk: &mut MemoryDisk, xorb: &str) -> Result<(), Refusal> {
+    let mut bytes = bytes_of(alloc, disk, xorb)?;
+    if let Some(byte) = bytes.get_mut(8) {
+        *byte ^= 1;
+    }
+    let path = format!(in alloc; "store/{xorb}")?;
+    disk.write(path.as_str(), &bytes)
+}
+
+/// Stores `abc` on a disk, and copies the shard or changes the xorb. Returns what a later run has to print.
+fn damage<R: Threads + Wait + Sync>(
+    rt: &R,
+    alloc: Global,
+    copies: bool,
+    disk: &mut MemoryDisk,
+) -> Result<String, Refusal> {
+    let xorb = store(rt, alloc, disk)?;
+    let shard = shard_name(alloc, disk)?;
+    if copies {
+        copy_shard(alloc, disk, shard.as_str())?;
+    } else {
+        change_xorb(alloc, disk, xorb.as_str())?;
+    }
+    let told = if copies { ZEROS } else { shard.as_str() };
+    Ok(format!(in alloc;
+        "bad shard {told}
+"
+    )?)
+}
+
+#[test]
 fn names_the_shard_that_fails_a_check(rt: HostRuntime) -> Result<(), Fail> {
     let alloc = rt.alloc();
-    let zeros = "0000000000000000000000000000000000000000000000000000000000000000.mdb";
     for copies in [false, true] {
-        let (xorb, mut disk) = stored(&rt, alloc)?;
-        let shard = shard_name(alloc, &mut disk)?;
-        let from = if copies {
-            shard.as_str()
-        } else {
-            xorb.as_str()
-        };
-        let mut bytes = bytes_of(alloc, &disk, from)?;
-        if !copies && let Some(byte) = bytes.get_mut(8) {
-            *byte ^= 1;
-        }
-        let to = if copies { zeros } else { xorb.as_str() };
-        let path = format!(in alloc; "store/{to}")?;
-        disk.write(path.as_str(), &bytes)?;
-        let (_, text, status) = run(&rt, alloc, WORDS, INPUT, disk)?;
-        let told = if copies { zeros } else { shard.as_str() };
-        let due = format!(in alloc; "bad shard {told}\n")?;
-        assert_eq!(rt; text.as_str(), due.as_str());
-        assert_eq!(rt; status, 7);
+        let mut disk = MemoryDisk::new(alloc);
+        let due = damage(&rt, alloc, copies, &mut disk);
+        let found = run(&rt, alloc, WORDS, INPUT, &mut disk);
+        release(disk);
+        let (text, status) = found?;
+        let due = due?;
+        assert_eq!(rt; (text.as_str(), status), (due.as_str(), 7));
     }
     Ok(())
 }
@@ -414,16 +570,22 @@ fn names_the_shard_that_fails_a_check(rt: HostRuntime) -> Result<(), Fail> {
 fn leaves_other_files_alone(rt: HostRuntime) -> Result<(), Fail> {
     let alloc = rt.alloc();
     let mut disk = MemoryDisk::new(alloc);
-    disk.write("store/x.mdb", b"x")?;
-    let (disk, text, status) = run(&rt, alloc, WORDS, INPUT, disk)?;
-    assert_eq!(rt; text.as_str(), ABC);
-    assert_eq!(rt; status, 0);
+    let written = disk.write("store/x.mdb", b"x");
+    let found = run(&rt, alloc, WORDS, INPUT, &mut disk);
+    let kept = bytes_of(alloc, &disk, "x.mdb");
+    release(disk);
+    written?;
+    let (text, status) = found?;
+    let kept = kept?;
     assert_eq!(rt;
-        bytes_of(alloc, &disk, "x.mdb")?.as_slice(),
-        b"x".as_slice()
+        (text.as_str(), status, kept.as_slice()),
+        (ABC, 0, b"x".as_slice())
     );
     Ok(())
 }
+
+/// The name of a shard that has the hash of no bytes here.
+const ZEROS: &str = "0000000000000000000000000000000000000000000000000000000000000000.mdb";
 
 /// The arguments and the input of runs that store `abc`.
 const WORDS: &str = "pack 512 zero";
