@@ -478,20 +478,7 @@ fn run_later<R: Threads + Wait + Sync + Abort>(
     let _xorb = store(rt, alloc, disk)?;
     let name = shard_name(alloc, disk)?;
     let shard = bytes_of(alloc, disk, name.as_str())?;
-    let rows = [
-        (
-            "file 00
-",
-            ONE_ZERO,
-            4usize,
-        ),
-        (
-            "file 616263
-",
-            ABC,
-            4,
-        ),
-    ];
+    let rows = [("file 00\n", ONE_ZERO, 4usize), ("file 616263\n", ABC, 4)];
     for (input, due, files) in rows {
         let found = run_and_count(rt, alloc, WORDS, input, disk)?;
         let kept = bytes_of(alloc, disk, name.as_str())?;
@@ -545,10 +532,7 @@ fn damage<R: Threads + Wait + Sync>(
         change_xorb(alloc, disk, xorb.as_str())?;
     }
     let told = if copies { ZEROS } else { shard.as_str() };
-    Ok(format!(in alloc;
-        "bad shard {told}
-"
-    )?)
+    Ok(format!(in alloc; "bad shard {told}\n")?)
 }
 
 #[test]
