@@ -1,16 +1,17 @@
--- How many rows the pending xorbs have.
-use Rattle.std.proofs.Common.{◌≡◌, ℕ, ◌+◌, ◌^◌, ◌<◌, ◌≤◌, Bool, false, true, List, [], ◌∷◌, ◌++◌, filter, length, nat_eq, not, if◌then◌else◌, ap, refl, arith}
+-- How many rows the records of a shard in memory have.
+use Rattle.std.proofs.Common.{◌≡◌, ℕ, ◌+◌, ◌*◌, ◌^◌, ◌<◌, ◌≤◌, Bool, false, true, List, [], ◌∷◌, ◌++◌, filter, length, nat_eq, not, if◌then◌else◌, ap, refl, arith}
 use Rattle.std.proofs.lemmas.List.{length-append}
 use Rattle.std.proofs.lemmas.List.Concat.{length-flat_map}
 use Rattle.std.proofs.lemmas.List.Filters.{sum_by-filter_both}
 use Rattle.std.proofs.lemmas.List.Sums.{sum_by-append, sum_by-cons}
 use Rattle.std.specs.Cmp.Lexicographic.{pointwise}
 use Rattle.std.specs.List.{flat_map, sum_by}
-use Rattle.xet_manager.specs.Adding.{IsCut, blocks_before, cut_due}
+use Rattle.xet_manager.specs.Adding.{IsCut, blocks_before, cut_due, files_before}
 use Rattle.xet_manager.specs.Manager.{ManagerState}
-use Rattle.xet_shard.specs.Held.{held, with_last}
-use Rattle.xet_shard_format.specs.RecordSizes.{xorb_record_size}
-use Rattle.xet_shard_format.specs.Records.{end_row, section, xorb_record_hash, xorb_rows, xorb_section}
+use Rattle.xet_shard.specs.Held.{Held, held, held_size, with_last}
+use Rattle.xet_shard_format.specs.RecordSizes.{file_record_size, xorb_record_size}
+use Rattle.xet_shard_format.specs.Records.{end_row, file_record_hash, file_rows, file_section, section, xorb_record_hash, xorb_rows, xorb_section}
+use Rattle.xet_shard_format.specs.declared.record.MDBFileInfo.{MDBFileInfo}
 use Rattle.xet_shard_format.specs.declared.record.MDBXorbInfo.{MDBXorbInfo}
 use Rattle.xet_shard_format.specs.declared.row.Row.{Row}
 
@@ -29,6 +30,25 @@ rows_last {X} rows hash xs x =
     let one : sum_by counts (x ∷ []) ≡ counts x + 0 = sum_by-cons counts x [] in
     let part = sum_by-filter_both others (λ y. not (others y)) (λ y. refl) counts xs in
     omega (arith, whole, before, split, one, part)
+
+-- each record adds at least its rows, of 48 bytes, to the length of a shard
+rows_within : {X : Type 0} (rows : X → List Row) (size : X → ℕ) (xs : List X) → ((x : X) → 48 * length (rows x) ≤ size x) → 48 * length (section rows xs) ≤ sum_by size xs + 48
+rows_within {X} rows size xs each = omega (arith, rows_of rows xs, below xs)
+  where
+    counts : X → ℕ
+    counts x = length (rows x)
+
+    below : (xs : List X) → 48 * sum_by counts xs ≤ sum_by size xs
+    below [] = omega arith
+    below (x ∷ xs) = omega (arith, below xs, each x, sum_by-cons counts x xs, sum_by-cons size x xs)
+
+-- a short shard has few rows, also with one xorb more
+pub few_with_xorb : (h : Held) (x : MDBXorbInfo) → length (xorb_rows x) ≡ 3 → held_size h ≤ 2 ^ 20 → length (xorb_section (with_last xorb_record_hash h.blocks x)) < 2 ^ 32
+few_with_xorb h x three small = omega (arith, rows_last xorb_rows xorb_record_hash h.blocks x, three, small, rows_within xorb_rows xorb_record_size h.blocks (λ y. omega arith))
+
+-- the same of files
+pub few_with_file : (h : Held) (f : MDBFileInfo) → length (file_rows f) ≡ 4 → held_size h ≤ 2 ^ 20 → length (file_section (with_last file_record_hash h.files f)) < 2 ^ 32
+few_with_file h f four small = omega (arith, rows_last file_rows file_record_hash h.files f, four, small, rows_within file_rows file_record_size h.files (λ y. omega arith))
 
 -- few rows are pending, whether what is pending is written before or not
 few_of : (due : Bool) (blocks : List MDBXorbInfo) (x : MDBXorbInfo) → length (xorb_rows x) ≡ 2 → length (xorb_section blocks) ≤ 1000
@@ -56,3 +76,30 @@ rows_after old new x two added cut = by_cases (cut_due old (xorb_record_size x))
     by_cases true added cut =
         let e : length (xorb_section new.pending.blocks) ≡ length (xorb_section (x ∷ [])) = ap (λ (m : ManagerState). length (xorb_section m.pending.blocks)) ((cut refl).1.rest) in
         omega (arith, e, rows_last xorb_rows xorb_record_hash [] x, two, length-append (flat_map xorb_rows old.pending.blocks) (end_row ∷ []))
+
+-- few rows of files are pending, whether what is pending is written before or not
+few_files_of : (due : Bool) (files : List MDBFileInfo) (f : MDBFileInfo) → length (file_rows f) ≡ 4 → length (file_section files) ≤ 1000
+    → length (file_section (with_last file_record_hash (if due then [] else files) f)) < 2 ^ 32
+few_files_of true files f four few = omega (arith, rows_last file_rows file_record_hash [] f, four)
+few_files_of false files f four few = omega (arith, rows_last file_rows file_record_hash files f, four, few)
+
+pub few_files_before : (m : ManagerState) (bytes : ℕ) (f : MDBFileInfo) → length (file_rows f) ≡ 4 → length (file_section m.pending.files) ≤ 1000
+    → length (file_section (with_last file_record_hash (files_before m bytes) f)) < 2 ^ 32
+few_files_before m bytes f = few_files_of (cut_due m bytes) m.pending.files f
+
+-- after a file of four rows was added there are at most four rows more
+pub file_rows_after : (old new : ManagerState) (f : MDBFileInfo) → length (file_rows f) ≡ 4
+    → (cut_due old (file_record_size f) ≡ false → new ≡ record old { pending = held old.pending.blocks (with_last file_record_hash old.pending.files f); room = 0 })
+    → (cut_due old (file_record_size f) ≡ true → IsCut old new (held [] (f ∷ [])))
+    → length (file_section new.pending.files) ≤ length (file_section old.pending.files) + 4
+file_rows_after old new f four added cut = by_cases (cut_due old (file_record_size f)) added cut
+  where
+    by_cases : (due : Bool) → (due ≡ false → new ≡ record old { pending = held old.pending.blocks (with_last file_record_hash old.pending.files f); room = 0 })
+        → (due ≡ true → IsCut old new (held [] (f ∷ [])))
+        → length (file_section new.pending.files) ≤ length (file_section old.pending.files) + 4
+    by_cases false added cut =
+        let e : length (file_section new.pending.files) ≡ length (file_section (with_last file_record_hash old.pending.files f)) = ap (λ (m : ManagerState). length (file_section m.pending.files)) (added refl) in
+        omega (arith, e, rows_last file_rows file_record_hash old.pending.files f, four)
+    by_cases true added cut =
+        let e : length (file_section new.pending.files) ≡ length (file_section (f ∷ [])) = ap (λ (m : ManagerState). length (file_section m.pending.files)) ((cut refl).1.rest) in
+        omega (arith, e, rows_last file_rows file_record_hash [] f, four, length-append (flat_map file_rows old.pending.files) (end_row ∷ []))

@@ -1,12 +1,10 @@
 //! Tests of what is pending: adding, writing, and opening again, on a disk in memory.
 
-ghost use Rattle.std.specs.Prelude.{◌≡◌, OnOk};
+ghost use Rattle.std.specs.Prelude.{◌≡◌};
 ghost use Rattle.xet_shard.specs.Held.{nothing};
 
-use crate::tests::records::{add_both, add_xorb, flush};
-use crate::tests::samples::{
-    Manager, PATH, bytes_of_abc, opened, release, run_of, shard_with, totals,
-};
+use crate::tests::records::add_both;
+use crate::tests::samples::{Manager, PATH, bytes_of_abc, opened, release, run_of, shard_with};
 use std::alloc::Global;
 use std::test::Fail;
 use xet_hash::{MerkleHash, StoreError, compute_data_hash};
@@ -67,61 +65,5 @@ fn pending_is_found_and_written(rt: HostRuntime) -> Result<(), Fail> {
 fn manager_that_does_not_scan_finds_nothing(rt: HostRuntime) -> Result<(), Fail> {
     let (_, answer) = added_and_reopened(rt.alloc(), false)?;
     assert_eq!(rt; answer, (None, None));
-    Ok(())
-}
-
-/// Adds the xorb of three bytes that end in this one, and writes it.
-fn fill(alloc: Global, manager: &mut Manager, last: u8) -> Result<(), StoreError>
-    requires empty { manager.old.pending ≡ nothing }
-    ensures empty { OnOk result (manager.new.pending ≡ nothing) }
-{
-    add_xorb(alloc, manager, &[97, 98, last])?;
-    flush(manager)
-}
-
-/// Does this for ten bytes.
-fn fill_ten(alloc: Global, manager: &mut Manager) -> Result<(), StoreError>
-    requires empty { manager.old.pending ≡ nothing }
-{
-    for last in 0u8..10 {
-        fill(alloc, manager, last)?;
-    }
-    Ok(())
-}
-
-/// Whether each of the ten chunks is found.
-fn are_found(manager: &mut Manager) -> Result<bool, StoreError> {
-    let mut all = true;
-    for last in 0u8..10 {
-        if run_of(manager, &[97, 98, last])? != Some(1) {
-            all = false;
-        }
-    }
-    Ok(all)
-}
-
-/// Whether each is found after the ten were written; the totals; and the run of a chunk that was not added.
-type Ten = (bool, (usize, [u64; 2]), Option<usize>);
-
-fn ten(alloc: Global, manager: &mut Manager) -> Result<Ten, StoreError>
-    requires empty { manager.old.pending ≡ nothing }
-{
-    fill_ten(alloc, manager)?;
-    let all = are_found(manager)?;
-    let totals = totals(manager)?;
-    Ok((all, totals, run_of(manager, &[97, 98, 10])?))
-}
-
-fn ten_of_empty(alloc: Global) -> Result<Ten, StoreError> {
-    let mut manager = opened(alloc, MemoryDisk::new(alloc), 10_000, true)?;
-    let answer = ten(alloc, &mut manager);
-    release(manager);
-    answer
-}
-
-#[test]
-fn ten_shards_are_written(rt: HostRuntime) -> Result<(), Fail> {
-    let answer = ten_of_empty(rt.alloc())?;
-    assert_eq!(rt; answer, (true, (10, [0, 30]), None));
     Ok(())
 }

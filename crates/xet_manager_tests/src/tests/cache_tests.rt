@@ -1,7 +1,7 @@
 //! Tests of a manager over a shard that expires, on a disk in memory.
 
 use crate::tests::exports::{EXPIRY, exported};
-use crate::tests::samples::{BUFFER, Manager, error_of, opened, release_disk, settings, totals};
+use crate::tests::samples::{BUFFER, Manager, error_of, opened_in, release_disk, settings, totals};
 use std::alloc::Global;
 use std::test::Fail;
 use xet_hash::StoreError;
@@ -41,10 +41,16 @@ fn left_on(
     }
 }
 
-/// The same where the folder has the export.
-fn left_at(alloc: Global, limit: u64, now: u64) -> Result<Left, StoreError> {
+/// Settings with this limit and this buffer.
+fn settings_of(limit: u64, buffer: u64) -> ManagerSettings {
     let mut settings = settings(10_000);
     settings.cache_limit = limit;
+    settings.buffer = buffer;
+    settings
+}
+
+/// The same where the folder has the export.
+fn left_at(alloc: Global, settings: ManagerSettings, now: u64) -> Result<Left, StoreError> {
     let (disk, exported) = exported(alloc, true);
     let answer = left_on(alloc, disk, settings, now);
     exported?;
@@ -53,24 +59,30 @@ fn left_at(alloc: Global, limit: u64, now: u64) -> Result<Left, StoreError> {
 
 #[test]
 fn expired_shard_is_deleted_after_the_buffer(rt: HostRuntime) -> Result<(), Fail> {
-    let alloc = rt.alloc();
     let rows = [
-        (EXPIRY, (1, 1)),
-        (EXPIRY + 10, (0, 1)),
-        (EXPIRY + BUFFER - 1, (0, 1)),
-        (EXPIRY + BUFFER, (0, 0)),
+        (BUFFER, EXPIRY, (1, 1)),
+        (BUFFER, EXPIRY + 1, (0, 1)),
+        (BUFFER, EXPIRY + BUFFER - 1, (0, 1)),
+        (BUFFER, EXPIRY + BUFFER, (0, 0)),
+        (0, EXPIRY, (1, 1)),
+        (0, EXPIRY + 1, (0, 0)),
+        (u64::MAX, u64::MAX - 1, (0, 1)),
+        (u64::MAX, u64::MAX, (0, 0)),
     ];
-    for (now, left) in rows {
-        assert_eq!(rt; left_at(alloc, 0, now)?, left);
+    for (buffer, now, left) in rows {
+        assert_eq!(rt; left_at(rt.alloc(), settings_of(0, buffer), now)?, left);
     }
     Ok(())
 }
 
 #[test]
 fn cache_is_pruned_to_its_limit(rt: HostRuntime) -> Result<(), Fail> {
-    let alloc = rt.alloc();
-    assert_eq!(rt; left_at(alloc, 672, EXPIRY)?, (1, 1));
-    assert_eq!(rt; left_at(alloc, 671, EXPIRY)?, (0, 0));
+    for (limit, left) in [(672, (1, 1)), (671, (0, 0))] {
+        assert_eq!(rt;
+            left_at(rt.alloc(), settings_of(limit, BUFFER), EXPIRY)?,
+            left
+        );
+    }
     Ok(())
 }
 
@@ -82,8 +94,13 @@ fn clean(manager: &mut Manager, times: [u64; 2]) -> Result<(), StoreError> {
 }
 
 /// What is left by a manager that was opened when the shard was valid, and then cleaned twice.
-fn left_by_cleaning(alloc: Global, disk: MemoryDisk, times: [u64; 2]) -> Result<Left, StoreError> {
-    let mut manager = opened(alloc, disk, 10_000, true)?;
+fn left_by_cleaning(
+    alloc: Global,
+    disk: MemoryDisk,
+    buffer: u64,
+    times: [u64; 2],
+) -> Result<Left, StoreError> {
+    let mut manager = opened_in(alloc, disk, "a", settings_of(0, buffer), true)?;
     let cleaned = clean(&mut manager, times);
     let answer = left(alloc, manager);
     cleaned?;
@@ -91,18 +108,24 @@ fn left_by_cleaning(alloc: Global, disk: MemoryDisk, times: [u64; 2]) -> Result<
 }
 
 /// The same where the folder has the export.
-fn cleaned_at(alloc: Global, times: [u64; 2]) -> Result<Left, StoreError> {
+fn cleaned_at(alloc: Global, buffer: u64, times: [u64; 2]) -> Result<Left, StoreError> {
     let (disk, exported) = exported(alloc, true);
-    let answer = left_by_cleaning(alloc, disk, times);
+    let answer = left_by_cleaning(alloc, disk, buffer, times);
     exported?;
     answer
 }
 
 #[test]
 fn folder_is_cleaned_once(rt: HostRuntime) -> Result<(), Fail> {
-    let alloc = rt.alloc();
     let late = EXPIRY + BUFFER;
-    assert_eq!(rt; cleaned_at(alloc, [late - 1, late])?, (1, 1));
-    assert_eq!(rt; cleaned_at(alloc, [late, late])?, (1, 0));
+    let rows = [
+        (BUFFER, [late - 1, late], (1, 1)),
+        (BUFFER, [late, late], (1, 0)),
+        (0, [EXPIRY - 1, EXPIRY], (1, 1)),
+        (0, [EXPIRY, EXPIRY], (1, 0)),
+    ];
+    for (buffer, times, left) in rows {
+        assert_eq!(rt; cleaned_at(rt.alloc(), buffer, times)?, left);
+    }
     Ok(())
 }

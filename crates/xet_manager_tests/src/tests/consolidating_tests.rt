@@ -136,20 +136,29 @@ fn have_same_hashes(shards: &[MDBShardFile], others: &[MDBShardFile]) -> bool {
             .all(|(shard, other)| shard.shard_hash == other.shard_hash)
 }
 
-/// The number of results where four shards are merged into the folder `b`, the length of the first, and whether the
-/// results of a consolidation have the same hashes.
-type Merged = (usize, u64, bool);
+/// The number of results where the shards of the folder `a` are merged into the folder `b`, the length of the first, and
+/// whether the results of a consolidation have the same hashes.
+pub type Merged = (usize, u64, bool);
 
+pub fn merge_and_consolidate(
+    alloc: Global,
+    disk: &mut MemoryDisk,
+    target: u64,
+) -> Result<Merged, StoreError> {
+    let merged = merge_shards(alloc, disk, "a", "b", target, false, 0)?.merged_shards;
+    let others = consolidate_shards_in_directory(alloc, disk, "a", target, false, 0)?;
+    let length = merged.first().map_or(0, |shard| shard.shard.num_bytes());
+    Ok((merged.len(), length, have_same_hashes(&merged, &others)))
+}
+
+/// The same of four shards.
 fn merged_and_consolidated(
     alloc: Global,
     disk: &mut MemoryDisk,
     target: u64,
 ) -> Result<Merged, StoreError> {
     write_all(alloc, disk, 4)?;
-    let merged = merge_shards(alloc, disk, "a", "b", target, false, 0)?.merged_shards;
-    let others = consolidate_shards_in_directory(alloc, disk, "a", target, false, 0)?;
-    let length = merged.first().map_or(0, |shard| shard.shard.num_bytes());
-    Ok((merged.len(), length, have_same_hashes(&merged, &others)))
+    merge_and_consolidate(alloc, disk, target)
 }
 
 /// The same on an empty disk.

@@ -25,7 +25,7 @@ fn xorb_of(alloc: Global, chunk: MerkleHash) -> Result<MDBXorbInfo, StoreError>
 }
 
 /// A hash that is not the sentinel.
-fn unmarked(hash: MerkleHash) -> Result<MerkleHash, StoreError>
+pub fn unmarked(hash: MerkleHash) -> Result<MerkleHash, StoreError>
     ensures same { IfOk result (λ h. h ≡ hash) }
     ensures hash { IfOk result (λ h. h ≢ sentinel) }
 {

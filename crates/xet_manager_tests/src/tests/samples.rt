@@ -30,6 +30,22 @@ pub fn settings(target: u64) -> ManagerSettings
     }
 }
 
+/// A manager over a folder of this disk.
+pub fn opened_in(
+    alloc: Global,
+    disk: MemoryDisk,
+    folder: &str,
+    settings: ManagerSettings,
+    scan: bool,
+) -> Result<Manager, StoreError>
+    ensures empty { IfOk result (λ m. m.pending ≡ nothing) }
+{
+    match ShardFileManager::new_in_session_directory(alloc, disk, folder, settings, 0, scan) {
+        Ok(manager) => Ok(manager),
+        Err(refused) => Err(error_of(refused)),
+    }
+}
+
 /// A manager over the folder `a` of this disk.
 pub fn opened(
     alloc: Global,
@@ -39,10 +55,7 @@ pub fn opened(
 ) -> Result<Manager, StoreError>
     ensures empty { IfOk result (λ m. m.pending ≡ nothing) }
 {
-    match ShardFileManager::new_in_session_directory(alloc, disk, "a", settings(target), 0, scan) {
-        Ok(manager) => Ok(manager),
-        Err(refused) => Err(error_of(refused)),
-    }
+    opened_in(alloc, disk, "a", settings(target), scan)
 }
 
 /// The error, without the disk.
