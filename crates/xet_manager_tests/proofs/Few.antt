@@ -3,7 +3,7 @@ use Rattle.std.proofs.Common.{◌≡◌, ℕ, ◌+◌, ◌*◌, ◌^◌, ◌<◌
 use Rattle.std.proofs.lemmas.List.{length-append}
 use Rattle.std.proofs.lemmas.List.Concat.{length-flat_map}
 use Rattle.std.proofs.lemmas.List.Filters.{sum_by-filter_both}
-use Rattle.std.proofs.lemmas.List.Sums.{sum_by-append, sum_by-cons}
+use Rattle.std.proofs.lemmas.List.Sums.{sum_by-append, sum_by-cons, sum_by-le-sum_by}
 use Rattle.std.specs.Cmp.Lexicographic.{pointwise}
 use Rattle.std.specs.List.{flat_map, sum_by}
 use Rattle.xet_manager.specs.Adding.{IsCut, blocks_before, cut_due, files_before}
@@ -31,24 +31,34 @@ rows_last {X} rows hash xs x =
     let part = sum_by-filter_both others (λ y. not (others y)) (λ y. refl) counts xs in
     omega (arith, whole, before, split, one, part)
 
+times_sum : {X : Type 0} (f : X → ℕ) (xs : List X) → sum_by (λ x. 48 * f x) xs ≡ 48 * sum_by f xs
+times_sum f [] = omega arith
+times_sum {X} f (x ∷ xs) =
+    let rest : sum_by (λ (y : X). 48 * f y) xs ≡ 48 * sum_by f xs = times_sum f xs in
+    let first : sum_by (λ (y : X). 48 * f y) (x ∷ xs) ≡ 48 * f x + sum_by (λ (y : X). 48 * f y) xs = sum_by-cons (λ (y : X). 48 * f y) x xs in
+    let right : sum_by f (x ∷ xs) ≡ f x + sum_by f xs = sum_by-cons f x xs in
+    omega arith
+
 -- each record adds at least its rows, of 48 bytes, to the length of a shard
 rows_within : {X : Type 0} (rows : X → List Row) (size : X → ℕ) (xs : List X) → ((x : X) → 48 * length (rows x) ≤ size x) → 48 * length (section rows xs) ≤ sum_by size xs + 48
-rows_within {X} rows size xs each = omega (arith, rows_of rows xs, below xs)
-  where
-    counts : X → ℕ
-    counts x = length (rows x)
-
-    below : (xs : List X) → 48 * sum_by counts xs ≤ sum_by size xs
-    below [] = omega arith
-    below (x ∷ xs) = omega (arith, below xs, each x, sum_by-cons counts x xs, sum_by-cons size x xs)
+rows_within {X} rows size xs each =
+    let counts : X → ℕ = λ x. length (rows x) in
+    let whole : length (section rows xs) ≡ sum_by counts xs + 1 = rows_of rows xs in
+    let below : sum_by (λ (x : X). 48 * counts x) xs ≤ sum_by size xs = sum_by-le-sum_by (λ (x : X). 48 * counts x) size xs each in
+    let times : sum_by (λ (x : X). 48 * counts x) xs ≡ 48 * sum_by counts xs = times_sum counts xs in
+    omega arith
 
 -- a short shard has few rows, also with one xorb more
 pub few_with_xorb : (h : Held) (x : MDBXorbInfo) → length (xorb_rows x) ≡ 3 → held_size h ≤ 2 ^ 20 → length (xorb_section (with_last xorb_record_hash h.blocks x)) < 2 ^ 32
-few_with_xorb h x three small = omega (arith, rows_last xorb_rows xorb_record_hash h.blocks x, three, small, rows_within xorb_rows xorb_record_size h.blocks (λ y. omega arith))
+few_with_xorb h x three small =
+    let within : 48 * length (xorb_section h.blocks) ≤ sum_by xorb_record_size h.blocks + 48 = rows_within xorb_rows xorb_record_size h.blocks (λ y. omega arith) in
+    omega (arith, within, small, three, rows_last xorb_rows xorb_record_hash h.blocks x)
 
 -- the same of files
 pub few_with_file : (h : Held) (f : MDBFileInfo) → length (file_rows f) ≡ 4 → held_size h ≤ 2 ^ 20 → length (file_section (with_last file_record_hash h.files f)) < 2 ^ 32
-few_with_file h f four small = omega (arith, rows_last file_rows file_record_hash h.files f, four, small, rows_within file_rows file_record_size h.files (λ y. omega arith))
+few_with_file h f four small =
+    let within : 48 * length (file_section h.files) ≤ sum_by file_record_size h.files + 48 = rows_within file_rows file_record_size h.files (λ y. omega arith) in
+    omega (arith, within, small, four, rows_last file_rows file_record_hash h.files f)
 
 -- few rows are pending, whether what is pending is written before or not
 few_of : (due : Bool) (blocks : List MDBXorbInfo) (x : MDBXorbInfo) → length (xorb_rows x) ≡ 2 → length (xorb_section blocks) ≤ 1000
