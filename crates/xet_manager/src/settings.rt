@@ -1,9 +1,9 @@
-//! The settings of a manager, and the usual values of two of them.
+//! The settings of a manager, and the usual times of shards that expire.
 
-/// The usual number of seconds that a shard file is kept after its expiry: seven days.
+/// The usual number of seconds that a shard file is kept after its expiry, `buffer` in `ManagerSettings`: seven days.
 pub const MDB_SHARD_EXPIRATION_BUFFER: u64 = 604_800;
 
-/// The usual number of seconds for which a shard in a local cache is valid: 21 days.
+/// The usual number of seconds for which a shard is valid that is exported into a local cache: 21 days.
 pub const MDB_SHARD_LOCAL_CACHE_EXPIRATION: u64 = 1_814_400;
 
 /// The settings of a manager.
