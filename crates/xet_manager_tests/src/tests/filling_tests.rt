@@ -87,13 +87,24 @@ fn reopened_in(
     answer
 }
 
-/// What is seen of ten rounds at a target, and by a manager that is opened after them.
-type Ten = (Vec<Round>, Reopened);
+/// Whether ten rounds were seen, and after each all records so far are answered.
+fn are_answered(rounds: &[Round]) -> bool {
+    let same = [true, true];
+    for (round, count) in rounds.iter().zip([1usize, 2, 3, 4, 5, 6, 7, 8, 9, 10]) {
+        if *round != [(same, [count, count, 1]), (same, [count, count, 0])] {
+            return false;
+        }
+    }
+    rounds.len() == 10
+}
+
+/// Whether all is answered after each of ten rounds at a target, and what is seen by a manager that is opened then.
+type Ten = (bool, Reopened);
 
 fn ten_with(alloc: Global, shard: &mut MDBInMemoryShard, target: u64) -> Result<Ten, StoreError> {
     let (disk, rounds) = filled(alloc, shard, target)?;
     let last = reopened_in(alloc, disk, "a", shard);
-    Ok((rounds?, last?))
+    Ok((are_answered(&rounds?), last?))
 }
 
 fn ten(alloc: Global, target: u64) -> Result<Ten, StoreError> {
@@ -105,15 +116,10 @@ fn ten(alloc: Global, target: u64) -> Result<Ten, StoreError> {
 
 #[test]
 fn ten_fills_are_answered_as_by_a_shard_in_memory(rt: HostRuntime) -> Result<(), Fail> {
+    let all = ([true, true], [10, 10, 0]);
     // The xorb and the file of a round have 736 bytes as a shard: at a smaller target each is a shard of its own.
-    for (target, shards) in [(10_000, 10), (736, 10), (735, 20), (0, 20)] {
-        let (rounds, last) = ten(rt.alloc(), target)?;
-        assert_eq!(rt; rounds.len(), 10);
-        for (round, count) in rounds.iter().zip([1usize, 2, 3, 4, 5, 6, 7, 8, 9, 10]) {
-            let pending = ([true, true], [count, count, 1]);
-            assert_eq!(rt; *round, [pending, ([true, true], [count, count, 0])]);
-        }
-        assert_eq!(rt; last, ((shards, [30, 60]), ([true, true], [10, 10, 0])));
+    for (target, count) in [(10_000, 10), (736, 10), (735, 20), (0, 20)] {
+        assert_eq!(rt; ten(rt.alloc(), target)?, (true, ((count, [30, 60]), all)));
     }
     Ok(())
 }
@@ -132,32 +138,38 @@ fn consolidate_at(
     Ok(results)
 }
 
-/// The same, and what is seen by a manager that is opened after them.
-type Consolidated = (Vec<Merged>, Reopened);
+/// Whether these are the results, and what is seen by a manager that is opened after them.
+type Consolidated = (bool, Reopened);
 
 fn consolidated_with(
     alloc: Global,
     shard: &mut MDBInMemoryShard,
     target: u64,
     targets: &[u64],
+    expected: &[Merged],
 ) -> Result<Consolidated, StoreError> {
-    let (mut disk, rounds) = filled(alloc, shard, target)?;
+    let (mut disk, _) = filled(alloc, shard, target)?;
     let results = consolidate_at(alloc, &mut disk, targets);
     let last = reopened_in(alloc, disk, "a", shard);
-    rounds?;
-    Ok((results?, last?))
+    Ok((results?.as_slice() == expected, last?))
 }
 
 /// The same of the shards of ten rounds at a target.
-fn consolidated(alloc: Global, target: u64, targets: &[u64]) -> Result<Consolidated, StoreError> {
+fn consolidated(
+    alloc: Global,
+    target: u64,
+    targets: &[u64],
+    expected: &[Merged],
+) -> Result<Consolidated, StoreError> {
     let mut shard = MDBInMemoryShard::new(alloc);
-    let answer = consolidated_with(alloc, &mut shard, target, targets);
+    let answer = consolidated_with(alloc, &mut shard, target, targets, expected);
     xet_shard_samples::release(shard);
     answer
 }
 
 #[test]
 fn records_are_answered_after_a_consolidation(rt: HostRuntime) -> Result<(), Fail> {
+    let all = ([true, true], [10, 10, 0]);
     // The shard of n rounds has 344 + 392 n bytes, and one more round joins where 832 + 392 n is at most the target.
     let rows = [
         (1_223, (10, 736, true)),
@@ -167,10 +179,8 @@ fn records_are_answered_after_a_consolidation(rt: HostRuntime) -> Result<(), Fai
         (4_360, (1, 4_264, true)),
     ];
     for (target, merged) in rows {
-        let (results, last) = consolidated(rt.alloc(), 10_000, &[target])?;
-        assert_eq!(rt; results.as_slice(), [merged].as_slice());
-        let seen = ([true, true], [10, 10, 0]);
-        assert_eq!(rt; last, ((merged.0, [30, 60]), seen));
+        let answer = consolidated(rt.alloc(), 10_000, &[target], &[merged])?;
+        assert_eq!(rt; answer, (true, ((merged.0, [30, 60]), all)));
     }
     Ok(())
 }
@@ -179,16 +189,16 @@ fn records_are_answered_after_a_consolidation(rt: HostRuntime) -> Result<(), Fai
 fn records_are_answered_after_the_target_doubled(rt: HostRuntime) -> Result<(), Fail> {
     // A xorb alone has 532 bytes as a shard, a file alone 548. A shard that stays as it is is older than the new ones.
     let targets = [512, 1_024, 2_048, 4_096, 8_192];
-    let (results, last) = consolidated(rt.alloc(), 512, &targets)?;
-    let counts = [
+    let expected = [
         (20, 532, true),
         (10, 924, true),
         (3, 1_912, true),
         (2, 3_480, true),
         (1, 4_264, true),
     ];
-    assert_eq!(rt; results.as_slice(), counts.as_slice());
-    assert_eq!(rt; last, ((1, [30, 60]), ([true, true], [10, 10, 0])));
+    let answer = consolidated(rt.alloc(), 512, &targets, &expected)?;
+    let all = ([true, true], [10, 10, 0]);
+    assert_eq!(rt; answer, (true, ((1, [30, 60]), all)));
     Ok(())
 }
 

@@ -12,6 +12,7 @@ use std::test::Fail;
 use xet_hash::{MerkleHash, StoreError, compute_data_hash};
 use xet_io::MemoryDisk;
 use xet_shard::MDBFileInfo;
+use xet_shard_directory::MDBShardFile;
 use xet_shard_format::section::Record;
 use xet_shard_samples::file_of_abc;
 
@@ -72,55 +73,86 @@ fn fill(alloc: Global, manager: &mut Manager) -> Result<(), StoreError>
     add_three(alloc, manager, [257, 2, 1])
 }
 
-/// Copies the first shard, so that the copy expires at 110. Returns whether the paths are in ascending order: that of the
-/// third shard, the first, the copy, and the second.
-fn copy_first(alloc: Global, manager: &mut Manager) -> Result<bool, StoreError> {
-    let shards = manager.registered_shard_list()?;
-    let [first, second, third] = shards.as_slice() else {
-        return Err(StoreError::FileNotFound);
-    };
-    let copy = first.export_with_expiration(alloc, manager.disk(), "a", 10, 100)?;
-    let [first, second, third, copy] = [
-        first.path.as_str(),
-        second.path.as_str(),
-        third.path.as_str(),
-        copy.path.as_str(),
-    ];
-    Ok(third < first && first < copy && copy < second)
+/// Whether these paths are in ascending order.
+fn are_rising(paths: [&str; 4]) -> bool {
+    let [first, second, third, fourth] = paths;
+    first < second && second < third && third < fourth
 }
 
-/// The first word of each hash that is listed at a time, and whether each record is that of the file with the hash.
-type Listed = (Vec<u64>, bool);
+/// Copies the first of three shards, so that the copy expires at 110. Returns whether the paths are in ascending order:
+/// that of the third shard, the first, the copy, and the second.
+fn copy_first(
+    alloc: Global,
+    disk: &mut MemoryDisk,
+    shards: &[MDBShardFile],
+) -> Result<bool, StoreError> {
+    let [first, second, third] = shards else {
+        return Err(StoreError::FileNotFound);
+    };
+    let copy = first.export_with_expiration(alloc, disk, "a", 10, 100)?;
+    Ok(are_rising([
+        third.path.as_str(),
+        first.path.as_str(),
+        copy.path.as_str(),
+        second.path.as_str(),
+    ]))
+}
 
-fn listed(alloc: Global, manager: &mut Manager, now: u64) -> Result<Listed, StoreError> {
-    let mut words = Vec::new(alloc);
-    let mut all = true;
-    for info in &manager.all_file_info(now)? {
-        let hash = info.hash();
-        words.push(hash.word(0))?;
-        if !info.same(&file_of_abc(alloc, hash, compute_data_hash(b"abc"))?) {
+/// Does this with the registered shards.
+fn copy_registered(alloc: Global, manager: &mut Manager) -> Result<bool, StoreError> {
+    let shards = manager.registered_shard_list()?;
+    copy_first(alloc, manager.disk(), &shards)
+}
+
+/// Whether a record is that of the file whose hash has this first word.
+fn is_file(alloc: Global, info: &MDBFileInfo, word: u64) -> Result<bool, StoreError> {
+    let hash = info.hash();
+    let expected = file_of_abc(alloc, hash, compute_data_hash(b"abc"))?;
+    Ok(hash.word(0) == word && info.same(&expected))
+}
+
+/// Whether the files whose hashes have these first words are listed at a time.
+fn are_listed(
+    alloc: Global,
+    manager: &mut Manager,
+    now: u64,
+    words: &[u64],
+) -> Result<bool, StoreError> {
+    let infos = manager.all_file_info(now)?;
+    are_files(alloc, &infos, words)
+}
+
+/// Whether these are the records of the files with these first words, in order.
+fn are_files(alloc: Global, infos: &[MDBFileInfo], words: &[u64]) -> Result<bool, StoreError> {
+    let mut all = infos.len() == words.len();
+    for (info, word) in infos.iter().zip(words.iter()) {
+        if !is_file(alloc, info, *word)? {
             all = false;
         }
     }
-    Ok((words, all))
+    Ok(all)
 }
 
-/// Whether the paths of the shards are in the order of `copy_first`; and what is listed at 0, at the expiry of the copy,
-/// and after it.
-type Seen = (bool, [Listed; 3]);
-
-fn seen(alloc: Global, manager: &mut Manager) -> Result<Seen, StoreError>
+/// Whether the paths of the shards are in the order of `copy_first`; and whether the files are listed at 0, at the
+/// expiry of the copy, and after it.
+fn seen(alloc: Global, manager: &mut Manager) -> Result<[bool; 4], StoreError>
     requires empty { manager.old.pending ≡ nothing }
 {
+    let whole = [1, 2, 257, 30, 31, 32, 10, 11, 12, 10, 11, 12, 20, 21, 513];
+    let without = [1, 2, 257, 30, 31, 32, 10, 11, 12, 20, 21, 513];
     fill(alloc, manager)?;
-    let ordered = copy_first(alloc, manager)?;
-    let first = listed(alloc, manager, 0)?;
-    let second = listed(alloc, manager, 110)?;
-    let third = listed(alloc, manager, 111)?;
-    Ok((ordered, [first, second, third]))
+    let ordered = copy_registered(alloc, manager)?;
+    let first = are_listed(alloc, manager, 0, &whole)?;
+    let last = are_listed(alloc, manager, 110, &whole)?;
+    Ok([
+        ordered,
+        first,
+        last,
+        are_listed(alloc, manager, 111, &without)?,
+    ])
 }
 
-fn seen_of_empty(alloc: Global) -> Result<Seen, StoreError> {
+fn seen_of_empty(alloc: Global) -> Result<[bool; 4], StoreError> {
     let mut manager = opened(alloc, MemoryDisk::new(alloc), 10_000, true)?;
     let answer = seen(alloc, &mut manager);
     release(manager);
@@ -129,14 +161,7 @@ fn seen_of_empty(alloc: Global) -> Result<Seen, StoreError> {
 
 #[test]
 fn pending_files_are_listed_before_those_of_valid_shards(rt: HostRuntime) -> Result<(), Fail> {
-    let (ordered, listed) = seen_of_empty(rt.alloc())?;
-    assert!(rt; ordered);
-    let whole = [1, 2, 257, 30, 31, 32, 10, 11, 12, 10, 11, 12, 20, 21, 513];
-    let without = [1, 2, 257, 30, 31, 32, 10, 11, 12, 20, 21, 513];
-    let rows: [&[u64]; 3] = [&whole, &whole, &without];
-    for ((words, same), row) in listed.iter().zip(rows) {
-        assert_eq!(rt; words.as_slice(), row);
-        assert!(rt; *same);
-    }
+    let answer = seen_of_empty(rt.alloc())?;
+    assert_eq!(rt; answer, [true; 4]);
     Ok(())
 }

@@ -36,16 +36,30 @@ fn file_of(alloc: Global, bytes: &[u8]) -> Result<MDBFileInfo, StoreError> {
     file_of_abc(alloc, hash, chunk)
 }
 
+/// The answer to the hash of the file of these three bytes.
+fn answer_of<R: FileReconstructor<StoreError>>(
+    alloc: Global,
+    reconstructor: &mut R,
+    bytes: &[u8],
+) -> Result<Answer, StoreError> {
+    let expected = file_of(alloc, bytes)?;
+    answer(reconstructor, &expected)
+}
+
 /// The answers to a zero hash, and to the hashes of the files of `abc`, `abd` and `abe`.
 fn answers<R: FileReconstructor<StoreError>>(
     alloc: Global,
     reconstructor: &mut R,
 ) -> Result<[Answer; 4], StoreError> {
     let zero = answer(reconstructor, &MDBFileInfo::default(alloc))?;
-    let first = answer(reconstructor, &file_of(alloc, b"abc")?)?;
-    let second = answer(reconstructor, &file_of(alloc, b"abd")?)?;
-    let third = answer(reconstructor, &file_of(alloc, b"abe")?)?;
-    Ok([zero, first, second, third])
+    let first = answer_of(alloc, reconstructor, b"abc")?;
+    let second = answer_of(alloc, reconstructor, b"abd")?;
+    Ok([
+        zero,
+        first,
+        second,
+        answer_of(alloc, reconstructor, b"abe")?,
+    ])
 }
 
 /// The same once `abc` is registered and `abd` is pending.
