@@ -270,7 +270,8 @@ fn ranges_of_a_file(rt: HostRuntime) -> Result<(), Fail> {
         } else {
             0
         };
-        let due = format!(in alloc; "{line}{ranges}")?;
+        let mut due = String::from_str(alloc, line)?;
+        due.push_str(ranges)?;
         let found = run_and_count_once(&rt, alloc, WORDS, input)?;
         assert_eq!(rt;
             (found.0.as_str(), found.1, found.2),
