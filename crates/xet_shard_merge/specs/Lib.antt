@@ -1,3 +1,4 @@
+pub mod Contents
 pub mod Groups
 pub mod Merging
 pub mod internal

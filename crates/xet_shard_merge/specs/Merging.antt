@@ -15,7 +15,7 @@ use Rattle.xet_shard_directory.specs.Values.{last_part, loaded}
 use Rattle.xet_shard_directory.specs.Writing.{durable_at, path_of}
 use Rattle.xet_shard_directory.specs.declared.shard_file.MDBShardFile.{MDBShardFile}
 use Rattle.xet_shard_file.specs.Names.{IsHash, shard_path, temp_name}
-use Rattle.xet_shard_format.specs.Encoding.{full_shard_bytes}
+use Rattle.xet_shard_format.specs.Encoding.{Fits, IsShard, Shard, full_shard_bytes}
 use Rattle.xet_shard_format.specs.Names.{shard_name}
 use Rattle.xet_shard_merge.specs.Groups.{Group, Groups, Offered}
 use Rattle.xet_shard_merge.specs.declared.merge.ShardMergeResult.{ShardMergeResult}
@@ -51,15 +51,31 @@ pub record Stands (files : Files) (folder bytes : List ℕ) (s : MDBShardFile) :
   pub durable : durable_at files s.path ≡ Some true
   pub value : loaded files s.shard_hash s.path ≡ Ok s
 
--- One shard alone is its own result. It is copied, unless it is in the folder already.
+-- A shard is in a folder already, or the path of its own file was given for the folder.
+abbrev pub IsHome : List ℕ → MDBShardFile → Type 0
+IsHome folder s = (s.path ≡ shard_path folder s.shard_hash) ⊎ (s.path ≡ folder)
+
+-- One shard alone is its own result. It is copied, unless it is home.
 abbrev pub IsCopy : Files → Files → List ℕ → MDBShardFile → MDBShardFile → Type 0
 IsCopy old new folder s result =
-    ((s.path ≡ shard_path folder s.shard_hash) × (result ≡ s))
-    ⊎ ((s.path ≢ shard_path folder s.shard_hash) × (bytes : List ℕ) × (bytes_at old s.path ≡ Some bytes) × Stands new folder bytes result)
+    (IsHome folder s × (result ≡ s))
+    ⊎ ((IsHome folder s → ⊥) × (bytes : List ℕ) × (bytes_at old s.path ≡ Some bytes) × Stands new folder bytes result)
 
--- Several become a shard with the records of all, created at the latest of their times, and without an expiry.
-abbrev pub IsMerged : Files → List ℕ → Group → MDBShardFile → Type 0
-IsMerged new folder g result = Stands new folder (full_shard_bytes (held_shard g.records g.creation None)) result
+-- the shard of a group of several: it has the records of all, was created at the latest of their times, and does not expire
+abbrev pub merged_shard : Group → Shard
+merged_shard g = held_shard g.records g.creation None
+
+-- the bytes are the full encoding of that shard, which is well formed
+pub record IsMergedEncoding (g : Group) (bytes : List ℕ) : Type 0 where
+  pub shard : IsShard (merged_shard g)
+  pub fits : Fits (merged_shard g)
+  pub encoding : bytes ≡ full_shard_bytes (merged_shard g)
+
+-- Several shards become that one.
+pub record IsMerged (new : Files) (folder : List ℕ) (g : Group) (result : MDBShardFile) : Type 0 where
+  pub bytes : List ℕ
+  pub form : IsMergedEncoding g bytes
+  pub stands : Stands new folder bytes result
 
 abbrev pub IsResult : Files → Files → List ℕ → Group → MDBShardFile → Type 0
 IsResult old new folder g result = elim g.taken [
@@ -107,13 +123,13 @@ AddsResults old new results = (name : List ℕ) → IsNoTemp name → file_at ol
 
 -- ---- what was written
 
--- The bytes of the result of a group, if it is due to be written: those of one shard that is not in the folder yet, or
--- the full encoding of the records of several.
+-- The bytes of the result of a group, if it is due to be written: those of one shard that is not home, or the full
+-- encoding of the records of several.
 abbrev pub IsDue : Files → List ℕ → Group → List ℕ → Type 0
 IsDue files folder g bytes = elim g.taken [
   | [] ↦ ⊥
-  | s ∷ [] ↦ (s.path ≢ shard_path folder s.shard_hash) × (bytes_at files s.path ≡ Some bytes)
-  | s ∷ t ∷ more ↦ bytes ≡ full_shard_bytes (held_shard g.records g.creation None)
+  | s ∷ [] ↦ (IsHome folder s → ⊥) × (bytes_at files s.path ≡ Some bytes)
+  | s ∷ t ∷ more ↦ IsMergedEncoding g bytes
 ]
 
 -- The name is that of the shard file with these bytes, which is whole and durable; or it is the temporary one beside it.

@@ -1,10 +1,9 @@
 //! The group of shards that is open while shards are merged.
 
-ghost use Rattle.std.specs.Prelude.{◌≡◌, ◌≤◌, ◌+◌, ◌++◌, ◌^◌, ◌↔◌, None, IfOk, IsFalse, IsOk, IsOkUnless, IsTrue, OnOk, option_map};
-ghost use Rattle.xet_shard.specs.Held.{held_shard};
+ghost use Rattle.std.specs.Prelude.{◌≡◌, ◌≤◌, ◌+◌, ◌++◌, ◌^◌, ◌↔◌, IfOk, IsFalse, IsOk, IsOkUnless, IsTrue, OnOk, option_map};
 ghost use Rattle.xet_shard.specs.Sections.{info_at};
-ghost use Rattle.xet_shard_format.specs.Encoding.{full_shard_bytes};
 ghost use Rattle.xet_shard_merge.specs.Groups.{Agrees, alone, joined, with_records};
+ghost use Rattle.xet_shard_merge.specs.Merging.{IsMergedEncoding};
 ghost use Rattle.xet_shard_merge.specs.internal.Grouping.{IsOnly, IsRead};
 
 use crate::adding::{add_blocks, add_files, blocks_agree, files_agree};
@@ -128,7 +127,7 @@ impl OpenGroup {
 
     /// The bytes of the shard that has the records of all. The only error is `StoreError::OutOfMemory`.
     pub(crate) fn bytes(&self, alloc: Global) -> Result<Vec<u8>, StoreError>
-        ensures bytes { IfOk result (λ b. b.items ≡ full_shard_bytes (held_shard self.now.records self.now.creation None)) }
+        ensures bytes { IfOk result (λ b. IsMergedEncoding self.now b.items) }
         ensures form { IfOk result (λ b. IsOk (info_at b.items)) }
         ensures memory { IsOkUnless result StoreError.OutOfMemory }
     {

@@ -57,6 +57,9 @@ impl ShardMergeResult {
 /// Two groups may have the same result. It is then written once, keeps its modification time, and is listed for each of
 /// them. A result that was there before keeps its time too.
 ///
+/// A shard that is alone in its group is its own result, and is not copied, if it is in `target` already, or if both
+/// paths are that of its own file.
+///
 /// Folders are compared by name alone. If `source` is "dir/" and `target` is "dir", the paths that are read are not those
 /// of the same files in `target`. A shard that is alone in its group is copied onto itself then: it is found there, so
 /// nothing is written, but it is listed as obsolete, and its file as a result. Removing the obsolete shards would remove

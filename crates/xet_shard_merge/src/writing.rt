@@ -1,14 +1,12 @@
 //! Writing of the result of a group.
 
-ghost use Rattle.std.specs.Prelude.{◌≡◌, ◌∷◌, [], All, IfErr, IfOk, IsOk, None, true};
+ghost use Rattle.std.specs.Prelude.{◌≡◌, ◌∷◌, [], All, IfErr, IfOk, IsOk, true};
 ghost use Rattle.xet_codec.specs.Stops.{HasDiskReason};
 ghost use Rattle.xet_io.specs.Frame.{Stays};
-ghost use Rattle.xet_shard.specs.Held.{held_shard};
 ghost use Rattle.xet_shard.specs.Sections.{info_at};
 ghost use Rattle.xet_shard_directory.specs.Answers.{IsReadError};
 ghost use Rattle.xet_shard_directory.specs.Writing.{IsPutError};
-ghost use Rattle.xet_shard_format.specs.Encoding.{full_shard_bytes};
-ghost use Rattle.xet_shard_merge.specs.Merging.{AddsResults, IsCopy, IsDue, IsMerged, IsResult, Stands, WritesOnly};
+ghost use Rattle.xet_shard_merge.specs.Merging.{AddsResults, IsCopy, IsDue, IsMerged, IsMergedEncoding, IsResult, Stands, WritesOnly};
 ghost use Rattle.xet_shard_merge.specs.internal.Keeping.{IsCopyDue, IsIntact, IsOnlyDue, Preserves};
 
 use crate::group::OpenGroup;
@@ -19,8 +17,9 @@ use xet_io::{Disk, read_file};
 use xet_shard_directory::{MDBShardFile, add_shard_file};
 use xet_shard_file::shard_path;
 
-/// Writes the result of a group into a folder. One shard alone is copied, unless it is in the folder already; several
-/// become one shard. If a file with other bytes has the result's name, the error is `OutOfMemory`: nothing is replaced.
+/// Writes the result of a group into a folder. One shard alone is copied, unless it is in the folder already, or the path
+/// given for the folder is its own; several become one shard. If a file with other bytes has the result's name, the error
+/// is `OutOfMemory`: nothing is replaced.
 pub(crate) fn write_result<D: Disk>(
     alloc: Global,
     disk: &mut D,
@@ -41,7 +40,7 @@ pub(crate) fn write_result<D: Disk>(
     }
 }
 
-/// Copies a shard file into a folder, unless it is there already.
+/// Copies a shard file into a folder, unless it is there already, or the path given for the folder is its own.
 fn write_copy<D: Disk>(
     alloc: Global,
     disk: &mut D,
@@ -56,6 +55,9 @@ fn write_copy<D: Disk>(
     ensures frame { Stays D.tells D.faults disk.old disk.new }
     ensures reason { IfErr result (IsReadError (D.faults disk.old) (D.faults disk.new)) }
 {
+    if shard.path.as_str() == target {
+        return shard.copy(alloc);
+    }
     let path = shard_path(alloc, target, &shard.shard_hash)?;
     if shard.path.as_str() == path.as_str() {
         return shard.copy(alloc);
@@ -77,7 +79,7 @@ fn write_merged<D: Disk>(
     ensures merged { D.tells disk.old ≡ true → IfOk result (IsMerged (D.files disk.new) target.now group.now) }
     ensures adds { D.tells disk.old ≡ true → IfOk result (λ s. AddsResults (D.files disk.old) (D.files disk.new) (s ∷ [])) }
     ensures keeps { D.tells disk.old ≡ true → Preserves (D.files disk.old) (D.files disk.new) }
-    ensures writes { D.tells disk.old ≡ true → WritesOnly (D.files disk.old) (D.files disk.new) target.now (IsOnlyDue (full_shard_bytes (held_shard group.now.records group.now.creation None))) }
+    ensures writes { D.tells disk.old ≡ true → WritesOnly (D.files disk.old) (D.files disk.new) target.now (IsMergedEncoding group.now) }
     ensures frame { Stays D.tells D.faults disk.old disk.new }
     ensures reason { IfErr result (HasDiskReason (D.faults disk.old) (D.faults disk.new)) }
 {

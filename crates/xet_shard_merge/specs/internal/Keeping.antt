@@ -1,5 +1,5 @@
 -- What calls that write results leave of the other files.
-use Rattle.std.specs.Prelude.{◌≡◌, ◌≢◌, ℕ, Any, Bool, true, false, List, Option, Some, None, Result, Ok, Err}
+use Rattle.std.specs.Prelude.{◌≡◌, ℕ, Any, Bool, true, false, List, Option, Some, None, Result, Ok, Err}
 use Rattle.xet_hash.specs.declared.error.Place.TheVariants.{Disk}
 use Rattle.xet_hash.specs.declared.error.StoreError.{StoreError}
 use Rattle.xet_hash.specs.declared.error.StoreError.TheVariants.{Io, MalformedData, OutOfMemory, UnexpectedEof}
@@ -8,9 +8,8 @@ use Rattle.xet_shard.specs.Sections.{info_at}
 use Rattle.xet_shard.specs.Union.{ShardRecords}
 use Rattle.xet_shard_directory.specs.Writing.{durable_at}
 use Rattle.xet_shard_directory.specs.declared.shard_file.MDBShardFile.{MDBShardFile}
-use Rattle.xet_shard_file.specs.Names.{shard_path}
 use Rattle.xet_shard_merge.specs.Groups.{Group}
-use Rattle.xet_shard_merge.specs.Merging.{IsDue, IsNoTemp, KeepsFiles, WritesOnly}
+use Rattle.xet_shard_merge.specs.Merging.{IsDue, IsHome, IsNoTemp, KeepsFiles, WritesOnly}
 
 -- Every file that was there has its bytes and its modification time, and is durable if it was.
 pub record Preserves (old new : Files) : Type 0 where
@@ -21,9 +20,9 @@ pub record Preserves (old new : Files) : Type 0 where
 abbrev pub IsOnlyDue : List ℕ → List ℕ → Type 0
 IsOnlyDue bytes b = b ≡ bytes
 
--- the bytes of a shard that is not in the folder yet
+-- the bytes of a shard that is not home
 abbrev pub IsCopyDue : Files → List ℕ → MDBShardFile → List ℕ → Type 0
-IsCopyDue files folder s b = (s.path ≢ shard_path folder s.shard_hash) × (bytes_at files s.path ≡ Some b)
+IsCopyDue files folder s b = (IsHome folder s → ⊥) × (bytes_at files s.path ≡ Some b)
 
 -- the bytes of the result of one of these groups
 abbrev pub IsOneDue : Files → List ℕ → List Group → List ℕ → Type 0
