@@ -1,6 +1,8 @@
+pub mod Among
 pub mod Due
 pub mod EachOnce
 pub mod Existing
+pub mod Grouped
 pub mod Loading
 pub mod Merged
 pub mod Offering

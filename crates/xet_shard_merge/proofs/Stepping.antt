@@ -69,7 +69,7 @@ module _ (now after : Files) (folder : List ℕ) (keeps : Preserves now after) w
       by : (taken : List MDBShardFile) → IsResult start now folder (record g { taken = taken }) r → IsResult start after folder (record g { taken = taken }) r
       by [] h = h
       by (s ∷ []) h = copy_kept start s r h
-      by (s ∷ t ∷ more) h = stands_kept _ r h
+      by (s ∷ t ∷ more) h = record { bytes = h.bytes; form = h.form; stands = stands_kept h.bytes r h.stands }
 
   pub results_kept : (start : Files) (gs : List Group) (rs : List MDBShardFile) → AreResults start now folder gs rs → AreResults start after folder gs rs
   unfolding AreResults

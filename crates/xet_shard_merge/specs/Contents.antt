@@ -14,14 +14,14 @@ pub record IsValidShard (files : Files) (path : List ℕ) (now : ℕ) (s : MDBSh
   pub valid : is_valid now s ≡ true
   pub bytes : List ℕ
   pub there : bytes_at files s.path ≡ Some bytes
-  pub records : records_in s.shard.metadata bytes ≡ Ok records
+  pub records_are : records_in s.shard.metadata bytes ≡ Ok records
 
 -- a valid shard with this key lists a xorb; the zero hash means no key
 pub record ListsXorb (files : Files) (path : List ℕ) (now : ℕ) (key : List ℕ) (x : MDBXorbInfo) : Type 0 where
   pub shard : MDBShardFile
   pub records : ShardRecords
   pub valid : IsValidShard files path now shard records
-  pub key : shard.shard.metadata.chunk_hash_hmac_key ≡ key
+  pub key_is : shard.shard.metadata.chunk_hash_hmac_key ≡ key
   pub listed : IsAmong records.0 x
 
 -- a valid shard with this key lists a file
@@ -29,7 +29,7 @@ pub record ListsFile (files : Files) (path : List ℕ) (now : ℕ) (key : List �
   pub shard : MDBShardFile
   pub records : ShardRecords
   pub valid : IsValidShard files path now shard records
-  pub key : shard.shard.metadata.chunk_hash_hmac_key ≡ key
+  pub key_is : shard.shard.metadata.chunk_hash_hmac_key ≡ key
   pub listed : IsAmong records.1 f
 
 -- Before and after, the valid shards of a path list exactly the same xorbs and files, under the same keys.

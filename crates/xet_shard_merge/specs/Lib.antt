@@ -1,4 +1,5 @@
 pub mod Contents
 pub mod Groups
 pub mod Merging
+pub mod Records
 pub mod internal

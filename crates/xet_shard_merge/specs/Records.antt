@@ -1,0 +1,21 @@
+-- What the groups of a merge have of the shards that are offered.
+use Rattle.std.specs.Prelude.{◌≡◌, List}
+use Rattle.std.specs.List.{IsAmong}
+use Rattle.xet_shard.specs.Union.{ShardRecords}
+use Rattle.xet_shard_directory.specs.declared.shard_file.MDBShardFile.{MDBShardFile}
+use Rattle.xet_shard_format.specs.declared.record.MDBFileInfo.{MDBFileInfo}
+use Rattle.xet_shard_format.specs.declared.record.MDBXorbInfo.{MDBXorbInfo}
+use Rattle.xet_shard_merge.specs.Groups.{Group, IsPlain, Offered}
+
+-- A group took this shard, whose records were read: it has all of them.
+pub record IsTakenInto (o : Offered) (records : ShardRecords) (g : Group) : Type 0 where
+  pub plain : IsPlain o records
+  pub taken : IsAmong g.taken o.file
+  pub xorbs : (x : MDBXorbInfo) → IsAmong records.0 x → IsAmong g.records.blocks x
+  pub files : (f : MDBFileInfo) → IsAmong records.1 f → IsAmong g.records.files f
+
+-- Each shard of a group was offered, and each of its xorbs and files is one of those shards.
+pub record HasRecordsOf (offered : List Offered) (g : Group) : Type 0 where
+  pub taken : (s : MDBShardFile) → IsAmong g.taken s → (o : Offered) × (records : ShardRecords) × IsAmong offered o × (s ≡ o.file) × IsTakenInto o records g
+  pub xorbs : (x : MDBXorbInfo) → IsAmong g.records.blocks x → (o : Offered) × (records : ShardRecords) × IsAmong offered o × IsTakenInto o records g × IsAmong records.0 x
+  pub files : (f : MDBFileInfo) → IsAmong g.records.files f → (o : Offered) × (records : ShardRecords) × IsAmong offered o × IsTakenInto o records g × IsAmong records.1 f
