@@ -86,7 +86,7 @@ module _ (target : ℕ) where
       → Groups target (Some h) os groups skipped → IsTakenIn groups o records
   unfolding Groups
   taken_stays o records h is [] groups skipped (all, none) = (h, subst (λ (gs : List Group). IsAmong gs h) (sym all) (among_first h []), is)
-  taken_stays o records h is (p ∷ os) groups skipped (inl (skip, (rest, (last, more)))) = taken_stays o records h is os groups rest more
+  taken_stays o records h is (p ∷ os) groups skipped (inl (skip, (rest, last, more))) = taken_stays o records h is os groups rest more
   taken_stays o records h is (p ∷ os) groups skipped (inr (inl (read, begins, more))) =
       let opened : Some h ≡ None = begins.is_open in absurd (cc opened)
   taken_stays o records h is (p ∷ os) groups skipped (inr (inr (inl (g, read, rest, ends, first, more)))) =
@@ -128,8 +128,8 @@ module _ (target : ℕ) where
   -- each shard that is offered is skipped, or it is taken
   pub taken_or_skipped : (current : Option Group) (os : List Offered) (groups : List Group) (skipped : List MDBShardFile) → Groups target current os groups skipped → (o : Offered) → IsAmong os o → IsPlaced groups skipped o
   unfolding Groups
-  taken_or_skipped current [] groups skipped h o a = absurd (among_none o a)
-  taken_or_skipped current (p ∷ os) groups skipped (inl (skip, (rest, (last, more)))) = first_skipped p os groups skipped rest last (taken_or_skipped current os groups rest more)
+  taken_or_skipped current [] groups skipped h = λ o a. absurd (among_none o a)
+  taken_or_skipped current (p ∷ os) groups skipped (inl (skip, (rest, last, more))) = first_skipped p os groups skipped rest last (taken_or_skipped current os groups rest more)
   taken_or_skipped current (p ∷ os) groups skipped (inr (inl (read, begins, more))) =
       first_taken p os groups skipped read (taken_stays p read (alone p.file p.length read) (into_alone p read begins.plain) os groups skipped more)
       (taken_or_skipped (Some (alone p.file p.length read)) os groups skipped more)
@@ -196,7 +196,7 @@ module _ (target : ℕ) (all : List Offered) where
       → (g : Group) → IsAmong groups g → HasRecordsOf all g
   unfolding Groups
   grouped_have current [] groups skipped has within (are, none) g a = open_has current has g (subst (λ (gs : List Group). IsAmong gs g) are a)
-  grouped_have current (o ∷ os) groups skipped has within (inl (skip, (rest, (last, more)))) g a = grouped_have current os groups rest has (later o os within) more g a
+  grouped_have current (o ∷ os) groups skipped has within (inl (skip, (rest, last, more))) g a = grouped_have current os groups rest has (later o os within) more g a
   grouped_have current (o ∷ os) groups skipped has within (inr (inl (read, begins, more))) g a =
       grouped_have (Some (alone o.file o.length read)) os groups skipped (alone_has o read (within o (among_first o os)) begins.plain) (later o os within) more g a
   grouped_have current (o ∷ os) groups skipped has within (inr (inr (inl (h, read, rest, ends, first, more)))) g a =

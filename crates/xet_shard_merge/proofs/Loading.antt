@@ -53,7 +53,7 @@ named_no_temp path h name named e =
     let last = same_from_push front (name ++ codes "_tem") 98 112 (whole ∙ e ∙ sym (append_assoc name (codes "_tem") (112 ∷ []))) in
     let bad : ◌≡◌ {A = ℕ} 98 112 = last.1 in absurd (omega arith)
 
-no_temp : (path h p : List ℕ) → IsShardAt path h p → IsNoTemp p
+pub no_temp : (path h p : List ℕ) → IsShardAt path h p → IsNoTemp p
 no_temp path h p (is, inl (named, at)) name e = named_no_temp path h name named (sym at ∙ e)
 no_temp path h p (is, inr (other, at)) name e = shard_no_temp path h name (sym at ∙ e)
 
@@ -64,7 +64,7 @@ info_in (Ok shard) h p m s e =
     let same : shard_value h p shard m ≡ s = cc e in ap (λ (x : MDBShardFile). Ok x.shard) same
 info_in (Err d) h p m s e = absurd (cc e)
 
-there_in : (found : Option File) (h p : List ℕ) (s : MDBShardFile) → in_file found (λ f. info_at f.bytes >>= λ shard. Ok (shard_value h p shard f.modified)) ≡ Ok s
+pub there_in : (found : Option File) (h p : List ℕ) (s : MDBShardFile) → in_file found (λ f. info_at f.bytes >>= λ shard. Ok (shard_value h p shard f.modified)) ≡ Ok s
     → (bytes : List ℕ) × (option_map (λ f. f.bytes) found ≡ Some bytes) × (info_at bytes ≡ Ok s.shard)
 there_in None h p s e = absurd (cc e)
 there_in (Some f) h p s e = (f.bytes, refl, info_in (info_at f.bytes) h p f.modified s e)

@@ -12,6 +12,7 @@ use crate::merge::{ShardMergeResult, merge_shards};
 use std::alloc::Global;
 use xet_hash::StoreError;
 use xet_io::Disk;
+use xet_shard::laws::parts_are_read;
 use xet_shard_directory::{MDBShardFile, remove_all};
 
 /// Merges the valid shards of a folder within it, as `merge_shards` does, then removes the obsolete ones, and returns the
@@ -33,6 +34,7 @@ pub fn consolidate_shards_in_directory<D: Disk>(
     ensures frame { Stays D.tells D.faults disk.old disk.new }
     ensures reason { IfErr result (IsReadError (D.faults disk.old) (D.faults disk.new)) }
 {
+    parts_are_read();
     match merge_shards(alloc, disk, dir, dir, max_size, skip_on_error, now) {
         Ok(merge) => remove_obsolete(disk, merge),
         Err(error) => Err(error),

@@ -1,0 +1,218 @@
+-- A consolidation leaves what the valid shards of a folder list.
+use Rattle.std.proofs.Common.{◌≡◌, ◌≢◌, ◌∙◌, ◌⊎◌, inl, inr, ℕ, ◌<◌, ◌^◌, Bool, true, false, not, nat_eq, List, [], ◌∷◌, Any, None, Option, Some, option_map, Result, Ok, Err, IfOk, OnErr, filter, flat_map, take, refl, sym, ap, subst}
+use Rattle.std.proofs.lemmas.Bool.{true≢false}
+use Rattle.std.specs.Cmp.Lexicographic.{bytes_decides, pointwise}
+use Rattle.std.specs.FinMap.{get}
+use Rattle.std.specs.List.{IsAmong, list_any}
+use Rattle.xet_hash.specs.Hash.{zero_hash}
+use Rattle.xet_io.specs.Disk.{Entry, File, Files, bytes_at, file_at, file_of}
+use Rattle.xet_io.specs.theorems.Names.{either_name}
+use Rattle.xet_hash.specs.declared.error.StoreError.{StoreError}
+use Rattle.xet_shard.specs.Union.{ShardRecords, records_in}
+use Rattle.xet_shard_directory.specs.Directories.{all_removed, paths}
+use Rattle.xet_shard_directory.specs.Writing.{path_of}
+use Rattle.xet_shard_directory.specs.declared.shard_file.MDBShardFile.{MDBShardFile}
+use Rattle.xet_shard_merge.specs.Contents.{IsValidShard, ListSame}
+use Rattle.xet_shard_merge.specs.Groups.{Group, IsPlain, Offered}
+use Rattle.xet_shard_merge.specs.Merging.{AreResults, IsDue, IsHome, IsMerged, IsMergedEncoding, IsPlaced, IsResult, KeepsFiles, KeptOrMerged, MayMerge, MergesWithin, obsolete_of, target_of}
+use Rattle.xet_shard_merge.specs.Records.{HasRecordsOf}
+use Rattle.xet_shard_merge.specs.declared.merge.ShardMergeResult.{ShardMergeResult}
+use Rattle.xet_shard_merge.specs.internal.Grouping.{IsOnly}
+use Rattle.xet_shard_merge.proofs.Among.{among_cons, among_first, among_later, among_none, among_one, among_take, any_among, filter_among, flat_among, map_among}
+use Rattle.xet_shard_merge.proofs.Grouped.{groups_have}
+use Rattle.xet_shard_merge.proofs.Homes.{IsEither, IsFolder, either_of, offered_at, offered_home, offered_valid, several_in_folder}
+use Rattle.xet_shard_merge.proofs.Listing.{AreListed, PartsAreRead, StaysListed, file_is_merged, file_of_merged, list_same, lists_for, lists_own, merged_key, merged_lists, merged_records, records_there, result_valid, same_records, shard_key, valid_same, xorb_is_merged, xorb_of_merged}
+use Rattle.xet_shard_merge.proofs.Loading.{no_temp}
+use Rattle.xet_shard_merge.proofs.Preserved.{still_there}
+use Rattle.xet_shard_merge.proofs.Removed.{among_or_not, gone, spared}
+
+-- ---- groups whose shards are all home
+
+module _ (folder : List ℕ) where
+  abbrev AreHome : List MDBShardFile → Type 0
+  AreHome taken = (s : MDBShardFile) → IsAmong taken s → IsHome folder s
+
+  form_of : (g : Group) (taken : List MDBShardFile) (bytes : List ℕ) → IsMergedEncoding (record g { taken = taken }) bytes → IsMergedEncoding g bytes
+  form_of g taken bytes form = record { shard = form.shard; fits = form.fits; encoding = form.encoding }
+
+  -- only the results of several are due
+  due_merged : (files : Files) (g : Group) (bytes : List ℕ) → AreHome g.taken → IsDue files folder g bytes → IsOnly g.taken None × IsMergedEncoding g bytes
+  due_merged files g bytes = by g.taken
+    where
+      by : (taken : List MDBShardFile) → AreHome taken → IsDue files folder (record g { taken = taken }) bytes → IsOnly taken None × IsMergedEncoding g bytes
+      by [] home due = absurd due
+      by (s ∷ []) home due = absurd (due.0 (home s (among_first s [])))
+      by (s ∷ t ∷ more) home due = ((s, t, more, refl), form_of g (s ∷ t ∷ more) bytes due)
+
+  -- a shard whose path is not that of the group's result is one of several
+  replaced : (old new : Files) (g : Group) (r t : MDBShardFile) → r.path ≢ t.path → AreHome g.taken → IsAmong g.taken t → IsResult old new folder g r → IsOnly g.taken None × IsMerged new folder g r
+  replaced old new g r t apart = by g.taken
+    where
+      by : (taken : List MDBShardFile) → AreHome taken → IsAmong taken t → IsResult old new folder (record g { taken = taken }) r → IsOnly taken None × IsMerged new folder g r
+      by [] home a is = absurd is
+      by (s ∷ []) home a (inl (at, same)) = absurd (apart (ap (λ (x : MDBShardFile). x.path) (same ∙ sym (among_one s t a))))
+      by (s ∷ []) home a (inr (away, bytes, there, stands)) = absurd (away (home s (among_first s [])))
+      by (s ∷ u ∷ more) home a is = ((s, u, more, refl), record { bytes = is.bytes; form = form_of g (s ∷ u ∷ more) is.bytes is.form; stands = is.stands })
+
+  -- each group has a result
+  result_among : (old new : Files) (groups : List Group) (results : List MDBShardFile) → AreResults old new folder groups results → (g : Group) → IsAmong groups g
+      → (r : MDBShardFile) × IsAmong results r × IsResult old new folder g r
+  unfolding AreResults
+  result_among old new [] results are g a = absurd (among_none g a)
+  result_among old new (h ∷ gs) [] are g a = absurd are
+  result_among old new (h ∷ gs) (r ∷ rs) are g a = by (among_cons h gs g a) (λ later. result_among old new gs rs are.1 g later)
+    where
+      Found : List MDBShardFile → Type 0
+      Found rows = (x : MDBShardFile) × IsAmong rows x × IsResult old new folder g x
+
+      by : (g ≡ h) ⊎ IsAmong gs g → (IsAmong gs g → Found rs) → Found (r ∷ rs)
+      by (inl same) rest = (r, among_first r rs, subst (λ (x : Group). IsResult old new folder x r) (sym same) are.0)
+      by (inr later) rest = let found = rest later in (found.0, among_later r rs found.0 found.1, found.2)
+
+-- a shard whose chunk hashes are not keyed
+plain_key : (o : Offered) (records : ShardRecords) → IsPlain o records → shard_key o.file ≡ zero_hash
+plain_key o records plain = by (either_name (shard_key o.file) zero_hash)
+  where
+    by : (shard_key o.file ≡ zero_hash) ⊎ (shard_key o.file ≢ zero_hash) → shard_key o.file ≡ zero_hash
+    by (inl same) = same
+    by (inr keyed) = absurd (plain.1 keyed)
+
+obsolete_among : (groups : List Group) (results : List MDBShardFile) (t : MDBShardFile) → IsAmong (obsolete_of groups results) t
+    → ((g : Group) × IsAmong groups g × IsAmong g.taken t) × ((r : MDBShardFile) → IsAmong results r → r.path ≢ t.path)
+obsolete_among groups results t a =
+    let found = filter_among (λ (s : MDBShardFile). not (list_any (λ (r : MDBShardFile). pointwise nat_eq r.path s.path) results)) (flat_map (λ (g : Group). g.taken) groups) t a in (
+      flat_among (λ (g : Group). g.taken) groups t found.0,
+      λ r among same.
+      let any = any_among (λ (x : MDBShardFile). pointwise nat_eq x.path t.path) results r among ((bytes_decides r.path t.path).1 same) in
+      true≢false (sym found.1 ∙ ap not any),
+    )
+
+module _ (parts : PartsAreRead) (folder : List ℕ) (max_size now : ℕ) where
+  -- ---- nothing is listed that was not
+
+  module _ (old new : Files) (s : MDBShardFile) (records : ShardRecords) (v : IsValidShard new folder now s records) where
+    either : IsEither folder
+    either = either_of folder s.shard_hash s.path v.read.0
+
+    module _ (may : MayMerge old new folder folder max_size now) where
+      -- the shard of several lists the records of those that were offered
+      of_due : (bytes : List ℕ) → bytes_at new s.path ≡ Some bytes → (g : Group) → IsAmong may.groups g → IsDue old folder g bytes → AreListed old folder now (shard_key s) records
+      of_due bytes there g a due =
+          let has : HasRecordsOf may.offered g = groups_have (target_of max_size) may.offered may.groups may.skipped may.grouped g a in
+          let home : AreHome folder g.taken = λ t b. let h = has.taken t b in subst (IsHome folder) (sym h.3) (offered_home old folder now may.offered may.offers either h.0 h.2) in
+          let merged = due_merged folder old g bytes home due in
+          let is_folder : IsFolder folder = several_in_folder (target_of max_size) old folder now may.offered may.offers either may.groups may.skipped may.grouped g a merged.0 in
+          let own : records_in_file bytes ≡ Ok records = records_there folder now s new records bytes v there in
+          let lists : records_in_file bytes ≡ Ok (merged_records g) = merged_lists parts g bytes merged.1 new s v.read.1 there in
+          let same : records ≡ merged_records g = cc in
+          let key : shard_key s ≡ zero_hash = merged_key parts g bytes merged.1 new s v.read.1 there in
+          record {
+            xorbs = λ x b.
+                let h = has.xorbs x (xorb_of_merged g x (subst (λ (q : ShardRecords). IsAmong q.0 x) same b)) in
+                record {
+                  shard = h.0.file;
+                  records = h.1;
+                  valid = offered_valid old folder now may.offered may.offers is_folder h.0 h.1 h.2 h.3.plain.0;
+                  key_is = plain_key h.0 h.1 h.3.plain ∙ sym key;
+                  listed = h.4;
+                };
+            files = λ f b.
+                let h = has.files f (file_of_merged g f (subst (λ (q : ShardRecords). IsAmong q.1 f) same b)) in
+                record {
+                  shard = h.0.file;
+                  records = h.1;
+                  valid = offered_valid old folder now may.offered may.offers is_folder h.0 h.1 h.2 h.3.plain.0;
+                  key_is = plain_key h.0 h.1 h.3.plain ∙ sym key;
+                  listed = h.4;
+                };
+          }
+        where
+          records_in_file : List ℕ → Result ShardRecords StoreError
+          records_in_file b = records_in s.shard.metadata b
+
+      of_entry : (get new s.path ≡ get old s.path) ⊎ ((bytes : List ℕ) × Any (λ g. IsDue old folder g bytes) may.groups × IsPlaced new folder bytes s.path) → AreListed old folder now (shard_key s) records
+      of_entry (inl same) = lists_own folder now old s records (valid_same folder now s new old records (sym (ap file_of same)) v)
+      of_entry (inr (bytes, (k, g, below, at, due), inl (path, there, durable))) = of_due bytes there g (k, (below, sym at)) due
+      of_entry (inr (bytes, due, inr temp)) = absurd (no_temp folder s.shard_hash s.path v.read.0 (path_of folder bytes) temp)
+
+    was_listed : KeptOrMerged old new folder folder max_size now → AreListed old folder now (shard_key s) records
+    was_listed (inl same) = lists_own folder now old s records (valid_same folder now s new old records (sym (ap (λ (fs : Files). file_at fs s.path) same)) v)
+    was_listed (inr may) = of_entry may (may.writes s.path)
+
+  -- ---- after an error, where nothing was removed
+
+  kept_listed : (old new : Files) → KeepsFiles old new → StaysListed old new folder now
+  kept_listed old new keeps s records v =
+      lists_own folder now new s records (valid_same folder now s old new records (still_there old new keeps s.path v.bytes (no_temp folder s.shard_hash s.path v.read.0) v.there) v)
+
+  pub kept_same : (old new : Files) → KeepsFiles old new → KeptOrMerged old new folder folder max_size now → ListSame old new folder now
+  kept_same old new keeps may = list_same folder now old new (kept_listed old new keeps) (λ s records v. was_listed old new s records v may)
+
+  -- ---- where some of the obsolete shards were removed
+
+  module _ (below : now < 2 ^ 64) (old between : Files) (skip : Bool) (m : ShardMergeResult) (within : MergesWithin old between folder max_size skip now m) (ns : List (List ℕ))
+      (some : (name : List ℕ) → IsAmong ns name → IsAmong (paths m.obsolete_shards.items) name) where
+    abbrev after : Files
+    after = all_removed between ns
+
+    -- a file that was removed is one of a group, and no result's
+    record IsGone (name : List ℕ) : Type 0 where
+      shard : MDBShardFile
+      path : name ≡ shard.path
+      group : Group
+      among : IsAmong within.merges.groups group
+      taken : IsAmong group.taken shard
+      apart : (r : MDBShardFile) → IsAmong m.merged_shards.items r → r.path ≢ shard.path
+
+    gone_is : (name : List ℕ) → IsAmong ns name → IsGone name
+    gone_is name a =
+        let found = map_among (λ (s : MDBShardFile). s.path) m.obsolete_shards.items name (some name a) in
+        let obsolete = obsolete_among within.merges.groups m.merged_shards.items found.0 (subst (λ (l : List MDBShardFile). IsAmong l found.0) within.merges.obsolete found.1) in
+        record { shard = found.0; path = found.2; group = obsolete.0.0; among = obsolete.0.1; taken = obsolete.0.2; apart = obsolete.1 }
+
+    result_stays : (r : MDBShardFile) → IsAmong m.merged_shards.items r → file_at after r.path ≡ file_at between r.path
+    result_stays r among = ap file_of (spared between ns r.path (λ a. let g = gone_is r.path a in g.apart r among g.path))
+
+    stays_listed : StaysListed old after folder now
+    stays_listed s records v = by (among_or_not ns s.path)
+      where
+        instead : IsGone s.path → AreListed after folder now (shard_key s) records
+        instead x =
+            let w = within.merges in
+            let has : HasRecordsOf w.offered x.group = groups_have (target_of max_size) w.offered w.groups m.skipped_shards.items w.grouped x.group x.among in
+            let either : IsEither folder = either_of folder s.shard_hash s.path v.read.0 in
+            let home : AreHome folder x.group.taken = λ t b. let h = has.taken t b in subst (IsHome folder) (sym h.3) (offered_home old folder now w.offered w.offers either h.0 h.2) in
+            let result = result_among folder old between w.groups m.merged_shards.items w.results x.group x.among in
+            let merged = replaced folder old between x.group result.0 x.shard (x.apart result.0 result.1) home x.taken result.2 in
+            let is_folder : IsFolder folder = several_in_folder (target_of max_size) old folder now w.offered w.offers either w.groups m.skipped_shards.items w.grouped x.group x.among merged.0 in
+            let h = has.taken x.shard x.taken in
+            let same : s ≡ h.0.file = offered_at old folder now w.offered w.offers is_folder s v.read h.0 h.2 (x.path ∙ ap (λ (t : MDBShardFile). t.path) h.3) in
+            let own : IsValidShard old folder now h.0.file h.1 = offered_valid old folder now w.offered w.offers is_folder h.0 h.1 h.2 h.4.plain.0 in
+            let read : records ≡ h.1 = same_records folder now s old records h.1 v (subst (λ (t : MDBShardFile). IsValidShard old folder now t h.1) (sym same) own) in
+            let key : shard_key s ≡ zero_hash = ap shard_key same ∙ plain_key h.0 h.1 h.4.plain in
+            let valid : IsValidShard between folder now result.0 (merged_records x.group) = result_valid parts x.group merged.1.bytes merged.1.form between folder now below is_folder result.0 merged.1.stands in
+            let its_key : shard_key result.0 ≡ zero_hash = merged_key parts x.group merged.1.bytes merged.1.form between result.0 merged.1.stands.value merged.1.stands.there in
+            lists_for folder now after result.0 (merged_records x.group) records (shard_key s) (valid_same folder now result.0 between after (merged_records x.group) (result_stays result.0 result.1) valid)
+            (its_key ∙ sym key)
+            (λ y b. xorb_is_merged x.group y (h.4.xorbs y (subst (λ (q : ShardRecords). IsAmong q.0 y) read b)))
+            (λ f b. file_is_merged x.group f (h.4.files f (subst (λ (q : ShardRecords). IsAmong q.1 f) read b)))
+
+        by : IsAmong ns s.path ⊎ (IsAmong ns s.path → ⊥) → AreListed after folder now (shard_key s) records
+        by (inl a) = instead (gone_is s.path a)
+        by (inr kept) =
+            let here : file_at between s.path ≡ file_at old s.path = still_there old between within.keeps s.path v.bytes (no_temp folder s.shard_hash s.path v.read.0) v.there in
+            lists_own folder now after s records (valid_same folder now s old after records (ap file_of (spared between ns s.path kept) ∙ here) v)
+
+    -- what is there after was there before
+    came_from : StaysListed after old folder now
+    came_from s records v = by (among_or_not ns s.path)
+      where
+        by : IsAmong ns s.path ⊎ (IsAmong ns s.path → ⊥) → AreListed old folder now (shard_key s) records
+        by (inl a) =
+            let absent : file_at after s.path ≡ None = gone between ns s.path a in
+            let bad : ◌≡◌ {A = Option (List ℕ)} None (Some v.bytes) = sym (ap (option_map (λ (f : File). f.bytes)) absent) ∙ v.there in
+            absurd (cc bad)
+        by (inr kept) = was_listed old between s records (valid_same folder now s after between records (sym (ap file_of (spared between ns s.path kept))) v) within.writes
+
+    pub removed_same : ListSame old after folder now
+    removed_same = list_same folder now old after stays_listed came_from
