@@ -10,7 +10,7 @@ use Rattle.xet_shard_format.specs.Records.{file_record_hash, xorb_record_hash}
 use Rattle.xet_shard_format.specs.declared.record.MDBFileInfo.{MDBFileInfo}
 use Rattle.xet_shard_format.specs.declared.record.MDBXorbInfo.{MDBXorbInfo}
 use Rattle.xet_shard_merge.specs.Groups.{Agrees, Ends, Group, Groups, IsPlain, Offered, alone, both, if_open, joined}
-use Rattle.xet_shard_merge.specs.Records.{HasRecordsOf, IsTakenInto}
+use Rattle.xet_shard_merge.specs.Records.{HasRecordsOf, IsTakenIn, IsTakenInto, IsTakenOrSkipped}
 use Rattle.xet_shard_merge.proofs.Among.{among_all, among_cons, among_either, among_filter, among_first, among_later, among_left, among_none, among_one, among_right, filter_among}
 
 -- ---- records of which some are there
@@ -78,9 +78,6 @@ module _ (o : Offered) (records : ShardRecords) (plain : IsPlain o records) wher
 -- ---- where a shard is taken
 
 module _ (target : ℕ) where
-  abbrev IsTakenIn : List Group → Offered → ShardRecords → Type 0
-  IsTakenIn groups o records = (g : Group) × IsAmong groups g × IsTakenInto o records g
-
   -- what the open group has taken, it keeps
   taken_stays : (o : Offered) (records : ShardRecords) (h : Group) → IsTakenInto o records h → (os : List Offered) (groups : List Group) (skipped : List MDBShardFile)
       → Groups target (Some h) os groups skipped → IsTakenIn groups o records
@@ -98,35 +95,32 @@ module _ (target : ℕ) where
       let same : h ≡ g = cc opened in
       taken_stays o records (joined g p.file read) (into_joined o p records read g (subst (IsTakenInto o records) same is)) os groups skipped more
 
-  abbrev IsPlaced : List Group → List MDBShardFile → Offered → Type 0
-  IsPlaced groups skipped o = IsAmong skipped o.file ⊎ ((records : ShardRecords) × IsTakenIn groups o records)
-
   -- the first of the shards is skipped, or it is taken; so is each of the others
   module _ (p : Offered) (os : List Offered) (groups : List Group) (skipped : List MDBShardFile) where
-    first_skipped : (rest : List MDBShardFile) → skipped ≡ p.file ∷ rest → ((o : Offered) → IsAmong os o → IsPlaced groups rest o) → (o : Offered) → IsAmong (p ∷ os) o → IsPlaced groups skipped o
+    first_skipped : (rest : List MDBShardFile) → skipped ≡ p.file ∷ rest → ((o : Offered) → IsAmong os o → IsTakenOrSkipped groups rest o) → (o : Offered) → IsAmong (p ∷ os) o → IsTakenOrSkipped groups skipped o
     first_skipped rest last others o a = by (among_cons p os o a)
       where
-        one_more : IsPlaced groups rest o → IsPlaced groups skipped o
+        one_more : IsTakenOrSkipped groups rest o → IsTakenOrSkipped groups skipped o
         one_more (inl old) = inl (subst (λ (l : List MDBShardFile). IsAmong l o.file) (sym last) (among_later p.file rest o.file old))
         one_more (inr taken) = inr taken
 
-        by : (o ≡ p) ⊎ IsAmong os o → IsPlaced groups skipped o
+        by : (o ≡ p) ⊎ IsAmong os o → IsTakenOrSkipped groups skipped o
         by (inl same) = inl (subst (λ (l : List MDBShardFile). IsAmong l o.file) (sym last) (subst (λ (x : Offered). IsAmong (p.file ∷ rest) x.file) (sym same) (among_first p.file rest)))
         by (inr later) = one_more (others o later)
 
-    first_taken : (read : ShardRecords) → IsTakenIn groups p read → ((o : Offered) → IsAmong os o → IsPlaced groups skipped o) → (o : Offered) → IsAmong (p ∷ os) o → IsPlaced groups skipped o
+    first_taken : (read : ShardRecords) → IsTakenIn groups p read → ((o : Offered) → IsAmong os o → IsTakenOrSkipped groups skipped o) → (o : Offered) → IsAmong (p ∷ os) o → IsTakenOrSkipped groups skipped o
     first_taken read is others o a = by (among_cons p os o a)
       where
-        by : (o ≡ p) ⊎ IsAmong os o → IsPlaced groups skipped o
+        by : (o ≡ p) ⊎ IsAmong os o → IsTakenOrSkipped groups skipped o
         by (inl same) = inr (read, subst (λ (x : Offered). IsTakenIn groups x read) (sym same) is)
         by (inr later) = others o later
 
-  group_behind : (g : Group) (rest groups : List Group) → groups ≡ g ∷ rest → (skipped : List MDBShardFile) (o : Offered) → IsPlaced rest skipped o → IsPlaced groups skipped o
+  group_behind : (g : Group) (rest groups : List Group) → groups ≡ g ∷ rest → (skipped : List MDBShardFile) (o : Offered) → IsTakenOrSkipped rest skipped o → IsTakenOrSkipped groups skipped o
   group_behind g rest groups first skipped o (inl old) = inl old
   group_behind g rest groups first skipped o (inr (records, (h, among, is))) = inr (records, (h, subst (λ (gs : List Group). IsAmong gs h) (sym first) (among_later g rest h among), is))
 
   -- each shard that is offered is skipped, or it is taken
-  pub taken_or_skipped : (current : Option Group) (os : List Offered) (groups : List Group) (skipped : List MDBShardFile) → Groups target current os groups skipped → (o : Offered) → IsAmong os o → IsPlaced groups skipped o
+  pub taken_or_skipped : (current : Option Group) (os : List Offered) (groups : List Group) (skipped : List MDBShardFile) → Groups target current os groups skipped → (o : Offered) → IsAmong os o → IsTakenOrSkipped groups skipped o
   unfolding Groups
   taken_or_skipped current [] groups skipped h = λ o a. absurd (among_none o a)
   taken_or_skipped current (p ∷ os) groups skipped (inl (skip, (rest, last, more))) = first_skipped p os groups skipped rest last (taken_or_skipped current os groups rest more)

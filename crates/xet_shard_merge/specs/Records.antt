@@ -1,5 +1,5 @@
 -- What the groups of a merge have of the shards that are offered.
-use Rattle.std.specs.Prelude.{◌≡◌, List}
+use Rattle.std.specs.Prelude.{◌≡◌, ◌⊎◌, List}
 use Rattle.std.specs.List.{IsAmong}
 use Rattle.xet_shard.specs.Union.{ShardRecords}
 use Rattle.xet_shard_directory.specs.declared.shard_file.MDBShardFile.{MDBShardFile}
@@ -13,6 +13,14 @@ pub record IsTakenInto (o : Offered) (records : ShardRecords) (g : Group) : Type
   pub taken : IsAmong g.taken o.file
   pub xorbs : (x : MDBXorbInfo) → IsAmong records.0 x → IsAmong g.records.blocks x
   pub files : (f : MDBFileInfo) → IsAmong records.1 f → IsAmong g.records.files f
+
+-- one of the groups took it
+abbrev pub IsTakenIn : List Group → Offered → ShardRecords → Type 0
+IsTakenIn groups o records = (g : Group) × IsAmong groups g × IsTakenInto o records g
+
+-- The shard is skipped, or one of the groups took it.
+abbrev pub IsTakenOrSkipped : List Group → List MDBShardFile → Offered → Type 0
+IsTakenOrSkipped groups skipped o = IsAmong skipped o.file ⊎ ((records : ShardRecords) × IsTakenIn groups o records)
 
 -- Each shard of a group was offered, and each of its xorbs and files is one of those shards.
 pub record HasRecordsOf (offered : List Offered) (g : Group) : Type 0 where

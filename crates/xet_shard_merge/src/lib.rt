@@ -4,6 +4,7 @@
 mod adding;
 mod consolidation;
 mod group;
+pub mod laws;
 mod merge;
 mod order;
 mod progress;
