@@ -14,8 +14,8 @@ use Rattle.xet_shard_directory.specs.Writing.{path_of}
 use Rattle.xet_shard_directory.specs.declared.shard_file.MDBShardFile.{MDBShardFile}
 use Rattle.xet_shard_merge.specs.Contents.{IsValidShard, ListSame}
 use Rattle.xet_shard_merge.specs.Groups.{Group, IsPlain, Offered}
-use Rattle.xet_shard_merge.specs.Merging.{AreResults, IsDue, IsHome, IsMerged, IsMergedEncoding, IsPlaced, IsResult, KeepsFiles, KeptOrMerged, MayMerge, MergesWithin, obsolete_of, target_of}
-use Rattle.xet_shard_merge.specs.Records.{HasRecordsOf}
+use Rattle.xet_shard_merge.specs.Merging.{AreResults, IsDue, IsHome, IsMerged, IsMergedEncoding, IsPlaced, IsResult, KeepsFiles, KeptOrMerged, MayMerge, Merges, MergesWithin, Offers, obsolete_of, target_of}
+use Rattle.xet_shard_merge.specs.Records.{HasRecordsOf, IsTakenInto}
 use Rattle.xet_shard_merge.specs.declared.merge.ShardMergeResult.{ShardMergeResult}
 use Rattle.xet_shard_merge.specs.internal.Grouping.{IsOnly}
 use Rattle.xet_shard_merge.proofs.Among.{among_cons, among_first, among_later, among_none, among_one, among_take, any_among, filter_among, flat_among, map_among}
@@ -54,6 +54,11 @@ module _ (folder : List ℕ) where
       by (s ∷ []) home a (inr (away, bytes, there, stands)) = absurd (away (home s (among_first s [])))
       by (s ∷ u ∷ more) home a is = ((s, u, more, refl), record { bytes = is.bytes; form = form_of g (s ∷ u ∷ more) is.bytes is.form; stands = is.stands })
 
+  -- the shards of a group are
+  all_home : (files : Files) (now : ℕ) (offered : List Offered) → Offers files folder now offered → IsEither folder → (g : Group) → HasRecordsOf offered g → AreHome g.taken
+  all_home files now offered offers either g has s a =
+      let h = has.taken s a in subst (IsHome folder) (sym h.3) (offered_home files folder now offered offers either h.0 h.2)
+
   -- each group has a result
   result_among : (old new : Files) (groups : List Group) (results : List MDBShardFile) → AreResults old new folder groups results → (g : Group) → IsAmong groups g
       → (r : MDBShardFile) × IsAmong results r × IsResult old new folder g r
@@ -83,8 +88,8 @@ obsolete_among groups results t a =
     let found = filter_among (λ (s : MDBShardFile). not (list_any (λ (r : MDBShardFile). pointwise nat_eq r.path s.path) results)) (flat_map (λ (g : Group). g.taken) groups) t a in (
       flat_among (λ (g : Group). g.taken) groups t found.0,
       λ r among same.
-      let any = any_among (λ (x : MDBShardFile). pointwise nat_eq x.path t.path) results r among ((bytes_decides r.path t.path).1 same) in
-      true≢false (sym found.1 ∙ ap not any),
+          let any = any_among (λ (x : MDBShardFile). pointwise nat_eq x.path t.path) results r among ((bytes_decides r.path t.path).1 same) in
+          true≢false (sym found.1 ∙ ap not any),
     )
 
 module _ (parts : PartsAreRead) (folder : List ℕ) (max_size now : ℕ) where
@@ -95,40 +100,39 @@ module _ (parts : PartsAreRead) (folder : List ℕ) (max_size now : ℕ) where
     either = either_of folder s.shard_hash s.path v.read.0
 
     module _ (may : MayMerge old new folder folder max_size now) where
-      -- the shard of several lists the records of those that were offered
-      of_due : (bytes : List ℕ) → bytes_at new s.path ≡ Some bytes → (g : Group) → IsAmong may.groups g → IsDue old folder g bytes → AreListed old folder now (shard_key s) records
-      of_due bytes there g a due =
-          let has : HasRecordsOf may.offered g = groups_have (target_of max_size) may.offered may.groups may.skipped may.grouped g a in
-          let home : AreHome folder g.taken = λ t b. let h = has.taken t b in subst (IsHome folder) (sym h.3) (offered_home old folder now may.offered may.offers either h.0 h.2) in
-          let merged = due_merged folder old g bytes home due in
-          let is_folder : IsFolder folder = several_in_folder (target_of max_size) old folder now may.offered may.offers either may.groups may.skipped may.grouped g a merged.0 in
-          let own : records_in_file bytes ≡ Ok records = records_there folder now s new records bytes v there in
-          let lists : records_in_file bytes ≡ Ok (merged_records g) = merged_lists parts g bytes merged.1 new s v.read.1 there in
-          let same : records ≡ merged_records g = cc in
-          let key : shard_key s ≡ zero_hash = merged_key parts g bytes merged.1 new s v.read.1 there in
-          record {
-            xorbs = λ x b.
-                let h = has.xorbs x (xorb_of_merged g x (subst (λ (q : ShardRecords). IsAmong q.0 x) same b)) in
-                record {
-                  shard = h.0.file;
-                  records = h.1;
-                  valid = offered_valid old folder now may.offered may.offers is_folder h.0 h.1 h.2 h.3.plain.0;
-                  key_is = plain_key h.0 h.1 h.3.plain ∙ sym key;
-                  listed = h.4;
-                };
-            files = λ f b.
-                let h = has.files f (file_of_merged g f (subst (λ (q : ShardRecords). IsAmong q.1 f) same b)) in
-                record {
-                  shard = h.0.file;
-                  records = h.1;
-                  valid = offered_valid old folder now may.offered may.offers is_folder h.0 h.1 h.2 h.3.plain.0;
-                  key_is = plain_key h.0 h.1 h.3.plain ∙ sym key;
-                  listed = h.4;
-                };
-          }
-        where
-          records_in_file : List ℕ → Result ShardRecords StoreError
-          records_in_file b = records_in s.shard.metadata b
+      -- its file has the records of several shards that were offered
+      module _ (bytes : List ℕ) (there : bytes_at new s.path ≡ Some bytes) (g : Group) (a : IsAmong may.groups g) (due : IsDue old folder g bytes) where
+        has : HasRecordsOf may.offered g
+        has = groups_have (target_of max_size) may.offered may.groups may.skipped may.grouped g a
+
+        merged : IsOnly g.taken None × IsMergedEncoding g bytes
+        merged = due_merged folder old g bytes (all_home folder old now may.offered may.offers either g has) due
+
+        is_folder : IsFolder folder
+        is_folder = several_in_folder (target_of max_size) old folder now may.offered may.offers either may.groups may.skipped may.grouped g a merged.0
+
+        their_records : records ≡ merged_records g
+        their_records =
+            let own : records_in s.shard.metadata bytes ≡ Ok records = records_there folder now s new records bytes v there in
+            let lists : records_in s.shard.metadata bytes ≡ Ok (merged_records g) = merged_lists parts g bytes merged.1 new s v.read.1 there in
+            cc
+
+        was_valid : (o : Offered) (read : ShardRecords) → IsAmong may.offered o → IsTakenInto o read g → IsValidShard old folder now o.file read
+        was_valid o read among is = offered_valid old folder now may.offered may.offers is_folder o read among is.plain.0
+
+        same_key : (o : Offered) (read : ShardRecords) → IsTakenInto o read g → shard_key o.file ≡ shard_key s
+        same_key o read is =
+            let key : shard_key s ≡ zero_hash = merged_key parts g bytes merged.1 new s v.read.1 there in plain_key o read is.plain ∙ sym key
+
+        of_due : AreListed old folder now (shard_key s) records
+        of_due = record {
+          xorbs = λ x b.
+              let h = has.xorbs x (xorb_of_merged g x (subst (λ (q : ShardRecords). IsAmong q.0 x) their_records b)) in
+              record { shard = h.0.file; records = h.1; valid = was_valid h.0 h.1 h.2 h.3; key_is = same_key h.0 h.1 h.3; listed = h.4 };
+          files = λ f b.
+              let h = has.files f (file_of_merged g f (subst (λ (q : ShardRecords). IsAmong q.1 f) their_records b)) in
+              record { shard = h.0.file; records = h.1; valid = was_valid h.0 h.1 h.2 h.3; key_is = same_key h.0 h.1 h.3; listed = h.4 };
+        }
 
       of_entry : (get new s.path ≡ get old s.path) ⊎ ((bytes : List ℕ) × Any (λ g. IsDue old folder g bytes) may.groups × IsPlaced new folder bytes s.path) → AreListed old folder now (shard_key s) records
       of_entry (inl same) = lists_own folder now old s records (valid_same folder now s new old records (sym (ap file_of same)) v)
@@ -173,35 +177,50 @@ module _ (parts : PartsAreRead) (folder : List ℕ) (max_size now : ℕ) where
     result_stays : (r : MDBShardFile) → IsAmong m.merged_shards.items r → file_at after r.path ≡ file_at between r.path
     result_stays r among = ap file_of (spared between ns r.path (λ a. let g = gone_is r.path a in g.apart r among g.path))
 
-    stays_listed : StaysListed old after folder now
-    stays_listed s records v = by (among_or_not ns s.path)
-      where
-        instead : IsGone s.path → AreListed after folder now (shard_key s) records
-        instead x =
-            let w = within.merges in
-            let has : HasRecordsOf w.offered x.group = groups_have (target_of max_size) w.offered w.groups m.skipped_shards.items w.grouped x.group x.among in
-            let either : IsEither folder = either_of folder s.shard_hash s.path v.read.0 in
-            let home : AreHome folder x.group.taken = λ t b. let h = has.taken t b in subst (IsHome folder) (sym h.3) (offered_home old folder now w.offered w.offers either h.0 h.2) in
-            let result = result_among folder old between w.groups m.merged_shards.items w.results x.group x.among in
-            let merged = replaced folder old between x.group result.0 x.shard (x.apart result.0 result.1) home x.taken result.2 in
-            let is_folder : IsFolder folder = several_in_folder (target_of max_size) old folder now w.offered w.offers either w.groups m.skipped_shards.items w.grouped x.group x.among merged.0 in
-            let h = has.taken x.shard x.taken in
-            let same : s ≡ h.0.file = offered_at old folder now w.offered w.offers is_folder s v.read h.0 h.2 (x.path ∙ ap (λ (t : MDBShardFile). t.path) h.3) in
-            let own : IsValidShard old folder now h.0.file h.1 = offered_valid old folder now w.offered w.offers is_folder h.0 h.1 h.2 h.4.plain.0 in
+    module _ (s : MDBShardFile) (records : ShardRecords) (v : IsValidShard old folder now s records) where
+      -- the result of the group that took it lists its records
+      module _ (x : IsGone s.path) where
+        abbrev whole : Merges old between folder folder max_size skip now m
+        whole = within.merges
+
+        either_one : IsEither folder
+        either_one = either_of folder s.shard_hash s.path v.read.0
+
+        has_records : HasRecordsOf whole.offered x.group
+        has_records = groups_have (target_of max_size) whole.offered whole.groups m.skipped_shards.items whole.grouped x.group x.among
+
+        result : (r : MDBShardFile) × IsAmong m.merged_shards.items r × IsResult old between folder x.group r
+        result = result_among folder old between whole.groups m.merged_shards.items whole.results x.group x.among
+
+        of_several : IsOnly x.group.taken None × IsMerged between folder x.group result.0
+        of_several = replaced folder old between x.group result.0 x.shard (x.apart result.0 result.1) (all_home folder old now whole.offered whole.offers either_one x.group has_records) x.taken result.2
+
+        in_folder : IsFolder folder
+        in_folder = several_in_folder (target_of max_size) old folder now whole.offered whole.offers either_one whole.groups m.skipped_shards.items whole.grouped x.group x.among of_several.0
+
+        instead : AreListed after folder now (shard_key s) records
+        instead =
+            let h = has_records.taken x.shard x.taken in
+            let same : s ≡ h.0.file = offered_at old folder now whole.offered whole.offers in_folder s v.read h.0 h.2 (x.path ∙ ap (λ (t : MDBShardFile). t.path) h.3) in
+            let own : IsValidShard old folder now h.0.file h.1 = offered_valid old folder now whole.offered whole.offers in_folder h.0 h.1 h.2 h.4.plain.0 in
             let read : records ≡ h.1 = same_records folder now s old records h.1 v (subst (λ (t : MDBShardFile). IsValidShard old folder now t h.1) (sym same) own) in
             let key : shard_key s ≡ zero_hash = ap shard_key same ∙ plain_key h.0 h.1 h.4.plain in
-            let valid : IsValidShard between folder now result.0 (merged_records x.group) = result_valid parts x.group merged.1.bytes merged.1.form between folder now below is_folder result.0 merged.1.stands in
-            let its_key : shard_key result.0 ≡ zero_hash = merged_key parts x.group merged.1.bytes merged.1.form between result.0 merged.1.stands.value merged.1.stands.there in
+            let made = of_several.1 in
+            let valid : IsValidShard between folder now result.0 (merged_records x.group) = result_valid parts x.group made.bytes made.form between folder now below in_folder result.0 made.stands in
+            let its_key : shard_key result.0 ≡ zero_hash = merged_key parts x.group made.bytes made.form between result.0 made.stands.value made.stands.there in
             lists_for folder now after result.0 (merged_records x.group) records (shard_key s) (valid_same folder now result.0 between after (merged_records x.group) (result_stays result.0 result.1) valid)
             (its_key ∙ sym key)
             (λ y b. xorb_is_merged x.group y (h.4.xorbs y (subst (λ (q : ShardRecords). IsAmong q.0 y) read b)))
             (λ f b. file_is_merged x.group f (h.4.files f (subst (λ (q : ShardRecords). IsAmong q.1 f) read b)))
 
-        by : IsAmong ns s.path ⊎ (IsAmong ns s.path → ⊥) → AreListed after folder now (shard_key s) records
-        by (inl a) = instead (gone_is s.path a)
-        by (inr kept) =
-            let here : file_at between s.path ≡ file_at old s.path = still_there old between within.keeps s.path v.bytes (no_temp folder s.shard_hash s.path v.read.0) v.there in
-            lists_own folder now after s records (valid_same folder now s old after records (ap file_of (spared between ns s.path kept) ∙ here) v)
+      now_listed : IsAmong ns s.path ⊎ (IsAmong ns s.path → ⊥) → AreListed after folder now (shard_key s) records
+      now_listed (inl a) = instead (gone_is s.path a)
+      now_listed (inr kept) =
+          let here : file_at between s.path ≡ file_at old s.path = still_there old between within.keeps s.path v.bytes (no_temp folder s.shard_hash s.path v.read.0) v.there in
+          lists_own folder now after s records (valid_same folder now s old after records (ap file_of (spared between ns s.path kept) ∙ here) v)
+
+    stays_listed : StaysListed old after folder now
+    stays_listed s records v = now_listed s records v (among_or_not ns s.path)
 
     -- what is there after was there before
     came_from : StaysListed after old folder now
