@@ -3,12 +3,11 @@ use Rattle.std.proofs.Common.{◌≡◌, ◌<◌, ◌*◌, ◌^◌, ◌/◌, ℕ
 use Rattle.std.proofs.lemmas.List.Elements.{All-from_recursion}
 use Rattle.std.specs.Int.{byte_at, bytes_low_first, to_le_bytes, w32}
 use Rattle.std.specs.List.{AllByRecursion}
-use Rattle.hex.specs.Hex.{IsBytes}
 use Rattle.xet_hash.specs.Blake3.{keyed_digest, output_bytes}
 use Rattle.xet_hash.specs.Merkle.{chunk_hash}
 use Rattle.xet_hash.specs.theorems.Texts.{bytes-append}
 use Rattle.xet_shard_file.specs.Names.{IsHash}
-use Rattle.xet_shard_format.specs.theorems.Bytes.{all_are_bytes}
+use Rattle.xet_shard_format.specs.theorems.Bytes.{IsBytes, all_are_bytes}
 
 byte_below : (i n : ℕ) → byte_at i n < 256
 byte_below zero n = mod-lt n (omega arith)

@@ -22,7 +22,7 @@ IsTakenIn groups o records = (g : Group) × IsAmong groups g × IsTakenInto o re
 abbrev pub IsTakenOrSkipped : List Group → List MDBShardFile → Offered → Type 0
 IsTakenOrSkipped groups skipped o = IsAmong skipped o.file ⊎ ((records : ShardRecords) × IsTakenIn groups o records)
 
--- Each shard of a group was offered, and each of its xorbs and files is one of those shards.
+-- Each shard that a group took was offered, and each xorb and file of the group is one of a shard that it took.
 pub record HasRecordsOf (offered : List Offered) (g : Group) : Type 0 where
   pub taken : (s : MDBShardFile) → IsAmong g.taken s → (o : Offered) × (records : ShardRecords) × IsAmong offered o × (s ≡ o.file) × IsTakenInto o records g
   pub xorbs : (x : MDBXorbInfo) → IsAmong g.records.blocks x → (o : Offered) × (records : ShardRecords) × IsAmong offered o × IsTakenInto o records g × IsAmong records.0 x

@@ -6,8 +6,8 @@ ghost use Rattle.xet_shard_directory.specs.declared.shard_file.MDBShardFile.{MDB
 ghost use Rattle.xet_shard_merge.specs.Groups.{Group, Groups, Offered};
 ghost use Rattle.xet_shard_merge.specs.Records.{HasRecordsOf, IsTakenOrSkipped};
 
-/// Each shard that is offered is skipped, or one of the groups took it, and has all of its xorbs and files. Each shard of
-/// a group was offered, and each xorb and file of a group is one of a shard that the group took.
+/// Each shard that is offered is skipped, or one of the groups took it, and has all of its xorbs and files. Each shard
+/// that a group took was offered, and each xorb and file of a group is one of a shard that it took.
 pub fn groups_have_the_records()
     ensures taken { (target : ℕ) (offered : List Offered) (groups : List Group) (skipped : List MDBShardFile) → Groups target None offered groups skipped → (o : Offered) → IsAmong offered o → IsTakenOrSkipped groups skipped o }
     ensures records { (target : ℕ) (offered : List Offered) (groups : List Group) (skipped : List MDBShardFile) → Groups target None offered groups skipped → (g : Group) → IsAmong groups g → HasRecordsOf offered g }
