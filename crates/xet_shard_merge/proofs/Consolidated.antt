@@ -1,13 +1,12 @@
 -- A consolidation leaves what the valid shards of a folder list.
-use Rattle.std.proofs.Common.{◌≡◌, ◌≢◌, ◌∙◌, ◌⊎◌, inl, inr, ℕ, ◌<◌, ◌^◌, Bool, true, false, not, nat_eq, List, [], ◌∷◌, Any, None, Option, Some, option_map, Result, Ok, Err, IfOk, OnErr, filter, flat_map, take, refl, sym, ap, subst}
+use Rattle.std.proofs.Common.{◌≡◌, ◌≢◌, ◌∙◌, ◌⊎◌, inl, inr, ℕ, ◌<◌, ◌^◌, Bool, not, nat_eq, List, [], ◌∷◌, Any, None, Option, Some, option_map, Ok, flat_map, refl, sym, ap, subst}
 use Rattle.std.proofs.lemmas.Bool.{true≢false}
 use Rattle.std.specs.Cmp.Lexicographic.{bytes_decides, pointwise}
 use Rattle.std.specs.FinMap.{get}
 use Rattle.std.specs.List.{IsAmong, list_any}
 use Rattle.xet_hash.specs.Hash.{zero_hash}
-use Rattle.xet_io.specs.Disk.{Entry, File, Files, bytes_at, file_at, file_of}
+use Rattle.xet_io.specs.Disk.{File, Files, bytes_at, file_at, file_of}
 use Rattle.xet_io.specs.theorems.Names.{either_name}
-use Rattle.xet_hash.specs.declared.error.StoreError.{StoreError}
 use Rattle.xet_shard.specs.Union.{ShardRecords, records_in}
 use Rattle.xet_shard_directory.specs.Directories.{all_removed, paths}
 use Rattle.xet_shard_directory.specs.Writing.{path_of}
@@ -18,7 +17,7 @@ use Rattle.xet_shard_merge.specs.Merging.{AreResults, IsDue, IsHome, IsMerged, I
 use Rattle.xet_shard_merge.specs.Records.{HasRecordsOf, IsTakenInto}
 use Rattle.xet_shard_merge.specs.declared.merge.ShardMergeResult.{ShardMergeResult}
 use Rattle.xet_shard_merge.specs.internal.Grouping.{IsOnly}
-use Rattle.xet_shard_merge.proofs.Among.{among_cons, among_first, among_later, among_none, among_one, among_take, any_among, filter_among, flat_among, map_among}
+use Rattle.xet_shard_merge.proofs.Among.{among_cons, among_first, among_later, among_none, among_one, any_among, filter_among, flat_among, map_among}
 use Rattle.xet_shard_merge.proofs.Grouped.{groups_have}
 use Rattle.xet_shard_merge.proofs.Homes.{IsEither, IsFolder, either_of, offered_at, offered_home, offered_valid, several_in_folder}
 use Rattle.xet_shard_merge.proofs.Listing.{AreListed, PartsAreRead, StaysListed, file_is_merged, file_of_merged, list_same, lists_for, lists_own, merged_key, merged_lists, merged_records, records_there, result_valid, same_records, shard_key, valid_same, xorb_is_merged, xorb_of_merged}

@@ -1,5 +1,5 @@
 -- A digest is a hash: 32 bytes.
-use Rattle.std.proofs.Common.{◌≡◌, ◌<◌, ◌*◌, ◌^◌, ◌/◌, ℕ, zero, suc, List, ◌++◌, length, length-append, mod-lt, refl, slice_index, arith}
+use Rattle.std.proofs.Common.{◌≡◌, ◌<◌, ◌*◌, ◌^◌, ◌/◌, ℕ, zero, suc, List, length, length-append, mod-lt, refl, slice_index, arith}
 use Rattle.std.proofs.lemmas.List.Elements.{All-from_recursion}
 use Rattle.std.specs.Int.{byte_at, bytes_low_first, to_le_bytes, w32}
 use Rattle.std.specs.List.{AllByRecursion}

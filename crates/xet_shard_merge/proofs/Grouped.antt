@@ -1,5 +1,5 @@
 -- The groups of a merge have exactly the records of the shards that they took.
-use Rattle.std.proofs.Common.{◌≡◌, ◌∙◌, ◌⊎◌, inl, inr, ℕ, Bool, true, false, cond, nat_eq, List, [], ◌∷◌, ◌++◌, filter, is_none, None, Option, Some, refl, sym, ap, subst}
+use Rattle.std.proofs.Common.{◌≡◌, ◌∙◌, ◌⊎◌, inl, inr, ℕ, Bool, true, false, cond, nat_eq, List, [], ◌∷◌, filter, is_none, None, Option, Some, refl, sym, ap, subst}
 use Rattle.std.proofs.lemmas.List.Elements.{All-from_recursion}
 use Rattle.std.specs.Cmp.Lexicographic.{bytes_decides, pointwise}
 use Rattle.std.specs.List.{AllByRecursion, IsAmong}
@@ -9,7 +9,7 @@ use Rattle.xet_shard_directory.specs.declared.shard_file.MDBShardFile.{MDBShardF
 use Rattle.xet_shard_format.specs.Records.{file_record_hash, xorb_record_hash}
 use Rattle.xet_shard_format.specs.declared.record.MDBFileInfo.{MDBFileInfo}
 use Rattle.xet_shard_format.specs.declared.record.MDBXorbInfo.{MDBXorbInfo}
-use Rattle.xet_shard_merge.specs.Groups.{Agrees, Ends, Group, Groups, IsPlain, Offered, alone, both, if_open, joined}
+use Rattle.xet_shard_merge.specs.Groups.{Agrees, Group, Groups, IsPlain, Offered, alone, both, if_open, joined}
 use Rattle.xet_shard_merge.specs.Records.{HasRecordsOf, IsTakenIn, IsTakenInto, IsTakenOrSkipped}
 use Rattle.xet_shard_merge.proofs.Among.{among_all, among_cons, among_either, among_filter, among_first, among_later, among_left, among_none, among_one, among_right, filter_among}
 

@@ -1,5 +1,5 @@
 -- What the valid shards of a path list, and a shard that has the records of several.
-use Rattle.std.proofs.Common.{◌≡◌, ◌∙◌, ◌⊎◌, inl, inr, ℕ, ◌<◌, ◌^◌, true, List, None, Option, Some, option_map, Ok, nat_le, le-leb, refl, sym, ap, subst, arith}
+use Rattle.std.proofs.Common.{◌≡◌, ◌∙◌, inr, ℕ, ◌<◌, ◌^◌, true, List, Option, Some, option_map, Ok, nat_le, le-leb, refl, sym, ap, subst, arith}
 use Rattle.std.specs.List.{IsAmong}
 use Rattle.xet_codec.specs.Parsing.{◌>>=◌}
 use Rattle.xet_hash.specs.Hash.{zero_hash}
@@ -10,7 +10,7 @@ use Rattle.xet_shard.specs.Sections.{blocks_in, files_in, info_at}
 use Rattle.xet_shard.specs.Union.{ShardRecords, records_in}
 use Rattle.xet_shard.specs.declared.info.MDBShardInfo.{MDBShardInfo}
 use Rattle.xet_shard_directory.specs.Answers.{in_file}
-use Rattle.xet_shard_directory.specs.Directories.{IsReadAt, expiry, is_valid}
+use Rattle.xet_shard_directory.specs.Directories.{expiry, is_valid}
 use Rattle.xet_shard_directory.specs.Values.{loaded, shard_value}
 use Rattle.xet_shard_directory.specs.declared.shard_file.MDBShardFile.{MDBShardFile}
 use Rattle.xet_shard_file.specs.Names.{IsHash, shard_path}
