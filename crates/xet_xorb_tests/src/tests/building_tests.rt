@@ -25,19 +25,38 @@ fn raw_xorb(alloc: Global) -> Result<RawXorbData, StoreError>
     RawXorbData::from_chunks(alloc, &[chunk(alloc)?], vec![in alloc; 0]?)
 }
 
+/// The uncompressed bytes of the raw xorb.
+fn plain_bytes(alloc: Global) -> Result<Vec<u8>, StoreError> {
+    let raw = raw_xorb(alloc)?;
+    raw_xorb_to_vec(alloc, &raw)
+}
+
+/// The encoding of the raw xorb, with or without a footer.
+fn encoded(alloc: Global, footer: bool) -> Result<SerializedXorbObject, StoreError> {
+    SerializedXorbObject::from_xorb(alloc, raw_xorb(alloc)?, footer)
+}
+
+/// Whether an encoding has the bytes, the hash, the offset of the footer and the counts of the xorb of `abc`.
+fn is_xorb_of_abc(whole: &SerializedXorbObject) -> [bool; 4] {
+    [
+        whole.serialized_data.as_slice() == XORB_OF_ABC.as_slice(),
+        *whole.hash.as_bytes() == HASH_OF_ABC,
+        whole.footer_start == Some(11),
+        (whole.raw_num_bytes, whole.num_chunks) == (3, 1),
+    ]
+}
+
 #[test]
 fn one_chunk(rt: HostRuntime) -> Result<(), Fail> {
-    let alloc = rt.alloc();
-    assert_eq!(rt;
-        raw_xorb_to_vec(alloc, &raw_xorb(alloc)?)?.as_slice(),
-        b"abc".as_slice()
-    );
-    let whole = SerializedXorbObject::from_xorb(alloc, raw_xorb(alloc)?, true)?;
-    assert_eq!(rt; whole.serialized_data.as_slice(), XORB_OF_ABC.as_slice());
-    assert_eq!(rt; whole.hash.as_bytes(), &HASH_OF_ABC);
-    assert!(rt; whole.footer_start == Some(11));
-    assert!(rt; (whole.raw_num_bytes, whole.num_chunks) == (3, 1));
-    let prefix = SerializedXorbObject::from_xorb(alloc, raw_xorb(alloc)?, false)?;
+    assert_eq!(rt; plain_bytes(rt.alloc())?.as_slice(), b"abc".as_slice());
+    let whole = encoded(rt.alloc(), true)?;
+    assert!(rt; is_xorb_of_abc(&whole) == [true; 4]);
+    Ok(())
+}
+
+#[test]
+fn one_chunk_without_a_footer(rt: HostRuntime) -> Result<(), Fail> {
+    let prefix = encoded(rt.alloc(), false)?;
     assert_eq!(rt; prefix.serialized_data.as_slice(), CHUNK_OF_ABC.as_slice());
     assert!(rt; prefix.footer_start.is_none());
     Ok(())
@@ -81,26 +100,26 @@ fn rebuilt(alloc: Global, raw: &[u8]) -> Result<Vec<u8>, StoreError>
     Ok(sink.into_bytes())
 }
 
+/// Whether these stored chunks, with the footer that they have, are the xorb of `abc`.
+fn is_rebuilt(alloc: Global, raw: &[u8]) -> Result<bool, StoreError>
+    requires { length raw.now < 2 ^ 32 }
+{
+    Ok(rebuilt(alloc, raw)?.as_slice() == XORB_OF_ABC.as_slice())
+}
+
 #[test]
 fn footers_for_stored_chunks(rt: HostRuntime) -> Result<(), Fail> {
-    let alloc = rt.alloc();
-    assert_eq!(rt;
-        rebuilt(alloc, &CHUNK_OF_ABC)?.as_slice(),
-        XORB_OF_ABC.as_slice()
-    );
-    let again = rebuilt(alloc, &XORB_OF_ABC)?;
-    assert_eq!(rt; again.as_slice(), XORB_OF_ABC.as_slice());
-    let lz4 = Some(StoreError::CompressionError(1));
-    let short = Some(StoreError::UnexpectedEof);
-    assert_eq!(rt;
-        rebuilt(alloc, b"\x00\x03\x00\x00\x01\x03\x00\x00abc").err(),
-        lz4
-    );
-    assert_eq!(rt;
-        rebuilt(alloc, b"\x00\x03\x00\x00\x00\x03\x00\x00ab").err(),
-        short
-    );
+    assert!(rt; is_rebuilt(rt.alloc(), &CHUNK_OF_ABC)?);
+    assert!(rt; is_rebuilt(rt.alloc(), &XORB_OF_ABC)?);
     Ok(())
+}
+
+#[test]
+fn no_footers_for_other_bytes(rt: HostRuntime) {
+    let lz4 = rebuilt(rt.alloc(), b"\x00\x03\x00\x00\x01\x03\x00\x00abc").err();
+    assert!(rt; lz4 == Some(StoreError::CompressionError(1)));
+    let short = rebuilt(rt.alloc(), b"\x00\x03\x00\x00\x00\x03\x00\x00ab").err();
+    assert!(rt; short == Some(StoreError::UnexpectedEof));
 }
 
 /// The footer with its length, and the xorb hash, of the stored chunk `abc`.
@@ -109,28 +128,54 @@ fn object_and_hash(alloc: Global) -> Result<(XorbObject, MerkleHash), StoreError
     reconstruct_xorb_with_footer(alloc, &mut sink, &CHUNK_OF_ABC, 131_072)
 }
 
+/// Whether an object equals its clone.
+fn object_is_cloned(alloc: Global, object: &XorbObject) -> Result<bool, StoreError> {
+    Ok(object.clone(alloc)? == *object)
+}
+
+/// Whether a footer equals its clone.
+fn footer_is_cloned(alloc: Global, footer: &XorbObjectInfoV1) -> Result<bool, StoreError> {
+    Ok(footer.clone(alloc)? == *footer)
+}
+
 #[test]
 fn the_object_of_stored_chunks(rt: HostRuntime) -> Result<(), Fail> {
-    let alloc = rt.alloc();
-    let (object, hash) = object_and_hash(alloc)?;
-    assert_eq!(rt; hash, compute_data_hash(b"abc"));
+    let (object, hash) = object_and_hash(rt.alloc())?;
+    assert!(rt; hash == compute_data_hash(b"abc"));
     assert!(rt; (object.info_length, object.info.num_chunks) == (132, 1));
-    assert_eq!(rt; object.clone(alloc)?, object);
-    assert_eq!(rt; object.info.clone(alloc)?, object.info);
+    assert!(rt; object_is_cloned(rt.alloc(), &object) == Ok(true));
+    assert!(rt; footer_is_cloned(rt.alloc(), &object.info) == Ok(true));
     Ok(())
+}
+
+/// Whether the chunk equals its clone.
+fn chunk_is_cloned(alloc: Global) -> Result<bool, StoreError> {
+    let chunk = chunk(alloc)?;
+    Ok(chunk.clone()? == chunk)
+}
+
+/// Whether two raw xorbs have the same hash, record and parts, and the copy begins one file.
+fn are_same(copy: &RawXorbData, raw: &RawXorbData) -> [bool; 5] {
+    [
+        copy.hash() == raw.hash(),
+        copy.xorb_info.metadata == raw.xorb_info.metadata,
+        copy.xorb_info.chunks == raw.xorb_info.chunks,
+        copy.file_boundaries.as_slice() == [0].as_slice(),
+        copy.parts == raw.parts,
+    ]
+}
+
+/// The same of a raw xorb and its clone.
+fn raw_is_cloned(alloc: Global, raw: &RawXorbData) -> Result<[bool; 5], StoreError> {
+    let copy = raw.clone(alloc)?;
+    Ok(are_same(&copy, raw))
 }
 
 #[test]
 fn clones(rt: HostRuntime) -> Result<(), Fail> {
-    let alloc = rt.alloc();
-    let chunk = chunk(alloc)?;
-    assert_eq!(rt; chunk.clone()?, chunk);
-    let raw = raw_xorb(alloc)?;
-    let same = raw.clone(alloc)?;
-    assert_eq!(rt; same.hash(), raw.hash());
-    assert_eq!(rt; same.xorb_info.metadata, raw.xorb_info.metadata);
-    assert_eq!(rt; same.xorb_info.chunks, raw.xorb_info.chunks);
-    assert_eq!(rt; same.file_boundaries.as_slice(), [0].as_slice());
-    assert_eq!(rt; same.parts, raw.parts);
+    assert!(rt; chunk_is_cloned(rt.alloc())?);
+    let raw = raw_xorb(rt.alloc())?;
+    let cloned = raw_is_cloned(rt.alloc(), &raw);
+    assert!(rt; cloned == Ok([true; 5]));
     Ok(())
 }

@@ -10,11 +10,11 @@ use xet_xorb::*;
 /// The result of reading the footer at the end of these bytes.
 fn answer(alloc: Global, encoding: &[u8]) -> &'static str {
     let mut reader = SliceReader::new(encoding);
-    match XorbObject::deserialize(alloc, &mut reader) {
-        Ok(_) => "read",
-        Err(StoreError::UnexpectedEof) => "end",
-        Err(StoreError::MalformedData(reason)) => name_of(reason),
-        Err(_) => "other",
+    match XorbObject::deserialize(alloc, &mut reader).err() {
+        None => "read",
+        Some(StoreError::UnexpectedEof) => "end",
+        Some(StoreError::MalformedData(reason)) => name_of(reason),
+        Some(_) => "other",
     }
 }
 

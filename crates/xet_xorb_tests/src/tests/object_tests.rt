@@ -30,18 +30,28 @@ fn at_the_end(alloc: Global, bytes: &[u8]) -> Result<(u32, XorbObject), StoreErr
     Ok((told, XorbObject::deserialize(alloc, &mut reader)?))
 }
 
+/// What is seen of the footer at the end of these bytes: its length, whether it is that of no chunks, and where
+/// its last chunk ends.
+type Seen = (u32, bool, Result<u32, StoreError>);
+
+fn seen_at_the_end(alloc: Global, bytes: &[u8]) -> Result<Seen, StoreError> {
+    let (told, object) = at_the_end(alloc, bytes)?;
+    let same = object == XorbObject::default(alloc);
+    Ok((told, same, object.get_contents_length()))
+}
+
+/// Whether the footer that is fed in two parts is that of no chunks.
+fn is_fed(alloc: Global, bytes: &[u8]) -> Result<bool, StoreError> {
+    Ok(in_two_pieces(alloc, bytes)? == XorbObject::default(alloc))
+}
+
 #[test]
 fn the_footer_of_no_chunks(rt: HostRuntime) -> Result<(), Fail> {
-    let alloc = rt.alloc();
-    let bytes = empty_footer(alloc)?;
-    let (told, object) = at_the_end(alloc, &bytes)?;
-    assert!(rt; (bytes.len(), told) == (96, 92));
-    assert_eq!(rt; object, XorbObject::default(alloc));
-    assert_eq!(rt; in_two_pieces(alloc, &bytes)?, object);
-    assert_eq!(rt;
-        object.get_contents_length(),
-        Err(StoreError::MalformedData(Reason::Incomplete))
-    );
+    let bytes = empty_footer(rt.alloc())?;
+    let incomplete = StoreError::MalformedData(Reason::Incomplete);
+    let seen = seen_at_the_end(rt.alloc(), &bytes)?;
+    assert!(rt; (bytes.len(), seen) == (96, (92, true, Err(incomplete))));
+    assert!(rt; is_fed(rt.alloc(), &bytes)?);
     Ok(())
 }
 

@@ -45,14 +45,28 @@ fn with_change(built: SerializedXorbObject, place: usize) -> SerializedXorbObjec
     }
 }
 
-/// Whether a built xorb is verified, as it is and after one bit was flipped.
+/// The encoding, with a footer, of a copy of this raw xorb.
+fn built_of_copy(alloc: Global, raw: &RawXorbData) -> Result<SerializedXorbObject, StoreError>
+    requires { IsRaw raw.now }
+{
+    SerializedXorbObject::from_xorb(alloc, raw.clone(alloc)?, true)
+}
+
+/// Whether this raw xorb, built, is verified, as it is and after one bit was flipped.
+fn is_verified(alloc: Global, raw: &RawXorbData, place: usize) -> Result<(bool, bool), StoreError>
+    requires { IsRaw raw.now }
+{
+    let built = built_of_copy(alloc, raw)?;
+    let same = verify_serialized_xorb_object(alloc, raw, SCHEME, &built)?;
+    let changed = with_change(built, place);
+    let still = verify_serialized_xorb_object(alloc, raw, SCHEME, &changed)?;
+    Ok((same, still))
+}
+
+/// `is_verified` of three chunks.
 fn verified(alloc: Global, place: usize) -> Result<(bool, bool), StoreError> {
     let raw = three_chunks(alloc)?;
-    let built = SerializedXorbObject::from_xorb(alloc, raw.clone(alloc)?, true)?;
-    let same = verify_serialized_xorb_object(alloc, &raw, SCHEME, &built)?;
-    let changed = with_change(built, place);
-    let still = verify_serialized_xorb_object(alloc, &raw, SCHEME, &changed)?;
-    Ok((same, still))
+    is_verified(alloc, &raw, place)
 }
 
 #[test]
@@ -64,19 +78,28 @@ fn built_xorbs_are_verified(rt: HostRuntime) -> Result<(), Fail> {
     Ok(())
 }
 
-/// The uncompressed length, the number of chunks, the offset of the footer and the length of three chunks
-/// that were built and verified, and whether they equal those that were only built.
-fn built_and_verified(alloc: Global) -> Result<(u64, usize, Option<u64>, usize, bool), StoreError> {
-    let raw = three_chunks(alloc)?;
-    let built = SerializedXorbObject::from_xorb(alloc, raw.clone(alloc)?, true)?;
-    let checked = build_and_verify_xorb_object(alloc, raw, SCHEME)?;
-    Ok((
+/// The uncompressed length, the number of chunks, the offset of the footer and the length of an encoding, and
+/// whether it has the bytes and the hash of another.
+type Built = (u64, usize, Option<u64>, usize, bool);
+
+fn compared(checked: &SerializedXorbObject, built: &SerializedXorbObject) -> Built {
+    (
         checked.raw_num_bytes,
         checked.num_chunks,
         checked.footer_start,
         checked.serialized_data.as_slice().len(),
         checked.serialized_data == built.serialized_data && checked.hash == built.hash,
-    ))
+    )
+}
+
+/// What is seen of three chunks that were built and verified, compared with those that were only built.
+fn built_and_verified(alloc: Global) -> Result<Built, StoreError> {
+    let raw = three_chunks(alloc)?;
+    let built = built_of_copy(alloc, &raw);
+    let checked = build_and_verify_xorb_object(alloc, raw, SCHEME);
+    let built = built?;
+    let checked = checked?;
+    Ok(compared(&checked, &built))
 }
 
 #[test]
@@ -99,29 +122,48 @@ fn sample(alloc: Global, seed: u64) -> Result<Sample, StoreError>
     build_xorb_object(alloc, 3, ChunkSize::Fixed(10), SCHEME, &mut rng)
 }
 
-/// The stored and the uncompressed length of three chunks, their end offsets, and the number of chunks and
-/// the length of their footer.
-fn sampled(alloc: Global) -> Result<(usize, usize, Vec<u32>, u32, u32), StoreError> {
-    let (object, stored, plain, boundaries) = sample(alloc, 8)?;
-    let mut ends = Vec::new(alloc);
-    for cut in &boundaries {
-        ends.push(cut.1)?;
+/// Whether chunks end at these offsets.
+fn end_at(boundaries: &[(MerkleHash, u32)], ends: &[u32]) -> bool {
+    for (cut, end) in boundaries.iter().zip(ends.iter()) {
+        if cut.1 != *end {
+            return false;
+        }
     }
+    boundaries.len() == ends.len()
+}
+
+/// The stored and the uncompressed length of three chunks, the number of chunks and the length of their
+/// footer, and whether the chunks end after 10, 20 and 30 bytes.
+fn sampled(alloc: Global) -> Result<(usize, usize, u32, u32, bool), StoreError> {
+    let (object, stored, plain, boundaries) = sample(alloc, 8)?;
     Ok((
         stored.len(),
         plain.len(),
-        ends,
         object.info.num_chunks,
         object.info_length,
+        end_at(&boundaries, &[10, 20, 30]),
     ))
 }
 
 #[test]
 fn objects_are_sampled(rt: HostRuntime) -> Result<(), Fail> {
-    let (stored, plain, ends, chunks, info_length) = sampled(rt.alloc())?;
-    assert_eq!(rt; (stored, plain, chunks, info_length), (54, 30, 3, 212));
-    assert_eq!(rt; ends.as_slice(), [10, 20, 30].as_slice());
+    assert_eq!(rt; sampled(rt.alloc())?, (54, 30, 3, 212, true));
     Ok(())
+}
+
+/// The encoding of a sample that the reference encoder makes in memory.
+fn in_memory(
+    alloc: Global,
+    hash: &MerkleHash,
+    plain: &[u8],
+    boundaries: &[(MerkleHash, u32)],
+) -> Result<Items<u8>, StoreError>
+    requires { AreBoundaries plain.now boundaries.now }
+{
+    let bytes = Vec::from_slice(alloc, plain)?;
+    let places = Vec::from_slice(alloc, boundaries)?;
+    let whole = serialized_xorb_object_from_components(alloc, hash, bytes, places, SCHEME)?;
+    Ok(whole.serialized_data)
 }
 
 /// Whether the reference encoder returns this footer, writes these stored chunks first, and writes the same
@@ -136,9 +178,7 @@ fn written_like(
     requires { AreBoundaries plain.now boundaries.now }
 {
     let hash = object.info.xorb_hash;
-    let bytes = Vec::from_slice(alloc, plain)?;
-    let places = Vec::from_slice(alloc, boundaries)?;
-    let whole = serialized_xorb_object_from_components(alloc, &hash, bytes, places, SCHEME)?;
+    let whole = in_memory(alloc, &hash, plain, boundaries)?;
     let mut sink = MemorySink::new(alloc);
     let (made, count, start) = serialize_xorb_to_stream_reference(
         alloc, &mut sink, &hash, plain, boundaries, SCHEME,
@@ -146,7 +186,7 @@ fn written_like(
     Ok((
         made == *object,
         sink.bytes().starts_with(stored),
-        whole.serialized_data.as_slice() == sink.bytes(),
+        whole.as_slice() == sink.bytes(),
         count,
         start,
     ))
@@ -191,17 +231,12 @@ fn sinks_fail(rt: HostRuntime) -> Result<(), Fail> {
     Ok(())
 }
 
-/// The error of each call that takes a scheme, under this scheme.
-fn refused_schemes(
-    alloc: Global,
-    scheme: CompressionScheme,
-) -> Result<[Option<StoreError>; 5], StoreError> {
+/// The errors of a sample and of the two forms of the reference encoder, under this scheme.
+fn refused_encodings(alloc: Global, scheme: CompressionScheme) -> [Option<StoreError>; 3] {
     let mut rng = Pcg64::seed_from_u64(10);
-    let raw = three_chunks(alloc)?;
-    let built = SerializedXorbObject::from_xorb(alloc, raw.clone(alloc)?, true)?;
     let hash = MerkleHash::default();
     let mut sink = MemorySink::new(alloc);
-    Ok([
+    [
         build_xorb_object(alloc, 1, ChunkSize::Fixed(10), scheme, &mut rng).err(),
         serialize_xorb_to_stream_reference(alloc, &mut sink, &hash, b"", &[], scheme).err(),
         serialized_xorb_object_from_components(
@@ -211,17 +246,39 @@ fn refused_schemes(
             Vec::new(alloc),
             scheme,
         ).err(),
-        verify_serialized_xorb_object(alloc, &raw, scheme, &built).err(),
-        build_and_verify_xorb_object(alloc, raw, scheme).err(),
-    ])
+    ]
+}
+
+/// The error of verifying a raw xorb that was built, under this scheme.
+fn refused_verification(
+    alloc: Global,
+    raw: &RawXorbData,
+    scheme: CompressionScheme,
+) -> Result<Option<StoreError>, StoreError>
+    requires { IsRaw raw.now }
+{
+    let built = built_of_copy(alloc, raw)?;
+    Ok(verify_serialized_xorb_object(alloc, raw, scheme, &built).err())
+}
+
+/// The errors of the two calls that verify, under this scheme.
+fn refused_verifications(
+    alloc: Global,
+    scheme: CompressionScheme,
+) -> Result<[Option<StoreError>; 2], StoreError> {
+    let raw = three_chunks(alloc)?;
+    let verified = refused_verification(alloc, &raw, scheme);
+    let built = build_and_verify_xorb_object(alloc, raw, scheme).err();
+    Ok([verified?, built])
 }
 
 #[test]
 fn schemes_are_refused(rt: HostRuntime) -> Result<(), Fail> {
-    let found = refused_schemes(rt.alloc(), CompressionScheme::LZ4)?;
-    for refusal in found {
-        assert_eq!(rt; refusal, Some(StoreError::CompressionError(1)));
-    }
+    let refused = Some(StoreError::CompressionError(1));
+    let encodings = refused_encodings(rt.alloc(), CompressionScheme::LZ4);
+    assert_eq!(rt; encodings, [refused; 3]);
+    let verifications = refused_verifications(rt.alloc(), CompressionScheme::LZ4)?;
+    assert_eq!(rt; verifications, [refused; 2]);
     Ok(())
 }
 
@@ -233,9 +290,15 @@ fn drawn(alloc: Global) -> Result<(bool, bool), StoreError> {
     Ok((one == again, one != other))
 }
 
+/// The uncompressed bytes of three chunks.
+fn plain_bytes(alloc: Global) -> Result<Vec<u8>, StoreError> {
+    let raw = three_chunks(alloc)?;
+    raw_xorb_to_vec(alloc, &raw)
+}
+
 /// Whether the first two chunks of a sample differ.
 fn chunks_differ(alloc: Global) -> Result<bool, StoreError> {
-    let plain = raw_xorb_to_vec(alloc, &three_chunks(alloc)?)?;
+    let plain = plain_bytes(alloc)?;
     let (first, rest) = plain.as_slice().split_at(plain.len().min(10));
     Ok(!first.is_empty() && !rest.starts_with(first))
 }
@@ -250,10 +313,12 @@ fn bytes_are_drawn(rt: HostRuntime) -> Result<(), Fail> {
 
 #[test]
 fn sizes_are_shown(rt: HostRuntime) -> Result<(), Fail> {
-    let alloc = rt.alloc();
-    let range = format!(in alloc; "{}", ChunkSize::Random(1, 20))?;
-    let fixed = format!(in alloc; "{}", ChunkSize::Fixed(7))?;
-    assert_eq!(rt; (range.as_str(), fixed.as_str()), ("[1, 20]", "7"));
+    for (size, shown) in [
+        (ChunkSize::Random(1, 20), "[1, 20]"),
+        (ChunkSize::Fixed(7), "7"),
+    ] {
+        assert_eq!(rt; format!(in rt.alloc(); "{size}")?.as_str(), shown);
+    }
     Ok(())
 }
 

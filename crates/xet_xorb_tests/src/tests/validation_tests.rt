@@ -41,22 +41,14 @@ fn validated(
     }
 }
 
-/// The number of validated chunks after one bit was flipped at each of these offsets in turn.
-fn with_changes(
-    alloc: Global,
-    bytes: &[u8],
-    hash: &MerkleHash,
-    places: &[usize],
-) -> Result<Vec<u32>, StoreError> {
-    let mut found = Vec::new(alloc);
-    for place in places {
-        let mut changed = Vec::from_slice(alloc, bytes)?;
-        if *place < changed.len() {
-            changed[*place] ^= 1;
-        }
-        found.push(validated(alloc, &changed, hash, 3)?.2)?;
+/// The number of validated chunks of the xorb of `abc` after one bit was flipped at this offset.
+fn with_change(alloc: Global, place: usize) -> Result<u32, StoreError> {
+    let mut changed = XORB_OF_ABC;
+    if place < changed.len() {
+        changed[place] ^= 1;
     }
-    Ok(found)
+    let hash = MerkleHash::from_bytes(HASH_OF_ABC);
+    Ok(validated(alloc, &changed, &hash, 3)?.2)
 }
 
 #[test]
@@ -67,37 +59,46 @@ fn a_xorb_of_one_chunk(rt: HostRuntime) -> Result<(), Fail> {
     assert!(rt; validated(alloc, &XORB_OF_ABC, &hash, 3)? == (132, 1, 1));
     assert!(rt; validated(alloc, &XORB_OF_ABC, &hash, 2)? == (0, 0, 0));
     assert!(rt; validated(alloc, &XORB_OF_ABC, &compute_data_hash(b"abd"), 3)? == (0, 0, 0));
-    let old = old_xorb_of_abc(alloc)?;
-    assert!(rt; validated(alloc, &old, &hash, 3)? == (96, 0, 1));
+    Ok(())
+}
+
+#[test]
+fn a_xorb_of_version_0(rt: HostRuntime) -> Result<(), Fail> {
+    let old = old_xorb_of_abc(rt.alloc())?;
+    let hash = MerkleHash::from_bytes(HASH_OF_ABC);
+    assert!(rt; validated(rt.alloc(), &old, &hash, 3)? == (96, 0, 1));
     Ok(())
 }
 
 #[test]
 fn changed_bytes(rt: HostRuntime) -> Result<(), Fail> {
-    let alloc = rt.alloc();
-    let hash = MerkleHash::from_bytes(HASH_OF_ABC);
-    let none = with_changes(
-        alloc,
-        &XORB_OF_ABC,
-        &hash,
-        &[0, 8, 11, 20, 60, 111, 115, 119, 143],
-    )?;
-    assert_eq!(rt; none.as_slice(), [0; 9].as_slice());
+    for place in [0, 8, 11, 20, 60, 111, 115, 119, 143] {
+        assert_eq!(rt; with_change(rt.alloc(), place)?, 0);
+    }
     // The spare bytes may have any value.
-    let spare = with_changes(alloc, &XORB_OF_ABC, &hash, &[127, 142])?;
-    assert_eq!(rt; spare.as_slice(), [1, 1].as_slice());
+    for place in [127, 142] {
+        assert_eq!(rt; with_change(rt.alloc(), place)?, 1);
+    }
     Ok(())
+}
+
+/// The footer of no chunks: what writing it returns, and its bytes.
+fn empty_footer(alloc: Global) -> (Result<usize, StoreError>, Vec<u8>) {
+    let object = XorbObject::default(alloc);
+    let mut sink = MemorySink::new(alloc);
+    let count = object.info.serialize(&mut sink);
+    (count, sink.into_bytes())
 }
 
 #[test]
 fn no_chunks(rt: HostRuntime) -> Result<(), Fail> {
-    let alloc = rt.alloc();
-    let mut sink = MemorySink::new(alloc);
-    assert!(rt; XorbObject::default(alloc).info.serialize(&mut sink)? == 92);
-    let mut bytes = sink.into_bytes();
+    let (count, mut bytes) = empty_footer(rt.alloc());
+    assert!(rt; count == Ok(92));
     bytes.extend_from_slice(&[92, 0, 0, 0])?;
-    assert!(rt; validated(alloc, &bytes, &MerkleHash::default(), 3)? == (0, 0, 0));
-    assert!(rt; validated(alloc, &[], &MerkleHash::default(), 3)? == (0, 0, 0));
+    let hash = MerkleHash::default();
+    for bytes in [bytes.as_slice(), b"".as_slice()] {
+        assert!(rt; validated(rt.alloc(), bytes, &hash, 3)? == (0, 0, 0));
+    }
     Ok(())
 }
 
