@@ -1,7 +1,7 @@
 //! Tests of cleaning and flushing. What a session shows is collected first, and then compared at once.
 
 use crate::folders::{Listed, encoding_of, hash_of, read_listed};
-use crate::session::{Session, bytes_of};
+use crate::session::{Session, bytes_of, release};
 use std::alloc::Global;
 use std::test::Fail;
 use xet_folder::xorb_path;
@@ -79,7 +79,9 @@ fn cleans_abc(alloc: Global) -> Result<(bool, bool, bool), StoreError> {
     let (session, info) = made(alloc, b"abc")?;
     let recorded = records_abc(alloc, &session, &info);
     let disk = session.into_disk();
-    all_three(recorded, stores_abc(alloc, &disk))
+    let stored = stores_abc(alloc, &disk);
+    release(disk);
+    all_three(recorded, stored)
 }
 
 #[test]
@@ -203,7 +205,9 @@ fn flushes_abc(alloc: Global) -> Result<(Vec<u8>, bool, bool), StoreError> {
     let (mut session, info) = made(alloc, b"abc")?;
     let flushed = flushes_twice(&mut session, hash_of(&info));
     let disk = session.into_disk();
-    flushed_encoding(alloc, &disk, flushed)
+    let encoding = flushed_encoding(alloc, &disk, flushed);
+    release(disk);
+    encoding
 }
 
 /// Whether only `abc` is listed, and the offset of the footer.

@@ -1,7 +1,7 @@
 //! Tests of stores that are opened over the files of another store.
 
 use crate::folders::{CREATION, EXPIRY, Flushed, SHA256, encoding_of, put_changed, written};
-use crate::session::{NOW, Session, Unopened, bytes_of, put_bytes, refusal, remove};
+use crate::session::{NOW, Session, Unopened, bytes_of, put_bytes, refusal, release, remove};
 use std::alloc::Global;
 use std::test::Fail;
 use xet_folder::xorb_path;
@@ -246,7 +246,9 @@ fn written_encoding(
 /// The bytes of the shard of `abc`.
 fn shard_of_abc(alloc: Global) -> Result<Vec<u8>, StoreError> {
     let (disk, abc) = written(alloc, MemoryDisk::new(alloc), b"abc")?;
-    written_encoding(alloc, &disk, abc)
+    let encoding = written_encoding(alloc, &disk, abc);
+    release(disk);
+    encoding
 }
 
 /// Writes bytes under the name of the shard whose hash is zero.

@@ -1,5 +1,6 @@
 //! Tests of reading byte ranges of xorbs on a disk in memory.
 
+use crate::session::release;
 use crate::xorbs::xorb_bytes;
 use bytes::Bytes;
 use std::alloc::Global;
@@ -55,17 +56,22 @@ fn read_parts(
     Ok(reader.into_bytes())
 }
 
+/// Stores the xorb and reads the two ranges: whether the bytes are right.
+fn reads_three(alloc: Global, disk: &mut MemoryDisk) -> Result<bool, StoreError> {
+    let hash = put_three(alloc, disk)?;
+    match read_xorb(disk, alloc, "store", &hash)? {
+        XorbFile::Stored(leaves) => {
+            Ok(read_parts(alloc, disk, hash, &leaves)?.as_slice() == b"cdefghhi".as_slice())
+        }
+        _ => Ok(false),
+    }
+}
+
 #[test]
 fn reads_parts_of_a_xorb(rt: HostRuntime) -> Result<(), Fail> {
-    let alloc = rt.alloc();
-    let mut disk = MemoryDisk::new(alloc);
-    let hash = put_three(alloc, &mut disk)?;
-    match read_xorb(&mut disk, alloc, "store", &hash)? {
-        XorbFile::Stored(leaves) => {
-            let read = read_parts(alloc, &mut disk, hash, &leaves)?;
-            assert_eq!(rt; read.as_slice(), b"cdefghhi".as_slice());
-        }
-        _ => assert!(rt; false),
-    }
+    let mut disk = MemoryDisk::new(rt.alloc());
+    let answer = reads_three(rt.alloc(), &mut disk);
+    release(disk);
+    assert!(rt; answer?);
     Ok(())
 }

@@ -39,9 +39,9 @@ fn limits() -> Result<Limits, StoreError> {
 impl Session {
     /// Opens the folder of a disk.
     pub fn open(alloc: Global, disk: MemoryDisk) -> Result<Session, StoreError> {
-        match Store::open(alloc, disk, "store", limits()?, NOW, false) {
+        match opened(alloc, disk) {
             Ok(store) => Ok(Session { alloc, store }),
-            Err(refused) => Err(refused.error),
+            Err(refused) => Err(error_of(refused)),
         }
     }
 
@@ -109,7 +109,7 @@ impl Session {
 
     /// Closes the session, drops the disk, and returns an answer that was taken before.
     pub fn closed<T>(self, answer: T) -> T {
-        let _disk = self.store.into_disk();
+        release(self.store.into_disk());
         answer
     }
 }
@@ -132,11 +132,28 @@ fn first_of(answer: Result<Cleaned, StoreError>) -> Result<XetFileInfo, StoreErr
     }
 }
 
+/// Opens the folder of a disk. If the limits are not valid, the disk comes back with that error.
+fn opened(alloc: Global, disk: MemoryDisk) -> Result<Store<MemoryDisk>, Refused<MemoryDisk>> {
+    match limits() {
+        Ok(limits) => Store::open(alloc, disk, "store", limits, NOW, false),
+        Err(error) => Err(Refused {
+            disk,
+            error,
+            name: None,
+        }),
+    }
+}
+
+/// The error of a folder that was not opened.
+fn error_of(refused: Refused<MemoryDisk>) -> StoreError {
+    refused.error
+}
+
 /// The error of opening the folder of a disk; none if it is opened.
 pub fn refusal(alloc: Global, disk: MemoryDisk) -> Result<Option<Unopened>, StoreError> {
-    match Store::open(alloc, disk, "store", limits()?, NOW, false) {
+    match opened(alloc, disk) {
         Ok(store) => {
-            let _disk = store.into_disk();
+            release(store.into_disk());
             Ok(None)
         }
         Err(refused) => Ok(Some(reason_of(alloc, refused))),
@@ -145,11 +162,8 @@ pub fn refusal(alloc: Global, disk: MemoryDisk) -> Result<Option<Unopened>, Stor
 
 /// The error and the name of a folder that was not opened.
 fn reason_of(alloc: Global, refused: Refused<MemoryDisk>) -> Unopened {
-    let Refused {
-        disk: _,
-        error,
-        name,
-    } = refused;
+    let Refused { disk, error, name } = refused;
+    release(disk);
     Unopened {
         error,
         name: match name {
@@ -157,6 +171,11 @@ fn reason_of(alloc: Global, refused: Refused<MemoryDisk>) -> Unopened {
             None => String::new(alloc),
         },
     }
+}
+
+/// Drops a disk.
+pub fn release(disk: MemoryDisk) {
+    let _ = &disk;
 }
 
 /// The bytes of a file on a disk.
