@@ -2,6 +2,8 @@
 
 mod background_tests;
 mod directory_tests;
+mod folder_tests;
 mod merge_tests;
 mod registry_tests;
 mod samples;
+mod shard_files;

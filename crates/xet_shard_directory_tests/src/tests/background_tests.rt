@@ -1,6 +1,7 @@
 //! Tests of merging shard files on a worker thread, on a disk in memory.
 
-use crate::tests::merge_tests::{counted, release, write};
+use crate::tests::merge_tests::{counted, write};
+use crate::tests::shard_files::release;
 use std::alloc::Global;
 use std::test::Fail;
 use std::thread::Threads;
@@ -70,14 +71,18 @@ fn seen_of(
     Ok(seen(disk, &merge?))
 }
 
+/// The numbers of a merge on a worker thread, and whether the caller sees the same.
+fn both<R: Threads>(alloc: Global, rt: &R, max_size: u64) -> Result<([u64; 4], bool), StoreError> {
+    let found = by_worker(alloc, rt, max_size)?;
+    Ok((found.0, found == by_caller(alloc, max_size)?))
+}
+
 #[test]
 fn worker_gives_the_result_of_the_caller(rt: HostRuntime) -> Result<(), Fail> {
     let alloc = rt.alloc();
     let rows = [(1_095, [2, 2, 0, 672]), (1_096, [1, 2, 0, 1_000])];
     for (max_size, numbers) in rows {
-        let found = by_worker(alloc, &rt, max_size)?;
-        assert_eq!(rt; found.0, numbers);
-        assert_eq!(rt; found, by_caller(alloc, max_size)?);
+        assert_eq!(rt; both(alloc, &rt, max_size)?, (numbers, true));
     }
     Ok(())
 }

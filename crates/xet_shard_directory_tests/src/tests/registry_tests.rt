@@ -1,19 +1,25 @@
 //! Tests of indexes, and of queries to registered shards on a disk in memory.
 
+ghost use Rattle.std.specs.Prelude.{[]};
+ghost use Rattle.xet_shard_registry.specs.Collections.{IsRegistryOf};
+
 use crate::tests::samples::shard_of_abc;
+use crate::tests::shard_files::{close, keyed, release, written};
 use std::alloc::Global;
 use std::test::Fail;
-use xet_hash::{HMACKey, StoreError, compute_data_hash};
-use xet_io::{MemoryDisk, SliceReader, SliceSource};
-use xet_shard::MDBInMemoryShard;
+use xet_hash::{MerkleHash, StoreError, compute_data_hash};
+use xet_io::{MemoryDisk, SliceReader};
+use xet_shard::{MDBInMemoryShard, MDBShardInfo};
 use xet_shard_directory::MDBShardFile;
 use xet_shard_index::{WordIndex, WordPlace};
 use xet_shard_lookup::find_run;
 use xet_shard_registry::ShardRegistry;
 
-/// The numbers of words that two shards add, the number of all, and the places of 5, 6, 7 and 8.
-fn places(alloc: Global) -> Result<([u64; 3], [Option<WordPlace>; 4]), StoreError> {
-    let mut index = WordIndex::new(alloc);
+/// The numbers of words, and the places of 5, 6, 7 and 8.
+type Places = ([u64; 3], [Option<WordPlace>; 4]);
+
+/// The numbers of words that two shards add to an index, and that of all; and the places.
+fn added(index: &mut WordIndex) -> Result<Places, StoreError> {
     let first = index.insert_shard(0, &[(5, (0, 0)), (7, (0, 1)), (8, (0, 65_536))])?;
     let second = index.insert_shard(1, &[(7, (4, 2)), (9, (4, 65_535))])?;
     Ok((
@@ -22,81 +28,147 @@ fn places(alloc: Global) -> Result<([u64; 3], [Option<WordPlace>; 4]), StoreErro
     ))
 }
 
+/// The same of an empty index.
+fn places(alloc: Global) -> Result<Places, StoreError> {
+    let mut index = WordIndex::new(alloc);
+    added(&mut index)
+}
+
+/// The place of a chunk of the first shard that only this has.
+const FIRST: WordPlace = WordPlace {
+    shard: 0,
+    row: 0,
+    chunk: 0,
+};
+
+/// The place of a chunk of both shards: it is that in the second.
+const LATER: WordPlace = WordPlace {
+    shard: 1,
+    row: 4,
+    chunk: 2,
+};
+
 #[test]
 fn later_shard_has_the_word(rt: HostRuntime) -> Result<(), Fail> {
-    let (counts, found) = places(rt.alloc())?;
-    assert_eq!(rt; counts, [2, 1, 3]);
-    let first = WordPlace {
-        shard: 0,
-        row: 0,
-        chunk: 0,
-    };
-    let later = WordPlace {
-        shard: 1,
-        row: 4,
-        chunk: 2,
-    };
-    assert_eq!(rt; found, [Some(first), None, Some(later), None]);
+    let expected = ([2, 1, 3], [Some(FIRST), None, Some(LATER), None]);
+    assert_eq!(rt; places(rt.alloc())?, expected);
     Ok(())
 }
 
-/// The shard of `abc` in the folder `a`, or its export under a key in the folder `b`.
-fn shard(alloc: Global, disk: &mut MemoryDisk, keyed: bool) -> Result<MDBShardFile, StoreError> {
-    let (bytes, _) = shard_of_abc(alloc)?;
-    if bytes.len() != 672 {
-        return Err(StoreError::UnexpectedEof);
-    }
-    let shard = MDBShardFile::write_out_from_reader(
-        alloc,
-        disk,
-        "a",
-        &mut SliceSource::new(&bytes),
-    )?;
-    let key = compute_data_hash(b"key");
-    let none = HMACKey::default();
-    if key == none || shard.shard.metadata.chunk_hash_hmac_key != none {
-        return Err(StoreError::HashMismatch);
-    }
-    if keyed {
-        shard.export_as_keyed_shard(alloc, disk, "b", key, 10, true, true, true, 100)
+/// The export of the shard of `abc` under a key, in the folder `b`.
+fn exported(alloc: Global, disk: &mut MemoryDisk) -> Result<MDBShardFile, StoreError> {
+    let shard = written(alloc, disk)?;
+    let answer = keyed(alloc, disk, &shard, true);
+    close(shard);
+    answer
+}
+
+/// The shard of `abc` in the folder `a`, or its export.
+fn shard(alloc: Global, disk: &mut MemoryDisk, is_keyed: bool) -> Result<MDBShardFile, StoreError> {
+    if is_keyed {
+        exported(alloc, disk)
     } else {
-        Ok(shard)
+        written(alloc, disk)
     }
 }
 
-/// The number of chunks in the run that is found of `abc` and of `abd`, where one shard is registered and the index has
-/// room for some words.
+/// Registers a shard with the items of its chunk lookup table, unless these could not be read.
+fn register_with(
+    alloc: Global,
+    registry: &mut ShardRegistry,
+    shard: MDBShardFile,
+    items: Result<Vec<(u64, (u32, u32))>, StoreError>,
+    cap: u64,
+) -> Result<(), StoreError>
+    requires empty { IsRegistryOf [] registry.old }
+{
+    match items {
+        Ok(items) => registry.register(alloc, shard, &items, cap),
+        Err(error) => Err(error),
+    }
+}
+
+/// Registers the shard of `abc`, or its export, where the index has room for some words.
+fn register(
+    alloc: Global,
+    disk: &mut MemoryDisk,
+    registry: &mut ShardRegistry,
+    is_keyed: bool,
+    cap: u64,
+) -> Result<(), StoreError>
+    requires empty { IsRegistryOf [] registry.old }
+{
+    let shard = shard(alloc, disk, is_keyed)?;
+    let items = shard.read_all_truncated_hashes(alloc, disk);
+    register_with(alloc, registry, shard, items, cap)
+}
+
+/// The number of chunks in the run that is found.
+fn run_of(
+    alloc: Global,
+    disk: &mut MemoryDisk,
+    pending: &MDBInMemoryShard,
+    registry: &ShardRegistry,
+    query: &[MerkleHash],
+) -> Result<Option<usize>, StoreError> {
+    let found = find_run(alloc, disk, pending, registry, query)?;
+    Ok(found.map(|run| run.0))
+}
+
+/// The same of `abc` with `abd` after it, and of `abd`.
+type Runs = [Option<usize>; 2];
+
+fn runs_with(
+    alloc: Global,
+    disk: &mut MemoryDisk,
+    pending: &MDBInMemoryShard,
+    registry: &ShardRegistry,
+) -> Result<Runs, StoreError> {
+    let abc = compute_data_hash(b"abc");
+    let abd = compute_data_hash(b"abd");
+    let first = run_of(alloc, disk, pending, registry, &[abc, abd])?;
+    Ok([first, run_of(alloc, disk, pending, registry, &[abd])?])
+}
+
+/// The same where nothing is pending.
+fn runs(
+    alloc: Global,
+    disk: &mut MemoryDisk,
+    registry: &ShardRegistry,
+) -> Result<Runs, StoreError> {
+    let pending = MDBInMemoryShard::new(alloc);
+    let answer = runs_with(alloc, disk, &pending, registry);
+    xet_shard_samples::release(pending);
+    answer
+}
+
+/// Drops a registry.
+fn close_registry(registry: ShardRegistry) {
+    let _ = &registry;
+}
+
+/// The same where one shard is registered, and the index has room for some words.
 fn found(
     alloc: Global,
     disk: &mut MemoryDisk,
-    keyed: bool,
+    is_keyed: bool,
     cap: u64,
-) -> Result<[Option<usize>; 2], StoreError> {
-    let shard = shard(alloc, disk, keyed)?;
-    let items = shard.read_all_truncated_hashes(alloc, disk)?;
+) -> Result<Runs, StoreError> {
     let mut registry = ShardRegistry::new(alloc)?;
-    registry.register(alloc, shard, &items, cap)?;
-    let pending = MDBInMemoryShard::new(alloc);
-    let abc = compute_data_hash(b"abc");
-    let abd = compute_data_hash(b"abd");
-    Ok([
-        find_run(alloc, disk, &pending, &registry, &[abc, abd])?.map(|run| run.0),
-        find_run(alloc, disk, &pending, &registry, &[abd])?.map(|run| run.0),
-    ])
+    let registered = register(alloc, disk, &mut registry, is_keyed, cap);
+    let answer = runs(alloc, disk, &registry);
+    close_registry(registry);
+    registered?;
+    answer
 }
 
 /// The same for a shard, for one under a key, and for one that does not enter the index.
-fn all_found(alloc: Global, disk: &mut MemoryDisk) -> Result<[[Option<usize>; 2]; 3], StoreError> {
+fn all_found(alloc: Global, disk: &mut MemoryDisk) -> Result<[Runs; 3], StoreError> {
     Ok([
         found(alloc, disk, false, 1)?,
         found(alloc, disk, true, 1)?,
         found(alloc, disk, false, 0)?,
     ])
-}
-
-/// Drops a disk.
-fn release(disk: MemoryDisk) {
-    let _ = &disk;
 }
 
 #[test]
@@ -109,14 +181,24 @@ fn runs_are_found_in_registered_shards(rt: HostRuntime) -> Result<(), Fail> {
     Ok(())
 }
 
+/// The length of the run of `abc` in the first row of a shard, from this chunk.
+fn in_row(
+    alloc: Global,
+    bytes: &[u8],
+    info: &MDBShardInfo,
+    chunk: u32,
+) -> Result<Option<usize>, StoreError> {
+    let abc = [compute_data_hash(b"abc")];
+    let mut reader = SliceReader::new(bytes);
+    let found = info.chunk_hash_dedup_query_in_row(alloc, &mut reader, &abc, 0, chunk)?;
+    Ok(found.map(|run| run.0))
+}
+
 /// The lengths of the runs of `abc` in the first row, from its only chunk and from behind it.
 fn in_first_row(alloc: Global) -> Result<[Option<usize>; 2], StoreError> {
     let (bytes, info) = shard_of_abc(alloc)?;
-    let abc = [compute_data_hash(b"abc")];
-    let mut reader = SliceReader::new(&bytes);
-    let first = info.chunk_hash_dedup_query_in_row(alloc, &mut reader, &abc, 0, 0)?;
-    let behind = info.chunk_hash_dedup_query_in_row(alloc, &mut reader, &abc, 0, 1)?;
-    Ok([first.map(|run| run.0), behind.map(|run| run.0)])
+    let first = in_row(alloc, &bytes, &info, 0)?;
+    Ok([first, in_row(alloc, &bytes, &info, 1)?])
 }
 
 #[test]

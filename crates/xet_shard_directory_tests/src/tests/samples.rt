@@ -5,10 +5,12 @@ ghost use Rattle.xet_shard_format.specs.Records.{file_rows, xorb_rows};
 
 use std::alloc::Global;
 use xet_base::Items;
-use xet_hash::{
-    HMACKey, MerkleHash, StoreError, compute_data_hash, file_hash, range_hash_from_chunks,
+use xet_hash::{HMACKey, MerkleHash, StoreError, compute_data_hash, file_hash};
+use xet_shard::{
+    MDBFileInfo, MDBShardInfo, MDBXorbInfo, XorbChunkSequenceEntry, XorbChunkSequenceHeader,
+    write_shard,
 };
-use xet_shard::*;
+use xet_shard_samples::file_of_abc;
 
 /// The xorb with one chunk of 3 bytes.
 fn xorb_of(alloc: Global, chunk: MerkleHash) -> Result<MDBXorbInfo, StoreError>
@@ -20,32 +22,35 @@ fn xorb_of(alloc: Global, chunk: MerkleHash) -> Result<MDBXorbInfo, StoreError>
     })
 }
 
-/// The file whose one segment is that chunk.
-fn file_of(alloc: Global, chunk: MerkleHash) -> Result<MDBFileInfo, StoreError>
-    ensures rows { IfOk result (λ file. length (file_rows file) ≡ 4) }
-{
-    let hash = file_hash(alloc, &[(chunk, 3)])?;
-    let digest = Sha256::from_hex(
-        "ba7816bf8f01cfea414140de5dae2223b00361a396177a9cb410ff61f20015ad",
-    )?;
-    let range_hash = range_hash_from_chunks(&[chunk]);
-    Ok(MDBFileInfo {
-        metadata: FileDataSequenceHeader::new(hash, 1, true, true),
-        segments: Items::from_vec(vec![in alloc; FileDataSequenceEntry::new(chunk, 3, 0, 1)]?),
-        verification: Items::from_vec(vec![in alloc; FileVerificationEntry::new(range_hash)]?),
-        metadata_ext: Some(FileMetadataExt::new(digest)),
-    })
-}
-
 /// The bytes of a shard, and its header and footer.
 pub type Written = (Vec<u8>, MDBShardInfo);
+
+/// The shard with this xorb and this file, which have few rows.
+fn shard_with(alloc: Global, xorb: &MDBXorbInfo, file: &MDBFileInfo) -> Result<Written, StoreError>
+    requires xorb { length (xorb_rows xorb.now) ≡ 2 }
+    requires file { length (file_rows file.now) ≡ 4 }
+{
+    write_shard(alloc, &[xorb], &[file], HMACKey::default(), 0, u64::MAX)
+}
+
+/// The shard with this xorb and with the file of its chunk.
+fn shard_with_file(
+    alloc: Global,
+    chunk: MerkleHash,
+    xorb: &MDBXorbInfo,
+) -> Result<Written, StoreError>
+    requires rows { length (xorb_rows xorb.now) ≡ 2 }
+{
+    let hash = file_hash(alloc, &[(chunk, 3)])?;
+    let file = file_of_abc(alloc, hash, chunk)?;
+    shard_with(alloc, xorb, &file)
+}
 
 /// The shard with the xorb and the file of three bytes.
 pub fn shard_of(alloc: Global, bytes: &[u8]) -> Result<Written, StoreError> {
     let chunk = compute_data_hash(bytes);
     let xorb = xorb_of(alloc, chunk)?;
-    let file = file_of(alloc, chunk)?;
-    write_shard(alloc, &[&xorb], &[&file], HMACKey::default(), 0, u64::MAX)
+    shard_with_file(alloc, chunk, &xorb)
 }
 
 /// The same of `abc`.
