@@ -17,7 +17,7 @@ use Rattle.xet_shard_merge.specs.Merging.{AreResults, IsDue, IsHome, IsMerged, I
 use Rattle.xet_shard_merge.specs.Records.{HasRecordsOf, IsTakenInto}
 use Rattle.xet_shard_merge.specs.declared.merge.ShardMergeResult.{ShardMergeResult}
 use Rattle.xet_shard_merge.specs.internal.Grouping.{IsOnly}
-use Rattle.xet_shard_merge.proofs.Among.{among_cons, among_first, among_later, among_none, among_one, any_among, filter_among, flat_among, map_among}
+use Rattle.xet_shard_merge.proofs.Among.{among_cons, among_first, among_later, among_left, among_none, among_one, any_among, filter_among, flat_among, map_among}
 use Rattle.xet_shard_merge.proofs.Grouped.{groups_have}
 use Rattle.xet_shard_merge.proofs.Homes.{IsEither, IsFolder, either_of, offered_at, offered_home, offered_valid, several_in_folder}
 use Rattle.xet_shard_merge.proofs.Listing.{AreListed, PartsAreRead, StaysListed, file_is_merged, file_of_merged, list_same, lists_for, lists_own, merged_key, merged_lists, merged_records, records_there, result_valid, same_records, shard_key, valid_same, xorb_is_merged, xorb_of_merged}
@@ -98,9 +98,12 @@ module _ (parts : PartsAreRead) (folder : List ℕ) (max_size now : ℕ) where
     either : IsEither folder
     either = either_of folder s.shard_hash s.path v.read.0
 
-    module _ (may : MayMerge old new folder folder max_size now) where
+    module _ (skip : Bool) (may : MayMerge old new folder folder max_size skip now) where
       -- its file has the records of several shards that were offered
-      module _ (bytes : List ℕ) (there : bytes_at new s.path ≡ Some bytes) (g : Group) (a : IsAmong may.groups g) (due : IsDue old folder g bytes) where
+      module _ (bytes : List ℕ) (there : bytes_at new s.path ≡ Some bytes) (g : Group) (one : IsAmong may.writes.written g) (due : IsDue old folder g bytes) where
+        a : IsAmong may.groups g
+        a = subst (λ (gs : List Group). IsAmong gs g) (sym may.writes.first) (among_left may.writes.written may.writes.more g one)
+
         has : HasRecordsOf may.offered g
         has = groups_have (target_of max_size) may.offered may.groups may.skipped may.grouped g a
 
@@ -133,14 +136,14 @@ module _ (parts : PartsAreRead) (folder : List ℕ) (max_size now : ℕ) where
               record { shard = h.0.file; records = h.1; valid = was_valid h.0 h.1 h.2 h.3; key_is = same_key h.0 h.1 h.3; listed = h.4 };
         }
 
-      of_entry : (get new s.path ≡ get old s.path) ⊎ ((bytes : List ℕ) × Any (λ g. IsDue old folder g bytes) may.groups × IsPlaced new folder bytes s.path) → AreListed old folder now (shard_key s) records
+      of_entry : (get new s.path ≡ get old s.path) ⊎ ((bytes : List ℕ) × Any (λ g. IsDue old folder g bytes) may.writes.written × IsPlaced new folder bytes s.path) → AreListed old folder now (shard_key s) records
       of_entry (inl same) = lists_own folder now old s records (valid_same folder now s new old records (sym (ap file_of same)) v)
       of_entry (inr (bytes, (k, g, below, at, due), inl (path, there, durable))) = of_due bytes there g (k, (below, sym at)) due
       of_entry (inr (bytes, due, inr temp)) = absurd (no_temp folder s.shard_hash s.path v.read.0 (path_of folder bytes) temp)
 
-    was_listed : KeptOrMerged old new folder folder max_size now → AreListed old folder now (shard_key s) records
-    was_listed (inl same) = lists_own folder now old s records (valid_same folder now s new old records (sym (ap (λ (fs : Files). file_at fs s.path) same)) v)
-    was_listed (inr may) = of_entry may (may.writes s.path)
+    was_listed : (skip : Bool) → KeptOrMerged old new folder folder max_size skip now → AreListed old folder now (shard_key s) records
+    was_listed skip (inl same) = lists_own folder now old s records (valid_same folder now s new old records (sym (ap (λ (fs : Files). file_at fs s.path) same)) v)
+    was_listed skip (inr may) = of_entry skip may (may.writes.writes s.path)
 
   -- ---- after an error, where nothing was removed
 
@@ -148,8 +151,8 @@ module _ (parts : PartsAreRead) (folder : List ℕ) (max_size now : ℕ) where
   kept_listed old new keeps s records v =
       lists_own folder now new s records (valid_same folder now s old new records (still_there old new keeps s.path v.bytes (no_temp folder s.shard_hash s.path v.read.0) v.there) v)
 
-  pub kept_same : (old new : Files) → KeepsFiles old new → KeptOrMerged old new folder folder max_size now → ListSame old new folder now
-  kept_same old new keeps may = list_same folder now old new (kept_listed old new keeps) (λ s records v. was_listed old new s records v may)
+  pub kept_same : (old new : Files) (skip : Bool) → KeepsFiles old new → KeptOrMerged old new folder folder max_size skip now → ListSame old new folder now
+  kept_same old new skip keeps may = list_same folder now old new (kept_listed old new keeps) (λ s records v. was_listed old new s records v skip may)
 
   -- ---- where some of the obsolete shards were removed
 
@@ -230,7 +233,7 @@ module _ (parts : PartsAreRead) (folder : List ℕ) (max_size now : ℕ) where
             let absent : file_at after s.path ≡ None = gone between ns s.path a in
             let bad : ◌≡◌ {A = Option (List ℕ)} None (Some v.bytes) = sym (ap (option_map (λ (f : File). f.bytes)) absent) ∙ v.there in
             absurd (cc bad)
-        by (inr kept) = was_listed old between s records (valid_same folder now s after between records (sym (ap file_of (spared between ns s.path kept))) v) within.writes
+        by (inr kept) = was_listed old between s records (valid_same folder now s after between records (sym (ap file_of (spared between ns s.path kept))) v) skip within.writes
 
     pub removed_same : ListSame old after folder now
     removed_same = list_same folder now old after stays_listed came_from

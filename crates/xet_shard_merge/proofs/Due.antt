@@ -6,55 +6,64 @@ use Rattle.xet_io.specs.Disk.{Files}
 use Rattle.xet_shard.specs.Union.{ShardRecords}
 use Rattle.xet_shard_directory.specs.declared.shard_file.MDBShardFile.{MDBShardFile}
 use Rattle.xet_shard_merge.specs.Groups.{Begins, Ends, Group, Offered, if_open}
-use Rattle.xet_shard_merge.specs.Merging.{AddsResults, IsDue, IsResult, WritesOnly}
+use Rattle.xet_shard_merge.specs.Merging.{AddsResults, IsDue, IsResult, WritesFirst, WritesOnly}
 use Rattle.xet_shard_merge.specs.declared.progress.Progress.{Progress}
-use Rattle.xet_shard_merge.specs.internal.Keeping.{IsIntact, IsOneDue, WritesIfOpen}
+use Rattle.xet_shard_merge.specs.internal.Keeping.{IsIntact, WritesIfOpen}
 use Rattle.xet_shard_merge.specs.internal.Progressing.{Closes, ClosesGroup, ClosesIf, HasAdded, IsIntactIfOpen, Went, WritesOfAll}
-use Rattle.xet_shard_merge.proofs.Placing.{one_left, writes_also, writes_more}
+use Rattle.xet_shard_merge.proofs.Placing.{writes_more}
 use Rattle.xet_shard_merge.proofs.Unique.{end_only, follow_only}
-
--- the first groups of all
-first_of : (start now : Files) (folder : List ℕ) (gs closed more : List Group) → gs ≡ closed ++ more → WritesOnly start now folder (IsOneDue start folder closed) → WritesOnly start now folder (IsOneDue start folder gs)
-first_of start now folder gs closed more is writes =
-    subst (λ (l : List Group). WritesOnly start now folder (IsOneDue start folder l)) (sym is)
-    (writes_also start now folder (IsOneDue start folder closed) (IsOneDue start folder (closed ++ more)) (λ b due. one_left start folder b closed more due) writes)
+use Rattle.xet_shard_merge.proofs.Within.{closed_taken_from}
 
 module _ (start now : Files) (folder : List ℕ) (limit : ℕ) (skip : Bool) (all rest : List Offered) (p : Progress) (w : Went start now folder limit skip all rest p) where
-  pub went_writes : WritesOfAll start now folder limit all
+  pub went_writes : WritesOfAll start now folder limit skip all
   went_writes gs ss h =
-      let f = w.first gs ss h in first_of start now folder gs w.closed f.more f.first w.writes
+      let f = w.first gs ss h in
+      let passed = w.passed in
+      record { before = passed.before; after = rest; parts = passed.parts; strict = passed.strict; written = w.closed; more = f.more; first = f.first; inside = passed.inside; writes = w.writes }
 
-  pub unchanged_writes : (after : Files) → after ≡ now → WritesOfAll start after folder limit all
-  unchanged_writes after same = subst (λ (fs : Files). WritesOfAll start fs folder limit all) (sym same) went_writes
+  pub unchanged_writes : (after : Files) → after ≡ now → WritesOfAll start after folder limit skip all
+  unchanged_writes after same = subst (λ (fs : Files). WritesOfAll start fs folder limit skip all) (sym same) went_writes
 
-  one_more : (after : Files) (g : Group) → p.open ≡ Some g → WritesIfOpen now after folder p.open → WritesOnly start after folder (IsOneDue start folder (w.closed ++ g ∷ []))
-  one_more after g is last =
+  -- the open group was closed, or that failed
+  one_more : (after : Files) (g : Group) → p.open ≡ Some g → WritesIfOpen now after folder p.open → (gs more : List Group) → gs ≡ (w.closed ++ g ∷ []) ++ more → WritesFirst start after folder skip all gs
+  one_more after g is last gs more first =
       let intact : All (IsIntact start) g.taken = subst (IsIntactIfOpen start) is w.intact in
-      writes_more start now after folder w.keeps w.closed g intact w.writes (subst (WritesIfOpen now after folder) is last)
+      let passed = w.passed in
+      record {
+        before = passed.before;
+        after = rest;
+        parts = passed.parts;
+        strict = passed.strict;
+        written = w.closed ++ g ∷ [];
+        more = more;
+        first = first;
+        inside = closed_taken_from skip all rest w.closed p.open passed g is;
+        writes = writes_more start now after folder w.keeps w.closed g intact w.writes (subst (WritesIfOpen now after folder) is last);
+      }
 
 module _ (start now after : Files) (folder : List ℕ) (limit : ℕ) (skip : Bool) (all : List Offered) (o : Offered) (rest : List Offered) (p : Progress)
     (w : Went start now folder limit skip all (o ∷ rest) p) (last : WritesIfOpen now after folder p.open) where
-  pub follow_writes : (g : Group) (records : ShardRecords) → Ends limit p.open o g records → WritesOfAll start after folder limit all
+  pub follow_writes : (g : Group) (records : ShardRecords) → Ends limit p.open o g records → WritesOfAll start after folder limit skip all
   follow_writes g records is gs ss h =
       let f = w.first gs ss h in
       let left = follow_only limit p.open o rest f.more f.skipped g records is f.grouped in
-      first_of start after folder gs (w.closed ++ g ∷ []) left.0 (f.first ∙ ap (λ (l : List Group). w.closed ++ l) left.1 ∙ sym (append_assoc w.closed (g ∷ []) left.0))
-      (one_more start now folder limit skip all (o ∷ rest) p w after g is.is_open last)
+      one_more start now folder limit skip all (o ∷ rest) p w after g is.is_open last gs left.0
+      (f.first ∙ ap (λ (l : List Group). w.closed ++ l) left.1 ∙ sym (append_assoc w.closed (g ∷ []) left.0))
 
-  pub start_writes : (records : ShardRecords) → Begins p.open o records → WritesOfAll start after folder limit all
+  pub start_writes : (records : ShardRecords) → Begins p.open o records → WritesOfAll start after folder limit skip all
   start_writes records is = unchanged_writes start now folder limit skip all (o ∷ rest) p w after (subst (WritesIfOpen now after folder) is.is_open last)
 
 pub end_writes : (start now after : Files) (folder : List ℕ) (limit : ℕ) (skip : Bool) (all : List Offered) (p : Progress) → Went start now folder limit skip all [] p → WritesIfOpen now after folder p.open
-    → WritesOfAll start after folder limit all
+    → WritesOfAll start after folder limit skip all
 end_writes start now after folder limit skip all p w last = by p.open refl last
   where
-    by : (c : Option Group) → p.open ≡ c → WritesIfOpen now after folder c → WritesOfAll start after folder limit all
+    by : (c : Option Group) → p.open ≡ c → WritesIfOpen now after folder c → WritesOfAll start after folder limit skip all
     by None is same = unchanged_writes start now folder limit skip all [] p w after same
     by (Some g) is writes = λ gs ss h.
         let f = w.first gs ss h in
         let only : f.more ≡ g ∷ [] = subst (λ (c : Option Group). f.more ≡ if_open c) is (end_only limit p.open f.more f.skipped f.grouped) in
-        first_of start after folder gs (w.closed ++ g ∷ []) [] (f.first ∙ ap (λ (l : List Group). w.closed ++ l) only ∙ sym (append-nil (w.closed ++ g ∷ [])))
-        (one_more start now folder limit skip all [] p w after g is last)
+        one_more start now folder limit skip all [] p w after g is last gs []
+        (f.first ∙ ap (λ (l : List Group). w.closed ++ l) only ∙ sym (append-nil (w.closed ++ g ∷ [])))
 
 -- ---- a group that was closed
 

@@ -16,3 +16,4 @@ pub mod Removed
 pub mod Stepping
 pub mod ThroughDisk
 pub mod Unique
+pub mod Within

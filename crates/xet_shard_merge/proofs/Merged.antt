@@ -21,6 +21,7 @@ use Rattle.xet_shard_merge.specs.internal.Progressing.{Ended, IsIntactIfOpen, Is
 use Rattle.xet_shard_merge.proofs.Existing.{groups_exist}
 use Rattle.xet_shard_merge.proofs.Placing.{writes_nothing}
 use Rattle.xet_shard_merge.proofs.Stepping.{adds_nothing, preserves_itself}
+use Rattle.xet_shard_merge.proofs.Within.{passed_none}
 
 nothing_done : (start : Files) (folder : List ℕ) → AreResults start start folder [] []
 unfolding AreResults
@@ -39,6 +40,7 @@ none_went start folder limit skip all p opened taken merged skipped = record {
   writes = writes_nothing start start folder (IsOneDue start folder []) refl;
   keeps = preserves_itself start;
   intact = subst (IsIntactIfOpen start) (sym opened) tt;
+  passed = passed_none skip all p.open opened;
   reads = λ e h. h;
 }
 
@@ -66,9 +68,9 @@ merges old new source folder max_size limit skip now offered r same offers m = r
   strict = λ e. All-from_recursion (λ o. IsOk o.records) offered (m.reads e);
 }
 
-pub may_merge : (old new : Files) (source folder : List ℕ) (max_size limit now : ℕ) (offered : List Offered) → limit ≡ target_of max_size → Offers old source now offered
-    → WritesOfAll old new folder limit offered → KeptOrMerged old new source folder max_size now
-may_merge old new source folder max_size limit now offered same offers writes =
+pub may_merge : (old new : Files) (source folder : List ℕ) (max_size limit : ℕ) (skip : Bool) (now : ℕ) (offered : List Offered) → limit ≡ target_of max_size → Offers old source now offered
+    → WritesOfAll old new folder limit skip offered → KeptOrMerged old new source folder max_size skip now
+may_merge old new source folder max_size limit skip now offered same offers writes =
     let all = groups_exist limit None offered in
     inr (record {
       offered = offered;

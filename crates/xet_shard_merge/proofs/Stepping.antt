@@ -23,6 +23,7 @@ use Rattle.xet_shard_merge.specs.internal.Keeping.{IsIntact, Preserves}
 use Rattle.xet_shard_merge.specs.internal.Progressing.{Closes, ClosesGroup, ClosesIf, Ended, IsIntactIfOpen, IsJoined, NowOpen, NowOpenIs, NowSkipped, Went}
 use Rattle.xet_shard_merge.proofs.Placing.{writes_more}
 use Rattle.xet_shard_merge.proofs.Preserved.{same_bytes, still_there}
+use Rattle.xet_shard_merge.proofs.Within.{passed_close, passed_enter, passed_skip, passed_start}
 use Rattle.xet_shard_merge.proofs.Unique.{enter_only, follow_only, skip_only, start_only}
 
 -- ---- files that are kept
@@ -162,6 +163,7 @@ module _ (start now : Files) (folder : List ℕ) (limit : ℕ) (skip : Bool) (al
     writes = w.writes;
     keeps = w.keeps;
     intact = subst (IsIntactIfOpen start) (sym done.open_is) w.intact;
+    passed = passed_skip skip all o rest ok w.closed p.open w.passed q.open done.open_is;
     reads = λ e more. w.reads e (ok e, more);
   }
 
@@ -193,6 +195,7 @@ module _ (start now : Files) (folder : List ℕ) (limit : ℕ) (skip : Bool) (al
           writes = w.writes;
           keeps = w.keeps;
           intact = subst (IsIntactIfOpen start) (sym done.now.open_is) (All-append (IsIntact start) h.taken (o.file ∷ []) intact (All-cons (IsIntact start) o.file [] whole (All-nil (IsIntact start))));
+          passed = passed_enter skip all o rest ok w.closed p.open w.passed h records q.open was done.now.open_is;
           reads = λ e more. w.reads e (ok e, more);
         }
 
@@ -221,6 +224,7 @@ module _ (start now : Files) (folder : List ℕ) (limit : ℕ) (skip : Bool) (al
           writes = w.writes;
           keeps = w.keeps;
           intact = subst (IsIntactIfOpen start) (sym done.open_is) (All-cons (IsIntact start) o.file [] whole (All-nil (IsIntact start)));
+          passed = passed_start skip all o rest ok w.closed p.open w.passed o.length records r.open done.open_is;
           reads = λ e more. w.reads e (ok e, more);
         })
 
@@ -268,6 +272,7 @@ went_follow start now after folder limit skip all o rest ok records whole p q r 
       writes = writes_more start now after folder w.keeps w.closed g (subst (IsIntactIfOpen start) is.is_open w.intact) w.writes done.writes;
       keeps = preserves_then start now after w.keeps keeps;
       intact = subst (IsIntactIfOpen start) (sym opens.open_is) (All-cons (IsIntact start) o.file [] whole (All-nil (IsIntact start)));
+      passed = passed_start skip all o rest ok (w.closed ++ g ∷ []) None (passed_close skip all (o ∷ rest) w.closed p.open w.passed g is.is_open) o.length records r.open opens.open_is;
       reads = λ e more. w.reads e (ok e, more);
     }
 

@@ -1,4 +1,5 @@
 -- Merge groups: which shards of a directory become one.
+use Rattle.std.specs.List.{IsAmong}
 use Rattle.std.specs.Prelude.{◌≡◌, ◌⊎◌, ◌+◌, ◌≤◌, ℕ, List, [], ◌∷◌, ◌++◌, filter, is_none, max, Option, Some, None, Result, Ok, Err}
 use Rattle.xet_hash.specs.declared.error.StoreError.{StoreError}
 use Rattle.xet_shard.specs.Held.{Held, held, held_size, record_of}
@@ -11,6 +12,10 @@ pub record Offered : Type 0 where
   pub file : MDBShardFile
   pub length : ℕ
   pub records : Result ShardRecords StoreError
+
+-- this shard is one of those that are offered
+abbrev pub IsOffered : List Offered → MDBShardFile → Type 0
+IsOffered offered s = (o : Offered) × IsAmong offered o × (s ≡ o.file)
 
 -- A group: the shards that were taken, in order, their records together, the length of the shard that has them, and the
 -- latest of their creation times.
@@ -50,6 +55,10 @@ Agrees h records = Agree xorb_record_hash h.blocks records.0 × Agree file_recor
 -- A header and a footer are 248 bytes, and two shards that are joined have them once.
 abbrev pub Fits : ℕ → Group → Offered → Type 0
 Fits target g o = g.length + o.length ≤ target + 248
+
+-- The groups took no other shards than these.
+abbrev pub AreTakenFrom : List Offered → List Group → Type 0
+AreTakenFrom offered groups = (g : Group) → IsAmong groups g → (s : MDBShardFile) → IsAmong g.taken s → IsOffered offered s
 
 -- ---- the rules
 

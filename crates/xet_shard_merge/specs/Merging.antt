@@ -1,5 +1,5 @@
 -- What merging the shards of a directory leaves.
-use Rattle.std.specs.Prelude.{◌≡◌, ◌≢◌, ◌⊎◌, ◌^◌, ◌<◌, ℕ, nat_eq, Bool, true, false, not, List, [], ◌∷◌, filter, flat_map, length, map, min, take, Some, None, Ok, Err, IsOk, IsSome, All, AllPairs, Any}
+use Rattle.std.specs.Prelude.{◌≡◌, ◌≢◌, ◌⊎◌, ◌^◌, ◌<◌, ℕ, nat_eq, Bool, true, false, not, List, [], ◌∷◌, ◌++◌, filter, flat_map, length, map, min, take, Some, None, Ok, Err, IsOk, IsSome, All, AllPairs, Any}
 use Rattle.std.specs.Cmp.Lexicographic.{pointwise}
 use Rattle.std.specs.FinMap.{get}
 use Rattle.std.specs.List.{list_any}
@@ -17,7 +17,7 @@ use Rattle.xet_shard_directory.specs.declared.shard_file.MDBShardFile.{MDBShardF
 use Rattle.xet_shard_file.specs.Names.{IsHash, shard_path, temp_name}
 use Rattle.xet_shard_format.specs.Encoding.{Fits, IsShard, Shard, full_shard_bytes}
 use Rattle.xet_shard_format.specs.Names.{shard_name}
-use Rattle.xet_shard_merge.specs.Groups.{Group, Groups, Offered}
+use Rattle.xet_shard_merge.specs.Groups.{AreTakenFrom, Group, Groups, Offered}
 use Rattle.xet_shard_merge.specs.declared.merge.ShardMergeResult.{ShardMergeResult}
 
 -- ---- the order in which shards are offered
@@ -142,26 +142,39 @@ IsPlaced new folder bytes name =
 abbrev pub WritesOnly : Files → Files → List ℕ → (List ℕ → Type 0) → Type 0
 WritesOnly old new folder Due = (name : List ℕ) → (get new name ≡ get old name) ⊎ ((bytes : List ℕ) × Due bytes × IsPlaced new folder bytes name)
 
--- Of the results of merging the valid shards of `source` any were written, each whole and durable; else nothing has
--- changed but the temporary files beside them.
-pub record MayMerge (old new : Files) (source target : List ℕ) (max_size now : ℕ) : Type 0 where
+-- Of the results of these groups some first ones were written, each whole and durable; else nothing has changed but the
+-- temporary files beside them. Their groups took only shards that come before any that can't be read, unless errors are
+-- skipped.
+pub record WritesFirst (old new : Files) (folder : List ℕ) (skip : Bool) (offered : List Offered) (groups : List Group) : Type 0 where
+  pub before : List Offered
+  pub after : List Offered
+  pub parts : offered ≡ before ++ after
+  pub strict : skip ≡ false → All (λ o. IsOk o.records) before
+  pub written : List Group
+  pub more : List Group
+  pub first : groups ≡ written ++ more
+  pub inside : AreTakenFrom before written
+  pub writes : WritesOnly old new folder (λ bytes. Any (λ g. IsDue old folder g bytes) written)
+
+-- Of the results of merging the valid shards of `source` some first ones were written.
+pub record MayMerge (old new : Files) (source target : List ℕ) (max_size : ℕ) (skip : Bool) (now : ℕ) : Type 0 where
   pub offered : List Offered
   pub offers : Offers old source now offered
   pub groups : List Group
   pub skipped : List MDBShardFile
   pub grouped : Groups (target_of max_size) None offered groups skipped
-  pub writes : WritesOnly old new target (λ bytes. Any (λ g. IsDue old target g bytes) groups)
+  pub writes : WritesFirst old new target skip offered groups
 
--- What a merge has done, also after an error: nothing, or any of its results were written.
-abbrev pub KeptOrMerged : Files → Files → List ℕ → List ℕ → ℕ → ℕ → Type 0
-KeptOrMerged old new source target max_size now = (new ≡ old) ⊎ MayMerge old new source target max_size now
+-- What a merge has done, also after an error: nothing, or some first results were written.
+abbrev pub KeptOrMerged : Files → Files → List ℕ → List ℕ → ℕ → Bool → ℕ → Type 0
+KeptOrMerged old new source target max_size skip now = (new ≡ old) ⊎ MayMerge old new source target max_size skip now
 
 -- The valid shards of a folder were merged within it. Nothing else was written, and nothing was removed.
 pub record MergesWithin (old new : Files) (folder : List ℕ) (max_size : ℕ) (skip : Bool) (now : ℕ) (merge : ShardMergeResult) : Type 0 where
   pub merges : Merges old new folder folder max_size skip now merge
   pub keeps : KeepsFiles old new
   pub adds : AddsResults old new merge.merged_shards.items
-  pub writes : KeptOrMerged old new folder folder max_size now
+  pub writes : KeptOrMerged old new folder folder max_size skip now
 
 -- Shards were merged within a folder, and then the obsolete ones were removed.
 pub record Consolidates (old new : Files) (folder : List ℕ) (max_size : ℕ) (skip : Bool) (now : ℕ) (results : List MDBShardFile) : Type 0 where
@@ -171,11 +184,11 @@ pub record Consolidates (old new : Files) (folder : List ℕ) (max_size : ℕ) (
   pub removes : new ≡ all_removed between (paths merge.obsolete_shards.items)
   pub merged : results ≡ merge.merged_shards.items
 
--- After an error no file was removed, and any of the results were written; or the shards were merged, so that all results
+-- After an error no file was removed, and some first results were written; or the shards were merged, so that all results
 -- are there, and some of the obsolete ones were removed, the first ones.
 abbrev pub KeptOrConsolidated : Files → Files → List ℕ → ℕ → Bool → ℕ → Type 0
 KeptOrConsolidated old new folder max_size skip now =
-    (KeepsFiles old new × KeptOrMerged old new folder folder max_size now)
+    (KeepsFiles old new × KeptOrMerged old new folder folder max_size skip now)
     ⊎ ((between : Files) × (merge : ShardMergeResult) × (n : ℕ) × MergesWithin old between folder max_size skip now merge
     × (new ≡ all_removed between (take n (paths merge.obsolete_shards.items))))
 

@@ -80,7 +80,7 @@ pub fn merge_shards<D: Disk>(
     ensures merged { D.tells disk.old ≡ true → IfOk result (Merges (D.files disk.old) (D.files disk.new) source.now target.now max_size skip_on_error now) }
     ensures keeps { D.tells disk.old ≡ true → KeepsFiles (D.files disk.old) (D.files disk.new) }
     ensures adds { D.tells disk.old ≡ true → IfOk result (λ r. AddsResults (D.files disk.old) (D.files disk.new) r.merged_shards.items) }
-    ensures writes { D.tells disk.old ≡ true → KeptOrMerged (D.files disk.old) (D.files disk.new) source.now target.now max_size now }
+    ensures writes { D.tells disk.old ≡ true → KeptOrMerged (D.files disk.old) (D.files disk.new) source.now target.now max_size skip_on_error now }
     ensures refused { D.tells disk.old ≡ true → IfErr result (IsUnmerged (D.files disk.old) source.now skip_on_error now) }
     ensures frame { Stays D.tells D.faults disk.old disk.new }
     ensures reason { IfErr result (IsReadError (D.faults disk.old) (D.faults disk.new)) }
@@ -108,7 +108,7 @@ fn merge_read<D: Disk>(
     ensures merged { D.tells disk.old ≡ true → All (IsIntact (D.files disk.old)) shards.items → IfOk result (MergedAll (D.files disk.old) (D.files disk.new) target.now limit skip_on_error (map (offered_of (D.files disk.old)) shards.items)) }
     ensures refused { D.tells disk.old ≡ true → All (IsIntact (D.files disk.old)) shards.items → IfErr result (IsUnmergedOf skip_on_error (map (offered_of (D.files disk.old)) shards.items)) }
     ensures keeps { D.tells disk.old ≡ true → Preserves (D.files disk.old) (D.files disk.new) }
-    ensures writes { D.tells disk.old ≡ true → All (IsIntact (D.files disk.old)) shards.items → WritesOfAll (D.files disk.old) (D.files disk.new) target.now limit (map (offered_of (D.files disk.old)) shards.items) }
+    ensures writes { D.tells disk.old ≡ true → All (IsIntact (D.files disk.old)) shards.items → WritesOfAll (D.files disk.old) (D.files disk.new) target.now limit skip_on_error (map (offered_of (D.files disk.old)) shards.items) }
     ensures frame { Stays D.tells D.faults disk.old disk.new }
     ensures reason { IfErr result (IsReadError (D.faults disk.old) (D.faults disk.new)) }
 {

@@ -33,7 +33,7 @@ pub(crate) fn take_all<D: Disk>(
     ensures ended { D.tells disk.old ≡ true → (start : Files) (all : List Offered) → All (IsIntact start) shards.items → Went start (D.files disk.old) target.now limit skip_on_error all (map (offered_of start) shards.items) progress.old → OnOk result (Ended start (D.files disk.new) target.now limit skip_on_error all progress.new) }
     ensures refused { D.tells disk.old ≡ true → (start : Files) (all : List Offered) → All (IsIntact start) shards.items → Went start (D.files disk.old) target.now limit skip_on_error all (map (offered_of start) shards.items) progress.old → IfErr result (IsUnmergedOf skip_on_error (map (offered_of start) shards.items)) }
     ensures keeps { D.tells disk.old ≡ true → Preserves (D.files disk.old) (D.files disk.new) }
-    ensures writes { D.tells disk.old ≡ true → (start : Files) (all : List Offered) → All (IsIntact start) shards.items → Went start (D.files disk.old) target.now limit skip_on_error all (map (offered_of start) shards.items) progress.old → WritesOfAll start (D.files disk.new) target.now limit all }
+    ensures writes { D.tells disk.old ≡ true → (start : Files) (all : List Offered) → All (IsIntact start) shards.items → Went start (D.files disk.old) target.now limit skip_on_error all (map (offered_of start) shards.items) progress.old → WritesOfAll start (D.files disk.new) target.now limit skip_on_error all }
     ensures frame { Stays D.tells D.faults disk.old disk.new }
     ensures reason { IfErr result (IsReadError (D.faults disk.old) (D.faults disk.new)) }
 {
@@ -59,7 +59,7 @@ fn take_next<D: Disk>(
     ensures went { D.tells disk.old ≡ true → (start : Files) (all rest : List Offered) → IsIntact start shard → Went start (D.files disk.old) target.now limit skip_on_error all (offered_of start shard ∷ rest) progress.old → OnOk result (Went start (D.files disk.new) target.now limit skip_on_error all rest progress.new) }
     ensures refused { D.tells disk.old ≡ true → (start : Files) → IsIntact start shard → Preserves start (D.files disk.old) → IsIntactIfOpen start progress.old.open → IfErr result (IsUnreadable skip_on_error (offered_of start shard).records) }
     ensures keeps { D.tells disk.old ≡ true → Preserves (D.files disk.old) (D.files disk.new) }
-    ensures writes { D.tells disk.old ≡ true → (start : Files) (all rest : List Offered) → IsIntact start shard → Went start (D.files disk.old) target.now limit skip_on_error all (offered_of start shard ∷ rest) progress.old → WritesOfAll start (D.files disk.new) target.now limit all }
+    ensures writes { D.tells disk.old ≡ true → (start : Files) (all rest : List Offered) → IsIntact start shard → Went start (D.files disk.old) target.now limit skip_on_error all (offered_of start shard ∷ rest) progress.old → WritesOfAll start (D.files disk.new) target.now limit skip_on_error all }
     ensures frame { Stays D.tells D.faults disk.old disk.new }
     ensures reason { IfErr result (IsReadError (D.faults disk.old) (D.faults disk.new)) }
 {
@@ -88,7 +88,7 @@ fn take_read<D: Disk>(
     ensures went { D.tells disk.old ≡ true → (start : Files) (skip : Bool) (all rest : List Offered) → IsIntact start shard → Went start (D.files disk.old) target.now limit skip all (offer shard length (records.0.items, records.1.items) ∷ rest) progress.old → OnOk result (Went start (D.files disk.new) target.now limit skip all rest progress.new) }
     ensures intact { D.tells disk.old ≡ true → (start : Files) → Preserves start (D.files disk.old) → IsIntactIfOpen start progress.old.open → IfErr result (HasDiskReason (D.faults disk.old) (D.faults disk.new)) }
     ensures keeps { D.tells disk.old ≡ true → Preserves (D.files disk.old) (D.files disk.new) }
-    ensures writes { D.tells disk.old ≡ true → (start : Files) (skip : Bool) (all rest : List Offered) → IsIntact start shard → Went start (D.files disk.old) target.now limit skip all (offer shard length (records.0.items, records.1.items) ∷ rest) progress.old → WritesOfAll start (D.files disk.new) target.now limit all }
+    ensures writes { D.tells disk.old ≡ true → (start : Files) (skip : Bool) (all rest : List Offered) → IsIntact start shard → Went start (D.files disk.old) target.now limit skip all (offer shard length (records.0.items, records.1.items) ∷ rest) progress.old → WritesOfAll start (D.files disk.new) target.now limit skip all }
     ensures frame { Stays D.tells D.faults disk.old disk.new }
     ensures reason { IfErr result (IsReadError (D.faults disk.old) (D.faults disk.new)) }
 {

@@ -27,7 +27,7 @@ pub fn merge_shards_background<R: Threads, D: Disk + Send>(
     ensures merged { D.tells disk ≡ true → IfOk result.1 (Merges (D.files disk) (D.files result.0) (string_bytes source) (string_bytes target) max_size skip_on_error now) }
     ensures keeps { D.tells disk ≡ true → KeepsFiles (D.files disk) (D.files result.0) }
     ensures adds { D.tells disk ≡ true → IfOk result.1 (λ r. AddsResults (D.files disk) (D.files result.0) r.merged_shards.items) }
-    ensures writes { D.tells disk ≡ true → KeptOrMerged (D.files disk) (D.files result.0) (string_bytes source) (string_bytes target) max_size now }
+    ensures writes { D.tells disk ≡ true → KeptOrMerged (D.files disk) (D.files result.0) (string_bytes source) (string_bytes target) max_size skip_on_error now }
     ensures refused { D.tells disk ≡ true → IfErr result.1 (IsUnmerged (D.files disk) (string_bytes source) skip_on_error now) }
     ensures frame { Stays D.tells D.faults disk result.0 }
     ensures reason { IfErr result.1 (IsReadError (D.faults disk) (D.faults result.0)) }

@@ -7,8 +7,8 @@ use Rattle.xet_hash.specs.declared.error.StoreError.TheVariants.{FileNotFound, I
 use Rattle.xet_io.specs.Disk.{Files, bytes_at}
 use Rattle.xet_shard.specs.Union.{ShardRecords, records_in}
 use Rattle.xet_shard_directory.specs.declared.shard_file.MDBShardFile.{MDBShardFile}
-use Rattle.xet_shard_merge.specs.Groups.{Agrees, Begins, Ends, Group, Groups, IsSkipped, Joins, Offered, joined}
-use Rattle.xet_shard_merge.specs.Merging.{AddsResults, AreResults, IsDue, IsResult, WritesOnly}
+use Rattle.xet_shard_merge.specs.Groups.{Agrees, AreTakenFrom, Begins, Ends, Group, Groups, IsSkipped, Joins, Offered, if_open, joined}
+use Rattle.xet_shard_merge.specs.Merging.{AddsResults, AreResults, IsDue, IsResult, WritesFirst, WritesOnly}
 use Rattle.xet_shard_merge.specs.internal.Keeping.{IsIntact, IsOneDue, Preserves}
 use Rattle.xet_shard_merge.specs.declared.progress.Fate.{Fate}
 use Rattle.xet_shard_merge.specs.declared.progress.Fate.TheVariants.{Enters, Follows, Skipped, Starts}
@@ -90,6 +90,14 @@ pub record Follow (limit : ℕ) (rest : List Offered) (p : Progress) (closed gs 
   pub first : gs ≡ closed ++ more
   pub grouped : Groups limit p.open rest more skipped
 
+-- The shards before `rest` were read, unless errors are skipped, and the groups so far took no others.
+pub record Passed (skip : Bool) (all rest : List Offered) (closed : List Group) (current : Option Group) : Type 0 where
+  pub before : List Offered
+  pub parts : all ≡ before ++ rest
+  pub strict : skip ≡ false → All (λ o. IsOk o.records) before
+  pub inside : AreTakenFrom before closed
+  pub opened : AreTakenFrom before (if_open current)
+
 -- The shards before `rest` were taken or skipped: whatever groups follow, these are the first ones of all.
 pub record Went (start now : Files) (folder : List ℕ) (limit : ℕ) (skip : Bool) (all rest : List Offered) (p : Progress) : Type 0 where
   pub closed : List Group
@@ -101,6 +109,7 @@ pub record Went (start now : Files) (folder : List ℕ) (limit : ℕ) (skip : Bo
   pub writes : WritesOnly start now folder (IsOneDue start folder closed)
   pub keeps : Preserves start now
   pub intact : IsIntactIfOpen start p.open
+  pub passed : Passed skip all rest closed p.open
   pub reads : skip ≡ false → AllByRecursion (λ o. IsOk o.records) rest → AllByRecursion (λ o. IsOk o.records) all
 
 -- All shards went, and no group is open.
@@ -116,9 +125,9 @@ abbrev pub offered_in : MDBShardFile → Option (List ℕ) → Offered
 offered_in s None = record { file = s; length = 0; records = Err FileNotFound }
 offered_in s (Some bytes) = record { file = s; length = length bytes; records = records_in s.shard.metadata bytes }
 
--- What was written is due for the groups of all shards, whatever these are.
-abbrev pub WritesOfAll : Files → Files → List ℕ → ℕ → List Offered → Type 0
-WritesOfAll start now folder limit all = (gs : List Group) (ss : List MDBShardFile) → Groups limit None all gs ss → WritesOnly start now folder (IsOneDue start folder gs)
+-- What was written is due for the first groups of all shards, whatever these are.
+abbrev pub WritesOfAll : Files → Files → List ℕ → ℕ → Bool → List Offered → Type 0
+WritesOfAll start now folder limit skip all = (gs : List Group) (ss : List MDBShardFile) → Groups limit None all gs ss → WritesFirst start now folder skip all gs
 
 -- a shard as it is offered
 abbrev pub offered_of : Files → MDBShardFile → Offered

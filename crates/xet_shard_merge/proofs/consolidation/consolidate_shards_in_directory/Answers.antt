@@ -63,4 +63,4 @@ pub returns-in-Err-clause-listed : goal.returns-in-Err-clause-listed
 returns-in-Err-clause-listed g c = λ tells.
     let files = g.D.Disk.files in
     let parts : PartsAreRead = record { info = c.parts_are_read.ensures.info; files = c.parts_are_read.ensures.files; blocks = c.parts_are_read.ensures.blocks } in
-    kept_same parts c.args.dir.now c.args.max_size c.args.now (files c.args.disk.now) (files c.merge_shards.new.disk) (c.in-Err.ensures.keeps tells) (c.in-Err.ensures.writes tells)
+    kept_same parts c.args.dir.now c.args.max_size c.args.now (files c.args.disk.now) (files c.merge_shards.new.disk) c.args.skip_on_error (c.in-Err.ensures.keeps tells) (c.in-Err.ensures.writes tells)

@@ -80,8 +80,8 @@ returns-in-Ok-clause-writes g c = λ tells.
     let is = offers old c.args.source.now c.args.now told.0 c.in-Ok.read.items sorted told.1 told.2 (loaded.each tells) (loaded.order tells) c.in_merge_order-shards.ensures.permutation c.in_merge_order-shards.ensures.sorted in
     let whole = all_intact old c.args.source.now c.args.now told.0 c.in-Ok.read.items sorted told.1 told.2 (loaded.each tells) (loaded.order tells) c.in_merge_order-shards.ensures.permutation c.in_merge_order-shards.ensures.sorted in
     let writes = c.merge_read.ensures.writes (frame.tells ∙ tells) (subst (λ (fs : Files). All (IsIntact fs) sorted) (sym frame.same) whole) in
-    may_merge old new c.args.source.now c.args.target.now c.args.max_size c.min-limit.result c.args.now (map (offered_of old) sorted) c.min-limit.ensures is
-    (subst (λ (fs : Files). WritesOfAll fs new c.args.target.now c.min-limit.result (map (offered_of fs) sorted)) frame.same writes)
+    may_merge old new c.args.source.now c.args.target.now c.args.max_size c.min-limit.result c.args.skip_on_error c.args.now (map (offered_of old) sorted) c.min-limit.ensures is
+    (subst (λ (fs : Files). WritesOfAll fs new c.args.target.now c.min-limit.result c.args.skip_on_error (map (offered_of fs) sorted)) frame.same writes)
 
 pub returns-in-Err-clause-writes : goal.returns-in-Err-clause-writes
 returns-in-Err-clause-writes g c = λ tells. inl c.in-Err.ensures.frame.same
