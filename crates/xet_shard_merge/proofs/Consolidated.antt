@@ -1,5 +1,5 @@
 -- A consolidation leaves what the valid shards of a folder list.
-use Rattle.std.proofs.Common.{◌≡◌, ◌≢◌, ◌∙◌, ◌⊎◌, inl, inr, ℕ, ◌<◌, ◌^◌, Bool, not, nat_eq, List, [], ◌∷◌, Any, None, Option, Some, option_map, Ok, flat_map, refl, sym, ap, subst}
+use Rattle.std.proofs.Common.{◌≡◌, ◌≢◌, ◌∙◌, ◌⊎◌, inl, inr, ℕ, ◌<◌, ◌≤◌, ◌^◌, Bool, not, nat_eq, List, [], ◌∷◌, Any, None, Option, Some, option_map, Ok, flat_map, refl, sym, ap, subst, arith}
 use Rattle.std.proofs.lemmas.Bool.{true≢false}
 use Rattle.std.specs.Cmp.Lexicographic.{bytes_decides, pointwise}
 use Rattle.std.specs.FinMap.{get}
@@ -11,7 +11,7 @@ use Rattle.xet_shard.specs.Union.{ShardRecords, records_in}
 use Rattle.xet_shard_directory.specs.Directories.{all_removed, paths}
 use Rattle.xet_shard_directory.specs.Writing.{path_of}
 use Rattle.xet_shard_directory.specs.declared.shard_file.MDBShardFile.{MDBShardFile}
-use Rattle.xet_shard_merge.specs.Contents.{IsValidShard, ListSame}
+use Rattle.xet_shard_merge.specs.Contents.{IsValidShard, ListSame, ListsMore}
 use Rattle.xet_shard_merge.specs.Groups.{Group, IsPlain, Offered}
 use Rattle.xet_shard_merge.specs.Merging.{AreResults, IsDue, IsHome, IsMerged, IsMergedEncoding, IsPlaced, IsResult, KeepsFiles, KeptOrMerged, MayMerge, Merges, MergesWithin, Offers, obsolete_of, target_of}
 use Rattle.xet_shard_merge.specs.Records.{HasRecordsOf, IsTakenInto}
@@ -20,7 +20,7 @@ use Rattle.xet_shard_merge.specs.internal.Grouping.{IsOnly}
 use Rattle.xet_shard_merge.proofs.Among.{among_cons, among_first, among_later, among_left, among_none, among_one, any_among, filter_among, flat_among, map_among}
 use Rattle.xet_shard_merge.proofs.Grouped.{groups_have}
 use Rattle.xet_shard_merge.proofs.Homes.{IsEither, IsFolder, either_of, offered_at, offered_home, offered_valid, several_in_folder}
-use Rattle.xet_shard_merge.proofs.Listing.{AreListed, PartsAreRead, StaysListed, file_is_merged, file_of_merged, list_same, lists_for, lists_own, merged_key, merged_lists, merged_records, records_there, result_valid, same_records, shard_key, valid_same, xorb_is_merged, xorb_of_merged}
+use Rattle.xet_shard_merge.proofs.Listing.{AreListed, PartsAreRead, StaysListed, file_is_merged, file_of_merged, list_same, lists_for, lists_more, lists_own, merged_key, merged_lists, merged_records, records_there, result_valid, same_records, shard_key, valid_earlier, valid_same, xorb_is_merged, xorb_of_merged}
 use Rattle.xet_shard_merge.proofs.Loading.{no_temp}
 use Rattle.xet_shard_merge.proofs.Preserved.{still_there}
 use Rattle.xet_shard_merge.proofs.Removed.{among_or_not, gone, spared}
@@ -147,16 +147,19 @@ module _ (parts : PartsAreRead) (folder : List ℕ) (max_size now : ℕ) where
 
   -- ---- after an error, where nothing was removed
 
-  kept_listed : (old new : Files) → KeepsFiles old new → StaysListed old new folder now
-  kept_listed old new keeps s records v =
-      lists_own folder now new s records (valid_same folder now s old new records (still_there old new keeps s.path v.bytes (no_temp folder s.shard_hash s.path v.read.0) v.there) v)
+  kept_listed : (old new : Files) → KeepsFiles old new → (time : ℕ) → StaysListed old new folder time
+  kept_listed old new keeps time s records v =
+      lists_own folder time new s records (valid_same folder time s old new records (still_there old new keeps s.path v.bytes (no_temp folder s.shard_hash s.path v.read.0) v.there) v)
 
   pub kept_same : (old new : Files) (skip : Bool) → KeepsFiles old new → KeptOrMerged old new folder folder max_size skip now → ListSame old new folder now
-  kept_same old new skip keeps may = list_same folder now old new (kept_listed old new keeps) (λ s records v. was_listed old new s records v skip may)
+  kept_same old new skip keeps may = list_same folder now old new (kept_listed old new keeps now) (λ s records v. was_listed old new s records v skip may)
+
+  pub kept_more : (old new : Files) → KeepsFiles old new → (time : ℕ) → ListsMore old new folder time
+  kept_more old new keeps time = lists_more folder time old new (kept_listed old new keeps time)
 
   -- ---- where some of the obsolete shards were removed
 
-  module _ (below : now < 2 ^ 64) (old between : Files) (skip : Bool) (m : ShardMergeResult) (within : MergesWithin old between folder max_size skip now m) (ns : List (List ℕ))
+  module _ (old between : Files) (skip : Bool) (m : ShardMergeResult) (within : MergesWithin old between folder max_size skip now m) (ns : List (List ℕ))
       (some : (name : List ℕ) → IsAmong ns name → IsAmong (paths m.obsolete_shards.items) name) where
     abbrev after : Files
     after = all_removed between ns
@@ -179,7 +182,8 @@ module _ (parts : PartsAreRead) (folder : List ℕ) (max_size now : ℕ) where
     result_stays : (r : MDBShardFile) → IsAmong m.merged_shards.items r → file_at after r.path ≡ file_at between r.path
     result_stays r among = ap file_of (spared between ns r.path (λ a. let g = gone_is r.path a in g.apart r among g.path))
 
-    module _ (s : MDBShardFile) (records : ShardRecords) (v : IsValidShard old folder now s records) where
+    -- what a valid shard lists then is listed after too; it was valid at the time of the merge
+    module _ (time : ℕ) (later : now ≤ time) (below : time < 2 ^ 64) (s : MDBShardFile) (records : ShardRecords) (v : IsValidShard old folder time s records) where
       -- the result of the group that took it lists its records
       module _ (x : IsGone s.path) where
         abbrev whole : Merges old between folder folder max_size skip now m
@@ -200,29 +204,32 @@ module _ (parts : PartsAreRead) (folder : List ℕ) (max_size now : ℕ) where
         in_folder : IsFolder folder
         in_folder = several_in_folder (target_of max_size) old folder now whole.offered whole.offers either_one whole.groups m.skipped_shards.items whole.grouped x.group x.among of_several.0
 
-        instead : AreListed after folder now (shard_key s) records
+        instead : AreListed after folder time (shard_key s) records
         instead =
             let h = has_records.taken x.shard x.taken in
             let same : s ≡ h.0.file = offered_at old folder now whole.offered whole.offers in_folder s v.read h.0 h.2 (x.path ∙ ap (λ (t : MDBShardFile). t.path) h.3) in
             let own : IsValidShard old folder now h.0.file h.1 = offered_valid old folder now whole.offered whole.offers in_folder h.0 h.1 h.2 h.4.plain.0 in
-            let read : records ≡ h.1 = same_records folder now s old records h.1 v (subst (λ (t : MDBShardFile). IsValidShard old folder now t h.1) (sym same) own) in
+            let read : records ≡ h.1 = same_records folder now s old records h.1 (valid_earlier folder now s time later old records v) (subst (λ (t : MDBShardFile). IsValidShard old folder now t h.1) (sym same) own) in
             let key : shard_key s ≡ zero_hash = ap shard_key same ∙ plain_key h.0 h.1 h.4.plain in
             let made = of_several.1 in
-            let valid : IsValidShard between folder now result.0 (merged_records x.group) = result_valid parts x.group made.bytes made.form between folder now below in_folder result.0 made.stands in
+            let valid : IsValidShard between folder time result.0 (merged_records x.group) = result_valid parts x.group made.bytes made.form between folder time below in_folder result.0 made.stands in
             let its_key : shard_key result.0 ≡ zero_hash = merged_key parts x.group made.bytes made.form between result.0 made.stands.value made.stands.there in
-            lists_for folder now after result.0 (merged_records x.group) records (shard_key s) (valid_same folder now result.0 between after (merged_records x.group) (result_stays result.0 result.1) valid)
+            lists_for folder time after result.0 (merged_records x.group) records (shard_key s) (valid_same folder time result.0 between after (merged_records x.group) (result_stays result.0 result.1) valid)
             (its_key ∙ sym key)
             (λ y b. xorb_is_merged x.group y (h.4.xorbs y (subst (λ (q : ShardRecords). IsAmong q.0 y) read b)))
             (λ f b. file_is_merged x.group f (h.4.files f (subst (λ (q : ShardRecords). IsAmong q.1 f) read b)))
 
-      now_listed : IsAmong ns s.path ⊎ (IsAmong ns s.path → ⊥) → AreListed after folder now (shard_key s) records
+      now_listed : IsAmong ns s.path ⊎ (IsAmong ns s.path → ⊥) → AreListed after folder time (shard_key s) records
       now_listed (inl a) = instead (gone_is s.path a)
       now_listed (inr kept) =
           let here : file_at between s.path ≡ file_at old s.path = still_there old between within.keeps s.path v.bytes (no_temp folder s.shard_hash s.path v.read.0) v.there in
-          lists_own folder now after s records (valid_same folder now s old after records (ap file_of (spared between ns s.path kept) ∙ here) v)
+          lists_own folder time after s records (valid_same folder time s old after records (ap file_of (spared between ns s.path kept) ∙ here) v)
 
-    stays_listed : StaysListed old after folder now
-    stays_listed s records v = now_listed s records v (among_or_not ns s.path)
+    stays_listed : (time : ℕ) → now ≤ time → time < 2 ^ 64 → StaysListed old after folder time
+    stays_listed time later below s records v = now_listed time later below s records v (among_or_not ns s.path)
+
+    pub removed_more : (time : ℕ) → now ≤ time → time < 2 ^ 64 → ListsMore old after folder time
+    removed_more time later below = lists_more folder time old after (stays_listed time later below)
 
     -- what is there after was there before
     came_from : StaysListed after old folder now
@@ -235,5 +242,5 @@ module _ (parts : PartsAreRead) (folder : List ℕ) (max_size now : ℕ) where
             absurd (cc bad)
         by (inr kept) = was_listed old between s records (valid_same folder now s after between records (sym (ap file_of (spared between ns s.path kept))) v) skip within.writes
 
-    pub removed_same : ListSame old after folder now
-    removed_same = list_same folder now old after stays_listed came_from
+    pub removed_same : now < 2 ^ 64 → ListSame old after folder now
+    removed_same below = list_same folder now old after (stays_listed now (omega arith) below) came_from

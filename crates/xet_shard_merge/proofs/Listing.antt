@@ -1,5 +1,6 @@
 -- What the valid shards of a path list, and a shard that has the records of several.
-use Rattle.std.proofs.Common.{◌≡◌, ◌∙◌, inr, ℕ, ◌<◌, ◌^◌, true, List, Option, Some, option_map, Ok, nat_le, le-leb, refl, sym, ap, subst, arith}
+use Rattle.std.proofs.Common.{◌≡◌, ◌∙◌, inr, ℕ, ◌<◌, ◌≤◌, ◌^◌, true, List, Option, Some, option_map, Ok, nat_le, le-leb, refl, sym, ap, subst, arith}
+use Rattle.std.proofs.lemmas.Bool.{leb-true}
 use Rattle.std.specs.List.{IsAmong}
 use Rattle.xet_codec.specs.Parsing.{◌>>=◌}
 use Rattle.xet_hash.specs.Hash.{zero_hash}
@@ -20,7 +21,7 @@ use Rattle.xet_shard_format.specs.Records.{file_record_hash, xorb_record_hash}
 use Rattle.xet_shard_format.specs.declared.header_footer.MDBShardFileFooter.{MDBShardFileFooter}
 use Rattle.xet_shard_format.specs.declared.record.MDBFileInfo.{MDBFileInfo}
 use Rattle.xet_shard_format.specs.declared.record.MDBXorbInfo.{MDBXorbInfo}
-use Rattle.xet_shard_merge.specs.Contents.{IsValidShard, ListSame, ListsFile, ListsXorb}
+use Rattle.xet_shard_merge.specs.Contents.{IsValidShard, ListSame, ListsFile, ListsMore, ListsXorb}
 use Rattle.xet_shard_merge.specs.Groups.{Group}
 use Rattle.xet_shard_merge.specs.Merging.{IsMergedEncoding, Stands, merged_shard}
 use Rattle.xet_shard_merge.proofs.Among.{among_sorted, sorted_among}
@@ -56,17 +57,17 @@ module _ (path : List ℕ) (now : ℕ) where
     files = λ f a. record { shard = s; records = more; valid = valid; key_is = same; listed = files_of f a };
   }
 
-  pub list_same : (old new : Files) → StaysListed old new path now → StaysListed new old path now → ListSame old new path now
-  list_same old new there back = record {
-    xorbs = λ key x. (λ l. xorb_of old new there key x l, λ l. xorb_of new old back key x l);
-    files = λ key f. (λ l. file_of old new there key f l, λ l. file_of new old back key f l);
+  pub lists_more : (old new : Files) → StaysListed old new path now → ListsMore old new path now
+  lists_more old new stays = record {
+    xorbs = λ key x l. subst (λ (k : List ℕ). ListsXorb new path now k x) l.key_is ((stays l.shard l.records l.valid).xorbs x l.listed);
+    files = λ key f l. subst (λ (k : List ℕ). ListsFile new path now k f) l.key_is ((stays l.shard l.records l.valid).files f l.listed);
   }
-    where
-      xorb_of : (a b : Files) → StaysListed a b path now → (key : List ℕ) (x : MDBXorbInfo) → ListsXorb a path now key x → ListsXorb b path now key x
-      xorb_of a b stays key x l = subst (λ (k : List ℕ). ListsXorb b path now k x) l.key_is ((stays l.shard l.records l.valid).xorbs x l.listed)
 
-      file_of : (a b : Files) → StaysListed a b path now → (key : List ℕ) (f : MDBFileInfo) → ListsFile a path now key f → ListsFile b path now key f
-      file_of a b stays key f l = subst (λ (k : List ℕ). ListsFile b path now k f) l.key_is ((stays l.shard l.records l.valid).files f l.listed)
+  pub list_same : (old new : Files) → StaysListed old new path now → StaysListed new old path now → ListSame old new path now
+  list_same old new stays from =
+      let there = lists_more old new stays in
+      let back = lists_more new old from in
+      record { xorbs = λ key x. (there.xorbs key x, back.xorbs key x); files = λ key f. (there.files key f, back.files key f) }
 
   -- ---- one valid shard
 
@@ -78,6 +79,16 @@ module _ (path : List ℕ) (now : ℕ) where
       valid = v.valid;
       bytes = v.bytes;
       there = ap (option_map (λ (f : File). f.bytes)) same ∙ v.there;
+      records_are = v.records_are;
+    }
+
+    -- a shard that is valid at a time was so before
+    pub valid_earlier : (time : ℕ) → now ≤ time → (files : Files) (records : ShardRecords) → IsValidShard files path time s records → IsValidShard files path now s records
+    valid_earlier time later files records v = record {
+      read = v.read;
+      valid = le-leb now (expiry s) (omega (arith, later, leb-true time (expiry s) v.valid));
+      bytes = v.bytes;
+      there = v.there;
       records_are = v.records_are;
     }
 

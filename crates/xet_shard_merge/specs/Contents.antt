@@ -36,3 +36,8 @@ pub record ListsFile (files : Files) (path : List ℕ) (now : ℕ) (key : List �
 pub record ListSame (old new : Files) (path : List ℕ) (now : ℕ) : Type 0 where
   pub xorbs : (key : List ℕ) (x : MDBXorbInfo) → ListsXorb old path now key x ↔ ListsXorb new path now key x
   pub files : (key : List ℕ) (f : MDBFileInfo) → ListsFile old path now key f ↔ ListsFile new path now key f
+
+-- What the valid shards of a path listed before, they list after too, under the same keys.
+pub record ListsMore (old new : Files) (path : List ℕ) (time : ℕ) : Type 0 where
+  pub xorbs : (key : List ℕ) (x : MDBXorbInfo) → ListsXorb old path time key x → ListsXorb new path time key x
+  pub files : (key : List ℕ) (f : MDBFileInfo) → ListsFile old path time key f → ListsFile new path time key f
