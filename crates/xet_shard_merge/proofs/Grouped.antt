@@ -9,7 +9,7 @@ use Rattle.xet_shard_directory.specs.declared.shard_file.MDBShardFile.{MDBShardF
 use Rattle.xet_shard_format.specs.Records.{file_record_hash, xorb_record_hash}
 use Rattle.xet_shard_format.specs.declared.record.MDBFileInfo.{MDBFileInfo}
 use Rattle.xet_shard_format.specs.declared.record.MDBXorbInfo.{MDBXorbInfo}
-use Rattle.xet_shard_merge.specs.Groups.{Agrees, Group, Groups, IsPlain, Offered, alone, both, if_open, joined}
+use Rattle.xet_shard_merge.specs.Groups.{Agrees, Group, Groups, IsOffered, IsPlain, Offered, alone, both, if_open, joined}
 use Rattle.xet_shard_merge.specs.Records.{HasRecordsOf, IsTakenIn, IsTakenInto, IsTakenOrSkipped}
 use Rattle.xet_shard_merge.proofs.Among.{among_all, among_cons, among_either, among_filter, among_first, among_later, among_left, among_none, among_one, among_right, filter_among}
 
@@ -135,6 +135,23 @@ module _ (target : ℕ) where
   taken_or_skipped current (p ∷ os) groups skipped (inr (inr (inr (g, read, joins, more)))) =
       first_taken p os groups skipped read (taken_stays p read (joined g p.file read) (joins_group p read joins.plain g joins.agrees) os groups skipped more)
       (taken_or_skipped (Some (joined g p.file read)) os groups skipped more)
+
+  offered_later : (p : Offered) (os : List Offered) (s : MDBShardFile) → IsOffered os s → IsOffered (p ∷ os) s
+  offered_later p os s is = (is.0, among_later p os is.0 is.1, is.2)
+
+  -- each shard that is skipped was offered
+  pub skipped_offered : (current : Option Group) (os : List Offered) (groups : List Group) (skipped : List MDBShardFile) → Groups target current os groups skipped → (s : MDBShardFile) → IsAmong skipped s → IsOffered os s
+  unfolding Groups
+  skipped_offered current [] groups skipped (are, none) s a = absurd (among_none s (subst (λ (l : List MDBShardFile). IsAmong l s) none a))
+  skipped_offered current (p ∷ os) groups skipped (inl (skip, (rest, last, more))) s a =
+      by (among_cons p.file rest s (subst (λ (l : List MDBShardFile). IsAmong l s) last a)) (λ b. skipped_offered current os groups rest more s b)
+    where
+      by : (s ≡ p.file) ⊎ IsAmong rest s → (IsAmong rest s → IsOffered os s) → IsOffered (p ∷ os) s
+      by (inl same) behind = (p, among_first p os, same)
+      by (inr b) behind = offered_later p os s (behind b)
+  skipped_offered current (p ∷ os) groups skipped (inr (inl (read, begins, more))) s a = offered_later p os s (skipped_offered (Some (alone p.file p.length read)) os groups skipped more s a)
+  skipped_offered current (p ∷ os) groups skipped (inr (inr (inl (g, read, rest, ends, first, more)))) s a = offered_later p os s (skipped_offered (Some (alone p.file p.length read)) os rest skipped more s a)
+  skipped_offered current (p ∷ os) groups skipped (inr (inr (inr (g, read, joins, more)))) s a = offered_later p os s (skipped_offered (Some (joined g p.file read)) os groups skipped more s a)
 
 -- ---- what the groups have
 
