@@ -51,7 +51,7 @@ pub record Stands (files : Files) (folder bytes : List ℕ) (s : MDBShardFile) :
   pub durable : durable_at files s.path ≡ Some true
   pub value : loaded files s.shard_hash s.path ≡ Ok s
 
--- A shard is in a folder already, or the path of its own file was given for the folder.
+-- A shard is in a folder already, or the path of its own file was passed as the folder.
 abbrev pub IsHome : List ℕ → MDBShardFile → Type 0
 IsHome folder s = (s.path ≡ shard_path folder s.shard_hash) ⊎ (s.path ≡ folder)
 
@@ -93,7 +93,7 @@ AreResults old new folder groups results = ⊥
 abbrev pub obsolete_of : List Group → List MDBShardFile → List MDBShardFile
 obsolete_of groups results = filter (λ s. not (list_any (λ r. pointwise nat_eq r.path s.path) results)) (flat_map (λ g. g.taken) groups)
 
--- the most bytes of a merged shard
+-- the `max_size` that counts: 2^36 at most
 abbrev pub target_of : ℕ → ℕ
 target_of max_size = min max_size (2 ^ 36)
 
@@ -113,7 +113,7 @@ pub record Merges (old new : Files) (source target : List ℕ) (max_size : ℕ) 
 abbrev pub IsNoTemp : List ℕ → Type 0
 IsNoTemp name = (p : List ℕ) → name ≢ temp_name p
 
--- Every file that was there has its bytes and its modification time; temporary files may be gone.
+-- Every file that was there has its bytes and its modification time; temporary files may be gone or have changed.
 abbrev pub KeepsFiles : Files → Files → Type 0
 KeepsFiles old new = (name : List ℕ) (f : File) → IsNoTemp name → file_at old name ≡ Some f → file_at new name ≡ Some f
 

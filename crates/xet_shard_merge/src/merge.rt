@@ -18,7 +18,7 @@ use xet_hash::StoreError;
 use xet_io::Disk;
 use xet_shard_directory::MDBShardFile;
 
-/// The most bytes of a merged shard: 2^36.
+/// The maximum `max_size` that counts: 2^36.
 const MAX_TARGET: u64 = 1 << 36;
 
 /// The result of merging shards.
@@ -57,17 +57,18 @@ impl ShardMergeResult {
 /// Two groups may have the same result. It is then written once, keeps its modification time, and is listed for each of
 /// them. A result that was there before keeps its time too.
 ///
-/// A shard that is alone in its group is its own result, and is not copied, if it is in `target` already, or if both
-/// paths are that of its own file.
+/// A shard that is alone in its group is its own result, and is not copied, if it is in `target` already, or if `target`
+/// is the path of its own file.
 ///
-/// Folders are compared by name alone. If `source` is "dir/" and `target` is "dir", the paths that are read are not those
-/// of the same files in `target`. A shard that is alone in its group is copied onto itself then: it is found there, so
-/// nothing is written, but it is listed as obsolete, and its file as a result. Removing the obsolete shards would remove
-/// that result.
+/// Folders are compared by name alone, so another name of the same folder, where a disk has two, is another folder. Shards
+/// that are alone in their groups are then copied onto themselves and listed as obsolete, and removing these would remove
+/// the results.
 ///
-/// `FileNotFound` if the path names a shard and it is not there. If a section is malformed, the error is that of the first
-/// check that fails, or with `skip_on_error` that shard is skipped. After an error some of the results may have been
-/// written. If a file has the name of a result, and other bytes, the error is `OutOfMemory`.
+/// `FileNotFound` if the path names a shard and it is not there; also, on a disk that is not observable, if a shard file
+/// vanishes between the listing and its reading. If a section is malformed, the error is that of the first check that
+/// fails in one of the malformed shards, or with `skip_on_error` that shard is skipped. After an error some of the results
+/// may have been written: some first ones, and without `skip_on_error` only those of shards before any that can't be read.
+/// If a file has the name of a result, and other bytes, the error is `OutOfMemory`.
 pub fn merge_shards<D: Disk>(
     alloc: Global,
     disk: &mut D,

@@ -12,8 +12,8 @@ use xet_hash::StoreError;
 use xet_io::Disk;
 use xet_shard_merge::{ShardMergeResult, merge_shards};
 
-/// `merge_shards` on a worker thread, which is joined. The result is the same, and the disk comes back. If no thread can
-/// be started, the caller does the work.
+/// `merge_shards` on a worker thread, which is joined; the disk is returned. If no thread can be started, the caller does
+/// the work. The contract is that of `merge_shards`; that a worker does the work is by the code, and no clause states it.
 pub fn merge_shards_background<R: Threads, D: Disk + Send>(
     alloc: Global,
     rt: &R,
