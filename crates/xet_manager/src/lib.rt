@@ -12,6 +12,6 @@ pub use settings::{
 };
 pub use xet_codec::FileReader as ShardReader;
 pub use xet_hash::Refused;
-pub use xet_shard_directory::MDBShardFile;
+pub use xet_shard_directory::{MDBShardFile, NoReader, ReaderIfPresent};
 pub use xet_shard_merge::{ShardMergeResult, consolidate_shards_in_directory, merge_shards};
 pub use xet_shard_merge_background::merge_shards_background;

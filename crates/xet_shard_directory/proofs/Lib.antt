@@ -4,6 +4,7 @@ mod Comparing
 mod ErrorKinds
 mod FolderShards
 mod LastPart
+mod Presence
 mod Pruned
 mod Removed
 mod Skipping

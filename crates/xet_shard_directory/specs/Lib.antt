@@ -3,6 +3,7 @@ pub mod Asked
 pub mod Directories
 pub mod Exporting
 pub mod Integrity
+pub mod Reader
 pub mod Standing
 pub mod Values
 pub mod Writing

@@ -9,7 +9,7 @@ ghost use Rattle.xet_shard_directory.specs.Asked.{AnswersFile, AnswersRun, Answe
 ghost use Rattle.xet_shard_directory.specs.Answers.{GivesUnlessDisk, IsFileQueryError, IsQueryError, IsReadError, in_file};
 ghost use Rattle.xet_shard_format.specs.Lookups.{flat_places};
 
-use crate::reading::{is_there, modified, of_disk};
+use crate::reading::{is_there, of_disk};
 use crate::shard_file::MDBShardFile;
 use std::alloc::Global;
 use xet_codec::FileReader;
@@ -29,11 +29,13 @@ impl MDBShardFile {
         ensures frame { Unchanged D.files D.tells D.faults disk.old disk.new }
         ensures reason { IfErr result (IsReadError (D.faults disk.old) (D.faults disk.new)) }
     {
-        let path = self.path.as_str();
-        modified(disk, path)?;
-        let mut reader = FileReader::new(disk, path);
-        let answer = self.shard.read_all_xorb_blocks(alloc, &mut reader);
-        of_disk(answer, reader.was_out_of_memory())
+        match self.get_reader(disk) {
+            Ok(mut reader) => {
+                let answer = self.shard.read_all_xorb_blocks(alloc, &mut reader);
+                of_disk(answer, reader.was_out_of_memory())
+            }
+            Err(refused) => Err(refused.into_error()),
+        }
     }
 
     /// The files of the shard. Errors are those of `read_all_xorb_blocks`.
@@ -46,11 +48,13 @@ impl MDBShardFile {
         ensures frame { Unchanged D.files D.tells D.faults disk.old disk.new }
         ensures reason { IfErr result (IsReadError (D.faults disk.old) (D.faults disk.new)) }
     {
-        let path = self.path.as_str();
-        modified(disk, path)?;
-        let mut reader = FileReader::new(disk, path);
-        let answer = self.shard.read_all_file_info_sections(alloc, &mut reader);
-        of_disk(answer, reader.was_out_of_memory())
+        match self.get_reader(disk) {
+            Ok(mut reader) => {
+                let answer = self.shard.read_all_file_info_sections(alloc, &mut reader);
+                of_disk(answer, reader.was_out_of_memory())
+            }
+            Err(refused) => Err(refused.into_error()),
+        }
     }
 
     /// The xorb lookup table: for each xorb the first word of its hash, and the row of its header. An omitted table is
@@ -64,11 +68,13 @@ impl MDBShardFile {
         ensures frame { Unchanged D.files D.tells D.faults disk.old disk.new }
         ensures reason { IfErr result (IsReadError (D.faults disk.old) (D.faults disk.new)) }
     {
-        let path = self.path.as_str();
-        modified(disk, path)?;
-        let mut reader = FileReader::new(disk, path);
-        let answer = self.shard.read_full_xorb_lookup(alloc, &mut reader);
-        of_disk(answer, reader.was_out_of_memory())
+        match self.get_reader(disk) {
+            Ok(mut reader) => {
+                let answer = self.shard.read_full_xorb_lookup(alloc, &mut reader);
+                of_disk(answer, reader.was_out_of_memory())
+            }
+            Err(refused) => Err(refused.into_error()),
+        }
     }
 
     /// The chunk lookup table: for each chunk the first word of its hash, the row of its xorb's header, and its index in
@@ -82,11 +88,13 @@ impl MDBShardFile {
         ensures frame { Unchanged D.files D.tells D.faults disk.old disk.new }
         ensures reason { IfErr result (IsReadError (D.faults disk.old) (D.faults disk.new)) }
     {
-        let path = self.path.as_str();
-        modified(disk, path)?;
-        let mut reader = FileReader::new(disk, path);
-        let answer = self.shard.read_all_truncated_hashes(alloc, &mut reader);
-        of_disk(answer, reader.was_out_of_memory())
+        match self.get_reader(disk) {
+            Ok(mut reader) => {
+                let answer = self.shard.read_all_truncated_hashes(alloc, &mut reader);
+                of_disk(answer, reader.was_out_of_memory())
+            }
+            Err(refused) => Err(refused.into_error()),
+        }
     }
 
     /// The file record with a hash. None if the shard has none, or if there is no file. If eight or more files share
