@@ -64,7 +64,7 @@ pub fn prepare_flush(
     let (encoding, info) = pending.shard_bytes(alloc, moment, None)?;
     let items = items_of_bytes(alloc, &info, &encoding)?;
     let file = new_file(alloc, folder, compute_data_hash(&encoding), info)?;
-    registry.reserve(items.len())?;
+    registry.reserve(&file.info.metadata.chunk_hash_hmac_key, items.len())?;
     Ok(DueShard {
         encoding,
         items,

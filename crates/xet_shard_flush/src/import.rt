@@ -1,17 +1,15 @@
 //! Import of a shard whose bytes are given.
 
-ghost use Rattle.std.specs.Prelude.{◌≡◌, List, IfErr, IfOk, IsOk, IsOkUnless, OnErr, OnOk, Ok, false, nat_eq, string_bytes, true, length, ◌<◌, ◌^◌};
+ghost use Rattle.std.specs.Prelude.{◌≡◌, List, IfErr, IfOk, OnErr, OnOk, Ok, false, nat_eq, string_bytes, true, length, ◌<◌, ◌^◌};
 ghost use Rattle.std.specs.Cmp.Lexicographic.{pointwise};
 ghost use Rattle.std.specs.List.{list_any};
-ghost use Rattle.xet_codec.specs.Stops.{HasDiskReason};
 ghost use Rattle.xet_hash.specs.Merkle.{chunk_hash};
-ghost use Rattle.xet_io.specs.Frame.{Stays, Unchanged};
+ghost use Rattle.xet_io.specs.Frame.{Stays};
 ghost use Rattle.xet_shard.specs.Sections.{info_at};
 ghost use Rattle.xet_shard_directory.specs.Answers.{GivesUnlessDisk};
-ghost use Rattle.xet_shard_directory.specs.Writing.{MayAddShard, path_of};
-ghost use Rattle.xet_shard_directory.specs.declared.shard_file.MDBShardFile.{MDBShardFile};
+ghost use Rattle.xet_shard_directory.specs.Writing.{MayAddShard};
 ghost use Rattle.xet_shard_flush.specs.Importing.{Imports, IsCheckError, IsImportError, KeepsFiles, import_check};
-ghost use Rattle.xet_shard_flush.specs.internal.Steps.{Adds, HasRoom, IsNewError, IsWritten, SameShards, new_check, new_lookup};
+ghost use Rattle.xet_shard_flush.specs.internal.Steps.{IsNewError, SameShards, new_check, new_lookup};
 ghost use Rattle.xet_shard_format.specs.Lookups.{flat_places};
 ghost use Rattle.xet_shard_registry.specs.Collections.{IsRegistryOf};
 ghost use Rattle.xet_shard_registry.specs.Registered.{Registered};
@@ -31,9 +29,8 @@ use xet_shard_registry::ShardRegistry;
 /// has fewer than `cap` words. Nothing is written if the header or the footer is malformed, if 2^32 - 1 shards are
 /// registered and one more is due (`TooLarge(Shards)`), or if the chunk lookup table is malformed; the error is that of
 /// the first check that fails. `OutOfMemory` also if the path is that of a registered shard whose file has other
-/// bytes, or is gone and had another header or footer: it is not replaced. For a shard without a key, all memory is taken
-/// before the first write. After an error the
-/// same shards are registered; the file is as it was, or the write has completed.
+/// bytes, or is gone and had another header or footer: it is not replaced. All memory is taken before the first write.
+/// After an error the same shards are registered; the file is as it was, or the write has completed.
 pub fn import_shard<D: Disk>(
     alloc: Global,
     disk: &mut D,
@@ -86,7 +83,7 @@ fn import_new<D: Disk>(
 {
     let items = new_items(alloc, registry, &info, bytes)?;
     let file = new_file(alloc, folder, hash, info)?;
-    reserve(registry, &file.info, items.len())?;
+    registry.reserve(&file.info.metadata.chunk_hash_hmac_key, items.len())?;
     write_new(alloc, disk, registry, file, bytes, &items, cap)
 }
 
@@ -106,21 +103,4 @@ fn new_items(
         return Err(StoreError::TooLarge(What::Shards));
     }
     items_of_bytes(alloc, info, bytes)
-}
-
-/// Takes the memory for one more shard, if it has no key.
-fn reserve(
-    registry: &mut ShardRegistry,
-    info: &MDBShardInfo,
-    chunks: usize,
-) -> Result<(), StoreError>
-    ensures kept { SameShards registry.old registry.new }
-    ensures files { registry.new.files ≡ registry.old.files }
-    ensures hashes { registry.new.hashes ≡ registry.old.hashes }
-    ensures memory { IsOkUnless result StoreError.OutOfMemory }
-{
-    match info.chunk_hmac_key() {
-        Some(_) => Ok(()),
-        None => registry.reserve(chunks),
-    }
 }

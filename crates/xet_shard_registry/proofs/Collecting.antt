@@ -1,12 +1,13 @@
 -- The collections of the registered shards, as one more shard is registered.
-use Rattle.std.proofs.Common.{◌≡◌, ◌≢◌, ◌⊎◌, inl, inr, ℕ, zero, suc, ◌+◌, ◌-◌, ◌^◌, ◌<◌, ◌≤◌, min, nat_eq, nat_lt, Bool, true, false, if◌then◌else◌, List, [], ◌∷◌, ◌++◌, get_or, length, map, take, Some, Result, Ok, Err, slice_get, slice_set, refl, sym, ap, ◌∙◌, arith, add-zero}
-use Rattle.std.proofs.lemmas.List.{append-nil, length-map, map-append, nil_from_length, take_more}
+use Rattle.std.proofs.Common.{◌≡◌, ◌≢◌, ◌⊎◌, inl, inr, ℕ, zero, suc, ◌+◌, ◌-◌, ◌^◌, ◌≤◌, min, nat_eq, nat_lt, Bool, true, false, if◌then◌else◌, List, [], ◌∷◌, ◌++◌, length, map, None, Some, Option, is_some, option_map, position, Result, Ok, Err, slice_get, slice_set, refl, sym, ap, ◌∙◌, arith, add-zero}
+use Rattle.std.proofs.lemmas.List.{append-nil, length-map, map-append, nil_from_length}
 use Rattle.std.proofs.lemmas.Bool.{le-ltb, lt-ltb, ltb-false, ltb-true}
-use Rattle.std.proofs.lemmas.Option.{slice_get_read}
-use Rattle.std.specs.Prelude.{OnErr, OnOk}
+use Rattle.std.proofs.lemmas.List.Quantifiers.{position-Some}
+use Rattle.std.proofs.lemmas.Option.{get_or_from_slice_get, slice_get-map}
+use Rattle.std.specs.Prelude.{IfNone, IfSome, OnErr, OnOk}
 use Rattle.std.proofs.lemmas.List.Elements.{filter-append}
 use Rattle.std.proofs.lemmas.List.Sums.{sum_by-cons}
-use Rattle.std.specs.Cmp.Lexicographic.{other_text, pointwise, same_text}
+use Rattle.std.specs.Cmp.Lexicographic.{pointwise, same_text}
 use Rattle.std.specs.List.{AllByRecursion, list_any, sum_by}
 use Rattle.xet_hash.specs.Hash.{zero_hash}
 use Rattle.xet_shard_registry.proofs.Keys.{key_same, key_tells}
@@ -170,10 +171,15 @@ each_set shards s (x ∷ cs) (suc at) c next e ek distinct grown held =
         absurd (cc (there, distinct.0))
     by (inr a) = collection_stays shards s x a.0 held.0
 
-keys_set : (cs : List Collection) (at : ℕ) (c next : Collection) → slice_get cs at ≡ Some c → next.key ≡ c.key → map key_in (slice_set cs at next) ≡ map key_in cs
+pub keys_set : (cs : List Collection) (at : ℕ) (c next : Collection) → slice_get cs at ≡ Some c → next.key ≡ c.key → map key_in (slice_set cs at next) ≡ map key_in cs
 keys_set [] at c next e same = refl
 keys_set (x ∷ cs) zero c next e same = let first : x ≡ c = cc e in rw (first, same) refl
 keys_set (x ∷ cs) (suc at) c next e same = ap (λ (ks : List (List ℕ)). x.key ∷ ks) (keys_set cs at c next e same)
+
+-- whether a shard was added or not, the key stays
+pub same_key : {X E : Type 0} (r : Result X E) (old new : Collection) (number : ℕ) (enters : Bool) (items : List (ℕ × ℕ × ℕ)) → OnOk r (HasAdded old new number enters items) → OnErr r (HasKept old new) → new.key ≡ old.key
+same_key (Ok x) old new number enters items added kept = added.key
+same_key (Err e) old new number enters items added kept = kept.key
 
 -- the keys after one more shard
 keys_more : (shards : List Registered) (s : Registered) → keys_of (shards ++ s ∷ []) ≡ insert_key (pointwise nat_eq) (keys_of shards) (key_of s)
@@ -300,35 +306,20 @@ sum_push f (y ∷ xs) x = sum_by-cons f y (xs ++ x ∷ []) ∙ rw (sum_push f xs
 
 -- ---- what is found
 
-pub key_found : (cs : List Collection) (at i : ℕ) (c x : Collection) (key : List ℕ) → at ≡ i → slice_get cs at ≡ Some c → i < length cs → x ≡ get_or cs i x → pointwise nat_eq x.key key ≡ true → c.key ≡ key
-key_found cs at i c x key ei e low is same =
-    let here : Some c ≡ Some x = sym (rw ei at e) ∙ slice_get_read cs (length cs) i x refl low is in
-    let it : c ≡ x = cc here in
-    rw it (same_text x.key key (sym same))
+-- the key at the index that was found
+pub key_at : (cs : List Collection) (keys : List (List ℕ)) (key : List ℕ) (found : Option ℕ) → keys ≡ map key_in cs → found ≡ position (pointwise nat_eq key) keys
+    → IfSome found (λ at. (c : Collection) → slice_get cs at ≡ Some c → c.key ≡ key)
+key_at cs keys key None same is = tt
+key_at cs keys key (Some at) same is = λ c there.
+    let here : slice_get keys at ≡ Some c.key = rw same (slice_get-map key_in cs at ∙ ap (option_map key_in) there) in
+    let passes = (position-Some (pointwise nat_eq key) keys at c.key (sym is)).1 in
+    let equal : pointwise nat_eq key c.key ≡ true = rw (get_or_from_slice_get keys at c.key c.key here) at passes in
+    sym (same_text key c.key (sym equal))
 
-pub keyless_more : (cs : List Collection) (i : ℕ) (d : Collection) (key : List ℕ) → i < length cs → IsKeyless key (map key_in (take i cs)) → d ≡ get_or cs i d → pointwise nat_eq d.key key ≡ false
-    → IsKeyless key (map key_in (take (i + 1) cs))
-keyless_more cs i d key low none is differs =
-    rw (take_more cs i d low, map-append key_in (take i cs) (get_or cs i d ∷ []), ← is) (go (map key_in (take i cs)) none)
-  where
-    x : List ℕ
-    x = d.key
-
-    other : pointwise nat_eq key x ≡ false
-    other = by (key_tells key x)
-      where
-        by : ((pointwise nat_eq key x ≡ true) × (key ≡ x)) ⊎ ((pointwise nat_eq key x ≡ false) × (key ≢ x)) → pointwise nat_eq key x ≡ false
-        by (inl a) = absurd (other_text x key (sym differs) (sym a.1))
-        by (inr a) = a.0
-
-    go : (ks : List (List ℕ)) → list_any (pointwise nat_eq key) ks ≡ false → list_any (pointwise nat_eq key) (ks ++ x ∷ []) ≡ false
-    go [] n = rw other refl
-    go (k ∷ ks) n = by (key_tells key k) (go ks)
-      where
-        by : ((pointwise nat_eq key k ≡ true) × (key ≡ k)) ⊎ ((pointwise nat_eq key k ≡ false) × (key ≢ k))
-            → (list_any (pointwise nat_eq key) ks ≡ false → list_any (pointwise nat_eq key) (ks ++ x ∷ []) ≡ false) → list_any (pointwise nat_eq key) (k ∷ ks ++ x ∷ []) ≡ false
-        by (inl a) later = absurd (cc (a.0, n))
-        by (inr a) later = rw a.0 (later (rw a.0 at n))
+pub no_key : (cs : List Collection) (keys : List (List ℕ)) (key : List ℕ) (found : Option ℕ) → keys ≡ map key_in cs → is_some found ≡ list_any (pointwise nat_eq key) keys
+    → IfNone found (IsKeyless key (map key_in cs))
+no_key cs keys key None same is = rw same at (sym is)
+no_key cs keys key (Some at) same is = tt
 
 pub on_ok_then : {X E P Q : Type 0} (r : Result X E) → OnOk r P → (P → Q) → OnOk r Q
 on_ok_then (Ok x) p f = f p

@@ -12,6 +12,11 @@ pub record IsCollectionOf (shards : List Registered) (c : Collection) : Type 0 w
   pub members : c.members.items ≡ numbers c.key shards
   pub index : IsIndexOf c.index (indexed c.key shards)
 
+-- it has no shards yet
+pub record IsNewCollection (c : Collection) : Type 0 where
+  pub members : c.members.items ≡ []
+  pub index : IsIndexOf c.index []
+
 -- there is one for each key
 pub record AreCollectionsOf (shards : List Registered) (collections : List Collection) : Type 0 where
   pub keys : map (λ c. c.key) collections ≡ keys_of shards

@@ -2,6 +2,7 @@
 #![tactic(auto)]
 
 mod collection;
+mod collections;
 mod registry;
 
 pub use registry::ShardRegistry;

@@ -1,18 +1,18 @@
 //! The registered shards, and their collections by key.
 
-ghost use Rattle.std.specs.Prelude.{◌≡◌, ◌≢◌, All, Any, true, ◌+◌, ◌++◌, ◌∷◌, ◌<◌, ◌^◌, ◌-◌, [], ℕ, List, None, Some, IfNone, IfOk, IfSome, IsOkUnless, OnErr, OnOk, length, map, nat_eq, slice_get, option_map, false};
+ghost use Rattle.std.specs.Prelude.{◌≡◌, ◌≢◌, All, Any, true, ◌+◌, ◌++◌, ◌∷◌, ◌<◌, ◌^◌, ◌-◌, [], ℕ, List, None, Some, IfOk, IsOkUnless, OnErr, OnOk, length, nat_eq, slice_get, false};
 ghost use Rattle.std.specs.Cmp.Lexicographic.{pointwise};
 ghost use Rattle.std.specs.List.{list_any};
-ghost use Rattle.indexmap.specs.IndexSet.{insert_key, spare};
+ghost use Rattle.indexmap.specs.IndexMap.{insert_entry, spare as map_spare};
+ghost use Rattle.indexmap.specs.IndexSet.{spare};
 ghost use Rattle.xet_hash.specs.Merkle.{chunk_hash};
-ghost use Rattle.xet_shard_registry.specs.declared.collection.Collection.{Collection};
 ghost use Rattle.xet_shard_registry.specs.Registered.{Registered, key_of, keys_of, numbers, place_among, with_shard};
-ghost use Rattle.xet_shard_registry.specs.Collections.{AddsTo, IsKeyless, IsRegistryOf, StayCollections, words_in};
+ghost use Rattle.xet_shard_registry.specs.Collections.{AddsTo, IsRegistryOf, StayCollections, words_in};
 ghost use Rattle.xet_shard.specs.Union.{ShardRecords};
 ghost use Rattle.xet_shard_format.specs.Lookups.{flat_places};
 
-use crate::collection::Collection;
-use indexmap::IndexSet;
+use crate::collections::Collections;
+use indexmap::{IndexMap, IndexSet};
 use std::alloc::Global;
 use std::marker::Model;
 use xet_hash::{HMACKey, MerkleHash, StoreError, compute_data_hash};
@@ -26,13 +26,13 @@ pub struct ShardRegistry {
     /// The values of their files, in order of registration.
     files: Vec<MDBShardFile>,
     /// One for each key; that of the shards without a key is the first.
-    collections: Vec<Collection>,
+    collections: Collections,
     /// The number of different words in the indexes, counted for each and summed.
     words: u64,
     /// The hashes of the shards.
     hashes: IndexSet<MerkleHash>,
-    /// The digests of their paths.
-    paths: IndexSet<MerkleHash>,
+    /// For the digest of each path the number of the last shard that was registered with such a path.
+    paths: IndexMap<MerkleHash, u32>,
     /// The uncompressed bytes of the files of all shards, and of their chunks, as the footers state them.
     materialized: u64,
     stored: u64,
@@ -44,9 +44,9 @@ impl Model for ShardRegistry {
 
     ghost Value = { Tables };
 
-    ghost view = { λ s. record { files = s.files.items; collections = s.collections.items; words = s.words; hashes = s.hashes.keys; materialized = s.materialized; stored = s.stored } };
+    ghost view = { λ s. record { files = s.files.items; collections = s.collections; words = s.words; hashes = s.hashes.keys; materialized = s.materialized; stored = s.stored } };
 
-    ghost invariant = { λ s. HavePaths s.files.items s.paths.keys };
+    ghost invariant = { λ s. HavePaths s.files.items s.paths.entries };
 }
 
 impl ShardRegistry {
@@ -55,14 +55,13 @@ impl ShardRegistry {
         ensures empty { IfOk result (IsRegistryOf []) }
         ensures memory { IsOkUnless result StoreError.OutOfMemory }
     {
-        let mut collections = Vec::new(alloc);
-        collections.push(Collection::new(alloc, HMACKey::default()))?;
+        let collections = Collections::new(alloc)?;
         Ok(ShardRegistry {
             files: Vec::new(alloc),
             collections,
             words: 0,
             hashes: IndexSet::new(alloc),
-            paths: IndexSet::new(alloc),
+            paths: IndexMap::new(alloc),
             materialized: 0,
             stored: 0,
         })
@@ -89,6 +88,7 @@ impl ShardRegistry {
         ensures memory { IsOkUnless result StoreError.OutOfMemory }
     {
         let enters = self.words < cap;
+        let number = self.files.len() as u32;
         let hash = file.shard_hash;
         let path = digest_of(file.path.as_str());
         let materialized = file.shard.metadata.materialized_bytes;
@@ -101,19 +101,21 @@ impl ShardRegistry {
             alloc,
             file,
             items,
+            number,
             enters,
         )?;
         self.words = self.words.saturating_add(added);
         self.materialized = self.materialized.saturating_add(materialized);
         self.stored = self.stored.saturating_add(stored);
         insert_hash(&mut self.hashes, hash);
-        insert_path(&mut self.paths, path);
+        insert_path(&mut self.paths, path, number);
         Ok(())
     }
 
-    /// Takes the memory that `register` needs for a shard without a key and with this number of chunks, so that it then
-    /// allocates nothing. The only error is `StoreError::OutOfMemory`. The same shards are registered in either case.
-    pub fn reserve(&mut self, chunks: usize) -> Result<(), StoreError>
+    /// Takes the memory that the next `register` needs for a shard with this key, or without one if it is zero, and with this
+    /// number of chunks, so that it then allocates nothing. The only error is `StoreError::OutOfMemory`. The same shards are
+    /// registered in either case.
+    pub fn reserve(&mut self, key: &HMACKey, chunks: usize) -> Result<(), StoreError>
         ensures kept { (shards : List Registered) → IsRegistryOf shards self.old → IsRegistryOf shards self.new }
         ensures files { self.new.files ≡ self.old.files }
         ensures hashes { self.new.hashes ≡ self.old.hashes }
@@ -122,7 +124,7 @@ impl ShardRegistry {
         self.hashes.reserve(1)?;
         self.paths.reserve(1)?;
         self.files.reserve(1)?;
-        reserve_first(&mut self.collections, chunks)
+        self.collections.reserve(key, chunks)
     }
 
     /// The values of the files, in order of registration.
@@ -189,12 +191,16 @@ impl ShardRegistry {
         self.hashes.contains(hash)
     }
 
-    /// Whether a registered shard has this path. The shards are walked only if one has a path of this digest.
+    /// Whether a registered shard has this path. Its digest has the number of one shard, which is compared; all are walked
+    /// only if that one has another path. What is walked is by the code.
     pub fn has_path(&self, path: &str) -> bool
         ensures some { result ≡ true → Any (λ s. s.path ≡ path.now) self.now.files }
         ensures none { result ≡ false → All (λ s. s.path ≢ path.now) self.now.files }
     {
-        self.paths.contains(&digest_of(path)) && is_path_of(path, &self.files)
+        match self.paths.get(&digest_of(path)) {
+            Some(number) => has_at(&self.files, *number, path) || is_path_of(path, &self.files),
+            None => false,
+        }
     }
 }
 
@@ -203,6 +209,16 @@ fn digest_of(path: &str) -> MerkleHash
     ensures { result ≡ chunk_hash path.now }
 {
     compute_data_hash(path.as_bytes())
+}
+
+/// Whether the shard file with this number has this path.
+fn has_at(files: &[MDBShardFile], number: u32, path: &str) -> bool
+    ensures { result ≡ true → Any (λ s. s.path ≡ path.now) files.now }
+{
+    match files.get(number as usize) {
+        Some(file) => file.path.as_str() == path,
+        None => false,
+    }
 }
 
 /// Whether one of these shard files has this path.
@@ -218,19 +234,6 @@ fn is_path_of(path: &str, files: &[MDBShardFile]) -> bool
     false
 }
 
-/// Takes the memory for one more shard in the first collection.
-fn reserve_first(collections: &mut Vec<Collection>, chunks: usize) -> Result<(), StoreError>
-    ensures stay { StayCollections collections.old.items collections.new.items }
-    ensures words { words_in collections.new.items ≡ words_in collections.old.items }
-    ensures memory { IsOkUnless result StoreError.OutOfMemory }
-{
-    if collections.is_empty() {
-        Ok(())
-    } else {
-        collections[0].reserve(chunks)
-    }
-}
-
 /// Inserts a hash for which there is room.
 fn insert_hash(hashes: &mut IndexSet<MerkleHash>, hash: MerkleHash)
     requires room { 0 < spare hashes.old }
@@ -240,37 +243,37 @@ fn insert_hash(hashes: &mut IndexSet<MerkleHash>, hash: MerkleHash)
     let _inserted = hashes.insert(hash);
 }
 
-/// Inserts the digest of a path, for which there is room.
-fn insert_path(paths: &mut IndexSet<MerkleHash>, path: MerkleHash)
-    requires room { 0 < spare paths.old }
-    ensures { paths.new.keys ≡ insert_key (pointwise nat_eq) paths.old.keys path }
+/// Notes the number of a shard under the digest of its path, for which there is room.
+fn insert_path(paths: &mut IndexMap<MerkleHash, u32>, path: MerkleHash, number: u32)
+    requires room { 0 < map_spare paths.old }
+    ensures { paths.new.entries ≡ insert_entry (pointwise nat_eq) paths.old.entries path number }
 {
-    let _inserted = paths.insert(path);
+    let _inserted = paths.insert(path, number);
 }
 
-/// Adds the value of a shard's file after the others, and the shard to the collection of its key. Returns the number of
-/// words that are new.
+/// Adds the value of a shard's file after the others, and the shard, which has this number, to the collection of its key.
+/// Returns the number of words that are new.
 fn put(
     files: &mut Vec<MDBShardFile>,
-    collections: &mut Vec<Collection>,
+    collections: &mut Collections,
     alloc: Global,
     file: MDBShardFile,
     items: &[(u64, (u32, u32))],
+    number: u32,
     enters: bool,
 ) -> Result<u64, StoreError>
-    requires few { length files.old.items < 2 ^ 32 }
-    ensures added { OnOk result ((s : Registered) → s.file ≡ file → enters ≡ s.entered → flat_places items.now ≡ s.items → AddsTo collections.old.items collections.new.items (length files.old.items) s) }
+    requires number { number ≡ length files.old.items }
+    ensures added { OnOk result ((s : Registered) → s.file ≡ file → enters ≡ s.entered → flat_places items.now ≡ s.items → AddsTo collections.old collections.new (length files.old.items) s) }
     ensures files { OnOk result (files.new.items ≡ files.old.items ++ file ∷ []) }
-    ensures count { IfOk result (λ added. words_in collections.new.items ≡ words_in collections.old.items + added) }
+    ensures count { IfOk result (λ added. words_in collections.new ≡ words_in collections.old + added) }
     ensures kept { OnErr result (files.new.items ≡ files.old.items) }
-    ensures stay { OnErr result (StayCollections collections.old.items collections.new.items) }
-    ensures words { OnErr result (words_in collections.new.items ≡ words_in collections.old.items) }
+    ensures stay { OnErr result (StayCollections collections.old collections.new) }
+    ensures words { OnErr result (words_in collections.new ≡ words_in collections.old) }
     ensures memory { IsOkUnless result StoreError.OutOfMemory }
 {
     files.reserve(1)?;
-    let number = files.len() as u32;
     let key = key_of(&file);
-    let added = add(collections, alloc, key, number, enters, items)?;
+    let added = collections.add(alloc, key, number, enters, items)?;
     match files.push(file) {
         Ok(()) => Ok(added),
         Err(failed) => Err(failed.into()),
@@ -282,63 +285,4 @@ fn key_of(file: &MDBShardFile) -> HMACKey
     ensures { result ≡ file.now.shard.metadata.chunk_hash_hmac_key }
 {
     file.shard.metadata.chunk_hash_hmac_key
-}
-
-/// Adds the shard with this number to the collection of its key, which may be a new one. Returns the number of words that
-/// are new.
-fn add(
-    collections: &mut Vec<Collection>,
-    alloc: Global,
-    key: HMACKey,
-    number: u32,
-    enters: bool,
-    items: &[(u64, (u32, u32))],
-) -> Result<u64, StoreError>
-    ensures added { OnOk result ((s : Registered) → key ≡ key_of s → enters ≡ s.entered → flat_places items.now ≡ s.items → AddsTo collections.old.items collections.new.items number s) }
-    ensures count { IfOk result (λ added. words_in collections.new.items ≡ words_in collections.old.items + added) }
-    ensures kept { OnErr result (StayCollections collections.old.items collections.new.items) }
-    ensures words { OnErr result (words_in collections.new.items ≡ words_in collections.old.items) }
-    ensures memory { IsOkUnless result StoreError.OutOfMemory }
-{
-    match find_key(collections, &key) {
-        Some(at) => collections[at].add(number, enters, items),
-        None => add_key(collections, alloc, key, number, enters, items),
-    }
-}
-
-/// Adds a collection that has only the shard with this number.
-fn add_key(
-    collections: &mut Vec<Collection>,
-    alloc: Global,
-    key: HMACKey,
-    number: u32,
-    enters: bool,
-    items: &[(u64, (u32, u32))],
-) -> Result<u64, StoreError>
-    requires absent { IsKeyless key (map (λ c. c.key) collections.old.items) }
-    ensures added { OnOk result ((s : Registered) → key ≡ key_of s → enters ≡ s.entered → flat_places items.now ≡ s.items → AddsTo collections.old.items collections.new.items number s) }
-    ensures count { IfOk result (λ added. words_in collections.new.items ≡ words_in collections.old.items + added) }
-    ensures kept { OnErr result (collections.new.items ≡ collections.old.items) }
-    ensures memory { IsOkUnless result StoreError.OutOfMemory }
-{
-    let mut collection = Collection::new(alloc, key);
-    let added = collection.add(number, enters, items)?;
-    collections.push(collection)?;
-    Ok(added)
-}
-
-/// The index of the collection of a key.
-fn find_key(collections: &[Collection], key: &HMACKey) -> Option<usize>
-    ensures within { IfSome result (λ at. at < length collections.now) }
-    ensures found { IfSome result (λ at. (c : Collection) → slice_get collections.now at ≡ Some c → c.key ≡ key.now) }
-    ensures absent { IfNone result (IsKeyless key.now (map (λ c. c.key) collections.now)) }
-{
-    let mut at = 0;
-    for collection in collections {
-        if collection.key == *key {
-            return Some(at);
-        }
-        at += 1;
-    }
-    None
 }

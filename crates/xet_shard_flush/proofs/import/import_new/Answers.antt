@@ -35,7 +35,7 @@ returns-clause-imported g c =
     let folder = c.args.folder.now in
     let named : c.in_ok-file.file.path ≡ path_of folder c.args.bytes.now = c.in_ok-file.ensures.path ∙ ap (shard_path folder) c.requires.hash in
     IfOk-weaker c.write_new.result _ _
-    (λ path i. imports_over (g.D.Disk.tells c.args.disk.now) c.args.cap (files c.args.disk.now) (files c.write_new.new.disk) folder c.args.bytes.now (string_bytes path) c.args.registry.now c.reserve.new.registry c.write_new.new.registry c.reserve.ensures.kept i)
+    (λ path i. imports_over (g.D.Disk.tells c.args.disk.now) c.args.cap (files c.args.disk.now) (files c.write_new.new.disk) folder c.args.bytes.now (string_bytes path) c.args.registry.now c.reserve.new.self c.write_new.new.registry c.reserve.ensures.kept i)
     (c.write_new.ensures.imported folder named)
 
 pub returns-clause-kept : goal.returns-clause-kept

@@ -12,5 +12,5 @@ returns-clause-registered c shards records held =
 
 pub invariant_of-self-2 : goal.invariant_of-self-2
 invariant_of-self-2 c =
-    rw (c.in_ok-added.ensures.files, c.insert_path.ensures, c.in_ok-reserve-2.ensures.keys, c.digest_of-path.ensures, c.as_str.ensures)
-    (have_more c.self.inside.files.items c.self.inside.paths.keys c.args.file c.self.invariant)
+    rw (c.in_ok-added.ensures.files, c.insert_path.ensures, c.in_ok-reserve-2.ensures.entries, c.digest_of-path.ensures, c.as_str.ensures)
+    (have_more c.self.inside.files.items c.self.inside.paths.entries c.args.file _ c.self.invariant)
