@@ -4,7 +4,7 @@ use Rattle.std.proofs.lemmas.Bool.{false_from_ne_true, true≢false}
 use Rattle.std.proofs.lemmas.List.{drop_all, length-append, length-map}
 use Rattle.std.proofs.lemmas.List.Concat.{length-flat_map}
 use Rattle.std.proofs.lemmas.List.MinMax.{ranks_by}
-use Rattle.std.proofs.lemmas.List.Sums.{sum_by-append, sum_by-cons, sum_by-le-sum_by}
+use Rattle.std.proofs.lemmas.List.Sums.{sum_by-append, sum_by-cons}
 use Rattle.std.specs.Cmp.{IsStrictWeakOrder, IsTotalOrder}
 use Rattle.std.specs.Cmp.Lexicographic.{bytes_decides, on_texts, pointwise}
 use Rattle.std.specs.List.{AllByRecursion, flat_map, sum_by}
@@ -25,6 +25,7 @@ use Rattle.xet_shard_format.specs.declared.row.Row.{Row}
 use Rattle.xet_shard_format.specs.theorems.Steps.{left}
 use Rattle.xet_shard_merge.specs.Groups.{both, with_records}
 use Rattle.xet_shard_merge.specs.internal.Grouping.{AreOwn, IsOnly, IsSameIf}
+use Rattle.xet_shard_merge.specs.theorems.RowCounts.{rows_within}
 
 same : (a b : List ℕ) → pointwise nat_eq a b ≡ true → a ≡ b
 same a b = (bytes_decides a b).0
@@ -135,24 +136,6 @@ module _ {X : Type 0} (hash : X → List ℕ) where
   both_new xs y none = ap (λ (o : Option X). xs ++ cond (is_none o) (y ∷ []) []) none ∙ sym (last_new xs y none)
 
 -- ---- rows
-
--- a number times a sum
-times_sum : {X : Type 0} (f : X → ℕ) (xs : List X) → sum_by (λ x. 48 * f x) xs ≡ 48 * sum_by f xs
-times_sum f [] = omega arith
-times_sum {X} f (x ∷ xs) =
-    let rest : sum_by (λ (y : X). 48 * f y) xs ≡ 48 * sum_by f xs = times_sum f xs in
-    let first : sum_by (λ (y : X). 48 * f y) (x ∷ xs) ≡ 48 * f x + sum_by (λ (y : X). 48 * f y) xs = sum_by-cons (λ (y : X). 48 * f y) x xs in
-    let right : sum_by f (x ∷ xs) ≡ f x + sum_by f xs = sum_by-cons f x xs in
-    omega arith
-
-rows_within : {X : Type 0} (rows : X → List Row) (size : X → ℕ) (xs : List X) → ((x : X) → 48 * length (rows x) ≤ size x) → 48 * length (section rows xs) ≤ sum_by size xs + 48
-rows_within {X} rows size xs each =
-    let counts : X → ℕ = λ x. length (rows x) in
-    let count : length (section rows xs) ≡ length (flat_map rows xs) + 1 = length-append (flat_map rows xs) _ in
-    let sum : length (flat_map rows xs) ≡ sum_by counts xs = length-flat_map rows xs in
-    let below : sum_by (λ (x : X). 48 * counts x) xs ≤ sum_by size xs = sum_by-le-sum_by (λ (x : X). 48 * counts x) size xs each in
-    let whole : sum_by (λ (x : X). 48 * counts x) xs ≡ 48 * sum_by counts xs = times_sum counts xs in
-    omega arith
 
 section_push : {X : Type 0} (rows : X → List Row) (xs : List X) (x : X) → length (section rows (xs ++ x ∷ [])) ≡ length (section rows xs) + length (rows x)
 section_push {X} rows xs x =

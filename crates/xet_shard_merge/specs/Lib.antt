@@ -3,3 +3,4 @@ pub mod Groups
 pub mod Merging
 pub mod Records
 pub mod internal
+pub mod theorems
