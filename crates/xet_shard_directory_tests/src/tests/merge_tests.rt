@@ -4,19 +4,25 @@ use crate::tests::samples::shard_of;
 use crate::tests::shard_files::{PATH, close, release};
 use std::alloc::Global;
 use std::test::Fail;
-use xet_hash::StoreError;
+use xet_hash::{MerkleHash, StoreError};
 use xet_io::{Disk, DiskEntry, MemoryDisk, Refusal, SliceSource};
 use xet_shard_directory::MDBShardFile;
 use xet_shard_merge::{ShardMergeResult, consolidate_shards_in_directory, merge_shards};
 
-/// Writes a shard into the folder `a`.
-fn put(alloc: Global, disk: &mut MemoryDisk, bytes: &[u8]) -> Result<(), StoreError> {
+/// Writes a shard into the folder `a`, and returns its hash.
+pub(crate) fn put(
+    alloc: Global,
+    disk: &mut MemoryDisk,
+    bytes: &[u8],
+) -> Result<MerkleHash, StoreError> {
     if bytes.len() > 1_000 {
         return Err(StoreError::UnexpectedEof);
     }
     let source = &mut SliceSource::new(bytes);
-    close(MDBShardFile::write_out_from_reader(alloc, disk, "a", source)?);
-    Ok(())
+    let shard = MDBShardFile::write_out_from_reader(alloc, disk, "a", source)?;
+    let hash = shard.shard_hash;
+    close(shard);
+    Ok(hash)
 }
 
 /// Writes the shard of three bytes into the folder `a`, and returns its length.
@@ -26,7 +32,7 @@ pub(crate) fn write(
     bytes: &[u8],
 ) -> Result<usize, StoreError> {
     let (bytes, _) = shard_of(alloc, bytes)?;
-    put(alloc, disk, &bytes)?;
+    let _hash = put(alloc, disk, &bytes)?;
     Ok(bytes.len())
 }
 
@@ -123,7 +129,7 @@ fn left_at(alloc: Global, disk: &mut MemoryDisk, max_size: u64) -> Result<usize,
 }
 
 /// How many shards are loaded.
-fn loaded(alloc: Global, disk: &mut MemoryDisk) -> Result<usize, StoreError> {
+pub(crate) fn loaded(alloc: Global, disk: &mut MemoryDisk) -> Result<usize, StoreError> {
     Ok(MDBShardFile::load_all_valid(alloc, disk, "a", 0)?.len())
 }
 

@@ -12,12 +12,12 @@ use xet_shard::{
 };
 use xet_shard_samples::file_of_abc;
 
-/// The xorb with one chunk of 3 bytes.
-fn xorb_of(alloc: Global, chunk: MerkleHash) -> Result<MDBXorbInfo, StoreError>
+/// The xorb with this hash and one chunk of 3 bytes.
+fn xorb_of(alloc: Global, hash: MerkleHash, chunk: MerkleHash) -> Result<MDBXorbInfo, StoreError>
     ensures rows { IfOk result (λ xorb. length (xorb_rows xorb) ≡ 2) }
 {
     Ok(MDBXorbInfo {
-        metadata: XorbChunkSequenceHeader::new(chunk, 1, 3),
+        metadata: XorbChunkSequenceHeader::new(hash, 1, 3),
         chunks: Items::from_vec(vec![in alloc; XorbChunkSequenceEntry::new(chunk, 3, 0)]?),
     })
 }
@@ -49,11 +49,27 @@ fn shard_with_file(
 /// The shard with the xorb and the file of three bytes.
 pub fn shard_of(alloc: Global, bytes: &[u8]) -> Result<Written, StoreError> {
     let chunk = compute_data_hash(bytes);
-    let xorb = xorb_of(alloc, chunk)?;
+    let xorb = xorb_of(alloc, chunk, chunk)?;
     shard_with_file(alloc, chunk, &xorb)
 }
 
 /// The same of `abc`.
 pub fn shard_of_abc(alloc: Global) -> Result<Written, StoreError> {
     shard_of(alloc, b"abc")
+}
+
+/// The shard whose xorb has the hash of that of `abc`, and another chunk.
+pub fn shard_of_other_xorb(alloc: Global) -> Result<Written, StoreError> {
+    let chunk = compute_data_hash(b"abe");
+    let xorb = xorb_of(alloc, compute_data_hash(b"abc"), chunk)?;
+    shard_with_file(alloc, chunk, &xorb)
+}
+
+/// The shard whose file has the hash of that of `abc`, and another chunk.
+pub fn shard_of_other_file(alloc: Global) -> Result<Written, StoreError> {
+    let hash = file_hash(alloc, &[(compute_data_hash(b"abc"), 3)])?;
+    let chunk = compute_data_hash(b"abe");
+    let xorb = xorb_of(alloc, chunk, chunk)?;
+    let file = file_of_abc(alloc, hash, chunk)?;
+    shard_with(alloc, &xorb, &file)
 }
