@@ -1,12 +1,12 @@
 -- How many rows the records of a shard in memory have.
 use Rattle.std.proofs.Common.{◌≡◌, ℕ, ◌+◌, ◌*◌, ◌^◌, ◌<◌, ◌≤◌, Bool, false, true, List, [], ◌∷◌, ◌++◌, filter, length, nat_eq, not, if◌then◌else◌, ap, refl, arith}
 use Rattle.std.proofs.lemmas.List.{length-append}
-use Rattle.std.proofs.lemmas.List.Concat.{length-flat_map}
 use Rattle.std.proofs.lemmas.List.Filters.{sum_by-filter_both}
-use Rattle.std.proofs.lemmas.List.Sums.{sum_by-append, sum_by-cons, sum_by-le-sum_by}
+use Rattle.std.proofs.lemmas.List.Sums.{sum_by-append, sum_by-cons}
 use Rattle.std.specs.Cmp.Lexicographic.{pointwise}
 use Rattle.std.specs.List.{flat_map, sum_by}
-use Rattle.xet_manager.specs.Adding.{IsCut, blocks_before, cut_due, files_before}
+use Rattle.xet_hash.specs.declared.error.StoreError.{StoreError}
+use Rattle.xet_manager.specs.Adding.{IsCut, IsUncut, blocks_before, cut_due, files_before}
 use Rattle.xet_manager.specs.Manager.{ManagerState}
 use Rattle.xet_shard.specs.Held.{Held, held, held_size, with_last}
 use Rattle.xet_shard_format.specs.RecordSizes.{file_record_size, xorb_record_size}
@@ -14,10 +14,7 @@ use Rattle.xet_shard_format.specs.Records.{end_row, file_record_hash, file_rows,
 use Rattle.xet_shard_format.specs.declared.record.MDBFileInfo.{MDBFileInfo}
 use Rattle.xet_shard_format.specs.declared.record.MDBXorbInfo.{MDBXorbInfo}
 use Rattle.xet_shard_format.specs.declared.row.Row.{Row}
-
--- a section has the rows of its records, and one more
-rows_of : {X : Type 0} (rows : X → List Row) (xs : List X) → length (section rows xs) ≡ sum_by (λ x. length (rows x)) xs + 1
-rows_of rows xs = omega (arith, length-append (flat_map rows xs) (end_row ∷ []), length-flat_map rows xs)
+use Rattle.xet_shard_merge.specs.theorems.RowCounts.{rows_of, rows_within}
 
 -- with one more record it has at most the rows of that one more
 pub rows_last : {X : Type 0} (rows : X → List Row) (hash : X → List ℕ) (xs : List X) (x : X) → length (section rows (with_last hash xs x)) ≤ length (section rows xs) + length (rows x)
@@ -30,23 +27,6 @@ rows_last {X} rows hash xs x =
     let one : sum_by counts (x ∷ []) ≡ counts x + 0 = sum_by-cons counts x [] in
     let part = sum_by-filter_both others (λ y. not (others y)) (λ y. refl) counts xs in
     omega (arith, whole, before, split, one, part)
-
-times_sum : {X : Type 0} (f : X → ℕ) (xs : List X) → sum_by (λ x. 48 * f x) xs ≡ 48 * sum_by f xs
-times_sum f [] = omega arith
-times_sum {X} f (x ∷ xs) =
-    let rest : sum_by (λ (y : X). 48 * f y) xs ≡ 48 * sum_by f xs = times_sum f xs in
-    let first : sum_by (λ (y : X). 48 * f y) (x ∷ xs) ≡ 48 * f x + sum_by (λ (y : X). 48 * f y) xs = sum_by-cons (λ (y : X). 48 * f y) x xs in
-    let right : sum_by f (x ∷ xs) ≡ f x + sum_by f xs = sum_by-cons f x xs in
-    omega arith
-
--- each record adds at least its rows, of 48 bytes, to the length of a shard
-rows_within : {X : Type 0} (rows : X → List Row) (size : X → ℕ) (xs : List X) → ((x : X) → 48 * length (rows x) ≤ size x) → 48 * length (section rows xs) ≤ sum_by size xs + 48
-rows_within {X} rows size xs each =
-    let counts : X → ℕ = λ x. length (rows x) in
-    let whole : length (section rows xs) ≡ sum_by counts xs + 1 = rows_of rows xs in
-    let below : sum_by (λ (x : X). 48 * counts x) xs ≤ sum_by size xs = sum_by-le-sum_by (λ (x : X). 48 * counts x) size xs each in
-    let times : sum_by (λ (x : X). 48 * counts x) xs ≡ 48 * sum_by counts xs = times_sum counts xs in
-    omega arith
 
 -- a short shard has few rows, also with one xorb more
 pub few_with_xorb : (h : Held) (x : MDBXorbInfo) → length (xorb_rows x) ≡ 3 → held_size h ≤ 2 ^ 20 → length (xorb_section (with_last xorb_record_hash h.blocks x)) < 2 ^ 32
@@ -113,3 +93,12 @@ file_rows_after old new f four added cut = by_cases (cut_due old (file_record_si
     by_cases true added cut =
         let e : length (file_section new.pending.files) ≡ length (file_section (f ∷ [])) = ap (λ (m : ManagerState). length (file_section m.pending.files)) ((cut refl).1.rest) in
         omega (arith, e, rows_last file_rows file_record_hash [] f, four, length-append (flat_map file_rows old.pending.files) (end_row ∷ []))
+
+-- after an error the same is pending, whether it was to be written before or not
+pub kept_after_error : (old new : ManagerState) (f : MDBFileInfo) (e : StoreError) → (cut_due old (file_record_size f) ≡ false → new ≡ record old { room = 0 })
+    → (cut_due old (file_record_size f) ≡ true → IsUncut old new e) → new.pending ≡ old.pending
+kept_after_error old new f e kept uncut = by_cases (cut_due old (file_record_size f)) kept uncut
+  where
+    by_cases : (due : Bool) → (due ≡ false → new ≡ record old { room = 0 }) → (due ≡ true → IsUncut old new e) → new.pending ≡ old.pending
+    by_cases false kept uncut = ap (λ (m : ManagerState). m.pending) (kept refl)
+    by_cases true kept uncut = ap (λ (m : ManagerState). m.pending) ((uncut refl).rest)

@@ -11,6 +11,7 @@ mod import_tests;
 mod keyed_tests;
 mod listing_tests;
 mod opening_tests;
+mod pruning_tests;
 mod reconstructing_tests;
 mod records;
 mod registering_tests;

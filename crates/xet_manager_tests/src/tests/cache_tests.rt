@@ -10,7 +10,7 @@ use xet_manager::{ManagerSettings, ShardFileManager};
 use xet_shard_directory::MDBShardFile;
 
 /// How many shard files the folder `a` has, expired or not.
-fn files_in_a(alloc: Global, disk: &mut MemoryDisk) -> Result<usize, StoreError> {
+pub fn files_in_a(alloc: Global, disk: &mut MemoryDisk) -> Result<usize, StoreError> {
     let shards = MDBShardFile::load_managed_directory(
         alloc, disk, "a", false, true, false, 0, 0, 0,
     )?;

@@ -47,9 +47,9 @@ fn add_three(alloc: Global, manager: &mut Manager) -> Result<(), StoreError>
 }
 
 /// The number of registered shards, and the runs of `abc`, `abd` and `abe`.
-type Three = (usize, [Option<usize>; 3]);
+pub type Three = (usize, [Option<usize>; 3]);
 
-fn runs(manager: &mut Manager) -> Result<Three, StoreError> {
+pub fn runs(manager: &mut Manager) -> Result<Three, StoreError> {
     let count = totals(manager)?.0;
     let first = run_of(manager, b"abc")?;
     let second = run_of(manager, b"abd")?;

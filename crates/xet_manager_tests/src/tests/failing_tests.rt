@@ -1,9 +1,9 @@
 //! Tests of a manager over a disk in memory of which a call fails.
 
-ghost use Rattle.std.specs.Prelude.{◌≡◌};
+ghost use Rattle.std.specs.Prelude.{◌≡◌, []};
 ghost use Rattle.xet_shard.specs.Held.{nothing};
 
-use crate::tests::records::add_both;
+use crate::tests::records::{add_both, add_file, add_xorb};
 use crate::tests::samples::{Manager, opened, release, run_of, settings, shard_with, totals};
 use std::alloc::Global;
 use std::test::Fail;
@@ -56,6 +56,98 @@ fn failed_flush_keeps_what_is_pending(rt: HostRuntime) -> Result<(), Fail> {
         flushed_where_one_fails(alloc, Op::Write)?,
         [failed, written]
     );
+    Ok(())
+}
+
+/// The number of registered shards, and the bytes of their files and chunks and of what is pending.
+type Totals = (usize, [u64; 2]);
+
+/// The error of adding the file of `abc`, the totals after it, and those once it is added again.
+fn file_added_again(
+    alloc: Global,
+    manager: &mut Manager,
+) -> Result<(StoreError, [Totals; 2]), StoreError>
+    requires none { manager.old.pending.files ≡ [] }
+{
+    match add_file(alloc, manager, b"abc") {
+        Ok(()) => Err(StoreError::HashMismatch),
+        Err(error) => {
+            let refused = totals(manager)?;
+            add_file(alloc, manager, b"abc")?;
+            Ok((error, [refused, totals(manager)?]))
+        }
+    }
+}
+
+/// The same with the totals before it, once the xorb of `abc` was added; and what is seen at last.
+type CutAgain = (StoreError, [Totals; 3], Seen);
+
+fn cut_again(alloc: Global, manager: &mut Manager) -> Result<CutAgain, StoreError>
+    requires empty { manager.old.pending ≡ nothing }
+{
+    add_xorb(alloc, manager, b"abc")?;
+    let before = totals(manager)?;
+    let (error, [refused, added]) = file_added_again(alloc, manager)?;
+    let seen = seen(alloc, manager)?;
+    Ok((error, [before, refused, added], seen))
+}
+
+/// The same where the file does not fit, and the first call of this kind fails.
+fn cut_again_where_one_fails(alloc: Global, op: Op) -> Result<CutAgain, StoreError> {
+    let fails = vec![in alloc; (op, 0)]?;
+    let mut manager = opened(alloc, MemoryDisk::failing(alloc, fails), 671, true)?;
+    let answer = cut_again(alloc, &mut manager);
+    release(manager);
+    answer
+}
+
+#[test]
+fn failed_cut_keeps_what_is_pending(rt: HostRuntime) -> Result<(), Fail> {
+    let totals = [(0, [0, 3]), (0, [0, 3]), (1, [3, 3])];
+    for op in [Op::Write, Op::Sync, Op::Rename] {
+        let (error, counted, seen) = cut_again_where_one_fails(rt.alloc(), op)?;
+        assert_eq!(rt; error, StoreError::Io(Place::Disk));
+        assert_eq!(rt; (counted, seen), (totals, (1, Some(1), Some(true))));
+    }
+    Ok(())
+}
+
+/// The totals before the records of `abc` are added, and after it.
+fn added(alloc: Global, manager: &mut Manager) -> Result<[Totals; 2], StoreError>
+    requires empty { manager.old.pending ≡ nothing }
+{
+    let before = totals(manager)?;
+    add_both(alloc, manager, b"abc")?;
+    Ok([before, totals(manager)?])
+}
+
+/// The same by a manager that is opened on this disk.
+fn added_on(alloc: Global, disk: MemoryDisk) -> Result<[Totals; 2], StoreError> {
+    let mut manager = opened(alloc, disk, 671, true)?;
+    let answer = added(alloc, &mut manager);
+    release(manager);
+    answer
+}
+
+/// The error of adding them by a manager whose cut fails, and the same by another manager on the disk of the first.
+fn added_after_failed_cut(
+    alloc: Global,
+    op: Op,
+) -> Result<(Option<StoreError>, [Totals; 2]), StoreError> {
+    let fails = vec![in alloc; (op, 0)]?;
+    let mut manager = opened(alloc, MemoryDisk::failing(alloc, fails), 671, true)?;
+    let error = add_both(alloc, &mut manager, b"abc").err();
+    let totals = added_on(alloc, manager.into_disk())?;
+    Ok((error, totals))
+}
+
+#[test]
+fn failed_cut_leaves_no_shard(rt: HostRuntime) -> Result<(), Fail> {
+    for op in [Op::Write, Op::Sync, Op::Rename] {
+        let (error, totals) = added_after_failed_cut(rt.alloc(), op)?;
+        assert_eq!(rt; error, Some(StoreError::Io(Place::Disk)));
+        assert_eq!(rt; totals, [(0, [0, 0]), (1, [3, 3])]);
+    }
     Ok(())
 }
 

@@ -1,6 +1,6 @@
 //! Xorbs of one chunk of three bytes, and files of that chunk, which are added to a manager.
 
-ghost use Rattle.std.specs.Prelude.{◌≡◌, ◌≢◌, ◌≤◌, ◌+◌, [], IfOk, OnOk, length};
+ghost use Rattle.std.specs.Prelude.{◌≡◌, ◌≢◌, ◌≤◌, ◌+◌, [], IfOk, OnErr, OnOk, length};
 ghost use Rattle.xet_hash.specs.Hash.{sentinel};
 ghost use Rattle.xet_shard.specs.Held.{nothing};
 ghost use Rattle.xet_shard_format.specs.Records.{IsXorb, xorb_record_hash, xorb_rows, xorb_section};
@@ -55,9 +55,11 @@ pub fn add_another(alloc: Global, manager: &mut Manager, bytes: &[u8]) -> Result
     manager.add_xorb_block(xorb_of(alloc, chunk)?)
 }
 
-/// Adds the file of these three bytes, where no file is pending.
+/// Adds the file of these three bytes, where no file is pending. After an error the same is pending.
+#[tactic(auto, using(crate::proofs::Few::kept_after_error))]
 pub fn add_file(alloc: Global, manager: &mut Manager, bytes: &[u8]) -> Result<(), StoreError>
     requires none { manager.old.pending.files ≡ [] }
+    ensures kept { OnErr result (manager.new.pending ≡ manager.old.pending) }
 {
     let chunk = compute_data_hash(bytes);
     let hash = unmarked(file_hash(alloc, &[(chunk, 3)])?)?;

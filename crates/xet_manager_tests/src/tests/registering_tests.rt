@@ -96,7 +96,7 @@ fn shards_of_another_manager_are_found(rt: HostRuntime) -> Result<(), Fail> {
 
 /// Writes the shard of `abc` into the folder `b`.
 fn put(alloc: Global, disk: &mut MemoryDisk) -> Result<(), StoreError> {
-    write(alloc, disk)?;
+    write(alloc, disk, b"abc")?;
     Ok(())
 }
 
