@@ -1,6 +1,6 @@
 -- Validation of a folder: each unexpired shard is well formed, and everything that it names is stored.
 use Rattle.std.specs.Prelude.{◌≡◌, ◌≢◌, ◌⊎◌, ℕ, ◌<◌, List, [], ◌∷◌, length, map, None, IsSome, Ok, Err}
-use Rattle.std.specs.List.{AllByRecursion}
+use Rattle.std.specs.List.{All, AllByRecursion}
 use Rattle.xet_io.specs.Disk.{Files, bytes_at}
 use Rattle.xet_hash.specs.declared.error.StoreError.{StoreError}
 use Rattle.xet_hash.specs.declared.error.StoreError.TheVariants.{InvalidShard, MalformedData}
@@ -90,6 +90,7 @@ key_of p = p.2.chunk_hash_hmac_key
 pub record ShardHolds (files : Files) (folder : List ℕ) (s : ShardFile) : Type 0 where
   pub parts : ShardParts
   pub read : all_of s.file.bytes ≡ Ok parts
+  pub bytes : All (λ b. b < 256) s.file.bytes
   pub named : shard_hash s.file.bytes ≡ s.hash
   pub blocks : AllByRecursion (BlockHolds files folder s.hash (key_of parts)) parts.0
   pub files_hold : AllByRecursion (FileHolds files folder s.hash) parts.1

@@ -1,5 +1,5 @@
 -- When a core is sound: everything that it names is stored.
-use Rattle.std.specs.Prelude.{◌≡◌, ℕ, List, map, Some}
+use Rattle.std.specs.Prelude.{◌≡◌, ℕ, ◌+◌, List, map, Some}
 use Rattle.std.specs.List.{AllByRecursion}
 use Rattle.xet_io.specs.Disk.{Files, bytes_at}
 use Rattle.xet_hash.specs.Hash.{zero_hash}
@@ -7,11 +7,13 @@ use Rattle.xet_hash.specs.Merkle.{chunk_hash}
 use Rattle.xet_shard.specs.Queries.{kept_hash}
 use Rattle.xet_shard_format.specs.Encoding.{IsShardEncoding}
 use Rattle.xet_shard_format.specs.Records.{file_record_hash, xorb_record_hash}
+use Rattle.xet_shard_format.specs.declared.record.FileDataSequenceEntry.{FileDataSequenceEntry as Segment}
 use Rattle.xet_shard_format.specs.declared.record.MDBFileInfo.{MDBFileInfo}
 use Rattle.xet_shard_format.specs.declared.record.MDBXorbInfo.{MDBXorbInfo}
 use Rattle.xet_shard_file.specs.Names.{shard_path}
 use Rattle.xet_folder.specs.Admission.{block_leaves}
 use Rattle.xet_folder.specs.Contents.{IsRecord}
+use Rattle.xet_folder.specs.Plan.{LiesIn}
 use Rattle.xet_folder.specs.Xorbs.{AreBacked, IsListed, Xorbs}
 use Rattle.xet_history.specs.Core.{Core, RegisteredShard}
 
@@ -20,6 +22,14 @@ pub record IsBlock (xorbs : Xorbs) (key : List ℕ) (b : MDBXorbInfo) : Type 0 w
   pub leaves : List (List ℕ × ℕ)
   pub listed : IsListed xorbs (xorb_record_hash b) leaves
   pub keyed : block_leaves b ≡ map (λ m. (kept_hash key m.0, m.1)) leaves
+
+-- The run of a query, with the number of its chunks, is one of a listed xorb: its segment lies there, and names so many
+-- chunks, at least one.
+pub record IsListedRun (xorbs : Xorbs) (run : ℕ × Segment) : Type 0 where
+  pub leaves : List (List ℕ × ℕ)
+  pub listed : IsListed xorbs run.1.xorb_hash leaves
+  pub lies : LiesIn (λ m. m.1) run.1 leaves
+  pub count : run.1.chunk_index_end ≡ run.1.chunk_index_start + run.0
 
 -- Over the listed xorbs, the plan of a record resolves to chunks, at least one, which give its file hash.
 abbrev pub Rebuilds : Xorbs → MDBFileInfo → Type 0

@@ -21,15 +21,9 @@ use Rattle.xet_folder.specs.Plan.{LiesIn}
 use Rattle.xet_folder.specs.Xorbs.{IsListed, Xorbs}
 use Rattle.xet_history.specs.Core.{Core, RegisteredShard}
 use Rattle.xet_history.specs.Found.{first_some, found_run, indexed, indexed_after, items_of, key_of, keyed_run, keys_of, of_key, place_of, word_count}
-use Rattle.xet_history.specs.Sound.{IsBlock, IsSound}
+use Rattle.xet_history.specs.Sound.{IsBlock, IsListedRun, IsSound}
 use Rattle.xet_history.specs.theorems.Finding.{FoundRun, Hashes}
 use Rattle.xet_history.specs.theorems.Staying.{Leaves}
-
--- the segment lies in the listed chunks of its xorb
-pub record LiesListed (xorbs : Xorbs) (s : Segment) : Type 0 where
-  pub leaves : Leaves
-  pub listed : IsListed xorbs s.xorb_hash leaves
-  pub lies : LiesIn (λ m. m.1) s leaves
 
 -- ---- a run of a block
 
@@ -68,10 +62,11 @@ module _ (xorbs : Xorbs) (key : List ℕ) (b : MDBXorbInfo) (is : IsBlock xorbs 
   same_count : length b.chunks ≡ length is.leaves
   same_count = sym (length-map b.chunks entry_leaf) ∙ ap (λ (l : Leaves). length l) is.keyed ∙ length-map is.leaves (keyed_leaf key)
 
-  segment_lies : (place count : ℕ) → 0 < count → place + count ≤ length b.chunks → LiesListed xorbs (run_segment b place count)
+  segment_lies : (place count : ℕ) → 0 < count → place + count ≤ length b.chunks → IsListedRun xorbs (count, run_segment b place count)
   segment_lies place count some within = record {
     leaves = is.leaves;
     listed = is.listed;
+    count = refl;
     lies = record {
       some = omega (arith, some);
       within = omega (arith, within, same_count);
@@ -81,7 +76,7 @@ module _ (xorbs : Xorbs) (key : List ℕ) (b : MDBXorbInfo) (is : IsBlock xorbs 
     };
   }
 
-  run_lies : (query : Hashes) (place : ℕ) (run : FoundRun) → run_at query b place ≡ Some run → LiesListed xorbs run.1
+  run_lies : (query : Hashes) (place : ℕ) (run : FoundRun) → run_at query b place ≡ Some run → IsListedRun xorbs run
   unfolding run_at
   run_lies query place run e = go (agreeing query there) within (agreeing query there == 0) refl e
     where
@@ -92,22 +87,22 @@ module _ (xorbs : Xorbs) (key : List ℕ) (b : MDBXorbInfo) (is : IsBlock xorbs 
       within = omega (arith, agreeing_within query (digests (drop place b.chunks)), length-map (drop place b.chunks) (λ (c : XorbChunkSequenceEntry). c.chunk_hash), length-drop place b.chunks)
 
       go : (count : ℕ) → count ≤ length b.chunks - place → (none : Bool) → (count == 0) ≡ none
-          → (let o : Option FoundRun = if none then None else Some (count, run_segment b place count) in o) ≡ Some run → LiesListed xorbs run.1
+          → (let o : Option FoundRun = if none then None else Some (count, run_segment b place count) in o) ≡ Some run → IsListedRun xorbs run
       go count le true is e = absurd (cc e)
       go count le false is e =
           let some : count ≢ 0 = eqb-false count 0 is in
           let found : Some (count, run_segment b place count) ≡ Some run = e in
           let same : (count, run_segment b place count) ≡ run = cc found in
-          subst (λ (r : FoundRun). LiesListed xorbs r.1) same (segment_lies place count (omega arith) (omega (arith, le)))
+          subst (λ (r : FoundRun). IsListedRun xorbs r) same (segment_lies place count (omega arith) (omega (arith, le)))
 
 -- ---- queries that are made of others
 
 -- each run that is found lies in a listed xorb
 abbrev pub AllLie : Xorbs → Option FoundRun → Type 0
-AllLie xorbs o = (run : FoundRun) → o ≡ Some run → LiesListed xorbs run.1
+AllLie xorbs o = (run : FoundRun) → o ≡ Some run → IsListedRun xorbs run
 
 module _ (xorbs : Xorbs) where
-  lie_then : {X : Type 0} (f : X → Option FoundRun) (o : Option X) → ((x : X) → o ≡ Some x → AllLie xorbs (f x)) → AllLie xorbs (option_and_then f o)
+  pub lie_then : {X : Type 0} (f : X → Option FoundRun) (o : Option X) → ((x : X) → o ≡ Some x → AllLie xorbs (f x)) → AllLie xorbs (option_and_then f o)
   lie_then f None lie run e = absurd (cc e)
   lie_then f (Some x) lie run e = lie x refl run e
 
@@ -171,13 +166,13 @@ indexed_all P cap before (s ∷ ss) here all =
 
 -- ---- queries of a core
 
-held_lie : (xorbs : Xorbs) (blocks : List MDBXorbInfo) → AllByRecursion (IsBlock xorbs zero_hash) blocks → (h : List ℕ) (hs : Hashes) → AllLie xorbs (held_run blocks (h ∷ hs))
+pub held_lie : (xorbs : Xorbs) (blocks : List MDBXorbInfo) → AllByRecursion (IsBlock xorbs zero_hash) blocks → (h : List ℕ) (hs : Hashes) → AllLie xorbs (held_run blocks (h ∷ hs))
 unfolding held_run
 held_lie xorbs blocks all h hs =
     lie_then xorbs (λ (at : MDBXorbInfo × ℕ). run_at (h ∷ hs) at.0 at.1) (last_chunk h blocks)
     (λ at e. run_lies xorbs zero_hash at.0 (last_chunk_in (IsBlock xorbs zero_hash) h blocks all at e) (h ∷ hs) at.1)
 
-shard_lie : (xorbs : Xorbs) (s : Shard) → AllByRecursion (IsBlock xorbs s.key) s.blocks → (query : Hashes) (row place : ℕ) → AllLie xorbs (shard_run_at s query row place)
+pub shard_lie : (xorbs : Xorbs) (s : Shard) → AllByRecursion (IsBlock xorbs s.key) s.blocks → (query : Hashes) (row place : ℕ) → AllLie xorbs (shard_run_at s query row place)
 shard_lie xorbs s all query row place =
     lie_in xorbs (λ (b : MDBXorbInfo). run_at (map (kept_hash s.key) query) b place) (block_at row 0 s.blocks)
     (λ b e. run_lies xorbs s.key b (block_in (IsBlock xorbs s.key) row 0 s.blocks all b e) (map (kept_hash s.key) query) place)
@@ -193,7 +188,7 @@ module _ (files : Files) (folder : List ℕ) (c : Core) (sound : IsSound files f
       lie_then c.xorbs (λ (at : Place). shard_run_at at.0.contents query at.1 at.2) (place_of (first_word (kept_hash key h)) (of_key key (indexed c)))
       (λ at e. shard_lie c.xorbs at.0.contents (place_in HasBlocks (first_word (kept_hash key h)) (of_key key (indexed c)) all at e) query at.1 at.2)
 
-  pub found_lies : (hashes : Hashes) (run : FoundRun) → found_run c hashes ≡ Some run → LiesListed c.xorbs run.1
+  pub found_lies : (hashes : Hashes) (run : FoundRun) → found_run c hashes ≡ Some run → IsListedRun c.xorbs run
   unfolding found_run
   found_lies [] run e = absurd (cc e)
   found_lies (h ∷ hs) run e =
