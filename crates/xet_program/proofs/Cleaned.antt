@@ -104,7 +104,9 @@ module _ {S : Type 0} (tells : S → Bool) (left : S → List ℕ) (faults : S �
   rose_of_reason (Io place.Disk) reason is = reason
   rose_of_reason (Io place.Input) reason is = absurd reason
   rose_of_reason (Io place.Output) reason is = absurd reason
-  rose_of_reason (TooLarge w) reason is = absurd (cc is)
+  rose_of_reason (TooLarge (what.Source i)) reason is = absurd (cc is)
+  rose_of_reason (TooLarge what.Shards) reason is = absurd reason
+  rose_of_reason (TooLarge what.Input) reason is = absurd reason
   rose_of_reason (MalformedData r) reason is = absurd (cc is)
   rose_of_reason _ reason is = absurd (cc is)
 

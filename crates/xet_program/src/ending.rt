@@ -9,7 +9,7 @@ ghost use Rattle.xet_io.specs.Frame.{Called};
 use std::alloc::{AllocError, AllocFailed, Global};
 use std::marker::Model;
 use xet_base::Text;
-use xet_hash::{Place, StoreError};
+use xet_hash::{Place, StoreError, What};
 use xet_io::{Refusal, Sink, Unread, write_all};
 
 /// Why a command stops without an answer.
@@ -52,6 +52,8 @@ impl From<StoreError> for Stop {
         match error {
             StoreError::Io(Place::Source(_)) => Stop::Input,
             StoreError::Io(_) => Stop::Disk,
+            // More shards than can be registered.
+            StoreError::TooLarge(What::Shards) => Stop::OutOfMemory,
             StoreError::TooLarge(_) => Stop::TooLarge,
             StoreError::MalformedData(_) => Stop::Malformed,
             // `OutOfMemory`. Of the others only `FileNotFound` and `InvalidRange` can occur, and only if digests collide.

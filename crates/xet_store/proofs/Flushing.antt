@@ -1,9 +1,9 @@
 -- What is pending, in a shard.
-use Rattle.std.proofs.Common.{◌≡◌, ◌≢◌, ◌⊎◌, inl, inr, ◌∙◌, ℕ, ◌-◌, ◌*◌, ◌^◌, ◌<◌, ◌≤◌, Bool, true, false, nat_eq, nat_lt, ◌||◌, List, [], ◌∷◌, ◌++◌, drop, map, Option, Some, None, IsSome, Result, Ok, refl, sym, ap, subst, arith, option_map}
+use Rattle.std.proofs.Common.{◌≡◌, ◌≢◌, ◌⊎◌, inl, inr, ◌∙◌, ℕ, ◌-◌, ◌*◌, ◌^◌, ◌<◌, ◌≤◌, Bool, true, false, nat_eq, nat_lt, ◌||◌, List, [], ◌∷◌, ◌++◌, drop, length, map, Option, Some, None, IsSome, Result, Ok, refl, sym, ap, subst, arith, option_map}
 use Rattle.std.proofs.lemmas.Bool.{le-ltb}
 use Rattle.std.proofs.lemmas.List.{append-nil}
 use Rattle.std.specs.Cmp.Lexicographic.{bytes_decides, pointwise}
-use Rattle.std.specs.List.{AllByRecursion, IsAmong, list_any}
+use Rattle.std.specs.List.{All, AllByRecursion, IsAmong, list_any}
 use Rattle.std.specs.Ordering.{is_lt}
 use Rattle.std.specs.declared.cmp.Ordering.{Ordering}
 use Rattle.xet_hash.specs.Hash.{zero_hash}
@@ -24,7 +24,7 @@ use Rattle.xet_shard_format.specs.theorems.RowLaws.{bind_ok}
 use Rattle.xet_shard_format.specs.theorems.WholeAgain.{all_again}
 use Rattle.xet_folder.specs.Admission.{BlockHolds, FileHolds, ShardHolds, block_leaves, shard_hash}
 use Rattle.xet_folder.specs.Checks.{OfBytes, OfFile, OfShard}
-use Rattle.xet_folder.specs.Contents.{IsRecord}
+use Rattle.xet_folder.specs.Contents.{IsRecord, max_shards}
 use Rattle.xet_folder.specs.Names.{IsForeign, xorb_path}
 use Rattle.xet_shard_file.specs.Names.{IsHash, shard_path}
 use Rattle.xet_folder.specs.Listed.{Lists}
@@ -39,6 +39,7 @@ use Rattle.xet_store.specs.Cleaning.{HasWholeShard, Keeps, SameEntry}
 use Rattle.xet_store.specs.Flushing.{IsFlushed, IsUnflushed, KeepsOtherNames, pending_bytes}
 use Rattle.xet_store.specs.Separate.{Among}
 use Rattle.xet_store.specs.Store.{State, IsAdmitted, IsKept, IsPendingFile, Sound}
+use Rattle.xet_store.proofs.EncodedBytes.{encoding_is_bytes}
 use Rattle.xet_store.specs.theorems.Admitting.{SameXorb, admitted_still, admitted_with, backed_same, registered_still, this_registered}
 use Rattle.xet_store.specs.theorems.Plans.{resolves_more}
 use Rattle.xet_store.specs.theorems.Rows.{among_last, among_more, among_sorted, from_among, is_some_found, to_among}
@@ -84,7 +85,7 @@ module _ (held : Held) (now : ℕ) (shard : IsShard (held_shard held now None)) 
 
 -- ---- the shard is whole
 
-file_there : (files : Files) (name bytes : List ℕ) → bytes_at files name ≡ Some bytes → (f : File) × (file_at files name ≡ Some f) × (f.bytes ≡ bytes)
+pub file_there : (files : Files) (name bytes : List ℕ) → bytes_at files name ≡ Some bytes → (f : File) × (file_at files name ≡ Some f) × (f.bytes ≡ bytes)
 file_there files name bytes e = go (file_at files name) refl e
   where
     go : (o : Option File) → file_at files name ≡ o → option_map (λ (f : File). f.bytes) o ≡ Some bytes → (f : File) × (file_at files name ≡ Some f) × (f.bytes ≡ bytes)
@@ -165,6 +166,7 @@ module _ (s : State) (sound : Sound s) (shard : IsShard (held_shard s.pending s.
   encoding_holds files h file backed hash is = record {
     parts = parts;
     read = ap all_of is ∙ read_again s.pending s.opened shard fits;
+    bytes = subst (All (λ b. b < 256)) (sym is) (encoding_is_bytes all_lookups (held_shard s.pending s.opened None) fits);
     named = ap shard_hash is ∙ sym hash;
     blocks = all_more (λ b. IsListed s.xorbs (xorb_record_hash b) (block_leaves b)) (BlockHolds files s.folder h zero_hash) (by_hash xorb_record_hash s.pending.blocks)
         (λ b l. unkeyed_holds files s.folder h b (backed (xorb_record_hash b) (block_leaves b) l)) blocks_listed;
@@ -304,12 +306,15 @@ module _ (s : State) (h : List ℕ) (tells : Bool) (files : Files) (faults : ℕ
       → Sound (changed s tells files faults s.xorbs s.records shards pending)
   sound_flushed_at hash shard fits there admitted = subst Sound same_flushed (sound_flushed s h tells files faults stays sound hash shard fits there admitted)
 
-  pub is_flushed : IsHash h → IsShard (held_shard s.pending s.opened None) → Fits (held_shard s.pending s.opened None) → (t : State) → s ≡ t → h ≡ shard_hash (pending_bytes s)
-      → (s.tells ≡ true → IsDone files (shard_path s.folder h) (pending_bytes s)) → (s.tells ≡ true → KeepsOtherNames s.files files (shard_path s.folder h))
+  pub is_flushed : IsHash h → IsShard (held_shard s.pending s.opened None) → Fits (held_shard s.pending s.opened None) → (t : State) → s ≡ t → h ≡ shard_hash (pending_bytes s) → AllByRecursion (λ k. k ≢ h) s.shards
+      → (s.tells ≡ true → IsDone files (shard_path s.folder h) (pending_bytes s)) → (s.tells ≡ true → KeepsOtherNames s.files files (shard_path s.folder h)) → length s.shards < max_shards
       → IsFlushed t h (changed s tells files faults s.xorbs s.records shards pending)
-  is_flushed is_hash shard fits t e hash done others = subst (λ (o : State). IsFlushed o h (changed s tells files faults s.xorbs s.records shards pending)) e
+  is_flushed is_hash shard fits t e hash fresh done others few = subst (λ (o : State). IsFlushed o h (changed s tells files faults s.xorbs s.records shards pending)) e
       (record {
+        form = record { shard = shard; fits = fits };
         hash = hash;
+        fresh = fresh;
+        few = few;
         there = λ told. (done told).there;
         durable = λ told. (done told).durable;
         temp = λ told. (done told).temp;
@@ -360,6 +365,11 @@ not_listed listed shards h same none a = go shards (ap (list_any (λ k. pointwis
         let t : pointwise nat_eq k h ≡ true = (bytes_decides k h).1 is in
         let bad : true ≡ false = sym t ∙ both.0 in absurd (cc bad)
     go (k ∷ ks) e (inr later) = go ks (or_false (pointwise nat_eq k h) (list_any (λ x. pointwise nat_eq x h) ks) e).1 later
+
+-- what is not among some is none of them
+none_among : (ks : List (List ℕ)) (h : List ℕ) → (Among ks h → ⊥) → AllByRecursion (λ k. k ≢ h) ks
+none_among [] h apart = tt
+none_among (k ∷ ks) h apart = (λ e. apart (inl e), none_among ks h (λ a. apart (inr a)))
 
 -- ---- a put of the shard, in a folder by another name
 
@@ -442,5 +452,5 @@ module _ {s : State} {folder h encoding : List ℕ} {tells : Bool} {files : File
     put_sound = sound_flushed_at s h tells files faults done_stays p.sound registered none p.is_hash p.shard p.fits (λ told. (done_here told).there)
         (λ told. admitted_put s h tells files faults p.sound p.is_hash hash_here p.shard p.fits xorbs_here shards_here told (done_here told))
 
-    pub put_flushed : (t : State) → s ≡ t → IsFlushed t h (changed s tells files faults s.xorbs s.records shards pending)
-    put_flushed t e = is_flushed s h tells files faults done_stays p.sound registered none p.is_hash p.shard p.fits t e hash_here done_here others_here
+    pub put_flushed : (t : State) → s ≡ t → length s.shards < max_shards → IsFlushed t h (changed s tells files faults s.xorbs s.records shards pending)
+    put_flushed t e few = is_flushed s h tells files faults done_stays p.sound registered none p.is_hash p.shard p.fits t e hash_here (none_among s.shards h p.new) done_here others_here few

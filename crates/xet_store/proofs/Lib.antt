@@ -4,6 +4,7 @@ mod Rows
 mod Differing
 mod Pending
 mod Encoding
+mod EncodedBytes
 mod Adding
 mod Recording
 mod Storing
@@ -13,3 +14,5 @@ mod Flushing
 mod MadeChunks
 mod Opened
 mod Reading
+mod ShardPaths
+mod Asking

@@ -2,6 +2,7 @@ pub mod Store
 pub mod Opening
 pub mod Flushing
 pub mod Ranges
+pub mod Asking
 pub mod Coding
 pub mod Separate
 pub mod Tables

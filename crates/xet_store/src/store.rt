@@ -6,6 +6,7 @@ ghost use Rattle.xet_folder.specs.Xorbs.{found};
 ghost use Rattle.xet_store.specs.Store.{Differ, recorded_files, plan_of};
 
 mod adding;
+mod asking;
 mod flushing;
 mod opening;
 mod reading;
@@ -87,6 +88,13 @@ impl<D: Disk + Send> Store<D> {
         ensures { result ≡ length self.now.shards }
     {
         self.shards.len() as u64
+    }
+
+    /// The hashes of the registered shards, in order of registration.
+    pub fn shards(&self) -> &[MerkleHash]
+        ensures { result.now ≡ self.now.shards }
+    {
+        &self.shards
     }
 
     /// Whether a xorb of this hash is listed.

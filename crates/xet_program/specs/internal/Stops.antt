@@ -34,21 +34,20 @@ stop_of_unread unread.Failed = Input
 stop_of_unread unread.TooLong = TooLarge
 
 -- The stop for an error of the store. Opening, cleaning and flushing return no other errors without a shard's
--- name than these and out of memory (`IsFolderError`, `HasReason`, `HasDiskReason`). Reading a good range of a
--- file that was just cleaned returns `FileNotFound` or `InvalidRange` only if digests collide; a collision
--- counts as out of memory.
+-- name than these and out of memory (`IsFolderError`, `HasReason`, `IsFlushError`). More shards than can be registered
+-- count as out of memory. Reading a good range of a file that was just cleaned returns `FileNotFound` or `InvalidRange`
+-- only if digests collide; a collision counts as out of memory.
 abbrev pub stop_of_error : StoreError → Stop
 stop_of_error (Io (Source i)) = Input
 stop_of_error (Io place) = Disk
+stop_of_error (error.TooLarge Shards) = OutOfMemory
 stop_of_error (error.TooLarge what) = TooLarge
 stop_of_error (MalformedData reason) = Malformed
 stop_of_error _ = OutOfMemory
 
--- The stop for a folder that was not opened, with the name of the shard if there is one. More unexpired shards
--- than can be registered count as out of memory.
+-- the stop for a folder that was not opened, with the name of the shard if there is one
 abbrev pub stop_of_refusal : StoreError → Option (List ℕ) → Stop
 stop_of_refusal e (Some name) = BadShard name
-stop_of_refusal (error.TooLarge Shards) None = OutOfMemory
 stop_of_refusal e None = stop_of_error e
 
 -- the stop for an error of reading a range

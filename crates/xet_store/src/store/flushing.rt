@@ -1,34 +1,41 @@
 //! Flushing: writing a shard of what is pending.
 
-ghost use Rattle.std.specs.Prelude.{◌≡◌, ◌↔◌, None, Ok, IfErr, IfOk, IfSome, OnErr};
+ghost use Rattle.std.specs.Prelude.{◌≡◌, ◌↔◌, None, Ok, IfErr, IfOk, IfSome, IsErrOf, OnErr};
 ghost use Rattle.xet_shard.specs.Held.{nothing};
-ghost use Rattle.xet_codec.specs.Stops.{HasDiskReason};
 ghost use Rattle.xet_store.specs.Cleaning.{Keeps};
-ghost use Rattle.xet_store.specs.Flushing.{IsFlushed, IsUnflushed};
+ghost use Rattle.xet_store.specs.Flushing.{IsFlushError, IsFlushed, IsFull, IsUnflushed};
 
 use crate::store::Store;
 use std::alloc::Global;
 use std::marker::Send;
 use xet_folder::put_shard;
-use xet_hash::{MerkleHash, StoreError, compute_data_hash};
+use xet_hash::{MerkleHash, StoreError, What, compute_data_hash};
 use xet_io::Disk;
 use xet_shard::MDBInMemoryShard;
 use xet_shard_file::recall_bytes;
 
+/// The maximum number of registered shards.
+const MAX_SHARDS: usize = u32::MAX as usize;
+
 impl<D: Disk + Send> Store<D> {
     /// Writes one shard of all that is pending, durable, and returns its hash; returns none if nothing is
-    /// pending. After an error all of it is still pending. The error is `OutOfMemory`, or `Io(Disk)`, which
-    /// is returned only if the disk failed.
+    /// pending. After an error all of it is still pending. `TooLarge(Shards)` is returned if and only if something
+    /// is pending and 2^32 - 1 shards are registered, and then nothing is done. Any other error is `OutOfMemory`, or
+    /// `Io(Disk)`, which is returned only if the disk failed.
     pub fn flush(&mut self) -> Result<Option<MerkleHash>, StoreError>
         ensures none { IfOk result (λ h. (h ≡ None) ↔ (self.old.pending ≡ nothing)) }
         ensures idle { self.old.pending ≡ nothing → (result ≡ Ok None) × (self.new ≡ self.old) }
         ensures flushed { IfOk result (λ h. IfSome h (λ shard. IsFlushed self.old shard self.new)) }
         ensures refused { OnErr result (IsUnflushed self.old self.new) }
         ensures keeps { Keeps self.old self.new }
-        ensures reason { IfErr result (HasDiskReason self.old.faults self.new.faults) }
+        ensures full { IsFull self.old → IsErrOf result (StoreError.TooLarge What.Shards) }
+        ensures reason { IfErr result (IsFlushError self.old self.new.faults) }
     {
         if self.pending.is_empty() {
             return Ok(None);
+        }
+        if self.shards.len() >= MAX_SHARDS {
+            return Err(StoreError::TooLarge(What::Shards));
         }
         let (encoding, _) = self.pending.shard_bytes(self.alloc, self.opened, None)?;
         let hash = compute_data_hash(&encoding);

@@ -1,8 +1,8 @@
 //! Opening a store.
 
-ghost use Rattle.std.specs.Prelude.{◌≡◌, ◌≤◌, true, false, IfErr, IfOk};
+ghost use Rattle.std.specs.Prelude.{◌≡◌, ◌≤◌, true, false, length, IfErr, IfOk};
 ghost use Rattle.std.specs.List.{AllByRecursion};
-ghost use Rattle.xet_folder.specs.Contents.{HasContents, IsRecord, IsFolderError};
+ghost use Rattle.xet_folder.specs.Contents.{HasContents, IsRecord, IsFolderError, max_shards};
 ghost use Rattle.xet_shard_file.specs.Names.{IsHash};
 ghost use Rattle.xet_folder.specs.Xorbs.{AreBacked};
 ghost use Rattle.xet_store.specs.Opening.{IsOpened, contents_of};
@@ -35,6 +35,7 @@ impl<D: Disk + Send> Store<D> {
         requires { prune ≡ false }
         ensures opened { IfOk result (IsOpened (D.tells disk) (D.files disk) folder.now limits now) }
         ensures contents { D.tells disk ≡ true → IfOk result (λ store. HasContents (D.files disk) folder.now now (contents_of store)) }
+        ensures few { IfOk result (λ store. length store.shards ≤ max_shards) }
         ensures later { IfOk result (λ store. D.faults disk ≤ store.faults) }
         ensures disk { IfErr result (λ refused. (D.tells refused.disk ≡ D.tells disk) × (D.files refused.disk ≡ D.files disk)) }
         ensures counted { IfErr result (λ refused. D.faults disk ≤ D.faults refused.disk) }

@@ -1,4 +1,4 @@
-use Rattle.std.proofs.Common.{◌∙◌, ◌∷◌, [], ◌++◌, ℕ, List, inr, refl, ap}
+use Rattle.std.proofs.Common.{◌∙◌, ◌∷◌, [], ◌++◌, ℕ, List, inr, refl, ap, arith}
 use Rattle.xet_store.proofs.Answering.{on_err}
 use Rattle.xet_store.proofs.Flushing.{nothing_done, put_flushed, put_keeps, put_sound, puts_shard, unput_at, unput_keeps, unput_refused, unput_sound}
 use Rattle.xet_store.specs.theorems.Keeping.{keeps_nothing}
@@ -7,6 +7,12 @@ use Rattle.xet_store.proofs.store.Store.flush.Goals as goal
 
 pub returns-then-is_empty-clause-keeps : goal.returns-then-is_empty-clause-keeps
 returns-then-is_empty-clause-keeps g c = keeps_nothing c.args.self.now
+
+pub returns-then-len-ge-MAX_SHARDS-clause-keeps : goal.returns-then-len-ge-MAX_SHARDS-clause-keeps
+returns-then-len-ge-MAX_SHARDS-clause-keeps g c = keeps_nothing c.args.self.now
+
+pub returns-then-len-ge-MAX_SHARDS-clause-refused : goal.returns-then-len-ge-MAX_SHARDS-clause-refused
+returns-then-len-ge-MAX_SHARDS-clause-refused g c = nothing_done c.args.self.now
 
 pub returns-in_err-encoding-clause-keeps : goal.returns-in_err-encoding-clause-keeps
 returns-in_err-encoding-clause-keeps g c = keeps_nothing c.args.self.now
@@ -56,7 +62,7 @@ returns-clause-flushed g c =
     let e = c.in_ok-encoding.ensures in let p = c.put_shard.ensures in let put = puts_shard c.self.invariant c.as_str-folder.ensures c.deref-2.ensures.value c.contains.ensures.value c.if-contains.false e.shard e.fits
     (c.recall_bytes.ensures.length, c.recall_bytes.ensures.bytes) c.compute_data_hash-hash.ensures c.deref.ensures.value c.deref-3.ensures.value e.encoding p.frame.tells p.frame.later p.xorbs p.shards p.others p.foreign in
     put_flushed put (λ told. record { there = c.in_ok-put_shard.ensures.there told; durable = c.in_ok-put_shard.ensures.durable told; temp = c.in_ok-put_shard.ensures.temp told })
-    (c.push_reserved.ensures.items ∙ ap (λ (l : List (List ℕ)). l ++ c.compute_data_hash-hash.result ∷ []) c.reserve.ensures.items) c.empty.ensures _ c.self.view_is
+    (c.push_reserved.ensures.items ∙ ap (λ (l : List (List ℕ)). l ++ c.compute_data_hash-hash.result ∷ []) c.reserve.ensures.items) c.empty.ensures _ c.self.view_is (omega arith)
 
 pub returns-clause-keeps : goal.returns-clause-keeps
 returns-clause-keeps g c =
