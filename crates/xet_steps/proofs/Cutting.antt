@@ -1,5 +1,6 @@
 -- What follows a cut.
-use Rattle.std.proofs.Common.{◌≡◌, ◌∙◌, ℕ, true, List, [], ◌∷◌, ◌++◌, map, Option, None, option_map, sym, ap, subst}
+use Rattle.std.proofs.Common.{◌≡◌, ◌≢◌, ◌∙◌, inr, ℕ, Bool, true, List, [], ◌∷◌, ◌++◌, map, Option, None, option_map, sym, ap, subst}
+use Rattle.std.specs.Prelude.{if◌then◌else◌}
 use Rattle.xet_codec.specs.Stops.{HasDiskReason}
 use Rattle.xet_hash.specs.Merkle.{xorb_hash}
 use Rattle.xet_hash.specs.declared.error.StoreError.{StoreError}
@@ -11,23 +12,35 @@ use Rattle.xet_shard_format.specs.Records.{file_record_hash}
 use Rattle.xet_shard_format.specs.declared.record.MDBFileInfo.{MDBFileInfo}
 use Rattle.xet_xorb.specs.Raw.{xorb_record}
 use Rattle.xet_folder.specs.Xorbs.{FileRecords, Xorbs, found}
+use Rattle.xet_history.specs.Core.{Core, is_cut_due, pending_hash}
+use Rattle.xet_history.specs.History.{cut_entries}
 use Rattle.xet_history.specs.declared.entry.Entry.{Entry}
-use Rattle.xet_history.specs.declared.entry.Entry.TheVariants.{Complete, Register}
+use Rattle.xet_history.specs.declared.entry.Entry.TheVariants.{Complete, Flush, Register}
 use Rattle.xet_history.specs.declared.entry.StepKind.{StepKind}
 use Rattle.xet_history.specs.theorems.Staying.{Leaves}
 use Rattle.xet_store.specs.Cleaning.{Keeps}
 use Rattle.xet_store.specs.Store.{State}
 use Rattle.xet_store.specs.Tables.{Tables, tables_of, with_leaves, with_record}
-use Rattle.xet_steps.specs.Recorded.{RecordedState, recorded_state}
+use Rattle.xet_steps.specs.Recorded.{RecordedState, core_of, recorded_state}
 use Rattle.xet_steps.specs.Steps.{CutRefuses, Cuts, Faults, Records, Registers, Steps, fault_entries}
 use Rattle.xet_steps.proofs.Completing.{steps_added, steps_completed}
 use Rattle.xet_steps.proofs.Moving.{steps_fault, steps_nothing}
 use Rattle.xet_steps.proofs.Refusing.{refuses_first, refuses_then}
 use Rattle.xet_steps.proofs.Registering.{steps_new, steps_registered}
 
+-- a cut that is due has an entry
+cut_not_none : (pass : ℕ) (c : Core) (target bytes : ℕ) → is_cut_due c target bytes ≡ true → cut_entries pass c target bytes ≢ []
+cut_not_none pass c target bytes due none =
+    let is : cut_entries pass c target bytes ≡ Flush pass (pending_hash c) ∷ [] = ap (λ (b : Bool). if b then Flush pass (pending_hash c) ∷ [] else []) due in
+    let bad : ◌≡◌ {A = List Entry} (Flush pass (pending_hash c) ∷ []) [] = sym is ∙ none in
+    cc bad
+
 -- a failure of the cut
-pub cut_refuses_first : (pass : ℕ) (kind : StepKind) (bytes : ℕ) (s t : RecordedState) (e : StoreError) → Faults pass kind s t e → CutRefuses pass kind bytes s t e
-cut_refuses_first pass kind bytes s t e failed = record { refuses = refuses_first pass kind _ s t e failed }
+pub cut_refuses_first : (pass : ℕ) (kind : StepKind) (bytes size : ℕ) (s t : RecordedState) (e : StoreError) → bytes ≡ size → is_cut_due (core_of s) s.store.limits.shard_target bytes ≡ true → Faults pass kind s t e
+    → CutRefuses pass kind size s t e
+cut_refuses_first pass kind bytes size s t e same due failed =
+    let due_here : is_cut_due (core_of s) s.store.limits.shard_target size ≡ true = subst (λ (n : ℕ). is_cut_due (core_of s) s.store.limits.shard_target n ≡ true) same due in
+    record { refuses = refuses_first pass kind (cut_entries pass (core_of s) s.store.limits.shard_target size) s t e (inr (cut_not_none pass (core_of s) s.store.limits.shard_target size due_here)) failed }
 
 module _ {G : Type 0} (v : G → Held) (files : Files) (a b c : State) (xs ys : List (Option G)) (h k l : List Entry) (pass bytes : ℕ) where
   abbrev first : RecordedState

@@ -13,4 +13,5 @@ steps_then a b c xs ys first second = record {
   moves = moves_both a.store.tells (core_of a) (core_of b) (core_of c) a.history b.history c.history xs ys first.moves
       (subst (λ (t : Bool). Moves t (core_of b) (core_of c) b.history c.history ys) first.keeps.tells second.moves);
   keeps = keeps_then a.store b.store c.store first.keeps second.keeps;
+  shards = λ are. second.shards (first.shards are);
 }

@@ -13,9 +13,11 @@ use Rattle.xet_io.specs.Disk.{Files}
 use Rattle.xet_shard.specs.Held.{Held}
 use Rattle.xet_shard_format.specs.Records.{file_record_hash}
 use Rattle.xet_shard_format.specs.declared.record.MDBFileInfo.{MDBFileInfo}
+use Rattle.xet_shard_registry.specs.Collections.{Tables}
 use Rattle.xet_store.specs.Store.{State}
 use Rattle.xet_xorb.specs.Raw.{raw_leaves}
 use Rattle.xet_xorb.specs.declared.raw.RawXorbData.{RawXorbData}
+use Rattle.xet_steps.specs.Asking.{HasRegistry}
 use Rattle.xet_steps.specs.Recorded.{IsRecorded, RecordedState, core_of, recorded_state}
 use Rattle.xet_steps.specs.Steps.{Records, Registers, Steps}
 use Rattle.xet_steps.proofs.Completing.{steps_recorded}
@@ -81,12 +83,12 @@ module _ {G : Type 0} (v : G → Held) (files : Files) (s : State) (zs ys : List
   }
 
   -- after such a call the history leads to the core
-  pub recorded_registered : (leaves next : Leaves) → (length zs ≡ length s.shards) × IsRecorded before → ys ≡ zs → k ≡ g ++ Register pass leaves next false ∷ [] → is_new s.xorbs (xorb_hash leaves) ≡ false
-      → (length ys ≡ length s.shards) × IsRecorded after
-  recorded_registered leaves next was kept added old =
+  pub recorded_registered : (leaves next : Leaves) {tables : Tables} → (length zs ≡ length s.shards) × IsRecorded before × HasRegistry s tables → ys ≡ zs → k ≡ g ++ Register pass leaves next false ∷ [] → is_new s.xorbs (xorb_hash leaves) ≡ false
+      → (length ys ≡ length s.shards) × IsRecorded after × HasRegistry s tables
+  recorded_registered leaves next {tables} was kept added old =
       recorded_pushed v files s ys (register_entries pass (core_of before) s.limits.shard_target leaves next) was kept (registers_known before leaves next refl kept added old).steps
 
-  pub recorded_completed : (file : MDBFileInfo) → (length zs ≡ length s.shards) × IsRecorded before → ys ≡ zs → k ≡ g ++ Complete pass file false ∷ [] → is_new s.records (file_record_hash file) ≡ false
-      → (length ys ≡ length s.shards) × IsRecorded after
-  recorded_completed file was kept added old =
+  pub recorded_completed : (file : MDBFileInfo) {tables : Tables} → (length zs ≡ length s.shards) × IsRecorded before × HasRegistry s tables → ys ≡ zs → k ≡ g ++ Complete pass file false ∷ [] → is_new s.records (file_record_hash file) ≡ false
+      → (length ys ≡ length s.shards) × IsRecorded after × HasRegistry s tables
+  recorded_completed file {tables} was kept added old =
       recorded_pushed v files s ys (complete_entries pass (core_of before) s.limits.shard_target file) was kept (records_known before file refl kept added old).steps

@@ -1,7 +1,10 @@
 mod Contents
+mod Standing
 mod Joining
 mod Moving
+mod Asking
 mod Refusing
+mod Querying
 mod Registering
 mod Completing
 mod Cutting

@@ -22,22 +22,23 @@ use Rattle.xet_store.specs.Cleaning.{Keeps}
 use Rattle.xet_store.specs.Flushing.{IsFlushed}
 use Rattle.xet_store.specs.Store.{State}
 use Rattle.xet_store.specs.theorems.Keeping.{keeps_nothing}
-use Rattle.xet_steps.specs.Recorded.{IsRecorded, RecordedState, core_of, recorded_state, with_contents}
+use Rattle.xet_steps.specs.Recorded.{AreShards, IsRecorded, RecordedState, core_of, recorded_state, with_contents}
 use Rattle.xet_steps.specs.Steps.{Cuts, Flushes, Steps, fault_entries}
-use Rattle.xet_steps.proofs.Contents.{contents_more}
+use Rattle.xet_steps.proofs.Contents.{contents_more, of_held}
+use Rattle.xet_steps.proofs.Standing.{shards_flushed, shards_kept}
 
 -- ---- the history leads to the core still
 
 -- after a step
-pub recorded_more : (old new : RecordedState) (added : List Entry) → IsRecorded old → Steps old new added → map (λ r. r.hash) new.shards ≡ new.store.shards → IsRecorded new
-recorded_more old new added is steps hashes = record {
-  registered = hashes;
+pub recorded_more : (old new : RecordedState) (added : List Entry) → IsRecorded old → Steps old new added → IsRecorded new
+recorded_more old new added is steps = record {
+  shards = steps.shards is.shards;
   replays = subst (λ (t : Bool). Replays t (core_of new) new.history) (sym steps.keeps.tells) (replays_more old.store.tells (core_of old) (core_of new) old.history new.history added is.replays steps.moves);
 }
 
 -- no step at all
 pub steps_nothing : (s : RecordedState) → Steps s s []
-steps_nothing s = record { moves = moves_nothing s.store.tells (core_of s) s.history; keeps = keeps_nothing s.store }
+steps_nothing s = record { moves = moves_nothing s.store.tells (core_of s) s.history; keeps = keeps_nothing s.store; shards = λ are. are }
 
 -- ---- whether something is pending
 
@@ -50,6 +51,12 @@ pending_if p some = go p.blocks p.files some
     go [] (f ∷ fs) none = lt-ltb 0 (length {A = MDBXorbInfo} [] + length (f ∷ fs)) (omega arith)
 
 -- ---- flushes
+
+-- a step that registers no shard
+pub contents_kept : (files : Files) (old new : State) (flushed : List (Option Held)) → Keeps old new → new.shards ≡ old.shards → AreShards old (with_contents files old.folder old.opened old.shards flushed)
+    → AreShards new (with_contents files new.folder new.opened new.shards flushed)
+contents_kept files old new flushed keeps same are =
+    subst (AreShards new) (λ i. with_contents files (sym keeps.folder i) (sym keeps.opened i) (sym same i) flushed) (shards_kept old new keeps (with_contents files old.folder old.opened old.shards flushed) are same)
 
 module _ (files : Files) (old new : State) (flushed : List (Option Held)) (history : List Entry) (keeps : Keeps old new) where
   abbrev before : RecordedState
@@ -67,11 +74,15 @@ module _ (files : Files) (old new : State) (flushed : List (Option Held)) (histo
       index_cap = ap (λ (l : LimitSettings). l.index_cap) keeps.limits i;
     }
 
+    shards_still : AreShards old before.shards → AreShards new (with_contents files new.folder new.opened new.shards flushed)
+    shards_still are = contents_kept files old new flushed keeps shards are
+
     -- with no entry
     pub steps_same : Steps before (recorded_state new files flushed history) []
     steps_same = record {
       moves = subst (λ (c : Core). Moves old.tells (core_of before) c history history []) (sym (core_same history)) (moves_nothing old.tells (core_of before) history);
       keeps = keeps;
+      shards = shards_still;
     }
 
     -- with the entry of a failure
@@ -81,6 +92,7 @@ module _ (files : Files) (old new : State) (flushed : List (Option Held)) (histo
           (subst (λ (es : List Entry). Moves old.tells (core_of before) (core_of before) history es (fault_entries pass kind e)) (sym added)
           (record { history = refl; legal = go e; leads = leads e }));
       keeps = keeps;
+      shards = shards_still;
     }
       where
         go : (x : StoreError) → Legal old.tells (core_of before) (fault_entries pass kind x)
@@ -108,10 +120,12 @@ module _ (files : Files) (old new : State) (flushed : List (Option Held)) (histo
   hash_is : h ≡ pending_hash core
   hash_is = flush.hash
 
+  shards_more : with_contents files new.folder new.opened new.shards later ≡ core.shards ++ of_held files old.folder old.opened h old.pending ∷ []
+  shards_more = (λ i. with_contents files (keeps.folder i) (keeps.opened i) (flush.registered i) later) ∙ contents_more files old.folder old.opened old.shards flushed h old.pending count
+
   shards_are : with_contents files new.folder new.opened new.shards later ≡ (flushed_core core).shards
   shards_are =
-      (λ i. with_contents files (keeps.folder i) (keeps.opened i) (flush.registered i) later)
-      ∙ contents_more files old.folder old.opened old.shards flushed h old.pending count
+      shards_more
       ∙ ap (λ (x : List ℕ). core.shards ++ record { hash = x; contents = held_shard old.pending old.opened None } ∷ []) hash_is
 
   core_flushed : (more : List Entry) → core_of (recorded_state new files later more) ≡ flushed_core core
@@ -131,7 +145,7 @@ module _ (files : Files) (old new : State) (flushed : List (Option Held)) (histo
       let due : has_pending core ≡ true = pending_if old.pending some in
       let entries : flush_entries pass core ≡ Flush pass h ∷ [] = ap (λ (b : Bool). if b then Flush pass (pending_hash core) ∷ [] else []) due ∙ ap (λ (x : List ℕ). Flush pass x ∷ []) (sym hash_is) in
       subst (λ (es : List Entry). Steps (recorded_state old files flushed history) (recorded_state new files later more) es) (sym entries)
-      (record { moves = record { history = added; legal = ((due, hash_is), tt); leads = core_flushed more }; keeps = keeps })
+      (record { moves = record { history = added; legal = ((due, hash_is), tt); leads = core_flushed more }; keeps = keeps; shards = λ are. subst (AreShards new) (sym shards_more) (shards_flushed old new keeps core.shards are h flush) })
 
 -- what is pushed beside what was kept
 pub kept_pushed : {G : Type 0} (v : G → Held) (xs ys : List (Option G)) (g : G) (p : Held) → ys ≡ xs ++ Some g ∷ [] → v g ≡ p → map (option_map v) ys ≡ map (option_map v) xs ++ Some p ∷ []

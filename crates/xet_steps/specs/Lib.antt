@@ -1,3 +1,4 @@
 pub mod Recorded
 pub mod Coding
 pub mod Steps
+pub mod Asking

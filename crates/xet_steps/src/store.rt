@@ -4,6 +4,7 @@ ghost use Rattle.std.specs.Prelude.{◌≡◌, IfOk, IsOkUnless, length, option_
 ghost use Rattle.xet_store.specs.Store.{Differ, plan_of, recorded_files};
 ghost use Rattle.xet_folder.specs.Xorbs.{found};
 
+mod asking;
 mod completing;
 mod flushing;
 mod opening;
@@ -19,6 +20,7 @@ use xet_history::Entry;
 use xet_io::Disk;
 use xet_shard::MDBInMemoryShard;
 use xet_shard_format::{FileDataSequenceEntry, MDBFileInfo};
+use xet_shard_registry::ShardRegistry;
 use xet_store::Store as FolderStore;
 
 /// A store of files in a folder of a disk, with the history of its steps since it was opened. Contracts see a
@@ -32,10 +34,13 @@ pub struct Store<D: Disk + Send> {
     /// For each registered shard, what was pending when it was flushed; `None` for a shard that was there at opening.
     flushed: Vec<Option<Ghost<MDBInMemoryShard>>>,
     history: Vec<Entry>,
+    /// The first registered shards, as queries have read them from their files.
+    registry: ShardRegistry,
 }
 
 impl<D: Disk + Send> Model for Store<D> {
     ghost use Rattle.std.specs.Prelude.{◌≡◌, length, map, option_map};
+    ghost use Rattle.xet_steps.specs.Asking.{HasRegistry};
     ghost use Rattle.xet_steps.specs.Coding.{recorded_code};
     ghost use Rattle.xet_steps.specs.Recorded.{IsRecorded, RecordedState, recorded_state};
 
@@ -45,7 +50,7 @@ impl<D: Disk + Send> Model for Store<D> {
 
     ghost view = { λ s. recorded_state s.store (D.files s.opened.value) (map (option_map (λ g. g.value)) s.flushed.items) s.history.items };
 
-    ghost invariant = { λ s. (length s.flushed.items ≡ length s.store.shards) × IsRecorded (recorded_state s.store (D.files s.opened.value) (map (option_map (λ g. g.value)) s.flushed.items) s.history.items) };
+    ghost invariant = { λ s. (length s.flushed.items ≡ length s.store.shards) × IsRecorded (recorded_state s.store (D.files s.opened.value) (map (option_map (λ g. g.value)) s.flushed.items) s.history.items) × HasRegistry s.store s.registry };
 }
 
 impl<D: Disk + Send> Store<D> {

@@ -1,6 +1,6 @@
 //! A xorb of two chunks, and the file of these.
 
-ghost use Rattle.std.specs.Prelude.{◌≡◌, ◌∷◌, [], IfOk};
+ghost use Rattle.std.specs.Prelude.{◌≡◌, ◌∷◌, [], IfOk, replicate};
 ghost use Rattle.xet_dedup_queries.specs.Registering.{IsNewXorb};
 ghost use Rattle.xet_shard_format.specs.Records.{IsFile};
 ghost use Rattle.xet_xorb_chunk.specs.Chunks.{chunk_of};
@@ -17,7 +17,7 @@ use xet_xorb::RawXorbData;
 use xet_xorb_chunk::{Chunk, chunk_leaves};
 
 /// The two chunks.
-fn chunks() -> [Chunk; 2]
+pub fn chunks() -> [Chunk; 2]
     ensures { result ≡ chunk_of (97 ∷ 98 ∷ 99 ∷ []) ∷ chunk_of (100 ∷ 101 ∷ 102 ∷ 103 ∷ []) ∷ [] }
 {
     [
@@ -50,4 +50,26 @@ pub fn record(alloc: Global, xorb: MerkleHash) -> Result<MDBFileInfo, StoreError
         verification: Items::from_vec(vec![in alloc; FileVerificationEntry::new(range)]?),
         metadata_ext: None,
     })
+}
+
+/// 64 zero bytes, and 8: the chunks of 200 zero bytes under a gear table of zeros at a target length of 512 are the first
+/// three times, and the second.
+pub fn zeros() -> [Chunk; 2]
+    ensures { result ≡ chunk_of (replicate 64 0) ∷ chunk_of (replicate 8 0) ∷ [] }
+{
+    [
+        Chunk::new(Bytes::from_static(&[0; 64])),
+        Chunk::new(Bytes::from_static(&[0; 8])),
+    ]
+}
+
+/// The xorb of the zeros; `BadLimits` if it passes these limits.
+pub fn zero_xorb(alloc: Global, limits: &Limits) -> Result<RawXorbData, StoreError>
+    ensures { IfOk result (IsNewXorb (limits.now.cut_bytes, limits.now.cut_chunks)) }
+{
+    if limits.cut_chunks() < 2 || limits.cut_bytes() < 72 {
+        return Err(StoreError::BadLimits(Field::CutBytes));
+    }
+    let raw = RawXorbData::from_chunks(alloc, &zeros(), vec![in alloc; 0]?)?;
+    Ok(raw)
 }

@@ -3,7 +3,7 @@
 ghost use Rattle.std.specs.Prelude.{IfOk};
 ghost use Rattle.xet_shard_format.specs.Records.{IsFile};
 
-use crate::files::{record, xorb};
+use crate::files::{record, xorb, zero_xorb};
 use std::alloc::Global;
 use xet_cut::{LimitSettings, Limits};
 use xet_hash::{MerkleHash, StoreError};
@@ -40,6 +40,36 @@ impl Recorded {
     pub fn register(&mut self) -> Result<bool, StoreError> {
         let xorb = xorb(self.alloc, self.store.limits())?;
         self.store.register_xorb(xorb, &[])
+    }
+
+    /// Registers the xorb of the zeros.
+    pub fn register_zeros(&mut self) -> Result<bool, StoreError> {
+        let xorb = zero_xorb(self.alloc, self.store.limits())?;
+        self.store.register_xorb(xorb, &[])
+    }
+
+    /// The run of a query: how many chunks, from which index on, up to which, and how many bytes.
+    pub fn query(
+        &mut self,
+        hashes: &[MerkleHash],
+    ) -> Result<Option<(usize, u32, u32, u32)>, StoreError> {
+        match self.store.query(hashes)? {
+            Some((count, segment)) => Ok(Some((
+                count,
+                segment.chunk_index_start,
+                segment.chunk_index_end,
+                segment.unpacked_segment_bytes,
+            ))),
+            None => Ok(None),
+        }
+    }
+
+    /// The number of hashes that the last entry states, if it is that of a query.
+    pub fn stated(&self) -> Option<usize> {
+        match self.store.history().last() {
+            Some(Entry::Query { hashes, .. }) => Some(hashes.as_slice().len()),
+            _ => None,
+        }
     }
 
     /// Records the file.

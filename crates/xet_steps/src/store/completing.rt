@@ -39,8 +39,9 @@ impl<D: Disk + Send> Store<D> {
     /// Records a file, unless its hash is recorded; its record is then pending. Returns whether none was. If something is
     /// pending and its shard would be longer than the target with this record, it is flushed first. A file that may not be
     /// recorded is refused as `MalformedData(OtherFileHash)`, and no entry is added. After another error the file is not
-    /// recorded; a flush that was completed stands. That error is `OutOfMemory`, or `Io(Disk)`, which is returned only if the
-    /// disk failed, and has an entry then.
+    /// recorded; a flush that was completed stands. That error is `TooLarge(Shards)`, which is returned only if a flush is due and
+    /// 2^32 - 1 shards are registered, `OutOfMemory`, or `Io(Disk)`, which is returned only if the disk failed, and has an
+    /// entry then.
     pub fn complete_file(&mut self, file: MDBFileInfo) -> Result<bool, StoreError>
         requires form { IsFile file }
         ensures can { OnOk result (Completes self.old.store.xorbs file) }

@@ -1,6 +1,6 @@
 //! Flushes, with their entries.
 
-ghost use Rattle.std.specs.Prelude.{◌≡◌, ◌↔◌, ◌≤◌, ◌+◌, ◌++◌, [], None, IfErr, IfOk, IfSome, OnErr, OnOk, length, map, option_map, nat_lt, vec_capacity, vec_len};
+ghost use Rattle.std.specs.Prelude.{◌≡◌, ◌↔◌, ◌≤◌, ◌+◌, ◌++◌, [], true, None, IfErr, IfOk, IfSome, OnErr, OnOk, length, map, option_map, nat_lt, vec_capacity, vec_len};
 ghost use Rattle.xet_history.specs.Core.{Core, is_cut_due};
 ghost use Rattle.xet_history.specs.History.{flush_entries};
 ghost use Rattle.xet_io.specs.Disk.{Files};
@@ -20,8 +20,9 @@ use xet_store::Store as FolderStore;
 
 impl<D: Disk + Send> Store<D> {
     /// Writes one shard of all that is pending, durable, and returns its hash; returns none, and adds no entry, if nothing
-    /// is pending. After an error all of it is still pending. The error is `OutOfMemory`, or `Io(Disk)`, which is returned
-    /// only if the disk failed, and has an entry then.
+    /// is pending. After an error all of it is still pending. The error is `TooLarge(Shards)`, which is returned only if
+    /// something is pending and 2^32 - 1 shards are registered, `OutOfMemory`, or `Io(Disk)`, which is returned only if the
+    /// disk failed, and has an entry then.
     pub fn flush(&mut self) -> Result<Option<MerkleHash>, StoreError>
         ensures none { IfOk result (λ h. (h ≡ None) ↔ (self.old.store.pending ≡ nothing)) }
         ensures flushed { IfOk result (λ h. IfSome h (λ shard. IsFlushed self.old.store shard self.new.store)) }
@@ -102,6 +103,7 @@ pub(super) fn cut_store<D: Disk + Send>(
     ensures lists { (store.new.xorbs ≡ store.old.xorbs) × (store.new.records ≡ store.old.records) }
     ensures steps { OnOk result ((files : Files) → Cuts pass bytes (recorded_state store.old files (map (option_map (λ g. g.value)) flushed.old.items) history.old.items) (recorded_state store.new files (map (option_map (λ g. g.value)) flushed.new.items) history.new.items)) }
     ensures fault { IfErr result (λ e. (files : Files) → Faults pass kind (recorded_state store.old files (map (option_map (λ g. g.value)) flushed.old.items) history.old.items) (recorded_state store.new files (map (option_map (λ g. g.value)) flushed.new.items) history.new.items) e) }
+    ensures due { OnErr result ((core : Core) → core.pending ≡ store.old.pending → is_cut_due core store.old.limits.shard_target bytes ≡ true) }
     ensures count { length flushed.new.items ≡ length store.new.shards }
     ensures grown { vec_len history.new ≤ vec_len history.old + 1 }
     ensures room { vec_capacity history.new ≡ vec_capacity history.old }

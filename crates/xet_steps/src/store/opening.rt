@@ -1,7 +1,9 @@
 //! Opening a store.
 
+ghost use Rattle.std.specs.List.{AllByRecursion};
 ghost use Rattle.std.specs.Prelude.{◌≡◌, ◌≤◌, [], true, false, None, IfErr, IfOk, IsOkUnless, length};
-ghost use Rattle.xet_folder.specs.Contents.{HasContents, IsFolderError};
+ghost use Rattle.xet_folder.specs.Contents.{HasContents, IsFolderError, max_shards};
+ghost use Rattle.xet_shard_registry.specs.Collections.{IsRegistryOf};
 ghost use Rattle.xet_store.specs.Opening.{IsOpened, contents_of};
 
 use crate::store::Store;
@@ -12,6 +14,7 @@ use xet_ghost::Ghost;
 use xet_hash::{Refused, StoreError};
 use xet_io::Disk;
 use xet_shard::MDBInMemoryShard;
+use xet_shard_registry::ShardRegistry;
 use xet_store::Store as FolderStore;
 
 impl<D: Disk + Send> Store<D> {
@@ -46,18 +49,22 @@ impl<D: Disk + Send> Store<D> {
         store: FolderStore<D>,
         opened: Ghost<D>,
     ) -> Result<Store<D>, Refused<D>>
+        requires contents { store.tells ≡ true → HasContents (D.files opened.value) store.folder store.opened (contents_of store) }
+        requires files { store.files ≡ D.files opened.value }
+        requires few { length store.shards ≤ max_shards }
         ensures store { IfOk result (λ made. made.store ≡ store) }
         ensures history { IfOk result (λ made. made.history ≡ []) }
         ensures disk { IfErr result (λ refused. (D.tells refused.disk ≡ store.tells) × (D.files refused.disk ≡ store.files) × (D.faults refused.disk ≡ store.faults)) }
         ensures memory { IfErr result (λ refused. (refused.error ≡ StoreError.OutOfMemory) × (refused.name ≡ None)) }
     {
-        match none_flushed(alloc, store.shard_count() as usize) {
-            Ok(flushed) => Ok(Store {
+        match nothing_kept(alloc, store.shard_count() as usize) {
+            Ok((flushed, registry)) => Ok(Store {
                 store,
                 alloc,
                 opened,
                 flushed,
                 history: Vec::new(alloc),
+                registry,
             }),
             Err(error) => Err(Refused {
                 disk: store.into_disk(),
@@ -68,15 +75,32 @@ impl<D: Disk + Send> Store<D> {
     }
 }
 
+/// That none of so many shards was flushed, and an index without shards. The only error is `OutOfMemory`.
+fn nothing_kept(
+    alloc: Global,
+    count: usize,
+) -> Result<(Vec<Option<Ghost<MDBInMemoryShard>>>, ShardRegistry), StoreError>
+    ensures count { IfOk result (λ kept. length kept.0.items ≡ count) }
+    ensures none { IfOk result (λ kept. AllByRecursion (λ f. f ≡ None) kept.0.items) }
+    ensures registry { IfOk result (λ kept. IsRegistryOf [] kept.1) }
+    ensures memory { IsOkUnless result StoreError.OutOfMemory }
+{
+    let flushed = none_flushed(alloc, count)?;
+    Ok((flushed, ShardRegistry::new(alloc)?))
+}
+
 /// That none of so many shards was flushed. The only error is `OutOfMemory`.
 fn none_flushed(
     alloc: Global,
     count: usize,
 ) -> Result<Vec<Option<Ghost<MDBInMemoryShard>>>, StoreError>
     ensures count { IfOk result (λ flushed. length flushed.items ≡ count) }
+    ensures none { IfOk result (λ flushed. AllByRecursion (λ f. f ≡ None) flushed.items) }
     ensures memory { IsOkUnless result StoreError.OutOfMemory }
 {
-    let mut flushed = Vec::new(alloc);
-    flushed.resize_with(count, || None)?;
+    let mut flushed = Vec::with_capacity(alloc, count)?;
+    for number in 0..count {
+        flushed.push(None)?;
+    }
     Ok(flushed)
 }

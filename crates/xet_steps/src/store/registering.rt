@@ -29,7 +29,8 @@ impl<D: Disk + Send> Store<D> {
     /// Stores a xorb and lists it, unless one of its hash is listed; its record is then pending. Returns whether none was.
     /// If something is pending and its shard would be longer than the target with this xorb, it is flushed first. `next`
     /// lists the chunks that did not fit into the xorb. After an error the xorb is not listed; a flush that was completed
-    /// stands. The error is `OutOfMemory`, or `Io(Disk)`, which is returned only if the disk failed, and has an entry then.
+    /// stands. The error is `TooLarge(Shards)`, which is returned only if a flush is due and 2^32 - 1 shards are registered,
+    /// `OutOfMemory`, or `Io(Disk)`, which is returned only if the disk failed, and has an entry then.
     pub fn register_xorb(
         &mut self,
         xorb: RawXorbData,

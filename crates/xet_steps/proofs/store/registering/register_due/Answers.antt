@@ -1,11 +1,14 @@
-use Rattle.std.proofs.Common.{refl}
+use Rattle.std.proofs.Common.{map, option_map, refl}
 use Rattle.xet_base.specs.theorems.Exits.{exit_with}
 use Rattle.xet_history.specs.declared.entry.StepKind.TheVariants.{Register}
+use Rattle.xet_steps.specs.Recorded.{core_of, recorded_state}
 use Rattle.xet_steps.proofs.Cutting.{cut_refuses_first, cut_refuses_then, registered_due}
 use Rattle.xet_steps.proofs.store.registering.register_due.Goals as goal
 
 pub returns-in_err-cut_store-clause-refused : goal.returns-in_err-cut_store-clause-refused
-returns-in_err-cut_store-clause-refused g c = exit_with _ _ _ c.from_residual.ensures.1 (λ files. cut_refuses_first _ Register _ _ _ _ (c.in_err-cut_store.ensures.fault files))
+returns-in_err-cut_store-clause-refused g c = exit_with _ _ _ c.from_residual.ensures.1 (λ files.
+    let before = recorded_state c.args.store.now files (map (option_map (λ g'. g'.value)) c.args.flushed.now.items) c.args.history.now.items in
+    cut_refuses_first _ Register c.num_bytes.result _ before _ _ c.num_bytes.ensures (c.in_err-cut_store.ensures.due (core_of before) refl) (c.in_err-cut_store.ensures.fault files))
 
 pub returns-in-Ok-clause-steps : goal.returns-in-Ok-clause-steps
 returns-in-Ok-clause-steps g c = λ files.
