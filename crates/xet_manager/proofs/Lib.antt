@@ -1,3 +1,4 @@
 pub mod Cutting
 pub mod Rooms
 mod Listing
+mod Opening
