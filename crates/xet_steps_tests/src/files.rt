@@ -9,7 +9,9 @@ use bytes::Bytes;
 use std::alloc::Global;
 use xet_base::Items;
 use xet_cut::Limits;
-use xet_hash::{Field, MerkleHash, StoreError, file_hash, range_hash_from_chunks};
+use xet_hash::{
+    Field, MerkleHash, StoreError, compute_data_hash, file_hash, range_hash_from_chunks,
+};
 use xet_shard_format::{
     FileDataSequenceEntry, FileDataSequenceHeader, FileVerificationEntry, MDBFileInfo,
 };
@@ -24,6 +26,11 @@ pub fn chunks() -> [Chunk; 2]
         Chunk::new(Bytes::from_static(b"abc")),
         Chunk::new(Bytes::from_static(b"defg")),
     ]
+}
+
+/// Their hashes.
+pub fn chunk_hashes() -> [MerkleHash; 2] {
+    [compute_data_hash(b"abc"), compute_data_hash(b"defg")]
 }
 
 /// The xorb of the two chunks; `BadLimits` if it passes these limits.
@@ -61,6 +68,11 @@ pub fn zeros() -> [Chunk; 2]
         Chunk::new(Bytes::from_static(&[0; 64])),
         Chunk::new(Bytes::from_static(&[0; 8])),
     ]
+}
+
+/// Their hashes.
+pub fn zero_hashes() -> [MerkleHash; 2] {
+    [compute_data_hash(&[0; 64]), compute_data_hash(&[0; 8])]
 }
 
 /// The xorb of the zeros; `BadLimits` if it passes these limits.

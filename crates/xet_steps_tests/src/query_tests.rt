@@ -1,6 +1,6 @@
 //! Tests of queries: in what is pending, in a flushed shard, and in a shard that was there at opening.
 
-use crate::files::{chunks, zeros};
+use crate::files::{chunk_hashes, zero_hashes};
 use crate::recorded::{Recorded, limits};
 use std::alloc::Global;
 use std::test::Fail;
@@ -23,11 +23,11 @@ fn ask(store: &mut Recorded, hashes: &[MerkleHash]) -> Result<Seen, StoreError> 
 
 /// Asks for both chunks, for the first one twice, and for a hash that no chunk has.
 fn ask_thrice(store: &mut Recorded) -> Result<[Seen; 3], StoreError> {
-    let [a, b] = zeros();
+    let [a, b] = zero_hashes();
     Ok([
-        ask(store, &[a.hash, b.hash])?,
-        ask(store, &[a.hash, a.hash])?,
-        ask(store, &[MerkleHash::marker(), a.hash])?,
+        ask(store, &[a, b])?,
+        ask(store, &[a, a])?,
+        ask(store, &[MerkleHash::marker(), a])?,
     ])
 }
 
@@ -76,16 +76,16 @@ fn queries_are_answered_wherever_the_chunks_are(rt: HostRuntime) -> Result<(), F
 
 /// Asks for nothing, for the zeros once they are flushed, and for both xorbs once the other one is flushed too.
 fn ask_between(store: &mut Recorded) -> Result<([Option<Run>; 4], String), StoreError> {
-    let [a, b] = zeros();
-    let [c, d] = chunks();
+    let [a, b] = zero_hashes();
+    let [c, d] = chunk_hashes();
     let nothing = store.query(&[])?;
     let _added = store.register_zeros()?;
     let _flushed = store.flush()?;
-    let before = store.query(&[a.hash, b.hash])?;
+    let before = store.query(&[a, b])?;
     let _added = store.register()?;
     let _flushed = store.flush()?;
-    let first = store.query(&[a.hash, b.hash])?;
-    let last = store.query(&[c.hash, d.hash])?;
+    let first = store.query(&[a, b])?;
+    let last = store.query(&[c, d])?;
     Ok(([nothing, before, first, last], store.history()?))
 }
 
@@ -109,11 +109,11 @@ fn shards_that_are_flushed_between_queries_are_asked(rt: HostRuntime) -> Result<
 
 /// Whether the first query failed as the disk did, and the answer of the same query after that.
 fn ask_again(store: &mut Recorded) -> Result<(bool, Option<Run>, String), StoreError> {
-    let [a, b] = zeros();
+    let [a, b] = zero_hashes();
     let _added = store.register_zeros()?;
     let _flushed = store.flush()?;
-    let failed = store.query(&[a.hash, b.hash]) == Err(StoreError::Io(Place::Disk));
-    let answer = store.query(&[a.hash, b.hash])?;
+    let failed = store.query(&[a, b]) == Err(StoreError::Io(Place::Disk));
+    let answer = store.query(&[a, b])?;
     Ok((failed, answer, store.history()?))
 }
 
