@@ -1,6 +1,7 @@
 pub mod Acts
 pub mod Asking
 pub mod Batch
+pub mod Counting
 pub mod Interface
 pub mod Passing
 pub mod Places

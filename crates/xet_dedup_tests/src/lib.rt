@@ -1,7 +1,6 @@
 //! A store in memory, and tests of the deduplication of files against it.
 #![tactic(auto)]
 
-mod acts;
 mod errors;
 mod finding;
 mod known;
@@ -9,7 +8,6 @@ mod list_store;
 #[cfg(test)]
 mod tests;
 
-pub use acts::Acts;
 pub use errors::TestError;
 pub use known::KnownXorb;
 pub use list_store::{ListStore, LoggedCall};

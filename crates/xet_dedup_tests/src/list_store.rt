@@ -8,13 +8,12 @@ ghost use Rattle.xet_choices.specs.Calls.{Call, entries_of};
 ghost use Rattle.xet_hash.specs.Hash.{sentinel};
 ghost use Rattle.xet_xorb.specs.Raw.{raw_leaves};
 
-use crate::acts::Acts;
 use crate::errors::TestError;
 use crate::finding::{find_run, have_same_lengths, index_of};
 use crate::known::KnownXorb;
 use std::alloc::Global;
 use xet_base::Items;
-use xet_dedup_queries::{DeduplicationDataInterface, FileXorbDependency};
+use xet_dedup_queries::{Acts, DeduplicationDataInterface, FileXorbDependency};
 use xet_hash::MerkleHash;
 use xet_shard_format::FileDataSequenceEntry;
 use xet_xorb::RawXorbData;

@@ -1,13 +1,16 @@
 -- How many queries a pass makes, and which calls they are.
-use Rattle.std.proofs.Common.{◌*◌, length, map, take, drop, ◌≡◌, ℕ, ◌+◌, ◌≤◌, Bool, List, [], ◌∷◌, ◌++◌, Option, Some, None, refl, sym, ap, ◌∙◌, arith}
+use Rattle.std.proofs.Common.{◌*◌, length, map, take, drop, ◌≡◌, ℕ, ◌+◌, ◌≤◌, Bool, false, true≢false, List, [], ◌∷◌, ◌++◌, Option, Some, None, refl, sym, ap, ◌∙◌, arith}
 use Rattle.std.proofs.lemmas.List.{append_assoc, append-nil}
+use Rattle.std.proofs.lemmas.Option.{slice_get_within}
 use Rattle.xet_choices.specs.Calls.{Call, queries_of, registered_chunks}
 use Rattle.xet_choices.specs.Calls.Call.{Asked, Registered}
 use Rattle.xet_choices.specs.theorems.Calls.{queries_of-append}
 use Rattle.xet_dedup_queries.specs.Acts.{Act, Found}
-use Rattle.xet_dedup_queries.specs.Asking.{PassesTo, kept_found, AreQueries, AddsQueries}
+use Rattle.xet_dedup_queries.specs.Asking.{PassesTo, PassesUpTo, kept_found, AreQueries, AddsQueries}
 use Rattle.xet_dedup_queries.specs.Asking.PassesTo.{begins, passes_over, finds, misses}
-use Rattle.xet_dedup_queries.specs.Batch.{GoesOn, IsAsked, IsAskedOnce, none_asked, none_kept}
+use Rattle.xet_dedup_queries.specs.Asking.PassesUpTo.{to_place, to_query}
+use Rattle.xet_dedup_queries.specs.Batch.{AsksUpTo, GoesOn, IsAsked, IsAskedOnce, none_asked, none_kept}
+use Rattle.xet_dedup_queries.specs.Batch.AsksUpTo.{in_first, in_second}
 use Rattle.xet_dedup_queries.specs.Batch.GoesOn.{no_more, once_more}
 use Rattle.xet_dedup_queries.specs.Interface.{run_len}
 use Rattle.xet_dedup_queries.specs.declared.passing.Round.{Round}
@@ -81,3 +84,63 @@ module _ (round : Round) (hashes : List (List ℕ)) (before : List (Option Found
       queries-append cs (Asked entry (take (run_len run + 1) (drop i hashes)) (Some (run_len run)) ∷ []) (queries-passes i k es cs done p) tt
   queries-passes at kept entries calls acts (misses i entry hash k es cs done p here first) =
       queries-append cs (Asked entry (take 1 (drop i hashes)) None ∷ []) (queries-passes i k es cs done p) tt
+
+-- what both passes add is queries
+queries-goes_on : (hashes : List (List ℕ)) (before : List (Option Found)) (earlier : List (Option ℕ)) (kept : List (Option Found)) (entries : List (Option ℕ)) (calls : List Call) (acts : List Act)
+    → GoesOn hashes before earlier kept entries calls acts → AreQueries calls
+queries-goes_on hashes before earlier kept entries calls acts no_more = tt
+queries-goes_on hashes before earlier kept entries calls acts (once_more k es cs done again p) = queries-passes Second hashes before earlier (length hashes) k es cs done p
+
+pub queries-asked : (is_first : Bool) (hashes : List (List ℕ)) (old new : List Call) (before after : List Act) (places : List Place) (chunks bytes : ℕ)
+    → (is : IsAsked is_first hashes old new before after places chunks bytes) → AreQueries (is.first ++ is.second)
+queries-asked is_first hashes old new before after places chunks bytes is =
+    queries-append is.first is.second
+    (queries-passes (First is_first) hashes (none_kept hashes) (none_asked hashes) (length hashes) is.between is.entries_between is.first is.first_acts is.first_pass)
+    (queries-goes_on hashes is.between is.entries_between (map kept_found places) is.entries is.second is.second_acts is.second_pass)
+
+-- ---- passes that stopped
+
+module _ (round : Round) (hashes : List (List ℕ)) (before : List (Option Found)) (earlier : List (Option ℕ)) where
+  -- However far the runs go that are kept, a pass makes at most one query for each chunk,
+  pub queries_of-passes_within : (at : ℕ) (kept : List (Option Found)) (entries : List (Option ℕ)) (calls : List Call) (acts : List Act) → PassesTo round hashes before earlier at kept entries calls acts
+      → queries_of calls ≤ length hashes
+  queries_of-passes_within at kept entries calls acts begins = omega arith
+  queries_of-passes_within at kept entries calls acts (passes_over i run is_external k es cs done p here) = queries_of-passes_within i k es cs done p
+  queries_of-passes_within at kept entries calls acts (finds i entry run is_external k es cs done p here within some) =
+      omega (arith, within, queries_of-passes round hashes before earlier i k es cs done p, queries_of-append cs (Asked entry (take (run_len run + 1) (drop i hashes)) (Some (run_len run)) ∷ []))
+  queries_of-passes_within at kept entries calls acts (misses i entry hash k es cs done p here first) =
+      omega (arith, slice_get_within hashes i hash first, queries_of-passes round hashes before earlier i k es cs done p, queries_of-append cs (Asked entry (take 1 (drop i hashes)) None ∷ []))
+
+  -- and so does one that stopped.
+  pub queries_of-up_to : (calls : List Call) (acts : List Act) → PassesUpTo round hashes before earlier calls acts → queries_of calls ≤ length hashes
+  queries_of-up_to calls acts (to_place i k es cs done p) = queries_of-passes_within i k es cs done p
+  queries_of-up_to calls acts (to_query i entry hash k es cs done p here first worth) =
+      omega (arith, slice_get_within hashes i hash first, queries_of-passes round hashes before earlier i k es cs done p, queries_of-append cs (Asked entry (take 1 (drop i hashes)) None ∷ []))
+
+  pub queries-up_to : (calls : List Call) (acts : List Act) → PassesUpTo round hashes before earlier calls acts → AreQueries calls
+  queries-up_to calls acts (to_place i k es cs done p) = queries-passes round hashes before earlier i k es cs done p
+  queries-up_to calls acts (to_query i entry hash k es cs done p here first worth) =
+      queries-append cs (Asked entry (take 1 (drop i hashes)) None ∷ []) (queries-passes round hashes before earlier i k es cs done p) tt
+
+-- Queries of a batch that stopped are at most two for each chunk,
+pub queries_of-asks_up_to : (is_global is_first : Bool) (hashes : List (List ℕ)) (calls : List Call) (acts : List Act) → AsksUpTo is_global is_first hashes calls acts → queries_of calls ≤ 2 * length hashes
+queries_of-asks_up_to is_global is_first hashes calls acts (in_first cs done p) = omega (arith, queries_of-up_to (First is_first) hashes (none_kept hashes) (none_asked hashes) cs done p)
+queries_of-asks_up_to is_global is_first hashes calls acts (in_second between es cs again done more on first second) =
+    omega (
+      arith,
+      queries_of-append cs again,
+      queries_of-passes_within (First is_first) hashes (none_kept hashes) (none_asked hashes) (length hashes) between es cs done first,
+      queries_of-up_to Second hashes between es again more second,
+    )
+
+-- and at most one if no queries are sent elsewhere.
+pub queries_of-asks_up_to_once : (is_first : Bool) (hashes : List (List ℕ)) (calls : List Call) (acts : List Act) → AsksUpTo false is_first hashes calls acts → queries_of calls ≤ length hashes
+queries_of-asks_up_to_once is_first hashes calls acts (in_first cs done p) = queries_of-up_to (First is_first) hashes (none_kept hashes) (none_asked hashes) cs done p
+queries_of-asks_up_to_once is_first hashes calls acts (in_second between es cs again done more on first second) = absurd (true≢false (sym on))
+
+pub queries-asks_up_to : (is_global is_first : Bool) (hashes : List (List ℕ)) (calls : List Call) (acts : List Act) → AsksUpTo is_global is_first hashes calls acts → AreQueries calls
+queries-asks_up_to is_global is_first hashes calls acts (in_first cs done p) = queries-up_to (First is_first) hashes (none_kept hashes) (none_asked hashes) cs done p
+queries-asks_up_to is_global is_first hashes calls acts (in_second between es cs again done more on first second) =
+    queries-append cs again
+    (queries-passes (First is_first) hashes (none_kept hashes) (none_asked hashes) (length hashes) between es cs done first)
+    (queries-up_to Second hashes between es again more second)

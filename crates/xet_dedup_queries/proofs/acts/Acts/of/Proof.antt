@@ -29,11 +29,11 @@ use denote.Triple.Entry.{alive}
 use denote.Triple.Spec.{Meets, triple_of}
 use denote.Triple.Table.{entered}
 use denote.Triple.Walked.{says, Stays, stay_dropped, walk_of, ends_at, walk_Meets, Goes-dropped}
-use Rattle.xet_dedup_tests.specs.contracts.acts.Acts as Made
-use Rattle.xet_dedup_tests.specs.contracts.acts.Acts.of as F
-use Rattle.xet_dedup_tests.specs.contracts.acts.Acts.of.Key.{name as #self}
-use Rattle.xet_dedup_tests.proofs.acts.Acts.of.Statement as stated
-use Rattle.xet_dedup_tests.proofs.acts.Acts.of.Code as code
+use Rattle.xet_dedup_queries.specs.contracts.acts.Acts as Made
+use Rattle.xet_dedup_queries.specs.contracts.acts.Acts.of as F
+use Rattle.xet_dedup_queries.specs.contracts.acts.Acts.of.Key.{name as #self}
+use Rattle.xet_dedup_queries.proofs.acts.Acts.of.Statement as stated
+use Rattle.xet_dedup_queries.proofs.acts.Acts.of.Code as code
 
 module _ (A B : RattleType) where
   abbrev args : Args

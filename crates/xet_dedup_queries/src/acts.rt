@@ -1,13 +1,13 @@
-//! `Acts`: what was done with a store in memory, for clauses.
+//! `Acts`: what was done with a store, for clauses.
 
 ghost use Rattle.std.specs.Prelude.{◌≡◌, ◌++◌, ◌∷◌, [], List, option_map};
 ghost use Rattle.std.specs.Borrow.{ftrue};
 ghost use Rattle.xet_dedup_queries.specs.Acts.{Act};
 ghost use Rattle.xet_dedup_queries.specs.Acts.Act.{Begun, Ended, Noted, Queried, Stored};
 
+use crate::interface::FileXorbDependency;
 use std::fmt;
 use std::marker::{Model, PhantomData};
-use xet_dedup_queries::FileXorbDependency;
 use xet_hash::MerkleHash;
 use xet_shard_format::FileDataSequenceEntry;
 use xet_xorb::RawXorbData;
