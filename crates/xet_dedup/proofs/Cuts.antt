@@ -1,9 +1,7 @@
 -- The open block makes a new xorb.
-use Rattle.std.proofs.Common.{nat_le, true, ◌&&◌, ◌≡◌, ◌≢◌, ◌∙◌, ℕ, ◌+◌, ◌≤◌, ◌<◌, ◌^◌, List, [], ◌∷◌, length, map, refl, ap, arith}
+use Rattle.std.proofs.Common.{◌≡◌, ◌≢◌, ◌∙◌, ℕ, ◌≤◌, ◌<◌, ◌^◌, List, [], ◌∷◌, length, map, refl, ap, arith}
 use Rattle.std.specs.List.{AllByRecursion}
-use Rattle.std.proofs.lemmas.Bool.Decides.{nat_tests}
 use Rattle.std.proofs.lemmas.List.Sums.{sum_by-cons}
-use Rattle.xet_choices.specs.Choices.{fits}
 use Rattle.xet_cut.specs.Limits.{AreInRange}
 use Rattle.xet_cut.specs.declared.limits.LimitSettings.{LimitSettings}
 use Rattle.xet_dedup_queries.specs.Registering.{IsNewXorb, max_chunk_len}
@@ -47,12 +45,3 @@ module _ (settings : LimitSettings) (block : List Chunk) (within : IsBlockWithin
 
   pub block_bytes_small : AreInRange settings → total_len (raw_leaves x) < 2 ^ 32
   block_bytes_small range = omega (arith, bytes, within.bytes, range.cut_bytes_to)
-
-is_true_le : (m n : ℕ) → m ≤ n → nat_le m n ≡ true
-is_true_le m n le = grind (arith, nat_tests)
-
--- A block of no chunks has room for each chunk.
-pub empty_has_room : (settings : LimitSettings) (len : ℕ) → AreInRange settings → len ≤ settings.maximum_chunk → fits settings [] len ≡ true
-empty_has_room settings len range le =
-    let bytes : total_len [] + len ≤ settings.cut_bytes = omega (arith, range.cut_bytes_from, le) in
-    λ i. is_true_le (total_len [] + len) settings.cut_bytes bytes i && is_true_le (length {A = List ℕ × ℕ} [] + 1) settings.cut_chunks (omega (arith, range.cut_chunks_from)) i

@@ -1,15 +1,18 @@
 -- What is known of a batch once its queries and its placing are known.
-use Rattle.std.proofs.Common.{◌≡◌, ◌∙◌, ◌==◌, ℕ, Bool, true, false, true≢false, List, [], ◌∷◌, ◌++◌, length, map, Option, sym, ap, subst, arith}
+use Rattle.std.proofs.Common.{◌≡◌, ◌∙◌, ◌==◌, ◌+◌, ◌≤◌, ℕ, Bool, true, false, true≢false, List, [], ◌∷◌, ◌++◌, length, map, Option, sym, ap, subst, arith}
 use Rattle.std.proofs.lemmas.Bool.Decides.{nat_tests}
 use Rattle.std.proofs.lemmas.List.{append-nil}
-use Rattle.xet_choices.specs.Calls.{Call}
+use Rattle.xet_choices.specs.Calls.{Call, queries_of}
+use Rattle.xet_choices.specs.theorems.Calls.{queries_of-append}
 use Rattle.xet_choices.specs.Choices.{hashes_of}
 use Rattle.xet_dedup.specs.Deduping.{IsQueried, IsQueriedOnce, RegistersAlone}
 use Rattle.xet_dedup.specs.Placing.{ArePlaced, IsPlaced, StopsBatch, StopsPlacing, noted_at_end}
 use Rattle.xet_dedup.specs.Placing.StopsBatch.{asking, placing}
+use Rattle.xet_dedup.specs.theorems.Adding.{length_hashes}
 use Rattle.xet_dedup_queries.specs.Acts.{Act}
 use Rattle.xet_dedup_queries.specs.Acts.Act.{Noted}
-use Rattle.xet_dedup_queries.specs.Batch.{IsAsked, IsAskedOnce, StopsAsking}
+use Rattle.xet_dedup_queries.specs.Batch.{AsksUpTo, IsAsked, IsAskedOnce, StopsAsking}
+use Rattle.xet_dedup_queries.specs.theorems.Queries.{queries_of-asked_once, queries_of-asks_up_to_once}
 use Rattle.xet_dedup_queries.specs.Places.{ArePlaces}
 use Rattle.xet_dedup_queries.specs.declared.interface.FileXorbDependency.{FileXorbDependency}
 use Rattle.xet_dedup_queries.specs.declared.places.Place.{Place}
@@ -45,6 +48,20 @@ module _ {I : Type 0} (listing : I → List ℕ → Option (List ℕ)) (standing
       asking
       (subst (λ (n : ℕ). StopsAsking is_global (n == 0) (hashes_of (map chunk_leaf chunks)) (calling old) (calling new) (acting old) (acting new)) base_is
       (subst (λ (hs : List (List ℕ)). StopsAsking is_global (base == 0) hs (calling old) (calling new) (acting old) (acting new)) of_chunks stops))
+
+  -- If no queries are sent elsewhere, there is at most one for each chunk, where they stopped
+  pub few_stopped : (is_global : Bool) (new : I) → StopsAsking is_global (base == 0) hashes (calling old) (calling new) (acting old) (acting new) → is_global ≡ false
+      → queries_of (calling new) ≤ queries_of (calling old) + length chunks
+  few_stopped is_global new stops alone =
+      let few = queries_of-asks_up_to_once (base == 0) hashes stops.added stops.done (subst (λ (g : Bool). AsksUpTo g (base == 0) hashes stops.added stops.done) alone stops.asks) in
+      omega (arith, ap queries_of stops.calls, queries_of-append (calling old) stops.added, few, ap length of_chunks, length_hashes chunks)
+
+  -- and where xorbs were registered after them.
+  pub few_registered : (queried new : I) (places : List Place) → IsAskedOnce (base == 0) hashes (calling old) (calling queried) (acting old) (acting queried) places → RegistersAlone (calling queried) (calling new)
+      → queries_of (calling new) ≤ queries_of (calling old) + length chunks
+  few_registered queried new places asked registers =
+      let few = queries_of-asked_once (base == 0) hashes (calling old) (calling queried) (acting old) (acting queried) places asked in
+      omega (arith, few, ap queries_of registers.grown, queries_of-append (calling queried) registers.added, registers.none, ap length of_chunks, length_hashes chunks)
 
   -- All queries were made.
   module _ (queried new : I) (places seen : List Place) (global_chunks global_bytes : ℕ) (same : seen ≡ places) (asked : IsAsked (base == 0) hashes (calling old) (calling queried) (acting old) (acting queried) places global_chunks global_bytes) where

@@ -2,7 +2,7 @@
 
 ghost use Rattle.std.specs.Prelude.{◌≡◌, ◌==◌, ◌≤◌, ◌+◌, ◌-◌, ◌^◌, ◌++◌, IfErr, IfOk, IsErrOf, List, OnErr, OnOk, drop, false, is_ok, length, map, min, true};
 ghost use Rattle.std.specs.List.{AllByRecursion};
-ghost use Rattle.xet_choices.specs.Calls.{Call};
+ghost use Rattle.xet_choices.specs.Calls.{Call, queries_of};
 ghost use Rattle.xet_choices.specs.Choices.{hashes_of};
 ghost use Rattle.xet_choices.specs.Sums.{RunsEnd};
 ghost use Rattle.xet_dedup.specs.Deduping.{IsChunk, IsDeduped, IsQueried, IsQueriedOnce, metrics_of};
@@ -77,7 +77,8 @@ impl<I: DeduplicationDataInterface> FileDeduper<I> {
     /// chunk of the chunking by the limits, and the file has at most 2^30 chunks. Each run that is rejected ends within the
     /// batch. The error is one of the interface, which is as that call left it, or `OutOfMemory`; the plan is of no use then.
     /// `Ok` only if no call failed, and `OutOfMemory` likewise. The calls before stay, also after an error; those of the batch
-    /// are then its queries up to some place, or all of them and what the placing did up to some place.
+    /// are then its queries up to some place, or all of them and what the placing did up to some place. If the interface sends no
+    /// queries elsewhere, there is at most one query for each chunk, also after an error.
     pub fn process_chunks(
         &mut self,
         chunks: &[Chunk],
@@ -97,6 +98,7 @@ impl<I: DeduplicationDataInterface> FileDeduper<I> {
         ensures global { IfOk result (λ m. self.new.global ≡ (min (self.old.global.0 + m.deduped_chunks_by_global_dedup) (2 ^ 64 - 1), min (self.old.global.1 + m.deduped_bytes_by_global_dedup) (2 ^ 64 - 1))) }
         ensures asked { IfOk result (λ m. IsQueried I.calls I.acts (length self.old.plan.leaves == 0) (hashes_of (map chunk_leaf chunks.now)) self.old.interface self.new.interface m.deduped_chunks_by_global_dedup m.deduped_bytes_by_global_dedup) }
         ensures once { I.is_global ≡ false → IfOk result (λ m. IsQueriedOnce I.calls I.acts (length self.old.plan.leaves == 0) (hashes_of (map chunk_leaf chunks.now)) self.old.interface self.new.interface × (m.deduped_chunks_by_global_dedup ≡ 0) × (m.deduped_bytes_by_global_dedup ≡ 0)) }
+        ensures queries { I.is_global ≡ false → queries_of (I.calls self.new.interface) ≤ queries_of (I.calls self.old.interface) + length chunks.now }
         ensures same { (self.new.start.value ≡ self.old.start.value) × (self.new.file_id ≡ self.old.file_id) }
         ensures settings { OnOk result (self.new.plan.settings ≡ self.old.plan.settings) }
         ensures prefix { (added : List Call) × (I.calls self.new.interface ≡ I.calls self.old.interface ++ added) }

@@ -2,7 +2,7 @@
 
 ghost use Rattle.std.specs.Prelude.{◌≡◌, ◌==◌, ◌≤◌, ◌+◌, ◌++◌, List, IfErr, IfOk, IsErrOf, IsOkUnless, OnErr, OnOk, false, length, map};
 ghost use Rattle.std.specs.List.{AllByRecursion};
-ghost use Rattle.xet_choices.specs.Calls.{Call};
+ghost use Rattle.xet_choices.specs.Calls.{Call, queries_of};
 ghost use Rattle.xet_choices.specs.Choices.{hashes_of};
 ghost use Rattle.xet_dedup.specs.Deduping.{IsChunk, IsDeduped, IsQueried, IsQueriedOnce, RegistersAlone};
 ghost use Rattle.xet_dedup.specs.Placing.{ArePlaced, IsPlaced, StopsBatch, StopsPlacing};
@@ -42,6 +42,7 @@ pub(crate) fn place_batch<I: DeduplicationDataInterface>(
     ensures settings { OnOk result (plan.new.settings ≡ plan.old.settings) }
     ensures asked { IfOk result (λ global. IsQueried I.calls I.acts (length plan.old.leaves == 0) (hashes_of (map chunk_leaf chunks.now)) interface.old interface.new global.0 global.1) }
     ensures once { I.is_global ≡ false → IfOk result (λ global. IsQueriedOnce I.calls I.acts (length plan.old.leaves == 0) (hashes_of (map chunk_leaf chunks.now)) interface.old interface.new × (global.0 ≡ 0) × (global.1 ≡ 0)) }
+    ensures queries { I.is_global ≡ false → queries_of (I.calls interface.new) ≤ queries_of (I.calls interface.old) + length chunks.now }
     ensures prefix { (added : List Call) × (I.calls interface.new ≡ I.calls interface.old ++ added) }
     ensures extends { Extends I.lists I.stands I.refused I.cut_limits interface.old interface.new }
     ensures refused { IfErr result (λ e. (d : I.ErrorType) → e ≡ DedupError.Interface d → I.refused interface.old interface.new d) }
@@ -94,6 +95,7 @@ fn place_listed<I: DeduplicationDataInterface>(
     ensures settings { OnOk result (plan.new.settings ≡ plan.old.settings) }
     ensures asked { IfOk result (λ global. IsQueried I.calls I.acts (length plan.old.leaves == 0) hashes.now interface.old interface.new global.0 global.1) }
     ensures once { I.is_global ≡ false → IfOk result (λ global. IsQueriedOnce I.calls I.acts (length plan.old.leaves == 0) hashes.now interface.old interface.new × (global.0 ≡ 0) × (global.1 ≡ 0)) }
+    ensures queries { I.is_global ≡ false → queries_of (I.calls interface.new) ≤ queries_of (I.calls interface.old) + length chunks.now }
     ensures prefix { (added : List Call) × (I.calls interface.new ≡ I.calls interface.old ++ added) }
     ensures extends { Extends I.lists I.stands I.refused I.cut_limits interface.old interface.new }
     ensures refused { IfErr result (λ e. (d : I.ErrorType) → e ≡ DedupError.Interface d → I.refused interface.old interface.new d) }

@@ -1,6 +1,7 @@
 pub mod Bytes
 pub mod Closing
 pub mod Counts
+pub mod Flags
 pub mod Joining
 pub mod Placed
 pub mod Plans

@@ -1,6 +1,7 @@
 //! Theorems about the plans of files, over any interface. Each is the contract of a function that does nothing.
 
-ghost use Rattle.std.specs.Prelude.{◌≡◌, ◌≢◌, ◌⊎◌, ◌<◌, ◌≤◌, ◌+◌, ◌^◌, ℕ, Bool, true, false, List, [], ◌∷◌, ◌++◌, length, map, take, drop, Option, Some, slice_get};
+ghost use Rattle.std.specs.Prelude.{◌≡◌, ◌≢◌, ◌⊎◌, ◌<◌, ◌+◌, ◌^◌, ℕ, true, false, List, [], ◌∷◌, ◌++◌, length, map, take, drop, Option, Some, slice_get};
+ghost use Rattle.std.specs.List.{AllByRecursion};
 ghost use Rattle.xet_choices.specs.Calls.{Call, IsAskedIn, registered_chunks};
 ghost use Rattle.xet_choices.specs.Calls.Call.{Registered};
 ghost use Rattle.xet_choices.specs.Choices.{IsFound, TrueAt, fits, hashes_of, is_reused};
@@ -37,6 +38,12 @@ pub fn segments_have_the_chunks<I: DeduplicationDataInterface>()
     ensures closed { (interface : I) (calls : List Call) (leaves : List (List ℕ × ℕ)) (p : PlanState)
         → IsPlan (I.lists interface) (I.stands interface) calls leaves p → (i : ℕ) (s : Segment) → slice_get p.segments i ≡ Some s → is_open s ≡ false
         → LiesInXorb (I.lists interface) (I.stands interface) s (take (run_len s) (drop (total (counts_of (take i p.segments))) (hashes_of p.leaves))) }
+{}
+
+/// The segments of a plan that is right have no flags.
+pub fn segments_have_no_flags<I: DeduplicationDataInterface>()
+    ensures { (interface : I) (before calls : List Call) (leaves : List (List ℕ × ℕ)) (p : PlanState)
+        → IsPlanSince (I.lists interface) (I.stands interface) before calls leaves p → AllByRecursion (λ s. s.xorb_flags ≡ 0) p.segments }
 {}
 
 /// To fill in the hash of the open block changes no number of chunks.

@@ -4,7 +4,7 @@ use Rattle.xet_cut.specs.declared.limits.LimitSettings.{LimitSettings}
 use Rattle.xet_dedup_queries.specs.theorems.Growing.{extends_more}
 use Rattle.xet_dedup_queries.specs.declared.places.Place.{Place}
 use Rattle.xet_dedup.specs.internal.Walking.{IsWalking}
-use Rattle.xet_dedup.proofs.Outcomes.{is_placed, is_queried, is_queried_once, stops_asking, stops_placing}
+use Rattle.xet_dedup.proofs.Outcomes.{few_registered, few_stopped, is_placed, is_queried, is_queried_once, stops_asking, stops_placing}
 use Rattle.xet_dedup.proofs.Placed.{batch_begins, leaves_small}
 use Rattle.xet_dedup.proofs.Registering.{grows_by_both}
 use Rattle.xet_dedup.proofs.placing.place_listed.Goals as goal
@@ -92,3 +92,24 @@ returns-clause-once g c = λ alone.
       once.1,
       once.2,
     )
+
+pub returns-in_err-found-clause-queries : goal.returns-in_err-found-clause-queries
+returns-in_err-found-clause-queries g c = λ alone.
+    let I = g.I.DeduplicationDataInterface in
+    let a = c.args in
+    few_stopped I.lists I.stands I.calls I.acts a.file_id a.chunks.now a.leaves.now a.hashes.now c.len-base.result a.interface.now a.plan.now c.requires.leaves c.requires.hashes c.len-base.ensures.value
+    I.is_global c.find_places.new.interface c.in_err-found.ensures.stopped alone
+
+pub returns-in_err-place_found-clause-queries : goal.returns-in_err-place_found-clause-queries
+returns-in_err-place_found-clause-queries g c = λ alone.
+    let I = g.I.DeduplicationDataInterface in
+    let a = c.args in
+    few_registered I.lists I.stands I.calls I.acts a.file_id a.chunks.now a.leaves.now a.hashes.now c.len-base.result a.interface.now a.plan.now c.requires.leaves c.requires.hashes c.len-base.ensures.value
+    c.find_places.new.interface c.place_found.new.interface c.in_ok-found.found.places (c.in_ok-found.ensures.once alone).0 c.place_found.ensures.calls
+
+pub returns-clause-queries : goal.returns-clause-queries
+returns-clause-queries g c = λ alone.
+    let I = g.I.DeduplicationDataInterface in
+    let a = c.args in
+    few_registered I.lists I.stands I.calls I.acts a.file_id a.chunks.now a.leaves.now a.hashes.now c.len-base.result a.interface.now a.plan.now c.requires.leaves c.requires.hashes c.len-base.ensures.value
+    c.find_places.new.interface c.place_found.new.interface c.in_ok-found.found.places (c.in_ok-found.ensures.once alone).0 c.place_found.ensures.calls

@@ -8,7 +8,7 @@ use Rattle.xet_xorb.specs.Raw.{raw_leaves}
 use Rattle.xet_xorb.specs.declared.raw.RawXorbData.{RawXorbData}
 use Rattle.xet_choices.specs.Calls.Call.{Registered}
 use Rattle.xet_dedup_queries.specs.Acts.Act.{Stored}
-use Rattle.xet_dedup.proofs.Cuts.{empty_has_room}
+use Rattle.xet_dedup.specs.theorems.Placings.{empty_has_room}
 use Rattle.xet_dedup.proofs.Registering.{registers_none, registers_one}
 use Rattle.xet_dedup.proofs.walk.store.Goals as goal
 use Rattle.xet_dedup.proofs.walk.store.Goals.{then-not-fits+in_ok-cut, else-not-fits}
