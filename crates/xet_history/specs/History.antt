@@ -81,6 +81,16 @@ pub record Replays (tells : Bool) (core : Core) (history : List Entry) : Type 0 
 abbrev pub cut_entries : ℕ → Core → ℕ → ℕ → List Entry
 cut_entries pass c target bytes = if is_cut_due c target bytes then Flush pass (pending_hash c) ∷ [] else []
 
+-- the entry of the cut before a registration: none if a xorb of the hash is listed
+abbrev pub register_cut : ℕ → Core → ℕ → List (List ℕ × ℕ) → List Entry
+register_cut pass c target leaves =
+    let h = xorb_hash leaves in
+    if is_new c.xorbs h then cut_entries pass c target (xorb_record_size (xorb_record h leaves)) else []
+
+-- the entry of the cut before a file is recorded: none if its hash is recorded
+abbrev pub complete_cut : ℕ → Core → ℕ → MDBFileInfo → List Entry
+complete_cut pass c target file = if is_new c.records (file_record_hash file) then cut_entries pass c target (file_record_size file) else []
+
 abbrev pub query_entries : ℕ → List (List ℕ) → Option (ℕ × Segment) → List Entry
 query_entries pass [] reply = []
 query_entries pass (h ∷ hs) reply = Query pass (stated (h ∷ hs) reply) (reply_of reply) ∷ []

@@ -3,6 +3,7 @@ pub mod Staying
 pub mod Finding
 pub mod Entries
 pub mod FoundRuns
+pub mod Standing
 pub mod Soundness
 pub mod Interleaving
 pub mod Examples

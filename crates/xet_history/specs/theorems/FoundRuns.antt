@@ -6,7 +6,7 @@ use Rattle.std.specs.List.{AllByRecursion, sum_by}
 use Rattle.std.proofs.lemmas.Bool.{eqb-false}
 use Rattle.std.proofs.lemmas.List.{drop-map, length-drop, length-map, take-map}
 use Rattle.std.proofs.lemmas.List.Sums.{sum_by-cons}
-use Rattle.xet_base.specs.theorems.Elements.{all_filtered, all_push}
+use Rattle.xet_base.specs.theorems.Elements.{all_filtered, all_more, all_push}
 use Rattle.xet_io.specs.Disk.{Files}
 use Rattle.xet_hash.specs.Hash.{zero_hash}
 use Rattle.xet_shard.specs.Queries.{block_at, kept_hash, last_of, shard_run_at}
@@ -17,13 +17,20 @@ use Rattle.xet_shard_format.specs.declared.record.FileDataSequenceEntry.{FileDat
 use Rattle.xet_shard_format.specs.declared.record.MDBXorbInfo.{MDBXorbInfo}
 use Rattle.xet_shard_format.specs.declared.record.XorbChunkSequenceEntry.{XorbChunkSequenceEntry}
 use Rattle.xet_folder.specs.Admission.{entry_leaf}
-use Rattle.xet_folder.specs.Plan.{LiesIn}
-use Rattle.xet_folder.specs.Xorbs.{IsListed, Xorbs}
+use Rattle.xet_folder.specs.Xorbs.{Xorbs}
 use Rattle.xet_history.specs.Core.{Core, RegisteredShard}
 use Rattle.xet_history.specs.Found.{first_some, found_run, indexed, indexed_after, items_of, key_of, keyed_run, keys_of, of_key, place_of, word_count}
 use Rattle.xet_history.specs.Sound.{IsBlock, IsListedRun, IsSound}
 use Rattle.xet_history.specs.theorems.Finding.{FoundRun, Hashes}
 use Rattle.xet_history.specs.theorems.Staying.{Leaves}
+
+-- each run that is found has a property
+abbrev pub AllRuns : (FoundRun → Type 0) → Option FoundRun → Type 0
+AllRuns P o = (run : FoundRun) → o ≡ Some run → P run
+
+-- each run of a query in a block has it, whichever index it starts at
+abbrev pub AllAt : (FoundRun → Type 0) → Hashes → MDBXorbInfo → Type 0
+AllAt P query b = (place : ℕ) → AllRuns P (run_at query b place)
 
 -- ---- a run of a block
 
@@ -36,6 +43,40 @@ agreeing_within (h ∷ hs) (d ∷ ds) = go (pointwise nat_eq h d) (agreeing_with
     go : (b : Bool) → agreeing hs ds ≤ length ds → (if b then suc (agreeing hs ds) else 0) ≤ suc (length ds)
     go true le = omega (arith, le)
     go false le = omega arith
+
+agreeing_below : (hs ds : Hashes) → agreeing hs ds ≤ length hs
+unfolding agreeing
+agreeing_below [] ds = omega arith
+agreeing_below (h ∷ hs) [] = omega arith
+agreeing_below (h ∷ hs) (d ∷ ds) = go (pointwise nat_eq h d) (agreeing_below hs ds)
+  where
+    go : (b : Bool) → agreeing hs ds ≤ length hs → (if b then suc (agreeing hs ds) else 0) ≤ suc (length hs)
+    go true le = omega (arith, le)
+    go false le = omega arith
+
+-- The run of a query at an index of a block has the chunks whose hashes agree.
+pub record IsRunAt (query : Hashes) (b : MDBXorbInfo) (place : ℕ) (run : FoundRun) : Type 0 where
+  pub count : run.0 ≡ agreeing query (digests (drop place b.chunks))
+  pub some : 0 < run.0
+  pub within : run.0 ≤ length query
+  pub segment : run.1 ≡ run_segment b place run.0
+
+pub run_is : (query : Hashes) (b : MDBXorbInfo) (place : ℕ) (run : FoundRun) → run_at query b place ≡ Some run → IsRunAt query b place run
+unfolding run_at
+run_is query b place run e = go (agreeing query there) refl (agreeing query there == 0) refl e
+  where
+    there : Hashes
+    there = digests (drop place b.chunks)
+
+    go : (count : ℕ) → count ≡ agreeing query (digests (drop place b.chunks)) → (none : Bool) → (count == 0) ≡ none
+        → (let o : Option FoundRun = if none then None else Some (count, run_segment b place count) in o) ≡ Some run → IsRunAt query b place run
+    go count agree true is e = absurd (cc e)
+    go count agree false is e =
+        let some : count ≢ 0 = eqb-false count 0 is in
+        let found : Some (count, run_segment b place count) ≡ Some run = e in
+        let same : (count, run_segment b place count) ≡ run = cc found in
+        subst (λ (r : FoundRun). IsRunAt query b place r) same
+        (record { count = agree; some = omega arith; within = omega (arith, agree, agreeing_below query (digests (drop place b.chunks))); segment = refl })
 
 sum_of_map : {X Y : Type 0} (f : X → Y) (len : Y → ℕ) (xs : List X) → sum_by len (map f xs) ≡ sum_by (λ x. len (f x)) xs
 sum_of_map f len [] = refl
@@ -76,49 +117,33 @@ module _ (xorbs : Xorbs) (key : List ℕ) (b : MDBXorbInfo) (is : IsBlock xorbs 
     };
   }
 
-  run_lies : (query : Hashes) (place : ℕ) (run : FoundRun) → run_at query b place ≡ Some run → IsListedRun xorbs run
-  unfolding run_at
-  run_lies query place run e = go (agreeing query there) within (agreeing query there == 0) refl e
-    where
-      there : Hashes
-      there = digests (drop place b.chunks)
-
-      within : agreeing query (digests (drop place b.chunks)) ≤ length b.chunks - place
-      within = omega (arith, agreeing_within query (digests (drop place b.chunks)), length-map (drop place b.chunks) (λ (c : XorbChunkSequenceEntry). c.chunk_hash), length-drop place b.chunks)
-
-      go : (count : ℕ) → count ≤ length b.chunks - place → (none : Bool) → (count == 0) ≡ none
-          → (let o : Option FoundRun = if none then None else Some (count, run_segment b place count) in o) ≡ Some run → IsListedRun xorbs run
-      go count le true is e = absurd (cc e)
-      go count le false is e =
-          let some : count ≢ 0 = eqb-false count 0 is in
-          let found : Some (count, run_segment b place count) ≡ Some run = e in
-          let same : (count, run_segment b place count) ≡ run = cc found in
-          subst (λ (r : FoundRun). IsListedRun xorbs r) same (segment_lies place count (omega arith) (omega (arith, le)))
+  pub run_lies : (query : Hashes) → AllAt (IsListedRun xorbs) query b
+  run_lies query place run e =
+      let at = run_is query b place run e in
+      let within : place + run.0 ≤ length b.chunks =
+      omega (arith, at.count, at.some, agreeing_within query (digests (drop place b.chunks)), length-map (drop place b.chunks) (λ (c : XorbChunkSequenceEntry). c.chunk_hash), length-drop place b.chunks) in
+      subst (λ (s : Segment). IsListedRun xorbs (run.0, s)) (sym at.segment) (segment_lies place run.0 at.some within)
 
 -- ---- queries that are made of others
 
--- each run that is found lies in a listed xorb
-abbrev pub AllLie : Xorbs → Option FoundRun → Type 0
-AllLie xorbs o = (run : FoundRun) → o ≡ Some run → IsListedRun xorbs run
+module _ (P : FoundRun → Type 0) where
+  pub runs_then : {X : Type 0} (f : X → Option FoundRun) (o : Option X) → ((x : X) → o ≡ Some x → AllRuns P (f x)) → AllRuns P (option_and_then f o)
+  runs_then f None all run e = absurd (cc e)
+  runs_then f (Some x) all run e = all x refl run e
 
-module _ (xorbs : Xorbs) where
-  pub lie_then : {X : Type 0} (f : X → Option FoundRun) (o : Option X) → ((x : X) → o ≡ Some x → AllLie xorbs (f x)) → AllLie xorbs (option_and_then f o)
-  lie_then f None lie run e = absurd (cc e)
-  lie_then f (Some x) lie run e = lie x refl run e
+  runs_in : {X : Type 0} (f : X → Option FoundRun) (o : Option X) → ((x : X) → o ≡ Some x → AllRuns P (f x)) → AllRuns P (elim o as (λ _. Option FoundRun) [ None ↦ None | Some x ↦ f x ])
+  runs_in f None all run e = absurd (cc e)
+  runs_in f (Some x) all run e = all x refl run e
 
-  lie_in : {X : Type 0} (f : X → Option FoundRun) (o : Option X) → ((x : X) → o ≡ Some x → AllLie xorbs (f x)) → AllLie xorbs (elim o as (λ _. Option FoundRun) [ None ↦ None | Some x ↦ f x ])
-  lie_in f None lie run e = absurd (cc e)
-  lie_in f (Some x) lie run e = lie x refl run e
-
-  lie_first : (o : Option FoundRun) (os : List (Option FoundRun)) → AllLie xorbs o → AllLie xorbs (first_some os) → AllLie xorbs (first_some (o ∷ os))
+  runs_first : (o : Option FoundRun) (os : List (Option FoundRun)) → AllRuns P o → AllRuns P (first_some os) → AllRuns P (first_some (o ∷ os))
   unfolding first_some
-  lie_first None os first others = others
-  lie_first (Some x) os first others = first
+  runs_first None os first others = others
+  runs_first (Some x) os first others = first
 
-  lie_all : {X : Type 0} (f : X → Option FoundRun) (xs : List X) → ((x : X) → AllLie xorbs (f x)) → AllLie xorbs (first_some (map f xs))
+  runs_all : {X : Type 0} (f : X → Option FoundRun) (xs : List X) → ((x : X) → AllRuns P (f x)) → AllRuns P (first_some (map f xs))
   unfolding first_some
-  lie_all f [] lie run e = absurd (cc e)
-  lie_all f (x ∷ xs) lie run e = lie_first (f x) (map f xs) (lie x) (lie_all f xs lie) run e
+  runs_all f [] all run e = absurd (cc e)
+  runs_all f (x ∷ xs) all run e = runs_first (f x) (map f xs) (all x) (runs_all f xs all) run e
 
 -- ---- where a chunk is found
 
@@ -166,31 +191,40 @@ indexed_all P cap before (s ∷ ss) here all =
 
 -- ---- queries of a core
 
-pub held_lie : (xorbs : Xorbs) (blocks : List MDBXorbInfo) → AllByRecursion (IsBlock xorbs zero_hash) blocks → (h : List ℕ) (hs : Hashes) → AllLie xorbs (held_run blocks (h ∷ hs))
-unfolding held_run
-held_lie xorbs blocks all h hs =
-    lie_then xorbs (λ (at : MDBXorbInfo × ℕ). run_at (h ∷ hs) at.0 at.1) (last_chunk h blocks)
-    (λ at e. run_lies xorbs zero_hash at.0 (last_chunk_in (IsBlock xorbs zero_hash) h blocks all at e) (h ∷ hs) at.1)
+module _ (P : FoundRun → Type 0) where
+  pub held_runs : (blocks : List MDBXorbInfo) (h : List ℕ) (hs : Hashes) → AllByRecursion (AllAt P (h ∷ hs)) blocks → AllRuns P (held_run blocks (h ∷ hs))
+  unfolding held_run
+  held_runs blocks h hs all =
+      runs_then P (λ (at : MDBXorbInfo × ℕ). run_at (h ∷ hs) at.0 at.1) (last_chunk h blocks) (λ at e. last_chunk_in (AllAt P (h ∷ hs)) h blocks all at e at.1)
 
-pub shard_lie : (xorbs : Xorbs) (s : Shard) → AllByRecursion (IsBlock xorbs s.key) s.blocks → (query : Hashes) (row place : ℕ) → AllLie xorbs (shard_run_at s query row place)
-shard_lie xorbs s all query row place =
-    lie_in xorbs (λ (b : MDBXorbInfo). run_at (map (kept_hash s.key) query) b place) (block_at row 0 s.blocks)
-    (λ b e. run_lies xorbs s.key b (block_in (IsBlock xorbs s.key) row 0 s.blocks all b e) (map (kept_hash s.key) query) place)
+  pub shard_runs : (s : Shard) (query : Hashes) → AllByRecursion (AllAt P (map (kept_hash s.key) query)) s.blocks → (row place : ℕ) → AllRuns P (shard_run_at s query row place)
+  shard_runs s query all row place =
+      runs_in P (λ (b : MDBXorbInfo). run_at (map (kept_hash s.key) query) b place) (block_at row 0 s.blocks)
+      (λ b e. block_in (AllAt P (map (kept_hash s.key) query)) row 0 s.blocks all b e place)
 
-module _ (files : Files) (folder : List ℕ) (c : Core) (sound : IsSound files folder c) where
-  abbrev HasBlocks : RegisteredShard → Type 0
-  HasBlocks s = AllByRecursion (IsBlock c.xorbs s.contents.key) s.contents.blocks
+  module _ (c : Core) (query : Hashes) where
+    abbrev pub AllIn : RegisteredShard → Type 0
+    AllIn s = AllByRecursion (AllAt P (map (kept_hash s.contents.key) query)) s.contents.blocks
 
-  keyed_lie : (h : List ℕ) (query : Hashes) (key : List ℕ) → AllLie c.xorbs (keyed_run c h query key)
-  keyed_lie h query key =
-      let all : AllByRecursion HasBlocks (of_key key (indexed c)) =
-      all_filtered HasBlocks (λ s. pointwise nat_eq key (key_of s)) (indexed c) (indexed_all HasBlocks c.index_cap [] c.shards tt sound.shard_blocks) in
-      lie_then c.xorbs (λ (at : Place). shard_run_at at.0.contents query at.1 at.2) (place_of (first_word (kept_hash key h)) (of_key key (indexed c)))
-      (λ at e. shard_lie c.xorbs at.0.contents (place_in HasBlocks (first_word (kept_hash key h)) (of_key key (indexed c)) all at e) query at.1 at.2)
+    keyed_runs : AllByRecursion AllIn c.shards → (h key : List ℕ) → AllRuns P (keyed_run c h query key)
+    keyed_runs all h key =
+        let some : AllByRecursion AllIn (of_key key (indexed c)) =
+        all_filtered AllIn (λ s. pointwise nat_eq key (key_of s)) (indexed c) (indexed_all AllIn c.index_cap [] c.shards tt all) in
+        runs_then P (λ (at : Place). shard_run_at at.0.contents query at.1 at.2) (place_of (first_word (kept_hash key h)) (of_key key (indexed c)))
+        (λ at e. shard_runs at.0.contents query (place_in AllIn (first_word (kept_hash key h)) (of_key key (indexed c)) some at e) at.1 at.2)
 
-  pub found_lies : (hashes : Hashes) (run : FoundRun) → found_run c hashes ≡ Some run → IsListedRun c.xorbs run
+  -- Each run that a query of a core can find has the property, if those of each block have it.
+  pub core_runs : (c : Core) (query : Hashes) → AllByRecursion (AllAt P query) c.pending.blocks → AllByRecursion (AllIn c query) c.shards → AllRuns P (found_run c query)
   unfolding found_run
-  found_lies [] run e = absurd (cc e)
-  found_lies (h ∷ hs) run e =
-      lie_first c.xorbs (held_run c.pending.blocks (h ∷ hs)) (map (keyed_run c h (h ∷ hs)) (keys_of c.shards)) (held_lie c.xorbs c.pending.blocks sound.pending_blocks h hs)
-      (lie_all c.xorbs (keyed_run c h (h ∷ hs)) (keys_of c.shards) (keyed_lie h (h ∷ hs))) run e
+  core_runs c [] held shards = λ run e. absurd (cc e)
+  core_runs c (h ∷ hs) held shards =
+      runs_first P (held_run c.pending.blocks (h ∷ hs)) (map (keyed_run c h (h ∷ hs)) (keys_of c.shards)) (held_runs c.pending.blocks h hs held)
+      (runs_all P (keyed_run c h (h ∷ hs)) (keys_of c.shards) (keyed_runs c (h ∷ hs) shards h))
+
+pub found_lies : (files : Files) (folder : List ℕ) (c : Core) → IsSound files folder c → (hashes : Hashes) (run : FoundRun) → found_run c hashes ≡ Some run → IsListedRun c.xorbs run
+found_lies files folder c sound hashes =
+    core_runs (IsListedRun c.xorbs) c hashes
+    (all_more (IsBlock c.xorbs zero_hash) (AllAt (IsListedRun c.xorbs) hashes) c.pending.blocks (λ b is. run_lies c.xorbs zero_hash b is hashes) sound.pending_blocks)
+    (all_more (λ s. AllByRecursion (IsBlock c.xorbs s.contents.key) s.contents.blocks) (AllIn (IsListedRun c.xorbs) c hashes) c.shards
+    (λ s all. all_more (IsBlock c.xorbs s.contents.key) (AllAt (IsListedRun c.xorbs) (map (kept_hash s.contents.key) hashes)) s.contents.blocks
+    (λ b is. run_lies c.xorbs s.contents.key b is (map (kept_hash s.contents.key) hashes)) all) sound.shard_blocks)
