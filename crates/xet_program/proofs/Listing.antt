@@ -1,5 +1,5 @@
 -- What was listed when a folder was opened is listed still.
-use Rattle.std.proofs.Common.{◌≡◌, ◌⊎◌, inl, inr, ◌∙◌, ℕ, Bool, true, List, subst, sym}
+use Rattle.std.proofs.Common.{◌≡◌, ◌⊎◌, inl, inr, ◌∙◌, ℕ, Bool, true, false, List, refl, subst, sym}
 use Rattle.xet_io.specs.Disk.{Files}
 use Rattle.xet_folder.specs.Admission.{Admits}
 use Rattle.xet_folder.specs.Contents.{HasContents}
@@ -32,14 +32,19 @@ contents_then old now s files folder time contents =
     let of_folder : HasContents s.files s.folder now (contents_of s) = subst (λ (x : List ℕ). HasContents s.files x now (contents_of s)) (sym folder) of_files in
     subst (λ (x : ℕ). HasContents s.files s.folder x (contents_of s)) (sym time) of_folder
 
+-- without pruning, the contents of a store are those of the disk that it was opened over
+pub contents_before : (tells : Bool) (old : Files) (limits : LimitSettings) (now : ℕ) (s : State) → IsOpened tells false old store_folder limits now s
+    → (tells ≡ true → HasContents s.files store_folder now (contents_of s)) → tells ≡ true → HasContents old store_folder now (contents_of s)
+contents_before tells old limits now s opened contents told = subst (λ (x : Files). HasContents x store_folder now (contents_of s)) (opened.same_files refl) (contents told)
+
 -- over the disk that it hands back
-pub keeps_listed : (tells : Bool) (old new : Files) (limits : LimitSettings) (now : ℕ) (s t : State) → IsOpened tells old store_folder limits now s
+pub keeps_listed : (tells : Bool) (old new : Files) (limits : LimitSettings) (now : ℕ) (s t : State) → IsOpened tells false old store_folder limits now s
     → (tells ≡ true → HasContents old store_folder now (contents_of s)) → Keeps s t → new ≡ t.files → tells ≡ true → KeepsListed now old new
 keeps_listed tells old new limits now s t opened contents keeps is told =
-    let then = contents_then old now s opened.same_files opened.same_folder opened.time (contents told) in
+    let then = contents_then old now s (opened.same_files refl) opened.same_folder opened.time (contents told) in
     let kept : KeepsListed s.opened s.files t.files = kept_by s t (opened.same_tells ∙ told) opened.same_folder then keeps in
     let at : KeepsListed now s.files t.files = subst (λ (x : ℕ). KeepsListed x s.files t.files) opened.time kept in
-    let from : KeepsListed now old t.files = subst (λ (x : Files). KeepsListed now x t.files) opened.same_files at in
+    let from : KeepsListed now old t.files = subst (λ (x : Files). KeepsListed now x t.files) (opened.same_files refl) at in
     subst (λ (x : Files). KeepsListed now old x) (sym is) from
 
 -- ---- the names of a store's files
@@ -74,10 +79,10 @@ keeps_names s t told folder contents keeps sound =
     shard h (inr has) = inr (subst (λ (x : List ℕ). HasShard t.files x h) (keeps.folder ∙ folder) has.shard)
 
 -- over the disk that it hands back
-pub keeps_folder : (tells : Bool) (old new : Files) (limits : LimitSettings) (now : ℕ) (s t : State) → IsOpened tells old store_folder limits now s
+pub keeps_folder : (tells : Bool) (old new : Files) (limits : LimitSettings) (now : ℕ) (s t : State) → IsOpened tells false old store_folder limits now s
     → (tells ≡ true → HasContents old store_folder now (contents_of s)) → Keeps s t → Sound t → new ≡ t.files → tells ≡ true → KeepsFolder now old new
 keeps_folder tells old new limits now s t opened contents keeps sound is told =
-    let kept : KeepsFolder s.opened s.files t.files = keeps_names s t (opened.same_tells ∙ told) opened.same_folder (contents_then old now s opened.same_files opened.same_folder opened.time (contents told)) keeps sound in
+    let kept : KeepsFolder s.opened s.files t.files = keeps_names s t (opened.same_tells ∙ told) opened.same_folder (contents_then old now s (opened.same_files refl) opened.same_folder opened.time (contents told)) keeps sound in
     let at : KeepsFolder now s.files t.files = subst (λ (x : ℕ). KeepsFolder x s.files t.files) opened.time kept in
-    let from : KeepsFolder now old t.files = subst (λ (x : Files). KeepsFolder now x t.files) opened.same_files at in
+    let from : KeepsFolder now old t.files = subst (λ (x : Files). KeepsFolder now x t.files) (opened.same_files refl) at in
     subst (λ (x : Files). KeepsFolder now old x) (sym is) from

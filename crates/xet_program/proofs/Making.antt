@@ -293,7 +293,7 @@ made_in old before after files told is settled = go files (made_all old.limits f
 
 -- ---- of files
 
-module _ (tells : Bool) (disk files : Files) (limits : LimitSettings) (now : ℕ) (s t : State) (told : tells ≡ true) (opened : IsOpened tells disk store_folder limits now s) (sound : Sound s)
+module _ (tells : Bool) (disk files : Files) (limits : LimitSettings) (now : ℕ) (s t : State) (told : tells ≡ true) (opened : IsOpened tells false disk store_folder limits now s) (sound : Sound s)
     (keeps : Keeps s t) (is : files ≡ t.files) where
   -- a hash of which nothing was listed has no record
   not_recorded : (h : List ℕ) → (ListsHash disk now h → ⊥) → found s.records h ≡ None
@@ -303,7 +303,7 @@ module _ (tells : Bool) (disk files : Files) (limits : LimitSettings) (now : ℕ
       listed f e (inl among) = none_among s.pending.files f (ap (λ (p : Held). p.files) opened.nothing_pending) among
       listed f e (inr kept) =
           let one : Lists s.files s.folder s.opened f = (kept (opened.same_tells ∙ told)).lists in
-          let of_files : Lists disk s.folder s.opened f = subst (λ (x : Files). Lists x s.folder s.opened f) opened.same_files one in
+          let of_files : Lists disk s.folder s.opened f = subst (λ (x : Files). Lists x s.folder s.opened f) (opened.same_files refl) one in
           let of_folder : Lists disk store_folder s.opened f = subst (λ (x : List ℕ). Lists disk x s.opened f) opened.same_folder of_files in
           none (f, subst (λ (n : ℕ). Lists disk store_folder n f) opened.time of_folder, (found_has (IsRecord s.xorbs) s.records h f sound.recorded e).named)
 

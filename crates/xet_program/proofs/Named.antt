@@ -1,5 +1,5 @@
 -- Cleaning by name over the disk that a session hands back.
-use Rattle.std.proofs.Common.{◌≡◌, ◌≢◌, ◌⊎◌, ◌∙◌, inl, inr, ℕ, Bool, true, List, Result, Ok, Err, IfErr, IfOk, Vec, Global, Some, refl, subst, sym, ap, arith}
+use Rattle.std.proofs.Common.{◌≡◌, ◌≢◌, ◌⊎◌, ◌∙◌, inl, inr, ℕ, Bool, true, false, List, Result, Ok, Err, IfErr, IfOk, Vec, Global, Some, refl, subst, sym, ap, arith}
 use Rattle.std.specs.List.{flat_map}
 use Rattle.std.specs.Result.{IsErrOf}
 use Rattle.xet_cut.specs.declared.limits.LimitSettings.{LimitSettings}
@@ -24,7 +24,7 @@ use Rattle.xet_program.proofs.Making.{are_stored}
 abbrev Answer : Type 0
 Answer = Result (Vec ℕ Global) Stop
 
-module _ (inputs_tell : Bool) (inputs : Named (List ℕ)) (names : List (List ℕ)) (tells : Bool) (disk files : Files) (now : ℕ) (s t : State) (opened : IsOpened tells disk store_folder default_limits now s) where
+module _ (inputs_tell : Bool) (inputs : Named (List ℕ)) (names : List (List ℕ)) (tells : Bool) (disk files : Files) (now : ℕ) (s t : State) (opened : IsOpened tells false disk store_folder default_limits now s) where
   text_of : Sound s → Keeps s t → files ≡ t.files → (text : List ℕ) → IsCleaned inputs_tell inputs names s t text → IsCleanText inputs_tell inputs names tells disk files now text
   text_of sound keeps is text x = record {
     files = x.files;
@@ -53,12 +53,12 @@ module _ (inputs_tell : Bool) (inputs : Named (List ℕ)) (names : List (List �
   idle_kept (Err stop.TooLarge) c kept is idle = absurd (not_seven_or_eight 9 (λ e. omega arith) (λ e. omega arith) idle)
   idle_kept (Err stop.Disk) c kept is idle = absurd (not_seven_or_eight 6 (λ e. omega arith) (λ e. omega arith) idle)
   idle_kept (Err stop.Malformed) c kept is idle = absurd (not_seven_or_eight 10 (λ e. omega arith) (λ e. omega arith) idle)
-  idle_kept (Err stop.NotFound) c kept is idle = is ∙ ap (λ (x : State). x.files) (kept refl) ∙ opened.same_files
+  idle_kept (Err stop.NotFound) c kept is idle = is ∙ ap (λ (x : State). x.files) (kept refl) ∙ opened.same_files refl
   idle_kept (Err (stop.BadLine n)) c kept is idle = absurd c
   idle_kept (Err (stop.BadShard name)) c kept is idle = absurd c
 
 -- the report of a session over the disk that it hands back
-pub report_on_disk : (tells : Bool) (disk files : Files) (limits : LimitSettings) (now : ℕ) (s t : State) (said : Said) → IsOpened tells disk store_folder limits now s → files ≡ t.files → (r : Answer)
+pub report_on_disk : (tells : Bool) (disk files : Files) (limits : LimitSettings) (now : ℕ) (s t : State) (said : Said) → IsOpened tells false disk store_folder limits now s → files ≡ t.files → (r : Answer)
     → IfOk r (λ text. ForLines said (λ lines. IsReport (AreSeparate s.tells t.files s.opened s.limits (files_of lines)) s.limits lines text.items))
     → IfOk r (λ text. ForLines said (λ lines. IsReport (AreSeparate tells files now limits (files_of lines)) limits lines text.items))
 report_on_disk tells disk files limits now s t said opened is (Err e) report = tt

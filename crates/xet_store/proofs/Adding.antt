@@ -1,10 +1,8 @@
 -- A xorb more.
-use Rattle.std.proofs.Common.{◌≡◌, ◌≢◌, ◌⊎◌, inl, inr, Result, Ok, Err, OnErr, OnOk, ◌∙◌, ℕ, ◌≤◌, Bool, true, false, not, ◌&&◌, List, [], ◌∷◌, ◌++◌, map, Option, Some, None, IsSome, is_some, if◌then◌else◌, refl, sym, ap, subst, nat_eq}
+use Rattle.std.proofs.Common.{◌≡◌, ◌≢◌, ◌⊎◌, inl, inr, Result, Ok, Err, OnErr, OnOk, ◌∙◌, ℕ, ◌≤◌, Bool, true, false, not, List, [], ◌∷◌, ◌++◌, map, Option, Some, None, IsSome, is_some, if◌then◌else◌, refl, sym, ap, subst}
 use Rattle.std.specs.List.{AllByRecursion}
 use Rattle.std.specs.FinMap.{get}
 use Rattle.std.proofs.lemmas.Result.{on_ok_weaker}
-use Rattle.std.specs.Cmp.Lexicographic.{pointwise, bytes_decides}
-use Rattle.std.proofs.lemmas.Bool.{and_parts, eqb-true}
 use Rattle.std.proofs.lemmas.List.{append-nil}
 use Rattle.std.proofs.lemmas.List.Elements.{All-from_recursion}
 use Rattle.xet_io.specs.Disk.{Files, bytes_at}
@@ -223,24 +221,6 @@ pub put_left : {T E : Type 0} (old new : Files) (name encoding : List ℕ) (r : 
     → OnOk r (IsDurable new name) → OnOk r (get new (temp_name name) ≡ None) → IsKeptOrDone old new name encoding
 put_left old new name encoding (Ok x) refused there durable temp = inr (record { there = there; durable = durable; temp = temp })
 put_left old new name encoding (Err e) refused there durable temp = refused
-
--- ---- the comparison with the leaves that are listed
-
-abbrev is_leaf : List ℕ × ℕ → List ℕ × ℕ → Bool
-is_leaf x y = pointwise nat_eq x.0 y.0 && nat_eq x.1 y.1
-
--- lists of leaves that the test takes as equal are equal
-pub same_leaves : (xs ys : List (List ℕ × ℕ)) → pointwise is_leaf xs ys ≡ true → xs ≡ ys
-same_leaves [] [] e = refl
-same_leaves [] (y ∷ ys) e = absurd (cc e)
-same_leaves (x ∷ xs) [] e = absurd (cc e)
-same_leaves (x ∷ xs) (y ∷ ys) e =
-    let both = and_parts (is_leaf x y) (pointwise is_leaf xs ys) e in
-    let one = and_parts (pointwise nat_eq x.0 y.0) (nat_eq x.1 y.1) both.0 in
-    let hashes : x.0 ≡ y.0 = (bytes_decides x.0 y.0).0 one.0 in
-    let lengths : x.1 ≡ y.1 = eqb-true x.1 y.1 one.1 in
-    let rest : xs ≡ ys = same_leaves xs ys both.1 in
-    λ i. (hashes i, lengths i) ∷ rest i
 
 pub true_from : (b : Bool) → false ≡ not b → b ≡ true
 true_from true e = refl

@@ -1,18 +1,16 @@
 -- Registered shards in an index, and queries over them.
-use Rattle.std.proofs.Common.{◌≡◌, ◌∙◌, inl, inr, ℕ, zero, suc, ◌+◌, ◌≤◌, Bool, true, false, List, [], ◌∷◌, ◌++◌, map, slice_get, Option, Some, None, IsSome, option_map, Result, Ok, Err, IfErr, IfOk, OnOk, refl, sym, ap, subst, arith}
+use Rattle.std.proofs.Common.{◌≡◌, ◌≢◌, ◌∙◌, inl, inr, ℕ, zero, suc, ◌+◌, ◌≤◌, Bool, true, false, List, [], ◌∷◌, ◌++◌, length, map, slice_get, Option, Some, None, IsSome, option_map, Result, Ok, Err, IfErr, OnOk, refl, sym, ap, subst, arith}
 use Rattle.std.specs.Prelude.{if◌then◌else◌, is_some}
+use Rattle.std.proofs.lemmas.List.{length-map}
 use Rattle.std.proofs.lemmas.List.Elements.{recursion_from_All}
-use Rattle.std.specs.List.{All, AllByRecursion, Any, IsAmong}
-use Rattle.xet_base.specs.theorems.Elements.{all_more}
+use Rattle.std.specs.List.{AllByRecursion, Any, IsAmong}
 use Rattle.xet_codec.specs.Parsing.{◌>>=◌}
-use Rattle.xet_hash.specs.Hash.{zero_hash}
+use Rattle.xet_hash.specs.Hash.{sentinel, zero_hash}
 use Rattle.xet_hash.specs.Merkle.{leaves_of}
 use Rattle.xet_hash.specs.declared.error.Place.TheVariants.{Disk}
-use Rattle.xet_hash.specs.declared.error.Reason.TheVariants.{MissingRun}
 use Rattle.xet_hash.specs.declared.error.StoreError.{StoreError}
 use Rattle.xet_hash.specs.declared.error.StoreError.TheVariants.{BadFilename, FileNotFound, Io, MalformedData, OutOfMemory, UnexpectedEof}
 use Rattle.xet_io.specs.Disk.{File, Files, bytes_at, file_at}
-use Rattle.xet_shard.specs.Held.{Held}
 use Rattle.xet_shard.specs.Queries.{kept_hash, shard_run_at}
 use Rattle.xet_shard.specs.Runs.{held_run}
 use Rattle.xet_shard.specs.Sections.{chunk_lookup_in, info_at}
@@ -25,11 +23,11 @@ use Rattle.xet_shard_file.specs.Names.{IsHash, shard_path}
 use Rattle.xet_shard_file.specs.Shards.{IsThere, ShardFile}
 use Rattle.xet_shard_file.specs.theorems.Exits.{rose_before}
 use Rattle.xet_shard_file.specs.theorems.Names.{name_determines}
-use Rattle.xet_shard_format.specs.Encoding.{Fits, IsShard, IsShardEncoding, Shard, footer_of, header, shard_bytes}
+use Rattle.xet_shard_format.specs.Encoding.{Fits, IsShard, Shard, footer_of, header, shard_bytes}
 use Rattle.xet_shard_format.specs.Lookups.{Lookups, chunk_items, flat_places}
 use Rattle.xet_shard_format.specs.Names.{shard_name}
 use Rattle.xet_shard_format.specs.Reading.{IsRead, ShardParts, all_of, shard_parts_of, shard_of as shard_of_parts}
-use Rattle.xet_shard_format.specs.Records.{first_word, xorb_record_hash}
+use Rattle.xet_shard_format.specs.Records.{AreRecords, IsXorb, first_word, xorb_record_hash}
 use Rattle.xet_shard_format.specs.declared.record.FileDataSequenceEntry.{FileDataSequenceEntry as Segment}
 use Rattle.xet_shard_format.specs.declared.record.MDBXorbInfo.{MDBXorbInfo}
 use Rattle.xet_shard_format.specs.theorems.Bytes.{all_are_bytes}
@@ -41,18 +39,17 @@ use Rattle.xet_shard_registry.specs.Collections.{IsRegistryOf, Tables}
 use Rattle.xet_shard_registry.specs.Registered.{Registered, keys_of, place_among, with_shard}
 use Rattle.xet_folder.specs.Admission.{BlockHolds, ShardHolds, block_leaves, key_of}
 use Rattle.xet_folder.specs.Checks.{OfBytes}
-use Rattle.xet_folder.specs.Plan.{LiesIn}
 use Rattle.xet_folder.specs.Stored.{IsBacked}
 use Rattle.xet_folder.specs.Xorbs.{AreBacked, IsListed, Xorbs, found as row_of}
 use Rattle.xet_folder.specs.theorems.Agreeing.{stored_once}
 use Rattle.xet_folder.specs.theorems.Keyed.{unkeyed_leaves}
-use Rattle.xet_history.specs.Sound.{IsBlock, IsListedRun}
-use Rattle.xet_history.specs.theorems.FoundRuns.{AllLie, held_lie, lie_then, shard_lie}
+use Rattle.xet_history.specs.Sound.{IsBlock}
+use Rattle.xet_history.specs.theorems.FoundRuns.{AllAt, AllRuns, held_runs, run_is, run_lies, runs_then, shard_runs}
 use Rattle.xet_store.proofs.Flushing.{file_there}
 use Rattle.xet_store.specs.Asking.{AreOwnShards, IsAskingError, IsOwnShard, RegistersShard}
 use Rattle.xet_store.specs.Separate.{Among}
 use Rattle.xet_store.specs.Store.{Sound, State}
-use Rattle.xet_store.specs.internal.Asking.{AddsFile, AddsLoaded, FailsReading, FindsListed, IsEncoded, asking_error}
+use Rattle.xet_store.specs.internal.Asking.{AddsFile, AddsLoaded, FailsReading, FindsListed, IsEncoded, IsPlainRun, asking_error}
 use Rattle.xet_store.specs.theorems.Admitting.{all_with, any_of, of_any, one_of}
 use Rattle.xet_store.specs.theorems.Rows.{from_among, to_among}
 
@@ -136,6 +133,37 @@ own_parts s r own f parts there read =
     let both : ◌≡◌ {A = Result ShardParts StoreError} (Ok parts) (Ok (shard_parts_of e.lookups (shard_of r))) = sym read ∙ ap all_of (sym same ∙ e.encoding) ∙ all_again e.lookups (shard_of r) e.shard e.fits in
     cc both
 
+-- ---- the runs that are found in a block
+
+all_of_both : {X : Type 0} (P Q R : X → Type 0) (xs : List X) → ((x : X) → P x → Q x → R x) → AllByRecursion P xs → AllByRecursion Q xs → AllByRecursion R xs
+all_of_both P Q R [] both p q = tt
+all_of_both P Q R (x ∷ xs) both p q = (both x p.0 q.0, all_of_both P Q R xs both p.1 q.1)
+
+records_named : {X : Type 0} (hash : X → List ℕ) (Form : X → Type 0) (last : Option (List ℕ)) (xs : List X) → AreRecords hash Form last xs → AllByRecursion (λ x. hash x ≢ sentinel) xs
+records_named hash Form last [] are = tt
+records_named hash Form last (x ∷ xs) are = (are.1, records_named hash Form (Some (hash x)) xs are.3)
+
+-- by as many hashes as the query has, as the block has them
+block_plain : (xorbs : Xorbs) (key : List ℕ) (query : List (List ℕ)) (b : MDBXorbInfo) → IsBlock xorbs key b → xorb_record_hash b ≢ sentinel → (kept : List (List ℕ)) → length kept ≡ length query → AllAt (IsPlainRun xorbs query) kept b
+block_plain xorbs key query b is named kept same place run e =
+    let at = run_is kept b place run e in
+    record {
+      lies = run_lies xorbs key b is kept place run e;
+      within = omega (arith, at.within, same);
+      plain = ap (λ (x : Segment). x.xorb_flags) at.segment;
+      named = λ bad. named (sym (ap (λ (x : Segment). x.xorb_hash) at.segment) ∙ bad);
+    }
+
+-- those of what is pending, on any disk
+pub pending_plain : (s : State) → Sound s → (query : List (List ℕ)) → AllRuns (IsPlainRun s.xorbs query) (held_run s.pending.blocks query)
+unfolding held_run
+pending_plain s sound [] = λ run e. absurd (cc e)
+pending_plain s sound (h ∷ hs) =
+    let query : List (List ℕ) = h ∷ hs in
+    held_runs (IsPlainRun s.xorbs query) s.pending.blocks h hs
+    (all_of_both (λ b. IsListed s.xorbs (xorb_record_hash b) (block_leaves b)) (λ b. (xorb_record_hash b ≢ sentinel) × IsXorb b) (AllAt (IsPlainRun s.xorbs query) query) s.pending.blocks
+    (λ b listed held. block_plain s.xorbs zero_hash query b (record { leaves = block_leaves b; listed = listed; keyed = sym (unkeyed_leaves (block_leaves b)) }) held.0 query refl) sound.blocks sound.held.blocks)
+
 module _ (s : State) (sound : Sound s) (told : s.tells ≡ true) where
   abbrev HasBlocks : Registered → Type 0
   HasBlocks r = AllByRecursion (IsBlock s.xorbs (shard_of r).key) (shard_of r).blocks
@@ -155,56 +183,55 @@ module _ (s : State) (sound : Sound s) (told : s.tells ≡ true) where
 
   -- ---- the runs of queries
 
-  lie_first : (o : Option Run) (os : List (Option Run)) → AllLie s.xorbs o → AllLie s.xorbs (first_some os) → AllLie s.xorbs (first_some (o ∷ os))
-  unfolding first_some
-  lie_first None os first others = others
-  lie_first (Some x) os first others = first
-
-  lie_all : {X : Type 0} (f : X → Option Run) (xs : List X) → ((x : X) → AllLie s.xorbs (f x)) → AllLie s.xorbs (first_some (map f xs))
-  unfolding first_some
-  lie_all f [] lie run e = absurd (cc e)
-  lie_all f (x ∷ xs) lie run e = lie_first (f x) (map f xs) (lie x) (lie_all f xs lie) run e
-
   all_at : {X : Type 0} (P : X → Type 0) (xs : List X) (i : ℕ) (x : X) → AllByRecursion P xs → slice_get xs i ≡ Some x → P x
   all_at P [] i x all e = absurd (cc e)
   all_at P (y ∷ xs) zero x all e = let same : y ≡ x = cc e in subst P same all.0
   all_at P (y ∷ xs) (suc i) x all e = all_at P xs i x all.1 e
 
-  blocks_are : AllByRecursion (IsBlock s.xorbs zero_hash) s.pending.blocks
-  blocks_are =
-      all_more (λ b. IsListed s.xorbs (xorb_record_hash b) (block_leaves b)) (IsBlock s.xorbs zero_hash) s.pending.blocks
-      (λ b l. record { leaves = block_leaves b; listed = l; keyed = sym (unkeyed_leaves (block_leaves b)) }) sound.blocks
+  module _ (query : List (List ℕ)) where
+    abbrev Plain : Run → Type 0
+    Plain = IsPlainRun s.xorbs query
 
-  module _ (shards : List Registered) (own : AreOwnShards s shards) (query : List (List ℕ)) where
-    file_lie : (p : WordPlace) (r : Registered) → IsOwnShard s r → AllLie s.xorbs (run_in_file s.files query p r)
-    file_lie p r is = go (is_some (file_at s.files r.file.path))
+    runs_first : (o : Option Run) (os : List (Option Run)) → AllRuns Plain o → AllRuns Plain (first_some os) → AllRuns Plain (first_some (o ∷ os))
+    unfolding first_some
+    runs_first None os first others = others
+    runs_first (Some x) os first others = first
+
+    runs_all : {X : Type 0} (f : X → Option Run) (xs : List X) → ((x : X) → AllRuns Plain (f x)) → AllRuns Plain (first_some (map f xs))
+    unfolding first_some
+    runs_all f [] all run e = absurd (cc e)
+    runs_all f (x ∷ xs) all run e = runs_first (f x) (map f xs) (all x) (runs_all f xs all) run e
+
+    shard_plain : (r : Registered) → IsOwnShard s r → (row chunk : ℕ) → AllRuns Plain (shard_run_at (shard_of r) query row chunk)
+    shard_plain r own =
+        let keyed : List (List ℕ) = map (kept_hash (shard_of r).key) query in
+        shard_runs Plain (shard_of r) query
+        (all_of_both (IsBlock s.xorbs (shard_of r).key) (λ b. xorb_record_hash b ≢ sentinel) (AllAt Plain keyed) (shard_of r).blocks
+        (λ b is named. block_plain s.xorbs (shard_of r).key query b is named keyed (length-map query (kept_hash (shard_of r).key))) (own_blocks r own)
+        (records_named xorb_record_hash IsXorb None (shard_of r).blocks own.encoding.encoding.shard.blocks))
+
+    file_plain : (p : WordPlace) (r : Registered) → IsOwnShard s r → AllRuns Plain (run_in_file s.files query p r)
+    file_plain p r own = go (is_some (file_at s.files r.file.path))
       where
-        go : (b : Bool) → AllLie s.xorbs (if b then shard_run_at (shard_of r) query p.row p.chunk else None)
-        go true = shard_lie s.xorbs (shard_of r) (own_blocks r is) query p.row p.chunk
+        go : (b : Bool) → AllRuns Plain (if b then shard_run_at (shard_of r) query p.row p.chunk else None)
+        go true = shard_plain r own p.row p.chunk
         go false = λ run e. absurd (cc e)
 
-    place_lie : (p : WordPlace) → AllLie s.xorbs (run_at_place s.files shards query p)
-    place_lie p =
-        lie_then s.xorbs (run_in_file s.files query p) (slice_get shards p.shard) (λ r e. file_lie p r (all_at (IsOwnShard s) shards p.shard r (recursion_from_All (IsOwnShard s) shards own) e))
+    place_plain : (shards : List Registered) → AreOwnShards s shards → (p : WordPlace) → AllRuns Plain (run_at_place s.files shards query p)
+    place_plain shards own p =
+        runs_then Plain (run_in_file s.files query p) (slice_get shards p.shard) (λ r e. file_plain p r (all_at (IsOwnShard s) shards p.shard r (recursion_from_All (IsOwnShard s) shards own) e))
 
-  pub own_lie : (shards : List Registered) → AreOwnShards s shards → (query : List (List ℕ)) → AllLie s.xorbs (found s.files s.pending shards query)
+  pub own_plain : (shards : List Registered) → AreOwnShards s shards → (query : List (List ℕ)) → AllRuns (IsPlainRun s.xorbs query) (found s.files s.pending shards query)
   unfolding found
-  own_lie shards own [] = λ run e. absurd (cc e)
-  own_lie shards own (h ∷ hs) =
-      lie_first (held_run s.pending.blocks (h ∷ hs)) (map (keyed_run s.files shards h (h ∷ hs)) (keys_of shards)) (held_lie s.xorbs s.pending.blocks blocks_are h hs)
-      (lie_all (keyed_run s.files shards h (h ∷ hs)) (keys_of shards) (λ key. lie_then s.xorbs (run_at_place s.files shards (h ∷ hs)) (place_among key (first_word (kept_hash key h)) shards) (λ p e. place_lie shards own (h ∷ hs) p)))
+  own_plain shards own [] = λ run e. absurd (cc e)
+  own_plain shards own (h ∷ hs) =
+      let query : List (List ℕ) = h ∷ hs in
+      runs_first query (held_run s.pending.blocks query) (map (keyed_run s.files shards h query) (keys_of shards)) (pending_plain s sound query)
+      (runs_all query (keyed_run s.files shards h query) (keys_of shards)
+      (λ key. runs_then (IsPlainRun s.xorbs query) (run_at_place s.files shards query) (place_among key (first_word (kept_hash key h)) shards) (λ p e. place_plain query shards own p)))
 
   pub finds_listed : (shards : List Registered) → AreOwnShards s shards → (query : List (List ℕ)) → FindsListed s.files s.pending shards s.xorbs query
-  finds_listed shards own query = record { holds = own_holds s shards own; lies = own_lie shards own query }
-
--- a pending run is one of a listed xorb, on any disk
-pub pending_lies : (s : State) → Sound s → (query : List (List ℕ)) → AllLie s.xorbs (held_run s.pending.blocks query)
-unfolding held_run
-pending_lies s sound [] = λ run e. absurd (cc e)
-pending_lies s sound (h ∷ hs) =
-    held_lie s.xorbs s.pending.blocks
-    (all_more (λ b. IsListed s.xorbs (xorb_record_hash b) (block_leaves b)) (IsBlock s.xorbs zero_hash) s.pending.blocks
-    (λ b l. record { leaves = block_leaves b; listed = l; keyed = sym (unkeyed_leaves (block_leaves b)) }) sound.blocks) h hs
+  finds_listed shards own query = record { holds = own_holds s shards own; lies = own_plain shards own query }
 
 -- ---- an encoded shard file is loaded
 
@@ -374,9 +401,9 @@ lookup_refused infos lookups tells files h path file earlier before now e encode
 pub query_refused : (tells : Bool) (before now : ℕ) (run : Option Run) (e : StoreError) → (tells ≡ true → GivesUnlessDisk (λ (x : Option Run). x) (Err e) (Ok run)) → IsQueryError before now e → IsAskingError tells before now (asking_error e)
 query_refused tells before now run e gives reason = asking_load tells before now run e (load_of_query before now e reason) gives
 
--- a run that is found but not listed: the disk is not observable
-pub unlisted_hidden : (tells : Bool) (run : Run) (xorbs : Xorbs) (o : Option Run) → (tells ≡ true → (r : Run) → o ≡ Some r → IsListedRun xorbs r) → (tells ≡ true → GivesUnlessDisk (λ (x : Option Run). x) (Ok (Some run)) (Ok o)) → (IsListedRun xorbs run → ⊥) → tells ≡ false
-unlisted_hidden tells run xorbs o lie gives never = told_false tells (λ told. never (lie told run (let both : ◌≡◌ {A = Result (Option Run) StoreError} (Ok o) (Ok (Some run)) = gives told in cc both)))
+-- a run that is found has a property on an observable disk: if it has not, the disk is none
+pub unlisted_hidden : (tells : Bool) (run : Run) (P : Run → Type 0) (o : Option Run) → (tells ≡ true → (r : Run) → o ≡ Some r → P r) → (tells ≡ true → GivesUnlessDisk (λ (x : Option Run). x) (Ok (Some run)) (Ok o)) → (P run → ⊥) → tells ≡ false
+unlisted_hidden tells run P o has gives never = told_false tells (λ told. never (has told run (let both : ◌≡◌ {A = Result (Option Run) StoreError} (Ok o) (Ok (Some run)) = gives told in cc both)))
 
 pub on_ok_then : {T E : Type 0} (r : Result T E) {P Q : Type 0} → (P → Q) → OnOk r P → OnOk r Q
 on_ok_then (Ok x) f p = f p
@@ -430,42 +457,3 @@ pub loaded_refused : {T : Type 0} (r : Result T StoreError) → InfoLaw → Look
 loaded_refused (Ok x) infos lookups tells now_tells files now_files h path file earlier before now et ef enc loads_file gives reason less = tt
 loaded_refused (Err e) infos lookups tells now_tells files now_files h path file earlier before now et ef enc loads_file gives reason less =
     lookup_refused infos lookups tells files h path file earlier before now e enc loads_file (λ told. subst (λ (f : Files). FailsReading f file e) ef (gives (et ∙ told))) reason less
-
--- ---- a segment and the listed chunks of its xorb
-
-pub listed_run : (xorbs : Xorbs) (count : ℕ) (segment : Segment) (leaves : List (List ℕ × ℕ)) → row_of xorbs segment.xorb_hash ≡ Some leaves → segment.chunk_index_end ≡ segment.chunk_index_start + count → LiesIn (λ m. m.1) segment leaves
-    → IsListedRun xorbs (count, segment)
-listed_run xorbs count segment leaves there counts lies = record { leaves = leaves; listed = there; lies = lies; count = counts }
-
--- the chunks with which a run is listed are those that are found
-pub run_lies_in : (xorbs : Xorbs) (count : ℕ) (segment : Segment) (leaves : List (List ℕ × ℕ)) → row_of xorbs segment.xorb_hash ≡ Some leaves → IsListedRun xorbs (count, segment) → LiesIn (λ m. m.1) segment leaves
-run_lies_in xorbs count segment leaves there run =
-    let both : ◌≡◌ {A = Option (List (List ℕ × ℕ))} (Some run.leaves) (Some leaves) = sym run.listed ∙ there in
-    let same : run.leaves ≡ leaves = cc both in
-    subst (λ (l : List (List ℕ × ℕ)). LiesIn (λ m. m.1) segment l) same run.lies
-
-pub run_not_listed : (xorbs : Xorbs) (run : Run) → row_of xorbs run.1.xorb_hash ≡ None → IsListedRun xorbs run → ⊥
-run_not_listed xorbs run none is = let bad : ◌≡◌ {A = Option (List (List ℕ × ℕ))} (Some is.leaves) None = sym is.listed ∙ none in absurd (cc bad)
-
--- ---- results
-
--- what was found is what the call gives
-pub given_is : {X : Type 0} (o r : Option X) → ◌≡◌ {A = Result (Option X) StoreError} (Ok o) (Ok r) → r ≡ o
-given_is o r e = let same : o ≡ r = cc e in sym same
-
-pub same_then : {X : Type 0} (r : Result (Option X) StoreError) (a b : Option X) → a ≡ b → IfOk r (λ x. x ≡ a) → IfOk r (λ x. x ≡ b)
-same_then (Ok x) a b same is = is ∙ same
-same_then (Err e) a b same is = tt
-
--- a run that is found and listed is the result
-pub listed_is : (r : Result (Option Run) StoreError) (p run : Run) (xorbs : Xorbs) → ◌≡◌ {A = Result (Option Run) StoreError} (Ok (Some p)) (Ok (Some run)) → IfOk r (λ x. x ≡ Some p)
-    → IfErr r (λ e. (e ≡ MalformedData MissingRun) × (IsListedRun xorbs p → ⊥)) → IsListedRun xorbs run → r ≡ Ok (Some run)
-listed_is (Ok x) p run xorbs e same refused lies = ap (λ (o : Option Run). Ok o) same ∙ e
-listed_is (Err x) p run xorbs e same refused lies = let is : p ≡ run = cc e in absurd (refused.1 (subst (λ (q : Run). IsListedRun xorbs q) (sym is) lies))
-
--- the same of a result that is a run
-pub found_run_is : (o : Option Run) (p : Run) {run : Run} → o ≡ Some p → ◌≡◌ {A = Result (Option Run) StoreError} (Ok o) (Ok (Some run)) → ◌≡◌ {A = Result (Option Run) StoreError} (Ok (Some p)) (Ok (Some run))
-found_run_is o p is e = ap (λ (x : Option Run). Ok x) (sym is) ∙ e
-
-pub run_found_is : (a o : Option Run) (p : Run) → o ≡ Some p → ◌≡◌ {A = Result (Option Run) StoreError} (Ok a) (Ok o) → ◌≡◌ {A = Result (Option Run) StoreError} (Ok a) (Ok (Some p))
-run_found_is a o p is e = e ∙ ap (λ (x : Option Run). Ok x) is

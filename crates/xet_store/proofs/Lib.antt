@@ -16,3 +16,4 @@ mod Opened
 mod Reading
 mod ShardPaths
 mod Asking
+mod Runs

@@ -35,8 +35,9 @@ pub record IsFormed (s : Shard) : Type 0 where
 abbrev pub KeepsOtherNames : Files → Files → List ℕ → Type 0
 KeepsOtherNames old new name = (other : List ℕ) → other ≢ name → other ≢ temp_name name → SameEntry old new other
 
--- What was pending is in the shard of this hash, which is well formed, durable, and the last registered one; no shard of
--- its hash was registered, and fewer than can be. So each file that was pending is listed at every time below 2 ^ 64. Nothing else changes.
+-- What was pending is in the shard of this hash, which is well formed and durable, and is now the last registered one. Before,
+-- no shard of this hash was registered, and fewer shards were than can be. Each file that was pending is listed at every time
+-- below 2 ^ 64. Nothing else changes.
 pub record IsFlushed (old : State) (h : List ℕ) (new : State) : Type 0 where
   pub form : IsFormed (pending_shard old)
   pub hash : h ≡ shard_hash (pending_bytes old)

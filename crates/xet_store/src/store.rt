@@ -1,6 +1,6 @@
 //! A session: xorbs and shards in a folder of a disk, and the reconstruction plans of files over them.
 
-ghost use Rattle.std.specs.Prelude.{◌≡◌, is_some, length, IfOk, IsOkUnless};
+ghost use Rattle.std.specs.Prelude.{◌≡◌, length, IfOk, IsOkUnless};
 ghost use Rattle.std.specs.Option.{option_map};
 ghost use Rattle.xet_folder.specs.Xorbs.{found};
 ghost use Rattle.xet_store.specs.Store.{Differ, recorded_files, plan_of};
@@ -13,7 +13,7 @@ mod reading;
 
 use indexmap::IndexMap;
 use std::alloc::Global;
-use std::marker::{Model, Send};
+use std::marker::Model;
 use xet_base::Text;
 use xet_cut::Limits;
 use xet_folder::{Leaves, Plan, RecordedFile};
@@ -24,7 +24,7 @@ use xet_shard_format::{FileDataSequenceEntry, MDBFileInfo};
 
 /// A store of files in a folder of a disk, open. Contracts see a `State`.
 #[derive(Drop)]
-pub struct Store<D: Disk + Send> {
+pub struct Store<D: Disk> {
     disk: D,
     alloc: Global,
     folder: Text,
@@ -41,7 +41,7 @@ pub struct Store<D: Disk + Send> {
     pending: MDBInMemoryShard,
 }
 
-impl<D: Disk + Send> Model for Store<D> {
+impl<D: Disk> Model for Store<D> {
     ghost use Rattle.xet_store.specs.Coding.{state_code};
     ghost use Rattle.xet_store.specs.Store.{Sound, State, state};
 
@@ -54,7 +54,7 @@ impl<D: Disk + Send> Model for Store<D> {
     ghost invariant = { λ s. Sound (state (D.tells s.disk) (D.files s.disk) (D.faults s.disk) s.folder s.limits s.opened s.xorbs.entries s.records.entries s.shards.items s.pending) };
 }
 
-impl<D: Disk + Send> Store<D> {
+impl<D: Disk> Store<D> {
     ghost use Rattle.xet_store.specs.Store.{Sound};
 
     /// Proof aid without effect: makes the session invariant available to the caller.
@@ -97,11 +97,11 @@ impl<D: Disk + Send> Store<D> {
         &self.shards
     }
 
-    /// Whether a xorb of this hash is listed.
-    pub fn lists_xorb(&self, hash: &MerkleHash) -> bool
-        ensures { result ≡ is_some (found self.now.xorbs hash.now) }
+    /// The hashes and lengths of a listed xorb's chunks; none if no xorb of this hash is listed.
+    pub fn xorb(&self, hash: &MerkleHash) -> Option<&Leaves>
+        ensures { option_map (λ leaves. leaves.now) result ≡ found self.now.xorbs hash.now }
     {
-        self.xorbs.contains_key(hash)
+        self.xorbs.get(hash)
     }
 
     /// The hashes and lengths of each listed xorb's chunks.

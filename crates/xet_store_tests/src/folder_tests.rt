@@ -22,7 +22,7 @@ use xet_shard_format::{
 use xet_xorb_chunk::Chunk;
 
 /// Stores the xorb of `abc`.
-fn store_abc(disk: &mut MemoryDisk, alloc: Global) -> Result<(), StoreError> {
+pub fn store_abc(disk: &mut MemoryDisk, alloc: Global) -> Result<(), StoreError> {
     let chunks = [Chunk::new(Bytes::from_static(b"abc"))];
     let encoding = xorb_bytes(alloc, &chunks)?;
     put_xorb(disk, alloc, "store", &compute_data_hash(b"abc"), &encoding)
@@ -242,7 +242,7 @@ fn admits_a_folder(rt: HostRuntime) -> Result<(), Fail> {
 }
 
 /// Writes a keyed shard whose record of the xorb of `abc` lists this hash, and returns the shard's hash.
-fn put_keyed(
+pub fn put_keyed(
     disk: &mut MemoryDisk,
     alloc: Global,
     listed: MerkleHash,

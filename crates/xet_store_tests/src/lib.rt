@@ -14,6 +14,8 @@ mod folders;
 #[cfg(test)]
 mod opening_tests;
 #[cfg(test)]
+mod pruning_tests;
+#[cfg(test)]
 mod run_tests;
 #[cfg(test)]
 mod session;

@@ -25,7 +25,7 @@ pub struct Unopened {
 }
 
 /// Chunks from 64 to 1,024 bytes that end as soon as they may, and two chunks a xorb.
-fn limits() -> Result<Limits, StoreError> {
+pub fn limits() -> Result<Limits, StoreError> {
     Limits::new(LimitSettings {
         target_chunk: 512,
         minimum_chunk: 64,

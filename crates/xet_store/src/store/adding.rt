@@ -21,7 +21,6 @@ ghost use Rattle.xet_store.specs.Tables.{tables_of, with_leaves, with_record, wi
 use crate::due_xorb::DueXorb;
 use crate::store::Store;
 use indexmap::IndexMap;
-use std::marker::Send;
 use xet_folder::{Leaves, RecordedFile, put_xorb};
 use xet_hash::{MerkleHash, StoreError};
 use xet_io::Disk;
@@ -31,7 +30,7 @@ use xet_shard_format::{MDBFileInfo, MDBXorbInfo};
 use xet_xorb::RawXorbData;
 use xet_xorb_chunk::{Chunk, chunk_leaves};
 
-impl<D: Disk + Send> Store<D> {
+impl<D: Disk> Store<D> {
     /// Stores these chunks as a xorb and lists it, unless a xorb of its hash is listed, and returns the hash.
     /// The error is `Io(Disk)`, which is returned only if the disk failed, or `OutOfMemory`, which is also
     /// returned if a xorb of this hash is listed with other chunks, if the hash is the sentinel, or if the

@@ -7,7 +7,6 @@ ghost use Rattle.xet_store.specs.Flushing.{IsFlushError, IsFlushed, IsFull, IsUn
 
 use crate::store::Store;
 use std::alloc::Global;
-use std::marker::Send;
 use xet_folder::put_shard;
 use xet_hash::{MerkleHash, StoreError, What, compute_data_hash};
 use xet_io::Disk;
@@ -17,7 +16,7 @@ use xet_shard_file::recall_bytes;
 /// The maximum number of registered shards.
 const MAX_SHARDS: usize = u32::MAX as usize;
 
-impl<D: Disk + Send> Store<D> {
+impl<D: Disk> Store<D> {
     /// Writes one shard of all that is pending, durable, and returns its hash; returns none if nothing is
     /// pending. After an error all of it is still pending. `TooLarge(Shards)` is returned if and only if something
     /// is pending and 2^32 - 1 shards are registered, and then nothing is done. Any other error is `OutOfMemory`, or

@@ -1,9 +1,9 @@
-use Rattle.std.proofs.Common.{◌∙◌, map, string_bytes, subst, ap, arith}
+use Rattle.std.proofs.Common.{◌∙◌, false, map, refl, string_bytes, subst, ap, arith}
 use Rattle.xet_cut.specs.declared.limits.LimitSettings.{LimitSettings}
 use Rattle.xet_store.specs.Opening.{IsOpened}
 use Rattle.xet_store.specs.Store.{State}
 use Rattle.xet_program.specs.Tasks.{store_folder}
-use Rattle.xet_program.proofs.Listing.{keeps_folder, keeps_listed}
+use Rattle.xet_program.proofs.Listing.{contents_before, keeps_folder, keeps_listed}
 use Rattle.xet_program.proofs.Named.{cleaned_text, idle_kept}
 use Rattle.xet_program.proofs.clean.clean.Goals as goal
 
@@ -11,23 +11,23 @@ pub returns-in-Ok-clause-cleaned : goal.returns-in-Ok-clause-cleaned
 returns-in-Ok-clause-cleaned g c =
     let tells = g.D.Disk.tells c.args.disk in
     let disk = g.D.Disk.files c.args.disk in
-    let opened = subst (λ (l : LimitSettings). IsOpened tells disk store_folder l c.args.now c.in-Ok.session) c.default_limits.ensures c.in-Ok.ensures.opened in
+    let opened = subst (λ (l : LimitSettings). IsOpened tells false disk store_folder l c.args.now c.in-Ok.session) c.default_limits.ensures c.in-Ok.ensures.opened in
     cleaned_text (g.F.Inputs.tells c.args.inputs.now) (g.F.Inputs.files c.args.inputs.now) (map string_bytes c.args.names.now) tells disk _ c.args.now c.in-Ok.session c.clean_names-session.result.0 opened c.recall_invariant.ensures c.clean_names-session.ensures.keeps
-    c.into_disk-disk.ensures.files (λ told. c.in-Ok.ensures.contents told) c.clean_names-session.result.1 c.clean_names-session.ensures.cleaned
+    c.into_disk-disk.ensures.files (contents_before _ _ _ _ _ c.in-Ok.ensures.opened c.in-Ok.ensures.contents) c.clean_names-session.result.1 c.clean_names-session.ensures.cleaned
 
 pub returns-in-Ok-clause-listed : goal.returns-in-Ok-clause-listed
 returns-in-Ok-clause-listed g c =
-    keeps_listed (g.D.Disk.tells c.args.disk) _ _ _ _ _ _ c.in-Ok.ensures.opened c.in-Ok.ensures.contents c.clean_names-session.ensures.keeps c.into_disk-disk.ensures.files
+    keeps_listed (g.D.Disk.tells c.args.disk) _ _ _ _ _ _ c.in-Ok.ensures.opened (contents_before _ _ _ _ _ c.in-Ok.ensures.opened c.in-Ok.ensures.contents) c.clean_names-session.ensures.keeps c.into_disk-disk.ensures.files
 
 pub returns-in-Ok-clause-keeps : goal.returns-in-Ok-clause-keeps
 returns-in-Ok-clause-keeps g c =
-    keeps_folder (g.D.Disk.tells c.args.disk) _ _ _ _ _ _ c.in-Ok.ensures.opened c.in-Ok.ensures.contents c.clean_names-session.ensures.keeps c.recall_invariant-in-Ok.ensures c.into_disk-disk.ensures.files
+    keeps_folder (g.D.Disk.tells c.args.disk) _ _ _ _ _ _ c.in-Ok.ensures.opened (contents_before _ _ _ _ _ c.in-Ok.ensures.opened c.in-Ok.ensures.contents) c.clean_names-session.ensures.keeps c.recall_invariant-in-Ok.ensures c.into_disk-disk.ensures.files
 
 pub returns-in-Ok-clause-kept : goal.returns-in-Ok-clause-kept
 returns-in-Ok-clause-kept g c = λ told idle.
     let tells = g.D.Disk.tells c.args.disk in
     let disk = g.D.Disk.files c.args.disk in
-    let opened = subst (λ (l : LimitSettings). IsOpened tells disk store_folder l c.args.now c.in-Ok.session) c.default_limits.ensures c.in-Ok.ensures.opened in
+    let opened = subst (λ (l : LimitSettings). IsOpened tells false disk store_folder l c.args.now c.in-Ok.session) c.default_limits.ensures c.in-Ok.ensures.opened in
     idle_kept (g.F.Inputs.tells c.args.inputs.now) (g.F.Inputs.files c.args.inputs.now) (map string_bytes c.args.names.now) tells disk _ c.args.now c.in-Ok.session c.clean_names-session.result.0 opened
     c.clean_names-session.result.1 c.clean_names-session.ensures.stop c.clean_names-session.ensures.kept c.into_disk-disk.ensures.files idle
 
@@ -44,8 +44,8 @@ returns-in-Ok-clause-disk g c =
 
 pub returns-in-Ok-clause-refused : goal.returns-in-Ok-clause-refused
 returns-in-Ok-clause-refused g c = λ told never.
-    let has = c.in-Ok.ensures.contents told in absurd (never (has.shards, has.admits))
+    let has = contents_before _ _ _ _ _ c.in-Ok.ensures.opened c.in-Ok.ensures.contents told in absurd (never (has.shards, has.admits))
 
 pub returns-in-Ok-clause-absent : goal.returns-in-Ok-clause-absent
 returns-in-Ok-clause-absent g c = λ inputs_told told lacks.
-    c.into_disk-disk.ensures.files ∙ ap (λ (s : State). s.files) (c.clean_names-session.ensures.absent inputs_told lacks) ∙ c.in-Ok.ensures.opened.same_files
+    c.into_disk-disk.ensures.files ∙ ap (λ (s : State). s.files) (c.clean_names-session.ensures.absent inputs_told lacks) ∙ c.in-Ok.ensures.opened.same_files refl

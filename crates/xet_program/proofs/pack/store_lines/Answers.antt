@@ -2,22 +2,22 @@ use Rattle.std.proofs.Common.{◌∙◌, IfErr, subst}
 use Rattle.xet_cut.specs.declared.limits.LimitSettings.{LimitSettings}
 use Rattle.xet_store.specs.Opening.{contents_of}
 use Rattle.xet_program.specs.internal.Stops.{IsStop, session_causes}
-use Rattle.xet_program.proofs.Listing.{keeps_folder, keeps_listed}
+use Rattle.xet_program.proofs.Listing.{contents_before, keeps_folder, keeps_listed}
 use Rattle.xet_program.proofs.Making.{are_stored}
 use Rattle.xet_program.proofs.Outcomes.{never_idle, on_ok_all, on_ok_given}
 use Rattle.xet_program.proofs.Named.{report_on_disk}
 use Rattle.xet_program.proofs.pack.store_lines.Goals as goal
 
 pub returns-in-Ok-clause-valid : goal.returns-in-Ok-clause-valid
-returns-in-Ok-clause-valid g c = on_ok_given c.report_lines-session.result.1 (contents_of c.in-Ok.session, λ told. c.in-Ok.ensures.contents told)
+returns-in-Ok-clause-valid g c = on_ok_given c.report_lines-session.result.1 (contents_of c.in-Ok.session, contents_before _ _ _ _ _ c.in-Ok.ensures.opened c.in-Ok.ensures.contents)
 
 pub returns-in-Ok-clause-listed : goal.returns-in-Ok-clause-listed
 returns-in-Ok-clause-listed g c =
-    keeps_listed (g.D.Disk.tells c.args.disk) _ _ _ _ _ _ c.in-Ok.ensures.opened c.in-Ok.ensures.contents c.report_lines-session.ensures.keeps c.into_disk-disk.ensures.files
+    keeps_listed (g.D.Disk.tells c.args.disk) _ _ _ _ _ _ c.in-Ok.ensures.opened (contents_before _ _ _ _ _ c.in-Ok.ensures.opened c.in-Ok.ensures.contents) c.report_lines-session.ensures.keeps c.into_disk-disk.ensures.files
 
 pub returns-in-Ok-clause-keeps : goal.returns-in-Ok-clause-keeps
 returns-in-Ok-clause-keeps g c =
-    keeps_folder (g.D.Disk.tells c.args.disk) _ _ _ _ _ _ c.in-Ok.ensures.opened c.in-Ok.ensures.contents c.report_lines-session.ensures.keeps c.recall_invariant-in-Ok.ensures c.into_disk-disk.ensures.files
+    keeps_folder (g.D.Disk.tells c.args.disk) _ _ _ _ _ _ c.in-Ok.ensures.opened (contents_before _ _ _ _ _ c.in-Ok.ensures.opened c.in-Ok.ensures.contents) c.report_lines-session.ensures.keeps c.recall_invariant-in-Ok.ensures c.into_disk-disk.ensures.files
 
 pub returns-in-Ok-clause-stored : goal.returns-in-Ok-clause-stored
 returns-in-Ok-clause-stored g c = λ told.
@@ -38,4 +38,4 @@ returns-in-Ok-clause-report g c =
 
 pub returns-in-Ok-clause-refused : goal.returns-in-Ok-clause-refused
 returns-in-Ok-clause-refused g c = λ told never.
-    let has = c.in-Ok.ensures.contents told in absurd (never (has.shards, has.admits))
+    let has = contents_before _ _ _ _ _ c.in-Ok.ensures.opened c.in-Ok.ensures.contents told in absurd (never (has.shards, has.admits))

@@ -5,7 +5,8 @@ use Rattle.xet_folder.specs.Xorbs.{found}
 use Rattle.xet_store.specs.Store.{State}
 use Rattle.xet_store.specs.Tables.{tables_of}
 use Rattle.xet_store.specs.theorems.Keeping.{keeps_nothing}
-use Rattle.xet_store.proofs.Adding.{same_leaves, tables_by_chunks, tables_listed, true_from}
+use Rattle.xet_store.specs.theorems.Rows.{same_leaves}
+use Rattle.xet_store.proofs.Adding.{tables_by_chunks, tables_listed, true_from}
 use Rattle.xet_store.proofs.Encoding.{new_of_chunks, parts_fit, raw_hash, readable}
 use Rattle.xet_store.proofs.store.Store.add_xorb.Goals as goal
 
@@ -47,12 +48,12 @@ new-requires-2 g c = record {
 pub returns-in_err-due-clause-keeps : goal.returns-in_err-due-clause-keeps
 returns-in_err-due-clause-keeps g c = keeps_nothing c.args.self.now
 
-pub store_xorb-requires-clause-new : goal.store_xorb-requires-clause-new
-store_xorb-requires-clause-new g c =
+pub store_xorb-requires : goal.store_xorb-requires
+store_xorb-requires g c =
     let same : c.in_ok-due.due.hash ≡ c.hash-hash.result = c.in_ok-due.ensures.hash ∙ sym c.hash-hash.ensures in
     let none : found c.args.self.now.xorbs c.in_ok-due.due.hash ≡ None =
     ap (λ (h : List ℕ). found c.args.self.now.xorbs h) same ∙ ap (λ (s : State). found s.xorbs c.hash-hash.result) (sym c.self.view_is) ∙ sym c.in_default.ensures.value in
-    assumption none
+    record { new = none }
 
 pub returns-clause-stores : goal.returns-clause-stores
 returns-clause-stores g c =
