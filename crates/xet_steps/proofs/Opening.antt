@@ -1,15 +1,18 @@
 -- A store that was just opened.
-use Rattle.std.proofs.Common.{◌≡◌, ◌≢◌, ◌∙◌, inl, inr, ℕ, ◌<◌, ◌≤◌, true, List, [], ◌∷◌, length, get_or, map, Option, Some, None, option_map, Result, Ok, Err, IsTrue, refl, sym, ap, subst, arith}
+use Rattle.std.proofs.Common.{◌≡◌, ◌≢◌, ◌∙◌, inl, inr, ℕ, ◌<◌, ◌≤◌, Bool, true, false, List, [], ◌∷◌, length, get_or, map, Option, Some, None, option_map, Result, Ok, Err, IfErr, IsTrue, refl, sym, ap, subst, arith}
 use Rattle.std.proofs.Math.ListN.{get_or-map}
 use Rattle.std.proofs.lemmas.List.{get_or_default, length-map}
 use Rattle.std.proofs.lemmas.List.Elements.{recursion_from_All}
+use Rattle.std.specs.FinMap.{get}
 use Rattle.std.specs.Cmp.Lexicographic.{nat_list_cmp_total, slice_cmp}
 use Rattle.std.specs.List.{All, AllByRecursion, AllPairs}
 use Rattle.std.specs.Ordering.{is_lt, nat_cmp, ordering_reverse}
 use Rattle.std.specs.declared.cmp.Ordering.{Ordering}
 use Rattle.std.specs.declared.cmp.Ordering.TheVariants.{Less, Equal, Greater}
 use Rattle.xet_folder.specs.Admission.{ShardHolds}
+use Rattle.xet_cut.specs.declared.limits.LimitSettings.{LimitSettings}
 use Rattle.xet_folder.specs.Contents.{HasContents, max_shards}
+use Rattle.xet_folder.specs.Pruning.{OnlyPrunes}
 use Rattle.xet_hash.specs.declared.error.StoreError.{StoreError}
 use Rattle.xet_history.specs.Core.{RegisteredShard}
 use Rattle.xet_history.specs.History.{Replays}
@@ -26,10 +29,10 @@ use Rattle.xet_shard_format.specs.theorems.Bytes.{all_are_bytes}
 use Rattle.xet_shard_format.specs.theorems.WholeTaken.{all_takes}
 use Rattle.xet_core_runs.specs.Shards.{AreRegistered}
 use Rattle.xet_shard_registry.specs.Collections.{IsRegistryOf, Tables}
-use Rattle.xet_store.specs.Opening.{contents_of}
+use Rattle.xet_store.specs.Opening.{IsOpened, contents_of}
 use Rattle.xet_store.specs.Store.{State}
 use Rattle.xet_steps.specs.Asking.{HasRegistry}
-use Rattle.xet_steps.specs.Recorded.{AreShards, IsRecorded, RecordedState, core_of, no_contents, recorded_state, shard_in, shard_of_bytes, with_contents}
+use Rattle.xet_steps.specs.Recorded.{IsRecorded, RecordedState, core_of, no_contents, recorded_state, shard_in, shard_of_bytes, with_contents}
 use Rattle.xet_steps.proofs.Contents.{contents_hashes}
 
 -- ---- the contents of the registered shards are those of their files
@@ -97,6 +100,17 @@ hashes_differ files folder (f ∷ fs) there order i j d lt below same =
     let below_i : i < length (f ∷ fs) = omega (arith, lt, below_j) in
     before_other files folder (get_or (f ∷ fs) i f) (get_or (f ∷ fs) j f) (there i f below_i) (there j f below_j) (order i j f lt below_j)
     (sym (hash_at (f ∷ fs) f d i (omega (arith, below_i, long))) ∙ same ∙ hash_at (f ∷ fs) f d j below)
+
+-- ---- it was pruned, or not
+
+pub opened_only : {tells : Bool} (prune : Bool) (files : Files) (folder : List ℕ) (limits : LimitSettings) (now : ℕ) (s : State) → IsOpened tells prune files folder limits now s → tells ≡ true
+    → OnlyPrunes files folder limits.expiry_buffer now s.files
+opened_only true files folder limits now s opened told = (opened.pruned told refl).only
+opened_only false files folder limits now s opened told = λ name. inl (ap (λ (f : Files). get f name) (opened.same_files refl))
+
+pub if_err : {A E : Type 0} {P Q : E → Type 0} (r : Result A E) → ((e : E) → P e → Q e) → IfErr r P → IfErr r Q
+if_err (Ok a) more is = tt
+if_err (Err e) more is = more e is
 
 -- ---- its history, which is empty, leads to its core
 

@@ -16,7 +16,7 @@ use Rattle.xet_hash.specs.declared.error.Place.TheVariants.{Disk}
 use Rattle.xet_history.specs.Core.{Core}
 use Rattle.xet_history.specs.Found.{found_run}
 use Rattle.xet_history.specs.History.{Legal, after_all, query_entries, reply_of, stated}
-use Rattle.xet_history.specs.Sound.{IsListedRun}
+use Rattle.xet_history.specs.Sound.{IsUsableRun}
 use Rattle.xet_history.specs.declared.entry.Entry.{Entry}
 use Rattle.xet_history.specs.declared.entry.StepKind.TheVariants.{Query}
 use Rattle.xet_history.specs.theorems.Finding.{stated_suffice}
@@ -36,8 +36,9 @@ use Rattle.xet_store.specs.theorems.Keeping.{keeps_counted}
 use Rattle.xet_steps.specs.Asking.{HasRegistry, IsFoundIn}
 use Rattle.xet_steps.specs.Recorded.{IsRecorded, RecordedState, core_of, recorded_state, with_contents}
 use Rattle.xet_steps.specs.Steps.{FailsAsking, Steps, fault_entries}
+use Rattle.xet_steps.specs.theorems.Joining.{steps_nothing}
 use Rattle.xet_steps.proofs.Asking.{Determines, all_registered, are_shards_of}
-use Rattle.xet_steps.proofs.Moving.{contents_kept, core_same, recorded_more, steps_fault, steps_nothing}
+use Rattle.xet_steps.proofs.Moving.{contents_kept, core_same, recorded_more, steps_fault}
 
 abbrev pub Hashes : Type 0
 Hashes = List (List ℕ)
@@ -111,9 +112,9 @@ module _ (old new : State) (unchanged : IsUnchanged old new) where
       let there : held_run new.pending.blocks query ≡ Some run = ap (λ (s : State). held_run s.pending.blocks query) unchanged.is ∙ held in
       subst (λ (x : Answer). IfOk x (λ found. found ≡ Some run)) (sym (finds run there).0) refl
 
-  -- it lies in a listed xorb
-  pub finds_listed : (r : Answer) → IfOk r (λ run. IfSome run (IsListedRun new.xorbs)) → IfOk r (λ run. IfSome run (IsListedRun old.xorbs))
-  finds_listed r lies = subst (λ (xorbs : Xorbs). IfOk r (λ run. IfSome run (IsListedRun xorbs))) (ap (λ (s : State). s.xorbs) unchanged.is) lies
+  -- it may stand in a plan
+  pub finds_usable : (query : Hashes) (r : Answer) → IfOk r (λ run. IfSome run (IsUsableRun new.xorbs query)) → IfOk r (λ run. IfSome run (IsUsableRun old.xorbs query))
+  finds_usable query r lies = subst (λ (xorbs : Xorbs). IfOk r (λ run. IfSome run (IsUsableRun xorbs query))) (ap (λ (s : State). s.xorbs) unchanged.is) lies
 
   -- the errors
   pub fails_all : (t : Tables) (now : ℕ) (r : Answer) → HasRegistry new t → ((shards : List Registered) → IsRegistryOf shards t → (new.tells ≡ true → AreOwnShards new shards) → IfErr r (IsAskingError new.tells new.faults now))

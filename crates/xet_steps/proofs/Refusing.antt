@@ -20,8 +20,9 @@ use Rattle.xet_store.specs.Store.{State}
 use Rattle.xet_steps.specs.Asking.{HasRegistry}
 use Rattle.xet_steps.specs.Recorded.{IsRecorded, RecordedState, recorded_state}
 use Rattle.xet_steps.specs.Steps.{Faults, IsStepError, Refuses, Steps, fault_entries}
+use Rattle.xet_steps.specs.theorems.Joining.{steps_nothing}
 use Rattle.xet_steps.proofs.Asking.{has_kept, has_unchanged}
-use Rattle.xet_steps.proofs.Moving.{recorded_more, steps_nothing}
+use Rattle.xet_steps.proofs.Moving.{recorded_more}
 use Rattle.xet_steps.proofs.Joining.{steps_then}
 
 -- an error that has a reason from a later time on has it from an earlier one on

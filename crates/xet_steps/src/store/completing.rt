@@ -4,17 +4,15 @@ ghost use Rattle.std.specs.Prelude.{◌≡◌, ◌↔◌, ◌⊎◌, ◌≤◌, 
 ghost use Rattle.xet_completion.specs.Completing.{Completes};
 ghost use Rattle.xet_folder.specs.Xorbs.{found};
 ghost use Rattle.xet_history.specs.Core.{is_new};
-ghost use Rattle.xet_history.specs.History.{complete_entries, cut_entries};
+ghost use Rattle.xet_history.specs.History.{complete_cut, complete_entries};
 ghost use Rattle.xet_io.specs.Disk.{Files};
-ghost use Rattle.xet_shard_format.specs.RecordSizes.{file_record_size};
 ghost use Rattle.xet_shard_format.specs.Records.{IsFile, file_record_hash};
 ghost use Rattle.xet_steps.specs.Recorded.{core_of, recorded_state};
-ghost use Rattle.xet_steps.specs.Steps.{CutRefuses, IsOtherFile, Records, Refuses, Steps};
+ghost use Rattle.xet_steps.specs.Steps.{CompleteRefuses, IsOtherFile, Records, Refuses, Steps};
 ghost use Rattle.xet_store.specs.Store.{IsNewFile};
 
 use crate::store::Store;
 use crate::store::flushing::cut_store;
-use std::marker::Send;
 use xet_completion::can_complete;
 use xet_ghost::Ghost;
 use xet_hash::{Reason, StoreError};
@@ -24,7 +22,7 @@ use xet_shard::MDBInMemoryShard;
 use xet_shard_format::MDBFileInfo;
 use xet_store::Store as FolderStore;
 
-impl<D: Disk + Send> Store<D> {
+impl<D: Disk> Store<D> {
     /// Whether a file may be recorded: its plan resolves to chunks of listed xorbs, at least one, which give its file hash
     /// and, if it has verification rows, its range hashes; and its hash is not the sentinel. Reads no stored bytes. The only
     /// error is `OutOfMemory`.
@@ -47,7 +45,7 @@ impl<D: Disk + Send> Store<D> {
         ensures can { OnOk result (Completes self.old.store.xorbs file) }
         ensures added { IfOk result (λ added. added ≡ is_new self.old.store.records (file_record_hash file)) }
         ensures steps { OnOk result (Steps self.old self.new (complete_entries 0 (core_of self.old) self.old.store.limits.shard_target file)) }
-        ensures refused { IfErr result (λ e. IsOtherFile self.old self.new file e ⊎ Refuses 0 StepKind.Complete (cut_entries 0 (core_of self.old) self.old.store.limits.shard_target (file_record_size file)) self.old self.new e) }
+        ensures refused { IfErr result (λ e. IsOtherFile self.old self.new file e ⊎ Refuses 0 StepKind.Complete (complete_cut 0 (core_of self.old) self.old.store.limits.shard_target file) self.old self.new e) }
         ensures unrecorded { OnErr result (self.new.store.records ≡ self.old.store.records) }
     {
         self.complete_file_by(0, file)
@@ -59,7 +57,7 @@ impl<D: Disk + Send> Store<D> {
         ensures can { OnOk result (Completes self.old.store.xorbs file) }
         ensures added { IfOk result (λ added. added ≡ is_new self.old.store.records (file_record_hash file)) }
         ensures steps { OnOk result (Steps self.old self.new (complete_entries pass (core_of self.old) self.old.store.limits.shard_target file)) }
-        ensures refused { IfErr result (λ e. IsOtherFile self.old self.new file e ⊎ Refuses pass StepKind.Complete (cut_entries pass (core_of self.old) self.old.store.limits.shard_target (file_record_size file)) self.old self.new e) }
+        ensures refused { IfErr result (λ e. IsOtherFile self.old self.new file e ⊎ Refuses pass StepKind.Complete (complete_cut pass (core_of self.old) self.old.store.limits.shard_target file) self.old self.new e) }
         ensures unrecorded { OnErr result (self.new.store.records ≡ self.old.store.records) }
     {
         self.history.reserve(2)?;
@@ -88,7 +86,7 @@ impl<D: Disk + Send> Store<D> {
 }
 
 /// Records a file that is not recorded, with its entry, for which there is room. `copy` is the same record.
-fn record_file<D: Disk + Send>(
+fn record_file<D: Disk>(
     store: &mut FolderStore<D>,
     flushed: &mut Vec<Option<Ghost<MDBInMemoryShard>>>,
     history: &mut Vec<Entry>,
@@ -103,7 +101,7 @@ fn record_file<D: Disk + Send>(
     requires room { (vec_len flushed.old + 1 ≤ vec_capacity flushed.old) × (vec_len history.old + 2 ≤ vec_capacity history.old) }
     ensures added { IfOk result (λ added. added ≡ true) }
     ensures steps { OnOk result ((files : Files) → Records pass file (recorded_state store.old files (map (option_map (λ g. g.value)) flushed.old.items) history.old.items) (recorded_state store.new files (map (option_map (λ g. g.value)) flushed.new.items) history.new.items)) }
-    ensures refused { IfErr result (λ e. (files : Files) → CutRefuses pass StepKind.Complete (file_record_size file) (recorded_state store.old files (map (option_map (λ g. g.value)) flushed.old.items) history.old.items) (recorded_state store.new files (map (option_map (λ g. g.value)) flushed.new.items) history.new.items) e) }
+    ensures refused { IfErr result (λ e. (files : Files) → CompleteRefuses pass file (recorded_state store.old files (map (option_map (λ g. g.value)) flushed.old.items) history.old.items) (recorded_state store.new files (map (option_map (λ g. g.value)) flushed.new.items) history.new.items) e) }
     ensures unrecorded { OnErr result (store.new.records ≡ store.old.records) }
     ensures count { length flushed.new.items ≡ length store.new.shards }
 {

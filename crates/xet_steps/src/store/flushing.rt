@@ -10,7 +10,6 @@ ghost use Rattle.xet_steps.specs.Steps.{Cuts, Faults, Flushes, Refuses, Steps, f
 ghost use Rattle.xet_store.specs.Flushing.{IsFlushed, IsUnflushed};
 
 use crate::store::Store;
-use std::marker::Send;
 use xet_ghost::Ghost;
 use xet_hash::{MerkleHash, Place, StoreError};
 use xet_history::{Entry, StepKind};
@@ -18,7 +17,7 @@ use xet_io::Disk;
 use xet_shard::MDBInMemoryShard;
 use xet_store::Store as FolderStore;
 
-impl<D: Disk + Send> Store<D> {
+impl<D: Disk> Store<D> {
     /// Writes one shard of all that is pending, durable, and returns its hash; returns none, and adds no entry, if nothing
     /// is pending. After an error all of it is still pending. The error is `TooLarge(Shards)`, which is returned only if
     /// something is pending and 2^32 - 1 shards are registered, `OutOfMemory`, or `Io(Disk)`, which is returned only if the
@@ -54,7 +53,7 @@ impl<D: Disk + Send> Store<D> {
 }
 
 /// Flushes a store, and keeps what was pending and the entry, for which there is room. `kind` is that of the call.
-pub(super) fn flush_store<D: Disk + Send>(
+pub(super) fn flush_store<D: Disk>(
     store: &mut FolderStore<D>,
     flushed: &mut Vec<Option<Ghost<MDBInMemoryShard>>>,
     history: &mut Vec<Entry>,
@@ -90,7 +89,7 @@ pub(super) fn flush_store<D: Disk + Send>(
 
 /// Flushes a store before a record of this many bytes, if that is due: if something is pending, and its shard would be longer
 /// than the target with the record. `kind` is that of the call.
-pub(super) fn cut_store<D: Disk + Send>(
+pub(super) fn cut_store<D: Disk>(
     store: &mut FolderStore<D>,
     flushed: &mut Vec<Option<Ghost<MDBInMemoryShard>>>,
     history: &mut Vec<Entry>,
@@ -118,7 +117,7 @@ pub(super) fn cut_store<D: Disk + Send>(
 }
 
 /// Whether what is pending is written before a record of this many bytes.
-fn is_due<D: Disk + Send>(store: &FolderStore<D>, bytes: u64) -> bool
+fn is_due<D: Disk>(store: &FolderStore<D>, bytes: u64) -> bool
     ensures { (core : Core) → core.pending ≡ store.now.pending → result ≡ is_cut_due core store.now.limits.shard_target bytes }
 {
     let pending = store.pending();

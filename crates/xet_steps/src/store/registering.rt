@@ -1,21 +1,20 @@
 //! Registration of xorbs, with its entries.
 
-ghost use Rattle.std.specs.Prelude.{◌≡◌, ◌≤◌, ◌+◌, true, None, IfErr, IfOk, IsOkUnless, OnErr, OnOk, length, map, option_map, vec_capacity, vec_len};
+ghost use Rattle.std.specs.Prelude.{◌≡◌, ◌≢◌, ◌≤◌, ◌+◌, true, None, IfErr, IfOk, IsOkUnless, OnErr, OnOk, is_some, length, map, option_map, vec_capacity, vec_len};
 ghost use Rattle.xet_dedup_queries.specs.Registering.{IsNewXorb};
-ghost use Rattle.xet_folder.specs.Xorbs.{found};
+ghost use Rattle.xet_folder.specs.Xorbs.{IsListed, found};
+ghost use Rattle.xet_hash.specs.Hash.{sentinel};
 ghost use Rattle.xet_hash.specs.Merkle.{xorb_hash};
 ghost use Rattle.xet_history.specs.Core.{is_new};
-ghost use Rattle.xet_history.specs.History.{cut_entries, register_entries};
+ghost use Rattle.xet_history.specs.History.{register_cut, register_entries};
 ghost use Rattle.xet_io.specs.Disk.{Files};
-ghost use Rattle.xet_shard_format.specs.RecordSizes.{xorb_record_size};
 ghost use Rattle.xet_steps.specs.Recorded.{core_of, recorded_state};
-ghost use Rattle.xet_steps.specs.Steps.{CutRefuses, Refuses, Registers, Steps};
-ghost use Rattle.xet_xorb.specs.Raw.{raw_leaves, xorb_record};
+ghost use Rattle.xet_steps.specs.Steps.{Refuses, RegisterRefuses, Registers, Steps};
+ghost use Rattle.xet_xorb.specs.Raw.{raw_leaves};
 
 use crate::store::Store;
 use crate::store::flushing::{cut_store, note_fault};
 use std::alloc::Global;
-use std::marker::Send;
 use xet_base::Items;
 use xet_ghost::Ghost;
 use xet_hash::{MerkleHash, StoreError};
@@ -25,12 +24,13 @@ use xet_shard::MDBInMemoryShard;
 use xet_store::{DueXorb, Store as FolderStore, leaves_of_raw};
 use xet_xorb::RawXorbData;
 
-impl<D: Disk + Send> Store<D> {
+impl<D: Disk> Store<D> {
     /// Stores a xorb and lists it, unless one of its hash is listed; its record is then pending. Returns whether none was.
     /// If something is pending and its shard would be longer than the target with this xorb, it is flushed first. `next`
     /// lists the chunks that did not fit into the xorb. After an error the xorb is not listed; a flush that was completed
-    /// stands. The error is `TooLarge(Shards)`, which is returned only if a flush is due and 2^32 - 1 shards are registered,
-    /// `OutOfMemory`, or `Io(Disk)`, which is returned only if the disk failed, and has an entry then.
+    /// stands. `OutOfMemory` is also returned if a xorb of its hash is listed with other chunks, or if its hash is the
+    /// sentinel. The other errors are `TooLarge(Shards)`, which is returned only if a flush is due and 2^32 - 1 shards are
+    /// registered, and `Io(Disk)`, which is returned only if the disk failed, and has an entry then.
     pub fn register_xorb(
         &mut self,
         xorb: RawXorbData,
@@ -39,8 +39,10 @@ impl<D: Disk + Send> Store<D> {
         requires new { IsNewXorb (self.old.store.limits.cut_bytes, self.old.store.limits.cut_chunks) xorb }
         ensures added { IfOk result (λ added. added ≡ is_new self.old.store.xorbs (xorb_hash (raw_leaves xorb))) }
         ensures steps { OnOk result (Steps self.old self.new (register_entries 0 (core_of self.old) self.old.store.limits.shard_target (raw_leaves xorb) next.now)) }
-        ensures refused { IfErr result (Refuses 0 StepKind.Register (cut_entries 0 (core_of self.old) self.old.store.limits.shard_target (xorb_record_size (xorb_record (xorb_hash (raw_leaves xorb)) (raw_leaves xorb)))) self.old self.new) }
+        ensures refused { IfErr result (Refuses 0 StepKind.Register (register_cut 0 (core_of self.old) self.old.store.limits.shard_target (raw_leaves xorb)) self.old self.new) }
         ensures unlisted { OnErr result (self.new.store.xorbs ≡ self.old.store.xorbs) }
+        ensures listed { OnOk result (IsListed self.new.store.xorbs (xorb_hash (raw_leaves xorb)) (raw_leaves xorb)) }
+        ensures named { OnOk result (xorb_hash (raw_leaves xorb) ≢ sentinel) }
     {
         self.register_xorb_by(0, xorb, next)
     }
@@ -55,14 +57,17 @@ impl<D: Disk + Send> Store<D> {
         requires new { IsNewXorb (self.old.store.limits.cut_bytes, self.old.store.limits.cut_chunks) xorb }
         ensures added { IfOk result (λ added. added ≡ is_new self.old.store.xorbs (xorb_hash (raw_leaves xorb))) }
         ensures steps { OnOk result (Steps self.old self.new (register_entries pass (core_of self.old) self.old.store.limits.shard_target (raw_leaves xorb) next.now)) }
-        ensures refused { IfErr result (Refuses pass StepKind.Register (cut_entries pass (core_of self.old) self.old.store.limits.shard_target (xorb_record_size (xorb_record (xorb_hash (raw_leaves xorb)) (raw_leaves xorb)))) self.old self.new) }
+        ensures refused { IfErr result (Refuses pass StepKind.Register (register_cut pass (core_of self.old) self.old.store.limits.shard_target (raw_leaves xorb)) self.old self.new) }
         ensures unlisted { OnErr result (self.new.store.xorbs ≡ self.old.store.xorbs) }
+        ensures listed { OnOk result (IsListed self.new.store.xorbs (xorb_hash (raw_leaves xorb)) (raw_leaves xorb)) }
+        ensures named { OnOk result (xorb_hash (raw_leaves xorb) ≢ sentinel) }
     {
         self.history.reserve(2)?;
         self.flushed.reserve(1)?;
         let next = list_of(self.alloc, next)?;
         let chunks = Items::from_vec(leaves_of_raw(self.alloc, &xorb)?);
-        if self.store.lists_xorb(&xorb.hash()) {
+        let is_known = is_listed(&self.store, &xorb.hash(), chunks.as_slice())?;
+        if is_known {
             self.history.push_reserved(Entry::Register {
                 pass,
                 chunks,
@@ -85,8 +90,35 @@ impl<D: Disk + Send> Store<D> {
     }
 }
 
+/// Whether a xorb of a hash is listed. The only error is `OutOfMemory`, which is returned if it is listed with other chunks, or
+/// if the hash is the sentinel.
+fn is_listed<D: Disk>(
+    store: &FolderStore<D>,
+    hash: &MerkleHash,
+    chunks: &[(MerkleHash, u64)],
+) -> Result<bool, StoreError>
+    ensures listed { IfOk result (λ listed. listed ≡ is_some (found store.now.xorbs hash.now)) }
+    ensures same { IfOk result (λ listed. listed ≡ true → IsListed store.now.xorbs hash.now chunks.now) }
+    ensures named { OnOk result (hash.now ≢ sentinel) }
+    ensures memory { IsOkUnless result StoreError.OutOfMemory }
+{
+    if *hash == MerkleHash::marker() {
+        return Err(StoreError::OutOfMemory);
+    }
+    match store.xorb(hash) {
+        Some(listed) => {
+            if listed.as_slice() == chunks {
+                Ok(true)
+            } else {
+                Err(StoreError::OutOfMemory)
+            }
+        }
+        None => Ok(false),
+    }
+}
+
 /// Registers a xorb that is not listed, with its entry, for which there is room.
-fn register_due<D: Disk + Send>(
+fn register_due<D: Disk>(
     store: &mut FolderStore<D>,
     flushed: &mut Vec<Option<Ghost<MDBInMemoryShard>>>,
     history: &mut Vec<Entry>,
@@ -101,8 +133,9 @@ fn register_due<D: Disk + Send>(
     requires room { (vec_len flushed.old + 1 ≤ vec_capacity flushed.old) × (vec_len history.old + 2 ≤ vec_capacity history.old) }
     ensures added { IfOk result (λ added. added ≡ true) }
     ensures steps { OnOk result ((files : Files) → Registers pass due.leaves next (recorded_state store.old files (map (option_map (λ g. g.value)) flushed.old.items) history.old.items) (recorded_state store.new files (map (option_map (λ g. g.value)) flushed.new.items) history.new.items)) }
-    ensures refused { IfErr result (λ e. (files : Files) → CutRefuses pass StepKind.Register (xorb_record_size (xorb_record due.hash due.leaves)) (recorded_state store.old files (map (option_map (λ g. g.value)) flushed.old.items) history.old.items) (recorded_state store.new files (map (option_map (λ g. g.value)) flushed.new.items) history.new.items) e) }
+    ensures refused { IfErr result (λ e. (files : Files) → RegisterRefuses pass due.leaves (recorded_state store.old files (map (option_map (λ g. g.value)) flushed.old.items) history.old.items) (recorded_state store.new files (map (option_map (λ g. g.value)) flushed.new.items) history.new.items) e) }
     ensures unlisted { OnErr result (store.new.xorbs ≡ store.old.xorbs) }
+    ensures listed { OnOk result (IsListed store.new.xorbs due.hash due.leaves) }
     ensures count { length flushed.new.items ≡ length store.new.shards }
 {
     cut_store(
@@ -131,7 +164,7 @@ fn register_due<D: Disk + Send>(
 }
 
 /// A xorb that keeps the limits of a store, ready to be stored. The only error is `OutOfMemory`.
-fn due_of<D: Disk + Send>(
+fn due_of<D: Disk>(
     alloc: Global,
     store: &FolderStore<D>,
     xorb: RawXorbData,

@@ -40,12 +40,12 @@ pub returns-then-is_some-clause-steps : goal.returns-then-is_some-clause-steps
 returns-then-is_some-clause-steps g c =
     let old : is_new c.self.inside.store.records (file_record_hash c.args.file) ≡ false =
     new_if_unrecorded _ c.args.file c.self.inside.store.records _ c.hash.ensures c.record.result _ true c.is_some.ensures c.record.ensures c.if-is_some.true in
-    (records_known (λ g'. g'.value) (g.D.Disk.files c.self.inside.opened.value) c.self.inside.store c.self.inside.flushed.items c.reserve-2.new.self.items c.self.inside.history.items c.push_reserved.new.self.items c.args.pass c.args.self.now c.args.file
+    (records_known (λ g'. g'.value) c.self.inside.opened.value.files c.self.inside.store c.self.inside.flushed.items c.reserve-2.new.self.items c.self.inside.history.items c.push_reserved.new.self.items c.args.pass c.args.self.now c.args.file
     c.self.view_is c.reserve-2.ensures.items (pushed_complete _ _ c.push_reserved.ensures.items c.reserve.ensures.items)
     (ap (λ (x : RecordedState). is_new x.store.records (file_record_hash c.args.file)) (sym c.self.view_is) ∙ old)).steps
 
 pub record_file-requires-clause-form : goal.record_file-requires-clause-form
-record_file-requires-clause-form g c κs within =
+record_file-requires-clause-form g c =
     new_file c.self.inside.store.xorbs c.args.file c.requires.form
     (subst (λ (x : Xorbs). Completes x c.args.file) c.xorbs.ensures (c.in_ok-can_complete.ensures.can.0 c.if-not-branch.false))
     (subst (λ (x : Xorbs). IsRecord x (file_record_hash c.args.file, c.args.file)) c.xorbs.ensures (c.in_ok-can_complete.ensures.recorded c.if-not-branch.false))

@@ -1,5 +1,6 @@
 use Rattle.std.proofs.Common.{◌≡◌, ◌∙◌, ℕ, Bool, true, false, List, IfOk, refl, sym, ap, subst}
 use Rattle.xet_base.specs.theorems.Exits.{exit_with}
+use Rattle.xet_codec.specs.theorems.Buffering.{on_ok}
 use Rattle.xet_hash.specs.declared.error.StoreError.TheVariants.{OutOfMemory}
 use Rattle.xet_history.specs.declared.entry.StepKind.TheVariants.{Register}
 use Rattle.xet_folder.specs.Xorbs.{found}
@@ -9,7 +10,7 @@ use Rattle.xet_history.specs.theorems.Staying.{none_if_new}
 use Rattle.xet_store.specs.Store.{State}
 use Rattle.xet_xorb.specs.Raw.{raw_leaves}
 use Rattle.xet_steps.specs.Recorded.{RecordedState}
-use Rattle.xet_steps.proofs.Known.{new_if_unlisted, pushed_register, recorded_registered, registers_known}
+use Rattle.xet_steps.proofs.Known.{listed_new, listed_stored, named_new, new_if_unlisted, pushed_register, recorded_registered, registers_known}
 use Rattle.xet_steps.proofs.Refusing.{exit_of_memory, recorded_after, recorded_same, refuses_memory, same_view, same_view_kept}
 use Rattle.xet_steps.proofs.store.Store.register_xorb_by.Goals as goal
 
@@ -31,23 +32,37 @@ returns-in_err-leaves_of_raw-clause-refused g c =
     exit_of_memory _ _ _ c.from_residual-in_err-leaves_of_raw.ensures.1 c.in_err-leaves_of_raw.ensures.memory
     (refuses_memory _ Register _ _ _ (same_view _ _ _ _ c.self.view_is c.reserve-2.ensures.items c.reserve.ensures.items))
 
-pub invariant_of-self-then-lists_xorb : goal.invariant_of-self-then-lists_xorb
-invariant_of-self-then-lists_xorb g c =
+pub returns-in_err-is_known-clause-refused : goal.returns-in_err-is_known-clause-refused
+returns-in_err-is_known-clause-refused g c =
+    exit_of_memory _ _ _ c.from_residual-in_err-is_known.ensures.1 c.in_err-is_known.ensures.memory
+    (refuses_memory _ Register _ _ _ (same_view _ _ _ _ c.self.view_is c.reserve-2.ensures.items c.reserve.ensures.items))
+
+pub invariant_of-self-then-is_known : goal.invariant_of-self-then-is_known
+invariant_of-self-then-is_known g c =
     recorded_registered _ _ c.self.inside.store _ _ _ _ c.args.pass (raw_leaves c.args.xorb) c.args.next.now c.self.invariant c.reserve-2.ensures.items
     (pushed_register _ c.push_reserved.ensures.items c.reserve.ensures.items (c.from_vec-chunks.ensures ∙ c.in_ok-leaves_of_raw.ensures.leaves) c.in_ok-next.ensures.list)
-    (new_if_unlisted _ c.args.xorb c.requires.new c.self.inside.store.xorbs _ c.hash.ensures c.lists_xorb.result true c.lists_xorb.ensures c.if-lists_xorb.true)
+    (new_if_unlisted _ c.args.xorb c.requires.new c.self.inside.store.xorbs _ c.hash.ensures c.in_ok-is_known.is_known true c.in_ok-is_known.ensures.listed c.if-is_known.true)
 
-pub returns-then-lists_xorb-clause-added : goal.returns-then-lists_xorb-clause-added
-returns-then-lists_xorb-clause-added g c =
-    let old : is_new c.self.inside.store.xorbs (xorb_hash (raw_leaves c.args.xorb)) ≡ false = new_if_unlisted _ c.args.xorb c.requires.new c.self.inside.store.xorbs _ c.hash.ensures c.lists_xorb.result true c.lists_xorb.ensures c.if-lists_xorb.true in
+pub returns-then-is_known-clause-added : goal.returns-then-is_known-clause-added
+returns-then-is_known-clause-added g c =
+    let old : is_new c.self.inside.store.xorbs (xorb_hash (raw_leaves c.args.xorb)) ≡ false = new_if_unlisted _ c.args.xorb c.requires.new c.self.inside.store.xorbs _ c.hash.ensures c.in_ok-is_known.is_known true c.in_ok-is_known.ensures.listed c.if-is_known.true in
     sym (ap (λ (x : RecordedState). is_new x.store.xorbs (xorb_hash (raw_leaves c.args.xorb))) (sym c.self.view_is) ∙ old)
 
-pub returns-then-lists_xorb-clause-steps : goal.returns-then-lists_xorb-clause-steps
-returns-then-lists_xorb-clause-steps g c =
-    let old : is_new c.self.inside.store.xorbs (xorb_hash (raw_leaves c.args.xorb)) ≡ false = new_if_unlisted _ c.args.xorb c.requires.new c.self.inside.store.xorbs _ c.hash.ensures c.lists_xorb.result true c.lists_xorb.ensures c.if-lists_xorb.true in
-    (registers_known (λ g'. g'.value) (g.D.Disk.files c.self.inside.opened.value) c.self.inside.store c.self.inside.flushed.items c.reserve-2.new.self.items c.self.inside.history.items c.push_reserved.new.self.items c.args.pass c.args.self.now (raw_leaves c.args.xorb) c.args.next.now
+pub returns-then-is_known-clause-steps : goal.returns-then-is_known-clause-steps
+returns-then-is_known-clause-steps g c =
+    let old : is_new c.self.inside.store.xorbs (xorb_hash (raw_leaves c.args.xorb)) ≡ false = new_if_unlisted _ c.args.xorb c.requires.new c.self.inside.store.xorbs _ c.hash.ensures c.in_ok-is_known.is_known true c.in_ok-is_known.ensures.listed c.if-is_known.true in
+    (registers_known (λ g'. g'.value) c.self.inside.opened.value.files c.self.inside.store c.self.inside.flushed.items c.reserve-2.new.self.items c.self.inside.history.items c.push_reserved.new.self.items c.args.pass c.args.self.now (raw_leaves c.args.xorb) c.args.next.now
     c.self.view_is c.reserve-2.ensures.items (pushed_register _ c.push_reserved.ensures.items c.reserve.ensures.items (c.from_vec-chunks.ensures ∙ c.in_ok-leaves_of_raw.ensures.leaves) c.in_ok-next.ensures.list)
     (ap (λ (x : RecordedState). is_new x.store.xorbs (xorb_hash (raw_leaves c.args.xorb))) (sym c.self.view_is) ∙ old)).steps
+
+pub returns-then-is_known-clause-listed : goal.returns-then-is_known-clause-listed
+returns-then-is_known-clause-listed g c =
+    let xorb = c.args.xorb in
+    let chunks = c.as_slice.ensures ∙ c.from_vec-chunks.ensures ∙ c.in_ok-leaves_of_raw.ensures.leaves in
+    listed_new _ xorb c.requires.new c.self.inside.store.xorbs _ c.hash.ensures _ chunks (c.in_ok-is_known.ensures.same c.if-is_known.true)
+
+pub returns-then-is_known-clause-named : goal.returns-then-is_known-clause-named
+returns-then-is_known-clause-named g c = named_new _ c.args.xorb c.requires.new _ c.hash.ensures c.in_ok-is_known.ensures.named
 
 pub returns-in_err-due-clause-refused : goal.returns-in_err-due-clause-refused
 returns-in_err-due-clause-refused g c =
@@ -60,8 +75,8 @@ returns-in_err-reserve_xorb-clause-refused g c =
     (refuses_memory _ Register _ _ _ (same_view_kept _ _ _ _ _ c.self.view_is c.in_err-reserve_xorb.ensures.kept c.reserve-2.ensures.items c.reserve.ensures.items))
 
 pub register_due-requires-clause-new : goal.register_due-requires-clause-new
-register_due-requires-clause-new g c κs within =
-    let new : is_new c.self.inside.store.xorbs (xorb_hash (raw_leaves c.args.xorb)) ≡ true = new_if_unlisted _ c.args.xorb c.requires.new c.self.inside.store.xorbs _ c.hash.ensures c.lists_xorb.result false c.lists_xorb.ensures c.if-lists_xorb.false in
+register_due-requires-clause-new g c =
+    let new : is_new c.self.inside.store.xorbs (xorb_hash (raw_leaves c.args.xorb)) ≡ true = new_if_unlisted _ c.args.xorb c.requires.new c.self.inside.store.xorbs _ c.hash.ensures c.in_ok-is_known.is_known false c.in_ok-is_known.ensures.listed c.if-is_known.false in
     ap (λ (s : State). found s.xorbs c.in_ok-due.due.hash) c.reserve_xorb.ensures.kept
     ∙ ap (λ (h : List ℕ). found c.self.inside.store.xorbs h) c.in_ok-due.ensures.hash
     ∙ none_if_new c.self.inside.store.xorbs (xorb_hash (raw_leaves c.args.xorb)) new
@@ -73,6 +88,12 @@ invariant_of-self-2 g c =
 
 pub returns-clause-added : goal.returns-clause-added
 returns-clause-added g c =
-    let new : is_new c.self.inside.store.xorbs (xorb_hash (raw_leaves c.args.xorb)) ≡ true = new_if_unlisted _ c.args.xorb c.requires.new c.self.inside.store.xorbs _ c.hash.ensures c.lists_xorb.result false c.lists_xorb.ensures c.if-lists_xorb.false in
+    let new : is_new c.self.inside.store.xorbs (xorb_hash (raw_leaves c.args.xorb)) ≡ true = new_if_unlisted _ c.args.xorb c.requires.new c.self.inside.store.xorbs _ c.hash.ensures c.in_ok-is_known.is_known false c.in_ok-is_known.ensures.listed c.if-is_known.false in
     subst (λ (b : Bool). IfOk c.register_due.result (λ added. added ≡ b))
     (sym (ap (λ (x : RecordedState). is_new x.store.xorbs (xorb_hash (raw_leaves c.args.xorb))) (sym c.self.view_is) ∙ new)) c.register_due.ensures.added
+
+pub returns-clause-listed : goal.returns-clause-listed
+returns-clause-listed g c = listed_stored c.register_due.result _ _ _ (raw_leaves c.args.xorb) c.in_ok-due.ensures.hash c.in_ok-due.ensures.leaves c.register_due.ensures.listed
+
+pub returns-clause-named : goal.returns-clause-named
+returns-clause-named g c = on_ok c.register_due.result (named_new _ c.args.xorb c.requires.new _ c.hash.ensures c.in_ok-is_known.ensures.named)

@@ -1,6 +1,6 @@
 use Rattle.std.proofs.Common.{◌∙◌, sym}
 use Rattle.xet_steps.proofs.Asking.{has_unchanged}
-use Rattle.xet_steps.proofs.Querying.{fails_all, finds_all, finds_listed, finds_pending, same_count, unchanged_then}
+use Rattle.xet_steps.proofs.Querying.{fails_all, finds_all, finds_pending, finds_usable, same_count, unchanged_then}
 use Rattle.xet_steps.proofs.store.asking.ask.Goals as goal
 
 pub returns-in-Ok-clause-found : goal.returns-in-Ok-clause-found
@@ -12,7 +12,7 @@ pub returns-in-Ok-clause-pending : goal.returns-in-Ok-clause-pending
 returns-in-Ok-clause-pending g c = finds_pending _ _ c.in-Ok.ensures.unchanged c.args.hashes.now c.find_run.result c.find_run.new.self c.find_run.ensures.pending
 
 pub returns-in-Ok-clause-lies : goal.returns-in-Ok-clause-lies
-returns-in-Ok-clause-lies g c = finds_listed _ _ c.in-Ok.ensures.unchanged c.find_run.result c.find_run.ensures.lies
+returns-in-Ok-clause-lies g c = finds_usable _ _ c.in-Ok.ensures.unchanged c.args.hashes.now c.find_run.result c.find_run.ensures.lies
 
 pub returns-in-Ok-clause-refused : goal.returns-in-Ok-clause-refused
 returns-in-Ok-clause-refused g c = fails_all _ _ c.in-Ok.ensures.unchanged c.register_rest.new.registry _ c.find_run.result c.in-Ok.ensures.registry c.find_run.ensures.refused

@@ -12,15 +12,15 @@ pub loop-store-preserved : goal.loop-store-preserved
 loop-store-preserved g c = record { unchanged = unchanged_then _ _ _ c.loop-store.invariant.unchanged c.in_ok-register_next.ensures.unchanged; registry = c.in_ok-register_next.ensures.registry }
 
 pub register_next-requires-clause-rest : goal.register_next-requires-clause-rest
-register_next-requires-clause-rest g c κs within =
+register_next-requires-clause-rest g c =
     let seen : length c.files.result.now ≡ length c.loop-store.registry.files = ap (λ (l : List MDBShardFile). length l) c.files.ensures in
     omega (arith, same_count _ _ c.loop-store.invariant.unchanged)
 
 pub register_next-requires-clause-differ : goal.register_next-requires-clause-differ
-register_next-requires-clause-differ g c κs within = differ_still _ _ c.loop-store.invariant.unchanged c.requires.differ
+register_next-requires-clause-differ g c = differ_still _ _ c.loop-store.invariant.unchanged c.requires.differ
 
 pub register_next-requires-clause-few : goal.register_next-requires-clause-few
-register_next-requires-clause-few g c κs within = few_still _ _ c.loop-store.invariant.unchanged c.requires.few
+register_next-requires-clause-few g c = few_still _ _ c.loop-store.invariant.unchanged c.requires.few
 
 pub loop-store-smaller : goal.loop-store-smaller
 loop-store-smaller g c =
