@@ -1,0 +1,13 @@
+mod Growing
+mod Entries
+mod Steps
+mod Seeing
+mod Failing
+mod Holding
+mod Last
+mod Returned
+mod Following
+mod Calls
+mod Listing
+mod Refused
+mod Replies

@@ -1,0 +1,5 @@
+pub mod Holders
+pub mod Stepping
+pub mod Asking
+pub mod Alone
+pub mod Coding
