@@ -5,7 +5,7 @@ use Rattle.xet_manager.specs.Manager.{ManagerState}
 use Rattle.xet_shard.specs.Held.{Held, held_shard, held_size}
 use Rattle.xet_shard_directory.specs.Answers.{GivesUnlessDisk}
 use Rattle.xet_shard_directory.specs.Writing.{MayAddShard}
-use Rattle.xet_shard_flush.specs.Importing.{Imports, IsCheckError, flush_check, flushed_bytes}
+use Rattle.xet_shard_flush.specs.Importing.{Imports, flush_check, flushed_bytes}
 use Rattle.xet_shard_format.specs.Encoding.{Fits, IsShard}
 use Rattle.xet_shard_format.specs.declared.record.MDBFileInfo.{MDBFileInfo}
 use Rattle.xet_shard_format.specs.declared.record.MDBXorbInfo.{MDBXorbInfo}
@@ -43,10 +43,11 @@ abbrev pub IsCut : ManagerState → ManagerState → Held → Type 0
 IsCut old new pending = (path : List ℕ) × Cuts old new pending 0 path
 
 -- A cut failed: the same is pending, the same shards are registered, and no room is left. The error is that of the check,
--- after which nothing was written, unless the disk failed or memory was out; then the file is as it was, or the write has completed.
+-- unless the disk failed or memory was out. Nothing is written where the check fails; else the file is as it was, or the
+-- write has completed.
 pub record IsUncut (old new : ManagerState) (e : StoreError) : Type 0 where
   pub rest : new ≡ record old { files = new.files; faults = new.faults; registry = new.registry; room = 0 }
   pub kept : (shards : List Registered) → IsRegistryOf shards old.registry → IsRegistryOf shards new.registry
   pub file : old.tells ≡ true → MayAddShard old.files new.files old.folder (flushed_bytes old.pending old.moment)
   pub checked : GivesUnlessDisk (λ (u : Unit {0}). u) (Err e) (flush_check (flushed_bytes old.pending old.moment) old.registry)
-  pub unwritten : old.tells ≡ true → IsCheckError e → new.files ≡ old.files
+  pub unwritten : old.tells ≡ true → (failed : StoreError) → flush_check (flushed_bytes old.pending old.moment) old.registry ≡ Err failed → new.files ≡ old.files

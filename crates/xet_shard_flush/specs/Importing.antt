@@ -5,9 +5,8 @@ use Rattle.std.specs.List.{list_any}
 use Rattle.xet_codec.specs.Parsing.{◌>>=◌}
 use Rattle.xet_codec.specs.Stops.{HasDiskReason}
 use Rattle.xet_hash.specs.Merkle.{chunk_hash}
-use Rattle.xet_hash.specs.declared.error.Place.TheVariants.{Disk}
 use Rattle.xet_hash.specs.declared.error.StoreError.{StoreError}
-use Rattle.xet_hash.specs.declared.error.StoreError.TheVariants.{Io, OutOfMemory, TooLarge}
+use Rattle.xet_hash.specs.declared.error.StoreError.TheVariants.{TooLarge}
 use Rattle.xet_hash.specs.declared.error.What.TheVariants.{Shards}
 use Rattle.xet_io.specs.Disk.{File, Files, bytes_at, file_at}
 use Rattle.xet_shard.specs.Held.{Held, held_shard}
@@ -83,9 +82,3 @@ IsImportError before now e = IsPutError before now e
 abbrev pub IsFlushError : ℕ → ℕ → StoreError → Type 0
 IsFlushError before now (TooLarge Shards) = Unit {0}
 IsFlushError before now e = HasDiskReason before now e
-
--- whether an error is that of a check, after which nothing was written
-abbrev pub IsCheckError : StoreError → Type 0
-IsCheckError (Io Disk) = ⊥
-IsCheckError OutOfMemory = ⊥
-IsCheckError e = Unit {0}

@@ -1,11 +1,11 @@
 //! A shard of what is pending that is due to be written.
 
-ghost use Rattle.std.specs.Prelude.{◌≡◌, List, ℕ, IfErr, IfOk, IsOkUnless, OnErr, OnOk, string_bytes, true};
+ghost use Rattle.std.specs.Prelude.{◌≡◌, List, ℕ, Err, IfErr, IfOk, IsOkUnless, OnErr, OnOk, string_bytes, true};
 ghost use Rattle.xet_io.specs.Frame.{Stays};
 ghost use Rattle.xet_shard_directory.specs.Answers.{GivesUnlessDisk};
 ghost use Rattle.xet_shard_directory.specs.Writing.{MayAddShard, path_of};
 ghost use Rattle.xet_shard_flush.specs.Due.{IsDue};
-ghost use Rattle.xet_shard_flush.specs.Importing.{Imports, IsCheckError, IsFlushError, KeepsFiles, flush_check};
+ghost use Rattle.xet_shard_flush.specs.Importing.{Imports, IsFlushError, KeepsFiles, flush_check};
 ghost use Rattle.xet_shard_flush.specs.internal.Steps.{SameShards};
 ghost use Rattle.xet_shard_registry.specs.Collections.{IsRegistryOf};
 ghost use Rattle.xet_shard_registry.specs.Registered.{Registered};
@@ -44,7 +44,7 @@ impl Model for DueShard {
     ghost invariant = { λ d. IsFileOf d.encoding.items d.file × (chunk_lookup_in d.file.info.metadata d.encoding.items ≡ Ok (flat_places d.items.items)) };
 }
 
-/// Takes the memory for `flush_prepared`, and writes nothing: encodes what is pending as a shard that is created at `moment`
+/// Takes the memory for `flush_prepared` (by the code), and writes nothing: encodes what is pending as a shard that is created at `moment`
 /// and does not expire. The file is to be in a folder. The only error is `StoreError::OutOfMemory`. The same shards are
 /// registered in either case.
 pub fn prepare_flush(
@@ -88,7 +88,7 @@ pub(crate) fn write_due<D: Disk>(
     ensures checked { GivesUnlessDisk (λ _. tt) result (flush_check due.bytes registry.old) }
     ensures kept { OnErr result (SameShards registry.old registry.new) }
     ensures refused { D.tells disk.old ≡ true → (folder : List ℕ) → due.path ≡ path_of folder due.bytes → OnErr result (MayAddShard (D.files disk.old) (D.files disk.new) folder due.bytes) }
-    ensures unwritten { D.tells disk.old ≡ true → IfErr result (λ e. IsCheckError e → D.files disk.new ≡ D.files disk.old) }
+    ensures unwritten { D.tells disk.old ≡ true → (e : StoreError) → flush_check due.bytes registry.old ≡ Err e → D.files disk.new ≡ D.files disk.old }
     ensures safe { D.tells disk.old ≡ true → (folder : List ℕ) → due.path ≡ path_of folder due.bytes → KeepsFiles (D.files disk.old) (D.files disk.new) folder due.bytes registry.old.files }
     ensures frame { Stays D.tells D.faults disk.old disk.new }
     ensures reason { IfErr result (IsFlushError (D.faults disk.old) (D.faults disk.new)) }
@@ -114,7 +114,7 @@ fn write_shard<D: Disk>(
     ensures checked { GivesUnlessDisk (λ _. tt) result (flush_check due.bytes registry.old) }
     ensures kept { OnErr result (SameShards registry.old registry.new) }
     ensures refused { D.tells disk.old ≡ true → (folder : List ℕ) → due.path ≡ path_of folder due.bytes → OnErr result (MayAddShard (D.files disk.old) (D.files disk.new) folder due.bytes) }
-    ensures unwritten { D.tells disk.old ≡ true → IfErr result (λ e. IsCheckError e → D.files disk.new ≡ D.files disk.old) }
+    ensures unwritten { D.tells disk.old ≡ true → (e : StoreError) → flush_check due.bytes registry.old ≡ Err e → D.files disk.new ≡ D.files disk.old }
     ensures safe { D.tells disk.old ≡ true → (folder : List ℕ) → due.path ≡ path_of folder due.bytes → KeepsFiles (D.files disk.old) (D.files disk.new) folder due.bytes registry.old.files }
     ensures frame { Stays D.tells D.faults disk.old disk.new }
     ensures reason { IfErr result (IsFlushError (D.faults disk.old) (D.faults disk.new)) }

@@ -1,13 +1,13 @@
 //! Flush of what is pending.
 
-ghost use Rattle.std.specs.Prelude.{◌≡◌, List, None, IsOkUnless, IfErr, IfOk, OnErr, OnOk, string_bytes, true};
+ghost use Rattle.std.specs.Prelude.{◌≡◌, List, None, IsOkUnless, Err, IfErr, IfOk, OnErr, OnOk, string_bytes, true};
 ghost use Rattle.std.specs.Option.{ForSome};
 ghost use Rattle.xet_io.specs.Frame.{Stays};
 ghost use Rattle.xet_shard.specs.Held.{held_shard};
 ghost use Rattle.xet_shard_directory.specs.Answers.{GivesUnlessDisk};
-ghost use Rattle.xet_shard_directory.specs.Writing.{MayAddShard, path_of};
+ghost use Rattle.xet_shard_directory.specs.Writing.{MayAddShard};
 ghost use Rattle.xet_shard_flush.specs.Due.{IsDue};
-ghost use Rattle.xet_shard_flush.specs.Importing.{Imports, IsCheckError, IsFlushError, KeepsFiles, flush_check, flushed_bytes};
+ghost use Rattle.xet_shard_flush.specs.Importing.{Imports, IsFlushError, KeepsFiles, flush_check, flushed_bytes};
 ghost use Rattle.xet_shard_format.specs.Encoding.{Fits, IsShard};
 ghost use Rattle.xet_shard_flush.specs.internal.Steps.{SameShards};
 ghost use Rattle.xet_shard_registry.specs.Collections.{IsRegistryOf};
@@ -41,7 +41,7 @@ pub fn flush_pending<D: Disk>(
     ensures checked { GivesUnlessDisk (λ _. tt) result (flush_check (flushed_bytes pending.old moment) registry.old) }
     ensures kept { OnErr result ((shards : List Registered) → IsRegistryOf shards registry.old → IsRegistryOf shards registry.new) }
     ensures refused { D.tells disk.old ≡ true → OnErr result (MayAddShard (D.files disk.old) (D.files disk.new) folder.now (flushed_bytes pending.old moment)) }
-    ensures unwritten { D.tells disk.old ≡ true → IfErr result (λ e. IsCheckError e → D.files disk.new ≡ D.files disk.old) }
+    ensures unwritten { D.tells disk.old ≡ true → (e : StoreError) → flush_check (flushed_bytes pending.old moment) registry.old ≡ Err e → D.files disk.new ≡ D.files disk.old }
     ensures safe { D.tells disk.old ≡ true → KeepsFiles (D.files disk.old) (D.files disk.new) folder.now (flushed_bytes pending.old moment) registry.old.files }
     ensures frame { Stays D.tells D.faults disk.old disk.new }
     ensures reason { IfErr result (IsFlushError (D.faults disk.old) (D.faults disk.new)) }
@@ -52,7 +52,7 @@ pub fn flush_pending<D: Disk>(
 }
 
 /// Writes what is pending as `flush_pending` does: the shard that `prepare_flush` returned for it, if it is passed. If no
-/// shard was registered since then, no memory is taken.
+/// shard was registered since then, no memory is taken; that is by the code.
 pub fn flush_prepared<D: Disk>(
     alloc: Global,
     disk: &mut D,
@@ -72,7 +72,7 @@ pub fn flush_prepared<D: Disk>(
     ensures checked { GivesUnlessDisk (λ _. tt) result (flush_check (flushed_bytes pending.old moment) registry.old) }
     ensures kept { OnErr result ((shards : List Registered) → IsRegistryOf shards registry.old → IsRegistryOf shards registry.new) }
     ensures refused { D.tells disk.old ≡ true → OnErr result (MayAddShard (D.files disk.old) (D.files disk.new) folder.now (flushed_bytes pending.old moment)) }
-    ensures unwritten { D.tells disk.old ≡ true → IfErr result (λ e. IsCheckError e → D.files disk.new ≡ D.files disk.old) }
+    ensures unwritten { D.tells disk.old ≡ true → (e : StoreError) → flush_check (flushed_bytes pending.old moment) registry.old ≡ Err e → D.files disk.new ≡ D.files disk.old }
     ensures safe { D.tells disk.old ≡ true → KeepsFiles (D.files disk.old) (D.files disk.new) folder.now (flushed_bytes pending.old moment) registry.old.files }
     ensures frame { Stays D.tells D.faults disk.old disk.new }
     ensures reason { IfErr result (IsFlushError (D.faults disk.old) (D.faults disk.new)) }

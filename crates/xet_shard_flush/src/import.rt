@@ -1,6 +1,6 @@
 //! Import of a shard whose bytes are given.
 
-ghost use Rattle.std.specs.Prelude.{◌≡◌, List, IfErr, IfOk, OnErr, OnOk, Ok, false, nat_eq, string_bytes, true, length, ◌<◌, ◌^◌};
+ghost use Rattle.std.specs.Prelude.{◌≡◌, List, Err, IfErr, IfOk, OnErr, OnOk, Ok, false, nat_eq, string_bytes, true, length, ◌<◌, ◌^◌};
 ghost use Rattle.std.specs.Cmp.Lexicographic.{pointwise};
 ghost use Rattle.std.specs.List.{list_any};
 ghost use Rattle.xet_hash.specs.Merkle.{chunk_hash};
@@ -8,7 +8,7 @@ ghost use Rattle.xet_io.specs.Frame.{Stays};
 ghost use Rattle.xet_shard.specs.Sections.{info_at};
 ghost use Rattle.xet_shard_directory.specs.Answers.{GivesUnlessDisk};
 ghost use Rattle.xet_shard_directory.specs.Writing.{MayAddShard};
-ghost use Rattle.xet_shard_flush.specs.Importing.{Imports, IsCheckError, IsImportError, KeepsFiles, import_check};
+ghost use Rattle.xet_shard_flush.specs.Importing.{Imports, IsImportError, KeepsFiles, import_check};
 ghost use Rattle.xet_shard_flush.specs.internal.Steps.{IsNewError, SameShards, new_check, new_lookup};
 ghost use Rattle.xet_shard_format.specs.Lookups.{flat_places};
 ghost use Rattle.xet_shard_registry.specs.Collections.{IsRegistryOf};
@@ -29,8 +29,8 @@ use xet_shard_registry::ShardRegistry;
 /// has fewer than `cap` words. Nothing is written if the header or the footer is malformed, if 2^32 - 1 shards are
 /// registered and one more is due (`TooLarge(Shards)`), or if the chunk lookup table is malformed; the error is that of
 /// the first check that fails. `OutOfMemory` also if the path is that of a registered shard whose file has other
-/// bytes, or is gone and had another header or footer: it is not replaced. All memory is taken before the first write.
-/// After an error the same shards are registered; the file is as it was, or the write has completed.
+/// bytes, or is gone and had another header or footer: it is not replaced. All memory is taken before the first write;
+/// that is by the code. After an error the same shards are registered; the file is as it was, or the write has completed.
 pub fn import_shard<D: Disk>(
     alloc: Global,
     disk: &mut D,
@@ -43,7 +43,7 @@ pub fn import_shard<D: Disk>(
     ensures checked { GivesUnlessDisk (λ _. tt) result (import_check bytes.now registry.old) }
     ensures kept { OnErr result ((shards : List Registered) → IsRegistryOf shards registry.old → IsRegistryOf shards registry.new) }
     ensures refused { D.tells disk.old ≡ true → OnErr result (MayAddShard (D.files disk.old) (D.files disk.new) folder.now bytes.now) }
-    ensures unwritten { D.tells disk.old ≡ true → IfErr result (λ e. IsCheckError e → D.files disk.new ≡ D.files disk.old) }
+    ensures unwritten { D.tells disk.old ≡ true → (e : StoreError) → import_check bytes.now registry.old ≡ Err e → D.files disk.new ≡ D.files disk.old }
     ensures safe { D.tells disk.old ≡ true → KeepsFiles (D.files disk.old) (D.files disk.new) folder.now bytes.now registry.old.files }
     ensures frame { Stays D.tells D.faults disk.old disk.new }
     ensures reason { IfErr result (IsImportError (D.faults disk.old) (D.faults disk.new)) }
@@ -76,7 +76,7 @@ fn import_new<D: Disk>(
     ensures checked { GivesUnlessDisk (λ _. tt) result (new_check info.metadata bytes.now registry.old) }
     ensures kept { OnErr result (SameShards registry.old registry.new) }
     ensures refused { D.tells disk.old ≡ true → OnErr result (MayAddShard (D.files disk.old) (D.files disk.new) folder.now bytes.now) }
-    ensures unwritten { D.tells disk.old ≡ true → IfErr result (λ e. IsCheckError e → D.files disk.new ≡ D.files disk.old) }
+    ensures unwritten { D.tells disk.old ≡ true → (e : StoreError) → new_check info.metadata bytes.now registry.old ≡ Err e → D.files disk.new ≡ D.files disk.old }
     ensures safe { D.tells disk.old ≡ true → KeepsFiles (D.files disk.old) (D.files disk.new) folder.now bytes.now registry.old.files }
     ensures frame { Stays D.tells D.faults disk.old disk.new }
     ensures reason { IfErr result (IsImportError (D.faults disk.old) (D.faults disk.new)) }

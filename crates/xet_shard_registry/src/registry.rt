@@ -113,8 +113,8 @@ impl ShardRegistry {
     }
 
     /// Takes the memory that the next `register` needs for a shard with this key, or without one if it is zero, and with this
-    /// number of chunks, so that it then allocates nothing. The only error is `StoreError::OutOfMemory`. The same shards are
-    /// registered in either case.
+    /// number of chunks, so that it then allocates nothing; that is by the code. The only error is `StoreError::OutOfMemory`.
+    /// The same shards are registered in either case.
     pub fn reserve(&mut self, key: &HMACKey, chunks: usize) -> Result<(), StoreError>
         ensures kept { (shards : List Registered) → IsRegistryOf shards self.old → IsRegistryOf shards self.new }
         ensures files { self.new.files ≡ self.old.files }
@@ -162,7 +162,8 @@ impl ShardRegistry {
 
     /// The numbers of the shards of the key with an index, in order of registration; none if there is no such key.
     pub fn members(&self, index: usize) -> &[u32]
-        ensures { (shards : List Registered) (key : List ℕ) → IsRegistryOf shards self.now → slice_get (keys_of shards) index ≡ Some key → result.now ≡ numbers key shards }
+        ensures members { (shards : List Registered) (key : List ℕ) → IsRegistryOf shards self.now → slice_get (keys_of shards) index ≡ Some key → result.now ≡ numbers key shards }
+        ensures none { (shards : List Registered) → IsRegistryOf shards self.now → slice_get (keys_of shards) index ≡ None → result.now ≡ [] }
     {
         match self.collections.get(index) {
             Some(collection) => collection.members.as_slice(),

@@ -36,8 +36,8 @@ abbrev pub KeepsOtherNames : Files → Files → List ℕ → Type 0
 KeepsOtherNames old new name = (other : List ℕ) → other ≢ name → other ≢ temp_name name → SameEntry old new other
 
 -- What was pending is in the shard of this hash, which is well formed and durable, and is now the last registered one. Before,
--- no shard of this hash was registered, and fewer shards were than can be. Each file that was pending is listed at every time
--- below 2 ^ 64. Nothing else changes.
+-- no shard of this hash was registered, and there were fewer than the maximum. Each file that was pending is listed at every
+-- time below 2 ^ 64. Nothing else changes.
 pub record IsFlushed (old : State) (h : List ℕ) (new : State) : Type 0 where
   pub form : IsFormed (pending_shard old)
   pub hash : h ≡ shard_hash (pending_bytes old)

@@ -5,7 +5,6 @@ ghost use Rattle.std.specs.Prelude.{◌≡◌, ◌≢◌, ◌↔◌, ◌≤◌, 
 ghost use Rattle.xet_hash.specs.Hash.{sentinel};
 ghost use Rattle.xet_manager.specs.Adding.{Cuts, IsCut, IsUncut, blocks_before, cut_due, files_before};
 ghost use Rattle.xet_shard.specs.Held.{held, nothing, with_last};
-ghost use Rattle.xet_shard_directory.specs.Writing.{path_of};
 ghost use Rattle.xet_shard_flush.specs.Importing.{IsFlushError, KeepsFiles, flushed_bytes};
 ghost use Rattle.xet_shard_format.specs.RecordSizes.{file_record_size, xorb_record_size};
 ghost use Rattle.xet_shard_format.specs.Records.{IsFile, IsXorb, file_record_hash, file_section, xorb_record_hash, xorb_section};

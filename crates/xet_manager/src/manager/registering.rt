@@ -4,9 +4,9 @@
 ghost use Rattle.std.specs.Prelude.{◌≡◌, ◌≤◌, ◌++◌, ◌⊎◌, [], List, Err, IfErr, IfOk, IsOkUnless, OnErr, OnOk, false, string_bytes, true};
 ghost use Rattle.xet_shard.specs.Union.{ShardRecords};
 ghost use Rattle.xet_shard_directory.specs.Answers.{GivesUnlessDisk};
-ghost use Rattle.xet_shard_directory.specs.Writing.{MayAddShard, path_of};
+ghost use Rattle.xet_shard_directory.specs.Writing.{MayAddShard};
 ghost use Rattle.xet_shard_directory.specs.declared.shard_file.MDBShardFile.{MDBShardFile};
-ghost use Rattle.xet_shard_flush.specs.Importing.{Imports, IsCheckError, IsImportError, KeepsFiles, import_check};
+ghost use Rattle.xet_shard_flush.specs.Importing.{Imports, IsImportError, KeepsFiles, import_check};
 ghost use Rattle.xet_shard_registration.specs.Refreshing.{IsUnloadedAmong, IsUnloadedDirectory, RegistersDirectory, RegistersNewest, RegistersPaths, StopsAmong, StopsInDirectory, StopsInPaths};
 ghost use Rattle.xet_shard_registration.specs.Registering.{AddsDue, AddsFirst, IsRegistrationError, RegistersAll, due, newest_first, registered_all};
 ghost use Rattle.xet_shard_registry.specs.Collections.{IsRegistryOf};
@@ -125,7 +125,7 @@ impl<D: Disk> ShardFileManager<D> {
         ensures checked { GivesUnlessDisk (λ _. tt) result (import_check bytes.now self.old.registry) }
         ensures kept { OnErr result ((shards : List Registered) → IsRegistryOf shards self.old.registry → IsRegistryOf shards self.new.registry) }
         ensures refused { self.old.tells ≡ true → OnErr result (MayAddShard self.old.files self.new.files self.old.folder bytes.now) }
-        ensures unwritten { self.old.tells ≡ true → IfErr result (λ e. IsCheckError e → self.new.files ≡ self.old.files) }
+        ensures unwritten { self.old.tells ≡ true → (e : StoreError) → import_check bytes.now self.old.registry ≡ Err e → self.new.files ≡ self.old.files }
         ensures safe { self.old.tells ≡ true → KeepsFiles self.old.files self.new.files self.old.folder bytes.now self.old.registry.files }
         ensures rest { self.new ≡ record self.old { files = self.new.files; registry = self.new.registry; faults = self.new.faults; room = 0 } }
         ensures later { self.old.faults ≤ self.new.faults }

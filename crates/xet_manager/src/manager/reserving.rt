@@ -15,8 +15,8 @@ impl<D: Disk> ShardFileManager<D> {
     /// Takes the memory for one `flush` of what is pending, and for adding, after it or without it, one xorb or file
     /// whose record has at most so many bytes. The flush then takes memory only as the disk does, and the adding takes
     /// none. This ends when a record is added, when shards are registered, when another time is passed, and after a
-    /// flush that failed; after one that did not, the memory for the record is there still. What is pending is encoded.
-    /// The only error is `OutOfMemory`. The same shards are registered in either case.
+    /// flush that failed; after one that did not, the memory for the record is there still. That later calls take no memory
+    /// is by the code. What is pending is encoded. The only error is `OutOfMemory`. The same shards are registered in either case.
     pub fn reserve(&mut self, bytes: u64) -> Result<(), StoreError>
         ensures room { OnOk result (self.new.room ≡ max self.old.room bytes) }
         ensures kept { OnErr result (self.new.room ≡ self.old.room) }

@@ -27,7 +27,7 @@ impl<D: Disk> Store<D> {
         ensures flushed { IfOk result (λ h. IfSome h (λ shard. IsFlushed self.old shard self.new)) }
         ensures refused { OnErr result (IsUnflushed self.old self.new) }
         ensures keeps { Keeps self.old self.new }
-        ensures full { IsFull self.old → IsErrOf result (StoreError.TooLarge What.Shards) }
+        ensures full { IsFull self.old → IsErrOf result (StoreError.TooLarge What.Shards) × (self.new ≡ self.old) }
         ensures reason { IfErr result (IsFlushError self.old self.new.faults) }
     {
         if self.pending.is_empty() {
