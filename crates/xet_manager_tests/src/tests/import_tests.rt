@@ -5,7 +5,7 @@ use crate::tests::samples::{
 };
 use std::alloc::Global;
 use std::test::Fail;
-use xet_hash::{MerkleHash, StoreError, compute_data_hash};
+use xet_hash::{MerkleHash, Reason, StoreError, compute_data_hash};
 use xet_io::MemoryDisk;
 
 /// Whether the shard of these bytes is imported under its path.
@@ -50,6 +50,42 @@ fn shard_is_imported_once(rt: HostRuntime) -> Result<(), Fail> {
     let answer = imported_into_empty(rt.alloc())?;
     let with_abc = (true, (1, [3, 3]), Some(1));
     assert_eq!(rt; answer, [(true, (0, [0, 0]), None), with_abc, with_abc]);
+    Ok(())
+}
+
+/// The errors of importing no bytes, and the shard of `abc` with another first byte or without its last.
+fn refused(alloc: Global, manager: &mut Manager) -> Result<[Option<StoreError>; 3], StoreError> {
+    let mut bytes = bytes_of_abc(alloc)?;
+    let front = bytes.get(..671).unwrap_or(&[]);
+    let short = manager.import_shard_from_bytes(front).err();
+    if let Some(first) = bytes.first_mut() {
+        *first ^= 1;
+    }
+    Ok([
+        manager.import_shard_from_bytes(&[]).err(),
+        manager.import_shard_from_bytes(&bytes).err(),
+        short,
+    ])
+}
+
+/// The same, with what is seen of the manager after it.
+fn refused_by_empty(alloc: Global) -> Result<([Option<StoreError>; 3], Seen), StoreError> {
+    let mut manager = opened(alloc, MemoryDisk::new(alloc), 10_000, true)?;
+    let errors = refused(alloc, &mut manager);
+    let after = seen(&mut manager);
+    release(manager);
+    Ok((errors?, after?))
+}
+
+#[test]
+fn malformed_shard_is_not_imported(rt: HostRuntime) -> Result<(), Fail> {
+    let (errors, after) = refused_by_empty(rt.alloc())?;
+    let expected = [
+        Some(StoreError::UnexpectedEof),
+        Some(StoreError::MalformedData(Reason::Tag)),
+        Some(StoreError::MalformedData(Reason::ShardVersion)),
+    ];
+    assert_eq!(rt; (errors, after), (expected, (true, (0, [0, 0]), None)));
     Ok(())
 }
 

@@ -3,7 +3,7 @@
 use crate::tests::shard_files::{close, release, written};
 use std::alloc::Global;
 use std::test::Fail;
-use xet_hash::StoreError;
+use xet_hash::{MerkleHash, StoreError, compute_data_hash};
 use xet_io::{Disk, MemoryDisk, ReadAt};
 use xet_shard_directory::{MDBShardFile, ReaderIfPresent};
 
@@ -15,7 +15,28 @@ fn reader_length(disk: &mut MemoryDisk, shard: &MDBShardFile) -> Result<u64, Sto
     }
 }
 
-/// The same, or none if there is no file.
+/// The digest of the first 672 bytes that the reader of a shard file has, and how many bytes were read.
+fn read_by(disk: &mut MemoryDisk, shard: &MDBShardFile) -> Result<(MerkleHash, usize), StoreError> {
+    let mut bytes = [0; 672];
+    match shard.get_reader(disk) {
+        Ok(mut reader) => {
+            let count = reader.read_at(0, &mut bytes).unwrap_or(0);
+            Ok((compute_data_hash(&bytes), count))
+        }
+        Err(refused) => Err(refused.into_error()),
+    }
+}
+
+/// Whether the reader of the shard of `abc` reads all the bytes of which the file is named.
+fn reads_named_bytes(alloc: Global, disk: &mut MemoryDisk) -> Result<bool, StoreError> {
+    let shard = written(alloc, disk)?;
+    let read = read_by(disk, &shard);
+    let hash = shard.shard_hash;
+    close(shard);
+    Ok(read? == (hash, 672))
+}
+
+/// The same length, or none if there is no file.
 fn length_if_present(
     disk: &mut MemoryDisk,
     shard: &MDBShardFile,
@@ -57,6 +78,16 @@ fn reader_has_the_file(rt: HostRuntime) -> Result<(), Fail> {
     let answer = written_and_read(alloc, &mut disk, false);
     release(disk);
     assert_eq!(rt; answer?, (Ok(672), Some(672)));
+    Ok(())
+}
+
+#[test]
+fn reader_reads_the_named_bytes(rt: HostRuntime) -> Result<(), Fail> {
+    let alloc = rt.alloc();
+    let mut disk = MemoryDisk::new(alloc);
+    let answer = reads_named_bytes(alloc, &mut disk);
+    release(disk);
+    assert_eq!(rt; answer?, true);
     Ok(())
 }
 
