@@ -1,23 +1,14 @@
 -- What a holder has seen after calls, and the calls among its own entries.
-use Rattle.std.proofs.Common.{◌≡◌, ◌∙◌, ℕ, suc, ◌+◌, Bool, true, false, List, [], ◌∷◌, ◌++◌, drop, length, refl, sym, ap, add-zero, append_assoc, length-append, arith}
+use Rattle.std.proofs.Common.{◌≡◌, ◌∙◌, ℕ, ◌+◌, Bool, true, false, List, [], ◌∷◌, ◌++◌, drop, length, sym, ap, append_assoc, length-append, arith}
 use Rattle.std.proofs.Math.Seq.{drop-append_seam}
 use Rattle.std.proofs.lemmas.List.{append-nil}
-use Rattle.xet_choices.specs.Calls.{Call}
 use Rattle.xet_history.specs.History.{after_all}
 use Rattle.xet_history.specs.declared.entry.Entry.{Entry}
 use Rattle.xet_steps.specs.Recorded.{RecordedState, core_of}
 use Rattle.xet_steps.specs.Steps.{Steps}
 use Rattle.xet_stepping.specs.Alone.{IsAlone, alone_of}
-use Rattle.xet_stepping.specs.Holders.{Holder, call_at, calls_in, core_at, core_found, ended, grown, numbered}
-
-pub numbered-append : (n : ℕ) (xs ys : List Entry) → numbered n (xs ++ ys) ≡ numbered n xs ++ numbered (n + length xs) ys
-numbered-append n [] ys = ap (λ (k : ℕ). numbered k ys) (sym (add-zero n))
-numbered-append n (x ∷ xs) ys =
-    ap (λ (l : List (ℕ × Entry)). (n, x) ∷ l) (numbered-append (suc n) xs ys ∙ ap (λ (k : ℕ). numbered (suc n) xs ++ numbered k ys) (omega arith))
-
-pub calls_in-append : (xs ys : List (ℕ × Entry)) → calls_in (xs ++ ys) ≡ calls_in xs ++ calls_in ys
-calls_in-append [] ys = refl
-calls_in-append (x ∷ xs) ys = ap (λ (l : List Call). call_at x.0 x.1 ++ l) (calls_in-append xs ys) ∙ sym (append_assoc (call_at x.0 x.1) (calls_in xs) (calls_in ys))
+use Rattle.xet_stepping.specs.Holders.{Holder, core_at, core_found, ended, grown, numbered}
+use Rattle.xet_stepping.specs.theorems.Following.{numbered-append}
 
 -- the entries since the beginning
 pub since_is : (first since all : List Entry) → all ≡ first ++ since → drop (length first) all ≡ since

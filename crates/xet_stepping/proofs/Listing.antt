@@ -27,7 +27,7 @@ use Rattle.xet_xorb.specs.Raw.{raw_leaves}
 use Rattle.xet_xorb.specs.declared.raw.RawXorbData.{RawXorbData}
 use Rattle.xet_stepping.specs.Asking.{IsErrorSince, IsRefused, Stands}
 use Rattle.xet_stepping.specs.Holders.{Follows, FollowsAsking, Holder, core_at, lengths_in, seen, xorb_limits}
-use Rattle.xet_stepping.proofs.Following.{asking_then}
+use Rattle.xet_stepping.specs.theorems.Following.{asking_then}
 
 abbrev Leaves : Type 0
 Leaves = List (List ℕ × ℕ)

@@ -27,7 +27,7 @@ use Rattle.xet_stepping.specs.Stepping.{IsStepReason, SawError, cut_to_register,
 use Rattle.xet_stepping.proofs.Calls.{failure_calling}
 use Rattle.xet_stepping.proofs.Entries.{cut_if_new}
 use Rattle.xet_stepping.proofs.Following.{asking_ended}
-use Rattle.xet_stepping.proofs.Growing.{calls_in-append, numbered-append}
+use Rattle.xet_stepping.specs.theorems.Following.{calls_in-append, numbered-append}
 
 among_last : {X : Type 0} (xs : List X) (x : X) → IsAmong (xs ++ x ∷ []) x
 among_last xs x = (length xs, (omega (arith, length-append xs (x ∷ [])), sym (get_or-append_seam xs x [] x)))

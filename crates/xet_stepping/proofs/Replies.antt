@@ -12,7 +12,7 @@ use Rattle.xet_stepping.specs.Holders.{FollowsAsking, Holder, IsHolder, calls_of
 use Rattle.xet_stepping.specs.Stepping.{SawQuery, SawRegister}
 use Rattle.xet_stepping.proofs.Calls.{Calling, entries_before, query_calling, register_calling}
 use Rattle.xet_stepping.proofs.Following.{asking_grown}
-use Rattle.xet_stepping.proofs.Growing.{calls_in-append}
+use Rattle.xet_stepping.specs.theorems.Following.{calls_in-append}
 use Rattle.xet_stepping.proofs.Listing.{found_of}
 
 -- the call that some entries are is among the calls of a holder that has grown by them

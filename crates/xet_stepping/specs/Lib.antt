@@ -3,3 +3,4 @@ pub mod Stepping
 pub mod Asking
 pub mod Alone
 pub mod Coding
+pub mod theorems
