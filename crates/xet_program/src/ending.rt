@@ -1,6 +1,6 @@
 //! How a command ends: the status and the text.
 
-ghost use Rattle.std.specs.Prelude.{◌≡◌, ◌⊎◌, [], true, IfOk};
+ghost use Rattle.std.specs.Prelude.{◌≡◌, ◌⊎◌, [], IfOk};
 ghost use Rattle.xet_program.specs.Early.{bad_line_text, outcome};
 ghost use Rattle.xet_program.specs.Ending.{bad_shard_text, Prints};
 ghost use Rattle.xet_program.specs.internal.Stops.{answer_outcome, stop_of_error, stop_of_unread};

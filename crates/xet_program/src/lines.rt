@@ -1,6 +1,6 @@
 //! Parsing of the lines of an input.
 
-ghost use Rattle.std.specs.Prelude.{◌≡◌, ℕ, ◌<◌, ◌∷◌, [], length, IfErr, IfOk, IfNone, IfSome, OnOk, IsOkUnless, MatchBool, None, Some, IsTrue, ◌↔◌};
+ghost use Rattle.std.specs.Prelude.{◌≡◌, ◌<◌, ◌∷◌, [], length, IfErr, IfOk, IfNone, IfSome, OnOk, IsOkUnless, MatchBool, None, Some, IsTrue, ◌↔◌};
 ghost use Rattle.std.specs.Option.{option_map};
 ghost use Rattle.std.specs.Str.Lines.{lines, strip_carriage_return};
 ghost use Rattle.xet_program.specs.Lines.{file_bytes, first_bad, good_lines, range_by, range_of, words_of};
