@@ -1,0 +1,55 @@
+-- A file of no bytes.
+use Rattle.std.proofs.Common.{◌≡◌, ℕ, Bool, true, List, [], refl, sym, subst, arith}
+use Rattle.xet_cut.specs.Limits.{AreInRange}
+use Rattle.xet_cut.specs.Streams.{IsSplit, Splitting}
+use Rattle.xet_cut.specs.declared.limits.LimitSettings.{LimitSettings}
+use Rattle.xet_cut.specs.theorems.FirstBoundary.{none_in_nothing}
+use Rattle.xet_dedup.specs.Deduping.{IsDeduped}
+use Rattle.xet_file_plan.specs.Moves.{PlanState, empty_plan}
+use Rattle.xet_stepping.specs.Asking.{Stands}
+use Rattle.xet_stepping.specs.Holders.{Holder, calls_of, core_at, lengths_in, xorb_limits}
+use Rattle.xet_stepping.specs.theorems.Following.{asking_nothing}
+use Rattle.xet_clean.specs.internal.Cleaner.{IsCleaning}
+
+abbrev IsDedupedAt : Holder → PlanState → Type 0
+IsDedupedAt h plan = IsDeduped (lengths_in (core_at h)) (Stands h) (calls_of h) (calls_of h) (xorb_limits h.limits) plan
+
+no_bytes_split : (s : LimitSettings) → AreInRange s → IsSplit s [] [] []
+no_bytes_split s range = record { joined = λ rest. refl; none = none_in_nothing s range.minimum_from range.minimum_to }
+
+-- the empty plan, and no bytes buffered
+begins_empty : (h : Holder) (holds : List ℕ → Type 0) → holds [] → AreInRange h.limits → IsDedupedAt h (empty_plan h.limits)
+    → IsCleaning h h true (empty_plan h.limits) (0, 0) (record { settings = h.limits; buffered = [] }) holds 0 []
+unfolding asking_nothing
+begins_empty h holds held range deduped = record {
+  is_whole = refl;
+  none_global = refl;
+  counted = refl;
+  range = range;
+  short = omega arith;
+  hashed = held;
+  settings = refl;
+  same = refl;
+  parts = [];
+  split = no_bytes_split h.limits range;
+  leaves = refl;
+  long = tt;
+  taken = refl;
+  deduped = deduped;
+  follows = asking_nothing h;
+  passed = refl;
+  asked = omega arith;
+  nexts = tt;
+  lands = tt;
+  few = omega arith;
+}
+
+pub cleaning_begins : (h : Holder) (whole : Bool) (plan : PlanState) (global : ℕ × ℕ) (splitting : Splitting) (holds : List ℕ → Type 0) (count : ℕ) → whole ≡ true → plan ≡ empty_plan h.limits → global ≡ (0, 0)
+    → splitting ≡ record { settings = h.limits; buffered = [] } → count ≡ 0 → holds [] → AreInRange h.limits → IsDedupedAt h plan → IsCleaning h h whole plan global splitting holds count []
+cleaning_begins h whole plan global splitting holds count is_whole empty none nothing zero held range deduped =
+    subst (λ (w : Bool). IsCleaning h h w plan global splitting holds count []) (sym is_whole)
+    (subst (λ (p : PlanState). IsCleaning h h true p global splitting holds count []) (sym empty)
+    (subst (λ (x : ℕ × ℕ). IsCleaning h h true (empty_plan h.limits) x splitting holds count []) (sym none)
+    (subst (λ (s : Splitting). IsCleaning h h true (empty_plan h.limits) (0, 0) s holds count []) (sym nothing)
+    (subst (λ (n : ℕ). IsCleaning h h true (empty_plan h.limits) (0, 0) (record { settings = h.limits; buffered = [] }) holds n []) (sym zero)
+    (begins_empty h holds held range (subst (IsDedupedAt h) empty deduped))))))

@@ -1,0 +1,91 @@
+-- What is listed and what stands stays when a holder goes on; so do records that wait.
+use Rattle.std.proofs.Common.{◌≡◌, ◌∙◌, inl, inr, ℕ, List, [], ◌∷◌, ◌++◌, map, Option, Some, None, option_map, refl, sym, ap, subst, arith}
+use Rattle.std.specs.Prelude.{Any}
+use Rattle.std.proofs.lemmas.List.Elements.{Contains-append_left, Contains-append_right}
+use Rattle.xet_choices.specs.Choices.{hashes_of}
+use Rattle.xet_file_plan.specs.Placed.{ArePlaced}
+use Rattle.xet_file_plan.specs.theorems.Placed.{placed_stays}
+use Rattle.xet_file_plan.specs.theorems.Runs.{hashes_known}
+use Rattle.xet_folder.specs.Xorbs.{IsListed, found}
+use Rattle.xet_history.specs.Core.{Core, RegisteredShard}
+use Rattle.xet_history.specs.Found.{key_of}
+use Rattle.xet_history.specs.History.{after_all}
+use Rattle.xet_history.specs.Sound.{IsKey}
+use Rattle.xet_history.specs.theorems.Joining.{after_all-append}
+use Rattle.xet_history.specs.theorems.Staying.{listed_after_all, shards_after_all}
+use Rattle.xet_shard_format.specs.declared.record.FileDataSequenceEntry.{FileDataSequenceEntry as Segment}
+use Rattle.xet_shard_format.specs.declared.record.MDBFileInfo.{MDBFileInfo}
+use Rattle.xet_xorb_chunk.specs.declared.chunk.Chunk.{Chunk}
+use Rattle.xet_stepping.specs.Asking.{Stands}
+use Rattle.xet_stepping.specs.Holders.{Follows, Holder, core_at, lengths_in}
+use Rattle.xet_stepping.specs.theorems.Following.{follows_then}
+use Rattle.xet_clean.specs.internal.Working.{IsRecordOf, Planned, Waits, WasPlanned}
+
+abbrev Leaves : Type 0
+Leaves = List (List ℕ × ℕ)
+
+-- ---- one of several
+
+pub any_more : {X : Type 0} (P Q : X → Type 0) (xs : List X) → ((x : X) → P x → Q x) → Any P xs → Any Q xs
+any_more P Q xs f a = (a.0, a.1, a.2, a.3, f a.1 a.4)
+
+pub any_left : {X : Type 0} (P : X → Type 0) (xs ys : List X) → Any P xs → Any P (xs ++ ys)
+any_left P xs ys a = let at = Contains-append_left xs ys a.1 (a.0, a.2, a.3) in (at.0, a.1, at.1, at.2, a.4)
+
+pub any_last : {X : Type 0} (P : X → Type 0) (xs : List X) (x : X) → P x → Any P (xs ++ x ∷ [])
+any_last P xs x p = let at = Contains-append_right xs (x ∷ []) x (0, omega arith, refl) in (at.0, x, at.1, at.2, p)
+
+-- ---- a holder that goes on
+
+module _ (a b : Holder) (f : Follows a b) where
+  core_follows : core_at b ≡ after_all (core_at a) f.since
+  core_follows = ap core_at f.is ∙ after_all-append a.base a.since f.since
+
+  tells_follow : b.tells ≡ a.tells
+  tells_follow = ap (λ (h : Holder). h.tells) f.is
+
+  pub limits_follow : b.limits ≡ a.limits
+  limits_follow = ap (λ (h : Holder). h.limits) f.is
+
+  pub number_follows : b.number ≡ a.number
+  number_follows = ap (λ (h : Holder). h.number) f.is
+
+  pub own_follows : b.own ≡ a.own ++ f.own
+  own_follows = ap (λ (h : Holder). h.own) f.is
+
+  listed_follows : (h : List ℕ) (leaves : Leaves) → IsListed (core_at a).xorbs h leaves → IsListed (core_at b).xorbs h leaves
+  listed_follows h leaves is = subst (λ (c : Core). IsListed c.xorbs h leaves) (sym core_follows) (listed_after_all (core_at a) f.since h leaves is)
+
+  pub lengths_follow : (h lengths : List ℕ) → lengths_in (core_at a) h ≡ Some lengths → lengths_in (core_at b) h ≡ Some lengths
+  lengths_follow h lengths is = go (found (core_at a).xorbs h) refl is
+    where
+      go : (o : Option Leaves) → found (core_at a).xorbs h ≡ o → option_map (λ (leaves : Leaves). map (λ m. m.1) leaves) o ≡ Some lengths → lengths_in (core_at b) h ≡ Some lengths
+      go None at e = absurd (cc e)
+      go (Some leaves) at e = ap (λ (o : Option Leaves). option_map (λ (ls : Leaves). map (λ m. m.1) ls) o) (listed_follows h leaves at) ∙ e
+
+  key_follows : (key : List ℕ) → IsKey (core_at a) key → IsKey (core_at b) key
+  key_follows key (inl zero) = inl zero
+  key_follows key (inr any) =
+      let more = shards_after_all (core_at a) f.since in
+      let at = Contains-append_left (core_at a).shards more.0 any.1 (any.0, any.2, any.3) in
+      inr (subst (λ (ss : List RegisteredShard). Any (λ s. key_of s ≡ key) ss) (more.1 ∙ ap (λ (c : Core). c.shards) (sym core_follows)) (at.0, any.1, at.1, at.2, any.4))
+
+  pub stands_follow : (hashes : List (List ℕ)) (run : Segment) → Stands a hashes run → Stands b hashes run
+  stands_follow hashes run stands told =
+      let s = stands (sym tells_follow ∙ told) in
+      record { leaves = s.leaves; listed = listed_follows run.xorb_hash s.leaves s.listed; key = s.key; is_key = key_follows s.key s.is_key; same = s.same }
+
+  -- what is placed stays placed
+  pub placed_follows : (chunks : List Chunk) (ss : List Segment) (hashes : List (List ℕ)) → ArePlaced (lengths_in (core_at a)) (Stands a) chunks ss hashes → ArePlaced (lengths_in (core_at b)) (Stands b) chunks ss hashes
+  placed_follows chunks =
+      placed_stays (lengths_in (core_at a)) (lengths_in (core_at b)) (Stands a) (Stands b) chunks chunks
+      (λ s hashes pos h. hashes_known (lengths_in (core_at a)) (lengths_in (core_at b)) (Stands a) (Stands b) lengths_follow stands_follow chunks s hashes h)
+
+  pub waits_follow : (chunks : List Chunk) (files : List Planned) (file : MDBFileInfo) → Waits a chunks files file → Waits b chunks files file
+  waits_follow chunks files file =
+      any_more (λ (p : Planned). IsRecordOf p file × ArePlaced (lengths_in (core_at a)) (Stands a) chunks file.segments (hashes_of p.plan.leaves))
+      (λ (p : Planned). IsRecordOf p file × ArePlaced (lengths_in (core_at b)) (Stands b) chunks file.segments (hashes_of p.plan.leaves)) files
+      (λ p w. (w.0, placed_follows chunks file.segments (hashes_of p.plan.leaves) w.1))
+
+  pub was_planned_follows : (start : Holder) (p : Planned) → WasPlanned start a p → WasPlanned start b p
+  was_planned_follows start p w = record { first = w.first; last = w.last; planned = w.planned; from = w.from; to = follows_then w.last a b w.to f }

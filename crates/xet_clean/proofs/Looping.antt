@@ -1,0 +1,455 @@
+-- The loop over the sources: what was made of the first, and what is known where it ends.
+use Rattle.std.proofs.Common.{◌≡◌, ◌≢◌, ◌∙◌, ◌⊎◌, inl, inr, ℕ, ◌+◌, ◌*◌, ◌≤◌, ◌<◌, Bool, true, false, List, [], ◌∷◌, ◌++◌, length, map, get_or, set, refl, sym, ap, subst, append-nil, length-append, append_assoc, arith}
+use Rattle.std.proofs.lemmas.List.{length-map, nil_from_length}
+use Rattle.std.proofs.lemmas.List.Sums.{sum_by-append, sum_by-cons}
+use Rattle.std.specs.List.{AllByRecursion, sum_by}
+use Rattle.xet_aggregate.specs.Aggregate.{Aggregate, empty}
+use Rattle.xet_aggregate.specs.Metrics.{zeros}
+use Rattle.xet_aggregate.specs.declared.metrics.DeduplicationMetrics.{DeduplicationMetrics}
+use Rattle.xet_base.specs.theorems.Elements.{all_both, all_more}
+use Rattle.xet_choices.specs.declared.choice.Choice.{Choice}
+use Rattle.xet_cut.specs.Chunking.{chunking}
+use Rattle.xet_cut.specs.declared.limits.LimitSettings.{LimitSettings}
+use Rattle.xet_file_plan.specs.Moves.{PlanState}
+use Rattle.xet_hash.specs.Merkle.{leaf_of}
+use Rattle.xet_hash.specs.declared.error.Place.TheVariants as place
+use Rattle.xet_hash.specs.declared.error.Reason.TheVariants.{OtherFileHash}
+use Rattle.xet_hash.specs.declared.error.StoreError.{StoreError}
+use Rattle.xet_hash.specs.declared.error.StoreError.TheVariants.{Io, MalformedData, OutOfMemory, TooLarge}
+use Rattle.xet_hash.specs.declared.error.What.TheVariants as what
+use Rattle.xet_history.specs.declared.entry.Entry.{Entry}
+use Rattle.xet_history.specs.declared.entry.Entry.TheVariants.{Query, Register, Complete, Flush, Fault}
+use Rattle.xet_io.specs.Faults.{Rose}
+use Rattle.xet_store.specs.Cleaning.{AreTaken, EachTold, IsLongAt, Later, RoseAt}
+use Rattle.xet_store.specs.Separate.{Among}
+use Rattle.xet_store.specs.declared.info.XetFileInfo.{XetFileInfo}
+use Rattle.xet_store.specs.theorems.Rows.{among_more}
+use Rattle.xet_stepping.specs.Asking.{IsErrorSince}
+use Rattle.xet_stepping.specs.Holders.{Follows, FollowsAsking, Holder, IsCall}
+use Rattle.xet_stepping.specs.theorems.Following.{follows_nothing, follows_then}
+use Rattle.xet_clean.specs.Cleaning.{RecordsFile}
+use Rattle.xet_clean.specs.Files.{IsFew, IsPlanned, IsWithin}
+use Rattle.xet_clean.specs.internal.Closing.{Closes, IsAtMost, IsClosingError, IsUnclosed, RecordsAmong, RegistersChunks, filled_files}
+use Rattle.xet_clean.specs.internal.Sources.{AreRead, IsCutShort, IsLoopError, IsSourceError, IsUnclosedFor}
+use Rattle.xet_clean.specs.internal.Working.{EndsWith, IsWorking, Planned, RecordsOne, WasPlanned, Waits}
+use Rattle.xet_clean.proofs.Closing.{error_earlier}
+use Rattle.xet_clean.proofs.Ending.{among_made, records_one, was_planned_still}
+use Rattle.xet_clean.proofs.GoingOn.{waits_later}
+use Rattle.xet_clean.proofs.Hashes.{chunks_sum, file_of}
+use Rattle.xet_clean.proofs.Recording.{grown_follows}
+use Rattle.xet_clean.proofs.Turns.{AreDone, AreFrom, IsDone, IsTakenFrom, at_length, done_counts, done_push, done_read, done_told, from_then, later_all, long_at, rose_at, set_at_length, taken_all, taken_each, tell_all, untouched}
+
+-- ---- nothing was cleaned yet
+
+pub nothing_cleaned : (h : Holder) → h.stopped ≡ false → IsWorking h h [] [] [] zeros empty
+unfolding follows_nothing
+nothing_cleaned h going = record {
+  follows = follows_nothing h;
+  going = going;
+  pointers = refl;
+  chosen = refl;
+  once = λ k below. absurd (omega (arith, below));
+  sums = refl;
+  planned = tt;
+  recorded = tt;
+  only = tt;
+  waits = tt;
+  aggregate = record { parts = record { count = omega arith; small = tt; total = omega arith }; boundaries = tt; runs = tt };
+  within = record { within = record { bytes = omega arith; count = omega arith; small = tt }; hashed = tt };
+  forms = tt;
+  nothing = λ none. refl;
+  few_files = omega arith;
+  lands = tt;
+  new = refl;
+  bound = omega arith;
+}
+
+-- ---- what an error says
+
+-- what an aggregate's registration leaves
+registers_follow : (a : Aggregate) (next : List (List ℕ × ℕ)) (old new : Holder) → RegistersChunks a next old new → Follows old new
+registers_follow a next old new (inl r) = subst (λ (h : Holder). Follows old h) (sym r.1) (follows_nothing old)
+registers_follow a next old new (inr r) = grown_follows old new r.2.others _ r.2.is
+
+-- no file was refused, unless the error says so
+unclosed_since : (a : Aggregate) (next : List (List ℕ × ℕ)) (start old new : Holder) (e : StoreError) → Follows start old → e ≢ MalformedData OtherFileHash → IsUnclosed a next old new e → IsErrorSince start new e
+unclosed_since a next start old new e follows other u = go u.1
+  where
+    closing : (mid : Holder) → Follows start mid → IsClosingError (filled_files a) mid new e → IsErrorSince start new e
+    closing mid later (inl refused) = absurd (other refused.4.error)
+    closing mid later (inr is) = error_earlier start mid new later e is
+
+    go : ((mid : Holder) × RegistersChunks a next old mid × IsClosingError (filled_files a) mid new e) ⊎ IsErrorSince old new e → IsErrorSince start new e
+    go (inl c) = closing c.0 (follows_then start old c.0 follows (registers_follow a next old c.0 c.1)) c.2
+    go (inr is) = error_earlier start old new follows e is
+
+module _ {S : Type 0} (tells : S → Bool) (left : S → List ℕ) (faults : S → ℕ) where
+  -- Of these sources the first were read to their ends, and this was made of them. The others are untouched.
+  pub record IsLoop (sources now : List S) (n : ℕ) (start h : Holder) (infos : List XetFileInfo) (choices : List (List Choice)) (metrics : DeduplicationMetrics) (a : Aggregate) : Type 0 where
+    pub done : List S
+    pub made : List S
+    pub rest : List S
+    pub files : List Planned
+    pub old_is : sources ≡ done ++ rest
+    pub now_is : now ≡ made ++ rest
+    pub are : AreDone tells left faults start.limits.max_source_bytes done made files
+    pub count : length files ≡ n
+    pub working : IsWorking start h files infos choices metrics a
+
+  pub loop_begins : (sources : List S) (start : Holder) → start.stopped ≡ false → IsLoop sources sources 0 start start [] [] zeros empty
+  loop_begins sources start going =
+      record { done = []; made = []; rest = sources; files = []; old_is = refl; now_is = refl; are = tt; count = refl; working = nothing_cleaned start going }
+
+  -- Why the loop ended, and what is known then.
+  pub record IsStopped (sources now : List S) (start h : Holder) (e : StoreError) : Type 0 where
+    pub follows : Follows start h
+    pub short : IsCutShort tells left sources now start h
+    pub tell : map tells now ≡ map tells sources
+    pub taken : AreTaken tells left sources now
+    pub later : Later faults sources now
+    pub reason : IsLoopError tells left faults sources now start h e
+
+  -- nothing was done, for want of memory
+  pub stopped_before : (sources : List S) (start : Holder) → IsStopped sources sources start start OutOfMemory
+  unfolding follows_nothing
+  stopped_before sources start =
+      let files : List (List ℕ) = map (λ (s : S). []) sources in
+      let all = untouched tells left faults sources in
+      record {
+        follows = follows_nothing start;
+        short = record { files = files; taken = taken_each tells left faults sources sources files all; few = (follows_nothing start, omega arith); only = tt };
+        tell = refl;
+        taken = taken_all tells left faults sources sources files all;
+        later = later_all tells left faults sources sources files all;
+        reason = tt;
+      }
+
+  module _ (sources now : List S) (n : ℕ) (start h : Holder) (infos : List XetFileInfo) (choices : List (List Choice)) (metrics : DeduplicationMetrics) (a : Aggregate)
+      (l : IsLoop sources now n start h infos choices metrics a) where
+    abbrev w : IsWorking start h l.files infos choices metrics a
+    w = l.working
+
+    counts : (length l.done ≡ n) × (length l.made ≡ n)
+    counts = let c = done_counts tells left faults start.limits.max_source_bytes l.done l.made l.files l.are in (c.0 ∙ l.count, c.1 ∙ l.count)
+
+    -- ---- what was recorded
+
+    abbrev files_for : List (List ℕ) → List (List ℕ)
+    files_for bytes = map (λ (f : Planned). f.bytes) l.files ++ bytes
+
+    have_file : (bytes : List (List ℕ)) (f : Planned) → Among l.files f → Among (files_for bytes) f.bytes
+    have_file bytes f among = among_more (map (λ (g : Planned). g.bytes) l.files) bytes f.bytes (among_made (λ (g : Planned). g.bytes) l.files f among)
+
+    old_files : (bytes : List (List ℕ)) → AllByRecursion (λ p. RecordsFile start.limits (files_for bytes) p.1) w.follows.own
+    old_files bytes =
+        all_more (λ (p : ℕ × Entry). RecordsOne l.files p.1) (λ (p : ℕ × Entry). RecordsFile start.limits (files_for bytes) p.1) w.follows.own
+        (λ p one. file_of start h w.follows l.files w.planned (files_for bytes) (have_file bytes) p.1 one) w.only
+
+    -- a call of the deduplication of a file records nothing
+    call_file : (files : List (List ℕ)) (e : Entry) → IsCall e → RecordsFile start.limits files e
+    call_file files (Query pass query reply) is = tt
+    call_file files (Register pass chunks next added) is = tt
+    call_file files (Complete pass file added) is = absurd is
+    call_file files (Flush pass shard) is = tt
+    call_file files (Fault pass kind) is = tt
+
+    call_files : (files : List (List ℕ)) (own : List (ℕ × Entry)) → AllByRecursion (λ p. IsCall p.1) own → AllByRecursion (λ p. RecordsFile start.limits files p.1) own
+    call_files files own = all_more (λ (p : ℕ × Entry). IsCall p.1) (λ (p : ℕ × Entry). RecordsFile start.limits files p.1) own (λ p is. call_file files p.1 is)
+
+    -- what an aggregate recorded that was not closed
+    unclosed_files : (bytes : List (List ℕ)) (own : List (ℕ × Entry)) → AllByRecursion (λ p. RecordsAmong (filled_files a) p.1) own → AllByRecursion (λ p. RecordsFile start.limits (files_for bytes) p.1) own
+    unclosed_files bytes own =
+        all_more (λ (p : ℕ × Entry). RecordsAmong (filled_files a) p.1) (λ (p : ℕ × Entry). RecordsFile start.limits (files_for bytes) p.1) own
+        (λ p is. file_of start h w.follows l.files w.planned (files_for bytes) (have_file bytes) p.1 (records_one h l.files a w.waits p.1 is))
+
+    -- ---- the numbers of entries
+
+    abbrev sum_for : List (List ℕ) → ℕ
+    sum_for files = sum_by (λ f. length (chunking start.limits f)) files
+
+    few_old : length w.follows.own + (2 * length a.chunks + 2 * length a.files) ≤ 3 * sum_for (map (λ (f : Planned). f.bytes) l.files) + 2 * length l.files
+    few_old = omega (arith, w.bound, chunks_sum start h w.follows l.files w.planned)
+
+    few_with : (bytes : List (List ℕ)) (most : ℕ) → most ≤ 3 * sum_for (map (λ (f : Planned). f.bytes) l.files) + 2 * length l.files + (3 * sum_for bytes + 2 * length bytes)
+        → most ≤ 3 * sum_for (map (λ (f : Planned). f.bytes) l.files ++ bytes) + 2 * length (map (λ (f : Planned). f.bytes) l.files ++ bytes)
+    few_with bytes most le =
+        omega (
+          arith,
+          le,
+          sum_by-append (λ (f : List ℕ). length (chunking start.limits f)) (map (λ (f : Planned). f.bytes) l.files) bytes,
+          length-append (map (λ (f : Planned). f.bytes) l.files) bytes,
+          length-map l.files (λ (f : Planned). f.bytes),
+        )
+
+    -- which records waited
+    unclosed_for : (first last : Holder) (next_leaves : List (List ℕ × ℕ)) (e : StoreError) → Follows h first → IsUnclosed a next_leaves first last e → IsUnclosedFor tells left sources start last e
+    unclosed_for first last next_leaves e later u =
+        let limits_same : first.limits ≡ h.limits = ap (λ (x : Holder). x.limits) later.is in
+        record {
+          done = l.done;
+          rest = l.rest;
+          order = l.old_is;
+          files = l.files;
+          told = done_told tells left faults start.limits.max_source_bytes l.done l.made l.files l.are;
+          before = first;
+          follows = follows_then start h first w.follows later;
+          planned = all_more (WasPlanned start h) (WasPlanned start first) l.files (was_planned_still start h first later) w.planned;
+          aggregate = a;
+          parts = w.aggregate;
+          within = subst (λ (s : LimitSettings). IsWithin s a.chunks) (sym limits_same) w.within;
+          waits = all_more (λ p. Waits h a.chunks l.files p.0) (λ p. Waits first a.chunks l.files p.0) a.files (λ p waits. waits_later h first later a.chunks l.files p.0 waits) w.waits;
+          next = next_leaves;
+          refused = u;
+        }
+
+    -- ---- the next source
+
+    -- there is one
+    pub record HasNext : Type 0 where
+      pub source : S
+      pub later : List S
+      pub is : l.rest ≡ source ∷ later
+
+    pub has_next : n < length sources → HasNext
+    has_next below = go l.rest refl
+      where
+        go : (rest : List S) → l.rest ≡ rest → HasNext
+        go [] e = absurd (omega (arith, below, ap length l.old_is, length-append l.done l.rest, ap length e, counts.0))
+        go (s ∷ later) e = record { source = s; later = later; is = e }
+
+    module _ (next : HasNext) where
+      sources_are : sources ≡ l.done ++ next.source ∷ next.later
+      sources_are = l.old_is ∙ ap (λ (r : List S). l.done ++ r) next.is
+
+      now_are : now ≡ l.made ++ next.source ∷ next.later
+      now_are = l.now_is ∙ ap (λ (r : List S). l.made ++ r) next.is
+
+      pub next_at : (d : S) → get_or now n d ≡ next.source
+      next_at d =
+          ap (λ (r : List S). get_or r n d) now_are
+          ∙ ap (λ (k : ℕ). get_or (l.made ++ next.source ∷ next.later) k d) (sym counts.1)
+          ∙ at_length l.made next.source d next.later
+
+      set_next : (t : S) → set now n t ≡ l.made ++ t ∷ next.later
+      set_next t =
+          ap (λ (r : List S). set r n t) now_are
+          ∙ ap (λ (k : ℕ). set (l.made ++ next.source ∷ next.later) k t) (sym counts.1)
+          ∙ set_at_length l.made next.source t next.later
+
+      -- what was taken of all sources, if these bytes were of this one
+      from_all : (t : S) (bytes : List ℕ) → IsTakenFrom tells left faults next.source t bytes
+          → AreFrom tells left faults sources (set now n t) (map (λ (f : Planned). f.bytes) l.files ++ bytes ∷ map (λ (s : S). []) next.later)
+      from_all t bytes from =
+          subst (λ (ts : List S). AreFrom tells left faults sources ts (map (λ (f : Planned). f.bytes) l.files ++ bytes ∷ map (λ (s : S). []) next.later)) (sym (set_next t))
+          (subst (λ (ss : List S). AreFrom tells left faults ss (l.made ++ t ∷ next.later) (map (λ (f : Planned). f.bytes) l.files ++ bytes ∷ map (λ (s : S). []) next.later)) (sym sources_are)
+          (from_then tells left faults start.limits.max_source_bytes l.done l.made l.files (next.source ∷ next.later) (t ∷ next.later) (bytes ∷ map (λ (s : S). []) next.later) l.are
+          (from, untouched tells left faults next.later)))
+
+      -- ---- one file more
+
+      pub loop_next : (t : S) (h' : Holder) (bytes : List ℕ) (plan : PlanState) (infos' : List XetFileInfo) (choices' : List (List Choice)) (metrics' : DeduplicationMetrics) (a' : Aggregate)
+          → IsDone tells left faults start.limits.max_source_bytes next.source t bytes → IsWorking start h' (l.files ++ (record { bytes = bytes; plan = plan }) ∷ []) infos' choices' metrics' a'
+          → IsLoop sources (set now n t) (n + 1) start h' infos' choices' metrics' a'
+      loop_next t h' bytes plan infos' choices' metrics' a' one more =
+          let f : Planned = record { bytes = bytes; plan = plan } in
+          record {
+            done = l.done ++ next.source ∷ [];
+            made = l.made ++ t ∷ [];
+            rest = next.later;
+            files = l.files ++ f ∷ [];
+            old_is = sources_are ∙ sym (append_assoc l.done (next.source ∷ []) next.later);
+            now_is = set_next t ∙ sym (append_assoc l.made (t ∷ []) next.later);
+            are = done_push tells left faults start.limits.max_source_bytes l.done l.made l.files next.source t f l.are one;
+            count = omega (arith, length-append l.files (f ∷ []), l.count);
+            working = more;
+          }
+
+      -- ---- the source was not cleaned
+
+      module _ (t : S) (h' : Holder) (bytes : List ℕ) (from : IsTakenFrom tells left faults next.source t bytes) where
+        abbrev after : List S
+        after = set now n t
+
+        abbrev all_bytes : List (List ℕ)
+        all_bytes = map (λ (f : Planned). f.bytes) l.files ++ bytes ∷ map (λ (s : S). []) next.later
+
+        -- the error names this source
+        rose_here : (i : ℕ) → i ≡ n → Rose (faults next.source) (faults t) → RoseAt faults sources (set now n t) i
+        rose_here i same rose =
+            subst (RoseAt faults sources (set now n t)) (counts.0 ∙ sym same)
+            (subst (λ (ts : List S). RoseAt faults sources ts (length l.done)) (sym (set_next t))
+            (subst (λ (ss : List S). RoseAt faults ss (l.made ++ t ∷ next.later) (length l.done)) (sym sources_are)
+            (rose_at tells left faults l.done l.made next.source t next.later next.later (counts.1 ∙ sym counts.0) rose)))
+
+        long_here : (i : ℕ) → i ≡ n → (tells next.source ≡ true → start.limits.max_source_bytes < length (left next.source)) → IsLongAt tells left sources start.limits.max_source_bytes i
+        long_here i same long =
+            subst (IsLongAt tells left sources start.limits.max_source_bytes) (counts.0 ∙ sym same)
+            (subst (λ (ss : List S). IsLongAt tells left ss start.limits.max_source_bytes (length l.done)) (sym sources_are)
+            (long_at tells left faults l.done next.source next.later start.limits.max_source_bytes long))
+
+        -- Its deduplication or its reading failed.
+        source_reason : (e : StoreError) → FollowsAsking h h' → IsSourceError n (tells next.source) (left next.source) (faults next.source) (faults t) h h' e
+            → IsLoopError tells left faults sources (set now n t) start h' e
+        source_reason (Io (place.Source i)) asking is = rose_here i is.0 is.1
+        source_reason (TooLarge (what.Source i)) asking is =
+            long_here i is.0 (subst (λ (s : LimitSettings). tells next.source ≡ true → s.max_source_bytes < length (left next.source)) (ap (λ (x : Holder). x.limits) w.follows.is) is.1)
+        source_reason (MalformedData OtherFileHash) asking is =
+            unclosed_for h h' [] (MalformedData OtherFileHash) (follows_nothing h)
+            (record { follows = asking.follows; only = all_more (λ (p : ℕ × Entry). IsCall p.1) (λ (p : ℕ × Entry). RecordsAmong (filled_files a) p.1) asking.follows.own (λ p call. call_among p.1 call) asking.none }, inr is)
+          where
+            call_among : (e : Entry) → IsCall e → RecordsAmong (filled_files a) e
+            call_among (Query pass query reply) call = tt
+            call_among (Register pass chunks next added) call = tt
+            call_among (Complete pass file added) call = absurd call
+            call_among (Flush pass shard) call = tt
+            call_among (Fault pass kind) call = tt
+        source_reason e asking is = error_earlier start h h' w.follows e is
+
+        pub stopped_at_source : (e : StoreError) → (asking : FollowsAsking h h') → IsFew h h' bytes → IsSourceError n (tells next.source) (left next.source) (faults next.source) (faults t) h h' e
+            → IsStopped sources (set now n t) start h' e
+        unfolding follows_then
+        stopped_at_source e asking few is =
+            let all = from_all t bytes from in
+            let rest : List (List ℕ) = bytes ∷ map (λ (s : S). []) next.later in
+            let one : length few.follows.follows.own ≤ 3 * length (chunking start.limits bytes) =
+            omega (
+              arith,
+              few.few,
+              ap (λ (s : LimitSettings). length (chunking s bytes)) (ap (λ (x : Holder). x.limits) few.follows.follows.is ∙ ap (λ (x : Holder). x.limits) w.follows.is),
+              length-map (chunking h'.limits bytes) leaf_of,
+            ) in
+            record {
+              follows = follows_then start h h' w.follows few.follows.follows;
+              short = record {
+                files = map (λ (f : Planned). f.bytes) l.files ++ rest;
+                taken = taken_each tells left faults sources (set now n t) (map (λ (f : Planned). f.bytes) l.files ++ rest) all;
+                few = (
+                  follows_then start h h' w.follows few.follows.follows,
+                  few_with rest (length (w.follows.own ++ few.follows.follows.own))
+                      (omega (arith, few_old, one, length-append w.follows.own few.follows.follows.own, sum_by-cons (λ (f : List ℕ). length (chunking start.limits f)) bytes (map (λ (s : S). []) next.later))),
+                );
+                only = all_both (λ p. RecordsFile start.limits (files_for rest) p.1) w.follows.own few.follows.follows.own (old_files rest) (call_files (files_for rest) few.follows.follows.own few.follows.none);
+              };
+              tell = tell_all tells left faults sources (set now n t) (map (λ (f : Planned). f.bytes) l.files ++ rest) all;
+              taken = taken_all tells left faults sources (set now n t) (map (λ (f : Planned). f.bytes) l.files ++ rest) all;
+              later = later_all tells left faults sources (set now n t) (map (λ (f : Planned). f.bytes) l.files ++ rest) all;
+              reason = source_reason e asking is;
+            }
+
+    -- ---- the aggregate was not closed
+
+    unclosed_reason : (after : List S) (first last : Holder) (next_leaves : List (List ℕ × ℕ)) (e : StoreError) → Follows h first → IsUnclosed a next_leaves first last e
+        → IsLoopError tells left faults sources after start last e
+    unclosed_reason after first last next_leaves (MalformedData OtherFileHash) later u =
+        unclosed_for first last next_leaves (MalformedData OtherFileHash) later u
+    unclosed_reason after first last next_leaves (Io (place.Source i)) later u = absurd (unclosed_since a next_leaves start first last (Io (place.Source i)) (follows_then start h first w.follows later) (λ same. cc same) u)
+    unclosed_reason after first last next_leaves (TooLarge (what.Source i)) later u = absurd (unclosed_since a next_leaves start first last (TooLarge (what.Source i)) (follows_then start h first w.follows later) (λ same. cc same) u)
+    unclosed_reason after first last next_leaves e later u = unclosed_since a next_leaves start first last e (follows_then start h first w.follows later) (λ same. cc same) u
+
+    -- the file joined no aggregate
+    pub stopped_at_keep : (next : HasNext) (t : S) (h' last : Holder) (bytes : List ℕ) (plan : PlanState) → IsTakenFrom tells left faults next.source t bytes → IsPlanned h h' bytes plan
+        → (next_leaves : List (List ℕ × ℕ)) (e : StoreError) → IsAtMost (2 * length a.chunks + 2 * length a.files) h' last → IsUnclosed a next_leaves h' last e → IsStopped sources (set now n t) start last e
+    unfolding follows_then
+    stopped_at_keep next t h' last bytes plan from planned next_leaves e few u =
+        let all = from_all next t bytes from in
+        let rest : List (List ℕ) = bytes ∷ map (λ (s : S). []) next.later in
+        let files : List (List ℕ) = map (λ (f : Planned). f.bytes) l.files ++ rest in
+        let p : Follows h h' = planned.follows.follows in
+        let r : Follows h' last = u.0.follows in
+        let whole : Follows start last = follows_then start h last w.follows (follows_then h h' last p r) in
+        let limits_same : h'.limits ≡ start.limits = ap (λ (x : Holder). x.limits) p.is ∙ ap (λ (x : Holder). x.limits) w.follows.is in
+        let one : length p.own ≤ 3 * length (chunking start.limits bytes) =
+        omega (arith, planned.few, ap length planned.leaves, ap (λ (s : LimitSettings). length (chunking s bytes)) limits_same, length-map (chunking h'.limits bytes) leaf_of) in
+        let more : length r.own ≤ 2 * length a.chunks + 2 * length a.files =
+        omega (
+          arith,
+          few.few,
+          ap (λ (x : Holder). length x.own) r.is,
+          ap (λ (x : Holder). length x.own) few.follows.is,
+          length-append h'.own r.own,
+          length-append h'.own few.follows.own,
+        ) in
+        record {
+          follows = whole;
+          short = record {
+            files = files;
+            taken = taken_each tells left faults sources (set now n t) files all;
+            few = (
+              whole,
+              few_with rest (length (w.follows.own ++ (p.own ++ r.own)))
+                  (omega (arith, few_old, one, more, length-append w.follows.own (p.own ++ r.own), length-append p.own r.own, sum_by-cons (λ (f : List ℕ). length (chunking start.limits f)) bytes (map (λ (s : S). []) next.later))),
+            );
+            only = all_both (λ e. RecordsFile start.limits (files_for rest) e.1) w.follows.own (p.own ++ r.own) (old_files rest)
+                (all_both (λ e. RecordsFile start.limits (files_for rest) e.1) p.own r.own (call_files (files_for rest) p.own planned.follows.none) (unclosed_files rest r.own u.0.only));
+          };
+          tell = tell_all tells left faults sources (set now n t) files all;
+          taken = taken_all tells left faults sources (set now n t) files all;
+          later = later_all tells left faults sources (set now n t) files all;
+          reason = unclosed_reason (set now n t) h' last next_leaves e p u;
+        }
+
+    -- what was taken of all sources where the loop ends
+    from_end : AreFrom tells left faults sources now (map (λ (f : Planned). f.bytes) l.files ++ map (λ (s : S). []) l.rest)
+    from_end =
+        subst (λ (ts : List S). AreFrom tells left faults sources ts (map (λ (f : Planned). f.bytes) l.files ++ map (λ (s : S). []) l.rest)) (sym l.now_is)
+        (subst (λ (ss : List S). AreFrom tells left faults ss (l.made ++ l.rest) (map (λ (f : Planned). f.bytes) l.files ++ map (λ (s : S). []) l.rest)) (sym l.old_is)
+        (from_then tells left faults start.limits.max_source_bytes l.done l.made l.files l.rest l.rest (map (λ (s : S). []) l.rest) l.are (untouched tells left faults l.rest)))
+
+    -- the last aggregate was not closed
+    pub stopped_at_end : (last : Holder) (e : StoreError) → IsAtMost (2 * length a.chunks + 2 * length a.files) h last → IsUnclosed a [] h last e → IsStopped sources now start last e
+    unfolding follows_then
+    stopped_at_end last e few u =
+        let rest : List (List ℕ) = map (λ (s : S). []) l.rest in
+        let files : List (List ℕ) = map (λ (f : Planned). f.bytes) l.files ++ rest in
+        let r : Follows h last = u.0.follows in
+        let whole : Follows start last = follows_then start h last w.follows r in
+        let more : length r.own ≤ 2 * length a.chunks + 2 * length a.files =
+        omega (arith, few.few, ap (λ (x : Holder). length x.own) r.is, ap (λ (x : Holder). length x.own) few.follows.is, length-append h.own r.own, length-append h.own few.follows.own) in
+        record {
+          follows = whole;
+          short = record {
+            files = files;
+            taken = taken_each tells left faults sources now files from_end;
+            few = (whole, few_with rest (length (w.follows.own ++ r.own)) (omega (arith, few_old, more, length-append w.follows.own r.own)));
+            only = all_both (λ e. RecordsFile start.limits (files_for rest) e.1) w.follows.own r.own (old_files rest) (unclosed_files rest r.own u.0.only);
+          };
+          tell = tell_all tells left faults sources now files from_end;
+          taken = taken_all tells left faults sources now files from_end;
+          later = later_all tells left faults sources now files from_end;
+          reason = unclosed_reason now h last [] e (follows_nothing h) u;
+        }
+
+    -- ---- the loop ends after the last source
+
+    pub tell_end : map tells now ≡ map tells sources
+    tell_end = tell_all tells left faults sources now (map (λ (f : Planned). f.bytes) l.files ++ map (λ (s : S). []) l.rest) from_end
+
+    pub taken_end : AreTaken tells left sources now
+    taken_end = taken_all tells left faults sources now (map (λ (f : Planned). f.bytes) l.files ++ map (λ (s : S). []) l.rest) from_end
+
+    pub later_end : Later faults sources now
+    later_end = later_all tells left faults sources now (map (λ (f : Planned). f.bytes) l.files ++ map (λ (s : S). []) l.rest) from_end
+
+    module _ (all : n ≡ length sources) where
+      none_left : l.rest ≡ []
+      none_left = nil_from_length l.rest (omega (arith, all, ap length l.old_is, length-append l.done l.rest, counts.0))
+
+      all_done : sources ≡ l.done
+      all_done = l.old_is ∙ ap (λ (r : List S). l.done ++ r) none_left ∙ append-nil l.done
+
+      all_made : now ≡ l.made
+      all_made = l.now_is ∙ ap (λ (r : List S). l.made ++ r) none_left ∙ append-nil l.made
+
+      pub read_end : AreRead tells left start.limits.max_source_bytes sources now
+      read_end =
+          subst (λ (ts : List S). AreRead tells left start.limits.max_source_bytes sources ts) (sym all_made)
+          (subst (λ (ss : List S). AreRead tells left start.limits.max_source_bytes ss l.made) (sym all_done) (done_read tells left faults start.limits.max_source_bytes l.done l.made l.files l.are))
+
+      pub ends_with : (last : Holder) → Closes a [] h last → EndsWith tells left sources start last l.files infos choices metrics
+      ends_with last closes = record {
+        told = subst (λ (ss : List S). EachTold tells left (λ bytes f. f.bytes ≡ bytes) ss l.files) (sym all_done) (done_told tells left faults start.limits.max_source_bytes l.done l.made l.files l.are);
+        before = h;
+        aggregate = a;
+        working = w;
+        closes = closes;
+      }

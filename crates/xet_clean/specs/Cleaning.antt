@@ -1,0 +1,177 @@
+-- Cleaning: what it returns, and what it adds to the history.
+use Rattle.std.specs.Prelude.{◌≡◌, ◌≢◌, ◌⊎◌, ◌<◌, ◌≤◌, ◌+◌, ◌*◌, ℕ, Bool, true, false, List, [], ◌∷◌, ◌++◌, drop, length, map, Any, Some}
+use Rattle.std.specs.List.{AllByRecursion, IsAmong, flat_map, sum_by}
+use Rattle.xet_aggregate.specs.Metrics.{zeros}
+use Rattle.xet_aggregate.specs.declared.metrics.DeduplicationMetrics.{DeduplicationMetrics}
+use Rattle.xet_choices.specs.Calls.{Call, registered_chunks}
+use Rattle.xet_choices.specs.Calls.Call.{Asked, Registered}
+use Rattle.xet_choices.specs.Choices.{EntriesRise, new_chunks}
+use Rattle.xet_choices.specs.declared.choice.Choice.{Choice}
+use Rattle.xet_cut.specs.Chunking.{chunking}
+use Rattle.xet_cut.specs.declared.limits.LimitSettings.{LimitSettings}
+use Rattle.xet_dedup.specs.Deduping.{metrics_of, metrics_of_both}
+use Rattle.xet_folder.specs.Contents.{max_shards}
+use Rattle.xet_hash.specs.Merkle.{chunk_hash}
+use Rattle.xet_hash.specs.declared.error.Place.TheVariants.{Disk, Source}
+use Rattle.xet_hash.specs.declared.error.StoreError.{StoreError}
+use Rattle.xet_hash.specs.declared.error.StoreError.TheVariants.{Io, MalformedData, OutOfMemory, TooLarge}
+use Rattle.xet_hash.specs.declared.error.What.TheVariants as what
+use Rattle.xet_history.specs.Core.{has_pending}
+use Rattle.sha2.specs.Sha256.{sha256}
+use Rattle.xet_dedup.specs.Records.{file_record}
+use Rattle.xet_history.specs.declared.entry.Entry.{Entry}
+use Rattle.xet_history.specs.declared.entry.Entry.TheVariants.{Query, Register, Complete, Flush, Fault}
+use Rattle.xet_shard_format.specs.declared.record.FileDataSequenceEntry.{FileDataSequenceEntry as Segment}
+use Rattle.xet_shard_format.specs.declared.record.MDBFileInfo.{MDBFileInfo}
+use Rattle.xet_io.specs.Faults.{Rose}
+use Rattle.xet_shard.specs.Queries.{kept_hash}
+use Rattle.xet_steps.specs.Recorded.{RecordedState, core_of}
+use Rattle.xet_steps.specs.Steps.{Steps}
+use Rattle.xet_store.specs.Cleaning.{Adds, EachTold, IsLongAt, RoseAt, chunkings, info_of}
+use Rattle.xet_store.specs.Separate.{MetChunk, Separate}
+use Rattle.xet_store.specs.declared.info.XetFileInfo.{XetFileInfo}
+use Rattle.xet_stepping.specs.Alone.{StepsTo, StepsUntil}
+use Rattle.xet_clean.specs.Files.{HasChoices, leaves_in}
+use Rattle.xet_history.specs.Sound.{IsKey}
+use Rattle.xet_stepping.specs.Holders.{Follows, Holder, IsDueEntry, calls_in, xorb_limits, numbered}
+
+-- ---- the history
+
+-- The entries were added by completed steps of pass 0; the last may have failed.
+abbrev pub Makes : Bool → RecordedState → List Entry → Type 0
+Makes true s entries = StepsTo 0 s.store.limits.shard_target (core_of s) entries
+Makes false s entries = StepsTo 0 s.store.limits.shard_target (core_of s) entries ⊎ StepsUntil s.store.limits 0 (core_of s) entries
+
+-- A call added these entries to the history, and they lead to its core. `whole`: none of its steps failed.
+pub record Grows (whole : Bool) (old new : RecordedState) : Type 0 where
+  pub entries : List Entry
+  pub steps : Steps old new entries
+  pub makes : Makes whole old entries
+  pub due : AllByRecursion (IsDueEntry (xorb_limits old.store.limits)) entries
+
+-- the entries since a state
+abbrev pub entries_since : RecordedState → RecordedState → List Entry
+entries_since old new = drop (length old.history) new.history
+
+-- the queries and registrations since a state
+abbrev pub calls_since : RecordedState → RecordedState → List Call
+calls_since old new = calls_in (numbered (length old.history) (entries_since old new))
+
+-- ---- registrations
+
+-- the second list has the first as a part
+abbrev pub IsPart : {X : Type 0} → List X → List X → Type 0
+IsPart {X} xs ys = (before after : List X) × (ys ≡ before ++ (xs ++ after))
+
+-- it registers a xorb which has these chunks as a part
+abbrev pub RegistersPart : List (List ℕ × ℕ) → Call → Type 0
+RegistersPart part (Asked entry hashes reply) = ⊥
+RegistersPart part (Registered chunks next) = IsPart part chunks
+
+-- Each xorb was registered with further chunks, which are a part of a later one, or of these last chunks.
+abbrev pub Lands : List (List ℕ × ℕ) → List Call → Type 0
+Lands last [] = Unit {0}
+Lands last (Asked entry hashes reply ∷ calls) = Lands last calls
+Lands last (Registered chunks next ∷ calls) = ((next ≢ []) × (Any (RegistersPart next) calls ⊎ IsPart next last)) × Lands last calls
+
+-- the registration of the last chunks, if there are any, after which none follow
+abbrev pub close_of : List (List ℕ × ℕ) → List Call
+close_of [] = []
+close_of (chunk ∷ chunks) = Registered (chunk ∷ chunks) [] ∷ []
+
+-- Each xorb was registered with further chunks, which are a part of a later one; only the last of all was registered without, and
+-- no query follows it.
+pub record RegistersFew (calls : List Call) : Type 0 where
+  pub before : List Call
+  pub last : List (List ℕ × ℕ)
+  pub is : calls ≡ before ++ close_of last
+  pub lands : Lands last before
+
+-- ---- metrics
+
+-- the sums over the files
+abbrev pub metrics_sum : LimitSettings → List (List ℕ) → List (List Choice) → DeduplicationMetrics
+metrics_sum s [] choices = zeros
+metrics_sum s (f ∷ fs) [] = zeros
+metrics_sum s (f ∷ fs) (c ∷ cs) = metrics_of_both (metrics_of (leaves_in s f) c 0 0) (metrics_sum s fs cs)
+
+-- ---- what is recorded
+
+-- The record of a file of these bytes, which is not empty: over some plan, with the hashes of its ranges and its SHA-256.
+pub record IsRecordFor (s : LimitSettings) (bytes : List ℕ) (file : MDBFileInfo) : Type 0 where
+  pub some : 0 < length bytes
+  pub segments : List Segment
+  pub is : file ≡ file_record (leaves_in s bytes) segments (Some (sha256 bytes))
+
+-- If the entry records a file, it is one of these.
+abbrev pub RecordsFile : LimitSettings → List (List ℕ) → Entry → Type 0
+RecordsFile s files (Query pass hashes reply) = Unit {0}
+RecordsFile s files (Register pass chunks next added) = Unit {0}
+RecordsFile s files (Complete pass file added) = (bytes : List ℕ) × IsAmong files bytes × IsRecordFor s bytes file
+RecordsFile s files (Flush pass shard) = Unit {0}
+RecordsFile s files (Fault pass kind) = Unit {0}
+
+-- ---- what is returned
+
+-- For each file there are choices, which are true: the file is recorded by one of these entries, with such a plan.
+abbrev pub AreChosen : LimitSettings → List Entry → List Call → List (List ℕ) → List (List Choice) → Type 0
+AreChosen s entries calls [] [] = Unit {0}
+AreChosen s entries calls [] (c ∷ cs) = ⊥
+AreChosen s entries calls (f ∷ fs) [] = ⊥
+AreChosen s entries calls (f ∷ fs) (c ∷ cs) = HasChoices s 0 entries calls f c × AreChosen s entries calls fs cs
+
+-- Cleaning returned this, between two states. Each source has a file: of an observable source, the bytes that it had left.
+-- The pointer records are those of these files, and the choices for their chunks are true by the entries that were added; no
+-- entry is named by two chunks. No file is recorded but these, each with its range hashes and its SHA-256. As many chunks were
+-- registered as were not deduplicated. The entries are at most three for each chunk and two for each source.
+pub record IsCleaned {S : Type 0} (tells : S → Bool) (left : S → List ℕ) (sources : List S) (old new : RecordedState) (infos : List XetFileInfo) (choices : List (List Choice)) (metrics : DeduplicationMetrics) : Type 0 where
+  pub files : List (List ℕ)
+  pub told : EachTold tells left (λ bytes file. file ≡ bytes) sources files
+  pub pointers : infos ≡ map (info_of old.store.limits) files
+  pub chosen : AreChosen old.store.limits (entries_since old new) (calls_since old new) files choices
+  pub once : EntriesRise (flat_map (λ (cs : List Choice). cs) choices)
+  pub only : AllByRecursion (RecordsFile old.store.limits files) (entries_since old new)
+  pub registered : registered_chunks (calls_since old new) ≡ sum_by new_chunks choices
+  pub sums : metrics ≡ metrics_sum old.store.limits files choices
+  pub registers : RegistersFew (calls_since old new)
+  pub bound : length (entries_since old new) ≤ 3 * sum_by (λ (c : List Choice). length c) choices + 2 * length files
+
+-- Of each source a prefix was taken, which is observable if the source is.
+abbrev pub EachTaken : {S : Type 0} → (S → Bool) → (S → List ℕ) → List S → List S → List (List ℕ) → Type 0
+EachTaken tells left [] now files = files ≡ []
+EachTaken tells left (s ∷ ss) [] files = ⊥
+EachTaken tells left (s ∷ ss) (t ∷ ts) [] = ⊥
+EachTaken tells left (s ∷ ss) (t ∷ ts) (f ∷ fs) = (tells s ≡ true → left s ≡ f ++ left t) × EachTaken tells left ss ts fs
+
+-- After an error: of each source some bytes were taken, there are at most three entries for each chunk of these and two for each
+-- source, and no file is recorded but those of all the bytes that were taken of a source.
+pub record IsBounded {S : Type 0} (tells : S → Bool) (left : S → List ℕ) (sources now : List S) (old new : RecordedState) : Type 0 where
+  pub files : List (List ℕ)
+  pub taken : EachTaken tells left sources now files
+  pub bound : length (entries_since old new) ≤ 3 * sum_by (λ f. length (chunking old.store.limits f)) files + 2 * length files
+  pub only : AllByRecursion (RecordsFile old.store.limits files) (entries_since old new)
+  pub adds : Adds old.store.records new.store.records (map (λ f. (info_of old.store.limits f).hash) files)
+
+-- of these files some bytes were taken
+abbrev pub IsFewFor : List (List ℕ) → Holder → Holder → Type 0
+IsFewFor files old new =
+    (follows : Follows old new) × (length follows.own ≤ 3 * sum_by (λ f. length (chunking old.limits f)) files + 2 * length files)
+
+-- ---- errors
+
+-- No collisions among the chunks that are seen, under the keys of registered shards.
+abbrev pub AreApartUnder : RecordedState → List (List (List ℕ)) → Type 0
+AreApartUnder s files =
+    (key a b : List ℕ) → IsKey (core_of s) key → MetChunk s.store files a → MetChunk s.store files b → kept_hash key (chunk_hash a) ≡ kept_hash key (chunk_hash b) → a ≡ b
+
+-- The errors of cleaning, and when each is returned. `MalformedData` is returned only if the disk or a source is not observable,
+-- or if there are collisions, also under the keys of registered shards.
+abbrev pub HasReason : {S : Type 0} → (S → Bool) → (S → List ℕ) → (S → ℕ) → List S → List S → RecordedState → RecordedState → StoreError → Type 0
+HasReason tells left faults sources now old new (Io (Source i)) = RoseAt faults sources now i
+HasReason tells left faults sources now old new (Io Disk) = Rose old.store.faults new.store.faults
+HasReason tells left faults sources now old new (TooLarge (what.Source i)) = IsLongAt tells left sources old.store.limits.max_source_bytes i
+HasReason tells left faults sources now old new (TooLarge what.Shards) = (max_shards ≤ length new.store.shards) × (has_pending (core_of new) ≡ true)
+HasReason tells left faults sources now old new (MalformedData reason) =
+    old.store.tells ≡ true → AllByRecursion (λ s. tells s ≡ true) sources → Separate new.store (chunkings left old.store.limits sources) → AreApartUnder new (chunkings left old.store.limits sources) → ⊥
+HasReason tells left faults sources now old new OutOfMemory = Unit {0}
+HasReason tells left faults sources now old new e = ⊥

@@ -1,0 +1,6 @@
+pub mod Cleaner
+pub mod Closing
+pub mod Errors
+pub mod Sources
+pub mod Sums
+pub mod Working

@@ -1,0 +1,11 @@
+//! Tests of cleaning with deduplication.
+#![tactic(auto)]
+
+#[cfg(test)]
+mod cleaning_tests;
+#[cfg(test)]
+mod failing_tests;
+#[cfg(test)]
+mod random_tests;
+#[cfg(test)]
+mod session;
