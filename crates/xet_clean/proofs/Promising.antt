@@ -85,8 +85,8 @@ module _ {S : Type 0} (tells : S → Bool) (left : S → List ℕ) (faults : S �
   reason_of (Io Disk) why = fault_rose why
   reason_of (TooLarge (what.Source i)) why = why
   reason_of (TooLarge what.Shards) why = shards_full why
-  reason_of (MalformedData OtherFileHash) why = λ told all separate under. none_refused tells left sources old new stopped is sound told all separate under why
-  reason_of (MalformedData reason) why = λ told all separate under. false≢true (sym why ∙ told)
+  reason_of (MalformedData OtherFileHash) why = λ told all none under. none_refused tells left sources old new stopped is sound told all none under why
+  reason_of (MalformedData reason) why = λ told all none under. false≢true (sym why ∙ told)
   reason_of OutOfMemory why = tt
   reason_of e why = absurd why
 

@@ -27,7 +27,7 @@ use Rattle.xet_shard_format.specs.declared.record.FileDataSequenceEntry.{FileDat
 use Rattle.xet_shard_format.specs.declared.record.MDBFileInfo.{MDBFileInfo}
 use Rattle.xet_steps.specs.Recorded.{RecordedState, core_of}
 use Rattle.xet_store.specs.Cleaning.{EachTold, chunkings}
-use Rattle.xet_store.specs.Separate.{Among, MetChunk, Separate}
+use Rattle.xet_store.specs.Separate.{Among, MetChunk}
 use Rattle.xet_store.specs.Store.{Sound}
 use Rattle.xet_store.specs.theorems.Rows.{among_more, to_among}
 use Rattle.xet_store.specs.theorems.Staying.{all_among}
@@ -37,7 +37,7 @@ use Rattle.xet_stepping.specs.Holders.{Follows, Holder, core_at, core_found, len
 use Rattle.xet_stepping.specs.Stepping.{SawOther}
 use Rattle.xet_stepping.specs.theorems.Following.{follows_then}
 use Rattle.xet_xorb_chunk.specs.Chunks.{chunk_leaf}
-use Rattle.xet_clean.specs.Cleaning.{AreApartUnder}
+use Rattle.xet_clean.specs.Cleaning.{AreApartUnder, NoneEnds}
 use Rattle.xet_clean.specs.internal.Closing.{IsClosingError, RegistersChunks, filled_files}
 use Rattle.xet_clean.specs.internal.Sources.{IsUnclosedFor}
 use Rattle.xet_clean.specs.internal.Working.{IsRecordOf, Planned, Waits, WasPlanned}
@@ -64,7 +64,7 @@ among_told tells left limits (s ∷ ss) (g ∷ fs) told all f (inl same) = inl (
 among_told tells left limits (s ∷ ss) (g ∷ fs) told all f (inr a) = inr (among_told tells left limits ss fs told.1 all.1 f a)
 
 module _ {S : Type 0} (tells : S → Bool) (left : S → List ℕ) (sources : List S) (old new : RecordedState) (stopped : Bool) (is : IsAlone old new stopped) (sound : Sound new.store)
-    (told : old.store.tells ≡ true) (all : AllByRecursion (λ s. tells s ≡ true) sources) (separate : Separate new.store (chunkings left old.store.limits sources))
+    (told : old.store.tells ≡ true) (all : AllByRecursion (λ s. tells s ≡ true) sources) (none : NoneEnds (chunkings left old.store.limits sources))
     (under : AreApartUnder new (chunkings left old.store.limits sources))
     (u : IsUnclosedFor tells left sources (alone_of old old false) (alone_of old new stopped) (MalformedData OtherFileHash)) where
   abbrev now : Holder
@@ -134,7 +134,7 @@ module _ {S : Type 0} (tells : S → Bool) (left : S → List ℕ) (sources : Li
           some = omega (arith, some, length-map (chunking old.store.limits f.bytes) leaf_of);
           hash = sym named;
           ranges = inr (ap (λ (x : MDBFileInfo). x.verification) rec.is ∙ (λ i. range_hashes (segments i) (leaves_are i)));
-          named = λ e. separate.lists.not_sentinel (leaves_of (chunking old.store.limits f.bytes)) (inr (chunking old.store.limits f.bytes, among_sources, some, refl)) (sym named ∙ e);
+          named = λ e. none (chunking old.store.limits f.bytes) among_sources some (sym named ∙ e);
         }
 
   -- a record of the aggregate, with the hash of its xorb

@@ -11,7 +11,8 @@ use Rattle.xet_cut.specs.Chunking.{chunking}
 use Rattle.xet_cut.specs.declared.limits.LimitSettings.{LimitSettings}
 use Rattle.xet_dedup.specs.Deduping.{metrics_of, metrics_of_both}
 use Rattle.xet_folder.specs.Contents.{max_shards}
-use Rattle.xet_hash.specs.Merkle.{chunk_hash}
+use Rattle.xet_hash.specs.Hash.{sentinel}
+use Rattle.xet_hash.specs.Merkle.{chunk_hash, file_hash, leaves_of}
 use Rattle.xet_hash.specs.declared.error.Place.TheVariants.{Disk, Source}
 use Rattle.xet_hash.specs.declared.error.StoreError.{StoreError}
 use Rattle.xet_hash.specs.declared.error.StoreError.TheVariants.{Io, MalformedData, OutOfMemory, TooLarge}
@@ -28,7 +29,7 @@ use Rattle.xet_shard.specs.Queries.{kept_hash}
 use Rattle.xet_steps.specs.Recorded.{RecordedState, core_of}
 use Rattle.xet_steps.specs.Steps.{Steps}
 use Rattle.xet_store.specs.Cleaning.{Adds, EachTold, IsLongAt, RoseAt, chunkings, info_of}
-use Rattle.xet_store.specs.Separate.{MetChunk, Separate}
+use Rattle.xet_store.specs.Separate.{Among, MetChunk}
 use Rattle.xet_store.specs.declared.info.XetFileInfo.{XetFileInfo}
 use Rattle.xet_stepping.specs.Alone.{StepsTo, StepsUntil}
 use Rattle.xet_clean.specs.Files.{HasChoices, leaves_in}
@@ -164,14 +165,18 @@ abbrev pub AreApartUnder : RecordedState → List (List (List ℕ)) → Type 0
 AreApartUnder s files =
     (key a b : List ℕ) → IsKey (core_of s) key → MetChunk s.store files a → MetChunk s.store files b → kept_hash key (chunk_hash a) ≡ kept_hash key (chunk_hash b) → a ≡ b
 
+-- No file that is not empty, given as its chunks, has the hash that ends a section of a shard.
+abbrev pub NoneEnds : List (List (List ℕ)) → Type 0
+NoneEnds files = (f : List (List ℕ)) → Among files f → 0 < length f → file_hash (leaves_of f) ≢ sentinel
+
 -- The errors of cleaning, and when each is returned. `MalformedData` is returned only if the disk or a source is not observable,
--- or if there are collisions, also under the keys of registered shards.
+-- or if there are collisions among chunks, also under the keys of registered shards, or a file has the hash that ends a section.
 abbrev pub HasReason : {S : Type 0} → (S → Bool) → (S → List ℕ) → (S → ℕ) → List S → List S → RecordedState → RecordedState → StoreError → Type 0
 HasReason tells left faults sources now old new (Io (Source i)) = RoseAt faults sources now i
 HasReason tells left faults sources now old new (Io Disk) = Rose old.store.faults new.store.faults
 HasReason tells left faults sources now old new (TooLarge (what.Source i)) = IsLongAt tells left sources old.store.limits.max_source_bytes i
 HasReason tells left faults sources now old new (TooLarge what.Shards) = (max_shards ≤ length new.store.shards) × (has_pending (core_of new) ≡ true)
 HasReason tells left faults sources now old new (MalformedData reason) =
-    old.store.tells ≡ true → AllByRecursion (λ s. tells s ≡ true) sources → Separate new.store (chunkings left old.store.limits sources) → AreApartUnder new (chunkings left old.store.limits sources) → ⊥
+    old.store.tells ≡ true → AllByRecursion (λ s. tells s ≡ true) sources → NoneEnds (chunkings left old.store.limits sources) → AreApartUnder new (chunkings left old.store.limits sources) → ⊥
 HasReason tells left faults sources now old new OutOfMemory = Unit {0}
 HasReason tells left faults sources now old new e = ⊥

@@ -36,8 +36,8 @@ use xet_steps::Store;
 /// choices for its chunks, with the metrics of all. All work runs on the calling thread. After an error the steps before it
 /// stand. `Io(Source(i))` and `Io(Disk)` are returned only if that source or the disk failed, `TooLarge(Source(i))` only if
 /// that source has more bytes than the limits allow, `TooLarge(Shards)` only if 2^32 - 1 shards are registered and something
-/// is pending, `MalformedData` only if the disk or a source is not observable, or if there are collisions among the data seen,
-/// also under the keys of shards; any other error is `OutOfMemory`.
+/// is pending, `MalformedData` only if the disk or a source is not observable, or if there are collisions among the chunks
+/// seen, also under the keys of shards, or a file has the hash that ends a section; any other error is `OutOfMemory`.
 pub fn clean_files<D: Disk, R: Source + Send>(
     alloc: Global,
     session: Store<D>,
