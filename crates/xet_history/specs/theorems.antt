@@ -1,5 +1,7 @@
 pub mod Joining
 pub mod Staying
+pub mod Lasting
+pub mod Naming
 pub mod Finding
 pub mod Entries
 pub mod FoundRuns

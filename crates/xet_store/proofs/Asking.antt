@@ -45,12 +45,12 @@ use Rattle.xet_folder.specs.theorems.Agreeing.{stored_once}
 use Rattle.xet_folder.specs.theorems.Keyed.{unkeyed_leaves}
 use Rattle.xet_history.specs.Sound.{IsBlock}
 use Rattle.xet_history.specs.theorems.FoundRuns.{AllAt, AllRuns, held_runs, run_is, run_lies, runs_then, shard_runs}
-use Rattle.xet_store.proofs.Flushing.{file_there}
 use Rattle.xet_store.specs.Asking.{AreOwnShards, IsAskingError, IsOwnShard, RegistersShard}
 use Rattle.xet_store.specs.Separate.{Among}
 use Rattle.xet_store.specs.Store.{Sound, State}
 use Rattle.xet_store.specs.internal.Asking.{AddsFile, AddsLoaded, FailsReading, FindsListed, IsEncoded, IsPlainRun, asking_error}
 use Rattle.xet_store.specs.theorems.Admitting.{all_with, any_of, of_any, one_of}
+use Rattle.xet_store.specs.theorems.Footers.{file_there}
 use Rattle.xet_store.specs.theorems.Rows.{from_among, to_among}
 
 -- ---- the files of own shards

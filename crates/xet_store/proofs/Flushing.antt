@@ -1,5 +1,5 @@
 -- What is pending, in a shard.
-use Rattle.std.proofs.Common.{◌≡◌, ◌≢◌, ◌⊎◌, inl, inr, ◌∙◌, ℕ, ◌-◌, ◌*◌, ◌^◌, ◌<◌, ◌≤◌, Bool, true, false, nat_eq, nat_lt, ◌||◌, List, [], ◌∷◌, ◌++◌, drop, length, map, Option, Some, None, IsSome, Result, Ok, refl, sym, ap, subst, arith, option_map}
+use Rattle.std.proofs.Common.{◌≡◌, ◌≢◌, ◌⊎◌, inl, inr, ◌∙◌, ℕ, ◌-◌, ◌^◌, ◌<◌, ◌≤◌, Bool, true, false, nat_eq, nat_lt, ◌||◌, List, [], ◌∷◌, ◌++◌, length, map, Option, Some, None, IsSome, Result, Ok, refl, sym, ap, subst, arith}
 use Rattle.std.proofs.lemmas.Bool.{le-ltb}
 use Rattle.std.proofs.lemmas.List.{append-nil}
 use Rattle.std.specs.Cmp.Lexicographic.{bytes_decides, pointwise}
@@ -9,18 +9,14 @@ use Rattle.std.specs.declared.cmp.Ordering.{Ordering}
 use Rattle.xet_hash.specs.Hash.{zero_hash}
 use Rattle.xet_hash.specs.declared.error.StoreError.{StoreError}
 use Rattle.xet_io.specs.Disk.{Files, File, bytes_at, file_at}
-use Rattle.xet_shard_format.specs.declared.header_footer.MDBShardFileFooter.{MDBShardFileFooter}
 use Rattle.xet_shard_format.specs.declared.record.FileDataSequenceEntry.{FileDataSequenceEntry as Segment}
 use Rattle.xet_shard_format.specs.declared.record.MDBFileInfo.{MDBFileInfo}
 use Rattle.xet_shard.specs.Held.{Held, IsHeld, by_hash, held_shard, nothing}
-use Rattle.xet_shard_format.specs.Lookups.{all_lookups, chunk_items, file_items, record_items_bytes, chunk_items_bytes, xorb_items}
-use Rattle.xet_codec.specs.Parsing.{◌>>=◌}
-use Rattle.xet_shard_format.specs.Reading.{ShardParts, all_of, file_record_at as read_file, file_row_count, shard_footer_at, shard_header_at, lookup_at, shard_parts_of, section_at, totals_at, xorb_at, xorb_row_count}
+use Rattle.xet_shard_format.specs.Lookups.{all_lookups}
+use Rattle.xet_shard_format.specs.Reading.{ShardParts, all_of, shard_parts_of}
 use Rattle.xet_shard_format.specs.Records.{file_record_hash, xorb_record_hash}
-use Rattle.xet_shard_format.specs.Rows.{rows_in}
 use Rattle.xet_shard_format.specs.Sorted.{put_in, sorted}
-use Rattle.xet_shard_format.specs.Encoding.{Fits, IsShard, footer_of, full_shard_bytes, materialized, stored}
-use Rattle.xet_shard_format.specs.theorems.RowLaws.{bind_ok}
+use Rattle.xet_shard_format.specs.Encoding.{Fits, IsShard, footer_of, full_shard_bytes}
 use Rattle.xet_shard_format.specs.theorems.WholeAgain.{all_again}
 use Rattle.xet_folder.specs.Admission.{BlockHolds, FileHolds, ShardHolds, block_leaves, shard_hash}
 use Rattle.xet_folder.specs.Checks.{OfBytes, OfFile, OfShard}
@@ -41,30 +37,11 @@ use Rattle.xet_store.specs.Separate.{Among}
 use Rattle.xet_store.specs.Store.{State, IsAdmitted, IsKept, IsPendingFile, Sound}
 use Rattle.xet_store.proofs.EncodedBytes.{encoding_is_bytes}
 use Rattle.xet_store.specs.theorems.Admitting.{SameXorb, admitted_still, admitted_with, backed_same, registered_still, this_registered}
+use Rattle.xet_store.specs.theorems.Footers.{file_there, with_footer}
 use Rattle.xet_store.specs.theorems.Plans.{resolves_more}
 use Rattle.xet_store.specs.theorems.Rows.{among_last, among_more, among_sorted, from_among, is_some_found, to_among}
 use Rattle.xet_store.specs.theorems.Staying.{StateStays, backed_still, changed, hash_cases, keeps_at, keeps_changed, keeps_refused, kept_still, found_nowhere, same_bytes_at, same_change, same_file_at, sound_refused, stays_shard}
 use Rattle.xet_store.specs.theorems.Whole.{found_has}
-
--- ---- the time of expiry of a shard that was read
-
-ok_footer : (q p : ShardParts) → ◌≡◌ {A = Result ShardParts StoreError} (Ok q) (Ok p) → q.2 ≡ p.2
-ok_footer q p e = let same : q ≡ p = cc in ap (λ (x : ShardParts). x.2) same
-
-with_footer : (bytes : List ℕ) (p : ShardParts) → all_of bytes ≡ Ok p → (shard_header_at bytes >>= λ _. shard_footer_at bytes) ≡ Ok p.2
-unfolding all_of
-with_footer bytes p e =
-    let head = bind_ok (shard_header_at bytes) _ _ e in
-    let foot = bind_ok (shard_footer_at bytes) _ _ head.2 in
-    let g : MDBShardFileFooter = foot.0 in
-    let fs = bind_ok (section_at read_file file_record_hash (file_row_count g) None (rows_in (file_row_count g) (drop g.file_info_offset bytes))) _ _ foot.2 in
-    let xs = bind_ok (section_at xorb_at xorb_record_hash (xorb_row_count g) None (rows_in (xorb_row_count g) (drop g.xorb_info_offset bytes))) _ _ fs.2 in
-    let l1 = bind_ok (lookup_at bytes g.file_lookup_offset (12 * g.file_lookup_num_entry) (record_items_bytes (file_items fs.0))) _ _ xs.2 in
-    let l2 = bind_ok (lookup_at bytes g.xorb_lookup_offset (12 * g.xorb_lookup_num_entry) (record_items_bytes (xorb_items xs.0))) _ _ l1.2 in
-    let l3 = bind_ok (lookup_at bytes g.chunk_lookup_offset (16 * g.chunk_lookup_num_entry) (chunk_items_bytes (chunk_items xs.0))) _ _ l2.2 in
-    let t = bind_ok (totals_at g (materialized fs.0) (stored xs.0)) _ _ l3.2 in
-    let made : ShardParts = (xs.0, fs.0, g) in
-    ap (λ (r : Result (Unit {0}) StoreError). r >>= λ _. shard_footer_at bytes) head.1 ∙ foot.1 ∙ ap Ok (ok_footer made p t.2)
 
 -- a shard without expiry does not expire
 module _ (held : Held) (now : ℕ) (shard : IsShard (held_shard held now None)) (fits : Fits (held_shard held now None)) where
@@ -84,13 +61,6 @@ module _ (held : Held) (now : ℕ) (shard : IsShard (held_shard held now None)) 
   not_expired = never_expired now fits.creation
 
 -- ---- the shard is whole
-
-pub file_there : (files : Files) (name bytes : List ℕ) → bytes_at files name ≡ Some bytes → (f : File) × (file_at files name ≡ Some f) × (f.bytes ≡ bytes)
-file_there files name bytes e = go (file_at files name) refl e
-  where
-    go : (o : Option File) → file_at files name ≡ o → option_map (λ (f : File). f.bytes) o ≡ Some bytes → (f : File) × (file_at files name ≡ Some f) × (f.bytes ≡ bytes)
-    go None is e = absurd (cc e)
-    go (Some f) is e = (f, is, cc)
 
 -- what holds of all holds of the same in another order
 module _ {X : Type 0} (cmp : X → X → Ordering) (P : X → Type 0) where

@@ -1,5 +1,6 @@
 pub mod Admitting
 pub mod Files
+pub mod Footers
 pub mod Keeping
 pub mod Plans
 pub mod Rows
