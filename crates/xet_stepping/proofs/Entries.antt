@@ -21,6 +21,7 @@ use Rattle.xet_shard_format.specs.declared.record.MDBFileInfo.{MDBFileInfo}
 use Rattle.xet_steps.specs.Steps.{fault_entries}
 use Rattle.xet_xorb.specs.Raw.{xorb_record}
 use Rattle.xet_stepping.specs.Alone.{Step, StepsTo, StepsUntil, cut_of, kind_of}
+use Rattle.xet_stepping.specs.Holders.{IsDueEntry, xorb_limits}
 
 module _ (P : Entry → Type 0) (pass : ℕ) where
   pub all_cut : ((shard : List ℕ) → P (Flush pass shard)) → (c : Core) (target bytes : ℕ) → AllByRecursion P (cut_entries pass c target bytes)
@@ -90,24 +91,33 @@ done_cases pass target step c done (inr is) = go (cut_cases pass target step c)
     go (inl none) = inl (is ∙ none)
     go (inr due) = inr (is ∙ due)
 
--- the pass of each entry
-module _ (pass target : ℕ) (c : Core) where
-  abbrev pub HasPass : Entry → Type 0
-  HasPass e = pass_of e ≡ pass
+-- ---- each entry of steps
 
-  pub steps_pass : (es : List Entry) → StepsTo pass target c es → AllByRecursion HasPass es
-  steps_pass es StepsTo.begins = tt
-  steps_pass es (StepsTo.asks before hashes reply steps) = all_both HasPass before (query_entries pass hashes reply) (steps_pass before steps) (all_query HasPass pass (λ hs r. refl) hashes reply)
-  steps_pass es (StepsTo.registers before leaves next steps) =
-      all_both HasPass before (register_entries pass (after_all c before) target leaves next) (steps_pass before steps) (all_register HasPass pass (λ s. refl) (after_all c before) target leaves next (λ b. refl))
-  steps_pass es (StepsTo.completes before file steps) =
-      all_both HasPass before (complete_entries pass (after_all c before) target file) (steps_pass before steps) (all_complete HasPass pass (λ s. refl) (after_all c before) target file (λ b. refl))
+-- It has the pass, and a xorb was registered with the chunks that did not fit into it, or with none.
+abbrev pub IsMade : LimitSettings → ℕ → Entry → Type 0
+IsMade limits pass e = (pass_of e ≡ pass) × IsDueEntry (xorb_limits limits) e
 
-pub until_pass : (limits : LimitSettings) (pass : ℕ) (c : Core) (es : List Entry) → StepsUntil limits pass c es → AllByRecursion (λ e. pass_of e ≡ pass) es
-until_pass limits pass c es u =
-    let Has : Entry → Type 0 = λ e. pass_of e ≡ pass in
-    let failure : List Entry = fault_entries pass (kind_of u.step) u.error in
-    let d : Core = after_all c u.before in
-    subst (AllByRecursion Has) (sym u.is)
-    (all_both Has u.before (u.done ++ failure) (steps_pass pass limits.shard_target c u.before u.steps)
-    (all_both Has u.done failure (all_done Has pass (λ s. refl) d limits.shard_target (size_of u.step) u.done (done_cases pass limits.shard_target u.step d u.done u.completed)) (all_fault Has pass (λ k. refl) (kind_of u.step) u.error)))
+module _ (limits : LimitSettings) (pass : ℕ) (c : Core) where
+  abbrev Made : Entry → Type 0
+  Made = IsMade limits pass
+
+  abbrev target : ℕ
+  target = limits.shard_target
+
+  pub steps_made : (es : List Entry) → StepsTo limits pass c es → AllByRecursion (IsMade limits pass) es
+  steps_made es StepsTo.begins = tt
+  steps_made es (StepsTo.asks before hashes reply steps) = all_both Made before (query_entries pass hashes reply) (steps_made before steps) (all_query Made pass (λ hs r. (refl, tt)) hashes reply)
+  steps_made es (StepsTo.registers before leaves next steps asked due) =
+      all_both Made before (register_entries pass (after_all c before) target leaves next) (steps_made before steps)
+      (all_register Made pass (λ s. (refl, tt)) (after_all c before) target leaves next (λ b. (refl, due)))
+  steps_made es (StepsTo.completes before file steps form can) =
+      all_both Made before (complete_entries pass (after_all c before) target file) (steps_made before steps)
+      (all_complete Made pass (λ s. (refl, tt)) (after_all c before) target file (λ b. (refl, tt)))
+
+  pub until_made : (e : StoreError) (es : List Entry) → StepsUntil limits pass c e es → AllByRecursion (IsMade limits pass) es
+  until_made e es u =
+      let failure : List Entry = fault_entries pass (kind_of u.step) e in
+      let d : Core = after_all c u.before in
+      subst (AllByRecursion Made) (sym u.is)
+      (all_both Made u.before (u.done ++ failure) (steps_made u.before u.steps)
+      (all_both Made u.done failure (all_done Made pass (λ s. (refl, tt)) d target (size_of u.step) u.done (done_cases pass target u.step d u.done u.completed)) (all_fault Made pass (λ k. (refl, tt)) (kind_of u.step) e)))

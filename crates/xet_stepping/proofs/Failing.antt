@@ -16,6 +16,7 @@ use Rattle.xet_history.specs.declared.entry.Entry.TheVariants.{Flush}
 use Rattle.xet_history.specs.declared.entry.StepKind.{StepKind}
 use Rattle.xet_history.specs.declared.entry.StepKind.TheVariants as kind
 use Rattle.xet_io.specs.Faults.{Rose}
+use Rattle.xet_shard_format.specs.Records.{IsFile}
 use Rattle.xet_shard_format.specs.declared.record.MDBFileInfo.{MDBFileInfo}
 use Rattle.xet_steps.specs.Recorded.{AreShards, RecordedState, core_of}
 use Rattle.xet_steps.specs.Steps.{FailsAsking, IsOtherFile, IsStepError, Refuses, Steps, fault_entries}
@@ -27,7 +28,7 @@ use Rattle.xet_stepping.specs.Holders.{Holder, core_found}
 use Rattle.xet_stepping.specs.Stepping.{IsStepReason, SawError, SawOther, no_cut}
 use Rattle.xet_stepping.proofs.Entries.{done_cases, size_of}
 use Rattle.xet_stepping.proofs.Growing.{found_alone, holder_ended, stopped_parts}
-use Rattle.xet_stepping.proofs.Steps.{alone_failed, alone_refused, limits_now, no_fault}
+use Rattle.xet_stepping.proofs.Steps.{alone_failed, limits_now, no_fault}
 
 -- the disk failed, if there is an entry of that
 rose_of_step : (k : StepKind) (cut : List Entry) (s : State) (now : ℕ) (e : StoreError) → IsStepError k cut s now e → Any IsFault (fault_entries 0 k e) → Rose s.faults now
@@ -162,5 +163,8 @@ module _ (start now new : RecordedState) (is : IsAlone start now false) (e : Sto
     not = λ can. other.not (subst (λ (d : Core). Completes d.xorbs file) found_is can);
   }
 
-  pub alone_other : (file : MDBFileInfo) → IsOtherFile now new file e → IsAlone start new true
-  alone_other file other = subst (λ (s : RecordedState). IsAlone start s true) (sym other.same) (alone_refused start now is new)
+  pub alone_other : (file : MDBFileInfo) → IsFile file → IsOtherFile now new file e → IsAlone start new true
+  alone_other file form other =
+      let steps : Steps now new [] = subst (λ (s : RecordedState). Steps now s []) (sym other.same) (steps_nothing now) in
+      let none : fault_entries 0 kind.Complete e ≡ [] = ap (fault_entries 0 kind.Complete) other.error in
+      alone_failed start now is new (Step.completes file) form e [] (inl refl) (subst (Steps now new) (sym none) steps) (λ any. absurd (no_fault [] tt (subst (Any IsFault) none any)))

@@ -2,12 +2,15 @@
 use Rattle.std.proofs.Common.{◌≡◌, ◌∙◌, ℕ, suc, zero, ◌+◌, ◌≤◌, ◌<◌, Bool, true, false, List, [], ◌∷◌, ◌++◌, drop, get_or, length, map, Some, refl, sym, ap, subst, append_assoc, length-append, arith}
 use Rattle.std.specs.List.{AllByRecursion, slice_get}
 use Rattle.std.specs.List.Sorted.{IsStrictlyIncreasing}
-use Rattle.xet_history.specs.History.{Legal, pass_of}
+use Rattle.xet_cut.specs.declared.limits.LimitSettings.{LimitSettings}
+use Rattle.xet_hash.specs.declared.error.StoreError.{StoreError}
+use Rattle.xet_history.specs.Core.{Core}
+use Rattle.xet_history.specs.History.{Legal}
 use Rattle.xet_history.specs.declared.entry.Entry.{Entry}
 use Rattle.xet_steps.specs.Recorded.{RecordedState, core_of}
 use Rattle.xet_stepping.specs.Alone.{IsAlone, StepsTo, StepsUntil, alone_of}
-use Rattle.xet_stepping.specs.Holders.{Holder, IsDueEntry, IsHolder, IsOwn, numbered, seen, xorb_limits}
-use Rattle.xet_stepping.proofs.Entries.{steps_pass, until_pass}
+use Rattle.xet_stepping.specs.Holders.{Holder, IsHolder, IsOwn, numbered, seen}
+use Rattle.xet_stepping.proofs.Entries.{IsMade, steps_made, until_made}
 use Rattle.xet_stepping.proofs.Growing.{since_is}
 
 pub get_seam : {X : Type 0} (xs : List X) (y : X) (ys : List X) → slice_get (xs ++ y ∷ ys) (length xs) ≡ Some y
@@ -15,13 +18,13 @@ get_seam [] y ys = refl
 get_seam (x ∷ xs) y ys = get_seam xs y ys
 
 -- entries at the end of what is seen
-own_all : (h : Holder) (front rest : List Entry) → seen h ≡ front ++ rest → length h.before ≤ length front → AllByRecursion (λ e. pass_of e ≡ h.number) rest → AllByRecursion (IsDueEntry (xorb_limits h.limits)) rest
+own_all : (h : Holder) (front rest : List Entry) → seen h ≡ front ++ rest → length h.before ≤ length front → AllByRecursion (IsMade h.limits h.number) rest
     → AllByRecursion (IsOwn h) (numbered (length front) rest)
-own_all h front [] is later passes due = tt
-own_all h front (e ∷ es) is later passes due =
+own_all h front [] is later made = tt
+own_all h front (e ∷ es) is later made =
     let more : length (front ++ e ∷ []) ≡ suc (length front) = omega (arith, length-append front (e ∷ [])) in (
-      record { there = subst (λ (s : List Entry). slice_get s (length front) ≡ Some e) (sym is) (get_seam front e es); later = later; pass = passes.0; due = due.0 },
-      subst (λ (n : ℕ). AllByRecursion (IsOwn h) (numbered n es)) more (own_all h (front ++ e ∷ []) es (is ∙ sym (append_assoc front (e ∷ []) es)) (omega (arith, later, more)) passes.1 due.1),
+      record { there = subst (λ (s : List Entry). slice_get s (length front) ≡ Some e) (sym is) (get_seam front e es); later = later; pass = made.0.0; due = made.0.1 },
+      subst (λ (n : ℕ). AllByRecursion (IsOwn h) (numbered n es)) more (own_all h (front ++ e ∷ []) es (is ∙ sym (append_assoc front (e ∷ []) es)) (omega (arith, later, more)) made.1),
     )
 
 -- their numbers
@@ -48,14 +51,16 @@ holds_alone start now stopped is =
     let same : es ≡ is.since = since_is start.history is.since now.history is.steps.moves.history in
     record {
       legal = subst (Legal start.store.tells (core_of start)) (sym same) is.steps.moves.legal;
-      own = own_all (alone_of start now stopped) start.history es refl (omega arith) (subst (AllByRecursion (λ e. pass_of e ≡ 0)) (sym same) (passes stopped is.whole is.until))
-          (subst (AllByRecursion (IsDueEntry (xorb_limits start.store.limits))) (sym same) is.due);
+      own = own_all (alone_of start now stopped) start.history es refl (omega arith) (subst (AllByRecursion (IsMade start.store.limits 0)) (sym same) (made stopped is.whole is.until));
       ascend = ascend (length start.history) es;
     }
   where
-    target : ℕ
-    target = start.store.limits.shard_target
+    limits : LimitSettings
+    limits = start.store.limits
 
-    passes : (b : Bool) → (b ≡ false → StepsTo 0 target (core_of start) is.since) → (b ≡ true → StepsUntil start.store.limits 0 (core_of start) is.since) → AllByRecursion (λ e. pass_of e ≡ 0) is.since
-    passes true whole until = until_pass start.store.limits 0 (core_of start) is.since (until refl)
-    passes false whole until = steps_pass 0 target (core_of start) is.since (whole refl)
+    c : Core
+    c = core_of start
+
+    made : (b : Bool) → (b ≡ false → StepsTo start.store.limits 0 (core_of start) is.since) → (b ≡ true → (e : StoreError) × StepsUntil start.store.limits 0 (core_of start) e is.since) → AllByRecursion (IsMade start.store.limits 0) is.since
+    made true whole until = until_made limits 0 c (until refl).0 is.since (until refl).1
+    made false whole until = steps_made limits 0 c is.since (whole refl)

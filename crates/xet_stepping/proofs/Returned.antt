@@ -1,7 +1,7 @@
 -- The calls of a store that one caller has alone, as what contracts see of it before and after.
 use Rattle.std.proofs.Common.{◌≡◌, ◌≢◌, ◌⊎◌, inl, inr, ◌∙◌, ℕ, Bool, true, false, List, Option, Some, IfSome, sym, ap, subst}
 use Rattle.xet_completion.specs.Completing.{Completes}
-use Rattle.xet_dedup_queries.specs.Registering.{IsDue, IsNewXorb}
+use Rattle.xet_dedup_queries.specs.Registering.{IsDue}
 use Rattle.xet_folder.specs.Xorbs.{IsListed}
 use Rattle.xet_hash.specs.Hash.{sentinel}
 use Rattle.xet_hash.specs.Merkle.{xorb_hash}
@@ -20,9 +20,7 @@ use Rattle.xet_steps.specs.Recorded.{IsRecorded, RecordedState, core_of}
 use Rattle.xet_steps.specs.Steps.{FailsAsking, IsOtherFile, Refuses, Steps}
 use Rattle.xet_steps.specs.theorems.Sound.{sound_core}
 use Rattle.xet_store.specs.Store.{Sound}
-use Rattle.xet_xorb.specs.Raw.{raw_leaves}
-use Rattle.xet_xorb.specs.declared.raw.RawXorbData.{RawXorbData}
-use Rattle.xet_stepping.specs.Alone.{AloneState, IsAlone, Step, alone_of, alone_state}
+use Rattle.xet_stepping.specs.Alone.{AloneState, IsAlone, MayBeAsked, Step, alone_of, alone_state}
 use Rattle.xet_stepping.specs.Holders.{Holder, xorb_limits}
 use Rattle.xet_stepping.specs.Stepping.{SawComplete, SawError, SawOther, SawQuery, SawRegister, cut_to_complete, cut_to_register, no_cut}
 use Rattle.xet_stepping.proofs.Failing.{alone_error, alone_other, alone_query_error, saw_error, saw_other, saw_query_error, saw_stopped}
@@ -51,6 +49,9 @@ module _ (start store new : RecordedState) (stopped : Bool) (s : AloneState) (vi
   goes_on : IsAlone start new false → IsAlone start new stopped
   goes_on alone = subst (IsAlone start new) (sym going) alone
 
+  asked_here : (step : Step) → MayBeAsked s.start.store.limits step → MayBeAsked start.store.limits step
+  asked_here step asked = subst (λ (x : AloneState). MayBeAsked x.start.store.limits step) (sym view) asked
+
   -- a query
   module _ (hashes : List (List ℕ)) (reply : Option (ℕ × Segment)) (steps : Steps store new (query_entries 0 hashes reply)) where
     pub query_alone : IsAlone start new stopped
@@ -68,21 +69,20 @@ module _ (start store new : RecordedState) (stopped : Bool) (s : AloneState) (vi
     query_error = ended (λ a b. SawError Query no_cut a b e) (saw_query_error start store new is e fails)
 
   -- a registration
-  module _ (leaves next : List (List ℕ × ℕ)) (due : IsDue (xorb_limits s.start.store.limits) leaves next) (steps : Steps store new (register_entries 0 (core_of store) store.store.limits.shard_target leaves next)) where
+  module _ (leaves next : List (List ℕ × ℕ)) (asked : MayBeAsked s.start.store.limits (Step.registers leaves)) (due : IsDue (xorb_limits s.start.store.limits) leaves next) (steps : Steps store new (register_entries 0 (core_of store) store.store.limits.shard_target leaves next)) where
     due_here : IsDue (xorb_limits start.store.limits) leaves next
     due_here = subst (λ (x : AloneState). IsDue (xorb_limits x.start.store.limits) leaves next) (sym view) due
 
     pub register_alone : IsAlone start new stopped
-    register_alone = goes_on (alone_registered start store is new leaves next due_here steps)
+    register_alone = goes_on (alone_registered start store is new leaves next (asked_here (Step.registers leaves) asked) due_here steps)
 
     pub register_seen : (added : Bool) → added ≡ is_new store.store.xorbs (xorb_hash leaves) → IsListed new.store.xorbs (xorb_hash leaves) leaves → xorb_hash leaves ≢ sentinel
         → SawRegister leaves next (of_state s) (alone_of start new stopped) added
-    register_seen added new_hash listed named = completed (λ a b. SawRegister leaves next a b added) (saw_register start store new is leaves next added due_here steps new_hash listed named)
+    register_seen added new_hash listed named = completed (λ a b. SawRegister leaves next a b added) (saw_register start store new is leaves next added (asked_here (Step.registers leaves) asked) due_here steps new_hash listed named)
 
   module _ (leaves : List (List ℕ × ℕ)) (e : StoreError) (fails : Refuses 0 Register (register_cut 0 (core_of store) store.store.limits.shard_target leaves) store new e) where
-    pub register_stops : (x : RawXorbData) → IsNewXorb (xorb_limits s.start.store.limits) x → raw_leaves x ≡ leaves → IsAlone start new true
-    register_stops x fresh same = alone_error start store new is e (Step.registers leaves) fails
-        (x, subst (λ (y : AloneState). IsNewXorb (xorb_limits y.start.store.limits) x) (sym view) fresh, same)
+    pub register_stops : MayBeAsked s.start.store.limits (Step.registers leaves) → IsAlone start new true
+    register_stops asked = alone_error start store new is e (Step.registers leaves) fails (asked_here (Step.registers leaves) asked)
 
     pub register_error : IsRecorded store → SawError Register (cut_to_register (of_state s) leaves) (of_state s) (alone_of start new true) e
     register_error recorded = ended (λ a b. SawError Register (cut_to_register a leaves) a b e)
@@ -90,15 +90,15 @@ module _ (start store new : RecordedState) (stopped : Bool) (s : AloneState) (vi
 
   -- a recording
   module _ (file : MDBFileInfo) (steps : Steps store new (complete_entries 0 (core_of store) store.store.limits.shard_target file)) where
-    pub complete_alone : IsAlone start new stopped
-    complete_alone = goes_on (alone_completed start store is new file steps)
+    pub complete_alone : IsFile file → Completes store.store.xorbs file → IsAlone start new stopped
+    complete_alone form can = goes_on (alone_completed start store is new file form can steps)
 
     pub complete_seen : (added : Bool) → added ≡ is_new store.store.records (file_record_hash file) → Completes store.store.xorbs file → SawComplete file (of_state s) (alone_of start new stopped) added
     complete_seen added new_hash can = completed (λ a b. SawComplete file a b added) (saw_complete start store new is file added steps new_hash can)
 
   module _ (file : MDBFileInfo) (e : StoreError) where
     pub complete_stops : IsFile file → FailsCompleting store new file e → IsAlone start new true
-    complete_stops form (inl other) = alone_other start store new is e file other
+    complete_stops form (inl other) = alone_other start store new is e file form other
     complete_stops form (inr fails) = alone_error start store new is e (Step.completes file) fails form
 
     pub complete_error : IsRecorded store → FailsCompleting store new file e → SawOther file (of_state s) (alone_of start new true) e ⊎ SawError Complete (cut_to_complete (of_state s) file) (of_state s) (alone_of start new true) e

@@ -18,7 +18,7 @@ use Rattle.xet_shard_format.specs.declared.record.FileDataSequenceEntry.{FileDat
 use Rattle.xet_shard_format.specs.declared.record.MDBFileInfo.{MDBFileInfo}
 use Rattle.xet_steps.specs.Recorded.{RecordedState, core_of}
 use Rattle.xet_steps.specs.Steps.{Steps}
-use Rattle.xet_stepping.specs.Alone.{IsAlone, alone_of}
+use Rattle.xet_stepping.specs.Alone.{IsAlone, MayBeAsked, Step, alone_of}
 use Rattle.xet_stepping.specs.Holders.{Holder, core_at, core_found, grown, xorb_limits}
 use Rattle.xet_stepping.specs.Stepping.{SawComplete, SawQuery, SawRegister}
 use Rattle.xet_stepping.proofs.Growing.{core_alone, found_alone, holder_grown}
@@ -66,15 +66,15 @@ module _ (start now new : RecordedState) (is : IsAlone start now false) where
       same : core_at after ≡ c
       same = core_alone start new false false (alone_queried start now is new hashes reply steps) ∙ steps.moves.leads ∙ sym (query_leads c 0 hashes reply)
 
-  pub saw_register : (leaves next : List (List ℕ × ℕ)) (added : Bool) → IsDue (xorb_limits start.store.limits) leaves next → Steps now new (register_entries 0 c now.store.limits.shard_target leaves next)
+  pub saw_register : (leaves next : List (List ℕ × ℕ)) (added : Bool) → MayBeAsked start.store.limits (Step.registers leaves) → IsDue (xorb_limits start.store.limits) leaves next → Steps now new (register_entries 0 c now.store.limits.shard_target leaves next)
       → added ≡ is_new now.store.xorbs (xorb_hash leaves) → IsListed new.store.xorbs (xorb_hash leaves) leaves → xorb_hash leaves ≢ sentinel → SawRegister leaves next before after added
-  saw_register leaves next added due steps new_hash listed named = record {
+  saw_register leaves next added asked due steps new_hash listed named = record {
     others = [];
     going = refl;
     is = holder_grown start now new (register_entries 0 c now.store.limits.shard_target leaves next) is steps
         ∙ ap (λ (es : List Entry). grown before [] es) (λ i. register_entries 0 (sym found_is i) (limits_now start now is new i).shard_target leaves next);
     new_hash = new_hash ∙ ap (λ (d : Core). is_new d.xorbs (xorb_hash leaves)) (sym found_is);
-    listed = subst (λ (d : Core). IsListed d.xorbs (xorb_hash leaves) leaves) (sym (core_alone start new false false (alone_registered start now is new leaves next due steps))) listed;
+    listed = subst (λ (d : Core). IsListed d.xorbs (xorb_hash leaves) leaves) (sym (core_alone start new false false (alone_registered start now is new leaves next asked due steps))) listed;
     named = named;
   }
 

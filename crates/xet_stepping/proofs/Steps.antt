@@ -3,25 +3,26 @@ use Rattle.std.proofs.Common.{◌≡◌, ◌⊎◌, inl, inr, ℕ, true, false, 
 use Rattle.std.specs.Prelude.{Any}
 use Rattle.std.specs.List.{AllByRecursion, Contains}
 use Rattle.std.proofs.lemmas.Bool.{false≢true}
-use Rattle.std.proofs.lemmas.List.{append-nil}
 use Rattle.std.proofs.lemmas.List.Elements.{All-contains, All-from_recursion, Contains-append_cases}
-use Rattle.xet_base.specs.theorems.Elements.{all_both}
+use Rattle.xet_completion.specs.Completing.{Completes}
 use Rattle.xet_cut.specs.declared.limits.LimitSettings.{LimitSettings}
 use Rattle.xet_dedup_queries.specs.Registering.{IsDue}
+use Rattle.xet_hash.specs.declared.error.Place.TheVariants.{Disk}
 use Rattle.xet_hash.specs.declared.error.StoreError.{StoreError}
-use Rattle.xet_hash.specs.declared.error.StoreError.TheVariants.{OutOfMemory}
+use Rattle.xet_hash.specs.declared.error.StoreError.TheVariants.{Io}
 use Rattle.xet_history.specs.Core.{Core}
 use Rattle.xet_history.specs.History.{after_all, complete_entries, cut_entries, query_entries, register_entries}
 use Rattle.xet_history.specs.declared.entry.Entry.{Entry}
 use Rattle.xet_history.specs.declared.entry.StepKind.{StepKind}
 use Rattle.xet_io.specs.Faults.{Rose}
+use Rattle.xet_shard_format.specs.Records.{IsFile}
 use Rattle.xet_shard_format.specs.declared.record.FileDataSequenceEntry.{FileDataSequenceEntry as Segment}
 use Rattle.xet_shard_format.specs.declared.record.MDBFileInfo.{MDBFileInfo}
 use Rattle.xet_steps.specs.Recorded.{RecordedState, core_of}
 use Rattle.xet_steps.specs.Steps.{Steps, fault_entries}
 use Rattle.xet_steps.specs.theorems.Joining.{steps_both, steps_nothing}
 use Rattle.xet_stepping.specs.Alone.{IsAlone, IsFault, MayBeAsked, Step, StepsTo, StepsUntil, cut_of, kind_of}
-use Rattle.xet_stepping.specs.Holders.{IsDueEntry, xorb_limits}
+use Rattle.xet_stepping.specs.Holders.{xorb_limits}
 use Rattle.xet_stepping.proofs.Entries.{all_complete, all_done, all_fault, all_query, all_register, done_cases, size_of}
 
 -- it is no failure of the disk
@@ -39,6 +40,11 @@ any_either xs ys any = go (Contains-append_cases xs ys any.1 (any.0, any.2, any.
 pub no_fault : (xs : List Entry) → AllByRecursion IsNoFault xs → Any IsFault xs → ⊥
 no_fault xs none any = All-contains IsNoFault xs any.1 (All-from_recursion IsNoFault xs none) (any.0, any.2, any.3) any.4
 
+-- the step that has it failed by it
+disk_failed : (kind : StepKind) (e : StoreError) → Any IsFault (fault_entries 0 kind e) → e ≡ Io Disk
+disk_failed kind (Io Disk) any = refl
+disk_failed kind e any = absurd (no_fault [] tt any)
+
 -- nothing was done yet
 pub alone_begins : (s : RecordedState) → IsAlone s s false
 alone_begins s = record {
@@ -46,46 +52,44 @@ alone_begins s = record {
   steps = steps_nothing s;
   whole = λ going. StepsTo.begins;
   until = λ bad. absurd (false≢true bad);
-  due = tt;
+  disk = λ any. absurd (no_fault [] tt any);
   rose = λ any. absurd (no_fault [] tt any);
 }
 
 module _ (start now new : RecordedState) (is : IsAlone start now false) (added : List Entry) (steps : Steps now new added) where
-  abbrev pub target : ℕ
-  target = start.store.limits.shard_target
-
-  abbrev pub IsOwnDue : Entry → Type 0
-  IsOwnDue = IsDueEntry (xorb_limits start.store.limits)
-
   all_steps : Steps start new (is.since ++ added)
   all_steps = steps_both start now new is.since added is.steps steps
 
-  rose_more : (Any IsFault added → Rose now.store.faults new.store.faults) → Any IsFault (is.since ++ added) → Rose start.store.faults new.store.faults
-  rose_more rose any = go (any_either is.since added any)
+  -- no step had failed
+  here_alone : Any IsFault (is.since ++ added) → Any IsFault added
+  here_alone any = go (any_either is.since added any)
     where
-      go : Any IsFault is.since ⊎ Any IsFault added → Rose start.store.faults new.store.faults
-      go (inl before) = omega (arith, is.rose before, steps.keeps.later)
-      go (inr here) = omega (arith, rose here, is.steps.keeps.later)
+      go : Any IsFault is.since ⊎ Any IsFault added → Any IsFault added
+      go (inl before) = absurd (false≢true (is.disk before).0)
+      go (inr here) = here
+
+  rose_more : (Any IsFault added → Rose now.store.faults new.store.faults) → Any IsFault (is.since ++ added) → Rose start.store.faults new.store.faults
+  rose_more rose any = omega (arith, rose (here_alone any), is.steps.keeps.later)
 
   -- after a completed step
-  pub alone_more : StepsTo 0 target (core_of start) (is.since ++ added) → AllByRecursion IsOwnDue added → AllByRecursion IsNoFault added → IsAlone start new false
-  alone_more to due none = record {
+  pub alone_more : StepsTo start.store.limits 0 (core_of start) (is.since ++ added) → AllByRecursion IsNoFault added → IsAlone start new false
+  alone_more to none = record {
     since = is.since ++ added;
     steps = all_steps;
     whole = λ going. to;
     until = λ bad. absurd (false≢true bad);
-    due = all_both IsOwnDue is.since added is.due due;
+    disk = λ any. absurd (no_fault added none (here_alone any));
     rose = rose_more (λ any. absurd (no_fault added none any));
   }
 
   -- after a step that failed
-  pub alone_stops : StepsUntil start.store.limits 0 (core_of start) (is.since ++ added) → AllByRecursion IsOwnDue added → (Any IsFault added → Rose now.store.faults new.store.faults) → IsAlone start new true
-  alone_stops until due rose = record {
+  pub alone_stops : (e : StoreError) → StepsUntil start.store.limits 0 (core_of start) e (is.since ++ added) → (Any IsFault added → e ≡ Io Disk) → (Any IsFault added → Rose now.store.faults new.store.faults) → IsAlone start new true
+  alone_stops e until disk rose = record {
     since = is.since ++ added;
     steps = all_steps;
     whole = λ bad. absurd (false≢true (sym bad));
-    until = λ stopped. until;
-    due = all_both IsOwnDue is.since added is.due due;
+    until = λ stopped. (e, until);
+    disk = λ any. (refl, subst (λ (x : StoreError). StepsUntil start.store.limits 0 (core_of start) x (is.since ++ added)) (disk (here_alone any)) until);
     rose = rose_more rose;
   }
 
@@ -101,32 +105,31 @@ module _ (start now : RecordedState) (is : IsAlone start now false) (new : Recor
   limits_now = is.steps.keeps.limits
 
   abbrev ToMore : List Entry → Type 0
-  ToMore es = StepsTo 0 limits.shard_target (core_of start) (is.since ++ es)
+  ToMore es = StepsTo limits 0 (core_of start) (is.since ++ es)
 
   pub alone_queried : (hashes : List (List ℕ)) (reply : Option (ℕ × Segment)) → Steps now new (query_entries 0 hashes reply) → IsAlone start new false
-  alone_queried hashes reply steps =
-      alone_more start now new is (query_entries 0 hashes reply) steps (StepsTo.asks is.since hashes reply (is.whole refl)) (all_query (IsDueEntry (xorb_limits limits)) 0 (λ hs r. tt) hashes reply) (all_query IsNoFault 0 (λ hs r bad. bad) hashes reply)
+  alone_queried hashes reply steps = alone_more start now new is (query_entries 0 hashes reply) steps (StepsTo.asks is.since hashes reply (is.whole refl)) (all_query IsNoFault 0 (λ hs r bad. bad) hashes reply)
 
-  pub alone_registered : (leaves next : List (List ℕ × ℕ)) → IsDue (xorb_limits limits) leaves next → Steps now new (register_entries 0 (core_of now) now.store.limits.shard_target leaves next) → IsAlone start new false
-  alone_registered leaves next due steps =
+  pub alone_registered : (leaves next : List (List ℕ × ℕ)) → MayBeAsked limits (Step.registers leaves) → IsDue (xorb_limits limits) leaves next → Steps now new (register_entries 0 (core_of now) now.store.limits.shard_target leaves next) → IsAlone start new false
+  alone_registered leaves next asked due steps =
       let c : Core = core_of now in let target : ℕ = now.store.limits.shard_target in
       alone_more start now new is (register_entries 0 c target leaves next) steps
-      (subst ToMore (λ i. register_entries 0 (sym core_now i) (sym limits_now i).shard_target leaves next) (StepsTo.registers is.since leaves next (is.whole refl)))
-      (all_register (IsDueEntry (xorb_limits limits)) 0 (λ s. tt) c target leaves next (λ b. due)) (all_register IsNoFault 0 (λ s bad. bad) c target leaves next (λ b bad. bad))
+      (subst ToMore (λ i. register_entries 0 (sym core_now i) (sym limits_now i).shard_target leaves next) (StepsTo.registers is.since leaves next (is.whole refl) asked due))
+      (all_register IsNoFault 0 (λ s bad. bad) c target leaves next (λ b bad. bad))
 
-  pub alone_completed : (file : MDBFileInfo) → Steps now new (complete_entries 0 (core_of now) now.store.limits.shard_target file) → IsAlone start new false
-  alone_completed file steps =
+  pub alone_completed : (file : MDBFileInfo) → IsFile file → Completes now.store.xorbs file → Steps now new (complete_entries 0 (core_of now) now.store.limits.shard_target file) → IsAlone start new false
+  alone_completed file form can steps =
       let c : Core = core_of now in let target : ℕ = now.store.limits.shard_target in
       alone_more start now new is (complete_entries 0 c target file) steps
-      (subst ToMore (λ i. complete_entries 0 (sym core_now i) (sym limits_now i).shard_target file) (StepsTo.completes is.since file (is.whole refl)))
-      (all_complete (IsDueEntry (xorb_limits limits)) 0 (λ s. tt) c target file (λ b. tt)) (all_complete IsNoFault 0 (λ s bad. bad) c target file (λ b bad. bad))
+      (subst ToMore (λ i. complete_entries 0 (sym core_now i) (sym limits_now i).shard_target file)
+      (StepsTo.completes is.since file (is.whole refl) form (subst (λ (d : Core). Completes d.xorbs file) core_now can)))
+      (all_complete IsNoFault 0 (λ s bad. bad) c target file (λ b bad. bad))
 
   -- a step failed
   pub alone_failed : (step : Step) → MayBeAsked limits step → (e : StoreError) (done : List Entry) → (done ≡ []) ⊎ (done ≡ cut_of 0 limits.shard_target step (core_of now)) → Steps now new (done ++ fault_entries 0 (kind_of step) e)
       → (Any IsFault (fault_entries 0 (kind_of step) e) → Rose now.store.faults new.store.faults) → IsAlone start new true
   alone_failed step asked e done completed steps rose =
-      let kind : StepKind = kind_of step in
-      alone_stops start now new is (done ++ fault_entries 0 kind e) steps
+      alone_stops start now new is (done ++ fault_entries 0 (kind_of step) e) steps e
       (record {
         before = is.since;
         steps = is.whole refl;
@@ -134,12 +137,9 @@ module _ (start now : RecordedState) (is : IsAlone start now false) (new : Recor
         asked = asked;
         done = done;
         completed = subst (λ (c : Core). (done ≡ []) ⊎ (done ≡ cut_of 0 limits.shard_target step c)) core_now completed;
-        error = e;
         is = refl;
       })
-      (all_both (IsDueEntry (xorb_limits limits)) done (fault_entries 0 kind e) (all_done (IsDueEntry (xorb_limits limits)) 0 (λ s. tt) (core_of now) limits.shard_target (size_of step) done cases)
-      (all_fault (IsDueEntry (xorb_limits limits)) 0 (λ k. tt) kind e))
-      (λ any. rose (of_two any))
+      (λ any. disk_failed (kind_of step) e (of_two any)) (λ any. rose (of_two any))
     where
       cases : (done ≡ []) ⊎ (done ≡ cut_entries 0 (core_of now) limits.shard_target (size_of step))
       cases = done_cases 0 limits.shard_target step (core_of now) done completed
@@ -153,23 +153,3 @@ module _ (start now : RecordedState) (is : IsAlone start now false) (new : Recor
           go : Any IsFault done ⊎ Any IsFault failure → Any IsFault failure
           go (inl bad) = absurd (no_fault done (all_done IsNoFault 0 (λ s b. b) (core_of now) limits.shard_target (size_of step) done cases) bad)
           go (inr any) = any
-
-  -- it is not asked again
-  pub alone_refused : IsAlone start now true
-  alone_refused = record {
-    since = is.since;
-    steps = is.steps;
-    whole = λ bad. absurd (false≢true (sym bad));
-    until = λ stopped. record {
-      before = is.since;
-      steps = is.whole refl;
-      step = Step.asks;
-      asked = tt;
-      done = [];
-      completed = inl refl;
-      error = OutOfMemory;
-      is = sym (append-nil is.since);
-    };
-    due = is.due;
-    rose = is.rose;
-  }

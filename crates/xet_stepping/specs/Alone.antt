@@ -1,9 +1,11 @@
 -- A store that one caller has alone, as a holder.
 use Rattle.std.specs.Prelude.{◌≡◌, ◌⊎◌, ℕ, Bool, true, false, List, [], ◌++◌, length, drop, Any, Option}
-use Rattle.std.specs.List.{AllByRecursion}
+use Rattle.xet_completion.specs.Completing.{Completes}
 use Rattle.xet_cut.specs.declared.limits.LimitSettings.{LimitSettings}
-use Rattle.xet_dedup_queries.specs.Registering.{IsNewXorb}
+use Rattle.xet_dedup_queries.specs.Registering.{IsDue, IsNewXorb}
+use Rattle.xet_hash.specs.declared.error.Place.TheVariants.{Disk}
 use Rattle.xet_hash.specs.declared.error.StoreError.{StoreError}
+use Rattle.xet_hash.specs.declared.error.StoreError.TheVariants.{Io}
 use Rattle.xet_history.specs.Core.{Core}
 use Rattle.xet_history.specs.History.{after_all, complete_cut, complete_entries, query_entries, register_cut, register_entries}
 use Rattle.xet_history.specs.declared.entry.Entry.{Entry}
@@ -18,16 +20,7 @@ use Rattle.xet_steps.specs.Recorded.{RecordedState, core_of}
 use Rattle.xet_steps.specs.Steps.{Steps, fault_entries}
 use Rattle.xet_xorb.specs.Raw.{raw_leaves}
 use Rattle.xet_xorb.specs.declared.raw.RawXorbData.{RawXorbData}
-use Rattle.xet_stepping.specs.Holders.{Holder, IsDueEntry, xorb_limits, numbered}
-
--- From a core on, these are the entries of completed steps of a pass, over a target length of shards: queries, registrations
--- and recordings. So each flush among them was due before the entry that follows it.
-pub data StepsTo (pass target : ℕ) (c : Core) : List Entry → Type 0 where
-  begins : StepsTo pass target c []
-  asks : (es : List Entry) (hashes : List (List ℕ)) (reply : Option (ℕ × Segment)) → StepsTo pass target c es → StepsTo pass target c (es ++ query_entries pass hashes reply)
-  registers : (es : List Entry) (leaves next : List (List ℕ × ℕ)) → StepsTo pass target c es
-      → StepsTo pass target c (es ++ register_entries pass (after_all c es) target leaves next)
-  completes : (es : List Entry) (file : MDBFileInfo) → StepsTo pass target c es → StepsTo pass target c (es ++ complete_entries pass (after_all c es) target file)
+use Rattle.xet_stepping.specs.Holders.{Holder, xorb_limits, numbered}
 
 -- a step that is made: a query, the registration of a xorb of these chunks, or the recording of a file
 pub data Step : Type 0 where
@@ -46,22 +39,33 @@ cut_of pass target Step.asks c = []
 cut_of pass target (Step.registers leaves) c = register_cut pass c target leaves
 cut_of pass target (Step.completes file) c = complete_cut pass c target file
 
--- It may be asked for under these limits.
+-- It may be asked for under these limits: a xorb is within them.
 abbrev pub MayBeAsked : LimitSettings → Step → Type 0
 MayBeAsked limits Step.asks = Unit {0}
 MayBeAsked limits (Step.registers leaves) = (x : RawXorbData) × IsNewXorb (xorb_limits limits) x × (raw_leaves x ≡ leaves)
 MayBeAsked limits (Step.completes file) = IsFile file
 
--- After completed steps one failed, and was the last: of its entries there are at most that of the cut that was due before
--- it, and that of the disk's failure.
-pub record StepsUntil (limits : LimitSettings) (pass : ℕ) (c : Core) (all : List Entry) : Type 0 where
+-- From a core on, these are the entries of completed steps of a pass: queries, registrations and recordings. So each flush
+-- among them was due before the entry that follows it. Each xorb is within the limits, and was registered with the chunks that
+-- did not fit into it, or with none. Each file that was recorded has a plan that lies in xorbs that were listed before, and
+-- gives its hashes.
+pub data StepsTo (limits : LimitSettings) (pass : ℕ) (c : Core) : List Entry → Type 0 where
+  begins : StepsTo limits pass c []
+  asks : (es : List Entry) (hashes : List (List ℕ)) (reply : Option (ℕ × Segment)) → StepsTo limits pass c es → StepsTo limits pass c (es ++ query_entries pass hashes reply)
+  registers : (es : List Entry) (leaves next : List (List ℕ × ℕ)) → StepsTo limits pass c es → MayBeAsked limits (Step.registers leaves) → IsDue (xorb_limits limits) leaves next
+      → StepsTo limits pass c (es ++ register_entries pass (after_all c es) limits.shard_target leaves next)
+  completes : (es : List Entry) (file : MDBFileInfo) → StepsTo limits pass c es → IsFile file → Completes (after_all c es).xorbs file
+      → StepsTo limits pass c (es ++ complete_entries pass (after_all c es) limits.shard_target file)
+
+-- After completed steps one failed with this error, and was the last: of its entries there are at most that of the cut that
+-- was due before it, and that of the disk's failure.
+pub record StepsUntil (limits : LimitSettings) (pass : ℕ) (c : Core) (error : StoreError) (all : List Entry) : Type 0 where
   pub before : List Entry
-  pub steps : StepsTo pass limits.shard_target c before
+  pub steps : StepsTo limits pass c before
   pub step : Step
   pub asked : MayBeAsked limits step
   pub done : List Entry
   pub completed : (done ≡ []) ⊎ (done ≡ cut_of pass limits.shard_target step (after_all c before))
-  pub error : StoreError
   pub is : all ≡ before ++ (done ++ fault_entries pass (kind_of step) error)
 
 abbrev pub IsFault : Entry → Type 0
@@ -81,15 +85,14 @@ pub record AloneState : Type 0 where
 abbrev pub alone_state : RecordedState → RecordedState → Bool → AloneState
 alone_state start store stopped = record { start = start; store = store; stopped = stopped }
 
--- Since it began, pass 0 alone made steps of the store: completed ones, and at most one that failed and was the last. Each
--- xorb was registered with the chunks that did not fit into it: there are none, or it would pass a limit with them. If there
--- is an entry of a failure of the disk, its count rose.
+-- Since it began, pass 0 alone made steps of the store: completed ones, and at most one that failed and was the last. If there
+-- is an entry of a failure of the disk, that step failed by it, and the disk's count of failures rose.
 pub record IsAlone (start now : RecordedState) (stopped : Bool) : Type 0 where
   pub since : List Entry
   pub steps : Steps start now since
-  pub whole : stopped ≡ false → StepsTo 0 start.store.limits.shard_target (core_of start) since
-  pub until : stopped ≡ true → StepsUntil start.store.limits 0 (core_of start) since
-  pub due : AllByRecursion (IsDueEntry (xorb_limits start.store.limits)) since
+  pub whole : stopped ≡ false → StepsTo start.store.limits 0 (core_of start) since
+  pub until : stopped ≡ true → (e : StoreError) × StepsUntil start.store.limits 0 (core_of start) e since
+  pub disk : Any IsFault since → (stopped ≡ true) × StepsUntil start.store.limits 0 (core_of start) (Io Disk) since
   pub rose : Any IsFault since → Rose start.store.faults now.store.faults
 
 -- what it has seen: the whole history, of which each entry since it began is its own
