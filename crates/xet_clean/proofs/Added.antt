@@ -16,7 +16,8 @@ use Rattle.xet_stepping.specs.Holders.{Holder, calls_of, core_at, lengths_in, xo
 use Rattle.xet_stepping.specs.theorems.Following.{follows_nothing}
 use Rattle.xet_cut.specs.declared.limits.LimitSettings.{LimitSettings}
 use Rattle.xet_clean.specs.Cleaning.{metrics_sum}
-use Rattle.xet_clean.specs.Files.{IsWithin, leaves_in}
+use Rattle.xet_clean.specs.Files.{leaves_in}
+use Rattle.xet_clean.specs.internal.Planning.{IsWithin}
 use Rattle.xet_clean.specs.internal.Closing.{Closes, HaveForm, Joins}
 use Rattle.xet_clean.specs.internal.Sums.{HasRoom}
 use Rattle.xet_clean.specs.internal.Working.{IsAdded, IsWorking, Planned}

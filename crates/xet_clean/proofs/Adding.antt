@@ -1,10 +1,10 @@
 -- What steps add to a holder: calls, and files that are recorded.
-use Rattle.std.proofs.Common.{◌≡◌, ◌≢◌, ◌∙◌, ◌⊎◌, inl, inr, ℕ, zero, suc, ◌+◌, ◌*◌, ◌≤◌, Bool, true, false, List, [], ◌∷◌, ◌++◌, length, map, refl, sym, ap, subst, length-append, if◌then◌else◌, arith}
-use Rattle.std.proofs.lemmas.List.{append_cancel_left, length-map}
+use Rattle.std.proofs.Common.{◌≡◌, ◌≢◌, ◌∙◌, ◌⊎◌, inl, inr, ℕ, suc, ◌+◌, ◌*◌, ◌≤◌, Bool, true, false, List, [], ◌∷◌, ◌++◌, length, map, take, refl, sym, ap, subst, length-append, if◌then◌else◌, arith}
+use Rattle.std.proofs.lemmas.List.{append_cancel_left, append-nil, length-map, map-append, take_all}
 use Rattle.std.proofs.lemmas.List.Elements.{Contains-append_left, Contains-append_right}
 use Rattle.std.specs.List.{AllByRecursion, IsAmong}
 use Rattle.xet_aggregate.specs.Aggregate.{Aggregate, Pending, filled}
-use Rattle.xet_base.specs.theorems.Elements.{all_both, all_more}
+use Rattle.xet_base.specs.theorems.Elements.{all_both}
 use Rattle.xet_choices.specs.Calls.{Call}
 use Rattle.xet_choices.specs.Calls.Call.{Registered}
 use Rattle.xet_hash.specs.Merkle.{xorb_hash}
@@ -26,9 +26,10 @@ use Rattle.xet_stepping.specs.theorems.Following.{calls_in-append, follows_nothi
 use Rattle.xet_xorb.specs.Raw.{xorb_record}
 use Rattle.xet_xorb_chunk.specs.Chunks.{chunk_leaf}
 use Rattle.xet_xorb_chunk.specs.declared.chunk.Chunk.{Chunk}
-use Rattle.xet_clean.specs.internal.Closing.{Closes, Completes, RecordsAmong, RecordsOnly, filled_files}
+use Rattle.xet_clean.specs.Cleaning.{close_of, files_in}
+use Rattle.xet_clean.specs.internal.Closing.{Closes, Completes, Records, RecordsFirst, RegistersChunks, filled_files, recorded_in}
 use Rattle.xet_clean.proofs.Counting.{complete_count, register_count}
-use Rattle.xet_clean.proofs.Keeping.{number_follows, own_follows}
+use Rattle.xet_clean.proofs.Keeping.{own_follows}
 
 -- ---- among
 
@@ -38,48 +39,57 @@ among_left xs ys v a = let at = Contains-append_left xs ys v (a.0, a.1.0, sym a.
 pub among_right : {X : Type 0} (xs ys : List X) (v : X) → IsAmong ys v → IsAmong (xs ++ ys) v
 among_right xs ys v a = let at = Contains-append_right xs ys v (a.0, a.1.0, sym a.1.1) in (at.0, (at.1, sym at.2))
 
-pub among_one : {X : Type 0} (v : X) → IsAmong (v ∷ []) v
-among_one v = (0, (omega arith, refl))
-
-pub all_among : {X : Type 0} (P : X → Type 0) (xs : List X) (v : X) → AllByRecursion P xs → IsAmong xs v → P v
-all_among P [] v all a = absurd (omega (arith, a.1.0))
-all_among P (x ∷ xs) v all (zero, a) = subst P (sym a.1) all.0
-all_among P (x ∷ xs) v all (suc i, a) = all_among P xs v all.1 (i, (omega (arith, a.0), a.1))
-
 -- ---- what is recorded
 
-pub records_more : (files more : List MDBFileInfo) → ((f : MDBFileInfo) → IsAmong files f → IsAmong more f) → (e : Entry) → RecordsAmong files e → RecordsAmong more e
-records_more files more f (Query pass hashes reply) r = tt
-records_more files more f (Register pass chunks next added) r = tt
-records_more files more f (Complete pass file added) r = f file r
-records_more files more f (Flush pass shard) r = tt
-records_more files more f (Fault pass kind) r = tt
+pub files_in-append : (xs ys : List Entry) → files_in (xs ++ ys) ≡ files_in xs ++ files_in ys
+files_in-append [] ys = refl
+files_in-append (Query pass hashes reply ∷ xs) ys = files_in-append xs ys
+files_in-append (Register pass chunks next added ∷ xs) ys = files_in-append xs ys
+files_in-append (Complete pass file added ∷ xs) ys = ap (λ (l : List MDBFileInfo). file ∷ l) (files_in-append xs ys)
+files_in-append (Flush pass shard ∷ xs) ys = files_in-append xs ys
+files_in-append (Fault pass kind ∷ xs) ys = files_in-append xs ys
 
-pub records_none : (e : Entry) → IsCall e → RecordsAmong [] e
-records_none (Query pass hashes reply) r = tt
-records_none (Register pass chunks next added) r = tt
-records_none (Complete pass file added) r = absurd r
-records_none (Flush pass shard) r = tt
-records_none (Fault pass kind) r = tt
+pub recorded_in-append : (xs ys : List (ℕ × Entry)) → recorded_in (xs ++ ys) ≡ recorded_in xs ++ recorded_in ys
+recorded_in-append xs ys =
+    ap files_in (map-append (λ (p : ℕ × Entry). p.1) xs ys) ∙ files_in-append (map (λ (p : ℕ × Entry). p.1) xs) (map (λ (p : ℕ × Entry). p.1) ys)
 
--- one of these entries records it
-abbrev pub HasRecorded : ℕ → List (ℕ × Entry) → MDBFileInfo → Type 0
-HasRecorded pass own file = (n : ℕ) × (added : Bool) × IsAmong own (n, Complete pass file added)
+entries_numbered : (n : ℕ) (es : List Entry) → map (λ p. p.1) (numbered n es) ≡ es
+entries_numbered n [] = refl
+entries_numbered n (e ∷ es) = ap (λ (l : List Entry). e ∷ l) (entries_numbered (suc n) es)
 
--- These calls were added, and of files these were recorded and no others, by so many entries at most. No step failed.
+pub recorded_numbered : (n : ℕ) (es : List Entry) → recorded_in (numbered n es) ≡ files_in es
+recorded_numbered n es = ap files_in (entries_numbered n es)
+
+-- no other entry records a file
+pub none_in : (es : List Entry) → AllByRecursion IsCall es → files_in es ≡ []
+none_in [] all = refl
+none_in (Query pass hashes reply ∷ es) all = none_in es all.1
+none_in (Register pass chunks next added ∷ es) all = none_in es all.1
+none_in (Complete pass file added ∷ es) all = absurd all.0
+none_in (Flush pass shard ∷ es) all = none_in es all.1
+none_in (Fault pass kind ∷ es) all = none_in es all.1
+
+pub none_recorded : (own : List (ℕ × Entry)) → AllByRecursion (λ p. IsCall p.1) own → recorded_in own ≡ []
+none_recorded [] all = refl
+none_recorded ((n, Query pass hashes reply) ∷ own) all = none_recorded own all.1
+none_recorded ((n, Register pass chunks next added) ∷ own) all = none_recorded own all.1
+none_recorded ((n, Complete pass file added) ∷ own) all = absurd all.0
+none_recorded ((n, Flush pass shard) ∷ own) all = none_recorded own all.1
+none_recorded ((n, Fault pass kind) ∷ own) all = none_recorded own all.1
+
+-- These calls were added, and these files were recorded, in order, and no others, by so many entries at most. No step failed.
 pub record Adds (calls : List Call) (files : List MDBFileInfo) (most : ℕ) (old new : Holder) : Type 0 where
   pub follows : Follows old new
   pub going : new.stopped ≡ old.stopped
   pub few : length follows.own ≤ most
   pub are : calls_in follows.own ≡ calls
-  pub only : AllByRecursion (λ p. RecordsAmong files p.1) follows.own
-  pub each : AllByRecursion (HasRecorded old.number follows.own) files
+  pub records : recorded_in follows.own ≡ files
 
 -- ---- nothing, and several
 
 pub adds_nothing : (h : Holder) → Adds [] [] 0 h h
 unfolding follows_nothing
-adds_nothing h = record { follows = follows_nothing h; going = refl; few = omega arith; are = refl; only = tt; each = tt }
+adds_nothing h = record { follows = follows_nothing h; going = refl; few = omega arith; are = refl; records = refl }
 
 pub adds_then : (calls more : List Call) (files others : List MDBFileInfo) (m n : ℕ) (a b c : Holder) → Adds calls files m a b → Adds more others n b c → Adds (calls ++ more) (files ++ others) (m + n) a c
 unfolding follows_then
@@ -88,13 +98,9 @@ adds_then calls more files others m n a b c x y = record {
   going = y.going ∙ x.going;
   few = omega (arith, length-append x.follows.own y.follows.own, x.few, y.few);
   are = calls_in-append x.follows.own y.follows.own ∙ ap (λ (l : List Call). l ++ calls_in y.follows.own) x.are ∙ ap (λ (l : List Call). calls ++ l) y.are;
-  only = all_both (λ p. RecordsAmong (files ++ others) p.1) x.follows.own y.follows.own
-      (all_more (λ p. RecordsAmong files p.1) (λ p. RecordsAmong (files ++ others) p.1) x.follows.own (λ p. records_more files (files ++ others) (among_left files others) p.1) x.only)
-      (all_more (λ p. RecordsAmong others p.1) (λ p. RecordsAmong (files ++ others) p.1) y.follows.own (λ p. records_more others (files ++ others) (among_right files others) p.1) y.only);
-  each = all_both (HasRecorded a.number (x.follows.own ++ y.follows.own)) files others
-      (all_more (HasRecorded a.number x.follows.own) (HasRecorded a.number (x.follows.own ++ y.follows.own)) files (λ f h. (h.0, h.1, among_left x.follows.own y.follows.own (h.0, Complete a.number f h.1) h.2)) x.each)
-      (subst (λ (k : ℕ). AllByRecursion (HasRecorded k (x.follows.own ++ y.follows.own)) others) (number_follows a b x.follows)
-      (all_more (HasRecorded b.number y.follows.own) (HasRecorded b.number (x.follows.own ++ y.follows.own)) others (λ f h. (h.0, h.1, among_right x.follows.own y.follows.own (h.0, Complete b.number f h.1) h.2)) y.each));
+  records = recorded_in-append x.follows.own y.follows.own
+      ∙ ap (λ (l : List MDBFileInfo). l ++ recorded_in y.follows.own) x.records
+      ∙ ap (λ (l : List MDBFileInfo). files ++ l) y.records;
 }
 
 -- ---- steps
@@ -125,15 +131,14 @@ module _ (old new : Holder) (others added : List Entry) (is : new ≡ grown old 
   abbrev with_stopped : Holder → Holder
   with_stopped h = record old { since = old.since ++ (others ++ added); own = old.own ++ numbered (length (seen old) + length others) added; stopped = h.stopped }
 
-  adds_grown : (calls : List Call) (files : List MDBFileInfo) (most : ℕ) → length added ≤ most → ((n : ℕ) → calls_in (numbered n added) ≡ calls) → ((n : ℕ) → AllByRecursion (λ p. RecordsAmong files p.1) (numbered n added))
-      → ((n : ℕ) → AllByRecursion (HasRecorded old.number (numbered n added)) files) → Adds calls files most old new
-  adds_grown calls files most few are only each = record {
+  adds_grown : (calls : List Call) (files : List MDBFileInfo) (most : ℕ) → length added ≤ most → ((n : ℕ) → calls_in (numbered n added) ≡ calls) → files_in added ≡ files
+      → Adds calls files most old new
+  adds_grown calls files most few are records = record {
     follows = record { since = others ++ added; own = numbered (length (seen old) + length others) added; is = is ∙ ap with_stopped (sym is) };
     going = ap (λ (h : Holder). h.stopped) is;
     few = omega (arith, few, length-numbered (length (seen old) + length others) added);
     are = are (length (seen old) + length others);
-    only = only (length (seen old) + length others);
-    each = each (length (seen old) + length others);
+    records = recorded_numbered (length (seen old) + length others) added ∙ records;
   }
 
 pub adds_registered : (leaves next : List (List ℕ × ℕ)) (old new : Holder) (added : Bool) → SawRegister leaves next old new added → Adds (Registered leaves next ∷ []) [] 2 old new
@@ -143,8 +148,7 @@ adds_registered leaves next old new added saw =
     let pass : ℕ = old.number in
     adds_grown old new saw.others (register_entries pass c target leaves next) saw.is (Registered leaves next ∷ []) [] 2 (register_count pass c target leaves next)
     (λ n. register_cases pass c target leaves next (λ es. calls_in (numbered n es) ≡ Registered leaves next ∷ []) refl refl refl)
-    (λ n. register_cases pass c target leaves next (λ es. AllByRecursion (λ p. RecordsAmong [] p.1) (numbered n es)) (tt, (tt, tt)) (tt, tt) (tt, tt))
-    (λ n. tt)
+    (register_cases pass c target leaves next (λ es. files_in es ≡ []) refl refl refl)
 
 pub adds_completed : (file : MDBFileInfo) (old new : Holder) (added : Bool) → SawComplete file old new added → Adds [] (file ∷ []) 2 old new
 adds_completed file old new added saw =
@@ -153,11 +157,7 @@ adds_completed file old new added saw =
     let pass : ℕ = old.number in
     adds_grown old new saw.others (complete_entries pass c target file) saw.is [] (file ∷ []) 2 (complete_count pass c target file)
     (λ n. complete_cases pass c target file (λ es. calls_in (numbered n es) ≡ []) refl refl refl)
-    (λ n. complete_cases pass c target file (λ es. AllByRecursion (λ p. RecordsAmong (file ∷ []) p.1) (numbered n es)) (tt, (among_one file, tt)) (among_one file, tt) (among_one file, tt))
-    (λ n. complete_cases pass c target file (λ es. AllByRecursion (HasRecorded pass (numbered n es)) (file ∷ []))
-    ((suc n, true, (1, (omega arith, refl))), tt)
-    ((n, true, (0, (omega arith, refl))), tt)
-    ((n, false, (0, (omega arith, refl))), tt))
+    (complete_cases pass c target file (λ es. files_in es ≡ file ∷ []) refl refl refl)
 
 pub adds_all : (files : List MDBFileInfo) (old new : Holder) → Completes files old new → Adds [] files (2 * length files) old new
 adds_all [] old new is =
@@ -185,7 +185,7 @@ adds_closed a next old new c some = go c.registered
     go (inr r) =
         let both = adds_then (Registered (map chunk_leaf a.chunks) next ∷ []) [] [] (filled_files a) 2 (2 * length (filled_files a)) old c.mid new
         (adds_registered (map chunk_leaf a.chunks) next old c.mid r.0 r.2) (adds_all (filled_files a) c.mid new c.completed) in
-        record { follows = both.follows; going = both.going; few = omega (arith, both.few, count, one a.chunks some); are = both.are; only = both.only; each = both.each }
+        record { follows = both.follows; going = both.going; few = omega (arith, both.few, count, one a.chunks some); are = both.are; records = both.records }
 
 -- the deduplication of a file
 pub asking_calls : (old new : Holder) (f : FollowsAsking old new) → calls_in f.follows.own ≡ f.calls
@@ -198,54 +198,74 @@ adds_asking old new f going = record {
   going = going;
   few = omega arith;
   are = asking_calls old new f;
-  only = all_more (λ p. IsCall p.1) (λ p. RecordsAmong [] p.1) f.follows.own (λ p. records_none p.1) f.none;
-  each = tt;
+  records = none_recorded f.follows.own f.none;
 }
 
--- ---- no other files are recorded
+-- the last chunks were registered, after which none follow
+adds_last : (chunks : List Chunk) (a : Aggregate) → a.chunks ≡ chunks → (old new : Holder) → RegistersChunks a [] old new → Adds (close_of (map chunk_leaf chunks)) [] (2 * length chunks) old new
+adds_last [] a same old new (inl r) = subst (λ (h : Holder). Adds [] [] 0 old h) (sym r.1) (adds_nothing old)
+adds_last (c ∷ cs) a same old new (inl r) = absurd (cc (sym same ∙ r.0))
+adds_last [] a same old new (inr r) = absurd (r.1 same)
+adds_last (c ∷ cs) a same old new (inr r) =
+    let saw : SawRegister (map chunk_leaf (c ∷ cs)) [] old new r.0 = subst (λ (l : List Chunk). SawRegister (map chunk_leaf l) [] old new r.0) same r.2 in
+    let one = adds_registered (map chunk_leaf (c ∷ cs)) [] old new r.0 saw in
+    record { follows = one.follows; going = one.going; few = omega (arith, one.few); are = one.are; records = one.records }
 
-pub only_of : (calls : List Call) (files : List MDBFileInfo) (most : ℕ) (a b : Holder) → Adds calls files most a b → RecordsOnly files a b
-only_of calls files most a b x = record { follows = x.follows; only = x.only }
+pub adds_closed_last : (a : Aggregate) (old new : Holder) → Closes a [] old new → Adds (close_of (map chunk_leaf a.chunks)) (filled_files a) (2 * length a.chunks + 2 * length a.files) old new
+adds_closed_last a old new is =
+    let both = adds_then (close_of (map chunk_leaf a.chunks)) [] [] (filled_files a) (2 * length a.chunks) (2 * length (filled_files a)) old is.mid new
+    (adds_last a.chunks a refl old is.mid is.registered) (adds_all (filled_files a) is.mid new is.completed) in
+    let count : length (filled_files a) ≡ length a.files = length-map a.files (λ (p : Pending). filled (xorb_hash (map chunk_leaf a.chunks)) p.0) in
+    record { follows = both.follows; going = both.going; few = omega (arith, both.few, count); are = both.are ∙ append-nil (close_of (map chunk_leaf a.chunks)); records = both.records }
 
-pub only_nothing : (files : List MDBFileInfo) (h : Holder) → RecordsOnly files h h
-unfolding follows_nothing
-only_nothing files h = record { follows = follows_nothing h; only = tt }
+-- ---- which files are recorded
 
-pub only_then : (files : List MDBFileInfo) (a b c : Holder) → RecordsOnly files a b → RecordsOnly files b c → RecordsOnly files a c
+pub records_added : (calls : List Call) (files : List MDBFileInfo) (most : ℕ) (a b : Holder) → Adds calls files most a b → Records files a b
+records_added calls files most a b x = record { follows = x.follows; are = x.records }
+
+pub records_nothing : (h : Holder) → Records [] h h
+records_nothing h = records_added [] [] 0 h h (adds_nothing h)
+
+pub records_then : (files others : List MDBFileInfo) (a b c : Holder) → Records files a b → Records others b c → Records (files ++ others) a c
 unfolding follows_then
-only_then files a b c x y = record { follows = follows_then a b c x.follows y.follows; only = all_both (λ p. RecordsAmong files p.1) x.follows.own y.follows.own x.only y.only }
+records_then files others a b c x y = record {
+  follows = follows_then a b c x.follows y.follows;
+  are = recorded_in-append x.follows.own y.follows.own
+      ∙ ap (λ (l : List MDBFileInfo). l ++ recorded_in y.follows.own) x.are
+      ∙ ap (λ (l : List MDBFileInfo). files ++ l) y.are;
+}
 
-pub only_more : (files more : List MDBFileInfo) (a b : Holder) → ((f : MDBFileInfo) → IsAmong files f → IsAmong more f) → RecordsOnly files a b → RecordsOnly more a b
-only_more files more a b f x = record { follows = x.follows; only = all_more (λ p. RecordsAmong files p.1) (λ p. RecordsAmong more p.1) x.follows.own (λ p. records_more files more f p.1) x.only }
+-- none of them, all of them, and the first ones later
+pub first_none : (files : List MDBFileInfo) (a b : Holder) → Records [] a b → RecordsFirst files a b
+first_none files a b x = (0, x)
 
-pub only_any : (files : List MDBFileInfo) (a b : Holder) → RecordsOnly [] a b → RecordsOnly files a b
-only_any files a b = only_more [] files a b (λ f among. absurd (omega (arith, among.1.0)))
+pub first_all : (files : List MDBFileInfo) (a b : Holder) → Records files a b → RecordsFirst files a b
+first_all files a b x = (length files, subst (λ (l : List MDBFileInfo). Records l a b) (sym (take_all (length files) files (omega arith))) x)
 
-numbered_none : (n : ℕ) (es : List Entry) → AllByRecursion (RecordsAmong []) es → AllByRecursion (λ p. RecordsAmong [] p.1) (numbered n es)
-numbered_none n [] all = tt
-numbered_none n (e ∷ es) all = (all.0, numbered_none (suc n) es all.1)
+pub first_then : (files : List MDBFileInfo) (a b c : Holder) → Records [] a b → RecordsFirst files b c → RecordsFirst files a c
+first_then files a b c x y = (y.0, records_then [] (take y.0 files) a b c x y.1)
 
-fault_none : (pass : ℕ) (kind : StepKind) (e : StoreError) → AllByRecursion (RecordsAmong []) (fault_entries pass kind e)
+fault_none : (pass : ℕ) (kind : StepKind) (e : StoreError) → AllByRecursion IsCall (fault_entries pass kind e)
 fault_none pass kind (Io Disk) = (tt, tt)
 fault_none pass kind e = tt
 
-cut_none : (pass : ℕ) (c : Core) (target bytes : ℕ) → AllByRecursion (RecordsAmong []) (cut_entries pass c target bytes)
+cut_none : (pass : ℕ) (c : Core) (target bytes : ℕ) → AllByRecursion IsCall (cut_entries pass c target bytes)
 cut_none pass c target bytes = go (is_cut_due c target bytes)
   where
-    go : (b : Bool) → AllByRecursion (RecordsAmong []) (if b then Flush pass (pending_hash c) ∷ [] else [])
+    go : (b : Bool) → AllByRecursion IsCall (if b then Flush pass (pending_hash c) ∷ [] else [])
     go true = (tt, tt)
     go false = tt
 
-known_none : (b : Bool) (cut : List Entry) → AllByRecursion (RecordsAmong []) cut → AllByRecursion (RecordsAmong []) (if b then cut else [])
+known_none : (b : Bool) (cut : List Entry) → AllByRecursion IsCall cut → AllByRecursion IsCall (if b then cut else [])
 known_none true cut all = all
 known_none false cut all = tt
 
-pub register_cut_none : (pass : ℕ) (c : Core) (target : ℕ) (leaves : List (List ℕ × ℕ)) → AllByRecursion (RecordsAmong []) (register_cut pass c target leaves)
+pub register_cut_none : (pass : ℕ) (c : Core) (target : ℕ) (leaves : List (List ℕ × ℕ)) → AllByRecursion IsCall (register_cut pass c target leaves)
 register_cut_none pass c target leaves =
     let bytes : ℕ = xorb_record_size (xorb_record (xorb_hash leaves) leaves) in
     known_none (is_new c.xorbs (xorb_hash leaves)) (cut_entries pass c target bytes) (cut_none pass c target bytes)
 
-pub complete_cut_none : (pass : ℕ) (c : Core) (target : ℕ) (file : MDBFileInfo) → AllByRecursion (RecordsAmong []) (complete_cut pass c target file)
+pub complete_cut_none : (pass : ℕ) (c : Core) (target : ℕ) (file : MDBFileInfo) → AllByRecursion IsCall (complete_cut pass c target file)
 complete_cut_none pass c target file =
     known_none (is_new c.records (file_record_hash file)) (cut_entries pass c target (file_record_size file)) (cut_none pass c target (file_record_size file))
 
@@ -253,21 +273,21 @@ module _ (old new : Holder) (others added : List Entry) (is : new ≡ ended old 
   abbrev stopping : Holder → Holder
   stopping h = record old { since = old.since ++ (others ++ added); own = old.own ++ numbered (length (seen old) + length others) added; stopped = h.stopped }
 
-  only_ended : AllByRecursion (RecordsAmong []) added → RecordsOnly [] old new
-  only_ended all = record {
+  records_ended : AllByRecursion IsCall added → Records [] old new
+  records_ended all = record {
     follows = record { since = others ++ added; own = numbered (length (seen old) + length others) added; is = is ∙ ap stopping (sym is) };
-    only = numbered_none (length (seen old) + length others) added all;
+    are = recorded_numbered (length (seen old) + length others) added ∙ none_in added all;
   }
 
 -- a step that failed
-pub only_error : (kind : StepKind) (cut : Core → List Entry) (old new : Holder) (e : StoreError) → ((c : Core) → AllByRecursion (RecordsAmong []) (cut c)) → SawError kind cut old new e → RecordsOnly [] old new
-only_error kind cut old new e none saw =
-    only_ended old new saw.others (saw.done ++ fault_entries old.number kind e) saw.is
-    (all_both (RecordsAmong []) saw.done (fault_entries old.number kind e) (go saw.completed) (fault_none old.number kind e))
+pub records_error : (kind : StepKind) (cut : Core → List Entry) (old new : Holder) (e : StoreError) → ((c : Core) → AllByRecursion IsCall (cut c)) → SawError kind cut old new e → Records [] old new
+records_error kind cut old new e none saw =
+    records_ended old new saw.others (saw.done ++ fault_entries old.number kind e) saw.is
+    (all_both IsCall saw.done (fault_entries old.number kind e) (go saw.completed) (fault_none old.number kind e))
   where
-    go : (saw.done ≡ []) ⊎ (saw.done ≡ cut (core_found old saw.others)) → AllByRecursion (RecordsAmong []) saw.done
-    go (inl is) = subst (AllByRecursion (RecordsAmong [])) (sym is) tt
-    go (inr is) = subst (AllByRecursion (RecordsAmong [])) (sym is) (none (core_found old saw.others))
+    go : (saw.done ≡ []) ⊎ (saw.done ≡ cut (core_found old saw.others)) → AllByRecursion IsCall saw.done
+    go (inl is) = subst (AllByRecursion IsCall) (sym is) tt
+    go (inr is) = subst (AllByRecursion IsCall) (sym is) (none (core_found old saw.others))
 
-pub only_other : (file : MDBFileInfo) (old new : Holder) (e : StoreError) → SawOther file old new e → RecordsOnly [] old new
-only_other file old new e saw = only_ended old new saw.others [] saw.is tt
+pub records_other : (file : MDBFileInfo) (old new : Holder) (e : StoreError) → SawOther file old new e → Records [] old new
+records_other file old new e saw = records_ended old new saw.others [] saw.is tt

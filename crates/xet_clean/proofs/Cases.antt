@@ -1,12 +1,11 @@
 -- The last chunks of a file join the aggregate, which may be closed first; and a file of no bytes.
-use Rattle.std.proofs.Common.{◌≡◌, ◌≢◌, ◌∙◌, inl, inr, ℕ, zero, suc, ◌+◌, ◌*◌, ◌<◌, ◌≤◌, true, false, List, [], ◌∷◌, ◌++◌, length, map, Some, refl, sym, ap, subst, length-append, arith}
+use Rattle.std.proofs.Common.{◌≡◌, ◌≢◌, ◌∙◌, inr, ℕ, ◌+◌, ◌*◌, ◌<◌, ◌≤◌, true, false, List, [], ◌∷◌, ◌++◌, length, map, Some, refl, sym, ap, subst, append_assoc, length-append, arith}
 use Rattle.std.proofs.lemmas.List.{append-nil, length-map, map-append, nil_from_length}
 use Rattle.std.proofs.lemmas.List.Sums.{sum_by-append}
 use Rattle.std.proofs.lemmas.Bool.{and_parts, leb-true}
-use Rattle.std.specs.List.{AllByRecursion, IsAmong}
-use Rattle.std.specs.Prelude.{Any}
+use Rattle.std.specs.List.{AllByRecursion}
 use Rattle.sha2.specs.Sha256.{sha256}
-use Rattle.xet_aggregate.specs.Aggregate.{Aggregate, IsAggregate, Pending, filled, fits, merged, shifted, single}
+use Rattle.xet_aggregate.specs.Aggregate.{Aggregate, IsAggregate, Pending, fits, merged, shifted, single}
 use Rattle.xet_aggregate.specs.theorems.Merging.{IsAggregate-fits}
 use Rattle.xet_aggregate.specs.declared.metrics.DeduplicationMetrics.{DeduplicationMetrics}
 use Rattle.xet_base.specs.theorems.Elements.{all_both, all_more, all_push}
@@ -31,33 +30,17 @@ use Rattle.xet_xorb_chunk.specs.declared.chunk.Chunk.{Chunk}
 use Rattle.xet_stepping.specs.Asking.{Stands}
 use Rattle.xet_stepping.specs.Holders.{Follows, Holder, calls_in, calls_of, core_at, lengths_in, xorb_limits}
 use Rattle.xet_clean.specs.Cleaning.{Lands}
-use Rattle.xet_clean.specs.Files.{IsPlanned, IsWithin}
+use Rattle.xet_clean.specs.internal.Planning.{IsPlanned, IsWithin}
 use Rattle.xet_clean.specs.internal.Closing.{Closes, HaveForm, filled_files}
-use Rattle.xet_clean.specs.internal.Working.{IsRecordOf, IsRecordedOrWaits, IsWorking, Planned, Waits}
-use Rattle.xet_clean.proofs.Adding.{Adds, HasRecorded, adds_asking, asking_calls, adds_closed, adds_then, all_among, among_left, among_one, among_right}
-use Rattle.xet_clean.proofs.Closing.{among_cons}
+use Rattle.xet_clean.specs.internal.Working.{AreRecorded, IsRecordOf, IsWorking, Planned, Waits}
+use Rattle.xet_clean.proofs.Adding.{Adds, adds_asking, asking_calls, adds_closed, adds_then}
 use Rattle.xet_clean.proofs.Completing.{both_some}
+use Rattle.xet_clean.proofs.InOrder.{recorded_none, recorded_one, recorded_then}
 use Rattle.xet_clean.proofs.Joining.{IsKept}
-use Rattle.xet_clean.proofs.Keeping.{any_last, any_left, any_more, limits_follow, number_follows, waits_follow}
+use Rattle.xet_clean.proofs.Keeping.{any_last, limits_follow, waits_follow}
 use Rattle.xet_clean.proofs.Landing.{lands_last, lands_of, lands_then, later_last, part_itself, part_left, part_right, part_then}
-use Rattle.xet_clean.proofs.Records.{filled_of, shifted_of, waits_among_more, waits_earlier, waits_later}
+use Rattle.xet_clean.proofs.Records.{records_filled, shifted_of, waits_among_more, waits_earlier, waits_later}
 use Rattle.xet_clean.proofs.Sums.{no_leaves}
-
--- ---- lists of records
-
-among_filled : (hash : List ℕ) (ps : List Pending) (file : MDBFileInfo) → IsAmong (map (λ p. p.0) ps) file → IsAmong (map (λ p. filled hash p.0) ps) (filled hash file)
-among_filled hash [] file a = absurd (omega (arith, a.1.0))
-among_filled hash (p ∷ ps) file (zero, a) = (0, (omega arith, ap (filled hash) a.1))
-among_filled hash (p ∷ ps) file (suc i, a) = among_cons (filled hash p.0) (map (λ q. filled hash q.0) ps) (filled hash file) (among_filled hash ps file (i, (omega (arith, a.0), a.1)))
-
-filled_recorded : (now : Holder) (chunks : List Chunk) (files : List Planned) (hash : List ℕ) (ps : List Pending) → AllByRecursion (λ p. Waits now chunks files p.0) ps
-    → AllByRecursion (λ file. Any (λ g. IsRecordOf g file) files) (map (λ p. filled hash p.0) ps)
-filled_recorded now chunks files hash [] waits = tt
-filled_recorded now chunks files hash (p ∷ ps) waits = (
-  any_more (λ (g : Planned). IsRecordOf g p.0 × ArePlaced (lengths_in (core_at now)) (Stands now) chunks p.0.segments (hashes_of g.plan.leaves)) (λ (g : Planned). IsRecordOf g (filled hash p.0)) files
-      (λ g w. filled_of hash g p.0 w.0) waits.0,
-  filled_recorded now chunks files hash ps waits.1,
-)
 
 -- ---- chunks of both
 
@@ -117,15 +100,13 @@ module _ (start first now : Holder) (files : List Planned) (infos : List XetFile
       recorded = [];
       most = length planned.follows.follows.own;
       adds = asked;
-      keeps = λ g file is among. record { file = file; is = is; either = inr among };
-      mine = λ some. absurd (omega (arith, some, none));
-      those = λ file among. absurd (omega (arith, among.1.0));
+      records = λ earlier all.
+          subst (AreRecorded (files ++ f ∷ [])) (append-nil (earlier ++ map (λ p. p.0) a.files)) (recorded_then files (f ∷ []) (earlier ++ map (λ p. p.0) a.files) [] all (recorded_none f none));
       waits = waits_here;
       aggregate = w.aggregate;
       within = within_here;
       forms = w.forms;
       nothing = w.nothing;
-      few_files = omega arith;
       lands = subst (λ (cs : List Call). Lands (map chunk_leaf a.chunks) (calls_in w.follows.own ++ cs)) (sym no_calls)
           (subst (Lands (map chunk_leaf a.chunks)) (sym (append-nil (calls_in w.follows.own))) w.lands);
       counted = omega (arith, ap registered_chunks no_calls, no_new);
@@ -188,11 +169,16 @@ module _ (start first now : Holder) (files : List Planned) (infos : List XetFile
           (λ p. waits_earlier now a.chunks f.plan.block (files ++ f ∷ []) p.0) waits_here)
           (waits_later now a.chunks f.plan.block (files ++ f ∷ []) file its_wait)
 
+      records_joined_all : (earlier : List MDBFileInfo) → AreRecorded files (earlier ++ map (λ p. p.0) a.files) → AreRecorded (files ++ f ∷ []) (earlier ++ map (λ p. p.0) (a.files ++ its_pending ∷ []))
+      records_joined_all earlier all =
+          subst (AreRecorded (files ++ f ∷ [])) (append_assoc earlier (map (λ p. p.0) a.files) (shifted (length a.chunks) file ∷ []) ∙ ap (λ (l : List MDBFileInfo). earlier ++ l) (sym records_joined))
+          (recorded_then files (f ∷ []) (earlier ++ map (λ p. p.0) a.files) (shifted (length a.chunks) file ∷ []) all
+          (recorded_one f (shifted (length a.chunks) file) (shifted_of (length a.chunks) f file its_record)))
+
       pub kept_merged : IsKept first now files a f (merged a rest) (calls_in w.follows.own)
       kept_merged =
           let count : length (a.files ++ its_pending ∷ []) ≡ length a.files + 1 = omega (arith, length-append a.files ((shifted (length a.chunks) file, indices, id) ∷ [])) in
           let chunks : length (a.chunks ++ f.plan.block) ≡ length a.chunks + length f.plan.block = length-append a.chunks f.plan.block in
-          let few : length (a.files ++ its_pending ∷ []) ≤ length a.files + 1 = omega (arith, count) in
           let counted : registered_chunks planned.follows.calls + length (a.chunks ++ f.plan.block) ≡ length a.chunks + new_chunks f.plan.choices = omega (arith, chunks, file_new) in
           let bound : length planned.follows.follows.own + (2 * length (a.chunks ++ f.plan.block) + 2 * length (a.files ++ its_pending ∷ [])) ≤ 2 * length a.chunks + 2 * length a.files + 3 * length f.plan.leaves + 2 =
           omega (arith, chunks, count, planned.few) in
@@ -201,24 +187,12 @@ module _ (start first now : Holder) (files : List Planned) (infos : List XetFile
             recorded = [];
             most = length planned.follows.follows.own;
             adds = asked;
-            keeps = λ g it is among. record {
-              file = it;
-              is = is;
-              either = inr (subst (λ (l : List MDBFileInfo). IsAmong l it) (sym records_joined) (among_left (map (λ p. p.0) a.files) (shifted (length a.chunks) file ∷ []) it among));
-            };
-            mine = λ _. record {
-              file = shifted (length a.chunks) file;
-              is = shifted_of (length a.chunks) f file its_record;
-              either = inr (subst (λ (l : List MDBFileInfo). IsAmong l (shifted (length a.chunks) file)) (sym records_joined)
-                  (among_right (map (λ p. p.0) a.files) (shifted (length a.chunks) file ∷ []) (shifted (length a.chunks) file) (among_one (shifted (length a.chunks) file))));
-            };
-            those = λ it among. absurd (omega (arith, among.1.0));
+            records = records_joined_all;
             waits = waits_joined;
             aggregate = IsAggregate-fits now.limits a rest range fit w.aggregate is_rest;
             within = within_joined;
             forms = merged_are_files a rest w.forms its_form;
             nothing = λ no. let none : length (a.files ++ its_pending ∷ []) ≡ 0 = ap length no in absurd (omega (arith, none, count));
-            few_files = few;
             lands = subst (λ (l : List (List ℕ × ℕ)). Lands l (calls_in w.follows.own ++ planned.follows.calls)) (sym leaves_joined) lands_joined;
             counted = counted;
             bound = bound;
@@ -261,15 +235,10 @@ module _ (start first now : Holder) (files : List Planned) (infos : List XetFile
       abbrev hash : List ℕ
       hash = xorb_hash (map chunk_leaf a.chunks)
 
-      recorded_filled : (g : Planned) (it : MDBFileInfo) → IsRecordOf g it → IsAmong (map (λ p. p.0) a.files) it → IsRecordedOrWaits new.number both.follows.own rest g
-      recorded_filled g it is among =
-          let found : HasRecorded first.number both.follows.own (filled (xorb_hash (map chunk_leaf a.chunks)) it) =
-          all_among (HasRecorded first.number both.follows.own) (filled_files a) (filled (xorb_hash (map chunk_leaf a.chunks)) it) both.each (among_filled (xorb_hash (map chunk_leaf a.chunks)) a.files it among) in
-          record {
-            file = filled (xorb_hash (map chunk_leaf a.chunks)) it;
-            is = filled_of (xorb_hash (map chunk_leaf a.chunks)) g it is;
-            either = inl (subst (λ (n : ℕ). HasRecorded n both.follows.own (filled (xorb_hash (map chunk_leaf a.chunks)) it)) (sym (number_follows first new both.follows)) found);
-          }
+      records_closed : (earlier : List MDBFileInfo) → AreRecorded files (earlier ++ map (λ p. p.0) a.files) → AreRecorded (files ++ f ∷ []) (earlier ++ (filled_files a ++ map (λ p. p.0) rest.files))
+      records_closed earlier all =
+          subst (AreRecorded (files ++ f ∷ [])) (append_assoc earlier (filled_files a) (file ∷ []))
+          (recorded_then files (f ∷ []) (earlier ++ filled_files a) (file ∷ []) (records_filled a files earlier all) (recorded_one f file its_record))
 
       lands_closed : Lands next (calls_in w.follows.own ++ (planned.follows.calls ++ Registered leaves next ∷ []))
       lands_closed =
@@ -286,26 +255,18 @@ module _ (start first now : Holder) (files : List Planned) (infos : List XetFile
       bound_closed : length planned.follows.follows.own + (2 * length a.chunks + 2 * length a.files) + (2 * length f.plan.block + 2 * 1) ≤ 2 * length a.chunks + 2 * length a.files + 3 * length f.plan.leaves + 2
       bound_closed = omega (arith, planned.few)
 
-      one_file : 1 ≤ length a.files + 1
-      one_file = omega arith
-
       pub kept_closed : IsKept first new files a f rest (calls_in w.follows.own)
       kept_closed = record {
         calls = planned.follows.calls ++ Registered leaves next ∷ [];
         recorded = filled_files a;
         most = length planned.follows.follows.own + (2 * length a.chunks + 2 * length a.files);
         adds = both;
-        keeps = recorded_filled;
-        mine = λ _. record { file = file; is = its_record; either = inr (among_one file) };
-        those = λ it among.
-            any_left (λ (g : Planned). IsRecordOf g it) files (f ∷ [])
-            (all_among (λ it. Any (λ g. IsRecordOf g it) files) (filled_files a) it (filled_recorded first a.chunks files (xorb_hash (map chunk_leaf a.chunks)) a.files w.waits) among);
+        records = records_closed;
         waits = (waits_follow now new closed.follows f.plan.block (files ++ f ∷ []) file its_wait, tt);
         aggregate = is_rest;
         within = subst (λ (s : LimitSettings). IsWithin s f.plan.block) limits_new planned.block;
         forms = its_form;
         nothing = λ no. absurd (omega (arith, ap length no));
-        few_files = one_file;
         lands = lands_closed;
         counted = counted_closed;
         bound = bound_closed;

@@ -1,7 +1,7 @@
 -- True choices stay true where there are more calls; so each file has choices that are true by all calls.
-use Rattle.std.proofs.Common.{◌≡◌, ◌∙◌, inl, inr, ℕ, ◌<◌, zero, suc, true, List, [], ◌∷◌, ◌++◌, length, map, Option, Some, None, refl, sym, ap, subst, arith}
-use Rattle.std.specs.List.{AllByRecursion, Contains, IsAmong, sum_by}
-use Rattle.std.proofs.lemmas.List.{length-map}
+use Rattle.std.proofs.Common.{◌≡◌, ◌∙◌, inl, inr, ℕ, suc, List, [], ◌∷◌, ◌++◌, length, map, Option, Some, None, refl, sym, ap, subst, arith}
+use Rattle.std.specs.List.{AllByRecursion, Contains, sum_by}
+use Rattle.std.proofs.lemmas.List.{length-map, nil_from_length}
 use Rattle.std.proofs.lemmas.List.Elements.{Contains-append_left, Contains-append_right}
 use Rattle.std.proofs.lemmas.List.Sums.{sum_by-cons}
 use Rattle.sha2.specs.Sha256.{sha256}
@@ -16,16 +16,14 @@ use Rattle.xet_dedup.specs.Records.{file_record}
 use Rattle.xet_file_plan.specs.Moves.{counts_of}
 use Rattle.xet_file_plan.specs.theorems.Placed.{total_placed}
 use Rattle.xet_history.specs.declared.entry.Entry.{Entry}
-use Rattle.xet_history.specs.declared.entry.Entry.TheVariants.{Complete}
 use Rattle.xet_shard_format.specs.declared.record.MDBFileInfo.{MDBFileInfo}
 use Rattle.xet_store.specs.Separate.{Among}
-use Rattle.xet_store.specs.theorems.Rows.{from_among, to_among}
 use Rattle.xet_stepping.specs.Holders.{Follows, Holder, calls_in, calls_of, numbered}
 use Rattle.xet_clean.specs.Cleaning.{AreChosen}
 use Rattle.xet_clean.specs.Files.{HasChoices, leaves_in}
-use Rattle.xet_clean.specs.internal.Working.{Planned, WasPlanned}
-use Rattle.xet_clean.proofs.Ending.{IsRecordedBy}
+use Rattle.xet_clean.specs.internal.Working.{AreRecorded, BeginsWithRecord, IsRecordOf, Planned, WasPlanned}
 use Rattle.xet_clean.proofs.Rising.{calls_stay}
+use Rattle.xet_clean.proofs.Sums.{no_leaves}
 
 -- ---- more calls
 
@@ -57,76 +55,71 @@ unnumbered n [] m e a = absurd a
 unnumbered n (x ∷ es) m e (inl same) = inl (ap (λ (p : ℕ × Entry). p.1) same)
 unnumbered n (x ∷ es) m e (inr a) = inr (unnumbered (suc n) es m e a)
 
+module _ (s : LimitSettings) (calls : List Call) where
+  begins_chosen : (bytes : List ℕ) (choices : List Choice) (others : List (List ℕ)) (rest : List (List Choice)) (is : MDBFileInfo → Type 0) (P : List MDBFileInfo → Type 0) → (length bytes ≡ 0 → choices ≡ [])
+      → ((r : MDBFileInfo) → is r → HasChoices s calls bytes choices r) → ((rs : List MDBFileInfo) → P rs → AreChosen s calls others rest rs) → (rs : List MDBFileInfo) → BeginsWithRecord bytes is P rs
+      → AreChosen s calls (bytes ∷ others) (choices ∷ rest) rs
+  begins_chosen [] choices others rest is P none one go rs all = (none refl, go rs all)
+  begins_chosen (b ∷ bs) choices others rest is P none one go [] all = absurd all
+  begins_chosen (b ∷ bs) choices others rest is P none one go (r ∷ rs) all = (one r all.0, go rs all.1)
+
 module _ (start now : Holder) (follows : Follows start now) (fresh : start.own ≡ []) (first : ℕ) (entries : List Entry) (own : follows.own ≡ numbered first entries) where
   -- all calls
   all_calls : calls_of now ≡ calls_in (numbered first entries)
   all_calls = ap (λ (h : Holder). calls_in h.own) follows.is ∙ ap (λ (l : List (ℕ × Entry)). calls_in (l ++ follows.own)) fresh ∙ ap calls_in own
 
-  choices_of : (f : Planned) → WasPlanned start now f → start.number ≡ 0 → (0 < length f.bytes → IsRecordedBy start.number follows.own f)
-      → HasChoices start.limits 0 entries (calls_in (numbered first entries)) f.bytes f.plan.choices
-  choices_of f was zeroth recorded = go (length f.bytes) refl
-    where
-      same_limits : was.last.limits ≡ start.limits
-      same_limits = sym (ap (λ (h : Holder). h.limits) was.to.is) ∙ ap (λ (h : Holder). h.limits) follows.is
+  module _ (f : Planned) (was : WasPlanned start now f) where
+    same_limits : was.last.limits ≡ start.limits
+    same_limits = sym (ap (λ (h : Holder). h.limits) was.to.is) ∙ ap (λ (h : Holder). h.limits) follows.is
 
-      same_leaves : f.plan.leaves ≡ leaves_in start.limits f.bytes
-      same_leaves = was.planned.leaves ∙ ap (λ (s : LimitSettings). leaves_in s f.bytes) same_limits
+    same_leaves : f.plan.leaves ≡ leaves_in start.limits f.bytes
+    same_leaves = was.planned.leaves ∙ ap (λ (s : LimitSettings). leaves_in s f.bytes) same_limits
 
-      since : List Call
-      since = was.planned.deduped.plan.since
+    since : List Call
+    since = was.planned.deduped.plan.since
 
-      later : (c : Call) → Contains was.planned.deduped.plan.since c → Contains (calls_in (numbered first entries)) c
-      later c a =
-          subst (λ (cs : List Call). Contains cs c) (sym (calls_stay was.last now was.to) ∙ all_calls)
-          (Contains-append_left (calls_of was.last) (calls_in was.to.own) c
-          (subst (λ (cs : List Call). Contains cs c) (sym was.planned.deduped.plan.added) (Contains-append_right (calls_of was.first) was.planned.deduped.plan.since c a)))
+    later : (c : Call) → Contains was.planned.deduped.plan.since c → Contains (calls_in (numbered first entries)) c
+    later c a =
+        subst (λ (cs : List Call). Contains cs c) (sym (calls_stay was.last now was.to) ∙ all_calls)
+        (Contains-append_left (calls_of was.last) (calls_in was.to.own) c
+        (subst (λ (cs : List Call). Contains cs c) (sym was.planned.deduped.plan.added) (Contains-append_right (calls_of was.first) was.planned.deduped.plan.since c a)))
 
-      one_each : length f.plan.choices ≡ length (leaves_in start.limits f.bytes)
-      one_each = was.planned.deduped.plan.plan.one_each ∙ ap length same_leaves
+    one_each : length f.plan.choices ≡ length (leaves_in start.limits f.bytes)
+    one_each = was.planned.deduped.plan.plan.one_each ∙ ap length same_leaves
 
-      covers : total (counts_of f.plan.segments) ≡ length (leaves_in start.limits f.bytes)
-      covers =
-          total_placed _ _ _ f.plan.segments (hashes_of f.plan.leaves) was.planned.deduped.plan.plan.placed
-          ∙ length-map f.plan.leaves (λ leaf. leaf.0)
-          ∙ ap length same_leaves
+    covers : total (counts_of f.plan.segments) ≡ length (leaves_in start.limits f.bytes)
+    covers =
+        total_placed _ _ _ f.plan.segments (hashes_of f.plan.leaves) was.planned.deduped.plan.plan.placed
+        ∙ length-map f.plan.leaves (λ leaf. leaf.0)
+        ∙ ap length same_leaves
 
-      all_true : (counts : List ℕ) → counts ≡ counts_of f.plan.segments
-          → AllTrue (record { settings = start.limits; leaves = leaves_in start.limits f.bytes; calls = calls_in (numbered first entries); counts = counts; choices = f.plan.choices })
-      all_true counts same =
-          let settings : f.plan.settings ≡ start.limits = was.planned.settings ∙ same_limits in
-          let before : Setting = record { settings = f.plan.settings; leaves = f.plan.leaves; calls = was.planned.deduped.plan.since; counts = counts_of f.plan.segments; choices = f.plan.choices } in
-          let after : AllTrue (record { settings = f.plan.settings; leaves = f.plan.leaves; calls = calls_in (numbered first entries); counts = counts_of f.plan.segments; choices = f.plan.choices }) =
-          all_true_more before (calls_in (numbered first entries)) later was.planned.deduped.plan.plan.choices in
-          subst AllTrue (λ i. record { settings = settings i; leaves = same_leaves i; calls = calls_in (numbered first entries); counts = sym same i; choices = f.plan.choices }) after
+    all_true : (counts : List ℕ) → counts ≡ counts_of f.plan.segments
+        → AllTrue (record { settings = start.limits; leaves = leaves_in start.limits f.bytes; calls = calls_in (numbered first entries); counts = counts; choices = f.plan.choices })
+    all_true counts same =
+        let settings : f.plan.settings ≡ start.limits = was.planned.settings ∙ same_limits in
+        let before : Setting = record { settings = f.plan.settings; leaves = f.plan.leaves; calls = was.planned.deduped.plan.since; counts = counts_of f.plan.segments; choices = f.plan.choices } in
+        let after : AllTrue (record { settings = f.plan.settings; leaves = f.plan.leaves; calls = calls_in (numbered first entries); counts = counts_of f.plan.segments; choices = f.plan.choices }) =
+        all_true_more before (calls_in (numbered first entries)) later was.planned.deduped.plan.plan.choices in
+        subst AllTrue (λ i. record { settings = settings i; leaves = same_leaves i; calls = calls_in (numbered first entries); counts = sym same i; choices = f.plan.choices }) after
 
-      go : (n : ℕ) → length f.bytes ≡ n → HasChoices start.limits 0 entries (calls_in (numbered first entries)) f.bytes f.plan.choices
-      go zero none = record {
-        segments = f.plan.segments;
-        added = true;
-        recorded = λ some. absurd (omega (arith, some, none));
-        covers = covers;
-        one_each = one_each;
-        true_choices = all_true (counts_of f.plan.segments) refl;
-      }
-      go (suc n) some =
-          let r = recorded (omega (arith, some)) in
-          let there : Among (numbered first entries) (r.entry.0, Complete start.number r.file r.entry.1) = subst (λ (l : List (ℕ × Entry)). Among l (r.entry.0, Complete start.number r.file r.entry.1)) own
-          (to_among follows.own (r.entry.0, Complete start.number r.file r.entry.1) r.entry.2) in
-          let entry : IsAmong entries (Complete start.number r.file r.entry.1) = from_among entries (Complete start.number r.file r.entry.1) (unnumbered first entries r.entry.0 (Complete start.number r.file r.entry.1) there) in
-          let file : r.file ≡ file_record (leaves_in start.limits f.bytes) r.is.segments (Some (sha256 f.bytes)) = r.is.is ∙ ap (λ (l : List (List ℕ × ℕ)). file_record l r.is.segments (Some (sha256 f.bytes))) same_leaves in
-          record {
-            segments = r.is.segments;
-            added = r.entry.1;
-            recorded = λ more. subst (λ (g : MDBFileInfo). IsAmong entries (Complete 0 g r.entry.1)) file (subst (λ (k : ℕ). IsAmong entries (Complete k r.file r.entry.1)) zeroth entry);
-            covers = ap total r.is.counts ∙ covers;
-            one_each = one_each;
-            true_choices = all_true (counts_of r.is.segments) r.is.counts;
-          }
+    no_choices : length f.bytes ≡ 0 → f.plan.choices ≡ []
+    no_choices none = nil_from_length f.plan.choices (omega (arith, one_each, no_leaves start.limits f.bytes none))
 
-  pub are_chosen : (files : List Planned) → start.number ≡ 0 → AllByRecursion (WasPlanned start now) files → AllByRecursion (λ f. 0 < length f.bytes → IsRecordedBy start.number follows.own f) files
-      → AreChosen start.limits entries (calls_in (numbered first entries)) (map (λ f. f.bytes) files) (map (λ f. f.plan.choices) files)
-  are_chosen [] zeroth planned recorded = tt
-  are_chosen (f ∷ fs) zeroth planned recorded = (choices_of f planned.0 zeroth recorded.0, are_chosen fs zeroth planned.1 recorded.1)
+    choices_of : (file : MDBFileInfo) → IsRecordOf f file → HasChoices start.limits (calls_in (numbered first entries)) f.bytes f.plan.choices file
+    choices_of file is = record {
+      segments = is.segments;
+      is = is.is ∙ ap (λ (l : List (List ℕ × ℕ)). file_record l is.segments (Some (sha256 f.bytes))) same_leaves;
+      covers = ap total is.counts ∙ covers;
+      one_each = one_each;
+      true_choices = all_true (counts_of is.segments) is.counts;
+    }
+
+  pub are_chosen : (files : List Planned) (records : List MDBFileInfo) → AllByRecursion (WasPlanned start now) files → AreRecorded files records
+      → AreChosen start.limits (calls_in (numbered first entries)) (map (λ f. f.bytes) files) (map (λ f. f.plan.choices) files) records
+  are_chosen [] records planned none = none
+  are_chosen (f ∷ fs) records planned all =
+      begins_chosen start.limits (calls_in (numbered first entries)) f.bytes f.plan.choices (map (λ (g : Planned). g.bytes) fs) (map (λ (g : Planned). g.plan.choices) fs) (IsRecordOf f) (λ l. AreRecorded fs l)
+      (no_choices f planned.0) (choices_of f planned.0) (λ l a. are_chosen fs l planned.1 a) records all
 
 -- ---- sums over the files and over their choices
 

@@ -16,7 +16,8 @@ use Rattle.xet_stepping.specs.Asking.{Stands}
 use Rattle.xet_stepping.specs.Holders.{FollowsAsking, Holder, calls_of, core_at, lengths_in, xorb_limits}
 use Rattle.xet_xorb_chunk.specs.Chunks.{chunk_leaf, chunk_of}
 use Rattle.xet_xorb_chunk.specs.declared.chunk.Chunk.{Chunk}
-use Rattle.xet_clean.specs.Files.{IsFew, IsPlanned, IsWithin, leaves_in}
+use Rattle.xet_clean.specs.Files.{leaves_in}
+use Rattle.xet_clean.specs.internal.Planning.{IsFew, IsPlanned, IsWithin}
 use Rattle.xet_clean.specs.internal.Cleaner.{IsBatchOf, IsCleaning, IsCleaningBytes, StopsInBatch}
 use Rattle.xet_clean.proofs.FileCalls.{HasCalls, calls_few, calls_more, few_still, few_stopped, same_limits}
 use Rattle.xet_clean.proofs.Blocks.{plan_within}

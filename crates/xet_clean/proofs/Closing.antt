@@ -18,8 +18,8 @@ use Rattle.xet_stepping.specs.Asking.{IsErrorSince}
 use Rattle.xet_stepping.specs.Holders.{Follows, Holder, core_at, core_found, numbered, seen}
 use Rattle.xet_stepping.specs.Stepping.{SawError, SawOther, cut_to_complete}
 use Rattle.xet_stepping.specs.theorems.Following.{follows_nothing, follows_then}
-use Rattle.xet_clean.specs.internal.Closing.{IsAtMost, IsClosingError, RecordsOnly}
-use Rattle.xet_clean.proofs.Adding.{among_right, complete_cut_none, only_error, only_other}
+use Rattle.xet_clean.specs.internal.Closing.{IsAtMost, IsClosingError, Records}
+use Rattle.xet_clean.proofs.Adding.{among_right, complete_cut_none, records_error, records_other}
 use Rattle.xet_clean.proofs.Counting.{complete_cut_count, complete_cut_pending, error_at_most, other_at_most}
 
 -- ---- among
@@ -106,6 +106,6 @@ refused_at_most file old new e (inl other) = other_at_most file old new e other
 refused_at_most file old new e (inr saw) =
     error_at_most step.Complete (cut_to_complete old file) old new e (λ c. complete_cut_count old.number c old.limits.shard_target file) saw
 
-pub refused_only : (file : MDBFileInfo) (old new : Holder) (e : StoreError) → IsRefusal file old new e → RecordsOnly [] old new
-refused_only file old new e (inl other) = only_other file old new e other
-refused_only file old new e (inr saw) = only_error step.Complete (cut_to_complete old file) old new e (λ c. complete_cut_none old.number c old.limits.shard_target file) saw
+pub refused_records : (file : MDBFileInfo) (old new : Holder) (e : StoreError) → IsRefusal file old new e → Records [] old new
+refused_records file old new e (inl other) = records_other file old new e other
+refused_records file old new e (inr saw) = records_error step.Complete (cut_to_complete old file) old new e (λ c. complete_cut_none old.number c old.limits.shard_target file) saw

@@ -1,9 +1,9 @@
 -- Files that are recorded in turn.
-use Rattle.std.proofs.Common.{◌≡◌, ◌∙◌, ◌⊎◌, inl, inr, ℕ, ◌+◌, ◌*◌, ◌≤◌, ◌<◌, Bool, true, false, ◌&&◌, List, [], ◌∷◌, length, map, refl, sym, ap, subst, arith}
-use Rattle.std.proofs.lemmas.List.{length-map}
+use Rattle.std.proofs.Common.{◌≡◌, ◌∙◌, ◌⊎◌, inl, inr, ℕ, ◌+◌, ◌*◌, ◌≤◌, ◌<◌, Bool, true, false, ◌&&◌, List, [], ◌∷◌, ◌++◌, length, map, take, refl, sym, ap, subst, append_assoc, arith}
+use Rattle.std.proofs.lemmas.List.{append-nil, length-map, map-append, take_at}
 use Rattle.std.proofs.lemmas.List.Sums.{sum_by-cons}
 use Rattle.std.proofs.lemmas.Bool.Decides.{nat_tests}
-use Rattle.std.specs.List.{AllByRecursion, IsAmong}
+use Rattle.std.specs.List.{AllByRecursion}
 use Rattle.std.specs.Prelude.{Err, IfErr, IsOkUnless, Ok, Result, nat_le}
 use Rattle.xet_aggregate.specs.Aggregate.{Aggregate, Pending, filled, finished_file, fits}
 use Rattle.xet_cut.specs.declared.limits.LimitSettings.{LimitSettings}
@@ -24,10 +24,10 @@ use Rattle.xet_xorb.specs.Raw.{raw_leaves, raw_of}
 use Rattle.xet_xorb.specs.declared.raw.RawXorbData.{RawXorbData}
 use Rattle.xet_xorb_chunk.specs.Chunks.{chunk_leaf, total}
 use Rattle.xet_xorb_chunk.specs.declared.chunk.Chunk.{Chunk}
-use Rattle.xet_clean.specs.Files.{IsWithin}
-use Rattle.xet_clean.specs.internal.Closing.{Closes, Completes, HaveForm, IsAtMost, IsClosingError, IsUnclosed, RecordsOnly, RegistersChunks, filled_files}
-use Rattle.xet_clean.proofs.Adding.{adds_all, adds_completed, adds_registered, among_left, only_any, only_error, only_more, only_nothing, only_of, only_then, register_cut_none}
-use Rattle.xet_clean.proofs.Closing.{IsRefusal, among_cons, closing_earlier, closing_more, closing_refused, error_since, refused_at_most, refused_only}
+use Rattle.xet_clean.specs.internal.Planning.{IsWithin}
+use Rattle.xet_clean.specs.internal.Closing.{Closes, Completes, HaveForm, IsAtMost, IsClosingError, IsUnclosed, Records, RecordsFirst, RegistersChunks, filled_files}
+use Rattle.xet_clean.proofs.Adding.{adds_all, adds_completed, adds_registered, first_all, first_none, first_then, records_error, records_nothing, records_added, records_then, register_cut_none}
+use Rattle.xet_clean.proofs.Closing.{IsRefusal, closing_earlier, closing_more, closing_refused, error_since, refused_at_most, refused_records}
 use Rattle.xet_clean.proofs.Counting.{at_most_more, at_most_nothing, at_most_then, completed_at_most, error_at_most, register_cut_count, register_cut_pending, registered_at_most}
 
 -- a file that has its xorb
@@ -39,40 +39,43 @@ records_of files = map (λ f. f.1) files
 
 -- Of these files all but the rest are recorded.
 pub record IsCompleting (files rest : List Finished) (old now : Holder) : Type 0 where
+  pub done : List Finished
+  pub order : files ≡ done ++ rest
+  pub recorded : Records (records_of done) old now
   pub whole : (new : Holder) → Completes (records_of rest) now new → Completes (records_of files) old new
   pub errors : (new : Holder) (e : StoreError) → IsClosingError (records_of rest) now new e → IsClosingError (records_of files) old new e
   pub most : ℕ
   pub within : IsAtMost most old now
   pub few : most + 2 * length rest ≤ 2 * length files
   pub forms : AllByRecursion (λ f. IsFile f.1) rest
-  pub only : RecordsOnly (records_of files) old now
-  pub left : (f : MDBFileInfo) → IsAmong (records_of rest) f → IsAmong (records_of files) f
 
 pub completing_begins : (files : List Finished) (old : Holder) → AllByRecursion (λ f. IsFile f.1) files → IsCompleting files files old old
 completing_begins files old forms = record {
+  done = [];
+  order = refl;
+  recorded = records_nothing old;
   whole = λ new is. is;
   errors = λ new e is. is;
   most = 0;
   within = at_most_nothing old;
   few = omega arith;
   forms = forms;
-  only = only_nothing (records_of files) old;
-  left = λ f among. among;
 }
 
 pub completing_more : (files rest : List Finished) (f : Finished) (old now new : Holder) (added : Bool) → IsCompleting files (f ∷ rest) old now → SawComplete f.1 now new added → IsCompleting files rest old new
 completing_more files rest f old now new added is saw =
     let one : IsAtMost 2 now new = completed_at_most f.1 now new added saw in
     record {
+      done = is.done ++ f ∷ [];
+      order = is.order ∙ sym (append_assoc is.done (f ∷ []) rest);
+      recorded = subst (λ (l : List MDBFileInfo). Records l old new) (sym (map-append (λ (g : Finished). g.1) is.done (f ∷ [])))
+          (records_then (records_of is.done) (f.1 ∷ []) old now new is.recorded (records_added [] (f.1 ∷ []) 2 now new (adds_completed f.1 now new added saw)));
       whole = λ last completes. is.whole last (new, added, saw, completes);
       errors = λ last e error. is.errors last e (closing_more f.1 (records_of rest) now last e (closing_earlier (records_of rest) now new last e one.follows error));
       most = is.most + 2;
       within = at_most_then is.most 2 old now new is.within one;
       few = omega (arith, is.few);
       forms = is.forms.1;
-      only = only_then (records_of files) old now new is.only
-          (only_more (f.1 ∷ []) (records_of files) now new (λ g among. is.left g (among_left (f.1 ∷ []) (records_of rest) g among)) (only_of [] (f.1 ∷ []) 2 now new (adds_completed f.1 now new added saw)));
-      left = λ g among. is.left g (among_cons f.1 (records_of rest) g among);
     }
 
 pub completing_done : (files : List Finished) (old now : Holder) → IsCompleting files [] old now → Completes (records_of files) old now
@@ -81,12 +84,22 @@ completing_done files old now is = is.whole now refl
 pub completing_most : (files rest : List Finished) (old now : Holder) → IsCompleting files rest old now → IsAtMost (2 * length files) old now
 completing_most files rest old now is = at_most_more is.most (2 * length files) old now (omega (arith, is.few)) is.within
 
+-- the first of the files are recorded, also if nothing more is recorded
+pub completing_first : (files rest : List Finished) (old now new : Holder) → IsCompleting files rest old now → Records [] now new → RecordsFirst (records_of files) old new
+completing_first files rest old now new is none =
+    let parts : records_of files ≡ records_of is.done ++ records_of rest = ap records_of is.order ∙ map-append (λ (f : Finished). f.1) is.done rest in
+    let first : take (length (records_of is.done)) (records_of files) ≡ records_of is.done =
+    ap (take (length (records_of is.done))) parts ∙ take_at (records_of is.done) (records_of rest) (length (records_of is.done)) refl in (
+      length (records_of is.done),
+      subst (λ (l : List MDBFileInfo). Records l old new) (append-nil (records_of is.done) ∙ sym first) (records_then (records_of is.done) [] old now new is.recorded none),
+    )
+
 pub completing_refused : (files rest : List Finished) (f : Finished) (old now new : Holder) (e : StoreError) → IsCompleting files (f ∷ rest) old now → IsRefusal f.1 now new e
-    → IsClosingError (records_of files) old new e × IsAtMost (2 * length files) old new × RecordsOnly (records_of files) old new
+    → IsClosingError (records_of files) old new e × IsAtMost (2 * length files) old new × RecordsFirst (records_of files) old new
 completing_refused files rest f old now new e is refused = (
   is.errors new e (closing_refused f.1 (records_of rest) now new e refused),
   at_most_more (is.most + 2) (2 * length files) old new (omega (arith, is.few)) (at_most_then is.most 2 old now new is.within (refused_at_most f.1 now new e refused)),
-  only_then (records_of files) old now new is.only (only_any (records_of files) now new (refused_only f.1 now new e refused)),
+  completing_first files (f ∷ rest) old now new is (refused_records f.1 now new e refused),
 )
 
 -- ---- the files of an aggregate
@@ -215,7 +228,7 @@ module _ (a : Aggregate) (next : List (List ℕ × ℕ)) (files : List Finished)
 
     pub unclosed_refused : IsUnclosed a next old new e
     unclosed_refused = (
-      only_any (filled_files a) old new (only_error step.Register (cut_to_register old (raw_leaves x)) old new e (λ c. register_cut_none old.number c old.limits.shard_target (raw_leaves x)) saw),
+      first_none (filled_files a) old new (records_error step.Register (cut_to_register old (raw_leaves x)) old new e (λ c. register_cut_none old.number c old.limits.shard_target (raw_leaves x)) saw),
       inr error_refused,
     )
 
@@ -243,13 +256,13 @@ module _ (a : Aggregate) (next : List (List ℕ × ℕ)) (files : List Finished)
     completed = subst (λ (fs : List MDBFileInfo). Completes fs mid new) (records_are a next files x made are) completes;
   }
 
-  only_before : WasRegistered a next x old mid → RecordsOnly (filled_files a) old mid
-  only_before (inl r) = subst (RecordsOnly (filled_files a) old) (sym r.1) (only_nothing (filled_files a) old)
-  only_before (inr r) = only_any (filled_files a) old mid (only_of (Registered (raw_leaves x) next ∷ []) [] 2 old mid (adds_registered (raw_leaves x) next old mid r.0 r.2))
+  none_before : WasRegistered a next x old mid → Records [] old mid
+  none_before (inl r) = subst (Records [] old) (sym r.1) (records_nothing old)
+  none_before (inr r) = records_added (Registered (raw_leaves x) next ∷ []) [] 2 old mid (adds_registered (raw_leaves x) next old mid r.0 r.2)
 
-  pub error_either : WasRegistered a next x old mid → RecordsOnly (records_of files) mid new → (e : StoreError) → IsClosingError (records_of files) mid new e → IsUnclosed a next old new e
-  error_either r only e is = (
-    only_then (filled_files a) old mid new (only_before r) (subst (λ (fs : List MDBFileInfo). RecordsOnly fs mid new) (records_are a next files x made are) only),
+  pub error_either : WasRegistered a next x old mid → RecordsFirst (records_of files) mid new → (e : StoreError) → IsClosingError (records_of files) mid new e → IsUnclosed a next old new e
+  error_either r first e is = (
+    first_then (filled_files a) old mid new (none_before r) (subst (λ (fs : List MDBFileInfo). RecordsFirst fs mid new) (records_are a next files x made are) first),
     inl (mid, registers_chunks a next files x made are old mid r, subst (λ (fs : List MDBFileInfo). IsClosingError fs mid new e) (records_are a next files x made are) is),
   )
 
@@ -260,17 +273,17 @@ module _ (a : Aggregate) (next : List (List ℕ × ℕ)) (files : List Finished)
 -- ---- errors of memory
 
 pub unclosed_nothing : (a : Aggregate) (next : List (List ℕ × ℕ)) (h : Holder) → IsUnclosed a next h h OutOfMemory
-unclosed_nothing a next h = (only_nothing (filled_files a) h, inr tt)
+unclosed_nothing a next h = (first_none (filled_files a) h h (records_nothing h), inr tt)
 
 pub unclosed_after : (a : Aggregate) (next : List (List ℕ × ℕ)) (old new : Holder) → Closes a next old new → IsUnclosed a next old new OutOfMemory
 unclosed_after a next old new c = (
-  only_then (filled_files a) old c.mid new (go c.registered) (only_of [] (filled_files a) (2 * length (filled_files a)) c.mid new (adds_all (filled_files a) c.mid new c.completed)),
+  first_then (filled_files a) old c.mid new (go c.registered) (first_all (filled_files a) c.mid new (records_added [] (filled_files a) (2 * length (filled_files a)) c.mid new (adds_all (filled_files a) c.mid new c.completed))),
   inr tt,
 )
   where
-    go : RegistersChunks a next old c.mid → RecordsOnly (filled_files a) old c.mid
-    go (inl r) = subst (RecordsOnly (filled_files a) old) (sym r.1) (only_nothing (filled_files a) old)
-    go (inr r) = only_any (filled_files a) old c.mid (only_of (Registered (map chunk_leaf a.chunks) next ∷ []) [] 2 old c.mid (adds_registered (map chunk_leaf a.chunks) next old c.mid r.0 r.2))
+    go : RegistersChunks a next old c.mid → Records [] old c.mid
+    go (inl r) = subst (Records [] old) (sym r.1) (records_nothing old)
+    go (inr r) = records_added (Registered (map chunk_leaf a.chunks) next ∷ []) [] 2 old c.mid (adds_registered (map chunk_leaf a.chunks) next old c.mid r.0 r.2)
 
 pub unless_memory : {T : Type 0} (r : Result T StoreError) (P : StoreError → Type 0) → IsOkUnless r OutOfMemory → P OutOfMemory → IfErr r P
 unless_memory (Ok x) P is p = tt

@@ -10,7 +10,8 @@ use Rattle.xet_dedup_queries.specs.Counting.{HasNext, LandsIn, entries_at_most}
 use Rattle.xet_dedup_queries.specs.theorems.Counting.{entries_at_most-append, lands_in-append}
 use Rattle.xet_stepping.specs.Holders.{Follows, FollowsAsking, Holder, calls_of}
 use Rattle.xet_stepping.specs.theorems.Following.{asking_then}
-use Rattle.xet_clean.specs.Files.{IsFew, leaves_in}
+use Rattle.xet_clean.specs.Files.{leaves_in}
+use Rattle.xet_clean.specs.internal.Planning.{IsFew}
 use Rattle.xet_clean.specs.internal.Cleaner.{IsBatchOf, StopsInBatch}
 
 -- ---- what is seen

@@ -12,7 +12,8 @@ use Rattle.xet_hash.specs.Merkle.{file_hash}
 use Rattle.xet_store.specs.Cleaning.{info_of}
 use Rattle.xet_store.specs.declared.info.XetFileInfo.{XetFileInfo}
 use Rattle.xet_stepping.specs.Holders.{Holder}
-use Rattle.xet_clean.specs.Files.{IsFew, IsFinished, IsPlanned, leaves_in}
+use Rattle.xet_clean.specs.Files.{leaves_in}
+use Rattle.xet_clean.specs.internal.Planning.{IsFew, IsFinished, IsPlanned}
 
 -- a pointer record
 abbrev pub pointer : List ℕ → ℕ → List ℕ → XetFileInfo

@@ -10,7 +10,7 @@ use Rattle.xet_folder.specs.Xorbs.{IsListed, found}
 use Rattle.xet_history.specs.Core.{Core, RegisteredShard}
 use Rattle.xet_history.specs.Found.{key_of}
 use Rattle.xet_history.specs.History.{after_all}
-use Rattle.xet_history.specs.Sound.{IsKey}
+use Rattle.xet_history.specs.Sound.{IsKey, IsStanding}
 use Rattle.xet_history.specs.theorems.Joining.{after_all-append}
 use Rattle.xet_history.specs.theorems.Staying.{listed_after_all, shards_after_all}
 use Rattle.xet_shard_format.specs.declared.record.FileDataSequenceEntry.{FileDataSequenceEntry as Segment}
@@ -47,13 +47,10 @@ module _ (a b : Holder) (f : Follows a b) where
   pub limits_follow : b.limits ≡ a.limits
   limits_follow = ap (λ (h : Holder). h.limits) f.is
 
-  pub number_follows : b.number ≡ a.number
-  number_follows = ap (λ (h : Holder). h.number) f.is
-
   pub own_follows : b.own ≡ a.own ++ f.own
   own_follows = ap (λ (h : Holder). h.own) f.is
 
-  listed_follows : (h : List ℕ) (leaves : Leaves) → IsListed (core_at a).xorbs h leaves → IsListed (core_at b).xorbs h leaves
+  pub listed_follows : (h : List ℕ) (leaves : Leaves) → IsListed (core_at a).xorbs h leaves → IsListed (core_at b).xorbs h leaves
   listed_follows h leaves is = subst (λ (c : Core). IsListed c.xorbs h leaves) (sym core_follows) (listed_after_all (core_at a) f.since h leaves is)
 
   pub lengths_follow : (h lengths : List ℕ) → lengths_in (core_at a) h ≡ Some lengths → lengths_in (core_at b) h ≡ Some lengths
@@ -70,10 +67,11 @@ module _ (a b : Holder) (f : Follows a b) where
       let at = Contains-append_left (core_at a).shards more.0 any.1 (any.0, any.2, any.3) in
       inr (subst (λ (ss : List RegisteredShard). Any (λ s. key_of s ≡ key) ss) (more.1 ∙ ap (λ (c : Core). c.shards) (sym core_follows)) (at.0, any.1, at.1, at.2, any.4))
 
-  pub stands_follow : (hashes : List (List ℕ)) (run : Segment) → Stands a hashes run → Stands b hashes run
-  stands_follow hashes run stands told =
-      let s = stands (sym tells_follow ∙ told) in
-      record { leaves = s.leaves; listed = listed_follows run.xorb_hash s.leaves s.listed; key = s.key; is_key = key_follows s.key s.is_key; same = s.same }
+  pub standing_follows : (hashes : List (List ℕ)) (run : Segment) → IsStanding (core_at a) hashes run → IsStanding (core_at b) hashes run
+  standing_follows hashes run s = record { leaves = s.leaves; listed = listed_follows run.xorb_hash s.leaves s.listed; key = s.key; is_key = key_follows s.key s.is_key; same = s.same }
+
+  stands_follow : (hashes : List (List ℕ)) (run : Segment) → Stands a hashes run → Stands b hashes run
+  stands_follow hashes run stands told = standing_follows hashes run (stands (sym tells_follow ∙ told))
 
   -- what is placed stays placed
   pub placed_follows : (chunks : List Chunk) (ss : List Segment) (hashes : List (List ℕ)) → ArePlaced (lengths_in (core_at a)) (Stands a) chunks ss hashes → ArePlaced (lengths_in (core_at b)) (Stands b) chunks ss hashes

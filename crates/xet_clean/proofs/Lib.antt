@@ -1,5 +1,6 @@
 mod Counting
 mod Keeping
+mod InOrder
 mod Records
 mod Adding
 mod Closing
@@ -18,14 +19,13 @@ mod FileCalls
 mod Blocks
 mod Cleaning
 mod Reading
-mod Recording
 mod Ending
 mod Choosing
 mod Recorded
 mod Session
 mod Turns
-mod GoingOn
 mod Hashes
+mod Stopping
 mod Looping
 mod Runs
 mod Resolving

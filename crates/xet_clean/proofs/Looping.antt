@@ -1,12 +1,13 @@
 -- The loop over the sources: what was made of the first, and what is known where it ends.
-use Rattle.std.proofs.Common.{◌≡◌, ◌≢◌, ◌∙◌, ◌⊎◌, inl, inr, ℕ, ◌+◌, ◌*◌, ◌≤◌, ◌<◌, Bool, true, false, List, [], ◌∷◌, ◌++◌, length, map, get_or, set, refl, sym, ap, subst, append-nil, length-append, append_assoc, arith}
-use Rattle.std.proofs.lemmas.List.{length-map, nil_from_length}
+use Rattle.std.proofs.Common.{◌≡◌, ◌≢◌, ◌∙◌, ◌⊎◌, inl, inr, ℕ, suc, ◌+◌, ◌*◌, ◌≤◌, ◌<◌, Bool, true, false, List, [], ◌∷◌, ◌++◌, length, map, take, drop, get_or, set, refl, sym, ap, subst, append-nil, length-append, append_assoc, arith}
+use Rattle.std.proofs.lemmas.List.{length-map, nil_from_length, take_at}
 use Rattle.std.proofs.lemmas.List.Sums.{sum_by-append, sum_by-cons}
-use Rattle.std.specs.List.{AllByRecursion, sum_by}
+use Rattle.std.specs.List.{sum_by}
+use Rattle.std.specs.Prelude.{Err, IsOkUnless, Ok, Result}
 use Rattle.xet_aggregate.specs.Aggregate.{Aggregate, empty}
 use Rattle.xet_aggregate.specs.Metrics.{zeros}
 use Rattle.xet_aggregate.specs.declared.metrics.DeduplicationMetrics.{DeduplicationMetrics}
-use Rattle.xet_base.specs.theorems.Elements.{all_both, all_more}
+use Rattle.xet_base.specs.theorems.Elements.{all_more}
 use Rattle.xet_choices.specs.declared.choice.Choice.{Choice}
 use Rattle.xet_cut.specs.Chunking.{chunking}
 use Rattle.xet_cut.specs.declared.limits.LimitSettings.{LimitSettings}
@@ -18,26 +19,24 @@ use Rattle.xet_hash.specs.declared.error.StoreError.{StoreError}
 use Rattle.xet_hash.specs.declared.error.StoreError.TheVariants.{Io, MalformedData, OutOfMemory, TooLarge}
 use Rattle.xet_hash.specs.declared.error.What.TheVariants as what
 use Rattle.xet_history.specs.declared.entry.Entry.{Entry}
-use Rattle.xet_history.specs.declared.entry.Entry.TheVariants.{Query, Register, Complete, Flush, Fault}
 use Rattle.xet_io.specs.Faults.{Rose}
-use Rattle.xet_store.specs.Cleaning.{AreTaken, EachTold, IsLongAt, Later, RoseAt}
-use Rattle.xet_store.specs.Separate.{Among}
+use Rattle.xet_store.specs.Cleaning.{AreTaken, EachTold, FailedAt, IsLongAt, Later, RoseAt}
 use Rattle.xet_store.specs.declared.info.XetFileInfo.{XetFileInfo}
-use Rattle.xet_store.specs.theorems.Rows.{among_more}
 use Rattle.xet_stepping.specs.Asking.{IsErrorSince}
-use Rattle.xet_stepping.specs.Holders.{Follows, FollowsAsking, Holder, IsCall}
+use Rattle.xet_stepping.specs.Holders.{Follows, FollowsAsking, Holder}
 use Rattle.xet_stepping.specs.theorems.Following.{follows_nothing, follows_then}
-use Rattle.xet_clean.specs.Cleaning.{RecordsFile}
-use Rattle.xet_clean.specs.Files.{IsFew, IsPlanned, IsWithin}
-use Rattle.xet_clean.specs.internal.Closing.{Closes, IsAtMost, IsClosingError, IsUnclosed, RecordsAmong, RegistersChunks, filled_files}
+use Rattle.xet_clean.specs.internal.Planning.{IsFew, IsPlanned, IsWithin}
+use Rattle.xet_clean.specs.internal.Closing.{Closes, IsAtMost, IsClosingError, IsUnclosed, RegistersChunks, filled_files, recorded_in}
 use Rattle.xet_clean.specs.internal.Sources.{AreRead, IsCutShort, IsLoopError, IsSourceError, IsUnclosedFor}
-use Rattle.xet_clean.specs.internal.Working.{EndsWith, IsWorking, Planned, RecordsOne, WasPlanned, Waits}
+use Rattle.xet_clean.specs.internal.Working.{EndsWith, IsWorking, Planned, WasPlanned, Waits}
+use Rattle.xet_xorb_chunk.specs.Chunks.{chunk_leaf}
+use Rattle.xet_shard_format.specs.declared.record.MDBFileInfo.{MDBFileInfo}
+use Rattle.xet_clean.proofs.Adding.{adds_registered, none_recorded, recorded_in-append}
 use Rattle.xet_clean.proofs.Closing.{error_earlier}
-use Rattle.xet_clean.proofs.Ending.{among_made, records_one, was_planned_still}
-use Rattle.xet_clean.proofs.GoingOn.{waits_later}
-use Rattle.xet_clean.proofs.Hashes.{chunks_sum, file_of}
-use Rattle.xet_clean.proofs.Recording.{grown_follows}
-use Rattle.xet_clean.proofs.Turns.{AreDone, AreFrom, IsDone, IsTakenFrom, at_length, done_counts, done_push, done_read, done_told, from_then, later_all, long_at, rose_at, set_at_length, taken_all, taken_each, tell_all, untouched}
+use Rattle.xet_clean.proofs.Hashes.{chunks_sum}
+use Rattle.xet_clean.proofs.Keeping.{waits_follow, was_planned_follows}
+use Rattle.xet_clean.proofs.Stopping.{HasRecorded, first_recorded}
+use Rattle.xet_clean.proofs.Turns.{AreDone, AreFrom, IsDone, IsTakenFrom, at_length, drop_past, done_counts, done_push, done_read, done_told, from_then, later_all, long_at, rose_at, set_at_length, taken_all, taken_each, tell_all, untouched}
 
 -- ---- nothing was cleaned yet
 
@@ -51,14 +50,12 @@ nothing_cleaned h going = record {
   once = λ k below. absurd (omega (arith, below));
   sums = refl;
   planned = tt;
-  recorded = tt;
-  only = tt;
+  records = refl;
   waits = tt;
   aggregate = record { parts = record { count = omega arith; small = tt; total = omega arith }; boundaries = tt; runs = tt };
   within = record { within = record { bytes = omega arith; count = omega arith; small = tt }; hashed = tt };
   forms = tt;
   nothing = λ none. refl;
-  few_files = omega arith;
   lands = tt;
   new = refl;
   bound = omega arith;
@@ -69,7 +66,7 @@ nothing_cleaned h going = record {
 -- what an aggregate's registration leaves
 registers_follow : (a : Aggregate) (next : List (List ℕ × ℕ)) (old new : Holder) → RegistersChunks a next old new → Follows old new
 registers_follow a next old new (inl r) = subst (λ (h : Holder). Follows old h) (sym r.1) (follows_nothing old)
-registers_follow a next old new (inr r) = grown_follows old new r.2.others _ r.2.is
+registers_follow a next old new (inr r) = (adds_registered (map chunk_leaf a.chunks) next old new r.0 r.2).follows
 
 -- no file was refused, unless the error says so
 unclosed_since : (a : Aggregate) (next : List (List ℕ × ℕ)) (start old new : Holder) (e : StoreError) → Follows start old → e ≢ MalformedData OtherFileHash → IsUnclosed a next old new e → IsErrorSince start new e
@@ -103,7 +100,7 @@ module _ {S : Type 0} (tells : S → Bool) (left : S → List ℕ) (faults : S �
   -- Why the loop ended, and what is known then.
   pub record IsStopped (sources now : List S) (start h : Holder) (e : StoreError) : Type 0 where
     pub follows : Follows start h
-    pub short : IsCutShort tells left sources now start h
+    pub short : IsCutShort tells left sources now start h e
     pub tell : map tells now ≡ map tells sources
     pub taken : AreTaken tells left sources now
     pub later : Later faults sources now
@@ -117,12 +114,30 @@ module _ {S : Type 0} (tells : S → Bool) (left : S → List ℕ) (faults : S �
       let all = untouched tells left faults sources in
       record {
         follows = follows_nothing start;
-        short = record { files = files; taken = taken_each tells left faults sources sources files all; few = (follows_nothing start, omega arith); only = tt };
+        short = record {
+          files = files;
+          taken = taken_each tells left faults sources sources files all;
+          done = 0;
+          within = omega arith;
+          failed = tt;
+          read = record { read = tt; short = tt };
+          untouched = refl;
+          few = (follows_nothing start, omega arith);
+          count = 0;
+          recorded = omega arith;
+          records = refl;
+        };
         tell = refl;
         taken = taken_all tells left faults sources sources files all;
         later = later_all tells left faults sources sources files all;
         reason = tt;
       }
+
+  pub short_before : {T : Type 0} (sources : List S) (start : Holder) (r : Result T StoreError) (e : StoreError) → r ≡ Err e → IsOkUnless r OutOfMemory → IsCutShort tells left sources sources start start e
+  short_before sources start (Ok x) e is memory = absurd (cc is)
+  short_before sources start (Err x) e is memory =
+      let same : x ≡ e = cc is in
+      subst (IsCutShort tells left sources sources start start) (sym memory ∙ same) (stopped_before sources start).short
 
   module _ (sources now : List S) (n : ℕ) (start h : Holder) (infos : List XetFileInfo) (choices : List (List Choice)) (metrics : DeduplicationMetrics) (a : Aggregate)
       (l : IsLoop sources now n start h infos choices metrics a) where
@@ -134,33 +149,28 @@ module _ {S : Type 0} (tells : S → Bool) (left : S → List ℕ) (faults : S �
 
     -- ---- what was recorded
 
-    abbrev files_for : List (List ℕ) → List (List ℕ)
-    files_for bytes = map (λ (f : Planned). f.bytes) l.files ++ bytes
+    has_recorded : (bytes : List (List ℕ)) (own : List (ℕ × Entry)) (k : ℕ) → recorded_in own ≡ take k (filled_files a)
+        → HasRecorded start.limits n (map (λ (f : Planned). f.bytes) l.files ++ bytes) (w.follows.own ++ own)
+    has_recorded bytes own k is = first_recorded start h l.files infos choices metrics a w n l.count bytes own k is
 
-    have_file : (bytes : List (List ℕ)) (f : Planned) → Among l.files f → Among (files_for bytes) f.bytes
-    have_file bytes f among = among_more (map (λ (g : Planned). g.bytes) l.files) bytes f.bytes (among_made (λ (g : Planned). g.bytes) l.files f among)
+    -- ---- the sources before this one, and after it
 
-    old_files : (bytes : List (List ℕ)) → AllByRecursion (λ p. RecordsFile start.limits (files_for bytes) p.1) w.follows.own
-    old_files bytes =
-        all_more (λ (p : ℕ × Entry). RecordsOne l.files p.1) (λ (p : ℕ × Entry). RecordsFile start.limits (files_for bytes) p.1) w.follows.own
-        (λ p one. file_of start h w.follows l.files w.planned (files_for bytes) (have_file bytes) p.1 one) w.only
+    read_first : (after tail : List S) → after ≡ l.made ++ tail → AreRead tells left start.limits.max_source_bytes (take n sources) (take n after)
+    read_first after tail is =
+        subst (λ (ts : List S). AreRead tells left start.limits.max_source_bytes (take n sources) ts) (sym (ap (take n) is ∙ take_at l.made tail n counts.1))
+        (subst (λ (ss : List S). AreRead tells left start.limits.max_source_bytes ss l.made) (sym (ap (take n) l.old_is ∙ take_at l.done l.rest n counts.0))
+        (done_read tells left faults start.limits.max_source_bytes l.done l.made l.files l.are))
 
-    -- a call of the deduplication of a file records nothing
-    call_file : (files : List (List ℕ)) (e : Entry) → IsCall e → RecordsFile start.limits files e
-    call_file files (Query pass query reply) is = tt
-    call_file files (Register pass chunks next added) is = tt
-    call_file files (Complete pass file added) is = absurd is
-    call_file files (Flush pass shard) is = tt
-    call_file files (Fault pass kind) is = tt
+    rest_after : (after tail : List S) → after ≡ l.made ++ tail → drop 1 tail ≡ drop 1 l.rest → drop (suc n) after ≡ drop (suc n) sources
+    rest_after after tail is same =
+        ap (drop (suc n)) is
+        ∙ ap (λ (k : ℕ). drop (suc k) (l.made ++ tail)) (sym counts.1)
+        ∙ drop_past l.made tail
+        ∙ same
+        ∙ sym (ap (drop (suc n)) l.old_is ∙ ap (λ (k : ℕ). drop (suc k) (l.done ++ l.rest)) (sym counts.0) ∙ drop_past l.done l.rest)
 
-    call_files : (files : List (List ℕ)) (own : List (ℕ × Entry)) → AllByRecursion (λ p. IsCall p.1) own → AllByRecursion (λ p. RecordsFile start.limits files p.1) own
-    call_files files own = all_more (λ (p : ℕ × Entry). IsCall p.1) (λ (p : ℕ × Entry). RecordsFile start.limits files p.1) own (λ p is. call_file files p.1 is)
-
-    -- what an aggregate recorded that was not closed
-    unclosed_files : (bytes : List (List ℕ)) (own : List (ℕ × Entry)) → AllByRecursion (λ p. RecordsAmong (filled_files a) p.1) own → AllByRecursion (λ p. RecordsFile start.limits (files_for bytes) p.1) own
-    unclosed_files bytes own =
-        all_more (λ (p : ℕ × Entry). RecordsAmong (filled_files a) p.1) (λ (p : ℕ × Entry). RecordsFile start.limits (files_for bytes) p.1) own
-        (λ p is. file_of start h w.follows l.files w.planned (files_for bytes) (have_file bytes) p.1 (records_one h l.files a w.waits p.1 is))
+    within_all : n ≤ length sources
+    within_all = omega (arith, counts.0, ap length l.old_is, length-append l.done l.rest)
 
     -- ---- the numbers of entries
 
@@ -193,11 +203,11 @@ module _ {S : Type 0} (tells : S → Bool) (left : S → List ℕ) (faults : S �
           told = done_told tells left faults start.limits.max_source_bytes l.done l.made l.files l.are;
           before = first;
           follows = follows_then start h first w.follows later;
-          planned = all_more (WasPlanned start h) (WasPlanned start first) l.files (was_planned_still start h first later) w.planned;
+          planned = all_more (WasPlanned start h) (WasPlanned start first) l.files (was_planned_follows h first later start) w.planned;
           aggregate = a;
           parts = w.aggregate;
           within = subst (λ (s : LimitSettings). IsWithin s a.chunks) (sym limits_same) w.within;
-          waits = all_more (λ p. Waits h a.chunks l.files p.0) (λ p. Waits first a.chunks l.files p.0) a.files (λ p waits. waits_later h first later a.chunks l.files p.0 waits) w.waits;
+          waits = all_more (λ p. Waits h a.chunks l.files p.0) (λ p. Waits first a.chunks l.files p.0) a.files (λ p waits. waits_follow h first later a.chunks l.files p.0 waits) w.waits;
           next = next_leaves;
           refused = u;
         }
@@ -290,20 +300,18 @@ module _ {S : Type 0} (tells : S → Bool) (left : S → List ℕ) (faults : S �
         -- Its deduplication or its reading failed.
         source_reason : (e : StoreError) → FollowsAsking h h' → IsSourceError n (tells next.source) (left next.source) (faults next.source) (faults t) h h' e
             → IsLoopError tells left faults sources (set now n t) start h' e
-        source_reason (Io (place.Source i)) asking is = rose_here i is.0 is.1
+        source_reason (Io (place.Source i)) asking is = (rose_here i is.0 is.1, is.2 ∙ w.going)
         source_reason (TooLarge (what.Source i)) asking is =
-            long_here i is.0 (subst (λ (s : LimitSettings). tells next.source ≡ true → s.max_source_bytes < length (left next.source)) (ap (λ (x : Holder). x.limits) w.follows.is) is.1)
+            (long_here i is.0 (subst (λ (s : LimitSettings). tells next.source ≡ true → s.max_source_bytes < length (left next.source)) (ap (λ (x : Holder). x.limits) w.follows.is) is.1), is.2 ∙ w.going)
         source_reason (MalformedData OtherFileHash) asking is =
             unclosed_for h h' [] (MalformedData OtherFileHash) (follows_nothing h)
-            (record { follows = asking.follows; only = all_more (λ (p : ℕ × Entry). IsCall p.1) (λ (p : ℕ × Entry). RecordsAmong (filled_files a) p.1) asking.follows.own (λ p call. call_among p.1 call) asking.none }, inr is)
-          where
-            call_among : (e : Entry) → IsCall e → RecordsAmong (filled_files a) e
-            call_among (Query pass query reply) call = tt
-            call_among (Register pass chunks next added) call = tt
-            call_among (Complete pass file added) call = absurd call
-            call_among (Flush pass shard) call = tt
-            call_among (Fault pass kind) call = tt
+            ((0, record { follows = asking.follows; are = none_recorded asking.follows.own asking.none }), inr is)
         source_reason e asking is = error_earlier start h h' w.follows e is
+
+        source_failed : (e : StoreError) → IsSourceError n (tells next.source) (left next.source) (faults next.source) (faults t) h h' e → FailedAt e n
+        source_failed (Io (place.Source i)) is = is.0
+        source_failed (TooLarge (what.Source i)) is = is.0
+        source_failed e is = tt
 
         pub stopped_at_source : (e : StoreError) → (asking : FollowsAsking h h') → IsFew h h' bytes → IsSourceError n (tells next.source) (left next.source) (faults next.source) (faults t) h h' e
             → IsStopped sources (set now n t) start h' e
@@ -311,6 +319,7 @@ module _ {S : Type 0} (tells : S → Bool) (left : S → List ℕ) (faults : S �
         stopped_at_source e asking few is =
             let all = from_all t bytes from in
             let rest : List (List ℕ) = bytes ∷ map (λ (s : S). []) next.later in
+            let recorded = has_recorded rest few.follows.follows.own 0 (none_recorded few.follows.follows.own few.follows.none) in
             let one : length few.follows.follows.own ≤ 3 * length (chunking start.limits bytes) =
             omega (
               arith,
@@ -328,7 +337,14 @@ module _ {S : Type 0} (tells : S → Bool) (left : S → List ℕ) (faults : S �
                   few_with rest (length (w.follows.own ++ few.follows.follows.own))
                       (omega (arith, few_old, one, length-append w.follows.own few.follows.follows.own, sum_by-cons (λ (f : List ℕ). length (chunking start.limits f)) bytes (map (λ (s : S). []) next.later))),
                 );
-                only = all_both (λ p. RecordsFile start.limits (files_for rest) p.1) w.follows.own few.follows.follows.own (old_files rest) (call_files (files_for rest) few.follows.follows.own few.follows.none);
+                done = n;
+                within = within_all;
+                failed = source_failed e is;
+                read = read_first (set now n t) (t ∷ next.later) (set_next t);
+                untouched = rest_after (set now n t) (t ∷ next.later) (set_next t) (ap (drop 1) (sym next.is));
+                count = recorded.count;
+                recorded = recorded.few;
+                records = recorded.are;
               };
               tell = tell_all tells left faults sources (set now n t) (map (λ (f : Planned). f.bytes) l.files ++ rest) all;
               taken = taken_all tells left faults sources (set now n t) (map (λ (f : Planned). f.bytes) l.files ++ rest) all;
@@ -346,6 +362,12 @@ module _ {S : Type 0} (tells : S → Bool) (left : S → List ℕ) (faults : S �
     unclosed_reason after first last next_leaves (TooLarge (what.Source i)) later u = absurd (unclosed_since a next_leaves start first last (TooLarge (what.Source i)) (follows_then start h first w.follows later) (λ same. cc same) u)
     unclosed_reason after first last next_leaves e later u = unclosed_since a next_leaves start first last e (follows_then start h first w.follows later) (λ same. cc same) u
 
+    -- such an error names no source
+    unclosed_failed : (first last : Holder) (next_leaves : List (List ℕ × ℕ)) (e : StoreError) → Follows h first → IsUnclosed a next_leaves first last e → FailedAt e n
+    unclosed_failed first last next_leaves (Io (place.Source i)) later u = absurd (unclosed_since a next_leaves start first last (Io (place.Source i)) (follows_then start h first w.follows later) (λ same. cc same) u)
+    unclosed_failed first last next_leaves (TooLarge (what.Source i)) later u = absurd (unclosed_since a next_leaves start first last (TooLarge (what.Source i)) (follows_then start h first w.follows later) (λ same. cc same) u)
+    unclosed_failed first last next_leaves e later u = tt
+
     -- the file joined no aggregate
     pub stopped_at_keep : (next : HasNext) (t : S) (h' last : Holder) (bytes : List ℕ) (plan : PlanState) → IsTakenFrom tells left faults next.source t bytes → IsPlanned h h' bytes plan
         → (next_leaves : List (List ℕ × ℕ)) (e : StoreError) → IsAtMost (2 * length a.chunks + 2 * length a.files) h' last → IsUnclosed a next_leaves h' last e → IsStopped sources (set now n t) start last e
@@ -355,8 +377,10 @@ module _ {S : Type 0} (tells : S → Bool) (left : S → List ℕ) (faults : S �
         let rest : List (List ℕ) = bytes ∷ map (λ (s : S). []) next.later in
         let files : List (List ℕ) = map (λ (f : Planned). f.bytes) l.files ++ rest in
         let p : Follows h h' = planned.follows.follows in
-        let r : Follows h' last = u.0.follows in
+        let r : Follows h' last = u.0.1.follows in
         let whole : Follows start last = follows_then start h last w.follows (follows_then h h' last p r) in
+        let recorded = has_recorded rest (p.own ++ r.own) u.0.0
+        (recorded_in-append p.own r.own ∙ ap (λ (x : List MDBFileInfo). x ++ recorded_in r.own) (none_recorded p.own planned.follows.none) ∙ u.0.1.are) in
         let limits_same : h'.limits ≡ start.limits = ap (λ (x : Holder). x.limits) p.is ∙ ap (λ (x : Holder). x.limits) w.follows.is in
         let one : length p.own ≤ 3 * length (chunking start.limits bytes) =
         omega (arith, planned.few, ap length planned.leaves, ap (λ (s : LimitSettings). length (chunking s bytes)) limits_same, length-map (chunking h'.limits bytes) leaf_of) in
@@ -379,8 +403,14 @@ module _ {S : Type 0} (tells : S → Bool) (left : S → List ℕ) (faults : S �
               few_with rest (length (w.follows.own ++ (p.own ++ r.own)))
                   (omega (arith, few_old, one, more, length-append w.follows.own (p.own ++ r.own), length-append p.own r.own, sum_by-cons (λ (f : List ℕ). length (chunking start.limits f)) bytes (map (λ (s : S). []) next.later))),
             );
-            only = all_both (λ e. RecordsFile start.limits (files_for rest) e.1) w.follows.own (p.own ++ r.own) (old_files rest)
-                (all_both (λ e. RecordsFile start.limits (files_for rest) e.1) p.own r.own (call_files (files_for rest) p.own planned.follows.none) (unclosed_files rest r.own u.0.only));
+            done = n;
+            within = within_all;
+            failed = unclosed_failed h' last next_leaves e p u;
+            read = read_first (set now n t) (t ∷ next.later) (set_next next t);
+            untouched = rest_after (set now n t) (t ∷ next.later) (set_next next t) (ap (drop 1) (sym next.is));
+            count = recorded.count;
+            recorded = recorded.few;
+            records = recorded.are;
           };
           tell = tell_all tells left faults sources (set now n t) files all;
           taken = taken_all tells left faults sources (set now n t) files all;
@@ -401,8 +431,9 @@ module _ {S : Type 0} (tells : S → Bool) (left : S → List ℕ) (faults : S �
     stopped_at_end last e few u =
         let rest : List (List ℕ) = map (λ (s : S). []) l.rest in
         let files : List (List ℕ) = map (λ (f : Planned). f.bytes) l.files ++ rest in
-        let r : Follows h last = u.0.follows in
+        let r : Follows h last = u.0.1.follows in
         let whole : Follows start last = follows_then start h last w.follows r in
+        let recorded = has_recorded rest r.own u.0.0 u.0.1.are in
         let more : length r.own ≤ 2 * length a.chunks + 2 * length a.files =
         omega (arith, few.few, ap (λ (x : Holder). length x.own) r.is, ap (λ (x : Holder). length x.own) few.follows.is, length-append h.own r.own, length-append h.own few.follows.own) in
         record {
@@ -411,7 +442,14 @@ module _ {S : Type 0} (tells : S → Bool) (left : S → List ℕ) (faults : S �
             files = files;
             taken = taken_each tells left faults sources now files from_end;
             few = (whole, few_with rest (length (w.follows.own ++ r.own)) (omega (arith, few_old, more, length-append w.follows.own r.own)));
-            only = all_both (λ e. RecordsFile start.limits (files_for rest) e.1) w.follows.own r.own (old_files rest) (unclosed_files rest r.own u.0.only);
+            done = n;
+            within = within_all;
+            failed = unclosed_failed h last [] e (follows_nothing h) u;
+            read = read_first now l.rest l.now_is;
+            untouched = rest_after now l.rest l.now_is refl;
+            count = recorded.count;
+            recorded = recorded.few;
+            records = recorded.are;
           };
           tell = tell_all tells left faults sources now files from_end;
           taken = taken_all tells left faults sources now files from_end;

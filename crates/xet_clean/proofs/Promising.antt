@@ -1,9 +1,9 @@
 -- What `clean_files` promises, from what is known where the loop over the sources has ended.
-use Rattle.std.proofs.Common.{Result, Ok, Err, IfOk, OnOk, ◌≡◌, ◌∙◌, ℕ, ◌≤◌, Bool, true, false, List, [], length, map, IsSome, sym, ap, subst, arith}
+use Rattle.std.proofs.Common.{Result, Ok, Err, IfOk, OnOk, ◌≡◌, ◌∙◌, ℕ, ◌≤◌, Bool, true, false, List, [], length, map, Some, IsSome, sym, ap, subst, arith}
 use Rattle.std.proofs.lemmas.Bool.{false≢true}
 use Rattle.std.proofs.lemmas.List.{length-map}
-use Rattle.std.specs.Prelude.{is_ok}
-use Rattle.std.specs.Result.{IfErr, OnErr}
+use Rattle.std.specs.Result.{IfErr, result_err}
+use Rattle.std.specs.Prelude.{Any}
 use Rattle.std.specs.List.{AllByRecursion, IsAmong}
 use Rattle.xet_aggregate.specs.declared.metrics.DeduplicationMetrics.{DeduplicationMetrics}
 use Rattle.xet_choices.specs.declared.choice.Choice.{Choice}
@@ -16,7 +16,6 @@ use Rattle.xet_hash.specs.declared.error.What.TheVariants as what
 use Rattle.xet_history.specs.Core.{Core, RegisteredShard, has_pending}
 use Rattle.xet_history.specs.declared.entry.Entry.{Entry}
 use Rattle.xet_history.specs.declared.entry.Entry.TheVariants.{Fault}
-use Rattle.xet_io.specs.Faults.{Rose}
 use Rattle.xet_steps.specs.Recorded.{IsRecorded, RecordedState, core_of}
 use Rattle.xet_store.specs.Cleaning.{Adds, EachTold, HasFile, Keeps, chunkings, info_of}
 use Rattle.xet_store.specs.Separate.{Among, Separate}
@@ -24,7 +23,7 @@ use Rattle.xet_store.specs.Store.{Sound, plan_of}
 use Rattle.xet_store.specs.declared.info.XetFileInfo.{XetFileInfo}
 use Rattle.xet_store.specs.theorems.Files.{files_all}
 use Rattle.xet_store.specs.theorems.Rows.{from_among, to_among}
-use Rattle.xet_stepping.specs.Alone.{AloneState, IsAlone, alone_of}
+use Rattle.xet_stepping.specs.Alone.{AloneState, IsAlone, IsFault, alone_of}
 use Rattle.xet_stepping.specs.Asking.{HasFault}
 use Rattle.xet_stepping.specs.Holders.{Follows, Holder, core_at, numbered}
 use Rattle.xet_clean.specs.Cleaning.{Grows, HasReason, IsBounded, IsCleaned, entries_since}
@@ -32,7 +31,7 @@ use Rattle.xet_clean.specs.internal.Sources.{AreRead, IsCutShort, IsLoopError}
 use Rattle.xet_clean.specs.internal.Working.{EndsWith, Planned}
 use Rattle.xet_clean.proofs.Choosing.{unnumbered}
 use Rattle.xet_clean.proofs.Refusing.{none_refused}
-use Rattle.xet_clean.proofs.Session.{bounded_since, core_is, ended_adds, ended_cleaned, ended_grows, ended_infos, ended_recorded, grows_some, since_is}
+use Rattle.xet_clean.proofs.Session.{bounded_since, core_is, ended_adds, ended_cleaned, ended_grows, ended_infos, ended_recorded, grows_by, since_is, some_made}
 
 -- ---- the result
 
@@ -41,7 +40,7 @@ module _ {S T : Type 0} (tells : S → Bool) (left : S → List ℕ) (faults : S
   pub record IsResult (start last : Holder) (r : Result T StoreError) : Type 0 where
     pub ends : IfOk r (λ t. (files : List Planned) × EndsWith tells left sources start last files (infos t) (choices t) (metrics t))
     pub read : OnOk r (AreRead tells left start.limits.max_source_bytes sources now)
-    pub short : OnErr r (IsCutShort tells left sources now start last)
+    pub short : IfErr r (IsCutShort tells left sources now start last)
     pub why : IfErr r (IsLoopError tells left faults sources now start last)
 
   -- all that is promised of it
@@ -54,23 +53,23 @@ module _ {S T : Type 0} (tells : S → Bool) (left : S → List ℕ) (faults : S
     pub plans : IfOk r (λ t. AllByRecursion (λ info. IsSome (plan_of new.store.records info.hash)) (infos t))
     pub cleaned : IfOk r (λ t. IsCleaned tells left sources old new (infos t) (choices t) (metrics t))
     pub keeps : Keeps old.store new.store
-    pub steps : Grows (is_ok r) old new
+    pub steps : Grows (result_err r) old new
     pub adds : IfOk r (λ t. Adds old.store.records new.store.records (map (λ info. info.hash) (infos t)))
-    pub bound : OnErr r (IsBounded tells left sources now old new)
+    pub bound : IfErr r (IsBounded tells left sources now old new)
     pub reason : IfErr r (HasReason tells left faults sources now old new)
 
 module _ {S : Type 0} (tells : S → Bool) (left : S → List ℕ) (faults : S → ℕ) (sources now : List S) (old new : RecordedState) (stopped : Bool) (is : IsAlone old new stopped) (sound : Sound new.store)
     (recorded : IsRecorded new) where
   -- ---- errors
 
-  -- the disk's count of failures rose
-  fault_rose : HasFault (alone_of old old false) (alone_of old new stopped) → Rose old.store.faults new.store.faults
-  fault_rose f =
+  -- the entry of the disk's failure
+  fault_among : HasFault (alone_of old old false) (alone_of old new stopped) → Any IsFault is.since
+  fault_among f =
       let e : Entry = Fault 0 f.kind in
       let among : Among (entries_since old new) (Fault 0 f.kind) =
       unnumbered (length old.history) (entries_since old new) f.number (Fault 0 f.kind) (to_among (numbered (length old.history) (entries_since old new)) (f.number, Fault 0 f.kind) f.among) in
       let there : IsAmong is.since (Fault 0 f.kind) = from_among is.since (Fault 0 f.kind) (subst (λ (es : List Entry). Among es (Fault 0 f.kind)) (since_is old new stopped is) among) in
-      is.rose (there.0, Fault 0 f.kind, there.1.0, sym there.1.1, tt)
+      (there.0, Fault 0 f.kind, there.1.0, sym there.1.1, tt)
 
   -- no further shard can be registered
   shards_full : (max_shards ≤ length (core_at (alone_of old new stopped)).shards) × (has_pending (core_at (alone_of old new stopped)) ≡ true) → (max_shards ≤ length new.store.shards) × (has_pending (core_of new) ≡ true)
@@ -81,14 +80,20 @@ module _ {S : Type 0} (tells : S → Bool) (left : S → List ℕ) (faults : S �
       )
 
   reason_of : (e : StoreError) → IsLoopError tells left faults sources now (alone_of old old false) (alone_of old new stopped) e → HasReason tells left faults sources now old new e
-  reason_of (Io (Source i)) why = why
-  reason_of (Io Disk) why = fault_rose why
-  reason_of (TooLarge (what.Source i)) why = why
+  reason_of (Io (Source i)) why = why.0
+  reason_of (Io Disk) why = is.rose (fault_among why)
+  reason_of (TooLarge (what.Source i)) why = why.0
   reason_of (TooLarge what.Shards) why = shards_full why
   reason_of (MalformedData OtherFileHash) why = λ told all none under. none_refused tells left sources old new stopped is sound told all none under why
   reason_of (MalformedData reason) why = λ told all none under. false≢true (sym why ∙ told)
   reason_of OutOfMemory why = tt
   reason_of e why = absurd why
+
+  grows_of : (e : StoreError) → IsLoopError tells left faults sources now (alone_of old old false) (alone_of old new stopped) e → Grows (Some e) old new
+  grows_of (Io (Source i)) why = grows_by old new stopped is (Some (Io (Source i))) (is.whole why.1)
+  grows_of (Io Disk) why = grows_by old new stopped is (Some (Io Disk)) (is.disk (fault_among why)).1
+  grows_of (TooLarge (what.Source i)) why = grows_by old new stopped is (Some (TooLarge (what.Source i))) (is.whole why.1)
+  grows_of e why = grows_by old new stopped is (Some e) (some_made old new stopped is)
 
   pub promises : {T : Type 0} (infos : T → List XetFileInfo) (choices : T → List (List Choice)) (metrics : T → DeduplicationMetrics) (r : Result T StoreError)
       → IsResult tells left faults sources now infos choices metrics (alone_of old old false) (alone_of old new stopped) r → Promises tells left faults sources now infos choices metrics old new r
@@ -117,9 +122,9 @@ module _ {S : Type 0} (tells : S → Bool) (left : S → List ℕ) (faults : S �
     plans = tt;
     cleaned = tt;
     keeps = is.steps.keeps;
-    steps = grows_some old new stopped is;
+    steps = grows_of e result.why;
     adds = tt;
-    bound = bounded_since tells left sources now old new stopped is sound result.short;
+    bound = bounded_since tells left sources now old new stopped e is sound result.short;
     reason = reason_of e result.why;
   }
 

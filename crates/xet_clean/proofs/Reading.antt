@@ -10,7 +10,7 @@ use Rattle.xet_io.specs.Whole.{FillsWith}
 use Rattle.xet_stepping.specs.Asking.{IsErrorSince}
 use Rattle.xet_stepping.specs.Holders.{Follows, Holder}
 use Rattle.xet_stepping.specs.theorems.Following.{asking_nothing, follows_nothing}
-use Rattle.xet_clean.specs.Files.{IsFew}
+use Rattle.xet_clean.specs.internal.Planning.{IsFew}
 use Rattle.xet_clean.specs.internal.Errors.{IsCleanerError}
 use Rattle.xet_clean.specs.internal.Sources.{IsSourceError, Takes}
 use Rattle.xet_clean.proofs.FileCalls.{same_limits}
@@ -66,13 +66,14 @@ source_error number tells left before after old new (TooLarge (what.Source i)) i
 source_error number tells left before after old new e is = is
 
 -- the source failed
-pub read_error : (number : ℕ) (tells : Bool) (left : List ℕ) (before after : ℕ) (old new : Holder) (e : StoreError) → e ≡ Io (place.Source number) → Rose before after → IsSourceError number tells left before after old new e
-read_error number tells left before after old new e is rose = subst (IsSourceError number tells left before after old new) (sym is) (refl, rose)
+pub read_error : (number : ℕ) (tells : Bool) (left : List ℕ) (before after : ℕ) (old new : Holder) (e : StoreError) → e ≡ Io (place.Source number) → Rose before after → new.stopped ≡ old.stopped
+    → IsSourceError number tells left before after old new e
+read_error number tells left before after old new e is rose passed = subst (IsSourceError number tells left before after old new) (sym is) (refl, rose, passed)
 
 -- a block was not added
 pub cleaner_error : (number : ℕ) (tells : Bool) (left rest bytes more : List ℕ) (count before after : ℕ) (old mid new : Holder) (e : StoreError) → Takes false tells left rest (bytes ++ more) → count ≡ length bytes → Follows old mid
-    → IsCleanerError number count more mid new e → IsSourceError number tells left before after old new e
-cleaner_error number tells left rest bytes more count before after old mid new e takes counted f (inl x) =
+    → mid.stopped ≡ old.stopped → IsCleanerError number count more mid new e → IsSourceError number tells left before after old new e
+cleaner_error number tells left rest bytes more count before after old mid new e takes counted f passed (inl x) =
     subst (IsSourceError number tells left before after old new) (sym x.0) (
       refl,
       λ t.
@@ -85,8 +86,9 @@ cleaner_error number tells left rest bytes more count before after old mid new e
             length-append bytes more,
             ap (λ (s : LimitSettings). s.max_source_bytes) (same_limits old mid f),
           ),
+      ap (λ (h : Holder). h.stopped) x.2 ∙ passed,
     )
-cleaner_error number tells left rest bytes more count before after old mid new e takes counted f (inr is) = source_error number tells left before after old new e (error_earlier old mid new f e is)
+cleaner_error number tells left rest bytes more count before after old mid new e takes counted f passed (inr is) = source_error number tells left before after old new e (error_earlier old mid new f e is)
 
 -- ---- entries
 

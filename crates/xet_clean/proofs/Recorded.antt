@@ -3,22 +3,28 @@ use Rattle.std.proofs.Common.{◌≡◌, ◌≢◌, ◌∙◌, inl, inr, ℕ, ze
 use Rattle.std.specs.Cmp.Lexicographic.{bytes_decides, pointwise}
 use Rattle.std.specs.List.{AllByRecursion, IsAmong}
 use Rattle.std.proofs.lemmas.List.Elements.{All-from_recursion, recursion_from_All}
-use Rattle.xet_base.specs.theorems.Elements.{all_both}
+use Rattle.xet_base.specs.theorems.Elements.{all_both, all_more}
 use Rattle.xet_folder.specs.Xorbs.{FileRecords, found}
 use Rattle.xet_folder.specs.theorems.Tables.{found_here, found_kept}
-use Rattle.xet_history.specs.Core.{Core, completed, is_new}
+use Rattle.xet_history.specs.Core.{Core, completed, flushed, is_new, registered}
 use Rattle.xet_history.specs.History.{after, after_all}
 use Rattle.xet_history.specs.declared.entry.Entry.{Entry}
 use Rattle.xet_history.specs.declared.entry.Entry.TheVariants.{Query, Register, Complete, Flush, Fault}
 use Rattle.xet_history.specs.theorems.Staying.{completed_cases, none_if_new, records_after_all, registered_cases, with_record}
 use Rattle.xet_shard_format.specs.Records.{file_record_hash}
 use Rattle.xet_shard_format.specs.declared.record.MDBFileInfo.{MDBFileInfo}
-use Rattle.xet_store.specs.Cleaning.{Adds}
+use Rattle.xet_store.specs.Cleaning.{Adds, info_of}
 use Rattle.xet_store.specs.Separate.{Among}
-use Rattle.xet_store.specs.Store.{Differ}
-use Rattle.xet_store.specs.theorems.Rows.{is_some_found, to_among}
+use Rattle.xet_store.specs.Store.{Differ, plan_of}
+use Rattle.xet_store.specs.theorems.Rows.{from_among, is_some_found, to_among}
 use Rattle.xet_store.specs.theorems.Staying.{all_among}
-use Rattle.xet_stepping.specs.Holders.{numbered}
+use Rattle.xet_base.specs.Pieces.{pieces_after}
+use Rattle.xet_cut.specs.declared.limits.LimitSettings.{LimitSettings}
+use Rattle.xet_hash.specs.Hash.{zero_hash}
+use Rattle.xet_store.specs.theorems.Files.{plan_empty, plan_some}
+use Rattle.xet_clean.specs.Cleaning.{AreRecords, IsRecordFor, RecordsFile, files_in}
+use Rattle.xet_clean.proofs.Closing.{among_cons}
+use Rattle.xet_clean.proofs.Ending.{among_made}
 
 -- If the entry records a file, its hash is one of these.
 abbrev pub RecordsHash : List (List ℕ) → Entry → Type 0
@@ -50,14 +56,60 @@ completed_found c file =
     (λ new. is_some_found (with_record c file).records (file_record_hash file) file (found_here c.records (file_record_hash file) file (none_if_new c.records (file_record_hash file) new)))
     (λ old. known c.records (file_record_hash file) old)
 
--- a file that one of the entries records is found after them
-pub recorded_found : (c : Core) (es : List Entry) (pass : ℕ) (file : MDBFileInfo) (added : Bool) → Among es (Complete pass file added) → IsSome (found (after_all c es).records (file_record_hash file))
-recorded_found c [] pass file added a = absurd a
-recorded_found c (e ∷ es) pass file added (inl same) =
-    let here : IsSome (found (after c e).records (file_record_hash file)) = subst (λ (x : Entry). IsSome (found (after c x).records (file_record_hash file))) (sym same) (completed_found c file) in
-    let rest = records_after_all (after c e) es in
-    subst (λ (rows : FileRecords). IsSome (found rows (file_record_hash file))) rest.1 (some_then (after c e).records rest.0 (file_record_hash file) here)
-recorded_found c (e ∷ es) pass file added (inr a) = recorded_found (after c e) es pass file added a
+-- what entries record is found after them
+pub recorded_found : (c : Core) (es : List Entry) → AllByRecursion (λ r. IsSome (found (after_all c es).records (file_record_hash r))) (files_in es)
+recorded_found c [] = tt
+recorded_found c (Query pass query reply ∷ es) = recorded_found c es
+recorded_found c (Register pass chunks next added ∷ es) = recorded_found (registered c chunks) es
+recorded_found c (Complete pass file added ∷ es) =
+    let rest = records_after_all (completed c file) es in (
+      subst (λ (rows : FileRecords). IsSome (found rows (file_record_hash file))) rest.1 (some_then (completed c file).records rest.0 (file_record_hash file) (completed_found c file)),
+      recorded_found (completed c file) es,
+    )
+recorded_found c (Flush pass shard ∷ es) = recorded_found (flushed c) es
+recorded_found c (Fault pass kind ∷ es) = recorded_found c es
+
+-- ---- the records of files
+
+-- each record is that of one of the files
+abbrev IsRecordAmong : LimitSettings → List (List ℕ) → MDBFileInfo → Type 0
+IsRecordAmong s files r = (bytes : List ℕ) × IsAmong files bytes × IsRecordFor s bytes r
+
+each_record : (s : LimitSettings) (files : List (List ℕ)) (rs : List MDBFileInfo) → AreRecords s files rs → AllByRecursion (IsRecordAmong s files) rs
+each_record s [] [] none = tt
+each_record s [] (r ∷ rs) none = absurd (cc none)
+each_record s ([] ∷ fs) rs all = all_more (IsRecordAmong s fs) (IsRecordAmong s ([] ∷ fs)) rs (λ r is. (is.0, among_cons [] fs is.0 is.1, is.2)) (each_record s fs rs all)
+each_record s ((b ∷ bs) ∷ fs) [] all = absurd all
+each_record s ((b ∷ bs) ∷ fs) (r ∷ rs) all = (
+  (b ∷ bs, (0, (omega arith, refl)), all.0),
+  all_more (IsRecordAmong s fs) (IsRecordAmong s ((b ∷ bs) ∷ fs)) rs (λ q is. (is.0, among_cons (b ∷ bs) fs is.0 is.1, is.2)) (each_record s fs rs all.1),
+)
+
+record_files : (s : LimitSettings) (files : List (List ℕ)) (es : List Entry) → AllByRecursion (IsRecordAmong s files) (files_in es) → AllByRecursion (RecordsFile s files) es
+record_files s files [] all = tt
+record_files s files (Query pass query reply ∷ es) all = (tt, record_files s files es all)
+record_files s files (Register pass chunks next added ∷ es) all = (tt, record_files s files es all)
+record_files s files (Complete pass file added ∷ es) all = (all.0, record_files s files es all.1)
+record_files s files (Flush pass shard ∷ es) all = (tt, record_files s files es all)
+record_files s files (Fault pass kind ∷ es) all = (tt, record_files s files es all)
+
+-- what records a file records one of these
+pub only_files : (s : LimitSettings) (files : List (List ℕ)) (es : List Entry) → AreRecords s files (files_in es) → AllByRecursion (RecordsFile s files) es
+only_files s files es are = record_files s files es (each_record s files (files_in es) are)
+
+-- the file without bytes has the hash zero
+empty_hash : (s : LimitSettings) → (info_of s []).hash ≡ zero_hash
+unfolding pieces_after
+empty_hash s = refl
+
+-- a file has a plan if its record is found
+pub plans_found : (s : LimitSettings) (rows : FileRecords) (files : List (List ℕ)) (rs : List MDBFileInfo) → AreRecords s files rs → AllByRecursion (λ r. IsSome (found rows (file_record_hash r))) rs
+    → AllByRecursion (λ bytes. IsSome (plan_of rows (info_of s bytes).hash)) files
+plans_found s rows [] rs are all = tt
+plans_found s rows ([] ∷ fs) rs are all = (subst (λ (h : List ℕ). IsSome (plan_of rows h)) (sym (empty_hash s)) (plan_empty rows), plans_found s rows fs rs are all)
+plans_found s rows ((b ∷ bs) ∷ fs) [] are all = absurd are
+plans_found s rows ((b ∷ bs) ∷ fs) (r ∷ rs) are all =
+    (subst (λ (h : List ℕ). IsSome (plan_of rows h)) (ap file_record_hash are.0.is) (plan_some rows (file_record_hash r) all.0), plans_found s rows fs rs are.1 all.1)
 
 -- ---- the rows that are added
 
@@ -92,10 +144,16 @@ rows_after_all hashes c [] all = no_rows hashes c.records
 rows_after_all hashes c (e ∷ es) all =
     rows_then hashes c.records (after c e).records (after_all (after c e) es).records (rows_after hashes c e all.0) (rows_after_all hashes (after c e) es all.1)
 
--- what holds of each numbered entry holds of each entry
-pub all_numbered : (P : Entry → Type 0) (n : ℕ) (es : List Entry) → AllByRecursion (λ p. P p.1) (numbered n es) → AllByRecursion P es
-all_numbered P n [] all = tt
-all_numbered P n (e ∷ es) all = (all.0, all_numbered P (suc n) es all.1)
+-- what records one of these files has the hash of one
+pub hash_of_file : (s : LimitSettings) (all : List (List ℕ)) (e : Entry) → RecordsFile s all e → RecordsHash (map (λ f. (info_of s f).hash) all) e
+hash_of_file s all (Query pass query reply) is = tt
+hash_of_file s all (Register pass chunks next added) is = tt
+hash_of_file s all (Complete pass file added) is =
+    let hashes : List (List ℕ) = map (λ (f : List ℕ). (info_of s f).hash) all in
+    from_among hashes (file_record_hash file)
+    (subst (Among hashes) (sym (ap file_record_hash is.2.is)) (among_made (λ (f : List ℕ). (info_of s f).hash) all is.0 (to_among all is.0 is.1)))
+hash_of_file s all (Flush pass shard) is = tt
+hash_of_file s all (Fault pass kind) is = tt
 
 -- ---- rows under different hashes
 

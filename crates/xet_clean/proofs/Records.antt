@@ -1,8 +1,9 @@
 -- Records of files whose segments change, but not how many chunks each has; and records that wait for more chunks.
 use Rattle.std.proofs.Common.{◌≡◌, ◌∙◌, ℕ, ◌+◌, ◌-◌, ◌<◌, Bool, true, false, List, [], ◌∷◌, ◌++◌, length, map, take, drop, Option, Some, refl, sym, ap, subst, arith, length-append, if◌then◌else◌}
 use Rattle.std.proofs.lemmas.List.{drop-drop, drop_at, length-map, map-append}
+use Rattle.std.proofs.lemmas.Simd.{map-map}
 use Rattle.sha2.specs.Sha256.{sha256}
-use Rattle.xet_aggregate.specs.Aggregate.{filled, filled_segment, shifted, shifted_segment}
+use Rattle.xet_aggregate.specs.Aggregate.{Aggregate, Pending, filled, filled_segment, shifted, shifted_segment}
 use Rattle.xet_choices.specs.Choices.{hashes_of}
 use Rattle.xet_dedup.specs.Records.{file_record, range_hashes}
 use Rattle.xet_dedup_queries.specs.Interface.{run_len}
@@ -11,7 +12,7 @@ use Rattle.xet_file_plan.specs.Placed.{ArePlaced, HasHashes, LiesInBlock}
 use Rattle.xet_file_plan.specs.theorems.Placed.{closed_lies, has_hashes_closed, has_hashes_open, open_lies, placed_changed, placed_stays}
 use Rattle.xet_file_plan.specs.theorems.Runs.{hashes_stay}
 use Rattle.xet_hash.specs.Hash.{sentinel}
-use Rattle.xet_hash.specs.Merkle.{range_hash}
+use Rattle.xet_hash.specs.Merkle.{range_hash, xorb_hash}
 use Rattle.xet_shard_format.specs.declared.record.FileDataSequenceEntry.{FileDataSequenceEntry as Segment}
 use Rattle.xet_shard_format.specs.declared.record.FileVerificationEntry.{FileVerificationEntry}
 use Rattle.xet_shard_format.specs.declared.record.MDBFileInfo.{MDBFileInfo}
@@ -19,7 +20,9 @@ use Rattle.xet_xorb_chunk.specs.declared.chunk.Chunk.{Chunk}
 use Rattle.xet_xorb_chunk.specs.Chunks.{chunk_leaf, total}
 use Rattle.xet_stepping.specs.Asking.{Stands}
 use Rattle.xet_stepping.specs.Holders.{Holder, core_at, lengths_in}
-use Rattle.xet_clean.specs.internal.Working.{IsRecordOf, Planned, Waits}
+use Rattle.xet_clean.specs.internal.Closing.{filled_files}
+use Rattle.xet_clean.specs.internal.Working.{AreRecorded, IsRecordOf, Planned, Waits}
+use Rattle.xet_clean.proofs.InOrder.{recorded_changed_after}
 use Rattle.xet_clean.proofs.Keeping.{any_left, any_more}
 
 -- ---- segments with as many chunks
@@ -165,3 +168,10 @@ filled_of hash = record_changed (filled_segment hash) (filled_len hash)
 
 pub shifted_of : (n : ℕ) (p : Planned) (file : MDBFileInfo) → IsRecordOf p file → IsRecordOf p (shifted n file)
 shifted_of n = record_changed (shifted_segment n) (shifted_len n)
+
+-- the records that waited, with the hash of their xorb
+pub records_filled : (a : Aggregate) (files : List Planned) (earlier : List MDBFileInfo) → AreRecorded files (earlier ++ map (λ p. p.0) a.files) → AreRecorded files (earlier ++ filled_files a)
+records_filled a files earlier all =
+    let hash : List ℕ = xorb_hash (map chunk_leaf a.chunks) in
+    subst (λ (l : List MDBFileInfo). AreRecorded files (earlier ++ l)) (map-map (filled hash) (λ (p : Pending). p.0) a.files)
+    (recorded_changed_after (filled hash) (filled_of hash) files earlier (map (λ (p : Pending). p.0) a.files) all)

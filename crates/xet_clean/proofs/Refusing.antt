@@ -1,5 +1,5 @@
 -- No waiting record is refused, if disk and sources are observable and there are no collisions.
-use Rattle.std.proofs.Common.{◌≡◌, ◌∙◌, ◌⊎◌, inl, inr, ℕ, ◌<◌, Bool, true, false, List, [], ◌∷◌, ◌++◌, length, map, Some, refl, sym, ap, subst, append-nil, arith}
+use Rattle.std.proofs.Common.{◌≡◌, ◌∙◌, ◌⊎◌, inl, inr, ℕ, ◌<◌, Bool, true, false, List, [], ◌∷◌, ◌++◌, length, map, Some, sym, ap, subst, append-nil, arith}
 use Rattle.std.proofs.lemmas.Bool.{false≢true}
 use Rattle.std.proofs.lemmas.List.{length-map, map-append}
 use Rattle.std.proofs.lemmas.Simd.{map-map}
@@ -42,9 +42,10 @@ use Rattle.xet_clean.specs.internal.Closing.{IsClosingError, RegistersChunks, fi
 use Rattle.xet_clean.specs.internal.Sources.{IsUnclosedFor}
 use Rattle.xet_clean.specs.internal.Working.{IsRecordOf, Planned, Waits, WasPlanned}
 use Rattle.xet_clean.proofs.Counting.{other_at_most}
-use Rattle.xet_clean.proofs.Ending.{filled_is, made_of}
-use Rattle.xet_clean.proofs.GoingOn.{listed_later, lists_later, standing_later}
+use Rattle.xet_clean.proofs.Ending.{made_of}
 use Rattle.xet_clean.proofs.Hashes.{planned_hash, planned_leaves}
+use Rattle.xet_clean.proofs.Keeping.{lengths_follow, listed_follows, standing_follows}
+use Rattle.xet_clean.proofs.Records.{filled_of}
 use Rattle.xet_clean.proofs.Resolving.{few_bytes, placed_filled, placed_none, resolves_placed}
 use Rattle.xet_clean.proofs.Session.{core_is}
 
@@ -84,18 +85,18 @@ module _ {S : Type 0} (tells : S → Bool) (left : S → List ℕ) (sources : Li
   not_unread unread = false≢true (sym unread ∙ told)
 
   goes_on : Follows u.before (alone_of old new stopped)
-  goes_on = u.refused.0.follows
+  goes_on = u.refused.0.1.follows
 
   to_core : core_at (alone_of old new stopped) ≡ core_of new
   to_core = sym (core_is old new stopped is)
 
   lists : (h lengths : List ℕ) → lengths_in (core_at u.before) h ≡ Some lengths → lengths_in (core_of new) h ≡ Some lengths
-  lists h lengths listed = subst (λ (d : Core). lengths_in d h ≡ Some lengths) to_core (lists_later u.before now goes_on h lengths listed)
+  lists h lengths listed = subst (λ (d : Core). lengths_in d h ≡ Some lengths) to_core (lengths_follow u.before now goes_on h lengths listed)
 
   stands : (hashes : List (List ℕ)) (run : Segment) → Stands u.before hashes run → IsStanding (core_of new) hashes run
   stands hashes run st =
       let there : u.before.tells ≡ true = sym (ap (λ (h : Holder). h.tells) goes_on.is) ∙ told in
-      subst (λ (d : Core). IsStanding d hashes run) to_core (standing_later u.before now goes_on hashes run (st there))
+      subst (λ (d : Core). IsStanding d hashes run) to_core (standing_follows u.before now goes_on hashes run (st there))
 
   -- the record of a file with these chunks, whose segments have its hashes, may be recorded
   module _ (f : Planned) (was : WasPlanned (alone_of old old false) u.before f) (among : Among u.files f) where
@@ -144,7 +145,7 @@ module _ {S : Type 0} (tells : S → Bool) (left : S → List ℕ) (sources : Li
   placed_now mid (inl r) later ss hashes placed = placed_none (lengths_in (core_at u.before)) (Stands u.before) (core_of new) lists stands u.aggregate.chunks hash r.0 ss hashes placed
   placed_now mid (inr r) later ss hashes placed =
       let listed : IsListed new.store.xorbs hash (map chunk_leaf u.aggregate.chunks) =
-      subst (λ (d : Core). IsListed d.xorbs hash (map chunk_leaf u.aggregate.chunks)) to_core (listed_later mid now later hash (map chunk_leaf u.aggregate.chunks) r.2.listed) in
+      subst (λ (d : Core). IsListed d.xorbs hash (map chunk_leaf u.aggregate.chunks)) to_core (listed_follows mid now later hash (map chunk_leaf u.aggregate.chunks) r.2.listed) in
       placed_filled (lengths_in (core_at u.before)) (Stands u.before) (core_of new) lists stands u.aggregate.chunks listed r.2.named (few_bytes u.aggregate.chunks u.parts.parts.total) ss hashes placed
 
   not_refused : (mid : Holder) → RegistersChunks u.aggregate u.next u.before mid → (file : MDBFileInfo) → IsAmong (filled_files u.aggregate) file → (at : Holder) → Follows mid at
@@ -158,7 +159,7 @@ module _ {S : Type 0} (tells : S → Bool) (left : S → List ℕ) (sources : Li
       let was : WasPlanned (alone_of old old false) u.before f = all_among (WasPlanned (alone_of old old false) u.before) u.files f u.planned there in
       let last : Follows at now = (other_at_most file at now (MalformedData OtherFileHash) saw).follows in
       let placed = placed_now mid registered (follows_then mid at now later last) p.0.segments (hashes_of f.plan.leaves) waiting.4.1 in
-      let completes : Completes new.store.xorbs (filled hash p.0) = may_complete f was there (filled hash p.0) (filled_is hash f p.0 waiting.4.0) placed in
+      let completes : Completes new.store.xorbs (filled hash p.0) = may_complete f was there (filled hash p.0) (filled_of hash f p.0 waiting.4.0) placed in
       let core : core_of new ≡ core_found at saw.others =
       core_is old new stopped is ∙ ap core_at saw.is ∙ ap (λ (o : List Entry). after_all at.base (at.since ++ o)) (append-nil saw.others) in
       saw.not (subst (λ (g : MDBFileInfo). Completes (core_found at saw.others).xorbs g) from.2 (subst (λ (d : Core). Completes d.xorbs (filled hash p.0)) core completes))

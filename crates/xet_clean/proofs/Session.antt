@@ -1,41 +1,39 @@
 -- What cleaning with a session that is alone leaves of it: the entries since the session began are its own.
-use Rattle.std.proofs.Common.{◌≡◌, ◌∙◌, inl, inr, ℕ, zero, suc, ◌<◌, Bool, true, false, List, [], ◌∷◌, ◌++◌, length, map, drop, IsSome, refl, sym, ap, subst, arith}
+use Rattle.std.proofs.Common.{◌≡◌, ◌∙◌, ◌⊎◌, inl, inr, ℕ, Bool, true, false, List, [], ◌∷◌, ◌++◌, length, map, drop, Option, None, IsSome, refl, sym, ap, subst, arith, take}
 use Rattle.std.proofs.lemmas.List.{drop_all, drop_at, length-map}
 use Rattle.std.proofs.lemmas.Simd.{map-map}
 use Rattle.std.specs.List.{AllByRecursion, sum_by}
 use Rattle.xet_aggregate.specs.declared.metrics.DeduplicationMetrics.{DeduplicationMetrics}
-use Rattle.xet_base.specs.Pieces.{pieces_after}
 use Rattle.xet_base.specs.theorems.Elements.{all_more}
 use Rattle.xet_choices.specs.Calls.{registered_chunks}
 use Rattle.xet_choices.specs.Choices.{new_chunks}
 use Rattle.xet_choices.specs.declared.choice.Choice.{Choice}
 use Rattle.xet_cut.specs.declared.limits.LimitSettings.{LimitSettings}
-use Rattle.xet_hash.specs.Hash.{zero_hash}
+use Rattle.xet_hash.specs.declared.error.StoreError.{StoreError}
 use Rattle.xet_history.specs.Core.{Core}
 use Rattle.xet_history.specs.History.{after_all}
 use Rattle.xet_history.specs.declared.entry.Entry.{Entry}
-use Rattle.xet_history.specs.declared.entry.Entry.TheVariants.{Complete}
-use Rattle.xet_folder.specs.Xorbs.{FileRecords, found}
+use Rattle.xet_folder.specs.Xorbs.{found}
 use Rattle.xet_shard_format.specs.Records.{file_record_hash}
 use Rattle.xet_shard_format.specs.declared.record.MDBFileInfo.{MDBFileInfo}
 use Rattle.xet_steps.specs.Recorded.{RecordedState, core_of}
 use Rattle.xet_steps.specs.Steps.{Steps}
 use Rattle.xet_store.specs.Cleaning.{Adds, EachTold, info_of}
-use Rattle.xet_store.specs.Separate.{Among}
 use Rattle.xet_store.specs.Store.{Sound, plan_of}
 use Rattle.xet_store.specs.declared.info.XetFileInfo.{XetFileInfo}
-use Rattle.xet_store.specs.theorems.Files.{plan_empty, plan_some}
-use Rattle.xet_store.specs.theorems.Rows.{to_among}
-use Rattle.xet_stepping.specs.Alone.{IsAlone, alone_of}
+use Rattle.xet_stepping.specs.Alone.{IsAlone, StepsTo, StepsUntil, alone_of}
 use Rattle.xet_stepping.specs.Holders.{Follows, Holder, calls_in, core_at, numbered}
 use Rattle.xet_stepping.specs.theorems.Following.{length-numbered}
-use Rattle.xet_clean.specs.Cleaning.{AreChosen, Grows, IsBounded, IsCleaned, Makes, RecordsFile, RegistersFew, calls_since, entries_since, metrics_sum}
+use Rattle.xet_clean.specs.Cleaning.{AreChosen, AreRecords, Grows, IsBounded, IsCleaned, Makes, RecordsFile, RegistersFew, calls_since, entries_since, files_in, metrics_sum}
+use Rattle.xet_clean.specs.internal.Closing.{recorded_in}
 use Rattle.xet_clean.specs.internal.Sources.{IsCutShort}
-use Rattle.xet_clean.specs.internal.Working.{EndsWith, Planned, RecordsOne, WasPlanned}
-use Rattle.xet_clean.proofs.Choosing.{are_chosen, leaves_sum, new_sum, unnumbered}
-use Rattle.xet_clean.proofs.Ending.{IsEnded, IsRecordedBy, among_made, ended}
-use Rattle.xet_clean.proofs.Hashes.{file_of, hash_of, hash_of_file, planned_hash}
-use Rattle.xet_clean.proofs.Recorded.{HasRows, RecordsHash, all_numbered, recorded_found, rows_add, rows_after_all}
+use Rattle.xet_clean.specs.internal.Working.{AreRecorded, EndsWith, Planned}
+use Rattle.xet_clean.proofs.Adding.{recorded_numbered}
+use Rattle.xet_clean.proofs.Choosing.{are_chosen, leaves_sum, new_sum}
+use Rattle.xet_clean.proofs.Ending.{IsEnded, ended}
+use Rattle.xet_clean.proofs.Hashes.{all_leaves}
+use Rattle.xet_clean.proofs.InOrder.{are_records}
+use Rattle.xet_clean.proofs.Recorded.{HasRows, RecordsHash, hash_of_file, only_files, plans_found, recorded_found, rows_add, rows_after_all}
 
 -- ---- the entries since it began
 
@@ -50,15 +48,15 @@ module _ (old new : RecordedState) (stopped : Bool) (is : IsAlone old new stoppe
   pub core_is : core_of new ≡ core_at (alone_of old new stopped)
   core_is = steps_since.moves.leads
 
-  -- the history grew by completed steps
-  pub grows_whole : stopped ≡ false → Grows true old new
-  grows_whole going = record { entries = is.since; steps = is.steps; makes = is.whole going; due = is.due }
+  -- how the history grew
+  pub grows_by : (error : Option StoreError) → Makes error old is.since → Grows error old new
+  grows_by error makes = record { entries = is.since; steps = is.steps; makes = makes; rose = is.rose }
 
-  -- or by one more that failed
-  pub grows_some : Grows false old new
-  grows_some = record { entries = is.since; steps = is.steps; makes = by stopped refl; due = is.due }
+  -- by completed steps, or also by one that failed
+  pub some_made : StepsTo old.store.limits 0 (core_of old) is.since ⊎ ((error : StoreError) × StepsUntil old.store.limits 0 (core_of old) error is.since)
+  some_made = by stopped refl
     where
-      by : (b : Bool) → stopped ≡ b → Makes false old is.since
+      by : (b : Bool) → stopped ≡ b → StepsTo old.store.limits 0 (core_of old) is.since ⊎ ((error : StoreError) × StepsUntil old.store.limits 0 (core_of old) error is.since)
       by true e = inr (is.until e)
       by false e = inl (is.whole e)
 
@@ -86,66 +84,49 @@ module _ {S : Type 0} (tells : S → Bool) (left : S → List ℕ) (limits : Lim
   told_infos (s ∷ ss) [] told = absurd told
   told_infos (s ∷ ss) (f ∷ fs) told = (λ tell. ap (info_of limits) (told.0 tell), told_infos ss fs told.1)
 
--- ---- the plans of files
-
--- the file without bytes has the hash zero
-empty_hash : (s : LimitSettings) (bytes : List ℕ) → length bytes ≡ 0 → (info_of s bytes).hash ≡ zero_hash
-unfolding pieces_after
-empty_hash s [] none = refl
-empty_hash s (b ∷ bs) none = absurd (omega (arith, none))
-
--- each file has a plan
-pub plan_of_file : (start now : Holder) (follows : Follows start now) (first : ℕ) (entries : List Entry) → follows.own ≡ numbered first entries → (records : FileRecords)
-    → ((file : MDBFileInfo) (added : Bool) → Among entries (Complete start.number file added) → IsSome (found records (file_record_hash file)))
-    → (f : Planned) → WasPlanned start now f → (0 < length f.bytes → IsRecordedBy start.number follows.own f) → IsSome (plan_of records (info_of start.limits f.bytes).hash)
-plan_of_file start now follows first entries own records there f was recorded = go (length f.bytes) refl
-  where
-    go : (n : ℕ) → length f.bytes ≡ n → IsSome (plan_of records (info_of start.limits f.bytes).hash)
-    go zero none = subst (λ (h : List ℕ). IsSome (plan_of records h)) (sym (empty_hash start.limits f.bytes none)) (plan_empty records)
-    go (suc n) some =
-        let r = recorded (omega (arith, some)) in
-        let e : ℕ × Entry = (r.entry.0, Complete start.number r.file r.entry.1) in
-        let among : Among (numbered first entries) e = subst (λ (l : List (ℕ × Entry)). Among l e) own (to_among follows.own e r.entry.2) in
-        let here : IsSome (found records (file_record_hash r.file)) = there r.file r.entry.1 (unnumbered first entries r.entry.0 (Complete start.number r.file r.entry.1) among) in
-        subst (λ (h : List ℕ). IsSome (plan_of records h)) (planned_hash start now follows f was r.file r.is) (plan_some records (file_record_hash r.file) here)
-
-pub plans_of_files : (start now : Holder) (follows : Follows start now) (first : ℕ) (entries : List Entry) → follows.own ≡ numbered first entries → (records : FileRecords)
-    → ((file : MDBFileInfo) (added : Bool) → Among entries (Complete start.number file added) → IsSome (found records (file_record_hash file)))
-    → (files : List Planned) → AllByRecursion (WasPlanned start now) files → AllByRecursion (λ f. 0 < length f.bytes → IsRecordedBy start.number follows.own f) files
-    → AllByRecursion (λ info. IsSome (plan_of records info.hash)) (map (λ f. info_of start.limits f.bytes) files)
-plans_of_files start now follows first entries own records there [] planned recorded = tt
-plans_of_files start now follows first entries own records there (f ∷ fs) planned recorded = (
-  plan_of_file start now follows first entries own records there f planned.0 recorded.0,
-  plans_of_files start now follows first entries own records there fs planned.1 recorded.1,
-)
-
 -- ---- what is recorded
 
+all_made : {X Y : Type 0} (P : Y → Type 0) (f : X → Y) (xs : List X) → AllByRecursion (λ x. P (f x)) xs → AllByRecursion P (map f xs)
+all_made P f [] all = tt
+all_made P f (x ∷ xs) all = (all.0, all_made P f xs all.1)
+
+-- what its own entries record
+pub records_since : (old new : RecordedState) (stopped : Bool) (f : Follows (alone_of old old false) (alone_of old new stopped)) → recorded_in f.own ≡ files_in (entries_since old new)
+records_since old new stopped f = ap recorded_in (own_since old new stopped f) ∙ recorded_numbered (length old.history) (entries_since old new)
+
 -- the new records are those that the entries record
-pub adds_since : (old new : RecordedState) (stopped : Bool) → IsAlone old new stopped → Sound new.store → (hashes : List (List ℕ))
-    → AllByRecursion (λ p. RecordsHash hashes p.1) (numbered (length old.history) (entries_since old new)) → Adds old.store.records new.store.records hashes
-adds_since old new stopped is sound hashes all =
-    let rows : HasRows hashes old.store.records (after_all (core_of old) (entries_since old new)).records =
-    rows_after_all hashes (core_of old) (entries_since old new) (all_numbered (RecordsHash hashes) (length old.history) (entries_since old new) all) in
+pub adds_since : (old new : RecordedState) (stopped : Bool) → IsAlone old new stopped → Sound new.store → (files : List (List ℕ)) → AreRecords old.store.limits files (files_in (entries_since old new))
+    → Adds old.store.records new.store.records (map (λ f. (info_of old.store.limits f).hash) files)
+adds_since old new stopped is sound files are =
+    let s : LimitSettings = old.store.limits in
+    let entries : List Entry = entries_since old new in
+    let hashes : List (List ℕ) = map (λ f. (info_of old.store.limits f).hash) files in
+    let rows : HasRows hashes old.store.records (after_all (core_of old) entries).records =
+    rows_after_all hashes (core_of old) entries (all_more (RecordsFile s files) (RecordsHash hashes) entries (hash_of_file s files) (only_files s files entries are)) in
     rows_add hashes old.store.records new.store.records
     (subst (λ (c : Core). HasRows hashes old.store.records c.records) (sym (core_is old new stopped is)) rows) sound.records_differ
 
 -- after an error
-pub bounded_since : {S : Type 0} (tells : S → Bool) (left : S → List ℕ) (sources now : List S) (old new : RecordedState) (stopped : Bool) → IsAlone old new stopped → Sound new.store
-    → IsCutShort tells left sources now (alone_of old old false) (alone_of old new stopped) → IsBounded tells left sources now old new
-bounded_since tells left sources now old new stopped is sound short =
+pub bounded_since : {S : Type 0} (tells : S → Bool) (left : S → List ℕ) (sources now : List S) (old new : RecordedState) (stopped : Bool) (e : StoreError) → IsAlone old new stopped → Sound new.store
+    → IsCutShort tells left sources now (alone_of old old false) (alone_of old new stopped) e → IsBounded tells left sources now old new e
+bounded_since tells left sources now old new stopped e is sound short =
     let own = own_since old new stopped short.few.0 in
-    let hashes : List (List ℕ) = map (λ f. (info_of old.store.limits f).hash) short.files in
-    let first : ℕ = length old.history in
-    let only : AllByRecursion (λ (p : ℕ × Entry). RecordsFile old.store.limits short.files p.1) (numbered first (entries_since old new)) =
-    subst (AllByRecursion (λ (p : ℕ × Entry). RecordsFile old.store.limits short.files p.1)) own short.only in
+    let files : List (List ℕ) = take short.count short.files in
+    let are : AreRecords old.store.limits files (files_in (entries_since old new)) = subst (AreRecords old.store.limits files) (records_since old new stopped short.few.0) short.records in
     record {
       files = short.files;
       taken = short.taken;
+      done = short.done;
+      within = short.within;
+      failed = short.failed;
+      read = short.read.read;
+      short = short.read.short;
+      untouched = short.untouched;
+      count = short.count;
+      recorded = short.recorded;
+      records = are;
       bound = omega (arith, short.few.1, ap length own, length-numbered (length old.history) (entries_since old new));
-      only = all_numbered (RecordsFile old.store.limits short.files) first (entries_since old new) only;
-      adds = adds_since old new stopped is sound hashes
-          (all_more (λ (p : ℕ × Entry). RecordsFile old.store.limits short.files p.1) (λ (p : ℕ × Entry). RecordsHash hashes p.1) (numbered first (entries_since old new)) (λ p file. hash_of_file old.store.limits short.files p.1 file) only);
+      adds = adds_since old new stopped is sound files are;
     }
 
 -- ---- all sources were cleaned
@@ -177,43 +158,46 @@ module _ {S : Type 0} (tells : S → Bool) (left : S → List ℕ) (sources : Li
   pub ended_infos : EachTold tells left (λ bytes info. info ≡ info_of old.store.limits bytes) sources infos
   ended_infos = subst (EachTold tells left (λ bytes info. info ≡ info_of old.store.limits bytes) sources) (sym pointers) (told_infos tells left limits sources files e.told)
 
+  abbrev bytes : List (List ℕ)
+  bytes = map (λ f. f.bytes) files
+
+  infos_are : infos ≡ map (info_of old.store.limits) (map (λ f. f.bytes) files)
+  infos_are = pointers ∙ sym (map-map (info_of old.store.limits) (λ (f : Planned). f.bytes) files)
+
+  in_order : AreRecorded files (files_in (entries_since old new))
+  in_order = subst (AreRecorded files) (records_since old new stopped end.follows) end.records
+
+  of_bytes : AreRecords old.store.limits (map (λ f. f.bytes) files) (files_in (entries_since old new))
+  of_bytes = are_records old.store.limits files (files_in (entries_since old new)) (all_leaves start now end.follows files end.planned) in_order
+
   pub ended_recorded : AllByRecursion (λ info. IsSome (plan_of new.store.records info.hash)) infos
   ended_recorded =
-      subst (AllByRecursion (λ (info : XetFileInfo). IsSome (plan_of new.store.records info.hash))) (sym pointers)
-      (plans_of_files start now end.follows (length old.history) (entries_since old new) own new.store.records
-      (λ file added among. subst (λ (c : Core). IsSome (found c.records (file_record_hash file))) (sym (core_is old new stopped is)) (recorded_found (core_of old) (entries_since old new) 0 file added among))
-      files end.planned end.recorded)
+      subst (AllByRecursion (λ (info : XetFileInfo). IsSome (plan_of new.store.records info.hash))) (sym infos_are)
+      (all_made (λ (info : XetFileInfo). IsSome (plan_of new.store.records info.hash)) (info_of old.store.limits) bytes
+      (plans_found old.store.limits new.store.records bytes (files_in (entries_since old new)) of_bytes
+      (subst (λ (c : Core). AllByRecursion (λ (r : MDBFileInfo). IsSome (found c.records (file_record_hash r))) (files_in (entries_since old new))) (sym (core_is old new stopped is))
+      (recorded_found (core_of old) (entries_since old new)))))
 
-  pub ended_grows : Grows true old new
-  ended_grows = grows_whole old new stopped is end.going
+  pub ended_grows : Grows None old new
+  ended_grows = grows_by old new stopped is None (is.whole end.going)
 
   pub ended_adds : Sound new.store → Adds old.store.records new.store.records (map (λ info. info.hash) infos)
   ended_adds sound =
-      let hashes : List (List ℕ) = map (λ (i : XetFileInfo). i.hash) (map (λ (f : Planned). info_of limits f.bytes) files) in
-      subst (λ (l : List XetFileInfo). Adds old.store.records new.store.records (map (λ (i : XetFileInfo). i.hash) l)) (sym pointers)
-      (adds_since old new stopped is sound hashes
-      (subst (AllByRecursion (λ (p : ℕ × Entry). RecordsHash hashes p.1)) own
-      (all_more (λ (p : ℕ × Entry). RecordsOne files p.1) (λ (p : ℕ × Entry). RecordsHash hashes p.1) end.follows.own (λ p one. hash_of start now end.follows files end.planned hashes have p.1 one) end.only)))
-    where
-      have : (f : Planned) → Among files f → Among (map (λ (i : XetFileInfo). i.hash) (map (λ (g : Planned). info_of old.store.limits g.bytes) files)) (info_of old.store.limits f.bytes).hash
-      have f among =
-          among_made (λ (i : XetFileInfo). i.hash) (map (λ (g : Planned). info_of old.store.limits g.bytes) files) (info_of old.store.limits f.bytes) (among_made (λ (g : Planned). info_of old.store.limits g.bytes) files f among)
+      subst (Adds old.store.records new.store.records)
+      (sym (map-map (λ (i : XetFileInfo). i.hash) (info_of old.store.limits) bytes) ∙ ap (map (λ (i : XetFileInfo). i.hash)) (sym infos_are))
+      (adds_since old new stopped is sound bytes of_bytes)
 
   pub ended_cleaned : IsCleaned tells left sources old new infos choices metrics
   ended_cleaned =
       let chosen : choices ≡ map (λ (f : Planned). f.plan.choices) files = e.working.chosen in
-      let bytes : List (List ℕ) = map (λ (f : Planned). f.bytes) files in
       record {
         files = bytes;
         told = told_bytes tells left limits sources files e.told;
-        pointers = pointers ∙ sym (map-map (info_of limits) (λ (f : Planned). f.bytes) files);
-        chosen = subst (AreChosen limits (entries_since old new) (calls_since old new) bytes) (sym chosen)
-            (are_chosen start now end.follows (nothing_since old) (length old.history) (entries_since old new) own files refl end.planned end.recorded);
+        pointers = infos_are;
+        chosen = subst (λ (cs : List (List Choice)). AreChosen limits (calls_since old new) bytes cs (files_in (entries_since old new))) (sym chosen)
+            (are_chosen start now end.follows (nothing_since old) (length old.history) (entries_since old new) own files (files_in (entries_since old new)) end.planned in_order);
         once = e.working.once;
-        only = all_numbered (RecordsFile limits bytes) (length old.history) (entries_since old new)
-            (subst (AllByRecursion (λ (p : ℕ × Entry). RecordsFile limits bytes p.1)) own
-            (all_more (λ (p : ℕ × Entry). RecordsOne files p.1) (λ (p : ℕ × Entry). RecordsFile limits bytes p.1) end.follows.own
-            (λ p one. file_of start now end.follows files end.planned bytes (λ f among. among_made (λ (g : Planned). g.bytes) files f among) p.1 one) end.only));
+        only = only_files limits bytes (entries_since old new) of_bytes;
         registered = omega (arith, ap (λ (l : List (ℕ × Entry)). registered_chunks (calls_in l)) own, end.registered, new_sum files, ap (sum_by new_chunks) chosen);
         sums = e.working.sums ∙ ap (λ (s : LimitSettings). metrics_sum s bytes choices) limits_are;
         registers = subst (λ (l : List (ℕ × Entry)). RegistersFew (calls_in l)) own end.registers;

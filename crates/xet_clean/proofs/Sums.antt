@@ -15,7 +15,8 @@ use Rattle.xet_dedup.specs.Deduping.{metrics_of, metrics_of_both}
 use Rattle.xet_hash.specs.Merkle.{leaf_of, leaves_of, total_len}
 use Rattle.xet_stepping.specs.Holders.{Holder}
 use Rattle.xet_clean.specs.Cleaning.{metrics_sum}
-use Rattle.xet_clean.specs.Files.{IsPlanned, leaves_in}
+use Rattle.xet_clean.specs.Files.{leaves_in}
+use Rattle.xet_clean.specs.internal.Planning.{IsPlanned}
 use Rattle.xet_clean.specs.internal.Sums.{HasRoom}
 use Rattle.xet_clean.specs.internal.Working.{Planned, WasPlanned}
 use Rattle.xet_clean.proofs.Keeping.{limits_follow}

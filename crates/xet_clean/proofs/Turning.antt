@@ -13,7 +13,7 @@ use Rattle.xet_io.specs.Frame.{Stays}
 use Rattle.xet_store.specs.declared.info.XetFileInfo.{XetFileInfo}
 use Rattle.xet_stepping.specs.Holders.{FollowsAsking, Holder}
 use Rattle.xet_xorb_chunk.specs.Chunks.{chunk_leaf}
-use Rattle.xet_clean.specs.Files.{IsFew, IsFinished}
+use Rattle.xet_clean.specs.internal.Planning.{IsFew, IsFinished}
 use Rattle.xet_clean.specs.internal.Closing.{Closes, IsAtMost, IsUnclosed}
 use Rattle.xet_clean.specs.internal.Sources.{AreRead, IsCutShort, IsLoopError, IsSourceError, Takes}
 use Rattle.xet_clean.specs.internal.Working.{EndsWith, IsAdded, IsWorking, Planned}
@@ -127,7 +127,7 @@ module _ {S T : Type 0} (tells : S → Bool) (left : S → List ℕ) (faults : S
   end_reads (Ok t) all = read_end tells left faults sources now n start h infos choices metrics a l all
   end_reads (Err e) all = tt
 
-  pub end_short : (r : Result T StoreError) → IsAtMost (2 * length a.chunks + 2 * length a.files) h last → IfErr r (IsUnclosed a [] h last) → OnErr r (IsCutShort tells left sources now start last)
+  pub end_short : (r : Result T StoreError) → IsAtMost (2 * length a.chunks + 2 * length a.files) h last → IfErr r (IsUnclosed a [] h last) → IfErr r (IsCutShort tells left sources now start last)
   end_short (Ok t) few u = tt
   end_short (Err e) few u = (stopped_at_end tells left faults sources now n start h infos choices metrics a l last e few u).short
 

@@ -21,6 +21,10 @@ module _ {X : Type 0} where
   set_at_length [] x y ys = refl
   set_at_length (z ∷ xs) x y ys = ap (λ (l : List X). z ∷ l) (set_at_length xs x y ys)
 
+  pub drop_past : (xs ys : List X) → drop (suc (length xs)) (xs ++ ys) ≡ drop 1 ys
+  drop_past [] ys = refl
+  drop_past (x ∷ xs) ys = drop_past xs ys
+
 module _ {S : Type 0} (tells : S → Bool) (left : S → List ℕ) (faults : S → ℕ) where
   -- Of a source these bytes were taken.
   pub record IsTakenFrom (s t : S) (bytes : List ℕ) : Type 0 where

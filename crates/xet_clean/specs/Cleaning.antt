@@ -1,5 +1,5 @@
 -- Cleaning: what it returns, and what it adds to the history.
-use Rattle.std.specs.Prelude.{◌≡◌, ◌≢◌, ◌⊎◌, ◌<◌, ◌≤◌, ◌+◌, ◌*◌, ℕ, Bool, true, false, List, [], ◌∷◌, ◌++◌, drop, length, map, Any, Some}
+use Rattle.std.specs.Prelude.{◌≡◌, ◌≢◌, ◌⊎◌, ◌<◌, ◌≤◌, ◌+◌, ◌*◌, ℕ, Bool, true, List, [], ◌∷◌, ◌++◌, drop, length, map, Any, Option, None, Some, suc, take}
 use Rattle.std.specs.List.{AllByRecursion, IsAmong, flat_map, sum_by}
 use Rattle.xet_aggregate.specs.Metrics.{zeros}
 use Rattle.xet_aggregate.specs.declared.metrics.DeduplicationMetrics.{DeduplicationMetrics}
@@ -28,27 +28,32 @@ use Rattle.xet_io.specs.Faults.{Rose}
 use Rattle.xet_shard.specs.Queries.{kept_hash}
 use Rattle.xet_steps.specs.Recorded.{RecordedState, core_of}
 use Rattle.xet_steps.specs.Steps.{Steps}
-use Rattle.xet_store.specs.Cleaning.{Adds, EachTold, IsLongAt, RoseAt, chunkings, info_of}
+use Rattle.xet_store.specs.Cleaning.{Adds, EachTold, FailedAt, IsLongAt, RoseAt, chunkings, info_of}
 use Rattle.xet_store.specs.Separate.{Among, MetChunk}
 use Rattle.xet_store.specs.declared.info.XetFileInfo.{XetFileInfo}
-use Rattle.xet_stepping.specs.Alone.{StepsTo, StepsUntil}
+use Rattle.xet_stepping.specs.Alone.{IsFault, StepsTo, StepsUntil}
 use Rattle.xet_clean.specs.Files.{HasChoices, leaves_in}
 use Rattle.xet_history.specs.Sound.{IsKey}
-use Rattle.xet_stepping.specs.Holders.{Follows, Holder, IsDueEntry, calls_in, xorb_limits, numbered}
+use Rattle.xet_stepping.specs.Holders.{calls_in, numbered}
 
 -- ---- the history
 
--- The entries were added by completed steps of pass 0; the last may have failed.
-abbrev pub Makes : Bool → RecordedState → List Entry → Type 0
-Makes true s entries = StepsTo 0 s.store.limits.shard_target (core_of s) entries
-Makes false s entries = StepsTo 0 s.store.limits.shard_target (core_of s) entries ⊎ StepsUntil s.store.limits 0 (core_of s) entries
+-- The entries were added by completed steps of pass 0, or also by one that failed and was the last. No step failed if there was
+-- no error, or one of a source. One failed by the disk if that is the error.
+abbrev pub Makes : Option StoreError → RecordedState → List Entry → Type 0
+Makes None s entries = StepsTo s.store.limits 0 (core_of s) entries
+Makes (Some (Io (Source i))) s entries = StepsTo s.store.limits 0 (core_of s) entries
+Makes (Some (TooLarge (what.Source i))) s entries = StepsTo s.store.limits 0 (core_of s) entries
+Makes (Some (Io Disk)) s entries = StepsUntil s.store.limits 0 (core_of s) (Io Disk) entries
+Makes (Some e) s entries = StepsTo s.store.limits 0 (core_of s) entries ⊎ ((error : StoreError) × StepsUntil s.store.limits 0 (core_of s) error entries)
 
--- A call added these entries to the history, and they lead to its core. `whole`: none of its steps failed.
-pub record Grows (whole : Bool) (old new : RecordedState) : Type 0 where
+-- A call, with an error or none, added these entries to the history, and they lead to its core. If one of them is a failure of
+-- the disk, the disk's count of failures rose.
+pub record Grows (error : Option StoreError) (old new : RecordedState) : Type 0 where
   pub entries : List Entry
   pub steps : Steps old new entries
-  pub makes : Makes whole old entries
-  pub due : AllByRecursion (IsDueEntry (xorb_limits old.store.limits)) entries
+  pub makes : Makes error old entries
+  pub rose : Any IsFault entries → Rose old.store.faults new.store.faults
 
 -- the entries since a state
 abbrev pub entries_since : RecordedState → RecordedState → List Entry
@@ -98,11 +103,27 @@ metrics_sum s (f ∷ fs) (c ∷ cs) = metrics_of_both (metrics_of (leaves_in s f
 
 -- ---- what is recorded
 
+-- the records of files that these entries made, in order
+abbrev pub files_in : List Entry → List MDBFileInfo
+files_in [] = []
+files_in (Query pass hashes reply ∷ entries) = files_in entries
+files_in (Register pass chunks next added ∷ entries) = files_in entries
+files_in (Complete pass file added ∷ entries) = file ∷ files_in entries
+files_in (Flush pass shard ∷ entries) = files_in entries
+files_in (Fault pass kind ∷ entries) = files_in entries
+
 -- The record of a file of these bytes, which is not empty: over some plan, with the hashes of its ranges and its SHA-256.
 pub record IsRecordFor (s : LimitSettings) (bytes : List ℕ) (file : MDBFileInfo) : Type 0 where
   pub some : 0 < length bytes
   pub segments : List Segment
   pub is : file ≡ file_record (leaves_in s bytes) segments (Some (sha256 bytes))
+
+-- Each file that is not empty has one of these records, in order. There are no other records.
+abbrev pub AreRecords : LimitSettings → List (List ℕ) → List MDBFileInfo → Type 0
+AreRecords s [] records = records ≡ []
+AreRecords s ([] ∷ fs) records = AreRecords s fs records
+AreRecords s ((b ∷ bs) ∷ fs) [] = ⊥
+AreRecords s ((b ∷ bs) ∷ fs) (r ∷ records) = IsRecordFor s (b ∷ bs) r × AreRecords s fs records
 
 -- If the entry records a file, it is one of these.
 abbrev pub RecordsFile : LimitSettings → List (List ℕ) → Entry → Type 0
@@ -114,22 +135,26 @@ RecordsFile s files (Fault pass kind) = Unit {0}
 
 -- ---- what is returned
 
--- For each file there are choices, which are true: the file is recorded by one of these entries, with such a plan.
-abbrev pub AreChosen : LimitSettings → List Entry → List Call → List (List ℕ) → List (List Choice) → Type 0
-AreChosen s entries calls [] [] = Unit {0}
-AreChosen s entries calls [] (c ∷ cs) = ⊥
-AreChosen s entries calls (f ∷ fs) [] = ⊥
-AreChosen s entries calls (f ∷ fs) (c ∷ cs) = HasChoices s 0 entries calls f c × AreChosen s entries calls fs cs
+-- For each file there are choices; and each file that is not empty has one of these records, in order, by whose plan its choices
+-- are true over these calls. There are no other records.
+abbrev pub AreChosen : LimitSettings → List Call → List (List ℕ) → List (List Choice) → List MDBFileInfo → Type 0
+AreChosen s calls [] [] records = records ≡ []
+AreChosen s calls [] (c ∷ cs) records = ⊥
+AreChosen s calls (f ∷ fs) [] records = ⊥
+AreChosen s calls ([] ∷ fs) (c ∷ cs) records = (c ≡ []) × AreChosen s calls fs cs records
+AreChosen s calls ((b ∷ bs) ∷ fs) (c ∷ cs) [] = ⊥
+AreChosen s calls ((b ∷ bs) ∷ fs) (c ∷ cs) (r ∷ records) = HasChoices s calls (b ∷ bs) c r × AreChosen s calls fs cs records
 
 -- Cleaning returned this, between two states. Each source has a file: of an observable source, the bytes that it had left.
 -- The pointer records are those of these files, and the choices for their chunks are true by the entries that were added; no
--- entry is named by two chunks. No file is recorded but these, each with its range hashes and its SHA-256. As many chunks were
--- registered as were not deduplicated. The entries are at most three for each chunk and two for each source.
+-- entry is named by two chunks. Each file that is not empty is recorded once, in the order of the sources, with its range hashes
+-- and its SHA-256, and no other file is recorded. As many chunks were registered as were not deduplicated. The entries are at
+-- most three for each chunk and two for each source.
 pub record IsCleaned {S : Type 0} (tells : S → Bool) (left : S → List ℕ) (sources : List S) (old new : RecordedState) (infos : List XetFileInfo) (choices : List (List Choice)) (metrics : DeduplicationMetrics) : Type 0 where
   pub files : List (List ℕ)
   pub told : EachTold tells left (λ bytes file. file ≡ bytes) sources files
   pub pointers : infos ≡ map (info_of old.store.limits) files
-  pub chosen : AreChosen old.store.limits (entries_since old new) (calls_since old new) files choices
+  pub chosen : AreChosen old.store.limits (calls_since old new) files choices (files_in (entries_since old new))
   pub once : EntriesRise (flat_map (λ (cs : List Choice). cs) choices)
   pub only : AllByRecursion (RecordsFile old.store.limits files) (entries_since old new)
   pub registered : registered_chunks (calls_since old new) ≡ sum_by new_chunks choices
@@ -144,19 +169,24 @@ EachTaken tells left (s ∷ ss) [] files = ⊥
 EachTaken tells left (s ∷ ss) (t ∷ ts) [] = ⊥
 EachTaken tells left (s ∷ ss) (t ∷ ts) (f ∷ fs) = (tells s ≡ true → left s ≡ f ++ left t) × EachTaken tells left ss ts fs
 
--- After an error: of each source some bytes were taken, there are at most three entries for each chunk of these and two for each
--- source, and no file is recorded but those of all the bytes that were taken of a source.
-pub record IsBounded {S : Type 0} (tells : S → Bool) (left : S → List ℕ) (sources now : List S) (old new : RecordedState) : Type 0 where
+-- After an error: the sources before some source, `done`, were read to their ends, and had no more bytes than the limits allow;
+-- the sources after it were not read. An error that names a source names that one. There are at most three entries for each chunk
+-- of what was taken and two for each source. The files recorded are the first ones, in order, each that is not empty once; none is
+-- that of source `done`.
+pub record IsBounded {S : Type 0} (tells : S → Bool) (left : S → List ℕ) (sources now : List S) (old new : RecordedState) (e : StoreError) : Type 0 where
   pub files : List (List ℕ)
   pub taken : EachTaken tells left sources now files
+  pub done : ℕ
+  pub within : done ≤ length sources
+  pub failed : FailedAt e done
+  pub read : AllByRecursion (λ s. tells s ≡ true → left s ≡ []) (take done now)
+  pub short : AllByRecursion (λ s. tells s ≡ true → length (left s) ≤ old.store.limits.max_source_bytes) (take done sources)
+  pub untouched : drop (suc done) now ≡ drop (suc done) sources
+  pub count : ℕ
+  pub recorded : count ≤ done
+  pub records : AreRecords old.store.limits (take count files) (files_in (entries_since old new))
   pub bound : length (entries_since old new) ≤ 3 * sum_by (λ f. length (chunking old.store.limits f)) files + 2 * length files
-  pub only : AllByRecursion (RecordsFile old.store.limits files) (entries_since old new)
-  pub adds : Adds old.store.records new.store.records (map (λ f. (info_of old.store.limits f).hash) files)
-
--- of these files some bytes were taken
-abbrev pub IsFewFor : List (List ℕ) → Holder → Holder → Type 0
-IsFewFor files old new =
-    (follows : Follows old new) × (length follows.own ≤ 3 * sum_by (λ f. length (chunking old.limits f)) files + 2 * length files)
+  pub adds : Adds old.store.records new.store.records (map (λ f. (info_of old.store.limits f).hash) (take count files))
 
 -- ---- errors
 

@@ -1,78 +1,29 @@
 -- Files that were cleaned, and why each of their chunks was stored or found.
-use Rattle.std.specs.Prelude.{◌≡◌, ◌≤◌, ◌<◌, ◌+◌, ◌*◌, ℕ, Bool, List, length, map, Some}
-use Rattle.std.specs.List.{AllByRecursion, IsAmong}
+use Rattle.std.specs.Prelude.{◌≡◌, ℕ, List, length, Some}
 use Rattle.sha2.specs.Sha256.{sha256}
-use Rattle.xet_aggregate.specs.Aggregate.{Aggregate, IsAggregate, single}
-use Rattle.xet_aggregate.specs.declared.metrics.DeduplicationMetrics.{DeduplicationMetrics}
-use Rattle.xet_choices.specs.Calls.{Call, queries_of}
+use Rattle.xet_choices.specs.Calls.{Call}
 use Rattle.xet_choices.specs.Choices.{AllTrue}
 use Rattle.xet_choices.specs.Ranges.{total}
 use Rattle.xet_choices.specs.declared.choice.Choice.{Choice}
 use Rattle.xet_cut.specs.Chunking.{chunking}
 use Rattle.xet_cut.specs.declared.limits.LimitSettings.{LimitSettings}
-use Rattle.xet_dedup.specs.Deduping.{IsDeduped, metrics_of, open_indices}
 use Rattle.xet_dedup.specs.Records.{file_record}
-use Rattle.xet_dedup_queries.specs.Counting.{HasNext, LandsIn}
-use Rattle.xet_file_plan.specs.Kept.{IsBlockWithin}
-use Rattle.xet_file_plan.specs.Moves.{PlanState, counts_of}
-use Rattle.xet_hash.specs.Merkle.{chunk_hash, leaves_of}
-use Rattle.xet_history.specs.declared.entry.Entry.{Entry}
-use Rattle.xet_history.specs.declared.entry.Entry.TheVariants.{Complete}
+use Rattle.xet_file_plan.specs.Moves.{counts_of}
+use Rattle.xet_hash.specs.Merkle.{leaves_of}
 use Rattle.xet_shard_format.specs.declared.record.FileDataSequenceEntry.{FileDataSequenceEntry as Segment}
-use Rattle.xet_store.specs.Cleaning.{info_of}
-use Rattle.xet_store.specs.declared.info.XetFileInfo.{XetFileInfo}
-use Rattle.xet_xorb_chunk.specs.Chunks.{chunk_leaf}
-use Rattle.xet_xorb_chunk.specs.declared.chunk.Chunk.{Chunk}
-use Rattle.xet_stepping.specs.Asking.{Stands}
-use Rattle.xet_stepping.specs.Holders.{FollowsAsking, Holder, calls_of, core_at, xorb_limits, lengths_in}
+use Rattle.xet_shard_format.specs.declared.record.MDBFileInfo.{MDBFileInfo}
 
 -- the chunks of a file
 abbrev pub leaves_in : LimitSettings → List ℕ → List (List ℕ × ℕ)
 leaves_in s bytes = leaves_of (chunking s bytes)
 
--- Chunks that can be a xorb within the limits: each has its digest for its hash.
-pub record IsWithin (s : LimitSettings) (chunks : List Chunk) : Type 0 where
-  pub within : IsBlockWithin s chunks
-  pub hashed : AllByRecursion (λ c. c.hash ≡ chunk_hash c.bytes) chunks
-
--- The deduplication of a file of these bytes has ended, no step of it failed, and this was its plan. There was at most one query
--- for each chunk, and each registration has the chunk that did not fit, which begins the next one, or the open block.
-pub record IsPlanned (start now : Holder) (bytes : List ℕ) (plan : PlanState) : Type 0 where
-  pub short : length bytes ≤ now.limits.max_source_bytes
-  pub settings : plan.settings ≡ now.limits
-  pub leaves : plan.leaves ≡ leaves_in now.limits bytes
-  pub deduped : IsDeduped (lengths_in (core_at now)) (Stands now) (calls_of start) (calls_of now) (xorb_limits now.limits) plan
-  pub block : IsWithin now.limits plan.block
-  pub follows : FollowsAsking start now
-  pub passed : now.stopped ≡ start.stopped
-  pub asked : queries_of follows.calls ≤ length plan.leaves
-  pub nexts : AllByRecursion HasNext follows.calls
-  pub lands : LandsIn (map chunk_leaf plan.block) follows.calls
-  pub few : length follows.follows.own + 2 * length plan.block ≤ 3 * length plan.leaves
-
--- A file of which these bytes came was not cleaned: there are at most three entries for each chunk of these.
-pub record IsFew (start now : Holder) (bytes : List ℕ) : Type 0 where
-  pub follows : FollowsAsking start now
-  pub few : length follows.follows.own ≤ 3 * length (leaves_in now.limits bytes)
-
--- What cleaning returns of the file, and what is left of it: its last chunks, and its record, which refers to them.
-pub record IsFinished (start now : Holder) (id : ℕ) (bytes : List ℕ) (info : XetFileInfo) (metrics : DeduplicationMetrics) (choices : List Choice) (rest : Aggregate) : Type 0 where
-  pub plan : PlanState
-  pub planned : IsPlanned start now bytes plan
-  pub pointer : info ≡ info_of now.limits bytes
-  pub chosen : choices ≡ plan.choices
-  pub counts : metrics ≡ metrics_of plan.leaves plan.choices 0 0
-  pub left : rest ≡ single plan.block (file_record plan.leaves plan.segments (Some (sha256 bytes))) (open_indices plan.segments) id
-  pub aggregate : IsAggregate rest
-
 -- ---- choices
 
--- A file that is not empty has a record among these entries, with a plan by which its choices are true over these calls. The
--- segments of the plan have as many chunks as the file.
-pub record HasChoices (s : LimitSettings) (pass : ℕ) (entries : List Entry) (calls : List Call) (bytes : List ℕ) (choices : List Choice) : Type 0 where
+-- The record is that of a file of these bytes, with a plan by which its choices are true over these calls. The segments of the
+-- plan have as many chunks as the file.
+pub record HasChoices (s : LimitSettings) (calls : List Call) (bytes : List ℕ) (choices : List Choice) (file : MDBFileInfo) : Type 0 where
   pub segments : List Segment
-  pub added : Bool
-  pub recorded : 0 < length bytes → IsAmong entries (Complete pass (file_record (leaves_in s bytes) segments (Some (sha256 bytes))) added)
+  pub is : file ≡ file_record (leaves_in s bytes) segments (Some (sha256 bytes))
   pub covers : total (counts_of segments) ≡ length (leaves_in s bytes)
   pub one_each : length choices ≡ length (leaves_in s bytes)
   pub true_choices : AllTrue (record { settings = s; leaves = leaves_in s bytes; calls = calls; counts = counts_of segments; choices = choices })

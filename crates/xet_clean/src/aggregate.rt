@@ -2,9 +2,9 @@
 
 ghost use Rattle.std.specs.Prelude.{◌≡◌, ◌≢◌, ◌+◌, ◌*◌, IfErr, OnOk, false, length, map, true};
 ghost use Rattle.xet_aggregate.specs.Aggregate.{IsAggregate};
-ghost use Rattle.xet_clean.specs.Files.{IsWithin};
+ghost use Rattle.xet_clean.specs.internal.Planning.{IsWithin};
 ghost use Rattle.xet_stepping.specs.Holders.{Follows, xorb_limits};
-ghost use Rattle.xet_clean.specs.internal.Closing.{Closes, Completes, HaveForm, IsAtMost, IsClosingError, IsUnclosed, RecordsOnly};
+ghost use Rattle.xet_clean.specs.internal.Closing.{Closes, Completes, HaveForm, IsAtMost, IsClosingError, IsUnclosed, RecordsFirst};
 ghost use Rattle.std.specs.List.{AllByRecursion};
 ghost use Rattle.xet_dedup_queries.specs.Registering.{IsDue};
 ghost use Rattle.xet_shard_format.specs.Records.{IsFile};
@@ -16,7 +16,7 @@ use xet_shard_format::MDBFileInfo;
 use xet_stepping::Stepping;
 
 /// Registers the xorb of the chunks, if there are any, with those that did not fit into it, and then records the files. After
-/// an error some of them may be recorded.
+/// an error the first of them may be recorded.
 pub(crate) fn close<S: Stepping>(
     steps: &mut S,
     aggregate: DataAggregator,
@@ -47,7 +47,7 @@ fn has_no_chunks(aggregate: &DataAggregator) -> bool
     aggregate.num_chunks() == 0
 }
 
-/// Records files.
+/// Records files, in order.
 fn complete_all<S: Stepping>(
     steps: &mut S,
     files: Vec<(u64, MDBFileInfo, u64)>,
@@ -56,7 +56,7 @@ fn complete_all<S: Stepping>(
     ensures completed { OnOk result (Completes (map (λ f. f.1) files.items) (S.holder steps.old) (S.holder steps.new)) }
     ensures follows { Follows (S.holder steps.old) (S.holder steps.new) }
     ensures few { IsAtMost (2 * length files.items) (S.holder steps.old) (S.holder steps.new) }
-    ensures only { RecordsOnly (map (λ f. f.1) files.items) (S.holder steps.old) (S.holder steps.new) }
+    ensures first { RecordsFirst (map (λ f. f.1) files.items) (S.holder steps.old) (S.holder steps.new) }
     ensures refused { IfErr result (IsClosingError (map (λ f. f.1) files.items) (S.holder steps.old) (S.holder steps.new)) }
 {
     for (_, file, _) in files {

@@ -1,11 +1,12 @@
 //! Cleaning: reading files from sources and storing them with deduplication.
 
-ghost use Rattle.std.specs.Prelude.{◌≡◌, ◌≤◌, ◌<◌, ◌+◌, ◌*◌, ◌^◌, ◌++◌, ◌∷◌, [], ℕ, Err, List, IfErr, IfOk, IsErr, IsOkUnless, IsSome, OnErr, OnOk, is_ok, length, map, replicate, false, true, vec_capacity, vec_len};
+ghost use Rattle.std.specs.Prelude.{◌≡◌, ◌≤◌, ◌<◌, ◌+◌, ◌*◌, ◌^◌, ◌++◌, ◌∷◌, [], ℕ, Err, List, IfErr, IfOk, IsErr, IsOkUnless, IsSome, OnErr, OnOk, length, map, replicate, false, true, vec_capacity, vec_len};
 ghost use Rattle.std.specs.List.{AllByRecursion};
+ghost use Rattle.std.specs.Result.{result_err};
 ghost use Rattle.xet_aggregate.specs.Aggregate.{empty};
 ghost use Rattle.xet_aggregate.specs.Metrics.{zeros};
 ghost use Rattle.xet_clean.specs.Cleaning.{Grows, HasReason, IsBounded, IsCleaned};
-ghost use Rattle.xet_clean.specs.Files.{IsFew, IsFinished};
+ghost use Rattle.xet_clean.specs.internal.Planning.{IsFew, IsFinished};
 ghost use Rattle.xet_stepping.specs.Holders.{Follows, FollowsAsking, Holder};
 ghost use Rattle.xet_clean.specs.internal.Cleaner.{IsCleaning};
 ghost use Rattle.xet_clean.specs.internal.Closing.{IsAtMost, IsUnclosed};
@@ -60,19 +61,20 @@ pub fn clean_files<D: Disk, R: Source + Send>(
     // Each file of the result has a plan.
     ensures recorded { IfOk result.1 (λ cleaned. AllByRecursion (λ info. IsSome (plan_of result.0.store.records info.hash)) cleaned.infos.items) }
 
-    // If Ok, each chunk has a choice, which is true by the entries that were added; no files are recorded but those of the
-    // sources, each with its range hashes and its SHA-256; the metrics are the sums of the choices; as many chunks were
-    // registered as are new, in few xorbs; and the entries are few.
+    // If Ok, each chunk has a choice, which is true by the entries that were added; each file that is not empty is recorded
+    // once, in the order of the sources, with its range hashes and its SHA-256, and no other file is recorded; the metrics
+    // are the sums of the choices; as many chunks were registered as are new, in few xorbs; and the entries are few.
     ensures cleaned { IfOk result.1 (λ cleaned. IsCleaned R.tells R.left sources.old session result.0 cleaned.infos.items cleaned.choices.items cleaned.metrics) }
 
     // Whatever the result, nothing is taken away, and the history grew by completed steps of pass 0 and at most one that
     // failed: so a file is recorded if and only if its entry stands, and a flush comes only before an entry that makes it due,
-    // or before the step that failed. New records follow the earlier ones; if Ok, each is under the hash of a source, and after
-    // an error, each is that of a file of all that was taken of a source.
+    // or before the step that failed. No step failed if there is no error or one of a source; after `Io(Disk)` the last one
+    // failed, by the disk. New records follow the earlier ones; if Ok, each is under the hash of a source, and after an error,
+    // each is that of a file of all that was taken of a source.
     ensures keeps { Keeps session.store result.0.store }
-    ensures steps { Grows (is_ok result.1) session result.0 }
+    ensures steps { Grows (result_err result.1) session result.0 }
     ensures adds { IfOk result.1 (λ cleaned. Adds session.store.records result.0.store.records (map (λ info. info.hash) cleaned.infos.items)) }
-    ensures bound { OnErr result.1 (IsBounded R.tells R.left sources.old sources.new session result.0) }
+    ensures bound { IfErr result.1 (IsBounded R.tells R.left sources.old sources.new session result.0) }
 
     // Each source is observable if and only if it was before. Whatever the result, a prefix of what it had
     // left was taken, and its count of failures has not fallen. An error has a reason.
@@ -103,7 +105,7 @@ fn clean_all<S: Stepping, R: Source>(
     ensures cleaned { IfOk result.1 (λ cleaned. (files : List Planned) × EndsWith R.tells R.left sources.old (S.holder asking.steps) (S.holder result.0.steps) files cleaned.infos.items cleaned.choices.items cleaned.metrics) }
     ensures read { OnOk result.1 (AreRead R.tells R.left (S.holder asking.steps).limits.max_source_bytes sources.old sources.new) }
     ensures follows { Follows (S.holder asking.steps) (S.holder result.0.steps) }
-    ensures bound { OnErr result.1 (IsCutShort R.tells R.left sources.old sources.new (S.holder asking.steps) (S.holder result.0.steps)) }
+    ensures bound { IfErr result.1 (IsCutShort R.tells R.left sources.old sources.new (S.holder asking.steps) (S.holder result.0.steps)) }
     ensures sources_tell { map R.tells sources.new ≡ map R.tells sources.old }
     ensures sources_taken { AreTaken R.tells R.left sources.old sources.new }
     ensures sources_later { Later R.faults sources.old sources.new }
@@ -142,7 +144,7 @@ fn clean_rest<S: Stepping, R: Source>(
     ensures cleaned { IfOk result.1 (λ cleaned. (files : List Planned) × EndsWith R.tells R.left sources.old (S.holder asking.steps) (S.holder result.0.steps) files cleaned.infos.items cleaned.choices.items cleaned.metrics) }
     ensures read { OnOk result.1 (AreRead R.tells R.left (S.holder asking.steps).limits.max_source_bytes sources.old sources.new) }
     ensures follows { Follows (S.holder asking.steps) (S.holder result.0.steps) }
-    ensures bound { OnErr result.1 (IsCutShort R.tells R.left sources.old sources.new (S.holder asking.steps) (S.holder result.0.steps)) }
+    ensures bound { IfErr result.1 (IsCutShort R.tells R.left sources.old sources.new (S.holder asking.steps) (S.holder result.0.steps)) }
     ensures sources_tell { map R.tells sources.new ≡ map R.tells sources.old }
     ensures sources_taken { AreTaken R.tells R.left sources.old sources.new }
     ensures sources_later { Later R.faults sources.old sources.new }

@@ -3,7 +3,7 @@
 ghost use Rattle.std.specs.Prelude.{◌≡◌, ◌++◌, ◌+◌, ◌≤◌, [], ℕ, List, IfErr, IfOk, IsOkUnless, OnErr, OnOk, is_ok, length, map, true};
 ghost use Rattle.std.specs.List.{AllByRecursion};
 ghost use Rattle.xet_stepping.specs.Asking.{IsErrorSince, Stands};
-ghost use Rattle.xet_clean.specs.Files.{IsFew, IsFinished, IsPlanned};
+ghost use Rattle.xet_clean.specs.internal.Planning.{IsFew, IsFinished, IsPlanned};
 ghost use Rattle.xet_stepping.specs.Holders.{FollowsAsking, calls_of, core_at, xorb_limits, lengths_in};
 ghost use Rattle.xet_clean.specs.internal.Cleaner.{IsBatchOf, IsCleaning, IsCleaningBytes, IsCleaningSome, StopsInBatch};
 ghost use Rattle.xet_clean.specs.internal.Errors.{IsCleanerError};

@@ -3,7 +3,7 @@
 ghost use Rattle.std.specs.Prelude.{◌≡◌, ◌≤◌, ◌+◌, ◌*◌, ◌++◌, ◌∷◌, [], ℕ, List, IfErr, IfOk, IsOkUnless, OnOk, length, map, vec_capacity, vec_len};
 ghost use Rattle.xet_aggregate.specs.Aggregate.{IsAggregate, empty};
 ghost use Rattle.xet_aggregate.specs.Metrics.{zeros};
-ghost use Rattle.xet_clean.specs.Files.{IsWithin};
+ghost use Rattle.xet_clean.specs.internal.Planning.{IsWithin};
 ghost use Rattle.xet_stepping.specs.Holders.{Follows, Holder};
 ghost use Rattle.xet_clean.specs.internal.Closing.{Closes, HaveForm, IsAtMost, IsUnclosed, Joins};
 ghost use Rattle.xet_clean.specs.internal.Working.{IsAdded, IsWorking, Planned};

@@ -6,6 +6,7 @@ use std::test::Fail;
 use xet_clean::Cleaned;
 use xet_dedup::DeduplicationMetrics;
 use xet_hash::StoreError;
+use xet_store::XetFileInfo;
 
 /// A target length of shards, and a maximum length of sources, that nothing here passes.
 const LONG: u64 = 1 << 20;
@@ -43,6 +44,7 @@ fn sums(metrics: &DeduplicationMetrics) -> [u64; 6] {
 /// What a session shows of a cleaned source.
 #[derive(Drop)]
 struct Report {
+    info: XetFileInfo,
     choices: Vec<(char, u64)>,
     sums: [u64; 6],
     history: String,
@@ -71,11 +73,13 @@ fn seen_of(
     cleaned: &Cleaned,
     source: usize,
 ) -> Result<Report, StoreError> {
-    let hash = match cleaned.infos.get(source) {
-        Some(info) => info.hash,
+    let info = match cleaned.infos.get(source) {
+        Some(info) => *info,
         None => return Err(StoreError::FileNotFound),
     };
+    let hash = info.hash;
     Ok(Report {
+        info,
         choices: choices_of(alloc, cleaned, source)?,
         sums: sums(&cleaned.metrics),
         history: session.history()?,
@@ -108,6 +112,43 @@ fn zeros_are_deduplicated(rt: HostRuntime) -> Result<(), Fail> {
         [(0, 1, 64), (0, 1, 64), (0, 2, 72)].as_slice()
     );
     assert_eq!(rt; seen.bytes.as_slice(), [0; 10].as_slice());
+    Ok(())
+}
+
+/// Cleans the zeros so often in one call. Returns the lengths of the xorbs that are in the folder then.
+fn xorb_lengths(alloc: Global, times: usize) -> Result<Vec<usize>, StoreError> {
+    let session = Session::new(alloc, LONG, LONG)?;
+    let (session, answer) = if times == 1 {
+        session.clean(&ZEROS)
+    } else {
+        session.clean_two(&ZEROS, &ZEROS)
+    };
+    measured(session, &answer)
+}
+
+/// The lengths of the xorbs that are in the folder, if cleaning had no error.
+fn measured(
+    session: Session,
+    answer: &Result<Cleaned, StoreError>,
+) -> Result<Vec<usize>, StoreError> {
+    let lengths = session.close_and_measure();
+    match answer {
+        Ok(_) => lengths,
+        Err(error) => Err(*error),
+    }
+}
+
+#[test]
+fn zeros_are_in_one_xorb(rt: HostRuntime) -> Result<(), Fail> {
+    // For each chunk a header of 8 bytes, its bytes and 40 bytes of the footer, which has 96 more.
+    assert_eq!(rt;
+        xorb_lengths(rt.alloc(), 1)?.as_slice(),
+        [2 * 48 + 72 + 96].as_slice()
+    );
+    assert_eq!(rt;
+        xorb_lengths(rt.alloc(), 2)?.as_slice(),
+        [4 * 48 + 144 + 96].as_slice()
+    );
     Ok(())
 }
 
@@ -158,6 +199,7 @@ fn cleans_two(alloc: Global) -> Result<(Report, Report), StoreError> {
 #[test]
 fn the_same_twice_in_one_call(rt: HostRuntime) -> Result<(), Fail> {
     let (first, second) = cleans_two(rt.alloc())?;
+    assert_eq!(rt; first.info, second.info);
     assert_eq!(rt; first.history.as_str(), "QQQQQQQQRCc");
     assert_eq!(rt;
         first.choices.as_slice(),

@@ -6,7 +6,7 @@ use xet_cut::{LimitSettings, Limits};
 use xet_dedup::Choice;
 use xet_hash::{MerkleHash, StoreError};
 use xet_history::Entry;
-use xet_io::{FailingSource, MemoryDisk, SliceSource};
+use xet_io::{Disk, FailingSource, MemoryDisk, Op, Refusal, SliceSource};
 use xet_shard_format::FileDataSequenceEntry;
 use xet_steps::Store;
 
@@ -69,6 +69,12 @@ impl Session {
         opened(alloc, MemoryDisk::new(alloc), limits)
     }
 
+    /// Opens the folder of a new disk. For each pair (kind, n) the call of this kind after n others of it fails.
+    pub fn failing(alloc: Global, fails: Vec<(Op, u64)>) -> Result<Session, StoreError> {
+        let limits = limits(1 << 20, 1 << 20)?;
+        opened(alloc, MemoryDisk::failing(alloc, fails), limits)
+    }
+
     /// Cleans one file.
     pub fn clean(self, bytes: &[u8]) -> (Session, Result<Cleaned, StoreError>) {
         let alloc = self.alloc;
@@ -104,6 +110,22 @@ impl Session {
     pub fn clean_failing(self, bytes: &[u8]) -> (Session, Result<Cleaned, StoreError>) {
         let alloc = self.alloc;
         let mut sources = [FailingSource::new(bytes, 0)];
+        let (store, answer) = clean_files(alloc, self.store, &mut sources, 1);
+        (Session { alloc, store }, answer)
+    }
+
+    /// Cleans two files in one call. Reading the second fails after so many bytes.
+    pub fn clean_two_failing(
+        self,
+        first: &[u8],
+        second: &[u8],
+        fail_at: u64,
+    ) -> (Session, Result<Cleaned, StoreError>) {
+        let alloc = self.alloc;
+        let mut sources = [
+            FailingSource::new(first, u64::MAX),
+            FailingSource::new(second, fail_at),
+        ];
         let (store, answer) = clean_files(alloc, self.store, &mut sources, 1);
         (Session { alloc, store }, answer)
     }
@@ -164,6 +186,33 @@ impl Session {
     pub fn close(self) {
         let _disk = self.store.into_disk();
     }
+
+    /// Closes the session. Returns the lengths of the xorbs in the folder.
+    pub fn close_and_measure(self) -> Result<Vec<usize>, StoreError> {
+        let Session { alloc, store } = self;
+        let mut disk = store.into_disk();
+        let lengths = xorb_lengths(alloc, &mut disk);
+        release(disk);
+        lengths.map_err(|_| StoreError::OutOfMemory)
+    }
+}
+
+/// Drops a disk.
+fn release(disk: MemoryDisk) {
+    let _ = &disk;
+}
+
+/// The lengths of the xorbs in the folder of a disk.
+fn xorb_lengths(alloc: Global, disk: &mut MemoryDisk) -> Result<Vec<usize>, Refusal> {
+    let mut lengths = Vec::new(alloc);
+    for entry in disk.list(alloc, "store")? {
+        let name = entry.name.as_str();
+        let path = format!(in alloc; "store/{name}")?;
+        if name.ends_with(".xorb") {
+            lengths.push(disk.get(path.as_str()).map_or(0, |bytes| bytes.len()))?;
+        }
+    }
+    Ok(lengths)
 }
 
 /// A source for each file.

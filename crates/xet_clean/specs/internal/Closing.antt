@@ -1,16 +1,16 @@
 -- The aggregate is registered, and its files are recorded.
-use Rattle.std.specs.Prelude.{◌≡◌, ◌≢◌, ◌⊎◌, ◌≤◌, ℕ, Bool, true, false, List, [], ◌∷◌, length, map}
+use Rattle.std.specs.Prelude.{◌≡◌, ◌≢◌, ◌⊎◌, ◌≤◌, ℕ, Bool, true, false, List, [], ◌∷◌, length, map, take}
 use Rattle.std.specs.List.{AllByRecursion, IsAmong}
 use Rattle.xet_aggregate.specs.Aggregate.{Aggregate, Pending, empty, filled, fits, merged}
 use Rattle.xet_hash.specs.Merkle.{xorb_hash}
 use Rattle.xet_hash.specs.declared.error.StoreError.{StoreError}
 use Rattle.xet_history.specs.declared.entry.Entry.{Entry}
-use Rattle.xet_history.specs.declared.entry.Entry.TheVariants.{Query, Register, Complete, Flush, Fault}
 use Rattle.xet_shard_format.specs.Records.{IsFile}
 use Rattle.xet_shard_format.specs.declared.record.MDBFileInfo.{MDBFileInfo}
 use Rattle.xet_xorb_chunk.specs.Chunks.{chunk_leaf}
 use Rattle.xet_stepping.specs.Asking.{IsErrorSince}
 use Rattle.xet_stepping.specs.Holders.{Follows, Holder}
+use Rattle.xet_clean.specs.Cleaning.{files_in}
 use Rattle.xet_stepping.specs.Stepping.{SawComplete, SawOther, SawRegister}
 
 -- each waiting record has the form of a file
@@ -41,24 +41,24 @@ pub record Closes (a : Aggregate) (next : List (List ℕ × ℕ)) (old new : Hol
   pub registered : RegistersChunks a next old mid
   pub completed : Completes (filled_files a) mid new
 
--- If the entry records a file, it is one of these.
-abbrev pub RecordsAmong : List MDBFileInfo → Entry → Type 0
-RecordsAmong files (Query pass hashes reply) = Unit {0}
-RecordsAmong files (Register pass chunks next added) = Unit {0}
-RecordsAmong files (Complete pass file added) = IsAmong files file
-RecordsAmong files (Flush pass shard) = Unit {0}
-RecordsAmong files (Fault pass kind) = Unit {0}
+-- the records of files that these own entries made, in order
+abbrev pub recorded_in : List (ℕ × Entry) → List MDBFileInfo
+recorded_in own = files_in (map (λ p. p.1) own)
 
--- Of the own entries that were added, none records another file than these.
-pub record RecordsOnly (files : List MDBFileInfo) (old new : Holder) : Type 0 where
+-- Its own entries that were added record these files, in order, and no others.
+pub record Records (files : List MDBFileInfo) (old new : Holder) : Type 0 where
   pub follows : Follows old new
-  pub only : AllByRecursion (λ p. RecordsAmong files p.1) follows.own
+  pub are : recorded_in follows.own ≡ files
 
--- Why the aggregate was not closed: a step failed; or its xorb was registered, and one of its files was refused. No other file
--- than its own was recorded.
+-- They record the first of these files, in order, and no others.
+abbrev pub RecordsFirst : List MDBFileInfo → Holder → Holder → Type 0
+RecordsFirst files old new = (count : ℕ) × Records (take count files) old new
+
+-- Why the aggregate was not closed: a step failed; or its xorb was registered, and one of its files was refused. The first of
+-- its files were recorded.
 abbrev pub IsUnclosed : Aggregate → List (List ℕ × ℕ) → Holder → Holder → StoreError → Type 0
 IsUnclosed a next old new e =
-    RecordsOnly (filled_files a) old new
+    RecordsFirst (filled_files a) old new
     × (((mid : Holder) × RegistersChunks a next old mid × IsClosingError (filled_files a) mid new e) ⊎ IsErrorSince old new e)
 
 -- The chunks and files of `rest` joined the aggregate; if they did not fit, the aggregate was closed first, and they are in a

@@ -1,19 +1,20 @@
 -- Reading a source to its end.
-use Rattle.std.specs.Prelude.{◌≡◌, ◌<◌, ◌≤◌, ℕ, Bool, true, List, [], ◌++◌, length}
-use Rattle.std.specs.List.{AllByRecursion}
+use Rattle.std.specs.Prelude.{◌≡◌, ◌<◌, ◌≤◌, ℕ, Bool, true, false, List, [], ◌++◌, length, ◌+◌, ◌*◌, suc, drop, take}
+use Rattle.std.specs.List.{AllByRecursion, sum_by}
 use Rattle.xet_hash.specs.declared.error.Place.TheVariants as place
 use Rattle.xet_hash.specs.declared.error.Reason.TheVariants.{OtherFileHash}
 use Rattle.xet_hash.specs.declared.error.StoreError.{StoreError}
 use Rattle.xet_hash.specs.declared.error.StoreError.TheVariants.{Io, MalformedData, TooLarge}
 use Rattle.xet_hash.specs.declared.error.What.TheVariants as what
 use Rattle.xet_io.specs.Faults.{Rose}
+use Rattle.xet_cut.specs.Chunking.{chunking}
 use Rattle.xet_aggregate.specs.Aggregate.{Aggregate, IsAggregate}
-use Rattle.xet_store.specs.Cleaning.{EachTold, IsLongAt, RoseAt}
+use Rattle.xet_store.specs.Cleaning.{EachTold, FailedAt, IsLongAt, RoseAt}
 use Rattle.xet_stepping.specs.Asking.{IsErrorSince}
 use Rattle.xet_stepping.specs.Holders.{Follows, Holder}
-use Rattle.xet_clean.specs.Cleaning.{EachTaken, IsFewFor, RecordsFile}
-use Rattle.xet_clean.specs.Files.{IsWithin}
-use Rattle.xet_clean.specs.internal.Closing.{IsUnclosed}
+use Rattle.xet_clean.specs.Cleaning.{AreRecords, EachTaken}
+use Rattle.xet_clean.specs.internal.Planning.{IsWithin}
+use Rattle.xet_clean.specs.internal.Closing.{IsUnclosed, recorded_in}
 use Rattle.xet_clean.specs.internal.Working.{Planned, Waits, WasPlanned}
 
 -- These bytes were taken from a source; all that were left if `all`.
@@ -21,10 +22,11 @@ pub record Takes (all : Bool) (tells : Bool) (left rest bytes : List ℕ) : Type
   pub taken : tells ≡ true → left ≡ bytes ++ rest
   pub ended : all ≡ true → tells ≡ true → rest ≡ []
 
--- Why the file of source `number` was not cleaned: it failed, it has more bytes than the limits allow, or a step failed.
+-- Why the file of source `number` was not cleaned: it failed or has more bytes than the limits allow, and then no step failed;
+-- or a step failed.
 abbrev pub IsSourceError : ℕ → Bool → List ℕ → ℕ → ℕ → Holder → Holder → StoreError → Type 0
-IsSourceError number tells left before after old new (Io (place.Source i)) = (i ≡ number) × Rose before after
-IsSourceError number tells left before after old new (TooLarge (what.Source i)) = (i ≡ number) × (tells ≡ true → old.limits.max_source_bytes < length left)
+IsSourceError number tells left before after old new (Io (place.Source i)) = (i ≡ number) × Rose before after × (new.stopped ≡ old.stopped)
+IsSourceError number tells left before after old new (TooLarge (what.Source i)) = (i ≡ number) × (tells ≡ true → old.limits.max_source_bytes < length left) × (new.stopped ≡ old.stopped)
 IsSourceError number tells left before after old new e = IsErrorSince old new e
 
 -- Each observable source was read to its end, and had no more bytes than the limits allow.
@@ -32,13 +34,25 @@ pub record AreRead {S : Type 0} (tells : S → Bool) (left : S → List ℕ) (mo
   pub read : AllByRecursion (λ s. tells s ≡ true → left s ≡ []) now
   pub short : AllByRecursion (λ s. tells s ≡ true → length (left s) ≤ most) sources
 
--- After an error: of each source some bytes were taken, there are at most three entries for each chunk of these and two for each
--- source, and no file is recorded but those of all the bytes that were taken of a source.
-pub record IsCutShort {S : Type 0} (tells : S → Bool) (left : S → List ℕ) (sources now : List S) (old new : Holder) : Type 0 where
+-- of these files some bytes were taken
+abbrev pub IsFewFor : List (List ℕ) → Holder → Holder → Type 0
+IsFewFor files old new =
+    (follows : Follows old new) × (length follows.own ≤ 3 * sum_by (λ f. length (chunking old.limits f)) files + 2 * length files)
+
+-- After an error: the sources before source `done` were read to their ends, and those after it were not read. There are at most
+-- three entries for each chunk of what was taken and two for each source. The files recorded are the first ones, in order.
+pub record IsCutShort {S : Type 0} (tells : S → Bool) (left : S → List ℕ) (sources now : List S) (old new : Holder) (e : StoreError) : Type 0 where
   pub files : List (List ℕ)
   pub taken : EachTaken tells left sources now files
+  pub done : ℕ
+  pub within : done ≤ length sources
+  pub failed : FailedAt e done
+  pub read : AreRead tells left old.limits.max_source_bytes (take done sources) (take done now)
+  pub untouched : drop (suc done) now ≡ drop (suc done) sources
   pub few : IsFewFor files old new
-  pub only : AllByRecursion (λ p. RecordsFile old.limits files p.1) few.0.own
+  pub count : ℕ
+  pub recorded : count ≤ done
+  pub records : AreRecords old.limits (take count files) (recorded_in few.0.own)
 
 -- A record was refused, or a step failed, when an aggregate was closed. Each record that waited for its xorb is that of a file
 -- of one of the first sources, whose segments have the hashes of its chunks.
@@ -58,9 +72,9 @@ pub record IsUnclosedFor {S : Type 0} (tells : S → Bool) (left : S → List �
   pub next : List (List ℕ × ℕ)
   pub refused : IsUnclosed aggregate next before now e
 
--- why the loop over the sources ended
+-- Why the loop over the sources ended. No step failed if the error is one of a source.
 abbrev pub IsLoopError : {S : Type 0} → (S → Bool) → (S → List ℕ) → (S → ℕ) → List S → List S → Holder → Holder → StoreError → Type 0
-IsLoopError tells left faults sources now old new (Io (place.Source i)) = RoseAt faults sources now i
-IsLoopError tells left faults sources now old new (TooLarge (what.Source i)) = IsLongAt tells left sources old.limits.max_source_bytes i
+IsLoopError tells left faults sources now old new (Io (place.Source i)) = RoseAt faults sources now i × (new.stopped ≡ false)
+IsLoopError tells left faults sources now old new (TooLarge (what.Source i)) = IsLongAt tells left sources old.limits.max_source_bytes i × (new.stopped ≡ false)
 IsLoopError tells left faults sources now old new (MalformedData OtherFileHash) = IsUnclosedFor tells left sources old new (MalformedData OtherFileHash)
 IsLoopError tells left faults sources now old new e = IsErrorSince old new e

@@ -1,6 +1,6 @@
 -- What was made of some sources.
-use Rattle.std.specs.Prelude.{◌≡◌, ◌⊎◌, ◌<◌, ◌≤◌, ◌+◌, ◌*◌, ◌^◌, ℕ, Bool, false, List, [], length, map, Any, Some}
-use Rattle.std.specs.List.{AllByRecursion, IsAmong, flat_map, sum_by}
+use Rattle.std.specs.Prelude.{◌≡◌, ◌<◌, ◌≤◌, ◌+◌, ◌*◌, ◌^◌, ◌∷◌, ◌++◌, ℕ, Bool, false, List, [], length, map, Any, Some}
+use Rattle.std.specs.List.{AllByRecursion, flat_map, sum_by}
 use Rattle.sha2.specs.Sha256.{sha256}
 use Rattle.xet_aggregate.specs.Aggregate.{Aggregate, IsAggregate}
 use Rattle.xet_aggregate.specs.declared.metrics.DeduplicationMetrics.{DeduplicationMetrics}
@@ -11,8 +11,6 @@ use Rattle.xet_cut.specs.Limits.{AreInRange}
 use Rattle.xet_dedup.specs.Records.{file_record}
 use Rattle.xet_file_plan.specs.Moves.{PlanState, counts_of}
 use Rattle.xet_file_plan.specs.Placed.{ArePlaced}
-use Rattle.xet_history.specs.declared.entry.Entry.{Entry}
-use Rattle.xet_history.specs.declared.entry.Entry.TheVariants.{Query, Register, Complete, Flush, Fault}
 use Rattle.xet_shard_format.specs.declared.record.FileDataSequenceEntry.{FileDataSequenceEntry as Segment}
 use Rattle.xet_shard_format.specs.declared.record.MDBFileInfo.{MDBFileInfo}
 use Rattle.xet_store.specs.Cleaning.{EachTold, info_of}
@@ -20,10 +18,10 @@ use Rattle.xet_store.specs.declared.info.XetFileInfo.{XetFileInfo}
 use Rattle.xet_xorb_chunk.specs.Chunks.{chunk_leaf}
 use Rattle.xet_xorb_chunk.specs.declared.chunk.Chunk.{Chunk}
 use Rattle.xet_clean.specs.Cleaning.{Lands, metrics_sum}
-use Rattle.xet_clean.specs.Files.{IsFinished, IsPlanned, IsWithin}
+use Rattle.xet_clean.specs.internal.Planning.{IsFinished, IsPlanned, IsWithin}
 use Rattle.xet_stepping.specs.Asking.{Stands}
 use Rattle.xet_stepping.specs.Holders.{Follows, Holder, calls_in, core_at, lengths_in}
-use Rattle.xet_clean.specs.internal.Closing.{Closes, HaveForm}
+use Rattle.xet_clean.specs.internal.Closing.{Closes, HaveForm, recorded_in}
 
 -- a file that was cleaned: its bytes, and its plan when its deduplication had ended
 pub record Planned : Type 0 where
@@ -45,19 +43,16 @@ pub record IsRecordOf (f : Planned) (file : MDBFileInfo) : Type 0 where
   pub counts : counts_of segments ≡ counts_of f.plan.segments
   pub is : file ≡ file_record f.plan.leaves segments (Some (sha256 f.bytes))
 
--- The file is recorded by one of these entries of a pass, or its record waits for its xorb.
-pub record IsRecordedOrWaits (pass : ℕ) (own : List (ℕ × Entry)) (a : Aggregate) (f : Planned) : Type 0 where
-  pub file : MDBFileInfo
-  pub is : IsRecordOf f file
-  pub either : ((n : ℕ) × (added : Bool) × IsAmong own (n, Complete pass file added)) ⊎ IsAmong (map (λ p. p.0) a.files) file
+-- The next of these records is this one, unless there are no bytes; and the others are these.
+abbrev pub BeginsWithRecord : List ℕ → (MDBFileInfo → Type 0) → (List MDBFileInfo → Type 0) → List MDBFileInfo → Type 0
+BeginsWithRecord [] is others records = others records
+BeginsWithRecord (b ∷ bs) is others [] = ⊥
+BeginsWithRecord (b ∷ bs) is others (r ∷ records) = is r × others records
 
--- If the entry records a file, it is one of these.
-abbrev pub RecordsOne : List Planned → Entry → Type 0
-RecordsOne files (Query pass hashes reply) = Unit {0}
-RecordsOne files (Register pass chunks next added) = Unit {0}
-RecordsOne files (Complete pass file added) = Any (λ f. IsRecordOf f file) files
-RecordsOne files (Flush pass shard) = Unit {0}
-RecordsOne files (Fault pass kind) = Unit {0}
+-- Each file that is not empty has one of these records, in order. There are no other records.
+abbrev pub AreRecorded : List Planned → List MDBFileInfo → Type 0
+AreRecorded [] records = records ≡ []
+AreRecorded (f ∷ fs) records = BeginsWithRecord f.bytes (IsRecordOf f) (λ rs. AreRecorded fs rs) records
 
 -- A record waits for the xorb of these chunks: it is that of one of the files, and its segments have the hashes of the file's
 -- chunks, one after the other, in listed xorbs or in these chunks.
@@ -65,8 +60,8 @@ abbrev pub Waits : Holder → List Chunk → List Planned → MDBFileInfo → Ty
 Waits now chunks files file =
     Any (λ f. IsRecordOf f file × ArePlaced (lengths_in (core_at now)) (Stands now) chunks file.segments (hashes_of f.plan.leaves)) files
 
--- These files were cleaned since the start, and no step failed. No entry is named by two chunks. Each file that is not empty is
--- recorded or waits for its xorb, and nothing else is recorded or waits. The chunks of the aggregate are the new ones that are
+-- These files were cleaned since the start, and no step failed. No entry is named by two chunks. The records of files
+-- that are not empty were made or wait for their xorb, in order, and there are no others. The chunks of the aggregate are the new ones that are
 -- in no registered xorb. What is left in the aggregate is within the limits of a xorb. Each registration had chunks that did not
 -- fit, and these are in a later registration or in the aggregate.
 pub record IsWorking (start now : Holder) (files : List Planned) (infos : List XetFileInfo) (choices : List (List Choice)) (metrics : DeduplicationMetrics) (a : Aggregate) : Type 0 where
@@ -77,14 +72,12 @@ pub record IsWorking (start now : Holder) (files : List Planned) (infos : List X
   pub once : EntriesRise (flat_map (λ (cs : List Choice). cs) choices)
   pub sums : metrics ≡ metrics_sum now.limits (map (λ f. f.bytes) files) choices
   pub planned : AllByRecursion (WasPlanned start now) files
-  pub recorded : AllByRecursion (λ f. 0 < length f.bytes → IsRecordedOrWaits now.number follows.own a f) files
-  pub only : AllByRecursion (λ p. RecordsOne files p.1) follows.own
+  pub records : AreRecorded files (recorded_in follows.own ++ map (λ p. p.0) a.files)
   pub waits : AllByRecursion (λ p. Waits now a.chunks files p.0) a.files
   pub aggregate : IsAggregate a
   pub within : IsWithin now.limits a.chunks
   pub forms : HaveForm a.files
   pub nothing : a.files ≡ [] → a.chunks ≡ []
-  pub few_files : length a.files ≤ length files
   pub lands : Lands (map chunk_leaf a.chunks) (calls_in follows.own)
   pub new : registered_chunks (calls_in follows.own) + length a.chunks ≡ sum_by (λ f. new_chunks f.plan.choices) files
   pub bound : length follows.own + (2 * length a.chunks + 2 * length a.files) ≤ 3 * sum_by (λ f. length f.plan.leaves) files + 2 * length files

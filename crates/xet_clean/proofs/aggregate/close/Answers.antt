@@ -100,4 +100,4 @@ returns-clause-refused g c =
       | else-not-is_empty w ↦ inl (c.has_no_chunks-is_empty.ensures.none w.if-not-is_empty.false, ap g.S.Stepping.holder w.steps-is)
     ] in
     IfErr-weaker c.complete_all.result (IsClosingError (records_of c.in_ok-xorb.files.items) (g.S.Stepping.holder c.if-not-is_empty.steps) (g.S.Stepping.holder c.complete_all.new.steps)) (IsUnclosed c.args.aggregate c.args.next.now (g.S.Stepping.holder c.args.steps.now) (g.S.Stepping.holder c.complete_all.new.steps))
-    (λ e is. error_either c.args.aggregate c.args.next.now c.in_ok-xorb.files.items c.in_ok-xorb.xorb c.in_ok-xorb.ensures.xorb c.in_ok-xorb.ensures.files (g.S.Stepping.holder c.args.steps.now) (g.S.Stepping.holder c.if-not-is_empty.steps) (g.S.Stepping.holder c.complete_all.new.steps) r c.complete_all.ensures.only e is) c.complete_all.ensures.refused
+    (λ e is. error_either c.args.aggregate c.args.next.now c.in_ok-xorb.files.items c.in_ok-xorb.xorb c.in_ok-xorb.ensures.xorb c.in_ok-xorb.ensures.files (g.S.Stepping.holder c.args.steps.now) (g.S.Stepping.holder c.if-not-is_empty.steps) (g.S.Stepping.holder c.complete_all.new.steps) r c.complete_all.ensures.first e is) c.complete_all.ensures.refused

@@ -5,7 +5,8 @@ use Rattle.std.specs.Vec.Iter.{into_iter_items}
 use Rattle.xet_base.specs.theorems.Exits.{exit_with}
 use Rattle.xet_shard_format.specs.Records.{IsFile}
 use Rattle.xet_clean.specs.internal.Closing.{IsClosingError}
-use Rattle.xet_clean.proofs.Completing.{Finished, IsCompleting, completing_begins, completing_done, completing_more, completing_most, completing_refused, records_of}
+use Rattle.xet_clean.proofs.Adding.{records_nothing}
+use Rattle.xet_clean.proofs.Completing.{Finished, IsCompleting, completing_begins, completing_done, completing_first, completing_more, completing_most, completing_refused, records_of}
 use Rattle.xet_clean.proofs.aggregate.complete_all.Goals as goal
 
 pub loop-file-init : goal.loop-file-init
@@ -69,12 +70,14 @@ pub returns-clause-few : goal.returns-clause-few
 returns-clause-few g c =
     completing_most c.args.files.items (into_iter_items c.loop-file.file-iterator) (g.S.Stepping.holder c.args.steps.now) (g.S.Stepping.holder c.loop-file.steps) c.loop-file.invariant.completing
 
-pub returns-in_err-_added-clause-only : goal.returns-in_err-_added-clause-only
-returns-in_err-_added-clause-only g c =
+pub returns-in_err-_added-clause-first : goal.returns-in_err-_added-clause-first
+returns-in_err-_added-clause-first g c =
     let old = g.S.Stepping.holder c.args.steps.now in
     let now = g.S.Stepping.holder c.loop-file.steps in
     let is = subst (λ (xs : List Finished). IsCompleting c.args.files.items xs old now) c.in-Some.ensures.steps.0 c.loop-file.invariant.completing in
     (completing_refused c.args.files.items (into_iter_items c.next.new.self) _ old now (g.S.Stepping.holder c.complete.new.self) _ is c.in_err-_added.ensures.refused).2
 
-pub returns-clause-only : goal.returns-clause-only
-returns-clause-only g c = c.loop-file.invariant.completing.only
+pub returns-clause-first : goal.returns-clause-first
+returns-clause-first g c =
+    completing_first c.args.files.items (into_iter_items c.loop-file.file-iterator) (g.S.Stepping.holder c.args.steps.now) (g.S.Stepping.holder c.loop-file.steps) (g.S.Stepping.holder c.loop-file.steps) c.loop-file.invariant.completing
+    (records_nothing (g.S.Stepping.holder c.loop-file.steps))

@@ -3,7 +3,7 @@ use Rattle.std.proofs.lemmas.Result.{IfErr-weaker, IfOk-weaker, on_err_weaker}
 use Rattle.xet_stepping.specs.Asking.{IsErrorSince}
 use Rattle.xet_stepping.specs.Holders.{Follows, FollowsAsking}
 use Rattle.xet_stepping.specs.theorems.Following.{asking_nothing, asking_then}
-use Rattle.xet_clean.specs.Files.{IsFew, IsFinished}
+use Rattle.xet_clean.specs.internal.Planning.{IsFew, IsFinished}
 use Rattle.xet_clean.specs.internal.Sources.{IsSourceError, Takes}
 use Rattle.xet_clean.proofs.Closing.{error_earlier}
 use Rattle.xet_clean.proofs.Reading.{few_nothing, source_error, takes_nothing, takes_some}

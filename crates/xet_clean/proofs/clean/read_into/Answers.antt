@@ -1,4 +1,4 @@
-use Rattle.std.proofs.Common.{◌∙◌, ◌++◌, [], ℕ, ap, arith, length-append, refl, subst, take}
+use Rattle.std.proofs.Common.{◌∙◌, ◌++◌, [], ℕ, ap, arith, length-append, refl, subst, sym, take}
 use Rattle.std.proofs.lemmas.List.{length-take-le}
 use Rattle.xet_base.specs.theorems.Exits.{exit_with}
 use Rattle.xet_cut.specs.declared.limits.LimitSettings.{LimitSettings}
@@ -43,8 +43,9 @@ returns-in_err-count-clause-refused g c =
     let after = g.R.Source.faults c.read_block.new.source in
     let old = g.S.Stepping.holder c.args.cleaner.now.deduper.interface.steps in
     let now = g.S.Stepping.holder c.loop-count.cleaner.deduper.interface.steps in
+    let passed = i.read.2.passed ∙ ap (λ a. (g.S.Stepping.holder a.steps).stopped) i.start ∙ sym c.requires.cleaning.passed in
     exit_with (IsSourceError c.args.number tells left before after old now) _ _ c.from_residual.ensures.1
-    (read_error c.args.number tells left before after old now _ c.in_err-count.ensures.reason (rose_later before (g.R.Source.faults c.loop-count.source) after i.later (c.in_err-count.ensures.frame.rose refl)))
+    (read_error c.args.number tells left before after old now _ c.in_err-count.ensures.reason (rose_later before (g.R.Source.faults c.loop-count.source) after i.later (c.in_err-count.ensures.frame.rose refl)) passed)
 
 pub returns-in_err-add-clause-few : goal.returns-in_err-add-clause-few
 returns-in_err-add-clause-few g c =
@@ -80,8 +81,9 @@ returns-in_err-add-clause-refused g c =
     let mid = g.S.Stepping.holder c.loop-count.cleaner.deduper.interface.steps in
     let now = g.S.Stepping.holder c.add.new.self.deduper.interface.steps in
     let takes = takes_more tells left (g.R.Source.left c.loop-count.source) rest i.read.0 block count i.read.1 (λ t. c.in_ok-count.ensures.filled (i.tells ∙ t)) in
+    let passed = i.read.2.passed ∙ ap (λ a. (g.S.Stepping.holder a.steps).stopped) i.start ∙ sym c.requires.cleaning.passed in
     exit_with (IsSourceError c.args.number tells left before after old now) _ _ c.from_residual-in_err-add.ensures.1
-    (cleaner_error c.args.number tells left rest i.read.0 (take count block) c.loop-count.cleaner.byte_count before after old mid now _ takes i.read.2.counted i.follows.follows
+    (cleaner_error c.args.number tells left rest i.read.0 (take count block) c.loop-count.cleaner.byte_count before after old mid now _ takes i.read.2.counted i.follows.follows passed
     (subst (λ (n : ℕ). IsCleanerError n c.loop-count.cleaner.byte_count (take count block) mid now c.in_err-add.field-0.0) i.number c.in_err-add.ensures.refused))
 
 pub returns-then-count-block-clause-cleaning : goal.returns-then-count-block-clause-cleaning

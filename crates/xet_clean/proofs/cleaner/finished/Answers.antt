@@ -1,5 +1,5 @@
 use Rattle.std.proofs.Common.{◌∙◌, ap, subst, sym}
-use Rattle.xet_clean.specs.Files.{IsFinished}
+use Rattle.xet_clean.specs.internal.Planning.{IsFinished}
 use Rattle.xet_clean.proofs.Finishing.{finished_file, pointer, pointer_of}
 use Rattle.xet_clean.proofs.cleaner.finished.Goals as goal
 

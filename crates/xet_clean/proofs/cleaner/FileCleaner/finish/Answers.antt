@@ -4,7 +4,7 @@ use Rattle.xet_hash.specs.declared.error.StoreError.{StoreError}
 use Rattle.xet_hash.specs.declared.error.StoreError.TheVariants.{OutOfMemory}
 use Rattle.xet_stepping.specs.Asking.{IsErrorSince}
 use Rattle.xet_stepping.specs.Holders.{FollowsAsking}
-use Rattle.xet_clean.specs.Files.{IsFew, IsFinished}
+use Rattle.xet_clean.specs.internal.Planning.{IsFew, IsFinished}
 use Rattle.xet_clean.proofs.Cleaning.{cleaning_bytes, on_err}
 use Rattle.xet_clean.proofs.Finishing.{planned_few}
 use Rattle.xet_clean.proofs.cleaner.FileCleaner.finish.Goals as goal
