@@ -1,7 +1,9 @@
 pub mod Hyphens
 pub mod Plain
 pub mod Parses
+pub mod Two
 pub mod Pack
+pub mod Make
 pub mod Read
 pub mod Clean
 pub mod Alone

@@ -1,5 +1,6 @@
 -- The arguments of a command, each as the bytes of its text.
 use Rattle.std.specs.Prelude.{ℕ, ◌==◌, Bool, false, List, [], ◌∷◌, Option, Some, None}
+use Rattle.xet_arguments.specs.declared.arguments.MakeArguments.{MakeArguments}
 use Rattle.xet_arguments.specs.declared.arguments.PackArguments.{PackArguments}
 use Rattle.xet_arguments.specs.declared.arguments.ReadArguments.{ReadArguments}
 
@@ -26,6 +27,10 @@ some_of (word ∷ words) = Some (word ∷ words)
 -- TARGET and GEAR
 abbrev pub pack_texts : PackArguments → List ℕ × List ℕ
 pack_texts arguments = (arguments.target.now, arguments.gear.now)
+
+-- SEED and BYTES
+abbrev pub make_texts : MakeArguments → List ℕ × List ℕ
+make_texts arguments = (arguments.seed.now, arguments.bytes.now)
 
 -- HASH, FROM and TO
 abbrev pub read_texts : ReadArguments → List ℕ × List ℕ × List ℕ

@@ -4,10 +4,10 @@ ghost use Rattle.std.specs.Prelude.{◌≡◌, ◌≤◌, ◌==◌, IfOk, codes,
 ghost use Rattle.std.specs.List.{list_any};
 ghost use Rattle.clap.specs.Lexer.{usize_max};
 ghost use Rattle.clap.specs.Words.{found_of, matched_of, raw_values};
-ghost use Rattle.xet_arguments.specs.Arguments.{is_option, pack_texts, read_texts, some_of, three_of, two_of};
+ghost use Rattle.xet_arguments.specs.Arguments.{is_option, make_texts, pack_texts, read_texts, some_of, three_of, two_of};
 ghost use Rattle.xet_arguments.specs.internal.Commands.{all_three, both, value_of};
 
-use crate::commands::{bare_command, clean_command, pack_command, read_command};
+use crate::commands::{bare_command, clean_command, make_command, pack_command, read_command};
 use crate::parsing::matches_of_words;
 use clap::ArgMatches;
 use std::alloc::{AllocError, Global};
@@ -22,6 +22,15 @@ pub struct PackArguments<'a> {
     pub target: &'a str,
     /// Gear table: its name or the number of a seed.
     pub gear: &'a str,
+}
+
+/// The arguments of `make`.
+#[derive(Clone, Copy, PartialEq, Eq, Debug)]
+pub struct MakeArguments<'a> {
+    /// Seed of the generator.
+    pub seed: &'a str,
+    /// Length of the file in bytes.
+    pub bytes: &'a str,
 }
 
 /// The arguments of `read`.
@@ -52,6 +61,25 @@ pub fn pack_arguments<'a>(alloc: Global, words: &'a [String]) -> Parsed<PackArgu
 {
     let found = matches_of_words(pack_command(alloc)?, words)?;
     Ok(pack_values(&found))
+}
+
+fn make_values<'a>(found: &Option<ArgMatches<'a>>) -> Option<MakeArguments<'a>>
+    ensures { option_map make_texts result
+        ≡ both (value_of found.now (codes "seed")) (value_of found.now (codes "bytes")) }
+{
+    let matches = found.as_ref()?;
+    let seed = matches.get_str("seed")?;
+    let bytes = matches.get_str("bytes")?;
+    Some(MakeArguments { seed, bytes })
+}
+
+/// `make SEED BYTES`: the arguments; none if the number of words is not 2.
+pub fn make_arguments<'a>(alloc: Global, words: &'a [String]) -> Parsed<MakeArguments<'a>>
+    requires { list_any is_option (map string_bytes words.now) ≡ false }
+    ensures { IfOk result (λ found. option_map make_texts found ≡ two_of (map string_bytes words.now)) }
+{
+    let found = matches_of_words(make_command(alloc)?, words)?;
+    Ok(make_values(&found))
 }
 
 fn read_values<'a>(found: &Option<ArgMatches<'a>>) -> Option<ReadArguments<'a>>

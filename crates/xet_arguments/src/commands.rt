@@ -2,7 +2,7 @@
 
 ghost use Rattle.std.specs.Prelude.{◌≡◌, IfOk, false};
 ghost use Rattle.clap.specs.Words.{app_of, rule_of};
-ghost use Rattle.xet_arguments.specs.internal.Commands.{bare, clean_app, needed, pack_app, read_app};
+ghost use Rattle.xet_arguments.specs.internal.Commands.{bare, clean_app, make_app, needed, pack_app, read_app};
 
 use clap::{Arg, Command};
 use std::alloc::{AllocError, Global};
@@ -32,6 +32,15 @@ pub(crate) fn pack_command<'a>(alloc: Global) -> Result<Command<'a>, AllocError>
     let target = required_argument(alloc, "target");
     let gear = required_argument(alloc, "gear");
     bare_command(alloc, "pack").arg(target)?.arg(gear)
+}
+
+/// `make SEED BYTES`
+pub(crate) fn make_command<'a>(alloc: Global) -> Result<Command<'a>, AllocError>
+    ensures { IfOk result (λ command. app_of command ≡ make_app) }
+{
+    let seed = required_argument(alloc, "seed");
+    let bytes = required_argument(alloc, "bytes");
+    bare_command(alloc, "make").arg(seed)?.arg(bytes)
 }
 
 /// `read HASH FROM TO`

@@ -34,6 +34,20 @@ fn pack_takes_two_words(rt: HostRuntime) -> Result<(), Fail> {
 }
 
 #[test]
+fn make_takes_two_words(rt: HostRuntime) -> Result<(), Fail> {
+    let alloc = rt.alloc();
+    let words = words_of(&rt, alloc, "7 16777216")?;
+    let (seed, bytes) = ("7", "16777216");
+    assert_eq!(rt;
+        make_arguments(alloc, &words)?,
+        Some(MakeArguments { seed, bytes })
+    );
+    let long = words_of(&rt, alloc, "7 16777216 1")?;
+    assert_eq!(rt; make_arguments(alloc, &long)?, None);
+    Ok(())
+}
+
+#[test]
 fn read_takes_three_words(rt: HostRuntime) -> Result<(), Fail> {
     let alloc = rt.alloc();
     let words = words_of(&rt, alloc, "00ff 0 10")?;

@@ -27,6 +27,10 @@ needed id = record (new_rule id) { required = true }
 abbrev pub pack_app : App
 pack_app = with_rule (with_rule (bare (codes "pack")) (needed (codes "target"))) (needed (codes "gear"))
 
+-- `make SEED BYTES`
+abbrev pub make_app : App
+make_app = with_rule (with_rule (bare (codes "make")) (needed (codes "seed"))) (needed (codes "bytes"))
+
 -- `read HASH FROM TO`
 abbrev pub read_app : App
 read_app =
