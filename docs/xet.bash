@@ -3,7 +3,7 @@ _xet() {
     local word=${COMP_WORDS[COMP_CWORD]}
     COMPREPLY=()
     if [ "$COMP_CWORD" -eq 1 ]; then
-        mapfile -t COMPREPLY < <(compgen -W 'clean list read pack group --help --version' -- "$word")
+        mapfile -t COMPREPLY < <(compgen -W 'clean list read pack group make --help --version' -- "$word")
         return
     fi
     case ${COMP_WORDS[1]} in

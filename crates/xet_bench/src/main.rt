@@ -34,10 +34,11 @@ use crate::vectors::print_vectors;
 use std::alloc::Global;
 use std::process::ExitCode;
 use std::{env, println};
+use xet_clean::{Cleaned, clean_files};
 use xet_cut::{LimitSettings, Limits, gear_table, generated};
 use xet_hash::{MerkleHash, StoreError, compute_data_hash};
 use xet_io::{MemoryDisk, SliceSource};
-use xet_store::{Cleaned, Store, clean_files};
+use xet_steps::Store;
 
 /// The maximum number of mebibytes of a file.
 const MAX: u64 = 1 << 12;

@@ -3,6 +3,7 @@ use Rattle.std.proofs.Common.{◌≡◌, ◌∙◌, inl, inr, ℕ, ◌+◌, ◌-
 use Rattle.std.proofs.lemmas.List.{length-replicate}
 use Rattle.std.specs.FinMap.{get}
 use Rattle.std.specs.List.{flat_map}
+use Rattle.xet_cut.specs.Generator.{generated}
 use Rattle.xet_group.specs.Groups.{grouped}
 use Rattle.xet_io.specs.Disk.{Files}
 use Rattle.xet_io.specs.Named.{Named}
@@ -16,10 +17,12 @@ use Rattle.xet_program.specs.Early.{Outcome, group_outcome, max_input, outcome}
 use Rattle.xet_program.specs.Ending.{MayEnd}
 use Rattle.xet_program.specs.Start.{LacksName, Start}
 use Rattle.xet_program.specs.Stored.{AreStored, IsAdmittedAt, KeepsFolder, KeepsListed}
+use Rattle.xet_program.specs.Reasons.{AreApart, IsFull, IsMalformed}
+use Rattle.xet_program.specs.Making.{IsMadeText}
 use Rattle.xet_program.specs.Tasks.{IsIdle, default_limits, store_folder}
-use Rattle.xet_program.specs.Words.Command.{Clean, Group, ListFiles, Read}
+use Rattle.xet_program.specs.Words.Command.{Clean, Group, ListFiles, Make, Read}
 use Rattle.xet_program.specs.internal.Cleaned.{IsCleanText}
-use Rattle.xet_program.specs.internal.Stops.{ForValid, IsStop, answer_outcome, cleaning_store_causes, folder_causes, grouping_causes, reading_range_causes}
+use Rattle.xet_program.specs.internal.Stops.{ForValid, IsStop, answer_outcome, cleaning_store_causes, folder_causes, grouping_causes, making_causes, reading_range_causes}
 use Rattle.xet_program.proofs.Answered.{malformed_of_ten, none_stored, works_same}
 use Rattle.xet_program.proofs.Endings.{group_long, group_short}
 
@@ -39,26 +42,30 @@ module _ (start : Start) (new : Files) where
   abbrev Listed : List ℕ → Type 0
   Listed text = ForValid start.tells start.files start.now (λ contents. Differ (recorded_files contents.records) × (text ≡ flat_map listed_line (recorded_files contents.records)))
 
-  end_list : (r : Answer) → IfOk r (λ text. Listed text.items) → IfErr r (IsStop (folder_causes start.tells start.now start.files)) → MayEnd (Some ListFiles) start new (answer_outcome r)
-  end_list (Ok t) (contents, valid, listed) stop = MayEnd.answered (λ observes. refl) record {
+  -- the folder at the end is that at the start
+  full_same : new ≡ start.files → (start.tells ≡ true → IsFull start.files start.now) → start.tells ≡ true → IsFull new start.now
+  full_same same many told = subst (λ (x : Files). IsFull x start.now) (sym same) (many told)
+
+  end_list : (r : Answer) → new ≡ start.files → IfOk r (λ text. Listed text.items) → IfErr r (IsStop (folder_causes start.tells start.now start.files)) → MayEnd (Some ListFiles) start new (answer_outcome r)
+  end_list (Ok t) same (contents, valid, listed) stop = MayEnd.answered (λ observes. refl) record {
     asked = ListFiles;
     is = refl;
     contents = contents;
     valid = valid;
     answer = record { rows = recorded_files contents.records; listed = λ told. refl; differ = listed.0; is = ap (outcome 0) listed.1 };
   }
-  end_list (Err stop.OutOfMemory) listed h = MayEnd.stopped (inl refl) refl
-  end_list (Err stop.Disk) listed h = MayEnd.stopped (inr (inr (inr (refl, tt, λ observes. refl)))) refl
-  end_list (Err (stop.BadShard name)) listed h = MayEnd.refused tt (λ observes. refl) record { name = name; named = h.0; fails = h.1; is = refl }
-  end_list (Err stop.Input) listed h = absurd h
-  end_list (Err stop.TooLarge) listed h = absurd h
-  end_list (Err stop.NotFound) listed h = absurd h
-  end_list (Err stop.Malformed) listed h = absurd h
-  end_list (Err (stop.BadLine n)) listed h = absurd h
+  end_list (Err stop.OutOfMemory) same listed h = MayEnd.stopped (inl refl) refl
+  end_list (Err stop.Disk) same listed h = MayEnd.stopped (inr (inr (inr (refl, tt, λ observes. refl)))) refl
+  end_list (Err (stop.BadShard name)) same listed h = MayEnd.refused tt (λ observes. refl) record { name = name; named = h.0; fails = h.1; is = refl }
+  end_list (Err stop.Input) same listed h = absurd h
+  end_list (Err stop.TooLarge) same listed h = MayEnd.full tt (λ observes. refl) (full_same same h) refl
+  end_list (Err stop.NotFound) same listed h = absurd h
+  end_list (Err stop.Malformed) same listed h = absurd h
+  end_list (Err (stop.BadLine n)) same listed h = absurd h
 
   pub answered_list : (r : Answer) → new ≡ start.files → IfOk r (λ text. Listed text.items) → IfErr r (IsStop (folder_causes start.tells start.now start.files)) → Answered (Some ListFiles) start new (answer_outcome r)
   answered_list r same listed stop = record {
-    ends = end_list r listed stop;
+    ends = end_list r same listed stop;
     works = works_same (Some ListFiles) start new (answer_outcome r).status same (λ nought. none_stored default_limits start.now start.files new) (λ ten. absurd (malformed_of_ten (IsStop (folder_causes start.tells start.now start.files)) r stop ten));
   }
 
@@ -71,20 +78,20 @@ module _ (start : Start) (new : Files) where
     abbrev Causes : Stop → Type 0
     Causes reason = IsStop (reading_range_causes start.tells start.now start.files h from to) reason
 
-    end_read : (r : Answer) → OnOk r (from ≤ to) → IfOk r (λ bytes. length bytes.items ≡ to - from) → IfOk r (λ bytes. IsRead bytes.items) → IfErr r Causes → MayEnd (Some (Read h from to)) start new (answer_outcome r)
-    end_read (Ok t) ordered len (contents, valid, is) stop = MayEnd.answered (λ observes. refl) record { asked = Read h from to; is = refl; contents = contents; valid = valid; answer = ReadAnswer.read refl ordered len is }
-    end_read (Err stop.OutOfMemory) ordered len is c = MayEnd.stopped (inl refl) refl
-    end_read (Err stop.Disk) ordered len is c = MayEnd.stopped (inr (inr (inr (refl, tt, λ observes. refl)))) refl
-    end_read (Err (stop.BadShard name)) ordered len is c = MayEnd.refused tt (λ observes. refl) record { name = name; named = c.0; fails = c.1; is = refl }
-    end_read (Err stop.NotFound) ordered len is (contents, valid, none) = MayEnd.answered (λ observes. refl) record { asked = Read h from to; is = refl; contents = contents; valid = valid; answer = ReadAnswer.none (λ told. none) refl }
-    end_read (Err stop.Malformed) ordered len is c = MayEnd.malformed tt (λ observes. refl) c refl
-    end_read (Err stop.Input) ordered len is c = absurd c
-    end_read (Err stop.TooLarge) ordered len is c = absurd c
-    end_read (Err (stop.BadLine n)) ordered len is c = absurd c
+    end_read : (r : Answer) → new ≡ start.files → OnOk r (from ≤ to) → IfOk r (λ bytes. length bytes.items ≡ to - from) → IfOk r (λ bytes. IsRead bytes.items) → IfErr r Causes → MayEnd (Some (Read h from to)) start new (answer_outcome r)
+    end_read (Ok t) same ordered len (contents, valid, is) stop = MayEnd.answered (λ observes. refl) record { asked = Read h from to; is = refl; contents = contents; valid = valid; answer = ReadAnswer.read refl ordered len is }
+    end_read (Err stop.OutOfMemory) same ordered len is c = MayEnd.stopped (inl refl) refl
+    end_read (Err stop.Disk) same ordered len is c = MayEnd.stopped (inr (inr (inr (refl, tt, λ observes. refl)))) refl
+    end_read (Err (stop.BadShard name)) same ordered len is c = MayEnd.refused tt (λ observes. refl) record { name = name; named = c.0; fails = c.1; is = refl }
+    end_read (Err stop.NotFound) same ordered len is (contents, valid, none) = MayEnd.answered (λ observes. refl) record { asked = Read h from to; is = refl; contents = contents; valid = valid; answer = ReadAnswer.none (λ told. none) refl }
+    end_read (Err stop.Malformed) same ordered len is c = MayEnd.malformed tt (λ observes. refl) c refl
+    end_read (Err stop.Input) same ordered len is c = absurd c
+    end_read (Err stop.TooLarge) same ordered len is c = MayEnd.full tt (λ observes. refl) (full_same same c) refl
+    end_read (Err (stop.BadLine n)) same ordered len is c = absurd c
 
     pub answered_read : (r : Answer) → new ≡ start.files → OnOk r (from ≤ to) → IfOk r (λ bytes. length bytes.items ≡ to - from) → IfOk r (λ bytes. IsRead bytes.items) → IfErr r Causes → Answered (Some (Read h from to)) start new (answer_outcome r)
     answered_read r same ordered len is stop = record {
-      ends = end_read r ordered len is stop;
+      ends = end_read r same ordered len is stop;
       works = works_same (Some (Read h from to)) start new (answer_outcome r).status same (λ nought. none_stored default_limits start.now start.files new) (malformed_of_ten Causes r stop);
     }
 
@@ -95,7 +102,20 @@ module _ (start : Start) (new : Files) where
     IsCleanOf text = ForValid start.tells start.files start.now (λ contents. IsCleanText start.inputs_tell start.inputs names start.tells start.files new start.now text)
 
     abbrev CleanCauses : Stop → Type 0
-    CleanCauses reason = IsStop (cleaning_store_causes start.inputs_tell start.inputs names start.tells start.now start.files) reason
+    CleanCauses reason = IsStop (cleaning_store_causes start.inputs_tell start.inputs names start.tells start.now start.files new) reason
+
+    named_are : (inputs : Named (List ℕ)) (ns files : List (List ℕ)) → AreNamed inputs ns files → map (λ name. unwrap_or (get inputs name) []) ns ≡ files
+    named_are inputs [] [] named = refl
+    named_are inputs [] (f ∷ fs) named = absurd (cc named)
+    named_are inputs (n ∷ ns) [] named = absurd (cc named)
+    named_are inputs (n ∷ ns) (f ∷ fs) named =
+        let here : get inputs n ≡ Some f = cc named in
+        let rest : map (get inputs) ns ≡ map Some fs = cc named in
+        ap (λ (o : Option (List ℕ)). unwrap_or o [] ∷ map (λ name. unwrap_or (get inputs name) []) ns) here ∙ ap (λ (xs : List (List ℕ)). f ∷ xs) (named_are inputs ns fs rest)
+
+    malformed_clean : CleanCauses stop.Malformed → IsMalformed (Some (Clean names)) start new
+    malformed_clean c = λ observes told apart.
+        let m = c (observes.1 tt) told in m.2 (subst (λ (fs : List (List ℕ)). AreApart new start.now default_limits fs) (named_are start.inputs names m.0 m.1) apart)
 
     end_clean : (r : Answer) → IfOk r (λ text. IsCleanOf text.items) → IfErr r CleanCauses → MayEnd (Some (Clean names)) start new (answer_outcome r)
     end_clean (Ok t) (contents, valid, is) stop = MayEnd.answered (λ observes. refl) record {
@@ -110,18 +130,10 @@ module _ (start : Start) (new : Files) where
     end_clean (Err stop.Disk) is c = MayEnd.stopped (inr (inr (inr (refl, tt, λ observes. refl)))) refl
     end_clean (Err (stop.BadShard name)) is c = MayEnd.refused tt (λ observes. refl) record { name = name; named = c.0; fails = c.1; is = refl }
     end_clean (Err stop.NotFound) is (contents, valid, none) = MayEnd.answered (λ observes. refl) record { asked = Clean names; is = refl; contents = contents; valid = valid; answer = CleanAnswer.absent none refl }
-    end_clean (Err stop.TooLarge) is (contents, valid, long) = MayEnd.answered (λ observes. refl) record { asked = Clean names; is = refl; contents = contents; valid = valid; answer = CleanAnswer.too_long long refl }
-    end_clean (Err stop.Malformed) is c = MayEnd.malformed tt (λ observes. refl) c refl
+    end_clean (Err stop.TooLarge) is (inr many) = MayEnd.full tt (λ observes. refl) many refl
+    end_clean (Err stop.TooLarge) is (inl (contents, valid, long)) = MayEnd.answered (λ observes. refl) record { asked = Clean names; is = refl; contents = contents; valid = valid; answer = CleanAnswer.too_long long refl }
+    end_clean (Err stop.Malformed) is c = MayEnd.malformed tt (λ observes. refl) (malformed_clean c) refl
     end_clean (Err (stop.BadLine n)) is c = absurd c
-
-    named_are : (inputs : Named (List ℕ)) (ns files : List (List ℕ)) → AreNamed inputs ns files → map (λ name. unwrap_or (get inputs name) []) ns ≡ files
-    named_are inputs [] [] named = refl
-    named_are inputs [] (f ∷ fs) named = absurd (cc named)
-    named_are inputs (n ∷ ns) [] named = absurd (cc named)
-    named_are inputs (n ∷ ns) (f ∷ fs) named =
-        let here : get inputs n ≡ Some f = cc named in
-        let rest : map (get inputs) ns ≡ map Some fs = cc named in
-        ap (λ (o : Option (List ℕ)). unwrap_or o [] ∷ map (λ name. unwrap_or (get inputs name) []) ns) here ∙ ap (λ (xs : List (List ℕ)). f ∷ xs) (named_are inputs ns fs rest)
 
     stored_clean : (r : Answer) → IfOk r (λ text. IsCleanOf text.items) → start.inputs_tell ≡ true → start.tells ≡ true → (answer_outcome r).status ≡ 0
         → AreStored default_limits (map (λ name. unwrap_or (get start.inputs name) []) names) start.now start.files new
@@ -151,7 +163,45 @@ module _ (start : Start) (new : Files) where
         absent = absent;
         kept = kept;
         foreign = foreign;
-        malformed = malformed_of_ten CleanCauses r stop;
+        malformed = λ ten. malformed_clean (malformed_of_ten CleanCauses r stop ten);
+      };
+    }
+
+  -- ---- `make`
+
+  module _ (seed bytes : ℕ) where
+    abbrev IsMadeOf : List ℕ → Type 0
+    IsMadeOf text = ForValid start.tells start.files start.now (λ contents. IsMadeText start.tells contents new (generated seed bytes) text)
+
+    abbrev MakeCauses : Stop → Type 0
+    MakeCauses reason = IsStop (making_causes start.tells start.now start.files new (generated seed bytes)) reason
+
+    end_make : (r : Answer) → IfOk r (λ text. IsMadeOf text.items) → IfErr r MakeCauses → MayEnd (Some (Make seed bytes)) start new (answer_outcome r)
+    end_make (Ok t) (contents, valid, is) stop = MayEnd.answered (λ observes. refl) record { asked = Make seed bytes; is = refl; contents = contents; valid = valid; answer = record { status = refl; text = is } }
+    end_make (Err stop.OutOfMemory) is c = MayEnd.stopped (inl refl) refl
+    end_make (Err stop.Disk) is c = MayEnd.stopped (inr (inr (inr (refl, tt, λ observes. refl)))) refl
+    end_make (Err (stop.BadShard name)) is c = MayEnd.refused tt (λ observes. refl) record { name = name; named = c.0; fails = c.1; is = refl }
+    end_make (Err stop.TooLarge) is c = MayEnd.full tt (λ observes. refl) c refl
+    end_make (Err stop.Malformed) is c = MayEnd.malformed tt (λ observes. refl) c refl
+    end_make (Err stop.Input) is c = absurd c
+    end_make (Err stop.NotFound) is c = absurd c
+    end_make (Err (stop.BadLine n)) is c = absurd c
+
+    pub answered_make : (r : Answer) → IfOk r (λ text. IsMadeOf text.items) → IfErr r MakeCauses → (start.tells ≡ true → KeepsListed start.now start.files new) → (start.tells ≡ true → KeepsFolder start.now start.files new)
+        → (start.tells ≡ true → (IsAdmittedAt start.now start.files → ⊥) → new ≡ start.files) → (start.tells ≡ true → (answer_outcome r).status ≡ 7 → new ≡ start.files)
+        → (start.tells ≡ true → (name : List ℕ) → IsForeign store_folder name → get new name ≡ get start.files name) → Answered (Some (Make seed bytes)) start new (answer_outcome r)
+    answered_make r is stop listed keeps refused kept foreign = record {
+      ends = end_make r is stop;
+      works = record {
+        stored = λ observes told nought. none_stored default_limits start.now start.files new;
+        listed = listed;
+        keeps = keeps;
+        untouched = λ observes told some. absurd (some refl);
+        refused = refused;
+        absent = λ inputs_told told lacks. absurd lacks;
+        kept = kept;
+        foreign = foreign;
+        malformed = malformed_of_ten MakeCauses r stop;
       };
     }
 

@@ -1,18 +1,19 @@
 -- What a command answers, by how it may end.
-use Rattle.std.proofs.Common.{◌≡◌, ◌≢◌, ◌⊎◌, ◌∙◌, ℕ, inl, inr, List, [], subst, false, Option, Some, None, IfSome, Result, Ok, Err, IfErr, Vec, Global, refl, sym, ap, arith}
+use Rattle.std.proofs.Common.{◌≡◌, ◌≢◌, ◌⊎◌, ◌∙◌, ℕ, inl, inr, List, [], subst, Option, Some, None, IfSome, Result, Ok, Err, IfErr, Vec, Global, refl, sym, ap, arith}
 use Rattle.std.specs.FinMap.{get}
 use Rattle.xet_io.specs.Disk.{Files}
 use Rattle.xet_cut.specs.declared.limits.LimitSettings.{LimitSettings}
 use Rattle.xet_program.specs.declared.ending.Stop.{Stop}
 use Rattle.xet_program.specs.declared.ending.Stop.TheVariants as stop
 use Rattle.xet_program.specs.Words.{Command}
-use Rattle.xet_program.specs.Words.Command.{Pack, Clean, Read, ListFiles, Group}
+use Rattle.xet_program.specs.Words.Command.{Pack, Clean, Make, Read, ListFiles, Group}
 use Rattle.xet_program.specs.Start.{Start}
 use Rattle.xet_program.specs.internal.Answered.{Answered}
 use Rattle.xet_program.specs.internal.Stops.{answer_outcome}
 use Rattle.xet_program.specs.Early.{IsEarly, Outcome, early_outcome, outcome}
 use Rattle.xet_program.specs.Ending.{IsCutShort, MayEnd}
 use Rattle.xet_program.specs.Stored.{AreStored, KeepsFolder, KeepsListed, Works}
+use Rattle.xet_program.specs.Reasons.{IsMalformed}
 use Rattle.xet_program.specs.Tasks.{IsIdle, files_to_store, limits_of}
 
 -- ---- the statuses with which files may have changed
@@ -25,15 +26,20 @@ none_of_six a b c d e f n status is na nb nc nd ne nf (inr (inr (inr (inl x)))) 
 none_of_six a b c d e f n status is na nb nc nd ne nf (inr (inr (inr (inr (inl x))))) = ne (sym is ∙ x)
 none_of_six a b c d e f n status is na nb nc nd ne nf (inr (inr (inr (inr (inr x))))) = nf (sym is ∙ x)
 
-not_idle : (s : LimitSettings) (n status : ℕ) → status ≡ n → n ≢ 2 → n ≢ 3 → n ≢ 4 → n ≢ 7 → n ≢ 8 → n ≢ 9 → IsIdle (Some (Pack s)) status → ⊥
-not_idle s n status is a b c d e f idle = none_of_six 2 3 4 7 8 9 n status is a b c d e f idle
+not_idle : (s : LimitSettings) (n status : ℕ) → status ≡ n → n ≢ 2 → n ≢ 3 → n ≢ 4 → n ≢ 7 → n ≢ 8 → IsIdle (Some (Pack s)) status → ⊥
+not_idle s n status is a b c d e (inl x) = a (sym is ∙ x)
+not_idle s n status is a b c d e (inr (inl x)) = b (sym is ∙ x)
+not_idle s n status is a b c d e (inr (inr (inl x))) = c (sym is ∙ x)
+not_idle s n status is a b c d e (inr (inr (inr (inl x)))) = d (sym is ∙ x)
+not_idle s n status is a b c d e (inr (inr (inr (inr x)))) = e (sym is ∙ x)
 
-pub busy_status : (s : LimitSettings) (status : ℕ) → (status ≡ 0) ⊎ (status ≡ 1) ⊎ (status ≡ 5) ⊎ (status ≡ 6) ⊎ (status ≡ 10) → IsIdle (Some (Pack s)) status → ⊥
-busy_status s status (inl is) = not_idle s 0 status is (λ e. omega arith) (λ e. omega arith) (λ e. omega arith) (λ e. omega arith) (λ e. omega arith) (λ e. omega arith)
-busy_status s status (inr (inl is)) = not_idle s 1 status is (λ e. omega arith) (λ e. omega arith) (λ e. omega arith) (λ e. omega arith) (λ e. omega arith) (λ e. omega arith)
-busy_status s status (inr (inr (inl is))) = not_idle s 5 status is (λ e. omega arith) (λ e. omega arith) (λ e. omega arith) (λ e. omega arith) (λ e. omega arith) (λ e. omega arith)
-busy_status s status (inr (inr (inr (inl is)))) = not_idle s 6 status is (λ e. omega arith) (λ e. omega arith) (λ e. omega arith) (λ e. omega arith) (λ e. omega arith) (λ e. omega arith)
-busy_status s status (inr (inr (inr (inr is)))) = not_idle s 10 status is (λ e. omega arith) (λ e. omega arith) (λ e. omega arith) (λ e. omega arith) (λ e. omega arith) (λ e. omega arith)
+pub busy_status : (s : LimitSettings) (status : ℕ) → (status ≡ 0) ⊎ (status ≡ 1) ⊎ (status ≡ 5) ⊎ (status ≡ 6) ⊎ (status ≡ 9) ⊎ (status ≡ 10) → IsIdle (Some (Pack s)) status → ⊥
+busy_status s status (inl is) = not_idle s 0 status is (λ e. omega arith) (λ e. omega arith) (λ e. omega arith) (λ e. omega arith) (λ e. omega arith)
+busy_status s status (inr (inl is)) = not_idle s 1 status is (λ e. omega arith) (λ e. omega arith) (λ e. omega arith) (λ e. omega arith) (λ e. omega arith)
+busy_status s status (inr (inr (inl is))) = not_idle s 5 status is (λ e. omega arith) (λ e. omega arith) (λ e. omega arith) (λ e. omega arith) (λ e. omega arith)
+busy_status s status (inr (inr (inr (inl is)))) = not_idle s 6 status is (λ e. omega arith) (λ e. omega arith) (λ e. omega arith) (λ e. omega arith) (λ e. omega arith)
+busy_status s status (inr (inr (inr (inr (inl is))))) = not_idle s 9 status is (λ e. omega arith) (λ e. omega arith) (λ e. omega arith) (λ e. omega arith) (λ e. omega arith)
+busy_status s status (inr (inr (inr (inr (inr is))))) = not_idle s 10 status is (λ e. omega arith) (λ e. omega arith) (λ e. omega arith) (λ e. omega arith) (λ e. omega arith)
 
 cut_idle : (s : LimitSettings) (status : ℕ) → IsCutShort status → IsIdle (Some (Pack s)) status → ⊥
 cut_idle s status (inl one) = busy_status s status (inr (inl one))
@@ -44,6 +50,10 @@ cut_clean names status (inl one) (inl seven) = omega arith
 cut_clean names status (inl one) (inr eight) = omega arith
 cut_clean names status (inr five) (inl seven) = omega arith
 cut_clean names status (inr five) (inr eight) = omega arith
+
+cut_make : (seed bytes status : ℕ) → IsCutShort status → IsIdle (Some (Make seed bytes)) status → ⊥
+cut_make seed bytes status (inl one) seven = omega arith
+cut_make seed bytes status (inr five) seven = omega arith
 
 cut_nought : (status : ℕ) → IsCutShort status → status ≡ 0 → ⊥
 cut_nought status (inl one) nought = omega arith
@@ -58,6 +68,7 @@ kept_cut : (command : Option Command) (X : Type 0) (status other : ℕ) → IsCu
 kept_cut None X status other cut kept idle = kept tt
 kept_cut (Some (Pack s)) X status other cut kept idle = absurd (cut_idle s status cut idle)
 kept_cut (Some (Clean names)) X status other cut kept idle = absurd (cut_clean names status cut idle)
+kept_cut (Some (Make seed bytes)) X status other cut kept idle = absurd (cut_make seed bytes status cut idle)
 kept_cut (Some (Read h from to)) X status other cut kept idle = kept tt
 kept_cut (Some ListFiles) X status other cut kept idle = kept tt
 kept_cut (Some Group) X status other cut kept idle = kept tt
@@ -76,12 +87,12 @@ malformed_of_ten P (Err (stop.BadShard name)) stops ten = absurd (omega arith)
 
 -- no files are stored
 pub none_stored : (s : LimitSettings) (now : ℕ) (old new : Files) → AreStored s [] now old new
-none_stored s now old new = record { xorbs = λ apart. tt; recorded = λ apart. tt; made = tt }
+none_stored s now old new = record { recorded = λ apart. tt; made = tt }
 
-listed_same : (now : ℕ) (files : Files) → KeepsListed now files files
+pub listed_same : (now : ℕ) (files : Files) → KeepsListed now files files
 listed_same now files = record { listed = λ later since f is. is; resolves = λ later since f is chunks resolves. resolves }
 
-folder_same : (now : ℕ) (files : Files) → KeepsFolder now files files
+pub folder_same : (now : ℕ) (files : Files) → KeepsFolder now files files
 folder_same now files = record {
   xorbs = λ h is. inl refl;
   shards = λ h is. inl refl;
@@ -96,7 +107,7 @@ module _ (command : Option Command) (start : Start) where
   Stored new = IfSome command (λ c. AreStored (limits_of c) (files_to_store c start) start.now start.files new)
 
   -- a run that changes no file
-  pub works_same : (new : Files) (status : ℕ) → new ≡ start.files → (status ≡ 0 → Stored new) → (status ≡ 10 → start.tells ≡ false) → Works command start new status
+  pub works_same : (new : Files) (status : ℕ) → new ≡ start.files → (status ≡ 0 → Stored new) → (status ≡ 10 → IsMalformed command start new) → Works command start new status
   works_same new status same stored fine = record {
     stored = λ observes told nought. stored nought;
     listed = λ told. subst (λ (x : Files). KeepsListed start.now start.files x) (sym same) (listed_same start.now start.files);

@@ -1,8 +1,15 @@
 -- What cleaning files gives.
-use Rattle.std.proofs.Common.{◌≡◌, ◌∙◌, inl, inr, ℕ, zero, suc, ◌<◌, ◌≤◌, Bool, true, false, leb, All, List, [], ◌∷◌, ◌++◌, length, map, get_or, is_some, subst, arith, refl, sym, ap}
+use Rattle.std.proofs.Common.{◌≡◌, ◌≢◌, ◌∙◌, inl, inr, ℕ, zero, suc, ◌<◌, ◌≤◌, Bool, true, false, leb, All, List, [], ◌∷◌, ◌++◌, length, map, drop, get_or, is_some, subst, arith, refl, sym, ap}
 use Rattle.std.proofs.lemmas.Bool.{and_parts, cases_lt, false≢true, lt-leb}
+use Rattle.std.proofs.lemmas.List.{drop_at}
 use Rattle.std.proofs.lemmas.List.Elements.{All-from_recursion}
-use Rattle.std.specs.List.{AllByRecursion, flat_map, list_all}
+use Rattle.std.specs.List.{AllByRecursion, IsAmong, flat_map, list_all}
+use Rattle.xet_choices.specs.Calls.{Call}
+use Rattle.xet_choices.specs.declared.choice.Choice.{Choice}
+use Rattle.xet_history.specs.declared.entry.Entry.{Entry}
+use Rattle.xet_history.specs.declared.entry.Entry.TheVariants.{Query, Register, Complete, Flush, Fault}
+use Rattle.xet_shard_format.specs.Records.{file_record_hash}
+use Rattle.xet_shard_format.specs.declared.record.MDBFileInfo.{MDBFileInfo}
 use Rattle.xet_io.specs.Faults.{Rose}
 use Rattle.xet_hash.specs.declared.error.StoreError.{StoreError}
 use Rattle.xet_hash.specs.declared.error.StoreError.TheVariants.{Io, MalformedData, TooLarge}
@@ -11,16 +18,17 @@ use Rattle.xet_hash.specs.declared.error.What.TheVariants as what
 use Rattle.xet_cut.specs.declared.limits.LimitSettings.{LimitSettings}
 use Rattle.xet_store.specs.declared.info.XetFileInfo.{XetFileInfo}
 use Rattle.xet_cut.specs.Chunking.{chunking}
-use Rattle.xet_store.specs.Cleaning.{EachTold, HasReason, IsLongAt, RoseAt, chunkings, info_of}
-use Rattle.xet_store.specs.Store.{State}
+use Rattle.xet_clean.specs.Cleaning.{AreChosen, HasReason, entries_since, files_in}
+use Rattle.xet_store.specs.Cleaning.{EachTold, IsLongAt, RoseAt, chunkings, info_of}
+use Rattle.xet_steps.specs.Recorded.{RecordedState}
 use Rattle.xet_program.specs.declared.ending.Stop.{Stop}
 use Rattle.xet_program.specs.declared.ending.Stop.TheVariants as stop
 use Rattle.xet_program.specs.declared.lines.FileRange.{FileRange}
 use Rattle.xet_program.specs.Lines.{numbered, range_bytes}
 use Rattle.xet_program.specs.internal.Parsing.{Said, are_good}
-use Rattle.xet_program.specs.Report.{file_line}
+use Rattle.xet_program.specs.Report.{file_line, hash_of_file}
 use Rattle.xet_program.specs.internal.Report.{info_line}
-use Rattle.xet_program.specs.internal.Cleaned.{AreCleaned}
+use Rattle.xet_program.specs.internal.Cleaned.{AreCleaned, RecordsHash}
 use Rattle.xet_program.specs.internal.Steps.{hash_at}
 use Rattle.xet_program.specs.internal.Stops.{IsStop, cleaning_causes, session_causes, stop_of_error}
 use Rattle.xet_program.proofs.Ranged.{numbered_past, numbered_zero, range_none}
@@ -84,29 +92,27 @@ bounds_of_good said good = All-from_recursion (λ r. (0 < r.file) × (r.file ≤
 
 -- ---- why cleaning stops
 
-module _ {S : Type 0} (tells : S → Bool) (left : S → List ℕ) (faults : S → ℕ) (old new : List S) (before after : State) where
+module _ {S : Type 0} (tells : S → Bool) (left : S → List ℕ) (faults : S → ℕ) (old new : List S) (before after : RecordedState) where
   abbrev pub Reason : StoreError → Type 0
   Reason e = HasReason tells left faults old new before after e
 
-  pub stop_of_reason : (e : StoreError) → Reason e → IsStop (cleaning_causes tells left faults old new before) (stop_of_error e)
+  pub stop_of_reason : (e : StoreError) → Reason e → IsStop (cleaning_causes tells left faults old new before after) (stop_of_error e)
   stop_of_reason (Io (place.Source i)) reason = (i, reason)
   stop_of_reason (Io place.Disk) reason = tt
   stop_of_reason (Io place.Input) reason = absurd reason
   stop_of_reason (Io place.Output) reason = absurd reason
-  stop_of_reason (TooLarge (what.Source i)) reason = (i, reason)
-  stop_of_reason (TooLarge what.Shards) reason = absurd reason
+  stop_of_reason (TooLarge (what.Source i)) reason = inl (i, reason)
+  stop_of_reason (TooLarge what.Shards) reason = inr reason.0
   stop_of_reason (TooLarge what.Input) reason = absurd reason
-  stop_of_reason (MalformedData r) reason = absurd reason
+  stop_of_reason (MalformedData r) reason = λ told all apart ends. reason told all ends apart
   stop_of_reason _ reason = tt
 
-  pub rose_of_reason : (e : StoreError) → Reason e → stop_of_error e ≡ stop.Disk → Rose before.faults after.faults
+  pub rose_of_reason : (e : StoreError) → Reason e → stop_of_error e ≡ stop.Disk → Rose before.store.faults after.store.faults
   rose_of_reason (Io (place.Source i)) reason is = absurd (cc is)
   rose_of_reason (Io place.Disk) reason is = reason
   rose_of_reason (Io place.Input) reason is = absurd reason
   rose_of_reason (Io place.Output) reason is = absurd reason
-  rose_of_reason (TooLarge (what.Source i)) reason is = absurd (cc is)
-  rose_of_reason (TooLarge what.Shards) reason is = absurd reason
-  rose_of_reason (TooLarge what.Input) reason is = absurd reason
+  rose_of_reason (TooLarge w) reason is = absurd (cc is)
   rose_of_reason (MalformedData r) reason is = absurd (cc is)
   rose_of_reason _ reason is = absurd (cc is)
 
@@ -133,16 +139,17 @@ map_same [] = refl
 map_same (x ∷ xs) = ap (λ (ys : List (List ℕ)). x ∷ ys) (map_same xs)
 
 -- files in memory that are cleaned
-pub stop_of_files : (said : Said) (new : List (List ℕ)) (s : State) (reason : Stop) → IsStop (cleaning_causes (λ _. true) (λ f. f) (λ _. 0) said.files new s) reason → IsStop (session_causes s.tells s.limits said) reason
-stop_of_files said new s stop.OutOfMemory h = tt
-stop_of_files said new s stop.Input (i, rose) = absurd (never_rose said.files new i rose)
-stop_of_files said new s stop.TooLarge (i, long) =
-    subst (λ (fs : List (List ℕ)). list_all (λ f. leb (length f) s.limits.max_source_bytes) fs ≡ false) (map_same said.files) (long_one (λ _. true) (λ f. f) s.limits.max_source_bytes said.files i (all_tell said.files) long)
-stop_of_files said new s stop.Disk h = tt
-stop_of_files said new s stop.Malformed h = absurd h
-stop_of_files said new s stop.NotFound h = absurd h
-stop_of_files said new s (stop.BadLine n) h = absurd h
-stop_of_files said new s (stop.BadShard name) h = absurd h
+pub stop_of_files : (said : Said) (new : List (List ℕ)) (s t : RecordedState) (reason : Stop) → IsStop (cleaning_causes (λ _. true) (λ f. f) (λ _. 0) said.files new s t) reason → IsStop (session_causes s t said) reason
+stop_of_files said new s t stop.OutOfMemory h = tt
+stop_of_files said new s t stop.Input (i, rose) = absurd (never_rose said.files new i rose)
+stop_of_files said new s t stop.TooLarge (inl (i, long)) =
+    inl (subst (λ (fs : List (List ℕ)). list_all (λ f. leb (length f) s.store.limits.max_source_bytes) fs ≡ false) (map_same said.files) (long_one (λ _. true) (λ f. f) s.store.limits.max_source_bytes said.files i (all_tell said.files) long))
+stop_of_files said new s t stop.TooLarge (inr full) = inr full
+stop_of_files said new s t stop.Disk h = tt
+stop_of_files said new s t stop.Malformed h = λ told apart. h told (all_tell said.files) apart.0 apart.1
+stop_of_files said new s t stop.NotFound h = absurd h
+stop_of_files said new s t (stop.BadLine n) h = absurd h
+stop_of_files said new s t (stop.BadShard name) h = absurd h
 
 -- ---- sources and their files
 
@@ -160,7 +167,7 @@ count_of_sources tells left [] (f ∷ fs) each = absurd each
 count_of_sources tells left (s ∷ ss) [] each = absurd each
 count_of_sources tells left (s ∷ ss) (f ∷ fs) each = ap suc (count_of_sources tells left ss fs each.1)
 
-chunked_map : {S : Type 0} (left : S → List ℕ) (l : LimitSettings) (sources : List S) → chunkings left l sources ≡ map (chunking l) (map left sources)
+pub chunked_map : {S : Type 0} (left : S → List ℕ) (l : LimitSettings) (sources : List S) → chunkings left l sources ≡ map (chunking l) (map left sources)
 chunked_map left l [] = refl
 chunked_map left l (s ∷ ss) = ap (λ (cs : List (List (List ℕ))). chunking l (left s) ∷ cs) (chunked_map left l ss)
 
@@ -169,5 +176,45 @@ pub chunked_files : {S : Type 0} (tells : S → Bool) (left : S → List ℕ) (l
 chunked_files tells left l sources files each all = chunked_map left l sources ∙ ap (map (chunking l)) (sym (files_of_sources tells left sources files each all))
 
 -- what is cleaned of files in memory
-pub cleaned_files : (files : List (List ℕ)) (old new : State) (infos : List XetFileInfo) → (c : AreCleaned (λ _. true) (λ f. f) files old new infos) → c.files ≡ files
+pub cleaned_files : (files : List (List ℕ)) (old new : RecordedState) (infos : List XetFileInfo) → (c : AreCleaned (λ _. true) (λ f. f) files old new infos) → c.files ≡ files
 cleaned_files files old new infos c = files_told files c.files c.each
+
+-- ---- entries of cleaning
+
+-- the entries that a call added are those since its start
+pub since_is : (old new : RecordedState) (entries : List Entry) → new.history ≡ old.history ++ entries → entries_since old new ≡ entries
+since_is old new entries grown = ap (λ (es : List Entry). drop (length old.history) es) grown ∙ drop_at old.history entries (length old.history) refl
+
+-- one of these entries made the record
+abbrev HasMade : List Entry → MDBFileInfo → Type 0
+HasMade entries file = (pass : ℕ) × (added : Bool) × IsAmong entries (Complete pass file added)
+
+later : (e x : Entry) (es : List Entry) → IsAmong es x → IsAmong (e ∷ es) x
+later e x es here = (suc here.0, (omega (arith, here.1.0), here.1.1))
+
+all_made : (all entries : List Entry) → ((e : Entry) → IsAmong entries e → IsAmong all e) → AllByRecursion (HasMade all) (files_in entries)
+all_made all [] among = tt
+all_made all (Query pass hashes reply ∷ es) among = all_made all es (λ e here. among e (later _ e es here))
+all_made all (Register pass chunks next added ∷ es) among = all_made all es (λ e here. among e (later _ e es here))
+all_made all (Complete pass file added ∷ es) among = (
+  (pass, added, among (Complete pass file added) (0, (omega arith, refl))),
+  all_made all es (λ e here. among e (later _ e es here)),
+)
+all_made all (Flush pass shard ∷ es) among = all_made all es (λ e here. among e (later _ e es here))
+all_made all (Fault pass kind ∷ es) among = all_made all es (λ e here. among e (later _ e es here))
+
+-- each file that is not empty is recorded by one of them
+chosen_recorded : (s : LimitSettings) (entries : List Entry) (calls : List Call) (files : List (List ℕ)) (choices : List (List Choice)) (records : List MDBFileInfo) → AllByRecursion (HasMade entries) records
+    → AreChosen s calls files choices records → AllByRecursion (λ bytes. bytes ≢ [] → RecordsHash entries (hash_of_file s bytes)) files
+chosen_recorded s entries calls [] choices records made chosen = tt
+chosen_recorded s entries calls (f ∷ fs) [] records made chosen = absurd chosen
+chosen_recorded s entries calls ([] ∷ fs) (c ∷ cs) records made chosen = (λ some. absurd (some refl), chosen_recorded s entries calls fs cs records made chosen.1)
+chosen_recorded s entries calls ((b ∷ bs) ∷ fs) (c ∷ cs) [] made chosen = absurd chosen
+chosen_recorded s entries calls ((b ∷ bs) ∷ fs) (c ∷ cs) (r ∷ rs) made chosen = (
+  λ some. (made.0.0, r, made.0.1, made.0.2, ap file_record_hash chosen.0.is),
+  chosen_recorded s entries calls fs cs rs made.1 chosen.1,
+)
+
+pub chosen_all : (s : LimitSettings) (entries : List Entry) (calls : List Call) (files : List (List ℕ)) (choices : List (List Choice))
+    → AreChosen s calls files choices (files_in entries) → AllByRecursion (λ bytes. bytes ≢ [] → RecordsHash entries (hash_of_file s bytes)) files
+chosen_all s entries calls files choices chosen = chosen_recorded s entries calls files choices (files_in entries) (all_made entries entries (λ e here. here)) chosen

@@ -20,11 +20,11 @@ use Rattle.xet_cut.specs.Generator.{gear_table}
 use Rattle.xet_cut.specs.theorems.Ranges.{none_bad}
 use Rattle.xet_arguments.specs.Arguments.{is_option, some_of, three_of, two_of}
 use Rattle.xet_program.specs.Words.{Command}
-use Rattle.xet_program.specs.Words.Command.{Clean, ListFiles, Group}
+use Rattle.xet_program.specs.Words.Command.{Clean, ListFiles, Make, Group}
 use Rattle.xet_program.specs.declared.words.Command.{Command as Parsed}
 use Rattle.xet_program.specs.internal.Asked.{AllowsInput, asked}
 use Rattle.xet_program.specs.Early.{max_input}
-use Rattle.xet_program.specs.Words.{alone, clean_of, command_by, command_of, gear_of, hash_of_text, is_digits, is_target, max_names, number_of, pack_by, pack_of, pack_settings, read_by, read_of, target_if, target_of}
+use Rattle.xet_program.specs.Words.{alone, clean_of, command_by, command_of, gear_of, hash_of_text, is_digits, is_target, make_by, make_of, max_generated, max_names, number_of, pack_by, pack_of, pack_settings, read_by, read_of, target_if, target_of}
 
 -- ---- numbers
 
@@ -93,6 +93,22 @@ pack_some target gear words e = ap pack_found e ∙ pack_two words
 
 pub pack_none : (words : List (List ℕ)) → None ≡ two_of words → None ≡ pack_of words
 pack_none words e = ap pack_found e ∙ pack_two words
+
+abbrev make_found : Option (List ℕ × List ℕ) → Option Command
+make_found None = None
+make_found (Some (seed, bytes)) = make_by (number_of seed) (number_of bytes)
+
+make_two : (words : List (List ℕ)) → make_found (two_of words) ≡ make_of words
+make_two [] = refl
+make_two (a ∷ []) = refl
+make_two (a ∷ b ∷ []) = refl
+make_two (a ∷ b ∷ c ∷ words) = refl
+
+pub make_some : (seed bytes : List ℕ) (words : List (List ℕ)) → Some (seed, bytes) ≡ two_of words → make_by (number_of seed) (number_of bytes) ≡ make_of words
+make_some seed bytes words e = ap make_found e ∙ make_two words
+
+pub make_none : (words : List (List ℕ)) → None ≡ two_of words → None ≡ make_of words
+make_none words e = ap make_found e ∙ make_two words
 
 abbrev read_found : Option (List ℕ × List ℕ × List ℕ) → Option Command
 read_found None = None
@@ -168,6 +184,15 @@ allows_clean names true is =
     leb-true (length names) max_names (and_parts (leb 1 (length names)) (leb (length names) max_names) is).1
 allows_clean names false is = tt
 
+allows_make : (seed bytes : Option ℕ) → Allows (make_by seed bytes)
+allows_make None bytes = tt
+allows_make (Some seed) None = tt
+allows_make (Some seed) (Some n) = by_test (is_between 1 max_generated n) refl
+  where
+    by_test : (t : Bool) → is_between 1 max_generated n ≡ t → Allows (cond t (Some (Make seed n)) None)
+    by_test true is = leb-true n max_generated (and_parts (leb 1 n) (leb n max_generated) is).1
+    by_test false is = tt
+
 allows_read : (hash : Option (List ℕ)) (from to : Option ℕ) → Allows (read_by hash from to)
 allows_read None from to = tt
 allows_read (Some h) None to = tt
@@ -183,6 +208,12 @@ allows_pack_of [] = tt
 allows_pack_of (a ∷ []) = tt
 allows_pack_of (a ∷ b ∷ []) = allows_pack a b
 allows_pack_of (a ∷ b ∷ c ∷ words) = tt
+
+allows_make_of : (words : List (List ℕ)) → Allows (make_of words)
+allows_make_of [] = tt
+allows_make_of (a ∷ []) = tt
+allows_make_of (a ∷ b ∷ []) = allows_make (number_of a) (number_of b)
+allows_make_of (a ∷ b ∷ c ∷ words) = tt
 
 allows_read_of : (words : List (List ℕ)) → Allows (read_of words)
 allows_read_of [] = tt
@@ -200,9 +231,10 @@ unfolding command_by
 allows_by name words =
     allows_either (bytes_eq name (codes "pack")) _ _ (allows_pack_of words)
     (allows_either (bytes_eq name (codes "clean")) _ _ (allows_clean words (is_between 1 max_names (length words)) refl)
+    (allows_either (bytes_eq name (codes "make")) _ _ (allows_make_of words)
     (allows_either (bytes_eq name (codes "read")) _ _ (allows_read_of words)
     (allows_either (bytes_eq name (codes "list")) _ _ (allows_alone ListFiles words tt)
-    (allows_either (bytes_eq name (codes "group")) _ _ (allows_alone Group words tt) tt))))
+    (allows_either (bytes_eq name (codes "group")) _ _ (allows_alone Group words tt) tt)))))
 
 -- a command allows any input
 pub allows_command : (ws : List (List ℕ)) → Allows (command_of ws)

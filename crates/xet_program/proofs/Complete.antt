@@ -12,11 +12,11 @@ use Rattle.xet_program.specs.Allowed.{are_short}
 use Rattle.xet_program.specs.Answers.{Answers, AreNamed, CleanAnswer, IsNoRange, ReadAnswer}
 use Rattle.xet_program.specs.Early.{Outcome, group_outcome}
 use Rattle.xet_program.specs.Ending.{IsAnswer, IsCutShort, IsFaultless, IsRejected, IsStopped, IsStoppedSilent, MayEnd, Prints}
-use Rattle.xet_program.specs.Ending.MayEnd.{answered, early, malformed, refused, stopped}
+use Rattle.xet_program.specs.Ending.MayEnd.{answered, early, full, malformed, refused, stopped}
 use Rattle.xet_program.specs.Start.{Observes, Start}
 use Rattle.xet_program.specs.Tasks.{default_limits, store_folder}
 use Rattle.xet_program.specs.Words.{Command}
-use Rattle.xet_program.specs.Words.Command.{Pack, Clean, Read, ListFiles, Group}
+use Rattle.xet_program.specs.Words.Command.{Pack, Clean, Make, Read, ListFiles, Group}
 use Rattle.xet_program.proofs.Contents.{records_once}
 use Rattle.xet_program.proofs.Endings.{group_short}
 
@@ -75,17 +75,28 @@ module _ (start : Start) (new : Files) (o : Outcome) where
       absurd (false≢true (sym l.2 ∙ ap (are_short default_limits) (named_once start.inputs names l.0 files l.1 named) ∙ short))
   of_clean names contents files told named short (CleanAnswer.reported report) = inl report.status
 
-  of_read : (h : List ℕ) (from to : ℕ) (contents : Contents) → start.tells ≡ true → IsFaultless (Some (Read h from to)) start
+  of_read : (h : List ℕ) (from to : ℕ) (contents : Contents) → start.tells ≡ true → IsFaultless (Some (Read h from to)) start new
       → (start.tells ≡ true → HasContents start.files store_folder start.now contents) → ReadAnswer h from to start contents o → Ends
   of_read h from to contents told fine valid (ReadAnswer.none absent is) =
-      let one = records_once start.files store_folder start.now contents fine.0 (valid told) fine.1 in
-      absurd (fine.2 (subst (λ (r : FileRecords). IsNoRange r h from to) one (absent told)))
+      let one = records_once start.files store_folder start.now contents fine.0.0 (valid told) fine.0.1 in
+      absurd (fine.0.2 (subst (λ (r : FileRecords). IsNoRange r h from to) one (absent told)))
   of_read h from to contents told fine valid (ReadAnswer.read nought ordered len is) = inl nought
 
-  end_of : (command : Option Command) → Observes start command → start.tells ≡ true → IsFaultless command start → MayEnd command start new o → Ends
+  end_of : (command : Option Command) → Observes start command → start.tells ≡ true → IsFaultless command start new → MayEnd command start new o → Ends
   end_of None observes told fine may = absurd fine
   end_of (Some c) observes told fine (stopped stop silent) = inr (stopped_silent (Some c) start o.status stop)
-  end_of (Some c) observes told fine (malformed opens none never is) = not_malformed Ends told never
+  end_of (Some (Pack s)) observes told fine (full opens none many is) = absurd (fine.3 (many told))
+  end_of (Some (Clean names)) observes told fine (full opens none many is) = absurd (fine.5 (many told))
+  end_of (Some (Make seed bytes)) observes told fine (full opens none many is) = absurd (fine.2 (many told))
+  end_of (Some (Read h from to)) observes told fine (full opens none many is) = absurd (fine.1 (many told))
+  end_of (Some ListFiles) observes told fine (full opens none many is) = absurd (fine.1 (many told))
+  end_of (Some Group) observes told fine (full opens none many is) = absurd opens
+  end_of (Some (Pack s)) observes told fine (malformed opens none never is) = absurd (never observes told fine.2)
+  end_of (Some (Clean names)) observes told fine (malformed opens none never is) = absurd (never observes told fine.4)
+  end_of (Some (Make seed bytes)) observes told fine (malformed opens none never is) = absurd (never told fine.1)
+  end_of (Some (Read h from to)) observes told fine (malformed opens none never is) = not_malformed Ends told never
+  end_of (Some ListFiles) observes told fine (malformed opens none never is) = not_malformed Ends told never
+  end_of (Some Group) observes told fine (malformed opens none never is) = absurd opens
   end_of (Some (Pack s)) observes told fine (early e of) = absurd (cc (sym fine.0 ∙ e observes))
   end_of (Some (Pack s)) observes told fine (refused opens none rejected) = not_rejected Ends fine.1.0 told fine.1.1 rejected
   end_of (Some (Pack s)) observes told fine (answered none answer) = inl (answer_of (Pack s) start new o answer).status
@@ -93,11 +104,14 @@ module _ (start : Start) (new : Files) (o : Outcome) where
   end_of (Some (Clean names)) observes told fine (refused opens none rejected) = not_rejected Ends fine.3.0 told fine.3.1 rejected
   end_of (Some (Clean names)) observes told fine (answered none answer) =
       of_clean names answer.contents fine.0 (observes.1 tt) fine.1 fine.2 (answer_of (Clean names) start new o answer)
+  end_of (Some (Make seed bytes)) observes told fine (early e of) = absurd of
+  end_of (Some (Make seed bytes)) observes told fine (refused opens none rejected) = not_rejected Ends fine.0.0 told fine.0.1 rejected
+  end_of (Some (Make seed bytes)) observes told fine (answered none answer) = inl (answer_of (Make seed bytes) start new o answer).status
   end_of (Some (Read h from to)) observes told fine (early e of) = absurd of
-  end_of (Some (Read h from to)) observes told fine (refused opens none rejected) = not_rejected Ends fine.0 told fine.1 rejected
+  end_of (Some (Read h from to)) observes told fine (refused opens none rejected) = not_rejected Ends fine.0.0 told fine.0.1 rejected
   end_of (Some (Read h from to)) observes told fine (answered none answer) = of_read h from to answer.contents told fine answer.valid (answer_of (Read h from to) start new o answer)
   end_of (Some ListFiles) observes told fine (early e of) = absurd of
-  end_of (Some ListFiles) observes told fine (refused opens none rejected) = not_rejected Ends fine.0 told fine.1 rejected
+  end_of (Some ListFiles) observes told fine (refused opens none rejected) = not_rejected Ends fine.0.0 told fine.0.1 rejected
   end_of (Some ListFiles) observes told fine (answered none answer) = inl (ap (λ (x : Outcome). x.status) (answer_of ListFiles start new o answer).is)
   end_of (Some Group) observes told fine (early e of) =
       let is : group_outcome start.input ≡ o = cc (e observes) in
@@ -110,7 +124,7 @@ stopped_short status (inl one) = inl one
 stopped_short status (inr five) = inr (inr (inl five))
 
 pub complete_of : (command : Option Command) (start : Start) (new : Files) (o : Outcome) (output_tells : Bool) (before after : List ℕ) (status : ℕ) → MayEnd command start new o → Prints output_tells o before after status
-    → Observes start command → start.tells ≡ true → IsFaultless command start → (status ≡ 0) ⊎ IsStopped status
+    → Observes start command → start.tells ≡ true → IsFaultless command start new → (status ≡ 0) ⊎ IsStopped status
 complete_of command start new o output_tells before after status may (inr (short, some, wrote)) observes told fine = inr (stopped_short status short)
 complete_of command start new o output_tells before after status may (inl (is, wrote)) observes told fine = go (end_of start new o command observes told fine may)
   where

@@ -8,13 +8,13 @@ use Rattle.xet_hash.specs.declared.error.StoreError.{StoreError}
 use Rattle.xet_folder.specs.Admission.{Refuses}
 use Rattle.xet_folder.specs.declared.contents.Contents.{Contents}
 use Rattle.xet_program.specs.Words.{Command}
-use Rattle.xet_program.specs.Words.Command.{Pack, Clean, Read, ListFiles, Group}
+use Rattle.xet_program.specs.Words.Command.{Pack, Clean, Make, Read, ListFiles, Group}
 use Rattle.xet_program.specs.Start.{Start}
 use Rattle.xet_program.specs.Early.{IsEarly, Outcome, bad_line_text, group_outcome, max_input, outcome}
 use Rattle.xet_program.specs.Tasks.{store_folder}
 use Rattle.xet_program.specs.Answers.{Answers, CleanAnswer, ReadAnswer}
 use Rattle.xet_program.specs.Ending.{IsRejected, IsShardName, IsSilent, MayEnd, Prints, bad_shard_text}
-use Rattle.xet_program.specs.Ending.MayEnd.{answered, early, malformed, refused, stopped}
+use Rattle.xet_program.specs.Ending.MayEnd.{answered, early, full, malformed, refused, stopped}
 use Rattle.xet_program.proofs.Answered.{none_of_six}
 
 -- ---- the statuses at which something is printed
@@ -66,6 +66,7 @@ module _ (start : Start) (o : Outcome) where
   kind_early (Some (Pack s)) (inr (inr (n, is))) = Kind.line n is
   kind_early (Some Group) (input, is) = kind_group input is
   kind_early (Some (Clean names)) of = absurd of
+  kind_early (Some (Make seed bytes)) of = absurd of
   kind_early (Some (Read h from to)) of = absurd of
   kind_early (Some ListFiles) of = absurd of
 
@@ -74,6 +75,7 @@ module _ (start : Start) (o : Outcome) where
   kind_answer (Clean names) contents new (CleanAnswer.absent none is) = quiet_of start o 8 is (omega arith) (λ e. omega arith) (λ e. omega arith)
   kind_answer (Clean names) contents new (CleanAnswer.too_long long is) = quiet_of start o 9 is (omega arith) (λ e. omega arith) (λ e. omega arith)
   kind_answer (Clean names) contents new (CleanAnswer.reported report) = Kind.done report.status
+  kind_answer (Make seed bytes) contents new answer = Kind.done answer.status
   kind_answer (Read h from to) contents new (ReadAnswer.none absent is) = quiet_of start o 8 is (omega arith) (λ e. omega arith) (λ e. omega arith)
   kind_answer (Read h from to) contents new (ReadAnswer.read nought ordered len is) = Kind.done nought
   kind_answer ListFiles contents new answer = Kind.done (ap (λ (x : Outcome). x.status) answer.is)
@@ -87,6 +89,7 @@ module _ (start : Start) (o : Outcome) where
   kind_of command new (stopped (inr (inl (four, reads))) silent) = Kind.quiet 4 four (omega arith) (λ e. omega arith) (λ e. omega arith) silent
   kind_of command new (stopped (inr (inr (inl (four, opens, valid)))) silent) = Kind.quiet 4 four (omega arith) (λ e. omega arith) (λ e. omega arith) silent
   kind_of command new (stopped (inr (inr (inr (six, opens, none)))) silent) = Kind.quiet 6 six (omega arith) (λ e. omega arith) (λ e. omega arith) silent
+  kind_of command new (full opens none many is) = quiet_of start o 9 is (omega arith) (λ e. omega arith) (λ e. omega arith)
   kind_of command new (malformed opens none never is) = quiet_of start o 10 is (omega arith) (λ e. omega arith) (λ e. omega arith)
 
   -- ---- its status and text

@@ -16,7 +16,10 @@ mod Reading
 mod Settled
 mod Listing
 mod Making
+mod Folder
 mod Reported
 mod Named
+mod MadeFiles
+mod Held
 mod Alone
 mod Hashes

@@ -1,11 +1,12 @@
 -- What was listed when a folder was opened is listed still.
-use Rattle.std.proofs.Common.{◌≡◌, ◌⊎◌, inl, inr, ◌∙◌, ℕ, Bool, true, false, List, refl, subst, sym}
+use Rattle.std.proofs.Common.{◌≡◌, ◌⊎◌, inl, inr, ◌∙◌, ℕ, Bool, true, false, List, refl, subst, sym, ap}
+use Rattle.std.specs.FinMap.{get}
 use Rattle.xet_io.specs.Disk.{Files}
 use Rattle.xet_folder.specs.Admission.{Admits}
 use Rattle.xet_folder.specs.Contents.{HasContents}
 use Rattle.xet_folder.specs.Listed.{ResolvesTo, Lists}
 use Rattle.xet_shard_file.specs.Names.{shard_path}
-use Rattle.xet_folder.specs.Names.{xorb_path}
+use Rattle.xet_folder.specs.Names.{IsForeign, xorb_path}
 use Rattle.xet_shard_file.specs.Shards.{IsThere}
 use Rattle.xet_cut.specs.declared.limits.LimitSettings.{LimitSettings}
 use Rattle.xet_store.specs.Cleaning.{HasShard, HasWholeShard, HasXorb, IsDurable, Keeps, SameEntry}
@@ -86,3 +87,13 @@ keeps_folder tells old new limits now s t opened contents keeps sound is told =
     let at : KeepsFolder now s.files t.files = subst (λ (x : ℕ). KeepsFolder x s.files t.files) opened.time kept in
     let from : KeepsFolder now old t.files = subst (λ (x : Files). KeepsFolder now x t.files) (opened.same_files refl) at in
     subst (λ (x : Files). KeepsFolder now old x) (sym is) from
+
+-- ---- other files
+
+-- a file that is not the store's is as it was
+pub foreign_same : (tells : Bool) (old new : Files) (limits : LimitSettings) (now : ℕ) (s t : State) → IsOpened tells false old store_folder limits now s → Keeps s t → new ≡ t.files → tells ≡ true
+    → (name : List ℕ) → IsForeign store_folder name → get new name ≡ get old name
+foreign_same tells old new limits now s t opened keeps is told name foreign =
+    ap (λ (x : Files). get x name) is
+    ∙ keeps.foreign (opened.same_tells ∙ told) name (subst (λ (f : List ℕ). IsForeign f name) (sym opened.same_folder) foreign)
+    ∙ ap (λ (x : Files). get x name) (opened.same_files refl)

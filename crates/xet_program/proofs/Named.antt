@@ -8,6 +8,7 @@ use Rattle.xet_io.specs.Named.{Named}
 use Rattle.xet_folder.specs.Contents.{HasContents}
 use Rattle.xet_store.specs.Cleaning.{Keeps}
 use Rattle.xet_store.specs.Opening.{IsOpened, contents_of}
+use Rattle.xet_steps.specs.Recorded.{RecordedState}
 use Rattle.xet_store.specs.Store.{Sound, State}
 use Rattle.xet_program.specs.declared.ending.Stop.{Stop}
 use Rattle.xet_program.specs.declared.ending.Stop.TheVariants as stop
@@ -33,7 +34,7 @@ module _ (inputs_tell : Bool) (inputs : Named (List ℕ)) (names : List (List �
     lines = x.lines ∙ ap (λ (l : LimitSettings). flat_map (file_line l) x.files) opened.same_limits;
     stored = λ inputs_told told.
         let here = opened.same_tells ∙ told in
-        are_stored tells disk files default_limits now s t told opened sound keeps is x.files (x.stored inputs_told here) (x.recorded inputs_told here) (x.made inputs_told here);
+        are_stored tells disk files default_limits now s t told opened sound keeps is x.files (x.recorded inputs_told here) (x.made here);
   }
 
   pub cleaned_text : Sound s → Keeps s t → files ≡ t.files → (tells ≡ true → HasContents disk store_folder now (contents_of s)) → (r : Answer) → IfOk r (λ text. IsCleaned inputs_tell inputs names s t text.items)
@@ -46,16 +47,16 @@ module _ (inputs_tell : Bool) (inputs : Named (List ℕ)) (names : List (List �
   not_seven_or_eight n a b (inr is) = b is
 
   -- the stops with which nothing has changed
-  pub idle_kept : (r : Answer) → IfErr r (IsStop (naming_causes inputs_tell inputs names s)) → (IsErrOf r stop.NotFound → t ≡ s) → files ≡ t.files → IsIdle (Some (Clean names)) (answer_outcome r).status → files ≡ disk
-  idle_kept (Ok v) stop kept is idle = absurd (not_seven_or_eight 0 (λ e. omega arith) (λ e. omega arith) idle)
-  idle_kept (Err stop.OutOfMemory) c kept is idle = absurd (not_seven_or_eight 1 (λ e. omega arith) (λ e. omega arith) idle)
-  idle_kept (Err stop.Input) c kept is idle = absurd (not_seven_or_eight 4 (λ e. omega arith) (λ e. omega arith) idle)
-  idle_kept (Err stop.TooLarge) c kept is idle = absurd (not_seven_or_eight 9 (λ e. omega arith) (λ e. omega arith) idle)
-  idle_kept (Err stop.Disk) c kept is idle = absurd (not_seven_or_eight 6 (λ e. omega arith) (λ e. omega arith) idle)
-  idle_kept (Err stop.Malformed) c kept is idle = absurd (not_seven_or_eight 10 (λ e. omega arith) (λ e. omega arith) idle)
-  idle_kept (Err stop.NotFound) c kept is idle = is ∙ ap (λ (x : State). x.files) (kept refl) ∙ opened.same_files refl
-  idle_kept (Err (stop.BadLine n)) c kept is idle = absurd c
-  idle_kept (Err (stop.BadShard name)) c kept is idle = absurd c
+  pub idle_kept : (old new : RecordedState) (r : Answer) → IfErr r (IsStop (naming_causes inputs_tell inputs names old new)) → (IsErrOf r stop.NotFound → t ≡ s) → files ≡ t.files → IsIdle (Some (Clean names)) (answer_outcome r).status → files ≡ disk
+  idle_kept old new (Ok v) stop kept is idle = absurd (not_seven_or_eight 0 (λ e. omega arith) (λ e. omega arith) idle)
+  idle_kept old new (Err stop.OutOfMemory) c kept is idle = absurd (not_seven_or_eight 1 (λ e. omega arith) (λ e. omega arith) idle)
+  idle_kept old new (Err stop.Input) c kept is idle = absurd (not_seven_or_eight 4 (λ e. omega arith) (λ e. omega arith) idle)
+  idle_kept old new (Err stop.TooLarge) c kept is idle = absurd (not_seven_or_eight 9 (λ e. omega arith) (λ e. omega arith) idle)
+  idle_kept old new (Err stop.Disk) c kept is idle = absurd (not_seven_or_eight 6 (λ e. omega arith) (λ e. omega arith) idle)
+  idle_kept old new (Err stop.Malformed) c kept is idle = absurd (not_seven_or_eight 10 (λ e. omega arith) (λ e. omega arith) idle)
+  idle_kept old new (Err stop.NotFound) c kept is idle = is ∙ ap (λ (x : State). x.files) (kept refl) ∙ opened.same_files refl
+  idle_kept old new (Err (stop.BadLine n)) c kept is idle = absurd c
+  idle_kept old new (Err (stop.BadShard name)) c kept is idle = absurd c
 
 -- the report of a session over the disk that it hands back
 pub report_on_disk : (tells : Bool) (disk files : Files) (limits : LimitSettings) (now : ℕ) (s t : State) (said : Said) → IsOpened tells false disk store_folder limits now s → files ≡ t.files → (r : Answer)

@@ -6,13 +6,14 @@ use Rattle.std.specs.List.{Any, AllByRecursion}
 use Rattle.xet_io.specs.Faults.{Rose}
 use Rattle.xet_io.specs.Named.{Named}
 use Rattle.xet_store.specs.Cleaning.{RoseAt}
-use Rattle.xet_store.specs.Store.{State}
+use Rattle.xet_clean.specs.Cleaning.{AreApartUnder, NoneEnds}
+use Rattle.xet_steps.specs.Recorded.{RecordedState}
 use Rattle.xet_program.specs.declared.ending.Stop.{Stop}
 use Rattle.xet_program.specs.declared.ending.Stop.TheVariants as stop
 use Rattle.xet_program.specs.Answers.{AreNamed}
 use Rattle.xet_program.specs.internal.Cleaned.{AreOpened}
 use Rattle.xet_program.specs.internal.Stops.{IsStop, cleaning_causes, naming_causes, opening_causes}
-use Rattle.xet_program.proofs.Cleaned.{long_one}
+use Rattle.xet_program.proofs.Cleaned.{chunked_map, long_one}
 
 module _ {S : Type 0} (inputs_tell : Bool) (inputs : Named (List ℕ)) (tells : S → Bool) (left : S → List ℕ) (faults : S → ℕ) where
   abbrev pub Opened : List (List ℕ) → List S → Type 0
@@ -55,19 +56,23 @@ module _ {S : Type 0} (inputs_tell : Bool) (inputs : Named (List ℕ)) (tells : 
       let a = some_failed ns ss ts i opened.2 rose in (suc a.0, a.1, omega (arith, a.2), a.3, a.4)
 
   -- why cleaning by name stops
-  pub stop_of_names : (names : List (List ℕ)) (sources after : List S) (s : State) (reason : Stop) → Opened names sources → IsStop (cleaning_causes tells left faults sources after s) reason → IsStop (naming_causes inputs_tell inputs names s) reason
-  stop_of_names names sources after s stop.OutOfMemory opened h = tt
-  stop_of_names names sources after s stop.Input opened h = tt
-  stop_of_names names sources after s stop.TooLarge opened (i, long) = λ told.
-      (map left sources, opened_named names sources told opened, long_one tells left s.limits.max_source_bytes sources i (opened_tell names sources told opened) long)
-  stop_of_names names sources after s stop.Disk opened h = tt
-  stop_of_names names sources after s stop.Malformed opened h = absurd h
-  stop_of_names names sources after s stop.NotFound opened h = absurd h
-  stop_of_names names sources after s (stop.BadLine n) opened h = absurd h
-  stop_of_names names sources after s (stop.BadShard name) opened h = absurd h
+  pub stop_of_names : (names : List (List ℕ)) (sources after : List S) (s t : RecordedState) (reason : Stop) → Opened names sources → IsStop (cleaning_causes tells left faults sources after s t) reason
+      → IsStop (naming_causes inputs_tell inputs names s t) reason
+  stop_of_names names sources after s t stop.OutOfMemory opened h = tt
+  stop_of_names names sources after s t stop.Input opened h = tt
+  stop_of_names names sources after s t stop.TooLarge opened (inl (i, long)) = inl (λ told.
+      (map left sources, opened_named names sources told opened, long_one tells left s.store.limits.max_source_bytes sources i (opened_tell names sources told opened) long))
+  stop_of_names names sources after s t stop.TooLarge opened (inr full) = inr full
+  stop_of_names names sources after s t stop.Disk opened h = tt
+  stop_of_names names sources after s t stop.Malformed opened h = λ inputs_told told.
+      let e = sym (chunked_map left s.store.limits sources) in
+      (map left sources, opened_named names sources inputs_told opened, λ apart. h told (opened_tell names sources inputs_told opened) (subst (AreApartUnder t) e apart.0) (subst NoneEnds e apart.1))
+  stop_of_names names sources after s t stop.NotFound opened h = absurd h
+  stop_of_names names sources after s t (stop.BadLine n) opened h = absurd h
+  stop_of_names names sources after s t (stop.BadShard name) opened h = absurd h
 
 -- why opening by name stops
-pub stop_of_opening : (tells : Bool) (inputs : Named (List ℕ)) (names : List (List ℕ)) (s : State) (reason : Stop) → IsStop (opening_causes tells inputs names) reason → IsStop (naming_causes tells inputs names s) reason
+pub stop_of_opening : (tells : Bool) (inputs : Named (List ℕ)) (names : List (List ℕ)) (s : RecordedState) (reason : Stop) → IsStop (opening_causes tells inputs names) reason → IsStop (naming_causes tells inputs names s s) reason
 stop_of_opening tells inputs names s stop.OutOfMemory h = tt
 stop_of_opening tells inputs names s stop.Input h = tt
 stop_of_opening tells inputs names s stop.NotFound h = h

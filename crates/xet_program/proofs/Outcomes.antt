@@ -21,6 +21,8 @@ use Rattle.xet_program.specs.Lines.{Line, first_bad, good_lines}
 use Rattle.xet_program.specs.Early.{Outcome, bad_line_text, by_lines, lines_said, max_input, outcome, pack_early}
 use Rattle.xet_program.specs.Tasks.{IsIdle, store_folder}
 use Rattle.xet_program.specs.Allowed.{are_short}
+use Rattle.xet_program.specs.Reasons.{AreApart, IsMalformed}
+use Rattle.xet_steps.specs.Recorded.{RecordedState}
 use Rattle.xet_program.specs.internal.Answered.{Answered}
 use Rattle.xet_program.specs.Answers.{PackAnswer}
 use Rattle.xet_program.specs.Ending.{MayEnd}
@@ -104,18 +106,17 @@ pub short_files : (s : LimitSettings) (input : List ℕ) (said : Said) → max_i
 short_files s input said allowed is =
     subst (λ (x : Said). are_short s x.files ≡ true) is.parts (short_said s input (lines_said (lines input)) (le_trans (short_input input is.fine) allowed) is.good)
 
--- files that are short stop no session as too large
-pub never_idle : (X : Type 0) (tells : Bool) (s : LimitSettings) (said : Said) (r : Result (Vec ℕ Global) Stop) → are_short s said.files ≡ true → IfErr r (IsStop (session_causes tells s said))
-    → IsIdle (Some (Pack s)) (answer_outcome r).status → X
-never_idle X tells s said (Ok t) short stop = λ idle. absurd (busy_status s 0 (inl refl) idle)
-never_idle X tells s said (Err OutOfMemory) short stop = λ idle. absurd (busy_status s 1 (inr (inl refl)) idle)
-never_idle X tells s said (Err Disk) short stop = λ idle. absurd (busy_status s 6 (inr (inr (inr (inl refl)))) idle)
-never_idle X tells s said (Err Malformed) short stop = λ idle. absurd (busy_status s 10 (inr (inr (inr (inr refl)))) idle)
-never_idle X tells s said (Err TooLarge) short stop = absurd (false≢true (sym stop ∙ short))
-never_idle X tells s said (Err Input) short stop = absurd stop
-never_idle X tells s said (Err NotFound) short stop = absurd stop
-never_idle X tells s said (Err (BadLine n)) short stop = absurd stop
-never_idle X tells s said (Err (BadShard name)) short stop = absurd stop
+-- a session may have changed files at each of its stops
+pub never_idle : (X : Type 0) (l : LimitSettings) (s t : RecordedState) (said : Said) (r : Result (Vec ℕ Global) Stop) → IfErr r (IsStop (session_causes s t said)) → IsIdle (Some (Pack l)) (answer_outcome r).status → X
+never_idle X l s t said (Ok x) stop = λ idle. absurd (busy_status l 0 (inl refl) idle)
+never_idle X l s t said (Err OutOfMemory) stop = λ idle. absurd (busy_status l 1 (inr (inl refl)) idle)
+never_idle X l s t said (Err Disk) stop = λ idle. absurd (busy_status l 6 (inr (inr (inr (inl refl)))) idle)
+never_idle X l s t said (Err TooLarge) stop = λ idle. absurd (busy_status l 9 (inr (inr (inr (inr (inl refl))))) idle)
+never_idle X l s t said (Err Malformed) stop = λ idle. absurd (busy_status l 10 (inr (inr (inr (inr (inr refl))))) idle)
+never_idle X l s t said (Err Input) stop = absurd stop
+never_idle X l s t said (Err NotFound) stop = absurd stop
+never_idle X l s t said (Err (BadLine n)) stop = absurd stop
+never_idle X l s t said (Err (BadShard name)) stop = absurd stop
 
 -- ---- how `pack` ends if its input is not good
 
@@ -164,9 +165,9 @@ pub on_ok_given : {T E X : Type 0} (r : Result T E) → X → OnOk r X
 on_ok_given (Ok t) x = x
 on_ok_given (Err e) x = tt
 
-pub on_ok_all : {T E A B C X : Type 0} (r : Result T E) → (A → B → C → X) → OnOk r A → OnOk r B → OnOk r C → OnOk r X
-on_ok_all (Ok t) f a b c = f a b c
-on_ok_all (Err e) f a b c = tt
+pub on_ok_both : {T E A B X : Type 0} (r : Result T E) → (A → B → X) → OnOk r A → OnOk r B → OnOk r X
+on_ok_both (Ok t) f a b = f a b
+on_ok_both (Err e) f a b = tt
 
 -- what storing its files does to those of the disk, by the result
 pub record StandsAt (s : LimitSettings) (start : Start) (new : Files) (said : Said) (r : Result (Vec ℕ Global) Stop) : Type 0 where
@@ -181,20 +182,25 @@ module _ (s : LimitSettings) (start : Start) (new : Files) (said : Said) where
   abbrev Valid : Type 0
   Valid = (contents : Contents) × (start.tells ≡ true → HasContents start.files store_folder start.now contents)
 
+  -- collisions among its files are those of what the input says
+  malformed_said : (start.input_tells ≡ true → IsSaid start.input said) → (start.tells ≡ true → AreApart new start.now s said.files → ⊥) → IsMalformed (Some (Pack s)) start new
+  malformed_said is never = λ observes told apart. never told (subst (λ (x : Said). AreApart new start.now s x.files) (is (observes.0 tt)).parts apart)
+
   end_read : (r : Result (Vec ℕ Global) Stop) → (start.input_tells ≡ true → IsSaid start.input said) → are_short s said.files ≡ true → OnOk r Valid
-      → IfErr r (IsStop (storing_causes start.tells s said start.now start.files)) → IfOk r (λ text. PackAnswer s start new (answer_outcome (Ok text))) → MayEnd (Some (Pack s)) start new (answer_outcome r)
+      → IfErr r (IsStop (storing_causes start.tells s said start.now start.files new)) → IfOk r (λ text. PackAnswer s start new (answer_outcome (Ok text))) → MayEnd (Some (Pack s)) start new (answer_outcome r)
   end_read (Ok t) is short valid stop report =
       MayEnd.answered (λ observes. (is (observes.0 tt)).fine) record { asked = Pack s; is = refl; contents = valid.0; valid = valid.1; answer = report }
   end_read (Err OutOfMemory) is short valid stop report = MayEnd.stopped (inl refl) refl
   end_read (Err Disk) is short valid stop report = MayEnd.stopped (inr (inr (inr (refl, tt, λ observes. (is (observes.0 tt)).fine)))) refl
-  end_read (Err TooLarge) is short valid stop report = absurd (false≢true (sym stop ∙ short))
+  end_read (Err TooLarge) is short valid (inl long) report = absurd (false≢true (sym long ∙ short))
+  end_read (Err TooLarge) is short valid (inr many) report = MayEnd.full tt (λ observes. (is (observes.0 tt)).fine) many refl
   end_read (Err (BadShard name)) is short valid stop report = MayEnd.refused tt (λ observes. (is (observes.0 tt)).fine) record { name = name; named = stop.0; fails = stop.1; is = refl }
-  end_read (Err Malformed) is short valid stop report = MayEnd.malformed tt (λ observes. (is (observes.0 tt)).fine) stop refl
+  end_read (Err Malformed) is short valid stop report = MayEnd.malformed tt (λ observes. (is (observes.0 tt)).fine) (malformed_said is stop) refl
   end_read (Err Input) is short valid stop report = absurd stop
   end_read (Err NotFound) is short valid stop report = absurd stop
   end_read (Err (BadLine n)) is short valid stop report = absurd stop
 
-  works_read : (r : Result (Vec ℕ Global) Stop) → (start.input_tells ≡ true → IsSaid start.input said) → IfErr r (IsStop (storing_causes start.tells s said start.now start.files)) → StandsAt s start new said r
+  works_read : (r : Result (Vec ℕ Global) Stop) → (start.input_tells ≡ true → IsSaid start.input said) → IfErr r (IsStop (storing_causes start.tells s said start.now start.files new)) → StandsAt s start new said r
       → Works (Some (Pack s)) start new (answer_outcome r).status
   works_read r is stop stands = record {
     stored = λ observes told nought.
@@ -206,10 +212,10 @@ module _ (s : LimitSettings) (start : Start) (new : Files) (said : Said) where
     absent = λ inputs_told told lacks. absurd lacks;
     kept = stands.kept;
     foreign = stands.foreign;
-    malformed = malformed_of_ten (IsStop (storing_causes start.tells s said start.now start.files)) r stop;
+    malformed = λ ten. malformed_said is (malformed_of_ten (IsStop (storing_causes start.tells s said start.now start.files new)) r stop ten);
   }
 
   pub answered_read : (r : Result (Vec ℕ Global) Stop) → (start.input_tells ≡ true → IsSaid start.input said) → are_short s said.files ≡ true → OnOk r Valid
-      → IfErr r (IsStop (storing_causes start.tells s said start.now start.files)) → IfOk r (λ text. PackAnswer s start new (answer_outcome (Ok text))) → StandsAt s start new said r
+      → IfErr r (IsStop (storing_causes start.tells s said start.now start.files new)) → IfOk r (λ text. PackAnswer s start new (answer_outcome (Ok text))) → StandsAt s start new said r
       → Answered (Some (Pack s)) start new (answer_outcome r)
   answered_read r is short valid stop report stands = record { ends = end_read r is short valid stop report; works = works_read r is stop stands }

@@ -9,6 +9,7 @@ use Rattle.xet_io.specs.Named.{Named}
 use Rattle.xet_hash.specs.Hash.{hash_text}
 use Rattle.xet_cut.specs.declared.limits.LimitSettings.{LimitSettings}
 use Rattle.xet_cut.specs.Chunking.{chunking}
+use Rattle.xet_cut.specs.Generator.{generated}
 use Rattle.xet_shard_format.specs.declared.record.FileDataSequenceEntry.{FileDataSequenceEntry as Segment}
 use Rattle.xet_folder.specs.Plan.{Resolves, plan_bytes, range}
 use Rattle.xet_folder.specs.Stored.{IsStored}
@@ -17,11 +18,12 @@ use Rattle.xet_folder.specs.declared.contents.Contents.{Contents}
 use Rattle.xet_store.specs.Separate.{SeparateIn}
 use Rattle.xet_store.specs.Store.{Differ, plan_of, recorded_files}
 use Rattle.xet_program.specs.Words.{Command}
-use Rattle.xet_program.specs.Words.Command.{Pack, Clean, Read, ListFiles, Group}
+use Rattle.xet_program.specs.Words.Command.{Pack, Clean, Make, Read, ListFiles, Group}
 use Rattle.xet_program.specs.Start.{Start}
 use Rattle.xet_program.specs.Early.{Outcome, outcome}
 use Rattle.xet_program.specs.Tasks.{default_limits, store_folder}
 use Rattle.xet_program.specs.Allowed.{are_short}
+use Rattle.xet_program.specs.Making.{IsMadeText}
 use Rattle.xet_program.specs.Lines.{Line, are_ranges, files_of, good_lines}
 use Rattle.xet_program.specs.Report.{IsReport, file_line}
 use Rattle.xet_program.specs.Stored.{AreStored}
@@ -61,6 +63,11 @@ pub data CleanAnswer (names : List (List ℕ)) (start : Start) (new : Files) (o 
       → CleanAnswer names start new o
   reported : IsCleanReport names start new o → CleanAnswer names start new o
 
+-- `make`: the lines of the two files and of the xorbs; the chunks of the files are stored, if the disk is observable
+pub record MakeAnswer (seed bytes : ℕ) (start : Start) (contents : Contents) (new : Files) (o : Outcome) : Type 0 where
+  pub status : o.status ≡ 0
+  pub text : IsMadeText start.tells contents new (generated seed bytes) o.text
+
 -- No file with this hash is listed, or the range is reversed or passes the file's end.
 abbrev pub IsNoRange : FileRecords → List ℕ → ℕ → ℕ → Type 0
 IsNoRange records h from to = (plan_of records h ≡ None) ⊎ ((plan : List Segment) × (plan_of records h ≡ Some plan) × ((to < from) ⊎ (plan_bytes plan < to)))
@@ -95,6 +102,7 @@ pub record ListAnswer (start : Start) (contents : Contents) (o : Outcome) : Type
 abbrev pub Answers : Command → Start → Contents → Files → Outcome → Type 0
 Answers (Pack s) start contents new o = PackAnswer s start new o
 Answers (Clean names) start contents new o = CleanAnswer names start new o
+Answers (Make seed bytes) start contents new o = MakeAnswer seed bytes start contents new o
 Answers (Read h from to) start contents new o = ReadAnswer h from to start contents o
 Answers ListFiles start contents new o = ListAnswer start contents o
 Answers Group start contents new o = ⊥

@@ -1,5 +1,5 @@
 -- How a run may end.
-use Rattle.std.specs.Prelude.{◌≡◌, ◌≢◌, ◌⊎◌, ℕ, ◌≤◌, Bool, true, false, List, [], ◌∷◌, ◌++◌, codes, length, take, Option, Some, None}
+use Rattle.std.specs.Prelude.{◌≡◌, ◌≢◌, ◌⊎◌, ℕ, ◌≤◌, Bool, true, List, [], ◌∷◌, ◌++◌, codes, length, take, Option, Some, None}
 use Rattle.xet_io.specs.Disk.{Files}
 use Rattle.xet_hash.specs.declared.error.StoreError.{StoreError}
 use Rattle.xet_shard_format.specs.Names.{shard_name}
@@ -8,11 +8,13 @@ use Rattle.xet_folder.specs.Admission.{Refuses}
 use Rattle.xet_folder.specs.Contents.{HasContents}
 use Rattle.xet_folder.specs.declared.contents.Contents.{Contents}
 use Rattle.xet_program.specs.Words.{Command}
-use Rattle.xet_program.specs.Words.Command.{Pack, Clean, Read, ListFiles, Group}
+use Rattle.xet_program.specs.Words.Command.{Pack, Clean, Make, Read, ListFiles, Group}
 use Rattle.xet_program.specs.Start.{Observes, OpensInputs, ReadsInput, Start}
 use Rattle.xet_program.specs.Early.{IsEarly, Outcome, early_outcome, max_input, outcome, pack_early}
-use Rattle.xet_program.specs.Tasks.{default_limits, store_folder}
+use Rattle.xet_program.specs.Tasks.{default_limits, files_to_store, limits_of, store_folder}
+use Rattle.xet_program.specs.Reasons.{AreApart, IsFull, IsMalformed}
 use Rattle.xet_program.specs.Allowed.{are_short}
+use Rattle.xet_program.specs.Making.{made_files}
 use Rattle.xet_program.specs.Answers.{Answers, AreNamed, IsNoRange}
 
 -- the file name of a shard
@@ -56,14 +58,15 @@ IsStoppedSilent command start status =
     ⊎ ((status ≡ 6) × OpensStore command × (Observes start command → early_outcome command start.input ≡ None))
 
 -- How the run of a command may end: before its store is opened, as is due then; at a shard that fails a check; with
--- its answer; stopped, with no text; or, on a disk that is not observable, because a stored xorb changed after it
--- was verified.
+-- its answer; stopped, with no text; because the folder is full; or because a stored xorb changed after it was verified,
+-- which needs a disk that is not observable, or because there are collisions.
 pub data MayEnd (command : Option Command) (start : Start) (new : Files) (o : Outcome) : Type 0 where
   early : (Observes start command → early_outcome command start.input ≡ Some o) → IsEarly command o → MayEnd command start new o
   refused : OpensStore command → (Observes start command → early_outcome command start.input ≡ None) → IsRejected start o → MayEnd command start new o
   answered : (Observes start command → early_outcome command start.input ≡ None) → IsAnswer command start new o → MayEnd command start new o
   stopped : IsStoppedSilent command start o.status → o.text ≡ [] → MayEnd command start new o
-  malformed : OpensStore command → (Observes start command → early_outcome command start.input ≡ None) → start.tells ≡ false → o ≡ outcome 10 [] → MayEnd command start new o
+  full : OpensStore command → (Observes start command → early_outcome command start.input ≡ None) → (start.tells ≡ true → IsFull new start.now) → o ≡ outcome 9 [] → MayEnd command start new o
+  malformed : OpensStore command → (Observes start command → early_outcome command start.input ≡ None) → IsMalformed command start new → o ≡ outcome 10 [] → MayEnd command start new o
 
 -- It is cut short while it prints if the output fails or runs out of memory.
 abbrev pub IsCutShort : ℕ → Type 0
@@ -84,12 +87,17 @@ IsStopped status = (status ≡ 1) ⊎ (status ≡ 4) ⊎ (status ≡ 5) ⊎ (sta
 abbrev pub IsSilent : ℕ → Type 0
 IsSilent status = (status ≡ 2) ⊎ (status ≡ 4) ⊎ (status ≡ 6) ⊎ (status ≡ 8) ⊎ (status ≡ 9) ⊎ (status ≡ 10)
 
--- Command, inputs and disk give no cause for another status than 0.
-abbrev pub IsFaultless : Option Command → Start → Type 0
-IsFaultless None start = ⊥
-IsFaultless (Some (Pack s)) start = (pack_early start.input ≡ None) × ForContents start (λ contents. Unit {0})
-IsFaultless (Some (Clean names)) start =
+-- Command, inputs and disk give no cause for another status than 0. Where files are stored there are no collisions, and
+-- the folder is not full at the end.
+abbrev pub IsFaultless : Option Command → Start → Files → Type 0
+IsFaultless None start new = ⊥
+IsFaultless (Some (Pack s)) start new =
+    (pack_early start.input ≡ None) × ForContents start (λ contents. Unit {0}) × AreApart new start.now s (files_to_store (Pack s) start) × (IsFull new start.now → ⊥)
+IsFaultless (Some (Clean names)) start new =
     (files : List (List ℕ)) × AreNamed start.inputs names files × (are_short default_limits files ≡ true) × ForContents start (λ contents. Unit {0})
-IsFaultless (Some (Read h from to)) start = ForContents start (λ contents. IsNoRange contents.records h from to → ⊥)
-IsFaultless (Some ListFiles) start = ForContents start (λ contents. Unit {0})
-IsFaultless (Some Group) start = length start.input ≤ max_input
+    × AreApart new start.now (limits_of (Clean names)) (files_to_store (Clean names) start) × (IsFull new start.now → ⊥)
+IsFaultless (Some (Make seed bytes)) start new =
+    ForContents start (λ contents. Unit {0}) × AreApart new start.now default_limits (made_files seed bytes) × (IsFull new start.now → ⊥)
+IsFaultless (Some (Read h from to)) start new = ForContents start (λ contents. IsNoRange contents.records h from to → ⊥) × (IsFull new start.now → ⊥)
+IsFaultless (Some ListFiles) start new = ForContents start (λ contents. Unit {0}) × (IsFull new start.now → ⊥)
+IsFaultless (Some Group) start new = length start.input ≤ max_input

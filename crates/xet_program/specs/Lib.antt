@@ -5,6 +5,8 @@ pub mod Report
 pub mod Early
 pub mod Tasks
 pub mod Allowed
+pub mod Making
+pub mod Reasons
 pub mod Stored
 pub mod Answers
 pub mod Ending

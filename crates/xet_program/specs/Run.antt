@@ -27,7 +27,7 @@ pub record Run (command : Option Command) (start : Start) (output_tells : Bool) 
   pub bad_shard : status ≡ 7 → (name : List ℕ) × IsShardName name × (start.tells ≡ true → (e : StoreError) × Refuses start.files store_folder start.now e name)
       × (output_tells ≡ true → after ≡ before ++ bad_shard_text name)
   -- without a cause for another status it is 0, unless the run was stopped
-  pub complete : Observes start command → start.tells ≡ true → IsFaultless command start → (status ≡ 0) ⊎ IsStopped status
+  pub complete : Observes start command → start.tells ≡ true → IsFaultless command start new → (status ≡ 0) ⊎ IsStopped status
   -- what it does to the files of its disk
   pub works : Works command start new status
   -- a folder that is valid stays so

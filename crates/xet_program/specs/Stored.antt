@@ -1,33 +1,29 @@
 -- What a command does to the files of its disk.
-use Rattle.std.specs.Prelude.{◌≡◌, ◌≢◌, ◌⊎◌, ℕ, ◌<◌, ◌≤◌, ◌^◌, true, false, List, [], map, Option, None, IfSome}
+use Rattle.std.specs.Prelude.{◌≡◌, ◌≢◌, ◌⊎◌, ℕ, ◌<◌, ◌≤◌, ◌^◌, true, false, List, [], map, Option, Some, None, IfSome}
 use Rattle.std.specs.FinMap.{get}
 use Rattle.std.specs.List.{AllByRecursion, IsAmong}
 use Rattle.xet_io.specs.Disk.{Files}
-use Rattle.xet_hash.specs.Merkle.{chunk_hash}
+use Rattle.sha2.specs.Sha256.{sha256}
+use Rattle.xet_hash.specs.Merkle.{leaves_of}
 use Rattle.xet_cut.specs.declared.limits.LimitSettings.{LimitSettings}
 use Rattle.xet_cut.specs.Chunking.{chunking}
-use Rattle.xet_store.specs.Cleaning.{HasShard, HasXorb, IsPacked, IsDurable, SameEntry}
-use Rattle.xet_store.specs.Separate.{Apart, IsNamed, MetStored, SeparateIn}
-use Rattle.xet_store.specs.Tables.{record_of_file}
+use Rattle.xet_store.specs.Cleaning.{HasShard, HasXorb, IsDurable, SameEntry}
+use Rattle.xet_store.specs.Separate.{IsNamed, SeparateIn}
+use Rattle.xet_dedup.specs.Records.{file_record}
 use Rattle.xet_folder.specs.Admission.{Admits}
 use Rattle.xet_folder.specs.Listed.{ResolvesTo, Lists}
 use Rattle.xet_shard_file.specs.Names.{IsHash, shard_path}
 use Rattle.xet_folder.specs.Names.{IsForeign, xorb_path}
 use Rattle.xet_shard_file.specs.Shards.{IsThere, ShardFile, is_expired}
+use Rattle.xet_shard_format.specs.declared.record.FileDataSequenceEntry.{FileDataSequenceEntry as Segment}
 use Rattle.xet_shard_format.specs.declared.record.MDBFileInfo.{MDBFileInfo}
 use Rattle.xet_shard_format.specs.Records.{file_record_hash}
 use Rattle.xet_program.specs.Words.{Command}
 use Rattle.xet_program.specs.Start.{LacksName, Observes, Start}
 use Rattle.xet_program.specs.Early.{early_outcome}
 use Rattle.xet_program.specs.Tasks.{IsIdle, files_to_store, limits_of, store_folder}
+use Rattle.xet_program.specs.Reasons.{IsMalformed}
 use Rattle.xet_program.specs.Report.{hash_of_file}
-
--- If there are no collisions among the chunks seen in the folder at a time and in these files, each xorb into
--- which a file's chunks are packed is stored under its hash.
-abbrev pub Stores : LimitSettings → List (List ℕ) → ℕ → Files → Type 0
-Stores s stored now files =
-    Apart chunk_hash (MetStored files store_folder now s (map (chunking s) stored))
-    → AllByRecursion (λ bytes. IsPacked files store_folder s (chunking s bytes)) stored
 
 -- The folder lists a record of the file of these bytes, under its hash, and the plan resolves to its chunks.
 pub record IsRecorded (s : LimitSettings) (files : Files) (now : ℕ) (bytes : List ℕ) : Type 0 where
@@ -47,10 +43,11 @@ Records s stored now files =
 abbrev pub ListsHash : Files → ℕ → List ℕ → Type 0
 ListsHash files now h = (f : MDBFileInfo) × Lists files store_folder now f × (file_record_hash f ≡ h)
 
--- At every time below 2 ^ 64 the folder lists the record that is made of the file of these bytes: its plan,
--- its range hashes and its SHA-256.
+-- At every time below 2 ^ 64 the folder lists a record that is made of the file of these bytes: over some plan, its
+-- range hashes and its SHA-256.
 abbrev pub ListsMade : LimitSettings → Files → List ℕ → Type 0
-ListsMade s files bytes = (time : ℕ) → time < 2 ^ 64 → Lists files store_folder time (record_of_file s bytes)
+ListsMade s files bytes =
+    (segments : List Segment) × ((time : ℕ) → time < 2 ^ 64 → Lists files store_folder time (file_record (leaves_of (chunking s bytes)) segments (Some (sha256 bytes))))
 
 -- Each of these files that is not empty, and whose hash had no record listed at `now`, has one that is listed
 -- at every time below 2 ^ 64, and that was made of it or of one of these files with the same hash.
@@ -59,10 +56,9 @@ Makes s stored now old new =
     AllByRecursion (λ bytes. bytes ≢ [] → (ListsHash old now (hash_of_file s bytes) → ⊥)
     → (made : List ℕ) × IsAmong stored made × (hash_of_file s made ≡ hash_of_file s bytes) × ListsMade s new made) stored
 
--- Files were stored in the folder of a disk: the xorbs of each are stored, each is recorded, and the records of
--- those that were new to the folder are made of them.
+-- Files were stored in the folder of a disk: each is recorded, and the records of those that were new to the folder are
+-- made of them.
 pub record AreStored (s : LimitSettings) (stored : List (List ℕ)) (now : ℕ) (old new : Files) : Type 0 where
-  pub xorbs : Stores s stored now new
   pub recorded : Records s stored now new
   pub made : Makes s stored now old new
 
@@ -99,4 +95,4 @@ pub record Works (command : Option Command) (start : Start) (new : Files) (statu
   pub absent : start.inputs_tell ≡ true → start.tells ≡ true → LacksName command start → new ≡ start.files
   pub kept : start.tells ≡ true → IsIdle command status → new ≡ start.files
   pub foreign : start.tells ≡ true → (name : List ℕ) → IsForeign store_folder name → get new name ≡ get start.files name
-  pub malformed : status ≡ 10 → start.tells ≡ false
+  pub malformed : status ≡ 10 → IsMalformed command start new

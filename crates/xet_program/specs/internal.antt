@@ -1,6 +1,7 @@
 pub mod Answered
 pub mod Asked
 pub mod Cleaned
+pub mod Made
 pub mod Parsing
 pub mod Report
 pub mod Steps

@@ -21,7 +21,7 @@ use crate::words::default_limits;
 use std::alloc::Global;
 use std::marker::Send;
 use xet_io::{Disk, Inputs, Refusal};
-use xet_store::Store;
+use xet_steps::Store;
 
 /// Stores the files with these names in the folder `store` of a disk, and returns the disk and the line of each, or
 /// why it stops. Every file that was opened is closed. `now` is the time in seconds since 1970.
@@ -34,7 +34,7 @@ pub fn clean<D: Disk + Send, F: Inputs>(
 ) -> (D, Result<Vec<u8>, Stop>)
     requires { length names.now ≤ 2 ^ 20 }
     ensures cleaned { IfOk result.1 (λ text. ForValid (D.tells disk) (D.files disk) now (λ contents. IsCleanText (F.tells inputs.old) (F.files inputs.old) (map string_bytes names.now) (D.tells disk) (D.files disk) (D.files result.0) now text.items)) }
-    ensures stop { IfErr result.1 (IsStop (cleaning_store_causes (F.tells inputs.old) (F.files inputs.old) (map string_bytes names.now) (D.tells disk) now (D.files disk))) }
+    ensures stop { IfErr result.1 (IsStop (cleaning_store_causes (F.tells inputs.old) (F.files inputs.old) (map string_bytes names.now) (D.tells disk) now (D.files disk) (D.files result.0))) }
     ensures listed { D.tells disk ≡ true → KeepsListed now (D.files disk) (D.files result.0) }
     ensures keeps { D.tells disk ≡ true → KeepsFolder now (D.files disk) (D.files result.0) }
     ensures refused { D.tells disk ≡ true → (IsAdmittedAt now (D.files disk) → ⊥) → D.files result.0 ≡ D.files disk }
@@ -47,8 +47,9 @@ pub fn clean<D: Disk + Send, F: Inputs>(
 {
     match Store::open(alloc, disk, FOLDER, default_limits(), now, false) {
         Ok(session) => {
-            session.recall_invariant();
+            session.recall_sound();
             let (session, answer) = clean_names(alloc, session, names, inputs);
+            session.recall_sound();
             session.recall_invariant();
             let disk = session.into_disk();
             (disk, answer)
@@ -66,14 +67,14 @@ fn clean_names<D: Disk + Send, F: Inputs>(
     inputs: &mut F,
 ) -> (Store<D>, Result<Vec<u8>, Stop>)
     requires count { length names.now ≤ 2 ^ 20 }
-    requires folder { session.folder ≡ store_folder }
-    requires contents { session.tells ≡ true → HasContents session.files session.folder session.opened (contents_of session) }
-    ensures cleaned { IfOk result.1 (λ text. IsCleaned (F.tells inputs.old) (F.files inputs.old) (map string_bytes names.now) session result.0 text.items) }
-    ensures keeps { Keeps session result.0 }
-    ensures stop { IfErr result.1 (IsStop (naming_causes (F.tells inputs.old) (F.files inputs.old) (map string_bytes names.now) session)) }
+    requires folder { session.store.folder ≡ store_folder }
+    requires contents { session.store.tells ≡ true → HasContents session.store.files session.store.folder session.store.opened (contents_of session.store) }
+    ensures cleaned { IfOk result.1 (λ text. IsCleaned (F.tells inputs.old) (F.files inputs.old) (map string_bytes names.now) session.store result.0.store text.items) }
+    ensures keeps { Keeps session.store result.0.store }
+    ensures stop { IfErr result.1 (IsStop (naming_causes (F.tells inputs.old) (F.files inputs.old) (map string_bytes names.now) session result.0)) }
     ensures absent { F.tells inputs.old ≡ true → Any (λ name. get (F.files inputs.old) name ≡ None) (map string_bytes names.now) → result.0 ≡ session }
     ensures kept { IsErrOf result.1 Stop.NotFound → result.0 ≡ session }
-    ensures cause { HasCause session.faults result.0.faults (IsErrOf result.1 Stop.Disk) }
+    ensures cause { HasCause session.store.faults result.0.store.faults (IsErrOf result.1 Stop.Disk) }
     ensures inputs { Queried F.files F.tells F.faults inputs.old inputs.new (IsErrOf result.1 Stop.Input) }
     ensures closed { F.opened inputs.old + length names.now < 2 ^ 64 → F.opened inputs.new ≡ F.opened inputs.old }
 {
@@ -82,9 +83,10 @@ fn clean_names<D: Disk + Send, F: Inputs>(
     match opened {
         Ok(()) => {
             let (session, cleaned) = clean_sources(alloc, session, &mut sources);
-            session.recall_invariant();
+            session.recall_sound();
             close_all(inputs, sources);
             let (session, answer) = report_all(alloc, session, cleaned, &[]);
+            session.recall_sound();
             session.recall_invariant();
             (session, answer)
         }

@@ -9,7 +9,7 @@ ghost use Rattle.xet_io.specs.Frame.{Called};
 use std::alloc::{AllocError, AllocFailed, Global};
 use std::marker::Model;
 use xet_base::Text;
-use xet_hash::{Place, StoreError, What};
+use xet_hash::{Place, StoreError};
 use xet_io::{Refusal, Sink, Unread, write_all};
 
 /// Why a command stops without an answer.
@@ -19,7 +19,7 @@ pub enum Stop {
     OutOfMemory,
     /// Reading the input or a file failed.
     Input,
-    /// The input or a file is too long.
+    /// The input or a file is too long, or the folder is full.
     TooLarge,
     /// The number, counted from 1, of the first bad line.
     BadLine(u64),
@@ -29,7 +29,7 @@ pub enum Stop {
     Disk,
     /// The file name of the first shard that fails a check.
     BadShard(Text),
-    /// A stored xorb changed after it was verified.
+    /// A stored xorb changed after it was verified, or there are collisions.
     Malformed,
 }
 
@@ -52,8 +52,6 @@ impl From<StoreError> for Stop {
         match error {
             StoreError::Io(Place::Source(_)) => Stop::Input,
             StoreError::Io(_) => Stop::Disk,
-            // More shards than can be registered.
-            StoreError::TooLarge(What::Shards) => Stop::OutOfMemory,
             StoreError::TooLarge(_) => Stop::TooLarge,
             StoreError::MalformedData(_) => Stop::Malformed,
             // `OutOfMemory`. Of the others only `FileNotFound` and `InvalidRange` can occur, and only if digests collide.
@@ -111,10 +109,10 @@ const BAD_SHARD: u8 = 7;
 /// The status if there is no such range, file or name.
 const NOT_FOUND: u8 = 8;
 
-/// The status if the input or a file is too long.
+/// The status if the input or a file is too long, or the folder is full.
 const TOO_LARGE: u8 = 9;
 
-/// The status if a stored xorb changed after it was verified.
+/// The status if a stored xorb changed after it was verified, or there are collisions.
 const MALFORMED: u8 = 10;
 
 /// How a command ends: its status and the text that is to be printed. Contracts see both.

@@ -7,6 +7,7 @@ mod ending;
 mod group;
 mod lines;
 mod list;
+mod make;
 mod opening;
 mod pack;
 mod read;

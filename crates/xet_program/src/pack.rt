@@ -26,7 +26,7 @@ use std::alloc::Global;
 use std::marker::Send;
 use xet_cut::Limits;
 use xet_io::{Disk, Source, read_all};
-use xet_store::Store;
+use xet_steps::Store;
 
 /// The maximum length of an input, in bytes.
 pub const MAX_INPUT: usize = 1 << 31;
@@ -86,7 +86,7 @@ fn store_lines<D: Disk + Send>(
     requires short { are_short limits.now lines.now.files ≡ true }
     ensures valid { OnOk result.1 ((contents : Contents) × (D.tells disk ≡ true → HasContents (D.files disk) store_folder now contents)) }
     ensures report { IfOk result.1 (λ text. ForLines lines.now (λ said. IsReport (AreSeparate (D.tells disk) (D.files result.0) now limits.now (files_of said)) limits.now said text.items)) }
-    ensures stop { IfErr result.1 (IsStop (storing_causes (D.tells disk) limits.now lines.now now (D.files disk))) }
+    ensures stop { IfErr result.1 (IsStop (storing_causes (D.tells disk) limits.now lines.now now (D.files disk) (D.files result.0))) }
     ensures stored { D.tells disk ≡ true → OnOk result.1 (AreStored limits.now lines.now.files now (D.files disk) (D.files result.0)) }
     ensures listed { D.tells disk ≡ true → KeepsListed now (D.files disk) (D.files result.0) }
     ensures keeps { D.tells disk ≡ true → KeepsFolder now (D.files disk) (D.files result.0) }
@@ -97,8 +97,9 @@ fn store_lines<D: Disk + Send>(
 {
     match Store::open(alloc, disk, FOLDER, *limits, now, false) {
         Ok(session) => {
-            session.recall_invariant();
+            session.recall_sound();
             let (session, answer) = report_lines(alloc, session, lines);
+            session.recall_sound();
             session.recall_invariant();
             let disk = session.into_disk();
             (disk, answer)

@@ -13,6 +13,7 @@ use crate::clean::clean;
 use crate::ending::{Ending, Stop};
 use crate::group::group;
 use crate::list::list;
+use crate::make::make;
 use crate::pack::pack;
 use crate::read::read;
 use crate::words::{Command, command_of};
@@ -36,16 +37,17 @@ use xet_io::{Disk, Inputs, Sink, Source};
 /// | 4, 5, 6 | the input or a file, the output, or the disk failed in this call |
 /// | 7 | the folder `store` is not valid; prints `bad shard NAME` for the first shard that fails a check |
 /// | 8 | there is no such range, no such file, or no such name |
-/// | 9 | the input is longer than 2^31 bytes, or a file is longer than a source may be |
-/// | 10 | a stored xorb changed after it was verified; only on a disk that is not observable |
+/// | 9 | the input is longer than 2^31 bytes, or a file is longer than a source may be; or the folder has as many unexpired shards as can be registered, 2^32 - 1 |
+/// | 10 | a stored xorb changed after it was verified, which needs a disk that is not observable; or chunks of the files and of stored xorbs collide |
 ///
-/// A status but 1, 4, 5 and 6 is returned only if it is due, and of several that apply the first is due, in the
-/// order of the command's tests: `pack` 2, 9, 3, 8, 7; `clean` 2, 7, 8, 9; `read` 2, 7, 8; `list` 2, 7; `group` 2,
-/// 9. The run may be stopped with 1 before it prints and, if another status than 2 is due, with 4 or 6, and has then
-/// printed nothing. An answer is printed once it is complete, and once files are stored and recorded. A text may be cut
-/// short after a prefix of it, with 5, or with 1 if the output has no memory. No other status is returned, and 2, 4,
-/// 6, 8, 9 and 10 print nothing, also if inputs and disk are not observable. Clauses about contents apply to inputs,
-/// outputs and disks that are observable.
+/// A status but 1, 4, 5 and 6 is returned only if it is due, and of several that apply the first is due, in the order
+/// of the command's tests: `pack` 2, 9, 3, 8, 7; `clean` 2, 7, 8, 9; `make` 2, 7; `read` 2, 7, 8; `list` 2, 7; `group`
+/// 2, 9. If the folder is full, 9 comes, by the code once the folder was found valid. The run may be stopped with 1
+/// before it prints and, if another status than 2 is due, with 4 or 6, and has then printed nothing. An answer is
+/// printed once it is complete, and once files are stored and, except by `make`, recorded. A text may be cut short
+/// after a prefix of it, with 5, or with 1 if the output has no memory. No other status is returned, and 2, 4, 6, 8, 9
+/// and 10 print nothing, also if inputs and disk are not observable. Clauses about contents apply to inputs, outputs
+/// and disks that are observable.
 pub fn run_program<I, O, D, F, R>(
     alloc: Global,
     rt: &R,
@@ -133,6 +135,7 @@ fn answer<I: Source, D: Disk + Send, F: Inputs>(
     match command {
         Command::Pack(limits) => pack(alloc, limits, input, disk, now),
         Command::Clean(names) => clean(alloc, names, disk, inputs, now),
+        Command::Make(seed, bytes) => make(alloc, *seed, *bytes, disk, now),
         Command::Read(hash, from, to) => read(alloc, hash, *from, *to, disk, now),
         Command::ListFiles => list(alloc, disk, now),
         Command::Group => (disk, group(alloc, input)),

@@ -1,26 +1,30 @@
 //! Cleaning files in a session, and reporting them and ranges of them.
 
-ghost use Rattle.std.specs.List.{flat_map};
-ghost use Rattle.std.specs.Prelude.{◌≡◌, ◌≤◌, ◌<◌, ◌^◌, ◌++◌, ℕ, List, true, length, map, All, IfErr, IfOk, OnOk, IsErrOf, IsOkUnless};
+ghost use Rattle.std.specs.List.{AllByRecursion, flat_map};
+ghost use Rattle.std.specs.Prelude.{◌≡◌, ◌≤◌, ◌<◌, ◌^◌, ◌++◌, ℕ, List, true, length, map, All, IfErr, IfOk, OnOk, IsErrOf, IsOkUnless, IsSome};
 ghost use Rattle.xet_folder.specs.Contents.{HasContents};
 ghost use Rattle.xet_io.specs.Faults.{HasCause};
 ghost use Rattle.xet_store.specs.Cleaning.{Keeps};
 ghost use Rattle.xet_store.specs.Opening.{contents_of};
 ghost use Rattle.xet_store.specs.Ranges.{IsUnchanged};
+ghost use Rattle.xet_store.specs.Store.{plan_of};
 ghost use Rattle.xet_program.specs.Tasks.{store_folder};
 ghost use Rattle.xet_program.specs.internal.Parsing.{are_good};
 ghost use Rattle.xet_program.specs.internal.Report.{info_line};
 ghost use Rattle.xet_program.specs.internal.Cleaned.{AreCleaned, IsLinesAnswer};
+ghost use Rattle.xet_program.specs.internal.Made.{AddsXorbs, AreCounted};
 ghost use Rattle.xet_program.specs.internal.Steps.{AreRead, IsLineRead, IsSettled};
-ghost use Rattle.xet_program.specs.internal.Stops.{IsStop, cleaning_causes, range_causes, session_causes};
+ghost use Rattle.xet_program.specs.internal.Stops.{IsStop, cleaning_causes, range_causes, session_causes, settling_causes};
 
 use crate::ending::Stop;
 use crate::lines::{FileRange, PackLines};
 use crate::report::{push_bytes_line, report};
 use std::alloc::Global;
 use std::marker::Send;
+use xet_clean::{Cleaned, clean_files};
 use xet_io::{Disk, SliceSource, Source};
-use xet_store::{Cleaned, Store, XetFileInfo, clean_files};
+use xet_steps::Store;
+use xet_store::XetFileInfo;
 
 /// Stores the files of some lines in a session, and returns the report of files and ranges, or why it stops.
 pub fn report_lines<D: Disk + Send>(
@@ -30,17 +34,18 @@ pub fn report_lines<D: Disk + Send>(
 ) -> (Store<D>, Result<Vec<u8>, Stop>)
     requires few { length lines.now.files ≤ 2 ^ 20 }
     requires good { are_good lines.now ≡ true }
-    requires folder { session.folder ≡ store_folder }
-    requires contents { session.tells ≡ true → HasContents session.files session.folder session.opened (contents_of session) }
-    ensures answer { IsLinesAnswer lines.now session result.0 result.1 }
-    ensures keeps { Keeps session result.0 }
-    ensures stop { IfErr result.1 (IsStop (session_causes session.tells session.limits lines.now)) }
-    ensures cause { HasCause session.faults result.0.faults (IsErrOf result.1 Stop.Disk) }
+    requires folder { session.store.folder ≡ store_folder }
+    requires contents { session.store.tells ≡ true → HasContents session.store.files session.store.folder session.store.opened (contents_of session.store) }
+    ensures answer { IsLinesAnswer lines.now session.store result.0.store result.1 }
+    ensures keeps { Keeps session.store result.0.store }
+    ensures stop { IfErr result.1 (IsStop (session_causes session result.0 lines.now)) }
+    ensures cause { HasCause session.store.faults result.0.store.faults (IsErrOf result.1 Stop.Disk) }
 {
     session.limits().recall_invariant();
     let (session, cleaned) = clean_lines(alloc, session, lines);
-    session.recall_invariant();
+    session.recall_sound();
     let (session, answer) = report_all(alloc, session, cleaned, lines.ranges());
+    session.recall_sound();
     session.recall_invariant();
     (session, answer)
 }
@@ -53,9 +58,9 @@ fn clean_lines<D: Disk + Send>(
 ) -> (Store<D>, Result<Cleaned, Stop>)
     requires { length lines.now.files ≤ 2 ^ 20 }
     ensures cleaned { IfOk result.1 (λ cleaned. AreCleaned (λ s. true) (λ s. s) lines.now.files session result.0 cleaned.infos.items) }
-    ensures keeps { Keeps session result.0 }
-    ensures stop { IfErr result.1 (IsStop (session_causes session.tells session.limits lines.now)) }
-    ensures cause { HasCause session.faults result.0.faults (IsErrOf result.1 Stop.Disk) }
+    ensures keeps { Keeps session.store result.0.store }
+    ensures stop { IfErr result.1 (IsStop (session_causes session result.0 lines.now)) }
+    ensures cause { HasCause session.store.faults result.0.store.faults (IsErrOf result.1 Stop.Disk) }
 {
     match sources_of(alloc, lines) {
         Ok(sources) => {
@@ -74,10 +79,13 @@ pub fn clean_sources<D: Disk + Send, S: Source + Send>(
 ) -> (Store<D>, Result<Cleaned, Stop>)
     requires { length sources.old ≤ 2 ^ 20 }
     ensures cleaned { IfOk result.1 (λ cleaned. AreCleaned S.tells S.left sources.old session result.0 cleaned.infos.items) }
-    ensures keeps { Keeps session result.0 }
-    ensures stop { IfErr result.1 (IsStop (cleaning_causes S.tells S.left S.faults sources.old sources.new session)) }
+    ensures planned { IfOk result.1 (λ cleaned. AllByRecursion (λ info. IsSome (plan_of result.0.store.records info.hash)) cleaned.infos.items) }
+    ensures counted { IfOk result.1 (λ cleaned. AreCounted S.tells S.left session.store.limits sources.old cleaned.metrics) }
+    ensures added { IfOk result.1 (λ cleaned. AddsXorbs cleaned.metrics.new_chunks session.store result.0.store) }
+    ensures keeps { Keeps session.store result.0.store }
+    ensures stop { IfErr result.1 (IsStop (cleaning_causes S.tells S.left S.faults sources.old sources.new session result.0)) }
     ensures sources { map S.tells sources.new ≡ map S.tells sources.old }
-    ensures cause { HasCause session.faults result.0.faults (IsErrOf result.1 Stop.Disk) }
+    ensures cause { HasCause session.store.faults result.0.store.faults (IsErrOf result.1 Stop.Disk) }
 {
     let (session, cleaned) = clean_files(alloc, session, sources, 1);
     match cleaned {
@@ -107,11 +115,11 @@ pub fn report_all<D: Disk + Send>(
     ranges: &[FileRange],
 ) -> (Store<D>, Result<Vec<u8>, Stop>)
     requires bounds { IfOk cleaned (λ cleaned. All (λ r. (0 < r.file) × (r.file ≤ length cleaned.infos.items)) ranges.now) }
-    ensures text { IfOk cleaned (λ cleaned. IfOk result.1 (λ text. (lines : List ℕ) × AreRead result.0 cleaned.infos.items ranges.now lines × (text.items ≡ flat_map info_line cleaned.infos.items ++ lines))) }
+    ensures text { IfOk cleaned (λ cleaned. IfOk result.1 (λ text. (lines : List ℕ) × AreRead result.0.store cleaned.infos.items ranges.now lines × (text.items ≡ flat_map info_line cleaned.infos.items ++ lines))) }
     ensures settled { OnOk cleaned (OnOk result.1 (IsSettled session result.0)) }
-    ensures keeps { Keeps session result.0 }
-    ensures stop { OnOk cleaned (IfErr result.1 (IsStop (range_causes session.tells))) }
-    ensures cause { OnOk cleaned (HasCause session.faults result.0.faults (IsErrOf result.1 Stop.Disk)) }
+    ensures keeps { Keeps session.store result.0.store }
+    ensures stop { OnOk cleaned (IfErr result.1 (IsStop (settling_causes session.store.tells result.0))) }
+    ensures cause { OnOk cleaned (HasCause session.store.faults result.0.store.faults (IsErrOf result.1 Stop.Disk)) }
     ensures stopped { IfErr cleaned (λ stop. IsErrOf result.1 stop × (result.0 ≡ session)) }
 {
     match cleaned {
@@ -132,11 +140,11 @@ fn report_cleaned<D: Disk + Send>(
     ranges: &[FileRange],
 ) -> Result<Vec<u8>, Stop>
     requires { All (λ r. (0 < r.file) × (r.file ≤ length infos.now)) ranges.now }
-    ensures text { IfOk result (λ text. (lines : List ℕ) × AreRead session.new infos.now ranges.now lines × (text.items ≡ flat_map info_line infos.now ++ lines)) }
+    ensures text { IfOk result (λ text. (lines : List ℕ) × AreRead session.new.store infos.now ranges.now lines × (text.items ≡ flat_map info_line infos.now ++ lines)) }
     ensures settled { OnOk result (IsSettled session.old session.new) }
-    ensures keeps { Keeps session.old session.new }
-    ensures stop { IfErr result (IsStop (range_causes session.old.tells)) }
-    ensures cause { HasCause session.old.faults session.new.faults (IsErrOf result Stop.Disk) }
+    ensures keeps { Keeps session.old.store session.new.store }
+    ensures stop { IfErr result (IsStop (settling_causes session.old.store.tells session.new)) }
+    ensures cause { HasCause session.old.store.faults session.new.store.faults (IsErrOf result Stop.Disk) }
 {
     session.flush()?;
     let mut text = report(alloc, infos)?;
@@ -152,10 +160,11 @@ fn push_ranges<D: Disk + Send>(
     text: &mut Vec<u8>,
 ) -> Result<(), Stop>
     requires { All (λ r. (0 < r.file) × (r.file ≤ length infos.now)) ranges.now }
-    ensures lines { OnOk result ((lines : List ℕ) × AreRead session.old infos.now ranges.now lines × (text.new.items ≡ text.old.items ++ lines)) }
-    ensures unchanged { IsUnchanged session.old session.new }
-    ensures stop { IfErr result (IsStop (range_causes session.old.tells)) }
-    ensures cause { HasCause session.old.faults session.new.faults (IsErrOf result Stop.Disk) }
+    ensures lines { OnOk result ((lines : List ℕ) × AreRead session.old.store infos.now ranges.now lines × (text.new.items ≡ text.old.items ++ lines)) }
+    ensures unchanged { IsUnchanged session.old.store session.new.store }
+    ensures recorded { (session.new.shards ≡ session.old.shards) × (session.new.history ≡ session.old.history) }
+    ensures stop { IfErr result (IsStop (range_causes session.old.store.tells)) }
+    ensures cause { HasCause session.old.store.faults session.new.store.faults (IsErrOf result Stop.Disk) }
 {
     for range in ranges {
         push_range(session, infos, range, text)?;
@@ -171,10 +180,11 @@ fn push_range<D: Disk + Send>(
     text: &mut Vec<u8>,
 ) -> Result<(), Stop>
     requires { (0 < range.now.file) × (range.now.file ≤ length infos.now) }
-    ensures line { OnOk result ((line : List ℕ) × IsLineRead session.old infos.now range.now line × (text.new.items ≡ text.old.items ++ line)) }
-    ensures unchanged { IsUnchanged session.old session.new }
-    ensures stop { IfErr result (IsStop (range_causes session.old.tells)) }
-    ensures cause { HasCause session.old.faults session.new.faults (IsErrOf result Stop.Disk) }
+    ensures line { OnOk result ((line : List ℕ) × IsLineRead session.old.store infos.now range.now line × (text.new.items ≡ text.old.items ++ line)) }
+    ensures unchanged { IsUnchanged session.old.store session.new.store }
+    ensures recorded { (session.new.shards ≡ session.old.shards) × (session.new.history ≡ session.old.history) }
+    ensures stop { IfErr result (IsStop (range_causes session.old.store.tells)) }
+    ensures cause { HasCause session.old.store.faults session.new.store.faults (IsErrOf result Stop.Disk) }
 {
     let info = &infos[(range.file - 1) as usize];
     let bytes = session.read_range(&info.hash, range.from, range.to)?;

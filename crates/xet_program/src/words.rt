@@ -6,12 +6,14 @@ ghost use Rattle.std.specs.List.{list_all, list_any};
 ghost use Rattle.std.specs.Option.{option_map};
 ghost use Rattle.xet_arguments.specs.Arguments.{is_option};
 ghost use Rattle.xet_program.specs.Tasks.{default_limits};
-ghost use Rattle.xet_program.specs.Words.{alone, clean_of, command_by, command_of, gear_of, hash_of_text, is_digits, is_target, number_of, pack_by, pack_of, pack_settings, read_by, read_of, target_of};
+ghost use Rattle.xet_program.specs.Words.{alone, clean_of, command_by, command_of, gear_of, hash_of_text, is_digits, is_target, make_by, make_of, number_of, pack_by, pack_of, pack_settings, read_by, read_of, target_of};
 ghost use Rattle.xet_program.specs.Words.Command.{Group, ListFiles};
 ghost use Rattle.xet_program.specs.internal.Asked.{AllowsInput, asked};
 
 use std::alloc::{AllocError, Global};
-use xet_arguments::{clean_arguments, has_option, no_arguments, pack_arguments, read_arguments};
+use xet_arguments::{
+    clean_arguments, has_option, make_arguments, no_arguments, pack_arguments, read_arguments,
+};
 use xet_cut::{LimitSettings, Limits, gear_table};
 use xet_hash::{DataHash, MerkleHash};
 use xet_shard_file::recall_bytes;
@@ -23,6 +25,9 @@ pub enum Command<'a> {
     Pack(Limits),
     /// Stores the files with these names, and reports them.
     Clean(&'a [String]),
+    /// Stores a generated file of this seed and length, and then the same file with one byte inserted, and prints how
+    /// many chunks each has and how many of them were new.
+    Make(u64, u64),
     /// Prints bytes FROM..TO, TO excluded, of the file with this hash.
     Read(MerkleHash, u64, u64),
     /// Lists the files of the store.
@@ -33,6 +38,9 @@ pub enum Command<'a> {
 
 /// The maximum number of names.
 const MAX_NAMES: usize = 1 << 20;
+
+/// The maximum length of a generated file, in bytes.
+const MAX_GENERATED: u64 = 67_108_864;
 
 /// The command of these arguments; none if they are invalid. The limits of `pack` allow a source as long as the
 /// longest input. The only error is out of memory.
@@ -62,6 +70,7 @@ fn command_by<'a>(
     match name {
         "pack" => pack_of(alloc, arguments),
         "clean" => clean_of(alloc, arguments),
+        "make" => make_of(alloc, arguments),
         "read" => read_of(alloc, arguments),
         "list" => list_of(alloc, arguments),
         "group" => group_of(alloc, arguments),
@@ -111,6 +120,31 @@ fn clean_by<'a>(names: &'a [String]) -> Option<Command<'a>>
         None
     } else {
         Some(Command::Clean(names))
+    }
+}
+
+/// `make SEED BYTES`
+fn make_of<'a>(alloc: Global, arguments: &[String]) -> Result<Option<Command<'a>>, AllocError>
+    requires { list_any is_option (map string_bytes arguments.now) ≡ false }
+    ensures { IfOk result (λ found. option_map asked found ≡ make_of (map string_bytes arguments.now)) }
+{
+    let found = make_arguments(alloc, arguments)?;
+    match found {
+        Some(texts) => Ok(make_by(texts.seed, texts.bytes)),
+        None => Ok(None),
+    }
+}
+
+/// `make` with a seed and a length.
+fn make_by<'a>(seed: &str, bytes: &str) -> Option<Command<'a>>
+    ensures { option_map asked result ≡ make_by (number_of seed.now) (number_of bytes.now) }
+{
+    let seed = number_of(seed)?;
+    let bytes = number_of(bytes)?;
+    if 1 <= bytes && bytes <= MAX_GENERATED {
+        Some(Command::Make(seed, bytes))
+    } else {
+        None
     }
 }
 

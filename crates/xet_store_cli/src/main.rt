@@ -1,7 +1,8 @@
 //! The program: it stores files in a folder, lists them and reads them back.
 //!
 //! `xet_program::run_program` is the whole program, over any input, output, disk and inputs. `main` passes the standard
-//! streams, the current folder, and for `pack` a disk in memory, of which nothing is left when the program ends.
+//! streams, the current folder, and for `pack` and `make` a disk in memory, of which nothing is left when the program
+//! ends.
 #![tactic(auto)]
 
 use std::process::ExitCode;
@@ -37,9 +38,11 @@ fn main(rt: HostRuntime) -> ExitCode {
     ExitCode::from(status)
 }
 
-/// Whether the command stores what it reports in memory.
+/// Whether the command stores what it reports in memory: `pack` and `make`.
 fn stores_in_memory(words: &[String]) -> bool {
-    words.first().is_some_and(|word| word.as_str() == "pack")
+    words
+        .first()
+        .is_some_and(|word| matches!(word.as_str(), "pack" | "make"))
 }
 
 /// The arguments after the program's name, or the status if they cannot be read.

@@ -12,6 +12,7 @@ use xet_program::run_program;
 
 mod faults;
 mod folder;
+mod generated;
 mod stored;
 
 const ABC: &str =
@@ -233,7 +234,12 @@ fn words_of_a_command(rt: HostRuntime) -> Result<(), Fail> {
             "read 000000000000000000000000000000000000000000000000000000000000000g 0 0",
             2,
         ),
-        ("make 7 100", 2),
+        ("make", 2),
+        ("make 7", 2),
+        ("make 7 0", 2),
+        ("make 7 67108865", 2),
+        ("make 7 1 1", 2),
+        ("make 18446744073709551616 1", 2),
         ("check", 2),
         ("merge 1", 2),
     ];

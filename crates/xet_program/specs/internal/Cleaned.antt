@@ -1,25 +1,30 @@
 -- Files that were opened by name, and files that were cleaned in a session, for private functions.
-use Rattle.std.specs.Prelude.{◌≡◌, ℕ, Bool, true, List, [], ◌∷◌, length, map, Some, Vec, Result, IfOk, OnOk}
+use Rattle.std.specs.Prelude.{◌≡◌, ◌≢◌, ℕ, Bool, true, List, [], ◌∷◌, length, map, Some, Vec, Result, IfOk, OnOk}
 use Rattle.std.specs.declared.alloc.Global.{Global}
 use Rattle.std.specs.FinMap.{get}
-use Rattle.std.specs.List.{AllByRecursion, flat_map}
+use Rattle.std.specs.List.{AllByRecursion, IsAmong, flat_map}
 use Rattle.xet_io.specs.Disk.{Files}
 use Rattle.xet_io.specs.Named.{Named}
 use Rattle.xet_cut.specs.Chunking.{chunking}
 use Rattle.xet_store.specs.declared.info.XetFileInfo.{XetFileInfo}
 use Rattle.xet_store.specs.Cleaning.{EachTold, HasFile, info_of}
 use Rattle.xet_store.specs.Separate.{Separate}
-use Rattle.xet_store.specs.Steps.{ListsXorbs}
 use Rattle.xet_store.specs.Store.{State}
-use Rattle.xet_store.specs.Tables.{tables_of, with_files}
+use Rattle.xet_clean.specs.Cleaning.{RecordsFile}
+use Rattle.xet_history.specs.declared.entry.Entry.{Entry}
+use Rattle.xet_history.specs.declared.entry.Entry.TheVariants.{Complete}
+use Rattle.xet_shard_format.specs.Records.{file_record_hash}
+use Rattle.xet_shard_format.specs.declared.record.MDBFileInfo.{MDBFileInfo}
+use Rattle.xet_steps.specs.Recorded.{RecordedState}
+use Rattle.xet_steps.specs.Steps.{Steps}
 use Rattle.xet_program.specs.declared.ending.Stop.{Stop}
 use Rattle.xet_program.specs.Answers.{AreNamed, AreSeparate}
 use Rattle.xet_program.specs.Lines.{files_of}
 use Rattle.xet_program.specs.internal.Parsing.{ForLines, Said}
-use Rattle.xet_program.specs.Report.{IsReport, file_line}
+use Rattle.xet_program.specs.Report.{IsReport, file_line, hash_of_file}
 use Rattle.xet_program.specs.internal.Steps.{MakesIn}
 use Rattle.xet_program.specs.Tasks.{default_limits}
-use Rattle.xet_program.specs.Stored.{AreStored, Records, Stores}
+use Rattle.xet_program.specs.Stored.{AreStored, Records}
 
 -- Each name has a source that has not failed. If the names are observable, so is the source, and the bytes under the
 -- name are left in it.
@@ -30,14 +35,21 @@ AreOpened inputs_tell inputs tells left faults (name ∷ names) [] = ⊥
 AreOpened inputs_tell inputs tells left faults (name ∷ names) (s ∷ ss) =
     (faults s ≡ 0) × (inputs_tell ≡ true → (tells s ≡ true) × (get inputs name ≡ Some (left s))) × AreOpened inputs_tell inputs tells left faults names ss
 
--- The files of sources were cleaned in a session, in order, with these results.
-pub record AreCleaned {S : Type 0} (tells : S → Bool) (left : S → List ℕ) (sources : List S) (old new : State) (infos : List XetFileInfo) : Type 0 where
+-- An entry records a file of this hash.
+abbrev pub RecordsHash : List Entry → List ℕ → Type 0
+RecordsHash entries h = (pass : ℕ) × (file : MDBFileInfo) × (added : Bool) × IsAmong entries (Complete pass file added) × (file_record_hash file ≡ h)
+
+-- The files of sources were cleaned in a session, in order, with these results. Each that is not empty is recorded by one of the
+-- entries that were added, and nothing else is.
+pub record AreCleaned {S : Type 0} (tells : S → Bool) (left : S → List ℕ) (sources : List S) (old new : RecordedState) (infos : List XetFileInfo) : Type 0 where
   pub files : List (List ℕ)
   pub each : EachTold tells left (λ bytes file. file ≡ bytes) sources files
-  pub told : infos ≡ map (info_of old.limits) files
-  pub tables : tables_of new ≡ with_files old.limits (tables_of old) files
-  pub has : old.tells ≡ true → AllByRecursion (λ s. tells s ≡ true) sources → Separate new (map (chunking old.limits) files) → AllByRecursion (HasFile new) (map (chunking old.limits) files)
-  pub lists : AllByRecursion (λ s. tells s ≡ true) sources → AllByRecursion (ListsXorbs new) (map (chunking old.limits) files)
+  pub told : infos ≡ map (info_of old.store.limits) files
+  pub entries : List Entry
+  pub steps : Steps old new entries
+  pub recorded : AllByRecursion (λ bytes. bytes ≢ [] → RecordsHash entries (hash_of_file old.store.limits bytes)) files
+  pub only : AllByRecursion (RecordsFile old.store.limits files) entries
+  pub has : old.store.tells ≡ true → AllByRecursion (λ s. tells s ≡ true) sources → Separate new.store (map (chunking old.store.limits) files) → AllByRecursion (HasFile new.store) (map (chunking old.store.limits) files)
 
 -- The files under these names were stored in a session, nothing of them is pending, and this is the line of each.
 pub record IsCleaned (inputs_tell : Bool) (inputs : Named (List ℕ)) (names : List (List ℕ)) (old new : State) (text : List ℕ) : Type 0 where
@@ -45,9 +57,8 @@ pub record IsCleaned (inputs_tell : Bool) (inputs : Named (List ℕ)) (names : L
   pub named : inputs_tell ≡ true → AreNamed inputs names files
   pub count : length files ≡ length names
   pub lines : text ≡ flat_map (file_line old.limits) files
-  pub stored : inputs_tell ≡ true → old.tells ≡ true → Stores old.limits files old.opened new.files
   pub recorded : inputs_tell ≡ true → old.tells ≡ true → Records old.limits files old.opened new.files
-  pub made : inputs_tell ≡ true → old.tells ≡ true → MakesIn old files new
+  pub made : old.tells ≡ true → MakesIn old files new
 
 -- The same over a disk with the files `old`, which become `new`, in the folder of the store.
 pub record IsCleanText (inputs_tell : Bool) (inputs : Named (List ℕ)) (names : List (List ℕ)) (tells : Bool) (old new : Files) (now : ℕ) (text : List ℕ) : Type 0 where
@@ -58,9 +69,8 @@ pub record IsCleanText (inputs_tell : Bool) (inputs : Named (List ℕ)) (names :
   pub stored : inputs_tell ≡ true → tells ≡ true → AreStored default_limits files now old new
 
 -- What is answered for lines whose files are cleaned in a session, if it is no stop: the report of what they say. If the
--- disk is observable, their files are stored, recorded and made.
+-- disk is observable, their files are recorded and made.
 pub record IsLinesAnswer (said : Said) (old new : State) (answer : Result (Vec ℕ Global) Stop) : Type 0 where
   pub report : IfOk answer (λ text. ForLines said (λ lines. IsReport (AreSeparate old.tells new.files old.opened old.limits (files_of lines)) old.limits lines text.items))
-  pub stored : old.tells ≡ true → OnOk answer (Stores old.limits said.files old.opened new.files)
   pub recorded : old.tells ≡ true → OnOk answer (Records old.limits said.files old.opened new.files)
   pub made : old.tells ≡ true → OnOk answer (MakesIn old said.files new)

@@ -1,31 +1,43 @@
 -- The steps of `pack` and `clean` in a session, for private functions.
-use Rattle.std.specs.Prelude.{◌≡◌, ◌≢◌, ℕ, zero, suc, ◌<◌, ◌^◌, true, List, [], ◌∷◌, ◌++◌, None}
+use Rattle.std.specs.Prelude.{◌≡◌, ◌≢◌, ℕ, zero, suc, ◌<◌, ◌^◌, true, List, [], ◌∷◌, ◌++◌, Some, None}
 use Rattle.std.specs.List.{AllByRecursion, IsAmong}
-use Rattle.xet_shard_format.specs.declared.record.MDBFileInfo.{MDBFileInfo}
+use Rattle.sha2.specs.Sha256.{sha256}
+use Rattle.xet_hash.specs.Merkle.{leaves_of}
+use Rattle.xet_cut.specs.Chunking.{chunking}
+use Rattle.xet_cut.specs.declared.limits.LimitSettings.{LimitSettings}
+use Rattle.xet_dedup.specs.Records.{file_record}
+use Rattle.xet_history.specs.declared.entry.Entry.{Entry}
+use Rattle.xet_shard_format.specs.declared.record.FileDataSequenceEntry.{FileDataSequenceEntry as Segment}
 use Rattle.xet_shard.specs.Held.{nothing}
 use Rattle.xet_folder.specs.Listed.{Lists}
 use Rattle.xet_folder.specs.Xorbs.{found}
 use Rattle.xet_store.specs.declared.info.XetFileInfo.{XetFileInfo}
 use Rattle.xet_store.specs.Ranges.{IsRange}
 use Rattle.xet_store.specs.Store.{State}
-use Rattle.xet_store.specs.Tables.{record_of_file}
+use Rattle.xet_steps.specs.Recorded.{RecordedState}
+use Rattle.xet_steps.specs.Steps.{Steps}
 use Rattle.xet_program.specs.declared.lines.FileRange.{FileRange}
 use Rattle.xet_program.specs.Report.{bytes_line, hash_of_file}
+
+-- At every time below 2 ^ 64 the folder of a session lists a record that is made of the file of these bytes.
+abbrev pub ListsMadeIn : LimitSettings → State → List ℕ → Type 0
+ListsMadeIn l s bytes =
+    (segments : List Segment) × ((time : ℕ) → time < 2 ^ 64 → Lists s.files s.folder time (file_record (leaves_of (chunking l bytes)) segments (Some (sha256 bytes))))
 
 -- Each of these files that is not empty, and whose hash had no record in a session, has one that is listed at
 -- every time below 2 ^ 64, and that was made of it or of one of these files with the same hash.
 abbrev pub MakesIn : State → List (List ℕ) → State → Type 0
 MakesIn old files new =
     AllByRecursion (λ bytes. bytes ≢ [] → found old.records (hash_of_file old.limits bytes) ≡ None
-    → (made : List ℕ) × IsAmong files made × (hash_of_file old.limits made ≡ hash_of_file old.limits bytes)
-    × ((time : ℕ) → time < 2 ^ 64 → Lists new.files new.folder time (record_of_file old.limits made))) files
+    → (made : List ℕ) × IsAmong files made × (hash_of_file old.limits made ≡ hash_of_file old.limits bytes) × ListsMadeIn old.limits new made) files
 
--- Nothing is pending; what was is listed at every time below 2 ^ 64; xorbs and records have not changed.
-pub record IsSettled (old new : State) : Type 0 where
-  pub lasts : old.tells ≡ true → (f : MDBFileInfo) → IsAmong old.pending.files f → (time : ℕ) → time < 2 ^ 64 → Lists new.files new.folder time f
-  pub nothing_pending : new.pending ≡ nothing
-  pub xorbs : new.xorbs ≡ old.xorbs
-  pub records : new.records ≡ old.records
+-- What was pending was flushed, and the store has read since: nothing is pending, and xorbs and records have not changed.
+pub record IsSettled (old new : RecordedState) : Type 0 where
+  pub entries : List Entry
+  pub steps : Steps old new entries
+  pub nothing_pending : new.store.pending ≡ nothing
+  pub xorbs : new.store.xorbs ≡ old.store.xorbs
+  pub records : new.store.records ≡ old.store.records
 
 -- the hash of the file with this number, counted from 1
 abbrev pub hash_at : List XetFileInfo → ℕ → List ℕ

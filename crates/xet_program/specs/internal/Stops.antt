@@ -1,21 +1,24 @@
 -- Why a command stops without a report, and its outcome then, for private functions.
-use Rattle.std.specs.Prelude.{◌≡◌, ℕ, ◌<◌, Bool, true, false, List, [], length, Vec, Option, Some, None, Result, Ok, Err, Any}
+use Rattle.std.specs.Prelude.{◌≡◌, ◌⊎◌, ℕ, ◌<◌, ◌≤◌, Bool, true, false, List, [], length, map, Vec, Option, Some, None, Result, Ok, Err, Any}
 use Rattle.std.specs.declared.alloc.Global.{Global}
 use Rattle.std.specs.FinMap.{get}
+use Rattle.std.specs.List.{AllByRecursion}
 use Rattle.xet_io.specs.Disk.{Files}
 use Rattle.xet_io.specs.Named.{Named}
 use Rattle.xet_io.specs.declared.whole.Unread.{Unread}
 use Rattle.xet_io.specs.declared.whole.Unread.TheVariants as unread
 use Rattle.xet_hash.specs.declared.error.StoreError.{StoreError}
 use Rattle.xet_hash.specs.declared.error.Place.TheVariants.{Source}
-use Rattle.xet_hash.specs.declared.error.What.TheVariants.{Shards}
 use Rattle.xet_hash.specs.declared.error.StoreError.TheVariants.{FileNotFound, InvalidRange, Io, MalformedData}
 use Rattle.xet_hash.specs.declared.error.StoreError.TheVariants as error
 use Rattle.xet_folder.specs.Admission.{Refuses}
-use Rattle.xet_folder.specs.Contents.{HasContents}
+use Rattle.xet_folder.specs.Contents.{HasContents, max_shards}
 use Rattle.xet_folder.specs.declared.contents.Contents.{Contents}
+use Rattle.xet_cut.specs.Chunking.{chunking}
 use Rattle.xet_cut.specs.declared.limits.LimitSettings.{LimitSettings}
-use Rattle.xet_store.specs.Cleaning.{IsLongAt, RoseAt}
+use Rattle.xet_clean.specs.Cleaning.{AreApartUnder, NoneEnds}
+use Rattle.xet_steps.specs.Recorded.{RecordedState}
+use Rattle.xet_store.specs.Cleaning.{IsLongAt, RoseAt, chunkings}
 use Rattle.xet_store.specs.Store.{State}
 use Rattle.xet_program.specs.declared.ending.Stop.{Stop}
 use Rattle.xet_program.specs.declared.ending.Stop.TheVariants.{OutOfMemory, Input, TooLarge, BadLine, NotFound, Disk, BadShard, Malformed}
@@ -23,6 +26,8 @@ use Rattle.xet_program.specs.Lines.{first_bad}
 use Rattle.xet_program.specs.Early.{Outcome, bad_line_text, max_input, outcome, pack_early}
 use Rattle.xet_program.specs.Tasks.{default_limits, store_folder}
 use Rattle.xet_program.specs.Allowed.{are_short}
+use Rattle.xet_program.specs.Making.{both_files}
+use Rattle.xet_program.specs.Reasons.{AreApart, IsFull}
 use Rattle.xet_program.specs.Answers.{AreNamed, IsNoRange}
 use Rattle.xet_program.specs.Ending.{IsShardName, bad_shard_text}
 use Rattle.xet_program.specs.internal.Parsing.{Said}
@@ -34,13 +39,11 @@ stop_of_unread unread.Failed = Input
 stop_of_unread unread.TooLong = TooLarge
 
 -- The stop for an error of the store. Opening, cleaning and flushing return no other errors without a shard's
--- name than these and out of memory (`IsFolderError`, `HasReason`, `IsFlushError`). More shards than can be registered
--- count as out of memory. Reading a good range of a file that was just cleaned returns `FileNotFound` or `InvalidRange`
--- only if digests collide; a collision counts as out of memory.
+-- name than these and out of memory (`IsFolderError`, `HasReason`, `IsFlushError`). Reading a good range of a file that was
+-- just cleaned returns `FileNotFound` or `InvalidRange` only if digests collide; such a collision counts as out of memory.
 abbrev pub stop_of_error : StoreError → Stop
 stop_of_error (Io (Source i)) = Input
 stop_of_error (Io place) = Disk
-stop_of_error (error.TooLarge Shards) = OutOfMemory
 stop_of_error (error.TooLarge what) = TooLarge
 stop_of_error (MalformedData reason) = Malformed
 stop_of_error _ = OutOfMemory
@@ -119,14 +122,43 @@ range_causes tells = record no_causes { disk = Unit {0}; malformed = tells ≡ f
 abbrev pub finding_causes : State → List ℕ → ℕ → ℕ → Causes
 finding_causes s h from to = record (range_causes s.tells) { not_found = IsNoRange s.records h from to }
 
--- in a session: as while ranges are read; besides, too large only if a file is
-abbrev pub session_causes : Bool → LimitSettings → Said → Causes
-session_causes tells s said = record (range_causes tells) { too_large = are_short s said.files ≡ false }
+-- as many shards are registered in a session as can be
+abbrev pub IsFullAt : RecordedState → Type 0
+IsFullAt s = max_shards ≤ length s.store.shards
 
--- While files are stored in a folder at a time: as in a session; and, if the disk is observable, a shard only
--- if it is the first with which a check fails.
-abbrev pub storing_causes : Bool → LimitSettings → Said → ℕ → Files → Causes
-storing_causes tells s said now files = record (session_causes tells s said) {
+-- no collisions among the chunks that a session and these files show, under the keys of its shards
+abbrev pub IsApartFor : LimitSettings → RecordedState → List (List ℕ) → Type 0
+IsApartFor l s files = AreApartUnder s (map (chunking l) files) × NoneEnds (map (chunking l) files)
+
+-- while files that are no longer than a source may be are stored in a session, from `old` to `new`: a failure of the disk; too
+-- large only if the session is full; malformed only if the disk is not observable or there are collisions
+abbrev pub filing_causes : RecordedState → RecordedState → List (List ℕ) → Causes
+filing_causes old new files = record no_causes {
+  disk = Unit {0};
+  too_large = IsFullAt new;
+  malformed = old.store.tells ≡ true → IsApartFor old.store.limits new files → ⊥;
+}
+
+-- while a session, which is then `new`, is flushed and ranges are read: besides, too large only if it is full
+abbrev pub settling_causes : Bool → RecordedState → Causes
+settling_causes tells new = record (range_causes tells) { too_large = IsFullAt new }
+
+-- in a session, from `old` to `new`: a failure of the disk; too large only if a file is or the session is full; malformed only
+-- if the disk is not observable or there are collisions
+abbrev pub session_causes : RecordedState → RecordedState → Said → Causes
+session_causes old new said = record no_causes {
+  disk = Unit {0};
+  too_large = (are_short old.store.limits said.files ≡ false) ⊎ IsFullAt new;
+  malformed = old.store.tells ≡ true → IsApartFor old.store.limits new said.files → ⊥;
+}
+
+-- While files are stored in a folder at a time, whose disk has the files `new` then: as in a session; and, if the disk is
+-- observable, a shard only if it is the first with which a check fails.
+abbrev pub storing_causes : Bool → LimitSettings → Said → ℕ → Files → Files → Causes
+storing_causes tells s said now files new = record no_causes {
+  disk = Unit {0};
+  too_large = (are_short s said.files ≡ false) ⊎ (tells ≡ true → IsFull new now);
+  malformed = tells ≡ true → AreApart new now s said.files → ⊥;
   bad_shard = λ name. IsShardName name × (tells ≡ true → (e : StoreError) × Refuses files store_folder now e name);
 }
 
@@ -135,31 +167,34 @@ storing_causes tells s said now files = record (session_causes tells s said) {
 abbrev pub opening_causes : Bool → Named (List ℕ) → List (List ℕ) → Causes
 opening_causes tells inputs names = record no_causes { input = Unit {0}; not_found = tells ≡ true → Any (λ name. get inputs name ≡ None) names }
 
--- while files are cleaned by name in a session: besides, too large only if a file is; then as in a session
-abbrev pub naming_causes : Bool → Named (List ℕ) → List (List ℕ) → State → Causes
-naming_causes tells inputs names s = record (opening_causes tells inputs names) {
-  too_large = tells ≡ true → (files : List (List ℕ)) × AreNamed inputs names files × (are_short s.limits files ≡ false);
+-- while files are cleaned by name in a session, from `old` to `new`: besides, as in a session
+abbrev pub naming_causes : Bool → Named (List ℕ) → List (List ℕ) → RecordedState → RecordedState → Causes
+naming_causes tells inputs names old new = record (opening_causes tells inputs names) {
+  too_large = (tells ≡ true → (files : List (List ℕ)) × AreNamed inputs names files × (are_short old.store.limits files ≡ false)) ⊎ IsFullAt new;
   disk = Unit {0};
-  malformed = s.tells ≡ false;
+  malformed = tells ≡ true → old.store.tells ≡ true → (files : List (List ℕ)) × AreNamed inputs names files × (IsApartFor old.store.limits new files → ⊥);
 }
 
--- While sources are cleaned in a session: a failure of a source or of the disk; too large only if a source is.
-abbrev pub cleaning_causes : {S : Type 0} → (S → Bool) → (S → List ℕ) → (S → ℕ) → List S → List S → State → Causes
-cleaning_causes tells left faults old new s = record no_causes {
-  input = (i : ℕ) × RoseAt faults old new i;
-  too_large = (i : ℕ) × IsLongAt tells left old s.limits.max_source_bytes i;
+-- While sources are cleaned in a session, from `old` to `new`: a failure of a source or of the disk; too large only if a source
+-- is or the session is full; malformed only if the disk is not observable or there are collisions.
+abbrev pub cleaning_causes : {S : Type 0} → (S → Bool) → (S → List ℕ) → (S → ℕ) → List S → List S → RecordedState → RecordedState → Causes
+cleaning_causes tells left faults sources now old new = record no_causes {
+  input = (i : ℕ) × RoseAt faults sources now i;
+  too_large = ((i : ℕ) × IsLongAt tells left sources old.store.limits.max_source_bytes i) ⊎ IsFullAt new;
   disk = Unit {0};
+  malformed = old.store.tells ≡ true → AllByRecursion (λ s. tells s ≡ true) sources → AreApartUnder new (chunkings left old.store.limits sources) → NoneEnds (chunkings left old.store.limits sources) → ⊥;
 }
 
 -- The folder of the store is valid at a time, if the disk is observable, and P holds of its contents.
 abbrev pub ForValid : Bool → Files → ℕ → (Contents → Type 0) → Type 0
 ForValid tells files now P = (contents : Contents) × (tells ≡ true → HasContents files store_folder now contents) × P contents
 
--- while a folder is opened at a time: a failure of the disk; and, if the disk is observable, a shard only if it is
--- the first with which a check fails
+-- while a folder is opened at a time: a failure of the disk; and, if the disk is observable, too large only if the folder is
+-- full, and a shard only if it is the first with which a check fails
 abbrev pub folder_causes : Bool → ℕ → Files → Causes
 folder_causes tells now files = record no_causes {
   disk = Unit {0};
+  too_large = tells ≡ true → IsFull files now;
   bad_shard = λ name. IsShardName name × (tells ≡ true → (e : StoreError) × Refuses files store_folder now e name);
 }
 
@@ -171,11 +206,20 @@ reading_range_causes tells now files h from to = record (folder_causes tells now
   malformed = tells ≡ false;
 }
 
--- while files are cleaned by name in a folder: besides, an input fails only once the folder was found valid
-abbrev pub cleaning_store_causes : Bool → Named (List ℕ) → List (List ℕ) → Bool → ℕ → Files → Causes
-cleaning_store_causes inputs_tell inputs names tells now files = record (folder_causes tells now files) {
+-- While files are cleaned by name in a folder, whose disk has the files `new` then: besides, an input fails only once the folder
+-- was found valid; malformed only if the disk is not observable or there are collisions.
+abbrev pub cleaning_store_causes : Bool → Named (List ℕ) → List (List ℕ) → Bool → ℕ → Files → Files → Causes
+cleaning_store_causes inputs_tell inputs names tells now files new = record (folder_causes tells now files) {
   input = ForValid tells files now (λ contents. Unit {0});
   not_found = ForValid tells files now (λ contents. inputs_tell ≡ true → Any (λ name. get inputs name ≡ None) names);
-  too_large = ForValid tells files now (λ contents. inputs_tell ≡ true → (found : List (List ℕ)) × AreNamed inputs names found × (are_short default_limits found ≡ false));
-  malformed = tells ≡ false;
+  too_large = ForValid tells files now (λ contents. inputs_tell ≡ true → (found : List (List ℕ)) × AreNamed inputs names found × (are_short default_limits found ≡ false)) ⊎ (tells ≡ true → IsFull new now);
+  malformed = inputs_tell ≡ true → tells ≡ true → (found : List (List ℕ)) × AreNamed inputs names found × (AreApart new now default_limits found → ⊥);
+}
+
+-- While a file of these bytes and the same with one byte inserted are stored in a folder, whose disk has the files `new` then:
+-- besides, too large only if the folder is full then; malformed only if the disk is not observable or there are collisions.
+abbrev pub making_causes : Bool → ℕ → Files → Files → List ℕ → Causes
+making_causes tells now files new bytes = record (folder_causes tells now files) {
+  too_large = tells ≡ true → IsFull new now;
+  malformed = tells ≡ true → AreApart new now default_limits (both_files bytes) → ⊥;
 }

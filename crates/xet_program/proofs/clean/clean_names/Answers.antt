@@ -1,12 +1,12 @@
-use Rattle.std.proofs.Common.{◌∙◌, ◌<◌, Any, IfErr, length, map, string_bytes, subst, sym, ap, arith}
+use Rattle.std.proofs.Common.{◌≡◌, ◌∙◌, ◌<◌, Any, Err, IfErr, length, map, string_bytes, subst, sym, ap, arith}
 use Rattle.std.proofs.lemmas.List.{length-map, with_items_is}
-use Rattle.std.proofs.lemmas.Result.{IfErr-weaker}
+use Rattle.std.proofs.lemmas.Result.{IfErr-at_err, IfErr-weaker}
 use Rattle.xet_cut.specs.Limits.{AreInRange}
 use Rattle.xet_store.specs.theorems.Keeping.{keeps_nothing, keeps_then}
 use Rattle.xet_program.specs.declared.ending.Stop.TheVariants as stop
-use Rattle.xet_program.specs.internal.Stops.{IsStop, cleaning_causes, naming_causes}
+use Rattle.xet_program.specs.internal.Stops.{IsStop, cleaning_causes, naming_causes, opening_causes}
 use Rattle.xet_program.proofs.Complete.{none_absent}
-use Rattle.xet_program.proofs.Opened.{on_ok_here, opened_count, opened_lent, opened_named, rose_after, same_length, some_failed, stop_of_names}
+use Rattle.xet_program.proofs.Opened.{on_ok_here, opened_count, opened_lent, opened_named, rose_after, rose_then, same_length, some_failed, stop_of_names, stop_of_opening}
 use Rattle.xet_program.proofs.Settled.{AreSteps}
 use Rattle.xet_program.proofs.Reported.{cause_all, cause_of, names_answer, no_bounds, stop_names}
 use Rattle.xet_program.proofs.clean.clean_names.Goals as goal
@@ -34,8 +34,9 @@ returns-in-Ok-clause-cleaned g c =
     let steps : AreSteps c.args.session c.clean_sources-session.result.0 c.report_all-session.result.0 = record {
       cleaned = c.clean_sources-session.ensures.keeps;
       keeps = c.report_all-session.ensures.keeps;
-      sound = c.recall_invariant-in-Ok.ensures;
-      flushed = c.recall_invariant-in-Ok-2.ensures;
+      sound = c.recall_sound.ensures;
+      flushed = c.recall_sound-in-Ok.ensures;
+      recorded = c.recall_invariant-in-Ok.ensures;
       folder = c.requires.folder;
       fits = subst AreInRange c.limits.ensures c.recall_invariant.ensures;
       contents = c.requires.contents;
@@ -55,9 +56,10 @@ returns-in-Ok-clause-stop g c =
     let old = c.deref_mut.result.now in
     let new = c.clean_sources-session.new.sources in
     let opened = opened_lent told files g.F.S.Source.tells g.F.S.Source.left g.F.S.Source.faults names c.open_all-sources.result.0.items old c.in-Ok.is c.open_all-sources.ensures.opened c.deref_mut.ensures.value in
-    let stops : IfErr c.clean_sources-session.result.1 (IsStop (naming_causes told files names session)) =
-    IfErr-weaker c.clean_sources-session.result.1 (IsStop (cleaning_causes g.F.S.Source.tells g.F.S.Source.left g.F.S.Source.faults old new session)) (IsStop (naming_causes told files names session))
-    (λ e h. stop_of_names told files g.F.S.Source.tells g.F.S.Source.left g.F.S.Source.faults names old new session e opened h) c.clean_sources-session.ensures.stop in
+    let before = c.clean_sources-session.result.0 in
+    let stops : IfErr c.clean_sources-session.result.1 (IsStop (naming_causes told files names session before)) =
+    IfErr-weaker c.clean_sources-session.result.1 (IsStop (cleaning_causes g.F.S.Source.tells g.F.S.Source.left g.F.S.Source.faults old new session before)) (IsStop (naming_causes told files names session before))
+    (λ e h. stop_of_names told files g.F.S.Source.tells g.F.S.Source.left g.F.S.Source.faults names old new session before e opened h) c.clean_sources-session.ensures.stop in
     stop_names session c.clean_sources-session.result.0 c.report_all-session.result.0 told files names c.clean_sources-session.result.1 c.report_all-session.result.1 c.clean_sources-session.ensures.keeps.tells stops c.report_all-session.ensures.stop
     c.report_all-session.ensures.stopped
 
@@ -74,7 +76,7 @@ returns-in-Ok-clause-absent g c = λ told lacks.
 pub returns-in-Ok-clause-kept : goal.returns-in-Ok-clause-kept
 returns-in-Ok-clause-kept g c = λ is.
     let source = g.F.S.Source in
-    absurd (cause_of _ (cleaning_causes source.tells source.left source.faults c.deref_mut.result.now c.clean_sources-session.new.sources c.args.session) c.clean_sources-session.result.0 c.report_all-session.result.0
+    absurd (cause_of _ (cleaning_causes source.tells source.left source.faults c.deref_mut.result.now c.clean_sources-session.new.sources c.args.session c.clean_sources-session.result.0) c.clean_sources-session.result.0 c.report_all-session.result.0
     c.clean_sources-session.result.1 c.report_all-session.result.1 stop.NotFound (λ h. h) c.clean_sources-session.ensures.stop c.report_all-session.ensures.stop c.report_all-session.ensures.stopped is)
 
 pub returns-in-Ok-clause-cause : goal.returns-in-Ok-clause-cause
@@ -103,7 +105,7 @@ returns-in-Ok-clause-inputs g c =
       later = omega (arith, closes.later, opens.later);
       rose = λ is.
           let opened = opened_lent _ _ source.tells source.left source.faults _ c.open_all-sources.result.0.items old c.in-Ok.is c.open_all-sources.ensures.opened c.deref_mut.ensures.value in
-          let why = cause_of _ (cleaning_causes source.tells source.left source.faults old new c.args.session) c.clean_sources-session.result.0 c.report_all-session.result.0 c.clean_sources-session.result.1 c.report_all-session.result.1 stop.Input (λ h. h)
+          let why = cause_of _ (cleaning_causes source.tells source.left source.faults old new c.args.session c.clean_sources-session.result.0) c.clean_sources-session.result.0 c.report_all-session.result.0 c.clean_sources-session.result.1 c.report_all-session.result.1 stop.Input (λ h. h)
           c.clean_sources-session.ensures.stop c.report_all-session.ensures.stop c.report_all-session.ensures.stopped is in
           let failed = some_failed _ _ source.tells source.left source.faults _ old new why.0 opened why.1 in
           let sources = c.open_all-sources.result.0 in
@@ -112,4 +114,29 @@ returns-in-Ok-clause-inputs g c =
     }
 
 pub returns-in-Err-clause-keeps : goal.returns-in-Err-clause-keeps
-returns-in-Err-clause-keeps g c = keeps_nothing c.args.session
+returns-in-Err-clause-keeps g c = keeps_nothing c.args.session.store
+
+pub returns-in-Err-clause-stop : goal.returns-in-Err-clause-stop
+returns-in-Err-clause-stop g c =
+    let told = g.F.Inputs.tells c.args.inputs.now in
+    let files = g.F.Inputs.files c.args.inputs.now in
+    let names = map string_bytes c.args.names.now in
+    stop_of_opening told files names c.args.session c.in-Err.stop (IfErr-at_err (IsStop (opening_causes told files names)) c.in-Err.is c.open_all-sources.ensures.stop)
+
+pub returns-in-Err-clause-cause : goal.returns-in-Err-clause-cause
+returns-in-Err-clause-cause g c =
+    let causes = opening_causes (g.F.Inputs.tells c.args.inputs.now) (g.F.Inputs.files c.args.inputs.now) (map string_bytes c.args.names.now) in record {
+      later = omega arith;
+      rose = λ is. let disk : c.in-Err.stop ≡ stop.Disk = cc is in absurd (subst (IsStop causes) disk (IfErr-at_err (IsStop causes) c.in-Err.is c.open_all-sources.ensures.stop));
+    }
+
+pub returns-in-Err-clause-inputs : goal.returns-in-Err-clause-inputs
+returns-in-Err-clause-inputs g c =
+    let opens = c.open_all-sources.ensures.inputs in
+    let closes = c.close_all-in-Err.ensures.inputs in
+    record {
+      same = closes.same ∙ opens.same;
+      tells = closes.tells ∙ opens.tells;
+      later = omega (arith, closes.later, opens.later);
+      rose = λ is. let input : c.in-Err.stop ≡ stop.Input = cc is in rose_then _ _ _ (opens.rose (c.in-Err.is ∙ ap Err input)) closes.later;
+    }

@@ -5,7 +5,7 @@ use Rattle.xet_program.specs.internal.Answered.{Answered}
 use Rattle.xet_program.specs.Start.{start}
 use Rattle.xet_program.specs.internal.Stops.{answer_outcome}
 use Rattle.xet_program.specs.internal.Asked.{AllowsInput, asked}
-use Rattle.xet_program.proofs.Alone.{answered_clean, answered_group}
+use Rattle.xet_program.proofs.Alone.{answered_clean, answered_group, answered_make}
 use Rattle.xet_program.proofs.run.answer.Goals as goal
 
 pub clean-requires-after_bounds : goal.clean-requires-after_bounds
@@ -18,6 +18,17 @@ returns-in-Clean-clause-answered g c =
     let from = start (g.I.Source.tells c.args.input.now) (g.I.Source.left c.args.input.now) (g.F.Inputs.tells c.args.inputs.now) (g.F.Inputs.files c.args.inputs.now) c.args.now (g.D.Disk.tells c.args.disk) (g.D.Disk.files c.args.disk) in
     subst (λ (x : Parsed). Answered (Some (asked x)) from (g.D.Disk.files c.clean.result.0) (answer_outcome c.clean.result.1)) (sym c.in-Clean.is)
     (answered_clean from (g.D.Disk.files c.clean.result.0) (map string_bytes c.in-Clean.names.now) c.clean.result.1 c.clean.ensures.cleaned c.clean.ensures.stop c.clean.ensures.listed c.clean.ensures.keeps c.clean.ensures.refused c.clean.ensures.absent c.clean.ensures.kept c.clean.ensures.foreign)
+
+pub make-requires-after_bounds : goal.make-requires-after_bounds
+make-requires-after_bounds g c = λ lives within.
+    subst (λ (x : Parsed). AllowsInput (asked x)) c.in-Make.is c.requires
+
+pub returns-in-Make-clause-answered : goal.returns-in-Make-clause-answered
+returns-in-Make-clause-answered g c =
+    let from = start (g.I.Source.tells c.args.input.now) (g.I.Source.left c.args.input.now) (g.F.Inputs.tells c.args.inputs.now) (g.F.Inputs.files c.args.inputs.now) c.args.now (g.D.Disk.tells c.args.disk) (g.D.Disk.files c.args.disk) in
+    let new = g.D.Disk.files c.make.result.0 in
+    subst (λ (x : Parsed). Answered (Some (asked x)) from new (answer_outcome c.make.result.1)) (sym c.in-Make.is)
+    (answered_make from new c.in-Make.seed c.in-Make.bytes c.make.result.1 c.make.ensures.made c.make.ensures.stop c.make.ensures.listed c.make.ensures.keeps c.make.ensures.refused c.make.ensures.kept c.make.ensures.foreign)
 
 pub returns-in-Group-clause-answered : goal.returns-in-Group-clause-answered
 returns-in-Group-clause-answered g c =

@@ -1,12 +1,15 @@
-use Rattle.std.proofs.Common.{◌∙◌, subst, sym}
+use Rattle.std.proofs.Common.{◌∙◌, IsSome, List, subst, sym}
 use Rattle.std.proofs.lemmas.Result.{IfErr-at_err, IfOk-at_ok}
 use Rattle.std.specs.List.{AllByRecursion}
-use Rattle.xet_store.specs.declared.info.Cleaned.{Cleaned}
-use Rattle.xet_store.specs.Cleaning.{HasFile, StoresAll, chunkings}
+use Rattle.xet_clean.specs.Cleaning.{AreChosen, IsCleaned, RecordsFile, calls_since, files_in}
+use Rattle.xet_clean.specs.declared.info.Cleaned.{Cleaned}
+use Rattle.xet_history.specs.declared.entry.Entry.{Entry}
+use Rattle.xet_store.specs.Cleaning.{HasFile, chunkings}
 use Rattle.xet_store.specs.Separate.{Separate}
-use Rattle.xet_store.specs.Steps.{ListsXorbs}
+use Rattle.xet_store.specs.Store.{plan_of}
 use Rattle.xet_program.specs.internal.Stops.{IsStop, cleaning_causes}
-use Rattle.xet_program.proofs.Cleaned.{Reason, chunked_files, rose_of_reason, stop_of_reason}
+use Rattle.xet_program.proofs.Cleaned.{Reason, chosen_all, chunked_files, rose_of_reason, since_is, stop_of_reason}
+use Rattle.xet_program.proofs.MadeFiles.{added_of, counted_of}
 use Rattle.xet_program.proofs.session.clean_sources.Goals as goal
 
 pub returns-in-Ok-clause-cleaned : goal.returns-in-Ok-clause-cleaned
@@ -14,23 +17,49 @@ returns-in-Ok-clause-cleaned g c =
     let tells = g.S.Source.tells in
     let left = g.S.Source.left in
     let first = c.args.session in
-    let l = first.limits in
+    let l = first.store.limits in
     let s = c.clean_files-session.result.0 in
     let sources = c.args.sources.now in
-    let read = IfOk-at_ok (λ (x : Cleaned). StoresAll tells left sources first s x.infos.items) c.in-Ok.is c.clean_files-session.ensures.stores in
+    let is = IfOk-at_ok (λ (x : Cleaned). IsCleaned tells left sources first s x.infos.items x.choices.items x.metrics) c.in-Ok.is c.clean_files-session.ensures.cleaned in
+    let grows = c.clean_files-session.ensures.steps in
+    let since = since_is first s grows.entries grows.steps.moves.history in
     record {
-      files = read.0;
-      each = read.1;
-      told = read.2;
-      tables = read.3;
+      files = is.files;
+      each = is.told;
+      told = is.pointers;
+      entries = grows.entries;
+      steps = grows.steps;
+      recorded = chosen_all l grows.entries _ is.files _ (subst (λ (es : List Entry). AreChosen l (calls_since first s) is.files c.in-Ok.cleaned.choices.items (files_in es)) since is.chosen);
+      only = subst (λ (es : List Entry). AllByRecursion (RecordsFile l is.files) es) since is.only;
       has = λ told tell apart.
-          let e = chunked_files tells left l sources read.0 read.1 tell in
-          subst (AllByRecursion (HasFile s)) e
-          (IfOk-at_ok (λ (x : Cleaned). AllByRecursion (HasFile s) (chunkings left l sources)) c.in-Ok.is (c.clean_files-session.ensures.files told tell (subst (Separate s) (sym e) apart)));
-      lists = λ tell.
-          subst (AllByRecursion (ListsXorbs s)) (chunked_files tells left l sources read.0 read.1 tell)
-          (IfOk-at_ok (λ (x : Cleaned). AllByRecursion (ListsXorbs s) (chunkings left l sources)) c.in-Ok.is (c.clean_files-session.ensures.listed tell));
+          let e = chunked_files tells left l sources is.files is.told tell in
+          subst (AllByRecursion (HasFile s.store)) e
+          (IfOk-at_ok (λ (x : Cleaned). AllByRecursion (HasFile s.store) (chunkings left l sources)) c.in-Ok.is (c.clean_files-session.ensures.files told tell (subst (Separate s.store) (sym e) apart)));
     }
+
+pub returns-in-Ok-clause-planned : goal.returns-in-Ok-clause-planned
+returns-in-Ok-clause-planned g c =
+    let s = c.clean_files-session.result.0 in
+    IfOk-at_ok (λ (x : Cleaned). AllByRecursion (λ info. IsSome (plan_of s.store.records info.hash)) x.infos.items) c.in-Ok.is c.clean_files-session.ensures.recorded
+
+pub returns-in-Ok-clause-counted : goal.returns-in-Ok-clause-counted
+returns-in-Ok-clause-counted g c =
+    let tells = g.S.Source.tells in
+    let left = g.S.Source.left in
+    let first = c.args.session in
+    let s = c.clean_files-session.result.0 in
+    let sources = c.args.sources.now in
+    counted_of tells left sources first s _ _ _ (IfOk-at_ok (λ (x : Cleaned). IsCleaned tells left sources first s x.infos.items x.choices.items x.metrics) c.in-Ok.is c.clean_files-session.ensures.cleaned)
+
+pub returns-in-Ok-clause-added : goal.returns-in-Ok-clause-added
+returns-in-Ok-clause-added g c =
+    let tells = g.S.Source.tells in
+    let left = g.S.Source.left in
+    let first = c.args.session in
+    let s = c.clean_files-session.result.0 in
+    let sources = c.args.sources.now in
+    let grows = c.clean_files-session.ensures.steps in
+    added_of tells left sources first s _ _ _ (IfOk-at_ok (λ (x : Cleaned). IsCleaned tells left sources first s x.infos.items x.choices.items x.metrics) c.in-Ok.is c.clean_files-session.ensures.cleaned) grows.entries grows.steps
 
 pub returns-in-Err : goal.returns-in-Err
 returns-in-Err g c =
@@ -39,13 +68,20 @@ returns-in-Err g c =
     let faults = g.S.Source.faults in
     let old = c.args.sources.now in
     let new = c.clean_files-session.new.sources in
+    let first = c.args.session in
     let s = c.clean_files-session.result.0 in
     let cleaning = c.clean_files-session.ensures in
-    let reason = IfErr-at_err (Reason tells left faults old new c.args.session s) c.in-Err.is cleaning.reason in
+    let reason = IfErr-at_err (Reason tells left faults old new first s) c.in-Err.is cleaning.reason in
     record {
       cleaned = tt;
+      planned = tt;
+      counted = tt;
+      added = tt;
       keeps = cleaning.keeps;
-      stop = subst (IsStop (cleaning_causes tells left faults old new c.args.session)) (sym c.from.ensures) (stop_of_reason tells left faults old new c.args.session s c.in-Err.error reason);
+      stop = subst (IsStop (cleaning_causes tells left faults old new first s)) (sym c.from.ensures) (stop_of_reason tells left faults old new first s c.in-Err.error reason);
       sources = cleaning.sources_tell;
-      cause = record { later = cleaning.keeps.later; rose = λ is. rose_of_reason tells left faults old new c.args.session s c.in-Err.error reason (sym c.from.ensures ∙ cc is) };
+      cause = record { later = cleaning.keeps.later; rose = λ is. rose_of_reason tells left faults old new first s c.in-Err.error reason (sym c.from.ensures ∙ cc is) };
     }
+
+pub returns-in-Ok-clause-cause : goal.returns-in-Ok-clause-cause
+returns-in-Ok-clause-cause g c = record { later = c.clean_files-session.ensures.keeps.later; rose = λ is. absurd (cc is) }

@@ -12,9 +12,9 @@ returns-clause-line g c =
     let info = c.index-infos-range.result in
     let bytes = c.in_ok-bytes.bytes.items in
     let hash : hash_at c.args.infos.now r.file ≡ info.hash = hash_read c.args.infos.now r.file (r.file - 1) info (omega arith) (omega arith) c.index-infos-range.is in
-    let one : IsLineRead c.args.session.now c.args.infos.now r (bytes_line bytes) = record {
+    let one : IsLineRead c.args.session.now.store c.args.infos.now r (bytes_line bytes) = record {
       bytes = bytes;
-      read = λ told. subst (λ (h : List ℕ). IsRange c.args.session.now h r.from r.to bytes) (sym hash) (c.in_ok-bytes.ensures.range told);
+      read = λ told. subst (λ (h : List ℕ). IsRange c.args.session.now.store h r.from r.to bytes) (sym hash) (c.in_ok-bytes.ensures.range told);
       is = refl;
     } in
     on_ok_weaker c.push_bytes_line.result (λ e. (bytes_line bytes, one, e ∙ ap (λ (b : List ℕ). c.args.text.now.items ++ bytes_line b) c.deref.ensures.value)) c.push_bytes_line.ensures.line
