@@ -4,6 +4,8 @@
 #[cfg(test)]
 mod files;
 #[cfg(test)]
+mod locked_tests;
+#[cfg(test)]
 mod query_tests;
 #[cfg(test)]
 mod recorded;

@@ -1,0 +1,10 @@
+pub mod Cases
+pub mod Pending
+pub mod Made
+pub mod Entries
+pub mod Growing
+pub mod Seeing
+pub mod Failing
+pub mod Telling
+pub mod Since
+pub mod Returning

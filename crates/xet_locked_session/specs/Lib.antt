@@ -1,0 +1,4 @@
+pub mod Session
+pub mod Passes
+pub mod Coding
+pub mod internal

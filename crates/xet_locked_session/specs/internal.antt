@@ -1,0 +1,3 @@
+pub mod Nothing
+pub mod Made
+pub mod Returned

@@ -1,0 +1,25 @@
+//! `Naming`: what a session was when it was locked.
+
+use std::marker::Brand;
+use std::sync::ledger::Ledger;
+
+/// What a session was when it was locked: the store, and the table that counts its history from then on. A type of this kind is
+/// chosen by the call that makes the session, and holds for all its parts.
+pub trait Naming: Ledger {
+    ghost use Rattle.atomic_table.specs.Seated.{TableId};
+    ghost use Rattle.xet_steps.specs.Recorded.{RecordedState};
+
+    /// The table, which counts the history from `LockedSession::new` on.
+    ghost table: { TableId };
+
+    /// The store that was passed to `LockedSession::new`.
+    ghost store: { RecordedState };
+}
+
+impl Naming for Brand {
+    ghost use Rattle.xet_locked_session.specs.internal.Nothing.{no_store, no_table};
+
+    ghost table = { no_table };
+
+    ghost store = { no_store };
+}

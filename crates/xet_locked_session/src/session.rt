@@ -1,0 +1,129 @@
+//! `LockedSession`, what is under its lock, and its passes.
+
+ghost use Rattle.std.specs.Prelude.{◌≡◌, []};
+ghost use Rattle.xet_shared_history.specs.Seen.{seen_by};
+
+mod closing;
+mod locked;
+mod making;
+mod named;
+mod passes;
+mod steps;
+mod telling;
+
+use crate::naming::Naming;
+use std::marker::{Model, PhantomData, Send};
+use std::sync::Mutex;
+use std::sync::ledger::{Blank, Book, Share};
+use xet_io::Disk;
+use xet_shared_history::{HistoryWord, Reader, Writer};
+use xet_steps::Store;
+
+/// A store, with a type that names what it was when the session was made. Contracts see the store.
+#[derive(Drop)]
+pub struct NamedStore<D: Disk + Send, J: Naming> {
+    store: Store<D>,
+    of: PhantomData<J>,
+}
+
+impl<D: Disk + Send, J: Naming> Model for NamedStore<D, J> {
+    ghost use Rattle.xet_steps.specs.Coding.{recorded_code};
+    ghost use Rattle.xet_steps.specs.Recorded.{RecordedState};
+    ghost use Rattle.xet_locked_session.specs.Session.{IsSince};
+
+    ghost Value = { RecordedState };
+
+    ghost coded = { recorded_code };
+
+    ghost view = { λ s. s.store };
+
+    ghost invariant = { λ s. IsSince J.store s.store };
+}
+
+/// What is under the lock: the store, and what counts its history. Contracts see the store.
+#[derive(Drop)]
+pub struct Desk<D: Disk + Send, J: Naming> {
+    store: NamedStore<D, J>,
+    log: Log<J>,
+}
+
+/// What counts the history since the session was made.
+#[derive(Drop)]
+pub struct Log<J: Naming> {
+    writer: Writer,
+    /// The number of entries since the session was made.
+    count: u64,
+    book: Book<J>,
+    /// The part of the ledger that no pass has.
+    rest: Share<J>,
+}
+
+impl<D: Disk + Send, J: Naming> Model for Desk<D, J> {
+    ghost use Rattle.std.specs.Prelude.{◌≡◌, ◌++◌, length};
+    ghost use Rattle.xet_steps.specs.Coding.{recorded_code};
+    ghost use Rattle.xet_steps.specs.Recorded.{RecordedState};
+
+    ghost Value = { RecordedState };
+
+    ghost coded = { recorded_code };
+
+    ghost view = { λ s. s.store };
+
+    ghost invariant = { λ s. (s.log.writer.table ≡ J.table) × (s.store.history ≡ J.store.history ++ s.log.writer.seen) × (s.log.count ≡ length s.log.writer.seen) × (s.log.book.total ≡ length s.log.writer.seen) × (s.log.rest.parts ≡ 1) × (s.log.rest.amount ≡ 0) };
+}
+
+/// One of several that share a session: what it has seen of the history, and which entries are its own. Contracts see a `Holder`
+/// that has not stopped.
+#[derive(Drop)]
+pub struct Pass<J: Naming> {
+    number: u32,
+    known: Known<J>,
+}
+
+/// What a pass has seen, and the numbers of its own entries.
+#[derive(Drop)]
+pub struct Known<J: Naming> {
+    reader: Reader,
+    /// The length of the history that it has seen.
+    seen: u64,
+    own: Vec<u64>,
+    share: Share<J>,
+}
+
+impl<J: Naming> Model for Pass<J> {
+    ghost use Rattle.std.specs.Prelude.{◌≡◌, ◌++◌, length};
+    ghost use Rattle.xet_history.specs.History.{Legal};
+    ghost use Rattle.xet_shared_history.specs.Owned.{AreOwn};
+    ghost use Rattle.xet_stepping.specs.Holders.{Holder};
+    ghost use Rattle.xet_steps.specs.Recorded.{core_of};
+    ghost use Rattle.xet_locked_session.specs.Coding.{holder_code};
+    ghost use Rattle.xet_locked_session.specs.Passes.{holder_of};
+
+    ghost Value = { Holder };
+
+    ghost coded = { holder_code };
+
+    ghost view = { λ p. holder_of J.store p.number p.known.own.items p.known.reader.seen };
+
+    ghost invariant = { λ p. (p.known.reader.table ≡ J.table) × (p.known.seen ≡ length (J.store.history ++ p.known.reader.seen)) × AreOwn p.number (J.store.history ++ p.known.reader.seen) (length J.store.history) p.known.own.items × Legal J.store.store.tells (core_of J.store) p.known.reader.seen
+        × (p.known.share.parts ≡ 1) × (p.known.share.amount ≡ length p.known.own.items) };
+}
+
+/// A store under a lock. Each of its passes makes steps of it, and knows what it has seen of the history.
+#[derive(Drop)]
+pub struct LockedSession<D: Disk + Send, J: Naming> {
+    word: HistoryWord,
+    desk: Mutex<Desk<D, J>>,
+    ghost named: { word ≡ J.table },
+}
+
+/// What a session is made from: a table and a ledger that no type names yet. So they can be named before the session is made.
+#[derive(Drop)]
+pub struct Opened {
+    /// Counts the history.
+    pub word: HistoryWord,
+    writer: Writer,
+    /// Counts the entries of the passes.
+    pub blank: Blank,
+    pub ghost fresh: { writer ≡ seen_by word [] },
+}

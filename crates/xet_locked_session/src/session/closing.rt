@@ -1,0 +1,83 @@
+//! The store is taken out of the lock.
+
+ghost use Rattle.std.specs.Prelude.{◌≡◌, ◌+◌, ◌++◌, length};
+ghost use Rattle.std.specs.List.{AllByRecursion};
+ghost use mathlib.Core.List.{IsPrefix};
+ghost use Rattle.xet_shared_history.specs.Owned.{AreOwn, HasEachOnce};
+ghost use Rattle.xet_stepping.specs.Holders.{seen};
+ghost use Rattle.xet_locked_session.specs.Passes.{IsSeen, NumbersDiffer, own_numbers};
+ghost use Rattle.xet_locked_session.specs.Session.{IsSince};
+ghost use Rattle.xet_locked_session.specs.internal.Returned.{IsReturned};
+
+use super::{Desk, Known, LockedSession, Log, NamedStore, Pass};
+use crate::naming::Naming;
+use std::marker::Send;
+use std::sync::ledger::Share;
+use xet_io::Disk;
+use xet_shared_history::{HistoryWord, Writer};
+use xet_steps::Store;
+
+impl<D: Disk + Send, J: Naming> LockedSession<D, J> {
+    /// The store, whether or not passes are left. That passes made the entries which were added since is promised by `close`
+    /// alone.
+    pub fn abandon(self) -> Store<D>
+        ensures { IsSince J.store result }
+    {
+        let LockedSession { word: _, desk } = self;
+        let Desk { store, log: _ } = desk.into_inner();
+        store.recall_invariant();
+        let NamedStore { store, of: _ } = store;
+        store
+    }
+
+    /// The store, once all passes are back. The history begins with what each of them has seen, and their own entries are
+    /// together those that were added since the session was made.
+    pub fn close(self, passes: Vec<Pass<J>>) -> Store<D>
+        requires all { length passes.items + 1 ≡ J.parts }
+        requires differ { NumbersDiffer passes.items }
+        ensures since { IsSince J.store result }
+        ensures known { AllByRecursion IsSeen passes.items }
+        ensures seen { AllByRecursion (λ p. IsPrefix (seen p) result.history) passes.items }
+        ensures own { HasEachOnce (length J.store.history) (length result.history) (own_numbers passes.items) }
+    {
+        let LockedSession { word, desk } = self;
+        let Desk { store, log } = desk.into_inner();
+        let Log {
+            mut writer,
+            count: _,
+            mut book,
+            mut rest,
+        } = log;
+        store.recall_invariant();
+        let mut left = passes;
+        'passes: while let Some(pass) = left.pop() {
+            return_pass::<J>(&word, &mut writer, &mut rest, pass);
+        }
+        book.audit(&mut rest);
+        let NamedStore { store, of: _ } = store;
+        store
+    }
+}
+
+/// The parts that a pass has of the table and of the ledger are returned.
+fn return_pass<J: Naming>(
+    word: &HistoryWord,
+    writer: &mut Writer,
+    rest: &mut Share<J>,
+    pass: Pass<J>,
+)
+    requires tables { (word.now ≡ J.table) × (writer.old.table ≡ J.table) }
+    ensures returned { IsReturned J.store (J.store.history ++ writer.old.seen) pass }
+    ensures writer { writer.new ≡ writer.old }
+    ensures rest { (rest.new.parts ≡ rest.old.parts + 1) × (rest.new.amount ≡ rest.old.amount + length pass.own) }
+{
+    let Pass { number: _, known } = pass;
+    let Known {
+        mut reader,
+        seen: _,
+        own: _,
+        share,
+    } = known;
+    word.compare(writer, &mut reader);
+    rest.merge(share);
+}

@@ -1,0 +1,4 @@
+pub mod Seen
+pub mod Owned
+pub mod internal
+pub mod theorems

@@ -1,0 +1,187 @@
+//! Tests of a session that passes share under a lock.
+
+ghost use Rattle.std.specs.Prelude.{◌≡◌};
+ghost use Rattle.xet_dedup_queries.specs.Registering.{IsNewXorb};
+ghost use Rattle.xet_locked_session.specs.Passes.{new_passes};
+ghost use Rattle.xet_shard_format.specs.Records.{IsFile};
+ghost use Rattle.xet_stepping.specs.Holders.{xorb_limits};
+
+use crate::files::{chunk_hashes, record, xorb};
+use crate::recorded::limits;
+use std::alloc::Global;
+use std::marker::Brand;
+use std::sync::Wait;
+use std::test::Fail;
+use xet_hash::StoreError;
+use xet_io::MemoryDisk;
+use xet_locked_session::{LockedSession, Naming, Opened, Pass};
+use xet_shard_format::MDBFileInfo;
+use xet_steps::Store;
+use xet_xorb::RawXorbData;
+
+/// Whether the xorb and the file were new; how many chunks the query found; whether the first flush wrote a shard, and the
+/// second one; the lengths of the history that the two passes have seen.
+type Seen = (bool, bool, Option<usize>, (bool, bool), (u64, u64));
+
+/// The first pass registers the xorb and flushes; the second one queries, records the file, and flushes again.
+fn take_turns<J: Naming, R: Wait>(
+    rt: &R,
+    session: &LockedSession<MemoryDisk, J>,
+    first: &mut Pass<J>,
+    second: &mut Pass<J>,
+    xorb: RawXorbData,
+    file: MDBFileInfo,
+) -> Result<Seen, StoreError>
+    requires new { IsNewXorb (xorb_limits first.old.limits) xorb }
+    requires form { IsFile file }
+{
+    let [a, b] = chunk_hashes();
+    let is_new = session.register_xorb(rt, first, xorb, &[])?;
+    let found = match session.query(rt, second, &[a, b])? {
+        Some((count, _)) => Some(count),
+        None => None,
+    };
+    let recorded = session.complete_file(rt, second, file)?;
+    let wrote = session.flush(rt, first)?.is_some();
+    let again = session.flush(rt, second)?.is_some();
+    Ok((
+        is_new,
+        recorded,
+        found,
+        (wrote, again),
+        (first.seen(), second.seen()),
+    ))
+}
+
+/// The two passes take turns.
+fn take_turns_of<J: Naming, R: Wait>(
+    rt: &R,
+    session: &LockedSession<MemoryDisk, J>,
+    mut passes: Vec<Pass<J>>,
+    xorb: RawXorbData,
+    file: MDBFileInfo,
+) -> Result<Seen, StoreError>
+    requires passes { passes.items ≡ new_passes J.store 1 2 }
+    requires new { IsNewXorb (xorb_limits J.store.store.limits) xorb }
+    requires form { IsFile file }
+{
+    let Some(mut second) = passes.pop() else {
+        return Err(StoreError::OutOfMemory);
+    };
+    let Some(mut first) = passes.pop() else {
+        return Err(StoreError::OutOfMemory);
+    };
+    take_turns(rt, session, &mut first, &mut second, xorb, file)
+}
+
+/// A session of a store with two passes, which take turns. The store is returned.
+fn share<J: Naming, R: Wait>(
+    rt: &R,
+    alloc: Global,
+    opened: Opened,
+    store: Store<MemoryDisk>,
+    xorb: RawXorbData,
+    file: MDBFileInfo,
+) -> (Store<MemoryDisk>, Result<Seen, StoreError>)
+    requires table { opened.word ≡ J.table }
+    requires ledger { (opened.blank.name ≡ J.name) × (opened.blank.parts ≡ J.parts) × (J.parts ≡ 3) }
+    requires store { store ≡ J.store }
+    requires new { IsNewXorb (xorb_limits J.store.store.limits) xorb }
+    requires form { IsFile file }
+{
+    match LockedSession::<MemoryDisk, J>::new(alloc, opened, store, 2) {
+        Ok((session, passes)) => {
+            let seen = take_turns_of(rt, &session, passes, xorb, file);
+            (session.abandon(), seen)
+        }
+        Err((store, error)) => (store, Err(error)),
+    }
+}
+
+/// The same, with the xorb and the file of its chunks.
+fn share_files<R: Wait>(
+    rt: &R,
+    alloc: Global,
+    opened: Opened,
+    store: Store<MemoryDisk>,
+) -> (Store<MemoryDisk>, Result<Seen, StoreError>)
+    requires { opened.blank.parts ≡ 3 }
+{
+    match xorb(alloc, store.limits()) {
+        Ok(xorb) => match record(alloc, xorb.hash()) {
+            Ok(file) => share::<Brand, R>(rt, alloc, opened, store, xorb, file),
+            Err(error) => (store, Err(error)),
+        },
+        Err(error) => (store, Err(error)),
+    }
+}
+
+/// A session with two passes that are given back at once.
+fn lock<J: Naming>(
+    alloc: Global,
+    opened: Opened,
+    store: Store<MemoryDisk>,
+) -> (Store<MemoryDisk>, Result<(), StoreError>)
+    requires table { opened.word ≡ J.table }
+    requires ledger { (opened.blank.name ≡ J.name) × (opened.blank.parts ≡ J.parts) × (J.parts ≡ 3) }
+    requires store { store ≡ J.store }
+{
+    match LockedSession::<MemoryDisk, J>::new(alloc, opened, store, 2) {
+        Ok((session, passes)) => (session.close(passes), Ok(())),
+        Err((store, error)) => (store, Err(error)),
+    }
+}
+
+/// The same, with a name of its own.
+fn lock_once(
+    alloc: Global,
+    opened: Opened,
+    store: Store<MemoryDisk>,
+) -> (Store<MemoryDisk>, Result<(), StoreError>)
+    requires { opened.blank.parts ≡ 3 }
+{
+    lock::<Brand>(alloc, opened, store)
+}
+
+/// A store in the folder `store` of a new disk.
+fn open(alloc: Global) -> Result<Store<MemoryDisk>, StoreError> {
+    let limits = limits(1 << 20)?;
+    match Store::open(alloc, MemoryDisk::new(alloc), "store", limits, 1_000, false) {
+        Ok(store) => Ok(store),
+        Err(refused) => Err(refused.error),
+    }
+}
+
+/// What two passes see of one store, and the number of its entries.
+fn shared<R: Wait>(rt: &R, alloc: Global) -> Result<(Seen, usize), StoreError> {
+    let opened = Opened::new(alloc, 2)?;
+    let (store, seen) = share_files(rt, alloc, opened, open(alloc)?);
+    let entries = store.history().len();
+    let _disk = store.into_disk();
+    Ok((seen?, entries))
+}
+
+/// The number of entries of a store after a session without steps.
+fn locked(alloc: Global) -> Result<usize, StoreError> {
+    let opened = Opened::new(alloc, 2)?;
+    let (store, done) = lock_once(alloc, opened, open(alloc)?);
+    let entries = store.history().len();
+    let _disk = store.into_disk();
+    done?;
+    Ok(entries)
+}
+
+#[test]
+fn passes_share_one_history(rt: HostRuntime) -> Result<(), Fail> {
+    let (seen, entries) = shared(&rt, rt.alloc())?;
+    assert_eq!(rt; seen, (true, true, Some(2), (true, false), (4, 4)));
+    assert_eq!(rt; entries, 4);
+    Ok(())
+}
+
+#[test]
+fn session_without_steps_leaves_the_store(rt: HostRuntime) -> Result<(), Fail> {
+    let entries = locked(rt.alloc())?;
+    assert_eq!(rt; entries, 0);
+    Ok(())
+}
