@@ -7,4 +7,5 @@ pub mod Seeing
 pub mod Failing
 pub mod Telling
 pub mod Since
+pub mod Guarding
 pub mod Returning

@@ -95,8 +95,8 @@ pub record SawFlush (old new : Holder) (shard : Option (List ℕ)) : Type 0 wher
   pub is : new ≡ grown old others (flush_entries old.number (core_found old others))
   pub hash : shard ≡ flushed_hash (core_found old others)
 
--- A step failed, and the pass goes on: after entries of others, it added the entry of the cut that was due, if the cut was completed, and the entry of
--- the failure, if it was the disk's.
+-- A step failed, and the pass goes on: after entries of others, it added the entry of the cut that was due, if the cut was
+-- completed, and the entry of the failure, if it was the disk's.
 pub record StepFailed (kind : StepKind) (cut : Core → List Entry) (old new : Holder) (e : StoreError) : Type 0 where
   pub others : List Entry
   pub done : List Entry

@@ -1,3 +1,4 @@
 pub mod Nothing
 pub mod Made
+pub mod Guarded
 pub mod Returned

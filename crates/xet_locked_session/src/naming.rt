@@ -6,6 +6,7 @@ use std::sync::ledger::Ledger;
 /// What a session was when it was locked: the store, and the table that counts its history from then on. A type of this kind is
 /// chosen by the call that makes the session, and holds for all its parts.
 pub trait Naming: Ledger {
+    ghost use Rattle.std.specs.Prelude.{Bool};
     ghost use Rattle.atomic_table.specs.Seated.{TableId};
     ghost use Rattle.xet_steps.specs.Recorded.{RecordedState};
 
@@ -14,12 +15,18 @@ pub trait Naming: Ledger {
 
     /// The store that was passed to `LockedSession::new`.
     ghost store: { RecordedState };
+
+    /// Whether the first step that fails is the last one.
+    ghost stops: { Bool };
 }
 
 impl Naming for Brand {
+    ghost use Rattle.std.specs.Prelude.{false};
     ghost use Rattle.xet_locked_session.specs.internal.Nothing.{no_store, no_table};
 
     ghost table = { no_table };
 
     ghost store = { no_store };
+
+    ghost stops = { false };
 }

@@ -4,6 +4,7 @@ ghost use Rattle.std.specs.Prelude.{◌≡◌, []};
 ghost use Rattle.xet_shared_history.specs.Seen.{seen_by};
 
 mod closing;
+mod guarding;
 mod locked;
 mod making;
 mod named;
@@ -15,6 +16,7 @@ use crate::naming::Naming;
 use std::marker::{Model, PhantomData, Send};
 use std::sync::Mutex;
 use std::sync::ledger::{Blank, Book, Share};
+use xet_cut::Limits;
 use xet_io::Disk;
 use xet_shared_history::{HistoryWord, Reader, Writer};
 use xet_steps::Store;
@@ -40,7 +42,7 @@ impl<D: Disk + Send, J: Naming> Model for NamedStore<D, J> {
     ghost invariant = { λ s. IsSince J.store s.store };
 }
 
-/// What is under the lock: the store, and what counts its history. Contracts see the store.
+/// The store of a session, and what counts its history. Contracts see the store.
 #[derive(Drop)]
 pub struct Desk<D: Disk + Send, J: Naming> {
     store: NamedStore<D, J>,
@@ -70,6 +72,31 @@ impl<D: Disk + Send, J: Naming> Model for Desk<D, J> {
     ghost view = { λ s. s.store };
 
     ghost invariant = { λ s. (s.log.writer.table ≡ J.table) × (s.store.history ≡ J.store.history ++ s.log.writer.seen) × (s.log.count ≡ length s.log.writer.seen) × (s.log.book.total ≡ length s.log.writer.seen) × (s.log.rest.parts ≡ 1) × (s.log.rest.amount ≡ 0) };
+}
+
+/// What is under the lock: the store with what counts its history, and whether steps of it are still made. Contracts see the store.
+#[derive(Drop)]
+pub struct Guarded<D: Disk + Send, J: Naming> {
+    desk: Desk<D, J>,
+    /// Whether the first step that fails is the last one.
+    stops: bool,
+    /// Whether the last step was made.
+    stopped: bool,
+}
+
+impl<D: Disk + Send, J: Naming> Model for Guarded<D, J> {
+    ghost use Rattle.std.specs.Prelude.{◌≡◌};
+    ghost use Rattle.xet_steps.specs.Coding.{recorded_code};
+    ghost use Rattle.xet_steps.specs.Recorded.{RecordedState};
+    ghost use Rattle.xet_locked_session.specs.internal.Guarded.{IsGuarded};
+
+    ghost Value = { RecordedState };
+
+    ghost coded = { recorded_code };
+
+    ghost view = { λ s. s.desk };
+
+    ghost invariant = { λ s. (s.stops ≡ J.stops) × IsGuarded J.store J.stops s.stopped s.desk };
 }
 
 /// One of several that share a session: what it has seen of the history, and which entries are its own. Contracts see a `Holder`
@@ -113,8 +140,11 @@ impl<J: Naming> Model for Pass<J> {
 #[derive(Drop)]
 pub struct LockedSession<D: Disk + Send, J: Naming> {
     word: HistoryWord,
-    desk: Mutex<Desk<D, J>>,
+    /// The limits of the store.
+    limits: Limits,
+    desk: Mutex<Guarded<D, J>>,
     ghost named: { word ≡ J.table },
+    ghost limited: { limits ≡ J.store.store.limits },
 }
 
 /// What a session is made from: a table and a ledger that no type names yet. So they can be named before the session is made.
@@ -125,5 +155,7 @@ pub struct Opened {
     writer: Writer,
     /// Counts the entries of the passes.
     pub blank: Blank,
+    /// Whether the first step that fails is the last one.
+    pub stops: bool,
     pub ghost fresh: { writer ≡ seen_by word [] },
 }

@@ -1,6 +1,6 @@
 //! Tests of a session that passes share under a lock.
 
-ghost use Rattle.std.specs.Prelude.{◌≡◌};
+ghost use Rattle.std.specs.Prelude.{◌≡◌, IfOk, IfSome};
 ghost use Rattle.xet_dedup_queries.specs.Registering.{IsNewXorb};
 ghost use Rattle.xet_locked_session.specs.Passes.{new_passes};
 ghost use Rattle.xet_shard_format.specs.Records.{IsFile};
@@ -8,11 +8,11 @@ ghost use Rattle.xet_stepping.specs.Holders.{xorb_limits};
 
 use crate::files::{chunk_hashes, record, xorb};
 use crate::recorded::limits;
-use std::alloc::Global;
+use std::alloc::{AllocError, Global};
 use std::marker::Brand;
 use std::sync::Wait;
 use std::test::Fail;
-use xet_hash::StoreError;
+use xet_hash::{Reason, StoreError, compute_data_hash};
 use xet_io::MemoryDisk;
 use xet_locked_session::{LockedSession, Naming, Opened, Pass};
 use xet_shard_format::MDBFileInfo;
@@ -86,6 +86,7 @@ fn share<J: Naming, R: Wait>(
     requires table { opened.word ≡ J.table }
     requires ledger { (opened.blank.name ≡ J.name) × (opened.blank.parts ≡ J.parts) × (J.parts ≡ 3) }
     requires store { store ≡ J.store }
+    requires stops { opened.stops ≡ J.stops }
     requires new { IsNewXorb (xorb_limits J.store.store.limits) xorb }
     requires form { IsFile file }
 {
@@ -125,6 +126,7 @@ fn lock<J: Naming>(
     requires table { opened.word ≡ J.table }
     requires ledger { (opened.blank.name ≡ J.name) × (opened.blank.parts ≡ J.parts) × (J.parts ≡ 3) }
     requires store { store ≡ J.store }
+    requires stops { opened.stops ≡ J.stops }
 {
     match LockedSession::<MemoryDisk, J>::new(alloc, opened, store, 2) {
         Ok((session, passes)) => (session.close(passes), Ok(())),
@@ -141,6 +143,84 @@ fn lock_once(
     requires { opened.blank.parts ≡ 3 }
 {
     lock::<Brand>(alloc, opened, store)
+}
+
+/// The errors of what ends a session, and of the flush after it.
+type Errors = (Option<StoreError>, Option<StoreError>);
+
+/// The first pass records the file; or, without a file, the session is stopped. The second pass then flushes.
+fn end<J: Naming, R: Wait>(
+    rt: &R,
+    session: &LockedSession<MemoryDisk, J>,
+    first: &mut Pass<J>,
+    second: &mut Pass<J>,
+    file: Option<MDBFileInfo>,
+) -> Errors
+    requires { IfSome file IsFile }
+{
+    let ended = match file {
+        Some(file) => session.complete_file(rt, first, file).err(),
+        None => {
+            session.stop(rt);
+            None
+        }
+    };
+    (ended, session.flush(rt, second).err())
+}
+
+/// The same, with two passes of the session.
+fn end_of<J: Naming, R: Wait>(
+    rt: &R,
+    session: &LockedSession<MemoryDisk, J>,
+    mut passes: Vec<Pass<J>>,
+    file: Option<MDBFileInfo>,
+) -> Result<Errors, StoreError>
+    requires { IfSome file IsFile }
+{
+    let Some(mut second) = passes.pop() else {
+        return Err(StoreError::OutOfMemory);
+    };
+    let Some(mut first) = passes.pop() else {
+        return Err(StoreError::OutOfMemory);
+    };
+    Ok(end(rt, session, &mut first, &mut second, file))
+}
+
+/// The same, with a session of a store. The store is returned.
+fn end_session<J: Naming, R: Wait>(
+    rt: &R,
+    alloc: Global,
+    opened: Opened,
+    store: Store<MemoryDisk>,
+    file: Option<MDBFileInfo>,
+) -> (Store<MemoryDisk>, Result<Errors, StoreError>)
+    requires table { opened.word ≡ J.table }
+    requires ledger { (opened.blank.name ≡ J.name) × (opened.blank.parts ≡ J.parts) × (J.parts ≡ 3) }
+    requires store { store ≡ J.store }
+    requires stops { opened.stops ≡ J.stops }
+    requires form { IfSome file IsFile }
+{
+    match LockedSession::<MemoryDisk, J>::new(alloc, opened, store, 2) {
+        Ok((session, passes)) => {
+            let errors = end_of(rt, &session, passes, file);
+            (session.abandon(), errors)
+        }
+        Err((store, error)) => (store, Err(error)),
+    }
+}
+
+/// The same, with a name of its own.
+fn end_once<R: Wait>(
+    rt: &R,
+    alloc: Global,
+    opened: Opened,
+    store: Store<MemoryDisk>,
+    file: Option<MDBFileInfo>,
+) -> (Store<MemoryDisk>, Result<Errors, StoreError>)
+    requires parts { opened.blank.parts ≡ 3 }
+    requires form { IfSome file IsFile }
+{
+    end_session::<Brand, R>(rt, alloc, opened, store, file)
 }
 
 /// A store in the folder `store` of a new disk.
@@ -171,6 +251,40 @@ fn locked(alloc: Global) -> Result<usize, StoreError> {
     Ok(entries)
 }
 
+/// What a session with two passes is made from.
+fn opened(alloc: Global, stops: bool) -> Result<Opened, AllocError>
+    ensures { IfOk result (λ o. o.blank.parts ≡ 3) }
+{
+    if stops {
+        Opened::new_stopping(alloc, 2)
+    } else {
+        Opened::new(alloc, 2)
+    }
+}
+
+/// The file of the chunks of the xorb, which is nowhere listed.
+fn unlisted(alloc: Global) -> Result<MDBFileInfo, StoreError>
+    ensures { IfOk result IsFile }
+{
+    record(alloc, compute_data_hash(b"abc"))
+}
+
+/// The errors of a session that ends, and the number of entries of its store.
+fn ended<R: Wait>(
+    rt: &R,
+    alloc: Global,
+    opened: Opened,
+    file: Option<MDBFileInfo>,
+) -> Result<(Errors, usize), StoreError>
+    requires parts { opened.blank.parts ≡ 3 }
+    requires form { IfSome file IsFile }
+{
+    let (store, errors) = end_once(rt, alloc, opened, open(alloc)?, file);
+    let entries = store.history().len();
+    let _disk = store.into_disk();
+    Ok((errors?, entries))
+}
+
 #[test]
 fn passes_share_one_history(rt: HostRuntime) -> Result<(), Fail> {
     let (seen, entries) = shared(&rt, rt.alloc())?;
@@ -183,5 +297,34 @@ fn passes_share_one_history(rt: HostRuntime) -> Result<(), Fail> {
 fn session_without_steps_leaves_the_store(rt: HostRuntime) -> Result<(), Fail> {
     let entries = locked(rt.alloc())?;
     assert_eq!(rt; entries, 0);
+    Ok(())
+}
+
+#[test]
+fn session_that_stops_makes_no_step_after_one_that_failed(rt: HostRuntime) -> Result<(), Fail> {
+    let other = Some(StoreError::MalformedData(Reason::OtherFileHash));
+    let stopping = ended(
+        &rt,
+        rt.alloc(),
+        opened(rt.alloc(), true)?,
+        Some(unlisted(rt.alloc())?),
+    )?;
+    assert_eq!(rt; stopping, ((other, Some(StoreError::OutOfMemory)), 0));
+    let going = ended(
+        &rt,
+        rt.alloc(),
+        opened(rt.alloc(), false)?,
+        Some(unlisted(rt.alloc())?),
+    )?;
+    assert_eq!(rt; going, ((other, None), 0));
+    Ok(())
+}
+
+#[test]
+fn session_that_stops_is_stopped_by_a_call(rt: HostRuntime) -> Result<(), Fail> {
+    let stopping = ended(&rt, rt.alloc(), opened(rt.alloc(), true)?, None)?;
+    assert_eq!(rt; stopping, ((None, Some(StoreError::OutOfMemory)), 0));
+    let going = ended(&rt, rt.alloc(), opened(rt.alloc(), false)?, None)?;
+    assert_eq!(rt; going, ((None, None), 0));
     Ok(())
 }

@@ -20,23 +20,27 @@ use Rattle.xet_steps.specs.Steps.{Steps}
 use Rattle.xet_locked_session.specs.Passes.{flushed_hash}
 use Rattle.xet_locked_session.specs.Session.{HasRisenBy, fault_count}
 
+-- A query of a pass had this reply.
 pub record Queried (pass : ℕ) (hashes : List (List ℕ)) (old new : RecordedState) (reply : Option (ℕ × Segment)) : Type 0 where
   pub steps : Steps old new (query_entries pass hashes reply)
   pub usable : IfSome reply (IsUsableRun old.store.xorbs hashes)
   pub pending : (run : ℕ × Segment) → held_run old.store.pending.blocks hashes ≡ Some run → reply ≡ Some run
   pub found : old.store.tells ≡ true → reply ≡ found_run (core_of old) hashes
 
+-- A xorb of these chunks was registered, and is listed with them. `added`: it was not listed before.
 pub record Registered (pass : ℕ) (leaves next : List (List ℕ × ℕ)) (old new : RecordedState) (added : Bool) : Type 0 where
   pub steps : Steps old new (register_entries pass (core_of old) old.store.limits.shard_target leaves next)
   pub new_hash : added ≡ is_new old.store.xorbs (xorb_hash leaves)
   pub listed : IsListed new.store.xorbs (xorb_hash leaves) leaves
   pub named : xorb_hash leaves ≢ sentinel
 
+-- A file was recorded, which could be. `added`: it was not recorded before.
 pub record Completed (pass : ℕ) (file : MDBFileInfo) (old new : RecordedState) (added : Bool) : Type 0 where
   pub steps : Steps old new (complete_entries pass (core_of old) old.store.limits.shard_target file)
   pub new_hash : added ≡ is_new old.store.records (file_record_hash file)
   pub can : Completes old.store.xorbs file
 
+-- What was pending was flushed as the shard of this hash, if something was.
 pub record Flushed (pass : ℕ) (old new : RecordedState) (shard : Option (List ℕ)) : Type 0 where
   pub steps : Steps old new (flush_entries pass (core_of old))
   pub hash : shard ≡ flushed_hash (core_of old)

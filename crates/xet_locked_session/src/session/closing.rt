@@ -1,15 +1,15 @@
 //! The store is taken out of the lock.
 
-ghost use Rattle.std.specs.Prelude.{◌≡◌, ◌+◌, ◌++◌, length};
+ghost use Rattle.std.specs.Prelude.{◌≡◌, ◌≤◌, ◌+◌, ◌++◌, length, true};
 ghost use Rattle.std.specs.List.{AllByRecursion};
 ghost use mathlib.Core.List.{IsPrefix};
-ghost use Rattle.xet_shared_history.specs.Owned.{AreOwn, HasEachOnce};
+ghost use Rattle.xet_shared_history.specs.Owned.{HasEachOnce};
 ghost use Rattle.xet_stepping.specs.Holders.{seen};
 ghost use Rattle.xet_locked_session.specs.Passes.{IsSeen, NumbersDiffer, own_numbers};
-ghost use Rattle.xet_locked_session.specs.Session.{IsSince};
+ghost use Rattle.xet_locked_session.specs.Session.{IsSince, fault_count};
 ghost use Rattle.xet_locked_session.specs.internal.Returned.{IsReturned};
 
-use super::{Desk, Known, LockedSession, Log, NamedStore, Pass};
+use super::{Desk, Guarded, Known, LockedSession, Log, NamedStore, Pass};
 use crate::naming::Naming;
 use std::marker::Send;
 use std::sync::ledger::Share;
@@ -21,10 +21,20 @@ impl<D: Disk + Send, J: Naming> LockedSession<D, J> {
     /// The store, whether or not passes are left. That passes made the entries which were added since is promised by `close`
     /// alone.
     pub fn abandon(self) -> Store<D>
-        ensures { IsSince J.store result }
+        ensures since { IsSince J.store result }
+        ensures one { J.stops ≡ true → fault_count result.history ≤ fault_count J.store.history + 1 }
     {
-        let LockedSession { word: _, desk } = self;
-        let Desk { store, log: _ } = desk.into_inner();
+        let LockedSession {
+            word: _,
+            limits: _,
+            desk,
+        } = self;
+        let Guarded {
+            desk,
+            stops: _,
+            stopped: _,
+        } = desk.into_inner();
+        let Desk { store, log: _ } = desk;
         store.recall_invariant();
         let NamedStore { store, of: _ } = store;
         store
@@ -39,9 +49,19 @@ impl<D: Disk + Send, J: Naming> LockedSession<D, J> {
         ensures known { AllByRecursion IsSeen passes.items }
         ensures seen { AllByRecursion (λ p. IsPrefix (seen p) result.history) passes.items }
         ensures own { HasEachOnce (length J.store.history) (length result.history) (own_numbers passes.items) }
+        ensures one { J.stops ≡ true → fault_count result.history ≤ fault_count J.store.history + 1 }
     {
-        let LockedSession { word, desk } = self;
-        let Desk { store, log } = desk.into_inner();
+        let LockedSession {
+            word,
+            limits: _,
+            desk,
+        } = self;
+        let Guarded {
+            desk,
+            stops: _,
+            stopped: _,
+        } = desk.into_inner();
+        let Desk { store, log } = desk;
         let Log {
             mut writer,
             count: _,

@@ -1,6 +1,6 @@
 //! The steps of passes, each in one hold of the lock.
 
-ghost use Rattle.std.specs.Prelude.{◌⊎◌, IfErr, IfOk};
+ghost use Rattle.std.specs.Prelude.{◌≡◌, ◌⊎◌, IfErr, IfOk};
 ghost use Rattle.xet_dedup_queries.specs.Registering.{IsNewXorb};
 ghost use Rattle.xet_locked_session.specs.Passes.{FlushFailed, OtherFile, SawFlush, StepFailed};
 ghost use Rattle.xet_shard_format.specs.Records.{IsFile};
@@ -12,6 +12,7 @@ use super::{LockedSession, Pass};
 use crate::naming::Naming;
 use std::marker::Send;
 use std::sync::Wait;
+use xet_cut::Limits;
 use xet_hash::{MerkleHash, StoreError};
 use xet_history::StepKind;
 use xet_io::Disk;
@@ -23,7 +24,8 @@ impl<D: Disk + Send, J: Naming> LockedSession<D, J> {
     /// chunks. None, without an entry, if the query is empty. It waits for the lock, as each of these calls does. The pass
     /// has then seen the history up to the entry. `Io(Disk)` has an entry, and the disk's count of failures rises by at least
     /// as many as there are such entries. `MalformedData` is returned only on a disk that is not observable. Any other error is
-    /// `OutOfMemory`.
+    /// `OutOfMemory`. In a session that stops at the first failed step, `OutOfMemory` is also returned after one, and then
+    /// nothing is done.
     pub fn query<R: Wait>(
         &self,
         rt: &R,
@@ -40,7 +42,8 @@ impl<D: Disk + Send, J: Naming> LockedSession<D, J> {
     /// something is pending and its shard would be longer than the target with this xorb, it is flushed first. `next` lists
     /// the chunks that did not fit into the xorb. The call fails if a xorb of its hash is listed with other chunks, or if its
     /// hash is the sentinel. The errors are `OutOfMemory`, `TooLarge(Shards)`, which is returned only if a flush is due and
-    /// 2^32 - 1 shards are registered, and `Io(Disk)`, which has an entry.
+    /// 2^32 - 1 shards are registered, and `Io(Disk)`, which has an entry. In a session that stops at the first failed step,
+    /// `OutOfMemory` is also returned after one, and then nothing is done.
     pub fn register_xorb<R: Wait>(
         &self,
         rt: &R,
@@ -60,7 +63,8 @@ impl<D: Disk + Send, J: Naming> LockedSession<D, J> {
     /// Records a file, unless its hash is recorded; its record is then pending. Returns whether none was. If something is
     /// pending and its shard would be longer than the target with this record, it is flushed first. A file that may not be
     /// recorded over the listed xorbs is rejected with `MalformedData(OtherFileHash)`, and no entry is added. The other errors
-    /// are those of `register_xorb`.
+    /// are those of `register_xorb`. In a session that stops at the first failed step, `OutOfMemory` is also returned after
+    /// one, and then nothing is done.
     pub fn complete_file<R: Wait>(
         &self,
         rt: &R,
@@ -76,8 +80,9 @@ impl<D: Disk + Send, J: Naming> LockedSession<D, J> {
 
     /// Flushes all that is pending as one shard, and returns its hash; returns none, and adds no entry, if nothing is pending.
     /// After an error all of it is still pending. The error is `TooLarge(Shards)`, which is returned only if something is
-    /// pending and 2^32 - 1 shards are registered, `OutOfMemory`, or `Io(Disk)`, which has an entry. The clauses say what is
-    /// then pending and registered; that the shard's file is durable is by the code.
+    /// pending and 2^32 - 1 shards are registered, `OutOfMemory`, or `Io(Disk)`, which has an entry. In a session that stops at
+    /// the first failed step, `OutOfMemory` is also returned after one, and then nothing is done. The clauses say what is then
+    /// pending and registered; that the shard's file is durable is by the code.
     pub fn flush<R: Wait>(
         &self,
         rt: &R,
@@ -87,5 +92,17 @@ impl<D: Disk + Send, J: Naming> LockedSession<D, J> {
         ensures refused { IfErr result (FlushFailed pass.old pass.new) }
     {
         self.desk.lock(rt).flush(&self.word, pass)
+    }
+
+    /// In a session that stops at the first failed step: no later call of a step does anything. Elsewhere does nothing.
+    pub fn stop<R: Wait>(&self, rt: &R) {
+        self.desk.lock(rt).stop();
+    }
+
+    /// The limits of the store. It does not wait.
+    pub fn limits(&self) -> &Limits
+        ensures { result.now ≡ J.store.store.limits }
+    {
+        &self.limits
     }
 }

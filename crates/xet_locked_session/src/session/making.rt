@@ -1,10 +1,10 @@
 //! How a session and its passes begin.
 
-ghost use Rattle.std.specs.Prelude.{◌≡◌, ◌≤◌, ◌+◌, [], IfErr, IfOk, length};
+ghost use Rattle.std.specs.Prelude.{◌≡◌, ◌≤◌, ◌+◌, [], IfErr, IfOk, false, length, true};
 ghost use Rattle.xet_locked_session.specs.Passes.{holder_of, new_passes};
 ghost use Rattle.xet_shared_history.specs.Seen.{seen_by};
 
-use super::{Desk, Known, LockedSession, Log, NamedStore, Opened, Pass};
+use super::{Desk, Guarded, Known, LockedSession, Log, NamedStore, Opened, Pass};
 use crate::naming::Naming;
 use std::alloc::{AllocError, Global};
 use std::marker::{PhantomData, Send};
@@ -16,15 +16,32 @@ use xet_shared_history::{HistoryWord, Writer};
 use xet_steps::Store;
 
 impl Opened {
-    /// For a session with this many passes.
+    /// For a session with this many passes, in which steps are made whether or not one failed.
     pub fn new(alloc: Global, passes: u32) -> Result<Opened, AllocError>
-        ensures { IfOk result (λ o. o.blank.parts ≡ passes + 1) }
+        ensures parts { IfOk result (λ o. o.blank.parts ≡ passes + 1) }
+        ensures stops { IfOk result (λ o. o.stops ≡ false) }
+    {
+        Opened::of(alloc, passes, false)
+    }
+
+    /// For a session with this many passes, in which the first step that fails is the last one.
+    pub fn new_stopping(alloc: Global, passes: u32) -> Result<Opened, AllocError>
+        ensures parts { IfOk result (λ o. o.blank.parts ≡ passes + 1) }
+        ensures stops { IfOk result (λ o. o.stops ≡ true) }
+    {
+        Opened::of(alloc, passes, true)
+    }
+
+    fn of(alloc: Global, passes: u32, stops: bool) -> Result<Opened, AllocError>
+        ensures parts { IfOk result (λ o. o.blank.parts ≡ passes + 1) }
+        ensures stops { IfOk result (λ o. o.stops ≡ stops) }
     {
         let (word, writer) = HistoryWord::new(alloc)?;
         Ok(Opened {
             word,
             writer,
             blank: Blank::new(u64::from(passes) + 1),
+            stops,
         })
     }
 }
@@ -95,6 +112,7 @@ impl<D: Disk + Send, J: Naming> LockedSession<D, J> {
         requires table { opened.word ≡ J.table }
         requires ledger { (opened.blank.name ≡ J.name) × (opened.blank.parts ≡ J.parts) × (J.parts ≡ passes + 1) }
         requires store { store ≡ J.store }
+        requires stops { opened.stops ≡ J.stops }
         ensures passes { IfOk result (λ r. r.1.items ≡ new_passes J.store 1 passes) }
         ensures err { IfErr result (λ e. (e.0 ≡ store) × (e.1 ≡ StoreError.OutOfMemory)) }
     {
@@ -102,9 +120,11 @@ impl<D: Disk + Send, J: Naming> LockedSession<D, J> {
             word,
             mut writer,
             blank,
+            stops,
         } = opened;
         let (book, mut rest) = blank.open::<J>();
         let seen = store.history().len() as u64;
+        let limits = *store.limits();
         match new_passes_of::<J>(alloc, &word, &mut writer, &mut rest, passes, seen) {
             Ok(all) => {
                 let desk = Desk {
@@ -119,9 +139,15 @@ impl<D: Disk + Send, J: Naming> LockedSession<D, J> {
                         rest,
                     },
                 };
+                let guarded = Guarded {
+                    desk,
+                    stops,
+                    stopped: false,
+                };
                 let session = LockedSession {
                     word,
-                    desk: Mutex::new(desk),
+                    limits,
+                    desk: Mutex::new(guarded),
                 };
                 Ok((session, all))
             }
