@@ -3,8 +3,8 @@
 use std::marker::Brand;
 use std::sync::ledger::Ledger;
 
-/// What a session was when it was locked: the store, and the table that counts its history from then on. A type of this kind is
-/// chosen by the call that makes the session, and holds for all its parts.
+/// What a session was when it was locked: the store, the table that counts its history from then on, and whether it stops at the
+/// first failed step. A type of this kind is chosen by the call that makes the session, and holds for all its parts.
 pub trait Naming: Ledger {
     ghost use Rattle.std.specs.Prelude.{Bool};
     ghost use Rattle.atomic_table.specs.Seated.{TableId};

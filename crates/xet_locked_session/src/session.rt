@@ -74,7 +74,7 @@ impl<D: Disk + Send, J: Naming> Model for Desk<D, J> {
     ghost invariant = { λ s. (s.log.writer.table ≡ J.table) × (s.store.history ≡ J.store.history ++ s.log.writer.seen) × (s.log.count ≡ length s.log.writer.seen) × (s.log.book.total ≡ length s.log.writer.seen) × (s.log.rest.parts ≡ 1) × (s.log.rest.amount ≡ 0) };
 }
 
-/// What is under the lock: the store with what counts its history, and whether steps of it are still made. Contracts see the store.
+/// What is under the lock: the store, what counts its history, and whether steps are still made. Contracts see the store.
 #[derive(Drop)]
 pub struct Guarded<D: Disk + Send, J: Naming> {
     desk: Desk<D, J>,

@@ -94,7 +94,7 @@ impl<D: Disk + Send, J: Naming> Guarded<D, J> {
         result
     }
 
-    /// The step before was the last one, if a step that fails would be.
+    /// If the first step that fails is the last one, no step is made from now on. Otherwise nothing changes.
     pub fn stop(&mut self) {
         self.stopped = self.stops;
     }

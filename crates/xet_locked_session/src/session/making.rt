@@ -32,6 +32,7 @@ impl Opened {
         Opened::of(alloc, passes, true)
     }
 
+    /// The same, with or without a last step.
     fn of(alloc: Global, passes: u32, stops: bool) -> Result<Opened, AllocError>
         ensures parts { IfOk result (λ o. o.blank.parts ≡ passes + 1) }
         ensures stops { IfOk result (λ o. o.stops ≡ stops) }

@@ -12,10 +12,10 @@ use Rattle.xet_locked_session.proofs.session.LockedSession.close.Goals as goal
 
 pub passes-init : goal.passes-init
 passes-init g c =
-    let d = c.store.invariant in
+    let d = c.desk-2.invariant in
     record {
       tables = (c.args.self.named, d.0);
-      history = ap (λ s. s.history) c.store-2.view_is ∙ d.1;
+      history = ap (λ s. s.history) c.store.view_is ∙ d.1;
       book = d.3;
       back = [];
       split = sym (append-nil c.args.passes.items);
@@ -52,14 +52,14 @@ returns-clause-seen g c =
     let start = g.J.Naming.store in
     let none : length c.passes.left.items ≡ 0 = search rules in
     let all : c.args.passes.items ≡ was.back = nothing c.passes.left.items was.back c.args.passes.items was.split none in
-    subst (λ (hs : List Holder). AllByRecursion (λ h. IsPrefix (seen h) c.store-2.inside.store.history) hs) (sym all)
-    (returned_prefixes start c.store-2.inside.store.history was.back (subst (λ (h : List Entry). AllByRecursion (IsReturned start h) was.back) (sym was.history) was.returned))
+    subst (λ (hs : List Holder). AllByRecursion (λ h. IsPrefix (seen h) c.store.inside.store.history) hs) (sym all)
+    (returned_prefixes start c.store.inside.store.history was.back (subst (λ (h : List Entry). AllByRecursion (IsReturned start h) was.back) (sym was.history) was.returned))
 
 pub returns-clause-own : goal.returns-clause-own
 returns-clause-own g c =
     let was = c.passes.invariant in
     let start = g.J.Naming.store in
-    let history = c.store-2.inside.store.history in
+    let history = c.store.inside.store.history in
     let none : length c.passes.left.items ≡ 0 = search rules in
     let all : c.args.passes.items ≡ was.back = nothing c.passes.left.items was.back c.args.passes.items was.split none in
     let whole = c.audit.ensures.whole (omega (arith, was.rest.0, ap length all, c.requires.all)) in
