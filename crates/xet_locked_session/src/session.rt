@@ -13,7 +13,7 @@ mod steps;
 mod telling;
 
 use crate::naming::Naming;
-use std::marker::{Model, PhantomData, Send};
+use std::marker::{Model, PhantomData};
 use std::sync::Mutex;
 use std::sync::ledger::{Blank, Book, Share};
 use xet_cut::Limits;
@@ -23,12 +23,12 @@ use xet_steps::Store;
 
 /// A store, with a type that names what it was when the session was made. Contracts see the store.
 #[derive(Drop)]
-pub struct NamedStore<D: Disk + Send, J: Naming> {
+pub struct NamedStore<D: Disk, J: Naming> {
     store: Store<D>,
     of: PhantomData<J>,
 }
 
-impl<D: Disk + Send, J: Naming> Model for NamedStore<D, J> {
+impl<D: Disk, J: Naming> Model for NamedStore<D, J> {
     ghost use Rattle.xet_steps.specs.Coding.{recorded_code};
     ghost use Rattle.xet_steps.specs.Recorded.{RecordedState};
     ghost use Rattle.xet_locked_session.specs.Session.{IsSince};
@@ -44,7 +44,7 @@ impl<D: Disk + Send, J: Naming> Model for NamedStore<D, J> {
 
 /// The store of a session, and what counts its history. Contracts see the store.
 #[derive(Drop)]
-pub struct Desk<D: Disk + Send, J: Naming> {
+pub struct Desk<D: Disk, J: Naming> {
     store: NamedStore<D, J>,
     log: Log<J>,
 }
@@ -60,7 +60,7 @@ pub struct Log<J: Naming> {
     rest: Share<J>,
 }
 
-impl<D: Disk + Send, J: Naming> Model for Desk<D, J> {
+impl<D: Disk, J: Naming> Model for Desk<D, J> {
     ghost use Rattle.std.specs.Prelude.{◌≡◌, ◌++◌, length};
     ghost use Rattle.xet_steps.specs.Coding.{recorded_code};
     ghost use Rattle.xet_steps.specs.Recorded.{RecordedState};
@@ -76,7 +76,7 @@ impl<D: Disk + Send, J: Naming> Model for Desk<D, J> {
 
 /// What is under the lock: the store, what counts its history, and whether steps are still made. Contracts see the store.
 #[derive(Drop)]
-pub struct Guarded<D: Disk + Send, J: Naming> {
+pub struct Guarded<D: Disk, J: Naming> {
     desk: Desk<D, J>,
     /// Whether the first step that fails is the last one.
     stops: bool,
@@ -84,7 +84,7 @@ pub struct Guarded<D: Disk + Send, J: Naming> {
     stopped: bool,
 }
 
-impl<D: Disk + Send, J: Naming> Model for Guarded<D, J> {
+impl<D: Disk, J: Naming> Model for Guarded<D, J> {
     ghost use Rattle.std.specs.Prelude.{◌≡◌};
     ghost use Rattle.xet_steps.specs.Coding.{recorded_code};
     ghost use Rattle.xet_steps.specs.Recorded.{RecordedState};
@@ -138,7 +138,7 @@ impl<J: Naming> Model for Pass<J> {
 
 /// A store under a lock. Each of its passes makes steps of it, and knows what it has seen of the history.
 #[derive(Drop)]
-pub struct LockedSession<D: Disk + Send, J: Naming> {
+pub struct LockedSession<D: Disk, J: Naming> {
     word: HistoryWord,
     /// The limits of the store.
     limits: Limits,

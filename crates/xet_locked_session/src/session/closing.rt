@@ -11,13 +11,12 @@ ghost use Rattle.xet_locked_session.specs.internal.Returned.{IsReturned};
 
 use super::{Desk, Guarded, Known, LockedSession, Log, NamedStore, Pass};
 use crate::naming::Naming;
-use std::marker::Send;
 use std::sync::ledger::Share;
 use xet_io::Disk;
 use xet_shared_history::{HistoryWord, Writer};
 use xet_steps::Store;
 
-impl<D: Disk + Send, J: Naming> LockedSession<D, J> {
+impl<D: Disk, J: Naming> LockedSession<D, J> {
     /// The store, whether or not passes are left. That passes made the entries which were added since is promised by `close`
     /// alone.
     pub fn abandon(self) -> Store<D>

@@ -10,7 +10,6 @@ ghost use Rattle.xet_xorb.specs.Raw.{raw_leaves};
 
 use super::{Guarded, Pass};
 use crate::naming::Naming;
-use std::marker::Send;
 use xet_hash::{MerkleHash, StoreError};
 use xet_history::StepKind;
 use xet_io::Disk;
@@ -19,7 +18,7 @@ use xet_shared_history::HistoryWord;
 use xet_xorb::RawXorbData;
 
 /// Each step is the desk's. After the last one nothing is done, and the error is `OutOfMemory`.
-impl<D: Disk + Send, J: Naming> Guarded<D, J> {
+impl<D: Disk, J: Naming> Guarded<D, J> {
     pub fn query(
         &mut self,
         word: &HistoryWord,

@@ -10,7 +10,6 @@ ghost use Rattle.xet_xorb.specs.Raw.{raw_leaves};
 
 use super::{LockedSession, Pass};
 use crate::naming::Naming;
-use std::marker::Send;
 use std::sync::Wait;
 use xet_cut::Limits;
 use xet_hash::{MerkleHash, StoreError};
@@ -19,7 +18,7 @@ use xet_io::Disk;
 use xet_shard_format::{FileDataSequenceEntry, MDBFileInfo};
 use xet_xorb::RawXorbData;
 
-impl<D: Disk + Send, J: Naming> LockedSession<D, J> {
+impl<D: Disk, J: Naming> LockedSession<D, J> {
     /// How many of the first hashes of a query are those of consecutive chunks of a listed xorb, and the segment of these
     /// chunks. None, without an entry, if the query is empty. It waits for the lock, as each of these calls does. The pass
     /// has then seen the history up to the entry. `Io(Disk)` has an entry, and the disk's count of failures rises by at least

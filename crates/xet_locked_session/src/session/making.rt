@@ -7,7 +7,7 @@ ghost use Rattle.xet_shared_history.specs.Seen.{seen_by};
 use super::{Desk, Guarded, Known, LockedSession, Log, NamedStore, Opened, Pass};
 use crate::naming::Naming;
 use std::alloc::{AllocError, Global};
-use std::marker::{PhantomData, Send};
+use std::marker::PhantomData;
 use std::sync::Mutex;
 use std::sync::ledger::{Blank, Share};
 use xet_hash::StoreError;
@@ -101,7 +101,7 @@ fn new_passes_of<J: Naming>(
     Ok(all)
 }
 
-impl<D: Disk + Send, J: Naming> LockedSession<D, J> {
+impl<D: Disk, J: Naming> LockedSession<D, J> {
     /// A session of a store, and its passes, which have the numbers from 1 on and have seen its history. The only error is
     /// `OutOfMemory`, and returns the store.
     pub fn new(

@@ -14,14 +14,13 @@ ghost use Rattle.xet_xorb.specs.Raw.{raw_leaves};
 
 use super::NamedStore;
 use crate::naming::Naming;
-use std::marker::Send;
 use xet_hash::{MerkleHash, StoreError};
 use xet_history::{Entry, StepKind};
 use xet_io::Disk;
 use xet_shard_format::{FileDataSequenceEntry, MDBFileInfo};
 use xet_xorb::RawXorbData;
 
-impl<D: Disk + Send, J: Naming> NamedStore<D, J> {
+impl<D: Disk, J: Naming> NamedStore<D, J> {
     pub(super) fn history(&self) -> &[Entry]
         ensures { result.now ≡ self.now.history }
     {

@@ -12,7 +12,6 @@ ghost use Rattle.xet_xorb.specs.Raw.{raw_leaves};
 use super::telling::tell;
 use super::{Desk, Pass};
 use crate::naming::Naming;
-use std::marker::Send;
 use xet_hash::{MerkleHash, StoreError};
 use xet_history::StepKind;
 use xet_io::Disk;
@@ -21,7 +20,7 @@ use xet_shared_history::HistoryWord;
 use xet_xorb::RawXorbData;
 
 /// Each step compares the pass with the history, makes the store's step, and lets the pass see all of the history.
-impl<D: Disk + Send, J: Naming> Desk<D, J> {
+impl<D: Disk, J: Naming> Desk<D, J> {
     pub fn query(
         &mut self,
         word: &HistoryWord,
