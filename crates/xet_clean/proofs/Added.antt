@@ -1,6 +1,5 @@
 -- One more file, as cleaning it ended.
 use Rattle.std.proofs.Common.{◌≡◌, ◌∙◌, inl, inr, ℕ, ◌<◌, true, false, List, [], ◌∷◌, ◌++◌, length, map, Some, sym, ap, subst}
-use Rattle.sha2.specs.Sha256.{sha256}
 use Rattle.xet_aggregate.specs.Aggregate.{Aggregate, IsAggregate, fits, merged, single}
 use Rattle.xet_aggregate.specs.declared.metrics.DeduplicationMetrics.{DeduplicationMetrics}
 use Rattle.xet_aggregate.specs.theorems.Merging.{empty-merged}
@@ -8,7 +7,6 @@ use Rattle.xet_choices.specs.declared.choice.Choice.{Choice}
 use Rattle.xet_dedup.specs.Deduping.{metrics_of, metrics_of_both, open_indices}
 use Rattle.xet_dedup.specs.Records.{file_record}
 use Rattle.xet_dedup.specs.theorems.Forms.{finalized_are_files}
-use Rattle.xet_store.specs.Cleaning.{info_of}
 use Rattle.xet_store.specs.declared.info.XetFileInfo.{XetFileInfo}
 use Rattle.xet_xorb_chunk.specs.Chunks.{chunk_leaf}
 use Rattle.xet_stepping.specs.Asking.{Stands}
@@ -17,26 +15,28 @@ use Rattle.xet_stepping.specs.theorems.Following.{follows_nothing}
 use Rattle.xet_cut.specs.declared.limits.LimitSettings.{LimitSettings}
 use Rattle.xet_clean.specs.Cleaning.{metrics_sum}
 use Rattle.xet_clean.specs.Files.{leaves_in}
-use Rattle.xet_clean.specs.internal.Planning.{IsWithin}
-use Rattle.xet_clean.specs.internal.Closing.{Closes, HaveForm, Joins}
+use Rattle.xet_clean.specs.Planning.{IsWithin}
+use Rattle.xet_clean.specs.Closing.{Closes, HaveForm, Joins}
 use Rattle.xet_clean.specs.internal.Sums.{HasRoom}
-use Rattle.xet_clean.specs.internal.Working.{IsAdded, IsWorking, Planned}
+use Rattle.xet_clean.specs.Working.{IsAdded, IsWorking, Planned}
 use Rattle.xet_clean.proofs.Cases.{goes_on, kept_closed, kept_merged, kept_nothing}
 use Rattle.xet_clean.proofs.Joining.{working_more}
 use Rattle.xet_clean.proofs.Keeping.{limits_follow}
 use Rattle.xet_clean.proofs.Sums.{sums_have_room}
+use Rattle.xet_clean.specs.Policies.{info_by, sha256_by}
+use Rattle.xet_clean.specs.declared.policy.Sha256Policy.{Sha256Policy}
 
-module _ (start first now : Holder) (files : List Planned) (bytes : List ℕ) (id : ℕ) (infos : List XetFileInfo) (choices : List (List Choice)) (metrics : DeduplicationMetrics) (a : Aggregate)
+module _ (start first now : Holder) (files : List Planned) (policy : Sha256Policy) (bytes : List ℕ) (id : ℕ) (infos : List XetFileInfo) (choices : List (List Choice)) (metrics : DeduplicationMetrics) (a : Aggregate)
     (info : XetFileInfo) (counts : DeduplicationMetrics) (chosen : List Choice) (rest : Aggregate)
-    (added : IsAdded start first now files bytes id infos choices metrics a info counts chosen rest) where
+    (added : IsAdded start first now files policy bytes id infos choices metrics a info counts chosen rest) where
   abbrev f : Planned
-  f = record { bytes = bytes; plan = added.finished.plan }
+  f = record { bytes = bytes; policy = policy; plan = added.finished.plan }
 
   abbrev its : DeduplicationMetrics
   its = metrics_of (leaves_in now.limits bytes) added.finished.plan.choices 0 0
 
   abbrev plain : Aggregate
-  plain = single added.finished.plan.block (file_record added.finished.plan.leaves added.finished.plan.segments (Some (sha256 bytes))) (open_indices added.finished.plan.segments) id
+  plain = single added.finished.plan.block (file_record added.finished.plan.leaves added.finished.plan.segments (sha256_by policy bytes)) (open_indices added.finished.plan.segments) id
 
   counts_are : counts ≡ metrics_of (leaves_in now.limits bytes) added.finished.plan.choices 0 0
   counts_are = added.finished.counts ∙ ap (λ (l : List (List ℕ × ℕ)). metrics_of l added.finished.plan.choices 0 0) added.finished.planned.leaves
@@ -64,19 +64,19 @@ module _ (start first now : Holder) (files : List Planned) (bytes : List ℕ) (i
       let plan = added.finished.plan in
       let planned = added.finished.planned in
       let forms : HaveForm plain.files =
-      finalized_are_files (lengths_in (core_at now)) (Stands now) (calls_of first) (calls_of now) (xorb_limits now.limits) plan planned.deduped plan.block (Some (sha256 bytes)) (open_indices plan.segments) id in (
+      finalized_are_files (lengths_in (core_at now)) (Stands now) (calls_of first) (calls_of now) (xorb_limits now.limits) plan planned.deduped plan.block (sha256_by policy bytes) (open_indices plan.segments) id in (
         added.finished.aggregate,
         subst (λ (r : Aggregate). IsWithin now.limits r.chunks) (sym added.finished.left) planned.block,
         subst (λ (r : Aggregate). HaveForm r.files) (sym added.finished.left) forms,
       )
 
   results : (new : Holder) (joined : Aggregate)
-      → IsWorking start new (files ++ f ∷ []) (infos ++ info_of now.limits bytes ∷ []) (choices ++ added.finished.plan.choices ∷ []) (metrics_of_both metrics (metrics_of (leaves_in now.limits bytes) added.finished.plan.choices 0 0)) joined
+      → IsWorking start new (files ++ f ∷ []) (infos ++ info_by policy now.limits bytes ∷ []) (choices ++ added.finished.plan.choices ∷ []) (metrics_of_both metrics (metrics_of (leaves_in now.limits bytes) added.finished.plan.choices 0 0)) joined
       → IsWorking start new (files ++ f ∷ []) (infos ++ info ∷ []) (choices ++ chosen ∷ []) (metrics_of_both metrics counts) joined
   results new joined w =
       subst (λ (i : XetFileInfo). IsWorking start new (files ++ f ∷ []) (infos ++ i ∷ []) (choices ++ chosen ∷ []) (metrics_of_both metrics counts) joined) (sym added.finished.pointer)
-      (subst (λ (cs : List Choice). IsWorking start new (files ++ f ∷ []) (infos ++ info_of now.limits bytes ∷ []) (choices ++ cs ∷ []) (metrics_of_both metrics counts) joined) (sym added.finished.chosen)
-      (subst (λ (m : DeduplicationMetrics). IsWorking start new (files ++ f ∷ []) (infos ++ info_of now.limits bytes ∷ []) (choices ++ added.finished.plan.choices ∷ []) (metrics_of_both metrics m) joined) (sym counts_are) w))
+      (subst (λ (cs : List Choice). IsWorking start new (files ++ f ∷ []) (infos ++ info_by policy now.limits bytes ∷ []) (choices ++ cs ∷ []) (metrics_of_both metrics counts) joined) (sym added.finished.chosen)
+      (subst (λ (m : DeduplicationMetrics). IsWorking start new (files ++ f ∷ []) (infos ++ info_by policy now.limits bytes ∷ []) (choices ++ added.finished.plan.choices ∷ []) (metrics_of_both metrics m) joined) (sym counts_are) w))
 
   -- a file of no bytes
   pub added_nothing : length bytes ≡ 0 → IsWorking start now (files ++ f ∷ []) (infos ++ info ∷ []) (choices ++ chosen ∷ []) (metrics_of_both metrics counts) a

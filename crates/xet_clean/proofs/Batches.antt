@@ -13,8 +13,8 @@ use Rattle.xet_stepping.specs.Asking.{IsErrorSince, IsRefused}
 use Rattle.xet_stepping.specs.Holders.{FollowsAsking, Holder, calls_of}
 use Rattle.xet_xorb_chunk.specs.Chunks.{chunk_leaf}
 use Rattle.xet_xorb_chunk.specs.declared.chunk.Chunk.{Chunk}
-use Rattle.xet_clean.specs.internal.Cleaner.{IsBatchOf, StopsInBatch}
-use Rattle.xet_clean.specs.internal.Errors.{store_error}
+use Rattle.xet_clean.specs.Cleaner.{IsBatchOf, StopsInBatch}
+use Rattle.xet_clean.specs.Errors.{store_error}
 
 failed_few : (old new : Bool) → (if new then (if old then 0 else 2) else 0) ≤ 2
 failed_few true true = omega arith

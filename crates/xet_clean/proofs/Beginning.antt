@@ -9,7 +9,7 @@ use Rattle.xet_file_plan.specs.Moves.{PlanState, empty_plan}
 use Rattle.xet_stepping.specs.Asking.{Stands}
 use Rattle.xet_stepping.specs.Holders.{Holder, calls_of, core_at, lengths_in, xorb_limits}
 use Rattle.xet_stepping.specs.theorems.Following.{asking_nothing}
-use Rattle.xet_clean.specs.internal.Cleaner.{IsCleaning}
+use Rattle.xet_clean.specs.Cleaner.{IsCleaning}
 
 abbrev IsDedupedAt : Holder → PlanState → Type 0
 IsDedupedAt h plan = IsDeduped (lengths_in (core_at h)) (Stands h) (calls_of h) (calls_of h) (xorb_limits h.limits) plan
@@ -18,16 +18,15 @@ no_bytes_split : (s : LimitSettings) → AreInRange s → IsSplit s [] [] []
 no_bytes_split s range = record { joined = λ rest. refl; none = none_in_nothing s range.minimum_from range.minimum_to }
 
 -- the empty plan, and no bytes buffered
-begins_empty : (h : Holder) (holds : List ℕ → Type 0) → holds [] → AreInRange h.limits → IsDedupedAt h (empty_plan h.limits)
-    → IsCleaning h h true (empty_plan h.limits) (0, 0) (record { settings = h.limits; buffered = [] }) holds 0 []
+begins_empty : (h : Holder) → AreInRange h.limits → IsDedupedAt h (empty_plan h.limits)
+    → IsCleaning h h true (empty_plan h.limits) (0, 0) (record { settings = h.limits; buffered = [] }) 0 []
 unfolding asking_nothing
-begins_empty h holds held range deduped = record {
+begins_empty h range deduped = record {
   is_whole = refl;
   none_global = refl;
   counted = refl;
   range = range;
   short = omega arith;
-  hashed = held;
   settings = refl;
   same = refl;
   parts = [];
@@ -44,12 +43,12 @@ begins_empty h holds held range deduped = record {
   few = omega arith;
 }
 
-pub cleaning_begins : (h : Holder) (whole : Bool) (plan : PlanState) (global : ℕ × ℕ) (splitting : Splitting) (holds : List ℕ → Type 0) (count : ℕ) → whole ≡ true → plan ≡ empty_plan h.limits → global ≡ (0, 0)
-    → splitting ≡ record { settings = h.limits; buffered = [] } → count ≡ 0 → holds [] → AreInRange h.limits → IsDedupedAt h plan → IsCleaning h h whole plan global splitting holds count []
-cleaning_begins h whole plan global splitting holds count is_whole empty none nothing zero held range deduped =
-    subst (λ (w : Bool). IsCleaning h h w plan global splitting holds count []) (sym is_whole)
-    (subst (λ (p : PlanState). IsCleaning h h true p global splitting holds count []) (sym empty)
-    (subst (λ (x : ℕ × ℕ). IsCleaning h h true (empty_plan h.limits) x splitting holds count []) (sym none)
-    (subst (λ (s : Splitting). IsCleaning h h true (empty_plan h.limits) (0, 0) s holds count []) (sym nothing)
-    (subst (λ (n : ℕ). IsCleaning h h true (empty_plan h.limits) (0, 0) (record { settings = h.limits; buffered = [] }) holds n []) (sym zero)
-    (begins_empty h holds held range (subst (IsDedupedAt h) empty deduped))))))
+pub cleaning_begins : (h : Holder) (whole : Bool) (plan : PlanState) (global : ℕ × ℕ) (splitting : Splitting) (count : ℕ) → whole ≡ true → plan ≡ empty_plan h.limits → global ≡ (0, 0)
+    → splitting ≡ record { settings = h.limits; buffered = [] } → count ≡ 0 → AreInRange h.limits → IsDedupedAt h plan → IsCleaning h h whole plan global splitting count []
+cleaning_begins h whole plan global splitting count is_whole empty none nothing zero range deduped =
+    subst (λ (w : Bool). IsCleaning h h w plan global splitting count []) (sym is_whole)
+    (subst (λ (p : PlanState). IsCleaning h h true p global splitting count []) (sym empty)
+    (subst (λ (x : ℕ × ℕ). IsCleaning h h true (empty_plan h.limits) x splitting count []) (sym none)
+    (subst (λ (s : Splitting). IsCleaning h h true (empty_plan h.limits) (0, 0) s count []) (sym nothing)
+    (subst (λ (n : ℕ). IsCleaning h h true (empty_plan h.limits) (0, 0) (record { settings = h.limits; buffered = [] }) n []) (sym zero)
+    (begins_empty h range (subst (IsDedupedAt h) empty deduped))))))

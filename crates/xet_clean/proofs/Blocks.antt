@@ -18,7 +18,7 @@ use Rattle.xet_hash.specs.Merkle.{chunk_hash, total_len}
 use Rattle.xet_shard_format.specs.declared.record.FileDataSequenceEntry.{FileDataSequenceEntry as Segment}
 use Rattle.xet_xorb_chunk.specs.Chunks.{chunk_leaf, total}
 use Rattle.xet_xorb_chunk.specs.declared.chunk.Chunk.{Chunk}
-use Rattle.xet_clean.specs.internal.Planning.{IsWithin}
+use Rattle.xet_clean.specs.Planning.{IsWithin}
 use Rattle.xet_clean.proofs.Splitting.{Leaf}
 
 -- a block of leaves within the limits

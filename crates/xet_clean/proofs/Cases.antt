@@ -4,7 +4,6 @@ use Rattle.std.proofs.lemmas.List.{append-nil, length-map, map-append, nil_from_
 use Rattle.std.proofs.lemmas.List.Sums.{sum_by-append}
 use Rattle.std.proofs.lemmas.Bool.{and_parts, leb-true}
 use Rattle.std.specs.List.{AllByRecursion}
-use Rattle.sha2.specs.Sha256.{sha256}
 use Rattle.xet_aggregate.specs.Aggregate.{Aggregate, IsAggregate, Pending, fits, merged, shifted, single}
 use Rattle.xet_aggregate.specs.theorems.Merging.{IsAggregate-fits}
 use Rattle.xet_aggregate.specs.declared.metrics.DeduplicationMetrics.{DeduplicationMetrics}
@@ -30,9 +29,9 @@ use Rattle.xet_xorb_chunk.specs.declared.chunk.Chunk.{Chunk}
 use Rattle.xet_stepping.specs.Asking.{Stands}
 use Rattle.xet_stepping.specs.Holders.{Follows, Holder, calls_in, calls_of, core_at, lengths_in, xorb_limits}
 use Rattle.xet_clean.specs.Cleaning.{Lands}
-use Rattle.xet_clean.specs.internal.Planning.{IsPlanned, IsWithin}
-use Rattle.xet_clean.specs.internal.Closing.{Closes, HaveForm, filled_files}
-use Rattle.xet_clean.specs.internal.Working.{AreRecorded, IsRecordOf, IsWorking, Planned, Waits}
+use Rattle.xet_clean.specs.Planning.{IsPlanned, IsWithin}
+use Rattle.xet_clean.specs.Closing.{Closes, HaveForm, filled_files}
+use Rattle.xet_clean.specs.Working.{AreRecorded, IsRecordOf, IsWorking, Planned, Waits}
 use Rattle.xet_clean.proofs.Adding.{Adds, adds_asking, asking_calls, adds_closed, adds_then}
 use Rattle.xet_clean.proofs.Completing.{both_some}
 use Rattle.xet_clean.proofs.InOrder.{recorded_none, recorded_one, recorded_then}
@@ -41,6 +40,7 @@ use Rattle.xet_clean.proofs.Keeping.{any_last, limits_follow, waits_follow}
 use Rattle.xet_clean.proofs.Landing.{lands_last, lands_of, lands_then, later_last, part_itself, part_left, part_right, part_then}
 use Rattle.xet_clean.proofs.Records.{records_filled, shifted_of, waits_among_more, waits_earlier, waits_later}
 use Rattle.xet_clean.proofs.Sums.{no_leaves}
+use Rattle.xet_clean.specs.Policies.{sha256_by}
 
 -- ---- chunks of both
 
@@ -117,16 +117,16 @@ module _ (start first now : Holder) (files : List Planned) (infos : List XetFile
 
   module _ (some : 0 < length f.bytes) (indices : List ℕ) (id : ℕ) (range : AreInRange now.limits) where
     abbrev file : MDBFileInfo
-    file = file_record f.plan.leaves f.plan.segments (Some (sha256 f.bytes))
+    file = file_record f.plan.leaves f.plan.segments (sha256_by f.policy f.bytes)
 
     abbrev rest : Aggregate
-    rest = single f.plan.block (file_record f.plan.leaves f.plan.segments (Some (sha256 f.bytes))) indices id
+    rest = single f.plan.block (file_record f.plan.leaves f.plan.segments (sha256_by f.policy f.bytes)) indices id
 
     its_record : IsRecordOf f file
     its_record = record { some = some; segments = f.plan.segments; counts = refl; is = refl }
 
     its_form : HaveForm rest.files
-    its_form = finalized_are_files (lengths_in (core_at now)) (Stands now) (calls_of first) (calls_of now) (xorb_limits now.limits) f.plan planned.deduped f.plan.block (Some (sha256 f.bytes)) indices id
+    its_form = finalized_are_files (lengths_in (core_at now)) (Stands now) (calls_of first) (calls_of now) (xorb_limits now.limits) f.plan planned.deduped f.plan.block (sha256_by f.policy f.bytes) indices id
 
     its_wait : Waits now f.plan.block (files ++ f ∷ []) file
     its_wait =

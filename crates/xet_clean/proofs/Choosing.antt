@@ -4,7 +4,6 @@ use Rattle.std.specs.List.{AllByRecursion, Contains, sum_by}
 use Rattle.std.proofs.lemmas.List.{length-map, nil_from_length}
 use Rattle.std.proofs.lemmas.List.Elements.{Contains-append_left, Contains-append_right}
 use Rattle.std.proofs.lemmas.List.Sums.{sum_by-cons}
-use Rattle.sha2.specs.Sha256.{sha256}
 use Rattle.xet_choices.specs.Calls.{Call, IsAskedIn}
 use Rattle.xet_choices.specs.Calls.Call.{Asked}
 use Rattle.xet_choices.specs.Choices.{AllTrue, IsFound, Setting, TrueAt, hashes_of, new_chunks}
@@ -21,9 +20,11 @@ use Rattle.xet_store.specs.Separate.{Among}
 use Rattle.xet_stepping.specs.Holders.{Follows, Holder, calls_in, calls_of, numbered}
 use Rattle.xet_clean.specs.Cleaning.{AreChosen}
 use Rattle.xet_clean.specs.Files.{HasChoices, leaves_in}
-use Rattle.xet_clean.specs.internal.Working.{AreRecorded, BeginsWithRecord, IsRecordOf, Planned, WasPlanned}
+use Rattle.xet_clean.specs.Working.{AreRecorded, BeginsWithRecord, IsRecordOf, Planned, WasPlanned}
 use Rattle.xet_clean.proofs.Rising.{calls_stay}
 use Rattle.xet_clean.proofs.Sums.{no_leaves}
+use Rattle.xet_clean.specs.Policies.{sha256_by}
+use Rattle.xet_clean.specs.declared.policy.Sha256Policy.{Sha256Policy}
 
 -- ---- more calls
 
@@ -55,15 +56,15 @@ unnumbered n [] m e a = absurd a
 unnumbered n (x ∷ es) m e (inl same) = inl (ap (λ (p : ℕ × Entry). p.1) same)
 unnumbered n (x ∷ es) m e (inr a) = inr (unnumbered (suc n) es m e a)
 
-module _ (s : LimitSettings) (calls : List Call) where
+module _ (policy : Sha256Policy) (s : LimitSettings) (calls : List Call) where
   begins_chosen : (bytes : List ℕ) (choices : List Choice) (others : List (List ℕ)) (rest : List (List Choice)) (is : MDBFileInfo → Type 0) (P : List MDBFileInfo → Type 0) → (length bytes ≡ 0 → choices ≡ [])
-      → ((r : MDBFileInfo) → is r → HasChoices s calls bytes choices r) → ((rs : List MDBFileInfo) → P rs → AreChosen s calls others rest rs) → (rs : List MDBFileInfo) → BeginsWithRecord bytes is P rs
-      → AreChosen s calls (bytes ∷ others) (choices ∷ rest) rs
+      → ((r : MDBFileInfo) → is r → HasChoices policy s calls bytes choices r) → ((rs : List MDBFileInfo) → P rs → AreChosen policy s calls others rest rs) → (rs : List MDBFileInfo) → BeginsWithRecord bytes is P rs
+      → AreChosen policy s calls (bytes ∷ others) (choices ∷ rest) rs
   begins_chosen [] choices others rest is P none one go rs all = (none refl, go rs all)
   begins_chosen (b ∷ bs) choices others rest is P none one go [] all = absurd all
   begins_chosen (b ∷ bs) choices others rest is P none one go (r ∷ rs) all = (one r all.0, go rs all.1)
 
-module _ (start now : Holder) (follows : Follows start now) (fresh : start.own ≡ []) (first : ℕ) (entries : List Entry) (own : follows.own ≡ numbered first entries) where
+module _ (start now : Holder) (follows : Follows start now) (fresh : start.own ≡ []) (first : ℕ) (entries : List Entry) (own : follows.own ≡ numbered first entries) (policy : Sha256Policy) where
   -- all calls
   all_calls : calls_of now ≡ calls_in (numbered first entries)
   all_calls = ap (λ (h : Holder). calls_in h.own) follows.is ∙ ap (λ (l : List (ℕ × Entry)). calls_in (l ++ follows.own)) fresh ∙ ap calls_in own
@@ -105,21 +106,21 @@ module _ (start now : Holder) (follows : Follows start now) (fresh : start.own �
     no_choices : length f.bytes ≡ 0 → f.plan.choices ≡ []
     no_choices none = nil_from_length f.plan.choices (omega (arith, one_each, no_leaves start.limits f.bytes none))
 
-    choices_of : (file : MDBFileInfo) → IsRecordOf f file → HasChoices start.limits (calls_in (numbered first entries)) f.bytes f.plan.choices file
-    choices_of file is = record {
+    choices_of : f.policy ≡ policy → (file : MDBFileInfo) → IsRecordOf f file → HasChoices policy start.limits (calls_in (numbered first entries)) f.bytes f.plan.choices file
+    choices_of same file is = record {
       segments = is.segments;
-      is = is.is ∙ ap (λ (l : List (List ℕ × ℕ)). file_record l is.segments (Some (sha256 f.bytes))) same_leaves;
+      is = is.is ∙ (λ i. file_record (same_leaves i) is.segments (sha256_by (same i) f.bytes));
       covers = ap total is.counts ∙ covers;
       one_each = one_each;
       true_choices = all_true (counts_of is.segments) is.counts;
     }
 
-  pub are_chosen : (files : List Planned) (records : List MDBFileInfo) → AllByRecursion (WasPlanned start now) files → AreRecorded files records
-      → AreChosen start.limits (calls_in (numbered first entries)) (map (λ f. f.bytes) files) (map (λ f. f.plan.choices) files) records
-  are_chosen [] records planned none = none
-  are_chosen (f ∷ fs) records planned all =
-      begins_chosen start.limits (calls_in (numbered first entries)) f.bytes f.plan.choices (map (λ (g : Planned). g.bytes) fs) (map (λ (g : Planned). g.plan.choices) fs) (IsRecordOf f) (λ l. AreRecorded fs l)
-      (no_choices f planned.0) (choices_of f planned.0) (λ l a. are_chosen fs l planned.1 a) records all
+  pub are_chosen : (files : List Planned) (records : List MDBFileInfo) → AllByRecursion (WasPlanned start now) files → AllByRecursion (λ f. f.policy ≡ policy) files → AreRecorded files records
+      → AreChosen policy start.limits (calls_in (numbered first entries)) (map (λ f. f.bytes) files) (map (λ f. f.plan.choices) files) records
+  are_chosen [] records planned same none = none
+  are_chosen (f ∷ fs) records planned same all =
+      begins_chosen policy start.limits (calls_in (numbered first entries)) f.bytes f.plan.choices (map (λ (g : Planned). g.bytes) fs) (map (λ (g : Planned). g.plan.choices) fs) (IsRecordOf f) (λ l. AreRecorded fs l)
+      (no_choices f planned.0) (choices_of f planned.0 same.0) (λ l a. are_chosen fs l planned.1 same.1 a) records all
 
 -- ---- sums over the files and over their choices
 

@@ -17,8 +17,8 @@ use Rattle.xet_stepping.specs.Holders.{FollowsAsking, Holder, calls_of, core_at,
 use Rattle.xet_xorb_chunk.specs.Chunks.{chunk_leaf, chunk_of}
 use Rattle.xet_xorb_chunk.specs.declared.chunk.Chunk.{Chunk}
 use Rattle.xet_clean.specs.Files.{leaves_in}
-use Rattle.xet_clean.specs.internal.Planning.{IsFew, IsPlanned, IsWithin}
-use Rattle.xet_clean.specs.internal.Cleaner.{IsBatchOf, IsCleaning, IsCleaningBytes, StopsInBatch}
+use Rattle.xet_clean.specs.Planning.{IsFew, IsPlanned, IsWithin}
+use Rattle.xet_clean.specs.Cleaner.{IsBatchOf, IsCleaning, IsCleaningBytes, StopsInBatch}
 use Rattle.xet_clean.proofs.FileCalls.{HasCalls, calls_few, calls_more, few_still, few_stopped, same_limits}
 use Rattle.xet_clean.proofs.Blocks.{plan_within}
 use Rattle.xet_clean.proofs.Splitting.{Leaf, few_leaves, leaves-append, leaves_long, leaves_short, left_one, made_leaves, split_chunks, split_count, split_long, split_more, split_total}
@@ -64,8 +64,8 @@ chunks_of_file s chunks are = all_more (IsChunkOf s) (IsChunk s) chunks (λ c is
 
 -- ---- a file
 
-module _ (start old : Holder) (whole : Bool) (plan : PlanState) (global : ℕ × ℕ) (splitting : Splitting) (holds : List ℕ → Type 0) (count : ℕ) (bytes : List ℕ) (c : IsCleaning start old whole plan global splitting holds count bytes) where
-  -- whatever its SHA-256 has
+module _ (start old : Holder) (whole : Bool) (plan : PlanState) (global : ℕ × ℕ) (splitting : Splitting) (count : ℕ) (bytes : List ℕ) (c : IsCleaning start old whole plan global splitting count bytes) where
+  -- where its bytes are counted
   pub cleaning_bytes : IsCleaningBytes start old whole plan global splitting bytes
   cleaning_bytes = record {
     is_whole = c.is_whole;
@@ -73,7 +73,6 @@ module _ (start old : Holder) (whole : Bool) (plan : PlanState) (global : ℕ ×
     counted = refl;
     range = c.range;
     short = c.short;
-    hashed = tt;
     settings = c.settings;
     same = c.same;
     parts = c.parts;
@@ -162,9 +161,9 @@ module _ (start old : Holder) (whole : Bool) (plan : PlanState) (global : ℕ ×
         (chunks_of_file old.limits chunks (block_chunks old.limits (splitting.buffered ++ new) false chunks buffered c.range.minimum_from c.range.minimum_to block))
 
     -- and then it is a file of these bytes too.
-    pub cleaning_more : (now : Holder) (is_whole : Bool) (none : ℕ × ℕ) (q : PlanState) (after : Splitting) (holding : List ℕ → Type 0) (counted : ℕ) → HasPlaced start old now is_whole none plan q chunks
-        → after.settings ≡ splitting.settings → after.buffered ≡ buffered → holding (bytes ++ new) → counted ≡ count + length new → IsCleaning start now is_whole q none after holding counted (bytes ++ new)
-    cleaning_more now is_whole none q after holding counted placed settings left holds_all sum =
+    pub cleaning_more : (now : Holder) (is_whole : Bool) (none : ℕ × ℕ) (q : PlanState) (after : Splitting) (counted : ℕ) → HasPlaced start old now is_whole none plan q chunks
+        → after.settings ≡ splitting.settings → after.buffered ≡ buffered → counted ≡ count + length new → IsCleaning start now is_whole q none after counted (bytes ++ new)
+    cleaning_more now is_whole none q after counted placed settings left sum =
         let limits : now.limits ≡ old.limits = same_limits old now placed.follows.follows in
         let leaves : q.leaves ≡ leaves_of more = placed.leaves ∙ leaves_after in
         let calls : HasCalls start now q.leaves (map chunk_leaf q.block) = calls_after now is_whole none q chunks placed in
@@ -174,7 +173,6 @@ module _ (start old : Holder) (whole : Bool) (plan : PlanState) (global : ℕ ×
           counted = omega (arith, sum, c.counted, length-append bytes new);
           range = subst AreInRange (sym limits) c.range;
           short = omega (arith, short, length-append bytes new, ap (λ (s : LimitSettings). s.max_source_bytes) limits);
-          hashed = holds_all;
           settings = placed.settings ∙ c.settings ∙ sym limits;
           same = settings ∙ c.same ∙ sym limits;
           parts = more;

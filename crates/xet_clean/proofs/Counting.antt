@@ -18,7 +18,7 @@ use Rattle.xet_stepping.specs.Holders.{Holder, core_found, ended, grown, numbere
 use Rattle.xet_stepping.specs.Stepping.{SawComplete, SawError, SawOther, SawRegister}
 use Rattle.xet_stepping.specs.theorems.Following.{follows_nothing, follows_then, length-numbered}
 use Rattle.xet_xorb.specs.Raw.{xorb_record}
-use Rattle.xet_clean.specs.internal.Closing.{IsAtMost}
+use Rattle.xet_clean.specs.Closing.{IsAtMost}
 
 -- ---- numbers of entries
 

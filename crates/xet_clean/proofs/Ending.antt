@@ -17,8 +17,8 @@ use Rattle.xet_stepping.specs.Holders.{Follows, Holder, calls_in}
 use Rattle.xet_stepping.specs.theorems.Following.{calls_in-append, follows_then}
 use Rattle.xet_xorb_chunk.specs.Chunks.{chunk_leaf}
 use Rattle.xet_clean.specs.Cleaning.{RegistersFew, close_of}
-use Rattle.xet_clean.specs.internal.Closing.{Closes, filled_files, recorded_in}
-use Rattle.xet_clean.specs.internal.Working.{AreRecorded, IsWorking, Planned, WasPlanned}
+use Rattle.xet_clean.specs.Closing.{Closes, filled_files, recorded_in}
+use Rattle.xet_clean.specs.Working.{AreRecorded, IsWorking, Planned, WasPlanned}
 use Rattle.xet_clean.proofs.Adding.{Adds, adds_closed_last, recorded_in-append}
 use Rattle.xet_clean.proofs.Keeping.{was_planned_follows}
 use Rattle.xet_clean.proofs.Records.{records_filled}

@@ -11,8 +11,8 @@ use Rattle.xet_dedup_queries.specs.theorems.Counting.{entries_at_most-append, la
 use Rattle.xet_stepping.specs.Holders.{Follows, FollowsAsking, Holder, calls_of}
 use Rattle.xet_stepping.specs.theorems.Following.{asking_then}
 use Rattle.xet_clean.specs.Files.{leaves_in}
-use Rattle.xet_clean.specs.internal.Planning.{IsFew}
-use Rattle.xet_clean.specs.internal.Cleaner.{IsBatchOf, StopsInBatch}
+use Rattle.xet_clean.specs.Planning.{IsFew}
+use Rattle.xet_clean.specs.Cleaner.{IsBatchOf, StopsInBatch}
 
 -- ---- what is seen
 

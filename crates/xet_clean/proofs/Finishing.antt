@@ -1,6 +1,5 @@
 -- A file whose deduplication has ended.
-use Rattle.std.proofs.Common.{◌≡◌, ◌∙◌, ℕ, List, Some, length, ap, arith}
-use Rattle.sha2.specs.Sha256.{sha256}
+use Rattle.std.proofs.Common.{◌≡◌, ◌∙◌, ℕ, List, Option, length, ap, arith}
 use Rattle.xet_aggregate.specs.Aggregate.{Aggregate, IsAggregate, single}
 use Rattle.xet_aggregate.specs.declared.metrics.DeduplicationMetrics.{DeduplicationMetrics}
 use Rattle.xet_choices.specs.declared.choice.Choice.{Choice}
@@ -9,31 +8,31 @@ use Rattle.xet_dedup.specs.Deduping.{metrics_of, open_indices}
 use Rattle.xet_dedup.specs.Records.{file_record}
 use Rattle.xet_file_plan.specs.Moves.{PlanState}
 use Rattle.xet_hash.specs.Merkle.{file_hash}
-use Rattle.xet_store.specs.Cleaning.{info_of}
 use Rattle.xet_store.specs.declared.info.XetFileInfo.{XetFileInfo}
 use Rattle.xet_stepping.specs.Holders.{Holder}
 use Rattle.xet_clean.specs.Files.{leaves_in}
-use Rattle.xet_clean.specs.internal.Planning.{IsFew, IsFinished, IsPlanned}
+use Rattle.xet_clean.specs.Planning.{IsFew, IsFinished, IsPlanned}
+use Rattle.xet_clean.specs.Policies.{info_with}
 
 -- a pointer record
-abbrev pub pointer : List ℕ → ℕ → List ℕ → XetFileInfo
-pointer hash size digest = record { hash = hash; file_size = size; sha256 = Some digest }
+abbrev pub pointer : List ℕ → ℕ → Option (List ℕ) → XetFileInfo
+pointer hash size digest = record { hash = hash; file_size = size; sha256 = digest }
 
 -- the pointer record of a file of these bytes
-pub pointer_of : (s : LimitSettings) (bytes : List ℕ) (leaves : List (List ℕ × ℕ)) (hash : List ℕ) (size : ℕ) (digest : List ℕ) → hash ≡ file_hash leaves → leaves ≡ leaves_in s bytes → size ≡ length bytes → digest ≡ sha256 bytes
-    → pointer hash size digest ≡ info_of s bytes
-pointer_of s bytes leaves hash size digest hashed are sized digested = λ i. record { hash = (hashed ∙ ap file_hash are) i; file_size = sized i; sha256 = Some (digested i) }
+pub pointer_of : (s : LimitSettings) (bytes : List ℕ) (leaves : List (List ℕ × ℕ)) (hash : List ℕ) (size : ℕ) (digest : Option (List ℕ)) → hash ≡ file_hash leaves → leaves ≡ leaves_in s bytes → size ≡ length bytes
+    → pointer hash size digest ≡ info_with digest s bytes
+pointer_of s bytes leaves hash size digest hashed are sized = λ i. record { hash = (hashed ∙ ap file_hash are) i; file_size = sized i; sha256 = digest }
 
-pub finished_file : (start now : Holder) (id : ℕ) (bytes : List ℕ) (plan : PlanState) (info : XetFileInfo) (metrics : DeduplicationMetrics) (choices : List Choice) (rest : Aggregate) (digest : List ℕ) (global : ℕ × ℕ)
-    → IsPlanned start now bytes plan → global ≡ (0, 0) → info ≡ info_of now.limits bytes → digest ≡ sha256 bytes → choices ≡ plan.choices → metrics ≡ metrics_of plan.leaves plan.choices global.0 global.1
-    → rest ≡ single plan.block (file_record plan.leaves plan.segments (Some digest)) (open_indices plan.segments) id → IsAggregate rest → IsFinished start now id bytes info metrics choices rest
-finished_file start now id bytes plan info metrics choices rest digest global planned none pointer digested chosen counts left aggregate = record {
+pub finished_file : (start now : Holder) (id : ℕ) (bytes : List ℕ) (plan : PlanState) (info : XetFileInfo) (metrics : DeduplicationMetrics) (choices : List Choice) (rest : Aggregate) (digest : Option (List ℕ)) (global : ℕ × ℕ)
+    → IsPlanned start now bytes plan → global ≡ (0, 0) → info ≡ info_with digest now.limits bytes → choices ≡ plan.choices → metrics ≡ metrics_of plan.leaves plan.choices global.0 global.1
+    → rest ≡ single plan.block (file_record plan.leaves plan.segments digest) (open_indices plan.segments) id → IsAggregate rest → IsFinished start now id digest bytes info metrics choices rest
+finished_file start now id bytes plan info metrics choices rest digest global planned none pointer chosen counts left aggregate = record {
   plan = plan;
   planned = planned;
   pointer = pointer;
   chosen = chosen;
   counts = counts ∙ ap (λ (x : ℕ × ℕ). metrics_of plan.leaves plan.choices x.0 x.1) none;
-  left = left ∙ ap (λ (d : List ℕ). single plan.block (file_record plan.leaves plan.segments (Some d)) (open_indices plan.segments) id) digested;
+  left = left;
   aggregate = aggregate;
 }
 

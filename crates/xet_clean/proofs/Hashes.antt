@@ -12,7 +12,7 @@ use Rattle.xet_shard_format.specs.declared.record.MDBFileInfo.{MDBFileInfo}
 use Rattle.xet_store.specs.Cleaning.{info_of}
 use Rattle.xet_stepping.specs.Holders.{Follows, Holder}
 use Rattle.xet_clean.specs.Files.{leaves_in}
-use Rattle.xet_clean.specs.internal.Working.{IsRecordOf, Planned, WasPlanned}
+use Rattle.xet_clean.specs.Working.{IsRecordOf, Planned, WasPlanned}
 
 module _ (start now : Holder) (follows : Follows start now) where
   module _ (f : Planned) (was : WasPlanned start now f) where

@@ -1,13 +1,14 @@
 -- Records of files, in order.
 use Rattle.std.proofs.Common.{◌≡◌, ◌∙◌, ℕ, ◌<◌, List, [], ◌∷◌, ◌++◌, length, map, Some, refl, sym, ap, subst, arith}
 use Rattle.std.specs.List.{AllByRecursion}
-use Rattle.sha2.specs.Sha256.{sha256}
 use Rattle.xet_cut.specs.declared.limits.LimitSettings.{LimitSettings}
 use Rattle.xet_dedup.specs.Records.{file_record}
 use Rattle.xet_shard_format.specs.declared.record.MDBFileInfo.{MDBFileInfo}
 use Rattle.xet_clean.specs.Cleaning.{AreRecords, IsRecordFor}
 use Rattle.xet_clean.specs.Files.{leaves_in}
-use Rattle.xet_clean.specs.internal.Working.{AreRecorded, BeginsWithRecord, IsRecordOf, Planned}
+use Rattle.xet_clean.specs.Working.{AreRecorded, BeginsWithRecord, IsRecordOf, Planned}
+use Rattle.xet_clean.specs.Policies.{sha256_by}
+use Rattle.xet_clean.specs.declared.policy.Sha256Policy.{Sha256Policy}
 
 -- ---- one file
 
@@ -101,16 +102,16 @@ module _ (h : MDBFileInfo → MDBFileInfo) (stays : (f : Planned) (r : MDBFileIn
 
 -- ---- the same of the bytes of the files
 
-module _ (s : LimitSettings) where
-  begins_records : (bytes : List ℕ) (others : List (List ℕ)) (is : MDBFileInfo → Type 0) (P : List MDBFileInfo → Type 0) → ((r : MDBFileInfo) → is r → IsRecordFor s bytes r)
-      → ((rs : List MDBFileInfo) → P rs → AreRecords s others rs) → (rs : List MDBFileInfo) → BeginsWithRecord bytes is P rs → AreRecords s (bytes ∷ others) rs
+module _ (policy : Sha256Policy) (s : LimitSettings) where
+  begins_records : (bytes : List ℕ) (others : List (List ℕ)) (is : MDBFileInfo → Type 0) (P : List MDBFileInfo → Type 0) → ((r : MDBFileInfo) → is r → IsRecordFor policy s bytes r)
+      → ((rs : List MDBFileInfo) → P rs → AreRecords policy s others rs) → (rs : List MDBFileInfo) → BeginsWithRecord bytes is P rs → AreRecords policy s (bytes ∷ others) rs
   begins_records [] others is P one go rs all = go rs all
   begins_records (b ∷ bs) others is P one go [] all = absurd all
   begins_records (b ∷ bs) others is P one go (r ∷ rs) all = (one r all.0, go rs all.1)
 
-  pub are_records : (fs : List Planned) (rs : List MDBFileInfo) → AllByRecursion (λ f. f.plan.leaves ≡ leaves_in s f.bytes) fs → AreRecorded fs rs → AreRecords s (map (λ f. f.bytes) fs) rs
-  are_records [] rs leaves none = none
-  are_records (f ∷ fs) rs leaves all =
+  pub are_records : (fs : List Planned) (rs : List MDBFileInfo) → AllByRecursion (λ f. f.plan.leaves ≡ leaves_in s f.bytes) fs → AllByRecursion (λ f. f.policy ≡ policy) fs → AreRecorded fs rs → AreRecords policy s (map (λ f. f.bytes) fs) rs
+  are_records [] rs leaves same none = none
+  are_records (f ∷ fs) rs leaves same all =
       begins_records f.bytes (map (λ (g : Planned). g.bytes) fs) (IsRecordOf f) (λ l. AreRecorded fs l)
-      (λ r is. record { some = is.some; segments = is.segments; is = is.is ∙ ap (λ (l : List (List ℕ × ℕ)). file_record l is.segments (Some (sha256 f.bytes))) leaves.0 })
-      (λ l a. are_records fs l leaves.1 a) rs all
+      (λ r is. record { some = is.some; segments = is.segments; is = is.is ∙ (λ i. file_record (leaves.0 i) is.segments (sha256_by (same.0 i) f.bytes)) })
+      (λ l a. are_records fs l leaves.1 same.1 a) rs all

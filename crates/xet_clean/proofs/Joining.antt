@@ -12,20 +12,20 @@ use Rattle.xet_choices.specs.declared.choice.Choice.{Choice}
 use Rattle.xet_choices.specs.theorems.Calls.{registered_chunks-append}
 use Rattle.xet_dedup.specs.Deduping.{metrics_of, metrics_of_both}
 use Rattle.xet_shard_format.specs.declared.record.MDBFileInfo.{MDBFileInfo}
-use Rattle.xet_store.specs.Cleaning.{info_of}
 use Rattle.xet_store.specs.declared.info.XetFileInfo.{XetFileInfo}
 use Rattle.xet_xorb_chunk.specs.Chunks.{chunk_leaf}
 use Rattle.xet_stepping.specs.Holders.{Follows, Holder, calls_in}
 use Rattle.xet_stepping.specs.theorems.Following.{calls_in-append, follows_then}
 use Rattle.xet_clean.specs.Cleaning.{Lands, metrics_sum}
 use Rattle.xet_clean.specs.Files.{leaves_in}
-use Rattle.xet_clean.specs.internal.Planning.{IsPlanned, IsWithin}
-use Rattle.xet_clean.specs.internal.Closing.{HaveForm, recorded_in}
-use Rattle.xet_clean.specs.internal.Working.{AreRecorded, IsWorking, Planned, Waits, WasPlanned}
+use Rattle.xet_clean.specs.Planning.{IsPlanned, IsWithin}
+use Rattle.xet_clean.specs.Closing.{HaveForm, recorded_in}
+use Rattle.xet_clean.specs.Working.{AreRecorded, IsWorking, Planned, Waits, WasPlanned}
 use Rattle.xet_clean.proofs.Adding.{Adds, recorded_in-append}
 use Rattle.xet_clean.proofs.Keeping.{limits_follow, was_planned_follows}
 use Rattle.xet_clean.proofs.Rising.{once_next}
 use Rattle.xet_clean.proofs.Sums.{sum_push}
+use Rattle.xet_clean.specs.Policies.{info_by}
 
 -- ---- one more file
 
@@ -71,11 +71,11 @@ module _ (start first now new : Holder) (files : List Planned) (infos : List Xet
   now_new : now.limits ≡ new.limits
   now_new = sym (limits_follow now new joins)
 
-  pointers_all : infos ++ info_of now.limits f.bytes ∷ [] ≡ map (λ g. info_of new.limits g.bytes) (files ++ f ∷ [])
+  pointers_all : infos ++ info_by f.policy now.limits f.bytes ∷ [] ≡ map (λ g. info_by g.policy new.limits g.bytes) (files ++ f ∷ [])
   pointers_all =
-      ap (λ (l : List XetFileInfo). l ++ info_of now.limits f.bytes ∷ []) w.pointers
-      ∙ (λ i. map (λ (g : Planned). info_of (first_new i) g.bytes) files ++ info_of (now_new i) f.bytes ∷ [])
-      ∙ sym (map-append (λ (g : Planned). info_of new.limits g.bytes) files (f ∷ []))
+      ap (λ (l : List XetFileInfo). l ++ info_by f.policy now.limits f.bytes ∷ []) w.pointers
+      ∙ (λ i. map (λ (g : Planned). info_by g.policy (first_new i) g.bytes) files ++ info_by f.policy (now_new i) f.bytes ∷ [])
+      ∙ sym (map-append (λ (g : Planned). info_by g.policy new.limits g.bytes) files (f ∷ []))
 
   chosen_all : choices ++ f.plan.choices ∷ [] ≡ map (λ g. g.plan.choices) (files ++ f ∷ [])
   chosen_all = ap (λ (l : List (List Choice)). l ++ f.plan.choices ∷ []) w.chosen ∙ sym (map-append (λ (g : Planned). g.plan.choices) files (f ∷ []))
@@ -89,7 +89,7 @@ module _ (start first now new : Holder) (files : List Planned) (infos : List Xet
       ∙ sym (sum_push new.limits (map (λ (g : Planned). g.bytes) files) choices f.bytes f.plan.choices len)
       ∙ ap (λ (l : List (List ℕ)). metrics_sum new.limits l (choices ++ f.plan.choices ∷ [])) (sym (map-append (λ (g : Planned). g.bytes) files (f ∷ [])))
 
-  pub working_more : IsWorking start new (files ++ f ∷ []) (infos ++ info_of now.limits f.bytes ∷ []) (choices ++ f.plan.choices ∷ [])
+  pub working_more : IsWorking start new (files ++ f ∷ []) (infos ++ info_by f.policy now.limits f.bytes ∷ []) (choices ++ f.plan.choices ∷ [])
       (metrics_of_both metrics (metrics_of (leaves_in now.limits f.bytes) f.plan.choices 0 0)) joined
   unfolding follows_then
   working_more =

@@ -19,7 +19,7 @@ use Rattle.xet_xorb_chunk.specs.declared.chunk.Chunk.{Chunk}
 use Rattle.xet_stepping.specs.Asking.{Stands}
 use Rattle.xet_stepping.specs.Holders.{Follows, Holder, core_at, lengths_in}
 use Rattle.xet_stepping.specs.theorems.Following.{follows_then}
-use Rattle.xet_clean.specs.internal.Working.{IsRecordOf, Planned, Waits, WasPlanned}
+use Rattle.xet_clean.specs.Working.{IsRecordOf, Planned, Waits, WasPlanned}
 
 abbrev Leaves : Type 0
 Leaves = List (List ℕ × ℕ)

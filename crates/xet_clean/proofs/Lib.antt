@@ -1,3 +1,5 @@
+mod Policies
+mod Only
 mod Counting
 mod Keeping
 mod InOrder

@@ -2,12 +2,12 @@
 use Rattle.std.proofs.Common.{◌≡◌, ◌≢◌, ◌∙◌, ◌⊎◌, inl, inr, ℕ, suc, ◌+◌, ◌*◌, ◌≤◌, ◌<◌, Bool, true, false, List, [], ◌∷◌, ◌++◌, length, map, take, drop, get_or, set, refl, sym, ap, subst, append-nil, length-append, append_assoc, arith}
 use Rattle.std.proofs.lemmas.List.{length-map, nil_from_length, take_at}
 use Rattle.std.proofs.lemmas.List.Sums.{sum_by-append, sum_by-cons}
-use Rattle.std.specs.List.{sum_by}
+use Rattle.std.specs.List.{AllByRecursion, sum_by}
 use Rattle.std.specs.Prelude.{Err, IsOkUnless, Ok, Result}
 use Rattle.xet_aggregate.specs.Aggregate.{Aggregate, empty}
 use Rattle.xet_aggregate.specs.Metrics.{zeros}
 use Rattle.xet_aggregate.specs.declared.metrics.DeduplicationMetrics.{DeduplicationMetrics}
-use Rattle.xet_base.specs.theorems.Elements.{all_more}
+use Rattle.xet_base.specs.theorems.Elements.{all_more, all_push}
 use Rattle.xet_choices.specs.declared.choice.Choice.{Choice}
 use Rattle.xet_cut.specs.Chunking.{chunking}
 use Rattle.xet_cut.specs.declared.limits.LimitSettings.{LimitSettings}
@@ -25,10 +25,10 @@ use Rattle.xet_store.specs.declared.info.XetFileInfo.{XetFileInfo}
 use Rattle.xet_stepping.specs.Asking.{IsErrorSince}
 use Rattle.xet_stepping.specs.Holders.{Follows, FollowsAsking, Holder}
 use Rattle.xet_stepping.specs.theorems.Following.{follows_nothing, follows_then}
-use Rattle.xet_clean.specs.internal.Planning.{IsFew, IsPlanned, IsWithin}
-use Rattle.xet_clean.specs.internal.Closing.{Closes, IsAtMost, IsClosingError, IsUnclosed, RegistersChunks, filled_files, recorded_in}
-use Rattle.xet_clean.specs.internal.Sources.{AreRead, IsCutShort, IsLoopError, IsSourceError, IsUnclosedFor}
-use Rattle.xet_clean.specs.internal.Working.{EndsWith, IsWorking, Planned, WasPlanned, Waits}
+use Rattle.xet_clean.specs.Planning.{IsFew, IsPlanned, IsWithin}
+use Rattle.xet_clean.specs.Closing.{Closes, IsAtMost, IsClosingError, IsUnclosed, RegistersChunks, filled_files, recorded_in}
+use Rattle.xet_clean.specs.Sources.{AreDone, AreRead, HasCleaned, IsCutShort, IsDone, IsTakenFrom, IsLoopError, IsSourceError, IsUnclosedFor}
+use Rattle.xet_clean.specs.Working.{EndsWith, IsWorking, Planned, WasPlanned, Waits}
 use Rattle.xet_xorb_chunk.specs.Chunks.{chunk_leaf}
 use Rattle.xet_shard_format.specs.declared.record.MDBFileInfo.{MDBFileInfo}
 use Rattle.xet_clean.proofs.Adding.{adds_registered, none_recorded, recorded_in-append}
@@ -36,7 +36,8 @@ use Rattle.xet_clean.proofs.Closing.{error_earlier}
 use Rattle.xet_clean.proofs.Hashes.{chunks_sum}
 use Rattle.xet_clean.proofs.Keeping.{waits_follow, was_planned_follows}
 use Rattle.xet_clean.proofs.Stopping.{HasRecorded, first_recorded}
-use Rattle.xet_clean.proofs.Turns.{AreDone, AreFrom, IsDone, IsTakenFrom, at_length, drop_past, done_counts, done_push, done_read, done_told, from_then, later_all, long_at, rose_at, set_at_length, taken_all, taken_each, tell_all, untouched}
+use Rattle.xet_clean.proofs.Turns.{AreFrom, at_length, drop_past, done_counts, done_push, done_read, done_told, from_then, later_all, long_at, rose_at, set_at_length, taken_all, taken_each, tell_all, untouched}
+use Rattle.xet_clean.specs.declared.policy.Sha256Policy.{Sha256Policy}
 
 -- ---- nothing was cleaned yet
 
@@ -80,7 +81,7 @@ unclosed_since a next start old new e follows other u = go u.1
     go (inl c) = closing c.0 (follows_then start old c.0 follows (registers_follow a next old c.0 c.1)) c.2
     go (inr is) = error_earlier start old new follows e is
 
-module _ {S : Type 0} (tells : S → Bool) (left : S → List ℕ) (faults : S → ℕ) where
+module _ {S : Type 0} (tells : S → Bool) (left : S → List ℕ) (faults : S → ℕ) (policy : Sha256Policy) where
   -- Of these sources the first were read to their ends, and this was made of them. The others are untouched.
   pub record IsLoop (sources now : List S) (n : ℕ) (start h : Holder) (infos : List XetFileInfo) (choices : List (List Choice)) (metrics : DeduplicationMetrics) (a : Aggregate) : Type 0 where
     pub done : List S
@@ -91,16 +92,33 @@ module _ {S : Type 0} (tells : S → Bool) (left : S → List ℕ) (faults : S �
     pub now_is : now ≡ made ++ rest
     pub are : AreDone tells left faults start.limits.max_source_bytes done made files
     pub count : length files ≡ n
+    pub policies : AllByRecursion (λ f. f.policy ≡ policy) files
     pub working : IsWorking start h files infos choices metrics a
 
   pub loop_begins : (sources : List S) (start : Holder) → start.stopped ≡ false → IsLoop sources sources 0 start start [] [] zeros empty
   loop_begins sources start going =
-      record { done = []; made = []; rest = sources; files = []; old_is = refl; now_is = refl; are = tt; count = refl; working = nothing_cleaned start going }
+      record { done = []; made = []; rest = sources; files = []; old_is = refl; now_is = refl; are = tt; count = refl; policies = tt; working = nothing_cleaned start going }
+
+  -- where each was cleaned
+  pub loop_of : (sources now : List S) (start h : Holder) (infos : List XetFileInfo) (choices : List (List Choice)) (metrics : DeduplicationMetrics) (a : Aggregate) → HasCleaned policy tells left faults sources now start h infos choices metrics a
+      → IsLoop sources now (length sources) start h infos choices metrics a
+  loop_of sources now start h infos choices metrics a c = record {
+    done = sources;
+    made = now;
+    rest = [];
+    files = c.files;
+    old_is = sym (append-nil sources);
+    now_is = sym (append-nil now);
+    are = c.are;
+    count = sym (done_counts tells left faults start.limits.max_source_bytes sources now c.files c.are).0;
+    policies = c.policies;
+    working = c.working;
+  }
 
   -- Why the loop ended, and what is known then.
   pub record IsStopped (sources now : List S) (start h : Holder) (e : StoreError) : Type 0 where
     pub follows : Follows start h
-    pub short : IsCutShort tells left sources now start h e
+    pub short : IsCutShort policy tells left sources now start h e
     pub tell : map tells now ≡ map tells sources
     pub taken : AreTaken tells left sources now
     pub later : Later faults sources now
@@ -133,11 +151,11 @@ module _ {S : Type 0} (tells : S → Bool) (left : S → List ℕ) (faults : S �
         reason = tt;
       }
 
-  pub short_before : {T : Type 0} (sources : List S) (start : Holder) (r : Result T StoreError) (e : StoreError) → r ≡ Err e → IsOkUnless r OutOfMemory → IsCutShort tells left sources sources start start e
+  pub short_before : {T : Type 0} (sources : List S) (start : Holder) (r : Result T StoreError) (e : StoreError) → r ≡ Err e → IsOkUnless r OutOfMemory → IsCutShort policy tells left sources sources start start e
   short_before sources start (Ok x) e is memory = absurd (cc is)
   short_before sources start (Err x) e is memory =
       let same : x ≡ e = cc is in
-      subst (IsCutShort tells left sources sources start start) (sym memory ∙ same) (stopped_before sources start).short
+      subst (IsCutShort policy tells left sources sources start start) (sym memory ∙ same) (stopped_before sources start).short
 
   module _ (sources now : List S) (n : ℕ) (start h : Holder) (infos : List XetFileInfo) (choices : List (List Choice)) (metrics : DeduplicationMetrics) (a : Aggregate)
       (l : IsLoop sources now n start h infos choices metrics a) where
@@ -150,8 +168,8 @@ module _ {S : Type 0} (tells : S → Bool) (left : S → List ℕ) (faults : S �
     -- ---- what was recorded
 
     has_recorded : (bytes : List (List ℕ)) (own : List (ℕ × Entry)) (k : ℕ) → recorded_in own ≡ take k (filled_files a)
-        → HasRecorded start.limits n (map (λ (f : Planned). f.bytes) l.files ++ bytes) (w.follows.own ++ own)
-    has_recorded bytes own k is = first_recorded start h l.files infos choices metrics a w n l.count bytes own k is
+        → HasRecorded policy start.limits n (map (λ (f : Planned). f.bytes) l.files ++ bytes) (w.follows.own ++ own)
+    has_recorded bytes own k is = first_recorded policy start h l.files infos choices metrics a w l.policies n l.count bytes own k is
 
     -- ---- the sources before this one, and after it
 
@@ -258,10 +276,10 @@ module _ {S : Type 0} (tells : S → Bool) (left : S → List ℕ) (faults : S �
       -- ---- one file more
 
       pub loop_next : (t : S) (h' : Holder) (bytes : List ℕ) (plan : PlanState) (infos' : List XetFileInfo) (choices' : List (List Choice)) (metrics' : DeduplicationMetrics) (a' : Aggregate)
-          → IsDone tells left faults start.limits.max_source_bytes next.source t bytes → IsWorking start h' (l.files ++ (record { bytes = bytes; plan = plan }) ∷ []) infos' choices' metrics' a'
+          → IsDone tells left faults start.limits.max_source_bytes next.source t bytes → IsWorking start h' (l.files ++ (record { bytes = bytes; policy = policy; plan = plan }) ∷ []) infos' choices' metrics' a'
           → IsLoop sources (set now n t) (n + 1) start h' infos' choices' metrics' a'
       loop_next t h' bytes plan infos' choices' metrics' a' one more =
-          let f : Planned = record { bytes = bytes; plan = plan } in
+          let f : Planned = record { bytes = bytes; policy = policy; plan = plan } in
           record {
             done = l.done ++ next.source ∷ [];
             made = l.made ++ t ∷ [];
@@ -271,6 +289,7 @@ module _ {S : Type 0} (tells : S → Bool) (left : S → List ℕ) (faults : S �
             now_is = set_next t ∙ sym (append_assoc l.made (t ∷ []) next.later);
             are = done_push tells left faults start.limits.max_source_bytes l.done l.made l.files next.source t f l.are one;
             count = omega (arith, length-append l.files (f ∷ []), l.count);
+            policies = all_push (λ (g : Planned). g.policy ≡ policy) l.files f l.policies refl;
             working = more;
           }
 
@@ -483,9 +502,19 @@ module _ {S : Type 0} (tells : S → Bool) (left : S → List ℕ) (faults : S �
           subst (λ (ts : List S). AreRead tells left start.limits.max_source_bytes sources ts) (sym all_made)
           (subst (λ (ss : List S). AreRead tells left start.limits.max_source_bytes ss l.made) (sym all_done) (done_read tells left faults start.limits.max_source_bytes l.done l.made l.files l.are))
 
-      pub ends_with : (last : Holder) → Closes a [] h last → EndsWith tells left sources start last l.files infos choices metrics
+      pub has_cleaned : HasCleaned policy tells left faults sources now start h infos choices metrics a
+      has_cleaned = record {
+        files = l.files;
+        are = subst (λ (ts : List S). AreDone tells left faults start.limits.max_source_bytes sources ts l.files) (sym all_made)
+            (subst (λ (ss : List S). AreDone tells left faults start.limits.max_source_bytes ss l.made l.files) (sym all_done) l.are);
+        policies = l.policies;
+        working = w;
+      }
+
+      pub ends_with : (last : Holder) → Closes a [] h last → EndsWith policy tells left sources start last l.files infos choices metrics
       ends_with last closes = record {
         told = subst (λ (ss : List S). EachTold tells left (λ bytes f. f.bytes ≡ bytes) ss l.files) (sym all_done) (done_told tells left faults start.limits.max_source_bytes l.done l.made l.files l.are);
+        policies = l.policies;
         before = h;
         aggregate = a;
         working = w;

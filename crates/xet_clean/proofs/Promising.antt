@@ -21,41 +21,43 @@ use Rattle.xet_store.specs.Cleaning.{Adds, EachTold, HasFile, Keeps, chunkings, 
 use Rattle.xet_store.specs.Separate.{Among, Separate}
 use Rattle.xet_store.specs.Store.{Sound, plan_of}
 use Rattle.xet_store.specs.declared.info.XetFileInfo.{XetFileInfo}
-use Rattle.xet_store.specs.theorems.Files.{files_all}
+use Rattle.xet_store.specs.theorems.Files.{files_all, told_more}
 use Rattle.xet_store.specs.theorems.Rows.{from_among, to_among}
 use Rattle.xet_stepping.specs.Alone.{AloneState, IsAlone, IsFault, alone_of}
 use Rattle.xet_stepping.specs.Asking.{HasFault}
 use Rattle.xet_stepping.specs.Holders.{Follows, Holder, core_at, numbered}
 use Rattle.xet_clean.specs.Cleaning.{Grows, HasReason, IsBounded, IsCleaned, entries_since}
-use Rattle.xet_clean.specs.internal.Sources.{AreRead, IsCutShort, IsLoopError}
-use Rattle.xet_clean.specs.internal.Working.{EndsWith, Planned}
+use Rattle.xet_clean.specs.Sources.{AreRead, IsCutShort, IsLoopError}
+use Rattle.xet_clean.specs.Working.{EndsWith, Planned}
 use Rattle.xet_clean.proofs.Choosing.{unnumbered}
 use Rattle.xet_clean.proofs.Refusing.{none_refused}
 use Rattle.xet_clean.proofs.Session.{bounded_since, core_is, ended_adds, ended_cleaned, ended_grows, ended_infos, ended_recorded, grows_by, since_is, some_made}
+use Rattle.xet_clean.specs.Policies.{info_by}
+use Rattle.xet_clean.specs.declared.policy.Sha256Policy.{Sha256Policy}
 
 -- ---- the result
 
-module _ {S T : Type 0} (tells : S → Bool) (left : S → List ℕ) (faults : S → ℕ) (sources now : List S) (infos : T → List XetFileInfo) (choices : T → List (List Choice)) (metrics : T → DeduplicationMetrics) where
+module _ {S T : Type 0} (tells : S → Bool) (left : S → List ℕ) (faults : S → ℕ) (policy : Sha256Policy) (sources now : List S) (infos : T → List XetFileInfo) (choices : T → List (List Choice)) (metrics : T → DeduplicationMetrics) where
   -- what is known of a result where the loop has ended
   pub record IsResult (start last : Holder) (r : Result T StoreError) : Type 0 where
-    pub ends : IfOk r (λ t. (files : List Planned) × EndsWith tells left sources start last files (infos t) (choices t) (metrics t))
+    pub ends : IfOk r (λ t. (files : List Planned) × EndsWith policy tells left sources start last files (infos t) (choices t) (metrics t))
     pub read : OnOk r (AreRead tells left start.limits.max_source_bytes sources now)
-    pub short : IfErr r (IsCutShort tells left sources now start last)
+    pub short : IfErr r (IsCutShort policy tells left sources now start last)
     pub why : IfErr r (IsLoopError tells left faults sources now start last)
 
   -- all that is promised of it
   pub record Promises (old new : RecordedState) (r : Result T StoreError) : Type 0 where
-    pub infos_are : IfOk r (λ t. EachTold tells left (λ bytes info. info ≡ info_of old.store.limits bytes) sources (infos t))
+    pub infos_are : IfOk r (λ t. EachTold tells left (λ bytes info. info ≡ info_by policy old.store.limits bytes) sources (infos t))
     pub read : OnOk r (AllByRecursion (λ s. tells s ≡ true → left s ≡ []) now)
     pub short : OnOk r (AllByRecursion (λ s. tells s ≡ true → length (left s) ≤ old.store.limits.max_source_bytes) sources)
     pub files : old.store.tells ≡ true → AllByRecursion (λ s. tells s ≡ true) sources → Separate new.store (chunkings left old.store.limits sources)
         → OnOk r (AllByRecursion (HasFile new.store) (chunkings left old.store.limits sources))
     pub plans : IfOk r (λ t. AllByRecursion (λ info. IsSome (plan_of new.store.records info.hash)) (infos t))
-    pub cleaned : IfOk r (λ t. IsCleaned tells left sources old new (infos t) (choices t) (metrics t))
+    pub cleaned : IfOk r (λ t. IsCleaned policy tells left sources old new (infos t) (choices t) (metrics t))
     pub keeps : Keeps old.store new.store
     pub steps : Grows (result_err r) old new
     pub adds : IfOk r (λ t. Adds old.store.records new.store.records (map (λ info. info.hash) (infos t)))
-    pub bound : IfErr r (IsBounded tells left sources now old new)
+    pub bound : IfErr r (IsBounded policy tells left sources now old new)
     pub reason : IfErr r (HasReason tells left faults sources now old new)
 
 module _ {S : Type 0} (tells : S → Bool) (left : S → List ℕ) (faults : S → ℕ) (sources now : List S) (old new : RecordedState) (stopped : Bool) (is : IsAlone old new stopped) (sound : Sound new.store)
@@ -95,26 +97,28 @@ module _ {S : Type 0} (tells : S → Bool) (left : S → List ℕ) (faults : S �
   grows_of (TooLarge (what.Source i)) why = grows_by old new stopped is (Some (TooLarge (what.Source i))) (is.whole why.1)
   grows_of e why = grows_by old new stopped is (Some e) (some_made old new stopped is)
 
-  pub promises : {T : Type 0} (infos : T → List XetFileInfo) (choices : T → List (List Choice)) (metrics : T → DeduplicationMetrics) (r : Result T StoreError)
-      → IsResult tells left faults sources now infos choices metrics (alone_of old old false) (alone_of old new stopped) r → Promises tells left faults sources now infos choices metrics old new r
-  promises infos choices metrics (Ok t) result =
+  pub promises : {T : Type 0} (policy : Sha256Policy) (infos : T → List XetFileInfo) (choices : T → List (List Choice)) (metrics : T → DeduplicationMetrics) (r : Result T StoreError)
+      → IsResult tells left faults policy sources now infos choices metrics (alone_of old old false) (alone_of old new stopped) r → Promises tells left faults policy sources now infos choices metrics old new r
+  promises policy infos choices metrics (Ok t) result =
       let files : List Planned = result.ends.0 in
-      let told = ended_infos tells left sources old new stopped is files (infos t) (choices t) (metrics t) result.ends.1 in
-      let plans = ended_recorded tells left sources old new stopped is files (infos t) (choices t) (metrics t) result.ends.1 in
+      let told = ended_infos policy tells left sources old new stopped is files (infos t) (choices t) (metrics t) result.ends.1 in
+      let plans = ended_recorded policy tells left sources old new stopped is files (infos t) (choices t) (metrics t) result.ends.1 in
       record {
         infos_are = told;
         read = result.read.read;
         short = result.read.short;
-        files = λ observable all separate. files_all tells left old.store.limits new.store (chunkings left old.store.limits sources) sound (is.steps.keeps.tells ∙ observable) separate sources (infos t) all (λ c a. a) told plans;
+        files = λ observable all separate. files_all tells left old.store.limits new.store (chunkings left old.store.limits sources) sound (is.steps.keeps.tells ∙ observable) separate sources (infos t) all (λ c a. a)
+            (told_more tells left (λ bytes info. info ≡ info_by policy old.store.limits bytes) (λ bytes info. info.hash ≡ (info_of old.store.limits bytes).hash) (λ bytes info same. ap (λ (i : XetFileInfo). i.hash) same) sources (infos t) told)
+            plans;
         plans = plans;
-        cleaned = ended_cleaned tells left sources old new stopped is files (infos t) (choices t) (metrics t) result.ends.1;
+        cleaned = ended_cleaned policy tells left sources old new stopped is files (infos t) (choices t) (metrics t) result.ends.1;
         keeps = is.steps.keeps;
-        steps = ended_grows tells left sources old new stopped is files (infos t) (choices t) (metrics t) result.ends.1;
-        adds = ended_adds tells left sources old new stopped is files (infos t) (choices t) (metrics t) result.ends.1 sound;
+        steps = ended_grows policy tells left sources old new stopped is files (infos t) (choices t) (metrics t) result.ends.1;
+        adds = ended_adds policy tells left sources old new stopped is files (infos t) (choices t) (metrics t) result.ends.1 sound;
         bound = tt;
         reason = tt;
       }
-  promises infos choices metrics (Err e) result = record {
+  promises policy infos choices metrics (Err e) result = record {
     infos_are = tt;
     read = tt;
     short = tt;
@@ -124,12 +128,12 @@ module _ {S : Type 0} (tells : S → Bool) (left : S → List ℕ) (faults : S �
     keeps = is.steps.keeps;
     steps = grows_of e result.why;
     adds = tt;
-    bound = bounded_since tells left sources now old new stopped e is sound result.short;
+    bound = bounded_since policy tells left sources now old new stopped e is sound result.short;
     reason = reason_of e result.why;
   }
 
 -- the same of a session that was lent to a holder and given back
-pub alone_promises : {S T : Type 0} (tells : S → Bool) (left : S → List ℕ) (faults : S → ℕ) (sources now : List S) (infos : T → List XetFileInfo) (choices : T → List (List Choice)) (metrics : T → DeduplicationMetrics)
+pub alone_promises : {S T : Type 0} (tells : S → Bool) (left : S → List ℕ) (faults : S → ℕ) (policy : Sha256Policy) (sources now : List S) (infos : T → List XetFileInfo) (choices : T → List (List Choice)) (metrics : T → DeduplicationMetrics)
     (old new : RecordedState) (first last : AloneState) (r : Result T StoreError)
     → first.start ≡ old
     → first.store ≡ old
@@ -139,13 +143,13 @@ pub alone_promises : {S T : Type 0} (tells : S → Bool) (left : S → List ℕ)
     → Sound new.store
     → IsRecorded new
     → Follows (alone_of first.start first.store first.stopped) (alone_of last.start last.store last.stopped)
-    → IsResult tells left faults sources now infos choices metrics (alone_of first.start first.store first.stopped) (alone_of last.start last.store last.stopped) r
-    → Promises tells left faults sources now infos choices metrics old new r
-alone_promises tells left faults sources now infos choices metrics old new first last r start_is store_is going given is sound recorded follows result =
+    → IsResult tells left faults policy sources now infos choices metrics (alone_of first.start first.store first.stopped) (alone_of last.start last.store last.stopped) r
+    → Promises tells left faults policy sources now infos choices metrics old new r
+alone_promises tells left faults policy sources now infos choices metrics old new first last r start_is store_is going given is sound recorded follows result =
     let began : last.start ≡ old = ap (λ (h : Holder). h.origin) follows.is ∙ start_is in
     let alone : IsAlone old new last.stopped = subst (λ (s : RecordedState). IsAlone s new last.stopped) began (subst (λ (s : RecordedState). IsAlone last.start s last.stopped) (sym given) is) in
     let first_is : alone_of first.start first.store first.stopped ≡ alone_of old old false = λ i. alone_of (start_is i) (store_is i) (going i) in
     let last_is : alone_of last.start last.store last.stopped ≡ alone_of old new last.stopped = λ i. alone_of (began i) (sym given i) last.stopped in
-    promises tells left faults sources now old new last.stopped alone sound recorded infos choices metrics r
-    (subst (λ (h : Holder). IsResult tells left faults sources now infos choices metrics h (alone_of old new last.stopped) r) first_is
-    (subst (λ (h : Holder). IsResult tells left faults sources now infos choices metrics (alone_of first.start first.store first.stopped) h r) last_is result))
+    promises tells left faults sources now old new last.stopped alone sound recorded policy infos choices metrics r
+    (subst (λ (h : Holder). IsResult tells left faults policy sources now infos choices metrics h (alone_of old new last.stopped) r) first_is
+    (subst (λ (h : Holder). IsResult tells left faults policy sources now infos choices metrics (alone_of first.start first.store first.stopped) h r) last_is result))

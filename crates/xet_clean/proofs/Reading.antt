@@ -10,9 +10,9 @@ use Rattle.xet_io.specs.Whole.{FillsWith}
 use Rattle.xet_stepping.specs.Asking.{IsErrorSince}
 use Rattle.xet_stepping.specs.Holders.{Follows, Holder}
 use Rattle.xet_stepping.specs.theorems.Following.{asking_nothing, follows_nothing}
-use Rattle.xet_clean.specs.internal.Planning.{IsFew}
-use Rattle.xet_clean.specs.internal.Errors.{IsCleanerError}
-use Rattle.xet_clean.specs.internal.Sources.{IsSourceError, Takes}
+use Rattle.xet_clean.specs.Planning.{IsFew}
+use Rattle.xet_clean.specs.Errors.{IsCleanerError}
+use Rattle.xet_clean.specs.Sources.{IsSourceError, Takes}
 use Rattle.xet_clean.proofs.FileCalls.{same_limits}
 use Rattle.xet_clean.proofs.Closing.{error_earlier}
 

@@ -25,6 +25,7 @@ use Rattle.xet_store.specs.theorems.Files.{plan_empty, plan_some}
 use Rattle.xet_clean.specs.Cleaning.{AreRecords, IsRecordFor, RecordsFile, files_in}
 use Rattle.xet_clean.proofs.Closing.{among_cons}
 use Rattle.xet_clean.proofs.Ending.{among_made}
+use Rattle.xet_clean.specs.declared.policy.Sha256Policy.{Sha256Policy}
 
 -- If the entry records a file, its hash is one of these.
 abbrev pub RecordsHash : List (List ℕ) → Entry → Type 0
@@ -72,30 +73,30 @@ recorded_found c (Fault pass kind ∷ es) = recorded_found c es
 -- ---- the records of files
 
 -- each record is that of one of the files
-abbrev IsRecordAmong : LimitSettings → List (List ℕ) → MDBFileInfo → Type 0
-IsRecordAmong s files r = (bytes : List ℕ) × IsAmong files bytes × IsRecordFor s bytes r
+abbrev IsRecordAmong : Sha256Policy → LimitSettings → List (List ℕ) → MDBFileInfo → Type 0
+IsRecordAmong policy s files r = (bytes : List ℕ) × IsAmong files bytes × IsRecordFor policy s bytes r
 
-each_record : (s : LimitSettings) (files : List (List ℕ)) (rs : List MDBFileInfo) → AreRecords s files rs → AllByRecursion (IsRecordAmong s files) rs
-each_record s [] [] none = tt
-each_record s [] (r ∷ rs) none = absurd (cc none)
-each_record s ([] ∷ fs) rs all = all_more (IsRecordAmong s fs) (IsRecordAmong s ([] ∷ fs)) rs (λ r is. (is.0, among_cons [] fs is.0 is.1, is.2)) (each_record s fs rs all)
-each_record s ((b ∷ bs) ∷ fs) [] all = absurd all
-each_record s ((b ∷ bs) ∷ fs) (r ∷ rs) all = (
+each_record : (policy : Sha256Policy) (s : LimitSettings) (files : List (List ℕ)) (rs : List MDBFileInfo) → AreRecords policy s files rs → AllByRecursion (IsRecordAmong policy s files) rs
+each_record policy s [] [] none = tt
+each_record policy s [] (r ∷ rs) none = absurd (cc none)
+each_record policy s ([] ∷ fs) rs all = all_more (IsRecordAmong policy s fs) (IsRecordAmong policy s ([] ∷ fs)) rs (λ r is. (is.0, among_cons [] fs is.0 is.1, is.2)) (each_record policy s fs rs all)
+each_record policy s ((b ∷ bs) ∷ fs) [] all = absurd all
+each_record policy s ((b ∷ bs) ∷ fs) (r ∷ rs) all = (
   (b ∷ bs, (0, (omega arith, refl)), all.0),
-  all_more (IsRecordAmong s fs) (IsRecordAmong s ((b ∷ bs) ∷ fs)) rs (λ q is. (is.0, among_cons (b ∷ bs) fs is.0 is.1, is.2)) (each_record s fs rs all.1),
+  all_more (IsRecordAmong policy s fs) (IsRecordAmong policy s ((b ∷ bs) ∷ fs)) rs (λ q is. (is.0, among_cons (b ∷ bs) fs is.0 is.1, is.2)) (each_record policy s fs rs all.1),
 )
 
-record_files : (s : LimitSettings) (files : List (List ℕ)) (es : List Entry) → AllByRecursion (IsRecordAmong s files) (files_in es) → AllByRecursion (RecordsFile s files) es
-record_files s files [] all = tt
-record_files s files (Query pass query reply ∷ es) all = (tt, record_files s files es all)
-record_files s files (Register pass chunks next added ∷ es) all = (tt, record_files s files es all)
-record_files s files (Complete pass file added ∷ es) all = (all.0, record_files s files es all.1)
-record_files s files (Flush pass shard ∷ es) all = (tt, record_files s files es all)
-record_files s files (Fault pass kind ∷ es) all = (tt, record_files s files es all)
+record_files : (policy : Sha256Policy) (s : LimitSettings) (files : List (List ℕ)) (es : List Entry) → AllByRecursion (IsRecordAmong policy s files) (files_in es) → AllByRecursion (RecordsFile policy s files) es
+record_files policy s files [] all = tt
+record_files policy s files (Query pass query reply ∷ es) all = (tt, record_files policy s files es all)
+record_files policy s files (Register pass chunks next added ∷ es) all = (tt, record_files policy s files es all)
+record_files policy s files (Complete pass file added ∷ es) all = (all.0, record_files policy s files es all.1)
+record_files policy s files (Flush pass shard ∷ es) all = (tt, record_files policy s files es all)
+record_files policy s files (Fault pass kind ∷ es) all = (tt, record_files policy s files es all)
 
 -- what records a file records one of these
-pub only_files : (s : LimitSettings) (files : List (List ℕ)) (es : List Entry) → AreRecords s files (files_in es) → AllByRecursion (RecordsFile s files) es
-only_files s files es are = record_files s files es (each_record s files (files_in es) are)
+pub only_files : (policy : Sha256Policy) (s : LimitSettings) (files : List (List ℕ)) (es : List Entry) → AreRecords policy s files (files_in es) → AllByRecursion (RecordsFile policy s files) es
+only_files policy s files es are = record_files policy s files es (each_record policy s files (files_in es) are)
 
 -- the file without bytes has the hash zero
 empty_hash : (s : LimitSettings) → (info_of s []).hash ≡ zero_hash
@@ -103,13 +104,13 @@ unfolding pieces_after
 empty_hash s = refl
 
 -- a file has a plan if its record is found
-pub plans_found : (s : LimitSettings) (rows : FileRecords) (files : List (List ℕ)) (rs : List MDBFileInfo) → AreRecords s files rs → AllByRecursion (λ r. IsSome (found rows (file_record_hash r))) rs
+pub plans_found : (policy : Sha256Policy) (s : LimitSettings) (rows : FileRecords) (files : List (List ℕ)) (rs : List MDBFileInfo) → AreRecords policy s files rs → AllByRecursion (λ r. IsSome (found rows (file_record_hash r))) rs
     → AllByRecursion (λ bytes. IsSome (plan_of rows (info_of s bytes).hash)) files
-plans_found s rows [] rs are all = tt
-plans_found s rows ([] ∷ fs) rs are all = (subst (λ (h : List ℕ). IsSome (plan_of rows h)) (sym (empty_hash s)) (plan_empty rows), plans_found s rows fs rs are all)
-plans_found s rows ((b ∷ bs) ∷ fs) [] are all = absurd are
-plans_found s rows ((b ∷ bs) ∷ fs) (r ∷ rs) are all =
-    (subst (λ (h : List ℕ). IsSome (plan_of rows h)) (ap file_record_hash are.0.is) (plan_some rows (file_record_hash r) all.0), plans_found s rows fs rs are.1 all.1)
+plans_found policy s rows [] rs are all = tt
+plans_found policy s rows ([] ∷ fs) rs are all = (subst (λ (h : List ℕ). IsSome (plan_of rows h)) (sym (empty_hash s)) (plan_empty rows), plans_found policy s rows fs rs are all)
+plans_found policy s rows ((b ∷ bs) ∷ fs) [] are all = absurd are
+plans_found policy s rows ((b ∷ bs) ∷ fs) (r ∷ rs) are all =
+    (subst (λ (h : List ℕ). IsSome (plan_of rows h)) (ap file_record_hash are.0.is) (plan_some rows (file_record_hash r) all.0), plans_found policy s rows fs rs are.1 all.1)
 
 -- ---- the rows that are added
 
@@ -145,15 +146,15 @@ rows_after_all hashes c (e ∷ es) all =
     rows_then hashes c.records (after c e).records (after_all (after c e) es).records (rows_after hashes c e all.0) (rows_after_all hashes (after c e) es all.1)
 
 -- what records one of these files has the hash of one
-pub hash_of_file : (s : LimitSettings) (all : List (List ℕ)) (e : Entry) → RecordsFile s all e → RecordsHash (map (λ f. (info_of s f).hash) all) e
-hash_of_file s all (Query pass query reply) is = tt
-hash_of_file s all (Register pass chunks next added) is = tt
-hash_of_file s all (Complete pass file added) is =
+pub hash_of_file : (policy : Sha256Policy) (s : LimitSettings) (all : List (List ℕ)) (e : Entry) → RecordsFile policy s all e → RecordsHash (map (λ f. (info_of s f).hash) all) e
+hash_of_file policy s all (Query pass query reply) is = tt
+hash_of_file policy s all (Register pass chunks next added) is = tt
+hash_of_file policy s all (Complete pass file added) is =
     let hashes : List (List ℕ) = map (λ (f : List ℕ). (info_of s f).hash) all in
     from_among hashes (file_record_hash file)
     (subst (Among hashes) (sym (ap file_record_hash is.2.is)) (among_made (λ (f : List ℕ). (info_of s f).hash) all is.0 (to_among all is.0 is.1)))
-hash_of_file s all (Flush pass shard) is = tt
-hash_of_file s all (Fault pass kind) is = tt
+hash_of_file policy s all (Flush pass shard) is = tt
+hash_of_file policy s all (Fault pass kind) is = tt
 
 -- ---- rows under different hashes
 

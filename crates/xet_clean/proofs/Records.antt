@@ -2,7 +2,6 @@
 use Rattle.std.proofs.Common.{◌≡◌, ◌∙◌, ℕ, ◌+◌, ◌-◌, ◌<◌, Bool, true, false, List, [], ◌∷◌, ◌++◌, length, map, take, drop, Option, Some, refl, sym, ap, subst, arith, length-append, if◌then◌else◌}
 use Rattle.std.proofs.lemmas.List.{drop-drop, drop_at, length-map, map-append}
 use Rattle.std.proofs.lemmas.Simd.{map-map}
-use Rattle.sha2.specs.Sha256.{sha256}
 use Rattle.xet_aggregate.specs.Aggregate.{Aggregate, Pending, filled, filled_segment, shifted, shifted_segment}
 use Rattle.xet_choices.specs.Choices.{hashes_of}
 use Rattle.xet_dedup.specs.Records.{file_record, range_hashes}
@@ -20,10 +19,11 @@ use Rattle.xet_xorb_chunk.specs.declared.chunk.Chunk.{Chunk}
 use Rattle.xet_xorb_chunk.specs.Chunks.{chunk_leaf, total}
 use Rattle.xet_stepping.specs.Asking.{Stands}
 use Rattle.xet_stepping.specs.Holders.{Holder, core_at, lengths_in}
-use Rattle.xet_clean.specs.internal.Closing.{filled_files}
-use Rattle.xet_clean.specs.internal.Working.{AreRecorded, IsRecordOf, Planned, Waits}
+use Rattle.xet_clean.specs.Closing.{filled_files}
+use Rattle.xet_clean.specs.Working.{AreRecorded, IsRecordOf, Planned, Waits}
 use Rattle.xet_clean.proofs.InOrder.{recorded_changed_after}
 use Rattle.xet_clean.proofs.Keeping.{any_left, any_more}
+use Rattle.xet_clean.specs.Policies.{sha256_by}
 
 -- ---- segments with as many chunks
 
@@ -55,7 +55,7 @@ module _ (g : Segment → Segment) (same : (s : Segment) → run_len (g s) ≡ r
     some = r.some;
     segments = map g r.segments;
     counts = counts_same r.segments ∙ r.counts;
-    is = ap (λ (x : MDBFileInfo). record x { segments = map g x.segments }) r.is ∙ record_same f.plan.leaves r.segments (Some (sha256 f.bytes));
+    is = ap (λ (x : MDBFileInfo). record x { segments = map g x.segments }) r.is ∙ record_same f.plan.leaves r.segments (sha256_by f.policy f.bytes);
   }
 
 abbrev moved : ℕ → Segment → Segment

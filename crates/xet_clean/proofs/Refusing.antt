@@ -38,9 +38,9 @@ use Rattle.xet_stepping.specs.Stepping.{SawOther}
 use Rattle.xet_stepping.specs.theorems.Following.{follows_then}
 use Rattle.xet_xorb_chunk.specs.Chunks.{chunk_leaf}
 use Rattle.xet_clean.specs.Cleaning.{AreApartUnder, NoneEnds}
-use Rattle.xet_clean.specs.internal.Closing.{IsClosingError, RegistersChunks, filled_files}
-use Rattle.xet_clean.specs.internal.Sources.{IsUnclosedFor}
-use Rattle.xet_clean.specs.internal.Working.{IsRecordOf, Planned, Waits, WasPlanned}
+use Rattle.xet_clean.specs.Closing.{IsClosingError, RegistersChunks, filled_files}
+use Rattle.xet_clean.specs.Sources.{IsUnclosedFor}
+use Rattle.xet_clean.specs.Working.{IsRecordOf, Planned, Waits, WasPlanned}
 use Rattle.xet_clean.proofs.Counting.{other_at_most}
 use Rattle.xet_clean.proofs.Ending.{made_of}
 use Rattle.xet_clean.proofs.Hashes.{planned_hash, planned_leaves}

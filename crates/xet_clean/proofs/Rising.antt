@@ -15,8 +15,8 @@ use Rattle.xet_choices.specs.theorems.Calls.{asked_before}
 use Rattle.xet_choices.specs.theorems.Entries.{no_place_entries-append}
 use Rattle.xet_stepping.specs.Holders.{Follows, Holder, calls_in, calls_of}
 use Rattle.xet_stepping.specs.theorems.Following.{calls_in-append}
-use Rattle.xet_clean.specs.internal.Planning.{IsPlanned}
-use Rattle.xet_clean.specs.internal.Working.{Planned, WasPlanned}
+use Rattle.xet_clean.specs.Planning.{IsPlanned}
+use Rattle.xet_clean.specs.Working.{Planned, WasPlanned}
 
 -- ---- numbers that rise
 

@@ -25,15 +25,17 @@ use Rattle.xet_stepping.specs.Alone.{IsAlone, StepsTo, StepsUntil, alone_of}
 use Rattle.xet_stepping.specs.Holders.{Follows, Holder, calls_in, core_at, numbered}
 use Rattle.xet_stepping.specs.theorems.Following.{length-numbered}
 use Rattle.xet_clean.specs.Cleaning.{AreChosen, AreRecords, Grows, IsBounded, IsCleaned, Makes, RecordsFile, RegistersFew, calls_since, entries_since, files_in, metrics_sum}
-use Rattle.xet_clean.specs.internal.Closing.{recorded_in}
-use Rattle.xet_clean.specs.internal.Sources.{IsCutShort}
-use Rattle.xet_clean.specs.internal.Working.{AreRecorded, EndsWith, Planned}
+use Rattle.xet_clean.specs.Closing.{recorded_in}
+use Rattle.xet_clean.specs.Sources.{IsCutShort}
+use Rattle.xet_clean.specs.Working.{AreRecorded, EndsWith, Planned}
 use Rattle.xet_clean.proofs.Adding.{recorded_numbered}
 use Rattle.xet_clean.proofs.Choosing.{are_chosen, leaves_sum, new_sum}
 use Rattle.xet_clean.proofs.Ending.{IsEnded, ended}
 use Rattle.xet_clean.proofs.Hashes.{all_leaves}
 use Rattle.xet_clean.proofs.InOrder.{are_records}
 use Rattle.xet_clean.proofs.Recorded.{HasRows, RecordsHash, hash_of_file, only_files, plans_found, recorded_found, rows_add, rows_after_all}
+use Rattle.xet_clean.specs.Policies.{info_by}
+use Rattle.xet_clean.specs.declared.policy.Sha256Policy.{Sha256Policy}
 
 -- ---- the entries since it began
 
@@ -77,12 +79,17 @@ module _ {S : Type 0} (tells : S → Bool) (left : S → List ℕ) (limits : Lim
   told_bytes (s ∷ ss) [] told = absurd told
   told_bytes (s ∷ ss) (f ∷ fs) told = (told.0, told_bytes ss fs told.1)
 
-  pub told_infos : (sources : List S) (files : List Planned) → EachTold tells left (λ bytes file. file.bytes ≡ bytes) sources files
-      → EachTold tells left (λ bytes info. info ≡ info_of limits bytes) sources (map (λ f. info_of limits f.bytes) files)
-  told_infos [] [] told = tt
-  told_infos [] (f ∷ fs) told = absurd told
-  told_infos (s ∷ ss) [] told = absurd told
-  told_infos (s ∷ ss) (f ∷ fs) told = (λ tell. ap (info_of limits) (told.0 tell), told_infos ss fs told.1)
+  pub told_infos : (policy : Sha256Policy) (sources : List S) (files : List Planned) → EachTold tells left (λ bytes file. file.bytes ≡ bytes) sources files
+      → EachTold tells left (λ bytes info. info ≡ info_by policy limits bytes) sources (map (λ f. info_by policy limits f.bytes) files)
+  told_infos policy [] [] told = tt
+  told_infos policy [] (f ∷ fs) told = absurd told
+  told_infos policy (s ∷ ss) [] told = absurd told
+  told_infos policy (s ∷ ss) (f ∷ fs) told = (λ tell. ap (info_by policy limits) (told.0 tell), told_infos policy ss fs told.1)
+
+-- the pointer records of files whose SHA-256 comes from there
+infos_by : (policy : Sha256Policy) (limits : LimitSettings) (files : List Planned) → AllByRecursion (λ f. f.policy ≡ policy) files → map (λ f. info_by f.policy limits f.bytes) files ≡ map (λ f. info_by policy limits f.bytes) files
+infos_by policy limits [] same = refl
+infos_by policy limits (f ∷ fs) same = λ i. info_by (same.0 i) limits f.bytes ∷ infos_by policy limits fs same.1 i
 
 -- ---- what is recorded
 
@@ -95,24 +102,24 @@ pub records_since : (old new : RecordedState) (stopped : Bool) (f : Follows (alo
 records_since old new stopped f = ap recorded_in (own_since old new stopped f) ∙ recorded_numbered (length old.history) (entries_since old new)
 
 -- the new records are those that the entries record
-pub adds_since : (old new : RecordedState) (stopped : Bool) → IsAlone old new stopped → Sound new.store → (files : List (List ℕ)) → AreRecords old.store.limits files (files_in (entries_since old new))
+pub adds_since : (policy : Sha256Policy) (old new : RecordedState) (stopped : Bool) → IsAlone old new stopped → Sound new.store → (files : List (List ℕ)) → AreRecords policy old.store.limits files (files_in (entries_since old new))
     → Adds old.store.records new.store.records (map (λ f. (info_of old.store.limits f).hash) files)
-adds_since old new stopped is sound files are =
+adds_since policy old new stopped is sound files are =
     let s : LimitSettings = old.store.limits in
     let entries : List Entry = entries_since old new in
     let hashes : List (List ℕ) = map (λ f. (info_of old.store.limits f).hash) files in
     let rows : HasRows hashes old.store.records (after_all (core_of old) entries).records =
-    rows_after_all hashes (core_of old) entries (all_more (RecordsFile s files) (RecordsHash hashes) entries (hash_of_file s files) (only_files s files entries are)) in
+    rows_after_all hashes (core_of old) entries (all_more (RecordsFile policy s files) (RecordsHash hashes) entries (hash_of_file policy s files) (only_files policy s files entries are)) in
     rows_add hashes old.store.records new.store.records
     (subst (λ (c : Core). HasRows hashes old.store.records c.records) (sym (core_is old new stopped is)) rows) sound.records_differ
 
 -- after an error
-pub bounded_since : {S : Type 0} (tells : S → Bool) (left : S → List ℕ) (sources now : List S) (old new : RecordedState) (stopped : Bool) (e : StoreError) → IsAlone old new stopped → Sound new.store
-    → IsCutShort tells left sources now (alone_of old old false) (alone_of old new stopped) e → IsBounded tells left sources now old new e
-bounded_since tells left sources now old new stopped e is sound short =
+pub bounded_since : {S : Type 0} (policy : Sha256Policy) (tells : S → Bool) (left : S → List ℕ) (sources now : List S) (old new : RecordedState) (stopped : Bool) (e : StoreError) → IsAlone old new stopped → Sound new.store
+    → IsCutShort policy tells left sources now (alone_of old old false) (alone_of old new stopped) e → IsBounded policy tells left sources now old new e
+bounded_since policy tells left sources now old new stopped e is sound short =
     let own = own_since old new stopped short.few.0 in
     let files : List (List ℕ) = take short.count short.files in
-    let are : AreRecords old.store.limits files (files_in (entries_since old new)) = subst (AreRecords old.store.limits files) (records_since old new stopped short.few.0) short.records in
+    let are : AreRecords policy old.store.limits files (files_in (entries_since old new)) = subst (AreRecords policy old.store.limits files) (records_since old new stopped short.few.0) short.records in
     record {
       files = short.files;
       taken = short.taken;
@@ -126,14 +133,14 @@ bounded_since tells left sources now old new stopped e is sound short =
       recorded = short.recorded;
       records = are;
       bound = omega (arith, short.few.1, ap length own, length-numbered (length old.history) (entries_since old new));
-      adds = adds_since old new stopped is sound files are;
+      adds = adds_since policy old new stopped is sound files are;
     }
 
 -- ---- all sources were cleaned
 
-module _ {S : Type 0} (tells : S → Bool) (left : S → List ℕ) (sources : List S) (old new : RecordedState) (stopped : Bool) (is : IsAlone old new stopped)
+module _ {S : Type 0} (policy : Sha256Policy) (tells : S → Bool) (left : S → List ℕ) (sources : List S) (old new : RecordedState) (stopped : Bool) (is : IsAlone old new stopped)
     (files : List Planned) (infos : List XetFileInfo) (choices : List (List Choice)) (metrics : DeduplicationMetrics)
-    (e : EndsWith tells left sources (alone_of old old false) (alone_of old new stopped) files infos choices metrics) where
+    (e : EndsWith policy tells left sources (alone_of old old false) (alone_of old new stopped) files infos choices metrics) where
   abbrev start : Holder
   start = alone_of old old false
 
@@ -152,29 +159,29 @@ module _ {S : Type 0} (tells : S → Bool) (left : S → List ℕ) (sources : Li
   limits_are : e.before.limits ≡ old.store.limits
   limits_are = ap (λ (h : Holder). h.limits) e.working.follows.is
 
-  pointers : infos ≡ map (λ f. info_of old.store.limits f.bytes) files
-  pointers = e.working.pointers ∙ ap (λ (s : LimitSettings). map (λ (f : Planned). info_of s f.bytes) files) limits_are
+  pointers : infos ≡ map (λ f. info_by policy old.store.limits f.bytes) files
+  pointers = e.working.pointers ∙ ap (λ (s : LimitSettings). map (λ (f : Planned). info_by f.policy s f.bytes) files) limits_are ∙ infos_by policy old.store.limits files e.policies
 
-  pub ended_infos : EachTold tells left (λ bytes info. info ≡ info_of old.store.limits bytes) sources infos
-  ended_infos = subst (EachTold tells left (λ bytes info. info ≡ info_of old.store.limits bytes) sources) (sym pointers) (told_infos tells left limits sources files e.told)
+  pub ended_infos : EachTold tells left (λ bytes info. info ≡ info_by policy old.store.limits bytes) sources infos
+  ended_infos = subst (EachTold tells left (λ bytes info. info ≡ info_by policy old.store.limits bytes) sources) (sym pointers) (told_infos tells left limits policy sources files e.told)
 
   abbrev bytes : List (List ℕ)
   bytes = map (λ f. f.bytes) files
 
-  infos_are : infos ≡ map (info_of old.store.limits) (map (λ f. f.bytes) files)
-  infos_are = pointers ∙ sym (map-map (info_of old.store.limits) (λ (f : Planned). f.bytes) files)
+  infos_are : infos ≡ map (info_by policy old.store.limits) (map (λ f. f.bytes) files)
+  infos_are = pointers ∙ sym (map-map (info_by policy old.store.limits) (λ (f : Planned). f.bytes) files)
 
   in_order : AreRecorded files (files_in (entries_since old new))
   in_order = subst (AreRecorded files) (records_since old new stopped end.follows) end.records
 
-  of_bytes : AreRecords old.store.limits (map (λ f. f.bytes) files) (files_in (entries_since old new))
-  of_bytes = are_records old.store.limits files (files_in (entries_since old new)) (all_leaves start now end.follows files end.planned) in_order
+  of_bytes : AreRecords policy old.store.limits (map (λ f. f.bytes) files) (files_in (entries_since old new))
+  of_bytes = are_records policy old.store.limits files (files_in (entries_since old new)) (all_leaves start now end.follows files end.planned) e.policies in_order
 
   pub ended_recorded : AllByRecursion (λ info. IsSome (plan_of new.store.records info.hash)) infos
   ended_recorded =
       subst (AllByRecursion (λ (info : XetFileInfo). IsSome (plan_of new.store.records info.hash))) (sym infos_are)
-      (all_made (λ (info : XetFileInfo). IsSome (plan_of new.store.records info.hash)) (info_of old.store.limits) bytes
-      (plans_found old.store.limits new.store.records bytes (files_in (entries_since old new)) of_bytes
+      (all_made (λ (info : XetFileInfo). IsSome (plan_of new.store.records info.hash)) (info_by policy old.store.limits) bytes
+      (plans_found policy old.store.limits new.store.records bytes (files_in (entries_since old new)) of_bytes
       (subst (λ (c : Core). AllByRecursion (λ (r : MDBFileInfo). IsSome (found c.records (file_record_hash r))) (files_in (entries_since old new))) (sym (core_is old new stopped is))
       (recorded_found (core_of old) (entries_since old new)))))
 
@@ -184,20 +191,20 @@ module _ {S : Type 0} (tells : S → Bool) (left : S → List ℕ) (sources : Li
   pub ended_adds : Sound new.store → Adds old.store.records new.store.records (map (λ info. info.hash) infos)
   ended_adds sound =
       subst (Adds old.store.records new.store.records)
-      (sym (map-map (λ (i : XetFileInfo). i.hash) (info_of old.store.limits) bytes) ∙ ap (map (λ (i : XetFileInfo). i.hash)) (sym infos_are))
-      (adds_since old new stopped is sound bytes of_bytes)
+      (sym (map-map (λ (i : XetFileInfo). i.hash) (info_by policy old.store.limits) bytes) ∙ ap (map (λ (i : XetFileInfo). i.hash)) (sym infos_are))
+      (adds_since policy old new stopped is sound bytes of_bytes)
 
-  pub ended_cleaned : IsCleaned tells left sources old new infos choices metrics
+  pub ended_cleaned : IsCleaned policy tells left sources old new infos choices metrics
   ended_cleaned =
       let chosen : choices ≡ map (λ (f : Planned). f.plan.choices) files = e.working.chosen in
       record {
         files = bytes;
         told = told_bytes tells left limits sources files e.told;
         pointers = infos_are;
-        chosen = subst (λ (cs : List (List Choice)). AreChosen limits (calls_since old new) bytes cs (files_in (entries_since old new))) (sym chosen)
-            (are_chosen start now end.follows (nothing_since old) (length old.history) (entries_since old new) own files (files_in (entries_since old new)) end.planned in_order);
+        chosen = subst (λ (cs : List (List Choice)). AreChosen policy limits (calls_since old new) bytes cs (files_in (entries_since old new))) (sym chosen)
+            (are_chosen start now end.follows (nothing_since old) (length old.history) (entries_since old new) own policy files (files_in (entries_since old new)) end.planned e.policies in_order);
         once = e.working.once;
-        only = only_files limits bytes (entries_since old new) of_bytes;
+        only = only_files policy limits bytes (entries_since old new) of_bytes;
         registered = omega (arith, ap (λ (l : List (ℕ × Entry)). registered_chunks (calls_in l)) own, end.registered, new_sum files, ap (sum_by new_chunks) chosen);
         sums = e.working.sums ∙ ap (λ (s : LimitSettings). metrics_sum s bytes choices) limits_are;
         registers = subst (λ (l : List (ℕ × Entry)). RegistersFew (calls_in l)) own end.registers;

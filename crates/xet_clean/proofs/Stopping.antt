@@ -13,27 +13,28 @@ use Rattle.xet_store.specs.declared.info.XetFileInfo.{XetFileInfo}
 use Rattle.xet_stepping.specs.Holders.{Holder}
 use Rattle.xet_clean.specs.Cleaning.{AreRecords}
 use Rattle.xet_clean.specs.Files.{leaves_in}
-use Rattle.xet_clean.specs.internal.Closing.{filled_files, recorded_in}
-use Rattle.xet_clean.specs.internal.Working.{AreRecorded, IsWorking, Planned}
+use Rattle.xet_clean.specs.Closing.{filled_files, recorded_in}
+use Rattle.xet_clean.specs.Working.{AreRecorded, IsWorking, Planned}
 use Rattle.xet_clean.proofs.Adding.{recorded_in-append}
 use Rattle.xet_clean.proofs.Hashes.{all_leaves}
 use Rattle.xet_clean.proofs.InOrder.{are_records, recorded_split}
 use Rattle.xet_clean.proofs.Records.{records_filled}
+use Rattle.xet_clean.specs.declared.policy.Sha256Policy.{Sha256Policy}
 
 -- The first of these files, at most n, were recorded, and no others.
-pub record HasRecorded (s : LimitSettings) (n : ℕ) (files : List (List ℕ)) (own : List (ℕ × Entry)) : Type 0 where
+pub record HasRecorded (policy : Sha256Policy) (s : LimitSettings) (n : ℕ) (files : List (List ℕ)) (own : List (ℕ × Entry)) : Type 0 where
   pub count : ℕ
   pub few : count ≤ n
-  pub are : AreRecords s (take count files) (recorded_in own)
+  pub are : AreRecords policy s (take count files) (recorded_in own)
 
-module _ (start h : Holder) (files : List Planned) (infos : List XetFileInfo) (choices : List (List Choice)) (metrics : DeduplicationMetrics) (a : Aggregate)
-    (w : IsWorking start h files infos choices metrics a) where
+module _ (policy : Sha256Policy) (start h : Holder) (files : List Planned) (infos : List XetFileInfo) (choices : List (List Choice)) (metrics : DeduplicationMetrics) (a : Aggregate)
+    (w : IsWorking start h files infos choices metrics a) (same : AllByRecursion (λ f. f.policy ≡ policy) files) where
   abbrev bytes_of : List Planned → List (List ℕ)
   bytes_of fs = map (λ f. f.bytes) fs
 
   -- if the first records that waited were made
   pub first_recorded : (n : ℕ) → length files ≡ n → (bytes : List (List ℕ)) (own : List (ℕ × Entry)) (k : ℕ) → recorded_in own ≡ take k (filled_files a)
-      → HasRecorded start.limits n (map (λ f. f.bytes) files ++ bytes) (w.follows.own ++ own)
+      → HasRecorded policy start.limits n (map (λ f. f.bytes) files ++ bytes) (w.follows.own ++ own)
   first_recorded n counted bytes own k is =
       let before : List MDBFileInfo = recorded_in w.follows.own in
       let parts : before ++ filled_files a ≡ (before ++ take k (filled_files a)) ++ drop k (filled_files a) =
@@ -46,10 +47,11 @@ module _ (start h : Holder) (files : List Planned) (infos : List XetFileInfo) (c
       ap (take (length s.first)) made ∙ take_at (bytes_of s.first) (bytes_of s.later ++ bytes) (length s.first) (length-map s.first (λ (f : Planned). f.bytes)) in
       let leaves = all_prefix (λ (f : Planned). f.plan.leaves ≡ leaves_in start.limits f.bytes) s.first s.later
       (subst (AllByRecursion (λ (f : Planned). f.plan.leaves ≡ leaves_in start.limits f.bytes)) s.is (all_leaves start h w.follows files w.planned)) in
+      let policies = all_prefix (λ (f : Planned). f.policy ≡ policy) s.first s.later (subst (AllByRecursion (λ (f : Planned). f.policy ≡ policy)) s.is same) in
       record {
         count = length s.first;
         few = omega (arith, ap length s.is, length-append s.first s.later, counted);
-        are = subst (λ (fs : List (List ℕ)). AreRecords start.limits fs (recorded_in (w.follows.own ++ own))) (sym first)
-            (subst (AreRecords start.limits (bytes_of s.first)) (sym (recorded_in-append w.follows.own own ∙ ap (λ (x : List MDBFileInfo). before ++ x) is))
-            (are_records start.limits s.first (before ++ take k (filled_files a)) leaves s.before));
+        are = subst (λ (fs : List (List ℕ)). AreRecords policy start.limits fs (recorded_in (w.follows.own ++ own))) (sym first)
+            (subst (AreRecords policy start.limits (bytes_of s.first)) (sym (recorded_in-append w.follows.own own ∙ ap (λ (x : List MDBFileInfo). before ++ x) is))
+            (are_records policy start.limits s.first (before ++ take k (filled_files a)) leaves policies s.before));
       }

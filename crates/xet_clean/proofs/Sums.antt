@@ -16,9 +16,9 @@ use Rattle.xet_hash.specs.Merkle.{leaf_of, leaves_of, total_len}
 use Rattle.xet_stepping.specs.Holders.{Holder}
 use Rattle.xet_clean.specs.Cleaning.{metrics_sum}
 use Rattle.xet_clean.specs.Files.{leaves_in}
-use Rattle.xet_clean.specs.internal.Planning.{IsPlanned}
+use Rattle.xet_clean.specs.Planning.{IsPlanned}
 use Rattle.xet_clean.specs.internal.Sums.{HasRoom}
-use Rattle.xet_clean.specs.internal.Working.{Planned, WasPlanned}
+use Rattle.xet_clean.specs.Working.{Planned, WasPlanned}
 use Rattle.xet_clean.proofs.Keeping.{limits_follow}
 
 -- ---- sums in either order

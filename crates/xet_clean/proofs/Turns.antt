@@ -6,8 +6,8 @@ use Rattle.xet_io.specs.Faults.{Rose}
 use Rattle.xet_io.specs.Frame.{Stays}
 use Rattle.xet_store.specs.Cleaning.{AreTaken, EachTold, IsLongAt, Later, RoseAt}
 use Rattle.xet_clean.specs.Cleaning.{EachTaken}
-use Rattle.xet_clean.specs.internal.Sources.{AreRead, Takes}
-use Rattle.xet_clean.specs.internal.Working.{Planned}
+use Rattle.xet_clean.specs.Sources.{AreDone, AreRead, IsDone, IsTakenFrom, Takes}
+use Rattle.xet_clean.specs.Working.{Planned}
 
 -- ---- lists
 
@@ -26,34 +26,13 @@ module _ {X : Type 0} where
   drop_past (x ∷ xs) ys = drop_past xs ys
 
 module _ {S : Type 0} (tells : S → Bool) (left : S → List ℕ) (faults : S → ℕ) where
-  -- Of a source these bytes were taken.
-  pub record IsTakenFrom (s t : S) (bytes : List ℕ) : Type 0 where
-    pub tell : tells t ≡ tells s
-    pub later : faults s ≤ faults t
-    pub taken : tells s ≡ true → left s ≡ bytes ++ left t
-
-  -- They are all that it had left, and no more than so many.
-  pub record IsDone (most : ℕ) (s t : S) (bytes : List ℕ) : Type 0 where
-    pub from : IsTakenFrom s t bytes
-    pub ended : tells s ≡ true → left t ≡ []
-    pub short : tells s ≡ true → length (left s) ≤ most
-
-  -- each of these was read to its end
-  abbrev pub AreDone : ℕ → List S → List S → List Planned → Type 0
-  AreDone most [] [] [] = Unit {0}
-  AreDone most [] [] (f ∷ fs) = ⊥
-  AreDone most [] (t ∷ ts) fs = ⊥
-  AreDone most (s ∷ ss) [] fs = ⊥
-  AreDone most (s ∷ ss) (t ∷ ts) [] = ⊥
-  AreDone most (s ∷ ss) (t ∷ ts) (f ∷ fs) = IsDone most s t f.bytes × AreDone most ss ts fs
-
   -- of each of these some bytes were taken
   abbrev pub AreFrom : List S → List S → List (List ℕ) → Type 0
   AreFrom [] [] bs = bs ≡ []
   AreFrom [] (t ∷ ts) bs = ⊥
   AreFrom (s ∷ ss) [] bs = ⊥
   AreFrom (s ∷ ss) (t ∷ ts) [] = ⊥
-  AreFrom (s ∷ ss) (t ∷ ts) (b ∷ bs) = IsTakenFrom s t b × AreFrom ss ts bs
+  AreFrom (s ∷ ss) (t ∷ ts) (b ∷ bs) = IsTakenFrom tells left faults s t b × AreFrom ss ts bs
 
   -- ---- what follows
 
@@ -93,7 +72,7 @@ module _ {S : Type 0} (tells : S → Bool) (left : S → List ℕ) (faults : S �
   untouched [] = refl
   untouched (s ∷ ss) = (record { tell = refl; later = omega arith; taken = λ told. refl }, untouched ss)
 
-  pub from_then : (most : ℕ) (ss ts : List S) (fs : List Planned) (ss' ts' : List S) (bs : List (List ℕ)) → AreDone most ss ts fs → AreFrom ss' ts' bs → AreFrom (ss ++ ss') (ts ++ ts') (map (λ f. f.bytes) fs ++ bs)
+  pub from_then : (most : ℕ) (ss ts : List S) (fs : List Planned) (ss' ts' : List S) (bs : List (List ℕ)) → AreDone tells left faults most ss ts fs → AreFrom ss' ts' bs → AreFrom (ss ++ ss') (ts ++ ts') (map (λ f. f.bytes) fs ++ bs)
   from_then most [] [] [] ss' ts' bs done from = from
   from_then most [] [] (f ∷ fs) ss' ts' bs done from = absurd done
   from_then most [] (t ∷ ts) fs ss' ts' bs done from = absurd done
@@ -101,7 +80,7 @@ module _ {S : Type 0} (tells : S → Bool) (left : S → List ℕ) (faults : S �
   from_then most (s ∷ ss) (t ∷ ts) [] ss' ts' bs done from = absurd done
   from_then most (s ∷ ss) (t ∷ ts) (f ∷ fs) ss' ts' bs done from = (done.0.from, from_then most ss ts fs ss' ts' bs done.1 from)
 
-  pub done_push : (most : ℕ) (ss ts : List S) (fs : List Planned) (s t : S) (f : Planned) → AreDone most ss ts fs → IsDone most s t f.bytes → AreDone most (ss ++ s ∷ []) (ts ++ t ∷ []) (fs ++ f ∷ [])
+  pub done_push : (most : ℕ) (ss ts : List S) (fs : List Planned) (s t : S) (f : Planned) → AreDone tells left faults most ss ts fs → IsDone tells left faults most s t f.bytes → AreDone tells left faults most (ss ++ s ∷ []) (ts ++ t ∷ []) (fs ++ f ∷ [])
   done_push most [] [] [] s t f done one = (one, tt)
   done_push most [] [] (g ∷ fs) s t f done one = absurd done
   done_push most [] (u ∷ ts) fs s t f done one = absurd done
@@ -109,7 +88,7 @@ module _ {S : Type 0} (tells : S → Bool) (left : S → List ℕ) (faults : S �
   done_push most (r ∷ ss) (u ∷ ts) [] s t f done one = absurd done
   done_push most (r ∷ ss) (u ∷ ts) (g ∷ fs) s t f done one = (done.0, done_push most ss ts fs s t f done.1 one)
 
-  pub done_told : (most : ℕ) (ss ts : List S) (fs : List Planned) → AreDone most ss ts fs → EachTold tells left (λ bytes f. f.bytes ≡ bytes) ss fs
+  pub done_told : (most : ℕ) (ss ts : List S) (fs : List Planned) → AreDone tells left faults most ss ts fs → EachTold tells left (λ bytes f. f.bytes ≡ bytes) ss fs
   done_told most [] [] [] done = tt
   done_told most [] [] (f ∷ fs) done = absurd done
   done_told most [] (t ∷ ts) fs done = absurd done
@@ -118,7 +97,7 @@ module _ {S : Type 0} (tells : S → Bool) (left : S → List ℕ) (faults : S �
   done_told most (s ∷ ss) (t ∷ ts) (f ∷ fs) done =
       ((λ told. sym (done.0.from.taken told ∙ ap (λ (l : List ℕ). f.bytes ++ l) (done.0.ended told) ∙ append-nil f.bytes)), done_told most ss ts fs done.1)
 
-  pub done_counts : (most : ℕ) (ss ts : List S) (fs : List Planned) → AreDone most ss ts fs → (length ss ≡ length fs) × (length ts ≡ length fs)
+  pub done_counts : (most : ℕ) (ss ts : List S) (fs : List Planned) → AreDone tells left faults most ss ts fs → (length ss ≡ length fs) × (length ts ≡ length fs)
   done_counts most [] [] [] done = (refl, refl)
   done_counts most [] [] (f ∷ fs) done = absurd done
   done_counts most [] (t ∷ ts) fs done = absurd done
@@ -126,10 +105,10 @@ module _ {S : Type 0} (tells : S → Bool) (left : S → List ℕ) (faults : S �
   done_counts most (s ∷ ss) (t ∷ ts) [] done = absurd done
   done_counts most (s ∷ ss) (t ∷ ts) (f ∷ fs) done = let rest = done_counts most ss ts fs done.1 in (ap suc rest.0, ap suc rest.1)
 
-  pub done_read : (most : ℕ) (ss ts : List S) (fs : List Planned) → AreDone most ss ts fs → AreRead tells left most ss ts
+  pub done_read : (most : ℕ) (ss ts : List S) (fs : List Planned) → AreDone tells left faults most ss ts fs → AreRead tells left most ss ts
   done_read most ss ts fs done = record { read = read ss ts fs done; short = short ss ts fs done }
     where
-      read : (ss ts : List S) (fs : List Planned) → AreDone most ss ts fs → AllByRecursion (λ s. tells s ≡ true → left s ≡ []) ts
+      read : (ss ts : List S) (fs : List Planned) → AreDone tells left faults most ss ts fs → AllByRecursion (λ s. tells s ≡ true → left s ≡ []) ts
       read [] [] [] done = tt
       read [] [] (f ∷ fs) done = absurd done
       read [] (t ∷ ts) fs done = absurd done
@@ -137,7 +116,7 @@ module _ {S : Type 0} (tells : S → Bool) (left : S → List ℕ) (faults : S �
       read (s ∷ ss) (t ∷ ts) [] done = absurd done
       read (s ∷ ss) (t ∷ ts) (f ∷ fs) done = ((λ told. done.0.ended (sym done.0.from.tell ∙ told)), read ss ts fs done.1)
 
-      short : (ss ts : List S) (fs : List Planned) → AreDone most ss ts fs → AllByRecursion (λ s. tells s ≡ true → length (left s) ≤ most) ss
+      short : (ss ts : List S) (fs : List Planned) → AreDone tells left faults most ss ts fs → AllByRecursion (λ s. tells s ≡ true → length (left s) ≤ most) ss
       short [] [] [] done = tt
       short [] [] (f ∷ fs) done = absurd done
       short [] (t ∷ ts) fs done = absurd done
@@ -158,10 +137,10 @@ module _ {S : Type 0} (tells : S → Bool) (left : S → List ℕ) (faults : S �
   rose_at (r ∷ ss) (u ∷ ts) s t rest rest' same rose = rose_at ss ts s t rest rest' (omega (arith, same)) rose
 
   -- what a call took of a source
-  pub taken_from : (all : Bool) (s t : S) (bytes : List ℕ) → Stays tells faults s t → Takes all (tells s) (left s) (left t) bytes → IsTakenFrom s t bytes
+  pub taken_from : (all : Bool) (s t : S) (bytes : List ℕ) → Stays tells faults s t → Takes all (tells s) (left s) (left t) bytes → IsTakenFrom tells left faults s t bytes
   taken_from all s t bytes stays takes = record { tell = stays.tells; later = stays.later; taken = takes.taken }
 
-  pub done_one : (most : ℕ) (s t : S) (bytes : List ℕ) → Stays tells faults s t → Takes true (tells s) (left s) (left t) bytes → length bytes ≤ most → IsDone most s t bytes
+  pub done_one : (most : ℕ) (s t : S) (bytes : List ℕ) → Stays tells faults s t → Takes true (tells s) (left s) (left t) bytes → length bytes ≤ most → IsDone tells left faults most s t bytes
   done_one most s t bytes stays takes few = record {
     from = taken_from true s t bytes stays takes;
     ended = takes.ended refl;

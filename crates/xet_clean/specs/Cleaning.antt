@@ -18,7 +18,6 @@ use Rattle.xet_hash.specs.declared.error.StoreError.{StoreError}
 use Rattle.xet_hash.specs.declared.error.StoreError.TheVariants.{Io, MalformedData, OutOfMemory, TooLarge}
 use Rattle.xet_hash.specs.declared.error.What.TheVariants as what
 use Rattle.xet_history.specs.Core.{has_pending}
-use Rattle.sha2.specs.Sha256.{sha256}
 use Rattle.xet_dedup.specs.Records.{file_record}
 use Rattle.xet_history.specs.declared.entry.Entry.{Entry}
 use Rattle.xet_history.specs.declared.entry.Entry.TheVariants.{Query, Register, Complete, Flush, Fault}
@@ -33,6 +32,8 @@ use Rattle.xet_store.specs.Separate.{Among, MetChunk}
 use Rattle.xet_store.specs.declared.info.XetFileInfo.{XetFileInfo}
 use Rattle.xet_stepping.specs.Alone.{IsFault, StepsTo, StepsUntil}
 use Rattle.xet_clean.specs.Files.{HasChoices, leaves_in}
+use Rattle.xet_clean.specs.Policies.{info_by, sha256_by}
+use Rattle.xet_clean.specs.declared.policy.Sha256Policy.{Sha256Policy}
 use Rattle.xet_history.specs.Sound.{IsKey}
 use Rattle.xet_stepping.specs.Holders.{calls_in, numbered}
 
@@ -112,51 +113,52 @@ files_in (Complete pass file added ∷ entries) = file ∷ files_in entries
 files_in (Flush pass shard ∷ entries) = files_in entries
 files_in (Fault pass kind ∷ entries) = files_in entries
 
--- The record of a file of these bytes, which is not empty: over some plan, with the hashes of its ranges and its SHA-256.
-pub record IsRecordFor (s : LimitSettings) (bytes : List ℕ) (file : MDBFileInfo) : Type 0 where
+-- The record of a file of these bytes, which is not empty: over some plan, with the hashes of its ranges and the SHA-256 that it
+-- gets by the policy.
+pub record IsRecordFor (policy : Sha256Policy) (s : LimitSettings) (bytes : List ℕ) (file : MDBFileInfo) : Type 0 where
   pub some : 0 < length bytes
   pub segments : List Segment
-  pub is : file ≡ file_record (leaves_in s bytes) segments (Some (sha256 bytes))
+  pub is : file ≡ file_record (leaves_in s bytes) segments (sha256_by policy bytes)
 
 -- Each file that is not empty has one of these records, in order. There are no other records.
-abbrev pub AreRecords : LimitSettings → List (List ℕ) → List MDBFileInfo → Type 0
-AreRecords s [] records = records ≡ []
-AreRecords s ([] ∷ fs) records = AreRecords s fs records
-AreRecords s ((b ∷ bs) ∷ fs) [] = ⊥
-AreRecords s ((b ∷ bs) ∷ fs) (r ∷ records) = IsRecordFor s (b ∷ bs) r × AreRecords s fs records
+abbrev pub AreRecords : Sha256Policy → LimitSettings → List (List ℕ) → List MDBFileInfo → Type 0
+AreRecords policy s [] records = records ≡ []
+AreRecords policy s ([] ∷ fs) records = AreRecords policy s fs records
+AreRecords policy s ((b ∷ bs) ∷ fs) [] = ⊥
+AreRecords policy s ((b ∷ bs) ∷ fs) (r ∷ records) = IsRecordFor policy s (b ∷ bs) r × AreRecords policy s fs records
 
 -- If the entry records a file, it is one of these.
-abbrev pub RecordsFile : LimitSettings → List (List ℕ) → Entry → Type 0
-RecordsFile s files (Query pass hashes reply) = Unit {0}
-RecordsFile s files (Register pass chunks next added) = Unit {0}
-RecordsFile s files (Complete pass file added) = (bytes : List ℕ) × IsAmong files bytes × IsRecordFor s bytes file
-RecordsFile s files (Flush pass shard) = Unit {0}
-RecordsFile s files (Fault pass kind) = Unit {0}
+abbrev pub RecordsFile : Sha256Policy → LimitSettings → List (List ℕ) → Entry → Type 0
+RecordsFile policy s files (Query pass hashes reply) = Unit {0}
+RecordsFile policy s files (Register pass chunks next added) = Unit {0}
+RecordsFile policy s files (Complete pass file added) = (bytes : List ℕ) × IsAmong files bytes × IsRecordFor policy s bytes file
+RecordsFile policy s files (Flush pass shard) = Unit {0}
+RecordsFile policy s files (Fault pass kind) = Unit {0}
 
 -- ---- what is returned
 
 -- For each file there are choices; and each file that is not empty has one of these records, in order, by whose plan its choices
 -- are true over these calls. There are no other records.
-abbrev pub AreChosen : LimitSettings → List Call → List (List ℕ) → List (List Choice) → List MDBFileInfo → Type 0
-AreChosen s calls [] [] records = records ≡ []
-AreChosen s calls [] (c ∷ cs) records = ⊥
-AreChosen s calls (f ∷ fs) [] records = ⊥
-AreChosen s calls ([] ∷ fs) (c ∷ cs) records = (c ≡ []) × AreChosen s calls fs cs records
-AreChosen s calls ((b ∷ bs) ∷ fs) (c ∷ cs) [] = ⊥
-AreChosen s calls ((b ∷ bs) ∷ fs) (c ∷ cs) (r ∷ records) = HasChoices s calls (b ∷ bs) c r × AreChosen s calls fs cs records
+abbrev pub AreChosen : Sha256Policy → LimitSettings → List Call → List (List ℕ) → List (List Choice) → List MDBFileInfo → Type 0
+AreChosen policy s calls [] [] records = records ≡ []
+AreChosen policy s calls [] (c ∷ cs) records = ⊥
+AreChosen policy s calls (f ∷ fs) [] records = ⊥
+AreChosen policy s calls ([] ∷ fs) (c ∷ cs) records = (c ≡ []) × AreChosen policy s calls fs cs records
+AreChosen policy s calls ((b ∷ bs) ∷ fs) (c ∷ cs) [] = ⊥
+AreChosen policy s calls ((b ∷ bs) ∷ fs) (c ∷ cs) (r ∷ records) = HasChoices policy s calls (b ∷ bs) c r × AreChosen policy s calls fs cs records
 
 -- Cleaning returned this, between two states. Each source has a file: of an observable source, the bytes that it had left.
 -- The pointer records are those of these files, and the choices for their chunks are true by the entries that were added; no
 -- entry is named by two chunks. Each file that is not empty is recorded once, in the order of the sources, with its range hashes
--- and its SHA-256, and no other file is recorded. As many chunks were registered as were not deduplicated. The entries are at
--- most three for each chunk and two for each source.
-pub record IsCleaned {S : Type 0} (tells : S → Bool) (left : S → List ℕ) (sources : List S) (old new : RecordedState) (infos : List XetFileInfo) (choices : List (List Choice)) (metrics : DeduplicationMetrics) : Type 0 where
+-- and the SHA-256 that it gets by the policy, and no other file is recorded. As many chunks were registered as were not
+-- deduplicated. The entries are at most three for each chunk and two for each source.
+pub record IsCleaned {S : Type 0} (policy : Sha256Policy) (tells : S → Bool) (left : S → List ℕ) (sources : List S) (old new : RecordedState) (infos : List XetFileInfo) (choices : List (List Choice)) (metrics : DeduplicationMetrics) : Type 0 where
   pub files : List (List ℕ)
   pub told : EachTold tells left (λ bytes file. file ≡ bytes) sources files
-  pub pointers : infos ≡ map (info_of old.store.limits) files
-  pub chosen : AreChosen old.store.limits (calls_since old new) files choices (files_in (entries_since old new))
+  pub pointers : infos ≡ map (info_by policy old.store.limits) files
+  pub chosen : AreChosen policy old.store.limits (calls_since old new) files choices (files_in (entries_since old new))
   pub once : EntriesRise (flat_map (λ (cs : List Choice). cs) choices)
-  pub only : AllByRecursion (RecordsFile old.store.limits files) (entries_since old new)
+  pub only : AllByRecursion (RecordsFile policy old.store.limits files) (entries_since old new)
   pub registered : registered_chunks (calls_since old new) ≡ sum_by new_chunks choices
   pub sums : metrics ≡ metrics_sum old.store.limits files choices
   pub registers : RegistersFew (calls_since old new)
@@ -173,7 +175,7 @@ EachTaken tells left (s ∷ ss) (t ∷ ts) (f ∷ fs) = (tells s ≡ true → le
 -- the sources after it were not read. An error that names a source names that one. There are at most three entries for each chunk
 -- of what was taken and two for each source. The files recorded are the first ones, in order, each that is not empty once; none is
 -- that of source `done`.
-pub record IsBounded {S : Type 0} (tells : S → Bool) (left : S → List ℕ) (sources now : List S) (old new : RecordedState) (e : StoreError) : Type 0 where
+pub record IsBounded {S : Type 0} (policy : Sha256Policy) (tells : S → Bool) (left : S → List ℕ) (sources now : List S) (old new : RecordedState) (e : StoreError) : Type 0 where
   pub files : List (List ℕ)
   pub taken : EachTaken tells left sources now files
   pub done : ℕ
@@ -184,7 +186,7 @@ pub record IsBounded {S : Type 0} (tells : S → Bool) (left : S → List ℕ) (
   pub untouched : drop (suc done) now ≡ drop (suc done) sources
   pub count : ℕ
   pub recorded : count ≤ done
-  pub records : AreRecords old.store.limits (take count files) (files_in (entries_since old new))
+  pub records : AreRecords policy old.store.limits (take count files) (files_in (entries_since old new))
   pub bound : length (entries_since old new) ≤ 3 * sum_by (λ f. length (chunking old.store.limits f)) files + 2 * length files
   pub adds : Adds old.store.records new.store.records (map (λ f. (info_of old.store.limits f).hash) (take count files))
 

@@ -1,6 +1,5 @@
 -- Files that were cleaned, and why each of their chunks was stored or found.
-use Rattle.std.specs.Prelude.{◌≡◌, ℕ, List, length, Some}
-use Rattle.sha2.specs.Sha256.{sha256}
+use Rattle.std.specs.Prelude.{◌≡◌, ℕ, List, length}
 use Rattle.xet_choices.specs.Calls.{Call}
 use Rattle.xet_choices.specs.Choices.{AllTrue}
 use Rattle.xet_choices.specs.Ranges.{total}
@@ -12,6 +11,8 @@ use Rattle.xet_file_plan.specs.Moves.{counts_of}
 use Rattle.xet_hash.specs.Merkle.{leaves_of}
 use Rattle.xet_shard_format.specs.declared.record.FileDataSequenceEntry.{FileDataSequenceEntry as Segment}
 use Rattle.xet_shard_format.specs.declared.record.MDBFileInfo.{MDBFileInfo}
+use Rattle.xet_clean.specs.Policies.{sha256_by}
+use Rattle.xet_clean.specs.declared.policy.Sha256Policy.{Sha256Policy}
 
 -- the chunks of a file
 abbrev pub leaves_in : LimitSettings → List ℕ → List (List ℕ × ℕ)
@@ -21,9 +22,9 @@ leaves_in s bytes = leaves_of (chunking s bytes)
 
 -- The record is that of a file of these bytes, with a plan by which its choices are true over these calls. The segments of the
 -- plan have as many chunks as the file.
-pub record HasChoices (s : LimitSettings) (calls : List Call) (bytes : List ℕ) (choices : List Choice) (file : MDBFileInfo) : Type 0 where
+pub record HasChoices (policy : Sha256Policy) (s : LimitSettings) (calls : List Call) (bytes : List ℕ) (choices : List Choice) (file : MDBFileInfo) : Type 0 where
   pub segments : List Segment
-  pub is : file ≡ file_record (leaves_in s bytes) segments (Some (sha256 bytes))
+  pub is : file ≡ file_record (leaves_in s bytes) segments (sha256_by policy bytes)
   pub covers : total (counts_of segments) ≡ length (leaves_in s bytes)
   pub one_each : length choices ≡ length (leaves_in s bytes)
   pub true_choices : AllTrue (record { settings = s; leaves = leaves_in s bytes; calls = calls; counts = counts_of segments; choices = choices })

@@ -1,3 +1,10 @@
+pub mod Policies
 pub mod Files
 pub mod Cleaning
+pub mod Cleaner
+pub mod Closing
+pub mod Errors
+pub mod Planning
+pub mod Sources
+pub mod Working
 pub mod internal

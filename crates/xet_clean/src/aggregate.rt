@@ -2,9 +2,9 @@
 
 ghost use Rattle.std.specs.Prelude.{◌≡◌, ◌≢◌, ◌+◌, ◌*◌, IfErr, OnOk, false, length, map, true};
 ghost use Rattle.xet_aggregate.specs.Aggregate.{IsAggregate};
-ghost use Rattle.xet_clean.specs.internal.Planning.{IsWithin};
+ghost use Rattle.xet_clean.specs.Planning.{IsWithin};
 ghost use Rattle.xet_stepping.specs.Holders.{Follows, xorb_limits};
-ghost use Rattle.xet_clean.specs.internal.Closing.{Closes, Completes, HaveForm, IsAtMost, IsClosingError, IsUnclosed, RecordsFirst};
+ghost use Rattle.xet_clean.specs.Closing.{Closes, Completes, HaveForm, IsAtMost, IsClosingError, IsUnclosed, RecordsFirst};
 ghost use Rattle.std.specs.List.{AllByRecursion};
 ghost use Rattle.xet_dedup_queries.specs.Registering.{IsDue};
 ghost use Rattle.xet_shard_format.specs.Records.{IsFile};

@@ -1,20 +1,17 @@
 //! `FileCleaner`: one file is cleaned as its bytes come.
 
-ghost use Rattle.std.specs.Prelude.{◌≡◌, ◌++◌, ◌+◌, ◌≤◌, [], ℕ, List, IfErr, IfOk, IsOkUnless, OnErr, OnOk, is_ok, length, map, true};
+ghost use Rattle.std.specs.Prelude.{◌≡◌, ◌++◌, ◌+◌, ◌≤◌, [], ℕ, List, IfErr, IfOk, IsOkUnless, OnErr, OnOk, is_ok, length, map, option_map, true};
 ghost use Rattle.std.specs.List.{AllByRecursion};
 ghost use Rattle.xet_stepping.specs.Asking.{IsErrorSince, Stands};
-ghost use Rattle.xet_clean.specs.internal.Planning.{IsFew, IsFinished, IsPlanned};
+ghost use Rattle.xet_clean.specs.Planning.{IsFew, IsFinished, IsPlanned};
 ghost use Rattle.xet_stepping.specs.Holders.{FollowsAsking, calls_of, core_at, xorb_limits, lengths_in};
-ghost use Rattle.xet_clean.specs.internal.Cleaner.{IsBatchOf, IsCleaning, IsCleaningBytes, IsCleaningSome, StopsInBatch};
-ghost use Rattle.xet_clean.specs.internal.Errors.{IsCleanerError};
+ghost use Rattle.xet_clean.specs.Cleaner.{IsBatchOf, IsCleaning, IsCleaningBytes, IsCleaningSome, StopsInBatch};
+ghost use Rattle.xet_clean.specs.Errors.{IsCleanerError};
 ghost use Rattle.xet_dedup.specs.Deduping.{IsChunk, IsDeduped};
 ghost use Rattle.xet_file_plan.specs.Kept.{max_chunks};
 ghost use Rattle.xet_xorb_chunk.specs.Chunks.{chunk_leaf};
-ghost use Rattle.sha2.specs.Hashers.{Holds256};
-ghost use Rattle.sha2.specs.Sha256.{sha256 as sha256_of};
 
 use crate::errors::store_error;
-use sha2::Digest;
 use std::alloc::Global;
 use xet_base::Items;
 use xet_dedup::{Choice, Chunker, DataAggregator, DeduplicationMetrics, FileDeduper, Finalized};
@@ -25,13 +22,11 @@ use xet_store::XetFileInfo;
 use xet_xorb_chunk::Chunk;
 
 /// One file that is cleaned as its bytes come. The chunks that end in a piece of it are one batch of its deduplication.
-pub(crate) struct FileCleaner<S: Stepping> {
+pub struct FileCleaner<S: Stepping> {
     /// The deduplication of the file, over the maker of steps.
     pub deduper: FileDeduper<Asking<S>>,
     /// The chunker, with the bytes that are in no chunk yet.
     pub chunker: Chunker,
-    /// The SHA-256 of the bytes so far.
-    pub hasher: sha2::Sha256,
     /// The number of bytes so far.
     pub byte_count: u64,
     /// The number by which errors name the source.
@@ -39,7 +34,7 @@ pub(crate) struct FileCleaner<S: Stepping> {
 }
 
 /// A file that was cleaned. It is not recorded: its last chunks are in no xorb yet.
-pub(crate) struct FinishedFile {
+pub struct FinishedFile {
     /// The pointer record.
     pub info: XetFileInfo,
     /// What deduplication did with its chunks.
@@ -53,12 +48,12 @@ pub(crate) struct FinishedFile {
 impl<S: Stepping> FileCleaner<S> {
     /// Begins with a file of no bytes. The maker of steps is untouched, and is returned if memory is out. Errors name the
     /// source by `number`.
-    pub(crate) fn new(
+    pub fn new(
         alloc: Global,
         asking: Asking<S>,
         number: u32,
     ) -> Result<FileCleaner<S>, (Asking<S>, StoreError)>
-        ensures new { IfOk result (λ c. IsCleaning (S.holder c.deduper.start.value.steps) (S.holder c.deduper.interface.steps) c.deduper.whole c.deduper.plan c.deduper.global c.chunker (Holds256 c.hasher) c.byte_count []) }
+        ensures new { IfOk result (λ c. IsCleaning (S.holder c.deduper.start.value.steps) (S.holder c.deduper.interface.steps) c.deduper.whole c.deduper.plan c.deduper.global c.chunker c.byte_count []) }
         ensures same { IfOk result (λ c. (c.deduper.interface ≡ asking) × (c.deduper.start.value ≡ asking) × (c.number ≡ number) × (c.deduper.file_id ≡ number)) }
         ensures back { IfErr result (λ e. e.0 ≡ asking) }
         ensures memory { IfErr result (λ e. e.1 ≡ StoreError.OutOfMemory) }
@@ -73,7 +68,6 @@ impl<S: Stepping> FileCleaner<S> {
             Ok(deduper) => Ok(FileCleaner {
                 deduper,
                 chunker,
-                hasher: sha2::Sha256::new(),
                 byte_count: 0,
                 number,
             }),
@@ -84,13 +78,13 @@ impl<S: Stepping> FileCleaner<S> {
     /// Takes the next bytes of the file. The chunks that end in them are a batch of the deduplication. `TooLarge` with the
     /// number of the source is returned only if the file has more bytes than the limits allow. After an error the
     /// file is of no use.
-    pub(crate) fn add(&mut self, bytes: &[u8]) -> Result<(), StoreError>
-        requires cleaning { IsCleaningSome (S.holder self.old.deduper.start.value.steps) (S.holder self.old.deduper.interface.steps) self.old.deduper.whole self.old.deduper.plan self.old.deduper.global self.old.chunker (Holds256 self.old.hasher) self.old.byte_count }
-        ensures cleaning { (before : List ℕ) → IsCleaning (S.holder self.old.deduper.start.value.steps) (S.holder self.old.deduper.interface.steps) self.old.deduper.whole self.old.deduper.plan self.old.deduper.global self.old.chunker (Holds256 self.old.hasher) self.old.byte_count before
-            → OnOk result (IsCleaning (S.holder self.new.deduper.start.value.steps) (S.holder self.new.deduper.interface.steps) self.new.deduper.whole self.new.deduper.plan self.new.deduper.global self.new.chunker (Holds256 self.new.hasher) self.new.byte_count (before ++ bytes.now)) }
+    pub fn add(&mut self, bytes: &[u8]) -> Result<(), StoreError>
+        requires cleaning { IsCleaningSome (S.holder self.old.deduper.start.value.steps) (S.holder self.old.deduper.interface.steps) self.old.deduper.whole self.old.deduper.plan self.old.deduper.global self.old.chunker self.old.byte_count }
+        ensures cleaning { (before : List ℕ) → IsCleaning (S.holder self.old.deduper.start.value.steps) (S.holder self.old.deduper.interface.steps) self.old.deduper.whole self.old.deduper.plan self.old.deduper.global self.old.chunker self.old.byte_count before
+            → OnOk result (IsCleaning (S.holder self.new.deduper.start.value.steps) (S.holder self.new.deduper.interface.steps) self.new.deduper.whole self.new.deduper.plan self.new.deduper.global self.new.chunker self.new.byte_count (before ++ bytes.now)) }
         ensures same { (self.new.deduper.start.value ≡ self.old.deduper.start.value) × (self.new.number ≡ self.old.number) × (self.new.deduper.file_id ≡ self.old.deduper.file_id) }
         ensures follows { FollowsAsking (S.holder self.old.deduper.interface.steps) (S.holder self.new.deduper.interface.steps) }
-        ensures few { (before : List ℕ) → IsCleaning (S.holder self.old.deduper.start.value.steps) (S.holder self.old.deduper.interface.steps) self.old.deduper.whole self.old.deduper.plan self.old.deduper.global self.old.chunker (Holds256 self.old.hasher) self.old.byte_count before
+        ensures few { (before : List ℕ) → IsCleaning (S.holder self.old.deduper.start.value.steps) (S.holder self.old.deduper.interface.steps) self.old.deduper.whole self.old.deduper.plan self.old.deduper.global self.old.chunker self.old.byte_count before
             → OnErr result (IsFew (S.holder self.new.deduper.start.value.steps) (S.holder self.new.deduper.interface.steps) (before ++ bytes.now)) }
         ensures refused { IfErr result (IsCleanerError self.old.number self.old.byte_count bytes.now (S.holder self.old.deduper.interface.steps) (S.holder self.new.deduper.interface.steps)) }
     {
@@ -99,17 +93,17 @@ impl<S: Stepping> FileCleaner<S> {
             return Err(StoreError::TooLarge(What::Source(self.number)));
         }
         let chunks = self.chunker.next_block(bytes, false)?;
-        self.hasher.update(bytes);
         self.byte_count += bytes.len() as u64;
         place(&mut self.deduper, &chunks)
     }
 
-    /// Ends the file. The maker of steps is returned in either case, as the last step left it.
-    pub(crate) fn finish(self) -> (Asking<S>, Result<FinishedFile, StoreError>)
-        requires cleaning { IsCleaningSome (S.holder self.deduper.start.value.steps) (S.holder self.deduper.interface.steps) self.deduper.whole self.deduper.plan self.deduper.global self.chunker (Holds256 self.hasher) self.byte_count }
-        ensures finished { (bytes : List ℕ) → IsCleaning (S.holder self.deduper.start.value.steps) (S.holder self.deduper.interface.steps) self.deduper.whole self.deduper.plan self.deduper.global self.chunker (Holds256 self.hasher) self.byte_count bytes
-            → IfOk result.1 (λ f. IsFinished (S.holder self.deduper.start.value.steps) (S.holder result.0.steps) self.deduper.file_id bytes f.info f.metrics f.choices f.rest) }
-        ensures few { (bytes : List ℕ) → IsCleaning (S.holder self.deduper.start.value.steps) (S.holder self.deduper.interface.steps) self.deduper.whole self.deduper.plan self.deduper.global self.chunker (Holds256 self.hasher) self.byte_count bytes
+    /// Ends the file, which is to be recorded with this SHA-256, or without one. The maker of steps is returned in either case,
+    /// as the last step left it.
+    pub fn finish(self, sha256: Option<Sha256>) -> (Asking<S>, Result<FinishedFile, StoreError>)
+        requires cleaning { IsCleaningSome (S.holder self.deduper.start.value.steps) (S.holder self.deduper.interface.steps) self.deduper.whole self.deduper.plan self.deduper.global self.chunker self.byte_count }
+        ensures finished { (bytes : List ℕ) → IsCleaning (S.holder self.deduper.start.value.steps) (S.holder self.deduper.interface.steps) self.deduper.whole self.deduper.plan self.deduper.global self.chunker self.byte_count bytes
+            → IfOk result.1 (λ f. IsFinished (S.holder self.deduper.start.value.steps) (S.holder result.0.steps) self.deduper.file_id sha256 bytes f.info f.metrics f.choices f.rest) }
+        ensures few { (bytes : List ℕ) → IsCleaning (S.holder self.deduper.start.value.steps) (S.holder self.deduper.interface.steps) self.deduper.whole self.deduper.plan self.deduper.global self.chunker self.byte_count bytes
             → OnErr result.1 (IsFew (S.holder self.deduper.start.value.steps) (S.holder result.0.steps) bytes) }
         ensures follows { FollowsAsking (S.holder self.deduper.interface.steps) (S.holder result.0.steps) }
         ensures refused { IfErr result.1 (IsErrorSince (S.holder self.deduper.interface.steps) (S.holder result.0.steps)) }
@@ -117,11 +111,9 @@ impl<S: Stepping> FileCleaner<S> {
         let FileCleaner {
             mut deduper,
             mut chunker,
-            hasher,
             byte_count,
             number: _,
         } = self;
-        let sha256 = Sha256::from_bytes(hasher.finalize().into());
         match place_last(&mut deduper, &mut chunker) {
             Ok(()) => finished(deduper, byte_count, sha256),
             Err(error) => (deduper.into_interface(), Err(error)),
@@ -129,13 +121,12 @@ impl<S: Stepping> FileCleaner<S> {
     }
 
     /// The maker of steps, as the last step left it.
-    pub(crate) fn into_asking(self) -> Asking<S>
+    pub fn into_asking(self) -> Asking<S>
         ensures { result ≡ self.deduper.interface }
     {
         let FileCleaner {
             deduper,
             chunker: _,
-            hasher: _,
             byte_count: _,
             number: _,
         } = self;
@@ -193,20 +184,30 @@ fn place_last<S: Stepping>(
     place(deduper, &chunks)
 }
 
-/// Ends the deduplication of a file of so many bytes, with this SHA-256.
+/// The metadata with this SHA-256, or none.
+fn metadata(sha256: &Option<Sha256>) -> Option<FileMetadataExt>
+    ensures { option_map (λ m. m.sha256) result ≡ sha256.now }
+{
+    match sha256 {
+        Some(sha256) => Some(FileMetadataExt::new(*sha256)),
+        None => None,
+    }
+}
+
+/// Ends the deduplication of a file of so many bytes, with this SHA-256, or without one.
 fn finished<S: Stepping>(
     deduper: FileDeduper<Asking<S>>,
     file_size: u64,
-    sha256: Sha256,
+    sha256: Option<Sha256>,
 ) -> (Asking<S>, Result<FinishedFile, StoreError>)
     requires whole { (deduper.whole ≡ true) × (deduper.global ≡ (0, 0)) }
-    requires planned { (bytes : List ℕ) × (file_size ≡ length bytes) × (sha256 ≡ sha256_of bytes) × IsPlanned (S.holder deduper.start.value.steps) (S.holder deduper.interface.steps) bytes deduper.plan }
-    ensures finished { (bytes : List ℕ) → file_size ≡ length bytes → sha256 ≡ sha256_of bytes → IsPlanned (S.holder deduper.start.value.steps) (S.holder deduper.interface.steps) bytes deduper.plan
-        → IfOk result.1 (λ f. IsFinished (S.holder deduper.start.value.steps) (S.holder result.0.steps) deduper.file_id bytes f.info f.metrics f.choices f.rest) }
+    requires planned { (bytes : List ℕ) × (file_size ≡ length bytes) × IsPlanned (S.holder deduper.start.value.steps) (S.holder deduper.interface.steps) bytes deduper.plan }
+    ensures finished { (bytes : List ℕ) → file_size ≡ length bytes → IsPlanned (S.holder deduper.start.value.steps) (S.holder deduper.interface.steps) bytes deduper.plan
+        → IfOk result.1 (λ f. IsFinished (S.holder deduper.start.value.steps) (S.holder result.0.steps) deduper.file_id sha256 bytes f.info f.metrics f.choices f.rest) }
     ensures same { result.0 ≡ deduper.interface }
     ensures memory { IsOkUnless result.1 StoreError.OutOfMemory }
 {
-    match deduper.finalize(Some(FileMetadataExt::new(sha256))) {
+    match deduper.finalize(metadata(&sha256)) {
         Ok(file) => {
             let Finalized {
                 interface,
@@ -218,7 +219,7 @@ fn finished<S: Stepping>(
             let info = XetFileInfo {
                 hash,
                 file_size,
-                sha256: Some(sha256),
+                sha256,
             };
             (
                 interface,

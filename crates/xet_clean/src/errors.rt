@@ -1,7 +1,7 @@
 //! The errors of the calls below, as errors of cleaning.
 
 ghost use Rattle.std.specs.Prelude.{◌≡◌};
-ghost use Rattle.xet_clean.specs.internal.Errors.{store_error};
+ghost use Rattle.xet_clean.specs.Errors.{store_error};
 
 use xet_dedup::DedupError;
 use xet_hash::StoreError;

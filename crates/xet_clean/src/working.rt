@@ -3,10 +3,10 @@
 ghost use Rattle.std.specs.Prelude.{◌≡◌, ◌≤◌, ◌+◌, ◌*◌, ◌++◌, ◌∷◌, [], ℕ, List, IfErr, IfOk, IsOkUnless, OnOk, length, map, vec_capacity, vec_len};
 ghost use Rattle.xet_aggregate.specs.Aggregate.{IsAggregate, empty};
 ghost use Rattle.xet_aggregate.specs.Metrics.{zeros};
-ghost use Rattle.xet_clean.specs.internal.Planning.{IsWithin};
+ghost use Rattle.xet_clean.specs.Planning.{IsWithin};
 ghost use Rattle.xet_stepping.specs.Holders.{Follows, Holder};
-ghost use Rattle.xet_clean.specs.internal.Closing.{Closes, HaveForm, IsAtMost, IsUnclosed, Joins};
-ghost use Rattle.xet_clean.specs.internal.Working.{IsAdded, IsWorking, Planned};
+ghost use Rattle.xet_clean.specs.Closing.{Closes, HaveForm, IsAtMost, IsUnclosed, Joins};
+ghost use Rattle.xet_clean.specs.Working.{IsAdded, IsWorking, Planned};
 ghost use Rattle.xet_cut.specs.Limits.{AreInRange};
 ghost use Rattle.xet_file_plan.specs.Moves.{PlanState};
 ghost use Rattle.xet_xorb_chunk.specs.Chunks.{chunk_leaf};
@@ -15,6 +15,7 @@ use crate::aggregate::close;
 use crate::cleaner::FinishedFile;
 use crate::info::Cleaned;
 use crate::metrics::add_metrics;
+use crate::policy::Sha256Policy;
 use std::alloc::Global;
 use std::mem;
 use xet_dedup::{DataAggregator, DeduplicationMetrics};
@@ -24,7 +25,7 @@ use xet_xorb_chunk::chunk_leaves;
 
 /// What was made of the sources so far.
 #[derive(Drop)]
-pub(crate) struct Working {
+pub struct Working {
     alloc: Global,
     /// What cleaning returns of them.
     pub cleaned: Cleaned,
@@ -34,7 +35,7 @@ pub(crate) struct Working {
 
 impl Working {
     /// Nothing yet, with room for so many sources. The only error is `OutOfMemory`.
-    pub(crate) fn new(alloc: Global, count: usize) -> Result<Working, StoreError>
+    pub fn new(alloc: Global, count: usize) -> Result<Working, StoreError>
         ensures new { IfOk result (λ w. (w.cleaned.infos.items ≡ []) × (w.cleaned.choices.items ≡ []) × (w.cleaned.metrics ≡ zeros) × (w.aggregate ≡ empty)) }
         ensures room { IfOk result (λ w. (count ≤ vec_capacity w.cleaned.infos) × (count ≤ vec_capacity w.cleaned.choices)) }
         ensures memory { IsOkUnless result StoreError.OutOfMemory }
@@ -51,15 +52,11 @@ impl Working {
     }
 
     /// Adds a file that was cleaned. Its last chunks join the aggregate; if they do not fit, the aggregate is closed first.
-    pub(crate) fn add<S: Stepping>(
-        &mut self,
-        steps: &mut S,
-        file: FinishedFile,
-    ) -> Result<(), StoreError>
-        requires working { (start first : Holder) × (files : List Planned) × (bytes : List ℕ) × (id : ℕ) × IsAdded start first (S.holder steps.old) files bytes id self.old.cleaned.infos.items self.old.cleaned.choices.items self.old.cleaned.metrics self.old.aggregate file.info file.metrics file.choices file.rest }
+    pub fn add<S: Stepping>(&mut self, steps: &mut S, file: FinishedFile) -> Result<(), StoreError>
+        requires working { (start first : Holder) × (files : List Planned) × (policy : Sha256Policy) × (bytes : List ℕ) × (id : ℕ) × IsAdded start first (S.holder steps.old) files policy bytes id self.old.cleaned.infos.items self.old.cleaned.choices.items self.old.cleaned.metrics self.old.aggregate file.info file.metrics file.choices file.rest }
         requires room { (vec_len self.old.cleaned.infos + 1 ≤ vec_capacity self.old.cleaned.infos) × (vec_len self.old.cleaned.choices + 1 ≤ vec_capacity self.old.cleaned.choices) }
-        ensures working { (start first : Holder) (files : List Planned) (bytes : List ℕ) (id : ℕ) → IsAdded start first (S.holder steps.old) files bytes id self.old.cleaned.infos.items self.old.cleaned.choices.items self.old.cleaned.metrics self.old.aggregate file.info file.metrics file.choices file.rest
-            → OnOk result ((plan : PlanState) × IsWorking start (S.holder steps.new) (files ++ (record { bytes = bytes; plan = plan }) ∷ []) self.new.cleaned.infos.items self.new.cleaned.choices.items self.new.cleaned.metrics self.new.aggregate) }
+        ensures working { (start first : Holder) (files : List Planned) (policy : Sha256Policy) (bytes : List ℕ) (id : ℕ) → IsAdded start first (S.holder steps.old) files policy bytes id self.old.cleaned.infos.items self.old.cleaned.choices.items self.old.cleaned.metrics self.old.aggregate file.info file.metrics file.choices file.rest
+            → OnOk result ((plan : PlanState) × IsWorking start (S.holder steps.new) (files ++ (record { bytes = bytes; policy = policy; plan = plan }) ∷ []) self.new.cleaned.infos.items self.new.cleaned.choices.items self.new.cleaned.metrics self.new.aggregate) }
         ensures room { (vec_capacity self.new.cleaned.infos ≡ vec_capacity self.old.cleaned.infos) × (vec_capacity self.new.cleaned.choices ≡ vec_capacity self.old.cleaned.choices) }
         ensures grown { OnOk result ((vec_len self.new.cleaned.infos ≡ vec_len self.old.cleaned.infos + 1) × (vec_len self.new.cleaned.choices ≡ vec_len self.old.cleaned.choices + 1)) }
         ensures follows { Follows (S.holder steps.old) (S.holder steps.new) }
@@ -109,7 +106,7 @@ impl Working {
     }
 
     /// Closes the aggregate, and returns what cleaning returns.
-    pub(crate) fn end<S: Stepping>(self, steps: &mut S) -> Result<Cleaned, StoreError>
+    pub fn end<S: Stepping>(self, steps: &mut S) -> Result<Cleaned, StoreError>
         requires aggregate { IsAggregate self.aggregate × IsWithin (S.holder steps.old).limits self.aggregate.chunks × HaveForm self.aggregate.files }
         ensures closed { IfOk result (λ cleaned. (cleaned ≡ self.cleaned) × Closes self.aggregate [] (S.holder steps.old) (S.holder steps.new)) }
         ensures follows { Follows (S.holder steps.old) (S.holder steps.new) }

@@ -9,3 +9,5 @@ mod failing_tests;
 mod random_tests;
 #[cfg(test)]
 mod session;
+#[cfg(test)]
+mod single_tests;

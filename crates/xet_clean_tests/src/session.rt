@@ -1,14 +1,15 @@
 //! A store behind calls that have no contract.
 
 use std::alloc::Global;
-use xet_clean::{Cleaned, clean_files};
+use xet_clean::{Cleaned, Sha256Policy, clean_bytes, clean_file, clean_files};
 use xet_cut::{LimitSettings, Limits};
-use xet_dedup::Choice;
+use xet_dedup::{Choice, DeduplicationMetrics};
 use xet_hash::{MerkleHash, StoreError};
 use xet_history::Entry;
 use xet_io::{Disk, FailingSource, MemoryDisk, Op, Refusal, SliceSource};
-use xet_shard_format::FileDataSequenceEntry;
+use xet_shard_format::{FileDataSequenceEntry, Sha256};
 use xet_steps::Store;
+use xet_store::XetFileInfo;
 
 /// A store in the folder `store` of a disk in memory.
 #[derive(Drop)]
@@ -128,6 +129,60 @@ impl Session {
         ];
         let (store, answer) = clean_files(alloc, self.store, &mut sources, 1);
         (Session { alloc, store }, answer)
+    }
+
+    /// Cleans one file of these bytes.
+    pub fn clean_bytes(
+        self,
+        bytes: &[u8],
+        policy: Sha256Policy,
+    ) -> (
+        Session,
+        Result<(XetFileInfo, DeduplicationMetrics), StoreError>,
+    ) {
+        let alloc = self.alloc;
+        let (store, answer) = clean_bytes(alloc, self.store, bytes, policy);
+        (Session { alloc, store }, answer)
+    }
+
+    /// Cleans the file of one source.
+    pub fn clean_file(
+        self,
+        bytes: &[u8],
+        policy: Sha256Policy,
+    ) -> (
+        Session,
+        Result<(XetFileInfo, DeduplicationMetrics), StoreError>,
+    ) {
+        let alloc = self.alloc;
+        let mut source = SliceSource::new(bytes);
+        let (store, answer) = clean_file(alloc, self.store, &mut source, policy);
+        (Session { alloc, store }, answer)
+    }
+
+    /// Cleans the file of one source whose first read fails.
+    pub fn clean_failing_file(
+        self,
+        bytes: &[u8],
+    ) -> (
+        Session,
+        Result<(XetFileInfo, DeduplicationMetrics), StoreError>,
+    ) {
+        let alloc = self.alloc;
+        let mut source = FailingSource::new(bytes, 0);
+        let (store, answer) = clean_file(alloc, self.store, &mut source, Sha256Policy::Compute);
+        (Session { alloc, store }, answer)
+    }
+
+    /// The SHA-256 with which the last entry of the history records a file.
+    pub fn last_sha256(&self) -> Option<Sha256> {
+        match self.store.history().last() {
+            Some(Entry::Complete { file, .. }) => match &file.metadata_ext {
+                Some(metadata) => Some(metadata.sha256),
+                None => None,
+            },
+            _ => None,
+        }
     }
 
     /// For each entry of the history its letter, in capitals if something was added.

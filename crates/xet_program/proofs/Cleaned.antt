@@ -19,6 +19,7 @@ use Rattle.xet_cut.specs.declared.limits.LimitSettings.{LimitSettings}
 use Rattle.xet_store.specs.declared.info.XetFileInfo.{XetFileInfo}
 use Rattle.xet_cut.specs.Chunking.{chunking}
 use Rattle.xet_clean.specs.Cleaning.{AreChosen, HasReason, entries_since, files_in}
+use Rattle.xet_clean.specs.declared.policy.Sha256Policy.TheVariants.{Compute}
 use Rattle.xet_store.specs.Cleaning.{EachTold, IsLongAt, RoseAt, chunkings, info_of}
 use Rattle.xet_steps.specs.Recorded.{RecordedState}
 use Rattle.xet_program.specs.declared.ending.Stop.{Stop}
@@ -205,7 +206,7 @@ all_made all (Fault pass kind ∷ es) among = all_made all es (λ e here. among 
 
 -- each file that is not empty is recorded by one of them
 chosen_recorded : (s : LimitSettings) (entries : List Entry) (calls : List Call) (files : List (List ℕ)) (choices : List (List Choice)) (records : List MDBFileInfo) → AllByRecursion (HasMade entries) records
-    → AreChosen s calls files choices records → AllByRecursion (λ bytes. bytes ≢ [] → RecordsHash entries (hash_of_file s bytes)) files
+    → AreChosen Compute s calls files choices records → AllByRecursion (λ bytes. bytes ≢ [] → RecordsHash entries (hash_of_file s bytes)) files
 chosen_recorded s entries calls [] choices records made chosen = tt
 chosen_recorded s entries calls (f ∷ fs) [] records made chosen = absurd chosen
 chosen_recorded s entries calls ([] ∷ fs) (c ∷ cs) records made chosen = (λ some. absurd (some refl), chosen_recorded s entries calls fs cs records made chosen.1)
@@ -216,5 +217,5 @@ chosen_recorded s entries calls ((b ∷ bs) ∷ fs) (c ∷ cs) (r ∷ rs) made c
 )
 
 pub chosen_all : (s : LimitSettings) (entries : List Entry) (calls : List Call) (files : List (List ℕ)) (choices : List (List Choice))
-    → AreChosen s calls files choices (files_in entries) → AllByRecursion (λ bytes. bytes ≢ [] → RecordsHash entries (hash_of_file s bytes)) files
+    → AreChosen Compute s calls files choices (files_in entries) → AllByRecursion (λ bytes. bytes ≢ [] → RecordsHash entries (hash_of_file s bytes)) files
 chosen_all s entries calls files choices chosen = chosen_recorded s entries calls files choices (files_in entries) (all_made entries entries (λ e here. here)) chosen

@@ -13,6 +13,7 @@ use Rattle.xet_choices.specs.Calls.{Call, registered_chunks}
 use Rattle.xet_choices.specs.Choices.{is_reused, new_chunks}
 use Rattle.xet_choices.specs.declared.choice.Choice.{Choice}
 use Rattle.xet_clean.specs.Cleaning.{AreChosen, IsCleaned, entries_since, metrics_sum}
+use Rattle.xet_clean.specs.declared.policy.Sha256Policy.TheVariants.{Compute}
 use Rattle.xet_clean.specs.Files.{leaves_in}
 use Rattle.xet_cut.specs.Chunking.{chunking}
 use Rattle.xet_cut.specs.Generator.{generated, generated_byte}
@@ -83,7 +84,7 @@ sums_more s f fs c cs one_each rest =
     )
 
 -- the sums over files whose choices are these
-sums_counted : (s : LimitSettings) (calls : List Call) (files : List (List ℕ)) (choices : List (List Choice)) (records : List MDBFileInfo) → AreChosen s calls files choices records
+sums_counted : (s : LimitSettings) (calls : List Call) (files : List (List ℕ)) (choices : List (List Choice)) (records : List MDBFileInfo) → AreChosen Compute s calls files choices records
     → ((metrics_sum s files choices).total_chunks ≡ chunks_in s files) × ((metrics_sum s files choices).new_chunks ≡ new_in choices) × (new_in choices ≤ chunks_in s files)
 sums_counted s calls [] [] records chosen = (refl, refl, omega arith)
 sums_counted s calls [] (c ∷ cs) records chosen = absurd chosen
@@ -93,7 +94,7 @@ sums_counted s calls ((b ∷ bs) ∷ fs) (c ∷ cs) [] chosen = absurd chosen
 sums_counted s calls ((b ∷ bs) ∷ fs) (c ∷ cs) (r ∷ rs) chosen = sums_more s (b ∷ bs) fs c cs chosen.0.one_each (sums_counted s calls fs cs rs chosen.1)
 
 pub counted_of : {S : Type 0} (tells : S → Bool) (left : S → List ℕ) (sources : List S) (old new : RecordedState) (infos : List XetFileInfo) (choices : List (List Choice)) (metrics : DeduplicationMetrics)
-    → IsCleaned tells left sources old new infos choices metrics → AreCounted tells left old.store.limits sources metrics
+    → IsCleaned Compute tells left sources old new infos choices metrics → AreCounted tells left old.store.limits sources metrics
 counted_of tells left sources old new infos choices metrics is =
     let l = old.store.limits in
     let counts = sums_counted l _ is.files choices _ is.chosen in
@@ -150,7 +151,7 @@ added_by c n (Fault pass kind ∷ es) = added_by c (suc n) es
 
 -- by cleaning
 pub added_of : {S : Type 0} (tells : S → Bool) (left : S → List ℕ) (sources : List S) (old new : RecordedState) (infos : List XetFileInfo) (choices : List (List Choice)) (metrics : DeduplicationMetrics)
-    → IsCleaned tells left sources old new infos choices metrics → (entries : List Entry) → Steps old new entries → AddsXorbs metrics.new_chunks old.store new.store
+    → IsCleaned Compute tells left sources old new infos choices metrics → (entries : List Entry) → Steps old new entries → AddsXorbs metrics.new_chunks old.store new.store
 added_of tells left sources old new infos choices metrics is entries steps =
     let counts = sums_counted old.store.limits _ is.files choices _ is.chosen in
     let since : entries_since old new ≡ entries = since_is old new entries steps.moves.history in

@@ -17,6 +17,7 @@ use Rattle.xet_store.specs.Cleaning.{Keeps}
 use Rattle.xet_cut.specs.Chunking.{chunking}
 use Rattle.xet_dedup.specs.Records.{file_record}
 use Rattle.xet_clean.specs.Cleaning.{RecordsFile}
+use Rattle.xet_clean.specs.declared.policy.Sha256Policy.TheVariants.{Compute}
 use Rattle.xet_history.specs.Core.{Core, is_new, pending_hash}
 use Rattle.xet_history.specs.History.{after_all, flush_entries}
 use Rattle.xet_history.specs.Lasting.{HasLasting, LastsIn}
@@ -80,7 +81,7 @@ abbrev made_of : LimitSettings → List ℕ → List Segment → MDBFileInfo
 made_of l bytes segments = file_record (leaves_of (chunking l bytes)) segments (Some (sha256 bytes))
 
 -- Files were cleaned in a session, by these entries, and nothing is pending any more.
-module _ (old before after : RecordedState) (files : List (List ℕ)) (entries : List Entry) (taken : Steps old before entries) (only : AllByRecursion (RecordsFile old.store.limits files) entries) (settled : IsSettled before after)
+module _ (old before after : RecordedState) (files : List (List ℕ)) (entries : List Entry) (taken : Steps old before entries) (only : AllByRecursion (RecordsFile Compute old.store.limits files) entries) (settled : IsSettled before after)
     (sound : Sound after.store) (recorded : IsRecorded after) (told : old.store.tells ≡ true) where
   all_steps : Steps old after (entries ++ settled.entries)
   all_steps = steps_both old before after entries settled.entries taken settled.steps
@@ -99,7 +100,7 @@ module _ (old before after : RecordedState) (files : List (List ℕ)) (entries :
   -- a file that an entry added is one of these
   made_one : (h : List ℕ) → IsAdded entries h → (made : List ℕ) × IsAmong files made × (hash_of_file old.store.limits made ≡ h) × ListsMadeIn old.store.limits after.store made
   made_one h a =
-      let (m, among, made) = one_of (RecordsFile old.store.limits files) entries (Complete a.pass a.file true) only (to_among entries (Complete a.pass a.file true) a.among) in (
+      let (m, among, made) = one_of (RecordsFile Compute old.store.limits files) entries (Complete a.pass a.file true) only (to_among entries (Complete a.pass a.file true) a.among) in (
         m,
         among,
         ap file_record_hash (sym made.is) ∙ a.hash,

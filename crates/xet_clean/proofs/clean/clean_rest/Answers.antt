@@ -1,181 +1,60 @@
-use Rattle.std.proofs.Common.{ap, length, refl, subst, arith}
-use Rattle.xet_cut.specs.Limits.{AreInRange}
-use Rattle.xet_clean.specs.declared.cleaner.FinishedFile.{FinishedFile}
+use Rattle.std.proofs.Common.{length, refl}
+use Rattle.std.proofs.lemmas.Result.{IfOk-at_ok}
+use Rattle.xet_clean.specs.Sources.{HasCleaned}
 use Rattle.xet_clean.specs.declared.info.Cleaned.{Cleaned}
-use Rattle.xet_clean.proofs.Looping.{later_end, taken_end, tell_end}
-use Rattle.xet_clean.proofs.Turning.{added_of, end_ends, end_reads, end_reason, end_short, loop_begins_with, turn_goes_on, turn_stops}
+use Rattle.xet_clean.specs.declared.working.Working.{Working}
+use Rattle.xet_clean.proofs.Looping.{loop_of}
+use Rattle.xet_clean.proofs.Turning.{end_ends, end_reads, end_reason, end_short}
 use Rattle.xet_clean.proofs.clean.clean_rest.Goals as goal
 
-pub sources-init : goal.sources-init
-sources-init g c =
-    let w = c.args.working in
-    let nothing = c.requires.nothing in
-    record {
-      loop = loop_begins_with g.R.Source.tells g.R.Source.left g.R.Source.faults c.args.sources.now (g.S.Stepping.holder c.args.asking.steps) w.cleaned.infos.items w.cleaned.choices.items w.cleaned.metrics w.aggregate c.requires.going nothing;
-      infos_count = omega (arith, w.cleaned.infos.ok.0, ap length nothing.0);
-      choices_count = omega (arith, w.cleaned.choices.ok.0, ap length nothing.1);
-      infos_room = c.requires.room.0;
-      choices_room = c.requires.room.1;
-      block = c.requires.block;
-    }
-
-pub keep-requires-clause-working : goal.keep-requires-clause-working
-keep-requires-clause-working g c =
+pub returns-in-Ok-clause-cleaned : goal.returns-in-Ok-clause-cleaned
+returns-in-Ok-clause-cleaned g c =
     let tells = g.R.Source.tells in let left = g.R.Source.left in let faults = g.R.Source.faults in
     let start = g.S.Stepping.holder c.args.asking.steps in
-    let h = g.S.Stepping.holder c.sources.asking.steps in
-    let w = c.sources.working in
-    let h' = g.S.Stepping.holder c.clean_source-back.result.0.steps in
-    let d = c.index-sources-at.result in
-    let t = c.clean_source-back.new.source in
-    let known = c.clean_source-back.ensures in
-    added_of tells left faults (λ (f : FinishedFile). f.info) (λ (f : FinishedFile). f.metrics) (λ (f : FinishedFile). f.choices) (λ (f : FinishedFile). f.rest) c.args.sources.now c.sources.sources c.sources.at start h w.cleaned.infos.items w.cleaned.choices.items w.cleaned.metrics w.aggregate c.sources.invariant.loop (omega arith) c.requires.count (subst AreInRange c.limits.ensures c.recall_invariant.ensures) d t h' c.clean_source-back.result.1 (record { finished = known.finished; few = known.few; follows = known.follows; frame = known.frame; refused = known.refused })
+    let h = g.S.Stepping.holder c.clean_each-asking.result.0.steps in
+    let w = c.in-Ok.working in
+    let given =
+    IfOk-at_ok (λ (x : Working). HasCleaned c.args.policy.now tells left faults c.args.sources.now c.clean_each-asking.new.sources start h x.cleaned.infos.items x.cleaned.choices.items x.cleaned.metrics x.aggregate) c.in-Ok.is
+    c.clean_each-asking.ensures.cleaned in
+    let l = loop_of tells left faults c.args.policy.now c.args.sources.now c.clean_each-asking.new.sources start h w.cleaned.infos.items w.cleaned.choices.items w.cleaned.metrics w.aggregate given in
+    let last = g.S.Stepping.holder c.end-cleaned.new.steps in
+    end_ends tells left faults c.args.policy.now c.args.sources.now c.clean_each-asking.new.sources (length c.args.sources.now) start h w.cleaned.infos.items w.cleaned.choices.items w.cleaned.metrics w.aggregate l last (λ (t : Cleaned). t.infos.items) (λ (t : Cleaned). t.choices.items) (λ (t : Cleaned). t.metrics) c.end-cleaned.result w.cleaned refl refl refl refl c.end-cleaned.ensures.closed
 
-pub returns-in-Err-clause-follows : goal.returns-in-Err-clause-follows
-returns-in-Err-clause-follows g c =
+pub returns-in-Ok-clause-read : goal.returns-in-Ok-clause-read
+returns-in-Ok-clause-read g c =
     let tells = g.R.Source.tells in let left = g.R.Source.left in let faults = g.R.Source.faults in
     let start = g.S.Stepping.holder c.args.asking.steps in
-    let h = g.S.Stepping.holder c.sources.asking.steps in
-    let w = c.sources.working in
-    let h' = g.S.Stepping.holder c.clean_source-back.result.0.steps in
-    let d = c.index-sources-at.result in
-    let t = c.clean_source-back.new.source in
-    let known = c.clean_source-back.ensures in
-    (turn_stops tells left faults (λ (f : FinishedFile). f.info) (λ (f : FinishedFile). f.metrics) (λ (f : FinishedFile). f.choices) (λ (f : FinishedFile). f.rest) c.args.sources.now c.sources.sources c.sources.at start h w.cleaned.infos.items w.cleaned.choices.items w.cleaned.metrics w.aggregate c.sources.invariant.loop (omega arith) d t h' (g.S.Stepping.holder c.keep.new.steps) c.clean_source-back.result.1 c.keep.result c.in-Err.error (record { finished = known.finished; few = known.few; follows = known.follows; frame = known.frame; refused = known.refused }) (record { few = c.keep.ensures.few; refused = c.keep.ensures.refused; kept = c.keep.ensures.kept }) (cc c.in-Err.is)).follows
+    let h = g.S.Stepping.holder c.clean_each-asking.result.0.steps in
+    let w = c.in-Ok.working in
+    let given =
+    IfOk-at_ok (λ (x : Working). HasCleaned c.args.policy.now tells left faults c.args.sources.now c.clean_each-asking.new.sources start h x.cleaned.infos.items x.cleaned.choices.items x.cleaned.metrics x.aggregate) c.in-Ok.is
+    c.clean_each-asking.ensures.cleaned in
+    let l = loop_of tells left faults c.args.policy.now c.args.sources.now c.clean_each-asking.new.sources start h w.cleaned.infos.items w.cleaned.choices.items w.cleaned.metrics w.aggregate given in
+    let last = g.S.Stepping.holder c.end-cleaned.new.steps in
+    end_reads tells left faults c.args.policy.now c.args.sources.now c.clean_each-asking.new.sources (length c.args.sources.now) start h w.cleaned.infos.items w.cleaned.choices.items w.cleaned.metrics w.aggregate l last c.end-cleaned.result refl
 
-pub returns-in-Err-clause-bound : goal.returns-in-Err-clause-bound
-returns-in-Err-clause-bound g c =
+pub returns-in-Ok-clause-bound : goal.returns-in-Ok-clause-bound
+returns-in-Ok-clause-bound g c =
     let tells = g.R.Source.tells in let left = g.R.Source.left in let faults = g.R.Source.faults in
     let start = g.S.Stepping.holder c.args.asking.steps in
-    let h = g.S.Stepping.holder c.sources.asking.steps in
-    let w = c.sources.working in
-    let h' = g.S.Stepping.holder c.clean_source-back.result.0.steps in
-    let d = c.index-sources-at.result in
-    let t = c.clean_source-back.new.source in
-    let known = c.clean_source-back.ensures in
-    (turn_stops tells left faults (λ (f : FinishedFile). f.info) (λ (f : FinishedFile). f.metrics) (λ (f : FinishedFile). f.choices) (λ (f : FinishedFile). f.rest) c.args.sources.now c.sources.sources c.sources.at start h w.cleaned.infos.items w.cleaned.choices.items w.cleaned.metrics w.aggregate c.sources.invariant.loop (omega arith) d t h' (g.S.Stepping.holder c.keep.new.steps) c.clean_source-back.result.1 c.keep.result c.in-Err.error (record { finished = known.finished; few = known.few; follows = known.follows; frame = known.frame; refused = known.refused }) (record { few = c.keep.ensures.few; refused = c.keep.ensures.refused; kept = c.keep.ensures.kept }) (cc c.in-Err.is)).short
+    let h = g.S.Stepping.holder c.clean_each-asking.result.0.steps in
+    let w = c.in-Ok.working in
+    let given =
+    IfOk-at_ok (λ (x : Working). HasCleaned c.args.policy.now tells left faults c.args.sources.now c.clean_each-asking.new.sources start h x.cleaned.infos.items x.cleaned.choices.items x.cleaned.metrics x.aggregate) c.in-Ok.is
+    c.clean_each-asking.ensures.cleaned in
+    let l = loop_of tells left faults c.args.policy.now c.args.sources.now c.clean_each-asking.new.sources start h w.cleaned.infos.items w.cleaned.choices.items w.cleaned.metrics w.aggregate given in
+    let last = g.S.Stepping.holder c.end-cleaned.new.steps in
+    end_short tells left faults c.args.policy.now c.args.sources.now c.clean_each-asking.new.sources (length c.args.sources.now) start h w.cleaned.infos.items w.cleaned.choices.items w.cleaned.metrics w.aggregate l last c.end-cleaned.result c.end-cleaned.ensures.few c.end-cleaned.ensures.refused
 
-pub returns-in-Err-clause-sources_tell : goal.returns-in-Err-clause-sources_tell
-returns-in-Err-clause-sources_tell g c =
+pub returns-in-Ok-clause-refused : goal.returns-in-Ok-clause-refused
+returns-in-Ok-clause-refused g c =
     let tells = g.R.Source.tells in let left = g.R.Source.left in let faults = g.R.Source.faults in
     let start = g.S.Stepping.holder c.args.asking.steps in
-    let h = g.S.Stepping.holder c.sources.asking.steps in
-    let w = c.sources.working in
-    let h' = g.S.Stepping.holder c.clean_source-back.result.0.steps in
-    let d = c.index-sources-at.result in
-    let t = c.clean_source-back.new.source in
-    let known = c.clean_source-back.ensures in
-    (turn_stops tells left faults (λ (f : FinishedFile). f.info) (λ (f : FinishedFile). f.metrics) (λ (f : FinishedFile). f.choices) (λ (f : FinishedFile). f.rest) c.args.sources.now c.sources.sources c.sources.at start h w.cleaned.infos.items w.cleaned.choices.items w.cleaned.metrics w.aggregate c.sources.invariant.loop (omega arith) d t h' (g.S.Stepping.holder c.keep.new.steps) c.clean_source-back.result.1 c.keep.result c.in-Err.error (record { finished = known.finished; few = known.few; follows = known.follows; frame = known.frame; refused = known.refused }) (record { few = c.keep.ensures.few; refused = c.keep.ensures.refused; kept = c.keep.ensures.kept }) (cc c.in-Err.is)).tell
-
-pub returns-in-Err-clause-sources_taken : goal.returns-in-Err-clause-sources_taken
-returns-in-Err-clause-sources_taken g c =
-    let tells = g.R.Source.tells in let left = g.R.Source.left in let faults = g.R.Source.faults in
-    let start = g.S.Stepping.holder c.args.asking.steps in
-    let h = g.S.Stepping.holder c.sources.asking.steps in
-    let w = c.sources.working in
-    let h' = g.S.Stepping.holder c.clean_source-back.result.0.steps in
-    let d = c.index-sources-at.result in
-    let t = c.clean_source-back.new.source in
-    let known = c.clean_source-back.ensures in
-    (turn_stops tells left faults (λ (f : FinishedFile). f.info) (λ (f : FinishedFile). f.metrics) (λ (f : FinishedFile). f.choices) (λ (f : FinishedFile). f.rest) c.args.sources.now c.sources.sources c.sources.at start h w.cleaned.infos.items w.cleaned.choices.items w.cleaned.metrics w.aggregate c.sources.invariant.loop (omega arith) d t h' (g.S.Stepping.holder c.keep.new.steps) c.clean_source-back.result.1 c.keep.result c.in-Err.error (record { finished = known.finished; few = known.few; follows = known.follows; frame = known.frame; refused = known.refused }) (record { few = c.keep.ensures.few; refused = c.keep.ensures.refused; kept = c.keep.ensures.kept }) (cc c.in-Err.is)).taken
-
-pub returns-in-Err-clause-sources_later : goal.returns-in-Err-clause-sources_later
-returns-in-Err-clause-sources_later g c =
-    let tells = g.R.Source.tells in let left = g.R.Source.left in let faults = g.R.Source.faults in
-    let start = g.S.Stepping.holder c.args.asking.steps in
-    let h = g.S.Stepping.holder c.sources.asking.steps in
-    let w = c.sources.working in
-    let h' = g.S.Stepping.holder c.clean_source-back.result.0.steps in
-    let d = c.index-sources-at.result in
-    let t = c.clean_source-back.new.source in
-    let known = c.clean_source-back.ensures in
-    (turn_stops tells left faults (λ (f : FinishedFile). f.info) (λ (f : FinishedFile). f.metrics) (λ (f : FinishedFile). f.choices) (λ (f : FinishedFile). f.rest) c.args.sources.now c.sources.sources c.sources.at start h w.cleaned.infos.items w.cleaned.choices.items w.cleaned.metrics w.aggregate c.sources.invariant.loop (omega arith) d t h' (g.S.Stepping.holder c.keep.new.steps) c.clean_source-back.result.1 c.keep.result c.in-Err.error (record { finished = known.finished; few = known.few; follows = known.follows; frame = known.frame; refused = known.refused }) (record { few = c.keep.ensures.few; refused = c.keep.ensures.refused; kept = c.keep.ensures.kept }) (cc c.in-Err.is)).later
-
-pub returns-in-Err-clause-refused : goal.returns-in-Err-clause-refused
-returns-in-Err-clause-refused g c =
-    let tells = g.R.Source.tells in let left = g.R.Source.left in let faults = g.R.Source.faults in
-    let start = g.S.Stepping.holder c.args.asking.steps in
-    let h = g.S.Stepping.holder c.sources.asking.steps in
-    let w = c.sources.working in
-    let h' = g.S.Stepping.holder c.clean_source-back.result.0.steps in
-    let d = c.index-sources-at.result in
-    let t = c.clean_source-back.new.source in
-    let known = c.clean_source-back.ensures in
-    (turn_stops tells left faults (λ (f : FinishedFile). f.info) (λ (f : FinishedFile). f.metrics) (λ (f : FinishedFile). f.choices) (λ (f : FinishedFile). f.rest) c.args.sources.now c.sources.sources c.sources.at start h w.cleaned.infos.items w.cleaned.choices.items w.cleaned.metrics w.aggregate c.sources.invariant.loop (omega arith) d t h' (g.S.Stepping.holder c.keep.new.steps) c.clean_source-back.result.1 c.keep.result c.in-Err.error (record { finished = known.finished; few = known.few; follows = known.follows; frame = known.frame; refused = known.refused }) (record { few = c.keep.ensures.few; refused = c.keep.ensures.refused; kept = c.keep.ensures.kept }) (cc c.in-Err.is)).reason
-
-pub sources-preserved : goal.sources-preserved
-sources-preserved g c =
-    let tells = g.R.Source.tells in let left = g.R.Source.left in let faults = g.R.Source.faults in
-    let start = g.S.Stepping.holder c.args.asking.steps in
-    let h = g.S.Stepping.holder c.sources.asking.steps in
-    let w = c.sources.working in
-    let h' = g.S.Stepping.holder c.clean_source-back.result.0.steps in
-    let d = c.index-sources-at.result in
-    let t = c.clean_source-back.new.source in
-    let known = c.clean_source-back.ensures in
-    let before = c.sources.invariant in
-    record {
-      loop = turn_goes_on tells left faults (λ (f : FinishedFile). f.info) (λ (f : FinishedFile). f.metrics) (λ (f : FinishedFile). f.choices) (λ (f : FinishedFile). f.rest) c.args.sources.now c.sources.sources c.sources.at start h w.cleaned.infos.items w.cleaned.choices.items w.cleaned.metrics w.aggregate c.sources.invariant.loop (omega arith) c.requires.count (subst AreInRange c.limits.ensures c.recall_invariant.ensures) d t h' (g.S.Stepping.holder c.keep.new.steps) c.clean_source-back.result.1 c.keep.result c.in_default.field-0 c.keep.new.working.cleaned.infos.items c.keep.new.working.cleaned.choices.items c.keep.new.working.cleaned.metrics c.keep.new.working.aggregate
-          (record { finished = known.finished; few = known.few; follows = known.follows; frame = known.frame; refused = known.refused }) (record { few = c.keep.ensures.few; refused = c.keep.ensures.refused; kept = c.keep.ensures.kept }) (cc c.in_default.is) c.keep.ensures.working;
-      infos_count = omega (arith, c.in_default.ensures.grown.0, before.infos_count);
-      choices_count = omega (arith, c.in_default.ensures.grown.1, before.choices_count);
-      infos_room = omega (arith, c.keep.ensures.room.0, before.infos_room);
-      choices_room = omega (arith, c.keep.ensures.room.1, before.choices_room);
-      block = omega (arith, before.block);
-    }
-
-pub returns-clause-cleaned : goal.returns-clause-cleaned
-returns-clause-cleaned g c =
-    let tells = g.R.Source.tells in let left = g.R.Source.left in let faults = g.R.Source.faults in
-    let start = g.S.Stepping.holder c.args.asking.steps in
-    let h = g.S.Stepping.holder c.sources.asking.steps in
-    let w = c.sources.working in
-    end_ends tells left faults c.args.sources.now c.sources.sources c.sources.at start h w.cleaned.infos.items w.cleaned.choices.items w.cleaned.metrics w.aggregate c.sources.invariant.loop (g.S.Stepping.holder c.end-cleaned.new.steps) (λ (t : Cleaned). t.infos.items) (λ (t : Cleaned). t.choices.items) (λ (t : Cleaned). t.metrics) c.end-cleaned.result w.cleaned (omega arith) refl refl refl c.end-cleaned.ensures.closed
-
-pub returns-clause-read : goal.returns-clause-read
-returns-clause-read g c =
-    let tells = g.R.Source.tells in let left = g.R.Source.left in let faults = g.R.Source.faults in
-    let start = g.S.Stepping.holder c.args.asking.steps in
-    let h = g.S.Stepping.holder c.sources.asking.steps in
-    let w = c.sources.working in
-    end_reads tells left faults c.args.sources.now c.sources.sources c.sources.at start h w.cleaned.infos.items w.cleaned.choices.items w.cleaned.metrics w.aggregate c.sources.invariant.loop (g.S.Stepping.holder c.end-cleaned.new.steps) c.end-cleaned.result (omega arith)
-
-pub returns-clause-bound : goal.returns-clause-bound
-returns-clause-bound g c =
-    let tells = g.R.Source.tells in let left = g.R.Source.left in let faults = g.R.Source.faults in
-    let start = g.S.Stepping.holder c.args.asking.steps in
-    let h = g.S.Stepping.holder c.sources.asking.steps in
-    let w = c.sources.working in
-    end_short tells left faults c.args.sources.now c.sources.sources c.sources.at start h w.cleaned.infos.items w.cleaned.choices.items w.cleaned.metrics w.aggregate c.sources.invariant.loop (g.S.Stepping.holder c.end-cleaned.new.steps) c.end-cleaned.result c.end-cleaned.ensures.few c.end-cleaned.ensures.refused
-
-pub returns-clause-sources_tell : goal.returns-clause-sources_tell
-returns-clause-sources_tell g c =
-    let tells = g.R.Source.tells in let left = g.R.Source.left in let faults = g.R.Source.faults in
-    let start = g.S.Stepping.holder c.args.asking.steps in
-    let h = g.S.Stepping.holder c.sources.asking.steps in
-    let w = c.sources.working in
-    tell_end tells left faults c.args.sources.now c.sources.sources c.sources.at start h w.cleaned.infos.items w.cleaned.choices.items w.cleaned.metrics w.aggregate c.sources.invariant.loop
-
-pub returns-clause-sources_taken : goal.returns-clause-sources_taken
-returns-clause-sources_taken g c =
-    let tells = g.R.Source.tells in let left = g.R.Source.left in let faults = g.R.Source.faults in
-    let start = g.S.Stepping.holder c.args.asking.steps in
-    let h = g.S.Stepping.holder c.sources.asking.steps in
-    let w = c.sources.working in
-    taken_end tells left faults c.args.sources.now c.sources.sources c.sources.at start h w.cleaned.infos.items w.cleaned.choices.items w.cleaned.metrics w.aggregate c.sources.invariant.loop
-
-pub returns-clause-sources_later : goal.returns-clause-sources_later
-returns-clause-sources_later g c =
-    let tells = g.R.Source.tells in let left = g.R.Source.left in let faults = g.R.Source.faults in
-    let start = g.S.Stepping.holder c.args.asking.steps in
-    let h = g.S.Stepping.holder c.sources.asking.steps in
-    let w = c.sources.working in
-    later_end tells left faults c.args.sources.now c.sources.sources c.sources.at start h w.cleaned.infos.items w.cleaned.choices.items w.cleaned.metrics w.aggregate c.sources.invariant.loop
-
-pub returns-clause-refused : goal.returns-clause-refused
-returns-clause-refused g c =
-    let tells = g.R.Source.tells in let left = g.R.Source.left in let faults = g.R.Source.faults in
-    let start = g.S.Stepping.holder c.args.asking.steps in
-    let h = g.S.Stepping.holder c.sources.asking.steps in
-    let w = c.sources.working in
-    end_reason tells left faults c.args.sources.now c.sources.sources c.sources.at start h w.cleaned.infos.items w.cleaned.choices.items w.cleaned.metrics w.aggregate c.sources.invariant.loop (g.S.Stepping.holder c.end-cleaned.new.steps) c.end-cleaned.result c.end-cleaned.ensures.few c.end-cleaned.ensures.refused
+    let h = g.S.Stepping.holder c.clean_each-asking.result.0.steps in
+    let w = c.in-Ok.working in
+    let given =
+    IfOk-at_ok (λ (x : Working). HasCleaned c.args.policy.now tells left faults c.args.sources.now c.clean_each-asking.new.sources start h x.cleaned.infos.items x.cleaned.choices.items x.cleaned.metrics x.aggregate) c.in-Ok.is
+    c.clean_each-asking.ensures.cleaned in
+    let l = loop_of tells left faults c.args.policy.now c.args.sources.now c.clean_each-asking.new.sources start h w.cleaned.infos.items w.cleaned.choices.items w.cleaned.metrics w.aggregate given in
+    let last = g.S.Stepping.holder c.end-cleaned.new.steps in
+    end_reason tells left faults c.args.policy.now c.args.sources.now c.clean_each-asking.new.sources (length c.args.sources.now) start h w.cleaned.infos.items w.cleaned.choices.items w.cleaned.metrics w.aggregate l last c.end-cleaned.result c.end-cleaned.ensures.few c.end-cleaned.ensures.refused

@@ -6,7 +6,7 @@ use Rattle.xet_stepping.specs.theorems.Following.{extends_asking}
 use Rattle.xet_xorb_chunk.specs.Chunks.{chunk_leaf}
 use Rattle.xet_stepping.specs.theorems.Following.{asking_nothing}
 use Rattle.xet_xorb_chunk.specs.declared.chunk.Chunk.{Chunk}
-use Rattle.xet_clean.specs.internal.Cleaner.{StopsInBatch}
+use Rattle.xet_clean.specs.Cleaner.{StopsInBatch}
 use Rattle.xet_clean.proofs.Batches.{batch_error, batch_of, some_chunks, stops_in_batch}
 use Rattle.xet_clean.proofs.cleaner.place.Goals as goal
 

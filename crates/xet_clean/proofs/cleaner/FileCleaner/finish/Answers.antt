@@ -4,13 +4,13 @@ use Rattle.xet_hash.specs.declared.error.StoreError.{StoreError}
 use Rattle.xet_hash.specs.declared.error.StoreError.TheVariants.{OutOfMemory}
 use Rattle.xet_stepping.specs.Asking.{IsErrorSince}
 use Rattle.xet_stepping.specs.Holders.{FollowsAsking}
-use Rattle.xet_clean.specs.internal.Planning.{IsFew, IsFinished}
+use Rattle.xet_clean.specs.Planning.{IsFew, IsFinished}
 use Rattle.xet_clean.proofs.Cleaning.{cleaning_bytes, on_err}
 use Rattle.xet_clean.proofs.Finishing.{planned_few}
 use Rattle.xet_clean.proofs.cleaner.FileCleaner.finish.Goals as goal
 
 pub place_last-requires : goal.place_last-requires
-place_last-requires g c = record { cleaning = (c.requires.cleaning.0, cleaning_bytes _ _ _ _ _ _ _ _ _ c.requires.cleaning.1) }
+place_last-requires g c = record { cleaning = (c.requires.cleaning.0, cleaning_bytes _ _ _ _ _ _ _ _ c.requires.cleaning.1) }
 
 pub finished-requires : goal.finished-requires
 finished-requires g c =
@@ -21,8 +21,7 @@ finished-requires g c =
       planned = (
         bytes,
         is.counted,
-        c.from_bytes-sha256.ensures ∙ c.into.ensures ∙ c.finalize.ensures bytes is.hashed,
-        c.in-Ok.ensures.planned bytes (cleaning_bytes _ _ _ _ _ _ _ _ _ is),
+        c.in-Ok.ensures.planned bytes (cleaning_bytes _ _ _ _ _ _ _ _ is),
       );
     }
 
@@ -32,10 +31,9 @@ returns-in-Ok-clause-finished g c = λ bytes is.
     let e = c.place_last.new.deduper in
     let r = c.finished.result in
     let same = c.place_last.ensures.same in
-    let digest = c.from_bytes-sha256.ensures ∙ c.into.ensures ∙ c.finalize.ensures bytes is.hashed in
-    subst (λ a. IfOk r.1 (λ f. IsFinished (g.S.Stepping.holder a.steps) (g.S.Stepping.holder r.0.steps) d.file_id bytes f.info f.metrics f.choices f.rest)) same.0
-    (subst (λ (n : ℕ). IfOk r.1 (λ f. IsFinished (g.S.Stepping.holder e.start.value.steps) (g.S.Stepping.holder r.0.steps) n bytes f.info f.metrics f.choices f.rest)) same.1
-    (c.finished.ensures.finished bytes is.counted digest (c.in-Ok.ensures.planned bytes (cleaning_bytes _ _ _ _ _ _ _ _ _ is))))
+    subst (λ a. IfOk r.1 (λ f. IsFinished (g.S.Stepping.holder a.steps) (g.S.Stepping.holder r.0.steps) d.file_id c.args.sha256 bytes f.info f.metrics f.choices f.rest)) same.0
+    (subst (λ (n : ℕ). IfOk r.1 (λ f. IsFinished (g.S.Stepping.holder e.start.value.steps) (g.S.Stepping.holder r.0.steps) n c.args.sha256 bytes f.info f.metrics f.choices f.rest)) same.1
+    (c.finished.ensures.finished bytes is.counted (c.in-Ok.ensures.planned bytes (cleaning_bytes _ _ _ _ _ _ _ _ is))))
 
 pub returns-in-Ok-clause-few : goal.returns-in-Ok-clause-few
 returns-in-Ok-clause-few g c = λ bytes is.
@@ -44,7 +42,7 @@ returns-in-Ok-clause-few g c = λ bytes is.
     on_err c.finished.result.1
     (subst (λ a. IsFew (g.S.Stepping.holder d.start.value.steps) (g.S.Stepping.holder a.steps) bytes) (sym c.finished.ensures.same)
     (subst (λ a. IsFew (g.S.Stepping.holder a.steps) (g.S.Stepping.holder e.interface.steps) bytes) c.place_last.ensures.same.0
-    (planned_few _ _ _ _ (c.in-Ok.ensures.planned bytes (cleaning_bytes _ _ _ _ _ _ _ _ _ is)))))
+    (planned_few _ _ _ _ (c.in-Ok.ensures.planned bytes (cleaning_bytes _ _ _ _ _ _ _ _ is)))))
 
 pub returns-in-Ok-clause-follows : goal.returns-in-Ok-clause-follows
 returns-in-Ok-clause-follows g c =
@@ -62,7 +60,7 @@ returns-clause-few g c = λ bytes is.
     let e = c.place_last.new.deduper in
     subst (λ a. IsFew (g.S.Stepping.holder d.start.value.steps) (g.S.Stepping.holder a.steps) bytes) (sym c.into_interface.ensures)
     (subst (λ a. IsFew (g.S.Stepping.holder a.steps) (g.S.Stepping.holder e.interface.steps) bytes) c.place_last.ensures.same.0
-    (c.in-Err.ensures.few bytes (cleaning_bytes _ _ _ _ _ _ _ _ _ is)))
+    (c.in-Err.ensures.few bytes (cleaning_bytes _ _ _ _ _ _ _ _ is)))
 
 pub returns-clause-follows : goal.returns-clause-follows
 returns-clause-follows g c =

@@ -1,5 +1,4 @@
 use Rattle.std.proofs.Common.{◌≡◌, ◌∙◌, [], ap, refl, subst, sym}
-use Rattle.sha2.specs.Hashers.{Holds256}
 use Rattle.xet_cut.specs.Limits.{AreInRange}
 use Rattle.xet_cut.specs.Streams.{Splitting}
 use Rattle.xet_cut.specs.declared.limits.LimitSettings.{LimitSettings}
@@ -7,7 +6,7 @@ use Rattle.xet_dedup.specs.Deduping.{IsDeduped}
 use Rattle.xet_file_plan.specs.Moves.{empty_plan}
 use Rattle.xet_stepping.specs.Asking.{Stands}
 use Rattle.xet_stepping.specs.Holders.{calls_of, core_at, lengths_in, xorb_limits}
-use Rattle.xet_clean.specs.internal.Cleaner.{IsCleaning}
+use Rattle.xet_clean.specs.Cleaner.{IsCleaning}
 use Rattle.xet_clean.proofs.Beginning.{cleaning_begins}
 use Rattle.xet_clean.proofs.cleaner.FileCleaner.new.Goals as goal
 
@@ -21,9 +20,9 @@ returns-in-Ok-new-clause-new g c =
     let same = c.in-Ok-new.ensures.same in
     let now = g.S.Stepping.holder d.interface.steps in
     let limits : c.limits.result.now ≡ now.limits = c.limits.ensures ∙ sym (ap (λ a. (g.S.Stepping.holder a.steps).limits) same.0) in
-    subst (λ a. IsCleaning (g.S.Stepping.holder a.steps) now d.whole d.plan d.global c.in-Ok.chunker (Holds256 c.new-in-Ok-new.result) 0 []) (same.0 ∙ sym same.1)
-    (cleaning_begins now d.whole d.plan d.global c.in-Ok.chunker (Holds256 c.new-in-Ok-new.result) 0 c.in-Ok-new.ensures.whole.0
+    subst (λ a. IsCleaning (g.S.Stepping.holder a.steps) now d.whole d.plan d.global c.in-Ok.chunker 0 []) (same.0 ∙ sym same.1)
+    (cleaning_begins now d.whole d.plan d.global c.in-Ok.chunker 0 c.in-Ok-new.ensures.whole.0
     (c.in-Ok-new.ensures.empty ∙ ap empty_plan limits) same.3
     (c.in-Ok.ensures.new ∙ ap with_nothing limits)
-    refl c.new-in-Ok-new.ensures (subst AreInRange limits c.recall_invariant.ensures)
+    refl (subst AreInRange limits c.recall_invariant.ensures)
     (subst (λ a. IsDeduped (lengths_in (core_at now)) (Stands now) (calls_of (g.S.Stepping.holder a.steps)) (calls_of now) (xorb_limits now.limits) d.plan) (same.1 ∙ sym same.0) c.in-Ok-new.ensures.whole.1))

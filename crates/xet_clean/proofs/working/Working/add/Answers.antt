@@ -6,20 +6,20 @@ use Rattle.xet_dedup.specs.Deduping.{metrics_of_both}
 use Rattle.xet_store.specs.declared.info.XetFileInfo.{XetFileInfo}
 use Rattle.xet_stepping.specs.Holders.{Follows, Holder}
 use Rattle.xet_stepping.specs.theorems.Following.{follows_nothing}
-use Rattle.xet_clean.specs.internal.Closing.{IsAtMost}
+use Rattle.xet_clean.specs.Closing.{IsAtMost}
 use Rattle.xet_clean.specs.internal.Sums.{HasRoom}
-use Rattle.xet_clean.specs.internal.Working.{IsWorking, Planned}
+use Rattle.xet_clean.specs.Working.{IsWorking, Planned}
 use Rattle.xet_clean.proofs.Added.{added_joined, added_nothing, added_rest, added_room, size_is}
 use Rattle.xet_clean.proofs.Counting.{at_most_more, at_most_nothing}
 use Rattle.xet_clean.proofs.working.Working.add.Goals as goal
 use Rattle.xet_clean.proofs.working.Working.add.Goals.{then-info-gt0+in_ok-join, else-info-gt0}
 
 pub join-requires-clause-rest : goal.join-requires-clause-rest
-join-requires-clause-rest g c = added_rest _ _ _ _ _ _ _ _ _ _ _ _ _ _ c.requires.working.5
+join-requires-clause-rest g c = added_rest _ _ _ _ _ _ _ _ _ _ _ _ _ _ _ c.requires.working.6
 
 pub add_metrics-requires : goal.add_metrics-requires
 add_metrics-requires g c =
-    let room : HasRoom c.args.self.now.cleaned.metrics c.args.file.metrics = added_room _ _ _ _ _ _ _ _ _ _ _ _ _ _ c.requires.working.5 in
+    let room : HasRoom c.args.self.now.cleaned.metrics c.args.file.metrics = added_room _ _ _ _ _ _ _ _ _ _ _ _ _ _ _ c.requires.working.6 in
     let same : c.args.self.now.cleaned.metrics ≡ c.if-info-gt0.self.cleaned.metrics =
     elim c.if-info-gt0.branch [
       | then-info-gt0+in_ok-join w ↦ sym ((λ i. (w.self-is i).cleaned.metrics) ∙ (λ i. (w.join.ensures.same i).metrics))
@@ -28,23 +28,23 @@ add_metrics-requires g c =
     subst (λ (m : DeduplicationMetrics). HasRoom m c.args.file.metrics) same room
 
 pub returns-clause-working : goal.returns-clause-working
-returns-clause-working g c = λ start first files bytes id added.
-    let all : List Planned = files ++ (record { bytes = bytes; plan = added.finished.plan }) ∷ [] in
+returns-clause-working g c = λ start first files policy bytes id added.
+    let all : List Planned = files ++ (record { bytes = bytes; policy = policy; plan = added.finished.plan }) ∷ [] in
     let infos : List XetFileInfo = c.args.self.now.cleaned.infos.items ++ c.args.file.info ∷ [] in
     let choices : List (List Choice) = c.args.self.now.cleaned.choices.items ++ c.args.file.choices ∷ [] in
     let metrics : DeduplicationMetrics = metrics_of_both c.args.self.now.cleaned.metrics c.args.file.metrics in
-    let size : c.args.file.info.file_size ≡ length bytes = size_is _ _ _ _ _ _ _ _ _ _ _ _ _ _ added in
+    let size : c.args.file.info.file_size ≡ length bytes = size_is _ _ _ _ _ _ _ _ _ _ _ _ _ _ _ added in
     let core : IsWorking start (g.S.Stepping.holder c.if-info-gt0.steps) all infos choices metrics c.if-info-gt0.self.aggregate =
     elim c.if-info-gt0.branch [
       | then-info-gt0+in_ok-join w ↦
           let some : 0 < length bytes = omega (arith, w.if-info-gt0.true, size) in
           let here : IsWorking start (g.S.Stepping.holder w.join.new.steps) all infos choices metrics w.join.new.self.aggregate =
-          added_joined _ _ _ _ _ _ _ _ _ _ _ _ _ _ added some (g.S.Stepping.holder w.join.new.steps) w.join.new.self.aggregate w.in_ok-join.ensures.joined in
+          added_joined _ _ _ _ _ _ _ _ _ _ _ _ _ _ _ added some (g.S.Stepping.holder w.join.new.steps) w.join.new.self.aggregate w.in_ok-join.ensures.joined in
           subst (λ (h : Holder). IsWorking start h all infos choices metrics c.if-info-gt0.self.aggregate) (sym (λ i. g.S.Stepping.holder (w.steps-is i)))
           (subst (λ (a : Aggregate). IsWorking start (g.S.Stepping.holder w.join.new.steps) all infos choices metrics a) (sym (λ i. (w.self-is i).aggregate)) here)
       | else-info-gt0 w ↦
           let none : length bytes ≡ 0 = omega (arith, w.if-info-gt0.false, size) in
-          let here : IsWorking start (g.S.Stepping.holder c.args.steps.now) all infos choices metrics c.args.self.now.aggregate = added_nothing _ _ _ _ _ _ _ _ _ _ _ _ _ _ added none in
+          let here : IsWorking start (g.S.Stepping.holder c.args.steps.now) all infos choices metrics c.args.self.now.aggregate = added_nothing _ _ _ _ _ _ _ _ _ _ _ _ _ _ _ added none in
           subst (λ (h : Holder). IsWorking start h all infos choices metrics c.if-info-gt0.self.aggregate) (sym (λ i. g.S.Stepping.holder (w.steps-is i)))
           (subst (λ (a : Aggregate). IsWorking start (g.S.Stepping.holder c.args.steps.now) all infos choices metrics a) (sym (λ i. (w.self-is i).aggregate)) here)
     ] in

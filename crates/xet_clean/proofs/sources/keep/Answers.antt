@@ -1,7 +1,7 @@
 use Rattle.std.proofs.Common.{◌+◌, ◌*◌, length, arith}
 use Rattle.xet_stepping.specs.theorems.Following.{follows_nothing}
 use Rattle.xet_clean.proofs.Counting.{at_most_more, at_most_nothing}
-use Rattle.xet_clean.proofs.clean.keep.Goals as goal
+use Rattle.xet_clean.proofs.sources.keep.Goals as goal
 
 pub returns-in-Err-clause-follows : goal.returns-in-Err-clause-follows
 returns-in-Err-clause-follows g c = follows_nothing (g.S.Stepping.holder c.args.steps.now)

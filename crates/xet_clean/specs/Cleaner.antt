@@ -13,15 +13,14 @@ use Rattle.xet_stepping.specs.Asking.{Stands}
 use Rattle.xet_stepping.specs.Holders.{Follows, FollowsAsking, Holder, calls_of, core_at, xorb_limits, lengths_in}
 
 -- These bytes of a file came since its deduplication began. They are split into chunks, which are placed, and into what is
--- buffered; `holds` says which bytes are in its SHA-256. There was at most one query for each chunk, and each registration has
+-- buffered. There was at most one query for each chunk, and each registration has
 -- the chunk that did not fit, which begins the next one, or the open block.
-pub record IsCleaning (start now : Holder) (whole : Bool) (plan : PlanState) (global : ℕ × ℕ) (splitting : Splitting) (holds : List ℕ → Type 0) (count : ℕ) (bytes : List ℕ) : Type 0 where
+pub record IsCleaning (start now : Holder) (whole : Bool) (plan : PlanState) (global : ℕ × ℕ) (splitting : Splitting) (count : ℕ) (bytes : List ℕ) : Type 0 where
   pub is_whole : whole ≡ true
   pub none_global : global ≡ (0, 0)
   pub counted : count ≡ length bytes
   pub range : AreInRange now.limits
   pub short : length bytes ≤ now.limits.max_source_bytes
-  pub hashed : holds bytes
   pub settings : plan.settings ≡ now.limits
   pub same : splitting.settings ≡ now.limits
   pub parts : List (List ℕ)
@@ -38,12 +37,12 @@ pub record IsCleaning (start now : Holder) (whole : Bool) (plan : PlanState) (gl
   pub few : entries_at_most follows.calls + 2 * length plan.block ≤ queries_of follows.calls + 2 * length plan.leaves
 
 -- the same, whatever the bytes
-abbrev pub IsCleaningSome : Holder → Holder → Bool → PlanState → ℕ × ℕ → Splitting → (List ℕ → Type 0) → ℕ → Type 0
-IsCleaningSome start now whole plan global splitting holds count = (bytes : List ℕ) × IsCleaning start now whole plan global splitting holds count bytes
+abbrev pub IsCleaningSome : Holder → Holder → Bool → PlanState → ℕ × ℕ → Splitting → ℕ → Type 0
+IsCleaningSome start now whole plan global splitting count = (bytes : List ℕ) × IsCleaning start now whole plan global splitting count bytes
 
--- the same, whatever its SHA-256 has
+-- the same, where the bytes were counted
 abbrev pub IsCleaningBytes : Holder → Holder → Bool → PlanState → ℕ × ℕ → Splitting → List ℕ → Type 0
-IsCleaningBytes start now whole plan global splitting bytes = IsCleaning start now whole plan global splitting (λ _. Unit {0}) (length bytes) bytes
+IsCleaningBytes start now whole plan global splitting bytes = IsCleaning start now whole plan global splitting (length bytes) bytes
 
 -- A batch of chunks was placed, and no step failed: there was at most one query for each, and each registration has the chunk
 -- that did not fit. The open block had the leaves `before`, which begin the first registration or the open block now, with the

@@ -1,13 +1,14 @@
-use Rattle.std.proofs.Common.{◌∙◌, [], ℕ, List, true, sym, subst}
+use Rattle.std.proofs.Common.{◌∙◌, [], ℕ, List, Option, IfOk, true, sym, subst}
 use Rattle.std.proofs.lemmas.Result.{IfErr-weaker, IfOk-weaker, on_err_weaker}
 use Rattle.xet_stepping.specs.Asking.{IsErrorSince}
 use Rattle.xet_stepping.specs.Holders.{Follows, FollowsAsking}
 use Rattle.xet_stepping.specs.theorems.Following.{asking_nothing, asking_then}
-use Rattle.xet_clean.specs.internal.Planning.{IsFew, IsFinished}
-use Rattle.xet_clean.specs.internal.Sources.{IsSourceError, Takes}
+use Rattle.xet_clean.specs.Planning.{IsFew, IsFinished}
+use Rattle.xet_clean.specs.Policies.{sha256_by}
+use Rattle.xet_clean.specs.Sources.{IsSourceError, Takes}
 use Rattle.xet_clean.proofs.Closing.{error_earlier}
 use Rattle.xet_clean.proofs.Reading.{few_nothing, source_error, takes_nothing, takes_some}
-use Rattle.xet_clean.proofs.clean.clean_source.Goals as goal
+use Rattle.xet_clean.proofs.sources.clean_source.Goals as goal
 
 pub returns-in-Ok-read_into-clause-finished : goal.returns-in-Ok-read_into-clause-finished
 returns-in-Ok-read_into-clause-finished g c =
@@ -20,15 +21,18 @@ returns-in-Ok-read_into-clause-finished g c =
     let read = c.in-Ok-read_into.ensures.cleaning in
     let start = c.read_into.ensures.same.0 ∙ c.in-Ok.ensures.same.1 in
     let id = c.read_into.ensures.same.1 ∙ c.in-Ok.ensures.same.3 in
-    IfOk-weaker r.1 (λ f. IsFinished (g.S.Stepping.holder d.start.value.steps) now d.file_id read.0 f.info f.metrics f.choices f.rest)
-    (λ f. (bytes : List ℕ) × Takes true tells left rest bytes × IsFinished (g.S.Stepping.holder c.args.asking.steps) now c.args.number bytes f.info f.metrics f.choices f.rest)
+    let policy = c.args.policy.now in
+    let given = c.finish.ensures.finished read.0 read.2 in
+    let digest = c.finalize_by.ensures read.0 read.3 in
+    IfOk-weaker r.1 (λ f. IsFinished (g.S.Stepping.holder d.start.value.steps) now d.file_id (sha256_by policy read.0) read.0 f.info f.metrics f.choices f.rest)
+    (λ f. (bytes : List ℕ) × Takes true tells left rest bytes × IsFinished (g.S.Stepping.holder c.args.asking.steps) now c.args.number (sha256_by policy bytes) bytes f.info f.metrics f.choices f.rest)
     (λ f is. (
       read.0,
       read.1,
-      subst (λ a. IsFinished (g.S.Stepping.holder a.steps) now c.args.number read.0 f.info f.metrics f.choices f.rest) start
-          (subst (λ (n : ℕ). IsFinished (g.S.Stepping.holder d.start.value.steps) now n read.0 f.info f.metrics f.choices f.rest) id is),
+      subst (λ a. IsFinished (g.S.Stepping.holder a.steps) now c.args.number (sha256_by policy read.0) read.0 f.info f.metrics f.choices f.rest) start
+          (subst (λ (n : ℕ). IsFinished (g.S.Stepping.holder d.start.value.steps) now n (sha256_by policy read.0) read.0 f.info f.metrics f.choices f.rest) id is),
     ))
-    (c.finish.ensures.finished read.0 read.2)
+    (subst (λ (x : Option (List ℕ)). IfOk r.1 (λ f. IsFinished (g.S.Stepping.holder d.start.value.steps) now d.file_id x read.0 f.info f.metrics f.choices f.rest)) digest given)
 
 pub returns-in-Ok-read_into-clause-few : goal.returns-in-Ok-read_into-clause-few
 returns-in-Ok-read_into-clause-few g c =

@@ -1,7 +1,6 @@
 -- A file whose deduplication has ended.
-use Rattle.std.specs.Prelude.{◌≡◌, ◌≤◌, ◌+◌, ◌*◌, ℕ, List, length, map, Some}
+use Rattle.std.specs.Prelude.{◌≡◌, ◌≤◌, ◌+◌, ◌*◌, ℕ, List, Option, length, map}
 use Rattle.std.specs.List.{AllByRecursion}
-use Rattle.sha2.specs.Sha256.{sha256}
 use Rattle.xet_aggregate.specs.Aggregate.{Aggregate, IsAggregate, single}
 use Rattle.xet_aggregate.specs.declared.metrics.DeduplicationMetrics.{DeduplicationMetrics}
 use Rattle.xet_choices.specs.Calls.{queries_of}
@@ -13,13 +12,13 @@ use Rattle.xet_dedup_queries.specs.Counting.{HasNext, LandsIn}
 use Rattle.xet_file_plan.specs.Kept.{IsBlockWithin}
 use Rattle.xet_file_plan.specs.Moves.{PlanState}
 use Rattle.xet_hash.specs.Merkle.{chunk_hash}
-use Rattle.xet_store.specs.Cleaning.{info_of}
 use Rattle.xet_store.specs.declared.info.XetFileInfo.{XetFileInfo}
 use Rattle.xet_xorb_chunk.specs.Chunks.{chunk_leaf}
 use Rattle.xet_xorb_chunk.specs.declared.chunk.Chunk.{Chunk}
 use Rattle.xet_stepping.specs.Asking.{Stands}
 use Rattle.xet_stepping.specs.Holders.{FollowsAsking, Holder, calls_of, core_at, xorb_limits, lengths_in}
 use Rattle.xet_clean.specs.Files.{leaves_in}
+use Rattle.xet_clean.specs.Policies.{info_with}
 
 -- Chunks that can be a xorb within the limits: each has its digest for its hash.
 pub record IsWithin (s : LimitSettings) (chunks : List Chunk) : Type 0 where
@@ -46,12 +45,13 @@ pub record IsFew (start now : Holder) (bytes : List ℕ) : Type 0 where
   pub follows : FollowsAsking start now
   pub few : length follows.follows.own ≤ 3 * length (leaves_in now.limits bytes)
 
--- What cleaning returns of the file, and what is left of it: its last chunks, and its record, which refers to them.
-pub record IsFinished (start now : Holder) (id : ℕ) (bytes : List ℕ) (info : XetFileInfo) (metrics : DeduplicationMetrics) (choices : List Choice) (rest : Aggregate) : Type 0 where
+-- What cleaning returns of the file with this SHA-256, or without one, and what is left of it: its last chunks, and its record,
+-- which refers to them.
+pub record IsFinished (start now : Holder) (id : ℕ) (sha256 : Option (List ℕ)) (bytes : List ℕ) (info : XetFileInfo) (metrics : DeduplicationMetrics) (choices : List Choice) (rest : Aggregate) : Type 0 where
   pub plan : PlanState
   pub planned : IsPlanned start now bytes plan
-  pub pointer : info ≡ info_of now.limits bytes
+  pub pointer : info ≡ info_with sha256 now.limits bytes
   pub chosen : choices ≡ plan.choices
   pub counts : metrics ≡ metrics_of plan.leaves plan.choices 0 0
-  pub left : rest ≡ single plan.block (file_record plan.leaves plan.segments (Some (sha256 bytes))) (open_indices plan.segments) id
+  pub left : rest ≡ single plan.block (file_record plan.leaves plan.segments sha256) (open_indices plan.segments) id
   pub aggregate : IsAggregate rest

@@ -1,5 +1,5 @@
 -- Reading a source to its end.
-use Rattle.std.specs.Prelude.{◌≡◌, ◌<◌, ◌≤◌, ℕ, Bool, true, false, List, [], ◌++◌, length, ◌+◌, ◌*◌, suc, drop, take}
+use Rattle.std.specs.Prelude.{◌≡◌, ◌<◌, ◌≤◌, ℕ, Bool, true, false, List, [], ◌∷◌, ◌++◌, length, ◌+◌, ◌*◌, suc, drop, take}
 use Rattle.std.specs.List.{AllByRecursion, sum_by}
 use Rattle.xet_hash.specs.declared.error.Place.TheVariants as place
 use Rattle.xet_hash.specs.declared.error.Reason.TheVariants.{OtherFileHash}
@@ -13,14 +13,47 @@ use Rattle.xet_store.specs.Cleaning.{EachTold, FailedAt, IsLongAt, RoseAt}
 use Rattle.xet_stepping.specs.Asking.{IsErrorSince}
 use Rattle.xet_stepping.specs.Holders.{Follows, Holder}
 use Rattle.xet_clean.specs.Cleaning.{AreRecords, EachTaken}
-use Rattle.xet_clean.specs.internal.Planning.{IsWithin}
-use Rattle.xet_clean.specs.internal.Closing.{IsUnclosed, recorded_in}
-use Rattle.xet_clean.specs.internal.Working.{Planned, Waits, WasPlanned}
+use Rattle.xet_clean.specs.declared.policy.Sha256Policy.{Sha256Policy}
+use Rattle.xet_clean.specs.Planning.{IsWithin}
+use Rattle.xet_clean.specs.Closing.{IsUnclosed, recorded_in}
+use Rattle.xet_clean.specs.Working.{IsWorking, Planned, Waits, WasPlanned}
+use Rattle.xet_aggregate.specs.declared.metrics.DeduplicationMetrics.{DeduplicationMetrics}
+use Rattle.xet_choices.specs.declared.choice.Choice.{Choice}
+use Rattle.xet_store.specs.declared.info.XetFileInfo.{XetFileInfo}
 
 -- These bytes were taken from a source; all that were left if `all`.
 pub record Takes (all : Bool) (tells : Bool) (left rest bytes : List ℕ) : Type 0 where
   pub taken : tells ≡ true → left ≡ bytes ++ rest
   pub ended : all ≡ true → tells ≡ true → rest ≡ []
+
+-- Of a source these bytes were taken. It is observable if it was, and its count of failures has not fallen.
+pub record IsTakenFrom {S : Type 0} (tells : S → Bool) (left : S → List ℕ) (faults : S → ℕ) (s t : S) (bytes : List ℕ) : Type 0 where
+  pub tell : tells t ≡ tells s
+  pub later : faults s ≤ faults t
+  pub taken : tells s ≡ true → left s ≡ bytes ++ left t
+
+-- They are all that it had left, and no more than so many.
+pub record IsDone {S : Type 0} (tells : S → Bool) (left : S → List ℕ) (faults : S → ℕ) (most : ℕ) (s t : S) (bytes : List ℕ) : Type 0 where
+  pub from : IsTakenFrom tells left faults s t bytes
+  pub ended : tells s ≡ true → left t ≡ []
+  pub short : tells s ≡ true → length (left s) ≤ most
+
+-- each of these was read to its end, and its bytes are those of the file
+abbrev pub AreDone : {S : Type 0} → (S → Bool) → (S → List ℕ) → (S → ℕ) → ℕ → List S → List S → List Planned → Type 0
+AreDone tells left faults most [] [] [] = Unit {0}
+AreDone tells left faults most [] [] (f ∷ fs) = ⊥
+AreDone tells left faults most [] (t ∷ ts) fs = ⊥
+AreDone tells left faults most (s ∷ ss) [] fs = ⊥
+AreDone tells left faults most (s ∷ ss) (t ∷ ts) [] = ⊥
+AreDone tells left faults most (s ∷ ss) (t ∷ ts) (f ∷ fs) = IsDone tells left faults most s t f.bytes × AreDone tells left faults most ss ts fs
+
+-- Each source was read to its end, and its file was cleaned since the start, with this policy. What was made of the files is
+-- returned; their last chunks are in the aggregate.
+pub record HasCleaned {S : Type 0} (policy : Sha256Policy) (tells : S → Bool) (left : S → List ℕ) (faults : S → ℕ) (sources now : List S) (start h : Holder) (infos : List XetFileInfo) (choices : List (List Choice)) (metrics : DeduplicationMetrics) (a : Aggregate) : Type 0 where
+  pub files : List Planned
+  pub are : AreDone tells left faults start.limits.max_source_bytes sources now files
+  pub policies : AllByRecursion (λ f. f.policy ≡ policy) files
+  pub working : IsWorking start h files infos choices metrics a
 
 -- Why the file of source `number` was not cleaned: it failed or has more bytes than the limits allow, and then no step failed;
 -- or a step failed.
@@ -41,7 +74,7 @@ IsFewFor files old new =
 
 -- After an error: the sources before source `done` were read to their ends, and those after it were not read. There are at most
 -- three entries for each chunk of what was taken and two for each source. The files recorded are the first ones, in order.
-pub record IsCutShort {S : Type 0} (tells : S → Bool) (left : S → List ℕ) (sources now : List S) (old new : Holder) (e : StoreError) : Type 0 where
+pub record IsCutShort {S : Type 0} (policy : Sha256Policy) (tells : S → Bool) (left : S → List ℕ) (sources now : List S) (old new : Holder) (e : StoreError) : Type 0 where
   pub files : List (List ℕ)
   pub taken : EachTaken tells left sources now files
   pub done : ℕ
@@ -52,7 +85,7 @@ pub record IsCutShort {S : Type 0} (tells : S → Bool) (left : S → List ℕ) 
   pub few : IsFewFor files old new
   pub count : ℕ
   pub recorded : count ≤ done
-  pub records : AreRecords old.limits (take count files) (recorded_in few.0.own)
+  pub records : AreRecords policy old.limits (take count files) (recorded_in few.0.own)
 
 -- A record was refused, or a step failed, when an aggregate was closed. Each record that waited for its xorb is that of a file
 -- of one of the first sources, whose segments have the hashes of its chunks.

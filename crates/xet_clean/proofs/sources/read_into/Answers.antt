@@ -3,16 +3,17 @@ use Rattle.std.proofs.lemmas.List.{length-take-le}
 use Rattle.xet_base.specs.theorems.Exits.{exit_with}
 use Rattle.xet_cut.specs.declared.limits.LimitSettings.{LimitSettings}
 use Rattle.xet_stepping.specs.theorems.Following.{asking_nothing, asking_then}
-use Rattle.xet_clean.specs.internal.Errors.{IsCleanerError}
-use Rattle.xet_clean.specs.internal.Sources.{IsSourceError}
+use Rattle.xet_clean.specs.Errors.{IsCleanerError}
+use Rattle.xet_clean.specs.Sources.{IsSourceError}
 use Rattle.xet_clean.proofs.FileCalls.{same_limits}
 use Rattle.xet_clean.proofs.Cleaning.{few_with, on_err}
+use Rattle.xet_clean.proofs.Policies.{has_bytes_by}
 use Rattle.xet_clean.proofs.Reading.{cleaner_error, read_error, rose_later, takes_all, takes_lost, takes_more, takes_nothing}
-use Rattle.xet_clean.proofs.clean.read_into.Goals as goal
+use Rattle.xet_clean.proofs.sources.read_into.Goals as goal
 
 pub loop-count-init : goal.loop-count-init
 loop-count-init g c = record {
-  read = ([], takes_nothing (g.R.Source.tells c.args.source.now) (g.R.Source.left c.args.source.now), c.requires.cleaning);
+  read = ([], takes_nothing (g.R.Source.tells c.args.source.now) (g.R.Source.left c.args.source.now), c.requires.cleaning, has_bytes_by c.args.policy.now c.args.generator.now [] c.requires.nothing);
   start = refl;
   id = refl;
   number = c.requires.number;
@@ -27,7 +28,7 @@ returns-in_err-count-clause-few g c =
     let i = c.loop-count.invariant in
     let lost = takes_lost (g.R.Source.tells c.args.source.now) (g.R.Source.left c.args.source.now) (g.R.Source.left c.loop-count.source) (g.R.Source.left c.read_block.new.source) i.read.0 i.read.1
     (λ t. c.in_err-count.ensures.filled (i.tells ∙ t)) in
-    on_err c.from_residual.result (i.read.0 ++ lost.0, lost.1, few_with _ _ _ _ _ _ _ _ _ i.read.2 lost.0)
+    on_err c.from_residual.result (i.read.0 ++ lost.0, lost.1, few_with _ _ _ _ _ _ _ _ i.read.2 lost.0)
 
 pub returns-in_err-count-clause-frame : goal.returns-in_err-count-clause-frame
 returns-in_err-count-clause-frame g c =
@@ -79,7 +80,7 @@ returns-in_err-add-clause-refused g c =
     let after = g.R.Source.faults c.read_block.new.source in
     let old = g.S.Stepping.holder c.args.cleaner.now.deduper.interface.steps in
     let mid = g.S.Stepping.holder c.loop-count.cleaner.deduper.interface.steps in
-    let now = g.S.Stepping.holder c.add.new.self.deduper.interface.steps in
+    let now = g.S.Stepping.holder c.add.new.cleaner.deduper.interface.steps in
     let takes = takes_more tells left (g.R.Source.left c.loop-count.source) rest i.read.0 block count i.read.1 (λ t. c.in_ok-count.ensures.filled (i.tells ∙ t)) in
     let passed = i.read.2.passed ∙ ap (λ a. (g.S.Stepping.holder a.steps).stopped) i.start ∙ sym c.requires.cleaning.passed in
     exit_with (IsSourceError c.args.number tells left before after old now) _ _ c.from_residual-in_err-add.ensures.1
@@ -95,6 +96,7 @@ returns-then-count-block-clause-cleaning g c =
       takes_all (g.R.Source.tells c.args.source.now) (g.R.Source.left c.args.source.now) (g.R.Source.left c.loop-count.source) (g.R.Source.left c.read_block.new.source) i.read.0 block count i.read.1
           (λ t. c.in_ok-count.ensures.filled (i.tells ∙ t)) c.if-count-block.true,
       c.in_ok-add.ensures.cleaning i.read.0 i.read.2,
+      c.in_ok-add.ensures.hashed i.read.0 i.read.3,
     )
 
 pub returns-then-count-block-clause-same : goal.returns-then-count-block-clause-same
@@ -119,6 +121,7 @@ loop-count-preserved g c =
         takes_more (g.R.Source.tells c.args.source.now) (g.R.Source.left c.args.source.now) (g.R.Source.left c.loop-count.source) (g.R.Source.left c.read_block.new.source) i.read.0 block count i.read.1
             (λ t. c.in_ok-count.ensures.filled (i.tells ∙ t)),
         c.in_ok-add.ensures.cleaning i.read.0 i.read.2,
+        c.in_ok-add.ensures.hashed i.read.0 i.read.3,
       );
       start = c.add.ensures.same.0 ∙ i.start;
       id = c.add.ensures.same.2 ∙ i.id;
@@ -136,7 +139,7 @@ loop-count-smaller g c =
     let count = c.in_ok-count.count in
     let after = c.in_ok-add.ensures.cleaning i.read.0 i.read.2 in
     let first = g.S.Stepping.holder c.args.cleaner.now.deduper.interface.steps in
-    let now = g.S.Stepping.holder c.add.new.self.deduper.interface.steps in
+    let now = g.S.Stepping.holder c.add.new.cleaner.deduper.interface.steps in
     omega (
       arith,
       after.counted,

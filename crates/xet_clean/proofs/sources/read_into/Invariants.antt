@@ -1,15 +1,15 @@
 use Rattle.std.proofs.Common.{◌≡◌, ℕ, ◌-◌, ◌<◌, ◌≤◌, List, length, false}
-use Rattle.sha2.specs.Hashers.{Holds256}
+use Rattle.xet_clean.specs.Policies.{HasBytesBy}
 use Rattle.xet_stepping.specs.Holders.{FollowsAsking}
-use Rattle.xet_clean.specs.internal.Cleaner.{IsCleaning}
-use Rattle.xet_clean.specs.internal.Sources.{Takes}
-use Rattle.xet_clean.proofs.clean.read_into.Given as goal
+use Rattle.xet_clean.specs.Cleaner.{IsCleaning}
+use Rattle.xet_clean.specs.Sources.{Takes}
+use Rattle.xet_clean.proofs.sources.read_into.Given as goal
 
 -- the bytes that were taken so far are those of the file
 abbrev pub invariant-loop-count : goal.invariant-loop-count
 invariant-loop-count g l = record {
   read : (bytes : List ℕ) × Takes false (g.R.Source.tells l.fn.source) (g.R.Source.left l.fn.source) (g.R.Source.left l.source) bytes
-      × IsCleaning (g.S.Stepping.holder l.cleaner.deduper.start.value.steps) (g.S.Stepping.holder l.cleaner.deduper.interface.steps) l.cleaner.deduper.whole l.cleaner.deduper.plan l.cleaner.deduper.global l.cleaner.chunker (Holds256 l.cleaner.hasher) l.cleaner.byte_count bytes;
+      × IsCleaning (g.S.Stepping.holder l.cleaner.deduper.start.value.steps) (g.S.Stepping.holder l.cleaner.deduper.interface.steps) l.cleaner.deduper.whole l.cleaner.deduper.plan l.cleaner.deduper.global l.cleaner.chunker l.cleaner.byte_count bytes × HasBytesBy l.fn.policy l.generator bytes;
   start : l.cleaner.deduper.start.value ≡ l.fn.cleaner.deduper.start.value;
   id : l.cleaner.deduper.file_id ≡ l.fn.cleaner.deduper.file_id;
   number : l.cleaner.number ≡ l.fn.number;

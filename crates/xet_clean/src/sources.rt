@@ -1,0 +1,175 @@
+//! The sources are read in turn, and each file is kept.
+
+ghost use Rattle.std.specs.Prelude.{◌≡◌, ◌≤◌, ◌<◌, ◌+◌, ◌*◌, ◌^◌, ◌++◌, ◌∷◌, [], ℕ, Err, List, IfErr, IfOk, IsErr, IsOkUnless, OnErr, OnOk, length, map, vec_capacity, vec_len, true, false};
+ghost use Rattle.xet_aggregate.specs.Aggregate.{empty};
+ghost use Rattle.xet_aggregate.specs.Metrics.{zeros};
+ghost use Rattle.xet_clean.specs.Cleaner.{IsCleaning};
+ghost use Rattle.xet_clean.specs.Closing.{IsAtMost, IsUnclosed};
+ghost use Rattle.xet_clean.specs.Planning.{IsFew, IsFinished};
+ghost use Rattle.xet_clean.specs.Policies.{HasBytes, HasBytesBy, sha256_by};
+ghost use Rattle.xet_clean.specs.Sources.{HasCleaned, IsCutShort, IsLoopError, IsSourceError, Takes};
+ghost use Rattle.xet_clean.specs.Working.{IsAdded, IsWorking, Planned};
+ghost use Rattle.xet_file_plan.specs.Moves.{PlanState};
+ghost use Rattle.xet_io.specs.Frame.{Called, Stays};
+ghost use Rattle.xet_io.specs.Whole.{Fills};
+ghost use Rattle.xet_stepping.specs.Holders.{Follows, FollowsAsking, Holder};
+ghost use Rattle.xet_store.specs.Cleaning.{AreTaken, Later};
+ghost use Rattle.xet_xorb_chunk.specs.Chunks.{chunk_leaf};
+
+use crate::add_block::AddBlock;
+use crate::cleaner::{FileCleaner, FinishedFile};
+use crate::policy::{Sha256Generator, Sha256Policy};
+use crate::working::Working;
+use std::alloc::Global;
+use xet_hash::{Place, StoreError};
+use xet_io::{Source, read_full};
+use xet_stepping::{Asking, Stepping};
+
+/// Reads and stores the sources in turn, at most 2^20 of them, which errors name by their numbers, from 0 on. Nothing was made of
+/// any source so far. The last chunks of the files are in no xorb yet: they are in the aggregate of the result. `block` is a
+/// buffer, by which the sources are read, and `adding` says how a block is added. After an error the steps before it stand.
+pub fn clean_each<S: Stepping, R: Source, T: AddBlock<S>>(
+    alloc: Global,
+    asking: Asking<S>,
+    working: Working,
+    sources: &mut [R],
+    block: &mut [u8],
+    policy: &Sha256Policy,
+    adding: &T,
+) -> (Asking<S>, Result<Working, StoreError>)
+    requires count { length sources.old ≤ 2 ^ 20 }
+    requires going { (S.holder asking.steps).stopped ≡ false }
+    requires block { 0 < length block.old }
+    requires nothing { (working.cleaned.infos.items ≡ []) × (working.cleaned.choices.items ≡ []) × (working.cleaned.metrics ≡ zeros) × (working.aggregate ≡ empty) }
+    requires room { (length sources.old ≤ vec_capacity working.cleaned.infos) × (length sources.old ≤ vec_capacity working.cleaned.choices) }
+    ensures cleaned { IfOk result.1 (λ w. HasCleaned policy.now R.tells R.left R.faults sources.old sources.new (S.holder asking.steps) (S.holder result.0.steps) w.cleaned.infos.items w.cleaned.choices.items w.cleaned.metrics w.aggregate) }
+    ensures follows { Follows (S.holder asking.steps) (S.holder result.0.steps) }
+    ensures bound { IfErr result.1 (IsCutShort policy.now R.tells R.left sources.old sources.new (S.holder asking.steps) (S.holder result.0.steps)) }
+    ensures sources_tell { map R.tells sources.new ≡ map R.tells sources.old }
+    ensures sources_taken { AreTaken R.tells R.left sources.old sources.new }
+    ensures sources_later { Later R.faults sources.old sources.new }
+    ensures refused { IfErr result.1 (IsLoopError R.tells R.left R.faults sources.old sources.new (S.holder asking.steps) (S.holder result.0.steps)) }
+{
+    let mut asking = asking;
+    let mut working = working;
+    asking.steps.limits().recall_invariant();
+    'sources: for at in 0..sources.len() {
+        let (back, file) = clean_source(
+            alloc,
+            asking,
+            &mut sources[at],
+            at as u32,
+            block,
+            policy,
+            adding,
+        );
+        asking = back;
+        if let Err(error) = keep(&mut working, &mut asking.steps, file) {
+            return (asking, Err(error));
+        }
+    }
+    (asking, Ok(working))
+}
+
+/// Keeps a file that was cleaned, unless there was an error.
+pub(crate) fn keep<S: Stepping>(
+    working: &mut Working,
+    steps: &mut S,
+    file: Result<FinishedFile, StoreError>,
+) -> Result<(), StoreError>
+    requires working { IfOk file (λ f. (start first : Holder) × (files : List Planned) × (policy : Sha256Policy) × (bytes : List ℕ) × (id : ℕ) × IsAdded start first (S.holder steps.old) files policy bytes id working.old.cleaned.infos.items working.old.cleaned.choices.items working.old.cleaned.metrics working.old.aggregate f.info f.metrics f.choices f.rest) }
+    requires room { (vec_len working.old.cleaned.infos + 1 ≤ vec_capacity working.old.cleaned.infos) × (vec_len working.old.cleaned.choices + 1 ≤ vec_capacity working.old.cleaned.choices) }
+    ensures working { IfOk file (λ f. (start first : Holder) (files : List Planned) (policy : Sha256Policy) (bytes : List ℕ) (id : ℕ) → IsAdded start first (S.holder steps.old) files policy bytes id working.old.cleaned.infos.items working.old.cleaned.choices.items working.old.cleaned.metrics working.old.aggregate f.info f.metrics f.choices f.rest
+        → OnOk result ((plan : PlanState) × IsWorking start (S.holder steps.new) (files ++ (record { bytes = bytes; policy = policy; plan = plan }) ∷ []) working.new.cleaned.infos.items working.new.cleaned.choices.items working.new.cleaned.metrics working.new.aggregate)) }
+    ensures room { (vec_capacity working.new.cleaned.infos ≡ vec_capacity working.old.cleaned.infos) × (vec_capacity working.new.cleaned.choices ≡ vec_capacity working.old.cleaned.choices) }
+    ensures grown { OnOk result ((vec_len working.new.cleaned.infos ≡ vec_len working.old.cleaned.infos + 1) × (vec_len working.new.cleaned.choices ≡ vec_len working.old.cleaned.choices + 1)) }
+    ensures follows { Follows (S.holder steps.old) (S.holder steps.new) }
+    ensures few { IsAtMost (2 * length working.old.aggregate.chunks + 2 * length working.old.aggregate.files) (S.holder steps.old) (S.holder steps.new) }
+    ensures refused { IfErr result (λ e. IfOk file (λ f. IsUnclosed working.old.aggregate (map chunk_leaf f.rest.chunks) (S.holder steps.old) (S.holder steps.new) e)) }
+    ensures kept { IfErr file (λ e. (result ≡ Err e) × (S.holder steps.new ≡ S.holder steps.old)) }
+{
+    match file {
+        Ok(file) => working.add(steps, file),
+        Err(error) => Err(error),
+    }
+}
+
+/// Reads a source to its end and cleans its file. Errors name it as source `number`.
+pub(crate) fn clean_source<S: Stepping, R: Source, T: AddBlock<S>>(
+    alloc: Global,
+    asking: Asking<S>,
+    source: &mut R,
+    number: u32,
+    block: &mut [u8],
+    policy: &Sha256Policy,
+    adding: &T,
+) -> (Asking<S>, Result<FinishedFile, StoreError>)
+    requires block { 0 < length block.old }
+    ensures finished { IfOk result.1 (λ f. (bytes : List ℕ) × Takes true (R.tells source.old) (R.left source.old) (R.left source.new) bytes × IsFinished (S.holder asking.steps) (S.holder result.0.steps) number (sha256_by policy.now bytes) bytes f.info f.metrics f.choices f.rest) }
+    ensures few { OnErr result.1 ((bytes : List ℕ) × Takes false (R.tells source.old) (R.left source.old) (R.left source.new) bytes × IsFew (S.holder asking.steps) (S.holder result.0.steps) bytes) }
+    ensures follows { FollowsAsking (S.holder asking.steps) (S.holder result.0.steps) }
+    ensures frame { Stays R.tells R.faults source.old source.new }
+    ensures refused { IfErr result.1 (IsSourceError number (R.tells source.old) (R.left source.old) (R.faults source.old) (R.faults source.new) (S.holder asking.steps) (S.holder result.0.steps)) }
+{
+    match FileCleaner::new(alloc, asking, number) {
+        Ok(mut cleaner) => {
+            let mut generator = Sha256Generator::new();
+            match read_into(
+                &mut cleaner,
+                &mut generator,
+                source,
+                number,
+                block,
+                policy,
+                adding,
+            ) {
+                Ok(()) => cleaner.finish(generator.finalize_by(policy)),
+                Err(error) => (cleaner.into_asking(), Err(error)),
+            }
+        }
+        Err((asking, error)) => (asking, Err(error)),
+    }
+}
+
+/// Reads a source to its end, block by block, and adds its bytes to a file and to its SHA-256.
+fn read_into<S: Stepping, R: Source, T: AddBlock<S>>(
+    cleaner: &mut FileCleaner<S>,
+    generator: &mut Sha256Generator,
+    source: &mut R,
+    number: u32,
+    block: &mut [u8],
+    policy: &Sha256Policy,
+    adding: &T,
+) -> Result<(), StoreError>
+    requires block { 0 < length block.old }
+    requires cleaning { IsCleaning (S.holder cleaner.old.deduper.start.value.steps) (S.holder cleaner.old.deduper.interface.steps) cleaner.old.deduper.whole cleaner.old.deduper.plan cleaner.old.deduper.global cleaner.old.chunker cleaner.old.byte_count [] }
+    requires nothing { HasBytes generator.old [] }
+    requires number { cleaner.old.number ≡ number }
+    ensures cleaning { OnOk result ((bytes : List ℕ) × Takes true (R.tells source.old) (R.left source.old) (R.left source.new) bytes × IsCleaning (S.holder cleaner.new.deduper.start.value.steps) (S.holder cleaner.new.deduper.interface.steps) cleaner.new.deduper.whole cleaner.new.deduper.plan cleaner.new.deduper.global cleaner.new.chunker cleaner.new.byte_count bytes × HasBytesBy policy.now generator.new bytes) }
+    ensures few { OnErr result ((bytes : List ℕ) × Takes false (R.tells source.old) (R.left source.old) (R.left source.new) bytes × IsFew (S.holder cleaner.new.deduper.start.value.steps) (S.holder cleaner.new.deduper.interface.steps) bytes) }
+    ensures same { (cleaner.new.deduper.start.value ≡ cleaner.old.deduper.start.value) × (cleaner.new.deduper.file_id ≡ cleaner.old.deduper.file_id) }
+    ensures follows { FollowsAsking (S.holder cleaner.old.deduper.interface.steps) (S.holder cleaner.new.deduper.interface.steps) }
+    ensures frame { Stays R.tells R.faults source.old source.new }
+    ensures refused { IfErr result (IsSourceError number (R.tells source.old) (R.left source.old) (R.faults source.old) (R.faults source.new) (S.holder cleaner.old.deduper.interface.steps) (S.holder cleaner.new.deduper.interface.steps)) }
+{
+    loop {
+        let count = read_block(source, number, block)?;
+        adding.add(cleaner, generator, policy, &block[..count])?;
+        if count < block.len() {
+            return Ok(());
+        }
+    }
+}
+
+/// Reads until a block is full or the source ends.
+fn read_block<R: Source>(source: &mut R, number: u32, block: &mut [u8]) -> Result<usize, StoreError>
+    ensures filled { R.tells source.old ≡ true → Fills (R.left source.old) block.new result (R.left source.new) }
+    ensures bound { IfOk result (λ count. count ≤ length block.new) }
+    ensures frame { Called R.tells R.faults source.old source.new (IsErr result) }
+    ensures reason { IsOkUnless result (StoreError.Io (Place.Source number)) }
+{
+    match read_full(source, block) {
+        Ok(count) => Ok(count),
+        Err(_) => Err(StoreError::Io(Place::Source(number))),
+    }
+}
