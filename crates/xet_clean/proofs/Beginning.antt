@@ -1,5 +1,5 @@
--- A file of no bytes.
-use Rattle.std.proofs.Common.{◌≡◌, ℕ, Bool, true, List, [], refl, sym, subst, arith}
+-- A file of no bytes, and what was made of no files.
+use Rattle.std.proofs.Common.{◌≡◌, ℕ, Bool, true, false, List, [], refl, sym, subst, arith}
 use Rattle.xet_cut.specs.Limits.{AreInRange}
 use Rattle.xet_cut.specs.Streams.{IsSplit, Splitting}
 use Rattle.xet_cut.specs.declared.limits.LimitSettings.{LimitSettings}
@@ -8,8 +8,11 @@ use Rattle.xet_dedup.specs.Deduping.{IsDeduped}
 use Rattle.xet_file_plan.specs.Moves.{PlanState, empty_plan}
 use Rattle.xet_stepping.specs.Asking.{Stands}
 use Rattle.xet_stepping.specs.Holders.{Holder, calls_of, core_at, lengths_in, xorb_limits}
-use Rattle.xet_stepping.specs.theorems.Following.{asking_nothing}
+use Rattle.xet_stepping.specs.theorems.Following.{asking_nothing, follows_nothing}
 use Rattle.xet_clean.specs.Cleaner.{IsCleaning}
+use Rattle.xet_aggregate.specs.Aggregate.{empty}
+use Rattle.xet_aggregate.specs.Metrics.{zeros}
+use Rattle.xet_clean.specs.Working.{IsWorking}
 
 abbrev IsDedupedAt : Holder → PlanState → Type 0
 IsDedupedAt h plan = IsDeduped (lengths_in (core_at h)) (Stands h) (calls_of h) (calls_of h) (xorb_limits h.limits) plan
@@ -52,3 +55,26 @@ cleaning_begins h whole plan global splitting count is_whole empty none nothing 
     (subst (λ (s : Splitting). IsCleaning h h true (empty_plan h.limits) (0, 0) s count []) (sym nothing)
     (subst (λ (n : ℕ). IsCleaning h h true (empty_plan h.limits) (0, 0) (record { settings = h.limits; buffered = [] }) n []) (sym zero)
     (begins_empty h range (subst (IsDedupedAt h) empty deduped))))))
+
+-- ---- nothing was cleaned yet
+
+pub nothing_cleaned : (h : Holder) → h.stopped ≡ false → IsWorking h h [] [] [] zeros empty
+unfolding follows_nothing
+nothing_cleaned h going = record {
+  follows = follows_nothing h;
+  going = going;
+  pointers = refl;
+  chosen = refl;
+  once = λ k below. absurd (omega (arith, below));
+  sums = refl;
+  planned = tt;
+  records = refl;
+  waits = tt;
+  aggregate = record { parts = record { count = omega arith; small = tt; total = omega arith }; boundaries = tt; runs = tt };
+  within = record { within = record { bytes = omega arith; count = omega arith; small = tt }; hashed = tt };
+  forms = tt;
+  nothing = λ none. refl;
+  lands = tt;
+  new = refl;
+  bound = omega arith;
+}

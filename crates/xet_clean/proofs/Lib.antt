@@ -28,6 +28,7 @@ mod Session
 mod Turns
 mod Hashes
 mod Stopping
+mod Unclosed
 mod Looping
 mod Runs
 mod Resolving

@@ -1,5 +1,5 @@
 -- The loop over the sources: what was made of the first, and what is known where it ends.
-use Rattle.std.proofs.Common.{◌≡◌, ◌≢◌, ◌∙◌, ◌⊎◌, inl, inr, ℕ, suc, ◌+◌, ◌*◌, ◌≤◌, ◌<◌, Bool, true, false, List, [], ◌∷◌, ◌++◌, length, map, take, drop, get_or, set, refl, sym, ap, subst, append-nil, length-append, append_assoc, arith}
+use Rattle.std.proofs.Common.{◌≡◌, ◌∙◌, inr, ℕ, suc, ◌+◌, ◌*◌, ◌≤◌, ◌<◌, Bool, true, false, List, [], ◌∷◌, ◌++◌, length, map, take, drop, get_or, set, refl, sym, ap, subst, append-nil, length-append, append_assoc, arith}
 use Rattle.std.proofs.lemmas.List.{length-map, nil_from_length, take_at}
 use Rattle.std.proofs.lemmas.List.Sums.{sum_by-append, sum_by-cons}
 use Rattle.std.specs.List.{AllByRecursion, sum_by}
@@ -22,64 +22,22 @@ use Rattle.xet_history.specs.declared.entry.Entry.{Entry}
 use Rattle.xet_io.specs.Faults.{Rose}
 use Rattle.xet_store.specs.Cleaning.{AreTaken, EachTold, FailedAt, IsLongAt, Later, RoseAt}
 use Rattle.xet_store.specs.declared.info.XetFileInfo.{XetFileInfo}
-use Rattle.xet_stepping.specs.Asking.{IsErrorSince}
 use Rattle.xet_stepping.specs.Holders.{Follows, FollowsAsking, Holder}
 use Rattle.xet_stepping.specs.theorems.Following.{follows_nothing, follows_then}
 use Rattle.xet_clean.specs.Planning.{IsFew, IsPlanned, IsWithin}
-use Rattle.xet_clean.specs.Closing.{Closes, IsAtMost, IsClosingError, IsUnclosed, RegistersChunks, filled_files, recorded_in}
+use Rattle.xet_clean.specs.Closing.{Closes, IsAtMost, IsUnclosed, filled_files, recorded_in}
 use Rattle.xet_clean.specs.Sources.{AreDone, AreRead, HasCleaned, IsCutShort, IsDone, IsTakenFrom, IsLoopError, IsSourceError, IsUnclosedFor}
 use Rattle.xet_clean.specs.Working.{EndsWith, IsWorking, Planned, WasPlanned, Waits}
-use Rattle.xet_xorb_chunk.specs.Chunks.{chunk_leaf}
 use Rattle.xet_shard_format.specs.declared.record.MDBFileInfo.{MDBFileInfo}
-use Rattle.xet_clean.proofs.Adding.{adds_registered, none_recorded, recorded_in-append}
+use Rattle.xet_clean.proofs.Adding.{none_recorded, recorded_in-append}
 use Rattle.xet_clean.proofs.Closing.{error_earlier}
 use Rattle.xet_clean.proofs.Hashes.{chunks_sum}
 use Rattle.xet_clean.proofs.Keeping.{waits_follow, was_planned_follows}
 use Rattle.xet_clean.proofs.Stopping.{HasRecorded, first_recorded}
 use Rattle.xet_clean.proofs.Turns.{AreFrom, at_length, drop_past, done_counts, done_push, done_read, done_told, from_then, later_all, long_at, rose_at, set_at_length, taken_all, taken_each, tell_all, untouched}
 use Rattle.xet_clean.specs.declared.policy.Sha256Policy.{Sha256Policy}
-
--- ---- nothing was cleaned yet
-
-pub nothing_cleaned : (h : Holder) → h.stopped ≡ false → IsWorking h h [] [] [] zeros empty
-unfolding follows_nothing
-nothing_cleaned h going = record {
-  follows = follows_nothing h;
-  going = going;
-  pointers = refl;
-  chosen = refl;
-  once = λ k below. absurd (omega (arith, below));
-  sums = refl;
-  planned = tt;
-  records = refl;
-  waits = tt;
-  aggregate = record { parts = record { count = omega arith; small = tt; total = omega arith }; boundaries = tt; runs = tt };
-  within = record { within = record { bytes = omega arith; count = omega arith; small = tt }; hashed = tt };
-  forms = tt;
-  nothing = λ none. refl;
-  lands = tt;
-  new = refl;
-  bound = omega arith;
-}
-
--- ---- what an error says
-
--- what an aggregate's registration leaves
-registers_follow : (a : Aggregate) (next : List (List ℕ × ℕ)) (old new : Holder) → RegistersChunks a next old new → Follows old new
-registers_follow a next old new (inl r) = subst (λ (h : Holder). Follows old h) (sym r.1) (follows_nothing old)
-registers_follow a next old new (inr r) = (adds_registered (map chunk_leaf a.chunks) next old new r.0 r.2).follows
-
--- no file was refused, unless the error says so
-unclosed_since : (a : Aggregate) (next : List (List ℕ × ℕ)) (start old new : Holder) (e : StoreError) → Follows start old → e ≢ MalformedData OtherFileHash → IsUnclosed a next old new e → IsErrorSince start new e
-unclosed_since a next start old new e follows other u = go u.1
-  where
-    closing : (mid : Holder) → Follows start mid → IsClosingError (filled_files a) mid new e → IsErrorSince start new e
-    closing mid later (inl refused) = absurd (other refused.4.error)
-    closing mid later (inr is) = error_earlier start mid new later e is
-
-    go : ((mid : Holder) × RegistersChunks a next old mid × IsClosingError (filled_files a) mid new e) ⊎ IsErrorSince old new e → IsErrorSince start new e
-    go (inl c) = closing c.0 (follows_then start old c.0 follows (registers_follow a next old c.0 c.1)) c.2
-    go (inr is) = error_earlier start old new follows e is
+use Rattle.xet_clean.proofs.Unclosed.{unclosed_since}
+use Rattle.xet_clean.proofs.Beginning.{nothing_cleaned}
 
 module _ {S : Type 0} (tells : S → Bool) (left : S → List ℕ) (faults : S → ℕ) (policy : Sha256Policy) where
   -- Of these sources the first were read to their ends, and this was made of them. The others are untouched.
