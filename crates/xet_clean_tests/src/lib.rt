@@ -6,6 +6,8 @@ mod cleaning_tests;
 #[cfg(test)]
 mod failing_tests;
 #[cfg(test)]
+mod hashing_tests;
+#[cfg(test)]
 mod random_tests;
 #[cfg(test)]
 mod session;

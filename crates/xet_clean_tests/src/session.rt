@@ -20,7 +20,7 @@ pub struct Session {
 
 /// Chunks from 64 to 1,024 bytes that end as soon as they may; shards have at most this target length if they can be shorter,
 /// and a source has at most so many bytes.
-fn limits(shard_target: u64, max_source_bytes: u64) -> Result<Limits, StoreError> {
+pub fn limits(shard_target: u64, max_source_bytes: u64) -> Result<Limits, StoreError> {
     Limits::new(LimitSettings {
         target_chunk: 512,
         minimum_chunk: 64,
@@ -32,7 +32,7 @@ fn limits(shard_target: u64, max_source_bytes: u64) -> Result<Limits, StoreError
 }
 
 /// The same chunks, at most eight in a xorb; shards of at most 4 KiB if they can be shorter; and blocks of 100 bytes.
-fn small_limits() -> Result<Limits, StoreError> {
+pub fn small_limits() -> Result<Limits, StoreError> {
     Limits::new(LimitSettings {
         target_chunk: 512,
         minimum_chunk: 64,

@@ -1,0 +1,3 @@
+mod Hashing
+mod Joining
+mod Taking

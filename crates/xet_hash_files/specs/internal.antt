@@ -1,0 +1,2 @@
+pub mod FileHasher
+pub mod Sources

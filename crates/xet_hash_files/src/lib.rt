@@ -1,0 +1,9 @@
+//! The pointer records of files, without storing them: many sources are read and hashed by several threads.
+#![tactic(auto)]
+
+mod file_hasher;
+mod parts;
+mod reading;
+mod workers;
+
+pub use workers::hash_files;
