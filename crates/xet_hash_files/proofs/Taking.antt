@@ -1,11 +1,11 @@
 -- A source that is read block by block.
-use Rattle.std.proofs.Common.{◌≡◌, ◌∙◌, ◌⊎◌, inl, inr, ℕ, ◌+◌, ◌<◌, ◌≤◌, Bool, true, false, true≢false, List, [], ◌++◌, append_assoc, length, take, drop, take-append-drop, refl, sym, ap, subst, arith, append-nil, length-append}
+use Rattle.std.proofs.Common.{◌≡◌, ◌∙◌, inl, inr, ℕ, ◌+◌, ◌<◌, ◌≤◌, Bool, true, false, true≢false, List, [], ◌++◌, append_assoc, length, take, drop, take-append-drop, refl, sym, ap, subst, arith, append-nil, length-append}
 use Rattle.std.proofs.lemmas.List.{drop_at}
 use Rattle.std.specs.Prelude.{Err, Ok, OnErr, Result}
 use Rattle.xet_cut.specs.declared.limits.LimitSettings.{LimitSettings}
 use Rattle.xet_hash.specs.declared.error.Place.TheVariants as place
 use Rattle.xet_hash.specs.declared.error.StoreError.{StoreError}
-use Rattle.xet_hash.specs.declared.error.StoreError.TheVariants.{Io, OutOfMemory, TooLarge}
+use Rattle.xet_hash.specs.declared.error.StoreError.TheVariants.{Io, OutOfMemory}
 use Rattle.xet_hash.specs.declared.error.What.TheVariants as what
 use Rattle.xet_io.specs.Faults.{Rose}
 use Rattle.xet_io.specs.Frame.{Stays}

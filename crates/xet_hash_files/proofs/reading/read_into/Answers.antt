@@ -1,4 +1,4 @@
-use Rattle.std.proofs.Common.{◌∙◌, ◌++◌, [], ap, arith, length-append, refl, sym, take}
+use Rattle.std.proofs.Common.{◌∙◌, ◌++◌, [], ap, arith, length-append, refl, take}
 use Rattle.std.proofs.lemmas.List.{length-take-le}
 use Rattle.xet_base.specs.theorems.Exits.{exit_with}
 use Rattle.xet_cut.specs.declared.limits.LimitSettings.{LimitSettings}
