@@ -1,5 +1,5 @@
 -- One more file, as cleaning it ended.
-use Rattle.std.proofs.Common.{◌≡◌, ◌∙◌, inl, inr, ℕ, ◌<◌, true, false, List, [], ◌∷◌, ◌++◌, length, map, Some, sym, ap, subst}
+use Rattle.std.proofs.Common.{◌≡◌, ◌∙◌, inl, inr, ℕ, ◌<◌, true, false, List, [], ◌∷◌, ◌++◌, length, map, sym, ap, subst}
 use Rattle.xet_aggregate.specs.Aggregate.{Aggregate, IsAggregate, fits, merged, single}
 use Rattle.xet_aggregate.specs.declared.metrics.DeduplicationMetrics.{DeduplicationMetrics}
 use Rattle.xet_aggregate.specs.theorems.Merging.{empty-merged}

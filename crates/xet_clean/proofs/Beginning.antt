@@ -1,5 +1,5 @@
 -- A file of no bytes, and what was made of no files.
-use Rattle.std.proofs.Common.{◌≡◌, ℕ, Bool, true, false, List, [], refl, sym, subst, arith}
+use Rattle.std.proofs.Common.{◌≡◌, ℕ, Bool, true, false, [], refl, sym, subst, arith}
 use Rattle.xet_cut.specs.Limits.{AreInRange}
 use Rattle.xet_cut.specs.Streams.{IsSplit, Splitting}
 use Rattle.xet_cut.specs.declared.limits.LimitSettings.{LimitSettings}

@@ -1,5 +1,5 @@
 -- The result for one source, of that for a list of it.
-use Rattle.std.proofs.Common.{◌≡◌, ◌∙◌, Bool, true, List, [], ◌∷◌, length, Result, Ok, Err, IfOk, IfErr, OnOk, ℕ, sym, ap, subst, arith, slice_index_or}
+use Rattle.std.proofs.Common.{◌≡◌, Bool, List, [], ◌∷◌, length, Result, Ok, Err, IfOk, IfErr, OnOk, ℕ, sym, ap, subst, arith, slice_index_or}
 use Rattle.std.proofs.lemmas.Result.{IfErr-at_err, IfOk-at_ok}
 use Rattle.std.specs.Result.{result_err}
 use Rattle.xet_aggregate.specs.declared.metrics.DeduplicationMetrics.{DeduplicationMetrics}

@@ -22,8 +22,8 @@ abbrev pub Completes : List MDBFileInfo → Holder → Holder → Type 0
 Completes [] old new = new ≡ old
 Completes (f ∷ fs) old new = (mid : Holder) × (added : Bool) × SawComplete f old mid added × Completes fs mid new
 
--- Why these files were not recorded: a step failed; or one of them was refused, whose plan does not resolve to chunks that
--- give its hashes.
+-- Why these files were not recorded: a step failed, or memory is out; or one of them was rejected, whose plan does not resolve
+-- to chunks that give its hashes.
 abbrev pub IsClosingError : List MDBFileInfo → Holder → Holder → StoreError → Type 0
 IsClosingError files old new e = ((file : MDBFileInfo) × IsAmong files file × (mid : Holder) × Follows old mid × SawOther file mid new e) ⊎ IsErrorSince old new e
 
@@ -54,8 +54,8 @@ pub record Records (files : List MDBFileInfo) (old new : Holder) : Type 0 where
 abbrev pub RecordsFirst : List MDBFileInfo → Holder → Holder → Type 0
 RecordsFirst files old new = (count : ℕ) × Records (take count files) old new
 
--- Why the aggregate was not closed: a step failed; or its xorb was registered, and one of its files was refused. The first of
--- its files were recorded.
+-- Why the aggregate was not closed: a step failed, or memory is out; or its xorb was registered, and one of its files was
+-- rejected. The first of its files were recorded.
 abbrev pub IsUnclosed : Aggregate → List (List ℕ × ℕ) → Holder → Holder → StoreError → Type 0
 IsUnclosed a next old new e =
     RecordsFirst (filled_files a) old new

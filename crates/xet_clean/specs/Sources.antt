@@ -48,7 +48,7 @@ AreDone tells left faults most (s ∷ ss) (t ∷ ts) [] = ⊥
 AreDone tells left faults most (s ∷ ss) (t ∷ ts) (f ∷ fs) = IsDone tells left faults most s t f.bytes × AreDone tells left faults most ss ts fs
 
 -- Each source was read to its end, and its file was cleaned since the start, with this policy. What was made of the files is
--- returned; their last chunks are in the aggregate.
+-- returned; what is left of them is in the aggregate.
 pub record HasCleaned {S : Type 0} (policy : Sha256Policy) (tells : S → Bool) (left : S → List ℕ) (faults : S → ℕ) (sources now : List S) (start h : Holder) (infos : List XetFileInfo) (choices : List (List Choice)) (metrics : DeduplicationMetrics) (a : Aggregate) : Type 0 where
   pub files : List Planned
   pub are : AreDone tells left faults start.limits.max_source_bytes sources now files
@@ -56,7 +56,7 @@ pub record HasCleaned {S : Type 0} (policy : Sha256Policy) (tells : S → Bool) 
   pub working : IsWorking start h files infos choices metrics a
 
 -- Why the file of source `number` was not cleaned: it failed or has more bytes than the limits allow, and then no step failed;
--- or a step failed.
+-- or a step failed, or memory is out.
 abbrev pub IsSourceError : ℕ → Bool → List ℕ → ℕ → ℕ → Holder → Holder → StoreError → Type 0
 IsSourceError number tells left before after old new (Io (place.Source i)) = (i ≡ number) × Rose before after × (new.stopped ≡ old.stopped)
 IsSourceError number tells left before after old new (TooLarge (what.Source i)) = (i ≡ number) × (tells ≡ true → old.limits.max_source_bytes < length left) × (new.stopped ≡ old.stopped)
@@ -67,7 +67,7 @@ pub record AreRead {S : Type 0} (tells : S → Bool) (left : S → List ℕ) (mo
   pub read : AllByRecursion (λ s. tells s ≡ true → left s ≡ []) now
   pub short : AllByRecursion (λ s. tells s ≡ true → length (left s) ≤ most) sources
 
--- of these files some bytes were taken
+-- It added at most three own entries for each chunk of these files, and two for each file.
 abbrev pub IsFewFor : List (List ℕ) → Holder → Holder → Type 0
 IsFewFor files old new =
     (follows : Follows old new) × (length follows.own ≤ 3 * sum_by (λ f. length (chunking old.limits f)) files + 2 * length files)
@@ -87,7 +87,7 @@ pub record IsCutShort {S : Type 0} (policy : Sha256Policy) (tells : S → Bool) 
   pub recorded : count ≤ done
   pub records : AreRecords policy old.limits (take count files) (recorded_in few.0.own)
 
--- A record was refused, or a step failed, when an aggregate was closed. Each record that waited for its xorb is that of a file
+-- A record was rejected, or a step failed, when an aggregate was closed. Each record that waited for its xorb is that of a file
 -- of one of the first sources, whose segments have the hashes of its chunks.
 pub record IsUnclosedFor {S : Type 0} (tells : S → Bool) (left : S → List ℕ) (sources : List S) (start now : Holder) (e : StoreError) : Type 0 where
   pub done : List S

@@ -1,5 +1,5 @@
 -- What was made of some sources.
-use Rattle.std.specs.Prelude.{◌≡◌, ◌<◌, ◌≤◌, ◌+◌, ◌*◌, ◌^◌, ◌∷◌, ◌++◌, ℕ, Bool, false, List, [], length, map, Any, Some}
+use Rattle.std.specs.Prelude.{◌≡◌, ◌<◌, ◌≤◌, ◌+◌, ◌*◌, ◌^◌, ◌∷◌, ◌++◌, ℕ, Bool, false, List, [], length, map, Any}
 use Rattle.std.specs.List.{AllByRecursion, flat_map, sum_by}
 use Rattle.xet_aggregate.specs.Aggregate.{Aggregate, IsAggregate}
 use Rattle.xet_aggregate.specs.declared.metrics.DeduplicationMetrics.{DeduplicationMetrics}

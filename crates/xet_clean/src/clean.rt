@@ -84,7 +84,7 @@ pub fn clean_files<D: Disk, R: Source + Send>(
 }
 
 /// Reads each of the sources to its end and stores its file, as `clean_files` does. The SHA-256 of each comes by the policy.
-pub(crate) fn clean_with<D: Disk, R: Source>(
+fn clean_with<D: Disk, R: Source>(
     alloc: Global,
     session: Store<D>,
     sources: &mut [R],

@@ -32,9 +32,9 @@ use xet_steps::Store;
 use xet_store::XetFileInfo;
 
 /// Reads a source to its end and stores its file, as `clean_files` does with one source. The SHA-256 of the file comes by the
-/// policy, and is recorded with the file and returned in its pointer record; the file has none if the policy is `Skip`.
-/// Returns the session, and the pointer record with the metrics of the file. Errors name the source as number 0; they are
-/// those of `clean_files`.
+/// policy: the pointer record has it, and so has the record that is passed to the store. If the store has a record of that hash,
+/// it keeps that one, with its own SHA-256 or none. A file of no bytes has no record. Returns the session, and the pointer record
+/// with the metrics of the file. Errors name the source as number 0; they are those of `clean_files`.
 pub fn clean_file<D: Disk, R: Source>(
     alloc: Global,
     session: Store<D>,
@@ -117,7 +117,7 @@ pub fn clean_bytes<D: Disk>(
 }
 
 /// Reads a source to its end and stores its file. The SHA-256 comes by the policy.
-pub(crate) fn clean_single<D: Disk, R: Source>(
+fn clean_single<D: Disk, R: Source>(
     alloc: Global,
     session: Store<D>,
     source: &mut R,

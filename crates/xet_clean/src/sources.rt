@@ -1,4 +1,4 @@
-//! The sources are read in turn, and each file is kept.
+//! The sources are read in turn, and what was made of each file is added.
 
 ghost use Rattle.std.specs.Prelude.{◌≡◌, ◌≤◌, ◌<◌, ◌+◌, ◌*◌, ◌^◌, ◌++◌, ◌∷◌, [], ℕ, Err, List, IfErr, IfOk, IsErr, IsOkUnless, OnErr, OnOk, length, map, vec_capacity, vec_len, true, false};
 ghost use Rattle.xet_aggregate.specs.Aggregate.{empty};
@@ -25,9 +25,10 @@ use xet_hash::{Place, StoreError};
 use xet_io::{Source, read_full};
 use xet_stepping::{Asking, Stepping};
 
-/// Reads and stores the sources in turn, at most 2^20 of them, which errors name by their numbers, from 0 on. Nothing was made of
-/// any source so far. The last chunks of the files are in no xorb yet: they are in the aggregate of the result. `block` is a
-/// buffer, by which the sources are read, and `adding` says how a block is added. After an error the steps before it stand.
+/// Reads and stores the sources in turn, at most 2^20 of them, which errors name by their numbers, from 0 on. `working`
+/// is as `Working::new` returns it, with room for as many sources. What is left of the files, which is chunks in no xorb yet and
+/// the records that wait for them, is in the aggregate of the result. `block` is a buffer, by which the sources are read, and
+/// `adding` says how a block is added. After an error the steps before it stand.
 pub fn clean_each<S: Stepping, R: Source, T: AddBlock<S>>(
     alloc: Global,
     asking: Asking<S>,
@@ -71,7 +72,7 @@ pub fn clean_each<S: Stepping, R: Source, T: AddBlock<S>>(
     (asking, Ok(working))
 }
 
-/// Keeps a file that was cleaned, unless there was an error.
+/// Adds a file that was cleaned, unless there was an error.
 pub(crate) fn keep<S: Stepping>(
     working: &mut Working,
     steps: &mut S,

@@ -80,9 +80,24 @@ fn sha256_comes_by_the_policy(rt: HostRuntime) -> Result<(), Fail> {
     Ok(())
 }
 
+/// The JSON of the pointer record of `some data`, and what it is to be.
+fn json(alloc: Global) -> Result<(String, String), StoreError> {
+    let info = cleans(alloc, b"some data", Sha256Policy::Compute)?.info;
+    let hash = info.hash.hex(alloc)?;
+    let mut expected = String::new(alloc);
+    expected.push_str("{\"hash\":\"")?;
+    expected.push_str(hash.as_str())?;
+    expected.push_str("\",\"file_size\":9,\"sha256\":\"")?;
+    expected.push_str(DIGEST)?;
+    expected.push_str("\"}")?;
+    Ok((info.to_json(alloc)?, expected))
+}
+
 #[test]
 fn pointer_records_have_a_json(rt: HostRuntime) -> Result<(), Fail> {
     let alloc = rt.alloc();
+    let (written, expected) = json(alloc)?;
+    assert_eq!(rt; written.as_str(), expected.as_str());
     let seen = cleans(alloc, b"", Sha256Policy::Compute)?;
     assert_eq!(rt; seen.history.as_str(), "");
     assert_eq!(rt;

@@ -17,8 +17,8 @@ use xet_io::Source;
 use xet_store::XetFileInfo;
 
 /// Reads each of at most 2^20 sources to its end and returns the pointer record of its file, in order and without a SHA-256.
-/// Nothing is stored. The sources are divided among the workers before the first is read, in order and evenly, and there are
-/// no more workers than sources. Each worker runs on a thread of its own if one can be started, reads its sources one after
+/// Nothing is stored. The sources are divided among the workers before the first is read, in order and evenly; with more workers
+/// than sources some have none. Each worker runs on a thread of its own if one can be started, reads its sources one after
 /// the other, and has a buffer of `limits.block_bytes()` bytes. A worker that fails does not stop the others; if several fail,
 /// the error of the first one, in the order of the sources, is returned. `Io(Source(i))` is returned only if that source
 /// failed, `TooLarge(Source(i))` only if it has more bytes than the limits allow; any other error is `OutOfMemory`.

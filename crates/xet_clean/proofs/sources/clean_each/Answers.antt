@@ -1,4 +1,4 @@
-use Rattle.std.proofs.Common.{ap, length, refl, subst, arith}
+use Rattle.std.proofs.Common.{ap, length, subst, arith}
 use Rattle.xet_cut.specs.Limits.{AreInRange}
 use Rattle.xet_clean.specs.declared.cleaner.FinishedFile.{FinishedFile}
 use Rattle.xet_clean.proofs.Looping.{has_cleaned, later_end, taken_end, tell_end}
