@@ -6,6 +6,8 @@ mod files;
 #[cfg(test)]
 mod locked_tests;
 #[cfg(test)]
+mod passing_tests;
+#[cfg(test)]
 mod query_tests;
 #[cfg(test)]
 mod recorded;

@@ -224,7 +224,7 @@ fn end_once<R: Wait>(
 }
 
 /// A store in the folder `store` of a new disk.
-fn open(alloc: Global) -> Result<Store<MemoryDisk>, StoreError> {
+pub fn open(alloc: Global) -> Result<Store<MemoryDisk>, StoreError> {
     let limits = limits(1 << 20)?;
     match Store::open(alloc, MemoryDisk::new(alloc), "store", limits, 1_000, false) {
         Ok(store) => Ok(store),

@@ -1,0 +1,7 @@
+use Rattle.xet_steps_tests.proofs.passing_tests.pass_files.Given as goal
+
+abbrev pub ghosts-pass_steps-J-Naming : goal.ghosts-pass_steps-J-Naming
+ghosts-pass_steps-J-Naming g a = record { table = a.opened.word; store = a.store; stops = a.opened.stops }
+
+abbrev pub ghosts-pass_steps-J-Ledger : goal.ghosts-pass_steps-J-Ledger
+ghosts-pass_steps-J-Ledger g a = record { name = a.opened.blank.name; parts = a.opened.blank.parts }
