@@ -72,8 +72,9 @@ fn make_steps_of<J: Naming, R: Wait>(
         return Err(StoreError::OutOfMemory);
     };
     let mut passing = Passing::new(rt, session, pass);
-    let seen = make_steps(&mut passing, xorb, file, unlisted)?;
-    Ok((seen, passing.into_pass().seen()))
+    let seen = make_steps(&mut passing, xorb, file, unlisted);
+    let length = passing.into_pass().seen();
+    Ok((seen?, length))
 }
 
 /// The same with a session of a store, which is returned.
