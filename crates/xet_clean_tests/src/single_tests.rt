@@ -25,7 +25,7 @@ struct Report {
 }
 
 /// What a session shows of a file that was cleaned.
-fn report(
+fn seen(
     session: &Session,
     answer: Result<(XetFileInfo, DeduplicationMetrics), StoreError>,
 ) -> Result<Report, StoreError> {
@@ -41,10 +41,10 @@ fn report(
 /// Cleans these bytes; also as a source, in another session. The two pointer records are to be the same.
 fn cleans(alloc: Global, bytes: &[u8], policy: Sha256Policy) -> Result<Report, StoreError> {
     let (session, answer) = Session::new(alloc, 1 << 20, 1 << 20)?.clean_bytes(bytes, policy);
-    let first = report(&session, answer);
+    let first = seen(&session, answer);
     session.close();
     let (session, answer) = Session::new(alloc, 1 << 20, 1 << 20)?.clean_file(bytes, policy);
-    let second = report(&session, answer);
+    let second = seen(&session, answer);
     session.close();
     let first = first?;
     if first.info == second?.info {
@@ -70,12 +70,12 @@ fn sha256_comes_by_the_policy(rt: HostRuntime) -> Result<(), Fail> {
         (Sha256Policy::from(Some(zeros)), Some(zeros)),
         (Sha256Policy::from(None), Some(digest)),
     ] {
-        let seen = cleans(alloc, b"some data", policy)?;
-        assert_eq!(rt; seen.info.sha256, sha256);
-        assert_eq!(rt; seen.recorded, sha256);
-        assert_eq!(rt; seen.info.file_size, 9);
-        assert_eq!(rt; seen.chunks, 1);
-        assert_eq!(rt; seen.history.as_str(), "QRC");
+        let shown = cleans(alloc, b"some data", policy)?;
+        assert_eq!(rt; shown.info.sha256, sha256);
+        assert_eq!(rt; shown.recorded, sha256);
+        assert_eq!(rt; shown.info.file_size, 9);
+        assert_eq!(rt; shown.chunks, 1);
+        assert_eq!(rt; shown.history.as_str(), "QRC");
     }
     Ok(())
 }
@@ -98,15 +98,15 @@ fn pointer_records_have_a_json(rt: HostRuntime) -> Result<(), Fail> {
     let alloc = rt.alloc();
     let (written, expected) = json(alloc)?;
     assert_eq!(rt; written.as_str(), expected.as_str());
-    let seen = cleans(alloc, b"", Sha256Policy::Compute)?;
-    assert_eq!(rt; seen.history.as_str(), "");
+    let shown = cleans(alloc, b"", Sha256Policy::Compute)?;
+    assert_eq!(rt; shown.history.as_str(), "");
     assert_eq!(rt;
-        seen.info.to_json(alloc)?.as_str(),
+        shown.info.to_json(alloc)?.as_str(),
         "{\"hash\":\"0000000000000000000000000000000000000000000000000000000000000000\",\"file_size\":0,\"sha256\":\"e3b0c44298fc1c149afbf4c8996fb92427ae41e4649b934ca495991b7852b855\"}"
     );
-    let seen = cleans(alloc, b"", Sha256Policy::Skip)?;
+    let shown = cleans(alloc, b"", Sha256Policy::Skip)?;
     assert_eq!(rt;
-        seen.info.to_json(alloc)?.as_str(),
+        shown.info.to_json(alloc)?.as_str(),
         "{\"hash\":\"0000000000000000000000000000000000000000000000000000000000000000\",\"file_size\":0}"
     );
     Ok(())
@@ -126,9 +126,9 @@ fn fails(alloc: Global) -> Result<[Option<StoreError>; 2], StoreError> {
 
 #[test]
 fn errors_name_source_0(rt: HostRuntime) -> Result<(), Fail> {
-    let seen = fails(rt.alloc())?;
+    let errors = fails(rt.alloc())?;
     assert_eq!(rt;
-        seen,
+        errors,
         [
             Some(StoreError::TooLarge(What::Source(0))),
             Some(StoreError::Io(Place::Source(0))),
