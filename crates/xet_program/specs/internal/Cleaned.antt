@@ -11,6 +11,7 @@ use Rattle.xet_store.specs.Cleaning.{EachTold, HasFile, info_of}
 use Rattle.xet_store.specs.Separate.{Separate}
 use Rattle.xet_store.specs.Store.{State}
 use Rattle.xet_clean.specs.Cleaning.{RecordsFile}
+use Rattle.xet_clean.specs.declared.policy.Sha256Policy.TheVariants.{Compute}
 use Rattle.xet_history.specs.declared.entry.Entry.{Entry}
 use Rattle.xet_history.specs.declared.entry.Entry.TheVariants.{Complete}
 use Rattle.xet_shard_format.specs.Records.{file_record_hash}
@@ -48,7 +49,7 @@ pub record AreCleaned {S : Type 0} (tells : S → Bool) (left : S → List ℕ) 
   pub entries : List Entry
   pub steps : Steps old new entries
   pub recorded : AllByRecursion (λ bytes. bytes ≢ [] → RecordsHash entries (hash_of_file old.store.limits bytes)) files
-  pub only : AllByRecursion (RecordsFile old.store.limits files) entries
+  pub only : AllByRecursion (RecordsFile Compute old.store.limits files) entries
   pub has : old.store.tells ≡ true → AllByRecursion (λ s. tells s ≡ true) sources → Separate new.store (map (chunking old.store.limits) files) → AllByRecursion (HasFile new.store) (map (chunking old.store.limits) files)
 
 -- The files under these names were stored in a session, nothing of them is pending, and this is the line of each.
