@@ -10,11 +10,15 @@ use Rattle.xet_steps.specs.Recorded.{RecordedState}
 use Rattle.xet_stepping.specs.Holders.{Holder}
 use Rattle.xet_store.specs.Coding.{limits_code}
 
+-- numbered entries
+abbrev own_code : Coded (List (ℕ × Entry))
+own_code = coded_list (coded× coded_ℕ entry_code)
+
 abbrev pub holder_code : Coded Holder
 holder_code = code_by
-    (((RecordedState × Bool) × (LimitSettings × ℕ)) × ((List Entry × Core) × (List Entry × (List (ℕ × Entry) × Bool))))
-    (coded× (coded× (coded× recorded_code coded_bool) (coded× limits_code coded_ℕ)) (coded× (coded× history_code core_code) (coded× history_code (coded× (coded_list (coded× coded_ℕ entry_code)) coded_bool))))
-    (λ h. (((h.origin, h.tells), (h.limits, h.number)), ((h.before, h.base), (h.since, (h.own, h.stopped)))))
+    (((RecordedState × Bool) × (LimitSettings × ℕ)) × ((List Entry × Core) × (List Entry × (List (ℕ × Entry) × (List (ℕ × Entry) × Bool)))))
+    (coded× (coded× (coded× recorded_code coded_bool) (coded× limits_code coded_ℕ)) (coded× (coded× history_code core_code) (coded× history_code (coded× own_code (coded× own_code coded_bool)))))
+    (λ h. (((h.origin, h.tells), (h.limits, h.number)), ((h.before, h.base), (h.since, (h.own, (h.earlier, h.stopped))))))
     (λ p. record {
       origin = p.0.0.0;
       tells = p.0.0.1;
@@ -24,6 +28,7 @@ holder_code = code_by
       base = p.1.0.1;
       since = p.1.1.0;
       own = p.1.1.1.0;
-      stopped = p.1.1.1.1;
+      earlier = p.1.1.1.1.0;
+      stopped = p.1.1.1.1.1;
     })
     (λ _. refl)

@@ -43,6 +43,7 @@ holder_of start number own since = record {
   base = core_of start;
   since = since;
   own = entries_at (start.history ++ since) own;
+  earlier = [];
   stopped = false;
 }
 

@@ -1,5 +1,5 @@
 -- A pass of a session, as a holder that begins where the pass has got to.
-use Rattle.std.specs.Prelude.{◌≡◌, Bool, false, length, drop}
+use Rattle.std.specs.Prelude.{◌≡◌, ◌++◌, Bool, false, length, drop}
 use Rattle.xet_stepping.specs.Holders.{Follows, Holder, IsHolder, core_at, seen}
 
 -- What contracts see of it: the pass when it began, the pass now, and whether a step has failed.
@@ -13,7 +13,7 @@ abbrev pub passing_state : Holder → Holder → Bool → PassingState
 passing_state start pass stopped = record { start = start; pass = pass; stopped = stopped }
 
 -- What a pass has seen and done since it began, as a holder: what the pass had seen when it began was there before, and entries
--- are its own if they were added since then.
+-- are its own if they were added since then. Its entries of before then are the earlier ones.
 abbrev pub passing_of : Holder → Holder → Bool → Holder
 passing_of start now stopped = record {
   origin = start.origin;
@@ -24,6 +24,7 @@ passing_of start now stopped = record {
   base = core_at start;
   since = drop (length start.since) now.since;
   own = drop (length start.own) now.own;
+  earlier = start.earlier ++ start.own;
   stopped = stopped;
 }
 

@@ -106,5 +106,6 @@ alone_of start now stopped = record {
   base = core_of start;
   since = drop (length start.history) now.history;
   own = numbered (length start.history) (drop (length start.history) now.history);
+  earlier = [];
   stopped = stopped;
 }
