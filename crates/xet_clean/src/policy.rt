@@ -102,7 +102,7 @@ impl Sha256Generator {
     }
 
     /// The SHA-256 that a file of these bytes gets.
-    pub(crate) fn finalize_by(self, policy: &Sha256Policy) -> Option<Sha256>
+    pub fn finalize_by(self, policy: &Sha256Policy) -> Option<Sha256>
         ensures { (bytes : List ℕ) → HasBytesBy policy.now self bytes → result ≡ sha256_by policy.now bytes }
     {
         match policy {

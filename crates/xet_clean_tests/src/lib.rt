@@ -8,6 +8,8 @@ mod failing_tests;
 #[cfg(test)]
 mod hashing_tests;
 #[cfg(test)]
+mod locked_tests;
+#[cfg(test)]
 mod random_tests;
 #[cfg(test)]
 mod session;

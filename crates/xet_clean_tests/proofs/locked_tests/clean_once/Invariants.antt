@@ -1,0 +1,7 @@
+use Rattle.xet_clean_tests.proofs.locked_tests.clean_once.Given as goal
+
+abbrev pub ghosts-clean_in-J-Naming : goal.ghosts-clean_in-J-Naming
+ghosts-clean_in-J-Naming g a = record { table = a.opened.word; store = a.store; stops = a.opened.stops }
+
+abbrev pub ghosts-clean_in-J-Ledger : goal.ghosts-clean_in-J-Ledger
+ghosts-clean_in-J-Ledger g a = record { name = a.opened.blank.name; parts = a.opened.blank.parts }

@@ -1,0 +1,218 @@
+//! Tests of one file that is cleaned over a pass of a session.
+
+ghost use Rattle.std.specs.Prelude.{◌≡◌, IfOk, OnOk, true};
+
+use crate::session::{Session, limits};
+use std::alloc::{AllocError, Global};
+use std::marker::Brand;
+use std::sync::Wait;
+use std::test::Fail;
+use xet_clean::{FinishedFile, Sha256Policy};
+use xet_hash::{StoreError, What};
+use xet_io::MemoryDisk;
+use xet_locked_session::{LockedSession, Naming, Opened, Pass};
+use xet_shard_format::Sha256;
+use xet_single_file::SingleFileCleaner;
+use xet_steps::Store;
+use xet_store::XetFileInfo;
+
+/// The SHA-256 of `some data`.
+const DIGEST: &str = "1307990e6ba5ca145eb35e99182a9bec46531bc54ddf656a602c780fa0240dee";
+
+/// The pointer record of a file, or the error; whether the cleaner was whole before it ended; the number of the pass that came
+/// back.
+type Cleaned = (Result<XetFileInfo, StoreError>, bool, u32);
+
+/// Adds the first four bytes and then the others, with a checkpoint between.
+fn add_both<J: Naming, R: Wait>(
+    cleaner: &mut SingleFileCleaner<'_, MemoryDisk, J, R>,
+    bytes: &[u8],
+) -> Result<(), StoreError>
+    requires whole { cleaner.old.whole ≡ true }
+    ensures whole { OnOk result (cleaner.new.whole ≡ true) }
+{
+    let (first, second) = bytes.split_at(bytes.len().min(4));
+    cleaner.add_data(first)?;
+    cleaner.checkpoint()?;
+    cleaner.add_data(second)
+}
+
+/// The pointer record of a file that has ended.
+fn info_of(file: Result<FinishedFile, StoreError>) -> Result<XetFileInfo, StoreError> {
+    match file {
+        Ok(file) => {
+            let FinishedFile {
+                info,
+                metrics: _,
+                choices: _,
+                rest: _,
+            } = file;
+            Ok(info)
+        }
+        Err(error) => Err(error),
+    }
+}
+
+/// Cleans a file as source 3 over a pass.
+fn clean_over<J: Naming, R: Wait>(
+    rt: &R,
+    alloc: Global,
+    session: &LockedSession<MemoryDisk, J>,
+    pass: Pass<J>,
+    bytes: &[u8],
+    policy: Sha256Policy,
+) -> Cleaned {
+    match SingleFileCleaner::new(alloc, rt, session, pass, 3, policy) {
+        Ok(mut cleaner) => match add_both(&mut cleaner, bytes) {
+            Ok(()) => {
+                let (pass, file) = cleaner.finish();
+                (info_of(file), true, pass.number())
+            }
+            Err(error) => {
+                let whole = cleaner.is_whole();
+                (Err(error), whole, cleaner.into_pass().number())
+            }
+        },
+        Err((pass, error)) => (Err(error), false, pass.number()),
+    }
+}
+
+/// The same, over the only pass of a session.
+fn clean_over_only<J: Naming, R: Wait>(
+    rt: &R,
+    alloc: Global,
+    session: &LockedSession<MemoryDisk, J>,
+    mut passes: Vec<Pass<J>>,
+    bytes: &[u8],
+    policy: Sha256Policy,
+) -> Result<Cleaned, StoreError> {
+    match passes.pop() {
+        Some(pass) => Ok(clean_over(rt, alloc, session, pass, bytes, policy)),
+        None => Err(StoreError::OutOfMemory),
+    }
+}
+
+/// The same, with a session of a store. The store is returned.
+fn clean_in<J: Naming, R: Wait>(
+    rt: &R,
+    alloc: Global,
+    opened: Opened,
+    store: Store<MemoryDisk>,
+    bytes: &[u8],
+    policy: Sha256Policy,
+) -> (Store<MemoryDisk>, Result<Cleaned, StoreError>)
+    requires table { opened.word ≡ J.table }
+    requires ledger { (opened.blank.name ≡ J.name) × (opened.blank.parts ≡ J.parts) × (J.parts ≡ 2) }
+    requires store { store ≡ J.store }
+    requires stops { opened.stops ≡ J.stops }
+{
+    match LockedSession::<MemoryDisk, J>::new(alloc, opened, store, 1) {
+        Ok((session, passes)) => {
+            let cleaned = clean_over_only(rt, alloc, &session, passes, bytes, policy);
+            (session.abandon(), cleaned)
+        }
+        Err((store, error)) => (store, Err(error)),
+    }
+}
+
+/// The same, with a name of its own.
+fn clean_once<R: Wait>(
+    rt: &R,
+    alloc: Global,
+    opened: Opened,
+    store: Store<MemoryDisk>,
+    bytes: &[u8],
+    policy: Sha256Policy,
+) -> (Store<MemoryDisk>, Result<Cleaned, StoreError>)
+    requires { opened.blank.parts ≡ 2 }
+{
+    clean_in::<Brand, R>(rt, alloc, opened, store, bytes, policy)
+}
+
+/// What a session with one pass is made from.
+fn opened(alloc: Global) -> Result<Opened, AllocError>
+    ensures { IfOk result (λ o. o.blank.parts ≡ 2) }
+{
+    Opened::new(alloc, 1)
+}
+
+/// A store in the folder `store` of a new disk, whose sources have at most so many bytes.
+fn open(alloc: Global, max_source_bytes: u64) -> Result<Store<MemoryDisk>, StoreError> {
+    let limits = limits(1 << 20, max_source_bytes)?;
+    match Store::open(alloc, MemoryDisk::new(alloc), "store", limits, 1_000, false) {
+        Ok(store) => Ok(store),
+        Err(refused) => Err(refused.error),
+    }
+}
+
+/// Cleans a file over a pass of a session of a new store.
+fn cleans<R: Wait>(
+    rt: &R,
+    alloc: Global,
+    max_source_bytes: u64,
+    bytes: &[u8],
+    policy: Sha256Policy,
+) -> Result<Cleaned, StoreError> {
+    let opened = opened(alloc)?;
+    let (store, cleaned) = clean_once(
+        rt,
+        alloc,
+        opened,
+        open(alloc, max_source_bytes)?,
+        bytes,
+        policy,
+    );
+    let _disk = store.into_disk();
+    cleaned
+}
+
+/// The pointer record of these bytes, which are cleaned at once.
+fn cleans_at_once(
+    alloc: Global,
+    bytes: &[u8],
+    policy: Sha256Policy,
+) -> Result<XetFileInfo, StoreError> {
+    let (session, answer) = Session::new(alloc, 1 << 20, 1 << 20)?.clean_bytes(bytes, policy);
+    session.close();
+    Ok(answer?.0)
+}
+
+#[test]
+fn bytes_that_come_in_parts_have_the_record_of_the_whole(rt: HostRuntime) -> Result<(), Fail> {
+    let alloc = rt.alloc();
+    let digest = Sha256::from_hex(DIGEST)?;
+    let (info, whole, pass) = cleans(&rt, alloc, 1 << 20, b"some data", Sha256Policy::Compute)?;
+    let info = info?;
+    assert_eq!(rt;
+        info,
+        cleans_at_once(alloc, b"some data", Sha256Policy::Compute)?
+    );
+    assert_eq!(rt; info.sha256, Some(digest));
+    assert_eq!(rt; (info.file_size, whole, pass), (9, true, 1));
+    Ok(())
+}
+
+#[test]
+fn a_skipped_sha256_is_left_out(rt: HostRuntime) -> Result<(), Fail> {
+    let alloc = rt.alloc();
+    let (info, _, _) = cleans(&rt, alloc, 1 << 20, b"some data", Sha256Policy::Skip)?;
+    assert_eq!(rt;
+        info?,
+        cleans_at_once(alloc, b"some data", Sha256Policy::Skip)?
+    );
+    assert_eq!(rt; info?.sha256, None);
+    Ok(())
+}
+
+#[test]
+fn a_byte_too_many_is_an_error_and_the_pass_comes_back(rt: HostRuntime) -> Result<(), Fail> {
+    let alloc = rt.alloc();
+    let cleaned = cleans(&rt, alloc, 8, b"some data", Sha256Policy::Compute)?;
+    assert_eq!(rt;
+        cleaned,
+        (Err(StoreError::TooLarge(What::Source(3))), false, 1)
+    );
+    let (info, whole, pass) = cleans(&rt, alloc, 9, b"some data", Sha256Policy::Compute)?;
+    assert_eq!(rt; (info?.file_size, whole, pass), (9, true, 1));
+    Ok(())
+}

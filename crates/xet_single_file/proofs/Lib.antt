@@ -1,0 +1,5 @@
+mod Growing
+mod Piecewise
+mod Passes
+mod Clauses
+mod Beginning

@@ -1,0 +1,79 @@
+-- A file to which bytes are added in pieces.
+use Rattle.std.proofs.Common.{◌≡◌, ◌∙◌, inl, inr, ℕ, ◌+◌, ◌≤◌, Bool, true, false, true≢false, if◌then◌else◌, List, ◌++◌, append_assoc, length, take, drop, take-append-drop, refl, sym, ap, subst, arith, length-append}
+use Rattle.std.proofs.lemmas.List.{length-map}
+use Rattle.xet_clean.specs.Cleaner.{IsCleaning}
+use Rattle.xet_clean.specs.Errors.{IsCleanerError}
+use Rattle.xet_clean.specs.Planning.{IsFew}
+use Rattle.xet_cut.specs.Chunking.{chunking}
+use Rattle.xet_cut.specs.Limits.{AreInRange}
+use Rattle.xet_cut.specs.Streams.{Splitting}
+use Rattle.xet_file_plan.specs.Moves.{PlanState}
+use Rattle.xet_hash.specs.Merkle.{leaf_of}
+use Rattle.xet_hash.specs.declared.error.Place.TheVariants.{Disk}
+use Rattle.xet_hash.specs.declared.error.StoreError.{StoreError}
+use Rattle.xet_hash.specs.declared.error.StoreError.TheVariants.{Io, MalformedData, OutOfMemory, TooLarge}
+use Rattle.xet_hash.specs.declared.error.What.TheVariants.{Shards}
+use Rattle.xet_stepping.specs.Asking.{IsErrorSince}
+use Rattle.xet_stepping.specs.Holders.{Follows, Holder, seen}
+use Rattle.xet_single_file.proofs.Growing.{leaves_more}
+
+-- the bytes before the rest, and one more piece of it
+pub more_split : (n : ℕ) (done rest front back whole : List ℕ) → whole ≡ done ++ rest → front ≡ take n rest → back ≡ drop n rest → whole ≡ (done ++ front) ++ back
+more_split n done rest front back whole is e f =
+    is ∙ ap (λ (x : List ℕ). done ++ x) (sym (take-append-drop n rest) ∙ (λ i. sym e i ++ sym f i)) ∙ sym (append_assoc done front back)
+
+-- ---- entries
+
+none_failed : (a b : Bool) → b ≡ a → (if b then (if a then 0 else 2) else 0) ≡ 0
+none_failed true true same = refl
+none_failed a false same = refl
+none_failed false true same = absurd (true≢false same)
+
+-- no more bytes were added
+pub few_before : (start now : Holder) (whole : Bool) (plan : PlanState) (global : ℕ × ℕ) (splitting : Splitting) (count : ℕ) (bytes : List ℕ) → IsCleaning start now whole plan global splitting count bytes → (rest : List ℕ) → IsFew start now (bytes ++ rest)
+few_before start now whole plan global splitting count bytes c rest = record {
+  follows = c.follows;
+  few = omega (
+    arith,
+    c.follows.few,
+    none_failed start.stopped now.stopped c.passed,
+    c.few,
+    c.asked,
+    ap length c.leaves,
+    length-map c.parts leaf_of,
+    length-map (chunking now.limits (bytes ++ rest)) leaf_of,
+    ap length (c.split.joined rest),
+    length-append c.parts (chunking now.limits (splitting.buffered ++ rest)),
+  );
+}
+
+-- a piece was not added, and nor were the bytes after it
+pub few_of_whole : (start mid now : Holder) (before done piece back whole : List ℕ) → AreInRange mid.limits → Follows mid now → whole ≡ (done ++ piece) ++ back → IsFew start now ((before ++ done) ++ piece) → IsFew start now (before ++ whole)
+few_of_whole start mid now before done piece back whole range f is few =
+    let limits : now.limits ≡ mid.limits = ap (λ (h : Holder). h.limits) f.is in
+    let here : AreInRange now.limits = subst AreInRange (sym limits) range in
+    let all : before ++ whole ≡ ((before ++ done) ++ piece) ++ back =
+    ap (λ (x : List ℕ). before ++ x) is ∙ sym (append_assoc before (done ++ piece) back) ∙ ap (λ (x : List ℕ). x ++ back) (sym (append_assoc before done piece)) in
+    subst (IsFew start now) (sym all) (record {
+      follows = few.follows;
+      few = omega (arith, few.few, leaves_more now.limits here.minimum_from here.minimum_to ((before ++ done) ++ piece) back);
+    })
+
+-- ---- errors
+
+seen_grows : (old mid : Holder) → Follows old mid → length (seen old) ≤ length (seen mid)
+seen_grows old mid f =
+    omega (arith, ap (λ (h : Holder). length (seen h)) f.is, length-append old.before (old.since ++ f.since), length-append old.since f.since, length-append old.before old.since)
+
+error_earlier : (old mid new : Holder) → Follows old mid → (e : StoreError) → IsErrorSince mid new e → IsErrorSince old new e
+error_earlier old mid new f (Io Disk) is = record { number = is.number; kind = is.kind; among = is.among; since = omega (arith, is.since, seen_grows old mid f) }
+error_earlier old mid new f OutOfMemory is = tt
+error_earlier old mid new f (TooLarge Shards) is = is
+error_earlier old mid new f (MalformedData reason) is = is
+error_earlier old mid new f e is = absurd is
+
+-- a piece that the limits allow was not added: a step failed
+pub piece_error : (number count : ℕ) (piece : List ℕ) (old mid new : Holder) (e : StoreError) → Follows old mid → count + length piece ≤ old.limits.max_source_bytes → IsCleanerError number count piece mid new e → IsErrorSince old new e
+piece_error number count piece old mid new e f short (inl long) =
+    absurd (omega (arith, short, long.1, ap (λ (h : Holder). h.limits.max_source_bytes) f.is))
+piece_error number count piece old mid new e f short (inr is) = error_earlier old mid new f e is
