@@ -22,9 +22,21 @@ pub more_split : (n : ℕ) (done rest front back whole : List ℕ) → whole ≡
 more_split n done rest front back whole is e f =
     is ∙ ap (λ (x : List ℕ). done ++ x) (sym (take-append-drop n rest) ∙ (λ i. sym e i ++ sym f i)) ∙ sym (append_assoc done front back)
 
+-- the bytes before, the pieces so far, and one more piece
+pub joined : (P : List ℕ → Type 0) (before done piece : List ℕ) → P ((before ++ done) ++ piece) → P (before ++ (done ++ piece))
+joined P before done piece = subst P (append_assoc before done piece)
+
+-- the last piece
+pub joined_all : (P : List ℕ → Type 0) (before done rest whole : List ℕ) → whole ≡ done ++ rest → P ((before ++ done) ++ rest) → P (before ++ whole)
+joined_all P before done rest whole is p = subst (λ (l : List ℕ). P (before ++ l)) (sym is) (joined P before done rest p)
+
 -- ---- entries
 
-none_failed : (a b : Bool) → b ≡ a → (if b then (if a then 0 else 2) else 0) ≡ 0
+-- the entries of a step that failed
+abbrev failed_entries : Bool → Bool → ℕ
+failed_entries old new = if new then (if old then 0 else 2) else 0
+
+none_failed : (a b : Bool) → b ≡ a → failed_entries a b ≡ 0
 none_failed true true same = refl
 none_failed a false same = refl
 none_failed false true same = absurd (true≢false same)
