@@ -8,8 +8,6 @@ mod failing_tests;
 #[cfg(test)]
 mod hashing_tests;
 #[cfg(test)]
-mod locked_tests;
-#[cfg(test)]
 mod random_tests;
 #[cfg(test)]
 mod session;

@@ -150,9 +150,18 @@ module _ (store : RecordedState) (start old new : Holder) (stopped : Bool) (last
         (subst (λ (cut : Core → List Entry). StepFailed Complete cut old new e) (λ i c. complete_cut (number_same start old is.follows i) c (limits_same start old is.follows i).shard_target file) failed)))
 
 -- it has stopped, and makes no step
+stands_still : (start old : Holder) (stopped : Bool) (s : PassingState) → passing_state start old stopped ≡ s → stopped ≡ true → (k : StepKind) (cut : Core → List Entry) → SawError k cut (of_state s) (of_state s) OutOfMemory
+stands_still start old has s view stopped k cut = saw_stopped k cut (of_state s) (sym (ap (λ (x : PassingState). x.stopped) view) ∙ stopped)
+
+pub query_refused : (start old : Holder) (stopped : Bool) (s : PassingState) → passing_state start old stopped ≡ s → stopped ≡ true → SawError Query no_cut (of_state s) (of_state s) OutOfMemory
+query_refused start old has s view stopped = stands_still start old has s view stopped Query no_cut
+
+pub register_refused : (start old : Holder) (stopped : Bool) (s : PassingState) → passing_state start old stopped ≡ s → stopped ≡ true → (leaves : List (List ℕ × ℕ)) → SawError Register (cut_to_register (of_state s) leaves) (of_state s) (of_state s) OutOfMemory
+register_refused start old has s view stopped leaves = stands_still start old has s view stopped Register (cut_to_register (of_state s) leaves)
+
 pub complete_refused : (start old : Holder) (stopped : Bool) (s : PassingState) → passing_state start old stopped ≡ s → stopped ≡ true → (file : MDBFileInfo)
     → SawOther file (of_state s) (of_state s) OutOfMemory ⊎ SawError Complete (cut_to_complete (of_state s) file) (of_state s) (of_state s) OutOfMemory
-complete_refused start old has s view stopped file = inr (saw_stopped Complete (cut_to_complete (of_state s) file) (of_state s) (sym (ap (λ (x : PassingState). x.stopped) view) ∙ stopped))
+complete_refused start old has s view stopped file = inr (stands_still start old has s view stopped Complete (cut_to_complete (of_state s) file))
 
 -- it begins
 pub begins : (store : RecordedState) (pass : Holder) → IsPassOf store pass → IsSeen pass → IsKept store pass pass false 0

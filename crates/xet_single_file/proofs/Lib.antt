@@ -2,4 +2,3 @@ mod Growing
 mod Piecewise
 mod Passes
 mod Clauses
-mod Beginning

@@ -173,5 +173,5 @@ when_err (Ok x) b is = tt
 when_err (Err e) b is = is
 
 pub if_ok : {T E : Type 0} {P : Type 0} (r : Result T E) (b : Bool) → b ≡ is_ok r → b ≡ true → OnOk r P → P
-if_ok (Ok x) b is yes p = p
-if_ok (Err e) b is yes p = absurd (true≢false (sym yes ∙ is))
+if_ok (Ok x) b is ok p = p
+if_ok (Err e) b is ok p = absurd (true≢false (sym ok ∙ is))

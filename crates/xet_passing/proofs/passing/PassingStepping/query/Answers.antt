@@ -1,7 +1,10 @@
 use Rattle.std.proofs.Common.{◌-◌, ℕ, ap}
-use Rattle.xet_passing.proofs.Returned.{query_empty, query_error, query_latest, query_seen_by, query_stops}
+use Rattle.xet_passing.proofs.Returned.{query_empty, query_error, query_latest, query_refused, query_seen_by, query_stops}
 use Rattle.xet_passing.proofs.passing.PassingStepping.query.Goals.{else-not-is_empty, then-not-is_empty}
 use Rattle.xet_passing.proofs.passing.PassingStepping.query.Goals as goal
+
+pub returns-then-self-clause-refused : goal.returns-then-self-clause-refused
+returns-then-self-clause-refused g c = query_refused _ _ _ _ c.self.view_is c.if-self.true
 
 pub invariant_of-self : goal.invariant_of-self
 invariant_of-self g c = query_latest _ _ _ _ _ _ _ c.self.view_is c.if-self.false c.self.invariant c.recall_invariant.ensures.seen c.args.hashes.now c.in-Ok.run' c.in-Ok.ensures.saw _ c.is_empty.ensures c.if-not-is_empty.true _ (ap (λ (n : ℕ). n - 1) c.seen.ensures)

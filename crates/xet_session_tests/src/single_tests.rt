@@ -2,13 +2,13 @@
 
 ghost use Rattle.std.specs.Prelude.{◌≡◌, IfOk, OnOk, true};
 
-use crate::session::{Session, limits};
 use std::alloc::{AllocError, Global};
 use std::marker::Brand;
 use std::sync::Wait;
 use std::test::Fail;
-use xet_clean::{FinishedFile, Sha256Policy};
-use xet_hash::{StoreError, What};
+use xet_clean::{FinishedFile, Sha256Policy, clean_bytes};
+use xet_cut::{LimitSettings, Limits};
+use xet_hash::{MerkleHash, StoreError, What};
 use xet_io::MemoryDisk;
 use xet_locked_session::{LockedSession, Naming, Opened, Pass};
 use xet_shard_format::Sha256;
@@ -18,6 +18,9 @@ use xet_store::XetFileInfo;
 
 /// The SHA-256 of `some data`.
 const DIGEST: &str = "1307990e6ba5ca145eb35e99182a9bec46531bc54ddf656a602c780fa0240dee";
+
+/// The SHA-256 of no bytes.
+const EMPTY: &str = "e3b0c44298fc1c149afbf4c8996fb92427ae41e4649b934ca495991b7852b855";
 
 /// The pointer record of a file, or the error; whether the cleaner was whole before it ended; the number of the pass that came
 /// back.
@@ -136,9 +139,16 @@ fn opened(alloc: Global) -> Result<Opened, AllocError>
     Opened::new(alloc, 1)
 }
 
-/// A store in the folder `store` of a new disk, whose sources have at most so many bytes.
+/// A store in the folder `store` of a new disk, with chunks from 64 to 1,024 bytes, whose sources have at most so many bytes.
 fn open(alloc: Global, max_source_bytes: u64) -> Result<Store<MemoryDisk>, StoreError> {
-    let limits = limits(1 << 20, max_source_bytes)?;
+    let limits = Limits::new(LimitSettings {
+        target_chunk: 512,
+        minimum_chunk: 64,
+        maximum_chunk: 1024,
+        shard_target: 1 << 20,
+        max_source_bytes,
+        ..LimitSettings::shown([0; 256])
+    })?;
     match Store::open(alloc, MemoryDisk::new(alloc), "store", limits, 1_000, false) {
         Ok(store) => Ok(store),
         Err(refused) => Err(refused.error),
@@ -172,8 +182,8 @@ fn cleans_at_once(
     bytes: &[u8],
     policy: Sha256Policy,
 ) -> Result<XetFileInfo, StoreError> {
-    let (session, answer) = Session::new(alloc, 1 << 20, 1 << 20)?.clean_bytes(bytes, policy);
-    session.close();
+    let (store, answer) = clean_bytes(alloc, open(alloc, 1 << 20)?, bytes, policy);
+    let _disk = store.into_disk();
     Ok(answer?.0)
 }
 
@@ -214,5 +224,27 @@ fn a_byte_too_many_is_an_error_and_the_pass_comes_back(rt: HostRuntime) -> Resul
     );
     let (info, whole, pass) = cleans(&rt, alloc, 9, b"some data", Sha256Policy::Compute)?;
     assert_eq!(rt; (info?.file_size, whole, pass), (9, true, 1));
+    Ok(())
+}
+
+#[test]
+fn a_file_of_no_bytes_has_hash_zero_and_size_zero(rt: HostRuntime) -> Result<(), Fail> {
+    let alloc = rt.alloc();
+    let digest = Sha256::from_hex(DIGEST)?;
+    let empty = Sha256::from_hex(EMPTY)?;
+    for (policy, sha256) in [
+        (Sha256Policy::Compute, Some(empty)),
+        (Sha256Policy::Provided(digest), Some(digest)),
+        (Sha256Policy::Skip, None),
+    ] {
+        let (info, whole, pass) = cleans(&rt, alloc, 1 << 20, b"", policy)?;
+        let expected = XetFileInfo {
+            hash: MerkleHash::default(),
+            file_size: 0,
+            sha256,
+        };
+        assert_eq!(rt; info?, expected);
+        assert_eq!(rt; (whole, pass), (true, 1));
+    }
     Ok(())
 }

@@ -1,4 +1,4 @@
-use Rattle.xet_clean_tests.proofs.locked_tests.clean_once.Given as goal
+use Rattle.xet_session_tests.proofs.single_tests.clean_once.Given as goal
 
 abbrev pub ghosts-clean_in-J-Naming : goal.ghosts-clean_in-J-Naming
 ghosts-clean_in-J-Naming g a = record { table = a.opened.word; store = a.store; stops = a.opened.stops }

@@ -1,0 +1,5 @@
+//! Tests of cleaning over the passes of a session.
+#![tactic(auto)]
+
+#[cfg(test)]
+mod single_tests;
