@@ -1,4 +1,5 @@
 pub mod Session
+pub mod Shared
 pub mod Passes
 pub mod Coding
 pub mod internal

@@ -1,12 +1,13 @@
 //! The store is taken out of the lock.
 
-ghost use Rattle.std.specs.Prelude.{◌≡◌, ◌≤◌, ◌+◌, ◌++◌, length, true};
+ghost use Rattle.std.specs.Prelude.{◌≡◌, ◌⊎◌, ◌≤◌, ◌+◌, ◌++◌, false, length, true};
 ghost use Rattle.std.specs.List.{AllByRecursion};
 ghost use mathlib.Core.List.{IsPrefix};
 ghost use Rattle.xet_shared_history.specs.Owned.{HasEachOnce};
 ghost use Rattle.xet_stepping.specs.Holders.{seen};
 ghost use Rattle.xet_locked_session.specs.Passes.{IsSeen, NumbersDiffer, own_numbers};
 ghost use Rattle.xet_locked_session.specs.Session.{IsSince, fault_count};
+ghost use Rattle.xet_locked_session.specs.Shared.{HaveEnded, HaveMade};
 ghost use Rattle.xet_locked_session.specs.internal.Returned.{IsReturned};
 
 use super::{Desk, Guarded, Known, LockedSession, Log, NamedStore, Pass};
@@ -21,6 +22,7 @@ impl<D: Disk, J: Naming> LockedSession<D, J> {
     /// alone.
     pub fn abandon(self) -> Store<D>
         ensures since { IsSince J.store result }
+        ensures made { J.stops ≡ true → HaveMade J.store result ⊎ HaveEnded J.store result }
         ensures one { J.stops ≡ true → fault_count result.history ≤ fault_count J.store.history + 1 }
     {
         let LockedSession {
@@ -39,16 +41,13 @@ impl<D: Disk, J: Naming> LockedSession<D, J> {
         store
     }
 
-    /// The store, once all passes are back. The history begins with what each of them has seen, and their own entries are
-    /// together those that were added since the session was made.
-    pub fn close(self, passes: Vec<Pass<J>>) -> Store<D>
-        requires all { length passes.items + 1 ≡ J.parts }
-        requires differ { NumbersDiffer passes.items }
+    /// The same, after one of the passes. The history begins with what that pass has seen.
+    pub fn abandon_after(self, pass: Pass<J>) -> Store<D>
         ensures since { IsSince J.store result }
-        ensures known { AllByRecursion IsSeen passes.items }
-        ensures seen { AllByRecursion (λ p. IsPrefix (seen p) result.history) passes.items }
-        ensures own { HasEachOnce (length J.store.history) (length result.history) (own_numbers passes.items) }
+        ensures made { J.stops ≡ true → HaveMade J.store result ⊎ HaveEnded J.store result }
         ensures one { J.stops ≡ true → fault_count result.history ≤ fault_count J.store.history + 1 }
+        ensures known { IsSeen pass }
+        ensures seen { IsPrefix (seen pass) result.history }
     {
         let LockedSession {
             word,
@@ -64,6 +63,57 @@ impl<D: Disk, J: Naming> LockedSession<D, J> {
         let Log {
             mut writer,
             count: _,
+            book: _,
+            mut rest,
+        } = log;
+        store.recall_invariant();
+        return_pass::<J>(&word, &mut writer, &mut rest, pass);
+        let NamedStore { store, of: _ } = store;
+        store
+    }
+
+    /// The store, once all passes are back. The history begins with what each of them has seen, and their own entries are
+    /// together those that were added since the session was made.
+    pub fn close(self, passes: Vec<Pass<J>>) -> Store<D>
+        requires all { length passes.items + 1 ≡ J.parts }
+        requires differ { NumbersDiffer passes.items }
+        ensures since { IsSince J.store result }
+        ensures known { AllByRecursion IsSeen passes.items }
+        ensures seen { AllByRecursion (λ p. IsPrefix (seen p) result.history) passes.items }
+        ensures own { HasEachOnce (length J.store.history) (length result.history) (own_numbers passes.items) }
+        ensures made { J.stops ≡ true → HaveMade J.store result ⊎ HaveEnded J.store result }
+        ensures one { J.stops ≡ true → fault_count result.history ≤ fault_count J.store.history + 1 }
+    {
+        self.close_stopped(passes).0
+    }
+
+    /// The same, and whether the last step was made: in a session that stops at the first failed step, a step failed, or `stop`
+    /// was called. It is false in any other session.
+    pub fn close_stopped(self, passes: Vec<Pass<J>>) -> (Store<D>, bool)
+        requires all { length passes.items + 1 ≡ J.parts }
+        requires differ { NumbersDiffer passes.items }
+        ensures since { IsSince J.store result.0 }
+        ensures known { AllByRecursion IsSeen passes.items }
+        ensures seen { AllByRecursion (λ p. IsPrefix (seen p) result.0.history) passes.items }
+        ensures own { HasEachOnce (length J.store.history) (length result.0.history) (own_numbers passes.items) }
+        ensures going { J.stops ≡ true → result.1 ≡ false → HaveMade J.store result.0 }
+        ensures made { J.stops ≡ true → HaveMade J.store result.0 ⊎ HaveEnded J.store result.0 }
+        ensures one { J.stops ≡ true → fault_count result.0.history ≤ fault_count J.store.history + 1 }
+    {
+        let LockedSession {
+            word,
+            limits: _,
+            desk,
+        } = self;
+        let Guarded {
+            desk,
+            stops: _,
+            stopped,
+        } = desk.into_inner();
+        let Desk { store, log } = desk;
+        let Log {
+            mut writer,
+            count: _,
             mut book,
             mut rest,
         } = log;
@@ -74,7 +124,7 @@ impl<D: Disk, J: Naming> LockedSession<D, J> {
         }
         book.audit(&mut rest);
         let NamedStore { store, of: _ } = store;
-        store
+        (store, stopped)
     }
 }
 

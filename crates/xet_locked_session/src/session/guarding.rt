@@ -1,7 +1,7 @@
 //! The steps of passes, until the one that is the last.
 
-ghost use Rattle.std.specs.Prelude.{◌≡◌, ◌⊎◌, IfErr, IfOk};
-ghost use Rattle.xet_dedup_queries.specs.Registering.{IsNewXorb};
+ghost use Rattle.std.specs.Prelude.{◌≡◌, ◌⊎◌, IfErr, IfOk, false, true};
+ghost use Rattle.xet_dedup_queries.specs.Registering.{IsDue, IsNewXorb};
 ghost use Rattle.xet_locked_session.specs.Passes.{FlushFailed, OtherFile, SawFlush, StepFailed};
 ghost use Rattle.xet_shard_format.specs.Records.{IsFile};
 ghost use Rattle.xet_stepping.specs.Holders.{xorb_limits};
@@ -46,6 +46,7 @@ impl<D: Disk, J: Naming> Guarded<D, J> {
     ) -> Result<bool, StoreError>
         requires word { word.now ≡ J.table }
         requires new { IsNewXorb (xorb_limits pass.old.limits) xorb }
+        requires due { J.stops ≡ true → IsDue (xorb_limits pass.old.limits) (raw_leaves xorb) next.now }
         ensures saw { IfOk result (SawRegister (raw_leaves xorb) next.now pass.old pass.new) }
         ensures refused { IfErr result (StepFailed StepKind.Register (cut_to_register pass.old (raw_leaves xorb)) pass.old pass.new) }
     {
@@ -81,7 +82,8 @@ impl<D: Disk, J: Naming> Guarded<D, J> {
         word: &HistoryWord,
         pass: &mut Pass<J>,
     ) -> Result<Option<MerkleHash>, StoreError>
-        requires { word.now ≡ J.table }
+        requires word { word.now ≡ J.table }
+        requires stops { J.stops ≡ false }
         ensures saw { IfOk result (SawFlush pass.old pass.new) }
         ensures refused { IfErr result (FlushFailed pass.old pass.new) }
     {
@@ -94,7 +96,9 @@ impl<D: Disk, J: Naming> Guarded<D, J> {
     }
 
     /// If the first step that fails is the last one, no step is made from now on. Otherwise nothing changes.
-    pub fn stop(&mut self) {
+    pub fn stop(&mut self)
+        ensures { self.new ≡ self.old }
+    {
         self.stopped = self.stops;
     }
 }

@@ -1,7 +1,7 @@
 //! The steps of passes, each in one hold of the lock.
 
-ghost use Rattle.std.specs.Prelude.{◌≡◌, ◌⊎◌, IfErr, IfOk};
-ghost use Rattle.xet_dedup_queries.specs.Registering.{IsNewXorb};
+ghost use Rattle.std.specs.Prelude.{◌≡◌, ◌⊎◌, IfErr, IfOk, false, true};
+ghost use Rattle.xet_dedup_queries.specs.Registering.{IsDue, IsNewXorb};
 ghost use Rattle.xet_locked_session.specs.Passes.{FlushFailed, OtherFile, SawFlush, StepFailed};
 ghost use Rattle.xet_shard_format.specs.Records.{IsFile};
 ghost use Rattle.xet_stepping.specs.Holders.{xorb_limits};
@@ -51,6 +51,7 @@ impl<D: Disk, J: Naming> LockedSession<D, J> {
         next: &[(MerkleHash, u64)],
     ) -> Result<bool, StoreError>
         requires new { IsNewXorb (xorb_limits pass.old.limits) xorb }
+        requires due { J.stops ≡ true → IsDue (xorb_limits pass.old.limits) (raw_leaves xorb) next.now }
         ensures saw { IfOk result (SawRegister (raw_leaves xorb) next.now pass.old pass.new) }
         ensures refused { IfErr result (StepFailed StepKind.Register (cut_to_register pass.old (raw_leaves xorb)) pass.old pass.new) }
     {
@@ -87,6 +88,7 @@ impl<D: Disk, J: Naming> LockedSession<D, J> {
         rt: &R,
         pass: &mut Pass<J>,
     ) -> Result<Option<MerkleHash>, StoreError>
+        requires stops { J.stops ≡ false }
         ensures saw { IfOk result (SawFlush pass.old pass.new) }
         ensures refused { IfErr result (FlushFailed pass.old pass.new) }
     {

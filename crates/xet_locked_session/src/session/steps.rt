@@ -1,9 +1,9 @@
 //! The steps of passes, under the lock.
 
-ghost use Rattle.std.specs.Prelude.{◌≡◌, ◌⊎◌, ◌≤◌, ◌+◌, IfErr, IfOk, OnOk};
-ghost use Rattle.xet_dedup_queries.specs.Registering.{IsNewXorb};
+ghost use Rattle.std.specs.Prelude.{◌≡◌, ◌⊎◌, IfErr, IfOk, OnOk, true};
+ghost use Rattle.xet_dedup_queries.specs.Registering.{IsDue, IsNewXorb};
 ghost use Rattle.xet_locked_session.specs.Passes.{FlushFailed, OtherFile, SawFlush, StepFailed};
-ghost use Rattle.xet_locked_session.specs.Session.{fault_count};
+ghost use Rattle.xet_locked_session.specs.internal.Guarded.{HasFailed, HasStep};
 ghost use Rattle.xet_shard_format.specs.Records.{IsFile};
 ghost use Rattle.xet_stepping.specs.Holders.{xorb_limits};
 ghost use Rattle.xet_stepping.specs.Stepping.{SawComplete, SawQuery, SawRegister, cut_to_complete, cut_to_register, no_cut};
@@ -30,8 +30,8 @@ impl<D: Disk, J: Naming> Desk<D, J> {
         requires { word.now ≡ J.table }
         ensures saw { IfOk result (SawQuery hashes.now pass.old pass.new) }
         ensures refused { IfErr result (StepFailed StepKind.Query no_cut pass.old pass.new) }
-        ensures calm { OnOk result (fault_count self.new.history ≡ fault_count self.old.history) }
-        ensures few { fault_count self.new.history ≤ fault_count self.old.history + 1 }
+        ensures made { OnOk result (HasStep pass.old.number self.old self.new) }
+        ensures failed { IfErr result (HasFailed pass.old.number self.old self.new) }
     {
         word.compare(&mut self.log.writer, &mut pass.known.reader);
         self.store.recall_invariant();
@@ -59,10 +59,11 @@ impl<D: Disk, J: Naming> Desk<D, J> {
     ) -> Result<bool, StoreError>
         requires word { word.now ≡ J.table }
         requires new { IsNewXorb (xorb_limits pass.old.limits) xorb }
+        requires due { J.stops ≡ true → IsDue (xorb_limits pass.old.limits) (raw_leaves xorb) next.now }
         ensures saw { IfOk result (SawRegister (raw_leaves xorb) next.now pass.old pass.new) }
         ensures refused { IfErr result (StepFailed StepKind.Register (cut_to_register pass.old (raw_leaves xorb)) pass.old pass.new) }
-        ensures calm { OnOk result (fault_count self.new.history ≡ fault_count self.old.history) }
-        ensures few { fault_count self.new.history ≤ fault_count self.old.history + 1 }
+        ensures made { J.stops ≡ true → OnOk result (HasStep pass.old.number self.old self.new) }
+        ensures failed { IfErr result (HasFailed pass.old.number self.old self.new) }
     {
         word.compare(&mut self.log.writer, &mut pass.known.reader);
         self.store.recall_invariant();
@@ -91,8 +92,8 @@ impl<D: Disk, J: Naming> Desk<D, J> {
         requires form { IsFile file }
         ensures saw { IfOk result (SawComplete file pass.old pass.new) }
         ensures refused { IfErr result (λ e. OtherFile file pass.old pass.new e ⊎ StepFailed StepKind.Complete (cut_to_complete pass.old file) pass.old pass.new e) }
-        ensures calm { OnOk result (fault_count self.new.history ≡ fault_count self.old.history) }
-        ensures few { fault_count self.new.history ≤ fault_count self.old.history + 1 }
+        ensures made { OnOk result (HasStep pass.old.number self.old self.new) }
+        ensures failed { IfErr result (HasFailed pass.old.number self.old self.new) }
     {
         word.compare(&mut self.log.writer, &mut pass.known.reader);
         self.store.recall_invariant();
@@ -119,8 +120,6 @@ impl<D: Disk, J: Naming> Desk<D, J> {
         requires { word.now ≡ J.table }
         ensures saw { IfOk result (SawFlush pass.old pass.new) }
         ensures refused { IfErr result (FlushFailed pass.old pass.new) }
-        ensures calm { OnOk result (fault_count self.new.history ≡ fault_count self.old.history) }
-        ensures few { fault_count self.new.history ≤ fault_count self.old.history + 1 }
     {
         word.compare(&mut self.log.writer, &mut pass.known.reader);
         self.store.recall_invariant();
