@@ -1,18 +1,25 @@
 -- A session whose first step that fails may be the last one.
-use Rattle.std.proofs.Common.{◌≡◌, ◌≤◌, ◌+◌, Bool, true, false, List, [], ◌++◌, Result, Ok, Err, OnOk, inl, refl, sym, ap, arith}
+use Rattle.std.proofs.Common.{◌≡◌, ◌⊎◌, ◌≤◌, ◌+◌, ◌∙◌, ℕ, Bool, true, false, List, [], ◌++◌, Result, Ok, Err, OnOk, IfErr, inl, inr, refl, sym, ap, subst, append_assoc}
 use Rattle.std.specs.Prelude.{◌&&◌}
 use Rattle.std.specs.Result.{is_err}
 use Rattle.std.proofs.lemmas.List.{append-nil}
+use Rattle.xet_cut.specs.declared.limits.LimitSettings.{LimitSettings}
 use Rattle.xet_hash.specs.declared.error.StoreError.{StoreError}
 use Rattle.xet_hash.specs.declared.error.StoreError.TheVariants.{OutOfMemory}
 use Rattle.xet_history.specs.Core.{Core}
+use Rattle.xet_history.specs.History.{after_all}
 use Rattle.xet_history.specs.declared.entry.Entry.{Entry}
 use Rattle.xet_history.specs.declared.entry.StepKind.{StepKind}
-use Rattle.xet_steps.specs.Recorded.{RecordedState}
+use Rattle.xet_shared_history.specs.theorems.Prefixes.{same_rest}
+use Rattle.xet_steps.specs.Recorded.{RecordedState, core_of}
+use Rattle.xet_steps.specs.Steps.{fault_entries}
+use Rattle.xet_stepping.specs.Alone.{MayBeAsked, cut_of, kind_of}
 use Rattle.xet_stepping.specs.Holders.{Holder, grown}
 use Rattle.xet_locked_session.specs.Passes.{FlushFailed, StepFailed}
-use Rattle.xet_locked_session.specs.Session.{fault_count}
-use Rattle.xet_locked_session.specs.internal.Guarded.{IsGuarded}
+use Rattle.xet_locked_session.specs.Session.{IsSince, fault_count}
+use Rattle.xet_locked_session.specs.Shared.{HaveEnded, HaveMade, StepOf, StepsBy}
+use Rattle.xet_locked_session.specs.internal.Guarded.{HasFailed, HasStep, IsGuarded}
+use Rattle.xet_locked_session.proofs.Counting.{few_of}
 
 -- ---- nothing is done
 
@@ -25,22 +32,71 @@ nothing_failed k cut h = record { others = []; done = []; completed = inl refl; 
 pub nothing_flushed : (h : Holder) → FlushFailed h h OutOfMemory
 nothing_flushed h = record { others = []; is = grown_nothing h; reason = tt }
 
--- ---- failures of the disk
+-- ---- what is made
+
+module _ (start old new : RecordedState) (pass : ℕ) (is : IsSince start old) where
+  limits_old : old.store.limits ≡ start.store.limits
+  limits_old = is.steps.keeps.limits
+
+  core_old : (since : List Entry) → old.history ≡ start.history ++ since → core_of old ≡ after_all (core_of start) since
+  core_old since at = is.steps.moves.leads ∙ ap (after_all (core_of start)) (same_rest start.history is.since since (sym is.steps.moves.history ∙ at))
+
+  longer : (since added : List Entry) → old.history ≡ start.history ++ since → new.history ≡ old.history ++ added → new.history ≡ start.history ++ (since ++ added)
+  longer since added at more = more ∙ ap (λ (h : List Entry). h ++ added) at ∙ append_assoc start.history since added
+
+  made_more : HaveMade start old → HasStep pass old new → HaveMade start new
+  made_more m s = record {
+    since = m.since ++ s.added;
+    history = longer m.since s.added m.history s.history;
+    steps = StepsBy.more m.since s.added pass m.steps
+        (subst (λ (c : Core). StepOf start.store.limits pass c s.added) (core_old m.since m.history) (subst (λ (l : LimitSettings). StepOf l pass (core_of old) s.added) limits_old s.step));
+  }
+
+  made_last : (e : StoreError) → HaveMade start old → HasFailed pass old new e → HaveEnded start new
+  made_last e m f =
+      let target : old.store.limits.shard_target ≡ start.store.limits.shard_target = ap (λ (l : LimitSettings). l.shard_target) limits_old in
+      record {
+        since = m.since ++ (f.done ++ fault_entries pass (kind_of f.step) e);
+        history = longer m.since (f.done ++ fault_entries pass (kind_of f.step) e) m.history f.history;
+        error = e;
+        steps = record {
+          before = m.since;
+          steps = m.steps;
+          pass = pass;
+          step = f.step;
+          asked = subst (λ (l : LimitSettings). MayBeAsked l f.step) limits_old f.asked;
+          done = f.done;
+          completed = subst (λ (c : Core). (f.done ≡ []) ⊎ (f.done ≡ cut_of pass start.store.limits.shard_target f.step c)) (core_old m.since m.history)
+              (subst (λ (t : ℕ). (f.done ≡ []) ⊎ (f.done ≡ cut_of pass t f.step (core_of old))) target f.completed);
+          is = refl;
+        };
+      }
+
+made_nothing : (s : RecordedState) → HaveMade s s
+made_nothing s = record { since = []; history = sym (append-nil s.history); steps = StepsBy.begins }
 
 module _ (start : RecordedState) (stops : Bool) where
   pub guarded_first : IsGuarded start stops false start
-  guarded_first = record { one = λ does. omega arith; none = λ does going. omega arith }
+  guarded_first = record { going = λ does still. made_nothing start; made = λ does. inl (made_nothing start) }
 
   pub guarded_stop : (stopped now_stopped : Bool) (now : RecordedState) → IsGuarded start stops stopped now → now_stopped ≡ stops → IsGuarded start stops now_stopped now
-  guarded_stop stopped now_stopped now is same = record { one = is.one; none = λ does going. absurd (cc (sym does, same, going)) }
+  guarded_stop stopped now_stopped now is same = record { going = λ does going. absurd (cc (sym does, same, going)); made = is.made }
 
-  pub guarded_step : {T : Type 0} (r : Result T StoreError) (stopped : Bool) (old new : RecordedState) → stopped ≡ false → IsGuarded start stops stopped old → OnOk r (fault_count new.history ≡ fault_count old.history) → fault_count new.history ≤ fault_count old.history + 1
-      → IsGuarded start stops (stops && is_err r) new
-  guarded_step (Ok x) stopped old new going is calm few = record {
-    one = λ does. omega (arith, is.none does going, calm);
-    none = λ does still. omega (arith, is.none does going, calm);
+  pub guarded_step : {T : Type 0} (r : Result T StoreError) (stopped : Bool) (pass : ℕ) (old new : RecordedState) → stopped ≡ false → IsSince start old → IsGuarded start stops stopped old → (stops ≡ true → OnOk r (HasStep pass old new))
+      → IfErr r (HasFailed pass old new) → IsGuarded start stops (stops && is_err r) new
+  guarded_step (Ok x) stopped pass old new going since is step failed = record {
+    going = λ does still. made_more start old new pass since (is.going does going) (step does);
+    made = λ does. inl (made_more start old new pass since (is.going does going) (step does));
   }
-  guarded_step (Err e) stopped old new going is calm few = record {
-    one = λ does. omega (arith, is.none does going, few);
-    none = λ does still. absurd (cc (does, still));
+  guarded_step (Err e) stopped pass old new going since is step failed = record {
+    going = λ does still. absurd (cc (does, still));
+    made = λ does. inr (made_last start old new pass since e (is.going does going) failed);
   }
+
+  -- nothing is known of a session that does not stop
+  pub guarded_other : (stopped : Bool) (now : RecordedState) → stops ≡ false → IsGuarded start stops stopped now
+  guarded_other stopped now not = record { going = λ does going. absurd (cc (does, not)); made = λ does. absurd (cc (does, not)) }
+
+  -- at most one entry is a failure of the disk
+  pub guarded_few : (stopped : Bool) (now : RecordedState) → IsGuarded start stops stopped now → stops ≡ true → fault_count now.history ≤ fault_count start.history + 1
+  guarded_few stopped now is does = few_of start now (is.made does)

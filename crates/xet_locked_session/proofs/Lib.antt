@@ -7,5 +7,7 @@ pub mod Seeing
 pub mod Failing
 pub mod Telling
 pub mod Since
+pub mod Stepped
+pub mod Counting
 pub mod Guarding
 pub mod Returning

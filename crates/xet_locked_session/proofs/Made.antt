@@ -106,7 +106,7 @@ module _ (pass : ℕ) where
   pub few_complete_cut : (c : Core) (target : ℕ) (file : MDBFileInfo) → AreFew pass 1 0 (complete_cut pass c target file)
   few_complete_cut c target file = few_if (is_new c.records (file_record_hash file)) (cut_entries pass c target (file_record_size file)) (few_cut c target (file_record_size file))
 
-  few_fault : (k : StepKind) (e : StoreError) → AreFew pass 1 1 (fault_entries pass k e)
+  pub few_fault : (k : StepKind) (e : StoreError) → AreFew pass 1 1 (fault_entries pass k e)
   few_fault k (Io Disk) = record { few = omega arith; mine = (refl, tt); one = omega arith }
   few_fault k e = few_none 1 1
 
@@ -232,12 +232,3 @@ pub flushed_of : (pass : ℕ) (old new : RecordedState) (r : Result (Option (Lis
     → IfOk r (λ h. IfSome h (λ shard. IsFlushed old.store shard new.store)) → IfOk r (Flushed pass old new)
 flushed_of pass old new (Ok shard) steps none flushed = record { steps = steps; hash = answer_is old new shard none flushed }
 flushed_of pass old new (Err e) steps none flushed = tt
-
--- ---- the failures that a step added, in the history
-
-pub calm_of : {T : Type 0} (pass : ℕ) (r : Result T StoreError) (old new : RecordedState) → Grew pass r old new → OnOk r (fault_count new.history ≡ fault_count old.history)
-calm_of pass (Ok x) old new grew = omega (arith, ap fault_count grew.steps.moves.history, fault_count-append old.history grew.added, grew.calm)
-calm_of pass (Err e) old new grew = tt
-
-pub few_of : {T : Type 0} (pass : ℕ) (r : Result T StoreError) (old new : RecordedState) → Grew pass r old new → fault_count new.history ≤ fault_count old.history + 1
-few_of pass r old new grew = omega (arith, ap fault_count grew.steps.moves.history, fault_count-append old.history grew.added, grew.one)

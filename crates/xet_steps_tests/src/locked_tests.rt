@@ -1,6 +1,6 @@
 //! Tests of a session that passes share under a lock.
 
-ghost use Rattle.std.specs.Prelude.{◌≡◌, IfOk, IfSome};
+ghost use Rattle.std.specs.Prelude.{◌≡◌, IfOk, IfSome, false};
 ghost use Rattle.xet_dedup_queries.specs.Registering.{IsNewXorb};
 ghost use Rattle.xet_locked_session.specs.Passes.{new_passes};
 ghost use Rattle.xet_shard_format.specs.Records.{IsFile};
@@ -32,6 +32,7 @@ fn take_turns<J: Naming, R: Wait>(
     xorb: RawXorbData,
     file: MDBFileInfo,
 ) -> Result<Seen, StoreError>
+    requires going { J.stops ≡ false }
     requires new { IsNewXorb (xorb_limits first.old.limits) xorb }
     requires form { IsFile file }
 {
@@ -62,6 +63,7 @@ fn take_turns_of<J: Naming, R: Wait>(
     file: MDBFileInfo,
 ) -> Result<Seen, StoreError>
     requires passes { passes.items ≡ new_passes J.store 1 2 }
+    requires going { J.stops ≡ false }
     requires new { IsNewXorb (xorb_limits J.store.store.limits) xorb }
     requires form { IsFile file }
 {
@@ -87,6 +89,7 @@ fn share<J: Naming, R: Wait>(
     requires ledger { (opened.blank.name ≡ J.name) × (opened.blank.parts ≡ J.parts) × (J.parts ≡ 3) }
     requires store { store ≡ J.store }
     requires stops { opened.stops ≡ J.stops }
+    requires going { J.stops ≡ false }
     requires new { IsNewXorb (xorb_limits J.store.store.limits) xorb }
     requires form { IsFile file }
 {
@@ -106,7 +109,8 @@ fn share_files<R: Wait>(
     opened: Opened,
     store: Store<MemoryDisk>,
 ) -> (Store<MemoryDisk>, Result<Seen, StoreError>)
-    requires { opened.blank.parts ≡ 3 }
+    requires parts { opened.blank.parts ≡ 3 }
+    requires going { opened.stops ≡ false }
 {
     match xorb(alloc, store.limits()) {
         Ok(xorb) => match record(alloc, xorb.hash()) {
@@ -145,10 +149,48 @@ fn lock_once(
     lock::<Brand>(alloc, opened, store)
 }
 
-/// The errors of what ends a session, and of the flush after it.
+/// A session with two passes, which is stopped or not. Returns whether it was.
+fn halt<J: Naming, R: Wait>(
+    rt: &R,
+    alloc: Global,
+    opened: Opened,
+    store: Store<MemoryDisk>,
+    stop: bool,
+) -> (Store<MemoryDisk>, Result<bool, StoreError>)
+    requires table { opened.word ≡ J.table }
+    requires ledger { (opened.blank.name ≡ J.name) × (opened.blank.parts ≡ J.parts) × (J.parts ≡ 3) }
+    requires store { store ≡ J.store }
+    requires stops { opened.stops ≡ J.stops }
+{
+    match LockedSession::<MemoryDisk, J>::new(alloc, opened, store, 2) {
+        Ok((session, passes)) => {
+            if stop {
+                session.stop(rt);
+            }
+            let (store, stopped) = session.close_stopped(passes);
+            (store, Ok(stopped))
+        }
+        Err((store, error)) => (store, Err(error)),
+    }
+}
+
+/// The same, with a name of its own.
+fn halt_once<R: Wait>(
+    rt: &R,
+    alloc: Global,
+    opened: Opened,
+    store: Store<MemoryDisk>,
+    stop: bool,
+) -> (Store<MemoryDisk>, Result<bool, StoreError>)
+    requires { opened.blank.parts ≡ 3 }
+{
+    halt::<Brand, R>(rt, alloc, opened, store, stop)
+}
+
+/// The errors of what ends a session, and of the query after it.
 type Errors = (Option<StoreError>, Option<StoreError>);
 
-/// The first pass records the file; or, without a file, the session is stopped. The second pass then flushes.
+/// The first pass records the file; or, without a file, the session is stopped. The second pass then queries.
 fn end<J: Naming, R: Wait>(
     rt: &R,
     session: &LockedSession<MemoryDisk, J>,
@@ -165,16 +207,17 @@ fn end<J: Naming, R: Wait>(
             None
         }
     };
-    (ended, session.flush(rt, second).err())
+    let [a, _] = chunk_hashes();
+    (ended, session.query(rt, second, &[a]).err())
 }
 
-/// The same, with two passes of the session.
+/// The same, with two passes of the session. The second one is returned.
 fn end_of<J: Naming, R: Wait>(
     rt: &R,
     session: &LockedSession<MemoryDisk, J>,
     mut passes: Vec<Pass<J>>,
     file: Option<MDBFileInfo>,
-) -> Result<Errors, StoreError>
+) -> Result<(Errors, Pass<J>), StoreError>
     requires { IfSome file IsFile }
 {
     let Some(mut second) = passes.pop() else {
@@ -183,7 +226,8 @@ fn end_of<J: Naming, R: Wait>(
     let Some(mut first) = passes.pop() else {
         return Err(StoreError::OutOfMemory);
     };
-    Ok(end(rt, session, &mut first, &mut second, file))
+    let errors = end(rt, session, &mut first, &mut second, file);
+    Ok((errors, second))
 }
 
 /// The same, with a session of a store. The store is returned.
@@ -201,10 +245,10 @@ fn end_session<J: Naming, R: Wait>(
     requires form { IfSome file IsFile }
 {
     match LockedSession::<MemoryDisk, J>::new(alloc, opened, store, 2) {
-        Ok((session, passes)) => {
-            let errors = end_of(rt, &session, passes, file);
-            (session.abandon(), errors)
-        }
+        Ok((session, passes)) => match end_of(rt, &session, passes, file) {
+            Ok((errors, pass)) => (session.abandon_after(pass), Ok(errors)),
+            Err(error) => (session.abandon(), Err(error)),
+        },
         Err((store, error)) => (store, Err(error)),
     }
 }
@@ -262,6 +306,14 @@ fn opened(alloc: Global, stops: bool) -> Result<Opened, AllocError>
     }
 }
 
+/// Whether a session that ends without a step is stopped at its end.
+fn halted<R: Wait>(rt: &R, alloc: Global, stops: bool, stop: bool) -> Result<bool, StoreError> {
+    let opened = opened(alloc, stops)?;
+    let (store, stopped) = halt_once(rt, alloc, opened, open(alloc)?, stop);
+    let _disk = store.into_disk();
+    stopped
+}
+
 /// The file of the chunks of the xorb, which is nowhere listed.
 fn unlisted(alloc: Global) -> Result<MDBFileInfo, StoreError>
     ensures { IfOk result IsFile }
@@ -316,7 +368,7 @@ fn session_that_stops_makes_no_step_after_one_that_failed(rt: HostRuntime) -> Re
         opened(rt.alloc(), false)?,
         Some(unlisted(rt.alloc())?),
     )?;
-    assert_eq!(rt; going, ((other, None), 0));
+    assert_eq!(rt; going, ((other, None), 1));
     Ok(())
 }
 
@@ -325,6 +377,14 @@ fn session_that_stops_is_stopped_by_a_call(rt: HostRuntime) -> Result<(), Fail> 
     let stopping = ended(&rt, rt.alloc(), opened(rt.alloc(), true)?, None)?;
     assert_eq!(rt; stopping, ((None, Some(StoreError::OutOfMemory)), 0));
     let going = ended(&rt, rt.alloc(), opened(rt.alloc(), false)?, None)?;
-    assert_eq!(rt; going, ((None, None), 0));
+    assert_eq!(rt; going, ((None, None), 1));
+    Ok(())
+}
+
+#[test]
+fn session_says_whether_it_was_stopped(rt: HostRuntime) -> Result<(), Fail> {
+    assert!(rt; halted(&rt, rt.alloc(), true, true)?);
+    assert!(rt; !halted(&rt, rt.alloc(), true, false)?);
+    assert!(rt; !halted(&rt, rt.alloc(), false, true)?);
     Ok(())
 }

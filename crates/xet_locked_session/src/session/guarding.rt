@@ -32,6 +32,7 @@ impl<D: Disk, J: Naming> Guarded<D, J> {
         if self.stopped {
             return Err(StoreError::OutOfMemory);
         }
+        self.desk.store.recall_invariant();
         let result = self.desk.query(word, pass, hashes);
         self.stopped = self.stops && result.is_err();
         result
@@ -53,6 +54,7 @@ impl<D: Disk, J: Naming> Guarded<D, J> {
         if self.stopped {
             return Err(StoreError::OutOfMemory);
         }
+        self.desk.store.recall_invariant();
         let result = self.desk.register_xorb(word, pass, xorb, next);
         self.stopped = self.stops && result.is_err();
         result
@@ -72,6 +74,7 @@ impl<D: Disk, J: Naming> Guarded<D, J> {
         if self.stopped {
             return Err(StoreError::OutOfMemory);
         }
+        self.desk.store.recall_invariant();
         let result = self.desk.complete_file(word, pass, file);
         self.stopped = self.stops && result.is_err();
         result

@@ -42,7 +42,8 @@ impl<D: Disk, J: Naming> LockedSession<D, J> {
     /// the chunks that did not fit into the xorb. The call fails if a xorb of its hash is listed with other chunks, or if its
     /// hash is the sentinel. The errors are `OutOfMemory`, `TooLarge(Shards)`, which is returned only if a flush is due and
     /// 2^32 - 1 shards are registered, and `Io(Disk)`, which has an entry. In a session that stops at the first failed step,
-    /// `OutOfMemory` is also returned after one, and then nothing is done.
+    /// `OutOfMemory` is also returned after one, and then nothing is done. There `next` is empty, or the xorb with it would pass a
+    /// limit.
     pub fn register_xorb<R: Wait>(
         &self,
         rt: &R,
@@ -80,8 +81,8 @@ impl<D: Disk, J: Naming> LockedSession<D, J> {
 
     /// Flushes all that is pending as one shard, and returns its hash; returns none, and adds no entry, if nothing is pending.
     /// After an error all of it is still pending. The error is `TooLarge(Shards)`, which is returned only if something is
-    /// pending and 2^32 - 1 shards are registered, `OutOfMemory`, or `Io(Disk)`, which has an entry. In a session that stops at
-    /// the first failed step, `OutOfMemory` is also returned after one, and then nothing is done. The clauses say what is then
+    /// pending and 2^32 - 1 shards are registered, `OutOfMemory`, or `Io(Disk)`, which has an entry. A session that stops at the
+    /// first failed step has no such call: in it, each flush is one that is due before a step. The clauses say what is then
     /// pending and registered; that the shard's file is durable is by the code.
     pub fn flush<R: Wait>(
         &self,

@@ -1,18 +1,19 @@
-use Rattle.std.proofs.Common.{◌≡◌, ◌⊎◌, inl, inr, ◌∙◌, ◌+◌, ◌≤◌, ℕ, List, [], ◌++◌, drop, length, OnOk, ap, sym, subst, arith}
+use Rattle.std.proofs.Common.{◌≡◌, ◌⊎◌, inl, inr, ◌∙◌, ◌+◌, ℕ, List, [], ◌++◌, drop, length, OnOk, ap, sym, subst, arith, IfErr}
 use Rattle.xet_history.specs.declared.entry.Entry.{Entry}
 use Rattle.xet_history.specs.declared.entry.StepKind.TheVariants as kind
 use Rattle.xet_history.specs.History.{complete_entries}
 use Rattle.xet_stepping.specs.Stepping.{SawComplete, cut_to_complete}
 use Rattle.xet_shared_history.specs.Owned.{numbers_from}
+use Rattle.xet_stepping.specs.Holders.{Holder}
 use Rattle.xet_steps.specs.Recorded.{RecordedState, core_of}
 use Rattle.xet_steps.specs.Steps.{Steps, fault_entries}
+use Rattle.xet_locked_session.specs.internal.Guarded.{HasFailed, HasStep}
 use Rattle.xet_locked_session.specs.Passes.{OtherFile, StepFailed, holder_of}
 use Rattle.xet_steps.specs.theorems.Joining.{steps_nothing}
-use Rattle.xet_locked_session.specs.Session.{fault_count}
 use Rattle.xet_locked_session.proofs.Cases.{if_err, if_ok}
 use Rattle.xet_locked_session.proofs.Failing.{complete_failed, other_file}
-use Rattle.xet_locked_session.proofs.Made.{calm_of, few_of}
 use Rattle.xet_locked_session.proofs.Seeing.{saw_complete}
+use Rattle.xet_locked_session.proofs.Stepped.{completed_fails, completed_step}
 use Rattle.xet_locked_session.proofs.Telling.{IsTold, gained, told_by, told_count, told_history, told_legal, told_own}
 use Rattle.xet_locked_session.proofs.session.Desk.complete_file.Goals as goal
 
@@ -107,10 +108,12 @@ returns-clause-refused g c =
           (complete_failed start now new is pass own seen known at prefix are e c.args.file c.recall_invariant.ensures.recorded.shards fails))
     ])
 
-pub returns-clause-calm : goal.returns-clause-calm
-returns-clause-calm g c =
-    subst (λ (s : RecordedState). OnOk c.complete_by-result.result (fault_count c.complete_by-result.new.self.history ≡ fault_count s.history)) c.self.view_is (calm_of c.pass.inside.number c.complete_by-result.result c.self.inside.store c.complete_by-result.new.self c.complete_by-result.ensures.grew)
+pub returns-clause-made : goal.returns-clause-made
+returns-clause-made g c =
+    subst (λ (s : RecordedState). OnOk c.complete_by-result.result (HasStep c.args.pass.now.number s c.complete_by-result.new.self)) c.self.view_is
+    (subst (λ (h : Holder). OnOk c.complete_by-result.result (HasStep h.number c.self.inside.store c.complete_by-result.new.self)) c.pass.view_is (completed_step c.pass.inside.number c.self.inside.store c.complete_by-result.new.self c.args.file c.requires.form c.complete_by-result.result c.complete_by-result.ensures.completed))
 
-pub returns-clause-few : goal.returns-clause-few
-returns-clause-few g c =
-    subst (λ (s : RecordedState). fault_count c.complete_by-result.new.self.history ≤ fault_count s.history + 1) c.self.view_is (few_of c.pass.inside.number c.complete_by-result.result c.self.inside.store c.complete_by-result.new.self c.complete_by-result.ensures.grew)
+pub returns-clause-failed : goal.returns-clause-failed
+returns-clause-failed g c =
+    subst (λ (s : RecordedState). IfErr c.complete_by-result.result (HasFailed c.args.pass.now.number s c.complete_by-result.new.self)) c.self.view_is
+    (subst (λ (h : Holder). IfErr c.complete_by-result.result (HasFailed h.number c.self.inside.store c.complete_by-result.new.self)) c.pass.view_is (completed_fails c.pass.inside.number c.self.inside.store c.complete_by-result.new.self c.args.file c.requires.form c.complete_by-result.result c.complete_by-result.ensures.refused))

@@ -1,4 +1,4 @@
-use Rattle.std.proofs.Common.{◌≡◌, ◌∙◌, ◌+◌, ◌≤◌, ℕ, List, ◌++◌, drop, length, OnOk, ap, subst, arith}
+use Rattle.std.proofs.Common.{◌≡◌, ◌∙◌, ◌+◌, ℕ, List, ◌++◌, drop, length, ap, subst, arith}
 use Rattle.xet_history.specs.declared.entry.Entry.{Entry}
 use Rattle.xet_history.specs.declared.entry.StepKind.TheVariants as kind
 use Rattle.xet_history.specs.History.{flush_entries}
@@ -7,10 +7,8 @@ use Rattle.xet_shared_history.specs.Owned.{numbers_from}
 use Rattle.xet_steps.specs.Recorded.{RecordedState, core_of}
 use Rattle.xet_steps.specs.Steps.{fault_entries}
 use Rattle.xet_locked_session.specs.Passes.{FlushFailed, holder_of}
-use Rattle.xet_locked_session.specs.Session.{fault_count}
 use Rattle.xet_locked_session.proofs.Cases.{if_err, if_ok}
 use Rattle.xet_locked_session.proofs.Failing.{flush_failed, flush_steps}
-use Rattle.xet_locked_session.proofs.Made.{calm_of, few_of}
 use Rattle.xet_locked_session.proofs.Seeing.{saw_flush}
 use Rattle.xet_locked_session.proofs.Telling.{IsTold, gained, told_by, told_count, told_history, told_legal, told_own}
 use Rattle.xet_locked_session.proofs.session.Desk.flush.Goals as goal
@@ -102,11 +100,3 @@ returns-clause-refused g c =
     (λ e fails. let steps = flush_steps start now new is pass own seen known at prefix are e fails in
     told_by start pass own own_now known seen_now rest from told (fault_entries pass kind.Flush e) (gains (fault_entries pass kind.Flush e) steps.moves.history) (λ h k. FlushFailed h k e) c.args.pass.now seen c.pass.view_is
     (flush_failed start now new is pass own seen known at prefix are e c.recall_invariant.ensures.recorded.shards fails steps))
-
-pub returns-clause-calm : goal.returns-clause-calm
-returns-clause-calm g c =
-    subst (λ (s : RecordedState). OnOk c.flush_by-result.result (fault_count c.flush_by-result.new.self.history ≡ fault_count s.history)) c.self.view_is (calm_of c.pass.inside.number c.flush_by-result.result c.self.inside.store c.flush_by-result.new.self c.flush_by-result.ensures.grew)
-
-pub returns-clause-few : goal.returns-clause-few
-returns-clause-few g c =
-    subst (λ (s : RecordedState). fault_count c.flush_by-result.new.self.history ≤ fault_count s.history + 1) c.self.view_is (few_of c.pass.inside.number c.flush_by-result.result c.self.inside.store c.flush_by-result.new.self c.flush_by-result.ensures.grew)

@@ -1,17 +1,18 @@
-use Rattle.std.proofs.Common.{◌≡◌, ◌∙◌, ◌+◌, ◌≤◌, ℕ, List, ◌++◌, drop, length, OnOk, ap, subst, arith}
+use Rattle.std.proofs.Common.{◌≡◌, ◌∙◌, ◌+◌, ℕ, List, ◌++◌, drop, length, OnOk, ap, subst, arith, IfErr}
 use Rattle.xet_history.specs.declared.entry.Entry.{Entry}
 use Rattle.xet_history.specs.declared.entry.StepKind.TheVariants as kind
 use Rattle.xet_history.specs.History.{query_entries}
 use Rattle.xet_stepping.specs.Stepping.{SawQuery, no_cut}
 use Rattle.xet_shared_history.specs.Owned.{numbers_from}
+use Rattle.xet_stepping.specs.Holders.{Holder}
 use Rattle.xet_steps.specs.Recorded.{RecordedState}
 use Rattle.xet_steps.specs.Steps.{fault_entries}
+use Rattle.xet_locked_session.specs.internal.Guarded.{HasFailed, HasStep}
 use Rattle.xet_locked_session.specs.Passes.{StepFailed, holder_of}
-use Rattle.xet_locked_session.specs.Session.{fault_count}
 use Rattle.xet_locked_session.proofs.Cases.{if_err, if_ok}
 use Rattle.xet_locked_session.proofs.Failing.{query_failed}
-use Rattle.xet_locked_session.proofs.Made.{calm_of, few_of}
 use Rattle.xet_locked_session.proofs.Seeing.{saw_query}
+use Rattle.xet_locked_session.proofs.Stepped.{asked_fails, asked_step}
 use Rattle.xet_locked_session.proofs.Telling.{IsTold, gained, told_by, told_count, told_history, told_legal, told_own}
 use Rattle.xet_locked_session.proofs.session.Desk.query.Goals as goal
 
@@ -102,10 +103,12 @@ returns-clause-refused g c =
     (λ e fails. told_by start pass own own_now known seen_now rest from told (fault_entries pass kind.Query e) (gains (fault_entries pass kind.Query e) fails.steps.moves.history) (λ h k. StepFailed kind.Query no_cut h k e) c.args.pass.now seen c.pass.view_is
     (query_failed start now new is pass own seen known at prefix are e fails))
 
-pub returns-clause-calm : goal.returns-clause-calm
-returns-clause-calm g c =
-    subst (λ (s : RecordedState). OnOk c.query_by-result.result (fault_count c.query_by-result.new.self.history ≡ fault_count s.history)) c.self.view_is (calm_of c.pass.inside.number c.query_by-result.result c.self.inside.store c.query_by-result.new.self c.query_by-result.ensures.grew)
+pub returns-clause-made : goal.returns-clause-made
+returns-clause-made g c =
+    subst (λ (s : RecordedState). OnOk c.query_by-result.result (HasStep c.args.pass.now.number s c.query_by-result.new.self)) c.self.view_is
+    (subst (λ (h : Holder). OnOk c.query_by-result.result (HasStep h.number c.self.inside.store c.query_by-result.new.self)) c.pass.view_is (asked_step c.pass.inside.number c.self.inside.store c.query_by-result.new.self c.args.hashes.now c.query_by-result.result c.query_by-result.ensures.queried))
 
-pub returns-clause-few : goal.returns-clause-few
-returns-clause-few g c =
-    subst (λ (s : RecordedState). fault_count c.query_by-result.new.self.history ≤ fault_count s.history + 1) c.self.view_is (few_of c.pass.inside.number c.query_by-result.result c.self.inside.store c.query_by-result.new.self c.query_by-result.ensures.grew)
+pub returns-clause-failed : goal.returns-clause-failed
+returns-clause-failed g c =
+    subst (λ (s : RecordedState). IfErr c.query_by-result.result (HasFailed c.args.pass.now.number s c.query_by-result.new.self)) c.self.view_is
+    (subst (λ (h : Holder). IfErr c.query_by-result.result (HasFailed h.number c.self.inside.store c.query_by-result.new.self)) c.pass.view_is (asked_fails c.pass.inside.number c.self.inside.store c.query_by-result.new.self c.query_by-result.result c.query_by-result.ensures.refused))

@@ -1,18 +1,19 @@
-use Rattle.std.proofs.Common.{◌≡◌, ◌∙◌, ◌+◌, ◌≤◌, ℕ, List, ◌++◌, drop, length, OnOk, ap, subst, arith}
+use Rattle.std.proofs.Common.{◌≡◌, ◌∙◌, ◌+◌, ℕ, List, ◌++◌, drop, length, OnOk, ap, subst, arith, IfErr, sym}
 use Rattle.xet_history.specs.declared.entry.Entry.{Entry}
 use Rattle.xet_history.specs.declared.entry.StepKind.TheVariants as kind
 use Rattle.xet_history.specs.History.{register_entries}
 use Rattle.xet_stepping.specs.Stepping.{SawRegister, cut_to_register}
 use Rattle.xet_xorb.specs.Raw.{raw_leaves}
 use Rattle.xet_shared_history.specs.Owned.{numbers_from}
+use Rattle.xet_stepping.specs.Holders.{Holder}
 use Rattle.xet_steps.specs.Recorded.{RecordedState, core_of}
 use Rattle.xet_steps.specs.Steps.{fault_entries}
+use Rattle.xet_locked_session.specs.internal.Guarded.{HasFailed, HasStep}
 use Rattle.xet_locked_session.specs.Passes.{StepFailed, holder_of}
-use Rattle.xet_locked_session.specs.Session.{fault_count}
 use Rattle.xet_locked_session.proofs.Cases.{if_err, if_ok}
 use Rattle.xet_locked_session.proofs.Failing.{register_failed}
-use Rattle.xet_locked_session.proofs.Made.{calm_of, few_of}
 use Rattle.xet_locked_session.proofs.Seeing.{saw_register}
+use Rattle.xet_locked_session.proofs.Stepped.{registered_fails, registered_step}
 use Rattle.xet_locked_session.proofs.Telling.{IsTold, gained, told_by, told_count, told_history, told_legal, told_own}
 use Rattle.xet_locked_session.proofs.session.Desk.register_xorb.Goals as goal
 
@@ -103,10 +104,14 @@ returns-clause-refused g c =
     (λ e fails. told_by start pass own own_now known seen_now rest from told (fails.done ++ fault_entries pass kind.Register e) (gains (fails.done ++ fault_entries pass kind.Register e) fails.steps.moves.history) (λ h k. StepFailed kind.Register (cut_to_register h (raw_leaves c.args.xorb)) h k e) c.args.pass.now seen c.pass.view_is
     (register_failed start now new is pass own seen known at prefix are e (raw_leaves c.args.xorb) c.recall_invariant.ensures.recorded.shards fails))
 
-pub returns-clause-calm : goal.returns-clause-calm
-returns-clause-calm g c =
-    subst (λ (s : RecordedState). OnOk c.register_by-result.result (fault_count c.register_by-result.new.self.history ≡ fault_count s.history)) c.self.view_is (calm_of c.pass.inside.number c.register_by-result.result c.self.inside.store c.register_by-result.new.self c.register_by-result.ensures.grew)
+pub returns-clause-made : goal.returns-clause-made
+returns-clause-made g c does =
+    let same : c.args.pass.now.limits ≡ c.self.inside.store.store.limits = sym (c.recall_invariant.ensures.since.steps.keeps.limits ∙ ap (λ (h : Holder). h.limits) c.pass.view_is) in
+    subst (λ (s : RecordedState). OnOk c.register_by-result.result (HasStep c.args.pass.now.number s c.register_by-result.new.self)) c.self.view_is
+    (subst (λ (h : Holder). OnOk c.register_by-result.result (HasStep h.number c.self.inside.store c.register_by-result.new.self)) c.pass.view_is (registered_step c.pass.inside.number c.self.inside.store c.register_by-result.new.self c.args.pass.now.limits same c.args.xorb c.requires.new c.args.next.now (c.requires.due does) c.register_by-result.result c.register_by-result.ensures.registered))
 
-pub returns-clause-few : goal.returns-clause-few
-returns-clause-few g c =
-    subst (λ (s : RecordedState). fault_count c.register_by-result.new.self.history ≤ fault_count s.history + 1) c.self.view_is (few_of c.pass.inside.number c.register_by-result.result c.self.inside.store c.register_by-result.new.self c.register_by-result.ensures.grew)
+pub returns-clause-failed : goal.returns-clause-failed
+returns-clause-failed g c =
+    let same : c.args.pass.now.limits ≡ c.self.inside.store.store.limits = sym (c.recall_invariant.ensures.since.steps.keeps.limits ∙ ap (λ (h : Holder). h.limits) c.pass.view_is) in
+    subst (λ (s : RecordedState). IfErr c.register_by-result.result (HasFailed c.args.pass.now.number s c.register_by-result.new.self)) c.self.view_is
+    (subst (λ (h : Holder). IfErr c.register_by-result.result (HasFailed h.number c.self.inside.store c.register_by-result.new.self)) c.pass.view_is (registered_fails c.pass.inside.number c.self.inside.store c.register_by-result.new.self c.args.pass.now.limits same c.args.xorb c.requires.new c.register_by-result.result c.register_by-result.ensures.refused))

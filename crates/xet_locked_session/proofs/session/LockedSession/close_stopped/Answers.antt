@@ -6,9 +6,12 @@ use Rattle.xet_history.specs.declared.entry.Entry.{Entry}
 use Rattle.xet_shared_history.specs.Owned.{HasEachOnce}
 use Rattle.xet_stepping.specs.Holders.{Holder, seen}
 use Rattle.xet_locked_session.specs.Passes.{IsSeen, NumbersDiffer, own_numbers}
+use Rattle.xet_steps.specs.Recorded.{RecordedState}
+use Rattle.xet_locked_session.specs.internal.Guarded.{IsGuarded}
 use Rattle.xet_locked_session.specs.internal.Returned.{IsReturned}
+use Rattle.xet_locked_session.proofs.Guarding.{guarded_few}
 use Rattle.xet_locked_session.proofs.Returning.{returned_known, returned_once, returned_prefixes}
-use Rattle.xet_locked_session.proofs.session.LockedSession.close.Goals as goal
+use Rattle.xet_locked_session.proofs.session.LockedSession.close_stopped.Goals as goal
 
 pub passes-init : goal.passes-init
 passes-init g c =
@@ -73,3 +76,14 @@ returns-clause-known g c =
     let none : length c.passes.left.items ≡ 0 = search rules in
     let all : c.args.passes.items ≡ was.back = nothing c.passes.left.items was.back c.args.passes.items was.split none in
     subst (λ (hs : List Holder). AllByRecursion IsSeen hs) (sym all) (returned_known g.J.Naming.store (g.J.Naming.store.history ++ c.passes.writer.seen) was.back was.returned)
+
+pub returns-clause-going : goal.returns-clause-going
+returns-clause-going g c = (subst (λ (s : RecordedState). IsGuarded g.J.Naming.store g.J.Naming.stops c.desk.inside.stopped s) (sym (c.store.view_is ∙ c.desk-2.view_is)) c.desk.invariant.1).going
+
+pub returns-clause-made : goal.returns-clause-made
+returns-clause-made g c = (subst (λ (s : RecordedState). IsGuarded g.J.Naming.store g.J.Naming.stops c.desk.inside.stopped s) (sym (c.store.view_is ∙ c.desk-2.view_is)) c.desk.invariant.1).made
+
+pub returns-clause-one : goal.returns-clause-one
+returns-clause-one g c =
+    guarded_few g.J.Naming.store g.J.Naming.stops c.desk.inside.stopped c.store.inside.store
+    (subst (λ (s : RecordedState). IsGuarded g.J.Naming.store g.J.Naming.stops c.desk.inside.stopped s) (sym (c.store.view_is ∙ c.desk-2.view_is)) c.desk.invariant.1)

@@ -1,0 +1,7 @@
+use Rattle.xet_steps_tests.proofs.locked_tests.halt_once.Given as goal
+
+abbrev pub ghosts-halt-J-Naming : goal.ghosts-halt-J-Naming
+ghosts-halt-J-Naming g a = record { table = a.opened.word; store = a.store; stops = a.opened.stops }
+
+abbrev pub ghosts-halt-J-Ledger : goal.ghosts-halt-J-Ledger
+ghosts-halt-J-Ledger g a = record { name = a.opened.blank.name; parts = a.opened.blank.parts }
