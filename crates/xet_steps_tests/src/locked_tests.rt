@@ -383,8 +383,9 @@ fn session_that_stops_is_stopped_by_a_call(rt: HostRuntime) -> Result<(), Fail> 
 
 #[test]
 fn session_says_whether_it_was_stopped(rt: HostRuntime) -> Result<(), Fail> {
-    assert!(rt; halted(&rt, rt.alloc(), true, true)?);
-    assert!(rt; !halted(&rt, rt.alloc(), true, false)?);
-    assert!(rt; !halted(&rt, rt.alloc(), false, true)?);
+    let stopped = halted(&rt, rt.alloc(), true, true)?;
+    let left = halted(&rt, rt.alloc(), true, false)?;
+    let other = halted(&rt, rt.alloc(), false, true)?;
+    assert_eq!(rt; (stopped, left, other), (true, false, false));
     Ok(())
 }

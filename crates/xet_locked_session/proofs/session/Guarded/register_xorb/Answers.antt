@@ -1,4 +1,4 @@
-use Rattle.std.proofs.Common.{rules, ◌≡◌, Bool, ap, sym, subst}
+use Rattle.std.proofs.Common.{rules, ◌≡◌, ◌∙◌, Bool, ap, sym, subst}
 use Rattle.std.specs.Prelude.{◌&&◌}
 use Rattle.std.specs.Result.{is_err}
 use Rattle.xet_history.specs.declared.entry.StepKind.TheVariants as kind
@@ -24,5 +24,5 @@ invariant_of-self g c =
     let is : IsSince start now = subst (λ (s : RecordedState). IsSince start s) (ap (λ s. s.desk) c.self-inside.view_is) c.recall_invariant.ensures.since in (
       c.self.invariant.0,
       subst (λ (b : Bool). IsGuarded start stops b new) (sym last)
-      (guarded_step start stops result c.self.inside.stopped c.args.pass.now.number now new c.if-self.false is c.self.invariant.1 c.register_xorb-result.ensures.made c.register_xorb-result.ensures.failed),
+      (guarded_step start stops result c.self.inside.stopped c.args.pass.now.number now new (sym (ap (λ s. s.stopped) c.self-inside.view_is) ∙ c.if-self.false) is c.self.invariant.1 c.register_xorb-result.ensures.made c.register_xorb-result.ensures.failed),
     )
