@@ -7,4 +7,5 @@ pub mod Errors
 pub mod Planning
 pub mod Sources
 pub mod Working
+pub mod Merging
 pub mod internal

@@ -1,0 +1,25 @@
+//! What was made of parts of the sources is merged, and what is left of it is closed.
+
+ghost use Rattle.std.specs.Prelude.{◌≤◌, ◌<◌, ◌^◌, List, IfErr, IfOk, length};
+ghost use Rattle.std.specs.List.{sum_by};
+ghost use Rattle.xet_clean.specs.Merging.{IsUnmerged, MayMergeAll, MergesAll, Part};
+ghost use Rattle.xet_stepping.specs.Holders.{Follows};
+
+use crate::info::Cleaned;
+use crate::working::Working;
+use xet_hash::StoreError;
+use xet_stepping::Stepping;
+
+/// Merges what was made of parts of the sources, in order: what is left of a part joins what is left of those before it, and if it
+/// does not fit, that is closed first. At the end what is left is closed. There is at least one part, and there are at most 2^20
+/// files in all. After an error the steps before it stand.
+pub fn merge_all<S: Stepping>(steps: &mut S, parts: Vec<Working>) -> Result<Cleaned, StoreError>
+    requires some { 0 < length parts.items }
+    requires count { sum_by (λ w. length w.cleaned.infos.items) parts.items ≤ 2 ^ 20 }
+    requires parts { (ps : List Part) × MayMergeAll (S.holder steps.old) ps parts.items }
+    ensures merged { (ps : List Part) → MayMergeAll (S.holder steps.old) ps parts.items → IfOk result (λ cleaned. MergesAll ps (S.holder steps.old) (S.holder steps.new) cleaned.infos.items cleaned.choices.items cleaned.metrics) }
+    ensures follows { Follows (S.holder steps.old) (S.holder steps.new) }
+    ensures refused { (ps : List Part) → MayMergeAll (S.holder steps.old) ps parts.items → IfErr result (IsUnmerged ps (S.holder steps.old) (S.holder steps.new)) }
+{
+    unreachable!()
+}
