@@ -36,7 +36,7 @@ use Rattle.xet_clean.proofs.Adding.{Adds, adds_asking, asking_calls, adds_closed
 use Rattle.xet_clean.proofs.Completing.{both_some}
 use Rattle.xet_clean.proofs.InOrder.{recorded_none, recorded_one, recorded_then}
 use Rattle.xet_clean.proofs.Joining.{IsKept}
-use Rattle.xet_clean.proofs.Keeping.{any_last, limits_follow, waits_follow}
+use Rattle.xet_clean.proofs.Keeping.{any_last, limits_follow, seen_follows, waits_seen}
 use Rattle.xet_clean.proofs.Landing.{lands_last, lands_of, lands_then, later_last, part_itself, part_left, part_right, part_then}
 use Rattle.xet_clean.proofs.Records.{records_filled, shifted_of, waits_among_more, waits_earlier, waits_later}
 use Rattle.xet_clean.proofs.Sums.{no_leaves}
@@ -75,7 +75,7 @@ module _ (start first now : Holder) (files : List Planned) (infos : List XetFile
   waits_here : AllByRecursion (λ p. Waits now a.chunks (files ++ f ∷ []) p.0) a.files
   waits_here =
       all_more (λ p. Waits first a.chunks files p.0) (λ p. Waits now a.chunks (files ++ f ∷ []) p.0) a.files
-      (λ p is. waits_among_more now a.chunks files (f ∷ []) p.0 (waits_follow first now planned.follows.follows a.chunks files p.0 is)) w.waits
+      (λ p is. waits_among_more now a.chunks files (f ∷ []) p.0 (waits_seen first now (seen_follows first now planned.follows.follows) a.chunks files p.0 is)) w.waits
 
   within_here : IsWithin now.limits a.chunks
   within_here = subst (λ (s : LimitSettings). IsWithin s a.chunks) first_now w.within
@@ -262,7 +262,7 @@ module _ (start first now : Holder) (files : List Planned) (infos : List XetFile
         most = length planned.follows.follows.own + (2 * length a.chunks + 2 * length a.files);
         adds = both;
         records = records_closed;
-        waits = (waits_follow now new closed.follows f.plan.block (files ++ f ∷ []) file its_wait, tt);
+        waits = (waits_seen now new (seen_follows now new closed.follows) f.plan.block (files ++ f ∷ []) file its_wait, tt);
         aggregate = is_rest;
         within = subst (λ (s : LimitSettings). IsWithin s f.plan.block) limits_new planned.block;
         forms = its_form;

@@ -1,4 +1,4 @@
--- What is listed and what stands stays when a holder goes on; so do records that wait.
+-- What is listed and what stands stays when a holder goes on, or another has seen as much; so do records that wait.
 use Rattle.std.proofs.Common.{◌≡◌, ◌∙◌, inl, inr, ℕ, List, [], ◌∷◌, ◌++◌, map, Option, Some, None, option_map, refl, sym, ap, subst, arith}
 use Rattle.std.specs.Prelude.{Any}
 use Rattle.std.proofs.lemmas.List.Elements.{Contains-append_left, Contains-append_right}
@@ -19,6 +19,7 @@ use Rattle.xet_xorb_chunk.specs.declared.chunk.Chunk.{Chunk}
 use Rattle.xet_stepping.specs.Asking.{Stands}
 use Rattle.xet_stepping.specs.Holders.{Follows, Holder, core_at, lengths_in}
 use Rattle.xet_stepping.specs.theorems.Following.{follows_then}
+use Rattle.xet_clean.specs.Merging.{HasSeen}
 use Rattle.xet_clean.specs.Working.{IsRecordOf, Planned, Waits, WasPlanned}
 
 abbrev Leaves : Type 0
@@ -37,53 +38,66 @@ any_last P xs x p = let at = Contains-append_right xs (x ∷ []) x (0, omega ari
 
 -- ---- a holder that goes on
 
-module _ (a b : Holder) (f : Follows a b) where
-  core_follows : core_at b ≡ after_all (core_at a) f.since
-  core_follows = ap core_at f.is ∙ after_all-append a.base a.since f.since
+pub limits_follow : (a b : Holder) → Follows a b → b.limits ≡ a.limits
+limits_follow a b f = ap (λ (h : Holder). h.limits) f.is
 
-  tells_follow : b.tells ≡ a.tells
-  tells_follow = ap (λ (h : Holder). h.tells) f.is
+pub own_follows : (a b : Holder) (f : Follows a b) → b.own ≡ a.own ++ f.own
+own_follows a b f = ap (λ (h : Holder). h.own) f.is
 
-  pub limits_follow : b.limits ≡ a.limits
-  limits_follow = ap (λ (h : Holder). h.limits) f.is
+-- it has seen what it had seen before
+pub seen_follows : (a b : Holder) → Follows a b → HasSeen a b
+seen_follows a b f = record {
+  more = f.since;
+  tells = ap (λ (h : Holder). h.tells) f.is;
+  limits = limits_follow a b f;
+  core = ap core_at f.is ∙ after_all-append a.base a.since f.since;
+}
 
-  pub own_follows : b.own ≡ a.own ++ f.own
-  own_follows = ap (λ (h : Holder). h.own) f.is
+pub seen_then : (a b c : Holder) → HasSeen a b → HasSeen b c → HasSeen a c
+seen_then a b c x y = record {
+  more = x.more ++ y.more;
+  tells = y.tells ∙ x.tells;
+  limits = y.limits ∙ x.limits;
+  core = y.core ∙ ap (λ (k : Core). after_all k y.more) x.core ∙ sym (after_all-append (core_at a) x.more y.more);
+}
 
-  pub listed_follows : (h : List ℕ) (leaves : Leaves) → IsListed (core_at a).xorbs h leaves → IsListed (core_at b).xorbs h leaves
-  listed_follows h leaves is = subst (λ (c : Core). IsListed c.xorbs h leaves) (sym core_follows) (listed_after_all (core_at a) f.since h leaves is)
+pub was_planned_follows : (a b : Holder) → Follows a b → (start : Holder) (p : Planned) → WasPlanned start a p → WasPlanned start b p
+was_planned_follows a b f start p w = record { first = w.first; last = w.last; planned = w.planned; from = w.from; to = follows_then w.last a b w.to f }
 
-  pub lengths_follow : (h lengths : List ℕ) → lengths_in (core_at a) h ≡ Some lengths → lengths_in (core_at b) h ≡ Some lengths
-  lengths_follow h lengths is = go (found (core_at a).xorbs h) refl is
+-- ---- a holder that has seen what another has
+
+module _ (a b : Holder) (seen : HasSeen a b) where
+  pub listed_seen : (h : List ℕ) (leaves : Leaves) → IsListed (core_at a).xorbs h leaves → IsListed (core_at b).xorbs h leaves
+  listed_seen h leaves is = subst (λ (c : Core). IsListed c.xorbs h leaves) (sym seen.core) (listed_after_all (core_at a) seen.more h leaves is)
+
+  pub lengths_seen : (h lengths : List ℕ) → lengths_in (core_at a) h ≡ Some lengths → lengths_in (core_at b) h ≡ Some lengths
+  lengths_seen h lengths is = go (found (core_at a).xorbs h) refl is
     where
       go : (o : Option Leaves) → found (core_at a).xorbs h ≡ o → option_map (λ (leaves : Leaves). map (λ m. m.1) leaves) o ≡ Some lengths → lengths_in (core_at b) h ≡ Some lengths
       go None at e = absurd (cc e)
-      go (Some leaves) at e = ap (λ (o : Option Leaves). option_map (λ (ls : Leaves). map (λ m. m.1) ls) o) (listed_follows h leaves at) ∙ e
+      go (Some leaves) at e = ap (λ (o : Option Leaves). option_map (λ (ls : Leaves). map (λ m. m.1) ls) o) (listed_seen h leaves at) ∙ e
 
-  key_follows : (key : List ℕ) → IsKey (core_at a) key → IsKey (core_at b) key
-  key_follows key (inl zero) = inl zero
-  key_follows key (inr any) =
-      let more = shards_after_all (core_at a) f.since in
+  key_seen : (key : List ℕ) → IsKey (core_at a) key → IsKey (core_at b) key
+  key_seen key (inl zero) = inl zero
+  key_seen key (inr any) =
+      let more = shards_after_all (core_at a) seen.more in
       let at = Contains-append_left (core_at a).shards more.0 any.1 (any.0, any.2, any.3) in
-      inr (subst (λ (ss : List RegisteredShard). Any (λ s. key_of s ≡ key) ss) (more.1 ∙ ap (λ (c : Core). c.shards) (sym core_follows)) (at.0, any.1, at.1, at.2, any.4))
+      inr (subst (λ (ss : List RegisteredShard). Any (λ s. key_of s ≡ key) ss) (more.1 ∙ ap (λ (c : Core). c.shards) (sym seen.core)) (at.0, any.1, at.1, at.2, any.4))
 
-  pub standing_follows : (hashes : List (List ℕ)) (run : Segment) → IsStanding (core_at a) hashes run → IsStanding (core_at b) hashes run
-  standing_follows hashes run s = record { leaves = s.leaves; listed = listed_follows run.xorb_hash s.leaves s.listed; key = s.key; is_key = key_follows s.key s.is_key; same = s.same }
+  pub standing_seen : (hashes : List (List ℕ)) (run : Segment) → IsStanding (core_at a) hashes run → IsStanding (core_at b) hashes run
+  standing_seen hashes run s = record { leaves = s.leaves; listed = listed_seen run.xorb_hash s.leaves s.listed; key = s.key; is_key = key_seen s.key s.is_key; same = s.same }
 
-  stands_follow : (hashes : List (List ℕ)) (run : Segment) → Stands a hashes run → Stands b hashes run
-  stands_follow hashes run stands told = standing_follows hashes run (stands (sym tells_follow ∙ told))
+  stands_seen : (hashes : List (List ℕ)) (run : Segment) → Stands a hashes run → Stands b hashes run
+  stands_seen hashes run stands told = standing_seen hashes run (stands (sym seen.tells ∙ told))
 
   -- what is placed stays placed
-  pub placed_follows : (chunks : List Chunk) (ss : List Segment) (hashes : List (List ℕ)) → ArePlaced (lengths_in (core_at a)) (Stands a) chunks ss hashes → ArePlaced (lengths_in (core_at b)) (Stands b) chunks ss hashes
-  placed_follows chunks =
+  placed_seen : (chunks : List Chunk) (ss : List Segment) (hashes : List (List ℕ)) → ArePlaced (lengths_in (core_at a)) (Stands a) chunks ss hashes → ArePlaced (lengths_in (core_at b)) (Stands b) chunks ss hashes
+  placed_seen chunks =
       placed_stays (lengths_in (core_at a)) (lengths_in (core_at b)) (Stands a) (Stands b) chunks chunks
-      (λ s hashes pos h. hashes_known (lengths_in (core_at a)) (lengths_in (core_at b)) (Stands a) (Stands b) lengths_follow stands_follow chunks s hashes h)
+      (λ s hashes pos h. hashes_known (lengths_in (core_at a)) (lengths_in (core_at b)) (Stands a) (Stands b) lengths_seen stands_seen chunks s hashes h)
 
-  pub waits_follow : (chunks : List Chunk) (files : List Planned) (file : MDBFileInfo) → Waits a chunks files file → Waits b chunks files file
-  waits_follow chunks files file =
+  pub waits_seen : (chunks : List Chunk) (files : List Planned) (file : MDBFileInfo) → Waits a chunks files file → Waits b chunks files file
+  waits_seen chunks files file =
       any_more (λ (p : Planned). IsRecordOf p file × ArePlaced (lengths_in (core_at a)) (Stands a) chunks file.segments (hashes_of p.plan.leaves))
       (λ (p : Planned). IsRecordOf p file × ArePlaced (lengths_in (core_at b)) (Stands b) chunks file.segments (hashes_of p.plan.leaves)) files
-      (λ p w. (w.0, placed_follows chunks file.segments (hashes_of p.plan.leaves) w.1))
-
-  pub was_planned_follows : (start : Holder) (p : Planned) → WasPlanned start a p → WasPlanned start b p
-  was_planned_follows start p w = record { first = w.first; last = w.last; planned = w.planned; from = w.from; to = follows_then w.last a b w.to f }
+      (λ p w. (w.0, placed_seen chunks file.segments (hashes_of p.plan.leaves) w.1))

@@ -32,7 +32,7 @@ use Rattle.xet_shard_format.specs.declared.record.MDBFileInfo.{MDBFileInfo}
 use Rattle.xet_clean.proofs.Adding.{none_recorded, recorded_in-append}
 use Rattle.xet_clean.proofs.Closing.{error_earlier}
 use Rattle.xet_clean.proofs.Hashes.{chunks_sum}
-use Rattle.xet_clean.proofs.Keeping.{waits_follow, was_planned_follows}
+use Rattle.xet_clean.proofs.Keeping.{seen_follows, waits_seen, was_planned_follows}
 use Rattle.xet_clean.proofs.Stopping.{HasRecorded, first_recorded}
 use Rattle.xet_clean.proofs.Turns.{AreFrom, at_length, drop_past, done_counts, done_push, done_read, done_told, from_then, later_all, long_at, rose_at, set_at_length, taken_all, taken_each, tell_all, untouched}
 use Rattle.xet_clean.specs.declared.policy.Sha256Policy.{Sha256Policy}
@@ -183,7 +183,7 @@ module _ {S : Type 0} (tells : S → Bool) (left : S → List ℕ) (faults : S �
           aggregate = a;
           parts = w.aggregate;
           within = subst (λ (s : LimitSettings). IsWithin s a.chunks) (sym limits_same) w.within;
-          waits = all_more (λ p. Waits h a.chunks l.files p.0) (λ p. Waits first a.chunks l.files p.0) a.files (λ p waits. waits_follow h first later a.chunks l.files p.0 waits) w.waits;
+          waits = all_more (λ p. Waits h a.chunks l.files p.0) (λ p. Waits first a.chunks l.files p.0) a.files (λ p waits. waits_seen h first (seen_follows h first later) a.chunks l.files p.0 waits) w.waits;
           next = next_leaves;
           refused = u;
         }

@@ -44,7 +44,7 @@ use Rattle.xet_clean.specs.Working.{IsRecordOf, Planned, Waits, WasPlanned}
 use Rattle.xet_clean.proofs.Counting.{other_at_most}
 use Rattle.xet_clean.proofs.Ending.{made_of}
 use Rattle.xet_clean.proofs.Hashes.{planned_hash, planned_leaves}
-use Rattle.xet_clean.proofs.Keeping.{lengths_follow, listed_follows, standing_follows}
+use Rattle.xet_clean.proofs.Keeping.{lengths_seen, listed_seen, seen_follows, standing_seen}
 use Rattle.xet_clean.proofs.Records.{filled_of}
 use Rattle.xet_clean.proofs.Resolving.{few_bytes, placed_filled, placed_none, resolves_placed}
 use Rattle.xet_clean.proofs.Session.{core_is}
@@ -91,12 +91,12 @@ module _ {S : Type 0} (tells : S → Bool) (left : S → List ℕ) (sources : Li
   to_core = sym (core_is old new stopped is)
 
   lists : (h lengths : List ℕ) → lengths_in (core_at u.before) h ≡ Some lengths → lengths_in (core_of new) h ≡ Some lengths
-  lists h lengths listed = subst (λ (d : Core). lengths_in d h ≡ Some lengths) to_core (lengths_follow u.before now goes_on h lengths listed)
+  lists h lengths listed = subst (λ (d : Core). lengths_in d h ≡ Some lengths) to_core (lengths_seen u.before now (seen_follows u.before now goes_on) h lengths listed)
 
   stands : (hashes : List (List ℕ)) (run : Segment) → Stands u.before hashes run → IsStanding (core_of new) hashes run
   stands hashes run st =
       let there : u.before.tells ≡ true = sym (ap (λ (h : Holder). h.tells) goes_on.is) ∙ told in
-      subst (λ (d : Core). IsStanding d hashes run) to_core (standing_follows u.before now goes_on hashes run (st there))
+      subst (λ (d : Core). IsStanding d hashes run) to_core (standing_seen u.before now (seen_follows u.before now goes_on) hashes run (st there))
 
   -- the record of a file with these chunks, whose segments have its hashes, may be recorded
   module _ (f : Planned) (was : WasPlanned (alone_of old old false) u.before f) (among : Among u.files f) where
@@ -145,7 +145,7 @@ module _ {S : Type 0} (tells : S → Bool) (left : S → List ℕ) (sources : Li
   placed_now mid (inl r) later ss hashes placed = placed_none (lengths_in (core_at u.before)) (Stands u.before) (core_of new) lists stands u.aggregate.chunks hash r.0 ss hashes placed
   placed_now mid (inr r) later ss hashes placed =
       let listed : IsListed new.store.xorbs hash (map chunk_leaf u.aggregate.chunks) =
-      subst (λ (d : Core). IsListed d.xorbs hash (map chunk_leaf u.aggregate.chunks)) to_core (listed_follows mid now later hash (map chunk_leaf u.aggregate.chunks) r.2.listed) in
+      subst (λ (d : Core). IsListed d.xorbs hash (map chunk_leaf u.aggregate.chunks)) to_core (listed_seen mid now (seen_follows mid now later) hash (map chunk_leaf u.aggregate.chunks) r.2.listed) in
       placed_filled (lengths_in (core_at u.before)) (Stands u.before) (core_of new) lists stands u.aggregate.chunks listed r.2.named (few_bytes u.aggregate.chunks u.parts.parts.total) ss hashes placed
 
   not_refused : (mid : Holder) → RegistersChunks u.aggregate u.next u.before mid → (file : MDBFileInfo) → IsAmong (filled_files u.aggregate) file → (at : Holder) → Follows mid at

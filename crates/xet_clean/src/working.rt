@@ -6,8 +6,10 @@ ghost use Rattle.xet_aggregate.specs.Metrics.{zeros};
 ghost use Rattle.xet_clean.specs.Planning.{IsWithin};
 ghost use Rattle.xet_stepping.specs.Holders.{Follows, Holder};
 ghost use Rattle.xet_clean.specs.Closing.{Closes, HaveForm, IsAtMost, IsUnclosed, Joins};
+ghost use Rattle.xet_clean.specs.internal.Sums.{HasRoom};
 ghost use Rattle.xet_clean.specs.Working.{IsAdded, IsWorking, Planned};
 ghost use Rattle.xet_cut.specs.Limits.{AreInRange};
+ghost use Rattle.xet_dedup.specs.Deduping.{metrics_of_both};
 ghost use Rattle.xet_file_plan.specs.Moves.{PlanState};
 ghost use Rattle.xet_xorb_chunk.specs.Chunks.{chunk_leaf};
 
@@ -76,6 +78,29 @@ impl Working {
         self.cleaned.infos.push_reserved(info);
         self.cleaned.choices.push_reserved(choices);
         Ok(())
+    }
+
+    /// Adds what was made of a further part of the sources. What is left of that part joins the aggregate, which is closed first
+    /// if it does not fit.
+    pub(crate) fn merge<S: Stepping>(&mut self, steps: &mut S, part: Working) -> Result<(), StoreError>
+        requires here { IsAggregate self.old.aggregate × IsWithin (S.holder steps.old).limits self.old.aggregate.chunks × HaveForm self.old.aggregate.files }
+        requires rest { IsAggregate part.aggregate × IsWithin (S.holder steps.old).limits part.aggregate.chunks × HaveForm part.aggregate.files }
+        requires range { AreInRange (S.holder steps.old).limits }
+        requires room { HasRoom self.old.cleaned.metrics part.cleaned.metrics }
+        ensures joined { OnOk result (Joins (S.holder steps.old) (S.holder steps.new) self.old.aggregate part.aggregate self.new.aggregate) }
+        ensures infos { OnOk result (self.new.cleaned.infos.items ≡ self.old.cleaned.infos.items ++ part.cleaned.infos.items) }
+        ensures choices { OnOk result (self.new.cleaned.choices.items ≡ self.old.cleaned.choices.items ++ part.cleaned.choices.items) }
+        ensures metrics { OnOk result (self.new.cleaned.metrics ≡ metrics_of_both self.old.cleaned.metrics part.cleaned.metrics) }
+        ensures follows { Follows (S.holder steps.old) (S.holder steps.new) }
+        ensures refused { IfErr result (IsUnclosed self.old.aggregate (map chunk_leaf part.aggregate.chunks) (S.holder steps.old) (S.holder steps.new)) }
+    {
+        let Working {
+            alloc: _,
+            cleaned,
+            aggregate,
+        } = part;
+        self.cleaned.add(cleaned)?;
+        self.join(steps, aggregate)
     }
 
     /// Adds the last chunks of a file to the aggregate, which is closed first if they do not fit.

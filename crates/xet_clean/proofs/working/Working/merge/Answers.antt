@@ -1,0 +1,17 @@
+use Rattle.std.proofs.Common.{ℕ, List, map, subst, sym}
+use Rattle.xet_base.specs.theorems.Exits.{exit_with}
+use Rattle.xet_stepping.specs.theorems.Following.{follows_nothing}
+use Rattle.xet_xorb_chunk.specs.Chunks.{chunk_leaf}
+use Rattle.xet_clean.specs.Closing.{IsUnclosed}
+use Rattle.xet_clean.proofs.Completing.{unclosed_nothing}
+use Rattle.xet_clean.proofs.working.Working.merge.Goals as goal
+
+pub returns-in_err-add-clause-follows : goal.returns-in_err-add-clause-follows
+returns-in_err-add-clause-follows g c = follows_nothing (g.S.Stepping.holder c.args.steps.now)
+
+pub returns-in_err-add-clause-refused : goal.returns-in_err-add-clause-refused
+returns-in_err-add-clause-refused g c =
+    let a = c.args.self.now.aggregate in
+    let h = g.S.Stepping.holder c.args.steps.now in
+    let next : List (List ℕ × ℕ) = map chunk_leaf c.args.part.aggregate.chunks in
+    exit_with (IsUnclosed a next h h) _ _ c.from_residual.ensures.1 (subst (IsUnclosed a next h h) (sym c.in_err-add.ensures.memory) (unclosed_nothing a next h))
