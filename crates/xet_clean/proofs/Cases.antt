@@ -44,7 +44,7 @@ use Rattle.xet_clean.specs.Policies.{sha256_by}
 
 -- ---- chunks of both
 
-within_both : (s : LimitSettings) (xs ys : List Chunk) → IsWithin s xs → IsWithin s ys → total xs + total ys ≤ s.cut_bytes → length xs + length ys ≤ s.cut_chunks → IsWithin s (xs ++ ys)
+pub within_both : (s : LimitSettings) (xs ys : List Chunk) → IsWithin s xs → IsWithin s ys → total xs + total ys ≤ s.cut_bytes → length xs + length ys ≤ s.cut_chunks → IsWithin s (xs ++ ys)
 within_both s xs ys first second bytes count = record {
   within = record {
     bytes = omega (arith, bytes, sum_by-append (λ (c : Chunk). length c.bytes) xs ys);

@@ -48,7 +48,7 @@ pub record IsEnded (start now : Holder) (files : List Planned) : Type 0 where
   pub registers : RegistersFew (calls_in follows.own)
   pub bound : length follows.own ≤ 3 * sum_by (λ f. length f.plan.leaves) files + 2 * length files
 
-last_chunks : (leaves : List (List ℕ × ℕ)) → registered_chunks (close_of leaves) ≡ length leaves
+pub last_chunks : (leaves : List (List ℕ × ℕ)) → registered_chunks (close_of leaves) ≡ length leaves
 last_chunks [] = refl
 last_chunks (m ∷ ms) = omega arith
 

@@ -33,8 +33,11 @@ any_more P Q xs f a = (a.0, a.1, a.2, a.3, f a.1 a.4)
 pub any_left : {X : Type 0} (P : X → Type 0) (xs ys : List X) → Any P xs → Any P (xs ++ ys)
 any_left P xs ys a = let at = Contains-append_left xs ys a.1 (a.0, a.2, a.3) in (at.0, a.1, at.1, at.2, a.4)
 
+pub any_right : {X : Type 0} (P : X → Type 0) (xs ys : List X) → Any P ys → Any P (xs ++ ys)
+any_right P xs ys a = let at = Contains-append_right xs ys a.1 (a.0, a.2, a.3) in (at.0, a.1, at.1, at.2, a.4)
+
 pub any_last : {X : Type 0} (P : X → Type 0) (xs : List X) (x : X) → P x → Any P (xs ++ x ∷ [])
-any_last P xs x p = let at = Contains-append_right xs (x ∷ []) x (0, omega arith, refl) in (at.0, x, at.1, at.2, p)
+any_last P xs x p = any_right P xs (x ∷ []) (0, x, omega arith, refl, p)
 
 -- ---- a holder that goes on
 

@@ -1,14 +1,14 @@
 -- The chunks that did not fit into a xorb are in a later one, or left.
 use Rattle.std.proofs.Common.{◌∙◌, ◌⊎◌, inl, inr, ℕ, List, [], ◌∷◌, ◌++◌, refl, sym, ap, append_assoc, arith}
 use Rattle.std.proofs.lemmas.List.{append-nil}
-use Rattle.std.proofs.lemmas.List.Elements.{Contains-append_right}
 use Rattle.std.specs.List.{AllByRecursion}
 use Rattle.std.specs.Prelude.{Any}
 use Rattle.xet_choices.specs.Calls.{Call}
 use Rattle.xet_choices.specs.Calls.Call.{Asked, Registered}
 use Rattle.xet_dedup_queries.specs.Counting.{BeginsWith, HasNext, LandsIn, first_registered}
 use Rattle.xet_clean.specs.Cleaning.{IsPart, Lands, RegistersPart}
-use Rattle.xet_clean.proofs.Keeping.{any_left}
+use Rattle.xet_clean.specs.internal.Merging.{IsLater}
+use Rattle.xet_clean.proofs.Keeping.{any_left, any_right}
 
 -- ---- parts
 
@@ -36,12 +36,6 @@ part_then {X} xs ys zs first second =
     )
 
 -- ---- the parts that are registered or left
-
-abbrev pub IsLater : List (List ℕ × ℕ) → List Call → List (List ℕ × ℕ) → Type 0
-IsLater last calls part = Any (RegistersPart part) calls ⊎ IsPart part last
-
-any_right : {X : Type 0} (P : X → Type 0) (xs ys : List X) → Any P ys → Any P (xs ++ ys)
-any_right P xs ys a = let at = Contains-append_right xs ys a.1 (a.0, a.2, a.3) in (at.0, a.1, at.1, at.2, a.4)
 
 later_after : (call : Call) (last part : List (List ℕ × ℕ)) (calls : List Call) → IsLater last calls part → IsLater last (call ∷ calls) part
 later_after call last part calls (inl any) = inl (any_right (RegistersPart part) (call ∷ []) calls any)
@@ -75,16 +69,16 @@ lands_last (Registered leaves next ∷ xs) mid last is lands = ((lands.0.0, go l
 pub later_last : (calls : List Call) (leaves next last part : List (List ℕ × ℕ)) → IsPart part leaves → IsLater last (calls ++ Registered leaves next ∷ []) part
 later_last calls leaves next last part is = inl (any_right (RegistersPart part) calls (Registered leaves next ∷ []) (0, Registered leaves next, omega arith, refl, is))
 
--- more calls, if what was left is in a later xorb or still left
+-- the same after more calls, if what was left is in a later xorb or still left
+pub later_then : (xs ys : List Call) (mid last part : List (List ℕ × ℕ)) → IsLater mid xs part → (IsPart part mid → IsLater last ys part) → IsLater last (xs ++ ys) part
+later_then xs ys mid last part (inl any) later = inl (any_left (RegistersPart part) xs ys any)
+later_then xs ys mid last part (inr left) later = go (later left)
+  where
+    go : IsLater last ys part → IsLater last (xs ++ ys) part
+    go (inl any) = inl (any_right (RegistersPart part) xs ys any)
+    go (inr still) = inr still
+
 pub lands_then : (xs ys : List Call) (mid last : List (List ℕ × ℕ)) → Lands mid xs → Lands last ys → ((part : List (List ℕ × ℕ)) → IsPart part mid → IsLater last ys part) → Lands last (xs ++ ys)
 lands_then [] ys mid last first second later = second
 lands_then (Asked entry hashes reply ∷ xs) ys mid last first second later = lands_then xs ys mid last first second later
-lands_then (Registered leaves next ∷ xs) ys mid last first second later = ((first.0.0, go first.0.1), lands_then xs ys mid last first.1 second later)
-  where
-    also : IsLater last ys next → IsLater last (xs ++ ys) next
-    also (inl any) = inl (any_right (RegistersPart next) xs ys any)
-    also (inr left) = inr left
-
-    go : IsLater mid xs next → IsLater last (xs ++ ys) next
-    go (inl any) = inl (any_left (RegistersPart next) xs ys any)
-    go (inr left) = also (later next left)
+lands_then (Registered leaves next ∷ xs) ys mid last first second later = ((first.0.0, later_then xs ys mid last next first.0.1 (later next)), lands_then xs ys mid last first.1 second later)

@@ -35,3 +35,6 @@ mod Resolving
 mod Refusing
 mod Promising
 mod Turning
+mod Parting
+mod Taking
+mod Merged

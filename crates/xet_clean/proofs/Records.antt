@@ -22,7 +22,7 @@ use Rattle.xet_stepping.specs.Holders.{Holder, core_at, lengths_in}
 use Rattle.xet_clean.specs.Closing.{filled_files}
 use Rattle.xet_clean.specs.Working.{AreRecorded, IsRecordOf, Planned, Waits}
 use Rattle.xet_clean.proofs.InOrder.{recorded_changed_after}
-use Rattle.xet_clean.proofs.Keeping.{any_left, any_more}
+use Rattle.xet_clean.proofs.Keeping.{any_left, any_more, any_right}
 use Rattle.xet_clean.specs.Policies.{sha256_by}
 
 -- ---- segments with as many chunks
@@ -161,6 +161,10 @@ module _ (now : Holder) (first block : List Chunk) (files : List Planned) where
 pub waits_among_more : (now : Holder) (chunks : List Chunk) (files more : List Planned) (file : MDBFileInfo) → Waits now chunks files file → Waits now chunks (files ++ more) file
 waits_among_more now chunks files more file =
     any_left (λ (p : Planned). IsRecordOf p file × ArePlaced (lengths_in (core_at now)) (Stands now) chunks file.segments (hashes_of p.plan.leaves)) files more
+
+pub waits_among_earlier : (now : Holder) (chunks : List Chunk) (more files : List Planned) (file : MDBFileInfo) → Waits now chunks files file → Waits now chunks (more ++ files) file
+waits_among_earlier now chunks more files file =
+    any_right (λ (p : Planned). IsRecordOf p file × ArePlaced (lengths_in (core_at now)) (Stands now) chunks file.segments (hashes_of p.plan.leaves)) more files
 
 -- the record with the hash of its xorb
 pub filled_of : (hash : List ℕ) (p : Planned) (file : MDBFileInfo) → IsRecordOf p file → IsRecordOf p (filled hash file)

@@ -1,6 +1,7 @@
 -- No entry is named by two chunks: the entries of a file's queries come after those of the files before it.
-use Rattle.std.proofs.Common.{◌≡◌, ◌∙◌, ℕ, zero, suc, ◌+◌, ◌<◌, List, [], ◌∷◌, ◌++◌, get_or, length, map, Option, Some, None, refl, sym, ap, subst, append-nil, append_assoc, arith}
+use Rattle.std.proofs.Common.{◌≡◌, ◌∙◌, ℕ, zero, suc, ◌+◌, ◌<◌, List, [], ◌∷◌, ◌++◌, get_or, length, map, Option, Some, None, refl, sym, ap, subst, append-nil, arith}
 use Rattle.std.specs.Prelude.{slice_get, slice_index}
+use Rattle.std.proofs.lemmas.List.Concat.{flat_map-append}
 use Rattle.std.proofs.lemmas.List.Elements.{Contains-append_right}
 use Rattle.std.proofs.lemmas.Option.{slice_get-get_or, slice_get_within}
 use Rattle.std.specs.List.{AllByRecursion, flat_map}
@@ -76,9 +77,8 @@ entries_rise (NoPlace entry ∷ cs) ascend =
 entries_rise (Refused run ∷ cs) ascend = entries_rise cs (ascend_later (Refused run) cs ascend)
 entries_rise (Inside start ∷ cs) ascend = entries_rise cs (ascend_later (Inside start) cs ascend)
 
-flat_push : (css : List (List Choice)) (cs : List Choice) → flat_map (λ (c : List Choice). c) (css ++ cs ∷ []) ≡ flat_map (λ (c : List Choice). c) css ++ cs
-flat_push [] cs = append-nil cs
-flat_push (ds ∷ css) cs = ap (λ (l : List Choice). ds ++ l) (flat_push css cs) ∙ sym (append_assoc ds (flat_map (λ (c : List Choice). c) css) cs)
+pub flat_push : {X Y : Type 0} (f : X → List Y) (xs : List X) (x : X) → flat_map f (xs ++ x ∷ []) ≡ flat_map f xs ++ f x
+flat_push {X} {Y} f xs x = flat_map-append f xs (x ∷ []) ∙ ap (λ (l : List Y). flat_map f xs ++ l) (append-nil (f x))
 
 -- ---- the entries of planned files
 
@@ -128,5 +128,5 @@ module _ (start first now : Holder) (f : Planned) (is : IsPlanned first now f.by
       subst (λ (css : List (List Choice)). AllByRecursion IsBelow (no_place_entries (flat_map (λ (cs : List Choice). cs) css))) (sym are) (all_below files planned) in
       let rises : Rises (no_place_entries before ++ no_place_entries f.plan.choices) =
       rises_both (no_place_entries before) (no_place_entries f.plan.choices) (to_rises (no_place_entries before) once) (entries_rise f.plan.choices is.deduped.plan.plan.ascend) below in
-      subst IsStrictlyIncreasing (sym (ap no_place_entries (flat_push choices f.plan.choices) ∙ no_place_entries-append before f.plan.choices))
+      subst IsStrictlyIncreasing (sym (ap no_place_entries (flat_push (λ (cs : List Choice). cs) choices f.plan.choices) ∙ no_place_entries-append before f.plan.choices))
       (from_rises (no_place_entries before ++ no_place_entries f.plan.choices) rises)

@@ -17,7 +17,7 @@ use Rattle.xet_stepping.specs.Holders.{Holder}
 use Rattle.xet_clean.specs.Cleaning.{metrics_sum}
 use Rattle.xet_clean.specs.Files.{leaves_in}
 use Rattle.xet_clean.specs.Planning.{IsPlanned}
-use Rattle.xet_clean.specs.internal.Sums.{HasRoom}
+use Rattle.xet_clean.specs.internal.Sums.{AreSmall, HasRoom}
 use Rattle.xet_clean.specs.Working.{Planned, WasPlanned}
 use Rattle.xet_clean.proofs.Keeping.{limits_follow}
 
@@ -66,15 +66,63 @@ both_zeros a = λ i. record {
   total_bytes_uploaded = zero_swap a.total_bytes_uploaded i;
 }
 
+none_min : (top : ℕ) → min (0 + 0) top ≡ 0
+none_min top = omega arith
+
+both_none : metrics_of_both zeros zeros ≡ zeros
+both_none = λ i. record zeros {
+  deduped_bytes_by_global_dedup = none_min (2 ^ 64 - 1) i;
+  defrag_prevented_dedup_bytes = none_min (2 ^ 64 - 1) i;
+  deduped_chunks_by_global_dedup = none_min (2 ^ 64 - 1) i;
+  defrag_prevented_dedup_chunks = none_min (2 ^ 64 - 1) i;
+}
+
+none_more : (k : ℕ) → 0 + k ≡ k
+none_more k = omega arith
+
+min_again : (k top : ℕ) → min (0 + min k top) top ≡ min k top
+min_again k top = omega arith
+
+-- a sum stays as it is with nothing more
+both_again : (a b : DeduplicationMetrics) → metrics_of_both zeros (metrics_of_both a b) ≡ metrics_of_both a b
+both_again a b = λ i. record {
+  total_bytes = none_more (a.total_bytes + b.total_bytes) i;
+  deduped_bytes = none_more (a.deduped_bytes + b.deduped_bytes) i;
+  new_bytes = none_more (a.new_bytes + b.new_bytes) i;
+  deduped_bytes_by_global_dedup = min_again (a.deduped_bytes_by_global_dedup + b.deduped_bytes_by_global_dedup) (2 ^ 64 - 1) i;
+  defrag_prevented_dedup_bytes = min_again (a.defrag_prevented_dedup_bytes + b.defrag_prevented_dedup_bytes) (2 ^ 64 - 1) i;
+  total_chunks = none_more (a.total_chunks + b.total_chunks) i;
+  deduped_chunks = none_more (a.deduped_chunks + b.deduped_chunks) i;
+  new_chunks = none_more (a.new_chunks + b.new_chunks) i;
+  deduped_chunks_by_global_dedup = min_again (a.deduped_chunks_by_global_dedup + b.deduped_chunks_by_global_dedup) (2 ^ 64 - 1) i;
+  defrag_prevented_dedup_chunks = min_again (a.defrag_prevented_dedup_chunks + b.defrag_prevented_dedup_chunks) (2 ^ 64 - 1) i;
+  xorb_bytes_uploaded = none_more (a.xorb_bytes_uploaded + b.xorb_bytes_uploaded) i;
+  shard_bytes_uploaded = none_more (a.shard_bytes_uploaded + b.shard_bytes_uploaded) i;
+  total_bytes_uploaded = none_more (a.total_bytes_uploaded + b.total_bytes_uploaded) i;
+}
+
+pub sum_again : (s : LimitSettings) (fs : List (List ℕ)) (cs : List (List Choice)) → metrics_of_both zeros (metrics_sum s fs cs) ≡ metrics_sum s fs cs
+sum_again s [] cs = both_none
+sum_again s (f ∷ fs) [] = both_none
+sum_again s (f ∷ fs) (c ∷ cs) = both_again (metrics_of (leaves_in s f) c 0 0) (metrics_sum s fs cs)
+
+-- more files
+pub sum_append : (s : LimitSettings) (fs gs : List (List ℕ)) (cs ds : List (List Choice)) → length cs ≡ length fs
+    → metrics_sum s (fs ++ gs) (cs ++ ds) ≡ metrics_of_both (metrics_sum s fs cs) (metrics_sum s gs ds)
+sum_append s [] gs [] ds same = sym (sum_again s gs ds)
+sum_append s [] gs (c ∷ cs) ds same = absurd (omega (arith, same))
+sum_append s (f ∷ fs) gs [] ds same = absurd (omega (arith, same))
+sum_append s (f ∷ fs) gs (c ∷ cs) ds same =
+    ap (metrics_of_both (metrics_of (leaves_in s f) c 0 0)) (sum_append s fs gs cs ds (omega (arith, same)))
+    ∙ both_assoc (metrics_of (leaves_in s f) c 0 0) (metrics_sum s fs cs) (metrics_sum s gs ds)
+
 -- one more file
 pub sum_push : (s : LimitSettings) (fs : List (List ℕ)) (cs : List (List Choice)) (f : List ℕ) (c : List Choice) → length cs ≡ length fs
     → metrics_sum s (fs ++ f ∷ []) (cs ++ c ∷ []) ≡ metrics_of_both (metrics_sum s fs cs) (metrics_of (leaves_in s f) c 0 0)
-sum_push s [] [] f c same = both_zeros (metrics_of (leaves_in s f) c 0 0)
-sum_push s [] (d ∷ cs) f c same = absurd (omega (arith, same))
-sum_push s (g ∷ fs) [] f c same = absurd (omega (arith, same))
-sum_push s (g ∷ fs) (d ∷ cs) f c same =
-    ap (metrics_of_both (metrics_of (leaves_in s g) d 0 0)) (sum_push s fs cs f c (omega (arith, same)))
-    ∙ both_assoc (metrics_of (leaves_in s g) d 0 0) (metrics_sum s fs cs) (metrics_of (leaves_in s f) c 0 0)
+sum_push s fs cs f c same =
+    let sum : DeduplicationMetrics = metrics_sum s fs cs in
+    let its : DeduplicationMetrics = metrics_of (leaves_in s f) c 0 0 in
+    sum_append s fs (f ∷ []) cs (c ∷ []) same ∙ both_assoc sum its zeros ∙ both_zeros (metrics_of_both sum its) ∙ both_again sum its
 
 -- ---- the chunks of a file have no more bytes than it, and there are no more of them than bytes
 
@@ -119,19 +167,7 @@ limit_20 = refl
 limit_64 : 2 ^ 64 ≡ 18446744073709551616
 limit_64 = refl
 
--- Each sum that could pass 2^64 is at most 2^42 for each of so many files.
-pub record AreSmall (m : DeduplicationMetrics) (count : ℕ) : Type 0 where
-  pub total_bytes : m.total_bytes ≤ 4398046511104 * count
-  pub deduped_bytes : m.deduped_bytes ≤ 4398046511104 * count
-  pub new_bytes : m.new_bytes ≤ 4398046511104 * count
-  pub total_chunks : m.total_chunks ≤ 4398046511104 * count
-  pub deduped_chunks : m.deduped_chunks ≤ 4398046511104 * count
-  pub new_chunks : m.new_chunks ≤ 4398046511104 * count
-  pub xorb_bytes_uploaded : m.xorb_bytes_uploaded ≡ 0
-  pub shard_bytes_uploaded : m.shard_bytes_uploaded ≡ 0
-  pub total_bytes_uploaded : m.total_bytes_uploaded ≡ 0
-
-small_zeros : AreSmall zeros 0
+pub small_zeros : AreSmall zeros 0
 small_zeros = record {
   total_bytes = omega arith;
   deduped_bytes = omega arith;
@@ -144,8 +180,8 @@ small_zeros = record {
   total_bytes_uploaded = refl;
 }
 
-small_both : (a b : DeduplicationMetrics) (n : ℕ) → AreSmall a 1 → AreSmall b n → AreSmall (metrics_of_both a b) (suc n)
-small_both a b n x y = record {
+pub small_both : (a b : DeduplicationMetrics) (m n : ℕ) → AreSmall a m → AreSmall b n → AreSmall (metrics_of_both a b) (m + n)
+small_both a b m n x y = record {
   total_bytes = omega (arith, x.total_bytes, y.total_bytes);
   deduped_bytes = omega (arith, x.deduped_bytes, y.deduped_bytes);
   new_bytes = omega (arith, x.new_bytes, y.new_bytes);
@@ -184,18 +220,20 @@ one_each first now f is = is.deduped.plan.plan.one_each ∙ ap length is.leaves
 pub small_planned : (first now : Holder) (f : Planned) → AreInRange now.limits → IsPlanned first now f.bytes f.plan → AreSmall (metrics_of (leaves_in now.limits f.bytes) f.plan.choices 0 0) 1
 small_planned first now f range is = small_file now.limits f.bytes f.plan.choices range is.short (one_each first now f is)
 
-small_sum : (start now : Holder) (files : List Planned) → AreInRange now.limits → AllByRecursion (WasPlanned start now) files
+pub small_sum : (start now : Holder) (files : List Planned) → AreInRange now.limits → AllByRecursion (WasPlanned start now) files
     → AreSmall (metrics_sum now.limits (map (λ f. f.bytes) files) (map (λ f. f.plan.choices) files)) (length files)
 small_sum start now [] range all = small_zeros
 small_sum start now (f ∷ fs) range all =
     let same : now.limits ≡ all.0.last.limits = limits_follow all.0.last now all.0.to in
-    small_both (metrics_of (leaves_in now.limits f.bytes) f.plan.choices 0 0) (metrics_sum now.limits (map (λ g. g.bytes) fs) (map (λ g. g.plan.choices) fs)) (length fs)
+    let one : 1 + length fs ≡ suc (length fs) = omega arith in
+    subst (AreSmall (metrics_sum now.limits (map (λ g. g.bytes) (f ∷ fs)) (map (λ g. g.plan.choices) (f ∷ fs)))) one
+    (small_both (metrics_of (leaves_in now.limits f.bytes) f.plan.choices 0 0) (metrics_sum now.limits (map (λ g. g.bytes) fs) (map (λ g. g.plan.choices) fs)) 1 (length fs)
     (subst (λ (s : LimitSettings). AreSmall (metrics_of (leaves_in s f.bytes) f.plan.choices 0 0) 1) (sym same)
     (small_planned all.0.first all.0.last f (subst AreInRange same range) all.0.planned))
-    (small_sum start now fs range all.1)
+    (small_sum start now fs range all.1))
 
-small_room : (a b : DeduplicationMetrics) (n : ℕ) → n < 2 ^ 20 → AreSmall a n → AreSmall b 1 → HasRoom a b
-small_room a b n few x y = record {
+pub small_room : (a b : DeduplicationMetrics) (m n : ℕ) → m + n ≤ 2 ^ 20 → AreSmall a m → AreSmall b n → HasRoom a b
+small_room a b m n few x y = record {
   total_bytes = omega (arith, few, limit_20, limit_64, x.total_bytes, y.total_bytes);
   deduped_bytes = omega (arith, few, limit_20, limit_64, x.deduped_bytes, y.deduped_bytes);
   new_bytes = omega (arith, few, limit_20, limit_64, x.new_bytes, y.new_bytes);
@@ -213,5 +251,5 @@ pub sums_have_room : (start first now : Holder) (files : List Planned) (f : Plan
     → HasRoom m (metrics_of (leaves_in now.limits f.bytes) f.plan.choices 0 0)
 sums_have_room start first now files f m range same few all is planned =
     subst (λ (k : DeduplicationMetrics). HasRoom k (metrics_of (leaves_in now.limits f.bytes) f.plan.choices 0 0)) (sym is)
-    (small_room (metrics_sum first.limits (map (λ g. g.bytes) files) (map (λ g. g.plan.choices) files)) (metrics_of (leaves_in now.limits f.bytes) f.plan.choices 0 0) (length files) few
+    (small_room (metrics_sum first.limits (map (λ g. g.bytes) files) (map (λ g. g.plan.choices) files)) (metrics_of (leaves_in now.limits f.bytes) f.plan.choices 0 0) (length files) 1 (omega (arith, few))
     (small_sum start first files (subst AreInRange (sym same) range) all) (small_planned first now f range planned))

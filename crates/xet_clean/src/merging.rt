@@ -1,9 +1,10 @@
 //! What was made of parts of the sources is merged, and what is left of it is closed.
 
-ghost use Rattle.std.specs.Prelude.{◌≤◌, ◌<◌, ◌^◌, List, IfErr, IfOk, length};
+ghost use Rattle.std.specs.Prelude.{◌≤◌, ◌<◌, ◌^◌, [], List, IfErr, IfOk, OnOk, length};
 ghost use Rattle.std.specs.List.{sum_by};
 ghost use Rattle.xet_clean.specs.Merging.{IsUnmerged, MayMergeAll, MergesAll, Part};
-ghost use Rattle.xet_stepping.specs.Holders.{Follows};
+ghost use Rattle.xet_clean.specs.internal.Merging.{IsMerging};
+ghost use Rattle.xet_stepping.specs.Holders.{Follows, Holder};
 
 use crate::info::Cleaned;
 use crate::working::Working;
@@ -21,5 +22,30 @@ pub fn merge_all<S: Stepping>(steps: &mut S, parts: Vec<Working>) -> Result<Clea
     ensures follows { Follows (S.holder steps.old) (S.holder steps.new) }
     ensures refused { (ps : List Part) → MayMergeAll (S.holder steps.old) ps parts.items → IfErr result (IsUnmerged ps (S.holder steps.old) (S.holder steps.new)) }
 {
-    unreachable!()
+    steps.limits().recall_invariant();
+    let mut rest = parts;
+    let mut whole = rest.remove(0);
+    match merge_rest(steps, &mut whole, rest) {
+        Ok(()) => whole.end(steps),
+        Err(error) => Err(error),
+    }
+}
+
+/// Merges further parts into the whole, in order.
+fn merge_rest<S: Stepping>(
+    steps: &mut S,
+    whole: &mut Working,
+    rest: Vec<Working>,
+) -> Result<(), StoreError>
+    requires merging { (ps : List Part) × (start : Holder) × IsMerging ps rest.items start (S.holder steps.old) whole.old.cleaned.infos.items whole.old.cleaned.choices.items whole.old.cleaned.metrics whole.old.aggregate }
+    ensures merged { (ps : List Part) (start : Holder) → IsMerging ps rest.items start (S.holder steps.old) whole.old.cleaned.infos.items whole.old.cleaned.choices.items whole.old.cleaned.metrics whole.old.aggregate
+        → OnOk result (IsMerging ps [] start (S.holder steps.new) whole.new.cleaned.infos.items whole.new.cleaned.choices.items whole.new.cleaned.metrics whole.new.aggregate) }
+    ensures follows { Follows (S.holder steps.old) (S.holder steps.new) }
+    ensures refused { (ps : List Part) (start : Holder) → IsMerging ps rest.items start (S.holder steps.old) whole.old.cleaned.infos.items whole.old.cleaned.choices.items whole.old.cleaned.metrics whole.old.aggregate
+        → IfErr result (IsUnmerged ps start (S.holder steps.new)) }
+{
+    for part in rest {
+        whole.merge(steps, part)?;
+    }
+    Ok(())
 }
