@@ -1,8 +1,7 @@
 -- The chunks that did not fit into a xorb are in a later one, or left.
-use Rattle.std.proofs.Common.{◌∙◌, ◌⊎◌, inl, inr, ℕ, List, [], ◌∷◌, ◌++◌, refl, sym, ap, append_assoc, arith}
+use Rattle.std.proofs.Common.{◌∙◌, inl, inr, ℕ, List, [], ◌∷◌, ◌++◌, refl, sym, ap, append_assoc, arith}
 use Rattle.std.proofs.lemmas.List.{append-nil}
 use Rattle.std.specs.List.{AllByRecursion}
-use Rattle.std.specs.Prelude.{Any}
 use Rattle.xet_choices.specs.Calls.{Call}
 use Rattle.xet_choices.specs.Calls.Call.{Asked, Registered}
 use Rattle.xet_dedup_queries.specs.Counting.{BeginsWith, HasNext, LandsIn, first_registered}

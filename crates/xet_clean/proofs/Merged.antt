@@ -1,5 +1,5 @@
 -- Parts are merged in turn, and what is left is closed.
-use Rattle.std.proofs.Common.{◌≡◌, ◌∙◌, inl, inr, ℕ, ◌+◌, ◌*◌, ◌^◌, ◌<◌, ◌≤◌, Bool, true, ◌&&◌, List, [], ◌∷◌, ◌++◌, drop, length, map, nat_le, refl, sym, ap, subst, append_assoc, length-append, arith}
+use Rattle.std.proofs.Common.{◌≡◌, ◌∙◌, inl, inr, ℕ, ◌+◌, ◌*◌, ◌^◌, ◌<◌, ◌≤◌, true, ◌&&◌, List, [], ◌∷◌, ◌++◌, drop, length, map, nat_le, refl, sym, ap, subst, append_assoc, length-append, arith}
 use Rattle.std.proofs.lemmas.Bool.Decides.{nat_tests}
 use Rattle.std.proofs.lemmas.List.{append-nil, length-map}
 use Rattle.std.proofs.lemmas.List.Sums.{sum_by-cons}
@@ -18,11 +18,11 @@ use Rattle.xet_cut.specs.declared.limits.LimitSettings.{LimitSettings}
 use Rattle.xet_dedup.specs.Deduping.{metrics_of_both}
 use Rattle.xet_hash.specs.declared.error.StoreError.{StoreError}
 use Rattle.xet_shard_format.specs.declared.record.MDBFileInfo.{MDBFileInfo}
-use Rattle.xet_stepping.specs.Holders.{Follows, Holder, calls_in}
+use Rattle.xet_stepping.specs.Holders.{Holder, calls_in}
 use Rattle.xet_stepping.specs.theorems.Following.{calls_in-append, follows_nothing, follows_then}
 use Rattle.xet_store.specs.declared.info.XetFileInfo.{XetFileInfo}
 use Rattle.xet_xorb_chunk.specs.Chunks.{chunk_leaf, total}
-use Rattle.xet_clean.specs.Cleaning.{IsPart, RegistersPart, close_of}
+use Rattle.xet_clean.specs.Cleaning.{RegistersPart, close_of}
 use Rattle.xet_clean.specs.Closing.{Closes, HaveForm, IsUnclosed, Joins, filled_files, recorded_in}
 use Rattle.xet_clean.specs.Merging.{AreHeld, EachRecorded, IsPartOf, IsUnmerged, MayMerge, MayMergeAll, MergesAll, Part, files_of}
 use Rattle.xet_clean.specs.Planning.{IsWithin}

@@ -3,7 +3,7 @@ use Rattle.std.proofs.Common.{◌≡◌, ◌∙◌, ◌⊎◌, inl, inr, ℕ, Li
 use Rattle.std.proofs.lemmas.List.{append-nil, drop_at, map-append}
 use Rattle.std.proofs.lemmas.List.Concat.{flat_map-append}
 use Rattle.std.proofs.lemmas.Simd.{map-map}
-use Rattle.std.specs.List.{AllByRecursion, flat_map}
+use Rattle.std.specs.List.{AllByRecursion}
 use Rattle.xet_aggregate.specs.Aggregate.{Aggregate, Pending, filled, shifted, shifted_file}
 use Rattle.xet_hash.specs.Merkle.{xorb_hash}
 use Rattle.xet_history.specs.declared.entry.Entry.{Entry}

@@ -4,7 +4,7 @@ use Rattle.std.proofs.lemmas.Bool.{and_parts, leb-true}
 use Rattle.std.proofs.lemmas.List.{append-nil, length-map, map-append}
 use Rattle.std.proofs.lemmas.List.Sums.{sum_by_push}
 use Rattle.std.specs.List.{AllByRecursion}
-use Rattle.xet_aggregate.specs.Aggregate.{Aggregate, IsAggregate, Pending, empty, fits, merged, shifted_file}
+use Rattle.xet_aggregate.specs.Aggregate.{Aggregate, IsAggregate, Pending, fits, merged, shifted_file}
 use Rattle.xet_aggregate.specs.declared.metrics.DeduplicationMetrics.{DeduplicationMetrics}
 use Rattle.xet_aggregate.specs.theorems.Merging.{IsAggregate-fits, empty-merged}
 use Rattle.xet_base.specs.theorems.Elements.{all_both, all_more, all_push}
@@ -17,7 +17,7 @@ use Rattle.xet_cut.specs.declared.limits.LimitSettings.{LimitSettings}
 use Rattle.xet_dedup.specs.Deduping.{metrics_of_both}
 use Rattle.xet_dedup.specs.theorems.Forms.{merged_are_files}
 use Rattle.xet_shard_format.specs.declared.record.MDBFileInfo.{MDBFileInfo}
-use Rattle.xet_stepping.specs.Holders.{Follows, Holder, calls_in}
+use Rattle.xet_stepping.specs.Holders.{Holder, calls_in}
 use Rattle.xet_stepping.specs.theorems.Following.{calls_in-append, follows_then}
 use Rattle.xet_store.specs.declared.info.XetFileInfo.{XetFileInfo}
 use Rattle.xet_xorb_chunk.specs.Chunks.{chunk_leaf}
@@ -25,7 +25,7 @@ use Rattle.xet_clean.specs.Cleaning.{Lands, metrics_sum}
 use Rattle.xet_clean.specs.Closing.{Closes, HaveForm, Joins, filled_files, recorded_in}
 use Rattle.xet_clean.specs.Merging.{EachRecorded, MayMerge, Part, files_of}
 use Rattle.xet_clean.specs.Planning.{IsWithin}
-use Rattle.xet_clean.specs.Working.{IsWorking, Planned, Waits}
+use Rattle.xet_clean.specs.Working.{Planned, Waits}
 use Rattle.xet_clean.specs.internal.Merging.{IsLater, IsMerged}
 use Rattle.xet_clean.specs.internal.Sums.{AreSmall}
 use Rattle.xet_clean.proofs.Adding.{Adds, adds_closed, adds_nothing, recorded_in-append}
