@@ -1,10 +1,10 @@
-use Rattle.std.proofs.Common.{◌≡◌, ◌∙◌, ◌+◌, ℕ, List, ◌++◌, drop, length, ap, subst, arith}
+use Rattle.std.proofs.Common.{◌≡◌, ◌∙◌, ◌+◌, ℕ, List, ◌++◌, drop, length, ap, arith}
 use Rattle.xet_history.specs.declared.entry.Entry.{Entry}
 use Rattle.xet_history.specs.declared.entry.StepKind.TheVariants as kind
 use Rattle.xet_history.specs.History.{flush_entries}
 use Rattle.xet_locked_session.specs.Passes.{SawFlush}
 use Rattle.xet_shared_history.specs.Owned.{numbers_from}
-use Rattle.xet_steps.specs.Recorded.{RecordedState, core_of}
+use Rattle.xet_steps.specs.Recorded.{core_of}
 use Rattle.xet_steps.specs.Steps.{fault_entries}
 use Rattle.xet_locked_session.specs.Passes.{FlushFailed, holder_of}
 use Rattle.xet_locked_session.proofs.Cases.{if_err, if_ok}
