@@ -1,5 +1,5 @@
 -- The pass of a file, after calls that see it as a maker of steps.
-use Rattle.std.proofs.Common.{◌≡◌, ◌∙◌, ℕ, ◌+◌, ◌≤◌, Bool, true, false, true≢false, List, [], ◌++◌, append_assoc, drop, length, if◌then◌else◌, Result, Ok, Err, OnErr, OnOk, Option, is_ok, refl, sym, ap, subst, arith}
+use Rattle.std.proofs.Common.{◌≡◌, ◌∙◌, ℕ, ◌+◌, ◌≤◌, Bool, true, false, true≢false, List, [], ◌++◌, append_assoc, length, if◌then◌else◌, Result, Ok, Err, OnErr, OnOk, Option, is_ok, refl, sym, ap, subst, arith}
 use Rattle.std.proofs.lemmas.List.{append_cancel_left, drop_at}
 use Rattle.xet_aggregate.specs.Aggregate.{Aggregate}
 use Rattle.xet_aggregate.specs.declared.metrics.DeduplicationMetrics.{DeduplicationMetrics}
@@ -11,7 +11,7 @@ use Rattle.xet_hash.specs.declared.error.StoreError.TheVariants.{Io, MalformedDa
 use Rattle.xet_hash.specs.declared.error.What.TheVariants.{Shards}
 use Rattle.xet_history.specs.declared.entry.Entry.{Entry}
 use Rattle.xet_locked_session.specs.Passes.{IsPassOf}
-use Rattle.xet_passing.specs.Passing.{IsPassing, PassingState, passing_of, passing_state}
+use Rattle.xet_passing.specs.Passing.{IsPassing, PassingState, passing_of}
 use Rattle.xet_stepping.specs.Asking.{IsErrorSince}
 use Rattle.xet_stepping.specs.Holders.{Follows, FollowsAsking, Holder}
 use Rattle.xet_store.specs.declared.info.XetFileInfo.{XetFileInfo}
