@@ -82,7 +82,11 @@ impl Working {
 
     /// Adds what was made of a further part of the sources. What is left of that part joins the aggregate, which is closed first
     /// if it does not fit.
-    pub(crate) fn merge<S: Stepping>(&mut self, steps: &mut S, part: Working) -> Result<(), StoreError>
+    pub(crate) fn merge<S: Stepping>(
+        &mut self,
+        steps: &mut S,
+        part: Working,
+    ) -> Result<(), StoreError>
         requires here { IsAggregate self.old.aggregate × IsWithin (S.holder steps.old).limits self.old.aggregate.chunks × HaveForm self.old.aggregate.files }
         requires rest { IsAggregate part.aggregate × IsWithin (S.holder steps.old).limits part.aggregate.chunks × HaveForm part.aggregate.files }
         requires range { AreInRange (S.holder steps.old).limits }

@@ -23,5 +23,5 @@ invariant_of-self g c =
     let is : IsSince start now = subst (λ (s : RecordedState). IsSince start s) (ap (λ s. s.desk) c.self-inside.view_is) c.recall_invariant.ensures.since in (
       c.self.invariant.0,
       subst (λ (b : Bool). IsGuarded start stops b new) (sym last)
-      (guarded_step start stops result c.self.inside.stopped c.args.pass.now.number now new (sym (ap (λ s. s.stopped) c.self-inside.view_is) ∙ c.if-self.false) is c.self.invariant.1 (λ does. c.query-result.ensures.made) c.query-result.ensures.failed),
+          (guarded_step start stops result c.self.inside.stopped c.args.pass.now.number now new (sym (ap (λ s. s.stopped) c.self-inside.view_is) ∙ c.if-self.false) is c.self.invariant.1 (λ does. c.query-result.ensures.made) c.query-result.ensures.failed),
     )
