@@ -1,3 +1,4 @@
 pub mod Passing
 pub mod Coding
 pub mod internal
+pub mod theorems

@@ -1,6 +1,6 @@
 -- The pass of a file, after calls that see it as a maker of steps.
-use Rattle.std.proofs.Common.{◌≡◌, ◌∙◌, ℕ, ◌+◌, ◌≤◌, Bool, true, false, true≢false, List, [], ◌++◌, append_assoc, length, if◌then◌else◌, Result, Ok, Err, OnErr, OnOk, Option, is_ok, refl, sym, ap, subst, arith}
-use Rattle.std.proofs.lemmas.List.{append_cancel_left, drop_at}
+use Rattle.std.proofs.Common.{◌≡◌, ◌∙◌, ℕ, ◌+◌, ◌≤◌, Bool, true, false, true≢false, List, ◌++◌, append_assoc, length, if◌then◌else◌, Result, Ok, Err, OnErr, OnOk, Option, is_ok, refl, sym, ap, subst, arith}
+use Rattle.std.proofs.lemmas.List.{drop_at}
 use Rattle.xet_aggregate.specs.Aggregate.{Aggregate}
 use Rattle.xet_aggregate.specs.declared.metrics.DeduplicationMetrics.{DeduplicationMetrics}
 use Rattle.xet_choices.specs.declared.choice.Choice.{Choice}
@@ -12,45 +12,12 @@ use Rattle.xet_hash.specs.declared.error.What.TheVariants.{Shards}
 use Rattle.xet_history.specs.declared.entry.Entry.{Entry}
 use Rattle.xet_locked_session.specs.Passes.{IsPassOf}
 use Rattle.xet_passing.specs.Passing.{IsPassing, PassingState, passing_of}
+use Rattle.xet_passing.specs.theorems.Starts.{same_start}
 use Rattle.xet_stepping.specs.Asking.{IsErrorSince}
 use Rattle.xet_stepping.specs.Holders.{Follows, FollowsAsking, Holder}
 use Rattle.xet_store.specs.declared.info.XetFileInfo.{XetFileInfo}
-use Rattle.xet_steps.specs.Recorded.{RecordedState, core_of}
+use Rattle.xet_steps.specs.Recorded.{RecordedState}
 use Rattle.xet_single_file.specs.internal.Kept.{IsKept, holder_in}
-
--- ---- it began as the same pass
-
--- a pass of a session of this store
-abbrev pass_by : RecordedState → ℕ → List Entry → List (ℕ × Entry) → Holder
-pass_by store number since own = record {
-  origin = store;
-  tells = store.store.tells;
-  limits = store.store.limits;
-  number = number;
-  before = store.history;
-  base = core_of store;
-  since = since;
-  own = own;
-  earlier = [];
-  stopped = false;
-}
-
-by_parts : (store : RecordedState) (h : Holder) → IsPassOf store h → h ≡ pass_by store h.number h.since h.own
-by_parts store h of = subst (λ (x : Holder). x ≡ pass_by store x.number x.since x.own) (sym of.is) refl
-
-same_parts : (store : RecordedState) (n m : ℕ) (s t : List Entry) (o p : List (ℕ × Entry)) (x y : Holder) (i j : Bool)
-    → Follows (passing_of (pass_by store n s o) x i) (passing_of (pass_by store m t p) y j) → pass_by store m t p ≡ pass_by store n s o
-same_parts store n m s t o p x y i j f =
-    let number : m ≡ n = ap (λ (h : Holder). h.number) f.is in
-    let since : t ≡ s = append_cancel_left store.history t s (ap (λ (h : Holder). h.before) f.is) in
-    let own : p ≡ o = ap (λ (h : Holder). h.earlier) f.is in
-    ap (λ (k : ℕ). pass_by store k t p) number ∙ ap (λ (es : List Entry). pass_by store n es p) since ∙ ap (λ (ps : List (ℕ × Entry)). pass_by store n s ps) own
-
-same_start : (store : RecordedState) (a b x y : Holder) (i j : Bool) → IsPassOf store a → IsPassOf store b → Follows (passing_of a x i) (passing_of b y j) → b ≡ a
-same_start store a b x y i j of_a of_b f =
-    let g = subst (λ (h : Holder). Follows (passing_of h x i) (passing_of (pass_by store b.number b.since b.own) y j)) (by_parts store a of_a)
-    (subst (λ (h : Holder). Follows (passing_of a x i) (passing_of h y j)) (by_parts store b of_b) f) in
-    by_parts store b of_b ∙ same_parts store a.number b.number a.since b.since a.own b.own x y i j g ∙ sym (by_parts store a of_a)
 
 -- ---- the pass itself only grows
 

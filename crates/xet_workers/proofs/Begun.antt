@@ -1,0 +1,86 @@
+-- The pass of a worker, before and after it made steps.
+use Rattle.std.proofs.Common.{◌≡◌, ◌∙◌, ℕ, Bool, false, List, [], refl, sym, ap, subst}
+use Rattle.xet_aggregate.specs.Aggregate.{Aggregate}
+use Rattle.xet_aggregate.specs.declared.metrics.DeduplicationMetrics.{DeduplicationMetrics}
+use Rattle.xet_choices.specs.declared.choice.Choice.{Choice}
+use Rattle.xet_clean.specs.Sources.{HasCleaned, IsLoopError}
+use Rattle.xet_clean.specs.declared.policy.Sha256Policy.TheVariants.{Compute}
+use Rattle.xet_hash.specs.declared.error.StoreError.{StoreError}
+use Rattle.xet_hash.specs.declared.error.StoreError.TheVariants.{OutOfMemory}
+use Rattle.xet_locked_session.specs.Passes.{IsPassOf}
+use Rattle.xet_passing.specs.Passing.{IsPassing, PassingState, passing_of}
+use Rattle.xet_passing.specs.theorems.Starts.{same_start}
+use Rattle.xet_stepping.specs.Holders.{Follows, Holder}
+use Rattle.xet_steps.specs.Recorded.{RecordedState}
+use Rattle.xet_store.specs.declared.info.XetFileInfo.{XetFileInfo}
+use Rattle.xet_workers.specs.Workers.{HasPassed}
+
+-- what contracts see of a pass that makes steps
+abbrev pub holder_in : PassingState → Holder
+holder_in s = passing_of s.start s.pass s.stopped
+
+-- a pass has made steps, and may have stopped
+abbrev pub MayHavePassed : RecordedState → Holder → Holder → (Bool → Type 0) → Type 0
+MayHavePassed store begun pass P = (stopped : Bool) × HasPassed store begun.number begun pass stopped × P stopped
+
+-- ---- no step was made
+
+pub has_begun : (store : RecordedState) (given : PassingState) (begun pass : Holder) → given.start ≡ begun → given.pass ≡ begun → given.stopped ≡ false → pass ≡ given.pass
+    → IsPassOf store begun → begun.own ≡ [] → IsPassing given.start given.pass given.stopped → HasPassed store begun.number begun pass false
+has_begun store given begun pass start now going is of none passing =
+    let same : pass ≡ begun = subst (λ (h : Holder). pass ≡ h) now is in
+    let p = subst (λ (b : Bool). IsPassing begun begun b) going
+    (subst (λ (h : Holder). IsPassing begun h given.stopped) now (subst (λ (h : Holder). IsPassing h given.pass given.stopped) start passing)) in
+    subst (λ (h : Holder). HasPassed store begun.number begun h false) (sym same) (record { of = of; number = refl; none = none; passing = p; end = of })
+
+-- memory was out before that
+module _ {S : Type 0} (tells : S → Bool) (left : S → List ℕ) (faults : S → ℕ) (ss ts : List S) where
+  pub memory_before : (store : RecordedState) (given : PassingState) (begun pass : Holder) → given.start ≡ begun → given.pass ≡ begun → given.stopped ≡ false → pass ≡ given.pass
+      → IsPassOf store begun → begun.own ≡ [] → IsPassing given.start given.pass given.stopped → (e : StoreError) → e ≡ OutOfMemory
+      → MayHavePassed store begun pass (λ b. IsLoopError tells left faults ss ts (passing_of begun begun false) (passing_of begun pass b) e)
+  memory_before store given begun pass start now going is of none passing e out = (
+    false,
+    has_begun store given begun pass start now going is of none passing,
+    subst (IsLoopError tells left faults ss ts (passing_of begun begun false) (passing_of begun pass false)) (sym out) tt,
+  )
+
+-- ---- steps were made: the state before the call and after it, and what is left of it then
+
+module _ (store : RecordedState) (given asked after now : PassingState) (pass : Holder) (asked_is : asked ≡ given) (now_is : now ≡ after) (is : pass ≡ now.pass) (follows : Follows (holder_in asked) (holder_in after))
+    (start : given.start ≡ given.pass) (going : given.stopped ≡ false) (none : given.pass.own ≡ []) (of : IsPassOf store given.pass) (passing : IsPassing now.start now.pass now.stopped) (now_of : IsPassOf store now.start)
+    (end : IsPassOf store now.pass) where
+  between : (P : Holder → Holder → Type 0) → P (holder_in asked) (holder_in after) → P (passing_of given.pass given.pass false) (holder_in now)
+  between P p =
+      subst (λ (b : Bool). P (passing_of given.pass given.pass b) (holder_in now)) going
+      (subst (λ (h : Holder). P (passing_of h given.pass given.stopped) (holder_in now)) start
+      (subst (λ (s : PassingState). P (holder_in s) (holder_in now)) asked_is (subst (λ (s : PassingState). P (holder_in asked) (holder_in s)) (sym now_is) p)))
+
+  begun_same : now.start ≡ given.pass
+  begun_same = same_start store given.pass now.start given.pass now.pass false now.stopped of now_of (between (λ x y. Follows x y) follows)
+
+  has_passed : HasPassed store given.pass.number given.pass pass now.stopped
+  has_passed =
+      subst (λ (h : Holder). HasPassed store given.pass.number given.pass h now.stopped) (sym is)
+      (record { of = of; number = refl; none = none; passing = subst (λ (h : Holder). IsPassing h now.pass now.stopped) begun_same passing; end = end })
+
+  -- what holds of the two states holds of the passes
+  moved : (P : Holder → Holder → Type 0) → P (holder_in asked) (holder_in after) → P (passing_of given.pass given.pass false) (passing_of given.pass pass now.stopped)
+  moved P p =
+      subst (λ (h : Holder). P (passing_of given.pass given.pass false) (passing_of given.pass h now.stopped)) (sym is)
+      (subst (λ (h : Holder). P (passing_of given.pass given.pass false) (passing_of h now.pass now.stopped)) begun_same (between P p))
+
+  module _ {S : Type 0} (tells : S → Bool) (left : S → List ℕ) (faults : S → ℕ) (ss ts : List S) where
+    -- all sources were cleaned
+    pub cleaned_by : (infos : List XetFileInfo) (choices : List (List Choice)) (metrics : DeduplicationMetrics) (a : Aggregate) → HasCleaned Compute tells left faults ss ts (holder_in asked) (holder_in after) infos choices metrics a
+        → HasPassed store given.pass.number given.pass pass false × HasCleaned Compute tells left faults ss ts (passing_of given.pass given.pass false) (passing_of given.pass pass false) infos choices metrics a
+    cleaned_by infos choices metrics a cleaned =
+        let went : now.stopped ≡ false = ap (λ (s : PassingState). s.stopped) now_is ∙ cleaned.working.going in (
+          subst (λ (b : Bool). HasPassed store given.pass.number given.pass pass b) went has_passed,
+          subst (λ (b : Bool). HasCleaned Compute tells left faults ss ts (passing_of given.pass given.pass false) (passing_of given.pass pass b) infos choices metrics a) went
+              (moved (λ x y. HasCleaned Compute tells left faults ss ts x y infos choices metrics a) cleaned),
+        )
+
+    -- they were not
+    pub refused_by : (e : StoreError) → IsLoopError tells left faults ss ts (holder_in asked) (holder_in after) e
+        → MayHavePassed store given.pass pass (λ b. IsLoopError tells left faults ss ts (passing_of given.pass given.pass false) (passing_of given.pass pass b) e)
+    refused_by e why = (now.stopped, has_passed, moved (λ x y. IsLoopError tells left faults ss ts x y e) why)

@@ -1,0 +1,3 @@
+mod Begun
+mod Parts
+mod Teams
