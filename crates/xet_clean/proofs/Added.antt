@@ -21,8 +21,8 @@ use Rattle.xet_clean.specs.internal.Sums.{HasRoom}
 use Rattle.xet_clean.specs.Working.{IsAdded, IsWorking, Planned}
 use Rattle.xet_clean.proofs.Cases.{goes_on, kept_closed, kept_merged, kept_nothing}
 use Rattle.xet_clean.proofs.Joining.{working_more}
-use Rattle.xet_clean.proofs.Keeping.{limits_follow}
-use Rattle.xet_clean.proofs.Sums.{sums_have_room}
+use Rattle.xet_clean.specs.theorems.Keeping.{limits_follow}
+use Rattle.xet_clean.specs.theorems.Sums.{sums_have_room}
 use Rattle.xet_clean.specs.Policies.{info_by, sha256_by}
 use Rattle.xet_clean.specs.declared.policy.Sha256Policy.{Sha256Policy}
 

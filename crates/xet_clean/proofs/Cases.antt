@@ -32,14 +32,14 @@ use Rattle.xet_clean.specs.Cleaning.{Lands}
 use Rattle.xet_clean.specs.Planning.{IsPlanned, IsWithin}
 use Rattle.xet_clean.specs.Closing.{Closes, HaveForm, filled_files}
 use Rattle.xet_clean.specs.Working.{AreRecorded, IsRecordOf, IsWorking, Planned, Waits}
-use Rattle.xet_clean.proofs.Adding.{Adds, adds_asking, asking_calls, adds_closed, adds_then}
+use Rattle.xet_clean.specs.theorems.Adding.{Adds, adds_asking, asking_calls, adds_closed, adds_then}
 use Rattle.xet_clean.proofs.Completing.{both_some}
-use Rattle.xet_clean.proofs.InOrder.{recorded_none, recorded_one, recorded_then}
+use Rattle.xet_clean.specs.theorems.InOrder.{recorded_none, recorded_one, recorded_then}
 use Rattle.xet_clean.proofs.Joining.{IsKept}
-use Rattle.xet_clean.proofs.Keeping.{any_last, limits_follow, seen_follows, waits_seen}
+use Rattle.xet_clean.specs.theorems.Keeping.{any_last, limits_follow, seen_follows, waits_seen}
 use Rattle.xet_clean.proofs.Landing.{lands_last, lands_of, lands_then, later_last, part_itself, part_left, part_right, part_then}
-use Rattle.xet_clean.proofs.Records.{records_filled, shifted_of, waits_among_more, waits_earlier, waits_later}
-use Rattle.xet_clean.proofs.Sums.{no_leaves}
+use Rattle.xet_clean.specs.theorems.Records.{records_filled, shifted_of, waits_among_more, waits_earlier, waits_later}
+use Rattle.xet_clean.specs.theorems.Sums.{no_leaves}
 use Rattle.xet_clean.specs.Policies.{sha256_by}
 
 -- ---- chunks of both

@@ -26,9 +26,9 @@ use Rattle.xet_xorb_chunk.specs.Chunks.{chunk_leaf, total}
 use Rattle.xet_xorb_chunk.specs.declared.chunk.Chunk.{Chunk}
 use Rattle.xet_clean.specs.Planning.{IsWithin}
 use Rattle.xet_clean.specs.Closing.{Closes, Completes, HaveForm, IsAtMost, IsClosingError, IsUnclosed, Records, RecordsFirst, RegistersChunks, filled_files}
-use Rattle.xet_clean.proofs.Adding.{adds_all, adds_completed, adds_registered, first_all, first_none, first_then, records_error, records_nothing, records_added, records_then, register_cut_none}
-use Rattle.xet_clean.proofs.Closing.{IsRefusal, closing_earlier, closing_more, closing_refused, error_since, refused_at_most, refused_records}
-use Rattle.xet_clean.proofs.Counting.{at_most_more, at_most_nothing, at_most_then, completed_at_most, error_at_most, register_cut_count, register_cut_pending, registered_at_most}
+use Rattle.xet_clean.specs.theorems.Adding.{adds_all, adds_completed, adds_registered, first_all, first_none, first_then, records_error, records_nothing, records_added, records_then, register_cut_none}
+use Rattle.xet_clean.specs.theorems.Closing.{IsRefusal, closing_earlier, closing_more, closing_refused, error_since, refused_at_most, refused_records}
+use Rattle.xet_clean.specs.theorems.Counting.{at_most_more, at_most_nothing, at_most_then, completed_at_most, error_at_most, register_cut_count, register_cut_pending, registered_at_most}
 
 -- a file that has its xorb
 abbrev pub Finished : Type 0

@@ -21,10 +21,10 @@ use Rattle.xet_clean.specs.Files.{leaves_in}
 use Rattle.xet_clean.specs.Planning.{IsPlanned, IsWithin}
 use Rattle.xet_clean.specs.Closing.{HaveForm, recorded_in}
 use Rattle.xet_clean.specs.Working.{AreRecorded, IsWorking, Planned, Waits, WasPlanned}
-use Rattle.xet_clean.proofs.Adding.{Adds, recorded_in-append}
-use Rattle.xet_clean.proofs.Keeping.{limits_follow, was_planned_follows}
-use Rattle.xet_clean.proofs.Rising.{once_next}
-use Rattle.xet_clean.proofs.Sums.{sum_push}
+use Rattle.xet_clean.specs.theorems.Adding.{Adds, recorded_in-append}
+use Rattle.xet_clean.specs.theorems.Keeping.{limits_follow, was_planned_follows}
+use Rattle.xet_clean.specs.theorems.Rising.{once_next}
+use Rattle.xet_clean.specs.theorems.Sums.{sum_push}
 use Rattle.xet_clean.specs.Policies.{info_by}
 
 -- ---- one more file

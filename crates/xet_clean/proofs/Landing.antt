@@ -7,7 +7,7 @@ use Rattle.xet_choices.specs.Calls.Call.{Asked, Registered}
 use Rattle.xet_dedup_queries.specs.Counting.{BeginsWith, HasNext, LandsIn, first_registered}
 use Rattle.xet_clean.specs.Cleaning.{IsPart, Lands, RegistersPart}
 use Rattle.xet_clean.specs.internal.Merging.{IsLater}
-use Rattle.xet_clean.proofs.Keeping.{any_left, any_right}
+use Rattle.xet_clean.specs.theorems.Keeping.{any_left, any_right}
 
 -- ---- parts
 

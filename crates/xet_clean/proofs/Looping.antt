@@ -29,12 +29,12 @@ use Rattle.xet_clean.specs.Closing.{Closes, IsAtMost, IsUnclosed, filled_files, 
 use Rattle.xet_clean.specs.Sources.{AreDone, AreRead, HasCleaned, IsCutShort, IsDone, IsTakenFrom, IsLoopError, IsSourceError, IsUnclosedFor}
 use Rattle.xet_clean.specs.Working.{EndsWith, IsWorking, Planned, WasPlanned, Waits}
 use Rattle.xet_shard_format.specs.declared.record.MDBFileInfo.{MDBFileInfo}
-use Rattle.xet_clean.proofs.Adding.{none_recorded, recorded_in-append}
-use Rattle.xet_clean.proofs.Closing.{error_earlier}
-use Rattle.xet_clean.proofs.Hashes.{chunks_sum}
-use Rattle.xet_clean.proofs.Keeping.{seen_follows, waits_seen, was_planned_follows}
+use Rattle.xet_clean.specs.theorems.Adding.{none_recorded, recorded_in-append}
+use Rattle.xet_clean.specs.theorems.Closing.{error_earlier}
+use Rattle.xet_clean.specs.theorems.Hashes.{chunks_sum}
+use Rattle.xet_clean.specs.theorems.Keeping.{seen_follows, waits_seen, was_planned_follows}
 use Rattle.xet_clean.proofs.Stopping.{HasRecorded, first_recorded}
-use Rattle.xet_clean.proofs.Turns.{AreFrom, at_length, drop_past, done_counts, done_push, done_read, done_told, from_then, later_all, long_at, rose_at, set_at_length, taken_all, taken_each, tell_all, untouched}
+use Rattle.xet_clean.specs.theorems.Turns.{AreFrom, at_length, drop_past, done_counts, done_push, done_read, done_told, from_then, later_all, long_at, rose_at, set_at_length, taken_all, taken_each, tell_all, untouched}
 use Rattle.xet_clean.specs.declared.policy.Sha256Policy.{Sha256Policy}
 use Rattle.xet_clean.proofs.Unclosed.{unclosed_since}
 use Rattle.xet_clean.proofs.Beginning.{nothing_cleaned}

@@ -31,13 +31,13 @@ use Rattle.xet_clean.specs.Working.{Planned, Waits}
 use Rattle.xet_clean.specs.declared.working.Working.{Working}
 use Rattle.xet_clean.specs.internal.Merging.{IsLater, IsMerged, IsMerging}
 use Rattle.xet_clean.specs.internal.Sums.{HasRoom}
-use Rattle.xet_clean.proofs.Adding.{Adds, adds_closed_last, recorded_in-append}
-use Rattle.xet_clean.proofs.Ending.{last_chunks}
-use Rattle.xet_clean.proofs.Keeping.{any_last, any_left, limits_follow}
+use Rattle.xet_clean.specs.theorems.Adding.{Adds, adds_closed_last, recorded_in-append}
+use Rattle.xet_clean.specs.theorems.Ending.{last_chunks}
+use Rattle.xet_clean.specs.theorems.Keeping.{any_last, any_left, limits_follow}
 use Rattle.xet_clean.proofs.Taking.{IsTaken, merged_more, part_small, part_within, taken_of}
 use Rattle.xet_clean.proofs.Parting.{IsNext, each_filled, files_append, files_push, may_follows, may_next, may_none}
-use Rattle.xet_clean.proofs.Records.{waits_among_more}
-use Rattle.xet_clean.proofs.Sums.{small_room, small_zeros, sum_again}
+use Rattle.xet_clean.specs.theorems.Records.{waits_among_more}
+use Rattle.xet_clean.specs.theorems.Sums.{small_room, small_zeros, sum_again}
 
 -- ---- the first part
 

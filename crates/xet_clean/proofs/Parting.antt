@@ -15,10 +15,10 @@ use Rattle.xet_clean.specs.Closing.{filled_files, recorded_in}
 use Rattle.xet_clean.specs.Merging.{EachRecorded, HasSeen, IsPartOf, MayMerge, MayMergeAll, Part, files_of, own_of}
 use Rattle.xet_clean.specs.Working.{AreRecorded, IsRecordOf, IsWorking, Planned, Waits}
 use Rattle.xet_clean.specs.declared.working.Working.{Working}
-use Rattle.xet_clean.proofs.InOrder.{recorded_changed_after}
-use Rattle.xet_clean.proofs.Keeping.{own_follows, seen_follows, seen_then, waits_seen}
-use Rattle.xet_clean.proofs.Records.{filled_of, shifted_of, waits_among_earlier, waits_later}
-use Rattle.xet_clean.proofs.Rising.{flat_push}
+use Rattle.xet_clean.specs.theorems.InOrder.{recorded_changed_after}
+use Rattle.xet_clean.specs.theorems.Keeping.{own_follows, seen_follows, seen_then, waits_seen}
+use Rattle.xet_clean.specs.theorems.Records.{filled_of, shifted_of, waits_among_earlier, waits_later}
+use Rattle.xet_clean.specs.theorems.Rising.{flat_push}
 
 -- ---- the files of one more part, and of more parts
 

@@ -29,9 +29,9 @@ use Rattle.xet_stepping.specs.Holders.{Follows, Holder, core_at, numbered}
 use Rattle.xet_clean.specs.Cleaning.{Grows, HasReason, IsBounded, IsCleaned, entries_since}
 use Rattle.xet_clean.specs.Sources.{AreRead, IsCutShort, IsLoopError}
 use Rattle.xet_clean.specs.Working.{EndsWith, Planned}
-use Rattle.xet_clean.proofs.Choosing.{unnumbered}
-use Rattle.xet_clean.proofs.Refusing.{none_refused}
-use Rattle.xet_clean.proofs.Session.{bounded_since, core_is, ended_adds, ended_cleaned, ended_grows, ended_infos, ended_recorded, grows_by, since_is, some_made}
+use Rattle.xet_clean.specs.theorems.Choosing.{unnumbered}
+use Rattle.xet_clean.specs.theorems.Refusing.{none_refused}
+use Rattle.xet_clean.specs.theorems.Session.{bounded_since, core_is, ended_adds, ended_cleaned, ended_grows, ended_infos, ended_recorded, grows_by, since_is, some_made}
 use Rattle.xet_clean.specs.Policies.{info_by}
 use Rattle.xet_clean.specs.declared.policy.Sha256Policy.{Sha256Policy}
 

@@ -14,7 +14,7 @@ use Rattle.xet_clean.specs.Planning.{IsFew}
 use Rattle.xet_clean.specs.Errors.{IsCleanerError}
 use Rattle.xet_clean.specs.Sources.{IsSourceError, Takes}
 use Rattle.xet_clean.proofs.FileCalls.{same_limits}
-use Rattle.xet_clean.proofs.Closing.{error_earlier}
+use Rattle.xet_clean.specs.theorems.Closing.{error_earlier}
 
 -- ---- bytes that were taken
 

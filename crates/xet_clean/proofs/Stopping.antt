@@ -15,10 +15,10 @@ use Rattle.xet_clean.specs.Cleaning.{AreRecords}
 use Rattle.xet_clean.specs.Files.{leaves_in}
 use Rattle.xet_clean.specs.Closing.{filled_files, recorded_in}
 use Rattle.xet_clean.specs.Working.{AreRecorded, IsWorking, Planned}
-use Rattle.xet_clean.proofs.Adding.{recorded_in-append}
-use Rattle.xet_clean.proofs.Hashes.{all_leaves}
-use Rattle.xet_clean.proofs.InOrder.{are_records, recorded_split}
-use Rattle.xet_clean.proofs.Records.{records_filled}
+use Rattle.xet_clean.specs.theorems.Adding.{recorded_in-append}
+use Rattle.xet_clean.specs.theorems.Hashes.{all_leaves}
+use Rattle.xet_clean.specs.theorems.InOrder.{are_records, recorded_split}
+use Rattle.xet_clean.specs.theorems.Records.{records_filled}
 use Rattle.xet_clean.specs.declared.policy.Sha256Policy.{Sha256Policy}
 
 -- The first of these files, at most n, were recorded, and no others.

@@ -28,15 +28,15 @@ use Rattle.xet_clean.specs.Planning.{IsWithin}
 use Rattle.xet_clean.specs.Working.{Planned, Waits}
 use Rattle.xet_clean.specs.internal.Merging.{IsLater, IsMerged}
 use Rattle.xet_clean.specs.internal.Sums.{AreSmall}
-use Rattle.xet_clean.proofs.Adding.{Adds, adds_closed, adds_nothing, recorded_in-append}
+use Rattle.xet_clean.specs.theorems.Adding.{Adds, adds_closed, adds_nothing, recorded_in-append}
 use Rattle.xet_clean.proofs.Cases.{within_both}
 use Rattle.xet_clean.proofs.Completing.{both_some}
-use Rattle.xet_clean.proofs.Keeping.{limits_follow, seen_follows, seen_then}
+use Rattle.xet_clean.specs.theorems.Keeping.{limits_follow, seen_follows, seen_then}
 use Rattle.xet_clean.proofs.Landing.{lands_last, lands_then, later_last, later_then, part_itself, part_left, part_right, part_then}
 use Rattle.xet_clean.proofs.Parting.{each_filled, each_push, files_push, part_records, part_shifted, part_waits, shifted_waits}
-use Rattle.xet_clean.proofs.Records.{waits_among_more, waits_earlier}
-use Rattle.xet_clean.proofs.Rising.{flat_push}
-use Rattle.xet_clean.proofs.Sums.{small_both, small_sum, sum_append}
+use Rattle.xet_clean.specs.theorems.Records.{waits_among_more, waits_earlier}
+use Rattle.xet_clean.specs.theorems.Rising.{flat_push}
+use Rattle.xet_clean.specs.theorems.Sums.{small_both, small_sum, sum_append}
 
 abbrev Leaves : Type 0
 Leaves = List (List ℕ × ℕ)

@@ -18,7 +18,7 @@ use Rattle.xet_clean.specs.Closing.{Closes, IsAtMost, IsUnclosed}
 use Rattle.xet_clean.specs.Sources.{AreRead, IsCutShort, IsLoopError, IsSourceError, Takes}
 use Rattle.xet_clean.specs.Working.{EndsWith, IsAdded, IsWorking, Planned}
 use Rattle.xet_clean.proofs.Looping.{HasNext, IsLoop, IsStopped, ends_with, has_next, loop_begins, loop_next, next_at, read_end, stopped_at_end, stopped_at_keep, stopped_at_source}
-use Rattle.xet_clean.proofs.Turns.{done_one, taken_from}
+use Rattle.xet_clean.specs.theorems.Turns.{done_one, taken_from}
 use Rattle.xet_clean.specs.declared.policy.Sha256Policy.{Sha256Policy}
 use Rattle.xet_clean.specs.Policies.{sha256_by}
 

@@ -9,8 +9,8 @@ use Rattle.xet_stepping.specs.Holders.{Follows, Holder}
 use Rattle.xet_stepping.specs.theorems.Following.{follows_nothing, follows_then}
 use Rattle.xet_clean.specs.Closing.{IsClosingError, IsUnclosed, RegistersChunks, filled_files}
 use Rattle.xet_xorb_chunk.specs.Chunks.{chunk_leaf}
-use Rattle.xet_clean.proofs.Adding.{adds_registered}
-use Rattle.xet_clean.proofs.Closing.{error_earlier}
+use Rattle.xet_clean.specs.theorems.Adding.{adds_registered}
+use Rattle.xet_clean.specs.theorems.Closing.{error_earlier}
 
 -- what an aggregate's registration leaves
 pub registers_follow : (a : Aggregate) (next : List (List ℕ × ℕ)) (old new : Holder) → RegistersChunks a next old new → Follows old new

@@ -8,4 +8,5 @@ pub mod Planning
 pub mod Sources
 pub mod Working
 pub mod Merging
+pub mod theorems
 pub mod internal

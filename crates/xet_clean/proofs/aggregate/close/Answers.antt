@@ -8,7 +8,7 @@ use Rattle.xet_stepping.specs.theorems.Following.{follows_nothing}
 use Rattle.xet_xorb.specs.Raw.{raw_leaves}
 use Rattle.xet_clean.specs.Closing.{IsClosingError, IsUnclosed}
 use Rattle.xet_clean.proofs.Completing.{WasRegistered, closes_either, error_either, forms_are, leaves_of_made, most_either, most_refused, new_xorb, records_of, unclosed_nothing, unclosed_refused}
-use Rattle.xet_clean.proofs.Counting.{at_most_more, at_most_nothing}
+use Rattle.xet_clean.specs.theorems.Counting.{at_most_more, at_most_nothing}
 use Rattle.xet_clean.proofs.aggregate.close.Goals as goal
 use Rattle.xet_clean.proofs.aggregate.close.Goals.{then-not-is_empty+in_ok-_added, else-not-is_empty}
 

@@ -5,7 +5,7 @@ use Rattle.std.specs.Vec.Iter.{into_iter_items}
 use Rattle.xet_base.specs.theorems.Exits.{exit_with}
 use Rattle.xet_shard_format.specs.Records.{IsFile}
 use Rattle.xet_clean.specs.Closing.{IsClosingError}
-use Rattle.xet_clean.proofs.Adding.{records_nothing}
+use Rattle.xet_clean.specs.theorems.Adding.{records_nothing}
 use Rattle.xet_clean.proofs.Completing.{Finished, IsCompleting, completing_begins, completing_done, completing_first, completing_more, completing_most, completing_refused, records_of}
 use Rattle.xet_clean.proofs.aggregate.complete_all.Goals as goal
 

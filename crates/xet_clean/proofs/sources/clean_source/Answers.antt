@@ -6,7 +6,7 @@ use Rattle.xet_stepping.specs.theorems.Following.{asking_nothing, asking_then}
 use Rattle.xet_clean.specs.Planning.{IsFew, IsFinished}
 use Rattle.xet_clean.specs.Policies.{sha256_by}
 use Rattle.xet_clean.specs.Sources.{IsSourceError, Takes}
-use Rattle.xet_clean.proofs.Closing.{error_earlier}
+use Rattle.xet_clean.specs.theorems.Closing.{error_earlier}
 use Rattle.xet_clean.proofs.Reading.{few_nothing, source_error, takes_nothing, takes_some}
 use Rattle.xet_clean.proofs.sources.clean_source.Goals as goal
 

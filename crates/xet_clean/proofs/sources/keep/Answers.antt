@@ -1,6 +1,6 @@
 use Rattle.std.proofs.Common.{◌+◌, ◌*◌, length, arith}
 use Rattle.xet_stepping.specs.theorems.Following.{follows_nothing}
-use Rattle.xet_clean.proofs.Counting.{at_most_more, at_most_nothing}
+use Rattle.xet_clean.specs.theorems.Counting.{at_most_more, at_most_nothing}
 use Rattle.xet_clean.proofs.sources.keep.Goals as goal
 
 pub returns-in-Err-clause-follows : goal.returns-in-Err-clause-follows

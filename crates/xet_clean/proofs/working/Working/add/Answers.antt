@@ -10,7 +10,7 @@ use Rattle.xet_clean.specs.Closing.{IsAtMost}
 use Rattle.xet_clean.specs.internal.Sums.{HasRoom}
 use Rattle.xet_clean.specs.Working.{IsWorking, Planned}
 use Rattle.xet_clean.proofs.Added.{added_joined, added_nothing, added_rest, added_room, size_is}
-use Rattle.xet_clean.proofs.Counting.{at_most_more, at_most_nothing}
+use Rattle.xet_clean.specs.theorems.Counting.{at_most_more, at_most_nothing}
 use Rattle.xet_clean.proofs.working.Working.add.Goals as goal
 use Rattle.xet_clean.proofs.working.Working.add.Goals.{then-info-gt0+in_ok-join, else-info-gt0}
 

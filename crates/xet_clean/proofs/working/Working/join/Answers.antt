@@ -9,7 +9,7 @@ use Rattle.xet_stepping.specs.theorems.Following.{follows_nothing}
 use Rattle.xet_xorb_chunk.specs.Chunks.{chunk_leaf}
 use Rattle.xet_clean.specs.Closing.{Closes, IsAtMost, IsUnclosed}
 use Rattle.xet_clean.proofs.Completing.{due_unless_fits, unclosed_after, unclosed_nothing, unless_memory}
-use Rattle.xet_clean.proofs.Counting.{at_most_more, at_most_nothing}
+use Rattle.xet_clean.specs.theorems.Counting.{at_most_more, at_most_nothing}
 use Rattle.xet_clean.proofs.working.Working.join.Goals as goal
 use Rattle.xet_clean.proofs.working.Working.join.Goals.{then-not-fits+in_ok-next+in_ok-close, else-not-fits}
 

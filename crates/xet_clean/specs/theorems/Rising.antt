@@ -56,7 +56,7 @@ rises_both (x ∷ xs) ys first second all = (all_both (λ y. x < y) xs ys first.
 -- ---- the entries of choices
 
 -- what holds of each entry that a choice names holds of each entry
-all_entries : (P : ℕ → Type 0) (cs : List Choice) → ((i e : ℕ) → slice_get cs i ≡ Some (NoPlace e) → P e) → AllByRecursion P (no_place_entries cs)
+pub all_entries : (P : ℕ → Type 0) (cs : List Choice) → ((i e : ℕ) → slice_get cs i ≡ Some (NoPlace e) → P e) → AllByRecursion P (no_place_entries cs)
 all_entries P [] each = tt
 all_entries P (Reused segment ∷ cs) each = all_entries P cs (λ i e at. each (suc i) e at)
 all_entries P (NoPlace entry ∷ cs) each = (each 0 entry refl, all_entries P cs (λ i e at. each (suc i) e at))
@@ -90,7 +90,7 @@ pub asked_still : (a b : Holder) → Follows a b → (n : ℕ) (h : List ℕ) (r
 asked_still a b f n h reply is = subst (λ (cs : List Call). IsAskedIn cs n h reply) (sym (calls_stay a b f)) (asked_before (calls_of a) (calls_in f.own) n h reply is)
 
 -- the entry of a choice is that of a query of the deduplication
-asked_of : (first last : Holder) (f : Planned) → IsPlanned first last f.bytes f.plan → (i e : ℕ) → slice_get f.plan.choices i ≡ Some (NoPlace e)
+pub asked_of : (first last : Holder) (f : Planned) → IsPlanned first last f.bytes f.plan → (i e : ℕ) → slice_get f.plan.choices i ≡ Some (NoPlace e)
     → (h : List ℕ) × IsAskedIn (calls_of last) e h None
 asked_of first last f is i e at =
     let since = is.deduped.plan in

@@ -28,12 +28,12 @@ use Rattle.xet_clean.specs.Cleaning.{AreChosen, AreRecords, Grows, IsBounded, Is
 use Rattle.xet_clean.specs.Closing.{recorded_in}
 use Rattle.xet_clean.specs.Sources.{IsCutShort}
 use Rattle.xet_clean.specs.Working.{AreRecorded, EndsWith, Planned}
-use Rattle.xet_clean.proofs.Adding.{recorded_numbered}
-use Rattle.xet_clean.proofs.Choosing.{are_chosen, leaves_sum, new_sum}
-use Rattle.xet_clean.proofs.Ending.{IsEnded, ended}
-use Rattle.xet_clean.proofs.Hashes.{all_leaves}
-use Rattle.xet_clean.proofs.InOrder.{are_records}
-use Rattle.xet_clean.proofs.Recorded.{HasRows, RecordsHash, hash_of_file, only_files, plans_found, recorded_found, rows_add, rows_after_all}
+use Rattle.xet_clean.specs.theorems.Adding.{recorded_numbered}
+use Rattle.xet_clean.specs.theorems.Choosing.{are_chosen, leaves_sum, new_sum}
+use Rattle.xet_clean.specs.theorems.Ending.{IsEnded, ended}
+use Rattle.xet_clean.specs.theorems.Hashes.{all_leaves}
+use Rattle.xet_clean.specs.theorems.InOrder.{are_records}
+use Rattle.xet_clean.specs.theorems.Recorded.{HasRows, RecordsHash, hash_of_file, only_files, plans_found, recorded_found, rows_add, rows_after_all}
 use Rattle.xet_clean.specs.Policies.{info_by}
 use Rattle.xet_clean.specs.declared.policy.Sha256Policy.{Sha256Policy}
 
@@ -87,7 +87,7 @@ module _ {S : Type 0} (tells : S → Bool) (left : S → List ℕ) (limits : Lim
   told_infos policy (s ∷ ss) (f ∷ fs) told = (λ tell. ap (info_by policy limits) (told.0 tell), told_infos policy ss fs told.1)
 
 -- the pointer records of files whose SHA-256 comes from there
-infos_by : (policy : Sha256Policy) (limits : LimitSettings) (files : List Planned) → AllByRecursion (λ f. f.policy ≡ policy) files → map (λ f. info_by f.policy limits f.bytes) files ≡ map (λ f. info_by policy limits f.bytes) files
+pub infos_by : (policy : Sha256Policy) (limits : LimitSettings) (files : List Planned) → AllByRecursion (λ f. f.policy ≡ policy) files → map (λ f. info_by f.policy limits f.bytes) files ≡ map (λ f. info_by policy limits f.bytes) files
 infos_by policy limits [] same = refl
 infos_by policy limits (f ∷ fs) same = λ i. info_by (same.0 i) limits f.bytes ∷ infos_by policy limits fs same.1 i
 

@@ -19,7 +19,7 @@ use Rattle.xet_clean.specs.Files.{leaves_in}
 use Rattle.xet_clean.specs.Planning.{IsPlanned}
 use Rattle.xet_clean.specs.internal.Sums.{AreSmall, HasRoom}
 use Rattle.xet_clean.specs.Working.{Planned, WasPlanned}
-use Rattle.xet_clean.proofs.Keeping.{limits_follow}
+use Rattle.xet_clean.specs.theorems.Keeping.{limits_follow}
 
 -- ---- sums in either order
 

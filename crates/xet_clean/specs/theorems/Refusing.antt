@@ -41,13 +41,13 @@ use Rattle.xet_clean.specs.Cleaning.{AreApartUnder, NoneEnds}
 use Rattle.xet_clean.specs.Closing.{IsClosingError, RegistersChunks, filled_files}
 use Rattle.xet_clean.specs.Sources.{IsUnclosedFor}
 use Rattle.xet_clean.specs.Working.{IsRecordOf, Planned, Waits, WasPlanned}
-use Rattle.xet_clean.proofs.Counting.{other_at_most}
-use Rattle.xet_clean.proofs.Ending.{made_of}
-use Rattle.xet_clean.proofs.Hashes.{planned_hash, planned_leaves}
-use Rattle.xet_clean.proofs.Keeping.{lengths_seen, listed_seen, seen_follows, standing_seen}
-use Rattle.xet_clean.proofs.Records.{filled_of}
-use Rattle.xet_clean.proofs.Resolving.{few_bytes, placed_filled, placed_none, resolves_placed}
-use Rattle.xet_clean.proofs.Session.{core_is}
+use Rattle.xet_clean.specs.theorems.Counting.{other_at_most}
+use Rattle.xet_clean.specs.theorems.Ending.{made_of}
+use Rattle.xet_clean.specs.theorems.Hashes.{planned_hash, planned_leaves}
+use Rattle.xet_clean.specs.theorems.Keeping.{lengths_seen, listed_seen, seen_follows, standing_seen}
+use Rattle.xet_clean.specs.theorems.Records.{filled_of}
+use Rattle.xet_clean.specs.theorems.Resolving.{few_bytes, placed_filled, placed_none, resolves_placed}
+use Rattle.xet_clean.specs.theorems.Session.{core_is}
 
 -- bytes have a chunk
 some_chunks : (s : LimitSettings) (bytes : List ℕ) → 0 < length bytes → 0 < length (chunking s bytes)

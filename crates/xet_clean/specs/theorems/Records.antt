@@ -21,8 +21,8 @@ use Rattle.xet_stepping.specs.Asking.{Stands}
 use Rattle.xet_stepping.specs.Holders.{Holder, core_at, lengths_in}
 use Rattle.xet_clean.specs.Closing.{filled_files}
 use Rattle.xet_clean.specs.Working.{AreRecorded, IsRecordOf, Planned, Waits}
-use Rattle.xet_clean.proofs.InOrder.{recorded_changed_after}
-use Rattle.xet_clean.proofs.Keeping.{any_left, any_more, any_right}
+use Rattle.xet_clean.specs.theorems.InOrder.{recorded_changed_after}
+use Rattle.xet_clean.specs.theorems.Keeping.{any_left, any_more, any_right}
 use Rattle.xet_clean.specs.Policies.{sha256_by}
 
 -- ---- segments with as many chunks

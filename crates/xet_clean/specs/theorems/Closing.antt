@@ -19,8 +19,8 @@ use Rattle.xet_stepping.specs.Holders.{Follows, Holder, core_at, core_found, num
 use Rattle.xet_stepping.specs.Stepping.{SawError, SawOther, cut_to_complete}
 use Rattle.xet_stepping.specs.theorems.Following.{follows_nothing, follows_then}
 use Rattle.xet_clean.specs.Closing.{IsAtMost, IsClosingError, Records}
-use Rattle.xet_clean.proofs.Adding.{among_right, complete_cut_none, records_error, records_other}
-use Rattle.xet_clean.proofs.Counting.{complete_cut_count, complete_cut_pending, error_at_most, other_at_most}
+use Rattle.xet_clean.specs.theorems.Adding.{among_right, complete_cut_none, records_error, records_other}
+use Rattle.xet_clean.specs.theorems.Counting.{complete_cut_count, complete_cut_pending, error_at_most, other_at_most}
 
 -- ---- among
 

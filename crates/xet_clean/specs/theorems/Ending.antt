@@ -19,9 +19,9 @@ use Rattle.xet_xorb_chunk.specs.Chunks.{chunk_leaf}
 use Rattle.xet_clean.specs.Cleaning.{RegistersFew, close_of}
 use Rattle.xet_clean.specs.Closing.{Closes, filled_files, recorded_in}
 use Rattle.xet_clean.specs.Working.{AreRecorded, IsWorking, Planned, WasPlanned}
-use Rattle.xet_clean.proofs.Adding.{Adds, adds_closed_last, recorded_in-append}
-use Rattle.xet_clean.proofs.Keeping.{was_planned_follows}
-use Rattle.xet_clean.proofs.Records.{records_filled}
+use Rattle.xet_clean.specs.theorems.Adding.{Adds, adds_closed_last, recorded_in-append}
+use Rattle.xet_clean.specs.theorems.Keeping.{was_planned_follows}
+use Rattle.xet_clean.specs.theorems.Records.{records_filled}
 
 -- ---- elements of a list that is made of another
 

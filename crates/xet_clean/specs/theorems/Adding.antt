@@ -28,8 +28,8 @@ use Rattle.xet_xorb_chunk.specs.Chunks.{chunk_leaf}
 use Rattle.xet_xorb_chunk.specs.declared.chunk.Chunk.{Chunk}
 use Rattle.xet_clean.specs.Cleaning.{close_of, files_in}
 use Rattle.xet_clean.specs.Closing.{Closes, Completes, Records, RecordsFirst, RegistersChunks, filled_files, recorded_in}
-use Rattle.xet_clean.proofs.Counting.{complete_count, register_count}
-use Rattle.xet_clean.proofs.Keeping.{own_follows}
+use Rattle.xet_clean.specs.theorems.Counting.{complete_count, register_count}
+use Rattle.xet_clean.specs.theorems.Keeping.{own_follows}
 
 -- ---- among
 

@@ -23,8 +23,8 @@ use Rattle.xet_cut.specs.declared.limits.LimitSettings.{LimitSettings}
 use Rattle.xet_hash.specs.Hash.{zero_hash}
 use Rattle.xet_store.specs.theorems.Files.{plan_empty, plan_some}
 use Rattle.xet_clean.specs.Cleaning.{AreRecords, IsRecordFor, RecordsFile, files_in}
-use Rattle.xet_clean.proofs.Closing.{among_cons}
-use Rattle.xet_clean.proofs.Ending.{among_made}
+use Rattle.xet_clean.specs.theorems.Closing.{among_cons}
+use Rattle.xet_clean.specs.theorems.Ending.{among_made}
 use Rattle.xet_clean.specs.declared.policy.Sha256Policy.{Sha256Policy}
 
 -- If the entry records a file, its hash is one of these.
@@ -73,10 +73,10 @@ recorded_found c (Fault pass kind ∷ es) = recorded_found c es
 -- ---- the records of files
 
 -- each record is that of one of the files
-abbrev IsRecordAmong : Sha256Policy → LimitSettings → List (List ℕ) → MDBFileInfo → Type 0
+abbrev pub IsRecordAmong : Sha256Policy → LimitSettings → List (List ℕ) → MDBFileInfo → Type 0
 IsRecordAmong policy s files r = (bytes : List ℕ) × IsAmong files bytes × IsRecordFor policy s bytes r
 
-each_record : (policy : Sha256Policy) (s : LimitSettings) (files : List (List ℕ)) (rs : List MDBFileInfo) → AreRecords policy s files rs → AllByRecursion (IsRecordAmong policy s files) rs
+pub each_record : (policy : Sha256Policy) (s : LimitSettings) (files : List (List ℕ)) (rs : List MDBFileInfo) → AreRecords policy s files rs → AllByRecursion (IsRecordAmong policy s files) rs
 each_record policy s [] [] none = tt
 each_record policy s [] (r ∷ rs) none = absurd (cc none)
 each_record policy s ([] ∷ fs) rs all = all_more (IsRecordAmong policy s fs) (IsRecordAmong policy s ([] ∷ fs)) rs (λ r is. (is.0, among_cons [] fs is.0 is.1, is.2)) (each_record policy s fs rs all)
@@ -86,7 +86,7 @@ each_record policy s ((b ∷ bs) ∷ fs) (r ∷ rs) all = (
   all_more (IsRecordAmong policy s fs) (IsRecordAmong policy s ((b ∷ bs) ∷ fs)) rs (λ q is. (is.0, among_cons (b ∷ bs) fs is.0 is.1, is.2)) (each_record policy s fs rs all.1),
 )
 
-record_files : (policy : Sha256Policy) (s : LimitSettings) (files : List (List ℕ)) (es : List Entry) → AllByRecursion (IsRecordAmong policy s files) (files_in es) → AllByRecursion (RecordsFile policy s files) es
+pub record_files : (policy : Sha256Policy) (s : LimitSettings) (files : List (List ℕ)) (es : List Entry) → AllByRecursion (IsRecordAmong policy s files) (files_in es) → AllByRecursion (RecordsFile policy s files) es
 record_files policy s files [] all = tt
 record_files policy s files (Query pass query reply ∷ es) all = (tt, record_files policy s files es all)
 record_files policy s files (Register pass chunks next added ∷ es) all = (tt, record_files policy s files es all)

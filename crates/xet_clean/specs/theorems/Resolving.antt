@@ -30,7 +30,7 @@ use Rattle.xet_xorb.specs.Raw.{raw_leaves, raw_of}
 use Rattle.xet_xorb.specs.declared.raw.RawXorbData.{RawXorbData}
 use Rattle.xet_xorb_chunk.specs.Chunks.{bytes_of_chunk, chunk_leaf}
 use Rattle.xet_xorb_chunk.specs.declared.chunk.Chunk.{Chunk}
-use Rattle.xet_clean.proofs.Runs.{among_drop, among_take, made_part}
+use Rattle.xet_clean.specs.theorems.Runs.{among_drop, among_take, made_part}
 
 abbrev Leaves : Type 0
 Leaves = List (List ℕ × ℕ)

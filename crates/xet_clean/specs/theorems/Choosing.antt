@@ -21,8 +21,8 @@ use Rattle.xet_stepping.specs.Holders.{Follows, Holder, calls_in, calls_of, numb
 use Rattle.xet_clean.specs.Cleaning.{AreChosen}
 use Rattle.xet_clean.specs.Files.{HasChoices, leaves_in}
 use Rattle.xet_clean.specs.Working.{AreRecorded, BeginsWithRecord, IsRecordOf, Planned, WasPlanned}
-use Rattle.xet_clean.proofs.Rising.{calls_stay}
-use Rattle.xet_clean.proofs.Sums.{no_leaves}
+use Rattle.xet_clean.specs.theorems.Rising.{calls_stay}
+use Rattle.xet_clean.specs.theorems.Sums.{no_leaves}
 use Rattle.xet_clean.specs.Policies.{sha256_by}
 use Rattle.xet_clean.specs.declared.policy.Sha256Policy.{Sha256Policy}
 

@@ -1,0 +1,17 @@
+pub mod Adding
+pub mod Choosing
+pub mod Closing
+pub mod Counting
+pub mod Ending
+pub mod Hashes
+pub mod InOrder
+pub mod Keeping
+pub mod Recorded
+pub mod Records
+pub mod Refusing
+pub mod Resolving
+pub mod Rising
+pub mod Runs
+pub mod Session
+pub mod Sums
+pub mod Turns
