@@ -3,3 +3,7 @@
 
 #[cfg(test)]
 mod single_tests;
+#[cfg(test)]
+mod sources;
+#[cfg(test)]
+mod workers_tests;

@@ -1,1 +1,3 @@
 pub mod Workers
+pub mod Cleaning
+pub mod internal

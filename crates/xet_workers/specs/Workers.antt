@@ -5,6 +5,7 @@ use Rattle.xet_aggregate.specs.declared.metrics.DeduplicationMetrics.{Deduplicat
 use Rattle.xet_choices.specs.declared.choice.Choice.{Choice}
 use Rattle.xet_clean.specs.Sources.{HasCleaned, IsLoopError}
 use Rattle.xet_clean.specs.declared.policy.Sha256Policy.TheVariants.{Compute}
+use Rattle.xet_clean.specs.declared.working.Working.{Working}
 use Rattle.xet_hash.specs.declared.error.Place.TheVariants.{Source}
 use Rattle.xet_hash.specs.declared.error.StoreError.{StoreError}
 use Rattle.xet_hash.specs.declared.error.StoreError.TheVariants.{Io, OutOfMemory, TooLarge}
@@ -22,6 +23,10 @@ pub record Worked : Type 0 where
   pub choices : List (List Choice)
   pub metrics : DeduplicationMetrics
   pub left : Aggregate
+
+-- of these parts
+abbrev pub worked : Holder → Working → Worked
+worked pass w = record { pass = pass; infos = w.cleaned.infos.items; choices = w.cleaned.choices.items; metrics = w.cleaned.metrics; left = w.aggregate }
 
 -- A pass of a session of this store has this number, and began without own entries. It has made steps since then.
 pub record HasPassed (store : RecordedState) (given : ℕ) (begun pass : Holder) (stopped : Bool) : Type 0 where

@@ -18,7 +18,7 @@ use xet_locked_session::{LockedSession, Naming};
 /// Divides the sources among so many workers, which clean them side by side, each over the pass of its number, from `number` on.
 /// Errors name the sources from `first` on. What each made is returned in order. If several fail, the error of the first of them
 /// that did not only stop is returned.
-pub fn work_divided<
+pub(crate) fn work_divided<
     D: Disk + Send,
     J: Naming + Send + Sync,
     S: Source + Send,

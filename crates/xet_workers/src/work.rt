@@ -21,7 +21,7 @@ use xet_passing::Passing;
 use xet_stepping::Asking;
 
 /// Where a worker finds its pass.
-pub type Hole<J> = Mutex<Option<Pass<J>>>;
+pub(crate) type Hole<J> = Mutex<Option<Pass<J>>>;
 
 /// The pass of this number, if it is in its hole and has no own entries.
 fn take_pass<J: Naming, R: Wait>(rt: &R, holes: &[Hole<J>], number: u32) -> Option<Pass<J>>

@@ -1,0 +1,147 @@
+-- How the history grew: steps of passes, and then steps of one caller alone.
+use Rattle.std.proofs.Common.{◌≡◌, ◌∙◌, ◌⊎◌, inl, inr, ℕ, zero, suc, ◌+◌, ◌≤◌, Bool, true, false, List, [], ◌++◌, append_assoc, Some, None, refl, sym, ap, subst, arith}
+use Rattle.std.specs.Prelude.{Any}
+use Rattle.std.proofs.lemmas.List.{append-nil, append_cancel_left}
+use Rattle.xet_cut.specs.declared.limits.LimitSettings.{LimitSettings}
+use Rattle.xet_hash.specs.declared.error.Place.TheVariants.{Disk}
+use Rattle.xet_hash.specs.declared.error.StoreError.{StoreError}
+use Rattle.xet_hash.specs.declared.error.StoreError.TheVariants.{Io}
+use Rattle.xet_history.specs.Core.{Core}
+use Rattle.xet_history.specs.History.{after_all, complete_entries, query_entries, register_entries}
+use Rattle.xet_history.specs.declared.entry.Entry.{Entry}
+use Rattle.xet_history.specs.theorems.Joining.{after_all-append}
+use Rattle.xet_io.specs.Faults.{Rose}
+use Rattle.xet_locked_session.specs.Session.{HasRisenBy, IsSince, fault_count}
+use Rattle.xet_workers.proofs.Failures.{counted_fault, fault_count-append, fault_counted, steps_calm, until_failed}
+use Rattle.xet_locked_session.specs.Shared.{HaveEnded, HaveMade, StepOf, StepsBy, StepsByUntil}
+use Rattle.xet_stepping.specs.Alone.{IsAlone, IsFault, StepsTo, StepsUntil, cut_of, kind_of}
+use Rattle.xet_steps.specs.Recorded.{RecordedState, core_of}
+use Rattle.xet_steps.specs.Steps.{Steps, fault_entries}
+use Rattle.xet_steps.specs.theorems.Joining.{steps_both}
+use Rattle.xet_workers.specs.Cleaning.{GrowsBy, MadeBy}
+use Rattle.xet_workers.specs.internal.Ending.{IsLeft}
+
+-- ---- steps of one pass, as steps of passes
+
+module _ (limits : LimitSettings) (c : Core) where
+  -- after other steps
+  steps_after : (xs ys : List Entry) → StepsBy limits c xs → StepsBy limits (after_all c xs) ys → StepsBy limits c (xs ++ ys)
+  steps_after xs ys first StepsBy.begins = subst (StepsBy limits c) (sym (append-nil xs)) first
+  steps_after xs ys first (StepsBy.more es added pass steps step) =
+      subst (StepsBy limits c) (append_assoc xs es added)
+      (StepsBy.more (xs ++ es) added pass (steps_after xs es first steps) (subst (λ (d : Core). StepOf limits pass d added) (sym (after_all-append c xs es)) step))
+
+pub steps_of_one : (limits : LimitSettings) (pass : ℕ) (c : Core) (es : List Entry) → StepsTo limits pass c es → StepsBy limits c es
+steps_of_one limits pass c es StepsTo.begins = StepsBy.begins
+steps_of_one limits pass c es (StepsTo.asks before hashes reply steps) = StepsBy.more before (query_entries pass hashes reply) pass (steps_of_one limits pass c before steps) (StepOf.asks hashes reply)
+steps_of_one limits pass c es (StepsTo.registers before leaves next steps asked due) =
+    StepsBy.more before (register_entries pass (after_all c before) limits.shard_target leaves next) pass (steps_of_one limits pass c before steps) (StepOf.registers leaves next asked due)
+steps_of_one limits pass c es (StepsTo.completes before file steps form completes) =
+    StepsBy.more before (complete_entries pass (after_all c before) limits.shard_target file) pass (steps_of_one limits pass c before steps) (StepOf.completes file form completes)
+
+-- ---- two parts of a history
+
+-- what was added is what was added
+pub same_since : (old new : RecordedState) (xs ys : List Entry) → new.history ≡ old.history ++ xs → new.history ≡ old.history ++ ys → xs ≡ ys
+same_since old new xs ys first second = append_cancel_left old.history xs ys (sym first ∙ second)
+
+-- the disk's count rose between two states
+rose_first : (old mid new n : ℕ) → HasRisenBy n old mid → mid ≤ new → 1 ≤ n → Rose old new
+rose_first old mid new n risen later some = omega (arith, risen, later, some)
+
+pub rose_left : (old new : RecordedState) (is : IsSince old new) → Any IsFault is.since → Rose old.store.faults new.store.faults
+rose_left old new is any = rose_first old.store.faults new.store.faults new.store.faults (fault_count is.since) is.failures (omega arith) (fault_counted is.since any)
+
+module _ (old mid new : RecordedState) (stopped : Bool) (since : IsSince old mid) (alone : IsAlone mid new stopped) where
+  pub all_steps : Steps old new (since.since ++ alone.since)
+  all_steps = steps_both old mid new since.since alone.since since.steps alone.steps
+
+  pub all_rose : Any IsFault (since.since ++ alone.since) → Rose old.store.faults new.store.faults
+  all_rose any = go (fault_count since.since) refl
+    where
+      total : 1 ≤ fault_count since.since + fault_count alone.since
+      total = omega (arith, fault_counted (since.since ++ alone.since) any, fault_count-append since.since alone.since)
+
+      go : (n : ℕ) → fault_count since.since ≡ n → Rose old.store.faults new.store.faults
+      go (suc n) is = rose_first old.store.faults mid.store.faults new.store.faults (fault_count since.since) since.failures alone.steps.keeps.later (omega (arith, is))
+      go zero is =
+          let rose : Rose mid.store.faults new.store.faults = alone.rose (counted_fault alone.since (omega (arith, total, is))) in
+          omega (arith, rose, since.steps.keeps.later)
+
+  module _ (made : HaveMade old mid) where
+    first : StepsBy old.store.limits (core_of old) since.since
+    first = subst (StepsBy old.store.limits (core_of old)) (same_since old mid made.since since.since made.history since.steps.moves.history) made.steps
+
+    -- from the core of the middle on
+    moved : (es : List Entry) → StepsBy mid.store.limits (core_of mid) es → StepsBy old.store.limits (after_all (core_of old) since.since) es
+    moved es steps = subst (λ (c : Core). StepsBy old.store.limits c es) since.steps.moves.leads (subst (λ (s : LimitSettings). StepsBy s (core_of mid) es) since.steps.keeps.limits steps)
+
+    pub whole_by : StepsTo mid.store.limits 0 (core_of mid) alone.since → StepsBy old.store.limits (core_of old) (since.since ++ alone.since)
+    whole_by steps = steps_after old.store.limits (core_of old) since.since alone.since first (moved alone.since (steps_of_one mid.store.limits 0 (core_of mid) alone.since steps))
+
+    pub until_by : (e : StoreError) → StepsUntil mid.store.limits 0 (core_of mid) e alone.since → StepsByUntil old.store.limits (core_of old) e (since.since ++ alone.since)
+    until_by e u = subst (λ (s : LimitSettings). StepsByUntil s (core_of old) e (since.since ++ alone.since)) since.steps.keeps.limits here
+      where
+        front : StepsBy mid.store.limits (core_of old) (since.since ++ u.before)
+        front = subst (λ (s : LimitSettings). StepsBy s (core_of old) (since.since ++ u.before)) (sym since.steps.keeps.limits)
+            (steps_after old.store.limits (core_of old) since.since u.before first (moved u.before (steps_of_one mid.store.limits 0 (core_of mid) u.before u.steps)))
+
+        core : after_all (core_of mid) u.before ≡ after_all (core_of old) (since.since ++ u.before)
+        core = ap (λ (c : Core). after_all c u.before) since.steps.moves.leads ∙ sym (after_all-append (core_of old) since.since u.before)
+
+        here : StepsByUntil mid.store.limits (core_of old) e (since.since ++ alone.since)
+        here = record {
+          before = since.since ++ u.before;
+          steps = front;
+          pass = 0;
+          step = u.step;
+          asked = u.asked;
+          done = u.done;
+          completed = subst (λ (c : Core). (u.done ≡ []) ⊎ (u.done ≡ cut_of 0 mid.store.limits.shard_target u.step c)) core u.completed;
+          is = ap (λ (es : List Entry). since.since ++ es) u.is ∙ sym (append_assoc since.since u.before (u.done ++ fault_entries 0 (kind_of u.step) e));
+        }
+
+    -- no step failed
+    pub grows_whole : stopped ≡ false → GrowsBy None old new
+    grows_whole going = record { entries = since.since ++ alone.since; steps = all_steps; made = whole_by (alone.whole going); rose = all_rose }
+
+    -- perhaps one did
+    either_by : (b : Bool) → stopped ≡ b → StepsBy old.store.limits (core_of old) (since.since ++ alone.since) ⊎ ((error : StoreError) × StepsByUntil old.store.limits (core_of old) error (since.since ++ alone.since))
+    either_by true is = let u = alone.until is in inr (u.0, until_by u.0 u.1)
+    either_by false is = inl (whole_by (alone.whole is))
+
+    made_by_error : (e : StoreError) → (e ≡ Io Disk → Any IsFault alone.since) → MadeBy (Some e) old (since.since ++ alone.since)
+    made_by_error (Io Disk) disk = until_by (Io Disk) (alone.disk (disk refl)).1
+    made_by_error e disk = either_by stopped refl
+
+    pub grows_failed : (e : StoreError) → (e ≡ Io Disk → Any IsFault alone.since) → GrowsBy (Some e) old new
+    grows_failed e disk = record { entries = since.since ++ alone.since; steps = all_steps; made = made_by_error e disk; rose = all_rose }
+
+-- ---- a session that was left
+
+module _ (old new : RecordedState) (left : IsLeft old new) where
+  left_either : StepsBy old.store.limits (core_of old) left.since.since ⊎ ((error : StoreError) × StepsByUntil old.store.limits (core_of old) error left.since.since)
+  left_either = go left.made
+    where
+      go : HaveMade old new ⊎ HaveEnded old new → StepsBy old.store.limits (core_of old) left.since.since ⊎ ((error : StoreError) × StepsByUntil old.store.limits (core_of old) error left.since.since)
+      go (inl made) = inl (subst (StepsBy old.store.limits (core_of old)) (same_since old new made.since left.since.since made.history left.since.steps.moves.history) made.steps)
+      go (inr ended) = inr (ended.error, subst (StepsByUntil old.store.limits (core_of old) ended.error) (same_since old new ended.since left.since.since ended.history left.since.steps.moves.history) ended.steps)
+
+  -- with a failure of the disk, the last step failed by it
+  left_disk : 1 ≤ fault_count left.since.since → StepsByUntil old.store.limits (core_of old) (Io Disk) left.since.since
+  left_disk some = go left_either
+    where
+      go : StepsBy old.store.limits (core_of old) left.since.since ⊎ ((error : StoreError) × StepsByUntil old.store.limits (core_of old) error left.since.since) → StepsByUntil old.store.limits (core_of old) (Io Disk) left.since.since
+      go (inl made) = absurd (omega (arith, some, steps_calm old.store.limits (core_of old) left.since.since made))
+      go (inr ended) = by (until_failed old.store.limits (core_of old) ended.0 left.since.since ended.1)
+        where
+          by : (fault_count left.since.since ≡ 0) ⊎ ((fault_count left.since.since ≡ 1) × (ended.0 ≡ Io Disk)) → StepsByUntil old.store.limits (core_of old) (Io Disk) left.since.since
+          by (inl none) = absurd (omega (arith, some, none))
+          by (inr one) = subst (λ (e : StoreError). StepsByUntil old.store.limits (core_of old) e left.since.since) one.1 ended.1
+
+  left_made : (e : StoreError) → (e ≡ Io Disk → 1 ≤ fault_count left.since.since) → MadeBy (Some e) old left.since.since
+  left_made (Io Disk) disk = left_disk (disk refl)
+  left_made e disk = left_either
+
+  pub grows_left : (e : StoreError) → (e ≡ Io Disk → 1 ≤ fault_count left.since.since) → GrowsBy (Some e) old new
+  grows_left e disk = record { entries = left.since.since; steps = left.since.steps; made = left_made e disk; rose = rose_left old new left.since }

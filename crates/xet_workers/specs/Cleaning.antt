@@ -1,0 +1,90 @@
+-- Cleaning by several workers: what it returns, and what it adds to the history.
+use Rattle.std.specs.Prelude.{◌≡◌, ◌≢◌, ◌⊎◌, ◌≤◌, ◌+◌, ◌*◌, ◌∷◌, ◌==◌, ℕ, Bool, List, [], length, map, filter, Any, AllPairs, Option, None, Some}
+use Rattle.std.specs.List.{AllByRecursion, flat_map, sum_by}
+use Rattle.std.specs.List.Sorted.{IsPermutation}
+use Rattle.xet_aggregate.specs.declared.metrics.DeduplicationMetrics.{DeduplicationMetrics}
+use Rattle.xet_choices.specs.Calls.{Call, registered_chunks}
+use Rattle.xet_choices.specs.Choices.{new_chunks, no_place_entries}
+use Rattle.xet_choices.specs.declared.choice.Choice.{Choice}
+use Rattle.xet_clean.specs.Cleaning.{RecordsFile, RegistersFew, calls_since, entries_since, files_in, metrics_sum}
+use Rattle.xet_clean.specs.Files.{HasChoices}
+use Rattle.xet_clean.specs.Policies.{info_by}
+use Rattle.xet_clean.specs.declared.policy.Sha256Policy.TheVariants.{Compute}
+use Rattle.xet_cut.specs.declared.limits.LimitSettings.{LimitSettings}
+use Rattle.xet_hash.specs.declared.error.Place.TheVariants.{Disk}
+use Rattle.xet_hash.specs.declared.error.StoreError.{StoreError}
+use Rattle.xet_hash.specs.declared.error.StoreError.TheVariants.{Io}
+use Rattle.xet_history.specs.History.{pass_of}
+use Rattle.xet_history.specs.declared.entry.Entry.{Entry}
+use Rattle.xet_io.specs.Faults.{Rose}
+use Rattle.xet_locked_session.specs.Shared.{StepsBy, StepsByUntil}
+use Rattle.xet_shard_format.specs.declared.record.MDBFileInfo.{MDBFileInfo}
+use Rattle.xet_stepping.specs.Alone.{IsFault}
+use Rattle.xet_stepping.specs.Holders.{calls_in, numbered}
+use Rattle.xet_steps.specs.Recorded.{RecordedState, core_of}
+use Rattle.xet_steps.specs.Steps.{Steps}
+use Rattle.xet_store.specs.Cleaning.{EachTold}
+use Rattle.xet_store.specs.declared.info.XetFileInfo.{XetFileInfo}
+
+-- ---- the entries of one pass
+
+-- the numbered entries that a pass made
+abbrev pub made_by : ℕ → List (ℕ × Entry) → List (ℕ × Entry)
+made_by pass entries = filter (λ p. pass_of p.1 == pass) entries
+
+-- the queries and registrations of a pass since a state
+abbrev pub calls_by : ℕ → RecordedState → RecordedState → List Call
+calls_by pass old new = calls_in (made_by pass (numbered (length old.history) (entries_since old new)))
+
+-- ---- what is returned
+
+-- The record is that of a file of these bytes, by whose plan its choices are true over the calls of one pass of the workers. Their
+-- passes have the numbers from 1 on.
+pub record HasChoicesBy (workers : ℕ) (s : LimitSettings) (calls : ℕ → List Call) (bytes : List ℕ) (chosen : List Choice) (file : MDBFileInfo) : Type 0 where
+  pub pass : ℕ
+  pub from : 1 ≤ pass
+  pub to : pass ≤ workers
+  pub choices : HasChoices Compute s (calls pass) bytes chosen file
+
+-- For each file there are choices; and each file that is not empty has one of these records, in order, by whose plan its choices
+-- are true over the calls of one pass. There are no other records.
+abbrev pub AreChosenBy : ℕ → LimitSettings → (ℕ → List Call) → List (List ℕ) → List (List Choice) → List MDBFileInfo → Type 0
+AreChosenBy workers s calls [] [] records = records ≡ []
+AreChosenBy workers s calls [] (c ∷ cs) records = ⊥
+AreChosenBy workers s calls (f ∷ fs) [] records = ⊥
+AreChosenBy workers s calls ([] ∷ fs) (c ∷ cs) records = (c ≡ []) × AreChosenBy workers s calls fs cs records
+AreChosenBy workers s calls ((b ∷ bs) ∷ fs) (c ∷ cs) [] = ⊥
+AreChosenBy workers s calls ((b ∷ bs) ∷ fs) (c ∷ cs) (r ∷ records) = HasChoicesBy workers s calls (b ∷ bs) c r × AreChosenBy workers s calls fs cs records
+
+-- Workers returned this of the sources, between two states. As `IsCleaned` of `xet_clean`, but the records of the files are made in
+-- any order, and the choices of a file are true over the calls of one pass. Each file that is not empty has a record of its own.
+pub record IsCleanedBy {S : Type 0} (workers : ℕ) (tells : S → Bool) (left : S → List ℕ) (sources : List S) (old new : RecordedState) (infos : List XetFileInfo) (choices : List (List Choice)) (metrics : DeduplicationMetrics) : Type 0 where
+  pub files : List (List ℕ)
+  pub told : EachTold tells left (λ bytes file. file ≡ bytes) sources files
+  pub pointers : infos ≡ map (info_by Compute old.store.limits) files
+  pub records : List MDBFileInfo
+  pub made : IsPermutation records (files_in (entries_since old new))
+  pub chosen : AreChosenBy workers old.store.limits (λ pass. calls_by pass old new) files choices records
+  pub once : AllPairs (λ a b. a ≢ b) (no_place_entries (flat_map (λ (cs : List Choice). cs) choices))
+  pub only : AllByRecursion (RecordsFile Compute old.store.limits files) (entries_since old new)
+  pub registered : registered_chunks (calls_since old new) ≡ sum_by new_chunks choices
+  pub sums : metrics ≡ metrics_sum old.store.limits files choices
+  pub registers : RegistersFew (calls_since old new)
+  pub bound : length (entries_since old new) ≤ 3 * sum_by (λ (c : List Choice). length c) choices + 2 * length files
+
+-- ---- the history
+
+-- The entries were added by completed steps of passes, or also by one that failed and was the last. No step failed if there was no
+-- error. One failed by the disk if that is the error.
+abbrev pub MadeBy : Option StoreError → RecordedState → List Entry → Type 0
+MadeBy None s entries = StepsBy s.store.limits (core_of s) entries
+MadeBy (Some (Io Disk)) s entries = StepsByUntil s.store.limits (core_of s) (Io Disk) entries
+MadeBy (Some e) s entries = StepsBy s.store.limits (core_of s) entries ⊎ ((error : StoreError) × StepsByUntil s.store.limits (core_of s) error entries)
+
+-- A call, with an error or none, added these entries to the history, and they lead to its core. If one of them is a failure of
+-- the disk, the disk's count of failures rose.
+pub record GrowsBy (error : Option StoreError) (old new : RecordedState) : Type 0 where
+  pub entries : List Entry
+  pub steps : Steps old new entries
+  pub made : MadeBy error old entries
+  pub rose : Any IsFault entries → Rose old.store.faults new.store.faults

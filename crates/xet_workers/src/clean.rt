@@ -1,0 +1,176 @@
+//! Cleaning by several workers.
+
+ghost use Rattle.std.specs.Prelude.{◌≡◌, ◌≤◌, ◌+◌, ◌^◌, [], IfErr, IfOk, IsSome, OnOk, length, map, true};
+ghost use Rattle.std.specs.List.{AllByRecursion};
+ghost use Rattle.std.specs.Result.{result_err};
+ghost use Rattle.xet_clean.specs.Cleaning.{HasReason};
+ghost use Rattle.xet_steps.specs.Recorded.{IsRecorded};
+ghost use Rattle.xet_store.specs.Cleaning.{Adds, AreTaken, EachTold, HasFile, Keeps, Later, chunkings, info_of};
+ghost use Rattle.xet_store.specs.Separate.{Separate};
+ghost use Rattle.xet_store.specs.Store.{Sound, plan_of};
+ghost use Rattle.xet_workers.specs.Cleaning.{GrowsBy, IsCleanedBy};
+ghost use Rattle.xet_workers.specs.internal.Ending.{Promises};
+
+use crate::ending::{after_failure, end_parts};
+use crate::team::work_divided;
+use crate::work::Hole;
+use std::alloc::{AllocError, Global};
+use std::marker::{Brand, Send, Sync};
+use std::sync::{Mutex, Wait};
+use std::thread::Threads;
+use xet_clean::Cleaned;
+use xet_hash::StoreError;
+use xet_io::{Disk, Source};
+use xet_locked_session::{LockedSession, Naming, Opened, Pass};
+use xet_steps::Store;
+
+/// Reads each of at most 2^20 sources to its end and stores its file. The sources are divided among the workers before the first
+/// is read, in order and evenly. Each worker runs on a thread of its own if one can be started, cleans its sources in order as
+/// the pass of its number, from 1 on, and reads, splits and hashes outside the lock. A chunk for which a query finds a run is not
+/// stored again, unless the guard against fragmentation rejects the run; chunks that still wait for their xorb are not found. The
+/// last chunks of the files of a worker share xorbs; those that wait when all workers are done are merged in order and stored by
+/// the caller, as pass 0. Returns the session, and for each source, in order, its pointer record and the choices for its chunks,
+/// with the metrics of all. The first error stops each worker at its next step; of several, which is returned is not said. After
+/// an error the steps before it stand. The errors are those of `xet_clean::clean_files`.
+pub fn clean_files<D: Disk + Send, S: Source + Send, R: Threads + Wait + Sync>(
+    rt: &R,
+    alloc: Global,
+    session: Store<D>,
+    sources: &mut [S],
+    workers: u32,
+) -> (Store<D>, Result<Cleaned, StoreError>)
+    requires count { length sources.old ≤ 2 ^ 20 }
+    requires workers { (1 ≤ workers) × (workers ≤ 256) }
+
+    // If Ok, each source was read to its end, and each result is that of the bytes that it had left.
+    ensures infos { IfOk result.1 (λ cleaned. EachTold S.tells S.left (λ bytes info. info ≡ info_of session.store.limits bytes) sources.old cleaned.infos.items) }
+    ensures read { OnOk result.1 (AllByRecursion (λ s. S.tells s ≡ true → S.left s ≡ []) sources.new) }
+    ensures short { OnOk result.1 (AllByRecursion (λ s. S.tells s ≡ true → length (S.left s) ≤ session.store.limits.max_source_bytes) sources.old) }
+
+    // If disk and sources are observable: each source has a plan that resolves to its chunks, if there are no
+    // collisions among the data seen.
+    ensures files { session.store.tells ≡ true → AllByRecursion (λ s. S.tells s ≡ true) sources.old → Separate result.0.store (chunkings S.left session.store.limits sources.old)
+        → OnOk result.1 (AllByRecursion (HasFile result.0.store) (chunkings S.left session.store.limits sources.old)) }
+
+    // Each file of the result has a plan.
+    ensures recorded { IfOk result.1 (λ cleaned. AllByRecursion (λ info. IsSome (plan_of result.0.store.records info.hash)) cleaned.infos.items) }
+
+    // If Ok, each chunk has a choice, which is true by the entries of one pass; each file that is not empty is recorded once, with
+    // its range hashes and its SHA-256, and no other file is recorded; the metrics are the sums of the choices; as many chunks
+    // were registered as are new, in few xorbs; and the entries are few.
+    ensures cleaned { IfOk result.1 (λ cleaned. IsCleanedBy workers S.tells S.left sources.old session result.0 cleaned.infos.items cleaned.choices.items cleaned.metrics) }
+
+    // Whatever the result, nothing is taken away, and the history grew by completed steps of passes and at most one that failed,
+    // the last: so a file is recorded if and only if its entry stands, and a flush comes only before an entry that makes it due,
+    // or before the step that failed. After `Io(Disk)` the last step failed by the disk. New records follow the earlier ones; if
+    // Ok, each is under the hash of a source.
+    ensures keeps { Keeps session.store result.0.store }
+    ensures steps { GrowsBy (result_err result.1) session result.0 }
+    ensures adds { IfOk result.1 (λ cleaned. Adds session.store.records result.0.store.records (map (λ info. info.hash) cleaned.infos.items)) }
+
+    // Each source is observable if and only if it was before. Whatever the result, a prefix of what it had left was taken, and its
+    // count of failures has not fallen. An error has a reason.
+    ensures sources_tell { map S.tells sources.new ≡ map S.tells sources.old }
+    ensures sources_taken { AreTaken S.tells S.left sources.old sources.new }
+    ensures sources_later { Later S.faults sources.old sources.new }
+    ensures reason { IfErr result.1 (HasReason S.tells S.left S.faults sources.old sources.new session result.0) }
+{
+    let team = workers.min(sources.len().max(1) as u32);
+    match Opened::new_stopping(alloc, team) {
+        Ok(opened) => clean_named::<D, Brand, S, R>(rt, alloc, opened, session, sources, team),
+        Err(_) => {
+            session.recall_sound();
+            (session, Err(StoreError::OutOfMemory))
+        }
+    }
+}
+
+/// The same, over a store that the type names.
+fn clean_named<D: Disk + Send, J: Naming + Send + Sync, S: Source + Send, R: Threads + Wait + Sync>(
+    rt: &R,
+    alloc: Global,
+    opened: Opened,
+    store: Store<D>,
+    sources: &mut [S],
+    workers: u32,
+) -> (Store<D>, Result<Cleaned, StoreError>)
+    requires table { opened.word ≡ J.table }
+    requires ledger { (opened.blank.name ≡ J.name) × (opened.blank.parts ≡ J.parts) × (J.parts ≡ workers + 1) }
+    requires store { store ≡ J.store }
+    requires stops { (opened.stops ≡ J.stops) × (J.stops ≡ true) }
+    requires count { length sources.old ≤ 2 ^ 20 }
+    requires workers { (1 ≤ workers) × (workers ≤ 256) }
+    ensures { Promises workers S.tells S.left S.faults sources.old sources.new J.store result.0 result.1 }
+{
+    match LockedSession::<D, J>::new(alloc, opened, store, workers) {
+        Ok((session, passes)) => clean_passes(rt, alloc, session, passes, sources, workers),
+        Err((store, error)) => {
+            store.recall_sound();
+            (store, Err(error))
+        }
+    }
+}
+
+/// The same, with a session and its passes.
+fn clean_passes<
+    D: Disk + Send,
+    J: Naming + Send + Sync,
+    S: Source + Send,
+    R: Threads + Wait + Sync,
+>(
+    rt: &R,
+    alloc: Global,
+    session: LockedSession<D, J>,
+    passes: Vec<Pass<J>>,
+    sources: &mut [S],
+    workers: u32,
+) -> (Store<D>, Result<Cleaned, StoreError>)
+    requires stops { J.stops ≡ true }
+    requires parts { J.parts ≡ workers + 1 }
+    requires count { length sources.old ≤ 2 ^ 20 }
+    requires workers { (1 ≤ workers) × (workers ≤ 256) }
+    ensures { Promises workers S.tells S.left S.faults sources.old sources.new J.store result.0 result.1 }
+{
+    let (store, cleaned) = clean_to_end(rt, alloc, session, passes, sources, workers);
+    store.recall_invariant();
+    store.recall_sound();
+    (store, cleaned)
+}
+
+/// The same. Its promises rest on the invariant of the store that is returned.
+fn clean_to_end<
+    D: Disk + Send,
+    J: Naming + Send + Sync,
+    S: Source + Send,
+    R: Threads + Wait + Sync,
+>(
+    rt: &R,
+    alloc: Global,
+    session: LockedSession<D, J>,
+    passes: Vec<Pass<J>>,
+    sources: &mut [S],
+    workers: u32,
+) -> (Store<D>, Result<Cleaned, StoreError>)
+    requires stops { J.stops ≡ true }
+    requires parts { J.parts ≡ workers + 1 }
+    requires count { length sources.old ≤ 2 ^ 20 }
+    requires workers { (1 ≤ workers) × (workers ≤ 256) }
+    ensures { Sound result.0.store → IsRecorded result.0 → Promises workers S.tells S.left S.faults sources.old sources.new J.store result.0 result.1 }
+{
+    match holes_of(alloc, passes) {
+        Ok(holes) => match work_divided(rt, alloc, &session, &holes, 1, workers, 0, sources) {
+            Ok(parts) => end_parts(alloc, session, parts),
+            Err(failure) => after_failure(session, failure),
+        },
+        Err(_) => (session.abandon(), Err(StoreError::OutOfMemory)),
+    }
+}
+
+/// A hole for each pass, in order, with the pass in it.
+fn holes_of<J: Naming>(alloc: Global, passes: Vec<Pass<J>>) -> Result<Vec<Hole<J>>, AllocError> {
+    let mut holes = Vec::with_capacity(alloc, passes.len())?;
+    for pass in passes {
+        holes.push_reserved(Mutex::new(Some(pass)));
+    }
+    Ok(holes)
+}
