@@ -214,14 +214,30 @@ fn a_skipped_sha256_is_left_out(rt: HostRuntime) -> Result<(), Fail> {
     Ok(())
 }
 
+/// The error, if `some data` is not cleaned where a source has at most so many bytes; and the rest of what cleaning it returns.
+fn error_of<R: Wait>(
+    rt: &R,
+    alloc: Global,
+    max_source_bytes: u64,
+) -> Result<(Option<StoreError>, bool, u32), StoreError> {
+    let (info, whole, pass) = cleans(
+        rt,
+        alloc,
+        max_source_bytes,
+        b"some data",
+        Sha256Policy::Compute,
+    )?;
+    Ok((info.err(), whole, pass))
+}
+
 #[test]
 fn a_byte_too_many_is_an_error_and_the_pass_comes_back(rt: HostRuntime) -> Result<(), Fail> {
-    let alloc = rt.alloc();
-    let (info, whole, pass) = cleans(&rt, alloc, 8, b"some data", Sha256Policy::Compute)?;
-    assert!(rt; matches!(info, Err(StoreError::TooLarge(What::Source(3)))));
+    let (error, whole, pass) = error_of(&rt, rt.alloc(), 8)?;
+    assert!(rt; matches!(error, Some(StoreError::TooLarge(What::Source(3)))));
     assert_eq!(rt; (whole, pass), (false, 1));
-    let (info, whole, pass) = cleans(&rt, alloc, 9, b"some data", Sha256Policy::Compute)?;
-    assert_eq!(rt; (info?.file_size, whole, pass), (9, true, 1));
+    let (error, whole, pass) = error_of(&rt, rt.alloc(), 9)?;
+    assert!(rt; error.is_none());
+    assert_eq!(rt; (whole, pass), (true, 1));
     Ok(())
 }
 
