@@ -2,6 +2,8 @@
 #![tactic(auto)]
 
 #[cfg(test)]
+mod beside_tests;
+#[cfg(test)]
 mod single_tests;
 #[cfg(test)]
 mod sources;

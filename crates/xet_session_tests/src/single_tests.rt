@@ -2,6 +2,7 @@
 
 ghost use Rattle.std.specs.Prelude.{◌≡◌, IfOk, OnOk, true};
 
+use bytes::Bytes;
 use std::alloc::{AllocError, Global};
 use std::marker::Brand;
 use std::sync::Wait;
@@ -19,6 +20,12 @@ use xet_store::XetFileInfo;
 /// The SHA-256 of `some data`.
 const DIGEST: &str = "1307990e6ba5ca145eb35e99182a9bec46531bc54ddf656a602c780fa0240dee";
 
+/// A file of several blocks and chunks.
+const SEVENS: [u8; 1000] = [7; 1000];
+
+/// Its SHA-256.
+const DIGEST_OF_SEVENS: &str = "df1329c8b6c7cf3740bbe2f8bab34d253a8d9534a79dceea18177081fdf9f0e9";
+
 /// The SHA-256 of no bytes.
 const EMPTY: &str = "e3b0c44298fc1c149afbf4c8996fb92427ae41e4649b934ca495991b7852b855";
 
@@ -26,8 +33,9 @@ const EMPTY: &str = "e3b0c44298fc1c149afbf4c8996fb92427ae41e4649b934ca495991b785
 /// back.
 type Cleaned = (Result<XetFileInfo, StoreError>, bool, u32);
 
-/// Adds the first four bytes and then the others, with a checkpoint between.
+/// Adds the first four bytes and then the others, in a shared buffer, with a checkpoint between.
 fn add_both<J: Naming, R: Wait>(
+    alloc: Global,
     cleaner: &mut SingleFileCleaner<'_, MemoryDisk, J, R>,
     bytes: &[u8],
 ) -> Result<(), StoreError>
@@ -37,7 +45,7 @@ fn add_both<J: Naming, R: Wait>(
     let (first, second) = bytes.split_at(bytes.len().min(4));
     cleaner.add_data(first)?;
     cleaner.checkpoint()?;
-    cleaner.add_data(second)
+    cleaner.add_data_from_bytes(Bytes::from_vec(Vec::from_slice(alloc, second)?)?)
 }
 
 /// The pointer record of a file that has ended.
@@ -66,7 +74,7 @@ fn clean_over<J: Naming, R: Wait>(
     policy: Sha256Policy,
 ) -> Cleaned {
     match SingleFileCleaner::new(alloc, rt, session, pass, 3, policy) {
-        Ok(mut cleaner) => match add_both(&mut cleaner, bytes) {
+        Ok(mut cleaner) => match add_both(alloc, &mut cleaner, bytes) {
             Ok(()) => {
                 let (pass, file) = cleaner.finish();
                 (info_of(file), true, pass.number())
@@ -139,13 +147,15 @@ fn opened(alloc: Global) -> Result<Opened, AllocError>
     Opened::new(alloc, 1)
 }
 
-/// A store in the folder `store` of a new disk, with chunks from 64 to 1,024 bytes, whose sources have at most so many bytes.
+/// A store in the folder `store` of a new disk, with chunks from 64 to 1,024 bytes and blocks of 100, whose sources have at most
+/// so many bytes.
 fn open(alloc: Global, max_source_bytes: u64) -> Result<Store<MemoryDisk>, StoreError> {
     let limits = Limits::new(LimitSettings {
         target_chunk: 512,
         minimum_chunk: 64,
         maximum_chunk: 1024,
         shard_target: 1 << 20,
+        block_bytes: 100,
         max_source_bytes,
         ..LimitSettings::shown([0; 256])
     })?;
@@ -199,6 +209,21 @@ fn bytes_that_come_in_parts_have_the_record_of_the_whole(rt: HostRuntime) -> Res
     );
     assert_eq!(rt; info.sha256, Some(digest));
     assert_eq!(rt; (info.file_size, whole, pass), (9, true, 1));
+    Ok(())
+}
+
+#[test]
+fn a_file_of_many_blocks_has_the_record_of_the_whole(rt: HostRuntime) -> Result<(), Fail> {
+    let alloc = rt.alloc();
+    let digest = Sha256::from_hex(DIGEST_OF_SEVENS)?;
+    let (info, whole, pass) = cleans(&rt, alloc, 1 << 20, &SEVENS, Sha256Policy::Compute)?;
+    let info = info?;
+    assert_eq!(rt;
+        info,
+        cleans_at_once(alloc, &SEVENS, Sha256Policy::Compute)?
+    );
+    assert_eq!(rt; info.sha256, Some(digest));
+    assert_eq!(rt; (info.file_size, whole, pass), (1000, true, 1));
     Ok(())
 }
 
