@@ -18,6 +18,7 @@ const MIN_THREAD_BYTES: usize = 64 * 1024;
 
 /// The SHA-256 of a block is taken on a thread of its own while its chunks are placed on the calling one, if a thread can be
 /// started. In turn, as by `InTurn`, if no SHA-256 is computed or the block has fewer than 64 KiB.
+#[derive(Drop)]
 pub struct Beside<'a, T: Threads> {
     rt: &'a T,
 }
