@@ -25,13 +25,14 @@ use xet_locked_session::{LockedSession, Naming, Opened, Pass};
 use xet_steps::Store;
 
 /// Reads each of at most 2^20 sources to its end and stores its file. The sources are divided among the workers before the first
-/// is read, in order and evenly. Each worker runs on a thread of its own if one can be started, cleans its sources in order as
-/// the pass of its number, from 1 on, and reads, splits and hashes outside the lock. A chunk for which a query finds a run is not
-/// stored again, unless the guard against fragmentation rejects the run; chunks that still wait for their xorb are not found. The
-/// last chunks of the files of a worker share xorbs; those that wait when all workers are done are merged in order and stored by
-/// the caller, as pass 0. Returns the session, and for each source, in order, its pointer record and the choices for its chunks,
-/// with the metrics of all. The first error stops each worker at its next step; of several, which is returned is not said. After
-/// an error the steps before it stand. The errors are those of `xet_clean::clean_files`.
+/// is read, in order and evenly. All workers but the last run on threads of their own if these can be started, and the rest on the
+/// calling one. Each cleans its sources in order, as the pass of its number, from 1 on. Reading, splitting, and the hashing of
+/// chunks and files are done outside the lock; a file's hashes are checked once more, and shards are hashed, under it. A chunk for
+/// which a query finds a run is not stored again, unless the guard against fragmentation rejects the run; chunks that still wait
+/// for their xorb are not found. The last chunks of the files of a worker share xorbs; those that wait when all workers are done
+/// are merged in order and stored by the caller, as pass 0. Returns the session, and for each source, in order, its pointer record
+/// and the choices for its chunks, with the metrics of all. The first error stops each worker at its next step; of several, which
+/// is returned is not said. After an error the steps before it stand. The errors are those of `xet_clean::clean_files`.
 pub fn clean_files<D: Disk + Send, S: Source + Send, R: Threads + Wait + Sync>(
     rt: &R,
     alloc: Global,

@@ -90,7 +90,7 @@ fn close_and_merge<D: Disk, J: Naming>(
 {
     let (store, stopped) = session.close_stopped(passes);
     if stopped {
-        return (store, Err(StoreError::OutOfMemory)); // Then a worker failed, and there are not all parts.
+        return (store, Err(StoreError::OutOfMemory)); // Does not occur: whoever stops a session leaves out a part.
     }
     merge_alone(store, workings)
 }

@@ -11,7 +11,8 @@ pub struct WorkerPart<J: Naming> {
     pub working: Working,
 }
 
-/// Why a worker did not clean its part of the sources. Its pass is missing only if memory ran out before it had one.
+/// Why workers did not clean their parts of the sources, and the pass of the one that failed. The pass is missing only if memory ran
+/// out outside a step.
 #[derive(Drop)]
 pub struct WorkerFailure<J: Naming> {
     pub error: StoreError,

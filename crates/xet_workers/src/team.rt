@@ -88,17 +88,17 @@ fn work_shared<D: Disk + Send, J: Naming + Send + Sync, S: Source + Send, R: Thr
             sources,
         );
     }
-    let few = share.workers / 2;
-    let mid = share_of(sources.len(), few, share.workers);
+    let half = share.workers / 2;
+    let mid = share_of(sources.len(), half, share.workers);
     let (front, back) = sources.split_at_mut(mid);
     let low = Share {
         number: share.number,
-        workers: few,
+        workers: half,
         first: share.first,
     };
     let up = Share {
-        number: share.number + few,
-        workers: share.workers - few,
+        number: share.number + half,
+        workers: share.workers - half,
         first: share.first + mid as u32,
     };
     work_both(rt, alloc, session, holes, &low, front, &up, back)
@@ -146,7 +146,7 @@ fn work_both<D: Disk + Send, J: Naming + Send + Sync, S: Source + Send, R: Threa
         ensures later { Later S.faults back.entry.now back.exit.now }
     { work_shared(rt, alloc, session, holes, up, back) };
     let (front_made, back_made) = join_mut(rt, &mut lower, &mut upper);
-    joined(front_made, back_made)
+    joined(rt, session, front_made, back_made)
 }
 
 /// One worker has all of the sources.
@@ -201,8 +201,25 @@ fn alone<J: Naming>(
     }
 }
 
-/// What two parts made, in order; or why they did not: the first failure, unless that worker only stopped and the other failed.
-fn joined<J: Naming>(
+/// What two parts made, in order; or why they did not. Then no step is made any more, also if there is no memory for both.
+fn joined<D: Disk, J: Naming, R: Wait>(
+    rt: &R,
+    session: &LockedSession<D, J>,
+    front: Result<Vec<WorkerPart<J>>, WorkerFailure<J>>,
+    back: Result<Vec<WorkerPart<J>>, WorkerFailure<J>>,
+) -> Result<Vec<WorkerPart<J>>, WorkerFailure<J>>
+    ensures all { IfOk result (λ all. IsOkAnd front (λ parts. IsOkAnd back (λ more. all.items ≡ parts.items ++ more.items))) }
+    ensures failure { IfErr result (λ f. IsErrAnd front (λ e. f ≡ e) ⊎ (IsErrAnd back (λ e. f ≡ e) ⊎ ((f.error ≡ StoreError.OutOfMemory) × (f.pass ≡ None)))) }
+{
+    let made = both(front, back);
+    if made.is_err() {
+        session.stop(rt);
+    }
+    made
+}
+
+/// What two parts made, in order; or the first failure, unless that worker only stopped and the other failed.
+fn both<J: Naming>(
     front: Result<Vec<WorkerPart<J>>, WorkerFailure<J>>,
     back: Result<Vec<WorkerPart<J>>, WorkerFailure<J>>,
 ) -> Result<Vec<WorkerPart<J>>, WorkerFailure<J>>
