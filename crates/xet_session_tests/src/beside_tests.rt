@@ -27,6 +27,7 @@ fn open(alloc: Global) -> Result<Store<MemoryDisk>, StoreError> {
         minimum_chunk: 64,
         maximum_chunk: 1024,
         shard_target: 1 << 20,
+        max_source_bytes: 1 << 20,
         ..LimitSettings::shown([0; 256])
     })?;
     match Store::open(alloc, MemoryDisk::new(alloc), "store", limits, 1_000, false) {
