@@ -2,7 +2,7 @@
 use Rattle.std.proofs.Common.{◌≡◌, ◌∙◌, inl, inr, ℕ, ◌+◌, ◌*◌, ◌^◌, ◌<◌, ◌≤◌, true, ◌&&◌, List, [], ◌∷◌, ◌++◌, drop, length, map, nat_le, refl, sym, ap, subst, append_assoc, length-append, arith}
 use Rattle.std.proofs.lemmas.Bool.Decides.{nat_tests}
 use Rattle.std.proofs.lemmas.List.{append-nil, length-map}
-use Rattle.std.proofs.lemmas.List.Sums.{sum_by-cons}
+use Rattle.std.proofs.lemmas.List.Sums.{sum_by-append, sum_by-cons}
 use Rattle.std.specs.List.{AllByRecursion, sum_by}
 use Rattle.std.specs.Prelude.{slice_index_or}
 use Rattle.xet_aggregate.specs.Aggregate.{Aggregate, IsAggregate, Pending, empty, fits}
@@ -23,7 +23,7 @@ use Rattle.xet_stepping.specs.theorems.Following.{calls_in-append, follows_nothi
 use Rattle.xet_store.specs.declared.info.XetFileInfo.{XetFileInfo}
 use Rattle.xet_xorb_chunk.specs.Chunks.{chunk_leaf, total}
 use Rattle.xet_clean.specs.Cleaning.{RegistersPart, close_of}
-use Rattle.xet_clean.specs.Closing.{Closes, HaveForm, IsUnclosed, Joins, filled_files, recorded_in}
+use Rattle.xet_clean.specs.Closing.{Closes, HaveForm, IsAtMost, IsUnclosed, Joins, filled_files, recorded_in}
 use Rattle.xet_clean.specs.Merging.{AreHeld, EachRecorded, IsPartOf, IsUnmerged, MayMerge, MayMergeAll, MergesAll, Part, files_of}
 use Rattle.xet_clean.specs.Planning.{IsWithin}
 use Rattle.xet_clean.specs.Policies.{info_by}
@@ -35,7 +35,7 @@ use Rattle.xet_clean.specs.theorems.Adding.{Adds, adds_closed_last, recorded_in-
 use Rattle.xet_clean.specs.theorems.Ending.{last_chunks}
 use Rattle.xet_clean.specs.theorems.Keeping.{any_last, any_left, limits_follow}
 use Rattle.xet_clean.proofs.Taking.{IsTaken, merged_more, part_small, part_within, taken_of}
-use Rattle.xet_clean.proofs.Parting.{IsNext, each_filled, files_append, files_push, may_follows, may_next, may_none}
+use Rattle.xet_clean.proofs.Parting.{IsNext, each_filled, files_append, files_push, may_follows, may_next, may_none, most_of}
 use Rattle.xet_clean.specs.theorems.Records.{waits_among_more}
 use Rattle.xet_clean.specs.theorems.Sums.{small_room, small_zeros, sum_again}
 
@@ -139,6 +139,16 @@ module _ (ps : List Part) (rest : List Working) (start now : Holder) (infos : Li
             (λ f waits. subst (λ (fs : List Planned). Waits now a.chunks fs f.0) (sym all) (waits_among_more now a.chunks (files_of is.done) (files_of is.later) f.0 waits)) is.merged.waits;
         next = next;
         refused = unclosed;
+      }
+
+  -- few entries in all, if those since are few
+  pub merging_few : (new : Holder) → IsAtMost (most_of a) now new → IsAtMost (sum_by (λ p. most_of p.left) ps) start new
+  unfolding follows_then
+  merging_few new more =
+      let most : Part → ℕ = λ p. most_of p.left in
+      record {
+        follows = follows_then start now new is.merged.follows more.follows;
+        few = omega (arith, length-append is.merged.follows.own more.follows.own, more.few, is.merged.few, ap (sum_by most) is.order, sum_by-append most is.done is.later);
       }
 
 -- ---- one more part

@@ -1,9 +1,10 @@
 -- What was made of parts of the sources: their records, in order, and which of them may be merged.
-use Rattle.std.proofs.Common.{◌≡◌, ◌∙◌, ◌⊎◌, inl, inr, ℕ, List, [], ◌∷◌, ◌++◌, drop, length, map, refl, sym, ap, subst, append_assoc}
+use Rattle.std.proofs.Common.{◌≡◌, ◌∙◌, ◌⊎◌, inl, inr, ℕ, ◌+◌, ◌*◌, List, [], ◌∷◌, ◌++◌, drop, length, map, refl, sym, ap, subst, append_assoc, arith}
 use Rattle.std.proofs.lemmas.List.{append-nil, drop_at, map-append}
 use Rattle.std.proofs.lemmas.List.Concat.{flat_map-append}
+use Rattle.std.proofs.lemmas.List.Sums.{sum_by-cons}
 use Rattle.std.proofs.lemmas.Simd.{map-map}
-use Rattle.std.specs.List.{AllByRecursion}
+use Rattle.std.specs.List.{AllByRecursion, sum_by}
 use Rattle.xet_aggregate.specs.Aggregate.{Aggregate, Pending, filled, shifted, shifted_file}
 use Rattle.xet_hash.specs.Merkle.{xorb_hash}
 use Rattle.xet_history.specs.declared.entry.Entry.{Entry}
@@ -136,6 +137,18 @@ may_follows now new f (p ∷ ps) (w ∷ ws) all = (all.0, record { working = all
 pub may_none : (now : Holder) (ps : List Part) → MayMergeAll now ps [] → ps ≡ []
 may_none now [] all = refl
 may_none now (p ∷ ps) all = absurd all
+
+-- at most so many entries are added when it is closed
+abbrev pub most_of : Aggregate → ℕ
+most_of a = 2 * length a.chunks + 2 * length a.files
+
+-- as many for the parts as for what workers have
+pub may_count : (now : Holder) (ps : List Part) (ws : List Working) → MayMergeAll now ps ws → sum_by (λ p. most_of p.left) ps ≡ sum_by (λ w. most_of w.aggregate) ws
+may_count now [] [] all = refl
+may_count now [] (w ∷ ws) all = absurd all
+may_count now (p ∷ ps) [] all = absurd all
+may_count now (p ∷ ps) (w ∷ ws) all =
+    omega (arith, ap most_of all.0.3, may_count now ps ws all.2, sum_by-cons (λ (q : Part). most_of q.left) p ps, sum_by-cons (λ (v : Working). most_of v.aggregate) w ws)
 
 -- the next of them
 pub record IsNext (now : Holder) (ps : List Part) (w : Working) (ws : List Working) : Type 0 where

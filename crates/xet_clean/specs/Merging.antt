@@ -71,7 +71,8 @@ abbrev pub AreHeld : List (List ℕ × ℕ) → List Call → Type 0
 AreHeld leaves calls = (leaves ≡ []) ⊎ Any (RegistersPart leaves) calls
 
 -- What is left of the parts was merged in order and closed, and this is returned. No step failed. The records that waited were
--- made, in order, and no others; the chunks were registered, those of each part next to one another, in few xorbs.
+-- made, in order, and no others; the chunks were registered, those of each part next to one another, and each xorb but the last
+-- with further chunks, which are a part of a later one.
 pub record MergesAll (ps : List Part) (old new : Holder) (infos : List XetFileInfo) (choices : List (List Choice)) (metrics : DeduplicationMetrics) : Type 0 where
   pub follows : Follows old new
   pub going : new.stopped ≡ old.stopped

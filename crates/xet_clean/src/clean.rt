@@ -59,7 +59,8 @@ pub fn clean_files<D: Disk, R: Source + Send>(
 
     // If Ok, each chunk has a choice, which is true by the entries that were added; each file that is not empty is recorded
     // once, in the order of the sources, with its range hashes and its SHA-256, and no other file is recorded; the metrics
-    // are the sums of the choices; as many chunks were registered as are new, in few xorbs; and the entries are few.
+    // are the sums of the choices; as many chunks were registered as are new; each xorb but the last was registered with the
+    // further chunks that did not fit, which are part of a later one; and the entries are few.
     ensures cleaned { IfOk result.1 (λ cleaned. IsCleaned Compute R.tells R.left sources.old session result.0 cleaned.infos.items cleaned.choices.items cleaned.metrics) }
 
     // Whatever the result, nothing is taken away, and the history grew by completed steps of pass 0 and at most one that

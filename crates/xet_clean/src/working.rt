@@ -96,6 +96,7 @@ impl Working {
         ensures choices { OnOk result (self.new.cleaned.choices.items ≡ self.old.cleaned.choices.items ++ part.cleaned.choices.items) }
         ensures metrics { OnOk result (self.new.cleaned.metrics ≡ metrics_of_both self.old.cleaned.metrics part.cleaned.metrics) }
         ensures follows { Follows (S.holder steps.old) (S.holder steps.new) }
+        ensures few { IsAtMost (2 * length self.old.aggregate.chunks + 2 * length self.old.aggregate.files) (S.holder steps.old) (S.holder steps.new) }
         ensures refused { IfErr result (IsUnclosed self.old.aggregate (map chunk_leaf part.aggregate.chunks) (S.holder steps.old) (S.holder steps.new)) }
     {
         let Working {

@@ -6,7 +6,9 @@ use Rattle.xet_stepping.specs.theorems.Following.{follows_nothing, follows_then}
 use Rattle.xet_clean.specs.Merging.{IsUnmerged}
 use Rattle.xet_clean.specs.declared.working.Working.{Working}
 use Rattle.xet_clean.specs.internal.Merging.{IsMerging}
-use Rattle.xet_clean.proofs.Merged.{merging_here, merging_more, merging_rest, merging_room, unmerged}
+use Rattle.xet_clean.proofs.Merged.{merging_few, merging_here, merging_more, merging_rest, merging_room, unmerged}
+use Rattle.xet_clean.specs.theorems.Counting.{at_most_more, at_most_nothing}
+use Rattle.xet_clean.proofs.Parting.{most_of}
 use Rattle.xet_clean.proofs.merging.merge_rest.Goals as goal
 
 pub loop-part-init : goal.loop-part-init
@@ -37,6 +39,10 @@ pub returns-in_err-merge-clause-follows : goal.returns-in_err-merge-clause-follo
 returns-in_err-merge-clause-follows g c =
     follows_then (g.S.Stepping.holder c.args.steps.now) (g.S.Stepping.holder c.loop-part.steps) (g.S.Stepping.holder c.merge.new.steps) c.loop-part.invariant.follows c.merge.ensures.follows
 
+pub returns-in_err-merge-clause-few : goal.returns-in_err-merge-clause-few
+returns-in_err-merge-clause-few g c = λ ps start was.
+    merging_few ps _ start (g.S.Stepping.holder c.loop-part.steps) _ _ _ _ (c.loop-part.invariant.merging ps start was) (g.S.Stepping.holder c.merge.new.steps) c.merge.ensures.few
+
 pub returns-in_err-merge-clause-refused : goal.returns-in_err-merge-clause-refused
 returns-in_err-merge-clause-refused g c = λ ps start was.
     let now = g.S.Stepping.holder c.loop-part.steps in
@@ -65,3 +71,8 @@ returns-clause-merged g c = λ ps start was.
     let now = g.S.Stepping.holder at.steps in
     let empty : into_iter_items at.part-iterator ≡ [] = nil_from_length (into_iter_items at.part-iterator) (sym at.invariant.counted ∙ c.in-None.ensures.steps.0) in
     subst (λ (ws : List Working). IsMerging ps ws start now at.whole.cleaned.infos.items at.whole.cleaned.choices.items at.whole.cleaned.metrics at.whole.aggregate) empty (at.invariant.merging ps start was)
+
+pub returns-clause-few : goal.returns-clause-few
+returns-clause-few g c = λ ps start was.
+    let now = g.S.Stepping.holder c.loop-part.steps in
+    merging_few ps _ start now _ _ _ _ (c.loop-part.invariant.merging ps start was) now (at_most_more 0 (most_of c.loop-part.whole.aggregate) now now (omega arith) (at_most_nothing now))

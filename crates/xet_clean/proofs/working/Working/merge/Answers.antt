@@ -1,13 +1,20 @@
-use Rattle.std.proofs.Common.{ℕ, List, map, subst, sym}
+use Rattle.std.proofs.Common.{ℕ, ◌+◌, ◌*◌, List, length, map, subst, sym, arith}
 use Rattle.xet_base.specs.theorems.Exits.{exit_with}
 use Rattle.xet_stepping.specs.theorems.Following.{follows_nothing}
 use Rattle.xet_xorb_chunk.specs.Chunks.{chunk_leaf}
 use Rattle.xet_clean.specs.Closing.{IsUnclosed}
 use Rattle.xet_clean.proofs.Completing.{unclosed_nothing}
+use Rattle.xet_clean.specs.theorems.Counting.{at_most_more, at_most_nothing}
 use Rattle.xet_clean.proofs.working.Working.merge.Goals as goal
 
 pub returns-in_err-add-clause-follows : goal.returns-in_err-add-clause-follows
 returns-in_err-add-clause-follows g c = follows_nothing (g.S.Stepping.holder c.args.steps.now)
+
+pub returns-in_err-add-clause-few : goal.returns-in_err-add-clause-few
+returns-in_err-add-clause-few g c =
+    let a = c.args.self.now.aggregate in
+    let h = g.S.Stepping.holder c.args.steps.now in
+    at_most_more 0 (2 * length a.chunks + 2 * length a.files) h h (omega arith) (at_most_nothing h)
 
 pub returns-in_err-add-clause-refused : goal.returns-in_err-add-clause-refused
 returns-in_err-add-clause-refused g c =
