@@ -1,4 +1,6 @@
 //! Tests of a store whose steps are recorded.
+//!
+//! The crate is a program, which does nothing: see docs/DECISIONS.md.
 #![tactic(auto)]
 
 #[cfg(test)]
@@ -13,3 +15,5 @@ mod query_tests;
 mod recorded;
 #[cfg(test)]
 mod step_tests;
+
+fn main() {}

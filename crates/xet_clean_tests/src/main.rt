@@ -1,4 +1,6 @@
 //! Tests of cleaning with deduplication.
+//!
+//! The crate is a program, which does nothing: see docs/DECISIONS.md.
 #![tactic(auto)]
 
 #[cfg(test)]
@@ -13,3 +15,5 @@ mod random_tests;
 mod session;
 #[cfg(test)]
 mod single_tests;
+
+fn main() {}
