@@ -26,7 +26,7 @@ pub(crate) struct Figures {
 }
 
 /// The microseconds since `start`; 0 if the clock fails.
-fn since<R: Clock>(clock: &R, start: Option<Instant>) -> u64 {
+pub(crate) fn since<R: Clock>(clock: &R, start: Option<Instant>) -> u64 {
     match start {
         Some(start) => match start.elapsed(clock) {
             Ok(time) => u64::try_from(time.as_micros()).unwrap_or(u64::MAX),

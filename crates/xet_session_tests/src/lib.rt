@@ -8,4 +8,6 @@ mod single_tests;
 #[cfg(test)]
 mod sources;
 #[cfg(test)]
+mod worked_tests;
+#[cfg(test)]
 mod workers_tests;
