@@ -1,4 +1,6 @@
 //! Tests of cleaning over the passes of a session.
+//!
+//! The crate is a program, which does nothing: see docs/DECISIONS.md.
 #![tactic(auto)]
 
 #[cfg(test)]
@@ -11,3 +13,5 @@ mod sources;
 mod worked_tests;
 #[cfg(test)]
 mod workers_tests;
+
+fn main() {}
