@@ -1,14 +1,29 @@
 -- Tables of counts, one byte at a time.
-use Rattle.std.proofs.Common.{◌≡◌, ◌∙◌, ℕ, ◌+◌, ◌<◌, ◌≤◌, ◌%◌, ◌==◌, ◌&&◌, if◌then◌else◌, Bool, true, false, List, [], length, get_or, set, drop, count_ones, refl, sym, ap, subst, arith, ◌^◌}
+use Rattle.std.proofs.Common.{◌≡◌, ◌∙◌, ℕ, zero, suc, ◌+◌, ◌<◌, ◌≤◌, ◌%◌, ◌==◌, ◌&&◌, if◌then◌else◌, Bool, true, false, List, [], length, get_or, set, drop, count_ones, refl, sym, ap, subst, arith, ◌^◌}
 use Rattle.std.proofs.lemmas.Bool.{eqb-true, eqb-false, eq-eqb}
 use Rattle.std.proofs.lemmas.List.{at_drop_more, at_drop_all, get_or-set_other, get_or-set_same, length-set}
 use Rattle.std.proofs.lemmas.List.FromFn.{fill_by_all}
+use Rattle.xet_group.specs.theorems.Counting.{count_at-table}
 use Rattle.xet_group.specs.Histogram.{IsTable, count_of, byte_counts, table}
+
+-- a property of each group
+pub below_four : (P : ℕ → Type 0) → P 0 → P 1 → P 2 → P 3 → (k : ℕ) → k < 4 → P k
+below_four P p0 p1 p2 p3 zero h = p0
+below_four P p0 p1 p2 p3 (suc zero) h = p1
+below_four P p0 p1 p2 p3 (suc (suc zero)) h = p2
+below_four P p0 p1 p2 p3 (suc (suc (suc zero))) h = p3
+below_four P p0 p1 p2 p3 (suc (suc (suc (suc n)))) h = absurd (omega arith)
 
 -- a table of these counts is the one that has them
 pub table_from : (counts : List (List ℕ)) (f : ℕ → ℕ → ℕ) → IsTable counts → ((g k : ℕ) → g < 4 → k < 9 → count_of counts g k ≡ f g k) → counts ≡ table f
 table_from counts f shape each =
     fill_by_all _ counts 4 [] shape.rows (λ g low. fill_by_all (f g) (get_or counts g []) 9 0 (shape.places g low) (λ k less. each g k low less))
+
+-- so tables of the same counts are one
+pub table_same : (f h : ℕ → ℕ → ℕ) → ((g k : ℕ) → g < 4 → k < 9 → f g k ≡ h g k) → table f ≡ table h
+table_same f h each =
+    let shape : IsTable (table f) = record { rows = refl; places = below_four (λ (g : ℕ). length (get_or (table f) g []) ≡ 9) refl refl refl refl } in
+    table_from (table f) h shape (λ g k low less. count_at-table f g k low less ∙ each g k low less)
 
 -- 1 at the place [g'][k'], and else 0
 abbrev pub one_at : ℕ → ℕ → ℕ → ℕ → ℕ
@@ -24,21 +39,24 @@ pub counted_none : (at : ℕ) (bytes : List ℕ) (i g k : ℕ) → length bytes 
 unfolding byte_counts
 counted_none at bytes i g k past = at_drop_all (λ l. byte_counts at l g k) bytes i past
 
+-- the table with another row
+pub set_shape : (counts : List (List ℕ)) (g' : ℕ) (row : List ℕ) → IsTable counts → g' < 4 → length row ≡ 9 → IsTable (set counts g' row)
+set_shape counts g' row shape low len = record {
+  rows = length-set counts g' row ∙ shape.rows;
+  places = λ g h. place g h (g' == g) refl;
+}
+  where
+    place : (g : ℕ) → g < 4 → (d : Bool) → (g' == g) ≡ d → length (get_or (set counts g' row) g []) ≡ 9
+    place g h true e =
+        subst (λ x. length (get_or (set counts g' row) x []) ≡ 9) (eqb-true g' g e) (ap length (get_or-set_same counts g' row [] (omega (arith, shape.rows))) ∙ len)
+    place g h false e = ap length (get_or-set_other counts g' g row [] (λ q. eqb-false g' g e (sym q))) ∙ shape.places g h
+
 -- the table with another count at one place
 abbrev pub put : List (List ℕ) → ℕ → ℕ → ℕ → List (List ℕ)
 put counts g' k' n = set counts g' (set (get_or counts g' []) k' n)
 
 pub put_shape : (counts : List (List ℕ)) (g' k' n : ℕ) → IsTable counts → g' < 4 → IsTable (put counts g' k' n)
-put_shape counts g' k' n shape low = record {
-  rows = length-set counts g' _ ∙ shape.rows;
-  places = λ g h. place g h (g' == g) refl;
-}
-  where
-    place : (g : ℕ) → g < 4 → (d : Bool) → (g' == g) ≡ d → length (get_or (put counts g' k' n) g []) ≡ 9
-    place g h true e =
-        subst (λ x. length (get_or (put counts g' k' n) x []) ≡ 9) (eqb-true g' g e)
-        (ap length (get_or-set_same counts g' _ [] (omega (arith, shape.rows))) ∙ length-set (get_or counts g' []) k' n ∙ shape.places g' low)
-    place g h false e = ap length (get_or-set_other counts g' g _ [] (λ q. eqb-false g' g e (sym q))) ∙ shape.places g h
+put_shape counts g' k' n shape low = set_shape counts g' (set (get_or counts g' []) k' n) shape low (length-set (get_or counts g' []) k' n ∙ shape.places g' low)
 
 -- one more at a place of a row adds 1 there, and 0 elsewhere
 row_one : (row : List ℕ) (k' k : ℕ) → k' < length row → (d : Bool) → (k' == k) ≡ d

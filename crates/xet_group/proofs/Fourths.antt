@@ -1,5 +1,5 @@
 -- The bytes at every fourth place, one by one, and how many they are.
-use Rattle.std.proofs.Common.{◌≡◌, ℕ, zero, suc, ◌+◌, ◌*◌, ◌<◌, ◌≤◌, List, [], ◌∷◌, length, get_or, slice_get, refl, arith}
+use Rattle.std.proofs.Common.{◌≡◌, ℕ, zero, suc, ◌+◌, ◌-◌, ◌*◌, ◌/◌, ◌<◌, ◌≤◌, List, [], ◌∷◌, ◌++◌, length, get_or, slice_get, drop, refl, ap, arith}
 use Rattle.xet_group.specs.Groups.{every_fourth}
 
 -- the first of them, and the rest
@@ -51,3 +51,43 @@ groups_lengths (a ∷ []) = refl
 groups_lengths (a ∷ b ∷ []) = refl
 groups_lengths (a ∷ b ∷ c ∷ []) = refl
 groups_lengths (a ∷ b ∷ c ∷ d ∷ rest) = omega (arith, groups_lengths rest)
+
+-- how many they are
+pub length-fourth : (n : ℕ) (bytes : List ℕ) → length (every_fourth n bytes) ≡ (length bytes + 3 - n) / 4
+unfolding every_fourth
+length-fourth n [] = omega arith
+length-fourth zero (b ∷ bs) = omega (arith, length-fourth 3 bs)
+length-fourth (suc n) (b ∷ bs) = omega (arith, length-fourth n bs)
+
+-- all but the first m of them
+pub drop-fourth : (m n : ℕ) (bytes : List ℕ) → drop m (every_fourth n bytes) ≡ every_fourth (4 * m + n) bytes
+unfolding every_fourth
+drop-fourth zero n bytes = let e : 4 * 0 + n ≡ n = omega arith in rw e refl
+drop-fourth (suc m) n [] = refl
+drop-fourth (suc m) zero (b ∷ bs) = let e : 4 * suc m + 0 ≡ suc (4 * m + 3) = omega arith in rw e (drop-fourth m 3 bs)
+drop-fourth (suc m) (suc n) (b ∷ bs) = let e : 4 * suc m + suc n ≡ suc (4 * suc m + n) = omega arith in rw e (drop-fourth (suc m) n bs)
+
+-- those after a prefix
+pub fourth-drop : (k n : ℕ) (bytes : List ℕ) → every_fourth n (drop k bytes) ≡ every_fourth (k + n) bytes
+unfolding every_fourth
+fourth-drop zero n bytes = let e : 0 + n ≡ n = omega arith in rw e refl
+fourth-drop (suc k) n [] = refl
+fourth-drop (suc k) n (b ∷ bs) = let e : suc k + n ≡ suc (k + n) = omega arith in rw e (fourth-drop k n bs)
+
+-- those of two lists, of which the first has whole fours
+pub fourth-append : (m n : ℕ) (xs ys : List ℕ) → n < 4 → length xs ≡ 4 * m → every_fourth n (xs ++ ys) ≡ every_fourth n xs ++ every_fourth n ys
+unfolding every_fourth
+fourth-append zero n [] ys low len = refl
+fourth-append (suc m) zero (a ∷ b ∷ c ∷ d ∷ xs) ys low len = ap (λ (l : List ℕ). a ∷ l) (fourth-append m 0 xs ys low (omega (arith, len)))
+fourth-append (suc m) (suc zero) (a ∷ b ∷ c ∷ d ∷ xs) ys low len = ap (λ (l : List ℕ). b ∷ l) (fourth-append m 1 xs ys low (omega (arith, len)))
+fourth-append (suc m) (suc (suc zero)) (a ∷ b ∷ c ∷ d ∷ xs) ys low len = ap (λ (l : List ℕ). c ∷ l) (fourth-append m 2 xs ys low (omega (arith, len)))
+fourth-append (suc m) (suc (suc (suc zero))) (a ∷ b ∷ c ∷ d ∷ xs) ys low len = ap (λ (l : List ℕ). d ∷ l) (fourth-append m 3 xs ys low (omega (arith, len)))
+fourth-append m n xs ys low len = absurd (omega (arith, low, len))
+
+-- the byte at an index
+pub fourth_at : (n j : ℕ) (bytes : List ℕ) → get_or (every_fourth n bytes) j 0 ≡ get_or bytes (4 * j + n) 0
+unfolding every_fourth
+fourth_at n j [] = refl
+fourth_at zero zero (b ∷ bs) = refl
+fourth_at zero (suc j) (b ∷ bs) = let e : 4 * suc j + 0 ≡ suc (4 * j + 3) = omega arith in rw e (fourth_at 3 j bs)
+fourth_at (suc n) j (b ∷ bs) = let e : 4 * j + suc n ≡ suc (4 * j + n) = omega arith in rw e (fourth_at n j bs)

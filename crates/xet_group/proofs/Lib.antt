@@ -1,3 +1,5 @@
 mod Fourths
 mod Woven
+mod Blocks
 mod Counts
+mod Tallies

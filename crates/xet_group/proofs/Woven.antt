@@ -142,16 +142,16 @@ map_four f (x ∷ y ∷ z ∷ w ∷ []) a b c d least most ea eb ec ed = λ i. f
 map_four f xs a b c d least most ea eb ec ed = absurd (omega (arith, least, most))
 
 -- what is woven, and then what is left of the first three lists
-pub groups_written : (p q r s out two three four : List ℕ) (i : ℕ) → AreNear p q r s → i ≡ length s
-    → out ++ woven (drop i p) (drop i q) (drop i r) (drop i s) ≡ woven p q r s
+pub all_written : (p q r s out two three four whole : List ℕ) (i : ℕ) → i ≡ length s
+    → out ++ woven (drop i p) (drop i q) (drop i r) (drop i s) ≡ whole
     → two ≡ out ++ take (length p - length s) (drop (length s) p)
     → three ≡ two ++ take (length q - length s) (drop (length s) q)
     → four ≡ three ++ take (length r - length s) (drop (length s) r)
-    → groups_of four ≡ p ∷ q ∷ r ∷ s ∷ []
-groups_written p q r s out two three four i near all kept second third fourth =
+    → four ≡ whole
+all_written p q r s out two three four whole i all kept second third fourth =
     let n = length s in
-    let kept' : out ++ woven (drop n p) (drop n q) (drop n r) (drop n s) ≡ woven p q r s = rw all at kept in
+    let kept' : out ++ woven (drop n p) (drop n q) (drop n r) (drop n s) ≡ whole = rw all at kept in
     let end = ap (λ l. out ++ l) (woven_end p q r s n (omega arith)) in
     let joined : four ≡ out ++ (drop n p ++ drop n q ++ drop n r) =
     rw (fourth, third, second, take_rest p n, take_rest q n, take_rest r n) (simp append_assoc) in
-    ap groups_of (joined ∙ sym end ∙ kept') ∙ groups-woven p q r s near
+    joined ∙ sym end ∙ kept'

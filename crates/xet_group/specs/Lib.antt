@@ -1,3 +1,4 @@
 pub mod Groups
 pub mod Histogram
 pub mod theorems
+pub mod internal

@@ -1,6 +1,7 @@
 //! Byte groups by index modulo 4: splitting, regrouping, and histograms of set bits.
 #![tactic(auto)]
 
+mod lanes;
 pub mod laws;
 mod predictor;
 mod regroup;

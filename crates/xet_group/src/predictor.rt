@@ -3,6 +3,7 @@
 ghost use Rattle.std.specs.Prelude.{◌≡◌, ◌%◌};
 ghost use Rattle.xet_group.specs.Histogram.{CountsFit, table, with_counted};
 
+use crate::lanes::count_blocks;
 use std::marker::Model;
 
 /// Counts of bytes. `[g][k]` is the number of bytes so far that are in group g and have k set bits, in a
@@ -56,21 +57,22 @@ impl BG4Predictor {
         self.add_data_reference(offset, b);
     }
 
-    /// Same contract as `add_data_reference`, which it calls. The variant is meant to count several bytes of
-    /// a word at once.
+    /// Same contract as `add_data_reference`. Counts 16 bytes at a time, and then byte by byte.
     pub fn add_data_swar(&mut self, offset: usize, b: &[u8])
         requires { CountsFit self.old (offset % 4) b.now }
         ensures { self.new ≡ with_counted self.old (offset % 4) b.now }
     {
-        self.add_data_reference(offset, b);
+        let done = 16 * (b.len() / 16);
+        count_blocks(&mut self.counts, offset % 4, b);
+        self.add_data_reference(offset, &b[done..]);
     }
 
-    /// Same contract as `add_data_reference`, which it calls.
+    /// Same contract as `add_data_swar`, which it calls.
     pub fn add_data(&mut self, offset: usize, b: &[u8])
         requires { CountsFit self.old (offset % 4) b.now }
         ensures { self.new ≡ with_counted self.old (offset % 4) b.now }
     {
-        self.add_data_reference(offset, b);
+        self.add_data_swar(offset, b);
     }
 
     /// The counts, as `[group][number of set bits]`.

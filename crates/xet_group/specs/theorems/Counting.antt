@@ -4,7 +4,8 @@ use Rattle.std.proofs.lemmas.List.FromFn.{get_or-map-range_with_len}
 use Rattle.std.specs.List.{range_with_len}
 use Rattle.xet_group.specs.Histogram.{CountsFit, count_of, byte_counts, table}
 
-count_at-table : (f : ℕ → ℕ → ℕ) (g k : ℕ) → g < 4 → k < 9 → count_of (table f) g k ≡ f g k
+-- the count at a place of a table
+pub count_at-table : (f : ℕ → ℕ → ℕ) (g k : ℕ) → g < 4 → k < 9 → count_of (table f) g k ≡ f g k
 count_at-table f g k low less =
     ap (λ row. get_or row k 0) (get_or-map-range_with_len (λ g. map (f g) (range_with_len 0 9)) 0 4 g g [] low (omega arith)) ∙ get_or-map-range_with_len (f g) 0 9 k k 0 less (omega arith)
 

@@ -13,4 +13,4 @@ returns c =
     let whole : p ++ q ++ r ++ s ≡ c.args.b.now =
     rw (c.split_at-3.ensures.front, c.split_at-3.ensures.back, c.split_at-2.ensures.front, c.split_at-2.ensures.back, c.split_at.ensures.front, c.split_at.ensures.back)
     (cut_joins c.group_len.result c.group_len-2.result c.group_len-3.result c.args.b.now) in
-    IfOk-weaker c.interleaved.result (λ bytes. groups_of bytes.items ≡ p ∷ q ∷ r ∷ s ∷ []) (λ bytes. grouped bytes.items ≡ c.args.b.now) (λ bytes e. grouped_from bytes.items p q r s e ∙ whole) c.interleaved.ensures
+    IfOk-weaker c.interleaved_by_blocks.result (λ bytes. groups_of bytes.items ≡ p ∷ q ∷ r ∷ s ∷ []) (λ bytes. grouped bytes.items ≡ c.args.b.now) (λ bytes e. grouped_from bytes.items p q r s e ∙ whole) c.interleaved_by_blocks.ensures
