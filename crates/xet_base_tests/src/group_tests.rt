@@ -104,25 +104,28 @@ fn histograms(offset: usize, bytes: &[u8]) -> [[u32; 9]; 4]
 }
 
 /// Every variant counts these bytes as `add_data` does.
-fn counts_alike(rt: &impl Abort, bytes: &[u8])
+fn counts_alike(rt: &impl Abort, offset: usize, bytes: &[u8])
     requires { length bytes.now < 2 ^ 32 }
 {
-    let table = histograms(3, bytes);
+    let table = histograms(offset, bytes);
     let mut reference = BG4Predictor::default();
-    reference.add_data_reference(3, bytes);
+    reference.add_data_reference(offset, bytes);
     assert!(rt; reference.histograms() == table);
     let mut first = BG4Predictor::default();
-    first.add_data_v1(3, bytes);
+    first.add_data_v1(offset, bytes);
     assert!(rt; first.histograms() == table);
-    let mut by_words = BG4Predictor::default();
-    by_words.add_data_swar(3, bytes);
-    assert!(rt; by_words.histograms() == table);
+    let mut by_lanes = BG4Predictor::default();
+    by_lanes.add_data_swar(offset, bytes);
+    assert!(rt; by_lanes.histograms() == table);
 }
 
 #[test]
 fn each_form_counts_alike(rt: HostRuntime) -> Result<(), Fail> {
     for count in LENGTHS {
-        counts_alike(&rt, &counting(rt.alloc(), count)?);
+        let bytes = counting(rt.alloc(), count)?;
+        for offset in 0..4usize {
+            counts_alike(&rt, offset, &bytes);
+        }
     }
     Ok(())
 }

@@ -4,7 +4,7 @@ use Rattle.std.proofs.lemmas.Bool.{eqb-true, eqb-false, eq-eqb, ne_eqb}
 use Rattle.std.proofs.lemmas.List.{drop-drop, get_or-drop, length-drop, take_rest}
 use Rattle.std.proofs.lemmas.Simd.{get_or-replicate}
 use Rattle.xet_group.specs.Histogram.{byte_counts, count_of}
-use Rattle.xet_group.specs.internal.Lanes.{AreCounts, group_sum, lane_count, pair_unit}
+use Rattle.xet_group.specs.internal.Lanes.{AreCounts, group_sum, lane_count}
 
 -- a property of each number of set bits
 pub below_nine : (P : ℕ → Type 0) → P 0 → P 1 → P 2 → P 3 → P 4 → P 5 → P 6 → P 7 → P 8 → (k : ℕ) → k < 9 → P k
@@ -54,6 +54,10 @@ count_next bytes l k n =
     let here : get_or (drop (16 * n) bytes) l 0 ≡ get_or bytes (16 * n + l) 0 = get_or-drop (16 * n) bytes l 0 in
     let one = ap {B = ℕ} (λ (x : ℕ). if count_ones x == k then 1 else 0) here in
     omega (arith, count_add bytes l k n 1, one)
+
+-- what a byte with k set bits adds to its lane of vector p
+abbrev pub pair_unit : ℕ → ℕ → ℕ
+pair_unit p k = (if k == 2 * p then 1 else 0) + 16 * (if k == 2 * p + 1 then 1 else 0)
 
 -- one more block is counted in a pair
 pub pair_next : (bytes : List ℕ) (p l i old unit new : ℕ) → i < 15 → new ≡ (old + unit) % 256

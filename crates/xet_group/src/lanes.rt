@@ -1,5 +1,5 @@
-//! Counts of set bits, 16 bytes at a time. Byte `l` of each block is counted in lane `l` of nine vectors, one for
-//! each number of set bits, and each group has four lanes.
+//! Histograms of set bits by blocks of 16 bytes. Nine vectors, one for each number of set bits, count byte `l` of
+//! each block in lane `l`, so each group has four lanes.
 
 ghost use Rattle.std.specs.Prelude.{◌≡◌, ℕ, ◌+◌, ◌*◌, ◌/◌, ◌%◌, ◌^◌, ◌<◌, ◌≤◌, [], drop, length, count_ones, slice_index, slice_index_or};
 ghost use Rattle.xet_group.specs.Histogram.{CountsFit, IsTable, byte_counts, count_of};
@@ -7,14 +7,14 @@ ghost use Rattle.xet_group.specs.internal.Lanes.{AreCounts, ArePairs, group_sum}
 
 use std::simd::u8x16;
 
-/// The number of blocks that lanes of 8 bits count.
+/// The maximum number of blocks that a lane can count.
 const MAX_BLOCKS: usize = 255;
 
-/// The number of blocks that half a lane counts.
+/// The maximum number of blocks that half a lane can count.
 const MAX_RUN: usize = 15;
 
-/// What bytes add to their lanes of five vectors, by their numbers of set bits: 1 for the lower number of a pair,
-/// and 16 for the higher one.
+/// What a byte adds to its lane of a vector with two counts, by its number of set bits: 1 to the low half of the
+/// lane, 16 to the high half.
 const UNITS_0_1: [u8; 16] = [1, 16, 0, 0, 0, 0, 0, 0, 0, 0, 0, 0, 0, 0, 0, 0];
 
 const UNITS_2_3: [u8; 16] = [0, 0, 1, 16, 0, 0, 0, 0, 0, 0, 0, 0, 0, 0, 0, 0];
@@ -35,16 +35,16 @@ pub(crate) fn count_blocks(counts: &mut [[u32; 9]; 4], start: usize, b: &[u8])
         → count_of counts.new g k + byte_counts start (drop (16 * (length b.now / 16)) b.now) g k
         ≡ count_of counts.old g k + byte_counts start b.now g k }
 {
-    let all = b.len() / 16;
+    let blocks = b.len() / 16;
     let mut done = 0;
-    'parts: while done < all {
-        let part = (all - done).min(MAX_BLOCKS);
+    'parts: while done < blocks {
+        let part = (blocks - done).min(MAX_BLOCKS);
         add_counts(counts, start, &counts_of(&b[16 * done..], part));
         done += part;
     }
 }
 
-/// Adds the four lanes of each group.
+/// Adds the four lanes of each group. Lane 0 belongs to the group `start`.
 fn add_counts(counts: &mut [[u32; 9]; 4], start: usize, vectors: &[u8x16; 9])
     requires start { start < 4 }
     requires shape { IsTable counts.old }
@@ -52,7 +52,8 @@ fn add_counts(counts: &mut [[u32; 9]; 4], start: usize, vectors: &[u8x16; 9])
         → count_of counts.old ((start + g) % 4) k + group_sum (slice_index_or vectors.now k []) g < 2 ^ 32 }
     ensures shape { IsTable counts.new }
     ensures counts { (g k : ℕ) → g < 4 → k < 9
-        → count_of counts.new ((start + g) % 4) k ≡ count_of counts.old ((start + g) % 4) k + group_sum (slice_index_or vectors.now k []) g }
+        → count_of counts.new ((start + g) % 4) k
+        ≡ count_of counts.old ((start + g) % 4) k + group_sum (slice_index_or vectors.now k []) g }
 {
     add_row(&mut counts[start], vectors, 0);
     add_row(&mut counts[(start + 1) % 4], vectors, 1);
@@ -60,33 +61,33 @@ fn add_counts(counts: &mut [[u32; 9]; 4], start: usize, vectors: &[u8x16; 9])
     add_row(&mut counts[(start + 3) % 4], vectors, 3);
 }
 
-/// Adds the four lanes of one group.
-fn add_row(row: &mut [u32; 9], vectors: &[u8x16; 9], group: usize)
-    requires group { group < 4 }
+/// Adds the four lanes of a group to its row. The first of them is `lane`.
+fn add_row(row: &mut [u32; 9], vectors: &[u8x16; 9], lane: usize)
+    requires lane { lane < 4 }
     requires fits { (k : ℕ) → k < 9
-        → slice_index row.old k + group_sum (slice_index_or vectors.now k []) group < 2 ^ 32 }
+        → slice_index row.old k + group_sum (slice_index_or vectors.now k []) lane < 2 ^ 32 }
     ensures len { length row.new ≡ 9 }
     ensures counts { (k : ℕ) → k < 9
-        → slice_index row.new k ≡ slice_index row.old k + group_sum (slice_index_or vectors.now k []) group }
+        → slice_index row.new k ≡ slice_index row.old k + group_sum (slice_index_or vectors.now k []) lane }
 {
     'places: for k in 0..9usize {
-        row[k] += lanes_of_group(vectors[k], group);
+        row[k] += group_sum(vectors[k], lane);
     }
 }
 
-/// The sum of the four lanes of a group.
-fn lanes_of_group(vector: u8x16, group: usize) -> u32
-    requires { group < 4 }
-    ensures { result ≡ group_sum vector group }
+/// The sum of the four lanes of a group. The first of them is `lane`.
+fn group_sum(vector: u8x16, lane: usize) -> u32
+    requires { lane < 4 }
+    ensures { result ≡ group_sum vector lane }
 {
     let lanes = vector.to_array();
-    u32::from(lanes[group])
-        + u32::from(lanes[group + 4])
-        + u32::from(lanes[group + 8])
-        + u32::from(lanes[group + 12])
+    u32::from(lanes[lane])
+        + u32::from(lanes[lane + 4])
+        + u32::from(lanes[lane + 8])
+        + u32::from(lanes[lane + 12])
 }
 
-/// The counts of the first blocks of these bytes.
+/// The counts of the first blocks.
 fn counts_of(b: &[u8], blocks: usize) -> [u8x16; 9]
     requires room { 16 * blocks ≤ length b.now }
     requires few { blocks ≤ 255 }
@@ -102,7 +103,7 @@ fn counts_of(b: &[u8], blocks: usize) -> [u8x16; 9]
     vectors
 }
 
-/// Counts more blocks, after those that are counted.
+/// Counts a run of blocks after the first `done`.
 fn add_run(vectors: &mut [u8x16; 9], b: &[u8], done: usize, run: usize)
     requires room { 16 * (done + run) ≤ length b.now }
     requires few { done + run ≤ 255 }
@@ -125,7 +126,7 @@ fn add_run(vectors: &mut [u8x16; 9], b: &[u8], done: usize, run: usize)
     ];
 }
 
-/// The counts of the first blocks of these bytes, two in each lane.
+/// The counts of the first blocks, two in each lane.
 fn pairs_of(b: &[u8], blocks: usize) -> [u8x16; 5]
     requires room { 16 * blocks ≤ length b.now }
     requires few { blocks ≤ 15 }
@@ -138,7 +139,7 @@ fn pairs_of(b: &[u8], blocks: usize) -> [u8x16; 5]
     pairs
 }
 
-/// Counts block `i`, after those before it.
+/// Counts block `i`, two counts in each lane.
 #[inline(always)]
 fn add_block(pairs: &mut [u8x16; 5], b: &[u8], i: usize)
     requires room { 16 * i + 16 ≤ length b.now }
@@ -166,7 +167,7 @@ fn set_bits(block: u8x16) -> u8x16
     block.count_ones()
 }
 
-/// The unit of each byte, by its number of set bits.
+/// What each byte adds to its lane.
 #[inline(always)]
 fn looked_up(units: [u8; 16], ones: u8x16) -> u8x16
     requires { (l : ℕ) → l < 16 → slice_index ones l < 9 }

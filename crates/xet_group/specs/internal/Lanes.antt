@@ -1,8 +1,8 @@
--- Counts in the lanes of vectors: byte l of each block of 16 is counted in lane l.
+-- Counts in the lanes of vectors: byte l of each block of 16 bytes is counted in lane l.
 use Rattle.std.specs.Prelude.{ℕ, zero, suc, ◌≡◌, ◌+◌, ◌*◌, ◌<◌, ◌==◌, List, drop, count_ones, slice_index, if◌then◌else◌}
 use Rattle.xet_group.specs.Histogram.{count_of}
 
--- how many of the first n blocks have a byte l with k set bits
+-- how many of the first n blocks have k set bits in byte l
 unfoldable pub lane_count : List ℕ → ℕ → ℕ → ℕ → ℕ
 lane_count bytes l k zero = 0
 lane_count bytes l k (suc n) =
@@ -16,13 +16,10 @@ AreCounts vectors bytes n =
 -- vector p has the counts of 2 p and of 2 p + 1 set bits, in the low and the high half of each lane
 abbrev pub ArePairs : List (List ℕ) → List ℕ → ℕ → Type 0
 ArePairs vectors bytes n =
-    (p l : ℕ) → p < 5 → l < 16 → count_of vectors p l ≡ lane_count bytes l (2 * p) n + 16 * lane_count bytes l (2 * p + 1) n
+    (p l : ℕ) → p < 5 → l < 16
+    → count_of vectors p l ≡ lane_count bytes l (2 * p) n + 16 * lane_count bytes l (2 * p + 1) n
 
--- what a byte with k set bits adds to its lane of vector p
-abbrev pub pair_unit : ℕ → ℕ → ℕ
-pair_unit p k = (if k == 2 * p then 1 else 0) + 16 * (if k == 2 * p + 1 then 1 else 0)
-
--- the sum of the four lanes of a group
+-- the sum of the four lanes of a group, the first of which is lane l
 abbrev pub group_sum : List ℕ → ℕ → ℕ
-group_sum vector g =
-    slice_index vector g + slice_index vector (g + 4) + slice_index vector (g + 8) + slice_index vector (g + 12)
+group_sum vector l =
+    slice_index vector l + slice_index vector (l + 4) + slice_index vector (l + 8) + slice_index vector (l + 12)

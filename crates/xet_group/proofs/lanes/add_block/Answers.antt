@@ -1,8 +1,8 @@
 use Rattle.std.proofs.Common.{◌≡◌, ◌∙◌, ℕ, ◌+◌, ◌*◌, ◌<◌, ◌∷◌, [], ap, arith, count_ones, slice_index}
 use Rattle.std.proofs.lemmas.Simd.{get_or-chunk}
 use Rattle.xet_group.specs.Histogram.{count_of}
-use Rattle.xet_group.specs.internal.Lanes.{lane_count, pair_unit}
-use Rattle.xet_group.proofs.Tallies.{below_five, pair_next, units_0, units_1, units_2, units_3, units_4}
+use Rattle.xet_group.specs.internal.Lanes.{lane_count}
+use Rattle.xet_group.proofs.Tallies.{below_five, pair_next, pair_unit, units_0, units_1, units_2, units_3, units_4}
 use Rattle.xet_group.proofs.lanes.add_block.Goals as goal
 
 pub returns : goal.returns

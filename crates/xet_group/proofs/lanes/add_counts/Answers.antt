@@ -4,7 +4,8 @@ use Rattle.xet_group.proofs.lanes.add_counts.Goals as goal
 
 pub returns-clause-shape : goal.returns-clause-shape
 returns-clause-shape c =
-    let first = set_shape _ _ _ c.requires.shape (omega arith) c.add_row.ensures.len in
-    let second = set_shape _ _ _ first (omega arith) c.add_row-2.ensures.len in
-    let third = set_shape _ _ _ second (omega arith) c.add_row-3.ensures.len in
-    set_shape _ _ _ third (omega arith) c.add_row-4.ensures.len
+    set_shape _ _ _
+    (set_shape _ _ _
+    (set_shape _ _ _ (set_shape _ _ _ c.requires.shape (omega arith) c.add_row.ensures.len) (omega arith) c.add_row-2.ensures.len)
+    (omega arith) c.add_row-3.ensures.len)
+    (omega arith) c.add_row-4.ensures.len
