@@ -8,4 +8,4 @@ pub add_data_v1-requires : goal.add_data_v1-requires
 add_data_v1-requires g c = zeros_fit _ _ _ c.default-first.ensures c.requires
 
 pub add_data_swar-requires : goal.add_data_swar-requires
-add_data_swar-requires g c = zeros_fit _ _ _ c.default-by_words.ensures c.requires
+add_data_swar-requires g c = zeros_fit _ _ _ c.default-by_lanes.ensures c.requires
