@@ -1,5 +1,6 @@
 -- The bytes at every fourth place, one by one, and how many they are.
-use Rattle.std.proofs.Common.{◌≡◌, ℕ, zero, suc, ◌+◌, ◌-◌, ◌*◌, ◌/◌, ◌<◌, ◌≤◌, List, [], ◌∷◌, ◌++◌, length, get_or, slice_get, drop, refl, ap, arith}
+use Rattle.std.proofs.Common.{◌≡◌, ◌∙◌, ℕ, zero, suc, ◌+◌, ◌-◌, ◌*◌, ◌/◌, ◌<◌, ◌≤◌, List, [], ◌∷◌, ◌++◌, length, get_or, slice_get, unwrap_or, Option, drop, refl, sym, ap, arith}
+use Rattle.std.proofs.lemmas.Option.{unwrap_or-slice_get}
 use Rattle.xet_group.specs.Groups.{every_fourth}
 
 -- the first of them, and the rest
@@ -86,8 +87,5 @@ fourth-append m n xs ys low len = absurd (omega (arith, low, len))
 
 -- the byte at an index
 pub fourth_at : (n j : ℕ) (bytes : List ℕ) → get_or (every_fourth n bytes) j 0 ≡ get_or bytes (4 * j + n) 0
-unfolding every_fourth
-fourth_at n j [] = refl
-fourth_at zero zero (b ∷ bs) = refl
-fourth_at zero (suc j) (b ∷ bs) = let e : 4 * suc j + 0 ≡ suc (4 * j + 3) = omega arith in rw e (fourth_at 3 j bs)
-fourth_at (suc n) j (b ∷ bs) = let e : 4 * j + suc n ≡ suc (4 * j + n) = omega arith in rw e (fourth_at n j bs)
+fourth_at n j bytes =
+    sym (unwrap_or-slice_get (every_fourth n bytes) j 0) ∙ ap (λ (b : Option ℕ). unwrap_or b 0) (fourth_stands n j bytes) ∙ unwrap_or-slice_get bytes (4 * j + n) 0
