@@ -4,8 +4,8 @@ ghost use Rattle.std.specs.Prelude.{◌≡◌, ◌≤◌, ◌==◌, IfOk, codes,
 ghost use Rattle.std.specs.List.{list_any};
 ghost use Rattle.clap.specs.Lexer.{usize_max};
 ghost use Rattle.clap.specs.Words.{found_of, matched_of, raw_values};
-ghost use Rattle.xet_arguments.specs.Arguments.{is_option, make_texts, pack_texts, read_texts, some_of, three_of, two_of};
-ghost use Rattle.xet_arguments.specs.internal.Commands.{all_three, both, value_of};
+ghost use Rattle.xet_arguments.specs.Arguments.{is_option, make_texts, pack_texts, read_texts, some_of, three_of, two_of, two_or_three_of};
+ghost use Rattle.xet_arguments.specs.internal.Commands.{all_three, both, both_with, value_of};
 
 use crate::commands::{bare_command, clean_command, make_command, pack_command, read_command};
 use crate::parsing::matches_of_words;
@@ -22,6 +22,8 @@ pub struct PackArguments<'a> {
     pub target: &'a str,
     /// Gear table: its name or the number of a seed.
     pub gear: &'a str,
+    /// Number of workers, if it is given.
+    pub workers: Option<&'a str>,
 }
 
 /// The arguments of `make`.
@@ -46,18 +48,24 @@ pub struct ReadArguments<'a> {
 
 fn pack_values<'a>(found: &Option<ArgMatches<'a>>) -> Option<PackArguments<'a>>
     ensures { option_map pack_texts result
-        ≡ both (value_of found.now (codes "target")) (value_of found.now (codes "gear")) }
+        ≡ both_with (value_of found.now (codes "target")) (value_of found.now (codes "gear"))
+        (value_of found.now (codes "workers")) }
 {
     let matches = found.as_ref()?;
     let target = matches.get_str("target")?;
     let gear = matches.get_str("gear")?;
-    Some(PackArguments { target, gear })
+    let workers = matches.get_str("workers");
+    Some(PackArguments {
+        target,
+        gear,
+        workers,
+    })
 }
 
-/// `pack TARGET GEAR`: the arguments; none if the number of words is not 2.
+/// `pack TARGET GEAR [WORKERS]`: the arguments; none if the number of words is neither 2 nor 3.
 pub fn pack_arguments<'a>(alloc: Global, words: &'a [String]) -> Parsed<PackArguments<'a>>
     requires { list_any is_option (map string_bytes words.now) ≡ false }
-    ensures { IfOk result (λ found. option_map pack_texts found ≡ two_of (map string_bytes words.now)) }
+    ensures { IfOk result (λ found. option_map pack_texts found ≡ two_or_three_of (map string_bytes words.now)) }
 {
     let found = matches_of_words(pack_command(alloc)?, words)?;
     Ok(pack_values(&found))

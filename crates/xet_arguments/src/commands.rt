@@ -25,13 +25,17 @@ fn required_argument<'a>(alloc: Global, name: &'a str) -> Arg<'a>
     Arg::new(alloc, name).required(true)
 }
 
-/// `pack TARGET GEAR`
+/// `pack TARGET GEAR [WORKERS]`
 pub(crate) fn pack_command<'a>(alloc: Global) -> Result<Command<'a>, AllocError>
     ensures { IfOk result (λ command. app_of command ≡ pack_app) }
 {
     let target = required_argument(alloc, "target");
     let gear = required_argument(alloc, "gear");
-    bare_command(alloc, "pack").arg(target)?.arg(gear)
+    let workers = Arg::new(alloc, "workers");
+    bare_command(alloc, "pack")
+        .arg(target)?
+        .arg(gear)?
+        .arg(workers)
 }
 
 /// `make SEED BYTES`

@@ -20,16 +20,26 @@ fn words_of(rt: &impl Abort, alloc: Global, words: &str) -> Result<Vec<String>, 
 }
 
 #[test]
-fn pack_takes_two_words(rt: HostRuntime) -> Result<(), Fail> {
+fn pack_takes_two_or_three_words(rt: HostRuntime) -> Result<(), Fail> {
     let alloc = rt.alloc();
-    let words = words_of(&rt, alloc, "4096 zero")?;
     let (target, gear) = ("4096", "zero");
-    assert_eq!(rt;
-        pack_arguments(alloc, &words)?,
-        Some(PackArguments { target, gear })
-    );
-    let short = words_of(&rt, alloc, "4096")?;
-    assert_eq!(rt; pack_arguments(alloc, &short)?, None);
+    let whole = |workers| {
+        Some(PackArguments {
+            target,
+            gear,
+            workers,
+        })
+    };
+    let rows = [
+        ("4096", None),
+        ("4096 zero", whole(None)),
+        ("4096 zero 8", whole(Some("8"))),
+        ("4096 zero 8 9", None),
+    ];
+    for (given, due) in rows {
+        let words = words_of(&rt, alloc, given)?;
+        assert_eq!(rt; pack_arguments(alloc, &words)?, due, "of {given}");
+    }
     Ok(())
 }
 

@@ -23,9 +23,10 @@ bare name = record (new_app name) {
 abbrev pub needed : Text → Rule
 needed id = record (new_rule id) { required = true }
 
--- `pack TARGET GEAR`
+-- `pack TARGET GEAR [WORKERS]`
 abbrev pub pack_app : App
-pack_app = with_rule (with_rule (bare (codes "pack")) (needed (codes "target"))) (needed (codes "gear"))
+pack_app =
+    with_rule (with_rule (with_rule (bare (codes "pack")) (needed (codes "target"))) (needed (codes "gear"))) (new_rule (codes "workers"))
 
 -- `make SEED BYTES`
 abbrev pub make_app : App
@@ -54,6 +55,11 @@ value_of (Some matches) id = first_value (found_of matches) id
 abbrev pub both : Option Text → Option Text → Option (Text × Text)
 both (Some a) (Some b) = Some (a, b)
 both _ _ = None
+
+-- two values, if both are there, and a third, if that is there
+abbrev pub both_with : Option Text → Option Text → Option Text → Option (Text × Text × Option Text)
+both_with (Some a) (Some b) c = Some (a, b, c)
+both_with _ _ c = None
 
 -- three values, if all are there
 abbrev pub all_three : Option Text → Option Text → Option Text → Option (Text × Text × Text)

@@ -1,7 +1,6 @@
 use Rattle.std.proofs.Common.{◌∙◌}
-use Rattle.xet_arguments.proofs.Two.{two_read}
-use Rattle.xet_arguments.proofs.Pack.{pack_reads}
+use Rattle.xet_arguments.proofs.Pack.{pack_read}
 use Rattle.xet_arguments.proofs.arguments.pack_arguments.Goals as goal
 
 pub returns : goal.returns
-returns c = c.pack_values.ensures ∙ two_read pack_reads _ c.in_ok-found.found _ c.in_ok-pack_command.ensures c.requires c.in_ok-found.ensures
+returns c = c.pack_values.ensures ∙ pack_read _ c.in_ok-found.found _ c.in_ok-pack_command.ensures c.requires c.in_ok-found.ensures
