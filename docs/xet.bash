@@ -24,6 +24,7 @@ _xet() {
             case $COMP_CWORD in
                 2) mapfile -t COMPREPLY < <(compgen -W '65536 32768 16384 8192 4096 1024 512' -- "$word") ;;
                 3) mapfile -t COMPREPLY < <(compgen -W 'zero one 0' -- "$word") ;;
+                4) mapfile -t COMPREPLY < <(compgen -W '1 2 4 8 16' -- "$word") ;;
             esac
             ;;
     esac

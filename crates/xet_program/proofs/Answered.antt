@@ -26,24 +26,24 @@ none_of_six a b c d e f n status is na nb nc nd ne nf (inr (inr (inr (inl x)))) 
 none_of_six a b c d e f n status is na nb nc nd ne nf (inr (inr (inr (inr (inl x))))) = ne (sym is ∙ x)
 none_of_six a b c d e f n status is na nb nc nd ne nf (inr (inr (inr (inr (inr x))))) = nf (sym is ∙ x)
 
-not_idle : (s : LimitSettings) (n status : ℕ) → status ≡ n → n ≢ 2 → n ≢ 3 → n ≢ 4 → n ≢ 7 → n ≢ 8 → IsIdle (Some (Pack s)) status → ⊥
-not_idle s n status is a b c d e (inl x) = a (sym is ∙ x)
-not_idle s n status is a b c d e (inr (inl x)) = b (sym is ∙ x)
-not_idle s n status is a b c d e (inr (inr (inl x))) = c (sym is ∙ x)
-not_idle s n status is a b c d e (inr (inr (inr (inl x)))) = d (sym is ∙ x)
-not_idle s n status is a b c d e (inr (inr (inr (inr x)))) = e (sym is ∙ x)
+not_idle : (s : LimitSettings) (workers n status : ℕ) → status ≡ n → n ≢ 2 → n ≢ 3 → n ≢ 4 → n ≢ 7 → n ≢ 8 → IsIdle (Some (Pack s workers)) status → ⊥
+not_idle s workers n status is a b c d e (inl x) = a (sym is ∙ x)
+not_idle s workers n status is a b c d e (inr (inl x)) = b (sym is ∙ x)
+not_idle s workers n status is a b c d e (inr (inr (inl x))) = c (sym is ∙ x)
+not_idle s workers n status is a b c d e (inr (inr (inr (inl x)))) = d (sym is ∙ x)
+not_idle s workers n status is a b c d e (inr (inr (inr (inr x)))) = e (sym is ∙ x)
 
-pub busy_status : (s : LimitSettings) (status : ℕ) → (status ≡ 0) ⊎ (status ≡ 1) ⊎ (status ≡ 5) ⊎ (status ≡ 6) ⊎ (status ≡ 9) ⊎ (status ≡ 10) → IsIdle (Some (Pack s)) status → ⊥
-busy_status s status (inl is) = not_idle s 0 status is (λ e. omega arith) (λ e. omega arith) (λ e. omega arith) (λ e. omega arith) (λ e. omega arith)
-busy_status s status (inr (inl is)) = not_idle s 1 status is (λ e. omega arith) (λ e. omega arith) (λ e. omega arith) (λ e. omega arith) (λ e. omega arith)
-busy_status s status (inr (inr (inl is))) = not_idle s 5 status is (λ e. omega arith) (λ e. omega arith) (λ e. omega arith) (λ e. omega arith) (λ e. omega arith)
-busy_status s status (inr (inr (inr (inl is)))) = not_idle s 6 status is (λ e. omega arith) (λ e. omega arith) (λ e. omega arith) (λ e. omega arith) (λ e. omega arith)
-busy_status s status (inr (inr (inr (inr (inl is))))) = not_idle s 9 status is (λ e. omega arith) (λ e. omega arith) (λ e. omega arith) (λ e. omega arith) (λ e. omega arith)
-busy_status s status (inr (inr (inr (inr (inr is))))) = not_idle s 10 status is (λ e. omega arith) (λ e. omega arith) (λ e. omega arith) (λ e. omega arith) (λ e. omega arith)
+pub busy_status : (s : LimitSettings) (workers status : ℕ) → (status ≡ 0) ⊎ (status ≡ 1) ⊎ (status ≡ 5) ⊎ (status ≡ 6) ⊎ (status ≡ 9) ⊎ (status ≡ 10) → IsIdle (Some (Pack s workers)) status → ⊥
+busy_status s workers status (inl is) = not_idle s workers 0 status is (λ e. omega arith) (λ e. omega arith) (λ e. omega arith) (λ e. omega arith) (λ e. omega arith)
+busy_status s workers status (inr (inl is)) = not_idle s workers 1 status is (λ e. omega arith) (λ e. omega arith) (λ e. omega arith) (λ e. omega arith) (λ e. omega arith)
+busy_status s workers status (inr (inr (inl is))) = not_idle s workers 5 status is (λ e. omega arith) (λ e. omega arith) (λ e. omega arith) (λ e. omega arith) (λ e. omega arith)
+busy_status s workers status (inr (inr (inr (inl is)))) = not_idle s workers 6 status is (λ e. omega arith) (λ e. omega arith) (λ e. omega arith) (λ e. omega arith) (λ e. omega arith)
+busy_status s workers status (inr (inr (inr (inr (inl is))))) = not_idle s workers 9 status is (λ e. omega arith) (λ e. omega arith) (λ e. omega arith) (λ e. omega arith) (λ e. omega arith)
+busy_status s workers status (inr (inr (inr (inr (inr is))))) = not_idle s workers 10 status is (λ e. omega arith) (λ e. omega arith) (λ e. omega arith) (λ e. omega arith) (λ e. omega arith)
 
-cut_idle : (s : LimitSettings) (status : ℕ) → IsCutShort status → IsIdle (Some (Pack s)) status → ⊥
-cut_idle s status (inl one) = busy_status s status (inr (inl one))
-cut_idle s status (inr five) = busy_status s status (inr (inr (inl five)))
+cut_idle : (s : LimitSettings) (workers status : ℕ) → IsCutShort status → IsIdle (Some (Pack s workers)) status → ⊥
+cut_idle s workers status (inl one) = busy_status s workers status (inr (inl one))
+cut_idle s workers status (inr five) = busy_status s workers status (inr (inr (inl five)))
 
 cut_clean : (names : List (List ℕ)) (status : ℕ) → IsCutShort status → IsIdle (Some (Clean names)) status → ⊥
 cut_clean names status (inl one) (inl seven) = omega arith
@@ -66,7 +66,7 @@ cut_ten status (inr five) ten = omega arith
 -- a status that is cut short says no more of files than the one that was due
 kept_cut : (command : Option Command) (X : Type 0) (status other : ℕ) → IsCutShort status → (IsIdle command other → X) → IsIdle command status → X
 kept_cut None X status other cut kept idle = kept tt
-kept_cut (Some (Pack s)) X status other cut kept idle = absurd (cut_idle s status cut idle)
+kept_cut (Some (Pack s workers)) X status other cut kept idle = absurd (cut_idle s workers status cut idle)
 kept_cut (Some (Clean names)) X status other cut kept idle = absurd (cut_clean names status cut idle)
 kept_cut (Some (Make seed bytes)) X status other cut kept idle = absurd (cut_make seed bytes status cut idle)
 kept_cut (Some (Read h from to)) X status other cut kept idle = kept tt

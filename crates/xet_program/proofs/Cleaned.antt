@@ -2,8 +2,10 @@
 use Rattle.std.proofs.Common.{◌≡◌, ◌≢◌, ◌∙◌, inl, inr, ℕ, zero, suc, ◌<◌, ◌≤◌, Bool, true, false, leb, All, List, [], ◌∷◌, ◌++◌, length, map, drop, get_or, is_some, subst, arith, refl, sym, ap}
 use Rattle.std.proofs.lemmas.Bool.{and_parts, cases_lt, false≢true, lt-leb}
 use Rattle.std.proofs.lemmas.List.{drop_at}
-use Rattle.std.proofs.lemmas.List.Elements.{All-from_recursion}
+use Rattle.std.proofs.lemmas.List.Elements.{All-from_recursion, recursion_from_All}
+use Rattle.std.proofs.lemmas.List.Sorted.{All-permutation, IsPermutation-sym}
 use Rattle.std.specs.List.{AllByRecursion, IsAmong, flat_map, list_all}
+use Rattle.std.specs.List.Sorted.{IsPermutation}
 use Rattle.xet_choices.specs.Calls.{Call}
 use Rattle.xet_choices.specs.declared.choice.Choice.{Choice}
 use Rattle.xet_history.specs.declared.entry.Entry.{Entry}
@@ -18,10 +20,10 @@ use Rattle.xet_hash.specs.declared.error.What.TheVariants as what
 use Rattle.xet_cut.specs.declared.limits.LimitSettings.{LimitSettings}
 use Rattle.xet_store.specs.declared.info.XetFileInfo.{XetFileInfo}
 use Rattle.xet_cut.specs.Chunking.{chunking}
-use Rattle.xet_clean.specs.Cleaning.{AreChosen, HasReason, entries_since, files_in}
-use Rattle.xet_clean.specs.declared.policy.Sha256Policy.TheVariants.{Compute}
+use Rattle.xet_clean.specs.Cleaning.{HasReason, entries_since, files_in}
 use Rattle.xet_store.specs.Cleaning.{EachTold, IsLongAt, RoseAt, chunkings, info_of}
 use Rattle.xet_steps.specs.Recorded.{RecordedState}
+use Rattle.xet_workers.specs.Cleaning.{AreChosenBy}
 use Rattle.xet_program.specs.declared.ending.Stop.{Stop}
 use Rattle.xet_program.specs.declared.ending.Stop.TheVariants as stop
 use Rattle.xet_program.specs.declared.lines.FileRange.{FileRange}
@@ -205,17 +207,19 @@ all_made all (Flush pass shard ∷ es) among = all_made all es (λ e here. among
 all_made all (Fault pass kind ∷ es) among = all_made all es (λ e here. among e (later _ e es here))
 
 -- each file that is not empty is recorded by one of them
-chosen_recorded : (s : LimitSettings) (entries : List Entry) (calls : List Call) (files : List (List ℕ)) (choices : List (List Choice)) (records : List MDBFileInfo) → AllByRecursion (HasMade entries) records
-    → AreChosen Compute s calls files choices records → AllByRecursion (λ bytes. bytes ≢ [] → RecordsHash entries (hash_of_file s bytes)) files
-chosen_recorded s entries calls [] choices records made chosen = tt
-chosen_recorded s entries calls (f ∷ fs) [] records made chosen = absurd chosen
-chosen_recorded s entries calls ([] ∷ fs) (c ∷ cs) records made chosen = (λ some. absurd (some refl), chosen_recorded s entries calls fs cs records made chosen.1)
-chosen_recorded s entries calls ((b ∷ bs) ∷ fs) (c ∷ cs) [] made chosen = absurd chosen
-chosen_recorded s entries calls ((b ∷ bs) ∷ fs) (c ∷ cs) (r ∷ rs) made chosen = (
-  λ some. (made.0.0, r, made.0.1, made.0.2, ap file_record_hash chosen.0.is),
-  chosen_recorded s entries calls fs cs rs made.1 chosen.1,
+chosen_recorded : (workers : ℕ) (s : LimitSettings) (entries : List Entry) (calls : ℕ → List Call) (files : List (List ℕ)) (choices : List (List Choice)) (records : List MDBFileInfo) → AllByRecursion (HasMade entries) records
+    → AreChosenBy workers s calls files choices records → AllByRecursion (λ bytes. bytes ≢ [] → RecordsHash entries (hash_of_file s bytes)) files
+chosen_recorded workers s entries calls [] choices records made chosen = tt
+chosen_recorded workers s entries calls (f ∷ fs) [] records made chosen = absurd chosen
+chosen_recorded workers s entries calls ([] ∷ fs) (c ∷ cs) records made chosen = (λ some. absurd (some refl), chosen_recorded workers s entries calls fs cs records made chosen.1)
+chosen_recorded workers s entries calls ((b ∷ bs) ∷ fs) (c ∷ cs) [] made chosen = absurd chosen
+chosen_recorded workers s entries calls ((b ∷ bs) ∷ fs) (c ∷ cs) (r ∷ rs) made chosen = (
+  λ some. (made.0.0, r, made.0.1, made.0.2, ap file_record_hash chosen.0.choices.is),
+  chosen_recorded workers s entries calls fs cs rs made.1 chosen.1,
 )
 
-pub chosen_all : (s : LimitSettings) (entries : List Entry) (calls : List Call) (files : List (List ℕ)) (choices : List (List Choice))
-    → AreChosen Compute s calls files choices (files_in entries) → AllByRecursion (λ bytes. bytes ≢ [] → RecordsHash entries (hash_of_file s bytes)) files
-chosen_all s entries calls files choices chosen = chosen_recorded s entries calls files choices (files_in entries) (all_made entries entries (λ e here. here)) chosen
+pub chosen_all : (workers : ℕ) (s : LimitSettings) (entries : List Entry) (calls : ℕ → List Call) (files : List (List ℕ)) (choices : List (List Choice)) (records : List MDBFileInfo)
+    → IsPermutation records (files_in entries) → AreChosenBy workers s calls files choices records → AllByRecursion (λ bytes. bytes ≢ [] → RecordsHash entries (hash_of_file s bytes)) files
+chosen_all workers s entries calls files choices records made chosen =
+    let each = All-from_recursion (HasMade entries) (files_in entries) (all_made entries entries (λ e here. here)) in
+    chosen_recorded workers s entries calls files choices records (recursion_from_All (HasMade entries) records (All-permutation (HasMade entries) _ _ (IsPermutation-sym _ _ made) each)) chosen

@@ -18,13 +18,13 @@ use Rattle.std.specs.Cmp.Lexicographic.{bytes_decides}
 use Rattle.xet_cut.specs.Limits.{bad_field, is_between, shown_settings}
 use Rattle.xet_cut.specs.Generator.{gear_table}
 use Rattle.xet_cut.specs.theorems.Ranges.{none_bad}
-use Rattle.xet_arguments.specs.Arguments.{is_option, some_of, three_of, two_of}
+use Rattle.xet_arguments.specs.Arguments.{is_option, some_of, three_of, two_of, two_or_three_of}
 use Rattle.xet_program.specs.Words.{Command}
 use Rattle.xet_program.specs.Words.Command.{Clean, ListFiles, Make, Group}
 use Rattle.xet_program.specs.declared.words.Command.{Command as Parsed}
-use Rattle.xet_program.specs.internal.Asked.{AllowsInput, asked}
+use Rattle.xet_program.specs.internal.Asked.{AllowsInput, asked, workers_given}
 use Rattle.xet_program.specs.Early.{max_input}
-use Rattle.xet_program.specs.Words.{alone, clean_of, command_by, command_of, gear_of, hash_of_text, is_digits, is_target, make_by, make_of, max_generated, max_names, number_of, pack_by, pack_of, pack_settings, read_by, read_of, target_if, target_of}
+use Rattle.xet_program.specs.Words.{alone, clean_of, command_by, command_of, gear_of, hash_of_text, is_digits, is_target, make_by, make_of, max_generated, max_names, number_of, pack_by, pack_of, pack_settings, read_by, read_of, target_if, target_of, workers_if, workers_of}
 
 -- ---- numbers
 
@@ -78,21 +78,23 @@ rest_passes_none word words e = go (is_option word) e
     go false h = h
     go true h = cc
 
-abbrev pack_found : Option (List ℕ × List ℕ) → Option Command
+abbrev pack_found : Option (List ℕ × List ℕ × Option (List ℕ)) → Option Command
 pack_found None = None
-pack_found (Some (target, gear)) = pack_by (target_of target) (gear_of gear)
+pack_found (Some (target, gear, workers)) = pack_by (target_of target) (gear_of gear) (workers_given workers)
 
-pack_two : (words : List (List ℕ)) → pack_found (two_of words) ≡ pack_of words
-pack_two [] = refl
-pack_two (a ∷ []) = refl
-pack_two (a ∷ b ∷ []) = refl
-pack_two (a ∷ b ∷ c ∷ words) = refl
+pack_words : (words : List (List ℕ)) → pack_found (two_or_three_of words) ≡ pack_of words
+pack_words [] = refl
+pack_words (a ∷ []) = refl
+pack_words (a ∷ b ∷ []) = refl
+pack_words (a ∷ b ∷ c ∷ []) = refl
+pack_words (a ∷ b ∷ c ∷ d ∷ words) = refl
 
-pub pack_some : (target gear : List ℕ) (words : List (List ℕ)) → Some (target, gear) ≡ two_of words → pack_by (target_of target) (gear_of gear) ≡ pack_of words
-pack_some target gear words e = ap pack_found e ∙ pack_two words
+pub pack_some : (target gear : List ℕ) (workers : Option (List ℕ)) (words : List (List ℕ)) → Some (target, gear, workers) ≡ two_or_three_of words
+    → pack_by (target_of target) (gear_of gear) (workers_given workers) ≡ pack_of words
+pack_some target gear workers words e = ap pack_found e ∙ pack_words words
 
-pub pack_none : (words : List (List ℕ)) → None ≡ two_of words → None ≡ pack_of words
-pack_none words e = ap pack_found e ∙ pack_two words
+pub pack_none : (words : List (List ℕ)) → None ≡ two_or_three_of words → None ≡ pack_of words
+pack_none words e = ap pack_found e ∙ pack_words words
 
 abbrev make_found : Option (List ℕ × List ℕ) → Option Command
 make_found None = None
@@ -167,16 +169,31 @@ allows_target n gear t =
 abbrev Allows : Option Command → Type 0
 Allows command = IfSome command AllowsInput
 
-allows_pack : (target gear : List ℕ) → Allows (pack_by (target_of target) (gear_of gear))
-allows_pack target gear = by_number (number_of target)
-  where
-    by_target : (n : ℕ) (t : Bool) (o : Option (List ℕ)) → is_target n ≡ t → Allows (pack_by (cond t (Some n) None) o)
-    by_target n true (Some table) is = allows_target n table is
-    by_target n true None is = tt
-    by_target n false o is = tt
+abbrev AreAllowed : Option ℕ → Type 0
+AreAllowed workers = IfSome workers (λ n. (1 ≤ n) × (n ≤ 256))
 
-    by_number : (found : Option ℕ) → Allows (pack_by (option_and_then target_if found) (gear_of gear))
-    by_number (Some n) = by_target n (is_target n) (gear_of gear) refl
+allowed_workers : (word : List ℕ) → AreAllowed (workers_of word)
+allowed_workers word = by_number (number_of word)
+  where
+    by_test : (n : ℕ) (t : Bool) → is_between 1 256 n ≡ t → AreAllowed (cond t (Some n) None)
+    by_test n true is = let range = and_parts (leb 1 n) (leb n 256) is in (leb-true 1 n range.0, leb-true n 256 range.1)
+    by_test n false is = tt
+
+    by_number : (found : Option ℕ) → AreAllowed (option_and_then workers_if found)
+    by_number (Some n) = by_test n (is_between 1 256 n) refl
+    by_number None = tt
+
+allows_pack : (target gear : List ℕ) (workers : Option ℕ) → AreAllowed workers → Allows (pack_by (target_of target) (gear_of gear) workers)
+allows_pack target gear workers allowed = by_number (number_of target)
+  where
+    by_target : (n : ℕ) (t : Bool) (o : Option (List ℕ)) (w : Option ℕ) → is_target n ≡ t → AreAllowed w → Allows (pack_by (cond t (Some n) None) o w)
+    by_target n true (Some table) (Some w) is a = (allows_target n table is, a.0, a.1)
+    by_target n true (Some table) None is a = tt
+    by_target n true None w is a = tt
+    by_target n false o w is a = tt
+
+    by_number : (found : Option ℕ) → Allows (pack_by (option_and_then target_if found) (gear_of gear) workers)
+    by_number (Some n) = by_target n (is_target n) (gear_of gear) workers refl allowed
     by_number None = tt
 
 allows_clean : (names : List (List ℕ)) (t : Bool) → is_between 1 max_names (length names) ≡ t → Allows (cond t (Some (Clean names)) None)
@@ -206,8 +223,9 @@ allows_either false a b ha hb = hb
 allows_pack_of : (words : List (List ℕ)) → Allows (pack_of words)
 allows_pack_of [] = tt
 allows_pack_of (a ∷ []) = tt
-allows_pack_of (a ∷ b ∷ []) = allows_pack a b
-allows_pack_of (a ∷ b ∷ c ∷ words) = tt
+allows_pack_of (a ∷ b ∷ []) = allows_pack a b (Some 1) (omega arith, omega arith)
+allows_pack_of (a ∷ b ∷ c ∷ []) = allows_pack a b (workers_of c) (allowed_workers c)
+allows_pack_of (a ∷ b ∷ c ∷ d ∷ words) = tt
 
 allows_make_of : (words : List (List ℕ)) → Allows (make_of words)
 allows_make_of [] = tt

@@ -85,21 +85,21 @@ module _ (start : Start) (new : Files) (o : Outcome) where
   end_of : (command : Option Command) → Observes start command → start.tells ≡ true → IsFaultless command start new → MayEnd command start new o → Ends
   end_of None observes told fine may = absurd fine
   end_of (Some c) observes told fine (stopped stop silent) = inr (stopped_silent (Some c) start o.status stop)
-  end_of (Some (Pack s)) observes told fine (full opens none many is) = absurd (fine.3 (many told))
+  end_of (Some (Pack s workers)) observes told fine (full opens none many is) = absurd (fine.3 (many told))
   end_of (Some (Clean names)) observes told fine (full opens none many is) = absurd (fine.5 (many told))
   end_of (Some (Make seed bytes)) observes told fine (full opens none many is) = absurd (fine.2 (many told))
   end_of (Some (Read h from to)) observes told fine (full opens none many is) = absurd (fine.1 (many told))
   end_of (Some ListFiles) observes told fine (full opens none many is) = absurd (fine.1 (many told))
   end_of (Some Group) observes told fine (full opens none many is) = absurd opens
-  end_of (Some (Pack s)) observes told fine (malformed opens none never is) = absurd (never observes told fine.2)
+  end_of (Some (Pack s workers)) observes told fine (malformed opens none never is) = absurd (never observes told fine.2)
   end_of (Some (Clean names)) observes told fine (malformed opens none never is) = absurd (never observes told fine.4)
   end_of (Some (Make seed bytes)) observes told fine (malformed opens none never is) = absurd (never told fine.1)
   end_of (Some (Read h from to)) observes told fine (malformed opens none never is) = not_malformed Ends told never
   end_of (Some ListFiles) observes told fine (malformed opens none never is) = not_malformed Ends told never
   end_of (Some Group) observes told fine (malformed opens none never is) = absurd opens
-  end_of (Some (Pack s)) observes told fine (early e of) = absurd (cc (sym fine.0 ∙ e observes))
-  end_of (Some (Pack s)) observes told fine (refused opens none rejected) = not_rejected Ends fine.1.0 told fine.1.1 rejected
-  end_of (Some (Pack s)) observes told fine (answered none answer) = inl (answer_of (Pack s) start new o answer).status
+  end_of (Some (Pack s workers)) observes told fine (early e of) = absurd (cc (sym fine.0 ∙ e observes))
+  end_of (Some (Pack s workers)) observes told fine (refused opens none rejected) = not_rejected Ends fine.1.0 told fine.1.1 rejected
+  end_of (Some (Pack s workers)) observes told fine (answered none answer) = inl (answer_of (Pack s workers) start new o answer).status
   end_of (Some (Clean names)) observes told fine (early e of) = absurd of
   end_of (Some (Clean names)) observes told fine (refused opens none rejected) = not_rejected Ends fine.3.0 told fine.3.1 rejected
   end_of (Some (Clean names)) observes told fine (answered none answer) =

@@ -61,9 +61,9 @@ module _ (start : Start) (o : Outcome) where
 
   kind_early : (command : Option Command) → IsEarly command o → Kind start o
   kind_early None is = quiet_of start o 2 is (omega arith) (λ e. omega arith) (λ e. omega arith)
-  kind_early (Some (Pack s)) (inl is) = quiet_of start o 8 is (omega arith) (λ e. omega arith) (λ e. omega arith)
-  kind_early (Some (Pack s)) (inr (inl is)) = quiet_of start o 9 is (omega arith) (λ e. omega arith) (λ e. omega arith)
-  kind_early (Some (Pack s)) (inr (inr (n, is))) = Kind.line n is
+  kind_early (Some (Pack s workers)) (inl is) = quiet_of start o 8 is (omega arith) (λ e. omega arith) (λ e. omega arith)
+  kind_early (Some (Pack s workers)) (inr (inl is)) = quiet_of start o 9 is (omega arith) (λ e. omega arith) (λ e. omega arith)
+  kind_early (Some (Pack s workers)) (inr (inr (n, is))) = Kind.line n is
   kind_early (Some Group) (input, is) = kind_group input is
   kind_early (Some (Clean names)) of = absurd of
   kind_early (Some (Make seed bytes)) of = absurd of
@@ -71,7 +71,7 @@ module _ (start : Start) (o : Outcome) where
   kind_early (Some ListFiles) of = absurd of
 
   kind_answer : (c : Command) (contents : Contents) (new : Files) → Answers c start contents new o → Kind start o
-  kind_answer (Pack s) contents new answer = Kind.done answer.status
+  kind_answer (Pack s workers) contents new answer = Kind.done answer.status
   kind_answer (Clean names) contents new (CleanAnswer.absent none is) = quiet_of start o 8 is (omega arith) (λ e. omega arith) (λ e. omega arith)
   kind_answer (Clean names) contents new (CleanAnswer.too_long long is) = quiet_of start o 9 is (omega arith) (λ e. omega arith) (λ e. omega arith)
   kind_answer (Clean names) contents new (CleanAnswer.reported report) = Kind.done report.status

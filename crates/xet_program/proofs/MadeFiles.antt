@@ -12,8 +12,7 @@ use Rattle.xet_base.specs.Pieces.{pieces_after}
 use Rattle.xet_choices.specs.Calls.{Call, registered_chunks}
 use Rattle.xet_choices.specs.Choices.{is_reused, new_chunks}
 use Rattle.xet_choices.specs.declared.choice.Choice.{Choice}
-use Rattle.xet_clean.specs.Cleaning.{AreChosen, IsCleaned, entries_since, metrics_sum}
-use Rattle.xet_clean.specs.declared.policy.Sha256Policy.TheVariants.{Compute}
+use Rattle.xet_clean.specs.Cleaning.{entries_since, metrics_sum}
 use Rattle.xet_clean.specs.Files.{leaves_in}
 use Rattle.xet_cut.specs.Chunking.{chunking}
 use Rattle.xet_cut.specs.Generator.{generated, generated_byte}
@@ -36,6 +35,7 @@ use Rattle.xet_store.specs.declared.info.XetFileInfo.{XetFileInfo}
 use Rattle.xet_store.specs.Cleaning.{Keeps, info_of}
 use Rattle.xet_store.specs.Separate.{Among, MetChunk}
 use Rattle.xet_store.specs.Store.{State, plan_of}
+use Rattle.xet_workers.specs.Cleaning.{AreChosenBy, IsCleanedBy}
 use Rattle.xet_program.specs.declared.ending.Stop.{Stop}
 use Rattle.xet_program.specs.declared.ending.Stop.TheVariants as stop
 use Rattle.xet_program.specs.declared.make.ChunkCounts.{ChunkCounts}
@@ -84,20 +84,20 @@ sums_more s f fs c cs one_each rest =
     )
 
 -- the sums over files whose choices are these
-sums_counted : (s : LimitSettings) (calls : List Call) (files : List (List ℕ)) (choices : List (List Choice)) (records : List MDBFileInfo) → AreChosen Compute s calls files choices records
+sums_counted : (workers : ℕ) (s : LimitSettings) (calls : ℕ → List Call) (files : List (List ℕ)) (choices : List (List Choice)) (records : List MDBFileInfo) → AreChosenBy workers s calls files choices records
     → ((metrics_sum s files choices).total_chunks ≡ chunks_in s files) × ((metrics_sum s files choices).new_chunks ≡ new_in choices) × (new_in choices ≤ chunks_in s files)
-sums_counted s calls [] [] records chosen = (refl, refl, omega arith)
-sums_counted s calls [] (c ∷ cs) records chosen = absurd chosen
-sums_counted s calls (f ∷ fs) [] records chosen = absurd chosen
-sums_counted s calls ([] ∷ fs) (c ∷ cs) records chosen = sums_more s [] fs c cs (ap (λ (xs : List Choice). length xs) chosen.0 ∙ sym (no_chunks s)) (sums_counted s calls fs cs records chosen.1)
-sums_counted s calls ((b ∷ bs) ∷ fs) (c ∷ cs) [] chosen = absurd chosen
-sums_counted s calls ((b ∷ bs) ∷ fs) (c ∷ cs) (r ∷ rs) chosen = sums_more s (b ∷ bs) fs c cs chosen.0.one_each (sums_counted s calls fs cs rs chosen.1)
+sums_counted workers s calls [] [] records chosen = (refl, refl, omega arith)
+sums_counted workers s calls [] (c ∷ cs) records chosen = absurd chosen
+sums_counted workers s calls (f ∷ fs) [] records chosen = absurd chosen
+sums_counted workers s calls ([] ∷ fs) (c ∷ cs) records chosen = sums_more s [] fs c cs (ap (λ (xs : List Choice). length xs) chosen.0 ∙ sym (no_chunks s)) (sums_counted workers s calls fs cs records chosen.1)
+sums_counted workers s calls ((b ∷ bs) ∷ fs) (c ∷ cs) [] chosen = absurd chosen
+sums_counted workers s calls ((b ∷ bs) ∷ fs) (c ∷ cs) (r ∷ rs) chosen = sums_more s (b ∷ bs) fs c cs chosen.0.choices.one_each (sums_counted workers s calls fs cs rs chosen.1)
 
-pub counted_of : {S : Type 0} (tells : S → Bool) (left : S → List ℕ) (sources : List S) (old new : RecordedState) (infos : List XetFileInfo) (choices : List (List Choice)) (metrics : DeduplicationMetrics)
-    → IsCleaned Compute tells left sources old new infos choices metrics → AreCounted tells left old.store.limits sources metrics
-counted_of tells left sources old new infos choices metrics is =
+pub counted_of : {S : Type 0} (workers : ℕ) (tells : S → Bool) (left : S → List ℕ) (sources : List S) (old new : RecordedState) (infos : List XetFileInfo) (choices : List (List Choice)) (metrics : DeduplicationMetrics)
+    → IsCleanedBy workers tells left sources old new infos choices metrics → AreCounted tells left old.store.limits sources metrics
+counted_of workers tells left sources old new infos choices metrics is =
     let l = old.store.limits in
-    let counts = sums_counted l _ is.files choices _ is.chosen in
+    let counts = sums_counted workers l _ is.files choices _ is.chosen in
     let total : metrics.total_chunks ≡ chunks_in l is.files = ap (λ (m : DeduplicationMetrics). m.total_chunks) is.sums ∙ counts.0 in
     record {
       files = is.files;
@@ -150,10 +150,10 @@ added_by c n (Flush pass shard ∷ es) = added_by (flushed c) (suc n) es
 added_by c n (Fault pass kind ∷ es) = added_by c (suc n) es
 
 -- by cleaning
-pub added_of : {S : Type 0} (tells : S → Bool) (left : S → List ℕ) (sources : List S) (old new : RecordedState) (infos : List XetFileInfo) (choices : List (List Choice)) (metrics : DeduplicationMetrics)
-    → IsCleaned Compute tells left sources old new infos choices metrics → (entries : List Entry) → Steps old new entries → AddsXorbs metrics.new_chunks old.store new.store
-added_of tells left sources old new infos choices metrics is entries steps =
-    let counts = sums_counted old.store.limits _ is.files choices _ is.chosen in
+pub added_of : {S : Type 0} (workers : ℕ) (tells : S → Bool) (left : S → List ℕ) (sources : List S) (old new : RecordedState) (infos : List XetFileInfo) (choices : List (List Choice)) (metrics : DeduplicationMetrics)
+    → IsCleanedBy workers tells left sources old new infos choices metrics → (entries : List Entry) → Steps old new entries → AddsXorbs metrics.new_chunks old.store new.store
+added_of workers tells left sources old new infos choices metrics is entries steps =
+    let counts = sums_counted workers old.store.limits _ is.files choices _ is.chosen in
     let since : entries_since old new ≡ entries = since_is old new entries steps.moves.history in
     let added = added_by (core_of old) (length old.history) entries in
     let all : registered_chunks (calls_in (numbered (length old.history) entries)) ≡ new_in choices = ap (λ (es : List Entry). registered_chunks (calls_in (numbered (length old.history) es))) (sym since) ∙ is.registered in

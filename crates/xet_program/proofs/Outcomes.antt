@@ -107,16 +107,16 @@ short_files s input said allowed is =
     subst (λ (x : Said). are_short s x.files ≡ true) is.parts (short_said s input (lines_said (lines input)) (le_trans (short_input input is.fine) allowed) is.good)
 
 -- a session may have changed files at each of its stops
-pub never_idle : (X : Type 0) (l : LimitSettings) (s t : RecordedState) (said : Said) (r : Result (Vec ℕ Global) Stop) → IfErr r (IsStop (session_causes s t said)) → IsIdle (Some (Pack l)) (answer_outcome r).status → X
-never_idle X l s t said (Ok x) stop = λ idle. absurd (busy_status l 0 (inl refl) idle)
-never_idle X l s t said (Err OutOfMemory) stop = λ idle. absurd (busy_status l 1 (inr (inl refl)) idle)
-never_idle X l s t said (Err Disk) stop = λ idle. absurd (busy_status l 6 (inr (inr (inr (inl refl)))) idle)
-never_idle X l s t said (Err TooLarge) stop = λ idle. absurd (busy_status l 9 (inr (inr (inr (inr (inl refl))))) idle)
-never_idle X l s t said (Err Malformed) stop = λ idle. absurd (busy_status l 10 (inr (inr (inr (inr (inr refl))))) idle)
-never_idle X l s t said (Err Input) stop = absurd stop
-never_idle X l s t said (Err NotFound) stop = absurd stop
-never_idle X l s t said (Err (BadLine n)) stop = absurd stop
-never_idle X l s t said (Err (BadShard name)) stop = absurd stop
+pub never_idle : (X : Type 0) (l : LimitSettings) (workers : ℕ) (s t : RecordedState) (said : Said) (r : Result (Vec ℕ Global) Stop) → IfErr r (IsStop (session_causes s t said)) → IsIdle (Some (Pack l workers)) (answer_outcome r).status → X
+never_idle X l workers s t said (Ok x) stop = λ idle. absurd (busy_status l workers 0 (inl refl) idle)
+never_idle X l workers s t said (Err OutOfMemory) stop = λ idle. absurd (busy_status l workers 1 (inr (inl refl)) idle)
+never_idle X l workers s t said (Err Disk) stop = λ idle. absurd (busy_status l workers 6 (inr (inr (inr (inl refl)))) idle)
+never_idle X l workers s t said (Err TooLarge) stop = λ idle. absurd (busy_status l workers 9 (inr (inr (inr (inr (inl refl))))) idle)
+never_idle X l workers s t said (Err Malformed) stop = λ idle. absurd (busy_status l workers 10 (inr (inr (inr (inr (inr refl))))) idle)
+never_idle X l workers s t said (Err Input) stop = absurd stop
+never_idle X l workers s t said (Err NotFound) stop = absurd stop
+never_idle X l workers s t said (Err (BadLine n)) stop = absurd stop
+never_idle X l workers s t said (Err (BadShard name)) stop = absurd stop
 
 -- ---- how `pack` ends if its input is not good
 
@@ -130,8 +130,8 @@ stop_status tells input TooLarge h = (λ e. omega arith, λ e. omega arith)
 stop_status tells input NotFound h = (λ e. omega arith, λ e. omega arith)
 stop_status tells input (BadLine n) h = (λ e. omega arith, λ e. omega arith)
 
-module _ (s : LimitSettings) (start : Start) where
-  end_unread : (stop : Stop) → IsStop (reading_causes start.input_tells start.input) stop → MayEnd (Some (Pack s)) start start.files (answer_outcome (Err stop))
+module _ (s : LimitSettings) (workers : ℕ) (start : Start) where
+  end_unread : (stop : Stop) → IsStop (reading_causes start.input_tells start.input) stop → MayEnd (Some (Pack s workers)) start start.files (answer_outcome (Err stop))
   end_unread OutOfMemory h = MayEnd.stopped (inl refl) refl
   end_unread Input h = MayEnd.stopped (inr (inl (refl, tt))) refl
   end_unread Disk h = absurd h
@@ -141,10 +141,10 @@ module _ (s : LimitSettings) (start : Start) where
   end_unread NotFound h = MayEnd.early (λ observes. h (observes.0 tt)) (inl refl)
   end_unread (BadLine n) h = MayEnd.early (λ observes. h (observes.0 tt)) (inr (inr (n, refl)))
 
-  pub answered_unread : (stop : Stop) → IsStop (reading_causes start.input_tells start.input) stop → Answered (Some (Pack s)) start start.files (answer_outcome (Err stop))
+  pub answered_unread : (stop : Stop) → IsStop (reading_causes start.input_tells start.input) stop → Answered (Some (Pack s workers)) start start.files (answer_outcome (Err stop))
   answered_unread stop h = record {
     ends = end_unread stop h;
-    works = works_idle (Some (Pack s)) start start.files (answer_outcome (Err stop)).status refl (stop_status start.input_tells start.input stop h).0 (stop_status start.input_tells start.input stop h).1;
+    works = works_idle (Some (Pack s workers)) start start.files (answer_outcome (Err stop)).status refl (stop_status start.input_tells start.input stop h).0 (stop_status start.input_tells start.input stop h).1;
   }
 
 -- ---- how it ends if its input is good
@@ -170,26 +170,26 @@ on_ok_both (Ok t) f a b = f a b
 on_ok_both (Err e) f a b = tt
 
 -- what storing its files does to those of the disk, by the result
-pub record StandsAt (s : LimitSettings) (start : Start) (new : Files) (said : Said) (r : Result (Vec ℕ Global) Stop) : Type 0 where
+pub record StandsAt (s : LimitSettings) (workers : ℕ) (start : Start) (new : Files) (said : Said) (r : Result (Vec ℕ Global) Stop) : Type 0 where
   pub stored : start.tells ≡ true → OnOk r (AreStored s said.files start.now start.files new)
   pub listed : start.tells ≡ true → KeepsListed start.now start.files new
   pub keeps : start.tells ≡ true → KeepsFolder start.now start.files new
   pub refused : start.tells ≡ true → (IsAdmittedAt start.now start.files → ⊥) → new ≡ start.files
-  pub kept : start.tells ≡ true → IsIdle (Some (Pack s)) (answer_outcome r).status → new ≡ start.files
+  pub kept : start.tells ≡ true → IsIdle (Some (Pack s workers)) (answer_outcome r).status → new ≡ start.files
   pub foreign : start.tells ≡ true → (name : List ℕ) → IsForeign store_folder name → get new name ≡ get start.files name
 
-module _ (s : LimitSettings) (start : Start) (new : Files) (said : Said) where
+module _ (s : LimitSettings) (workers : ℕ) (start : Start) (new : Files) (said : Said) where
   abbrev Valid : Type 0
   Valid = (contents : Contents) × (start.tells ≡ true → HasContents start.files store_folder start.now contents)
 
   -- collisions among its files are those of what the input says
-  malformed_said : (start.input_tells ≡ true → IsSaid start.input said) → (start.tells ≡ true → AreApart new start.now s said.files → ⊥) → IsMalformed (Some (Pack s)) start new
+  malformed_said : (start.input_tells ≡ true → IsSaid start.input said) → (start.tells ≡ true → AreApart new start.now s said.files → ⊥) → IsMalformed (Some (Pack s workers)) start new
   malformed_said is never = λ observes told apart. never told (subst (λ (x : Said). AreApart new start.now s x.files) (is (observes.0 tt)).parts apart)
 
   end_read : (r : Result (Vec ℕ Global) Stop) → (start.input_tells ≡ true → IsSaid start.input said) → are_short s said.files ≡ true → OnOk r Valid
-      → IfErr r (IsStop (storing_causes start.tells s said start.now start.files new)) → IfOk r (λ text. PackAnswer s start new (answer_outcome (Ok text))) → MayEnd (Some (Pack s)) start new (answer_outcome r)
+      → IfErr r (IsStop (storing_causes start.tells s said start.now start.files new)) → IfOk r (λ text. PackAnswer s start new (answer_outcome (Ok text))) → MayEnd (Some (Pack s workers)) start new (answer_outcome r)
   end_read (Ok t) is short valid stop report =
-      MayEnd.answered (λ observes. (is (observes.0 tt)).fine) record { asked = Pack s; is = refl; contents = valid.0; valid = valid.1; answer = report }
+      MayEnd.answered (λ observes. (is (observes.0 tt)).fine) record { asked = Pack s workers; is = refl; contents = valid.0; valid = valid.1; answer = report }
   end_read (Err OutOfMemory) is short valid stop report = MayEnd.stopped (inl refl) refl
   end_read (Err Disk) is short valid stop report = MayEnd.stopped (inr (inr (inr (refl, tt, λ observes. (is (observes.0 tt)).fine)))) refl
   end_read (Err TooLarge) is short valid (inl long) report = absurd (false≢true (sym long ∙ short))
@@ -200,8 +200,8 @@ module _ (s : LimitSettings) (start : Start) (new : Files) (said : Said) where
   end_read (Err NotFound) is short valid stop report = absurd stop
   end_read (Err (BadLine n)) is short valid stop report = absurd stop
 
-  works_read : (r : Result (Vec ℕ Global) Stop) → (start.input_tells ≡ true → IsSaid start.input said) → IfErr r (IsStop (storing_causes start.tells s said start.now start.files new)) → StandsAt s start new said r
-      → Works (Some (Pack s)) start new (answer_outcome r).status
+  works_read : (r : Result (Vec ℕ Global) Stop) → (start.input_tells ≡ true → IsSaid start.input said) → IfErr r (IsStop (storing_causes start.tells s said start.now start.files new)) → StandsAt s workers start new said r
+      → Works (Some (Pack s workers)) start new (answer_outcome r).status
   works_read r is stop stands = record {
     stored = λ observes told nought.
         subst (λ (x : Said). AreStored s x.files start.now start.files new) (sym (is (observes.0 tt)).parts) (on_nought (AreStored s said.files start.now start.files new) r nought (stands.stored told));
@@ -216,6 +216,6 @@ module _ (s : LimitSettings) (start : Start) (new : Files) (said : Said) where
   }
 
   pub answered_read : (r : Result (Vec ℕ Global) Stop) → (start.input_tells ≡ true → IsSaid start.input said) → are_short s said.files ≡ true → OnOk r Valid
-      → IfErr r (IsStop (storing_causes start.tells s said start.now start.files new)) → IfOk r (λ text. PackAnswer s start new (answer_outcome (Ok text))) → StandsAt s start new said r
-      → Answered (Some (Pack s)) start new (answer_outcome r)
+      → IfErr r (IsStop (storing_causes start.tells s said start.now start.files new)) → IfOk r (λ text. PackAnswer s start new (answer_outcome (Ok text))) → StandsAt s workers start new said r
+      → Answered (Some (Pack s workers)) start new (answer_outcome r)
   answered_read r is short valid stop report stands = record { ends = end_read r is short valid stop report; works = works_read r is stop stands }

@@ -53,12 +53,12 @@ parted_for said = λ i. record {
 
 -- ---- reports
 
-module _ (s : LimitSettings) (start : Start) (new : Files) (said : Said) where
+module _ (s : LimitSettings) (workers : ℕ) (start : Start) (new : Files) (said : Said) where
   abbrev IsReportOfLines : List ℕ → Type 0
   IsReportOfLines text = ForLines said (λ l. IsReport (AreSeparate start.tells new start.now s (files_of l)) s l text)
 
   of_these : (t : Vec ℕ Global) (l : List Line) → parted l ≡ said → (start.input_tells ≡ true → good_lines (lines start.input) ≡ Some l) → are_good said ≡ true → IsReportOfLines t.items
-      → StandsAt s start new said (Ok t) → PackAnswer s start new (answer_outcome (Ok t))
+      → StandsAt s workers start new said (Ok t) → PackAnswer s start new (answer_outcome (Ok t))
   of_these t l parts is good report stands = record {
     said = l;
     good = is;
@@ -70,11 +70,11 @@ module _ (s : LimitSettings) (start : Start) (new : Files) (said : Said) where
 
   -- of what the input says, where that is observable
   of_lines : (t : Vec ℕ Global) (input_tells : Bool) → start.input_tells ≡ input_tells → (start.input_tells ≡ true → IsSaid start.input said) → are_good said ≡ true → IsReportOfLines t.items
-      → StandsAt s start new said (Ok t) → PackAnswer s start new (answer_outcome (Ok t))
+      → StandsAt s workers start new said (Ok t) → PackAnswer s start new (answer_outcome (Ok t))
   of_lines t true told is good report stands = of_these t (lines_said (lines start.input)) (is told).parts (λ _. (is told).good) good report stands
   of_lines t false told is good report stands = of_these t (lines_for said) (parted_for said) (λ here. absurd (cc (sym told ∙ here))) good report stands
 
   pub report_of_lines : (r : Result (Vec ℕ Global) Stop) → (start.input_tells ≡ true → IsSaid start.input said) → are_good said ≡ true → IfOk r (λ text. IsReportOfLines text.items)
-      → StandsAt s start new said r → IfOk r (λ text. PackAnswer s start new (answer_outcome (Ok text)))
+      → StandsAt s workers start new said r → IfOk r (λ text. PackAnswer s start new (answer_outcome (Ok text)))
   report_of_lines (Ok t) is good report stands = of_lines t start.input_tells refl is good report stands
   report_of_lines (Err stop) is good report stands = tt

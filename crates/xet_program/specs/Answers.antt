@@ -100,7 +100,7 @@ pub record ListAnswer (start : Start) (contents : Contents) (o : Outcome) : Type
 -- What a command answers over a valid folder with these contents, if the disk is observable. `group` opens no
 -- folder.
 abbrev pub Answers : Command → Start → Contents → Files → Outcome → Type 0
-Answers (Pack s) start contents new o = PackAnswer s start new o
+Answers (Pack s workers) start contents new o = PackAnswer s start new o
 Answers (Clean names) start contents new o = CleanAnswer names start new o
 Answers (Make seed bytes) start contents new o = MakeAnswer seed bytes start contents new o
 Answers (Read h from to) start contents new o = ReadAnswer h from to start contents o

@@ -46,13 +46,13 @@ group_outcome input = if nat_lt max_input (length input) then outcome 9 [] else 
 -- what is due before the store is opened, if anything
 abbrev pub early_outcome : Option Command → List ℕ → Option Outcome
 early_outcome None input = Some (outcome 2 [])
-early_outcome (Some (Pack s)) input = pack_early input
+early_outcome (Some (Pack s workers)) input = pack_early input
 early_outcome (Some Group) input = Some (group_outcome input)
 early_outcome (Some _) input = None
 
 -- how a run of a command may end before its store is opened, whatever its input
 abbrev pub IsEarly : Option Command → Outcome → Type 0
 IsEarly None o = o ≡ outcome 2 []
-IsEarly (Some (Pack s)) o = (o ≡ outcome 8 []) ⊎ (o ≡ outcome 9 []) ⊎ ((n : ℕ) × (o ≡ outcome 3 (bad_line_text n)))
+IsEarly (Some (Pack s workers)) o = (o ≡ outcome 8 []) ⊎ (o ≡ outcome 9 []) ⊎ ((n : ℕ) × (o ≡ outcome 3 (bad_line_text n)))
 IsEarly (Some Group) o = (input : List ℕ) × (o ≡ group_outcome input)
 IsEarly (Some _) o = ⊥

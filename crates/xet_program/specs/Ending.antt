@@ -91,8 +91,8 @@ IsSilent status = (status ≡ 2) ⊎ (status ≡ 4) ⊎ (status ≡ 6) ⊎ (stat
 -- the folder is not full at the end.
 abbrev pub IsFaultless : Option Command → Start → Files → Type 0
 IsFaultless None start new = ⊥
-IsFaultless (Some (Pack s)) start new =
-    (pack_early start.input ≡ None) × ForContents start (λ contents. Unit {0}) × AreApart new start.now s (files_to_store (Pack s) start) × (IsFull new start.now → ⊥)
+IsFaultless (Some (Pack s workers)) start new =
+    (pack_early start.input ≡ None) × ForContents start (λ contents. Unit {0}) × AreApart new start.now s (files_to_store (Pack s workers) start) × (IsFull new start.now → ⊥)
 IsFaultless (Some (Clean names)) start new =
     (files : List (List ℕ)) × AreNamed start.inputs names files × (are_short default_limits files ≡ true) × ForContents start (λ contents. Unit {0})
     × AreApart new start.now (limits_of (Clean names)) (files_to_store (Clean names) start) × (IsFull new start.now → ⊥)

@@ -43,7 +43,7 @@ pub record IsFull (disk : Files) (now : ℕ) : Type 0 where
 -- When a run of a command may end with 10: the disk is not observable, or, where files are stored, what the command reads is
 -- not, or there are collisions.
 abbrev pub IsMalformed : Option Command → Start → Files → Type 0
-IsMalformed (Some (Pack s)) start new = Observes start (Some (Pack s)) → start.tells ≡ true → AreApart new start.now s (files_to_store (Pack s) start) → ⊥
+IsMalformed (Some (Pack s workers)) start new = Observes start (Some (Pack s workers)) → start.tells ≡ true → AreApart new start.now s (files_to_store (Pack s workers) start) → ⊥
 IsMalformed (Some (Clean names)) start new = Observes start (Some (Clean names)) → start.tells ≡ true → AreApart new start.now (limits_of (Clean names)) (files_to_store (Clean names) start) → ⊥
 IsMalformed (Some (Make seed bytes)) start new = start.tells ≡ true → AreApart new start.now default_limits (made_files seed bytes) → ⊥
 IsMalformed _ start new = start.tells ≡ false

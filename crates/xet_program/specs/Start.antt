@@ -23,7 +23,7 @@ start input_tells input inputs_tell inputs now tells files =
 
 -- The command reads the input.
 abbrev pub ReadsInput : Option Command → Type 0
-ReadsInput (Some (Pack s)) = Unit {0}
+ReadsInput (Some (Pack s workers)) = Unit {0}
 ReadsInput (Some Group) = Unit {0}
 ReadsInput _ = ⊥
 

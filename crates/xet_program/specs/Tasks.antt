@@ -21,18 +21,18 @@ default_limits = shown_settings (gear_table 0)
 
 -- the limits under which a command works
 abbrev pub limits_of : Command → LimitSettings
-limits_of (Pack s) = s
+limits_of (Pack s workers) = s
 limits_of _ = default_limits
 
 -- the files that a command stores and records in the folder, in order: those of the file lines, or those under the names
 abbrev pub files_to_store : Command → Start → List (List ℕ)
-files_to_store (Pack s) start = files_of (lines_said (lines start.input))
+files_to_store (Pack s workers) start = files_of (lines_said (lines start.input))
 files_to_store (Clean names) start = map (λ name. unwrap_or (get start.inputs name) []) names
 files_to_store _ start = []
 
 -- The statuses with which no file of the disk has changed. The commands that only read never change one.
 abbrev pub IsIdle : Option Command → ℕ → Type 0
-IsIdle (Some (Pack s)) status = (status ≡ 2) ⊎ (status ≡ 3) ⊎ (status ≡ 4) ⊎ (status ≡ 7) ⊎ (status ≡ 8)
+IsIdle (Some (Pack s workers)) status = (status ≡ 2) ⊎ (status ≡ 3) ⊎ (status ≡ 4) ⊎ (status ≡ 7) ⊎ (status ≡ 8)
 IsIdle (Some (Clean names)) status = (status ≡ 7) ⊎ (status ≡ 8)
 IsIdle (Some (Make seed bytes)) status = status ≡ 7
 IsIdle _ status = Unit {0}

@@ -16,8 +16,8 @@ use Rattle.xet_cut.specs.Generator.{gear_table}
 
 -- A command with its arguments.
 pub data Command : Type 0 where
-  -- stores the files of the input's lines under these limits, and reports them and their ranges
-  Pack : (s : LimitSettings) → Command
+  -- stores the files of the input's lines under these limits, by so many workers, and reports them and their ranges
+  Pack : (s : LimitSettings) → (workers : ℕ) → Command
   -- stores the files with these names, and reports them
   Clean : (names : List (List ℕ)) → Command
   -- stores a generated file of this length, and then the same file with one byte inserted, and prints how many chunks
@@ -65,14 +65,21 @@ pack_settings target gear = record (shown_settings gear) {
   max_source_bytes = min (2 ^ 29 * (target / 8)) (2 ^ 42);
 }
 
-abbrev pub pack_by : Option ℕ → Option (List ℕ) → Option Command
-pack_by None gear = None
-pack_by (Some target) None = None
-pack_by (Some target) (Some gear) = Some (Pack (pack_settings target gear))
+abbrev pub workers_if : ℕ → Option ℕ
+workers_if n = if is_between 1 256 n then Some n else None
 
--- `pack TARGET GEAR`
+-- a number of workers: from 1 to 256
+abbrev pub workers_of : List ℕ → Option ℕ
+workers_of word = option_and_then workers_if (number_of word)
+
+abbrev pub pack_by : Option ℕ → Option (List ℕ) → Option ℕ → Option Command
+pack_by (Some target) (Some gear) (Some workers) = Some (Pack (pack_settings target gear) workers)
+pack_by _ _ _ = None
+
+-- `pack TARGET GEAR [WORKERS]`, by one worker if no number is given
 abbrev pub pack_of : List (List ℕ) → Option Command
-pack_of (target ∷ gear ∷ []) = pack_by (target_of target) (gear_of gear)
+pack_of (target ∷ gear ∷ []) = pack_by (target_of target) (gear_of gear) (Some 1)
+pack_of (target ∷ gear ∷ workers ∷ []) = pack_by (target_of target) (gear_of gear) (workers_of workers)
 pack_of _ = None
 
 -- the maximum number of names

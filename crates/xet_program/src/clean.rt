@@ -19,13 +19,16 @@ use crate::opening::{FOLDER, not_opened};
 use crate::session::{clean_sources, report_all};
 use crate::words::default_limits;
 use std::alloc::Global;
-use std::marker::Send;
+use std::marker::{Send, Sync};
+use std::sync::Wait;
+use std::thread::Threads;
 use xet_io::{Disk, Inputs, Refusal};
 use xet_steps::Store;
 
 /// Stores the files with these names in the folder `store` of a disk, and returns the disk and the line of each, or
 /// why it stops. Every file that was opened is closed. `now` is the time in seconds since 1970.
-pub fn clean<D: Disk + Send, F: Inputs>(
+pub fn clean<D: Disk + Send, F: Inputs, R: Threads + Wait + Sync>(
+    rt: &R,
     alloc: Global,
     names: &[String],
     disk: D,
@@ -48,7 +51,7 @@ pub fn clean<D: Disk + Send, F: Inputs>(
     match Store::open(alloc, disk, FOLDER, default_limits(), now, false) {
         Ok(session) => {
             session.recall_sound();
-            let (session, answer) = clean_names(alloc, session, names, inputs);
+            let (session, answer) = clean_names(rt, alloc, session, names, inputs);
             session.recall_sound();
             session.recall_invariant();
             let disk = session.into_disk();
@@ -60,7 +63,8 @@ pub fn clean<D: Disk + Send, F: Inputs>(
 
 /// Stores the files with these names in a session, and returns the line of each, or why it stops. Every file that
 /// was opened is closed.
-fn clean_names<D: Disk + Send, F: Inputs>(
+fn clean_names<D: Disk + Send, F: Inputs, R: Threads + Wait + Sync>(
+    rt: &R,
     alloc: Global,
     session: Store<D>,
     names: &[String],
@@ -82,7 +86,7 @@ fn clean_names<D: Disk + Send, F: Inputs>(
     let (mut sources, opened) = open_all(alloc, inputs, names);
     match opened {
         Ok(()) => {
-            let (session, cleaned) = clean_sources(alloc, session, &mut sources);
+            let (session, cleaned) = clean_sources(rt, alloc, session, &mut sources, 1);
             session.recall_sound();
             close_all(inputs, sources);
             let (session, answer) = report_all(alloc, session, cleaned, &[]);

@@ -20,7 +20,9 @@ use crate::opening::{FOLDER, not_opened};
 use crate::session::clean_sources;
 use crate::words::default_limits;
 use std::alloc::Global;
-use std::marker::Send;
+use std::marker::{Send, Sync};
+use std::sync::Wait;
+use std::thread::Threads;
 use xet_cut::generated;
 use xet_io::{Disk, SliceSource};
 use xet_steps::Store;
@@ -37,7 +39,8 @@ pub struct ChunkCounts {
 /// Stores a generated file of this seed and length in the folder `store` of a disk, and then the same file with one byte
 /// inserted. Returns the disk, and how many chunks each has and how many of them were new, or why it stops. The files are
 /// not recorded in the folder. `now` is the time in seconds since 1970.
-pub fn make<D: Disk + Send>(
+pub fn make<D: Disk + Send, R: Threads + Wait + Sync>(
+    rt: &R,
     alloc: Global,
     seed: u64,
     bytes: u64,
@@ -55,13 +58,14 @@ pub fn make<D: Disk + Send>(
     ensures frame { Called D.tells D.faults disk result.0 (IsErrOf result.1 Stop.Disk) }
 {
     match generated(alloc, seed, bytes as usize) {
-        Ok(file) => store_file(alloc, file, disk, now),
+        Ok(file) => store_file(rt, alloc, file, disk, now),
         Err(_) => (disk, Err(Stop::OutOfMemory)),
     }
 }
 
 /// Stores a file, and then the same with one byte inserted. Returns the disk and the text, or why it stops.
-fn store_file<D: Disk + Send>(
+fn store_file<D: Disk + Send, R: Threads + Wait + Sync>(
+    rt: &R,
     alloc: Global,
     bytes: Vec<u8>,
     disk: D,
@@ -79,7 +83,7 @@ fn store_file<D: Disk + Send>(
 {
     match Store::open(alloc, disk, FOLDER, default_limits(), now, false) {
         Ok(session) => {
-            let (session, answer) = store_both(alloc, session, bytes);
+            let (session, answer) = store_both(rt, alloc, session, bytes);
             session.recall_sound();
             session.recall_invariant();
             let disk = session.into_disk();
@@ -90,7 +94,8 @@ fn store_file<D: Disk + Send>(
 }
 
 /// Stores a file in a session, and then the same with one byte inserted. Returns the session and the text, or why it stops.
-fn store_both<D: Disk + Send>(
+fn store_both<D: Disk + Send, R: Threads + Wait + Sync>(
+    rt: &R,
     alloc: Global,
     session: Store<D>,
     bytes: Vec<u8>,
@@ -102,15 +107,16 @@ fn store_both<D: Disk + Send>(
     ensures stop { IfErr result.1 (IsStop (filing_causes session result.0 (both_files bytes.items))) }
     ensures cause { HasCause session.store.faults result.0.store.faults (IsErrOf result.1 Stop.Disk) }
 {
-    let (session, first) = store_one(alloc, session, &bytes);
+    let (session, first) = store_one(rt, alloc, session, &bytes);
     match first {
-        Ok(first) => store_inserted(alloc, session, bytes, first),
+        Ok(first) => store_inserted(rt, alloc, session, bytes, first),
         Err(stop) => (session, Err(stop)),
     }
 }
 
 /// Stores a file with one byte inserted in a session that has the file. Returns the session and the text, or why it stops.
-fn store_inserted<D: Disk + Send>(
+fn store_inserted<D: Disk + Send, R: Threads + Wait + Sync>(
+    rt: &R,
     alloc: Global,
     session: Store<D>,
     bytes: Vec<u8>,
@@ -125,7 +131,7 @@ fn store_inserted<D: Disk + Send>(
 {
     match with_byte_inserted(bytes) {
         Ok(bytes) => {
-            let (session, second) = store_one(alloc, session, &bytes);
+            let (session, second) = store_one(rt, alloc, session, &bytes);
             let answer = answer_of(alloc, first, second, session.xorb_count());
             (session, answer)
         }
@@ -145,7 +151,8 @@ fn with_byte_inserted(bytes: Vec<u8>) -> Result<Vec<u8>, Stop>
 }
 
 /// Stores one file in a session, and returns the number of its chunks, and of those that were new, or why it stops.
-fn store_one<D: Disk + Send>(
+fn store_one<D: Disk + Send, R: Threads + Wait + Sync>(
+    rt: &R,
     alloc: Global,
     session: Store<D>,
     bytes: &[u8],
@@ -159,7 +166,7 @@ fn store_one<D: Disk + Send>(
     ensures cause { HasCause session.store.faults result.0.store.faults (IsErrOf result.1 Stop.Disk) }
 {
     let mut sources = [SliceSource::new(bytes)];
-    let (session, cleaned) = clean_sources(alloc, session, &mut sources);
+    let (session, cleaned) = clean_sources(rt, alloc, session, &mut sources, 1);
     match cleaned {
         Ok(cleaned) => {
             let all = cleaned.metrics.total_chunks;

@@ -23,7 +23,9 @@ use crate::lines::{PackLines, parse};
 use crate::opening::{FOLDER, not_opened};
 use crate::session::report_lines;
 use std::alloc::Global;
-use std::marker::Send;
+use std::marker::{Send, Sync};
+use std::sync::Wait;
+use std::thread::Threads;
 use xet_cut::Limits;
 use xet_io::{Disk, Source, read_all};
 use xet_steps::Store;
@@ -34,23 +36,26 @@ pub const MAX_INPUT: usize = 1 << 31;
 /// The maximum length of one read of the input, in bytes.
 pub const MAX_READ: usize = 1 << 31;
 
-/// Reads an input to its end, stores the files of its lines in the folder `store` of a disk, and returns the
-/// disk and the report of files and ranges, or why it stops. `now` is the time in seconds since 1970.
-pub fn pack<I: Source, D: Disk + Send>(
+/// Reads an input to its end, stores the files of its lines in the folder `store` of a disk, by so many workers, and
+/// returns the disk and the report of files and ranges, or why it stops. `now` is the time in seconds since 1970.
+pub fn pack<I: Source, D: Disk + Send, R: Threads + Wait + Sync>(
+    rt: &R,
     alloc: Global,
     limits: &Limits,
+    workers: u32,
     input: &mut I,
     disk: D,
     now: u64,
 ) -> (D, Result<Vec<u8>, Stop>)
-    requires { max_input ≤ limits.now.max_source_bytes }
-    ensures answered { AnsweredByInput (Pack limits.now) (I.tells input.old) (I.left input.old) now (D.tells disk) (D.files disk) (D.files result.0) (answer_outcome result.1) }
+    requires long { max_input ≤ limits.now.max_source_bytes }
+    requires workers { (1 ≤ workers) × (workers ≤ 256) }
+    ensures answered { AnsweredByInput (Pack limits.now workers) (I.tells input.old) (I.left input.old) now (D.tells disk) (D.files disk) (D.files result.0) (answer_outcome result.1) }
     ensures read { I.tells input.old ≡ true → OnOk result.1 (I.left input.new ≡ []) }
     ensures input { Called I.tells I.faults input.old input.new (IsErrOf result.1 Stop.Input) }
     ensures disk { Called D.tells D.faults disk result.0 (IsErrOf result.1 Stop.Disk) }
 {
     match read_lines(alloc, input) {
-        Ok(lines) => store_lines(alloc, limits, &lines, disk, now),
+        Ok(lines) => store_lines(rt, alloc, limits, workers, &lines, disk, now),
         Err(stop) => (disk, Err(stop)),
     }
 }
@@ -74,9 +79,11 @@ fn read_lines<I: Source>(alloc: Global, input: &mut I) -> Result<PackLines, Stop
 }
 
 /// Stores the files of some lines, and returns the disk and the report of files and ranges, or why it stops.
-fn store_lines<D: Disk + Send>(
+fn store_lines<D: Disk + Send, R: Threads + Wait + Sync>(
+    rt: &R,
     alloc: Global,
     limits: &Limits,
+    workers: u32,
     lines: &PackLines,
     disk: D,
     now: u64,
@@ -84,6 +91,7 @@ fn store_lines<D: Disk + Send>(
     requires few { length lines.now.files ≤ 2 ^ 20 }
     requires good { are_good lines.now ≡ true }
     requires short { are_short limits.now lines.now.files ≡ true }
+    requires workers { (1 ≤ workers) × (workers ≤ 256) }
     ensures valid { OnOk result.1 ((contents : Contents) × (D.tells disk ≡ true → HasContents (D.files disk) store_folder now contents)) }
     ensures report { IfOk result.1 (λ text. ForLines lines.now (λ said. IsReport (AreSeparate (D.tells disk) (D.files result.0) now limits.now (files_of said)) limits.now said text.items)) }
     ensures stop { IfErr result.1 (IsStop (storing_causes (D.tells disk) limits.now lines.now now (D.files disk) (D.files result.0))) }
@@ -91,14 +99,14 @@ fn store_lines<D: Disk + Send>(
     ensures listed { D.tells disk ≡ true → KeepsListed now (D.files disk) (D.files result.0) }
     ensures keeps { D.tells disk ≡ true → KeepsFolder now (D.files disk) (D.files result.0) }
     ensures refused { D.tells disk ≡ true → (IsAdmittedAt now (D.files disk) → ⊥) → D.files result.0 ≡ D.files disk }
-    ensures kept { D.tells disk ≡ true → IsIdle (Some (Pack limits.now)) (answer_outcome result.1).status → D.files result.0 ≡ D.files disk }
+    ensures kept { D.tells disk ≡ true → IsIdle (Some (Pack limits.now workers)) (answer_outcome result.1).status → D.files result.0 ≡ D.files disk }
     ensures foreign { D.tells disk ≡ true → (name : List ℕ) → IsForeign store_folder name → get (D.files result.0) name ≡ get (D.files disk) name }
     ensures frame { Called D.tells D.faults disk result.0 (IsErrOf result.1 Stop.Disk) }
 {
     match Store::open(alloc, disk, FOLDER, *limits, now, false) {
         Ok(session) => {
             session.recall_sound();
-            let (session, answer) = report_lines(alloc, session, lines);
+            let (session, answer) = report_lines(rt, alloc, session, lines, workers);
             session.recall_sound();
             session.recall_invariant();
             let disk = session.into_disk();

@@ -25,8 +25,8 @@ use xet_folder::laws::admitted_later;
 use xet_io::{Disk, Inputs, Sink, Source};
 
 /// Runs the command of the arguments `words`: reads `input` or the files of `inputs`, works on `disk`, prints to
-/// `output`, and returns the disk and the status. `now` is the time in seconds since 1970. Currently `rt` is not
-/// used, and no thread is started.
+/// `output`, and returns the disk and the status. `now` is the time in seconds since 1970. `pack` starts the
+/// threads of its workers by `rt`; no clause depends on how many there are.
 ///
 /// | Status | Meaning |
 /// |---|---|
@@ -75,14 +75,15 @@ where
     ensures unopened { (OpensInputs (command_of (map string_bytes words.now)) → ⊥) → inputs.new ≡ inputs.old }
     ensures closed { F.opened inputs.old < 2 ^ 63 → F.opened inputs.new ≡ F.opened inputs.old }
 {
-    let (disk, ending) = run_command(alloc, words, input, disk, inputs, now);
+    let (disk, ending) = run_command(rt, alloc, words, input, disk, inputs, now);
     admitted_later();
     let status = ending.print(output);
     (disk, status)
 }
 
 /// Runs the command of the arguments up to its text, which is not printed yet.
-fn run_command<I: Source, D: Disk + Send, F: Inputs>(
+fn run_command<I: Source, D: Disk + Send, F: Inputs, R: Threads + Wait + Sync>(
+    rt: &R,
     alloc: Global,
     words: &[String],
     input: &mut I,
@@ -107,14 +108,15 @@ fn run_command<I: Source, D: Disk + Send, F: Inputs>(
         Err(_) => (disk, Ending::of_no_memory(alloc)),
         Ok(None) => (disk, Ending::of_bad_words(alloc)),
         Ok(Some(command)) => {
-            let (disk, answer) = answer(alloc, &command, input, disk, inputs, now);
+            let (disk, answer) = answer(rt, alloc, &command, input, disk, inputs, now);
             (disk, Ending::of_answer(alloc, answer))
         }
     }
 }
 
 /// Runs a command, and returns the disk and the answer, or why it stops.
-fn answer<I: Source, D: Disk + Send, F: Inputs>(
+fn answer<I: Source, D: Disk + Send, F: Inputs, R: Threads + Wait + Sync>(
+    rt: &R,
     alloc: Global,
     command: &Command<'_>,
     input: &mut I,
@@ -133,9 +135,9 @@ fn answer<I: Source, D: Disk + Send, F: Inputs>(
     ensures closed { F.opened inputs.old < 2 ^ 63 → F.opened inputs.new ≡ F.opened inputs.old }
 {
     match command {
-        Command::Pack(limits) => pack(alloc, limits, input, disk, now),
-        Command::Clean(names) => clean(alloc, names, disk, inputs, now),
-        Command::Make(seed, bytes) => make(alloc, *seed, *bytes, disk, now),
+        Command::Pack(limits, workers) => pack(rt, alloc, limits, *workers, input, disk, now),
+        Command::Clean(names) => clean(rt, alloc, names, disk, inputs, now),
+        Command::Make(seed, bytes) => make(rt, alloc, *seed, *bytes, disk, now),
         Command::Read(hash, from, to) => read(alloc, hash, *from, *to, disk, now),
         Command::ListFiles => list(alloc, disk, now),
         Command::Group => (disk, group(alloc, input)),

@@ -20,20 +20,26 @@ use crate::ending::Stop;
 use crate::lines::{FileRange, PackLines};
 use crate::report::{push_bytes_line, report};
 use std::alloc::Global;
-use std::marker::Send;
-use xet_clean::{Cleaned, clean_files};
+use std::marker::{Send, Sync};
+use std::sync::Wait;
+use std::thread::Threads;
+use xet_clean::Cleaned;
 use xet_io::{Disk, SliceSource, Source};
 use xet_steps::Store;
 use xet_store::XetFileInfo;
+use xet_workers::clean_files;
 
 /// Stores the files of some lines in a session, and returns the report of files and ranges, or why it stops.
-pub fn report_lines<D: Disk + Send>(
+pub fn report_lines<D: Disk + Send, R: Threads + Wait + Sync>(
+    rt: &R,
     alloc: Global,
     session: Store<D>,
     lines: &PackLines,
+    workers: u32,
 ) -> (Store<D>, Result<Vec<u8>, Stop>)
     requires few { length lines.now.files ≤ 2 ^ 20 }
     requires good { are_good lines.now ≡ true }
+    requires workers { (1 ≤ workers) × (workers ≤ 256) }
     requires folder { session.store.folder ≡ store_folder }
     requires contents { session.store.tells ≡ true → HasContents session.store.files session.store.folder session.store.opened (contents_of session.store) }
     ensures answer { IsLinesAnswer lines.now session.store result.0.store result.1 }
@@ -42,7 +48,7 @@ pub fn report_lines<D: Disk + Send>(
     ensures cause { HasCause session.store.faults result.0.store.faults (IsErrOf result.1 Stop.Disk) }
 {
     session.limits().recall_invariant();
-    let (session, cleaned) = clean_lines(alloc, session, lines);
+    let (session, cleaned) = clean_lines(rt, alloc, session, lines, workers);
     session.recall_sound();
     let (session, answer) = report_all(alloc, session, cleaned, lines.ranges());
     session.recall_sound();
@@ -51,12 +57,15 @@ pub fn report_lines<D: Disk + Send>(
 }
 
 /// Cleans the files of some lines in a session.
-fn clean_lines<D: Disk + Send>(
+fn clean_lines<D: Disk + Send, R: Threads + Wait + Sync>(
+    rt: &R,
     alloc: Global,
     session: Store<D>,
     lines: &PackLines,
+    workers: u32,
 ) -> (Store<D>, Result<Cleaned, Stop>)
-    requires { length lines.now.files ≤ 2 ^ 20 }
+    requires few { length lines.now.files ≤ 2 ^ 20 }
+    requires workers { (1 ≤ workers) × (workers ≤ 256) }
     ensures cleaned { IfOk result.1 (λ cleaned. AreCleaned (λ s. true) (λ s. s) lines.now.files session result.0 cleaned.infos.items) }
     ensures keeps { Keeps session.store result.0.store }
     ensures stop { IfErr result.1 (IsStop (session_causes session result.0 lines.now)) }
@@ -65,19 +74,22 @@ fn clean_lines<D: Disk + Send>(
     match sources_of(alloc, lines) {
         Ok(sources) => {
             let mut sources = sources;
-            clean_sources(alloc, session, &mut sources)
+            clean_sources(rt, alloc, session, &mut sources, workers)
         }
         Err(stop) => (session, Err(stop)),
     }
 }
 
-/// Cleans the files of some sources in a session.
-pub fn clean_sources<D: Disk + Send, S: Source + Send>(
+/// Cleans the files of some sources in a session, by so many workers.
+pub fn clean_sources<D: Disk + Send, S: Source + Send, R: Threads + Wait + Sync>(
+    rt: &R,
     alloc: Global,
     session: Store<D>,
     sources: &mut [S],
+    workers: u32,
 ) -> (Store<D>, Result<Cleaned, Stop>)
-    requires { length sources.old ≤ 2 ^ 20 }
+    requires few { length sources.old ≤ 2 ^ 20 }
+    requires workers { (1 ≤ workers) × (workers ≤ 256) }
     ensures cleaned { IfOk result.1 (λ cleaned. AreCleaned S.tells S.left sources.old session result.0 cleaned.infos.items) }
     ensures planned { IfOk result.1 (λ cleaned. AllByRecursion (λ info. IsSome (plan_of result.0.store.records info.hash)) cleaned.infos.items) }
     ensures counted { IfOk result.1 (λ cleaned. AreCounted S.tells S.left session.store.limits sources.old cleaned.metrics) }
@@ -87,7 +99,7 @@ pub fn clean_sources<D: Disk + Send, S: Source + Send>(
     ensures sources { map S.tells sources.new ≡ map S.tells sources.old }
     ensures cause { HasCause session.store.faults result.0.store.faults (IsErrOf result.1 Stop.Disk) }
 {
-    let (session, cleaned) = clean_files(alloc, session, sources, 1);
+    let (session, cleaned) = clean_files(rt, alloc, session, sources, workers);
     match cleaned {
         Ok(cleaned) => (session, Ok(cleaned)),
         Err(error) => (session, Err(Stop::from(error))),

@@ -6,9 +6,9 @@ ghost use Rattle.std.specs.List.{list_all, list_any};
 ghost use Rattle.std.specs.Option.{option_map};
 ghost use Rattle.xet_arguments.specs.Arguments.{is_option};
 ghost use Rattle.xet_program.specs.Tasks.{default_limits};
-ghost use Rattle.xet_program.specs.Words.{alone, clean_of, command_by, command_of, gear_of, hash_of_text, is_digits, is_target, make_by, make_of, number_of, pack_by, pack_of, pack_settings, read_by, read_of, target_of};
+ghost use Rattle.xet_program.specs.Words.{alone, clean_of, command_by, command_of, gear_of, hash_of_text, is_digits, is_target, make_by, make_of, number_of, pack_by, pack_of, pack_settings, read_by, read_of, target_of, workers_of};
 ghost use Rattle.xet_program.specs.Words.Command.{Group, ListFiles};
-ghost use Rattle.xet_program.specs.internal.Asked.{AllowsInput, asked};
+ghost use Rattle.xet_program.specs.internal.Asked.{AllowsInput, asked, workers_given};
 
 use std::alloc::{AllocError, Global};
 use xet_arguments::{
@@ -21,8 +21,8 @@ use xet_shard_file::recall_bytes;
 /// A command of the program, with its arguments.
 #[derive(Clone, Copy, Debug)]
 pub enum Command<'a> {
-    /// Stores the files of the input's lines, under these limits, and reports them and their ranges.
-    Pack(Limits),
+    /// Stores the files of the input's lines, under these limits, by so many workers, and reports them and their ranges.
+    Pack(Limits, u32),
     /// Stores the files with these names, and reports them.
     Clean(&'a [String]),
     /// Stores a generated file of this seed and length, and then the same file with one byte inserted, and prints how
@@ -43,7 +43,7 @@ const MAX_NAMES: usize = 1 << 20;
 const MAX_GENERATED: u64 = 67_108_864;
 
 /// The command of these arguments; none if they are invalid. The limits of `pack` allow a source as long as the
-/// longest input. The only error is out of memory.
+/// longest input, and its workers are from 1 to 256. The only error is out of memory.
 pub fn command_of(alloc: Global, words: &[String]) -> Result<Option<Command<'_>>, AllocError>
     ensures command { IfOk result (λ found. option_map asked found ≡ command_of (map string_bytes words.now)) }
     ensures allows { IfOk result (λ found. IfSome found (λ command. AllowsInput (asked command))) }
@@ -78,25 +78,27 @@ fn command_by<'a>(
     }
 }
 
-/// `pack TARGET GEAR`
+/// `pack TARGET GEAR [WORKERS]`
 fn pack_of<'a>(alloc: Global, arguments: &[String]) -> Result<Option<Command<'a>>, AllocError>
     requires { list_any is_option (map string_bytes arguments.now) ≡ false }
     ensures { IfOk result (λ found. option_map asked found ≡ pack_of (map string_bytes arguments.now)) }
 {
     let found = pack_arguments(alloc, arguments)?;
     match found {
-        Some(texts) => Ok(pack_by(texts.target, texts.gear)),
+        Some(texts) => Ok(pack_by(texts.target, texts.gear, texts.workers)),
         None => Ok(None),
     }
 }
 
-/// `pack` with a target chunk size and a Gear table.
-fn pack_by<'a>(target: &str, gear: &str) -> Option<Command<'a>>
-    ensures { option_map asked result ≡ pack_by (target_of target.now) (gear_of gear.now) }
+/// `pack` with a target chunk size, a Gear table and a number of workers, if one is given.
+fn pack_by<'a>(target: &str, gear: &str, workers: Option<&str>) -> Option<Command<'a>>
+    ensures { option_map asked result ≡ pack_by (target_of target.now) (gear_of gear.now)
+        (workers_given (option_map (λ word. word.now) workers.entry)) }
 {
     let target = target_of(target)?;
     let gear = gear_of(gear)?;
-    Some(Command::Pack(pack_limits(target, gear)))
+    let workers = workers_given(workers)?;
+    Some(Command::Pack(pack_limits(target, gear), workers))
 }
 
 /// `clean NAME..`
@@ -244,6 +246,28 @@ fn target_of(word: &str) -> Option<u32>
 {
     let number = number_of(word)?;
     if number.is_power_of_two() && 128 <= number && number <= 2_097_152 {
+        Some(number as u32)
+    } else {
+        None
+    }
+}
+
+/// The number of workers that is given, or 1.
+fn workers_given(word: Option<&str>) -> Option<u32>
+    ensures { result ≡ workers_given (option_map (λ word. word.now) word.entry) }
+{
+    match word {
+        Some(word) => workers_of(word),
+        None => Some(1),
+    }
+}
+
+/// A number of workers: from 1 to 256.
+fn workers_of(word: &str) -> Option<u32>
+    ensures { result ≡ workers_of word.now }
+{
+    let number = number_of(word)?;
+    if 1 <= number && number <= 256 {
         Some(number as u32)
     } else {
         None

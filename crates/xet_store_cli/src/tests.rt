@@ -14,6 +14,7 @@ mod faults;
 mod folder;
 mod generated;
 mod stored;
+mod workers;
 
 const ABC: &str =
     "8679a9c73b087ee02033e84569cba8c79c2413d79f99a1e9bd1ae79ae88776cf 3 ba7816bf8f01cfea414140de5dae2223b00361a396177a9cb410ff61f20015ad\n";
@@ -191,7 +192,13 @@ fn words_of_a_command(rt: HostRuntime) -> Result<(), Fail> {
         ("", 2),
         ("pack", 2),
         ("pack 512", 2),
-        ("pack 512 zero 1", 2),
+        ("pack 512 zero 1", 0),
+        ("pack 512 zero 256", 0),
+        ("pack 512 zero 00000000000000000007", 0),
+        ("pack 512 zero 0", 2),
+        ("pack 512 zero 257", 2),
+        ("pack 512 zero one", 2),
+        ("pack 512 zero 1 1", 2),
         ("pick 512 zero", 2),
         ("pack 100 zero", 2),
         ("pack 64 zero", 2),

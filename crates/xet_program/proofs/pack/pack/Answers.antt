@@ -5,11 +5,11 @@ use Rattle.xet_program.proofs.pack.pack.Goals as goal
 
 pub store_lines-requires-clause-short : goal.store_lines-requires-clause-short
 store_lines-requires-clause-short g c = λ κs met.
-    let said = c.in-Ok.ensures.bytes in short_files c.args.limits.now said.0 c.in-Ok.lines c.requires said.1
+    let said = c.in-Ok.ensures.bytes in short_files c.args.limits.now said.0 c.in-Ok.lines c.requires.long said.1
 
 pub returns-in-Err-clause-answered : goal.returns-in-Err-clause-answered
 returns-in-Err-clause-answered g c = λ inputs_tell inputs.
-    answered_unread c.args.limits.now (start (g.I.Source.tells c.args.input.now) (g.I.Source.left c.args.input.now) inputs_tell inputs c.args.now (g.D.Disk.tells c.args.disk) (g.D.Disk.files c.args.disk))
+    answered_unread c.args.limits.now c.args.workers (start (g.I.Source.tells c.args.input.now) (g.I.Source.left c.args.input.now) inputs_tell inputs c.args.now (g.D.Disk.tells c.args.disk) (g.D.Disk.files c.args.disk))
     c.in-Err.stop c.in-Err.ensures.stop
 
 pub returns-in-Ok-clause-answered : goal.returns-in-Ok-clause-answered
@@ -19,7 +19,7 @@ returns-in-Ok-clause-answered g c = λ inputs_tell inputs.
     let new = g.D.Disk.files c.store_lines.result.0 in
     let r = c.store_lines.result.1 in
     let said = c.in-Ok.ensures.bytes in
-    let stands : StandsAt s from new c.in-Ok.lines r = record {
+    let stands : StandsAt s c.args.workers from new c.in-Ok.lines r = record {
       stored = c.store_lines.ensures.stored;
       listed = c.store_lines.ensures.listed;
       keeps = c.store_lines.ensures.keeps;
@@ -27,5 +27,5 @@ returns-in-Ok-clause-answered g c = λ inputs_tell inputs.
       kept = c.store_lines.ensures.kept;
       foreign = c.store_lines.ensures.foreign;
     } in
-    let report = report_of_lines s from new c.in-Ok.lines r c.in-Ok.ensures.said c.in-Ok.ensures.good c.store_lines.ensures.report stands in
-    answered_read s from new c.in-Ok.lines r c.in-Ok.ensures.said (short_files s said.0 c.in-Ok.lines c.requires said.1) c.store_lines.ensures.valid c.store_lines.ensures.stop report stands
+    let report = report_of_lines s c.args.workers from new c.in-Ok.lines r c.in-Ok.ensures.said c.in-Ok.ensures.good c.store_lines.ensures.report stands in
+    answered_read s c.args.workers from new c.in-Ok.lines r c.in-Ok.ensures.said (short_files s said.0 c.in-Ok.lines c.requires.long said.1) c.store_lines.ensures.valid c.store_lines.ensures.stop report stands

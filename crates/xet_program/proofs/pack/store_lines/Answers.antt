@@ -28,7 +28,7 @@ returns-in-Ok-clause-stored g c = λ told.
 
 pub returns-in-Ok-clause-kept : goal.returns-in-Ok-clause-kept
 returns-in-Ok-clause-kept g c = λ told.
-    never_idle _ c.args.limits.now c.in-Ok.session c.report_lines-session.result.0 c.args.lines.now c.report_lines-session.result.1 c.report_lines-session.ensures.stop
+    never_idle _ c.args.limits.now c.args.workers c.in-Ok.session c.report_lines-session.result.0 c.args.lines.now c.report_lines-session.result.1 c.report_lines-session.ensures.stop
 
 pub returns-in-Ok-clause-stop : goal.returns-in-Ok-clause-stop
 returns-in-Ok-clause-stop g c =

@@ -1,13 +1,15 @@
 use Rattle.std.proofs.Common.{◌∙◌, IsSome, List, subst, sym}
 use Rattle.std.proofs.lemmas.Result.{IfErr-at_err, IfOk-at_ok}
 use Rattle.std.specs.List.{AllByRecursion}
-use Rattle.xet_clean.specs.Cleaning.{AreChosen, IsCleaned, RecordsFile, calls_since, files_in}
+use Rattle.std.specs.List.Sorted.{IsPermutation}
+use Rattle.xet_clean.specs.Cleaning.{RecordsFile, files_in}
 use Rattle.xet_clean.specs.declared.policy.Sha256Policy.TheVariants.{Compute}
 use Rattle.xet_clean.specs.declared.info.Cleaned.{Cleaned}
 use Rattle.xet_history.specs.declared.entry.Entry.{Entry}
 use Rattle.xet_store.specs.Cleaning.{HasFile, chunkings}
 use Rattle.xet_store.specs.Separate.{Separate}
 use Rattle.xet_store.specs.Store.{plan_of}
+use Rattle.xet_workers.specs.Cleaning.{IsCleanedBy}
 use Rattle.xet_program.specs.internal.Stops.{IsStop, cleaning_causes}
 use Rattle.xet_program.proofs.Cleaned.{Reason, chosen_all, chunked_files, rose_of_reason, since_is, stop_of_reason}
 use Rattle.xet_program.proofs.MadeFiles.{added_of, counted_of}
@@ -21,7 +23,7 @@ returns-in-Ok-clause-cleaned g c =
     let l = first.store.limits in
     let s = c.clean_files-session.result.0 in
     let sources = c.args.sources.now in
-    let is = IfOk-at_ok (λ (x : Cleaned). IsCleaned Compute tells left sources first s x.infos.items x.choices.items x.metrics) c.in-Ok.is c.clean_files-session.ensures.cleaned in
+    let is = IfOk-at_ok (λ (x : Cleaned). IsCleanedBy c.args.workers tells left sources first s x.infos.items x.choices.items x.metrics) c.in-Ok.is c.clean_files-session.ensures.cleaned in
     let grows = c.clean_files-session.ensures.steps in
     let since = since_is first s grows.entries grows.steps.moves.history in
     record {
@@ -30,7 +32,7 @@ returns-in-Ok-clause-cleaned g c =
       told = is.pointers;
       entries = grows.entries;
       steps = grows.steps;
-      recorded = chosen_all l grows.entries _ is.files _ (subst (λ (es : List Entry). AreChosen Compute l (calls_since first s) is.files c.in-Ok.cleaned.choices.items (files_in es)) since is.chosen);
+      recorded = chosen_all c.args.workers l grows.entries _ is.files _ is.records (subst (λ (es : List Entry). IsPermutation is.records (files_in es)) since is.made) is.chosen;
       only = subst (λ (es : List Entry). AllByRecursion (RecordsFile Compute l is.files) es) since is.only;
       has = λ told tell apart.
           let e = chunked_files tells left l sources is.files is.told tell in
@@ -50,7 +52,7 @@ returns-in-Ok-clause-counted g c =
     let first = c.args.session in
     let s = c.clean_files-session.result.0 in
     let sources = c.args.sources.now in
-    counted_of tells left sources first s _ _ _ (IfOk-at_ok (λ (x : Cleaned). IsCleaned Compute tells left sources first s x.infos.items x.choices.items x.metrics) c.in-Ok.is c.clean_files-session.ensures.cleaned)
+    counted_of c.args.workers tells left sources first s _ _ _ (IfOk-at_ok (λ (x : Cleaned). IsCleanedBy c.args.workers tells left sources first s x.infos.items x.choices.items x.metrics) c.in-Ok.is c.clean_files-session.ensures.cleaned)
 
 pub returns-in-Ok-clause-added : goal.returns-in-Ok-clause-added
 returns-in-Ok-clause-added g c =
@@ -60,7 +62,7 @@ returns-in-Ok-clause-added g c =
     let s = c.clean_files-session.result.0 in
     let sources = c.args.sources.now in
     let grows = c.clean_files-session.ensures.steps in
-    added_of tells left sources first s _ _ _ (IfOk-at_ok (λ (x : Cleaned). IsCleaned Compute tells left sources first s x.infos.items x.choices.items x.metrics) c.in-Ok.is c.clean_files-session.ensures.cleaned) grows.entries grows.steps
+    added_of c.args.workers tells left sources first s _ _ _ (IfOk-at_ok (λ (x : Cleaned). IsCleanedBy c.args.workers tells left sources first s x.infos.items x.choices.items x.metrics) c.in-Ok.is c.clean_files-session.ensures.cleaned) grows.entries grows.steps
 
 pub returns-in-Err : goal.returns-in-Err
 returns-in-Err g c =

@@ -5,7 +5,7 @@ use Rattle.xet_program.proofs.words.pack_of.Goals as goal
 pub returns-in-Some : goal.returns-in-Some
 returns-in-Some c =
     let given = rw c.in-Some.is at c.in_ok-found.ensures in
-    c.pack_by.ensures ∙ pack_some c.in-Some.texts.target.now c.in-Some.texts.gear.now (map string_bytes c.args.arguments.now) given
+    c.pack_by.ensures ∙ pack_some _ _ _ (map string_bytes c.args.arguments.now) given
 
 pub returns-in-None : goal.returns-in-None
 returns-in-None c =
