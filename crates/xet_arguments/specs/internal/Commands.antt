@@ -26,7 +26,8 @@ needed id = record (new_rule id) { required = true }
 -- `pack TARGET GEAR [WORKERS]`
 abbrev pub pack_app : App
 pack_app =
-    with_rule (with_rule (with_rule (bare (codes "pack")) (needed (codes "target"))) (needed (codes "gear"))) (new_rule (codes "workers"))
+    with_rule (with_rule (with_rule (bare (codes "pack")) (needed (codes "target"))) (needed (codes "gear")))
+    (new_rule (codes "workers"))
 
 -- `make SEED BYTES`
 abbrev pub make_app : App
