@@ -7,7 +7,6 @@ ghost use Rattle.xet_aggregate.specs.Metrics.{zeros};
 use std::alloc::Global;
 use std::test::Fail;
 use std::thread::Threads;
-use xet_beside::Beside;
 use xet_clean::{Sha256Policy, Working, clean_each};
 use xet_cut::{LimitSettings, Limits};
 use xet_hash::StoreError;
@@ -16,6 +15,7 @@ use xet_shard_format::Sha256;
 use xet_stepping::{Alone, Asking};
 use xet_steps::Store;
 use xet_store::XetFileInfo;
+use xet_workers::Beside;
 
 /// The SHA-256 of 100,000 bytes, each of which is 7.
 const DIGEST: &str = "2c4b101169bf328cd4a882e640a8b57eb3acf76518b3d105869905cf629e791c";

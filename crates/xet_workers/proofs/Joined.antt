@@ -1,5 +1,5 @@
 -- What the parts that workers made have in common, and what holds of all of them.
-use Rattle.std.proofs.Common.{◌≡◌, ◌≢◌, ◌∙◌, ℕ, suc, ◌+◌, ◌*◌, ◌≤◌, List, [], ◌∷◌, ◌++◌, Contains, drop, length, map, refl, sym, ap, subst, length-append, arith}
+use Rattle.std.proofs.Common.{◌≡◌, ◌∙◌, ℕ, suc, ◌+◌, ◌*◌, ◌≤◌, false, List, [], ◌∷◌, ◌++◌, Contains, drop, length, map, refl, sym, ap, subst, length-append, arith}
 use Rattle.std.specs.List.{AllByRecursion, flat_map, sum_by}
 use Rattle.std.specs.List.Sorted.{IsStrictlyIncreasing}
 use Rattle.std.proofs.lemmas.Grind.{flat_map-append}
@@ -7,7 +7,7 @@ use Rattle.std.proofs.lemmas.List.{map-append}
 use Rattle.std.proofs.lemmas.List.Sums.{sum_by-append, sum_by-cons}
 use Rattle.std.proofs.lemmas.Simd.{map-map}
 use mathlib.Core.List.{IsPrefix}
-use Rattle.xet_base.specs.theorems.Elements.{all_both, all_more}
+use Rattle.xet_base.specs.theorems.Elements.{all_both}
 use Rattle.xet_choices.specs.Calls.{Call, registered_chunks}
 use Rattle.xet_choices.specs.Choices.{new_chunks, no_place_entries}
 use Rattle.xet_choices.specs.declared.choice.Choice.{Choice}
@@ -34,6 +34,7 @@ use Rattle.xet_workers.specs.Workers.{Worked}
 use Rattle.xet_workers.specs.internal.Parts.{ArePartsBy, IsPartBy}
 use Rattle.xet_workers.proofs.Chosen.{chosen_both, chosen_part, names_within}
 use Rattle.xet_workers.proofs.Landing.{IsKept}
+use Rattle.xet_workers.proofs.Numbered.{HavePassed, passed_differ, passed_from, passed_number}
 use Rattle.xet_workers.proofs.Ordered.{all_records}
 use Rattle.xet_workers.proofs.Parting.{IsFrom, numbers_of}
 use Rattle.xet_xorb_chunk.specs.Chunks.{chunk_leaf}
@@ -53,9 +54,6 @@ named w = no_place_entries (flat_map (λ (cs : List Choice). cs) w.choices)
 -- ---- one part
 
 module _ (old : RecordedState) (number : ℕ) (w : Worked) (p : Part) (is : IsPartBy old number w p) where
-  part_number : w.pass.number ≡ number
-  part_number = ap (λ (h : Holder). h.number) is.passed.passing.follows.is ∙ is.passed.number
-
   start_fresh : p.start.own ≡ []
   start_fresh = ap (λ (h : Holder). h.own) is.start ∙ ap (λ (l : List (ℕ × Entry)). drop (length l) l) is.passed.none
 
@@ -74,9 +72,6 @@ module _ (old : RecordedState) (number : ℕ) (w : Worked) (p : Part) (is : IsPa
 
   end_limits : p.end.limits ≡ old.store.limits
   end_limits = ap (λ (h : Holder). h.limits) is.end ∙ ap (λ (h : Holder). h.limits) is.passed.of.is
-
-  part_from : (history : List Entry) → IsSeen w.pass → IsPrefix (seen w.pass) history → IsFrom history (length old.history) w.pass
-  part_from history known prefix = record { sees = known; prefix = prefix; begins = ap (λ (h : Holder). length h.before) is.passed.end.is }
 
   part_kept : (calls : List Call) → AreHeld (map chunk_leaf p.left.chunks) calls → IsKept calls w.pass.own
   part_kept calls held = (map chunk_leaf p.left.chunks, subst (λ (l : List (ℕ × Entry)). Lands (map chunk_leaf p.left.chunks) (calls_in l)) own_is is.working.lands, held)
@@ -123,27 +118,17 @@ module _ (old : RecordedState) (number : ℕ) (w : Worked) (p : Part) (is : IsPa
 -- ---- all parts
 
 module _ (old : RecordedState) where
-  numbers_from : (n : ℕ) (ws : List Worked) (ps : List Part) → ArePartsBy old n ws ps → AllByRecursion (λ h. n ≤ h.number) (passes_of ws)
-  numbers_from n [] [] are = tt
-  numbers_from n (w ∷ ws) (p ∷ ps) are = (
-    omega (arith, part_number old n w p are.0),
-    all_more (λ (h : Holder). suc n ≤ h.number) (λ h. n ≤ h.number) (passes_of ws) (λ h le. omega (arith, le)) (numbers_from (suc n) ws ps are.1),
-  )
-  numbers_from n ws ps are = absurd are
+  parts_passed : (n : ℕ) (ws : List Worked) (ps : List Part) → ArePartsBy old n ws ps → HavePassed old n (passes_of ws)
+  parts_passed n [] [] are = tt
+  parts_passed n (w ∷ ws) (p ∷ ps) are = ((are.0.begun, false, are.0.passed), parts_passed (suc n) ws ps are.1)
+  parts_passed n ws ps are = absurd are
 
   pub passes_differ : (n : ℕ) (ws : List Worked) (ps : List Part) → ArePartsBy old n ws ps → NumbersDiffer (passes_of ws)
-  passes_differ n [] [] are = tt
-  passes_differ n (w ∷ ws) (p ∷ ps) are = (
-    all_more (λ (h : Holder). suc n ≤ h.number) (λ h. h.number ≢ w.pass.number) (passes_of ws) (λ h le same. absurd (omega (arith, le, same, part_number old n w p are.0))) (numbers_from (suc n) ws ps are.1),
-    passes_differ (suc n) ws ps are.1,
-  )
-  passes_differ n ws ps are = absurd are
+  passes_differ n ws ps are = passed_differ old n (passes_of ws) (parts_passed n ws ps are)
 
   pub all_from : (history : List Entry) (n : ℕ) (ws : List Worked) (ps : List Part) → ArePartsBy old n ws ps → AllByRecursion IsSeen (passes_of ws) → AllByRecursion (λ h. IsPrefix (seen h) history) (passes_of ws)
       → AllByRecursion (IsFrom history (length old.history)) (passes_of ws)
-  all_from history n [] [] are known prefix = tt
-  all_from history n (w ∷ ws) (p ∷ ps) are known prefix = (part_from old n w p are.0 history known.0 prefix.0, all_from history (suc n) ws ps are.1 known.1 prefix.1)
-  all_from history n ws ps are known prefix = absurd are
+  all_from history n ws ps are = passed_from old history n (passes_of ws) (parts_passed n ws ps are)
 
   pub all_kept : (calls : List Call) (n : ℕ) (ws : List Worked) (ps : List Part) → ArePartsBy old n ws ps → AllByRecursion (λ p. AreHeld (map chunk_leaf p.left.chunks) calls) ps
       → AllByRecursion (λ h. IsKept calls h.own) (passes_of ws)
@@ -231,7 +216,7 @@ module _ (old : RecordedState) where
         → (records : List MDBFileInfo) (recorded : EachRecorded ps records) → AreChosenBy workers old.store.limits calls (map (λ f. f.bytes) (files_of ps)) (flat_map (λ p. p.choices) ps) (all_records ps records recorded)
     all_chosen n [] [] are from few own records recorded = refl
     all_chosen n (w ∷ ws) (p ∷ ps) are from few own records recorded =
-        let mine : calls n ≡ calls_in w.pass.own = each n from ∙ ap (λ (k : ℕ). calls_in (made_by k xs)) (sym (part_number old n w p are.0)) ∙ ap calls_in (sym own.0) in
+        let mine : calls n ≡ calls_in w.pass.own = each n from ∙ ap (λ (k : ℕ). calls_in (made_by k xs)) (sym (passed_number old n are.0.begun w.pass false are.0.passed)) ∙ ap calls_in (sym own.0) in
         let first : List MDBFileInfo = recorded_in (own_of p) ++ recorded.0 in
         let rest : List MDBFileInfo = all_records ps recorded.1 recorded.4 in
         subst (λ (l : List (List ℕ)). AreChosenBy workers old.store.limits calls l (p.choices ++ flat_map (λ (q : Part). q.choices) ps) (first ++ rest)) (sym (map-append (λ (f : Planned). f.bytes) p.files (files_of ps)))

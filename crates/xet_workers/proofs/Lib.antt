@@ -1,4 +1,5 @@
 mod Begun
+mod Leaving
 mod Parts
 mod Teams
 mod Failures
@@ -8,6 +9,8 @@ mod Parting
 mod Landing
 mod Naming
 mod Sums
+mod Numbered
+mod Bounds
 mod Passed
 mod Chosen
 mod Ordered
@@ -16,6 +19,8 @@ mod Ended
 mod Promised
 mod Reasons
 mod Refusing
+mod Failing
 mod Refused
+mod Seats
 mod Closing
 mod Outcomes

@@ -19,7 +19,7 @@ use Rattle.xet_passing.specs.Passing.{IsPassing, passing_of}
 use Rattle.xet_stepping.specs.Alone.{alone_of}
 use Rattle.xet_stepping.specs.Holders.{Holder, core_at, seen}
 use Rattle.xet_steps.specs.Recorded.{RecordedState, core_of}
-use Rattle.xet_workers.specs.Workers.{HasPassed, HasWorked, HaveWorked, Worked, worked}
+use Rattle.xet_workers.specs.Workers.{HasPassed, HasWorked, Worked, worked}
 use Rattle.xet_workers.specs.internal.Parts.{ArePartsBy, IsPartBy, all_worked}
 
 -- ---- sources that were read
@@ -43,6 +43,13 @@ module _ {S : Type 0} (tells : S → Bool) (left : S → List ℕ) (faults : S �
   done_count (s ∷ ss) (t ∷ ts) (f ∷ fs) are = ap suc (done_count ss ts fs are.1)
 
 -- ---- the parts
+
+-- Workers whose passes have consecutive numbers from this one on cleaned consecutive parts of the sources.
+abbrev pub HaveWorked : {S : Type 0} → (S → Bool) → (S → List ℕ) → (S → ℕ) → RecordedState → ℕ → List S → List S → List Worked → Type 0
+HaveWorked tells left faults store number sources now [] = (sources ≡ []) × (now ≡ [])
+HaveWorked {S} tells left faults store number sources now (w ∷ ws) =
+    (part rest part_now rest_now : List S) × (sources ≡ part ++ rest) × (now ≡ part_now ++ rest_now) × HasWorked tells left faults store number part part_now w
+    × HaveWorked tells left faults store (suc number) rest rest_now ws
 
 module _ {S : Type 0} (tells : S → Bool) (left : S → List ℕ) (faults : S → ℕ) (store : RecordedState) where
   abbrev most : ℕ

@@ -1,42 +1,44 @@
 -- What is promised of each way in which a session of workers ends.
-use Rattle.std.proofs.Common.{◌≡◌, ◌∙◌, inl, ℕ, ◌+◌, ◌^◌, ◌≤◌, Bool, List, [], ◌∷◌, length, map, append-nil, refl, sym, ap, subst, arith}
-use Rattle.std.specs.Prelude.{Err, IfErr, IfOk, Ok, Result}
+use Rattle.std.proofs.Common.{◌≡◌, ◌∙◌, inl, inr, ℕ, zero, suc, ◌+◌, ◌^◌, ◌<◌, ◌≤◌, Bool, true, List, [], ◌∷◌, ◌++◌, length, map, append-nil, length-append, nat_le, refl, sym, ap, subst, arith, Option, Some}
+use Rattle.std.specs.Prelude.{Err, IfErr, IfOk, Ok, Result, nat_lt}
 use Rattle.std.specs.List.{sum_by}
+use Rattle.std.proofs.lemmas.Bool.Decides.{nat_tests}
 use Rattle.std.proofs.lemmas.List.{length-map}
-use Rattle.std.proofs.lemmas.List.Sums.{sum_by-cons}
+use Rattle.std.proofs.lemmas.Result.{IfErr-weaker, IfOk-weaker}
 use Rattle.std.proofs.lemmas.Simd.{map-map}
 use Rattle.xet_aggregate.specs.declared.metrics.DeduplicationMetrics.{DeduplicationMetrics}
 use Rattle.xet_choices.specs.Calls.{Call}
 use Rattle.xet_choices.specs.declared.choice.Choice.{Choice}
-use Rattle.xet_clean.specs.Merging.{Part, files_of}
+use Rattle.xet_clean.specs.Merging.{Part}
 use Rattle.xet_clean.specs.declared.info.Cleaned.{Cleaned}
 use Rattle.xet_clean.specs.declared.working.Working.{Working}
 use Rattle.xet_cut.specs.declared.limits.LimitSettings.{LimitSettings}
 use Rattle.xet_hash.specs.declared.error.StoreError.{StoreError}
 use Rattle.xet_hash.specs.declared.error.StoreError.TheVariants.{OutOfMemory}
+use Rattle.xet_history.specs.declared.entry.Entry.{Entry}
+use Rattle.xet_locked_session.specs.Passes.{NumbersDiffer, new_passes, own_numbers}
 use Rattle.xet_locked_session.specs.Session.{IsSince}
 use Rattle.xet_locked_session.specs.Shared.{StepsBy}
 use Rattle.xet_shard_format.specs.declared.record.MDBFileInfo.{MDBFileInfo}
+use Rattle.xet_shared_history.specs.Owned.{HasEachOnce, count_of, one_within}
 use Rattle.xet_stepping.specs.Holders.{Holder}
 use Rattle.xet_steps.specs.Recorded.{IsRecorded, RecordedState}
 use Rattle.xet_steps.specs.theorems.Joining.{steps_nothing}
 use Rattle.xet_store.specs.Cleaning.{AreTaken, Later}
+use Rattle.xet_store.specs.Separate.{Among}
 use Rattle.xet_store.specs.Store.{Sound}
 use Rattle.xet_store.specs.declared.info.XetFileInfo.{XetFileInfo}
-use Rattle.xet_workers.specs.Cleaning.{AreChosenBy, IsCleanedBy, calls_by}
-use Rattle.xet_workers.specs.Workers.{HaveWorked, Worked, worked}
-use Rattle.xet_workers.specs.internal.Ending.{HasMerged, IsLeft, IsUnended, Promises}
-use Rattle.xet_workers.specs.internal.Parts.{ArePartsBy}
-use Rattle.xet_workers.proofs.Made.{HasParts, done_count, infos_count, parts_of}
+use Rattle.xet_workers.specs.Cleaning.{AreChosenBy, IsBoundedBy, IsCleanedBy, calls_by}
+use Rattle.xet_workers.specs.Workers.{HaveEnded, SeatState, Worked}
+use Rattle.xet_workers.specs.internal.Ending.{HasMerged, IsLeft, IsLeftWith, IsUnended, Promises}
+use Rattle.xet_workers.specs.internal.Parts.{ArePartsBy, all_worked}
+use Rattle.xet_workers.proofs.Bounds.{bounded_closed, bounded_merged, bounded_untouched}
+use Rattle.xet_workers.proofs.Failing.{ended_failed}
+use Rattle.xet_workers.proofs.Made.{HasParts}
 use Rattle.xet_workers.proofs.Parts.{later_same, taken_same}
 use Rattle.xet_workers.proofs.Promised.{ended_promises}
-use Rattle.xet_workers.proofs.Refused.{left_promises, unended_promises}
-
--- ---- lists
-
-sum_by_map : {X Y : Type 0} (f : Y → ℕ) (g : X → Y) (xs : List X) → sum_by f (map g xs) ≡ sum_by (λ x. f (g x)) xs
-sum_by_map f g [] = refl
-sum_by_map f g (x ∷ xs) = sum_by-cons f (g x) (map g xs) ∙ ap (λ (n : ℕ). f (g x) + n) (sum_by_map f g xs) ∙ sym (sum_by-cons (λ y. f (g y)) x xs)
+use Rattle.xet_workers.proofs.Refused.{failed_promises, left_promises, unended_promises}
+use Rattle.xet_workers.proofs.Seats.{same_count, seats_count, seats_differ, seats_few, seats_parts, worked_passes}
 
 -- ---- no step was made
 
@@ -46,11 +48,41 @@ since_nothing s = record { since = []; steps = steps_nothing s; failures = omega
 left_unchanged : (s : RecordedState) → IsLeft s s
 left_unchanged s = record { since = since_nothing s; made = inl (record { since = []; history = sym (append-nil s.history); steps = StepsBy.begins }) }
 
-module _ {S : Type 0} (workers : ℕ) (tells : S → Bool) (left : S → List ℕ) (faults : S → ℕ) (ss : List S) where
+-- the numbers of a new session's passes
+none_own : (start : RecordedState) (number n : ℕ) → own_numbers (new_passes start number n) ≡ []
+none_own start number zero = refl
+none_own start number (suc n) = none_own start (suc number) n
+
+one_there : (from to : ℕ) → from < to → 0 ≡ one_within from to from → ⊥
+one_there from to less none = grind (arith, nat_tests)
+
+-- no entry was added
+same_history : (old new : RecordedState) (n : ℕ) (passes : List Holder) → passes ≡ new_passes old 1 n → IsSince old new → HasEachOnce (length old.history) (length new.history) (own_numbers passes) → new.history ≡ old.history
+same_history old new n passes are since once = go since.since refl
+  where
+    none : 0 ≡ one_within (length old.history) (length new.history) (length old.history)
+    none = subst (λ (ns : List ℕ). count_of (length old.history) ns ≡ one_within (length old.history) (length new.history) (length old.history)) (ap own_numbers are ∙ none_own old 1 n) (once (length old.history))
+
+    go : (es : List Entry) → since.since ≡ es → new.history ≡ old.history
+    go [] is = since.steps.moves.history ∙ ap (λ (es : List Entry). old.history ++ es) is ∙ append-nil old.history
+    go (e ∷ es) is =
+        let longer : length new.history ≡ length old.history + length (e ∷ es) =
+        ap length since.steps.moves.history ∙ length-append old.history since.since ∙ ap (λ (l : List Entry). length old.history + length l) is in
+        absurd (one_there (length old.history) (length new.history) (omega (arith, longer)) none)
+
+module _ {S : Type 0} (workers : ℕ) (some : 1 ≤ workers) (tells : S → Bool) (left : S → List ℕ) (faults : S → ℕ) (ss : List S) where
   pub unbegun_promises : (old new : RecordedState) → new ≡ old → (e : StoreError) → e ≡ OutOfMemory → Sound new.store → Promises workers tells left faults ss ss old new (Err e)
   unbegun_promises old new is e out sound =
       subst (λ (x : StoreError). Promises workers tells left faults ss ss old new (Err x)) (sym out)
-      (left_promises workers tells left faults ss ss old new (subst (IsLeft old) (sym is) (left_unchanged old)) sound refl (taken_same tells left faults ss) (later_same tells left faults ss))
+      (left_promises workers tells left faults ss ss old new (subst (IsLeft old) (sym is) (left_unchanged old)) sound refl (taken_same tells left faults ss) (later_same tells left faults ss)
+      (bounded_untouched workers tells left ss old new some (ap (λ (s : RecordedState). s.history) is)))
+
+  -- a session of new passes was closed
+  pub closed_promises : (old new : RecordedState) (n : ℕ) (passes : List Holder) → passes ≡ new_passes old 1 n → IsLeft old new → HasEachOnce (length old.history) (length new.history) (own_numbers passes) → Sound new.store
+      → Promises workers tells left faults ss ss old new (Err OutOfMemory)
+  closed_promises old new n passes are is once sound =
+      left_promises workers tells left faults ss ss old new is sound refl (taken_same tells left faults ss) (later_same tells left faults ss)
+      (bounded_untouched workers tells left ss old new some (same_history old new n passes are is.since once))
 
 -- ---- fewer workers
 
@@ -87,6 +119,22 @@ module _ (few many : ℕ) (less : few ≤ many) where
     cleaned_result (Ok c) is = cleaned_more c.infos.items c.choices.items c.metrics is
     cleaned_result (Err e) is = tt
 
+    bounded_more : IsBoundedBy few tells left ss ts old new → IsBoundedBy many tells left ss ts old new
+    bounded_more is = record {
+      parts = is.parts;
+      few = omega (arith, less, is.few);
+      before = is.before;
+      after = is.after;
+      turns = is.turns;
+      files = is.files;
+      taken = is.taken;
+      bound = is.bound;
+    }
+
+    bounded_result : (r : Result Cleaned StoreError) → IfErr r (λ e. IsBoundedBy few tells left ss ts old new) → IfErr r (λ e. IsBoundedBy many tells left ss ts old new)
+    bounded_result (Ok c) is = tt
+    bounded_result (Err e) is = bounded_more is
+
     pub promises_more : (r : Result Cleaned StoreError) → Promises few tells left faults ss ts old new r → Promises many tells left faults ss ts old new r
     promises_more r p = record {
       infos = p.infos;
@@ -102,44 +150,109 @@ module _ (few many : ℕ) (less : few ≤ many) where
       taken = p.taken;
       later = p.later;
       reason = p.reason;
+      bound = bounded_result r p.bound;
     }
 
--- ---- all workers cleaned their sources
+-- ---- the workers have ended, and the session was closed
 
--- of each there is its pass, and what it made
-module _ {S X : Type 0} (tells : S → Bool) (left : S → List ℕ) (faults : S → ℕ) (ss ts : List S) (old : RecordedState) (xs : List X) (f : X → Holder) (g : X → Working)
-    (have : HaveWorked tells left faults old 1 ss ts (map (λ x. worked (f x) (g x)) xs)) where
-  abbrev ws : List Worked
-  ws = map (λ x. worked (f x) (g x)) xs
+module _ {S : Type 0} (tells : S → Bool) (left : S → List ℕ) (faults : S → ℕ) (ss ts : List S) (old : RecordedState) (seats : List SeatState) (ended : HaveEnded tells left faults old 1 0 ss ts seats)
+    (passes : List Holder) (there : map (λ s. s.pass) seats ≡ map Some passes) (new : RecordedState) (workers : ℕ) (few : length seats ≤ workers) (sound : Sound new.store) (recorded : IsRecorded new)
+    (tell : map tells ts ≡ map tells ss) (taken : AreTaken tells left ss ts) (later : Later faults ss ts) where
+  closed_bound : IsLeftWith old new passes → IsBoundedBy workers tells left ss ts old new
+  closed_bound is = bounded_closed workers tells left faults 1 0 ss ts old seats passes ended there few tell new is.known is.seen is.own
 
-  has : HasParts tells left faults old 1 ss ts ws
-  has = parts_of tells left faults old 1 ss ts ws have
+  same_sources : length ts ≡ length ss
+  same_sources = sym (length-map ts tells) ∙ ap length tell ∙ length-map ss tells
 
-  pub have_parts : (ps : List Part) × ArePartsBy old 1 (map (λ x. worked (f x) (g x)) xs) ps
-  have_parts = (has.parts, has.are)
+  -- one failed
+  failed_outcome : (e : StoreError) → Among (map (λ s. s.made) seats) (Err e) → IsLeftWith old new passes → Promises workers tells left faults ss ts old new (Err e)
+  failed_outcome e among is =
+      failed_promises workers tells left faults ss ts old new is.is e (ended_failed tells left faults old new.history 1 0 ss ts seats passes ended there same_sources is.seen e among) sound recorded tell taken later (closed_bound is)
 
-  pub have_few : length ss ≤ 2 ^ 20 → sum_by (λ x. length (g x).cleaned.infos.items) xs ≤ 2 ^ 20
-  have_few most =
-      omega (
-        arith,
-        most,
-        sum_by_map (λ (w : Worked). length w.infos) (λ x. worked (f x) (g x)) xs,
-        infos_count old 1 ws has.parts has.are,
-        done_count tells left faults old.store.limits.max_source_bytes ss ts (files_of has.parts) has.done,
-      )
+  -- all cleaned their parts
+  module _ (workings : List Working) (made : map (λ s. s.made) seats ≡ map Ok workings) where
+    abbrev ws : List Worked
+    ws = all_worked passes workings
 
-  passes_are : map f xs ≡ map (λ w. w.pass) ws
-  passes_are = sym (map-map (λ (w : Worked). w.pass) (λ x. worked (f x) (g x)) xs)
+    has : HasParts tells left faults old 1 ss ts (all_worked passes workings)
+    has = seats_parts tells left faults old ss ts seats ended passes there workings made
 
-  module _ (new : RecordedState) (workers : ℕ) (few : length xs ≡ workers) (sound : Sound new.store) (recorded : IsRecorded new) (tell : map tells ts ≡ map tells ss) (taken : AreTaken tells left ss ts)
-      (later : Later faults ss ts) where
-    pub have_ended : (r : Result Cleaned StoreError)
-        → ((ps : List Part) → ArePartsBy old 1 (map (λ x. worked (f x) (g x)) xs) ps → IfOk r (λ c. HasMerged old new (map f xs) ps c.infos.items c.choices.items c.metrics))
-        → ((ps : List Part) → ArePartsBy old 1 (map (λ x. worked (f x) (g x)) xs) ps → IfErr r (IsUnended old new (map f xs) ps)) → Promises workers tells left faults ss ts old new r
-    have_ended (Ok c) merged unmerged =
+    passes_are : map (λ w. w.pass) (all_worked passes workings) ≡ passes
+    passes_are = worked_passes passes workings (seats_count tells left faults old ss ts seats ended passes there workings made)
+
+    merged_outcome : (c : Cleaned) → HasMerged old new passes has.parts c.infos.items c.choices.items c.metrics → Promises workers tells left faults ss ts old new (Ok c)
+    merged_outcome c merged =
         ended_promises tells left faults ss ts old new ws has.parts has.are c
-        (subst (λ (hs : List Holder). HasMerged old new hs has.parts c.infos.items c.choices.items c.metrics) passes_are (merged has.parts has.are)) has.done workers
-        (omega (arith, few, length-map xs (λ x. worked (f x) (g x)))) sound tell taken later
-    have_ended (Err e) merged unmerged =
-        unended_promises workers tells left faults ss ts old new ws has.parts has.are has.done e
-        (subst (λ (hs : List Holder). IsUnended old new hs has.parts e) passes_are (unmerged has.parts has.are)) sound recorded tell taken later
+        (subst (λ (hs : List Holder). HasMerged old new hs has.parts c.infos.items c.choices.items c.metrics) (sym passes_are) merged) has.done workers
+        (omega (arith, few, length-map ws (λ (w : Worked). w.pass), ap length passes_are, same_count (λ (s : SeatState). s.pass) Some seats passes there)) sound tell taken later
+
+    unended_bound : (e : StoreError) → IsUnended old new passes has.parts workings e → IsBoundedBy workers tells left ss ts old new
+    unended_bound e (inl n) =
+        bounded_merged workers tells left faults 1 0 ss ts old seats passes ended there few tell n.mid new n.refused.stopped workings n.closed.known n.closed.seen n.closed.own made n.refused.few
+    unended_bound e (inr out) = closed_bound out.1
+
+    unmerged_outcome : (e : StoreError) → IsUnended old new passes has.parts workings e → Promises workers tells left faults ss ts old new (Err e)
+    unmerged_outcome e unended =
+        unended_promises workers tells left faults ss ts old new ws has.parts has.are has.done workings e
+        (subst (λ (hs : List Holder). IsUnended old new hs has.parts workings e) (sym passes_are) unended) sound recorded tell taken later (unended_bound e unended)
+
+  -- any of these
+  seated_promises : {V : Type 0} (items : V → List Working) (made : Result V StoreError) → IfOk made (λ v. map (λ s. s.made) seats ≡ map Ok (items v)) → IfErr made (λ e. Among (map (λ s. s.made) seats) (Err e))
+      → (r : Result Cleaned StoreError)
+      → IfOk made (λ v. (ps : List Part) → ArePartsBy old 1 (all_worked passes (items v)) ps → IfOk r (λ c. HasMerged old new passes ps c.infos.items c.choices.items c.metrics))
+      → IfOk made (λ v. (ps : List Part) → ArePartsBy old 1 (all_worked passes (items v)) ps → IfErr r (IsUnended old new passes ps (items v)))
+      → IfErr made (λ e. (r ≡ Err e) × IsLeftWith old new passes) → Promises workers tells left faults ss ts old new r
+  seated_promises items (Ok v) well error (Ok c) merged unmerged failed = merged_outcome (items v) well c (merged (has (items v) well).parts (has (items v) well).are)
+  seated_promises items (Ok v) well error (Err e) merged unmerged failed = unmerged_outcome (items v) well e (unmerged (has (items v) well).parts (has (items v) well).are)
+  seated_promises items (Err e) well error r merged unmerged failed = subst (Promises workers tells left faults ss ts old new) (sym failed.0) (failed_outcome e error failed.1)
+
+-- ---- what was left in the seats
+
+module _ {X S V : Type 0} (p : X → Option Holder) (m : X → Result Working StoreError) (tells : S → Bool) (left : S → List ℕ) (faults : S → ℕ) (ss ts : List S) (old : RecordedState) (xs zs : List X) (same : zs ≡ xs)
+    (ended : HaveEnded tells left faults old 1 0 ss ts (map (λ x. record { pass = p x; made = m x }) xs)) (passes : List Holder) (back : map p zs ≡ map Some passes)
+    (items : V → List Working) (made : Result V StoreError) (well : IfOk made (λ v. map m zs ≡ map Ok (items v))) where
+  abbrev seats : List SeatState
+  seats = map (λ x. record { pass = p x; made = m x }) xs
+
+  there : map (λ (s : SeatState). s.pass) (map (λ x. record { pass = p x; made = m x }) xs) ≡ map Some passes
+  there = map-map (λ (s : SeatState). s.pass) (λ x. record { pass = p x; made = m x }) xs ∙ ap (map p) (sym same) ∙ back
+
+  made_is : map (λ (s : SeatState). s.made) (map (λ x. record { pass = p x; made = m x }) xs) ≡ map m zs
+  made_is = map-map (λ (s : SeatState). s.made) (λ x. record { pass = p x; made = m x }) xs ∙ ap (map m) (sym same)
+
+  all_made : IfOk made (λ v. map (λ (s : SeatState). s.made) (map (λ x. record { pass = p x; made = m x }) xs) ≡ map Ok (items v))
+  all_made = IfOk-weaker made (λ v. map m zs ≡ map Ok (items v)) (λ v. map (λ (s : SeatState). s.made) seats ≡ map Ok (items v)) (λ v e. made_is ∙ e) well
+
+  pub left_differ : NumbersDiffer passes
+  left_differ = seats_differ tells left faults old ss ts seats ended passes there
+
+  pub left_length : length passes ≡ length xs
+  left_length = same_count p Some zs passes back ∙ ap length same
+
+  -- the session is closed with these
+  pub left_count : 1 ≤ length xs → length ss ≤ 2 ^ 20 → IfOk made (λ v. (0 < length (items v)) × (length (items v) ≡ length passes) × (sum_by (λ w. length w.cleaned.infos.items) (items v) ≤ 2 ^ 20))
+  left_count some most =
+      IfOk-weaker made (λ v. map (λ (s : SeatState). s.made) seats ≡ map Ok (items v))
+      (λ v. (0 < length (items v)) × (length (items v) ≡ length passes) × (sum_by (λ (w : Working). length w.cleaned.infos.items) (items v) ≤ 2 ^ 20))
+      (λ v e. (
+        omega (arith, some, same_count (λ (s : SeatState). s.made) Ok seats (items v) e, length-map {B = SeatState} xs (λ x. record { pass = p x; made = m x })),
+        seats_count tells left faults old ss ts seats ended passes there (items v) e,
+        seats_few tells left faults old ss ts seats ended passes there (items v) e most,
+      ))
+      all_made
+
+  pub left_parts : IfOk made (λ v. (ps : List Part) × ArePartsBy old 1 (all_worked passes (items v)) ps)
+  left_parts =
+      IfOk-weaker made (λ v. map (λ (s : SeatState). s.made) seats ≡ map Ok (items v)) (λ v. (ps : List Part) × ArePartsBy old 1 (all_worked passes (items v)) ps)
+      (λ v e. let has = seats_parts tells left faults old ss ts seats ended passes there (items v) e in (has.parts, has.are)) all_made
+
+  -- what is promised then
+  pub left_ended : (new : RecordedState) (workers : ℕ) → length xs ≤ workers → Sound new.store → IsRecorded new → map tells ts ≡ map tells ss → AreTaken tells left ss ts → Later faults ss ts
+      → IfErr made (λ e. Among (map m zs) (Err e)) → (r : Result Cleaned StoreError)
+      → IfOk made (λ v. (ps : List Part) → ArePartsBy old 1 (all_worked passes (items v)) ps → IfOk r (λ c. HasMerged old new passes ps c.infos.items c.choices.items c.metrics))
+      → IfOk made (λ v. (ps : List Part) → ArePartsBy old 1 (all_worked passes (items v)) ps → IfErr r (IsUnended old new passes ps (items v)))
+      → IfErr made (λ e. (r ≡ Err e) × IsLeftWith old new passes) → Promises workers tells left faults ss ts old new r
+  left_ended new workers few sound recorded tell taken later error r merged unmerged failed =
+      seated_promises tells left faults ss ts old seats ended passes there new workers (omega (arith, few, length-map {B = SeatState} xs (λ x. record { pass = p x; made = m x }))) sound recorded tell taken later items made all_made
+      (IfErr-weaker made (λ e. Among (map m zs) (Err e)) (λ e. Among (map (λ (s : SeatState). s.made) seats) (Err e)) (λ e a. subst (λ (l : List (Result Working StoreError)). Among l (Err e)) (sym made_is) a) error)
+      r merged unmerged failed

@@ -1,7 +1,9 @@
 -- Sources of which nothing was taken; and the part of one worker.
-use Rattle.std.proofs.Common.{◌≡◌, ◌∙◌, ℕ, zero, suc, ◌+◌, ◌^◌, ◌<◌, ◌≤◌, Bool, false, List, [], ◌∷◌, ◌++◌, length, append-nil, add-zero, refl, sym, ap, subst, arith, Option, None, Some}
+use Rattle.std.proofs.Common.{◌≡◌, ℕ, zero, suc, ◌+◌, ◌^◌, ◌<◌, ◌≤◌, Bool, false, List, [], ◌∷◌, length, refl, sym, subst, arith, Some}
+use Rattle.std.specs.Prelude.{Err, IfErr, IfOk, Ok, Result}
 use Rattle.xet_clean.specs.Sources.{HasCleaned, IsLoopError}
 use Rattle.xet_clean.specs.declared.policy.Sha256Policy.TheVariants.{Compute}
+use Rattle.xet_clean.specs.declared.working.Working.{Working}
 use Rattle.xet_hash.specs.declared.error.Place.{Place}
 use Rattle.xet_hash.specs.declared.error.Place.TheVariants.{Source}
 use Rattle.xet_hash.specs.declared.error.StoreError.{StoreError}
@@ -12,8 +14,8 @@ use Rattle.xet_passing.specs.Passing.{passing_of}
 use Rattle.xet_stepping.specs.Holders.{Holder}
 use Rattle.xet_steps.specs.Recorded.{RecordedState}
 use Rattle.xet_store.specs.Cleaning.{AreTaken, IsLongAt, Later, RoseAt}
-use Rattle.xet_workers.specs.Workers.{HasFailed, HasPassed, HasWorked, IsFailure, NamesWithin, Worked, later_source}
-use Rattle.xet_workers.proofs.Begun.{MayHavePassed}
+use Rattle.xet_workers.specs.Workers.{EndsAs, HasEnded, HasPassed, HasStopped, HasWorked, NamesWithin, Worked, later_source, worked}
+use Rattle.xet_workers.proofs.Begun.{IsRefused, MayHavePassed}
 
 -- ---- errors that name sources
 
@@ -62,10 +64,10 @@ module _ {S : Type 0} (tells : S → Bool) (left : S → List ℕ) (faults : S �
 
   module _ (store : RecordedState) (begun : Holder) (ss ts : List S) where
     -- the number of the source fits
-    pub small_later : (pass : Holder) (first : ℕ) (e : StoreError) → first + length ss ≤ 2 ^ 20 → MayHavePassed store begun pass (λ b. IsLoopError tells left faults ss ts (passing_of begun begun false) (passing_of begun pass b) e)
+    pub small_later : (pass : Holder) (first : ℕ) (e : StoreError) → first + length ss ≤ 2 ^ 20 → MayHavePassed store begun pass (IsRefused tells left faults ss ts begun pass e)
         → NamesWithin (2 ^ 32) (later_source first e)
     small_later pass first e fits why =
-        within_later first (length ss) (2 ^ 32) e (omega (arith, fits)) (names_within ss ts (passing_of begun begun false) (passing_of begun pass why.0) e why.2)
+        within_later first (length ss) (2 ^ 32) e (omega (arith, fits)) (names_within ss ts (passing_of begun begun false) (passing_of begun pass why.0) e why.2.0)
 
     -- it cleaned its sources
     pub worked_by : (number : ℕ) (w : Worked) → begun.number ≡ number → HasPassed store begun.number begun w.pass false × HasCleaned Compute tells left faults ss ts (passing_of begun begun false) (passing_of begun w.pass false) w.infos w.choices w.metrics w.left
@@ -77,27 +79,27 @@ module _ {S : Type 0} (tells : S → Bool) (left : S → List ℕ) (faults : S �
     }
 
     -- it did not
-    pub failed_by : (pass : Holder) (first : ℕ) (e cause : StoreError) → e ≡ later_source first cause → MayHavePassed store begun pass (λ b. IsLoopError tells left faults ss ts (passing_of begun begun false) (passing_of begun pass b) cause)
-        → HasFailed tells left faults store first ss ts e pass
-    failed_by pass first e cause named why = record {
-      before = [];
-      part = ss;
-      after = [];
-      order = sym (append-nil ss);
-      before_now = [];
-      part_now = ts;
-      after_now = [];
-      order_now = sym (append-nil ts);
-      same = refl;
-      number = begun.number;
+    pub stopped_by : (number : ℕ) (pass : Holder) (cause : StoreError) → begun.number ≡ number → MayHavePassed store begun pass (IsRefused tells left faults ss ts begun pass cause) → HasStopped tells left faults store number ss ts pass cause
+    stopped_by number pass cause same why = record {
       begun = begun;
       stopped = why.0;
-      passed = why.1;
-      cause = cause;
-      named = named ∙ ap (λ (k : ℕ). later_source k cause) (sym (add-zero first));
-      why = why.2;
+      passed = subst (λ (k : ℕ). HasPassed store k begun pass why.0) same why.1;
+      why = why.2.0;
+      short = why.2.1;
     }
 
-    pub failure_by : (pass : Holder) (kept : Option Holder) (first : ℕ) (e cause : StoreError) → kept ≡ Some pass → e ≡ later_source first cause
-        → MayHavePassed store begun pass (λ b. IsLoopError tells left faults ss ts (passing_of begun begun false) (passing_of begun pass b) cause) → IsFailure tells left faults store first ss ts e kept
-    failure_by pass kept first e cause is named why = subst (IsFailure tells left faults store first ss ts e) (sym is) (failed_by pass first e cause named why)
+    -- its pass is back in its seat
+    pub ended_by : (number first : ℕ) (pass : Holder) (made put : Result Working StoreError) → begun.number ≡ number
+        → IfOk made (λ w. HasPassed store begun.number begun pass false × HasCleaned Compute tells left faults ss ts (passing_of begun begun false) (passing_of begun pass false) w.cleaned.infos.items w.cleaned.choices.items w.cleaned.metrics w.aggregate)
+        → IfErr made (λ e. MayHavePassed store begun pass (IsRefused tells left faults ss ts begun pass e)) → IfOk made (λ w. put ≡ Ok w) → IfErr made (λ e. put ≡ Err (later_source first e))
+        → HasEnded tells left faults store number first ss ts (record { pass = Some pass; made = put })
+    ended_by number first pass (Ok w) put same cleaned refused ok err = record {
+      pass = pass;
+      there = refl;
+      ended = subst (EndsAs tells left faults store number first ss ts pass) (sym ok) (worked_by number (worked pass w) same cleaned);
+    }
+    ended_by number first pass (Err e) put same cleaned refused ok err = record {
+      pass = pass;
+      there = refl;
+      ended = subst (EndsAs tells left faults store number first ss ts pass) (sym err) (e, refl, stopped_by number pass e same refused);
+    }

@@ -29,4 +29,5 @@ module _ {S : Type 0} (tells : S → Bool) (left : S → List ℕ) (faults : S �
     taken = taken;
     later = later;
     reason = tt;
+    bound = tt;
   }

@@ -1,5 +1,5 @@
 -- All that is promised where workers did not clean all sources.
-use Rattle.std.proofs.Common.{◌≡◌, ◌∙◌, ◌⊎◌, inl, inr, ℕ, ◌+◌, ◌≤◌, Bool, true, false, List, [], ◌++◌, length, map, Option, Some, None, Err, sym, ap, subst, arith}
+use Rattle.std.proofs.Common.{◌≡◌, ◌∙◌, ◌⊎◌, inl, inr, ℕ, ◌+◌, ◌≤◌, Bool, true, false, List, [], ◌++◌, length, map, Some, Err, sym, ap, subst, arith}
 use Rattle.std.proofs.lemmas.Bool.{false≢true}
 use Rattle.std.specs.Prelude.{Any}
 use Rattle.std.specs.List.{AllByRecursion, IsAmong}
@@ -11,6 +11,7 @@ use Rattle.xet_clean.specs.Files.{leaves_in}
 use Rattle.xet_clean.specs.Merging.{IsUnmerged, Part, files_of}
 use Rattle.xet_clean.specs.Sources.{AreDone, IsLoopError, IsUnclosedFor}
 use Rattle.xet_clean.specs.Working.{Planned}
+use Rattle.xet_clean.specs.declared.working.Working.{Working}
 use Rattle.xet_clean.specs.theorems.Choosing.{unnumbered}
 use Rattle.xet_clean.specs.theorems.Hashes.{all_leaves}
 use Rattle.xet_clean.specs.theorems.Session.{core_is, since_is}
@@ -36,10 +37,11 @@ use Rattle.xet_store.specs.Cleaning.{AreTaken, IsLongAt, Keeps, Later, RoseAt, c
 use Rattle.xet_store.specs.Separate.{Among}
 use Rattle.xet_store.specs.Store.{Sound}
 use Rattle.xet_store.specs.theorems.Rows.{from_among, to_among}
-use Rattle.xet_workers.specs.Cleaning.{GrowsBy}
-use Rattle.xet_workers.specs.Workers.{HasFailed, IsFailure, Worked, later_source}
-use Rattle.xet_workers.specs.internal.Ending.{HasNotMerged, IsLeft, IsLeftAfter, IsUnended, Promises}
+use Rattle.xet_workers.specs.Cleaning.{GrowsBy, IsBoundedBy}
+use Rattle.xet_workers.specs.Workers.{Worked, later_source}
+use Rattle.xet_workers.specs.internal.Ending.{HasNotMerged, IsLeft, IsUnended, Promises}
 use Rattle.xet_workers.specs.internal.Parts.{ArePartsBy}
+use Rattle.xet_workers.proofs.Failing.{HasFailed, IsFailure}
 use Rattle.xet_workers.proofs.Failures.{counted_fault}
 use Rattle.xet_workers.proofs.Growing.{all_steps, grows_failed, grows_left, rose_left}
 use Rattle.xet_workers.proofs.Joined.{files_leaves}
@@ -48,8 +50,9 @@ use Rattle.xet_workers.proofs.Refusing.{IsMetFile, among_after, among_first, amo
 
 -- what is promised of any error
 refused_promises : {S : Type 0} (workers : ℕ) (tells : S → Bool) (left : S → List ℕ) (faults : S → ℕ) (sources now : List S) (old new : RecordedState) (e : StoreError) → Keeps old.store new.store → GrowsBy (Some e) old new
-    → HasReason tells left faults sources now old new e → map tells now ≡ map tells sources → AreTaken tells left sources now → Later faults sources now → Promises workers tells left faults sources now old new (Err e)
-refused_promises workers tells left faults sources now old new e keeps grows reason tell taken later = record {
+    → HasReason tells left faults sources now old new e → map tells now ≡ map tells sources → AreTaken tells left sources now → Later faults sources now → IsBoundedBy workers tells left sources now old new
+    → Promises workers tells left faults sources now old new (Err e)
+refused_promises workers tells left faults sources now old new e keeps grows reason tell taken later bound = record {
   infos = tt;
   read = tt;
   short = tt;
@@ -63,14 +66,15 @@ refused_promises workers tells left faults sources now old new e keeps grows rea
   taken = taken;
   later = later;
   reason = reason;
+  bound = bound;
 }
 
 -- ---- memory is out
 
 pub left_promises : {S : Type 0} (workers : ℕ) (tells : S → Bool) (left : S → List ℕ) (faults : S → ℕ) (sources now : List S) (old new : RecordedState) → IsLeft old new → Sound new.store → map tells now ≡ map tells sources
-    → AreTaken tells left sources now → Later faults sources now → Promises workers tells left faults sources now old new (Err OutOfMemory)
-left_promises workers tells left faults sources now old new is sound tell taken later =
-    refused_promises workers tells left faults sources now old new OutOfMemory is.since.steps.keeps (grows_left old new is OutOfMemory (λ e. absurd (cc e))) tt tell taken later
+    → AreTaken tells left sources now → Later faults sources now → IsBoundedBy workers tells left sources now old new → Promises workers tells left faults sources now old new (Err OutOfMemory)
+left_promises workers tells left faults sources now old new is sound tell taken later bound =
+    refused_promises workers tells left faults sources now old new OutOfMemory is.since.steps.keeps (grows_left old new is OutOfMemory (λ e. absurd (cc e))) tt tell taken later bound
 
 -- ---- a worker failed
 
@@ -159,14 +163,12 @@ module _ {S : Type 0} (tells : S → Bool) (left : S → List ℕ) (faults : S �
   failed_grows : GrowsBy (Some error) old new
   failed_grows = grows_left old new is error (λ e. disk_of f.cause f.why (sym f.named ∙ e))
 
-pub failed_promises : {S : Type 0} (workers : ℕ) (tells : S → Bool) (left : S → List ℕ) (faults : S → ℕ) (sources now : List S) (old new : RecordedState) (pass : Option Holder) → IsLeftAfter old new pass → (error : StoreError)
-    → IsFailure tells left faults old 0 sources now error pass → Sound new.store → IsRecorded new → map tells now ≡ map tells sources → AreTaken tells left sources now → Later faults sources now
-    → Promises workers tells left faults sources now old new (Err error)
-failed_promises workers tells left faults sources now old new None is error why sound recorded tell taken later =
-    subst (λ (e : StoreError). Promises workers tells left faults sources now old new (Err e)) (sym why) (left_promises workers tells left faults sources now old new is.is sound tell taken later)
-failed_promises workers tells left faults sources now old new (Some pass) is error why sound recorded tell taken later =
-    refused_promises workers tells left faults sources now old new error is.is.since.steps.keeps (failed_grows tells left faults sources now old new pass is.is is.seen sound recorded error why)
-    (failed_reason tells left faults sources now old new pass is.is is.seen sound recorded error why) tell taken later
+pub failed_promises : {S : Type 0} (workers : ℕ) (tells : S → Bool) (left : S → List ℕ) (faults : S → ℕ) (sources now : List S) (old new : RecordedState) → IsLeft old new → (error : StoreError)
+    → IsFailure tells left faults old new.history 0 sources now error → Sound new.store → IsRecorded new → map tells now ≡ map tells sources → AreTaken tells left sources now → Later faults sources now
+    → IsBoundedBy workers tells left sources now old new → Promises workers tells left faults sources now old new (Err error)
+failed_promises workers tells left faults sources now old new is error why sound recorded tell taken later bound =
+    refused_promises workers tells left faults sources now old new error is.since.steps.keeps (failed_grows tells left faults sources now old new why.pass is why.seen sound recorded error why.failed)
+    (failed_reason tells left faults sources now old new why.pass is why.seen sound recorded error why.failed) tell taken later bound
 
 -- ---- the parts were not merged
 
@@ -185,7 +187,7 @@ unclosed_cases mid new stopped ps e m = go m.refused.1
     go (inr is) = inl (m.before, is)
 
 module _ {S : Type 0} (tells : S → Bool) (left : S → List ℕ) (faults : S → ℕ) (sources now : List S) (old new : RecordedState) (ws : List Worked) (ps : List Part) (are : ArePartsBy old 1 ws ps)
-    (done : AreDone tells left faults old.store.limits.max_source_bytes sources now (files_of ps)) (error : StoreError) (n : HasNotMerged old new (map (λ w. w.pass) ws) ps error) (sound : Sound new.store) (recorded : IsRecorded new) where
+    (done : AreDone tells left faults old.store.limits.max_source_bytes sources now (files_of ps)) (workings : List Working) (error : StoreError) (n : HasNotMerged old new (map (λ w. w.pass) ws) ps workings error) (sound : Sound new.store) (recorded : IsRecorded new) where
   keeps_all : Keeps old.store new.store
   keeps_all = (all_steps old n.mid new n.refused.stopped n.closed.since n.refused.alone).keeps
 
@@ -246,10 +248,10 @@ module _ {S : Type 0} (tells : S → Bool) (left : S → List ℕ) (faults : S �
   unmerged_grows = grows_failed old n.mid new n.refused.stopped n.closed.since n.refused.alone n.closed.made error unmerged_disk
 
 pub unended_promises : {S : Type 0} (workers : ℕ) (tells : S → Bool) (left : S → List ℕ) (faults : S → ℕ) (sources now : List S) (old new : RecordedState) (ws : List Worked) (ps : List Part) → ArePartsBy old 1 ws ps
-    → AreDone tells left faults old.store.limits.max_source_bytes sources now (files_of ps) → (e : StoreError) → IsUnended old new (map (λ w. w.pass) ws) ps e → Sound new.store → IsRecorded new
-    → map tells now ≡ map tells sources → AreTaken tells left sources now → Later faults sources now → Promises workers tells left faults sources now old new (Err e)
-unended_promises workers tells left faults sources now old new ws ps are done e (inl n) sound recorded tell taken later =
-    refused_promises workers tells left faults sources now old new e (keeps_all tells left faults sources now old new ws ps are done e n sound recorded)
-    (unmerged_grows tells left faults sources now old new ws ps are done e n sound recorded) (unmerged_reason tells left faults sources now old new ws ps are done e n sound recorded) tell taken later
-unended_promises workers tells left faults sources now old new ws ps are done e (inr out) sound recorded tell taken later =
-    subst (λ (x : StoreError). Promises workers tells left faults sources now old new (Err x)) (sym out.0) (left_promises workers tells left faults sources now old new out.1 sound tell taken later)
+    → AreDone tells left faults old.store.limits.max_source_bytes sources now (files_of ps) → (workings : List Working) (e : StoreError) → IsUnended old new (map (λ w. w.pass) ws) ps workings e → Sound new.store → IsRecorded new
+    → map tells now ≡ map tells sources → AreTaken tells left sources now → Later faults sources now → IsBoundedBy workers tells left sources now old new → Promises workers tells left faults sources now old new (Err e)
+unended_promises workers tells left faults sources now old new ws ps are done workings e (inl n) sound recorded tell taken later bound =
+    refused_promises workers tells left faults sources now old new e (keeps_all tells left faults sources now old new ws ps are done workings e n sound recorded)
+    (unmerged_grows tells left faults sources now old new ws ps are done workings e n sound recorded) (unmerged_reason tells left faults sources now old new ws ps are done workings e n sound recorded) tell taken later bound
+unended_promises workers tells left faults sources now old new ws ps are done workings e (inr out) sound recorded tell taken later bound =
+    subst (λ (x : StoreError). Promises workers tells left faults sources now old new (Err x)) (sym out.0) (left_promises workers tells left faults sources now old new out.1.is sound tell taken later bound)

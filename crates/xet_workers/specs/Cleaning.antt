@@ -1,15 +1,17 @@
 -- Cleaning by several workers: what it returns, and what it adds to the history.
-use Rattle.std.specs.Prelude.{◌≡◌, ◌≢◌, ◌⊎◌, ◌≤◌, ◌+◌, ◌*◌, ◌∷◌, ◌==◌, ℕ, Bool, List, [], length, map, filter, Any, AllPairs, Option, None, Some}
+use Rattle.std.specs.Prelude.{◌≡◌, ◌≢◌, ◌⊎◌, ◌≤◌, ◌+◌, ◌*◌, ◌∷◌, ◌==◌, ℕ, suc, Bool, List, [], length, map, filter, drop, take, Any, AllPairs, Option, None, Some}
 use Rattle.std.specs.List.{AllByRecursion, flat_map, sum_by}
 use Rattle.std.specs.List.Sorted.{IsPermutation}
 use Rattle.xet_aggregate.specs.declared.metrics.DeduplicationMetrics.{DeduplicationMetrics}
 use Rattle.xet_choices.specs.Calls.{Call, registered_chunks}
 use Rattle.xet_choices.specs.Choices.{new_chunks, no_place_entries}
 use Rattle.xet_choices.specs.declared.choice.Choice.{Choice}
-use Rattle.xet_clean.specs.Cleaning.{RecordsFile, RegistersFew, calls_since, entries_since, files_in, metrics_sum}
+use Rattle.xet_clean.specs.Cleaning.{EachTaken, RecordsFile, RegistersFew, calls_since, entries_since, files_in, metrics_sum}
 use Rattle.xet_clean.specs.Files.{HasChoices}
 use Rattle.xet_clean.specs.Policies.{info_by}
+use Rattle.xet_clean.specs.Sources.{AreRead}
 use Rattle.xet_clean.specs.declared.policy.Sha256Policy.TheVariants.{Compute}
+use Rattle.xet_cut.specs.Chunking.{chunking}
 use Rattle.xet_cut.specs.declared.limits.LimitSettings.{LimitSettings}
 use Rattle.xet_hash.specs.declared.error.Place.TheVariants.{Disk}
 use Rattle.xet_hash.specs.declared.error.StoreError.{StoreError}
@@ -71,6 +73,28 @@ pub record IsCleanedBy {S : Type 0} (workers : ℕ) (tells : S → Bool) (left :
   pub sums : metrics ≡ metrics_sum old.store.limits files choices
   pub registers : RegistersFew (calls_since old new)
   pub bound : length (entries_since old new) ≤ 3 * sum_by (λ (c : List Choice). length c) choices + 2 * length files
+
+-- ---- what was taken before an error
+
+-- Sources that were read in turn: those before one were read to their ends, and had no more bytes than this, and those after it
+-- were not read.
+pub record IsReadInTurn {S : Type 0} (tells : S → Bool) (left : S → List ℕ) (most : ℕ) (sources now : List S) : Type 0 where
+  pub done : ℕ
+  pub within : done ≤ length sources
+  pub read : AreRead tells left most (take done sources) (take done now)
+  pub untouched : drop (suc done) now ≡ drop (suc done) sources
+
+-- After an error: the sources are in parts, at most one for each worker, and each part was read in turn up to some source. There
+-- are at most three entries for each chunk of what was taken and two for each source.
+pub record IsBoundedBy {S : Type 0} (workers : ℕ) (tells : S → Bool) (left : S → List ℕ) (sources now : List S) (old new : RecordedState) : Type 0 where
+  pub parts : List (List S × List S)
+  pub few : length parts ≤ workers
+  pub before : sources ≡ flat_map (λ p. p.0) parts
+  pub after : now ≡ flat_map (λ p. p.1) parts
+  pub turns : AllByRecursion (λ p. IsReadInTurn tells left old.store.limits.max_source_bytes p.0 p.1) parts
+  pub files : List (List ℕ)
+  pub taken : EachTaken tells left sources now files
+  pub bound : length (entries_since old new) ≤ 3 * sum_by (λ f. length (chunking old.store.limits f)) files + 2 * length files
 
 -- ---- the history
 

@@ -1,9 +1,9 @@
 -- Workers that clean parts of the sources, each over a pass of one session.
-use Rattle.std.specs.Prelude.{◌≡◌, ◌<◌, ◌+◌, ◌++◌, ℕ, suc, Bool, false, List, [], ◌∷◌, Option, None, Some, length}
+use Rattle.std.specs.Prelude.{◌≡◌, ◌<◌, ◌+◌, ◌++◌, ℕ, suc, Bool, false, List, [], ◌∷◌, Option, Some, Result, Ok, Err, length}
 use Rattle.xet_aggregate.specs.Aggregate.{Aggregate}
 use Rattle.xet_aggregate.specs.declared.metrics.DeduplicationMetrics.{DeduplicationMetrics}
 use Rattle.xet_choices.specs.declared.choice.Choice.{Choice}
-use Rattle.xet_clean.specs.Sources.{HasCleaned, IsLoopError}
+use Rattle.xet_clean.specs.Sources.{HasCleaned, IsCutShort, IsLoopError}
 use Rattle.xet_clean.specs.declared.policy.Sha256Policy.TheVariants.{Compute}
 use Rattle.xet_clean.specs.declared.working.Working.{Working}
 use Rattle.xet_hash.specs.declared.error.Place.TheVariants.{Source}
@@ -42,13 +42,6 @@ pub record HasWorked {S : Type 0} (tells : S → Bool) (left : S → List ℕ) (
   pub passed : HasPassed store number begun w.pass false
   pub cleaned : HasCleaned Compute tells left faults sources now (passing_of begun begun false) (passing_of begun w.pass false) w.infos w.choices w.metrics w.left
 
--- Workers whose passes have consecutive numbers from this one on cleaned consecutive parts of the sources.
-abbrev pub HaveWorked : {S : Type 0} → (S → Bool) → (S → List ℕ) → (S → ℕ) → RecordedState → ℕ → List S → List S → List Worked → Type 0
-HaveWorked tells left faults store number sources now [] = (sources ≡ []) × (now ≡ [])
-HaveWorked {S} tells left faults store number sources now (w ∷ ws) =
-    (part rest part_now rest_now : List S) × (sources ≡ part ++ rest) × (now ≡ part_now ++ rest_now) × HasWorked tells left faults store number part part_now w
-    × HaveWorked tells left faults store (suc number) rest rest_now ws
-
 -- the error, with the number of a source so much higher
 abbrev pub later_source : ℕ → StoreError → StoreError
 later_source n (Io (Source i)) = Io (Source (n + i))
@@ -61,27 +54,50 @@ NamesWithin n (Io (Source i)) = i < n
 NamesWithin n (TooLarge (what.Source i)) = i < n
 NamesWithin n e = Unit {0}
 
--- A worker failed with this error, after which its pass is this one: it did not clean its part of these sources. The error names
--- them from a number on.
-pub record HasFailed {S : Type 0} (tells : S → Bool) (left : S → List ℕ) (faults : S → ℕ) (store : RecordedState) (first : ℕ) (sources now : List S) (error : StoreError) (pass : Holder) : Type 0 where
-  pub before : List S
-  pub part : List S
-  pub after : List S
-  pub order : sources ≡ before ++ (part ++ after)
-  pub before_now : List S
-  pub part_now : List S
-  pub after_now : List S
-  pub order_now : now ≡ before_now ++ (part_now ++ after_now)
-  pub same : length before_now ≡ length before
-  pub number : ℕ
+-- The worker whose pass has this number did not clean these sources: it read them in order up to one, and stopped for this cause,
+-- which names them from 0 on.
+pub record HasStopped {S : Type 0} (tells : S → Bool) (left : S → List ℕ) (faults : S → ℕ) (store : RecordedState) (number : ℕ) (sources now : List S) (pass : Holder) (cause : StoreError) : Type 0 where
   pub begun : Holder
   pub stopped : Bool
   pub passed : HasPassed store number begun pass stopped
-  pub cause : StoreError
-  pub named : error ≡ later_source (first + length before) cause
-  pub why : IsLoopError tells left faults part part_now (passing_of begun begun false) (passing_of begun pass stopped) cause
+  pub why : IsLoopError tells left faults sources now (passing_of begun begun false) (passing_of begun pass stopped) cause
+  pub short : IsCutShort Compute tells left sources now (passing_of begun begun false) (passing_of begun pass stopped) cause
 
--- Why workers did not clean their sources: one failed; or memory is out.
-abbrev pub IsFailure : {S : Type 0} → (S → Bool) → (S → List ℕ) → (S → ℕ) → RecordedState → ℕ → List S → List S → StoreError → Option Holder → Type 0
-IsFailure tells left faults store first sources now error None = error ≡ OutOfMemory
-IsFailure tells left faults store first sources now error (Some pass) = HasFailed tells left faults store first sources now error pass
+-- ---- seats
+
+-- The seat of a worker: its pass, if that lies there, and what the worker made of its part of the sources, or why not.
+pub record SeatState : Type 0 where
+  pub pass : Option Holder
+  pub made : Result Working StoreError
+
+-- The pass with this number lies in the seat, and has no own entries.
+pub record IsReady (store : RecordedState) (given : ℕ) (seat : SeatState) : Type 0 where
+  pub pass : Holder
+  pub there : seat.pass ≡ Some pass
+  pub of : IsPassOf store pass
+  pub number : pass.number ≡ given
+  pub none : pass.own ≡ []
+
+-- the passes of these seats have consecutive numbers from this one on
+abbrev pub AreReady : RecordedState → ℕ → List SeatState → Type 0
+AreReady store number [] = Unit {0}
+AreReady store number (seat ∷ seats) = IsReady store number seat × AreReady store (suc number) seats
+
+-- The worker cleaned its part of the sources, or stopped. Its error names them from `first` on.
+abbrev pub EndsAs : {S : Type 0} → (S → Bool) → (S → List ℕ) → (S → ℕ) → RecordedState → ℕ → ℕ → List S → List S → Holder → Result Working StoreError → Type 0
+EndsAs tells left faults store number first sources now pass (Ok w) = HasWorked tells left faults store number sources now (worked pass w)
+EndsAs tells left faults store number first sources now pass (Err e) = (cause : StoreError) × (e ≡ later_source first cause) × HasStopped tells left faults store number sources now pass cause
+
+-- Its pass is back in its seat.
+pub record HasEnded {S : Type 0} (tells : S → Bool) (left : S → List ℕ) (faults : S → ℕ) (store : RecordedState) (number first : ℕ) (sources now : List S) (seat : SeatState) : Type 0 where
+  pub pass : Holder
+  pub there : seat.pass ≡ Some pass
+  pub ended : EndsAs tells left faults store number first sources now pass seat.made
+
+-- The same of the workers of these seats, whose passes have consecutive numbers from this one on, and whose parts of the sources
+-- follow each other.
+abbrev pub HaveEnded : {S : Type 0} → (S → Bool) → (S → List ℕ) → (S → ℕ) → RecordedState → ℕ → ℕ → List S → List S → List SeatState → Type 0
+HaveEnded tells left faults store number first sources now [] = (sources ≡ []) × (now ≡ [])
+HaveEnded {S} tells left faults store number first sources now (seat ∷ seats) =
+    (part rest part_now rest_now : List S) × (sources ≡ part ++ rest) × (now ≡ part_now ++ rest_now) × HasEnded tells left faults store number first part part_now seat
+    × HaveEnded tells left faults store (suc number) (first + length part) rest rest_now seats

@@ -4,19 +4,20 @@ ghost use Rattle.std.specs.Prelude.{◌≡◌, ◌≤◌, ◌+◌, ◌^◌, [], 
 ghost use Rattle.std.specs.List.{AllByRecursion};
 ghost use Rattle.std.specs.Result.{result_err};
 ghost use Rattle.xet_clean.specs.Cleaning.{HasReason};
+ghost use Rattle.xet_locked_session.specs.Passes.{new_passes};
 ghost use Rattle.xet_steps.specs.Recorded.{IsRecorded};
 ghost use Rattle.xet_store.specs.Cleaning.{Adds, AreTaken, EachTold, HasFile, Keeps, Later, chunkings, info_of};
 ghost use Rattle.xet_store.specs.Separate.{Separate};
 ghost use Rattle.xet_store.specs.Store.{Sound, plan_of};
-ghost use Rattle.xet_workers.specs.Cleaning.{GrowsBy, IsCleanedBy};
+ghost use Rattle.xet_workers.specs.Cleaning.{GrowsBy, IsBoundedBy, IsCleanedBy};
 ghost use Rattle.xet_workers.specs.internal.Ending.{Promises};
 
-use crate::ending::{after_failure, end_parts};
-use crate::team::work_divided;
-use crate::work::Hole;
-use std::alloc::{AllocError, Global};
+use crate::ending::close_and_merge;
+use crate::seat::{Numbers, Room, leave_seats, take_seats};
+use crate::team::{Crew, work_shared};
+use std::alloc::Global;
 use std::marker::{Brand, Send, Sync};
-use std::sync::{Mutex, Wait};
+use std::sync::Wait;
 use std::thread::Threads;
 use xet_clean::Cleaned;
 use xet_hash::StoreError;
@@ -27,12 +28,13 @@ use xet_steps::Store;
 /// Reads each of at most 2^20 sources to its end and stores its file. The sources are divided among the workers before the first
 /// is read, in order and evenly. All workers but the last run on threads of their own if these can be started, and the rest on the
 /// calling one. Each cleans its sources in order, as the pass of its number, from 1 on. Reading, splitting, and the hashing of
-/// chunks and files are done outside the lock; a file's hashes are checked once more, and shards are hashed, under it. A chunk for
-/// which a query finds a run is not stored again, unless the guard against fragmentation rejects the run; chunks that still wait
-/// for their xorb are not found. The last chunks of the files of a worker share xorbs; those that wait when all workers are done
-/// are merged in order and stored by the caller, as pass 0. Returns the session, and for each source, in order, its pointer record
-/// and the choices for its chunks, with the metrics of all. The first error stops each worker at its next step; of several, which
-/// is returned is not said. After an error the steps before it stand. The errors are those of `xet_clean::clean_files`.
+/// chunks and files are done outside the lock, and the SHA-256 of a block beside its splitting, on one more thread, if one can be
+/// started; a file's hashes are checked once more, and shards are hashed, under the lock. A chunk for which a query finds a run is
+/// not stored again, unless the guard against fragmentation rejects the run; chunks that still wait for their xorb are not found.
+/// The last chunks of the files of a worker share xorbs; those that wait when all workers are done are merged in order and stored
+/// by the caller, as pass 0. Returns the session, and for each source, in order, its pointer record and the choices for its
+/// chunks, with the metrics of all. The first error stops each worker at its next step; of several, which is returned is not said.
+/// After an error the steps before it stand. The errors are those of `xet_clean::clean_files`.
 pub fn clean_files<D: Disk + Send, S: Source + Send, R: Threads + Wait + Sync>(
     rt: &R,
     alloc: Global,
@@ -58,7 +60,8 @@ pub fn clean_files<D: Disk + Send, S: Source + Send, R: Threads + Wait + Sync>(
 
     // If Ok, each chunk has a choice, which is true by the entries of one pass; each file that is not empty is recorded once, with
     // its range hashes and its SHA-256, and no other file is recorded; the metrics are the sums of the choices; as many chunks
-    // were registered as are new, in few xorbs; and the entries are few.
+    // were registered as are new; each xorb but the last was registered with the further chunks that did not fit, which are part
+    // of a later one; and the entries are few.
     ensures cleaned { IfOk result.1 (λ cleaned. IsCleanedBy workers S.tells S.left sources.old session result.0 cleaned.infos.items cleaned.choices.items cleaned.metrics) }
 
     // Whatever the result, nothing is taken away, and the history grew by completed steps of passes and at most one that failed,
@@ -75,6 +78,11 @@ pub fn clean_files<D: Disk + Send, S: Source + Send, R: Threads + Wait + Sync>(
     ensures sources_taken { AreTaken S.tells S.left sources.old sources.new }
     ensures sources_later { Later S.faults sources.old sources.new }
     ensures reason { IfErr result.1 (HasReason S.tells S.left S.faults sources.old sources.new session result.0) }
+
+    // After an error: the sources are in parts, at most one for each worker. Each part was read in turn up to some source: those
+    // before it were read to their ends, and had no more bytes than the limits allow, and those after it were not read. There
+    // are at most three entries for each chunk of what was taken and two for each source.
+    ensures bound { IfErr result.1 (λ e. IsBoundedBy workers S.tells S.left sources.old sources.new session result.0) }
 {
     let team = workers.min(sources.len().max(1) as u32);
     match Opened::new_stopping(alloc, team) {
@@ -128,6 +136,7 @@ fn clean_passes<
 ) -> (Store<D>, Result<Cleaned, StoreError>)
     requires stops { J.stops ≡ true }
     requires parts { J.parts ≡ workers + 1 }
+    requires passes { passes.items ≡ new_passes J.store 1 workers }
     requires count { length sources.old ≤ 2 ^ 20 }
     requires workers { (1 ≤ workers) × (workers ≤ 256) }
     ensures { Promises workers S.tells S.left S.faults sources.old sources.new J.store result.0 result.1 }
@@ -138,7 +147,8 @@ fn clean_passes<
     (store, cleaned)
 }
 
-/// The same. Its promises rest on the invariant of the store that is returned.
+/// The same. Its promises rest on the invariant of the store that is returned. All memory that the workers share is taken before
+/// the first source is read.
 fn clean_to_end<
     D: Disk + Send,
     J: Naming + Send + Sync,
@@ -154,24 +164,24 @@ fn clean_to_end<
 ) -> (Store<D>, Result<Cleaned, StoreError>)
     requires stops { J.stops ≡ true }
     requires parts { J.parts ≡ workers + 1 }
+    requires passes { passes.items ≡ new_passes J.store 1 workers }
     requires count { length sources.old ≤ 2 ^ 20 }
     requires workers { (1 ≤ workers) × (workers ≤ 256) }
     ensures { Sound result.0.store → IsRecorded result.0 → Promises workers S.tells S.left S.faults sources.old sources.new J.store result.0 result.1 }
 {
-    match holes_of(alloc, passes) {
-        Ok(holes) => match work_divided(rt, alloc, &session, &holes, 1, workers, 0, sources) {
-            Ok(parts) => end_parts(alloc, session, parts),
-            Err(failure) => after_failure(session, failure),
-        },
-        Err(_) => (session.abandon(), Err(StoreError::OutOfMemory)),
+    match Room::new(alloc, passes.len()) {
+        Ok(mut room) => {
+            take_seats(&mut room.seats, passes);
+            let crew = Crew {
+                rt,
+                alloc,
+                session: &session,
+            };
+            let from = Numbers { pass: 1, source: 0 };
+            work_shared(&crew, &mut room.seats, from, sources);
+            let (passes, made) = leave_seats(room);
+            close_and_merge(session, passes, made)
+        }
+        Err(_) => (session.close(passes), Err(StoreError::OutOfMemory)),
     }
-}
-
-/// A hole for each pass, in order, with the pass in it.
-fn holes_of<J: Naming>(alloc: Global, passes: Vec<Pass<J>>) -> Result<Vec<Hole<J>>, AllocError> {
-    let mut holes = Vec::with_capacity(alloc, passes.len())?;
-    for pass in passes {
-        holes.push_reserved(Mutex::new(Some(pass)));
-    }
-    Ok(holes)
 }

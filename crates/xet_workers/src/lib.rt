@@ -1,10 +1,12 @@
 //! Workers that share a session: each has a pass and a part of the sources, and cleans the files of its part.
 #![tactic(auto)]
 
+mod beside;
 mod clean;
 mod ending;
-mod part;
+mod seat;
 mod team;
 mod work;
 
+pub use beside::Beside;
 pub use clean::clean_files;

@@ -1,13 +1,15 @@
 -- How a session of workers ends.
-use Rattle.std.specs.Prelude.{◌≡◌, ◌⊎◌, ℕ, Bool, true, false, List, [], ◌≤◌, length, map, Option, IfSome, IfErr, IfOk, IsSome, OnOk, Result}
-use Rattle.std.specs.List.{AllByRecursion}
+use Rattle.std.specs.Prelude.{◌≡◌, ◌⊎◌, ◌+◌, ◌*◌, ℕ, Bool, true, false, List, [], ◌≤◌, length, map, IfErr, IfOk, IsSome, OnOk, Result}
+use Rattle.std.specs.List.{AllByRecursion, sum_by}
 use Rattle.std.specs.Result.{result_err}
 use mathlib.Core.List.{IsPrefix}
 use Rattle.xet_aggregate.specs.declared.metrics.DeduplicationMetrics.{DeduplicationMetrics}
 use Rattle.xet_choices.specs.declared.choice.Choice.{Choice}
 use Rattle.xet_clean.specs.Cleaning.{HasReason}
+use Rattle.xet_clean.specs.Closing.{IsAtMost}
 use Rattle.xet_clean.specs.Merging.{IsUnmerged, MergesAll, Part}
 use Rattle.xet_clean.specs.declared.info.Cleaned.{Cleaned}
+use Rattle.xet_clean.specs.declared.working.Working.{Working}
 use Rattle.xet_hash.specs.declared.error.StoreError.{StoreError}
 use Rattle.xet_hash.specs.declared.error.StoreError.TheVariants.{OutOfMemory}
 use Rattle.xet_locked_session.specs.Passes.{IsSeen, own_numbers}
@@ -21,7 +23,7 @@ use Rattle.xet_store.specs.Cleaning.{Adds, AreTaken, EachTold, HasFile, Keeps, L
 use Rattle.xet_store.specs.Separate.{Separate}
 use Rattle.xet_store.specs.Store.{plan_of}
 use Rattle.xet_store.specs.declared.info.XetFileInfo.{XetFileInfo}
-use Rattle.xet_workers.specs.Cleaning.{GrowsBy, IsCleanedBy}
+use Rattle.xet_workers.specs.Cleaning.{GrowsBy, IsBoundedBy, IsCleanedBy}
 
 -- ---- the session is closed
 
@@ -33,16 +35,17 @@ pub record IsClosed (old mid : RecordedState) (passes : List Holder) : Type 0 wh
   pub seen : AllByRecursion (λ p. IsPrefix (seen p) mid.history) passes
   pub own : HasEachOnce (length old.history) (length mid.history) (own_numbers passes)
 
--- Perhaps not all were returned, or a step failed.
+-- Steps were made, and perhaps the last one failed.
 pub record IsLeft (old new : RecordedState) : Type 0 where
   pub since : IsSince old new
   pub made : HaveMade old new ⊎ HaveEnded old new
 
--- After a pass that was returned, if one was: the history begins with what it has seen.
-pub record IsLeftAfter (old new : RecordedState) (pass : Option Holder) : Type 0 where
+-- The same, and all passes were returned.
+pub record IsLeftWith (old new : RecordedState) (passes : List Holder) : Type 0 where
   pub is : IsLeft old new
-  pub known : IfSome pass IsSeen
-  pub seen : IfSome pass (λ p. IsPrefix (seen p) new.history)
+  pub known : AllByRecursion IsSeen passes
+  pub seen : AllByRecursion (λ p. IsPrefix (seen p) new.history) passes
+  pub own : HasEachOnce (length old.history) (length new.history) (own_numbers passes)
 
 -- ---- the parts are merged
 
@@ -52,11 +55,13 @@ pub record MergedAlone (mid new : RecordedState) (ps : List Part) (infos : List 
   pub alone : IsAlone mid new stopped
   pub merged : MergesAll ps (alone_of mid mid false) (alone_of mid new stopped) infos choices metrics
 
--- It did not, with this error.
-pub record UnmergedAlone (mid new : RecordedState) (ps : List Part) (e : StoreError) : Type 0 where
+-- It did not, with this error. It added at most two entries for each chunk and each file that was left of what was made of the
+-- parts.
+pub record UnmergedAlone (mid new : RecordedState) (ps : List Part) (workings : List Working) (e : StoreError) : Type 0 where
   pub stopped : Bool
   pub alone : IsAlone mid new stopped
   pub refused : IsUnmerged ps (alone_of mid mid false) (alone_of mid new stopped) e
+  pub few : IsAtMost (sum_by (λ w. 2 * length w.aggregate.chunks + 2 * length w.aggregate.files) workings) (alone_of mid mid false) (alone_of mid new stopped)
 
 -- The session was closed, and then the parts were merged.
 pub record HasMerged (old new : RecordedState) (passes : List Holder) (ps : List Part) (infos : List XetFileInfo) (choices : List (List Choice)) (metrics : DeduplicationMetrics) : Type 0 where
@@ -65,14 +70,14 @@ pub record HasMerged (old new : RecordedState) (passes : List Holder) (ps : List
   pub merged : MergedAlone mid new ps infos choices metrics
 
 -- The session was closed, and then the parts were not merged.
-pub record HasNotMerged (old new : RecordedState) (passes : List Holder) (ps : List Part) (e : StoreError) : Type 0 where
+pub record HasNotMerged (old new : RecordedState) (passes : List Holder) (ps : List Part) (workings : List Working) (e : StoreError) : Type 0 where
   pub mid : RecordedState
   pub closed : IsClosed old mid passes
-  pub refused : UnmergedAlone mid new ps e
+  pub refused : UnmergedAlone mid new ps workings e
 
 -- Why the parts were not merged: a step failed or a record was rejected; or memory is out.
-abbrev pub IsUnended : RecordedState → RecordedState → List Holder → List Part → StoreError → Type 0
-IsUnended old new passes ps e = HasNotMerged old new passes ps e ⊎ ((e ≡ OutOfMemory) × IsLeft old new)
+abbrev pub IsUnended : RecordedState → RecordedState → List Holder → List Part → List Working → StoreError → Type 0
+IsUnended old new passes ps workings e = HasNotMerged old new passes ps workings e ⊎ ((e ≡ OutOfMemory) × IsLeftWith old new passes)
 
 -- ---- what is promised
 
@@ -92,3 +97,4 @@ pub record Promises {S : Type 0} (workers : ℕ) (tells : S → Bool) (left : S 
   pub taken : AreTaken tells left sources now
   pub later : Later faults sources now
   pub reason : IfErr r (HasReason tells left faults sources now old new)
+  pub bound : IfErr r (λ e. IsBoundedBy workers tells left sources now old new)

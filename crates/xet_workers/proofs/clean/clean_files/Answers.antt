@@ -21,11 +21,12 @@ returns-in-Ok g c =
       sources_taken = p.taken;
       sources_later = p.later;
       reason = p.reason;
+      bound = p.bound;
     }
 
 pub returns-in-Err : goal.returns-in-Err
 returns-in-Err g c =
-    let p = unbegun_promises c.args.workers g.S.Source.tells g.S.Source.left g.S.Source.faults c.args.sources.now c.args.session c.args.session refl OutOfMemory refl c.recall_sound.ensures in
+    let p = unbegun_promises c.args.workers c.requires.workers.0 g.S.Source.tells g.S.Source.left g.S.Source.faults c.args.sources.now c.args.session c.args.session refl OutOfMemory refl c.recall_sound.ensures in
     record {
       infos = p.infos;
       read = p.read;
@@ -40,4 +41,5 @@ returns-in-Err g c =
       sources_taken = p.taken;
       sources_later = p.later;
       reason = p.reason;
+      bound = p.bound;
     }

@@ -14,5 +14,5 @@ returns-clause-unmerged g c = λ ps may.
     let first = c.new-alone.result in
     let began = c.new-alone.ensures in
     let made = c.merge_all-cleaned in
-    unmerged_alone c.args.store c.into_store.result first made.new.steps began.0 began.1 began.2 c.into_store.ensures c.recall_steps.ensures made.ensures.follows ps made.result
-    (made.ensures.refused ps (may_first c.args.store first began.0 began.1 began.2 ps c.args.workings.items may))
+    unmerged_alone c.args.store c.into_store.result first made.new.steps began.0 began.1 began.2 c.into_store.ensures c.recall_steps.ensures made.ensures.follows ps c.args.workings.items made.result
+    (made.ensures.refused ps (may_first c.args.store first began.0 began.1 began.2 ps c.args.workings.items may)) made.ensures.few

@@ -1,6 +1,6 @@
 use Rattle.std.proofs.Common.{◌≡◌, ◌∙◌, IfErr, IfOk, ap, false, subst, sym}
 use Rattle.std.proofs.lemmas.Result.{IfErr-at_err}
-use Rattle.xet_clean.specs.Sources.{HasCleaned, IsLoopError}
+use Rattle.xet_clean.specs.Sources.{HasCleaned}
 use Rattle.xet_clean.specs.declared.policy.Sha256Policy.TheVariants.{Compute}
 use Rattle.xet_hash.specs.declared.error.StoreError.{StoreError}
 use Rattle.xet_hash.specs.declared.error.StoreError.TheVariants.{OutOfMemory}
@@ -8,7 +8,7 @@ use Rattle.xet_locked_session.specs.Passes.{IsPassOf}
 use Rattle.xet_passing.specs.Passing.{passing_of}
 use Rattle.xet_stepping.specs.Holders.{Holder}
 use Rattle.xet_workers.specs.Workers.{HasPassed}
-use Rattle.xet_workers.proofs.Begun.{MayHavePassed, memory_before}
+use Rattle.xet_workers.proofs.Begun.{IsRefused, MayHavePassed, memory_before}
 use Rattle.xet_workers.proofs.Parts.{later_same, taken_same}
 use Rattle.xet_workers.proofs.work.clean_part.Goals as goal
 
@@ -34,11 +34,11 @@ returns-in-Ok-Ok-clause-refused g c =
     let made = c.clean_whole.result in
     let ss = c.args.sources.now in
     let ts = c.clean_whole.new.sources in
-    subst (λ (h : Holder). IfErr made.1 (λ e. MayHavePassed g.J.Naming.store h made.0 (λ b. IsLoopError tells left faults ss ts (passing_of h h false) (passing_of h made.0 b) e))) c.new-passing.ensures.1 c.clean_whole.ensures.refused
+    subst (λ (h : Holder). IfErr made.1 (λ e. MayHavePassed g.J.Naming.store h made.0 (IsRefused tells left faults ss ts h made.0 e))) c.new-passing.ensures.1 c.clean_whole.ensures.refused
 
 pub returns-in-Err-default-clause-refused : goal.returns-in-Err-default-clause-refused
 returns-in-Err-default-clause-refused g c =
-    memory_before g.S.Source.tells g.S.Source.left g.S.Source.faults c.args.sources.now c.args.sources.now g.J.Naming.store c.new-passing.result c.args.pass c.into_pass-in-Err-default.result c.new-passing.ensures.0 c.new-passing.ensures.1 c.new-passing.ensures.2 c.into_pass-in-Err-default.ensures
+    memory_before g.S.Source.tells g.S.Source.left g.S.Source.faults c.args.sources.now g.J.Naming.store c.new-passing.result c.args.pass c.into_pass-in-Err-default.result c.new-passing.ensures.0 c.new-passing.ensures.1 c.new-passing.ensures.2 c.into_pass-in-Err-default.ensures
     c.requires.pass.0 c.requires.pass.1 c.recall_passing.ensures.passing c.in-Err-default.error (IfErr-at_err (λ (x : StoreError). x ≡ OutOfMemory) c.in-Err-default.is-0 c.new-working.ensures.memory)
 
 pub returns-in-Err-default-clause-taken : goal.returns-in-Err-default-clause-taken
@@ -49,7 +49,7 @@ returns-in-Err-default-clause-later g c = later_same g.S.Source.tells g.S.Source
 
 pub returns-in_default-Err-clause-refused : goal.returns-in_default-Err-clause-refused
 returns-in_default-Err-clause-refused g c =
-    memory_before g.S.Source.tells g.S.Source.left g.S.Source.faults c.args.sources.now c.args.sources.now g.J.Naming.store c.new-passing.result c.args.pass c.into_pass.result c.new-passing.ensures.0 c.new-passing.ensures.1 c.new-passing.ensures.2
+    memory_before g.S.Source.tells g.S.Source.left g.S.Source.faults c.args.sources.now g.J.Naming.store c.new-passing.result c.args.pass c.into_pass.result c.new-passing.ensures.0 c.new-passing.ensures.1 c.new-passing.ensures.2
     c.into_pass.ensures c.requires.pass.0 c.requires.pass.1 c.recall_passing.ensures.passing c.in_default-Err.error (IfErr-at_err (λ (x : StoreError). x ≡ OutOfMemory) c.in_default-Err.is-1 c.block_of-block.ensures.memory)
 
 pub returns-in_default-Err-clause-taken : goal.returns-in_default-Err-clause-taken
