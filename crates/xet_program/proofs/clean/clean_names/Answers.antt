@@ -11,8 +11,8 @@ use Rattle.xet_program.proofs.Settled.{AreSteps}
 use Rattle.xet_program.proofs.Reported.{cause_all, cause_of, names_answer, no_bounds, stop_names}
 use Rattle.xet_program.proofs.clean.clean_names.Goals as goal
 
-pub clean_sources-session-requires-after_bounds : goal.clean_sources-session-requires-after_bounds
-clean_sources-session-requires-after_bounds g c = λ lives within.
+pub clean_sources-session-requires-clause-few : goal.clean_sources-session-requires-clause-few
+clean_sources-session-requires-clause-few g c = λ lives within.
     let source = g.F.S.Source in
     let opened = on_ok_here c.in-Ok.is c.open_all-sources.ensures.opened in
     let count = opened_count (g.F.Inputs.tells c.args.inputs.now) (g.F.Inputs.files c.args.inputs.now) source.tells source.left source.faults (map string_bytes c.args.names.now) c.open_all-sources.result.0.items opened in
