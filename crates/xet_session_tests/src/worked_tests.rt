@@ -165,3 +165,57 @@ fn a_source_that_is_too_long_is_named(rt: HostRuntime) -> Result<(), Fail> {
     assert!(rt; matches!(error, Some(StoreError::TooLarge(What::Source(1)))));
     Ok(())
 }
+
+/// The pointer records of two files that two workers clean into a store.
+fn clean_pair<R: Threads + Wait + Sync>(
+    rt: &R,
+    alloc: Global,
+    store: Store<MemoryDisk>,
+    files: [&[u8]; 2],
+) -> (Store<MemoryDisk>, Result<Vec<XetFileInfo>, StoreError>) {
+    let mut sources = [SliceSource::new(files[0]), SliceSource::new(files[1])];
+    let (store, answer) = clean_files(rt, alloc, store, &mut sources, 2);
+    match answer {
+        Ok(cleaned) => (store, Ok(cleaned.infos)),
+        Err(error) => (store, Err(error)),
+    }
+}
+
+/// How many files are recorded, and how many segments the plan of the first of some files has.
+fn recorded(
+    alloc: Global,
+    store: &Store<MemoryDisk>,
+    infos: &Result<Vec<XetFileInfo>, StoreError>,
+) -> Result<(usize, usize), StoreError> {
+    let first = match infos {
+        Ok(infos) => infos.first().map(|info| info.hash),
+        Err(error) => return Err(*error),
+    };
+    let Some(hash) = first else {
+        return Err(StoreError::FileNotFound);
+    };
+    let segments = store.plan(alloc, &hash)?.map_or(0, |plan| plan.len());
+    Ok((store.files(alloc)?.len(), segments))
+}
+
+/// The same after two files were cleaned, and after two more were, both of the first file of all.
+fn cleans_more<R: Threads + Wait + Sync>(
+    rt: &R,
+    alloc: Global,
+    store: Store<MemoryDisk>,
+) -> Result<[(usize, usize); 2], StoreError> {
+    let (store, first) = clean_pair(rt, alloc, store, [&ZEROS, b"abc"]);
+    let before = recorded(alloc, &store, &first);
+    let (store, _) = clean_pair(rt, alloc, store, [b"some data", &[]]);
+    let after = recorded(alloc, &store, &first);
+    let _disk = store.into_disk();
+    Ok([before?, after?])
+}
+
+#[test]
+fn earlier_files_stay_recorded(rt: HostRuntime) -> Result<(), Fail> {
+    let alloc = rt.alloc();
+    let shown = cleans_more(&rt, alloc, opened(alloc, LONG, LONG)?)?;
+    assert_eq!(rt; shown, [(2, 3), (3, 3)]);
+    Ok(())
+}
