@@ -1,0 +1,5 @@
+pub mod Lengths
+pub mod Merging
+pub mod Places
+pub mod Searching
+pub mod Sorting

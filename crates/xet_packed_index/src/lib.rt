@@ -1,0 +1,13 @@
+//! A packed index of the first words of the chunk hashes of shards: where the last chunk with a word is. Its entries
+//! stand in few sorted runs, of 20 bytes an item.
+#![tactic(auto)]
+
+mod packed_index;
+mod packed_item;
+mod shard_items;
+mod steps;
+mod word_run;
+
+pub use packed_index::PackedIndex;
+pub use steps::Steps;
+pub use word_run::WordRun;
