@@ -1,5 +1,5 @@
 -- The lengths of runs that are put over one another, and of what they hold together.
-use Rattle.std.proofs.Common.{◌≡◌, ◌≢◌, ◌⊎◌, inl, inr, ℕ, zero, suc, ◌+◌, ◌-◌, ◌*◌, ◌^◌, ◌<◌, ◌≤◌, ◌==◌, nat_eq, Bool, true, false, cond, List, [], ◌∷◌, ◌++◌, fold, get_or, length, take, count_by, Option, Some, None, is_none, is_some, refl, sym, ap, ◌∙◌, arith, zero-le, add-mul, mul-le-mul_right}
+use Rattle.std.proofs.Common.{◌≡◌, inl, inr, ℕ, zero, suc, ◌+◌, ◌-◌, ◌*◌, ◌^◌, ◌<◌, ◌≤◌, true, false, cond, List, [], ◌∷◌, ◌++◌, fold, get_or, length, take, count_by, Option, Some, None, is_none, is_some, refl, sym, ap, ◌∙◌, arith, zero-le, add-mul, mul-le-mul_right}
 use Rattle.std.proofs.Math.Nat.{pow-suc}
 use Rattle.std.proofs.lemmas.List.{take_more}
 use Rattle.std.proofs.lemmas.List.Sums.{fold_push, sum_by-cons}
@@ -39,10 +39,10 @@ length_newer (i ∷ newer) older hn ho = inner older ho (length_newer newer)
     ]
 
 -- a word without a place counts as one
-abbrev one_if_new : Option WordPlace → ℕ
+abbrev pub one_if_new : Option WordPlace → ℕ
 one_if_new o = cond (is_none o) 1 0
 
-length_put : (i : Item) (js : Run) → Rising js → length (put i js) ≡ one_if_new (at i.0 js) + length js
+pub length_put : (i : Item) (js : Run) → Rising js → length (put i js) ≡ one_if_new (at i.0 js) + length js
 unfolding put Rising AllAbove
 length_put i [] h = refl
 length_put i (j ∷ js) h = elim (order i.0 j.0) [

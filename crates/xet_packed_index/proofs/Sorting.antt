@@ -1,6 +1,5 @@
 -- The items of a shard, sorted by their words: of those with one word the last is kept.
 use Rattle.std.proofs.Common.{◌≡◌, ◌≢◌, ◌⊎◌, inl, inr, ℕ, zero, suc, ◌+◌, ◌<◌, ◌≤◌, ◌==◌, nat_eq, nat_le, nat_cmp, is_lt, Bool, true, false, cond, List, [], ◌∷◌, ◌++◌, filter, get_or, length, map, take, drop, Option, Some, None, option_map, refl, sym, ap, ◌∙◌, arith, zero-le, suc-le-suc}
-use Rattle.std.proofs.lemmas.Bool.{cases_Bool}
 use Rattle.std.proofs.lemmas.Bool.Decides.{eqb_tells, nat_tests}
 use Rattle.std.proofs.lemmas.List.{append-nil, drop_all, drop_more, map-append, take_more}
 use Rattle.std.proofs.lemmas.List.Elements.{filter-append}

@@ -1,7 +1,7 @@
 //! An index of few sorted runs.
 
-ghost use Rattle.std.specs.Prelude.{◌≡◌, ℕ, ◌+◌, ◌*◌, ◌^◌, ◌<◌, ◌≤◌, ◌++◌, ◌∷◌, [], IfOk, IsOkUnless, OnErr, OnOk, count_by, nat_eq, length, List};
-ghost use Rattle.std.specs.Option.{is_none};
+ghost use Rattle.std.specs.Prelude.{◌≡◌, ℕ, ◌+◌, ◌*◌, ◌^◌, ◌<◌, ◌≤◌, ◌++◌, ◌∷◌, [], List, length, nat_eq};
+ghost use Rattle.std.specs.Prelude.{IfOk, IsOkUnless, OnErr, OnOk, count_by, is_none};
 ghost use Rattle.std.specs.Map.{lookup};
 ghost use Rattle.xet_shard_format.specs.Lookups.{flat_places};
 ghost use Rattle.xet_shard_index.specs.Places.{IndexedShard, indexed_shard};

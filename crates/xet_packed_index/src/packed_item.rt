@@ -3,6 +3,7 @@
 ghost use Rattle.std.specs.Prelude.{◌≡◌};
 
 use std::marker::Model;
+use std::mem::size_of;
 use xet_shard_index::WordPlace;
 
 /// A word and its place. Contracts see the pair. It takes 20 bytes, where the pair takes 24.
@@ -17,6 +18,8 @@ pub struct PackedItem {
     chunk: u16,
 }
 
+const _: () = prove!(size_of::<PackedItem>() == 20);
+
 impl Model for PackedItem {
     ghost use Rattle.std.specs.Prelude.{ℕ, ◌+◌, ◌*◌, ◌/◌, ◌%◌, ◌<◌, ◌^◌, refl};
     ghost use Rattle.xet_shard_index.specs.declared.word_index.WordPlace.{WordPlace};
@@ -28,7 +31,7 @@ impl Model for PackedItem {
 
     ghost invariant = { λ i. i.low < 2 ^ 32 };
 
-    ghost inverse = { λ v. record { high = v.0 / 2 ^ 32; low = v.0 % 2 ^ 32; shard = v.1.shard; row = v.1.row; chunk = v.1.chunk } };
+    ghost inverse = { λ (w, p). record { high = w / 2 ^ 32; low = w % 2 ^ 32; shard = p.shard; row = p.row; chunk = p.chunk } };
 
     ghost inverse_ok = { λ i low. rw (div-mul-add i.high (2 ^ 32) i.low low, mod-mul-add i.high (2 ^ 32) i.low low) refl };
 }

@@ -1,6 +1,6 @@
 use Rattle.std.proofs.Common.{◌+◌, ◌-◌, ◌/◌, length, sym, arith}
 use Rattle.xet_packed_index.proofs.Merging.{cmp_greater, cmp_less}
-use Rattle.xet_packed_index.proofs.Searching.{bisected_end, bisected_left, bisected_right, found_at, steps_bound, steps_half}
+use Rattle.xet_packed_index.proofs.Searching.{bisected_end, bisected_left, bisected_right, found_at, steps_half}
 use Rattle.xet_packed_index.proofs.packed_index.find_in_run.Goals as goal
 
 pub loop-low-preserved-in-Less : goal.loop-low-preserved-in-Less
@@ -10,11 +10,11 @@ loop-low-preserved-in-Less g c =
     let test = c.loop-low-test.true in
     record {
       bisected =
-      bisected_right c.args.run.now c.args.word low high (low + (high - low) / 2) c.requires c.loop-low.invariant.bisected (omega (arith, test)) (omega arith)
-      (λ d. cmp_less _ _ (c.in-Less.ensures.order d));
+          bisected_right c.args.run.now c.args.word low high (low + (high - low) / 2) c.requires c.loop-low.invariant.bisected (omega (arith, test)) (omega arith)
+          (λ d. cmp_less _ _ (c.in-Less.ensures.order d));
       steps =
-      steps_half (length c.args.run.now) c.args.steps.now c.loop-low.steps c.compare.new.steps (high - low) (high - (low + (high - low) / 2 + 1)) c.loop-low.invariant.steps c.compare.ensures.steps
-      (omega (arith, test)) (omega (arith, test));
+          steps_half (length c.args.run.now) c.args.steps.now c.loop-low.steps c.compare.new.steps (high - low) (high - (low + (high - low) / 2 + 1)) c.loop-low.invariant.steps c.compare.ensures.steps
+          (omega (arith, test)) (omega (arith, test));
     }
 
 pub returns-in-Equal-clause-place : goal.returns-in-Equal-clause-place
@@ -30,11 +30,11 @@ loop-low-preserved g c =
     let test = c.loop-low-test.true in
     record {
       bisected =
-      bisected_left c.args.run.now c.args.word low high (low + (high - low) / 2) c.requires c.loop-low.invariant.bisected (omega (arith, test)) (omega arith)
-      (λ d. cmp_greater _ _ (c.in-Greater.ensures.order d));
+          bisected_left c.args.run.now c.args.word low high (low + (high - low) / 2) c.requires c.loop-low.invariant.bisected (omega (arith, test)) (omega arith)
+          (λ d. cmp_greater _ _ (c.in-Greater.ensures.order d));
       steps =
-      steps_half (length c.args.run.now) c.args.steps.now c.loop-low.steps c.compare.new.steps (high - low) (low + (high - low) / 2 - low) c.loop-low.invariant.steps c.compare.ensures.steps
-      (omega (arith, test)) (omega (arith, test));
+          steps_half (length c.args.run.now) c.args.steps.now c.loop-low.steps c.compare.new.steps (high - low) (low + (high - low) / 2 - low) c.loop-low.invariant.steps c.compare.ensures.steps
+          (omega (arith, test)) (omega (arith, test));
     }
 
 pub returns-clause-place : goal.returns-clause-place

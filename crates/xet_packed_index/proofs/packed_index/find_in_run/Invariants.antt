@@ -1,4 +1,4 @@
-use Rattle.std.proofs.Common.{◌≡◌, ℕ, ◌-◌, length}
+use Rattle.std.proofs.Common.{◌-◌, length}
 use Rattle.xet_packed_index.proofs.Searching.{Bisected, StepsLeft}
 use Rattle.xet_packed_index.proofs.packed_index.find_in_run.Given as goal
 

@@ -22,13 +22,13 @@ pub loop-left-preserved : goal.loop-left-preserved
 loop-left-preserved g c = record {
   within = omega (arith, c.loop-left.invariant.within);
   same =
-  not_here c.args.word c.args.runs.now c.loop-left.left c.index-runs-left.result c.loop-left-test.true c.loop-left.invariant.within c.index-runs-left.is
-  c.find_in_run-found.result c.find_in_run-found.ensures.place (sym c.if-is_some.ensures) c.loop-left.invariant.same;
+      not_here c.args.word c.args.runs.now c.loop-left.left c.index-runs-left.result c.loop-left-test.true c.loop-left.invariant.within c.index-runs-left.is
+      c.find_in_run-found.result c.find_in_run-found.ensures.place (sym c.if-is_some.ensures) c.loop-left.invariant.same;
   steps =
-  λ b low.
-    let here = length_run c.args.runs.now (c.loop-left.left - 1) c.index-runs-left.result c.requires (omega (arith, c.loop-left-test.true, c.loop-left.invariant.within)) in
-    let run = c.find_in_run-found.ensures.steps b (rw c.index-runs-left.is (omega (arith, here, low))) in
-    steps_run b (length c.args.runs.now) c.loop-left.left c.args.steps.now c.loop-left.steps c.find_in_run-found.new.steps c.loop-left-test.true run (c.loop-left.invariant.steps b low);
+      λ b low.
+      let here = length_run c.args.runs.now (c.loop-left.left - 1) c.index-runs-left.result c.requires (omega (arith, c.loop-left-test.true, c.loop-left.invariant.within)) in
+      let run = c.find_in_run-found.ensures.steps b (rw c.index-runs-left.is (omega (arith, here, low))) in
+      steps_run b (length c.args.runs.now) c.loop-left.left c.args.steps.now c.loop-left.steps c.find_in_run-found.new.steps c.loop-left-test.true run (c.loop-left.invariant.steps b low);
 }
 
 pub returns-clause-steps : goal.returns-clause-steps

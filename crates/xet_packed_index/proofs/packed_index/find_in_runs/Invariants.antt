@@ -1,4 +1,4 @@
-use Rattle.std.proofs.Common.{◌≡◌, ℕ, ◌+◌, ◌*◌, ◌^◌, ◌<◌, ◌≤◌, length, nat_eq, take}
+use Rattle.std.proofs.Common.{◌≡◌, ℕ, ◌+◌, ◌*◌, ◌^◌, ◌<◌, ◌≤◌, length, take}
 use Rattle.xet_packed_index.specs.Runs.{merged}
 use Rattle.xet_packed_index.proofs.Merging.{at}
 use Rattle.xet_packed_index.proofs.packed_index.find_in_runs.Given as goal

@@ -1,4 +1,4 @@
-use Rattle.std.proofs.Common.{◌-◌, sym, ◌∙◌, arith}
+use Rattle.std.proofs.Common.{◌-◌, ◌∙◌, arith}
 use Rattle.xet_packed_index.proofs.Lengths.{length_newer, over_newest, rising_run}
 use Rattle.xet_packed_index.proofs.Merging.{rising_over}
 use Rattle.xet_packed_index.proofs.packed_index.merge_short.Goals as goal
@@ -11,8 +11,8 @@ loop-kept-preserved c =
     record {
       within = omega (arith, c.loop-kept.invariant.within);
       same =
-      rw c.in_ok-merged.ensures.items
-      (over_newest 0 c.args.runs.now c.loop-kept.kept r c.loop-kept-test.true c.loop-kept.invariant.within c.index-runs-kept-in-loop-kept.is c.loop-kept.merged ∙ c.loop-kept.invariant.same);
+          rw c.in_ok-merged.ensures.items
+          (over_newest 0 c.args.runs.now c.loop-kept.kept r c.loop-kept-test.true c.loop-kept.invariant.within c.index-runs-kept-in-loop-kept.is c.loop-kept.merged ∙ c.loop-kept.invariant.same);
       rising = rw c.in_ok-merged.ensures.items (rising_over c.loop-kept.merged r rising);
       some = rw c.in_ok-merged.ensures.items (omega (arith, longer, c.loop-kept.invariant.some));
     }

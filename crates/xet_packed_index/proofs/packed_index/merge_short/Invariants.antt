@@ -1,4 +1,4 @@
-use Rattle.std.proofs.Common.{◌≡◌, ℕ, ◌<◌, ◌≤◌, length, take}
+use Rattle.std.proofs.Common.{◌≡◌, ◌<◌, ◌≤◌, length, take}
 use Rattle.xet_packed_index.specs.Runs.{Rising, merged, over}
 use Rattle.xet_packed_index.proofs.packed_index.merge_short.Given as goal
 

@@ -9,9 +9,9 @@ loop-i-preserved-in-Less c = record {
   newer_within = omega (arith, c.loop-i-test.true);
   older_within = c.loop-i.invariant.older_within;
   so_far =
-  merge_newer c.args.newer.now c.args.older.now _ _ _ c.loop-i.i c.loop-i.j c.index-newer-i.result c.index-older-j.result c.requires.newer c.requires.older
-  (next_item _ _ _ c.loop-i-test.true c.index-newer-i.is) (next_item _ _ _ c.if-j-older.true c.index-older-j.is)
-  (rw (c.word.ensures, c.word-in-loop-i.ensures) at c.in-Less.ensures) c.in_ok-push-in-Less.ensures.items c.loop-i.invariant.so_far;
+      merge_newer c.args.newer.now c.args.older.now _ _ _ c.loop-i.i c.loop-i.j c.index-newer-i.result c.index-older-j.result c.requires.newer c.requires.older
+      (next_item _ _ _ c.loop-i-test.true c.index-newer-i.is) (next_item _ _ _ c.if-j-older.true c.index-older-j.is)
+      (rw (c.word.ensures, c.word-in-loop-i.ensures) at c.in-Less.ensures) c.in_ok-push-in-Less.ensures.items c.loop-i.invariant.so_far;
 }
 
 pub loop-i-preserved-in-Equal : goal.loop-i-preserved-in-Equal
@@ -19,9 +19,9 @@ loop-i-preserved-in-Equal c = record {
   newer_within = omega (arith, c.loop-i-test.true);
   older_within = omega (arith, c.if-j-older.true);
   so_far =
-  merge_both c.args.newer.now c.args.older.now _ _ _ c.loop-i.i c.loop-i.j c.index-newer-i.result c.index-older-j.result c.requires.newer c.requires.older
-  (next_item _ _ _ c.loop-i-test.true c.index-newer-i.is) (next_item _ _ _ c.if-j-older.true c.index-older-j.is)
-  (rw (c.word.ensures, c.word-in-loop-i.ensures) at c.in-Equal.ensures) c.in_ok-push-in-Equal.ensures.items c.loop-i.invariant.so_far;
+      merge_both c.args.newer.now c.args.older.now _ _ _ c.loop-i.i c.loop-i.j c.index-newer-i.result c.index-older-j.result c.requires.newer c.requires.older
+      (next_item _ _ _ c.loop-i-test.true c.index-newer-i.is) (next_item _ _ _ c.if-j-older.true c.index-older-j.is)
+      (rw (c.word.ensures, c.word-in-loop-i.ensures) at c.in-Equal.ensures) c.in_ok-push-in-Equal.ensures.items c.loop-i.invariant.so_far;
 }
 
 pub loop-i-preserved : goal.loop-i-preserved
@@ -29,9 +29,9 @@ loop-i-preserved c = record {
   newer_within = c.loop-i.invariant.newer_within;
   older_within = omega (arith, c.if-j-older.true);
   so_far =
-  merge_older c.args.newer.now c.args.older.now _ _ _ c.loop-i.i c.loop-i.j c.index-newer-i.result c.index-older-j.result c.requires.newer c.requires.older
-  (next_item _ _ _ c.loop-i-test.true c.index-newer-i.is) (next_item _ _ _ c.if-j-older.true c.index-older-j.is)
-  (rw (c.word.ensures, c.word-in-loop-i.ensures) at c.in-Greater.ensures) c.in_ok-push-in-Greater.ensures.items c.loop-i.invariant.so_far;
+      merge_older c.args.newer.now c.args.older.now _ _ _ c.loop-i.i c.loop-i.j c.index-newer-i.result c.index-older-j.result c.requires.newer c.requires.older
+      (next_item _ _ _ c.loop-i-test.true c.index-newer-i.is) (next_item _ _ _ c.if-j-older.true c.index-older-j.is)
+      (rw (c.word.ensures, c.word-in-loop-i.ensures) at c.in-Greater.ensures) c.in_ok-push-in-Greater.ensures.items c.loop-i.invariant.so_far;
 }
 
 pub returns : goal.returns

@@ -1,4 +1,4 @@
-use Rattle.std.proofs.Common.{◌≡◌, length, sym, ap, ◌∙◌, arith}
+use Rattle.std.proofs.Common.{arith}
 use Rattle.xet_shard_format.specs.Lookups.{flat_places}
 use Rattle.xet_shard_index.specs.Places.{indexed_shard}
 use Rattle.xet_packed_index.specs.Runs.{merged}
@@ -8,7 +8,8 @@ use Rattle.xet_packed_index.proofs.packed_index.PackedIndex.insert_shard.Goals a
 
 pub returns-then-is_empty-clause-index : goal.returns-then-is_empty-clause-index
 returns-then-is_empty-clause-index c shards held =
-    packed_same (indexed_shard c.args.shard (flat_places c.args.items.now)) c.in_ok-found.found.items c.args.self.now shards (grind arith) c.in_ok-found.ensures.places held
+    packed_same (indexed_shard c.args.shard (flat_places c.args.items.now)) c.in_ok-found.found.items c.args.self.now shards (grind arith) c.in_ok-found.ensures.places
+    (rw c.self.view_is at (rising_merged c.self.inside.runs.items)) held
 
 pub invariant_of-self-2 : goal.invariant_of-self-2
 invariant_of-self-2 c =
@@ -21,7 +22,8 @@ invariant_of-self-2 c =
 pub returns-clause-index : goal.returns-clause-index
 returns-clause-index c shards held =
     rw (c.in_ok-add_run.ensures.merged, c.in_ok-new.ensures.items)
-    (packed_more (indexed_shard c.args.shard (flat_places c.args.items.now)) c.in_ok-found.found.items (merged c.self.inside.runs.items) shards c.in_ok-found.ensures.places (rw (← c.self.view_is) at held))
+    (packed_more (indexed_shard c.args.shard (flat_places c.args.items.now)) c.in_ok-found.found.items (merged c.self.inside.runs.items) shards c.in_ok-found.ensures.places
+    (rising_merged c.self.inside.runs.items) (rw (← c.self.view_is) at held))
 
 pub returns-clause-count : goal.returns-clause-count
 returns-clause-count c =
