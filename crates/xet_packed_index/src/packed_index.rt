@@ -20,8 +20,10 @@ use xet_hash::StoreError;
 use xet_shard_index::WordPlace;
 
 /// The place of each first word of the chunk hashes of shards: that of the last chunk with it in the last shard that has
-/// it. Chunks with an index above 65,535 in their xorb are left out. Contracts see the entries in order of their words.
-/// They stand in sorted runs, the newest last, each at least twice as long as the next newer one.
+/// it. Chunks with an index above 65,535 in their xorb are left out. Contracts see the entries, in order of their words.
+///
+/// They stand in sorted runs of 20 bytes an item. The newest run is the last, none is empty, and each is at least twice as
+/// long as the next newer one: an insert merges runs until this holds again.
 #[derive(Drop)]
 pub struct PackedIndex {
     runs: Vec<WordRun>,
@@ -33,7 +35,7 @@ impl Model for PackedIndex {
     ghost use Rattle.std.specs.Prelude.{◌≡◌, ℕ, List, length};
     ghost use Rattle.xet_shard_index.specs.declared.word_index.WordPlace.{WordPlace};
     ghost use Rattle.xet_packed_index.specs.Runs.{merged};
-    ghost use Rattle.xet_packed_index.specs.internal.Lengths.{AreRuns, IsMerged};
+    ghost use Rattle.xet_packed_index.specs.internal.Lengths.{AreRuns};
 
     ghost Value = { List (ℕ × WordPlace) };
 
