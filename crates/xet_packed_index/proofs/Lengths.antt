@@ -111,9 +111,6 @@ few_runs (r ∷ rs) b runs low =
 pub merged_next : (rs : List Run) (i : ℕ) (d : Run) → i < length rs → merged (take (i + 1) rs) ≡ over (get_or rs i d) (merged (take i rs))
 merged_next rs i d low = ap merged (take_more rs i d low) ∙ fold_push (λ (older newer : Run). over newer older) [] (take i rs) (get_or rs i d)
 
-pub merged_push : (rs : List Run) (r : Run) → merged (rs ++ r ∷ []) ≡ over r (merged rs)
-merged_push rs r = fold_push (λ (older newer : Run). over newer older) [] rs r
-
 -- the first runs with one more
 pub runs_with : (rs : List Run) (k : ℕ) (r : Run) → AreRuns rs → k ≤ length rs → Rising r → 0 < length r
     → ((last : ℕ) → k ≡ last + 1 → 2 * length r ≤ length (get_or rs last [])) → AreRuns (take k rs ++ r ∷ [])

@@ -1,5 +1,5 @@
 -- A word in a run, by the index of its item.
-use Rattle.std.proofs.Common.{◌≡◌, ◌≢◌, ◌⊎◌, inl, inr, ℕ, zero, suc, ◌+◌, ◌/◌, ◌^◌, ◌<◌, ◌≤◌, nat_cmp, Equal, [], ◌∷◌, get_or, length, Some, None, refl, sym, ap, ◌∙◌, arith, zero-le}
+use Rattle.std.proofs.Common.{◌≡◌, ◌≢◌, ◌⊎◌, inl, inr, ℕ, zero, suc, ◌+◌, ◌/◌, ◌^◌, ◌<◌, ◌≤◌, nat_cmp, Equal, [], ◌∷◌, get_or, length, Some, None, refl, sym, ap, ◌∙◌, arith}
 use Rattle.std.proofs.lemmas.Bool.{cases_lt}
 use Rattle.std.proofs.Math.Nat.{pow-suc}
 use Rattle.std.proofs.Math.Pow.{pow_mono}
@@ -50,14 +50,6 @@ pub record Bisected (is : Run) (word low high : ℕ) : Type 0 where
   pub below : (i : ℕ) (d : Item) → i < low → (get_or is i d).0 < word
   pub above : (i : ℕ) (d : Item) → high ≤ i → i < length is → word < (get_or is i d).0
 
-pub bisected_start : (is : Run) (word : ℕ) → Bisected is word 0 (length is)
-bisected_start is word = record {
-  ordered = zero-le;
-  within = omega arith;
-  below = λ i d low. absurd (omega (arith, low));
-  above = λ i d high low. absurd (omega (arith, high, low));
-}
-
 pub bisected_right : (is : Run) (word low high middle : ℕ) → Rising is → Bisected is word low high → middle < high → low ≤ middle
     → ((d : Item) → (get_or is middle d).0 < word) → Bisected is word (middle + 1) high
 bisected_right is word low high middle h b less more at_middle = record {
@@ -97,9 +89,6 @@ bisected_end is word low high b met = no_place word is (λ i d inside. by i d in
 abbrev pub StepsLeft : ℕ → ℕ → ℕ → ℕ → Type 0
 StepsLeft total before now left = (b : ℕ) → total < 2 ^ b → (more : ℕ) × (now + more ≡ before + b) × (left < 2 ^ more)
 
-pub steps_start : (total before : ℕ) → StepsLeft total before before total
-steps_start total before b h = (b, refl, h)
-
 pub steps_half : (total before now next left half : ℕ) → StepsLeft total before now left → next ≡ now + 1 → 0 < left → half ≤ left / 2 → StepsLeft total before next half
 steps_half total before now next left half s is some small b h = by (s b h).0 (s b h).1 (s b h).2
   where
@@ -107,10 +96,7 @@ steps_half total before now next left half s is some small b h = by (s b h).0 (s
     by zero e low = absurd (omega (arith, low, some))
     by (suc m) e low = (m, omega (arith, e, is), let p = pow-suc 2 m in omega (arith, low, p, small))
 
-pub steps_bound : (total before now left b : ℕ) → StepsLeft total before now left → total < 2 ^ b → now ≤ before + b
-steps_bound total before now left b s h = let e = (s b h).1 in omega (arith, e)
-
--- a number below a power of two whose power of two a number below reaches
+-- an exponent whose power of two a number reaches is below that of a power of two above the number
 pub digits_bound : (m b n : ℕ) → 2 ^ m ≤ n → n < 2 ^ b → m < b
 digits_bound m b n reaches low = by (cases_lt m b)
   where

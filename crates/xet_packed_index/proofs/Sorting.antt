@@ -1,11 +1,9 @@
 -- The items of a shard, sorted by their words: of those with one word the last is kept.
-use Rattle.std.proofs.Common.{◌≡◌, ◌≢◌, ◌⊎◌, inl, inr, ℕ, zero, suc, ◌+◌, ◌<◌, ◌≤◌, ◌==◌, nat_eq, nat_le, nat_cmp, is_lt, Bool, true, false, cond, List, [], ◌∷◌, ◌++◌, filter, get_or, length, map, take, drop, Option, Some, None, option_map, refl, sym, ap, ◌∙◌, arith, zero-le, suc-le-suc}
+use Rattle.std.proofs.Common.{◌≡◌, ◌≢◌, ◌⊎◌, inl, inr, ℕ, zero, suc, ◌+◌, ◌<◌, ◌≤◌, ◌==◌, nat_eq, nat_cmp, is_lt, Bool, true, false, cond, List, [], ◌∷◌, ◌++◌, filter, get_or, length, map, drop, Option, Some, None, option_map, refl, sym, ap, ◌∙◌, arith, zero-le, suc-le-suc}
 use Rattle.std.proofs.lemmas.Bool.Decides.{eqb_tells, nat_tests}
-use Rattle.std.proofs.lemmas.List.{append-nil, drop_all, drop_more, map-append, take_more}
-use Rattle.std.proofs.lemmas.List.Elements.{filter-append}
+use Rattle.std.proofs.lemmas.List.{append-nil, drop_all, drop_more}
 use Rattle.std.specs.List.Sorted.{IsNonDecreasingBy, IsStableByKey, ties}
 use Rattle.xet_shard.specs.Queries.{last_of}
-use Rattle.xet_shard_format.specs.Lookups.{flat_place, flat_places}
 use Rattle.xet_shard_index.specs.Places.{indexed_shard, place_in, within_reach, word_place}
 use Rattle.xet_shard_index.specs.declared.word_index.WordPlace.{WordPlace}
 use Rattle.xet_packed_index.specs.Runs.{AllAbove, Item, Rising}
@@ -160,19 +158,6 @@ pub sorted_places : (shard w : ℕ) (items : List (ℕ × ℕ × ℕ)) (is : Run
 sorted_places shard w items is h stable = at_lasts w is (climbs is h) ∙ last_stable (placed shard items) is w stable ∙ last_mapped shard w (within_reach items)
 
 -- ---- the loops
-
-placed_next : (shard : ℕ) (xs ys : List (ℕ × ℕ × ℕ)) → placed shard (xs ++ ys) ≡ placed shard xs ++ placed shard ys
-placed_next shard xs ys =
-    ap (map (λ (i : ℕ × ℕ × ℕ). (i.0, word_place shard (i.1, i.2)))) (filter-append (λ (i : ℕ × ℕ × ℕ). nat_le i.2 65535) xs ys)
-    ∙ map-append (λ (i : ℕ × ℕ × ℕ). (i.0, word_place shard (i.1, i.2))) (within_reach xs) (within_reach ys)
-
-pub placed_more : (shard : ℕ) (items : List (ℕ × (ℕ × ℕ))) (i : ℕ) (d : ℕ × (ℕ × ℕ)) (before after : Run) → i < length items
-    → before ≡ placed shard (flat_places (take i items)) → after ≡ before ++ placed shard (flat_place (get_or items i d) ∷ [])
-    → after ≡ placed shard (flat_places (take (i + 1) items))
-placed_more shard items i d before after low eb ea =
-    let taken : flat_places (take (i + 1) items) ≡ flat_places (take i items) ++ flat_place (get_or items i d) ∷ [] =
-    ap flat_places (take_more items i d low) ∙ map-append flat_place (take i items) (get_or items i d ∷ []) in
-    ea ∙ rw (taken, eb) (sym (placed_next shard (flat_places (take i items)) (flat_place (get_or items i d) ∷ [])))
 
 pub last_item : (is : Run) (i : ℕ) (d : Item) → i + 1 ≡ length is → lasts (drop i is) ≡ get_or is i d ∷ lasts (drop (i + 1) is)
 unfolding lasts

@@ -6,7 +6,7 @@ use std::marker::Model;
 use std::mem::size_of;
 use xet_shard_index::WordPlace;
 
-/// A word and its place. Contracts see the pair. It takes 20 bytes, where the pair takes 24.
+/// A word and its place. Contracts see the pair. It takes 20 bytes; a pair of the two takes 24.
 #[derive(Clone, Copy)]
 pub struct PackedItem {
     /// The word's upper 32 bits.
@@ -37,6 +37,7 @@ impl Model for PackedItem {
 }
 
 impl PackedItem {
+    /// A word with its place.
     pub fn new(word: u64, place: WordPlace) -> PackedItem
         ensures { result ≡ (word, place) }
     {
@@ -49,12 +50,14 @@ impl PackedItem {
         }
     }
 
+    /// The word.
     pub fn word(&self) -> u64
         ensures { result ≡ self.now.0 }
     {
         u64::from(self.high) * 0x1_0000_0000 + u64::from(self.low)
     }
 
+    /// Its place.
     pub fn place(&self) -> WordPlace
         ensures { result ≡ self.now.1 }
     {
