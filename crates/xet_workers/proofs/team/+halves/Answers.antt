@@ -1,4 +1,4 @@
-use Rattle.std.proofs.Common.{rules, ℕ, ◌≡◌, ◌+◌, ◌++◌, arith, length, map, refl}
+use Rattle.std.proofs.Common.{rules, ℕ, ◌≡◌, ◌+◌, ◌/◌, ◌++◌, arith, length, map, refl}
 use Rattle.xet_store.specs.Cleaning.{AreTaken, Later}
 use Rattle.xet_workers.specs.Workers.{AreReady, HaveEnded}
 use Rattle.xet_workers.proofs.Teams.{ended_all, ended_first, later_both, ready_first, ready_split, taken_both, tell_both}
@@ -25,7 +25,8 @@ pub work_shared-work_both-requires-clause-up : goal.work_shared-work_both-requir
 work_shared-work_both-requires-clause-up g t c κs within =
     let low = c.split_at_mut-low.result.0.now in
     let up = c.split_at_mut-low.result.1.now in
-    let ready = ready_split g.S.Source.tells g.S.Source.left g.S.Source.faults g.J.Naming.store (λ s. record { pass = s.pass; made = s.made }) c.args.seats.now low up c.args.from.pass _ c.split_at_mut-low.ensures.value
+    let next : ℕ = c.args.from.pass + length c.args.seats.now / 2 in
+    let ready = ready_split g.S.Source.tells g.S.Source.left g.S.Source.faults g.J.Naming.store (λ s. record { pass = s.pass; made = s.made }) c.args.seats.now low up c.args.from.pass next c.split_at_mut-low.ensures.value
     (omega (arith, c.split_at_mut-low.ensures.front_len)) c.requires.ready in
     (ready.1, omega (arith, c.split_at_mut-low.ensures.back_len), omega (arith, c.split_at_mut-low.ensures.back_len))
 
