@@ -25,8 +25,8 @@ use xet_folder::laws::admitted_later;
 use xet_io::{Disk, Inputs, Sink, Source};
 
 /// Runs the command of the arguments `words`: reads `input` or the files of `inputs`, works on `disk`, prints to
-/// `output`, and returns the disk and the status. `now` is the time in seconds since 1970. `pack` starts the
-/// threads of its workers by `rt`; no clause depends on how many there are.
+/// `output`, and returns the disk and the status. `now` is the time in seconds since 1970. Cleaning starts threads by
+/// `rt`, those of the workers of `pack` and for the SHA-256 of large blocks; no clause depends on how many there are.
 ///
 /// | Status | Meaning |
 /// |---|---|
