@@ -59,6 +59,7 @@ module _ {S : Type 0} (tells : S → Bool) (left : S → List ℕ) where
         let counts = done_counts tells left faults most ss ts fs done in
         let enough : length ts ≤ length ss = omega (arith, counts.0, counts.1) in
         record {
+          same = omega (arith, counts.0, counts.1);
           done = length ss;
           within = omega arith;
           read = subst (λ (l : List S). AreRead tells left most l (take (length ss) ts)) (sym (take_all (length ss) ss (omega arith)))
@@ -110,7 +111,7 @@ since_most old mid new =
 
 -- The sources were read in turn, and so many entries are at most those for what was taken.
 pub record IsFewOf {S : Type 0} (tells : S → Bool) (left : S → List ℕ) (limits : LimitSettings) (entries : ℕ) (sources now : List S) : Type 0 where
-  pub turn : IsReadInTurn tells left limits.max_source_bytes sources now
+  pub turn : length now ≡ length sources → IsReadInTurn tells left limits.max_source_bytes sources now
   pub files : List (List ℕ)
   pub taken : EachTaken tells left sources now files
   pub few : entries ≤ most_for limits files
@@ -127,7 +128,7 @@ module _ {S : Type 0} (tells : S → Bool) (left : S → List ℕ) (faults : S �
       let done : AreDone tells left faults old.store.limits.max_source_bytes ss ts files = subst (λ (s : LimitSettings). AreDone tells left faults s.max_source_bytes ss ts files) limits is.cleaned.are in
       let own : length is.cleaned.working.follows.own ≡ length w.pass.own = ap length (passed_own old number is.begun w.pass false is.passed is.cleaned.working.follows) in
       record {
-        turn = done_turn tells left faults old.store.limits.max_source_bytes ss ts files done;
+        turn = λ same. done_turn tells left faults old.store.limits.max_source_bytes ss ts files done;
         files = map (λ f. f.bytes) files;
         taken = done_taken tells left faults old.store.limits.max_source_bytes ss ts files done;
         few = subst (λ (s : LimitSettings). length w.pass.own + (2 * length w.left.chunks + 2 * length w.left.files) ≤ most_for s (map (λ (f : Planned). f.bytes) files)) limits
@@ -140,7 +141,8 @@ module _ {S : Type 0} (tells : S → Bool) (left : S → List ℕ) (faults : S �
       let limits : is.begun.limits ≡ old.store.limits = passed_limits old number is.begun pass is.stopped is.passed in
       let own : length is.short.few.0.own ≡ length pass.own = ap length (passed_own old number is.begun pass is.stopped is.passed is.short.few.0) in
       record {
-        turn = record {
+        turn = λ same. record {
+          same = same;
           done = is.short.done;
           within = is.short.within;
           read = subst (λ (s : LimitSettings). AreRead tells left s.max_source_bytes (take is.short.done ss) (take is.short.done ts)) limits is.short.read;
@@ -164,7 +166,7 @@ pub record AreBounded {S : Type 0} (tells : S → Bool) (left : S → List ℕ) 
   pub counted : length parts ≡ count
   pub before : sources ≡ flat_map (λ p. p.0) parts
   pub after : now ≡ flat_map (λ p. p.1) parts
-  pub turns : AllByRecursion (λ p. IsReadInTurn tells left limits.max_source_bytes p.0 p.1) parts
+  pub turns : length now ≡ length sources → AllByRecursion (λ p. IsReadInTurn tells left limits.max_source_bytes p.0 p.1) parts
   pub files : List (List ℕ)
   pub longer : length sources ≤ length now
   pub taken : length now ≡ length sources → EachTaken tells left sources now files
@@ -177,7 +179,7 @@ module _ {S : Type 0} (tells : S → Bool) (left : S → List ℕ) (limits : Lim
     counted = refl;
     before = refl;
     after = refl;
-    turns = tt;
+    turns = λ same. tt;
     files = [];
     longer = omega arith;
     taken = λ same. refl;
@@ -196,7 +198,7 @@ module _ {S : Type 0} (tells : S → Bool) (left : S → List ℕ) (limits : Lim
         counted = ap suc more.counted;
         before = ap (λ (l : List S). part ++ l) more.before;
         after = ap (λ (l : List S). part_now ++ l) more.after;
-        turns = (one.turn, more.turns);
+        turns = λ same. (one.turn (omega (arith, same, longer, more.longer, whole, whole_now)), more.turns (omega (arith, same, longer, more.longer, whole, whole_now)));
         files = one.files ++ more.files;
         longer = omega (arith, longer, more.longer, whole, whole_now);
         taken = λ same.
@@ -231,16 +233,18 @@ module _ {S : Type 0} (tells : S → Bool) (left : S → List ℕ) (faults : S �
 module _ {S : Type 0} (workers : ℕ) (tells : S → Bool) (left : S → List ℕ) where
   bounded_by : (sources now : List S) (old new : RecordedState) (count entries : ℕ) → AreBounded tells left old.store.limits count entries sources now → count ≤ workers → map tells now ≡ map tells sources
       → length (entries_since old new) ≤ entries → IsBoundedBy workers tells left sources now old new
-  bounded_by sources now old new count entries are some tell few = record {
-    parts = are.parts;
-    few = omega (arith, are.counted, some);
-    before = are.before;
-    after = are.after;
-    turns = are.turns;
-    files = are.files;
-    taken = are.taken (sym (length-map now tells) ∙ ap length tell ∙ length-map sources tells);
-    bound = omega (arith, few, are.few);
-  }
+  bounded_by sources now old new count entries are some tell few =
+      let same : length now ≡ length sources = sym (length-map now tells) ∙ ap length tell ∙ length-map sources tells in
+      record {
+        parts = are.parts;
+        few = omega (arith, are.counted, some);
+        before = are.before;
+        after = are.after;
+        turns = are.turns same;
+        files = are.files;
+        taken = are.taken same;
+        bound = omega (arith, few, are.few);
+      }
 
   -- Nothing was taken.
   pub bounded_untouched : (sources : List S) (old new : RecordedState) → 1 ≤ workers → new.history ≡ old.history → IsBoundedBy workers tells left sources sources old new
@@ -249,7 +253,7 @@ module _ {S : Type 0} (workers : ℕ) (tells : S → Bool) (left : S → List �
     few = omega (arith, some);
     before = sym (append-nil sources);
     after = sym (append-nil sources);
-    turns = (record { done = 0; within = omega arith; read = record { read = tt; short = tt }; untouched = refl }, tt);
+    turns = (record { same = refl; done = 0; within = omega arith; read = record { read = tt; short = tt }; untouched = refl }, tt);
     files = map (λ (s : S). []) sources;
     taken = taken_each tells left (λ s. 0) sources sources (map (λ (s : S). []) sources) (untouched tells left (λ s. 0) sources);
     bound = omega (arith, length-drop (length old.history) new.history, ap length same);

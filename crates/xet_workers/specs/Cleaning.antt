@@ -79,6 +79,7 @@ pub record IsCleanedBy {S : Type 0} (workers : ℕ) (tells : S → Bool) (left :
 -- Sources that were read in turn: those before one were read to their ends, and had no more bytes than this, and those after it
 -- were not read.
 pub record IsReadInTurn {S : Type 0} (tells : S → Bool) (left : S → List ℕ) (most : ℕ) (sources now : List S) : Type 0 where
+  pub same : length now ≡ length sources
   pub done : ℕ
   pub within : done ≤ length sources
   pub read : AreRead tells left most (take done sources) (take done now)
