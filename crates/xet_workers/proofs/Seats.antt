@@ -5,14 +5,14 @@ use Rattle.std.specs.List.{AllByRecursion, sum_by}
 use Rattle.std.proofs.lemmas.List.{drop_all, length-map, take_all}
 use Rattle.std.proofs.lemmas.List.Sums.{sum_by-cons}
 use Rattle.xet_base.specs.theorems.Elements.{all_more}
-use Rattle.xet_clean.specs.Merging.{Part, files_of}
+use Rattle.xet_clean.specs.Merging.{files_of}
 use Rattle.xet_clean.specs.declared.working.Working.{Working}
 use Rattle.xet_hash.specs.declared.error.StoreError.{StoreError}
 use Rattle.xet_locked_session.specs.Passes.{NumbersDiffer, holder_of, new_passes}
 use Rattle.xet_stepping.specs.Holders.{Holder}
 use Rattle.xet_steps.specs.Recorded.{RecordedState}
 use Rattle.xet_workers.specs.Workers.{AreReady, EndsAs, HasWorked, HaveEnded, SeatState, Worked, worked}
-use Rattle.xet_workers.specs.internal.Parts.{ArePartsBy, all_worked}
+use Rattle.xet_workers.specs.internal.Parts.{all_worked}
 use Rattle.xet_workers.proofs.Numbered.{all_passed, passed_differ}
 use Rattle.xet_workers.proofs.Made.{HasParts, HaveWorked, done_count, infos_count, parts_of}
 

@@ -1,5 +1,5 @@
 -- Workers over parts of sources that follow each other.
-use Rattle.std.proofs.Common.{◌≡◌, ◌∙◌, ℕ, suc, ◌+◌, ◌≤◌, Bool, List, [], ◌∷◌, ◌++◌, length, map, append-nil, append_assoc, length-append, refl, sym, ap, subst, arith}
+use Rattle.std.proofs.Common.{◌≡◌, ◌∙◌, ℕ, suc, ◌+◌, Bool, List, [], ◌∷◌, ◌++◌, length, map, append-nil, append_assoc, length-append, refl, sym, ap, subst, arith}
 use Rattle.std.proofs.lemmas.List.{length-map, map-append}
 use Rattle.std.specs.Prelude.{slice_index_or, slice_set}
 use Rattle.xet_steps.specs.Recorded.{RecordedState}

@@ -8,7 +8,7 @@ use Rattle.xet_clean.specs.declared.policy.Sha256Policy.TheVariants.{Compute}
 use Rattle.xet_clean.specs.declared.working.Working.{Working}
 use Rattle.xet_hash.specs.declared.error.Place.TheVariants.{Source}
 use Rattle.xet_hash.specs.declared.error.StoreError.{StoreError}
-use Rattle.xet_hash.specs.declared.error.StoreError.TheVariants.{Io, OutOfMemory, TooLarge}
+use Rattle.xet_hash.specs.declared.error.StoreError.TheVariants.{Io, TooLarge}
 use Rattle.xet_hash.specs.declared.error.What.TheVariants as what
 use Rattle.xet_locked_session.specs.Passes.{IsPassOf}
 use Rattle.xet_passing.specs.Passing.{IsPassing, passing_of}

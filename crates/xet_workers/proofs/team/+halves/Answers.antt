@@ -1,6 +1,5 @@
 use Rattle.std.proofs.Common.{rules, ℕ, ◌≡◌, ◌+◌, ◌/◌, ◌++◌, arith, length, map, refl}
-use Rattle.xet_store.specs.Cleaning.{AreTaken, Later}
-use Rattle.xet_workers.specs.Workers.{AreReady, HaveEnded}
+use Rattle.xet_workers.specs.Workers.{HaveEnded}
 use Rattle.xet_workers.proofs.Teams.{ended_all, ended_first, later_both, ready_first, ready_split, taken_both, tell_both}
 use Rattle.xet_workers.proofs.team.+halves.Goals as goal
 
