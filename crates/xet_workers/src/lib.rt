@@ -1,4 +1,5 @@
-//! Workers that share a session: each has a pass and a part of the sources, and cleans the files of its part.
+//! Workers that share a session: each has a pass and a part of the sources, and cleans the files of its part. The SHA-256 of a
+//! file is computed beside the placing of its chunks.
 #![tactic(auto)]
 
 mod beside;

@@ -16,7 +16,7 @@ pub(crate) struct Seat<J: Naming> {
     pub made: Result<Working, StoreError>,
 }
 
-/// The numbers of some workers: that of the first pass, and by which errors name their first source.
+/// The numbers of some workers: the number of the first pass, and the number by which errors name their first source.
 #[derive(Clone, Copy)]
 pub(crate) struct Numbers {
     pub pass: u32,
@@ -84,8 +84,8 @@ pub(crate) fn leave_seats<J: Naming>(
     (passes, made)
 }
 
-/// With what one more worker made; or the first error, unless it says only that memory is out, as that of a worker does that
-/// stopped, and there is another.
+/// With what one more worker made; or, by the code, the first error, unless it says only that memory is out, as does the error of
+/// a worker that was stopped, and there is another.
 fn with_next(
     made: Result<Vec<Working>, StoreError>,
     next: Result<Working, StoreError>,
@@ -111,7 +111,7 @@ fn pushed(made: Vec<Working>, next: Result<Working, StoreError>) -> Result<Vec<W
     Ok(all)
 }
 
-/// The error, unless it says only that memory is out and there is another.
+/// The error, unless it says only that memory is out and there is another; by the code.
 fn cause_of(error: StoreError, next: Result<Working, StoreError>) -> StoreError
     ensures { (result ≡ error) ⊎ IsErrAnd next (λ e. result ≡ e) }
 {

@@ -1,6 +1,6 @@
 //! Workers side by side.
 
-ghost use Rattle.std.specs.Prelude.{◌≡◌, ◌≤◌, ◌<◌, ◌+◌, ◌^◌, ◌++◌, length, map};
+ghost use Rattle.std.specs.Prelude.{◌≡◌, ◌≤◌, ◌<◌, ◌+◌, ◌*◌, ◌/◌, ◌^◌, ◌++◌, length, map};
 ghost use Rattle.std.specs.Thread.{IsSend, IsSync};
 ghost use Rattle.xet_store.specs.Cleaning.{AreTaken, Later};
 ghost use Rattle.xet_workers.specs.Workers.{AreReady, HaveEnded};
@@ -103,7 +103,8 @@ fn work_both<D: Disk + Send, J: Naming + Send + Sync, S: Source + Send, R: Threa
 fn share_of(len: usize, low: usize, workers: usize) -> usize
     requires len { len ≤ 2 ^ 20 }
     requires workers { (low < workers) × (workers ≤ 256) }
-    ensures { result ≤ len }
+    ensures share { result ≡ len * low / workers }
+    ensures within { result ≤ len }
 {
     len * low / workers
 }

@@ -95,8 +95,8 @@ fn block_of(alloc: Global, len: usize) -> Result<Vec<u8>, StoreError>
     Ok(vec![in alloc; 0u8; len]?)
 }
 
-/// Cleans the sources with the pass that lies in the seat, and puts it back there, with what was made of them. After an error no
-/// worker makes a step.
+/// Cleans the sources with the pass that lies in the seat, and puts it back there, with what was made of them. After an error it
+/// stops the session, by the code.
 pub(crate) fn work<D: Disk, J: Naming, S: Source, R: Threads + Wait>(
     rt: &R,
     alloc: Global,

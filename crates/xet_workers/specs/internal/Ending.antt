@@ -75,7 +75,8 @@ pub record HasNotMerged (old new : RecordedState) (passes : List Holder) (ps : L
   pub closed : IsClosed old mid passes
   pub refused : UnmergedAlone mid new ps workings e
 
--- Why the parts were not merged: a step failed or a record was rejected; or memory is out.
+-- Why the parts were not merged: a step failed or a record was rejected; or the session was stopped, and the error is
+-- `OutOfMemory`.
 abbrev pub IsUnended : RecordedState → RecordedState → List Holder → List Part → List Working → StoreError → Type 0
 IsUnended old new passes ps workings e = HasNotMerged old new passes ps workings e ⊎ ((e ≡ OutOfMemory) × IsLeftWith old new passes)
 
