@@ -12,9 +12,10 @@ ghost use Rattle.xet_store.specs.Store.{Sound, plan_of};
 ghost use Rattle.xet_workers.specs.Cleaning.{GrowsBy, IsBoundedBy, IsCleanedBy};
 ghost use Rattle.xet_workers.specs.internal.Ending.{Promises};
 
+use crate::crew::Crew;
 use crate::ending::close_and_merge;
 use crate::seat::{Numbers, Room, leave_seats, take_seats};
-use crate::team::{Crew, work_shared};
+use crate::team::work_shared;
 use std::alloc::Global;
 use std::marker::{Brand, Send, Sync};
 use std::sync::Wait;
@@ -176,6 +177,7 @@ fn clean_to_end<
                 rt,
                 alloc,
                 session: &session,
+                is_alone: workers == 1,
             };
             let from = Numbers { pass: 1, source: 0 };
             work_shared(&crew, &mut room.seats, from, sources);

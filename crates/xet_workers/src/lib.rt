@@ -4,6 +4,7 @@
 
 mod beside;
 mod clean;
+mod crew;
 mod ending;
 mod seat;
 mod team;

@@ -5,22 +5,14 @@ ghost use Rattle.std.specs.Thread.{IsSend, IsSync};
 ghost use Rattle.xet_store.specs.Cleaning.{AreTaken, Later};
 ghost use Rattle.xet_workers.specs.Workers.{AreReady, HaveEnded};
 
+use crate::crew::Crew;
 use crate::seat::{Numbers, Seat};
 use crate::work::work;
-use std::alloc::Global;
 use std::marker::{Send, Sync};
 use std::sync::Wait;
 use std::thread::{Threads, join_mut};
 use xet_io::{Disk, Source};
-use xet_locked_session::{LockedSession, Naming};
-
-/// What workers share: what starts threads and waits, where memory is taken, and the session.
-#[derive(Drop)]
-pub(crate) struct Crew<'a, D: Disk, J: Naming, R: Wait> {
-    pub rt: &'a R,
-    pub alloc: Global,
-    pub session: &'a LockedSession<D, J>,
-}
+use xet_locked_session::Naming;
 
 /// Divides the sources among the workers of the seats, which clean them side by side, each over the pass in its seat. The passes
 /// have consecutive numbers, and the sources too, by which errors name them.
@@ -41,14 +33,7 @@ pub(crate) fn work_shared<
 {
     let workers = seats.len();
     if workers == 1 {
-        work(
-            crew.rt,
-            crew.alloc,
-            crew.session,
-            &mut seats[0],
-            from,
-            sources,
-        );
+        work(crew, &mut seats[0], from, sources);
         return;
     }
     let half = workers / 2;

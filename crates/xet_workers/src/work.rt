@@ -11,6 +11,7 @@ ghost use Rattle.xet_store.specs.Cleaning.{AreTaken, Later};
 ghost use Rattle.xet_workers.specs.Workers.{HasEnded, HasPassed, IsReady, NamesWithin, later_source};
 
 use crate::beside::Beside;
+use crate::crew::Crew;
 use crate::seat::{Numbers, Seat};
 use std::alloc::Global;
 use std::sync::Wait;
@@ -18,15 +19,16 @@ use std::thread::Threads;
 use xet_clean::{Sha256Policy, Working, clean_each};
 use xet_hash::{Place, StoreError, What};
 use xet_io::{Disk, Source};
-use xet_locked_session::{LockedSession, Naming, Pass};
+use xet_locked_session::{Naming, Pass};
 use xet_passing::Passing;
 use xet_stepping::Asking;
 
+/// How many blocks a worker reads at a time that is alone.
+const BLOCKS_ALONE: usize = 4;
+
 /// Cleans the sources over a pass of the session, and returns the pass. Errors name the sources from 0 on.
 fn clean_part<D: Disk, J: Naming, S: Source, R: Threads + Wait>(
-    rt: &R,
-    alloc: Global,
-    session: &LockedSession<D, J>,
+    crew: &Crew<'_, D, J, R>,
     pass: Pass<J>,
     sources: &mut [S],
 ) -> (Pass<J>, Result<Working, StoreError>)
@@ -38,9 +40,11 @@ fn clean_part<D: Disk, J: Naming, S: Source, R: Threads + Wait>(
     ensures taken { AreTaken S.tells S.left sources.old sources.new }
     ensures later { Later S.faults sources.old sources.new }
 {
+    let (rt, alloc) = (crew.rt, crew.alloc);
     let working = Working::new(alloc, sources.len());
-    let block = block_of(alloc, session.limits().block_bytes() as usize);
-    let passing = Passing::new(rt, session, pass);
+    let len = block_len(crew.session.limits().block_bytes(), crew.is_alone);
+    let block = block_of(alloc, len);
+    let passing = Passing::new(rt, crew.session, pass);
     passing.recall_passing();
     match (working, block) {
         (Ok(working), Ok(mut block)) => clean_whole(
@@ -87,6 +91,19 @@ fn clean_whole<D: Disk, J: Naming, S: Source, R: Threads + Wait>(
     (passing.into_pass(), working)
 }
 
+/// The length of a worker's buffer, in bytes: a block, or, of one that is alone, so many that a xorb that is written meanwhile does
+/// not hold up the SHA-256 of what was read.
+fn block_len(block_bytes: u32, is_alone: bool) -> usize
+    requires { (1 ≤ block_bytes) × (block_bytes ≤ 2 ^ 30) }
+    ensures { 1 ≤ result }
+{
+    if is_alone {
+        BLOCKS_ALONE * block_bytes as usize
+    } else {
+        block_bytes as usize
+    }
+}
+
 /// A buffer of so many bytes. The only error is `OutOfMemory`.
 fn block_of(alloc: Global, len: usize) -> Result<Vec<u8>, StoreError>
     ensures block { IfOk result (λ block. block.items ≡ replicate len 0) }
@@ -98,9 +115,7 @@ fn block_of(alloc: Global, len: usize) -> Result<Vec<u8>, StoreError>
 /// Cleans the sources with the pass that lies in the seat, and puts it back there, with what was made of them. After an error it
 /// stops the session, by the code.
 pub(crate) fn work<D: Disk, J: Naming, S: Source, R: Threads + Wait>(
-    rt: &R,
-    alloc: Global,
-    session: &LockedSession<D, J>,
+    crew: &Crew<'_, D, J, R>,
     seat: &mut Seat<J>,
     from: Numbers,
     sources: &mut [S],
@@ -115,9 +130,9 @@ pub(crate) fn work<D: Disk, J: Naming, S: Source, R: Threads + Wait>(
     let Some(pass) = seat.pass.take() else {
         unreachable!()
     };
-    let (pass, made) = clean_part(rt, alloc, session, pass, sources);
+    let (pass, made) = clean_part(crew, pass, sources);
     if made.is_err() {
-        session.stop(rt);
+        crew.session.stop(crew.rt);
     }
     seat.pass = Some(pass);
     seat.made = made_from(made, from.source);

@@ -1,0 +1,16 @@
+//! `Crew`: what workers share.
+
+use std::alloc::Global;
+use std::sync::Wait;
+use xet_io::Disk;
+use xet_locked_session::{LockedSession, Naming};
+
+/// What workers share: what starts threads and waits, where memory is taken, and the session.
+#[derive(Drop)]
+pub(crate) struct Crew<'a, D: Disk, J: Naming, R: Wait> {
+    pub rt: &'a R,
+    pub alloc: Global,
+    pub session: &'a LockedSession<D, J>,
+    /// Whether there is one worker alone.
+    pub is_alone: bool,
+}
