@@ -1,10 +1,7 @@
 //! Tests of a session that passes share under a lock.
 
-ghost use Rattle.std.specs.Prelude.{◌≡◌, IfOk, IfSome, false};
-ghost use Rattle.xet_dedup_queries.specs.Registering.{IsNewXorb};
+ghost use Rattle.std.specs.Prelude.{◌≡◌, IfOk, false};
 ghost use Rattle.xet_locked_session.specs.Passes.{new_passes};
-ghost use Rattle.xet_shard_format.specs.Records.{IsFile};
-ghost use Rattle.xet_stepping.specs.Holders.{xorb_limits};
 
 use crate::files::{chunk_hashes, record, xorb};
 use crate::recorded::limits;
@@ -12,12 +9,48 @@ use std::alloc::{AllocError, Global};
 use std::marker::Brand;
 use std::sync::Wait;
 use std::test::Fail;
-use xet_hash::{Reason, StoreError, compute_data_hash};
+use xet_hash::{MerkleHash, Reason, StoreError, compute_data_hash};
 use xet_io::MemoryDisk;
 use xet_locked_session::{LockedSession, Naming, Opened, Pass};
-use xet_shard_format::MDBFileInfo;
 use xet_steps::Store;
-use xet_xorb::RawXorbData;
+
+/// A pass registers the xorb. Returns whether it was new, and its hash.
+fn register<J: Naming, R: Wait>(
+    rt: &R,
+    alloc: Global,
+    session: &LockedSession<MemoryDisk, J>,
+    pass: &mut Pass<J>,
+) -> Result<(bool, MerkleHash), StoreError>
+    requires { pass.old.limits ≡ J.store.store.limits }
+{
+    let xorb = xorb(alloc, session.limits())?;
+    let hash = xorb.hash();
+    Ok((session.register_xorb(rt, pass, xorb, &[])?, hash))
+}
+
+/// A pass queries. Returns how many chunks it found.
+fn query<J: Naming, R: Wait>(
+    rt: &R,
+    session: &LockedSession<MemoryDisk, J>,
+    pass: &mut Pass<J>,
+    hashes: &[MerkleHash],
+) -> Result<Option<usize>, StoreError> {
+    match session.query(rt, pass, hashes)? {
+        Some((count, _)) => Ok(Some(count)),
+        None => Ok(None),
+    }
+}
+
+/// A pass records the file of the chunks of the xorb of this hash. Returns whether it was new.
+fn complete<J: Naming, R: Wait>(
+    rt: &R,
+    alloc: Global,
+    session: &LockedSession<MemoryDisk, J>,
+    pass: &mut Pass<J>,
+    xorb: MerkleHash,
+) -> Result<bool, StoreError> {
+    session.complete_file(rt, pass, record(alloc, xorb)?)
+}
 
 /// Whether the xorb and the file were new; how many chunks the query found; whether the first flush wrote a shard, and the
 /// second one; the lengths of the history that the two passes have seen.
@@ -26,23 +59,18 @@ type Seen = (bool, bool, Option<usize>, (bool, bool), (u64, u64));
 /// The first pass registers the xorb and flushes; the second one queries, records the file, and flushes again.
 fn take_turns<J: Naming, R: Wait>(
     rt: &R,
+    alloc: Global,
     session: &LockedSession<MemoryDisk, J>,
     first: &mut Pass<J>,
     second: &mut Pass<J>,
-    xorb: RawXorbData,
-    file: MDBFileInfo,
 ) -> Result<Seen, StoreError>
     requires going { J.stops ≡ false }
-    requires new { IsNewXorb (xorb_limits first.old.limits) xorb }
-    requires form { IsFile file }
+    requires limits { first.old.limits ≡ J.store.store.limits }
 {
     let [a, b] = chunk_hashes();
-    let is_new = session.register_xorb(rt, first, xorb, &[])?;
-    let found = match session.query(rt, second, &[a, b])? {
-        Some((count, _)) => Some(count),
-        None => None,
-    };
-    let recorded = session.complete_file(rt, second, file)?;
+    let (is_new, xorb) = register(rt, alloc, session, first)?;
+    let found = query(rt, session, second, &[a, b])?;
+    let recorded = complete(rt, alloc, session, second, xorb)?;
     let wrote = session.flush(rt, first)?.is_some();
     let again = session.flush(rt, second)?.is_some();
     Ok((
@@ -57,23 +85,17 @@ fn take_turns<J: Naming, R: Wait>(
 /// The two passes take turns.
 fn take_turns_of<J: Naming, R: Wait>(
     rt: &R,
+    alloc: Global,
     session: &LockedSession<MemoryDisk, J>,
-    mut passes: Vec<Pass<J>>,
-    xorb: RawXorbData,
-    file: MDBFileInfo,
+    passes: &mut [Pass<J>],
 ) -> Result<Seen, StoreError>
-    requires passes { passes.items ≡ new_passes J.store 1 2 }
+    requires passes { passes.old ≡ new_passes J.store 1 2 }
     requires going { J.stops ≡ false }
-    requires new { IsNewXorb (xorb_limits J.store.store.limits) xorb }
-    requires form { IsFile file }
 {
-    let Some(mut second) = passes.pop() else {
-        return Err(StoreError::OutOfMemory);
-    };
-    let Some(mut first) = passes.pop() else {
-        return Err(StoreError::OutOfMemory);
-    };
-    take_turns(rt, session, &mut first, &mut second, xorb, file)
+    match passes {
+        [first, second] => take_turns(rt, alloc, session, first, second),
+        _ => Err(StoreError::OutOfMemory),
+    }
 }
 
 /// A session of a store with two passes, which take turns. The store is returned.
@@ -82,28 +104,24 @@ fn share<J: Naming, R: Wait>(
     alloc: Global,
     opened: Opened,
     store: Store<MemoryDisk>,
-    xorb: RawXorbData,
-    file: MDBFileInfo,
 ) -> (Store<MemoryDisk>, Result<Seen, StoreError>)
     requires table { opened.word ≡ J.table }
     requires ledger { (opened.blank.name ≡ J.name) × (opened.blank.parts ≡ J.parts) × (J.parts ≡ 3) }
     requires store { store ≡ J.store }
     requires stops { opened.stops ≡ J.stops }
     requires going { J.stops ≡ false }
-    requires new { IsNewXorb (xorb_limits J.store.store.limits) xorb }
-    requires form { IsFile file }
 {
     match LockedSession::<MemoryDisk, J>::new(alloc, opened, store, 2) {
-        Ok((session, passes)) => {
-            let seen = take_turns_of(rt, &session, passes, xorb, file);
+        Ok((session, mut passes)) => {
+            let seen = take_turns_of(rt, alloc, &session, &mut passes);
             (session.abandon(), seen)
         }
         Err((store, error)) => (store, Err(error)),
     }
 }
 
-/// The same, with the xorb and the file of its chunks.
-fn share_files<R: Wait>(
+/// The same, with a name of its own.
+fn share_once<R: Wait>(
     rt: &R,
     alloc: Global,
     opened: Opened,
@@ -112,13 +130,7 @@ fn share_files<R: Wait>(
     requires parts { opened.blank.parts ≡ 3 }
     requires going { opened.stops ≡ false }
 {
-    match xorb(alloc, store.limits()) {
-        Ok(xorb) => match record(alloc, xorb.hash()) {
-            Ok(file) => share::<Brand, R>(rt, alloc, opened, store, xorb, file),
-            Err(error) => (store, Err(error)),
-        },
-        Err(error) => (store, Err(error)),
-    }
+    share::<Brand, R>(rt, alloc, opened, store)
 }
 
 /// A session with two passes that are given back at once.
@@ -190,44 +202,52 @@ fn halt_once<R: Wait>(
 /// The errors of what ends a session, and of the query after it.
 type Errors = (Option<StoreError>, Option<StoreError>);
 
-/// The first pass records the file; or, without a file, the session is stopped. The second pass then queries.
+/// The error of a file that lies in no listed xorb.
+const OTHER: Option<StoreError> = Some(StoreError::MalformedData(Reason::OtherFileHash));
+
+/// The first pass records a file that lies in no listed xorb; or, without a step, the session is stopped. The second pass then
+/// queries.
 fn end<J: Naming, R: Wait>(
     rt: &R,
+    alloc: Global,
     session: &LockedSession<MemoryDisk, J>,
     first: &mut Pass<J>,
     second: &mut Pass<J>,
-    file: Option<MDBFileInfo>,
-) -> Errors
-    requires { IfSome file IsFile }
-{
-    let ended = match file {
-        Some(file) => session.complete_file(rt, first, file).err(),
-        None => {
-            session.stop(rt);
-            None
-        }
+    by_step: bool,
+) -> Errors {
+    let ended = if by_step {
+        complete(rt, alloc, session, first, compute_data_hash(b"abc")).err()
+    } else {
+        session.stop(rt);
+        None
     };
     let [a, _] = chunk_hashes();
-    (ended, session.query(rt, second, &[a]).err())
+    (ended, query(rt, session, second, &[a]).err())
 }
 
-/// The same, with two passes of the session. The second one is returned.
+/// The same, with two passes of the session.
 fn end_of<J: Naming, R: Wait>(
     rt: &R,
+    alloc: Global,
     session: &LockedSession<MemoryDisk, J>,
+    passes: &mut [Pass<J>],
+    by_step: bool,
+) -> Result<Errors, StoreError> {
+    match passes {
+        [first, second] => Ok(end(rt, alloc, session, first, second, by_step)),
+        _ => Err(StoreError::OutOfMemory),
+    }
+}
+
+/// Ends a session of which the last of these passes is left.
+fn abandon<J: Naming>(
+    session: LockedSession<MemoryDisk, J>,
     mut passes: Vec<Pass<J>>,
-    file: Option<MDBFileInfo>,
-) -> Result<(Errors, Pass<J>), StoreError>
-    requires { IfSome file IsFile }
-{
-    let Some(mut second) = passes.pop() else {
-        return Err(StoreError::OutOfMemory);
-    };
-    let Some(mut first) = passes.pop() else {
-        return Err(StoreError::OutOfMemory);
-    };
-    let errors = end(rt, session, &mut first, &mut second, file);
-    Ok((errors, second))
+) -> Store<MemoryDisk> {
+    match passes.pop() {
+        Some(pass) => session.abandon_after(pass),
+        None => session.abandon(),
+    }
 }
 
 /// The same, with a session of a store. The store is returned.
@@ -236,19 +256,18 @@ fn end_session<J: Naming, R: Wait>(
     alloc: Global,
     opened: Opened,
     store: Store<MemoryDisk>,
-    file: Option<MDBFileInfo>,
+    by_step: bool,
 ) -> (Store<MemoryDisk>, Result<Errors, StoreError>)
     requires table { opened.word ≡ J.table }
     requires ledger { (opened.blank.name ≡ J.name) × (opened.blank.parts ≡ J.parts) × (J.parts ≡ 3) }
     requires store { store ≡ J.store }
     requires stops { opened.stops ≡ J.stops }
-    requires form { IfSome file IsFile }
 {
     match LockedSession::<MemoryDisk, J>::new(alloc, opened, store, 2) {
-        Ok((session, passes)) => match end_of(rt, &session, passes, file) {
-            Ok((errors, pass)) => (session.abandon_after(pass), Ok(errors)),
-            Err(error) => (session.abandon(), Err(error)),
-        },
+        Ok((session, mut passes)) => {
+            let errors = end_of(rt, alloc, &session, &mut passes, by_step);
+            (abandon(session, passes), errors)
+        }
         Err((store, error)) => (store, Err(error)),
     }
 }
@@ -259,12 +278,11 @@ fn end_once<R: Wait>(
     alloc: Global,
     opened: Opened,
     store: Store<MemoryDisk>,
-    file: Option<MDBFileInfo>,
+    by_step: bool,
 ) -> (Store<MemoryDisk>, Result<Errors, StoreError>)
-    requires parts { opened.blank.parts ≡ 3 }
-    requires form { IfSome file IsFile }
+    requires { opened.blank.parts ≡ 3 }
 {
-    end_session::<Brand, R>(rt, alloc, opened, store, file)
+    end_session::<Brand, R>(rt, alloc, opened, store, by_step)
 }
 
 /// A store in the folder `store` of a new disk.
@@ -276,12 +294,18 @@ pub fn open(alloc: Global) -> Result<Store<MemoryDisk>, StoreError> {
     }
 }
 
+/// Closes a store. Returns the number of its entries.
+pub fn close(store: Store<MemoryDisk>) -> usize {
+    let entries = store.history().len();
+    let _disk = store.into_disk();
+    entries
+}
+
 /// What two passes see of one store, and the number of its entries.
 fn shared<R: Wait>(rt: &R, alloc: Global) -> Result<(Seen, usize), StoreError> {
     let opened = Opened::new(alloc, 2)?;
-    let (store, seen) = share_files(rt, alloc, opened, open(alloc)?);
-    let entries = store.history().len();
-    let _disk = store.into_disk();
+    let (store, seen) = share_once(rt, alloc, opened, open(alloc)?);
+    let entries = close(store);
     Ok((seen?, entries))
 }
 
@@ -289,8 +313,7 @@ fn shared<R: Wait>(rt: &R, alloc: Global) -> Result<(Seen, usize), StoreError> {
 fn locked(alloc: Global) -> Result<usize, StoreError> {
     let opened = Opened::new(alloc, 2)?;
     let (store, done) = lock_once(alloc, opened, open(alloc)?);
-    let entries = store.history().len();
-    let _disk = store.into_disk();
+    let entries = close(store);
     done?;
     Ok(entries)
 }
@@ -310,38 +333,27 @@ fn opened(alloc: Global, stops: bool) -> Result<Opened, AllocError>
 fn halted<R: Wait>(rt: &R, alloc: Global, stops: bool, stop: bool) -> Result<bool, StoreError> {
     let opened = opened(alloc, stops)?;
     let (store, stopped) = halt_once(rt, alloc, opened, open(alloc)?, stop);
-    let _disk = store.into_disk();
+    let _entries = close(store);
     stopped
 }
 
-/// The file of the chunks of the xorb, which is nowhere listed.
-fn unlisted(alloc: Global) -> Result<MDBFileInfo, StoreError>
-    ensures { IfOk result IsFile }
-{
-    record(alloc, compute_data_hash(b"abc"))
-}
-
-/// The errors of a session that ends, and the number of entries of its store.
+/// The errors of a session that ends by a step or by a call, and the number of entries of its store.
 fn ended<R: Wait>(
     rt: &R,
     alloc: Global,
-    opened: Opened,
-    file: Option<MDBFileInfo>,
-) -> Result<(Errors, usize), StoreError>
-    requires parts { opened.blank.parts ≡ 3 }
-    requires form { IfSome file IsFile }
-{
-    let (store, errors) = end_once(rt, alloc, opened, open(alloc)?, file);
-    let entries = store.history().len();
-    let _disk = store.into_disk();
+    stops: bool,
+    by_step: bool,
+) -> Result<(Errors, usize), StoreError> {
+    let opened = opened(alloc, stops)?;
+    let (store, errors) = end_once(rt, alloc, opened, open(alloc)?, by_step);
+    let entries = close(store);
     Ok((errors?, entries))
 }
 
 #[test]
 fn passes_share_one_history(rt: HostRuntime) -> Result<(), Fail> {
-    let (seen, entries) = shared(&rt, rt.alloc())?;
-    assert_eq!(rt; seen, (true, true, Some(2), (true, false), (4, 4)));
-    assert_eq!(rt; entries, 4);
+    let seen = shared(&rt, rt.alloc())?;
+    assert_eq!(rt; seen, ((true, true, Some(2), (true, false), (4, 4)), 4));
     Ok(())
 }
 
@@ -354,30 +366,29 @@ fn session_without_steps_leaves_the_store(rt: HostRuntime) -> Result<(), Fail> {
 
 #[test]
 fn session_that_stops_makes_no_step_after_one_that_failed(rt: HostRuntime) -> Result<(), Fail> {
-    let other = Some(StoreError::MalformedData(Reason::OtherFileHash));
-    let stopping = ended(
-        &rt,
-        rt.alloc(),
-        opened(rt.alloc(), true)?,
-        Some(unlisted(rt.alloc())?),
-    )?;
-    assert_eq!(rt; stopping, ((other, Some(StoreError::OutOfMemory)), 0));
-    let going = ended(
-        &rt,
-        rt.alloc(),
-        opened(rt.alloc(), false)?,
-        Some(unlisted(rt.alloc())?),
-    )?;
-    assert_eq!(rt; going, ((other, None), 1));
+    let stopping = ended(&rt, rt.alloc(), true, true)?;
+    let going = ended(&rt, rt.alloc(), false, true)?;
+    assert_eq!(rt;
+        (stopping, going),
+        (
+            ((OTHER, Some(StoreError::OutOfMemory)), 0),
+            ((OTHER, None), 1)
+        )
+    );
     Ok(())
 }
 
 #[test]
 fn session_that_stops_is_stopped_by_a_call(rt: HostRuntime) -> Result<(), Fail> {
-    let stopping = ended(&rt, rt.alloc(), opened(rt.alloc(), true)?, None)?;
-    assert_eq!(rt; stopping, ((None, Some(StoreError::OutOfMemory)), 0));
-    let going = ended(&rt, rt.alloc(), opened(rt.alloc(), false)?, None)?;
-    assert_eq!(rt; going, ((None, None), 1));
+    let stopping = ended(&rt, rt.alloc(), true, false)?;
+    let going = ended(&rt, rt.alloc(), false, false)?;
+    assert_eq!(rt;
+        (stopping, going),
+        (
+            ((None, Some(StoreError::OutOfMemory)), 0),
+            ((None, None), 1)
+        )
+    );
     Ok(())
 }
 

@@ -1,4 +1,4 @@
-use Rattle.xet_steps_tests.proofs.passing_tests.pass_files.Given as goal
+use Rattle.xet_steps_tests.proofs.passing_tests.pass_once.Given as goal
 
 abbrev pub ghosts-pass_steps-J-Naming : goal.ghosts-pass_steps-J-Naming
 ghosts-pass_steps-J-Naming g a = record { table = a.opened.word; store = a.store; stops = a.opened.stops }

@@ -1,4 +1,4 @@
-use Rattle.xet_steps_tests.proofs.locked_tests.share_files.Given as goal
+use Rattle.xet_steps_tests.proofs.locked_tests.share_once.Given as goal
 
 abbrev pub ghosts-share-J-Naming : goal.ghosts-share-J-Naming
 ghosts-share-J-Naming g a = record { table = a.opened.word; store = a.store; stops = a.opened.stops }
