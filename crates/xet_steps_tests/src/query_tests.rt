@@ -1,7 +1,7 @@
 //! Tests of queries: in what is pending, in a flushed shard, and in a shard that was there at opening.
 
 use crate::files::{chunk_hashes, zero_hashes};
-use crate::recorded::{Recorded, limits};
+use crate::recorded::{Letters, Recorded, limits};
 use std::alloc::Global;
 use std::test::Fail;
 use xet_hash::{MerkleHash, Place, StoreError};
@@ -67,15 +67,12 @@ fn queries_are_answered_wherever_the_chunks_are(rt: HostRuntime) -> Result<(), F
     ];
     let (seen, disk) = asked(rt.alloc())?;
     let again = asked_again(rt.alloc(), disk)?;
-    let (pending, flushed) = seen?;
-    assert_eq!(rt; pending, wanted);
-    assert_eq!(rt; flushed, wanted);
-    assert_eq!(rt; again, wanted);
+    assert_eq!(rt; (seen?, again), ((wanted, wanted), wanted));
     Ok(())
 }
 
 /// Asks for nothing, for the zeros once they are flushed, and for both xorbs once the other one is flushed too.
-fn ask_between(store: &mut Recorded) -> Result<([Option<Run>; 4], String), StoreError> {
+fn ask_between(store: &mut Recorded) -> Result<([Option<Run>; 4], Letters), StoreError> {
     let [a, b] = zero_hashes();
     let [c, d] = chunk_hashes();
     let nothing = store.query(&[])?;
@@ -86,11 +83,11 @@ fn ask_between(store: &mut Recorded) -> Result<([Option<Run>; 4], String), Store
     let _flushed = store.flush()?;
     let first = store.query(&[a, b])?;
     let last = store.query(&[c, d])?;
-    Ok(([nothing, before, first, last], store.history()?))
+    Ok(([nothing, before, first, last], store.history()))
 }
 
 /// The same in a new store.
-fn asked_between(alloc: Global) -> Result<([Option<Run>; 4], String), StoreError> {
+fn asked_between(alloc: Global) -> Result<([Option<Run>; 4], Letters), StoreError> {
     let limits = limits(LONG)?;
     let mut store = Recorded::open(alloc, MemoryDisk::new(alloc), limits)?;
     let seen = ask_between(&mut store);
@@ -100,25 +97,25 @@ fn asked_between(alloc: Global) -> Result<([Option<Run>; 4], String), StoreError
 
 #[test]
 fn shards_that_are_flushed_between_queries_are_asked(rt: HostRuntime) -> Result<(), Fail> {
-    let (runs, history) = asked_between(rt.alloc())?;
     let zeros = Some((2, 0, 2, 72));
-    assert_eq!(rt; runs, [None, zeros, zeros, Some((2, 0, 2, 7))]);
-    assert_eq!(rt; history.as_str(), "RFQRFQQ");
+    let runs = [None, zeros, zeros, Some((2, 0, 2, 7))];
+    let history = ['R', 'F', 'Q', 'R', 'F', 'Q', 'Q', ' '];
+    assert_eq!(rt; asked_between(rt.alloc())?, (runs, history));
     Ok(())
 }
 
 /// Whether the first query failed as the disk did, and the answer of the same query after that.
-fn ask_again(store: &mut Recorded) -> Result<(bool, Option<Run>, String), StoreError> {
+fn ask_again(store: &mut Recorded) -> Result<(bool, Option<Run>, Letters), StoreError> {
     let [a, b] = zero_hashes();
     let _added = store.register_zeros()?;
     let _flushed = store.flush()?;
     let failed = store.query(&[a, b]) == Err(StoreError::Io(Place::Disk));
     let answer = store.query(&[a, b])?;
-    Ok((failed, answer, store.history()?))
+    Ok((failed, answer, store.history()))
 }
 
 /// The same over a disk whose first read fails.
-fn asked_after_fault(alloc: Global) -> Result<(bool, Option<Run>, String), StoreError> {
+fn asked_after_fault(alloc: Global) -> Result<(bool, Option<Run>, Letters), StoreError> {
     let limits = limits(LONG)?;
     let fails = vec![in alloc; (Op::ReadAt, 0)]?;
     let mut store = Recorded::open(alloc, MemoryDisk::failing(alloc, fails), limits)?;
@@ -129,9 +126,10 @@ fn asked_after_fault(alloc: Global) -> Result<(bool, Option<Run>, String), Store
 
 #[test]
 fn failed_queries_have_the_entry_of_the_failure(rt: HostRuntime) -> Result<(), Fail> {
-    let (failed, answer, history) = asked_after_fault(rt.alloc())?;
-    assert!(rt; failed);
-    assert_eq!(rt; answer, Some((2, 0, 2, 72)));
-    assert_eq!(rt; history.as_str(), "RF?Q");
+    let history = ['R', 'F', '?', 'Q', ' ', ' ', ' ', ' '];
+    assert_eq!(rt;
+        asked_after_fault(rt.alloc())?,
+        (true, Some((2, 0, 2, 72)), history)
+    );
     Ok(())
 }

@@ -19,6 +19,12 @@ pub struct Recorded {
     store: Store<MemoryDisk>,
 }
 
+/// The letters of at most eight entries of a history, and blanks after them.
+pub type Letters = [char; 8];
+
+/// The letters of a history without entries.
+pub const NONE: Letters = [' '; 8];
+
 /// The limits of a store whose shards have at most this target length if they can be shorter.
 pub fn limits(shard_target: u64) -> Result<Limits, StoreError> {
     Limits::new(LimitSettings {
@@ -97,10 +103,18 @@ impl Recorded {
     }
 
     /// Bytes 2..6 of the only file.
-    pub fn part(&mut self) -> Result<Vec<u8>, StoreError> {
-        let files = self.store.files(self.alloc)?;
-        match files.first() {
-            Some((hash, _)) => self.store.read_range(hash, 2, 6),
+    pub fn part(&mut self) -> Result<[u8; 4], StoreError> {
+        let file = self.first_file()?;
+        match self.store.read_range(&file, 2, 6)?.as_slice() {
+            [a, b, c, d] => Ok([*a, *b, *c, *d]),
+            _ => Err(StoreError::InvalidRange),
+        }
+    }
+
+    /// The hash of the first file.
+    fn first_file(&self) -> Result<MerkleHash, StoreError> {
+        match self.store.files(self.alloc)?.first() {
+            Some((hash, _)) => Ok(*hash),
             None => Err(StoreError::FileNotFound),
         }
     }
@@ -112,12 +126,14 @@ impl Recorded {
     }
 
     /// For each entry its letter, in capitals if something was added.
-    pub fn history(&self) -> Result<String, StoreError> {
-        let mut letters = String::new(self.alloc);
-        for entry in self.store.history() {
-            letters.push(letter(entry))?;
+    pub fn history(&self) -> Letters {
+        let mut letters = NONE;
+        for (i, entry) in self.store.history().iter().enumerate() {
+            if let Some(place) = letters.get_mut(i) {
+                *place = letter(entry);
+            }
         }
-        Ok(letters)
+        letters
     }
 
     /// Closes the store and returns the disk.

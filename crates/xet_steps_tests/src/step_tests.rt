@@ -1,6 +1,6 @@
 //! Tests of steps and their entries.
 
-use crate::recorded::{Recorded, limits};
+use crate::recorded::{Letters, NONE, Recorded, limits};
 use std::alloc::Global;
 use std::test::Fail;
 use xet_hash::{Place, Reason, StoreError};
@@ -10,7 +10,7 @@ use xet_io::{MemoryDisk, Op};
 const LONG: u64 = 1 << 20;
 
 /// The answers of a store, and its history.
-type Seen<T> = Result<(T, String), StoreError>;
+type Seen<T> = Result<(T, Letters), StoreError>;
 
 /// Registers the xorb twice, records the file twice, and flushes twice.
 fn step_twice(store: &mut Recorded) -> Seen<[bool; 6]> {
@@ -22,7 +22,7 @@ fn step_twice(store: &mut Recorded) -> Seen<[bool; 6]> {
         store.flush()?,
         store.flush()?,
     ];
-    Ok((answers, store.history()?))
+    Ok((answers, store.history()))
 }
 
 /// The same in a new store, whose disk is returned too.
@@ -33,16 +33,16 @@ fn twice(alloc: Global) -> Result<(Seen<[bool; 6]>, MemoryDisk), StoreError> {
     Ok((seen, store.into_disk()))
 }
 
-/// The numbers of xorbs, files and shards of a store, and a part of its file.
-fn contents(store: &mut Recorded) -> Result<([u64; 3], Vec<u8>, String), StoreError> {
-    Ok((store.counts()?, store.part()?, store.history()?))
+/// The numbers of xorbs, files and shards of a store, a part of its file, and its history.
+fn contents(store: &mut Recorded) -> Result<([u64; 3], [u8; 4], Letters), StoreError> {
+    Ok((store.counts()?, store.part()?, store.history()))
 }
 
 /// The same of a disk.
 fn contents_of_disk(
     alloc: Global,
     disk: MemoryDisk,
-) -> Result<([u64; 3], Vec<u8>, String), StoreError> {
+) -> Result<([u64; 3], [u8; 4], Letters), StoreError> {
     let limits = limits(LONG)?;
     let mut store = Recorded::open(alloc, disk, limits)?;
     let contents = contents(&mut store);
@@ -53,28 +53,24 @@ fn contents_of_disk(
 #[test]
 fn steps_have_their_entries(rt: HostRuntime) -> Result<(), Fail> {
     let (seen, disk) = twice(rt.alloc())?;
-    let contents = contents_of_disk(rt.alloc(), disk);
-    let (answers, history) = seen?;
-    assert_eq!(rt; answers, [true, false, true, false, true, false]);
-    assert_eq!(rt; history.as_str(), "RrCcF");
-    let (counts, part, history) = contents?;
-    assert_eq!(rt; counts, [1, 1, 1]);
-    assert_eq!(rt; part.as_slice(), b"cdef".as_slice());
-    assert_eq!(rt; history.as_str(), "");
+    let contents = contents_of_disk(rt.alloc(), disk)?;
+    let answers = [true, false, true, false, true, false];
+    assert_eq!(rt; seen?, (answers, ['R', 'r', 'C', 'c', 'F', ' ', ' ', ' ']));
+    assert_eq!(rt; contents, ([1, 1, 1], *b"cdef", NONE));
     Ok(())
 }
 
 /// Registers the xorb, records the file, registers the xorb again, and flushes.
-fn step_and_flush(store: &mut Recorded) -> Result<String, StoreError> {
+fn step_and_flush(store: &mut Recorded) -> Result<Letters, StoreError> {
     let _added = store.register()?;
     let _added = store.complete()?;
     let _added = store.register()?;
     let _flushed = store.flush()?;
-    store.history()
+    Ok(store.history())
 }
 
 /// The same in a store with a target length of shards that each shard passes.
-fn cuts(alloc: Global) -> Result<String, StoreError> {
+fn cuts(alloc: Global) -> Result<Letters, StoreError> {
     let limits = limits(1)?;
     let mut store = Recorded::open(alloc, MemoryDisk::new(alloc), limits)?;
     let history = step_and_flush(&mut store);
@@ -84,7 +80,7 @@ fn cuts(alloc: Global) -> Result<String, StoreError> {
 
 #[test]
 fn a_new_record_is_cut_from_what_is_pending(rt: HostRuntime) -> Result<(), Fail> {
-    assert_eq!(rt; cuts(rt.alloc())?.as_str(), "RFCrF");
+    assert_eq!(rt; cuts(rt.alloc())?, ['R', 'F', 'C', 'r', 'F', ' ', ' ', ' ']);
     Ok(())
 }
 
@@ -103,7 +99,7 @@ fn step_on(store: &mut Recorded) -> Seen<[bool; 2]> {
     let _added = store.complete()?;
     let unflushed = is_fault(&store.flush());
     let _flushed = store.flush()?;
-    Ok(([unregistered, unflushed], store.history()?))
+    Ok(([unregistered, unflushed], store.history()))
 }
 
 /// The same over a disk that fails in the first registration and in the first flush.
@@ -118,9 +114,8 @@ fn faults(alloc: Global) -> Seen<[bool; 2]> {
 
 #[test]
 fn failures_of_the_disk_have_their_entries(rt: HostRuntime) -> Result<(), Fail> {
-    let (failed, history) = faults(rt.alloc())?;
-    assert_eq!(rt; failed, [true, true]);
-    assert_eq!(rt; history.as_str(), "?RC!F");
+    let history = ['?', 'R', 'C', '!', 'F', ' ', ' ', ' '];
+    assert_eq!(rt; faults(rt.alloc())?, ([true, true], history));
     Ok(())
 }
 
@@ -138,7 +133,7 @@ fn step_early(store: &mut Recorded) -> Seen<[bool; 3]> {
     let refused = is_other_file(&store.complete());
     let _added = store.register()?;
     let after = store.can_complete()?;
-    Ok(([before, refused, after], store.history()?))
+    Ok(([before, refused, after], store.history()))
 }
 
 /// The same in a new store.
@@ -152,8 +147,7 @@ fn refusals(alloc: Global) -> Seen<[bool; 3]> {
 
 #[test]
 fn files_without_their_xorb_are_refused(rt: HostRuntime) -> Result<(), Fail> {
-    let (answers, history) = refusals(rt.alloc())?;
-    assert_eq!(rt; answers, [false, true, true]);
-    assert_eq!(rt; history.as_str(), "R");
+    let history = ['R', ' ', ' ', ' ', ' ', ' ', ' ', ' '];
+    assert_eq!(rt; refusals(rt.alloc())?, ([false, true, true], history));
     Ok(())
 }
