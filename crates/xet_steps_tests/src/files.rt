@@ -44,15 +44,21 @@ pub fn xorb(alloc: Global, limits: &Limits) -> Result<RawXorbData, StoreError>
     Ok(raw)
 }
 
+/// The hash of the file, and the range hash of its chunks.
+fn file_hashes(alloc: Global) -> Result<(MerkleHash, MerkleHash), StoreError> {
+    let leaves = chunk_leaves(alloc, &chunks())?;
+    let range = range_hash_from_chunks(&[leaves[0].0, leaves[1].0]);
+    Ok((file_hash(alloc, &leaves)?, range))
+}
+
 /// The record of the file, which lies in the xorb of this hash.
 pub fn record(alloc: Global, xorb: MerkleHash) -> Result<MDBFileInfo, StoreError>
     ensures { IfOk result IsFile }
 {
-    let leaves = chunk_leaves(alloc, &chunks())?;
-    let range = range_hash_from_chunks(&[leaves[0].0, leaves[1].0]);
+    let (file, range) = file_hashes(alloc)?;
     let segments = vec![in alloc; FileDataSequenceEntry::new(xorb, 7, 0, 2)]?;
     Ok(MDBFileInfo {
-        metadata: FileDataSequenceHeader::new(file_hash(alloc, &leaves)?, 1, true, false),
+        metadata: FileDataSequenceHeader::new(file, 1, true, false),
         segments: Items::from_vec(segments),
         verification: Items::from_vec(vec![in alloc; FileVerificationEntry::new(range)]?),
         metadata_ext: None,

@@ -56,6 +56,19 @@ fn complete<J: Naming, R: Wait>(
 /// second one; the lengths of the history that the two passes have seen.
 type Seen = (bool, bool, Option<usize>, (bool, bool), (u64, u64));
 
+/// Both passes flush. Returns whether the first one wrote a shard, and the second one.
+fn flush_both<J: Naming, R: Wait>(
+    rt: &R,
+    session: &LockedSession<MemoryDisk, J>,
+    first: &mut Pass<J>,
+    second: &mut Pass<J>,
+) -> Result<(bool, bool), StoreError>
+    requires { J.stops ≡ false }
+{
+    let wrote = session.flush(rt, first)?.is_some();
+    Ok((wrote, session.flush(rt, second)?.is_some()))
+}
+
 /// The first pass registers the xorb and flushes; the second one queries, records the file, and flushes again.
 fn take_turns<J: Naming, R: Wait>(
     rt: &R,
@@ -71,13 +84,12 @@ fn take_turns<J: Naming, R: Wait>(
     let (is_new, xorb) = register(rt, alloc, session, first)?;
     let found = query(rt, session, second, &[a, b])?;
     let recorded = complete(rt, alloc, session, second, xorb)?;
-    let wrote = session.flush(rt, first)?.is_some();
-    let again = session.flush(rt, second)?.is_some();
+    let wrote = flush_both(rt, session, first, second)?;
     Ok((
         is_new,
         recorded,
         found,
-        (wrote, again),
+        wrote,
         (first.seen(), second.seen()),
     ))
 }
