@@ -177,7 +177,6 @@ fn clean_to_end<
                 rt,
                 alloc,
                 session: &session,
-                is_alone: workers == 1,
             };
             let from = Numbers { pass: 1, source: 0 };
             work_shared(&crew, &mut room.seats, from, sources);

@@ -11,6 +11,4 @@ pub(crate) struct Crew<'a, D: Disk, J: Naming, R: Wait> {
     pub rt: &'a R,
     pub alloc: Global,
     pub session: &'a LockedSession<D, J>,
-    /// Whether there is one worker alone.
-    pub is_alone: bool,
 }

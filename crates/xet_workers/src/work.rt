@@ -23,9 +23,6 @@ use xet_locked_session::{Naming, Pass};
 use xet_passing::Passing;
 use xet_stepping::Asking;
 
-/// How many blocks a worker reads at a time that is alone.
-const BLOCKS_ALONE: usize = 4;
-
 /// Cleans the sources over a pass of the session, and returns the pass. Errors name the sources from 0 on.
 fn clean_part<D: Disk, J: Naming, S: Source, R: Threads + Wait>(
     crew: &Crew<'_, D, J, R>,
@@ -42,8 +39,7 @@ fn clean_part<D: Disk, J: Naming, S: Source, R: Threads + Wait>(
 {
     let (rt, alloc) = (crew.rt, crew.alloc);
     let working = Working::new(alloc, sources.len());
-    let len = block_len(crew.session.limits().block_bytes(), crew.is_alone);
-    let block = block_of(alloc, len);
+    let block = block_of(alloc, crew.session.limits().block_bytes() as usize);
     let passing = Passing::new(rt, crew.session, pass);
     passing.recall_passing();
     match (working, block) {
@@ -89,19 +85,6 @@ fn clean_whole<D: Disk, J: Naming, S: Source, R: Threads + Wait>(
     let passing = asking.into_steps();
     passing.recall_passing();
     (passing.into_pass(), working)
-}
-
-/// The length of a worker's buffer, in bytes: a block, or, of one that is alone, so many that a xorb that is written meanwhile does
-/// not hold up the SHA-256 of what was read.
-fn block_len(block_bytes: u32, is_alone: bool) -> usize
-    requires { (1 ≤ block_bytes) × (block_bytes ≤ 2 ^ 30) }
-    ensures { 1 ≤ result }
-{
-    if is_alone {
-        BLOCKS_ALONE * block_bytes as usize
-    } else {
-        block_bytes as usize
-    }
 }
 
 /// A buffer of so many bytes. The only error is `OutOfMemory`.
