@@ -9,9 +9,9 @@ use Rattle.xet_dedup.specs.Records.{file_record}
 use Rattle.xet_dedup.specs.theorems.Forms.{finalized_are_files}
 use Rattle.xet_store.specs.declared.info.XetFileInfo.{XetFileInfo}
 use Rattle.xet_xorb_chunk.specs.Chunks.{chunk_leaf}
-use Rattle.xet_stepping.specs.Asking.{Stands}
-use Rattle.xet_stepping.specs.Holders.{Holder, calls_of, core_at, lengths_in, xorb_limits}
-use Rattle.xet_stepping.specs.theorems.Following.{follows_nothing}
+use Rattle.xet_steps.specs.Interface.{Stands}
+use Rattle.xet_steps.specs.Holders.{Holder, calls_of, core_at, lengths_in, xorb_limits}
+use Rattle.xet_steps.specs.theorems.Following.{follows_nothing}
 use Rattle.xet_cut.specs.declared.limits.LimitSettings.{LimitSettings}
 use Rattle.xet_clean.specs.Cleaning.{metrics_sum}
 use Rattle.xet_clean.specs.Files.{leaves_in}

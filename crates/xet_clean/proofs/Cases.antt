@@ -26,8 +26,8 @@ use Rattle.xet_shard_format.specs.declared.record.MDBFileInfo.{MDBFileInfo}
 use Rattle.xet_store.specs.declared.info.XetFileInfo.{XetFileInfo}
 use Rattle.xet_xorb_chunk.specs.Chunks.{chunk_leaf, total}
 use Rattle.xet_xorb_chunk.specs.declared.chunk.Chunk.{Chunk}
-use Rattle.xet_stepping.specs.Asking.{Stands}
-use Rattle.xet_stepping.specs.Holders.{Follows, Holder, calls_in, calls_of, core_at, lengths_in, xorb_limits}
+use Rattle.xet_steps.specs.Interface.{Stands}
+use Rattle.xet_steps.specs.Holders.{Follows, Holder, calls_in, calls_of, core_at, lengths_in, xorb_limits}
 use Rattle.xet_clean.specs.Cleaning.{Lands}
 use Rattle.xet_clean.specs.Planning.{IsPlanned, IsWithin}
 use Rattle.xet_clean.specs.Closing.{Closes, HaveForm, filled_files}

@@ -22,8 +22,8 @@ use Rattle.xet_history.specs.declared.entry.Entry.{Entry}
 use Rattle.xet_io.specs.Faults.{Rose}
 use Rattle.xet_store.specs.Cleaning.{AreTaken, EachTold, FailedAt, IsLongAt, Later, RoseAt}
 use Rattle.xet_store.specs.declared.info.XetFileInfo.{XetFileInfo}
-use Rattle.xet_stepping.specs.Holders.{Follows, FollowsAsking, Holder}
-use Rattle.xet_stepping.specs.theorems.Following.{follows_nothing, follows_then}
+use Rattle.xet_steps.specs.Holders.{Follows, FollowsAsking, Holder}
+use Rattle.xet_steps.specs.theorems.Following.{follows_nothing, follows_then}
 use Rattle.xet_clean.specs.Planning.{IsFew, IsPlanned, IsWithin}
 use Rattle.xet_clean.specs.Closing.{Closes, IsAtMost, IsUnclosed, filled_files, recorded_in}
 use Rattle.xet_clean.specs.Sources.{AreDone, AreRead, HasCleaned, IsCutShort, IsDone, IsTakenFrom, IsLoopError, IsSourceError, IsUnclosedFor}

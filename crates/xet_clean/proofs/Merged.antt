@@ -18,8 +18,8 @@ use Rattle.xet_cut.specs.declared.limits.LimitSettings.{LimitSettings}
 use Rattle.xet_dedup.specs.Deduping.{metrics_of_both}
 use Rattle.xet_hash.specs.declared.error.StoreError.{StoreError}
 use Rattle.xet_shard_format.specs.declared.record.MDBFileInfo.{MDBFileInfo}
-use Rattle.xet_stepping.specs.Holders.{Holder, calls_in}
-use Rattle.xet_stepping.specs.theorems.Following.{calls_in-append, follows_nothing, follows_then}
+use Rattle.xet_steps.specs.Holders.{Holder, calls_in}
+use Rattle.xet_steps.specs.theorems.Following.{calls_in-append, follows_nothing, follows_then}
 use Rattle.xet_store.specs.declared.info.XetFileInfo.{XetFileInfo}
 use Rattle.xet_xorb_chunk.specs.Chunks.{chunk_leaf, total}
 use Rattle.xet_clean.specs.Cleaning.{RegistersPart, close_of}

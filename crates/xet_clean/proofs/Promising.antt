@@ -23,9 +23,9 @@ use Rattle.xet_store.specs.Store.{Sound, plan_of}
 use Rattle.xet_store.specs.declared.info.XetFileInfo.{XetFileInfo}
 use Rattle.xet_store.specs.theorems.Files.{files_all, told_more}
 use Rattle.xet_store.specs.theorems.Rows.{from_among, to_among}
-use Rattle.xet_stepping.specs.Alone.{AloneState, IsAlone, IsFault, alone_of}
-use Rattle.xet_stepping.specs.Asking.{HasFault}
-use Rattle.xet_stepping.specs.Holders.{Follows, Holder, core_at, numbered}
+use Rattle.xet_steps.specs.Alone.{AloneState, IsAlone, IsFault, alone_of}
+use Rattle.xet_steps.specs.Interface.{HasFault}
+use Rattle.xet_steps.specs.Holders.{Follows, Holder, core_at, numbered}
 use Rattle.xet_clean.specs.Cleaning.{Grows, HasReason, IsBounded, IsCleaned, entries_since}
 use Rattle.xet_clean.specs.Sources.{AreRead, IsCutShort, IsLoopError}
 use Rattle.xet_clean.specs.Working.{EndsWith, Planned}

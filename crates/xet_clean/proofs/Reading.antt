@@ -7,9 +7,9 @@ use Rattle.xet_hash.specs.declared.error.StoreError.TheVariants.{Io, TooLarge}
 use Rattle.xet_hash.specs.declared.error.What.TheVariants as what
 use Rattle.xet_io.specs.Faults.{Rose}
 use Rattle.xet_io.specs.Whole.{FillsWith}
-use Rattle.xet_stepping.specs.Asking.{IsErrorSince}
-use Rattle.xet_stepping.specs.Holders.{Follows, Holder}
-use Rattle.xet_stepping.specs.theorems.Following.{asking_nothing, follows_nothing}
+use Rattle.xet_steps.specs.Interface.{IsErrorSince}
+use Rattle.xet_steps.specs.Holders.{Follows, Holder}
+use Rattle.xet_steps.specs.theorems.Following.{asking_nothing, follows_nothing}
 use Rattle.xet_clean.specs.Planning.{IsFew}
 use Rattle.xet_clean.specs.Errors.{IsCleanerError}
 use Rattle.xet_clean.specs.Sources.{IsSourceError, Takes}
@@ -21,23 +21,20 @@ use Rattle.xet_clean.specs.theorems.Closing.{error_earlier}
 pub takes_nothing : (tells : Bool) (left : List ℕ) → Takes false tells left left []
 takes_nothing tells left = record { taken = λ t. refl; ended = λ e. absurd (true≢false (sym e)) }
 
--- a block that was filled
-pub takes_more : (tells : Bool) (left mid rest bytes buffer : List ℕ) (count : ℕ) → Takes false tells left mid bytes → (tells ≡ true → FillsWith count buffer mid rest) → Takes false tells left rest (bytes ++ take count buffer)
-takes_more tells left mid rest bytes buffer count is fills = record {
-  taken = λ t. is.taken t ∙ ap (λ (l : List ℕ). bytes ++ l) ((fills t).taken) ∙ sym (append_assoc bytes (take count buffer) rest);
+-- all bytes are some
+pub takes_some : (last tells : Bool) (left rest bytes : List ℕ) → Takes last tells left rest bytes → Takes false tells left rest bytes
+takes_some last tells left rest bytes is = record { taken = is.taken; ended = λ e. absurd (true≢false (sym e)) }
+
+-- one more block
+pub takes_next : (last tells now : Bool) (left mid rest bytes block : List ℕ) → now ≡ tells → Takes false tells left mid bytes → Takes last now mid rest block → Takes false tells left rest (bytes ++ block)
+takes_next last tells now left mid rest bytes block same is more = record {
+  taken = λ t. is.taken t ∙ ap (λ (l : List ℕ). bytes ++ l) (more.taken (same ∙ t)) ∙ sym (append_assoc bytes block rest);
   ended = λ e. absurd (true≢false (sym e));
 }
 
--- one that was not: the source has ended
-pub takes_all : (tells : Bool) (left mid rest bytes buffer : List ℕ) (count : ℕ) → Takes false tells left mid bytes → (tells ≡ true → FillsWith count buffer mid rest) → count < length buffer → Takes true tells left rest (bytes ++ take count buffer)
-takes_all tells left mid rest bytes buffer count is fills lt = record {
-  taken = (takes_more tells left mid rest bytes buffer count is fills).taken;
-  ended = λ e t. (fills t).ended lt;
-}
-
--- all bytes are some
-pub takes_some : (tells : Bool) (left rest bytes : List ℕ) → Takes true tells left rest bytes → Takes false tells left rest bytes
-takes_some tells left rest bytes is = record { taken = is.taken; ended = λ e. absurd (true≢false (sym e)) }
+-- a buffer that was filled, as a block: it is the last one if it is not full
+pub takes_filled : (last tells : Bool) (count : ℕ) (buffer left rest : List ℕ) → (tells ≡ true → FillsWith count buffer left rest) → (last ≡ true → count < length buffer) → Takes last tells left rest (take count buffer)
+takes_filled last tells count buffer left rest fills short = record { taken = λ t. (fills t).taken; ended = λ e t. (fills t).ended (short e) }
 
 -- a read that failed, by which bytes may be lost
 pub takes_lost : (tells : Bool) (left mid rest bytes : List ℕ) → Takes false tells left mid bytes → (tells ≡ true → (n : ℕ) × (rest ≡ drop n mid)) → (more : List ℕ) × Takes false tells left rest (bytes ++ more)

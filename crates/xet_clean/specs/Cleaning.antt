@@ -30,12 +30,12 @@ use Rattle.xet_steps.specs.Steps.{Steps}
 use Rattle.xet_store.specs.Cleaning.{Adds, EachTold, FailedAt, IsLongAt, RoseAt, chunkings, info_of}
 use Rattle.xet_store.specs.Separate.{Among, MetChunk}
 use Rattle.xet_store.specs.declared.info.XetFileInfo.{XetFileInfo}
-use Rattle.xet_stepping.specs.Alone.{IsFault, StepsTo, StepsUntil}
+use Rattle.xet_steps.specs.Alone.{IsFault, StepsTo, StepsUntil}
 use Rattle.xet_clean.specs.Files.{HasChoices, leaves_in}
 use Rattle.xet_clean.specs.Policies.{info_by, sha256_by}
 use Rattle.xet_clean.specs.declared.policy.Sha256Policy.{Sha256Policy}
 use Rattle.xet_history.specs.Sound.{IsKey}
-use Rattle.xet_stepping.specs.Holders.{calls_in, numbered}
+use Rattle.xet_steps.specs.Holders.{calls_in, numbered}
 
 -- ---- the history
 

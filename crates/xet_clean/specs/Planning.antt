@@ -15,8 +15,8 @@ use Rattle.xet_hash.specs.Merkle.{chunk_hash}
 use Rattle.xet_store.specs.declared.info.XetFileInfo.{XetFileInfo}
 use Rattle.xet_xorb_chunk.specs.Chunks.{chunk_leaf}
 use Rattle.xet_xorb_chunk.specs.declared.chunk.Chunk.{Chunk}
-use Rattle.xet_stepping.specs.Asking.{Stands}
-use Rattle.xet_stepping.specs.Holders.{FollowsAsking, Holder, calls_of, core_at, xorb_limits, lengths_in}
+use Rattle.xet_steps.specs.Interface.{Stands}
+use Rattle.xet_steps.specs.Holders.{FollowsAsking, Holder, calls_of, core_at, xorb_limits, lengths_in}
 use Rattle.xet_clean.specs.Files.{leaves_in}
 use Rattle.xet_clean.specs.Policies.{info_with}
 

@@ -33,8 +33,12 @@ info_with sha256 s bytes = record { hash = file_hash (leaves_of (chunking s byte
 abbrev pub info_by : Sha256Policy → LimitSettings → List ℕ → XetFileInfo
 info_by policy s bytes = info_with (sha256_by policy bytes) s bytes
 
+-- the fact, if the SHA-256 is computed
+abbrev pub IfComputed : Sha256Policy → Type 0 → Type 0
+IfComputed Compute fact = fact
+IfComputed (Provided digest) fact = Unit {0}
+IfComputed Skip fact = Unit {0}
+
 -- The generator was given these bytes, if the SHA-256 is computed.
 abbrev pub HasBytesBy : Sha256Policy → Sha256Generator → List ℕ → Type 0
-HasBytesBy Compute g bytes = HasBytes g bytes
-HasBytesBy (Provided digest) g bytes = Unit {0}
-HasBytesBy Skip g bytes = Unit {0}
+HasBytesBy policy g bytes = IfComputed policy (HasBytes g bytes)

@@ -10,8 +10,8 @@ use Rattle.xet_io.specs.Faults.{Rose}
 use Rattle.xet_cut.specs.Chunking.{chunking}
 use Rattle.xet_aggregate.specs.Aggregate.{Aggregate, IsAggregate}
 use Rattle.xet_store.specs.Cleaning.{EachTold, FailedAt, IsLongAt, RoseAt}
-use Rattle.xet_stepping.specs.Asking.{IsErrorSince}
-use Rattle.xet_stepping.specs.Holders.{Follows, Holder}
+use Rattle.xet_steps.specs.Interface.{IsErrorSince}
+use Rattle.xet_steps.specs.Holders.{Follows, Holder}
 use Rattle.xet_clean.specs.Cleaning.{AreRecords, EachTaken}
 use Rattle.xet_clean.specs.declared.policy.Sha256Policy.{Sha256Policy}
 use Rattle.xet_clean.specs.Planning.{IsWithin}

@@ -20,8 +20,8 @@ use Rattle.xet_clean.specs.Cleaning.{Lands, metrics_sum}
 use Rattle.xet_clean.specs.Policies.{info_by, sha256_by}
 use Rattle.xet_clean.specs.declared.policy.Sha256Policy.{Sha256Policy}
 use Rattle.xet_clean.specs.Planning.{IsFinished, IsPlanned, IsWithin}
-use Rattle.xet_stepping.specs.Asking.{Stands}
-use Rattle.xet_stepping.specs.Holders.{Follows, Holder, calls_in, core_at, lengths_in}
+use Rattle.xet_steps.specs.Interface.{Stands}
+use Rattle.xet_steps.specs.Holders.{Follows, Holder, calls_in, core_at, lengths_in}
 use Rattle.xet_clean.specs.Closing.{Closes, HaveForm, recorded_in}
 
 -- a file that was cleaned: its bytes, where its SHA-256 comes from, and its plan when its deduplication had ended

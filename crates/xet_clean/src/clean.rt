@@ -6,7 +6,7 @@ ghost use Rattle.std.specs.Result.{result_err};
 ghost use Rattle.xet_aggregate.specs.Aggregate.{empty};
 ghost use Rattle.xet_aggregate.specs.Metrics.{zeros};
 ghost use Rattle.xet_clean.specs.Cleaning.{Grows, HasReason, IsBounded, IsCleaned};
-ghost use Rattle.xet_stepping.specs.Holders.{Follows};
+ghost use Rattle.xet_steps.specs.Holders.{Follows};
 ghost use Rattle.xet_clean.specs.Sources.{AreRead, IsCutShort, IsLoopError};
 ghost use Rattle.xet_clean.specs.Working.{EndsWith, Planned};
 ghost use Rattle.xet_store.specs.Cleaning.{Adds, AreTaken, EachTold, HasFile, Keeps, Later, chunkings, info_of};
@@ -15,17 +15,15 @@ ghost use Rattle.xet_store.specs.Store.{plan_of};
 ghost use Rattle.xet_clean.specs.Policies.{info_by};
 ghost use Rattle.xet_clean.specs.declared.policy.Sha256Policy.TheVariants.{Compute};
 
-use crate::add_block::InTurn;
 use crate::info::Cleaned;
-use crate::policy::Sha256Policy;
+use crate::policy::{Sha256Generator, Sha256Policy};
 use crate::sources::clean_each;
 use crate::working::Working;
 use std::alloc::Global;
 use std::marker::Send;
 use xet_hash::StoreError;
 use xet_io::{Disk, Source};
-use xet_stepping::{Alone, Asking, Stepping};
-use xet_steps::Store;
+use xet_steps::{Alone, Asking, Stepping, Store};
 
 /// Reads each of at most 2^20 sources to its end and stores its file, in order, as pass 0. A chunk for which a query finds a
 /// run is not stored again, unless the guard against fragmentation rejects the run; chunks that still wait for their xorb are
@@ -136,23 +134,10 @@ fn clean_all<S: Stepping, R: Source>(
     ensures sources_later { Later R.faults sources.old sources.new }
     ensures refused { IfErr result.1 (IsLoopError R.tells R.left R.faults sources.old sources.new (S.holder asking.steps) (S.holder result.0.steps)) }
 {
-    let working = Working::new(alloc, sources.len());
-    let block = block_of(alloc, asking.steps.limits().block_bytes() as usize);
-    match (working, block) {
-        (Ok(working), Ok(mut block)) => clean_rest(
-            alloc, asking, working, sources, &mut block, policy,
-        ),
-        (Err(error), _) => (asking, Err(error)),
-        (_, Err(error)) => (asking, Err(error)),
+    match Working::new(alloc, sources.len()) {
+        Ok(working) => clean_rest(alloc, asking, working, sources, policy),
+        Err(error) => (asking, Err(error)),
     }
-}
-
-/// A buffer of so many bytes. The only error is `OutOfMemory`.
-pub(crate) fn block_of(alloc: Global, len: usize) -> Result<Vec<u8>, StoreError>
-    ensures block { IfOk result (λ block. block.items ≡ replicate len 0) }
-    ensures memory { IsOkUnless result StoreError.OutOfMemory }
-{
-    Ok(vec![in alloc; 0u8; len]?)
 }
 
 /// Reads and stores the sources in turn, and closes the aggregate. Nothing was made of any source so far.
@@ -161,12 +146,10 @@ fn clean_rest<S: Stepping, R: Source>(
     asking: Asking<S>,
     working: Working,
     sources: &mut [R],
-    block: &mut [u8],
     policy: &Sha256Policy,
 ) -> (Asking<S>, Result<Cleaned, StoreError>)
     requires count { length sources.old ≤ 2 ^ 20 }
     requires going { (S.holder asking.steps).stopped ≡ false }
-    requires block { 0 < length block.old }
     requires nothing { (working.cleaned.infos.items ≡ []) × (working.cleaned.choices.items ≡ []) × (working.cleaned.metrics ≡ zeros) × (working.aggregate ≡ empty) }
     requires room { (length sources.old ≤ vec_capacity working.cleaned.infos) × (length sources.old ≤ vec_capacity working.cleaned.choices) }
     ensures cleaned { IfOk result.1 (λ cleaned. (files : List Planned) × EndsWith policy.now R.tells R.left sources.old (S.holder asking.steps) (S.holder result.0.steps) files cleaned.infos.items cleaned.choices.items cleaned.metrics) }
@@ -178,7 +161,8 @@ fn clean_rest<S: Stepping, R: Source>(
     ensures sources_later { Later R.faults sources.old sources.new }
     ensures refused { IfErr result.1 (IsLoopError R.tells R.left R.faults sources.old sources.new (S.holder asking.steps) (S.holder result.0.steps)) }
 {
-    let (asking, working) = clean_each(alloc, asking, working, sources, block, policy, &InTurn);
+    let mut digest = Sha256Generator::new();
+    let (asking, working) = clean_each(alloc, asking, working, sources, policy, &mut digest);
     let mut asking = asking;
     match working {
         Ok(working) => {

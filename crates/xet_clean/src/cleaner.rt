@@ -1,23 +1,29 @@
 //! `FileCleaner`: one file is cleaned as its bytes come.
 
-ghost use Rattle.std.specs.Prelude.{◌≡◌, ◌++◌, ◌+◌, ◌≤◌, [], ℕ, List, IfErr, IfOk, IsOkUnless, OnErr, OnOk, is_ok, length, map, option_map, true};
+ghost use Rattle.std.specs.Prelude.{◌≡◌, ◌++◌, ◌+◌, ◌≤◌, [], ℕ, List, IfErr, IfOk, IsOkUnless, OnErr, OnOk, is_ok, false, length, map, option_map, true};
 ghost use Rattle.std.specs.List.{AllByRecursion};
-ghost use Rattle.xet_stepping.specs.Asking.{IsErrorSince, Stands};
+ghost use Rattle.std.specs.Option.{ForSome};
+ghost use Rattle.xet_steps.specs.Interface.{IsErrorSince, Stands};
 ghost use Rattle.xet_clean.specs.Planning.{IsFew, IsFinished, IsPlanned};
-ghost use Rattle.xet_stepping.specs.Holders.{FollowsAsking, calls_of, core_at, xorb_limits, lengths_in};
+ghost use Rattle.xet_steps.specs.Holders.{FollowsAsking, calls_of, core_at, xorb_limits, lengths_in};
 ghost use Rattle.xet_clean.specs.Cleaner.{IsBatchOf, IsCleaning, IsCleaningBytes, IsCleaningSome, StopsInBatch};
 ghost use Rattle.xet_clean.specs.Errors.{IsCleanerError};
+ghost use Rattle.xet_clean.specs.Policies.{IfComputed};
+ghost use Rattle.xet_cut.specs.Streams.{IsBlock};
 ghost use Rattle.xet_dedup.specs.Deduping.{IsChunk, IsDeduped};
 ghost use Rattle.xet_file_plan.specs.Kept.{max_chunks};
 ghost use Rattle.xet_xorb_chunk.specs.Chunks.{chunk_leaf};
 
+use crate::digest::{FileDigest, add_by};
 use crate::errors::store_error;
+use crate::policy::Sha256Policy;
+use bytes::Bytes;
 use std::alloc::Global;
 use xet_base::Items;
 use xet_dedup::{Choice, Chunker, DataAggregator, DeduplicationMetrics, FileDeduper, Finalized};
 use xet_hash::{StoreError, What};
 use xet_shard_format::{FileMetadataExt, Sha256};
-use xet_stepping::{Asking, Stepping};
+use xet_steps::{Asking, Stepping};
 use xet_store::XetFileInfo;
 use xet_xorb_chunk::Chunk;
 
@@ -31,6 +37,7 @@ pub struct FileCleaner<S: Stepping> {
     pub byte_count: u64,
     /// The number by which errors name the source.
     pub number: u32,
+    alloc: Global,
 }
 
 /// A file that was cleaned. It is not recorded: its last chunks are in no xorb yet.
@@ -70,6 +77,7 @@ impl<S: Stepping> FileCleaner<S> {
                 chunker,
                 byte_count: 0,
                 number,
+                alloc,
             }),
             Err((asking, error)) => Err((asking, store_error(error))),
         }
@@ -88,13 +96,50 @@ impl<S: Stepping> FileCleaner<S> {
             → OnErr result (IsFew (S.holder self.new.deduper.start.value.steps) (S.holder self.new.deduper.interface.steps) (before ++ bytes.now)) }
         ensures refused { IfErr result (IsCleanerError self.old.number self.old.byte_count bytes.now (S.holder self.old.deduper.interface.steps) (S.holder self.new.deduper.interface.steps)) }
     {
+        self.add_piece(bytes, None)
+    }
+
+    /// Takes the next bytes of the file, as `add` does. The chunks that begin in them share their buffer, and are not copied.
+    pub fn add_shared(&mut self, bytes: &Bytes) -> Result<(), StoreError>
+        requires cleaning { IsCleaningSome (S.holder self.old.deduper.start.value.steps) (S.holder self.old.deduper.interface.steps) self.old.deduper.whole self.old.deduper.plan self.old.deduper.global self.old.chunker self.old.byte_count }
+        ensures cleaning { (before : List ℕ) → IsCleaning (S.holder self.old.deduper.start.value.steps) (S.holder self.old.deduper.interface.steps) self.old.deduper.whole self.old.deduper.plan self.old.deduper.global self.old.chunker self.old.byte_count before
+            → OnOk result (IsCleaning (S.holder self.new.deduper.start.value.steps) (S.holder self.new.deduper.interface.steps) self.new.deduper.whole self.new.deduper.plan self.new.deduper.global self.new.chunker self.new.byte_count (before ++ bytes.now)) }
+        ensures same { (self.new.deduper.start.value ≡ self.old.deduper.start.value) × (self.new.number ≡ self.old.number) × (self.new.deduper.file_id ≡ self.old.deduper.file_id) }
+        ensures follows { FollowsAsking (S.holder self.old.deduper.interface.steps) (S.holder self.new.deduper.interface.steps) }
+        ensures few { (before : List ℕ) → IsCleaning (S.holder self.old.deduper.start.value.steps) (S.holder self.old.deduper.interface.steps) self.old.deduper.whole self.old.deduper.plan self.old.deduper.global self.old.chunker self.old.byte_count before
+            → OnErr result (IsFew (S.holder self.new.deduper.start.value.steps) (S.holder self.new.deduper.interface.steps) (before ++ bytes.now)) }
+        ensures refused { IfErr result (IsCleanerError self.old.number self.old.byte_count bytes.now (S.holder self.old.deduper.interface.steps) (S.holder self.new.deduper.interface.steps)) }
+    {
+        self.add_piece(bytes.as_slice(), Some(bytes))
+    }
+
+    /// Takes the next bytes of the file, which are those of `shared` if there is such a buffer.
+    fn add_piece(&mut self, bytes: &[u8], shared: Option<&Bytes>) -> Result<(), StoreError>
+        requires shared { ForSome shared (λ whole. whole.now ≡ bytes.now) }
+        requires cleaning { IsCleaningSome (S.holder self.old.deduper.start.value.steps) (S.holder self.old.deduper.interface.steps) self.old.deduper.whole self.old.deduper.plan self.old.deduper.global self.old.chunker self.old.byte_count }
+        ensures cleaning { (before : List ℕ) → IsCleaning (S.holder self.old.deduper.start.value.steps) (S.holder self.old.deduper.interface.steps) self.old.deduper.whole self.old.deduper.plan self.old.deduper.global self.old.chunker self.old.byte_count before
+            → OnOk result (IsCleaning (S.holder self.new.deduper.start.value.steps) (S.holder self.new.deduper.interface.steps) self.new.deduper.whole self.new.deduper.plan self.new.deduper.global self.new.chunker self.new.byte_count (before ++ bytes.now)) }
+        ensures same { (self.new.deduper.start.value ≡ self.old.deduper.start.value) × (self.new.number ≡ self.old.number) × (self.new.deduper.file_id ≡ self.old.deduper.file_id) }
+        ensures follows { FollowsAsking (S.holder self.old.deduper.interface.steps) (S.holder self.new.deduper.interface.steps) }
+        ensures few { (before : List ℕ) → IsCleaning (S.holder self.old.deduper.start.value.steps) (S.holder self.old.deduper.interface.steps) self.old.deduper.whole self.old.deduper.plan self.old.deduper.global self.old.chunker self.old.byte_count before
+            → OnErr result (IsFew (S.holder self.new.deduper.start.value.steps) (S.holder self.new.deduper.interface.steps) (before ++ bytes.now)) }
+        ensures refused { IfErr result (IsCleanerError self.old.number self.old.byte_count bytes.now (S.holder self.old.deduper.interface.steps) (S.holder self.new.deduper.interface.steps)) }
+    {
         let most = self.deduper.interface.steps.limits().max_source_bytes();
         if bytes.len() as u64 > most - self.byte_count {
             return Err(StoreError::TooLarge(What::Source(self.number)));
         }
-        let chunks = self.chunker.next_block(bytes, false)?;
+        let chunks = next_chunks(&mut self.chunker, bytes, shared)?;
         self.byte_count += bytes.len() as u64;
         place(&mut self.deduper, &chunks)
+    }
+
+    /// Gives the chunks that wait for their xorb since the last call memory of their own, if they take less than half of a buffer
+    /// of `len` bytes, which they may share: so the buffer can be freed. The file is unchanged.
+    pub fn release(&mut self, len: usize)
+        ensures { self.new ≡ self.old }
+    {
+        self.deduper.plan.release(self.alloc, len);
     }
 
     /// Ends the file, which is to be recorded with this SHA-256, or without one. The maker of steps is returned in either case,
@@ -113,6 +158,7 @@ impl<S: Stepping> FileCleaner<S> {
             mut chunker,
             byte_count,
             number: _,
+            alloc: _,
         } = self;
         match place_last(&mut deduper, &mut chunker) {
             Ok(()) => finished(deduper, byte_count, sha256),
@@ -129,8 +175,51 @@ impl<S: Stepping> FileCleaner<S> {
             chunker: _,
             byte_count: _,
             number: _,
+            alloc: _,
         } = self;
         deduper.into_interface()
+    }
+}
+
+/// Takes a block into the chunks of a file, and into its SHA-256 if that is computed. The chunks share the block's buffer; if
+/// those that wait for their xorb are less than half of it they are copied, so that it can be freed. After an error neither is of
+/// use.
+pub fn add_block<S: Stepping, H: FileDigest>(
+    cleaner: &mut FileCleaner<S>,
+    digest: &mut H,
+    policy: &Sha256Policy,
+    block: Bytes,
+) -> Result<(), StoreError>
+    requires cleaning { IsCleaningSome (S.holder cleaner.old.deduper.start.value.steps) (S.holder cleaner.old.deduper.interface.steps) cleaner.old.deduper.whole cleaner.old.deduper.plan cleaner.old.deduper.global cleaner.old.chunker cleaner.old.byte_count }
+    ensures cleaning { (before : List ℕ) → IsCleaning (S.holder cleaner.old.deduper.start.value.steps) (S.holder cleaner.old.deduper.interface.steps) cleaner.old.deduper.whole cleaner.old.deduper.plan cleaner.old.deduper.global cleaner.old.chunker cleaner.old.byte_count before
+        → OnOk result (IsCleaning (S.holder cleaner.new.deduper.start.value.steps) (S.holder cleaner.new.deduper.interface.steps) cleaner.new.deduper.whole cleaner.new.deduper.plan cleaner.new.deduper.global cleaner.new.chunker cleaner.new.byte_count (before ++ block)) }
+    ensures hashed { (before : List ℕ) → IfComputed policy.now (H.has digest.old before) → IfComputed policy.now (H.has digest.new (before ++ block)) }
+    ensures same { (cleaner.new.deduper.start.value ≡ cleaner.old.deduper.start.value) × (cleaner.new.number ≡ cleaner.old.number) × (cleaner.new.deduper.file_id ≡ cleaner.old.deduper.file_id) }
+    ensures follows { FollowsAsking (S.holder cleaner.old.deduper.interface.steps) (S.holder cleaner.new.deduper.interface.steps) }
+    ensures few { (before : List ℕ) → IsCleaning (S.holder cleaner.old.deduper.start.value.steps) (S.holder cleaner.old.deduper.interface.steps) cleaner.old.deduper.whole cleaner.old.deduper.plan cleaner.old.deduper.global cleaner.old.chunker cleaner.old.byte_count before
+        → OnErr result (IsFew (S.holder cleaner.new.deduper.start.value.steps) (S.holder cleaner.new.deduper.interface.steps) (before ++ block)) }
+    ensures refused { IfErr result (IsCleanerError cleaner.old.number cleaner.old.byte_count block (S.holder cleaner.old.deduper.interface.steps) (S.holder cleaner.new.deduper.interface.steps)) }
+{
+    add_by(digest, policy, &block);
+    let added = cleaner.add_shared(&block);
+    cleaner.release(block.len());
+    added
+}
+
+/// The chunks that end in the next bytes, which are those of `shared` if there is such a buffer.
+fn next_chunks(
+    chunker: &mut Chunker,
+    bytes: &[u8],
+    shared: Option<&Bytes>,
+) -> Result<Vec<Chunk>, StoreError>
+    requires shared { ForSome shared (λ whole. whole.now ≡ bytes.now) }
+    ensures block { IfOk result (λ chunks. IsBlock chunker.old.settings (chunker.old.buffered ++ bytes.now) false chunks.items chunker.new.buffered) }
+    ensures settings { chunker.new.settings ≡ chunker.old.settings }
+    ensures memory { IsOkUnless result StoreError.OutOfMemory }
+{
+    match shared {
+        Some(whole) => chunker.next_block_bytes(whole, false),
+        None => chunker.next_block(bytes, false),
     }
 }
 

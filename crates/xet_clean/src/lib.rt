@@ -1,10 +1,11 @@
 //! Cleaning with deduplication: the files of many sources are stored in a store whose steps are recorded.
 #![tactic(auto)]
 
-mod add_block;
 mod aggregate;
+mod block_reader;
 mod clean;
 mod cleaner;
+mod digest;
 mod errors;
 mod info;
 mod merging;
@@ -14,9 +15,9 @@ mod single;
 mod sources;
 mod working;
 
-pub use add_block::{AddBlock, InTurn};
 pub use clean::clean_files;
-pub use cleaner::{FileCleaner, FinishedFile};
+pub use cleaner::{FileCleaner, FinishedFile, add_block};
+pub use digest::FileDigest;
 pub use info::Cleaned;
 pub use merging::merge_all;
 pub use policy::{Sha256Generator, Sha256Policy};

@@ -91,7 +91,7 @@ impl Sha256Generator {
     }
 
     /// Takes the next bytes if the SHA-256 is computed.
-    pub(crate) fn update_by(&mut self, policy: &Sha256Policy, bytes: &[u8])
+    pub fn update_by(&mut self, policy: &Sha256Policy, bytes: &[u8])
         ensures { (before : List ℕ) → HasBytesBy policy.now self.old before → HasBytesBy policy.now self.new (before ++ bytes.now) }
     {
         match policy {

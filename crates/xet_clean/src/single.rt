@@ -7,7 +7,7 @@ ghost use Rattle.xet_aggregate.specs.Aggregate.{empty};
 ghost use Rattle.xet_aggregate.specs.Metrics.{zeros};
 ghost use Rattle.xet_clean.specs.Sources.{AreRead, IsCutShort, IsLoopError};
 ghost use Rattle.xet_clean.specs.Working.{EndsWith, Planned};
-ghost use Rattle.xet_stepping.specs.Holders.{Follows};
+ghost use Rattle.xet_steps.specs.Holders.{Follows};
 ghost use Rattle.xet_choices.specs.declared.choice.Choice.{Choice};
 ghost use Rattle.xet_clean.specs.Cleaning.{Grows, HasReason, IsBounded, IsCleaned};
 ghost use Rattle.xet_clean.specs.Policies.{info_by};
@@ -17,18 +17,16 @@ ghost use Rattle.xet_store.specs.Cleaning.{Adds, AreTaken, EachTold, HasFile, Ke
 ghost use Rattle.xet_store.specs.Separate.{Separate};
 ghost use Rattle.xet_store.specs.Store.{plan_of};
 
-use crate::add_block::InTurn;
-use crate::clean::block_of;
+use crate::block_reader::BlockReader;
 use crate::info::Cleaned;
-use crate::policy::Sha256Policy;
+use crate::policy::{Sha256Generator, Sha256Policy};
 use crate::sources::{clean_source, keep};
 use crate::working::Working;
 use std::alloc::Global;
 use xet_dedup::DeduplicationMetrics;
 use xet_hash::StoreError;
 use xet_io::{Disk, SliceSource, Source};
-use xet_stepping::{Alone, Asking, Stepping};
-use xet_steps::Store;
+use xet_steps::{Alone, Asking, Stepping, Store};
 use xet_store::XetFileInfo;
 
 /// Reads a source to its end and stores its file, as `clean_files` does with one source. The SHA-256 of the file comes by the
@@ -164,14 +162,9 @@ fn clean_one<S: Stepping, R: Source>(
     ensures taken { AreTaken R.tells R.left (source.old ∷ []) (source.new ∷ []) }
     ensures refused { IfErr result.1 (IsLoopError R.tells R.left R.faults (source.old ∷ []) (source.new ∷ []) (S.holder asking.steps) (S.holder result.0.steps)) }
 {
-    let working = Working::new(alloc, 1);
-    let block = block_of(alloc, asking.steps.limits().block_bytes() as usize);
-    match (working, block) {
-        (Ok(working), Ok(mut block)) => clean_only(
-            alloc, asking, working, source, &mut block, policy,
-        ),
-        (Err(error), _) => (asking, Err(error)),
-        (_, Err(error)) => (asking, Err(error)),
+    match Working::new(alloc, 1) {
+        Ok(working) => clean_only(alloc, asking, working, source, policy),
+        Err(error) => (asking, Err(error)),
     }
 }
 
@@ -181,11 +174,9 @@ fn clean_only<S: Stepping, R: Source>(
     asking: Asking<S>,
     working: Working,
     source: &mut R,
-    block: &mut [u8],
     policy: &Sha256Policy,
 ) -> (Asking<S>, Result<Cleaned, StoreError>)
     requires going { (S.holder asking.steps).stopped ≡ false }
-    requires block { 0 < length block.old }
     requires nothing { (working.cleaned.infos.items ≡ []) × (working.cleaned.choices.items ≡ []) × (working.cleaned.metrics ≡ zeros) × (working.aggregate ≡ empty) }
     requires room { (1 ≤ vec_capacity working.cleaned.infos) × (1 ≤ vec_capacity working.cleaned.choices) }
     ensures cleaned { IfOk result.1 (λ cleaned. (files : List Planned) × EndsWith policy.now R.tells R.left (source.old ∷ []) (S.holder asking.steps) (S.holder result.0.steps) files cleaned.infos.items cleaned.choices.items cleaned.metrics) }
@@ -198,7 +189,9 @@ fn clean_only<S: Stepping, R: Source>(
 {
     let mut working = working;
     asking.steps.limits().recall_invariant();
-    let (asking, file) = clean_source(alloc, asking, source, 0, block, policy, &InTurn);
+    let mut blocks = BlockReader::new(alloc, asking.steps.limits());
+    let mut digest = Sha256Generator::new();
+    let (asking, file) = clean_source(alloc, asking, source, 0, &mut blocks, policy, &mut digest);
     let mut asking = asking;
     match keep(&mut working, &mut asking.steps, file) {
         Ok(()) => {

@@ -6,41 +6,39 @@ ghost use Rattle.xet_aggregate.specs.Metrics.{zeros};
 ghost use Rattle.xet_clean.specs.Cleaner.{IsCleaning};
 ghost use Rattle.xet_clean.specs.Closing.{IsAtMost, IsUnclosed};
 ghost use Rattle.xet_clean.specs.Planning.{IsFew, IsFinished};
-ghost use Rattle.xet_clean.specs.Policies.{HasBytes, HasBytesBy, sha256_by};
+ghost use Rattle.xet_clean.specs.Policies.{IfComputed, sha256_by};
 ghost use Rattle.xet_clean.specs.Sources.{HasCleaned, IsCutShort, IsLoopError, IsSourceError, Takes};
 ghost use Rattle.xet_clean.specs.Working.{IsAdded, IsWorking, Planned};
 ghost use Rattle.xet_file_plan.specs.Moves.{PlanState};
-ghost use Rattle.xet_io.specs.Frame.{Called, Stays};
-ghost use Rattle.xet_io.specs.Whole.{Fills};
-ghost use Rattle.xet_stepping.specs.Holders.{Follows, FollowsAsking, Holder};
+ghost use Rattle.xet_io.specs.Frame.{Stays};
+ghost use Rattle.xet_steps.specs.Holders.{Follows, FollowsAsking, Holder};
 ghost use Rattle.xet_store.specs.Cleaning.{AreTaken, Later};
 ghost use Rattle.xet_xorb_chunk.specs.Chunks.{chunk_leaf};
 
-use crate::add_block::AddBlock;
-use crate::cleaner::{FileCleaner, FinishedFile};
-use crate::policy::{Sha256Generator, Sha256Policy};
+use crate::block_reader::BlockReader;
+use crate::cleaner::{FileCleaner, FinishedFile, add_block};
+use crate::digest::{FileDigest, end_by};
+use crate::policy::Sha256Policy;
 use crate::working::Working;
 use std::alloc::Global;
-use xet_hash::{Place, StoreError};
-use xet_io::{Source, read_full};
-use xet_stepping::{Asking, Stepping};
+use xet_hash::StoreError;
+use xet_io::Source;
+use xet_steps::{Asking, Stepping};
 
 /// Reads and stores the sources in turn, at most 2^20 of them, which errors name by their numbers, from 0 on. `working`
 /// is as `Working::new` returns it, with room for as many sources. What is left of the files, which is chunks in no xorb yet and
-/// the records that wait for them, is in the aggregate of the result. `block` is a buffer, by which the sources are read, and
-/// `adding` says how a block is added. After an error the steps before it stand.
-pub fn clean_each<S: Stepping, R: Source, T: AddBlock<S>>(
+/// the records that wait for them, is in the aggregate of the result. `digest` computes the SHA-256 of each file, if the policy
+/// is to compute it. After an error the steps before it stand.
+pub fn clean_each<S: Stepping, R: Source, H: FileDigest>(
     alloc: Global,
     asking: Asking<S>,
     working: Working,
     sources: &mut [R],
-    block: &mut [u8],
     policy: &Sha256Policy,
-    adding: &T,
+    digest: &mut H,
 ) -> (Asking<S>, Result<Working, StoreError>)
     requires count { length sources.old ≤ 2 ^ 20 }
     requires going { (S.holder asking.steps).stopped ≡ false }
-    requires block { 0 < length block.old }
     requires nothing { (working.cleaned.infos.items ≡ []) × (working.cleaned.choices.items ≡ []) × (working.cleaned.metrics ≡ zeros) × (working.aggregate ≡ empty) }
     requires room { (length sources.old ≤ vec_capacity working.cleaned.infos) × (length sources.old ≤ vec_capacity working.cleaned.choices) }
     ensures cleaned { IfOk result.1 (λ w. HasCleaned policy.now R.tells R.left R.faults sources.old sources.new (S.holder asking.steps) (S.holder result.0.steps) w.cleaned.infos.items w.cleaned.choices.items w.cleaned.metrics w.aggregate) }
@@ -54,15 +52,16 @@ pub fn clean_each<S: Stepping, R: Source, T: AddBlock<S>>(
     let mut asking = asking;
     let mut working = working;
     asking.steps.limits().recall_invariant();
+    let mut blocks = BlockReader::new(alloc, asking.steps.limits());
     'sources: for at in 0..sources.len() {
         let (back, file) = clean_source(
             alloc,
             asking,
             &mut sources[at],
             at as u32,
-            block,
+            &mut blocks,
             policy,
-            adding,
+            digest,
         );
         asking = back;
         if let Err(error) = keep(&mut working, &mut asking.steps, file) {
@@ -96,16 +95,15 @@ pub(crate) fn keep<S: Stepping>(
 }
 
 /// Reads a source to its end and cleans its file. Errors name it as source `number`.
-pub(crate) fn clean_source<S: Stepping, R: Source, T: AddBlock<S>>(
+pub(crate) fn clean_source<S: Stepping, R: Source, H: FileDigest>(
     alloc: Global,
     asking: Asking<S>,
     source: &mut R,
     number: u32,
-    block: &mut [u8],
+    blocks: &mut BlockReader,
     policy: &Sha256Policy,
-    adding: &T,
+    digest: &mut H,
 ) -> (Asking<S>, Result<FinishedFile, StoreError>)
-    requires block { 0 < length block.old }
     ensures finished { IfOk result.1 (λ f. (bytes : List ℕ) × Takes true (R.tells source.old) (R.left source.old) (R.left source.new) bytes × IsFinished (S.holder asking.steps) (S.holder result.0.steps) number (sha256_by policy.now bytes) bytes f.info f.metrics f.choices f.rest) }
     ensures few { OnErr result.1 ((bytes : List ℕ) × Takes false (R.tells source.old) (R.left source.old) (R.left source.new) bytes × IsFew (S.holder asking.steps) (S.holder result.0.steps) bytes) }
     ensures follows { FollowsAsking (S.holder asking.steps) (S.holder result.0.steps) }
@@ -114,17 +112,9 @@ pub(crate) fn clean_source<S: Stepping, R: Source, T: AddBlock<S>>(
 {
     match FileCleaner::new(alloc, asking, number) {
         Ok(mut cleaner) => {
-            let mut generator = Sha256Generator::new();
-            match read_into(
-                &mut cleaner,
-                &mut generator,
-                source,
-                number,
-                block,
-                policy,
-                adding,
-            ) {
-                Ok(()) => cleaner.finish(generator.finalize_by(policy)),
+            digest.begin();
+            match read_into(&mut cleaner, digest, source, number, blocks, policy) {
+                Ok(()) => cleaner.finish(end_by(digest, policy)),
                 Err(error) => (cleaner.into_asking(), Err(error)),
             }
         }
@@ -133,20 +123,18 @@ pub(crate) fn clean_source<S: Stepping, R: Source, T: AddBlock<S>>(
 }
 
 /// Reads a source to its end, block by block, and adds its bytes to a file and to its SHA-256.
-fn read_into<S: Stepping, R: Source, T: AddBlock<S>>(
+fn read_into<S: Stepping, R: Source, H: FileDigest>(
     cleaner: &mut FileCleaner<S>,
-    generator: &mut Sha256Generator,
+    digest: &mut H,
     source: &mut R,
     number: u32,
-    block: &mut [u8],
+    blocks: &mut BlockReader,
     policy: &Sha256Policy,
-    adding: &T,
 ) -> Result<(), StoreError>
-    requires block { 0 < length block.old }
     requires cleaning { IsCleaning (S.holder cleaner.old.deduper.start.value.steps) (S.holder cleaner.old.deduper.interface.steps) cleaner.old.deduper.whole cleaner.old.deduper.plan cleaner.old.deduper.global cleaner.old.chunker cleaner.old.byte_count [] }
-    requires nothing { HasBytes generator.old [] }
+    requires nothing { H.has digest.old [] }
     requires number { cleaner.old.number ≡ number }
-    ensures cleaning { OnOk result ((bytes : List ℕ) × Takes true (R.tells source.old) (R.left source.old) (R.left source.new) bytes × IsCleaning (S.holder cleaner.new.deduper.start.value.steps) (S.holder cleaner.new.deduper.interface.steps) cleaner.new.deduper.whole cleaner.new.deduper.plan cleaner.new.deduper.global cleaner.new.chunker cleaner.new.byte_count bytes × HasBytesBy policy.now generator.new bytes) }
+    ensures cleaning { OnOk result ((bytes : List ℕ) × Takes true (R.tells source.old) (R.left source.old) (R.left source.new) bytes × IsCleaning (S.holder cleaner.new.deduper.start.value.steps) (S.holder cleaner.new.deduper.interface.steps) cleaner.new.deduper.whole cleaner.new.deduper.plan cleaner.new.deduper.global cleaner.new.chunker cleaner.new.byte_count bytes × IfComputed policy.now (H.has digest.new bytes)) }
     ensures few { OnErr result ((bytes : List ℕ) × Takes false (R.tells source.old) (R.left source.old) (R.left source.new) bytes × IsFew (S.holder cleaner.new.deduper.start.value.steps) (S.holder cleaner.new.deduper.interface.steps) bytes) }
     ensures same { (cleaner.new.deduper.start.value ≡ cleaner.old.deduper.start.value) × (cleaner.new.deduper.file_id ≡ cleaner.old.deduper.file_id) }
     ensures follows { FollowsAsking (S.holder cleaner.old.deduper.interface.steps) (S.holder cleaner.new.deduper.interface.steps) }
@@ -154,23 +142,10 @@ fn read_into<S: Stepping, R: Source, T: AddBlock<S>>(
     ensures refused { IfErr result (IsSourceError number (R.tells source.old) (R.left source.old) (R.faults source.old) (R.faults source.new) (S.holder cleaner.old.deduper.interface.steps) (S.holder cleaner.new.deduper.interface.steps)) }
 {
     loop {
-        let count = read_block(source, number, block)?;
-        adding.add(cleaner, generator, policy, &block[..count])?;
-        if count < block.len() {
+        let (block, is_last) = blocks.read(source, number)?;
+        add_block(cleaner, digest, policy, block)?;
+        if is_last {
             return Ok(());
         }
-    }
-}
-
-/// Reads until a block is full or the source ends.
-fn read_block<R: Source>(source: &mut R, number: u32, block: &mut [u8]) -> Result<usize, StoreError>
-    ensures filled { R.tells source.old ≡ true → Fills (R.left source.old) block.new result (R.left source.new) }
-    ensures bound { IfOk result (λ count. count ≤ length block.new) }
-    ensures frame { Called R.tells R.faults source.old source.new (IsErr result) }
-    ensures reason { IsOkUnless result (StoreError.Io (Place.Source number)) }
-{
-    match read_full(source, block) {
-        Ok(count) => Ok(count),
-        Err(_) => Err(StoreError::Io(Place::Source(number))),
     }
 }

@@ -4,7 +4,7 @@ ghost use Rattle.std.specs.Prelude.{◌≡◌, ◌≤◌, ◌+◌, ◌*◌, ◌+
 ghost use Rattle.xet_aggregate.specs.Aggregate.{IsAggregate, empty};
 ghost use Rattle.xet_aggregate.specs.Metrics.{zeros};
 ghost use Rattle.xet_clean.specs.Planning.{IsWithin};
-ghost use Rattle.xet_stepping.specs.Holders.{Follows, Holder};
+ghost use Rattle.xet_steps.specs.Holders.{Follows, Holder};
 ghost use Rattle.xet_clean.specs.Closing.{Closes, HaveForm, IsAtMost, IsUnclosed, Joins};
 ghost use Rattle.xet_clean.specs.internal.Sums.{HasRoom};
 ghost use Rattle.xet_clean.specs.Working.{IsAdded, IsWorking, Planned};
@@ -22,7 +22,7 @@ use std::alloc::Global;
 use std::mem;
 use xet_dedup::{DataAggregator, DeduplicationMetrics};
 use xet_hash::StoreError;
-use xet_stepping::Stepping;
+use xet_steps::Stepping;
 use xet_xorb_chunk::chunk_leaves;
 
 /// What was made of the sources so far.

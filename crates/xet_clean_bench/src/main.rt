@@ -8,14 +8,18 @@
 //!
 //! `workers MIB FILES WORKERS` cleans the files once, by so many workers, and prints the microseconds.
 //!
+//! `repeats MIB` cleans a file that repeats 8 MiB, each time with one new chunk, by one worker, and prints the microseconds.
+//!
 //! `digests MIB` computes the SHA-256 of a generated file on two threads at once, and prints the microseconds of both together.
 #![tactic(auto)]
 
 mod cleaning;
 mod made;
+mod repeats;
 mod workers;
 
 use crate::cleaning::{Call, Figures, figures_of};
+use crate::repeats::time_repeats;
 use crate::workers::{time_digests, time_workers};
 use std::alloc::Global;
 use std::marker::Sync;
@@ -45,6 +49,7 @@ enum Phase {
     Time(Input),
     Check(Input),
     Workers(Input, u32),
+    Repeats(u64),
     Digests(u64),
 }
 
@@ -69,8 +74,10 @@ fn read_words(rt: &HostRuntime) -> Option<Phase> {
     if mebibytes > MAX_MEBIBYTES {
         return None;
     }
-    if name.as_str() == "digests" {
-        return Some(Phase::Digests(mebibytes));
+    match name.as_str() {
+        "digests" => return Some(Phase::Digests(mebibytes)),
+        "repeats" => return Some(Phase::Repeats(mebibytes)),
+        _ => {}
     }
     let files = words.next()?.as_str().parse::<u64>().ok()?;
     if files > MAX_FILES {
@@ -120,6 +127,9 @@ fn answer_of<R: Clock + Sync + Threads + Wait>(
             input.files,
             workers,
         )?)),
+        Phase::Repeats(mebibytes) => {
+            Ok(Answer::Microseconds(time_repeats(rt, alloc, mebibytes)?))
+        }
         Phase::Digests(mebibytes) => {
             Ok(Answer::Microseconds(time_digests(rt, alloc, mebibytes)?))
         }

@@ -9,7 +9,7 @@ use Rattle.xet_io.specs.Disk.{Files, file_at}
 use Rattle.xet_shard.specs.Queries.{kept_hash, last_of, shard_run_at}
 use Rattle.xet_shard_format.specs.Records.{first_word}
 use Rattle.xet_shard_index.specs.Places.{indexed_shard, place_in, place_of, within_reach, word_place}
-use Rattle.xet_shard_index.specs.declared.word_index.WordPlace.{WordPlace}
+use Rattle.xet_shard_index.specs.declared.word_place.WordPlace.{WordPlace}
 use Rattle.xet_shard_lookup.specs.Found.{Run, keyed_run, run_at_place, run_in_file, shard_of}
 use Rattle.xet_shard_registry.specs.Registered.{Registered, collection, entered_from, has_key, indexed, numbers, numbers_from, place_among}
 

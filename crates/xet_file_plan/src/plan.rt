@@ -229,6 +229,14 @@ impl FilePlan {
         self.block.clear();
     }
 
+    /// Gives the chunks of the open block since the last call memory of their own, if they take less than half of a buffer of
+    /// `len` bytes which they may share, as `OpenBlock::release` does. The plan is unchanged.
+    pub fn release(&mut self, alloc: Global, len: usize)
+        ensures { self.new ≡ self.old }
+    {
+        self.block.release(alloc, len);
+    }
+
     /// The parts. Allocates nothing.
     pub fn into_parts(self) -> PlanParts
         ensures leaves { result.leaves.items ≡ self.leaves }

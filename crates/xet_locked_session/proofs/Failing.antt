@@ -23,8 +23,8 @@ use Rattle.xet_shard_format.specs.declared.record.MDBFileInfo.{MDBFileInfo}
 use Rattle.xet_shared_history.specs.Owned.{AreOwn}
 use Rattle.xet_steps.specs.Recorded.{AreShards, RecordedState, core_of}
 use Rattle.xet_steps.specs.Steps.{FailsAsking, IsOtherFile, IsStepError, Refuses, Steps, fault_entries}
-use Rattle.xet_stepping.specs.Holders.{Holder, core_found}
-use Rattle.xet_stepping.specs.Stepping.{IsStepReason, no_cut}
+use Rattle.xet_steps.specs.Holders.{Holder, core_found}
+use Rattle.xet_steps.specs.Stepping.{IsStepReason, no_cut}
 use Rattle.xet_store.specs.Asking.{IsAskingError}
 use Rattle.xet_store.specs.Store.{State}
 use Rattle.xet_xorb.specs.Raw.{xorb_record}

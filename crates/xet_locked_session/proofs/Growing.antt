@@ -12,7 +12,7 @@ use Rattle.xet_shared_history.specs.theorems.Prefixes.{prefix_after, same_rest}
 use Rattle.xet_steps.specs.Recorded.{RecordedState, core_of}
 use Rattle.xet_steps.specs.Steps.{Steps}
 use Rattle.xet_steps.specs.theorems.Joining.{steps_both}
-use Rattle.xet_stepping.specs.Holders.{Holder, core_at, core_found, grown, numbered}
+use Rattle.xet_steps.specs.Holders.{Holder, core_at, core_found, grown, numbered}
 use Rattle.xet_locked_session.specs.Passes.{entries_at, holder_of}
 use Rattle.xet_locked_session.specs.Session.{IsSince}
 use Rattle.xet_locked_session.proofs.Entries.{entries_grown}

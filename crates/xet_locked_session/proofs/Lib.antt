@@ -11,3 +11,11 @@ pub mod Stepped
 pub mod Counting
 pub mod Guarding
 pub mod Returning
+mod Fronts
+mod Added
+mod Carrying
+mod Saw
+mod Failed
+mod Keeping
+mod Last
+mod Returned

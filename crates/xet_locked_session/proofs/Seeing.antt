@@ -18,8 +18,8 @@ use Rattle.xet_shard_format.specs.declared.record.MDBFileInfo.{MDBFileInfo}
 use Rattle.xet_shared_history.specs.Owned.{AreOwn}
 use Rattle.xet_steps.specs.Recorded.{IsRecorded, RecordedState, core_of}
 use Rattle.xet_steps.specs.theorems.Sound.{sound_core}
-use Rattle.xet_stepping.specs.Holders.{Holder, core_at, core_found, grown}
-use Rattle.xet_stepping.specs.Stepping.{SawComplete, SawQuery, SawRegister}
+use Rattle.xet_steps.specs.Holders.{Holder, core_at, core_found, grown}
+use Rattle.xet_steps.specs.Stepping.{SawComplete, SawQuery, SawRegister}
 use Rattle.xet_store.specs.Store.{Sound}
 use Rattle.xet_locked_session.specs.Passes.{SawFlush, flushed_hash}
 use Rattle.xet_locked_session.specs.Session.{IsSince}

@@ -11,8 +11,8 @@ use Rattle.xet_shard_format.specs.declared.record.FileDataSequenceEntry.{FileDat
 use Rattle.xet_shard_format.specs.declared.record.MDBFileInfo.{MDBFileInfo}
 use Rattle.xet_steps.specs.Recorded.{RecordedState, core_of}
 use Rattle.xet_steps.specs.Steps.{FailsAsking, IsOtherFile, Refuses, fault_entries}
-use Rattle.xet_stepping.specs.Alone.{MayBeAsked, Step}
-use Rattle.xet_stepping.specs.Holders.{xorb_limits}
+use Rattle.xet_steps.specs.Alone.{MayBeAsked, Step}
+use Rattle.xet_steps.specs.Holders.{xorb_limits}
 use Rattle.xet_xorb.specs.Raw.{raw_leaves}
 use Rattle.xet_xorb.specs.declared.raw.RawXorbData.{RawXorbData}
 use Rattle.xet_locked_session.specs.Shared.{StepOf}

@@ -9,7 +9,7 @@ use Rattle.xet_shared_history.specs.Owned.{AreOwn, numbers_from}
 use Rattle.xet_shared_history.specs.theorems.Owned.{length-numbers_from}
 use Rattle.xet_steps.specs.Recorded.{RecordedState, core_of}
 use Rattle.xet_steps.specs.Steps.{Steps}
-use Rattle.xet_stepping.specs.Holders.{Holder}
+use Rattle.xet_steps.specs.Holders.{Holder}
 use Rattle.xet_locked_session.specs.Passes.{holder_of}
 use Rattle.xet_locked_session.specs.Session.{IsSince}
 use Rattle.xet_locked_session.proofs.Growing.{legal_after, own_legal}

@@ -7,7 +7,7 @@ use Rattle.xet_history.specs.Core.{Core}
 use Rattle.xet_history.specs.declared.entry.Entry.{Entry}
 use Rattle.xet_steps.specs.Coding.{recorded_code}
 use Rattle.xet_steps.specs.Recorded.{RecordedState}
-use Rattle.xet_stepping.specs.Holders.{Holder}
+use Rattle.xet_steps.specs.Holders.{Holder}
 use Rattle.xet_store.specs.Coding.{limits_code}
 
 -- numbered entries

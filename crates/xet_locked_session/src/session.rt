@@ -121,7 +121,7 @@ impl<J: Naming> Model for Pass<J> {
     ghost use Rattle.std.specs.Prelude.{◌≡◌, ◌++◌, length};
     ghost use Rattle.xet_history.specs.History.{Legal};
     ghost use Rattle.xet_shared_history.specs.Owned.{AreOwn};
-    ghost use Rattle.xet_stepping.specs.Holders.{Holder};
+    ghost use Rattle.xet_steps.specs.Holders.{Holder};
     ghost use Rattle.xet_steps.specs.Recorded.{core_of};
     ghost use Rattle.xet_locked_session.specs.Coding.{holder_code};
     ghost use Rattle.xet_locked_session.specs.Passes.{holder_of};

@@ -4,7 +4,6 @@ use Rattle.xet_hash.specs.declared.error.StoreError.{StoreError}
 use Rattle.xet_manager.specs.Adding.{Cuts, IsUncut}
 use Rattle.xet_manager.specs.Manager.{ManagerState}
 use Rattle.xet_shard.specs.Held.{Held}
-use Rattle.xet_shard_directory.specs.Writing.{path_of}
 use Rattle.xet_shard_flush.specs.Importing.{KeepsFiles, flushed_bytes}
 
 module _ (old mid new : ManagerState) (room : ℕ) (same : mid ≡ record old { room = room }) where

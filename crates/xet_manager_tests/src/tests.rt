@@ -8,6 +8,7 @@ mod exports;
 mod failing_tests;
 mod filling_tests;
 mod import_tests;
+mod index_tests;
 mod keyed_tests;
 mod listing_tests;
 mod opening_tests;

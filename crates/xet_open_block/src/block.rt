@@ -6,6 +6,7 @@ ghost use Rattle.xet_open_block.specs.OpenBlock.{first_place, open_run, run_from
 ghost use Rattle.xet_xorb.specs.Raw.{ArePartsOfXorb, IsRaw, raw_leaves, raw_of};
 ghost use Rattle.xet_xorb_chunk.specs.Chunks.{bytes_of_chunk, chunk_leaf, total};
 
+use bytes::Bytes;
 use indexmap::IndexMap;
 use std::alloc::Global;
 use std::marker::Model;
@@ -22,6 +23,8 @@ pub struct OpenBlock {
     bytes: u64,
     /// The last index of each chunk hash.
     places: IndexMap<MerkleHash, usize>,
+    /// At least this many of the first chunks were there at the last `release`.
+    released: usize,
 }
 
 impl Model for OpenBlock {
@@ -45,6 +48,7 @@ impl OpenBlock {
             chunks: Vec::new(alloc),
             bytes: 0,
             places: IndexMap::new(alloc),
+            released: 0,
         }
     }
 
@@ -166,6 +170,20 @@ impl OpenBlock {
         self.chunks.clear();
         self.places.clear();
         self.bytes = 0;
+        self.released = 0;
+    }
+
+    /// Gives the chunks since the last call memory of their own, if they take less than half of a buffer of `len` bytes which
+    /// they may share: so the buffer can be freed. Where memory is out, chunks go on sharing it. No chunk changes.
+    pub fn release(&mut self, alloc: Global, len: usize)
+        ensures { self.new ≡ self.old }
+    {
+        let count = self.chunks.len();
+        let from = self.released.min(count);
+        if self.bytes_of(from, count - from) < len as u64 / 2 {
+            copy_each(alloc, &mut self.chunks[from..]);
+        }
+        self.released = count;
     }
 
     /// The chunks, in order. Does not allocate.
@@ -173,6 +191,24 @@ impl OpenBlock {
         ensures { result.items ≡ self }
     {
         self.chunks
+    }
+}
+
+/// Gives each chunk memory of its own, as far as there is any.
+fn copy_each(alloc: Global, chunks: &mut [Chunk])
+    ensures { chunks.new ≡ chunks.old }
+{
+    for chunk in chunks.iter_mut() {
+        copy(alloc, chunk);
+    }
+}
+
+/// Gives a chunk memory of its own, if there is any.
+fn copy(alloc: Global, chunk: &mut Chunk)
+    ensures { chunk.new ≡ chunk.old }
+{
+    if let Ok(bytes) = Bytes::copy_from_slice(alloc, chunk.bytes.as_slice()) {
+        chunk.bytes = bytes;
     }
 }
 

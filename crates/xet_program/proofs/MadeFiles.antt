@@ -27,7 +27,7 @@ use Rattle.xet_history.specs.declared.entry.Entry.TheVariants.{Query, Register, 
 use Rattle.xet_shard_format.specs.Records.{file_record_hash}
 use Rattle.xet_shard_format.specs.declared.record.FileDataSequenceEntry.{FileDataSequenceEntry as Segment}
 use Rattle.xet_shard_format.specs.declared.record.MDBFileInfo.{MDBFileInfo}
-use Rattle.xet_stepping.specs.Holders.{calls_in, numbered}
+use Rattle.xet_steps.specs.Holders.{calls_in, numbered}
 use Rattle.xet_io.specs.Faults.{HasCause}
 use Rattle.xet_steps.specs.Recorded.{RecordedState, core_of}
 use Rattle.xet_steps.specs.Steps.{Steps}

@@ -4,7 +4,9 @@
 #![tactic(auto)]
 
 #[cfg(test)]
-mod beside_tests;
+mod behind_tests;
+#[cfg(test)]
+mod sharing_tests;
 #[cfg(test)]
 mod single_tests;
 #[cfg(test)]

@@ -1,13 +1,17 @@
-//! What is asked: a manager, a map, and a disk.
+//! What is asked: a manager, its index, a map, and a disk.
+
+ghost use Rattle.std.specs.Prelude.{◌≡◌, ◌<◌};
 
 use crate::made::{ABSENT, CHUNKS, hash_of, hashes};
 use crate::phases::Manager;
 use std::alloc::Global;
 use std::collections::HashMap;
 use std::slice;
+use std::sync::ledger::{Blank, Ledger};
 use xet_codec::store_error;
 use xet_hash::{MerkleHash, StoreError};
 use xet_io::{Disk, MemoryDisk};
+use xet_manager::{PackedIndex, Steps};
 use xet_shard_directory::MDBShardFile;
 
 /// The length of a row, in bytes.
@@ -60,6 +64,22 @@ pub(crate) fn placed(places: &Places, hashes: &[MerkleHash]) -> u64 {
         }
     }
     placed
+}
+
+/// How many hashes have their first word in an index.
+pub(crate) fn indexed<L: Ledger>(index: &PackedIndex, hashes: &[MerkleHash], blank: Blank) -> u64
+    requires name { blank.name ≡ L.name }
+    requires parts { blank.parts ≡ L.parts }
+    requires some { 0 < blank.parts }
+{
+    let mut steps = Steps::<L>::new(blank);
+    let mut indexed = 0u64;
+    for hash in hashes {
+        if let Some(place) = index.find(hash.word(0), &mut steps) {
+            indexed = indexed.saturating_add((place.chunk < u16::MAX) as u64);
+        }
+    }
+    indexed
 }
 
 /// The map of so many chunks.

@@ -3,8 +3,8 @@
 //! `load SHARDS` writes so many shard files with 1,000 chunks each, opens a manager over their folder, and prints the
 //! number of files. `register SHARDS` then times the registration of all. `query SHARDS` then times 1,000,000
 //! queries of chunks that are in none of them, and as many of chunks that are; as many look-ups of the first words of
-//! the same hashes in a map from word to place, in the same order; and, as often, what the disk is asked for a chunk
-//! that is there: `stat`, and two reads of 48 bytes. It prints these five times in this order.
+//! the same hashes in a map from word to place, in the same order, and in the manager's index; and, as often, what the
+//! disk is asked for a chunk that is there: `stat`, and two reads of 48 bytes. It prints these seven times in this order.
 //!
 //! `merge SHARDS` writes so many shard files with 10 chunks each, and times merging them into another folder, with a
 //! target of 64 MiB.

@@ -160,8 +160,12 @@ fn print_line(rt: &HostRuntime, phase: Phase, answers: &Answers, reads: Timed) {
     let hits = shown(phase, answers.hits);
     let map_misses = shown(phase, answers.map_misses);
     let map_hits = shown(phase, answers.map_hits);
+    let index_misses = shown(phase, answers.index_misses);
+    let index_hits = shown(phase, answers.index_hits);
     let reads = shown(phase, reads);
-    let _ = println!(rt; "{misses} {hits} {map_misses} {map_hits} {reads}");
+    let _ = println!(rt;
+        "{misses} {hits} {map_misses} {map_hits} {index_misses} {index_hits} {reads}"
+    );
 }
 
 /// What the phase prints of calls.

@@ -1,12 +1,15 @@
 //! What is timed.
 
-use crate::asked::{Lists, Places, chunks_in, found, lists_of, placed, places_of, read};
+use crate::asked::{Lists, Places, chunks_in, found, indexed, lists_of, placed, places_of, read};
 use crate::made::{hashes, merged, write_shards};
 use crate::phases::Manager;
 use std::alloc::Global;
+use std::marker::Brand;
+use std::sync::ledger::Blank;
 use std::time::{Clock, Instant};
-use xet_hash::{MerkleHash, StoreError};
+use xet_hash::{HMACKey, MerkleHash, StoreError};
 use xet_io::MemoryDisk;
+use xet_manager::PackedIndex;
 use xet_shard_directory::MDBShardFile;
 
 /// The folder of the shard files that are merged.
@@ -22,7 +25,7 @@ pub(crate) struct Timed {
     pub count: u64,
 }
 
-/// Queries, and look-ups of the same words in a map.
+/// Queries, and look-ups of the same words in a map and in the manager's index.
 #[derive(Clone, Copy)]
 pub(crate) struct Answers {
     pub registered: u64,
@@ -30,6 +33,8 @@ pub(crate) struct Answers {
     pub hits: Timed,
     pub map_misses: Timed,
     pub map_hits: Timed,
+    pub index_misses: Timed,
+    pub index_hits: Timed,
 }
 
 impl Answers {
@@ -39,6 +44,8 @@ impl Answers {
             && self.map_misses.count == 0
             && self.hits.count == rounds
             && self.map_hits.count == rounds
+            && self.index_misses.count == 0
+            && self.index_hits.count == rounds
     }
 }
 
@@ -78,12 +85,15 @@ pub(crate) fn answers_of<R: Clock>(
     let lists = lists_of(alloc, chunks, rounds)?;
     let (misses, hits) = time_queries(clock, manager, &lists)?;
     let (map_misses, map_hits) = time_map(clock, alloc, chunks, &lists)?;
+    let (index_misses, index_hits) = time_index(clock, manager, &lists)?;
     Ok(Answers {
         registered,
         misses,
         hits,
         map_misses,
         map_hits,
+        index_misses,
+        index_hits,
     })
 }
 
@@ -122,6 +132,26 @@ fn time_map<R: Clock>(
     let misses = time_placed(clock, &places, &lists.absent);
     let hits = time_placed(clock, &places, &lists.here);
     Ok((misses, hits))
+}
+
+fn time_index<R: Clock>(
+    clock: &R,
+    manager: &Manager,
+    lists: &Lists,
+) -> Result<(Timed, Timed), StoreError> {
+    let Some(index) = manager.index(&HMACKey::default()) else {
+        return Err(StoreError::FileNotFound);
+    };
+    let misses = time_indexed(clock, index, &lists.absent);
+    let hits = time_indexed(clock, index, &lists.here);
+    Ok((misses, hits))
+}
+
+fn time_indexed<R: Clock>(clock: &R, index: &PackedIndex, hashes: &[MerkleHash]) -> Timed {
+    let start = Instant::now(clock).ok();
+    let count = indexed::<Brand>(index, hashes, Blank::new(1));
+    let time = since(clock, start);
+    Timed { time, count }
 }
 
 fn time_placed<R: Clock>(clock: &R, places: &Places, hashes: &[MerkleHash]) -> Timed {

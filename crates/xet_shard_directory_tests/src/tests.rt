@@ -3,6 +3,7 @@
 mod background_tests;
 mod directory_tests;
 mod folder_tests;
+mod index_tests;
 mod merge_tests;
 mod reader_tests;
 mod registry_tests;

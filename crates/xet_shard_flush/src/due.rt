@@ -52,6 +52,7 @@ pub fn prepare_flush(
     folder: &str,
     registry: &mut ShardRegistry,
     pending: &MDBInMemoryShard,
+    cap: u64,
     moment: u64,
 ) -> Result<DueShard, StoreError>
     ensures due { IfOk result (IsDue folder.now pending.now moment) }
@@ -64,7 +65,7 @@ pub fn prepare_flush(
     let (encoding, info) = pending.shard_bytes(alloc, moment, None)?;
     let items = items_of_bytes(alloc, &info, &encoding)?;
     let file = new_file(alloc, folder, compute_data_hash(&encoding), info)?;
-    registry.reserve(&file.info.metadata.chunk_hash_hmac_key, items.len())?;
+    registry.reserve(&file.info.metadata.chunk_hash_hmac_key, &items, cap)?;
     Ok(DueShard {
         encoding,
         items,

@@ -77,7 +77,7 @@ pub fn flush_prepared<D: Disk>(
     ensures frame { Stays D.tells D.faults disk.old disk.new }
     ensures reason { IfErr result (IsFlushError (D.faults disk.old) (D.faults disk.new)) }
 {
-    match due_shard(alloc, folder, registry, pending, due, moment) {
+    match due_shard(alloc, folder, registry, pending, due, cap, moment) {
         Ok(due) => write_due(alloc, disk, registry, pending, due, next, cap),
         Err(error) => Err(error),
     }
@@ -90,6 +90,7 @@ fn due_shard(
     registry: &mut ShardRegistry,
     pending: &MDBInMemoryShard,
     due: Option<DueShard>,
+    cap: u64,
     moment: u64,
 ) -> Result<DueShard, StoreError>
     requires { ForSome due (IsDue folder.now pending.now moment) }
@@ -101,6 +102,6 @@ fn due_shard(
 {
     match due {
         Some(due) => Ok(due),
-        None => prepare_flush(alloc, folder, registry, pending, moment),
+        None => prepare_flush(alloc, folder, registry, pending, cap, moment),
     }
 }

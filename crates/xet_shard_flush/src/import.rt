@@ -83,7 +83,7 @@ fn import_new<D: Disk>(
 {
     let items = new_items(alloc, registry, &info, bytes)?;
     let file = new_file(alloc, folder, hash, info)?;
-    registry.reserve(&file.info.metadata.chunk_hash_hmac_key, items.len())?;
+    registry.reserve(&file.info.metadata.chunk_hash_hmac_key, &items, cap)?;
     write_new(alloc, disk, registry, file, bytes, &items, cap)
 }
 

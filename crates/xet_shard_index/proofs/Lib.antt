@@ -1,1 +1,7 @@
-mod Entries
+pub mod Counting
+pub mod Lengths
+pub mod Merging
+pub mod Places
+pub mod Searching
+pub mod Sorting
+pub mod Without

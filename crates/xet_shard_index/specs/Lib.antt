@@ -1,4 +1,5 @@
 pub mod Different
 pub mod Places
+pub mod Runs
 pub mod internal
 pub mod theorems

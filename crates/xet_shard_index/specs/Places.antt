@@ -1,9 +1,9 @@
 -- The place of a chunk in the shards of an index, by the first word of its hash.
-use Rattle.std.specs.Prelude.{◌≡◌, ℕ, nat_eq, nat_le, List, [], ◌∷◌, ◌++◌, filter, map, Option, Some, None, option_map}
+use Rattle.std.specs.Prelude.{◌≡◌, ℕ, nat_eq, nat_le, List, [], ◌∷◌, ◌++◌, filter, length, map, Option, Some, None, option_map}
 use Rattle.std.specs.Map.{lookup}
 use Rattle.xet_shard.specs.Queries.{last_of}
 use Rattle.xet_shard_index.specs.Different.{different}
-use Rattle.xet_shard_index.specs.declared.word_index.WordPlace.{WordPlace}
+use Rattle.xet_shard_index.specs.declared.word_place.WordPlace.{WordPlace}
 
 -- a shard of an index: its number, and its chunk lookup table: for each chunk the first word of its hash, the row of its
 -- xorb, and its index in the xorb
@@ -35,7 +35,8 @@ unfoldable pub all_words : List IndexedShard → List ℕ
 all_words [] = []
 all_words (s ∷ ss) = map (λ i. i.0) (within_reach s.items) ++ all_words ss
 
--- The entries are the places of all words of the shards, each word once.
+-- The entries are the places of all words of the shards, and no more of them than there are different words: so each
+-- word has one entry.
 pub record IsIndexOf (entries : List (ℕ × WordPlace)) (shards : List IndexedShard) : Type 0 where
   pub places : (word : ℕ) → lookup {X = WordPlace} (nat_eq word) entries ≡ place_of word shards
-  pub words : map (λ e. e.0) entries ≡ different nat_eq (all_words shards)
+  pub words : length entries ≡ length (different nat_eq (all_words shards))

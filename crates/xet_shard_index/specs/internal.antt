@@ -1,1 +1,3 @@
-pub mod Noting
+pub mod Inserting
+pub mod Items
+pub mod Lengths

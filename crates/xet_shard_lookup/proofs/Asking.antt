@@ -17,7 +17,7 @@ use Rattle.xet_shard_directory.specs.declared.shard_file.MDBShardFile.{MDBShardF
 use Rattle.xet_shard_format.specs.Encoding.{Fits, IsShard, Shard, footer_of, header, shard_bytes}
 use Rattle.xet_shard_format.specs.Lookups.{Lookups, chunk_items}
 use Rattle.xet_shard_format.specs.declared.record.MDBXorbInfo.{MDBXorbInfo}
-use Rattle.xet_shard_index.specs.declared.word_index.WordPlace.{WordPlace}
+use Rattle.xet_shard_index.specs.declared.word_place.WordPlace.{WordPlace}
 use Rattle.xet_shard_registry.specs.Registered.{Registered, keys_of}
 
 -- ---- one file

@@ -4,7 +4,7 @@ use Rattle.std.specs.Prelude.{filter, option_and_then, nat_le, ◌==◌}
 use Rattle.std.proofs.lemmas.Option.{same_Some, slice_get-get_or}
 use Rattle.xet_shard.specs.Queries.{last_of}
 use Rattle.xet_shard_index.specs.Places.{indexed_shard, place_of, within_reach, word_place}
-use Rattle.xet_shard_index.specs.declared.word_index.WordPlace.{WordPlace}
+use Rattle.xet_shard_index.specs.declared.word_place.WordPlace.{WordPlace}
 use Rattle.xet_shard_registry.specs.Registered.{Registered, collection, entered_from, has_key, indexed, numbers, numbers_from, place_among}
 
 -- ---- the numbers of a key's shards

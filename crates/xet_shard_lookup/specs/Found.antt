@@ -10,7 +10,7 @@ use Rattle.xet_shard_format.specs.Lookups.{chunk_items}
 use Rattle.xet_shard_format.specs.Records.{first_word}
 use Rattle.xet_shard_directory.specs.declared.shard_file.MDBShardFile.{MDBShardFile}
 use Rattle.xet_shard_format.specs.declared.record.FileDataSequenceEntry.{FileDataSequenceEntry}
-use Rattle.xet_shard_index.specs.declared.word_index.WordPlace.{WordPlace}
+use Rattle.xet_shard_index.specs.declared.word_place.WordPlace.{WordPlace}
 use Rattle.xet_shard_registry.specs.Registered.{Registered, key_of, keys_of, place_among}
 
 abbrev pub Run : Type 0

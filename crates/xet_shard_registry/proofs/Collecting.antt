@@ -13,14 +13,13 @@ use Rattle.xet_hash.specs.Hash.{zero_hash}
 use Rattle.xet_shard_registry.proofs.Keys.{key_same, key_tells}
 use Rattle.xet_shard.specs.Union.{ShardRecords}
 use Rattle.xet_shard_directory.specs.declared.shard_file.MDBShardFile.{MDBShardFile}
-use Rattle.xet_shard_registry.specs.Registered.{collection, entered_from, has_key, indexed, key_of, keys_of, materialized_of, numbers, numbers_from, Registered, stored_of, with_shard, word_count}
+use Rattle.xet_shard_registry.specs.Registered.{collection, entered_from, has_key, indexed, is_key_of, key_of, keys_of, materialized_of, numbers, numbers_from, Registered, stored_of, with_shard, word_count}
 use Rattle.xet_shard_registry.specs.declared.collection.Collection.{Collection}
 use Rattle.xet_shard_registry.specs.Collections.{AddsTo, AreCollectionsOf, HasAdded, HasKept, IsCollectionOf, IsKeyless, IsRegistryOf, StayCollections, Tables, words_in}
-use Rattle.indexmap.specs.IndexSet.{insert_key}
 use Rattle.xet_shard_index.specs.Different.{different}
-use Rattle.xet_shard_index.specs.theorems.Different.{Distinct, any_different, different_is_distinct, different_with}
+use Rattle.xet_shard_index.specs.theorems.Different.{Distinct, any_different, different_is_distinct, different_with, with_last}
 use Rattle.xet_shard_index.specs.Places.{IndexedShard, IsIndexOf, all_words, indexed_shard}
-use Rattle.xet_shard_index.specs.declared.word_index.WordPlace.{WordPlace}
+use Rattle.xet_shard_index.specs.declared.word_place.WordPlace.{WordPlace}
 
 -- ---- one key
 
@@ -153,6 +152,12 @@ key_there (x ∷ cs) (suc at) c e = by (key_tells c.key x.key) (key_there cs at 
     by (inl a) later = rw a.0 refl
     by (inr a) later = rw a.0 later
 
+-- a collection that is there is of the shards
+collection_at : (shards : List Registered) (cs : List Collection) (at : ℕ) (c : Collection) → slice_get cs at ≡ Some c → AllByRecursion (IsCollectionOf shards) cs → IsCollectionOf shards c
+collection_at shards [] at c e all = absurd cc
+collection_at shards (d ∷ ds) zero c e all = let same : d ≡ c = cc e in rw same at all.0
+collection_at shards (d ∷ ds) (suc at) c e all = collection_at shards ds at c e all.1
+
 -- that of the shard's key is replaced by one that has the shard
 each_set : (shards : List Registered) (s : Registered) (cs : List Collection) (at : ℕ) (c next : Collection) → slice_get cs at ≡ Some c → c.key ≡ key_of s
     → Distinct (pointwise nat_eq) key_tells (map key_in cs) → IsCollectionOf (shards ++ s ∷ []) next → AllByRecursion (IsCollectionOf shards) cs → AllByRecursion (IsCollectionOf (shards ++ s ∷ [])) (slice_set cs at next)
@@ -182,7 +187,7 @@ same_key (Ok x) old new number enters items added kept = added.key
 same_key (Err e) old new number enters items added kept = kept.key
 
 -- the keys after one more shard
-keys_more : (shards : List Registered) (s : Registered) → keys_of (shards ++ s ∷ []) ≡ insert_key (pointwise nat_eq) (keys_of shards) (key_of s)
+keys_more : (shards : List Registered) (s : Registered) → keys_of (shards ++ s ∷ []) ≡ with_last (pointwise nat_eq) key_tells (keys_of shards) (key_of s)
 keys_more shards s =
     ap (λ (ks : List (List ℕ)). different (pointwise nat_eq) (zero_hash ∷ ks)) (map-append key_of shards (s ∷ []))
     ∙ different_with (pointwise nat_eq) key_tells (zero_hash ∷ map key_of shards) (key_of s)
@@ -205,13 +210,8 @@ add_to_key shards s cs at c next number enters items e ek en ee ei added held = 
     own : has_key c.key s ≡ true
     own = rw ek (key_same (key_of s))
 
-    mine : (ds : List Collection) (i : ℕ) → slice_get ds i ≡ Some c → AllByRecursion (IsCollectionOf shards) ds → IsCollectionOf shards c
-    mine [] i e all = absurd cc
-    mine (d ∷ ds) zero e all = let same : d ≡ c = cc e in rw same at all.0
-    mine (d ∷ ds) (suc i) e all = mine ds i e all.1
-
     grown : IsCollectionOf (shards ++ s ∷ []) next
-    grown = collection_grows shards s c next number enters items own en ee ei added (mine cs at e held.each)
+    grown = collection_grows shards s c next number enters items own en ee ei added (collection_at shards cs at c e held.each)
 
 -- a key that no registered shard has, has no shards
 no_shards : (key : List ℕ) (shards : List Registered) → list_any (pointwise nat_eq key) (map key_of shards) ≡ false → collection key shards ≡ []
@@ -337,15 +337,27 @@ no_collections c ek em index = record {
   each = (record { members = em; index = index }, tt);
 }
 
+-- ---- the index of a key
+
+pub index_at : (shards : List Registered) (cs : List Collection) (at : ℕ) (c : Collection) (key : List ℕ) → AreCollectionsOf shards cs → slice_get cs at ≡ Some c → c.key ≡ key → IsIndexOf c.index (indexed key shards)
+index_at shards cs at c key held e ek = rw (← ek) (collection_at shards cs at c e held.each).index
+
+pub key_present : (shards : List Registered) (cs : List Collection) (at : ℕ) (c : Collection) (key : List ℕ) → AreCollectionsOf shards cs → slice_get cs at ≡ Some c → c.key ≡ key → is_key_of key shards ≡ true
+key_present shards cs at c key held e ek =
+    let there : list_any (pointwise nat_eq key) (keys_of shards) ≡ true = rw (ek, held.keys) at (key_there cs at c e) in
+    sym (any_different (pointwise nat_eq) key_tells key (zero_hash ∷ map key_of shards)) ∙ there
+
+pub key_absent : (shards : List Registered) (cs : List Collection) (key : List ℕ) → AreCollectionsOf shards cs → IsKeyless key (map key_in cs) → is_key_of key shards ≡ false
+key_absent shards cs key held none =
+    let absent : list_any (pointwise nat_eq key) (keys_of shards) ≡ false = rw held.keys at none in
+    sym (any_different (pointwise nat_eq) key_tells key (zero_hash ∷ map key_of shards)) ∙ absent
+
 -- ---- words in all collections
 
--- an index has as many entries as words
-index_length : (e : List (ℕ × WordPlace)) (shards : List IndexedShard) → IsIndexOf e shards → length e ≡ length (different nat_eq (all_words shards))
-index_length e shards held = sym (length-map e (λ (x : ℕ × WordPlace). x.0)) ∙ ap length held.words
-
+-- an index of no shards has no entries
 pub empty_index : (e : List (ℕ × WordPlace)) → IsIndexOf e [] → length e ≡ 0
 unfolding different all_words
-empty_index e held = index_length e [] held
+empty_index e held = held.words
 
 pub words_counted : (shards : List Registered) (cs : List Collection) → AreCollectionsOf shards cs → word_count shards ≡ words_in cs
 words_counted shards cs held = rw (← held.keys) (go cs held.each)
@@ -357,7 +369,7 @@ words_counted shards cs held = rw (← held.keys) (go cs held.each)
     go [] all = refl
     go (d ∷ ds) all =
         sum_by-cons (λ key. length (different nat_eq (all_words (indexed key shards)))) d.key (map key_in ds)
-        ∙ rw (go ds all.1, ← index_length d.index (indexed d.key shards) all.0.index) (sym (sum_by-cons (λ (c : Collection). length c.index) d ds))
+        ∙ rw (go ds all.1, ← all.0.index.words) (sym (sum_by-cons (λ (c : Collection). length c.index) d ds))
 
 -- a new collection has no words
 pub no_words : (c : Collection) → IsIndexOf c.index [] → words_in (c ∷ []) ≡ 0

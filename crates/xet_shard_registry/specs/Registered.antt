@@ -7,7 +7,7 @@ use Rattle.xet_shard.specs.Union.{ShardRecords}
 use Rattle.xet_shard_directory.specs.declared.shard_file.MDBShardFile.{MDBShardFile}
 use Rattle.xet_shard_index.specs.Different.{different}
 use Rattle.xet_shard_index.specs.Places.{IndexedShard, all_words, indexed_shard, place_of, word_place}
-use Rattle.xet_shard_index.specs.declared.word_index.WordPlace.{WordPlace}
+use Rattle.xet_shard_index.specs.declared.word_place.WordPlace.{WordPlace}
 
 -- a registered shard: the value of its file, the chunk lookup table with which it was registered, its xorbs and files then,
 -- and whether its chunks entered the index
@@ -46,6 +46,10 @@ numbers key shards = numbers_from 0 key shards
 -- of first occurrence
 abbrev pub keys_of : List Registered → List (List ℕ)
 keys_of shards = different (pointwise nat_eq) (zero_hash ∷ map key_of shards)
+
+-- whether a key is zero, or that of a registered shard
+abbrev pub is_key_of : List ℕ → List Registered → Bool
+is_key_of key shards = list_any (pointwise nat_eq key) (zero_hash ∷ map key_of shards)
 
 -- whether a shard with this hash is registered
 abbrev pub is_registered : List ℕ → List Registered → Bool

@@ -1,14 +1,17 @@
 //! The registered shards of one key, and their index.
 
-ghost use Rattle.std.specs.Prelude.{◌≡◌, ◌+◌, ◌++◌, ◌∷◌, [], List, true, false, IfOk, IsOkUnless, OnErr, OnOk, length};
+ghost use Rattle.std.specs.Prelude.{◌≡◌, ◌+◌, ◌<◌, ◌++◌, ◌∷◌, [], List, true, false, IfOk, IsOkUnless, OnErr, OnOk, length, nat_eq};
+ghost use Rattle.std.specs.Map.{lookup};
 ghost use Rattle.xet_shard_registry.specs.Collections.{HasAdded, HasKept, IsCollectionOf};
 ghost use Rattle.xet_shard_registry.specs.Registered.{Registered, place_among};
 ghost use Rattle.xet_shard_format.specs.Lookups.{flat_places};
 ghost use Rattle.xet_shard_index.specs.Places.{IndexedShard, IsIndexOf, indexed_shard};
 
 use std::alloc::Global;
+use std::marker::Brand;
+use std::sync::ledger::{Blank, Ledger};
 use xet_hash::{HMACKey, StoreError};
-use xet_shard_index::{WordIndex, WordPlace};
+use xet_shard_index::{PackedIndex, Steps, WordPlace};
 
 /// The registered shards of one key.
 #[derive(Drop)]
@@ -18,7 +21,7 @@ pub(crate) struct Collection {
     /// Their numbers among all registered shards.
     pub members: Vec<u32>,
     /// The index of those that entered, each under its number among the members.
-    pub index: WordIndex,
+    pub index: PackedIndex,
 }
 
 impl Collection {
@@ -31,7 +34,7 @@ impl Collection {
         Collection {
             key,
             members: Vec::new(alloc),
-            index: WordIndex::new(alloc),
+            index: PackedIndex::new(alloc),
         }
     }
 
@@ -57,20 +60,31 @@ impl Collection {
         Ok(added)
     }
 
-    /// Takes the memory for one more shard with this number of chunks. The only error is `StoreError::OutOfMemory`.
-    pub(crate) fn reserve(&mut self, chunks: usize) -> Result<(), StoreError>
+    /// Takes the memory for adding a shard with these items next. The only error is `StoreError::OutOfMemory`.
+    pub(crate) fn reserve(
+        &mut self,
+        enters: bool,
+        items: &[(u64, (u32, u32))],
+    ) -> Result<(), StoreError>
         ensures kept { HasKept self.old self.new }
         ensures memory { IsOkUnless result StoreError.OutOfMemory }
     {
         self.members.reserve(1)?;
-        self.index.reserve(chunks)
+        let Ok(place) = u32::try_from(self.members.len()) else {
+            return Err(StoreError::OutOfMemory);
+        };
+        if enters {
+            self.index.reserve(place, items)
+        } else {
+            Ok(())
+        }
     }
 
     /// The place of a word. The shard has its number among all.
     pub(crate) fn find(&self, word: u64) -> Option<WordPlace>
         ensures { (shards : List Registered) → IsCollectionOf shards self.now → result ≡ place_among self.now.key word shards }
     {
-        let place = self.index.find(word)?;
+        let place = find_place::<Brand>(&self.index, word, Blank::new(1))?;
         let shard = self.members.get(place.shard as usize)?;
         Some(WordPlace {
             shard: *shard,
@@ -82,7 +96,7 @@ impl Collection {
 
 /// Inserts the items of a shard into an index, if its chunks are to enter it. Returns the number of words that are new.
 fn enter(
-    index: &mut WordIndex,
+    index: &mut PackedIndex,
     place: u32,
     enters: bool,
     items: &[(u64, (u32, u32))],
@@ -98,4 +112,15 @@ fn enter(
     } else {
         Ok(0)
     }
+}
+
+/// The place of a word in an index.
+fn find_place<L: Ledger>(index: &PackedIndex, word: u64, blank: Blank) -> Option<WordPlace>
+    requires name { blank.name ≡ L.name }
+    requires parts { blank.parts ≡ L.parts }
+    requires some { 0 < blank.parts }
+    ensures { result ≡ lookup (nat_eq word) index.now }
+{
+    let mut steps = Steps::<L>::new(blank);
+    index.find(word, &mut steps)
 }

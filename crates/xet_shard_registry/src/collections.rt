@@ -1,6 +1,6 @@
 //! The collections of the registered shards by key.
 
-ghost use Rattle.std.specs.Prelude.{◌≡◌, ◌<◌, ◌+◌, ◌++◌, ◌∷◌, [], false, IfNone, IfOk, IfSome, IsOkUnless, OnErr, OnOk, length, map, nat_eq, option_copied, slice_get};
+ghost use Rattle.std.specs.Prelude.{◌≡◌, ◌<◌, ◌+◌, ◌++◌, ◌∷◌, [], ℕ, false, IfNone, IfOk, IfSome, IsOkUnless, OnErr, OnOk, length, map, nat_eq, option_copied, slice_get};
 ghost use Rattle.std.specs.Cmp.Lexicographic.{pointwise};
 ghost use Rattle.std.specs.List.{list_any};
 ghost use Rattle.indexmap.specs.IndexSet.{spare};
@@ -72,6 +72,15 @@ impl Collections {
         self.list.get(index)
     }
 
+    /// The collection of a key.
+    pub(crate) fn of_key(&self, key: &HMACKey) -> Option<&Collection>
+        ensures some { IfSome result (λ c. (at : ℕ) × (slice_get self.now at ≡ Some c.now) × (c.now.key ≡ key.now)) }
+        ensures none { IfNone result (IsKeyless key.now (map (λ c. c.key) self.now)) }
+    {
+        let at = self.find(key)?;
+        self.list.get(at)
+    }
+
     /// Adds the shard with this number to the collection of its key, which may be a new one. Its chunks enter the index, if
     /// they are to. Returns the number of words that are new. The only error is `StoreError::OutOfMemory`.
     pub(crate) fn add(
@@ -94,15 +103,20 @@ impl Collections {
         }
     }
 
-    /// Takes the memory for one more shard with this key and this number of chunks.
-    pub(crate) fn reserve(&mut self, key: &HMACKey, chunks: usize) -> Result<(), StoreError>
+    /// Takes the memory for adding a shard with this key and these items next.
+    pub(crate) fn reserve(
+        &mut self,
+        key: &HMACKey,
+        enters: bool,
+        items: &[(u64, (u32, u32))],
+    ) -> Result<(), StoreError>
         ensures stay { StayCollections self.old self.new }
         ensures words { words_in self.new ≡ words_in self.old }
         ensures memory { IsOkUnless result StoreError.OutOfMemory }
     {
         match self.find(key) {
-            Some(at) => self.list[at].reserve(chunks),
-            None => self.reserve_key(chunks),
+            Some(at) => self.list[at].reserve(enters, items),
+            None => self.reserve_key(enters, items),
         }
     }
 
@@ -140,13 +154,13 @@ impl Collections {
     }
 
     /// Takes the memory for a shard whose key has no collection.
-    fn reserve_key(&mut self, chunks: usize) -> Result<(), StoreError>
+    fn reserve_key(&mut self, enters: bool, items: &[(u64, (u32, u32))]) -> Result<(), StoreError>
         ensures same { self.new ≡ self.old }
         ensures memory { IsOkUnless result StoreError.OutOfMemory }
     {
         self.list.reserve(1)?;
         self.keys.reserve(1)?;
-        self.next.reserve(chunks)
+        self.next.reserve(enters, items)
     }
 }
 

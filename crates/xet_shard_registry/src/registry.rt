@@ -1,12 +1,13 @@
 //! The registered shards, and their collections by key.
 
-ghost use Rattle.std.specs.Prelude.{◌≡◌, ◌≢◌, All, Any, true, ◌+◌, ◌++◌, ◌∷◌, ◌<◌, ◌^◌, ◌-◌, [], ℕ, List, None, Some, IfOk, IsOkUnless, OnErr, OnOk, length, nat_eq, slice_get, false};
+ghost use Rattle.std.specs.Prelude.{◌≡◌, ◌≢◌, All, Any, true, ◌+◌, ◌++◌, ◌∷◌, ◌<◌, ◌^◌, ◌-◌, [], ℕ, List, None, Some, IfOk, IfSome, IsOkUnless, OnErr, OnOk, is_some, length, nat_eq, slice_get, false};
 ghost use Rattle.std.specs.Cmp.Lexicographic.{pointwise};
 ghost use Rattle.std.specs.List.{list_any};
 ghost use Rattle.indexmap.specs.IndexMap.{insert_entry, spare as map_spare};
 ghost use Rattle.indexmap.specs.IndexSet.{spare};
 ghost use Rattle.xet_hash.specs.Merkle.{chunk_hash};
-ghost use Rattle.xet_shard_registry.specs.Registered.{Registered, key_of, keys_of, numbers, place_among, with_shard};
+ghost use Rattle.xet_shard_index.specs.Places.{IsIndexOf};
+ghost use Rattle.xet_shard_registry.specs.Registered.{Registered, indexed, is_key_of, key_of, keys_of, numbers, place_among, with_shard};
 ghost use Rattle.xet_shard_registry.specs.Collections.{AddsTo, IsRegistryOf, StayCollections, words_in};
 ghost use Rattle.xet_shard.specs.Union.{ShardRecords};
 ghost use Rattle.xet_shard_format.specs.Lookups.{flat_places};
@@ -17,7 +18,7 @@ use std::alloc::Global;
 use std::marker::Model;
 use xet_hash::{HMACKey, MerkleHash, StoreError, compute_data_hash};
 use xet_shard_directory::MDBShardFile;
-use xet_shard_index::WordPlace;
+use xet_shard_index::{PackedIndex, WordPlace};
 
 /// Registered shards in order of registration, each hash once, and where their chunks are. Contracts relate it to the
 /// list of registered shards with their xorbs and files, which it does not keep.
@@ -112,10 +113,15 @@ impl ShardRegistry {
         Ok(())
     }
 
-    /// Takes the memory that the next `register` needs for a shard with this key, or without one if it is zero, and with this
-    /// number of chunks, so that it then allocates nothing; that is by the code. The only error is `StoreError::OutOfMemory`.
-    /// The same shards are registered in either case.
-    pub fn reserve(&mut self, key: &HMACKey, chunks: usize) -> Result<(), StoreError>
+    /// Takes the memory that the next `register` needs for a shard with this key, or without one if it is zero, with these
+    /// items and this `cap`, so that it then allocates nothing; that is by the code. The only error is
+    /// `StoreError::OutOfMemory`. The same shards are registered in either case.
+    pub fn reserve(
+        &mut self,
+        key: &HMACKey,
+        items: &[(u64, (u32, u32))],
+        cap: u64,
+    ) -> Result<(), StoreError>
         ensures kept { (shards : List Registered) → IsRegistryOf shards self.old → IsRegistryOf shards self.new }
         ensures files { self.new.files ≡ self.old.files }
         ensures hashes { self.new.hashes ≡ self.old.hashes }
@@ -124,7 +130,8 @@ impl ShardRegistry {
         self.hashes.reserve(1)?;
         self.paths.reserve(1)?;
         self.files.reserve(1)?;
-        self.collections.reserve(key, chunks)
+        let enters = self.words < cap;
+        self.collections.reserve(key, enters, items)
     }
 
     /// The values of the files, in order of registration.
@@ -158,6 +165,17 @@ impl ShardRegistry {
     {
         let collection = self.collections.get(index)?;
         collection.find(word)
+    }
+
+    /// The index of the shards with a key, or of those without one if it is zero: the place of a word is that of the last
+    /// chunk with it in the last of these shards that entered and has one, and a shard has its number among them. None if
+    /// and only if the key is not zero and no registered shard has it.
+    pub fn index(&self, key: &HMACKey) -> Option<&PackedIndex>
+        ensures index { (shards : List Registered) → IsRegistryOf shards self.now → IfSome result (λ index. IsIndexOf index.now (indexed key.now shards)) }
+        ensures exact { (shards : List Registered) → IsRegistryOf shards self.now → is_some result ≡ is_key_of key.now shards }
+    {
+        let collection = self.collections.of_key(key)?;
+        Some(&collection.index)
     }
 
     /// The numbers of the shards of the key with an index, in order of registration; none if there is no such key.

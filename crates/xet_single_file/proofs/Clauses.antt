@@ -10,9 +10,9 @@ use Rattle.xet_clean.specs.Policies.{sha256_by}
 use Rattle.xet_clean.specs.declared.policy.Sha256Policy.{Sha256Policy}
 use Rattle.xet_hash.specs.declared.error.StoreError.{StoreError}
 use Rattle.xet_locked_session.specs.Passes.{IsPassOf}
-use Rattle.xet_passing.specs.Passing.{IsPassing, PassingState, passing_of}
-use Rattle.xet_stepping.specs.Asking.{IsErrorSince}
-use Rattle.xet_stepping.specs.Holders.{Follows, FollowsAsking, Holder}
+use Rattle.xet_locked_session.specs.Passing.{IsPassing, PassingState, passing_of}
+use Rattle.xet_steps.specs.Interface.{IsErrorSince}
+use Rattle.xet_steps.specs.Holders.{Follows, FollowsAsking, Holder}
 use Rattle.xet_steps.specs.Recorded.{RecordedState}
 use Rattle.xet_store.specs.declared.info.XetFileInfo.{XetFileInfo}
 use Rattle.xet_single_file.specs.Single.{IsSingleError, SingleFileState, single_state}

@@ -11,10 +11,10 @@ use Rattle.xet_hash.specs.declared.error.StoreError.TheVariants.{Io, MalformedDa
 use Rattle.xet_hash.specs.declared.error.What.TheVariants.{Shards}
 use Rattle.xet_history.specs.declared.entry.Entry.{Entry}
 use Rattle.xet_locked_session.specs.Passes.{IsPassOf}
-use Rattle.xet_passing.specs.Passing.{IsPassing, PassingState, passing_of}
-use Rattle.xet_passing.specs.theorems.Starts.{same_start}
-use Rattle.xet_stepping.specs.Asking.{IsErrorSince}
-use Rattle.xet_stepping.specs.Holders.{Follows, FollowsAsking, Holder}
+use Rattle.xet_locked_session.specs.Passing.{IsPassing, PassingState, passing_of}
+use Rattle.xet_locked_session.specs.theorems.Starts.{same_start}
+use Rattle.xet_steps.specs.Interface.{IsErrorSince}
+use Rattle.xet_steps.specs.Holders.{Follows, FollowsAsking, Holder}
 use Rattle.xet_store.specs.declared.info.XetFileInfo.{XetFileInfo}
 use Rattle.xet_steps.specs.Recorded.{RecordedState}
 use Rattle.xet_single_file.specs.internal.Kept.{IsKept, holder_in}

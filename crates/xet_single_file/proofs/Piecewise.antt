@@ -1,6 +1,7 @@
 -- A file to which bytes are added in pieces.
-use Rattle.std.proofs.Common.{◌≡◌, ◌∙◌, inl, inr, ℕ, ◌+◌, ◌≤◌, Bool, true, false, true≢false, if◌then◌else◌, List, ◌++◌, append_assoc, length, take, drop, take-append-drop, refl, sym, ap, subst, arith, length-append}
-use Rattle.std.proofs.lemmas.List.{length-map}
+use Rattle.std.proofs.Common.{◌≡◌, ◌∙◌, inl, inr, ℕ, ◌+◌, ◌≤◌, Bool, true, false, true≢false, if◌then◌else◌, List, ◌++◌, append_assoc, length, slice_range, take, drop, take-append-drop, refl, sym, ap, subst, arith, length-append, ◌-◌}
+use Rattle.std.proofs.Math.Seq.{take-append-add}
+use Rattle.std.proofs.lemmas.List.{length-map, length-take-le, take_all}
 use Rattle.xet_clean.specs.Cleaner.{IsCleaning}
 use Rattle.xet_clean.specs.Errors.{IsCleanerError}
 use Rattle.xet_clean.specs.Planning.{IsFew}
@@ -13,22 +14,31 @@ use Rattle.xet_hash.specs.declared.error.Place.TheVariants.{Disk}
 use Rattle.xet_hash.specs.declared.error.StoreError.{StoreError}
 use Rattle.xet_hash.specs.declared.error.StoreError.TheVariants.{Io, MalformedData, OutOfMemory, TooLarge}
 use Rattle.xet_hash.specs.declared.error.What.TheVariants.{Shards}
-use Rattle.xet_stepping.specs.Asking.{IsErrorSince}
-use Rattle.xet_stepping.specs.Holders.{Follows, Holder, seen}
+use Rattle.xet_steps.specs.Interface.{IsErrorSince}
+use Rattle.xet_steps.specs.Holders.{Follows, Holder, seen}
 use Rattle.xet_single_file.proofs.Growing.{leaves_more}
 
--- the bytes before the rest, and one more piece of it
-pub more_split : (n : ℕ) (done rest front back whole : List ℕ) → whole ≡ done ++ rest → front ≡ take n rest → back ≡ drop n rest → whole ≡ (done ++ front) ++ back
-more_split n done rest front back whole is e f =
-    is ∙ ap (λ (x : List ℕ). done ++ x) (sym (take-append-drop n rest) ∙ (λ i. sym e i ++ sym f i)) ∙ sym (append_assoc done front back)
+-- the bytes before a piece, and those up to its end
+piece_after : (from to : ℕ) (bytes : List ℕ) → from ≤ to → from ≤ length bytes → take to bytes ≡ take from bytes ++ slice_range bytes from to
+piece_after from to bytes order within =
+    let length-is = length-take-le from bytes within in
+    let sum : to ≡ length (take from bytes) + (to - from) = omega (arith, order, length-is) in
+    ap (λ (l : List ℕ). take to l) (sym (take-append-drop from bytes))
+    ∙ ap (λ n. take n (take from bytes ++ drop from bytes)) sum
+    ∙ take-append-add (take from bytes) (drop from bytes) (to - from)
 
--- the bytes before, the pieces so far, and one more piece
-pub joined : (P : List ℕ → Type 0) (before done piece : List ℕ) → P ((before ++ done) ++ piece) → P (before ++ (done ++ piece))
-joined P before done piece = subst P (append_assoc before done piece)
+-- the bytes before a piece, the piece, and those after it
+pub in_pieces : (from to : ℕ) (bytes : List ℕ) → from ≤ to → from ≤ length bytes → bytes ≡ (take from bytes ++ slice_range bytes from to) ++ drop to bytes
+in_pieces from to bytes order within = sym (take-append-drop to bytes) ∙ ap (λ (l : List ℕ). l ++ drop to bytes) (piece_after from to bytes order within)
+
+-- one more piece
+pub more_range : (P : List ℕ → Type 0) (before bytes : List ℕ) (from to : ℕ) → from ≤ to → from ≤ length bytes → P ((before ++ take from bytes) ++ slice_range bytes from to) → P (before ++ take to bytes)
+more_range P before bytes from to order within p =
+    subst (λ (l : List ℕ). P (before ++ l)) (sym (piece_after from to bytes order within)) (subst P (append_assoc before (take from bytes) (slice_range bytes from to)) p)
 
 -- the last piece
-pub joined_all : (P : List ℕ → Type 0) (before done rest whole : List ℕ) → whole ≡ done ++ rest → P ((before ++ done) ++ rest) → P (before ++ whole)
-joined_all P before done rest whole is p = subst (λ (l : List ℕ). P (before ++ l)) (sym is) (joined P before done rest p)
+pub whole_range : (P : List ℕ → Type 0) (before bytes : List ℕ) (from : ℕ) → from ≤ length bytes → P ((before ++ take from bytes) ++ slice_range bytes from (length bytes)) → P (before ++ bytes)
+whole_range P before bytes from within p = subst (λ (l : List ℕ). P (before ++ l)) (take_all (length bytes) bytes (omega arith)) (more_range P before bytes from (length bytes) within within p)
 
 -- ---- entries
 

@@ -1,12 +1,13 @@
 //! `SingleFileCleaner`: one file is cleaned as its bytes come, over a pass of a session.
 
 ghost use Rattle.std.specs.Prelude.{◌≡◌, ◌++◌, ◌+◌, ◌<◌, [], Err, IfErr, IfOk, Ok, OnErr, OnOk, false, length, true};
+ghost use Rattle.std.specs.Option.{ForSome};
 ghost use Rattle.xet_clean.specs.Planning.{IsFew, IsFinished};
 ghost use Rattle.xet_clean.specs.Policies.{sha256_by};
-ghost use Rattle.xet_passing.specs.Passing.{passing_of};
+ghost use Rattle.xet_locked_session.specs.Passing.{passing_of};
 ghost use Rattle.xet_single_file.specs.Single.{IsSingleError};
-ghost use Rattle.xet_stepping.specs.Asking.{IsErrorSince};
-ghost use Rattle.xet_stepping.specs.Holders.{Follows};
+ghost use Rattle.xet_steps.specs.Interface.{IsErrorSince};
+ghost use Rattle.xet_steps.specs.Holders.{Follows};
 
 use crate::ghost_bytes::GhostBytes;
 use crate::pieces::add_all;
@@ -17,9 +18,8 @@ use std::sync::Wait;
 use xet_clean::{FileCleaner, FinishedFile, Sha256Generator, Sha256Policy};
 use xet_hash::{StoreError, What};
 use xet_io::Disk;
-use xet_locked_session::{LockedSession, Naming, Pass};
-use xet_passing::Passing;
-use xet_stepping::Asking;
+use xet_locked_session::{LockedSession, Naming, Pass, Passing};
+use xet_steps::Asking;
 
 /// One file that is cleaned as its bytes come, over a pass of a session. Each step is made in one hold of the session's lock,
 /// and waits for it. No file is recorded: whoever has what `finish` returns registers the xorb that has its last chunks, and then
@@ -99,14 +99,12 @@ impl<'a, D: Disk, J: Naming, R: Wait> SingleFileCleaner<'a, D, J, R> {
         ensures few { OnErr result (IsFew (passing_of self.old.start self.old.start false) (passing_of self.old.start self.new.pass true) (self.old.bytes ++ bytes.now)) }
         ensures refused { IfErr result (IsSingleError self.old bytes.now self.new.pass) }
     {
-        let result = add_all(&mut self.cleaner, &mut self.generator, &self.policy, bytes);
-        self.cleaner.deduper.interface.steps.recall_passing();
-        self.bytes = self.bytes.more(bytes);
-        self.whole = result.is_ok();
-        result
+        self.add(bytes, None)
     }
 
-    /// Takes the bytes of a shared buffer, as `add_data` does.
+    /// Takes the bytes of a shared buffer, as `add_data` does. The chunks that begin in a piece share the buffer, and are not
+    /// copied, unless those that wait for their xorb are less than half of it. If the bytes are a part of a larger buffer, all of
+    /// that may stay as long as one of its chunks.
     pub fn add_data_from_bytes(&mut self, bytes: Bytes) -> Result<(), StoreError>
         requires whole { self.old.whole ≡ true }
         ensures added { OnOk result ((self.new.whole ≡ true) × (self.new.bytes ≡ self.old.bytes ++ bytes)) }
@@ -117,7 +115,32 @@ impl<'a, D: Disk, J: Naming, R: Wait> SingleFileCleaner<'a, D, J, R> {
         ensures few { OnErr result (IsFew (passing_of self.old.start self.old.start false) (passing_of self.old.start self.new.pass true) (self.old.bytes ++ bytes)) }
         ensures refused { IfErr result (IsSingleError self.old bytes self.new.pass) }
     {
-        self.add_data(bytes.as_slice())
+        self.add(bytes.as_slice(), Some(&bytes))
+    }
+
+    /// Takes the next bytes of the file, which are those of `shared` if there is such a buffer.
+    fn add(&mut self, bytes: &[u8], shared: Option<&Bytes>) -> Result<(), StoreError>
+        requires shared { ForSome shared (λ whole. whole.now ≡ bytes.now) }
+        requires whole { self.old.whole ≡ true }
+        ensures added { OnOk result ((self.new.whole ≡ true) × (self.new.bytes ≡ self.old.bytes ++ bytes.now)) }
+        ensures broken { OnErr result (self.new.whole ≡ false) }
+        ensures same { (self.new.start ≡ self.old.start) × (self.new.source ≡ self.old.source) × (self.new.policy ≡ self.old.policy) }
+        ensures follows { Follows self.old.pass self.new.pass }
+        ensures long { self.old.start.limits.max_source_bytes < length self.old.bytes + length bytes.now → result ≡ Err (StoreError.TooLarge (What.Source self.old.source)) }
+        ensures few { OnErr result (IsFew (passing_of self.old.start self.old.start false) (passing_of self.old.start self.new.pass true) (self.old.bytes ++ bytes.now)) }
+        ensures refused { IfErr result (IsSingleError self.old bytes.now self.new.pass) }
+    {
+        let result = add_all(
+            &mut self.cleaner,
+            &mut self.generator,
+            &self.policy,
+            bytes,
+            shared,
+        );
+        self.cleaner.deduper.interface.steps.recall_passing();
+        self.bytes = self.bytes.more(bytes);
+        self.whole = result.is_ok();
+        result
     }
 
     /// Does nothing: each chunk so far has its choice when `add_data` returns. Only the bytes after the last boundary are in no

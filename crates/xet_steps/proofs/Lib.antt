@@ -2,7 +2,7 @@ mod Contents
 mod Standing
 mod Joining
 mod Moving
-mod Asking
+mod Answering
 mod Refusing
 mod Querying
 mod Registering
@@ -10,3 +10,16 @@ mod Completing
 mod Cutting
 mod Known
 mod Opening
+mod Growing
+mod Entries
+mod Steps
+mod Seeing
+mod Failing
+mod Holding
+mod Last
+mod Returned
+mod Following
+mod Calls
+mod Listing
+mod Refused
+mod Replies

@@ -3,3 +3,8 @@ pub mod Coding
 pub mod Steps
 pub mod Asking
 pub mod theorems
+pub mod Holders
+pub mod Stepping
+pub mod Interface
+pub mod Alone
+pub mod HolderCoding

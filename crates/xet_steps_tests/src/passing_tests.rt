@@ -10,10 +10,8 @@ use std::sync::Wait;
 use std::test::Fail;
 use xet_hash::{MerkleHash, Reason, StoreError, compute_data_hash};
 use xet_io::MemoryDisk;
-use xet_locked_session::{LockedSession, Naming, Opened, Pass};
-use xet_passing::Passing;
-use xet_stepping::Stepping;
-use xet_steps::Store;
+use xet_locked_session::{LockedSession, Naming, Opened, Pass, Passing};
+use xet_steps::{Stepping, Store};
 
 /// Whether the xorb and the file were new; how many chunks the query found, and the number of its entry; the errors of a step
 /// that fails and of one after it.

@@ -16,11 +16,11 @@ use Rattle.xet_cut.specs.Chunking.{chunking}
 use Rattle.xet_cut.specs.declared.limits.LimitSettings.{LimitSettings}
 use Rattle.xet_hash.specs.declared.error.StoreError.{StoreError}
 use Rattle.xet_locked_session.specs.Passes.{IsSeen, own_numbers}
-use Rattle.xet_passing.specs.Passing.{passing_of}
+use Rattle.xet_locked_session.specs.Passing.{passing_of}
 use Rattle.xet_shared_history.specs.Owned.{HasEachOnce}
-use Rattle.xet_stepping.specs.Alone.{alone_of}
-use Rattle.xet_stepping.specs.Holders.{Holder, seen}
-use Rattle.xet_stepping.specs.theorems.Following.{length-numbered}
+use Rattle.xet_steps.specs.Alone.{alone_of}
+use Rattle.xet_steps.specs.Holders.{Holder, seen}
+use Rattle.xet_steps.specs.theorems.Following.{length-numbered}
 use Rattle.xet_steps.specs.Recorded.{RecordedState}
 use Rattle.xet_workers.specs.Cleaning.{IsBoundedBy, IsReadInTurn}
 use Rattle.xet_workers.specs.Workers.{EndsAs, HasStopped, HasWorked, HaveEnded, SeatState, Worked, worked}

@@ -32,9 +32,9 @@ use Rattle.xet_locked_session.specs.Session.{IsSince}
 use Rattle.xet_shard_format.specs.Records.{file_record_hash}
 use Rattle.xet_shard_format.specs.declared.record.MDBFileInfo.{MDBFileInfo}
 use Rattle.xet_shared_history.specs.Owned.{HasEachOnce}
-use Rattle.xet_stepping.specs.Alone.{IsAlone, alone_of}
-use Rattle.xet_stepping.specs.Holders.{Holder, calls_in, numbered}
-use Rattle.xet_stepping.specs.theorems.Following.{calls_in-append, length-numbered, numbered-append}
+use Rattle.xet_steps.specs.Alone.{IsAlone, alone_of}
+use Rattle.xet_steps.specs.Holders.{Holder, calls_in, numbered}
+use Rattle.xet_steps.specs.theorems.Following.{calls_in-append, length-numbered, numbered-append}
 use Rattle.xet_steps.specs.Recorded.{RecordedState, core_of}
 use Rattle.xet_steps.specs.Steps.{Steps}
 use Rattle.xet_store.specs.Cleaning.{Adds, EachTold, HasFile, Keeps, chunkings, info_of}

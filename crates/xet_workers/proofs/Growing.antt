@@ -14,7 +14,7 @@ use Rattle.xet_io.specs.Faults.{Rose}
 use Rattle.xet_locked_session.specs.Session.{HasRisenBy, IsSince, fault_count}
 use Rattle.xet_workers.proofs.Failures.{counted_fault, fault_count-append, fault_counted, steps_calm, until_failed}
 use Rattle.xet_locked_session.specs.Shared.{HaveEnded, HaveMade, StepOf, StepsBy, StepsByUntil}
-use Rattle.xet_stepping.specs.Alone.{IsAlone, IsFault, StepsTo, StepsUntil, cut_of, kind_of}
+use Rattle.xet_steps.specs.Alone.{IsAlone, IsFault, StepsTo, StepsUntil, cut_of, kind_of}
 use Rattle.xet_steps.specs.Recorded.{RecordedState, core_of}
 use Rattle.xet_steps.specs.Steps.{Steps, fault_entries}
 use Rattle.xet_steps.specs.theorems.Joining.{steps_both}

@@ -24,3 +24,4 @@ mod Refused
 mod Seats
 mod Closing
 mod Outcomes
+mod Hashing

@@ -21,7 +21,7 @@ use Rattle.xet_locked_session.specs.Session.{IsSince}
 use Rattle.xet_locked_session.specs.Shared.{StepsBy}
 use Rattle.xet_shard_format.specs.declared.record.MDBFileInfo.{MDBFileInfo}
 use Rattle.xet_shared_history.specs.Owned.{HasEachOnce, count_of, one_within}
-use Rattle.xet_stepping.specs.Holders.{Holder}
+use Rattle.xet_steps.specs.Holders.{Holder}
 use Rattle.xet_steps.specs.Recorded.{IsRecorded, RecordedState}
 use Rattle.xet_steps.specs.theorems.Joining.{steps_nothing}
 use Rattle.xet_store.specs.Cleaning.{AreTaken, Later}

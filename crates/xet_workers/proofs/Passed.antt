@@ -12,7 +12,7 @@ use Rattle.xet_shard_format.specs.RecordSizes.{file_record_size, xorb_record_siz
 use Rattle.xet_shard_format.specs.Records.{file_record_hash}
 use Rattle.xet_shard_format.specs.declared.record.FileDataSequenceEntry.{FileDataSequenceEntry as Segment}
 use Rattle.xet_shard_format.specs.declared.record.MDBFileInfo.{MDBFileInfo}
-use Rattle.xet_stepping.specs.Alone.{StepsTo}
+use Rattle.xet_steps.specs.Alone.{StepsTo}
 use Rattle.xet_xorb.specs.Raw.{xorb_record}
 
 module _ (pass : ℕ) where

@@ -14,10 +14,10 @@ use Rattle.xet_history.specs.declared.entry.Entry.TheVariants.{Complete, Fault, 
 use Rattle.xet_history.specs.theorems.Joining.{after_all-append}
 use Rattle.xet_history.specs.theorems.Staying.{completed_cases, registered_cases, shards_after_all, with_record, with_xorb}
 use Rattle.xet_locked_session.specs.Session.{IsSince, fault_count}
-use Rattle.xet_passing.specs.Passing.{passing_of}
+use Rattle.xet_locked_session.specs.Passing.{passing_of}
 use Rattle.xet_shard_format.specs.Records.{file_record_hash, xorb_record_hash}
-use Rattle.xet_stepping.specs.Asking.{HasFault}
-use Rattle.xet_stepping.specs.Holders.{Holder, IsOwn, core_at, seen}
+use Rattle.xet_steps.specs.Interface.{HasFault}
+use Rattle.xet_steps.specs.Holders.{Holder, IsOwn, core_at, seen}
 use Rattle.xet_steps.specs.Recorded.{IsRecorded, RecordedState, core_of}
 use Rattle.xet_store.specs.Cleaning.{IsLongAt, RoseAt}
 use Rattle.xet_store.specs.theorems.Rows.{to_among}

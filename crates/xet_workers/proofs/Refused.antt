@@ -28,10 +28,10 @@ use Rattle.xet_history.specs.declared.entry.Entry.{Entry}
 use Rattle.xet_history.specs.declared.entry.Entry.TheVariants.{Fault}
 use Rattle.xet_io.specs.Faults.{Rose}
 use Rattle.xet_locked_session.specs.Session.{fault_count}
-use Rattle.xet_passing.specs.Passing.{passing_of}
-use Rattle.xet_stepping.specs.Alone.{IsFault, alone_of}
-use Rattle.xet_stepping.specs.Asking.{HasFault, IsErrorSince}
-use Rattle.xet_stepping.specs.Holders.{Holder, core_at, numbered, seen}
+use Rattle.xet_locked_session.specs.Passing.{passing_of}
+use Rattle.xet_steps.specs.Alone.{IsFault, alone_of}
+use Rattle.xet_steps.specs.Interface.{HasFault, IsErrorSince}
+use Rattle.xet_steps.specs.Holders.{Holder, core_at, numbered, seen}
 use Rattle.xet_steps.specs.Recorded.{IsRecorded, RecordedState, core_of}
 use Rattle.xet_store.specs.Cleaning.{AreTaken, IsLongAt, Keeps, Later, RoseAt, chunkings}
 use Rattle.xet_store.specs.Separate.{Among}

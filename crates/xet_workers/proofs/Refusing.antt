@@ -34,10 +34,10 @@ use Rattle.xet_store.specs.Separate.{Among, MetChunk}
 use Rattle.xet_store.specs.Store.{Sound}
 use Rattle.xet_store.specs.theorems.Rows.{to_among}
 use Rattle.xet_store.specs.theorems.Staying.{all_among}
-use Rattle.xet_stepping.specs.Asking.{IsErrorSince, Stands}
-use Rattle.xet_stepping.specs.Holders.{Follows, Holder, core_at, core_found, lengths_in}
-use Rattle.xet_stepping.specs.Stepping.{SawOther}
-use Rattle.xet_stepping.specs.theorems.Following.{follows_then}
+use Rattle.xet_steps.specs.Interface.{IsErrorSince, Stands}
+use Rattle.xet_steps.specs.Holders.{Follows, Holder, core_at, core_found, lengths_in}
+use Rattle.xet_steps.specs.Stepping.{SawOther}
+use Rattle.xet_steps.specs.theorems.Following.{follows_then}
 use Rattle.xet_xorb_chunk.specs.Chunks.{chunk_leaf}
 use Rattle.xet_clean.specs.Cleaning.{AreApartUnder, NoneEnds}
 use Rattle.xet_clean.specs.Closing.{IsClosingError, IsUnclosed, RegistersChunks, filled_files}

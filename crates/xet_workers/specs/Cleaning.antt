@@ -21,8 +21,8 @@ use Rattle.xet_history.specs.declared.entry.Entry.{Entry}
 use Rattle.xet_io.specs.Faults.{Rose}
 use Rattle.xet_locked_session.specs.Shared.{StepsBy, StepsByUntil}
 use Rattle.xet_shard_format.specs.declared.record.MDBFileInfo.{MDBFileInfo}
-use Rattle.xet_stepping.specs.Alone.{IsFault}
-use Rattle.xet_stepping.specs.Holders.{calls_in, numbered}
+use Rattle.xet_steps.specs.Alone.{IsFault}
+use Rattle.xet_steps.specs.Holders.{calls_in, numbered}
 use Rattle.xet_steps.specs.Recorded.{RecordedState, core_of}
 use Rattle.xet_steps.specs.Steps.{Steps}
 use Rattle.xet_store.specs.Cleaning.{EachTold}

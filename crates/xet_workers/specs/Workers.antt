@@ -11,8 +11,8 @@ use Rattle.xet_hash.specs.declared.error.StoreError.{StoreError}
 use Rattle.xet_hash.specs.declared.error.StoreError.TheVariants.{Io, TooLarge}
 use Rattle.xet_hash.specs.declared.error.What.TheVariants as what
 use Rattle.xet_locked_session.specs.Passes.{IsPassOf}
-use Rattle.xet_passing.specs.Passing.{IsPassing, passing_of}
-use Rattle.xet_stepping.specs.Holders.{Holder}
+use Rattle.xet_locked_session.specs.Passing.{IsPassing, passing_of}
+use Rattle.xet_steps.specs.Holders.{Holder}
 use Rattle.xet_steps.specs.Recorded.{RecordedState}
 use Rattle.xet_store.specs.declared.info.XetFileInfo.{XetFileInfo}
 

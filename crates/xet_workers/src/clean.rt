@@ -21,6 +21,7 @@ use std::marker::{Brand, Send, Sync};
 use std::sync::Wait;
 use std::thread::Threads;
 use xet_clean::Cleaned;
+use xet_cut::Limits;
 use xet_hash::StoreError;
 use xet_io::{Disk, Source};
 use xet_locked_session::{LockedSession, Naming, Opened, Pass};
@@ -29,8 +30,8 @@ use xet_steps::Store;
 /// Reads each of at most 2^20 sources to its end and stores its file. The sources are divided among the workers before the first
 /// is read, in order and evenly. All workers but the last run on threads of their own if these can be started, and the rest on the
 /// calling one. Each cleans its sources in order, as the pass of its number, from 1 on. Reading, splitting, and the hashing of
-/// chunks and files are done outside the lock, and the SHA-256 of a block beside its splitting, on one more thread, if one can be
-/// started; a file's hashes are checked once more, and shards are hashed, under the lock. A chunk for which a query finds a run is
+/// chunks and files are done outside the lock, and the SHA-256 of a file some blocks behind its chunks, on one more thread, if one
+/// can be started; a file's hashes are checked once more, and shards are hashed, under the lock. A chunk for which a query finds a run is
 /// not stored again, unless the guard against fragmentation rejects the run; chunks that still wait for their xorb are not found.
 /// The last chunks of the files of a worker share xorbs; those that wait when all workers are done are merged in order and stored
 /// by the caller, as pass 0. Returns the session, and for each source, in order, its pointer record and the choices for its
@@ -177,6 +178,7 @@ fn clean_to_end<
                 rt,
                 alloc,
                 session: &session,
+                blocks_behind: blocks_behind(session.limits(), workers),
             };
             let from = Numbers { pass: 1, source: 0 };
             work_shared(&crew, &mut room.seats, from, sources);
@@ -185,4 +187,11 @@ fn clean_to_end<
         }
         Err(_) => (session.close(passes), Err(StoreError::OutOfMemory)),
     }
+}
+
+/// How many blocks of a worker's file may wait for its SHA-256, but at least one: the workers share the blocks of 64 MiB, which are
+/// as many bytes as a xorb has at the default limits. The thread at work may have as many.
+fn blocks_behind(limits: &Limits, workers: u32) -> usize {
+    let blocks = (1 << 26) / limits.block_bytes().max(1);
+    (blocks / workers.max(1)).max(1) as usize
 }

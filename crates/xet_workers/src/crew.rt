@@ -5,10 +5,12 @@ use std::sync::Wait;
 use xet_io::Disk;
 use xet_locked_session::{LockedSession, Naming};
 
-/// What workers share: what starts threads and waits, where memory is taken, and the session.
+/// What workers share: what starts threads and waits, where memory is taken, the session, and how many blocks of a file may wait
+/// for its SHA-256.
 #[derive(Drop)]
 pub(crate) struct Crew<'a, D: Disk, J: Naming, R: Wait> {
     pub rt: &'a R,
     pub alloc: Global,
     pub session: &'a LockedSession<D, J>,
+    pub blocks_behind: usize,
 }

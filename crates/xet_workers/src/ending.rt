@@ -4,7 +4,7 @@ ghost use Rattle.std.specs.Prelude.{◌≡◌, ◌≤◌, ◌<◌, ◌+◌, ◌^
 ghost use Rattle.std.specs.List.{sum_by};
 ghost use Rattle.xet_clean.specs.Merging.{MayMergeAll, Part};
 ghost use Rattle.xet_locked_session.specs.Passes.{NumbersDiffer};
-ghost use Rattle.xet_stepping.specs.Alone.{alone_of};
+ghost use Rattle.xet_steps.specs.Alone.{alone_of};
 ghost use Rattle.xet_workers.specs.internal.Ending.{HasMerged, IsLeftWith, IsUnended, MergedAlone, UnmergedAlone};
 ghost use Rattle.xet_workers.specs.internal.Parts.{ArePartsBy, all_worked};
 
@@ -12,8 +12,7 @@ use xet_clean::{Cleaned, Working, merge_all};
 use xet_hash::StoreError;
 use xet_io::Disk;
 use xet_locked_session::{LockedSession, Naming, Pass};
-use xet_stepping::Alone;
-use xet_steps::Store;
+use xet_steps::{Alone, Store};
 
 /// The store, once all workers are done, and what was made of all sources: what is left of the parts is merged in order. Or the
 /// error of a worker.

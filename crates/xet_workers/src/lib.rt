@@ -1,8 +1,8 @@
 //! Workers that share a session: each has a pass and a part of the sources, and cleans the files of its part. The SHA-256 of a
-//! file is computed beside the placing of its chunks.
+//! file is computed on a thread of its own.
 #![tactic(auto)]
 
-mod beside;
+mod behind;
 mod clean;
 mod crew;
 mod ending;
@@ -10,5 +10,5 @@ mod seat;
 mod team;
 mod work;
 
-pub use beside::Beside;
+pub use behind::Behind;
 pub use clean::clean_files;

@@ -1,16 +1,16 @@
 //! One worker: it takes its pass, and cleans the files of its part of the sources.
 
-ghost use Rattle.std.specs.Prelude.{◌≡◌, ◌≤◌, ◌<◌, ◌+◌, ◌^◌, [], Bool, Err, IfErr, IfOk, IsOkUnless, Ok, Some, length, map, replicate, false, vec_capacity};
+ghost use Rattle.std.specs.Prelude.{◌≡◌, ◌≤◌, ◌<◌, ◌+◌, ◌^◌, [], Bool, Err, IfErr, IfOk, Ok, Some, length, map, false, vec_capacity};
 ghost use Rattle.xet_aggregate.specs.Aggregate.{empty};
 ghost use Rattle.xet_aggregate.specs.Metrics.{zeros};
 ghost use Rattle.xet_clean.specs.Sources.{HasCleaned, IsCutShort, IsLoopError};
 ghost use Rattle.xet_clean.specs.declared.policy.Sha256Policy.TheVariants.{Compute};
 ghost use Rattle.xet_locked_session.specs.Passes.{IsPassOf};
-ghost use Rattle.xet_passing.specs.Passing.{IsPassing, passing_of};
+ghost use Rattle.xet_locked_session.specs.Passing.{IsPassing, passing_of};
 ghost use Rattle.xet_store.specs.Cleaning.{AreTaken, Later};
 ghost use Rattle.xet_workers.specs.Workers.{HasEnded, HasPassed, IsReady, NamesWithin, later_source};
 
-use crate::beside::Beside;
+use crate::behind::Behind;
 use crate::crew::Crew;
 use crate::seat::{Numbers, Seat};
 use std::alloc::Global;
@@ -19,9 +19,8 @@ use std::thread::Threads;
 use xet_clean::{Sha256Policy, Working, clean_each};
 use xet_hash::{Place, StoreError, What};
 use xet_io::{Disk, Source};
-use xet_locked_session::{Naming, Pass};
-use xet_passing::Passing;
-use xet_stepping::Asking;
+use xet_locked_session::{Naming, Pass, Passing};
+use xet_steps::Asking;
 
 /// Cleans the sources over a pass of the session, and returns the pass. Errors name the sources from 0 on.
 fn clean_part<D: Disk, J: Naming, S: Source, R: Threads + Wait>(
@@ -37,33 +36,25 @@ fn clean_part<D: Disk, J: Naming, S: Source, R: Threads + Wait>(
     ensures taken { AreTaken S.tells S.left sources.old sources.new }
     ensures later { Later S.faults sources.old sources.new }
 {
-    let (rt, alloc) = (crew.rt, crew.alloc);
-    let working = Working::new(alloc, sources.len());
-    let block = block_of(alloc, crew.session.limits().block_bytes() as usize);
-    let passing = Passing::new(rt, crew.session, pass);
+    let working = Working::new(crew.alloc, sources.len());
+    let passing = Passing::new(crew.rt, crew.session, pass);
     passing.recall_passing();
-    match (working, block) {
-        (Ok(working), Ok(mut block)) => clean_whole(
-            rt, alloc, passing, working, sources, &mut block,
-        ),
-        (Err(error), _) => (passing.into_pass(), Err(error)),
-        (_, Err(error)) => (passing.into_pass(), Err(error)),
+    match working {
+        Ok(working) => clean_whole(crew, passing, working, sources),
+        Err(error) => (passing.into_pass(), Err(error)),
     }
 }
 
 /// The same, with what it needs: nothing was made of any source so far, and there is room for what will be.
 fn clean_whole<D: Disk, J: Naming, S: Source, R: Threads + Wait>(
-    rt: &R,
-    alloc: Global,
+    crew: &Crew<'_, D, J, R>,
     passing: Passing<'_, D, J, R>,
     working: Working,
     sources: &mut [S],
-    block: &mut [u8],
 ) -> (Pass<J>, Result<Working, StoreError>)
     requires count { length sources.old ≤ 2 ^ 20 }
     requires passing { (passing.start ≡ passing.pass) × (passing.stopped ≡ false) × (passing.pass.own ≡ []) }
     requires pass { IsPassOf J.store passing.pass }
-    requires block { 0 < length block.old }
     requires nothing { (working.cleaned.infos.items ≡ []) × (working.cleaned.choices.items ≡ []) × (working.cleaned.metrics ≡ zeros) × (working.aggregate ≡ empty) }
     requires room { (length sources.old ≤ vec_capacity working.cleaned.infos) × (length sources.old ≤ vec_capacity working.cleaned.choices) }
     ensures cleaned { IfOk result.1 (λ w. HasPassed J.store passing.entry.pass.number passing.entry.pass result.0 false × HasCleaned Compute S.tells S.left S.faults sources.old sources.new (passing_of passing.entry.pass passing.entry.pass false) (passing_of passing.entry.pass result.0 false) w.cleaned.infos.items w.cleaned.choices.items w.cleaned.metrics w.aggregate) }
@@ -73,26 +64,18 @@ fn clean_whole<D: Disk, J: Naming, S: Source, R: Threads + Wait>(
     ensures later { Later S.faults sources.old sources.new }
 {
     let asking = Asking::new(passing);
+    let mut digest = Behind::new(crew.rt, crew.alloc, crew.blocks_behind);
     let (asking, working) = clean_each(
-        alloc,
+        crew.alloc,
         asking,
         working,
         sources,
-        block,
         &Sha256Policy::Compute,
-        &Beside::new(rt),
+        &mut digest,
     );
     let passing = asking.into_steps();
     passing.recall_passing();
     (passing.into_pass(), working)
-}
-
-/// A buffer of so many bytes. The only error is `OutOfMemory`.
-fn block_of(alloc: Global, len: usize) -> Result<Vec<u8>, StoreError>
-    ensures block { IfOk result (λ block. block.items ≡ replicate len 0) }
-    ensures memory { IsOkUnless result StoreError.OutOfMemory }
-{
-    Ok(vec![in alloc; 0u8; len]?)
 }
 
 /// Cleans the sources with the pass that lies in the seat, and puts it back there, with what was made of them. After an error it

@@ -50,11 +50,30 @@ impl SerializedXorbObject {
             → IfOk result (λ made. IsXorbEncoding made.serialized_data xorb.parts) }
         ensures memory { IsOkUnless result StoreError.OutOfMemory }
     {
+        SerializedXorbObject::from_xorb_in(alloc, Vec::new(alloc), xorb, footer)
+    }
+
+    /// Encodes a raw xorb as `from_xorb` does, into the memory of `buffer`, whose bytes are dropped. It is
+    /// enlarged once, to the length of the encoding, if that does not fit. The only error is `OutOfMemory`.
+    pub fn from_xorb_in(
+        alloc: Global,
+        mut buffer: Vec<u8>,
+        xorb: RawXorbData,
+        footer: bool,
+    ) -> Result<Self, StoreError>
+        requires { IsRaw xorb }
+        ensures built { IfOk result (λ made. made ≡ built_of xorb footer) }
+        ensures grammar { footer ≡ true → 0 < length xorb.parts → raw_leaves xorb ≡ leaves_of xorb.parts → xorb.xorb_info.metadata.xorb_hash ≡ xorb_hash (leaves_of xorb.parts)
+            → IfOk result (λ made. IsXorbEncoding made.serialized_data xorb.parts) }
+        ensures memory { IsOkUnless result StoreError.OutOfMemory }
+    {
         let parts = xorb.parts.as_slice();
         let plain = xorb.num_bytes();
         let stored = plain + XORB_CHUNK_HEADER_LENGTH * parts.len();
         let room = stored + ending_length(parts.len(), footer);
-        let mut sink = MemorySink::from_vec(Vec::with_capacity(alloc, room)?);
+        buffer.clear();
+        buffer.reserve_exact(room)?;
+        let mut sink = MemorySink::from_vec(buffer);
         write_parts(parts, &mut sink)?;
         write_ending(alloc, &xorb, footer, &mut sink)?;
         Ok(SerializedXorbObject {

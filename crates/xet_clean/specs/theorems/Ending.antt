@@ -13,8 +13,8 @@ use Rattle.xet_history.specs.declared.entry.Entry.{Entry}
 use Rattle.xet_shard_format.specs.declared.record.MDBFileInfo.{MDBFileInfo}
 use Rattle.xet_store.specs.Separate.{Among}
 use Rattle.xet_store.specs.declared.info.XetFileInfo.{XetFileInfo}
-use Rattle.xet_stepping.specs.Holders.{Follows, Holder, calls_in}
-use Rattle.xet_stepping.specs.theorems.Following.{calls_in-append, follows_then}
+use Rattle.xet_steps.specs.Holders.{Follows, Holder, calls_in}
+use Rattle.xet_steps.specs.theorems.Following.{calls_in-append, follows_then}
 use Rattle.xet_xorb_chunk.specs.Chunks.{chunk_leaf}
 use Rattle.xet_clean.specs.Cleaning.{RegistersFew, close_of}
 use Rattle.xet_clean.specs.Closing.{Closes, filled_files, recorded_in}

@@ -25,7 +25,7 @@ use Rattle.xet_shard_format.specs.declared.record.FileDataSequenceEntry.{FileDat
 use Rattle.xet_store.specs.Separate.{Among}
 use Rattle.xet_store.specs.theorems.Plans.{part-map}
 use Rattle.xet_store.specs.theorems.Whole.{mapped}
-use Rattle.xet_stepping.specs.Holders.{lengths_in}
+use Rattle.xet_steps.specs.Holders.{lengths_in}
 use Rattle.xet_xorb.specs.Raw.{raw_leaves, raw_of}
 use Rattle.xet_xorb.specs.declared.raw.RawXorbData.{RawXorbData}
 use Rattle.xet_xorb_chunk.specs.Chunks.{bytes_of_chunk, chunk_leaf}

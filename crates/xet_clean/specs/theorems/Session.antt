@@ -21,9 +21,9 @@ use Rattle.xet_steps.specs.Steps.{Steps}
 use Rattle.xet_store.specs.Cleaning.{Adds, EachTold, info_of}
 use Rattle.xet_store.specs.Store.{Sound, plan_of}
 use Rattle.xet_store.specs.declared.info.XetFileInfo.{XetFileInfo}
-use Rattle.xet_stepping.specs.Alone.{IsAlone, StepsTo, StepsUntil, alone_of}
-use Rattle.xet_stepping.specs.Holders.{Follows, Holder, calls_in, core_at, numbered}
-use Rattle.xet_stepping.specs.theorems.Following.{length-numbered}
+use Rattle.xet_steps.specs.Alone.{IsAlone, StepsTo, StepsUntil, alone_of}
+use Rattle.xet_steps.specs.Holders.{Follows, Holder, calls_in, core_at, numbered}
+use Rattle.xet_steps.specs.theorems.Following.{length-numbered}
 use Rattle.xet_clean.specs.Cleaning.{AreChosen, AreRecords, Grows, IsBounded, IsCleaned, Makes, RecordsFile, RegistersFew, calls_since, entries_since, files_in, metrics_sum}
 use Rattle.xet_clean.specs.Closing.{recorded_in}
 use Rattle.xet_clean.specs.Sources.{IsCutShort}

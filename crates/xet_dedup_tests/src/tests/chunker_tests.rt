@@ -6,7 +6,9 @@ use crate::tests::samples::{lengths, push_leaves, small_limits};
 use bytes::Bytes;
 use std::alloc::Global;
 use std::test::Fail;
+use xet_choices::Choice;
 use xet_cut::{Chunker, LimitSettings, Limits, chunk_list, gear_table, generated};
+use xet_file_plan::FilePlan;
 use xet_hash::{MerkleHash, StoreError};
 use xet_xorb_chunk::{Chunk, chunk_leaves};
 
@@ -115,6 +117,62 @@ fn chunks_end_within_pieces(rt: HostRuntime) -> Result<(), Fail> {
         steps(&mut chunker)?,
         [(None, 40), (Some(24), 24), (Some(64), 16), (Some(16), 0)]
     );
+    Ok(())
+}
+
+/// Whether a buffer of 4,096 bytes has one owner: before its chunks are cut, while they are held, and after.
+fn owners(alloc: Global, limits: &Limits) -> Result<[bool; 3], StoreError> {
+    let mut chunker = Chunker::new(alloc, limits)?;
+    let buffer = Bytes::from_vec(vec![in alloc; 0; 4096]?)?;
+    let before = buffer.is_unique();
+    let chunks = chunker.next_block_bytes(&buffer, true)?;
+    let held = buffer.is_unique();
+    let count = chunks.len();
+    drop(chunks);
+    Ok([before, held, buffer.is_unique() && count == 4])
+}
+
+#[test]
+fn chunks_share_their_buffer(rt: HostRuntime) -> Result<(), Fail> {
+    let alloc = rt.alloc();
+    let limits = small_limits([1; 256])?;
+    assert_eq!(rt; owners(alloc, &limits)?, [true, false, true]);
+    Ok(())
+}
+
+/// Whether a buffer of 4,096 bytes still has other owners, once the first `count` of its four chunks are stored in a plan and the
+/// plan has released it.
+fn is_kept(alloc: Global, limits: &Limits, count: usize) -> Result<bool, StoreError> {
+    let mut chunker = Chunker::new(alloc, limits)?;
+    let buffer = Bytes::from_vec(vec![in alloc; 0; 4096]?)?;
+    let mut plan = FilePlan::new(alloc, limits)?;
+    for chunk in chunker
+        .next_block_bytes(&buffer, true)?
+        .into_iter()
+        .take(count)
+    {
+        store(&mut plan, chunk)?;
+    }
+    plan.release(alloc, buffer.len());
+    Ok(!buffer.is_unique())
+}
+
+/// Stores a chunk in a plan if it fits.
+fn store(plan: &mut FilePlan, chunk: Chunk) -> Result<(), StoreError> {
+    plan.recall_invariant();
+    if chunk.bytes.len() <= 1024 && plan.len() < 4 && plan.fits(chunk.bytes.len()) {
+        plan.store_chunk(chunk, Choice::NoPlace { entry: 0 })?;
+    }
+    Ok(())
+}
+
+#[test]
+fn few_chunks_do_not_keep_their_buffer(rt: HostRuntime) -> Result<(), Fail> {
+    let alloc = rt.alloc();
+    let limits = small_limits([1; 256])?;
+    assert!(rt; !is_kept(alloc, &limits, 1)?);
+    assert!(rt; is_kept(alloc, &limits, 2)?);
+    assert!(rt; is_kept(alloc, &limits, 4)?);
     Ok(())
 }
 

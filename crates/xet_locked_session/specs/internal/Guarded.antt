@@ -2,7 +2,7 @@
 use Rattle.std.specs.Prelude.{◌≡◌, ◌⊎◌, Bool, true, false, List, [], ◌++◌, ℕ}
 use Rattle.xet_hash.specs.declared.error.StoreError.{StoreError}
 use Rattle.xet_history.specs.declared.entry.Entry.{Entry}
-use Rattle.xet_stepping.specs.Alone.{MayBeAsked, Step, cut_of, kind_of}
+use Rattle.xet_steps.specs.Alone.{MayBeAsked, Step, cut_of, kind_of}
 use Rattle.xet_steps.specs.Recorded.{RecordedState, core_of}
 use Rattle.xet_steps.specs.Steps.{fault_entries}
 use Rattle.xet_locked_session.specs.Shared.{HaveEnded, HaveMade, StepOf}

@@ -4,7 +4,7 @@ ghost use Rattle.std.specs.Prelude.{◌≡◌, ◌⊎◌, ◌≤◌, ◌+◌, �
 ghost use Rattle.std.specs.List.{AllByRecursion};
 ghost use mathlib.Core.List.{IsPrefix};
 ghost use Rattle.xet_shared_history.specs.Owned.{HasEachOnce};
-ghost use Rattle.xet_stepping.specs.Holders.{seen};
+ghost use Rattle.xet_steps.specs.Holders.{seen};
 ghost use Rattle.xet_locked_session.specs.Passes.{IsSeen, NumbersDiffer, own_numbers};
 ghost use Rattle.xet_locked_session.specs.Session.{IsSince, fault_count};
 ghost use Rattle.xet_locked_session.specs.Shared.{HaveEnded, HaveMade};

@@ -8,7 +8,7 @@ ghost use Rattle.xet_locked_session.specs.internal.Made.{Completed, Flushed, Gre
 ghost use Rattle.xet_shard_format.specs.Records.{IsFile};
 ghost use Rattle.xet_steps.specs.Recorded.{IsRecorded, core_of};
 ghost use Rattle.xet_steps.specs.Steps.{FailsAsking, IsOtherFile, Refuses};
-ghost use Rattle.xet_stepping.specs.Holders.{xorb_limits};
+ghost use Rattle.xet_steps.specs.Holders.{xorb_limits};
 ghost use Rattle.xet_store.specs.Store.{Sound};
 ghost use Rattle.xet_xorb.specs.Raw.{raw_leaves};
 

@@ -1,7 +1,7 @@
 //! What a manager answers: queries, file records, and lists.
 #![tactic(auto, using(crate::proofs::Rooms::none_due))]
 
-ghost use Rattle.std.specs.Prelude.{◌≡◌, ◌≢◌, ◌≤◌, ◌++◌, [], ℕ, IsOkUnless, List, None, Some, Ok, IfErr, IfOk, IsErrOf, OnErr, OnOk, false, true};
+ghost use Rattle.std.specs.Prelude.{◌≡◌, ◌≢◌, ◌≤◌, ◌++◌, [], ℕ, IsOkUnless, List, None, Some, Ok, IfErr, IfOk, IfSome, IsErrOf, OnErr, OnOk, false, is_some, true};
 ghost use Rattle.std.specs.List.{flat_map};
 ghost use Rattle.xet_io.specs.Frame.{Unchanged};
 ghost use Rattle.xet_manager.specs.Manager.{FailsAt, IsUnlisted, ListsFiles, ListsFolder, ReadsEach};
@@ -18,14 +18,16 @@ ghost use Rattle.xet_hash.specs.Hash.{zero_hash};
 ghost use Rattle.xet_shard_lookup.specs.Found.{HoldsFiles, IsThere, Run, found};
 ghost use Rattle.xet_shard_lookup.specs.Records.{IsRecorded, found_record, no_record};
 ghost use Rattle.xet_shard_registry.specs.Collections.{IsRegistryOf};
-ghost use Rattle.xet_shard_registry.specs.Registered.{Registered};
+ghost use Rattle.xet_shard_index.specs.Places.{IsIndexOf};
+ghost use Rattle.xet_shard_registry.specs.Registered.{Registered, indexed, is_key_of};
 
 use crate::manager::ShardFileManager;
 use std::alloc::Global;
-use xet_hash::{MerkleHash, StoreError};
+use xet_hash::{HMACKey, MerkleHash, StoreError};
 use xet_io::Disk;
 use xet_shard::{FileDataSequenceEntry, MDBFileInfo, MDBInMemoryShard};
 use xet_shard_directory::MDBShardFile;
+use xet_shard_index::PackedIndex;
 use xet_shard_lookup::{find_file, find_run};
 
 impl<D: Disk> ShardFileManager<D> {
@@ -57,6 +59,16 @@ impl<D: Disk> ShardFileManager<D> {
             &self.registry,
             query,
         )
+    }
+
+    /// The index of the registered shards with a key, or of those without one if it is zero. The place of a first word is
+    /// that of the last chunk with it in the last of these shards that is indexed and has one; a shard has its number
+    /// among them. None if and only if the key is not zero and no registered shard has it.
+    pub fn index(&self, key: &HMACKey) -> Option<&PackedIndex>
+        ensures index { (shards : List Registered) → IsRegistryOf shards self.now.registry → IfSome result (λ index. IsIndexOf index.now (indexed key.now shards)) }
+        ensures exact { (shards : List Registered) → IsRegistryOf shards self.now.registry → is_some result ≡ is_key_of key.now shards }
+    {
+        self.registry.index(key)
     }
 
     /// The file record of a hash, and the hash of the registered shard that has it; `None` for the latter if it is

@@ -55,6 +55,7 @@ impl<D: Disk> ShardFileManager<D> {
             self.folder.as_str(),
             &mut self.registry,
             &self.pending,
+            self.settings.index_cap,
             self.moment,
         ) {
             Ok(due) => {

@@ -1,4 +1,4 @@
-//! Tests of indexes, and of queries to registered shards on a disk in memory.
+//! Tests of queries to registered shards on a disk in memory.
 
 ghost use Rattle.std.specs.Prelude.{[]};
 ghost use Rattle.xet_shard_registry.specs.Collections.{IsRegistryOf};
@@ -11,49 +11,8 @@ use xet_hash::{MerkleHash, StoreError, compute_data_hash};
 use xet_io::{MemoryDisk, SliceReader};
 use xet_shard::{MDBInMemoryShard, MDBShardInfo};
 use xet_shard_directory::MDBShardFile;
-use xet_shard_index::{WordIndex, WordPlace};
 use xet_shard_lookup::find_run;
 use xet_shard_registry::ShardRegistry;
-
-/// The numbers of words, and the places of 5, 6, 7 and 8.
-type Places = ([u64; 3], [Option<WordPlace>; 4]);
-
-/// The numbers of words that two shards add to an index, and that of all; and the places.
-fn added(index: &mut WordIndex) -> Result<Places, StoreError> {
-    let first = index.insert_shard(0, &[(5, (0, 0)), (7, (0, 1)), (8, (0, 65_536))])?;
-    let second = index.insert_shard(1, &[(7, (4, 2)), (9, (4, 65_535))])?;
-    Ok((
-        [first, second, index.words()],
-        [index.find(5), index.find(6), index.find(7), index.find(8)],
-    ))
-}
-
-/// The same of an empty index.
-fn places(alloc: Global) -> Result<Places, StoreError> {
-    let mut index = WordIndex::new(alloc);
-    added(&mut index)
-}
-
-/// The place of a chunk of the first shard that only this has.
-const FIRST: WordPlace = WordPlace {
-    shard: 0,
-    row: 0,
-    chunk: 0,
-};
-
-/// The place of a chunk of both shards: it is that in the second.
-const LATER: WordPlace = WordPlace {
-    shard: 1,
-    row: 4,
-    chunk: 2,
-};
-
-#[test]
-fn later_shard_has_the_word(rt: HostRuntime) -> Result<(), Fail> {
-    let expected = ([2, 1, 3], [Some(FIRST), None, Some(LATER), None]);
-    assert_eq!(rt; places(rt.alloc())?, expected);
-    Ok(())
-}
 
 /// The export of the shard of `abc` under a key, in the folder `b`.
 fn exported(alloc: Global, disk: &mut MemoryDisk) -> Result<MDBShardFile, StoreError> {

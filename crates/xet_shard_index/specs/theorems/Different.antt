@@ -1,6 +1,5 @@
 -- The different elements of a list, where a test tells whether two are equal.
-use Rattle.std.proofs.Common.{◌≡◌, ◌≢◌, ◌⊎◌, inl, inr, Bool, true, false, not, List, [], ◌∷◌, ◌++◌, filter, refl, sym, ap, ◌∙◌}
-use Rattle.indexmap.specs.IndexSet.{insert_key}
+use Rattle.std.proofs.Common.{◌≡◌, ◌≢◌, ◌⊎◌, inl, inr, Bool, true, false, if◌then◌else◌, not, List, [], ◌∷◌, ◌++◌, filter, refl, sym, ap, ◌∙◌}
 use Rattle.std.proofs.lemmas.List.{append-nil}
 use Rattle.std.proofs.lemmas.List.Elements.{filter-append}
 use Rattle.std.specs.List.{list_any}
@@ -62,8 +61,12 @@ module _ {X : Type 0} (eq : X → X → Bool) (tells : (a b : X) → ((eq a b �
   different_is_distinct [] = tt
   different_is_distinct (k ∷ ks) = (none_left k (different eq ks), distinct_part (λ l. not (eq l k)) (different eq ks) (different_is_distinct ks))
 
+  -- an element comes last, if it is not there yet
+  abbrev pub with_last : List X → X → List X
+  with_last ks w = if list_any (eq w) ks then ks else ks ++ w ∷ []
+
   -- the different elements, where one comes last
-  pub different_with : (ks : List X) (w : X) → different eq (ks ++ w ∷ []) ≡ insert_key eq (different eq ks) w
+  pub different_with : (ks : List X) (w : X) → different eq (ks ++ w ∷ []) ≡ with_last (different eq ks) w
   unfolding different
   different_with [] w = refl
   different_with (k ∷ ks) w =
@@ -74,7 +77,7 @@ module _ {X : Type 0} (eq : X → X → Bool) (tells : (a b : X) → ((eq a b �
       d = different eq ks
 
       by : ((eq w k ≡ true) × (w ≡ k)) ⊎ ((eq w k ≡ false) × (w ≢ k)) → (c : Bool) → list_any (eq w) d ≡ c
-          → k ∷ filter (λ l. not (eq l k)) (insert_key eq d w) ≡ insert_key eq (k ∷ filter (λ l. not (eq l k)) d) w
+          → k ∷ filter (λ l. not (eq l k)) (with_last d w) ≡ with_last (k ∷ filter (λ l. not (eq l k)) d) w
       by (inl a) true ec = rw (ec, a.0) refl
       by (inl a) false ec = rw (ec, a.0) (ap (λ (ys : List X). k ∷ ys) (filter-append (λ l. not (eq l k)) d (w ∷ []) ∙ rw a.0 (append-nil (filter (λ l. not (eq l k)) d))))
       by (inr a) true ec = rw (ec, a.0, any_left k w d a.1, ec) refl

@@ -7,8 +7,8 @@ use Rattle.xet_clean.specs.declared.policy.Sha256Policy.{Sha256Policy}
 use Rattle.xet_cut.specs.Streams.{Splitting}
 use Rattle.xet_file_plan.specs.Moves.{PlanState}
 use Rattle.xet_locked_session.specs.Passes.{IsPassOf}
-use Rattle.xet_passing.specs.Passing.{IsPassing, PassingState, passing_of, passing_state}
-use Rattle.xet_stepping.specs.Holders.{Holder}
+use Rattle.xet_locked_session.specs.Passing.{IsPassing, PassingState, passing_of, passing_state}
+use Rattle.xet_steps.specs.Holders.{Holder}
 use Rattle.xet_steps.specs.Recorded.{RecordedState}
 
 -- what a pass that makes steps has seen and done, as a holder

@@ -76,7 +76,7 @@ impl<D: Disk> Store<D> {
             });
             return Ok(false);
         }
-        let due = due_of(self.alloc, &self.store, xorb)?;
+        let due = due_of(self.alloc, &mut self.store, xorb)?;
         self.store.reserve_xorb(due.len())?;
         register_due(
             &mut self.store,
@@ -163,19 +163,22 @@ fn register_due<D: Disk>(
     }
 }
 
-/// A xorb that keeps the limits of a store, ready to be stored. The only error is `OutOfMemory`.
+/// A xorb that keeps the limits of a store, ready to be stored, in the store's buffer for the next encoding. The only error is
+/// `OutOfMemory`. The store is unchanged in either case.
 fn due_of<D: Disk>(
     alloc: Global,
-    store: &FolderStore<D>,
+    store: &mut FolderStore<D>,
     xorb: RawXorbData,
 ) -> Result<DueXorb, StoreError>
-    requires new { IsNewXorb (store.now.limits.cut_bytes, store.now.limits.cut_chunks) xorb }
+    requires new { IsNewXorb (store.old.limits.cut_bytes, store.old.limits.cut_chunks) xorb }
+    ensures kept { store.new ≡ store.old }
     ensures leaves { IfOk result (λ due. due.leaves ≡ raw_leaves xorb) }
     ensures hash { IfOk result (λ due. due.hash ≡ xorb_hash (raw_leaves xorb)) }
     ensures memory { IsOkUnless result StoreError.OutOfMemory }
 {
     store.limits().recall_invariant();
-    DueXorb::new(alloc, xorb)
+    let buffer = store.take_buffer();
+    DueXorb::new(alloc, buffer, xorb)
 }
 
 /// A copy of a list of chunks. The only error is `OutOfMemory`.

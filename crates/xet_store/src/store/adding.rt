@@ -58,7 +58,8 @@ impl<D: Disk> Store<D> {
             }
             return Ok(hash);
         }
-        let due = DueXorb::new(self.alloc, raw)?;
+        let buffer = self.take_buffer();
+        let due = DueXorb::new(self.alloc, buffer, raw)?;
         self.store_xorb(due)?;
         Ok(hash)
     }
@@ -88,7 +89,8 @@ impl<D: Disk> Store<D> {
     {
         let put = self.put_due(&due);
         let hash = due.hash();
-        let (block, leaves) = due.into_parts();
+        let (block, leaves, encoding) = due.into_parts();
+        self.retain_buffer(encoding);
         match put {
             Ok(()) => self.list_xorb(hash, block, leaves),
             Err(error) => Err(error),

@@ -16,8 +16,8 @@ use Rattle.xet_locked_session.specs.Passes.{IsSeen, own_numbers}
 use Rattle.xet_locked_session.specs.Session.{IsSince}
 use Rattle.xet_locked_session.specs.Shared.{HaveEnded, HaveMade}
 use Rattle.xet_shared_history.specs.Owned.{HasEachOnce}
-use Rattle.xet_stepping.specs.Alone.{IsAlone, alone_of}
-use Rattle.xet_stepping.specs.Holders.{Holder, seen}
+use Rattle.xet_steps.specs.Alone.{IsAlone, alone_of}
+use Rattle.xet_steps.specs.Holders.{Holder, seen}
 use Rattle.xet_steps.specs.Recorded.{RecordedState}
 use Rattle.xet_store.specs.Cleaning.{Adds, AreTaken, EachTold, HasFile, Keeps, Later, chunkings, info_of}
 use Rattle.xet_store.specs.Separate.{Separate}

@@ -5,8 +5,8 @@ use Rattle.xet_clean.specs.Merging.{Part}
 use Rattle.xet_clean.specs.Working.{IsWorking}
 use Rattle.xet_clean.specs.declared.policy.Sha256Policy.TheVariants.{Compute}
 use Rattle.xet_clean.specs.declared.working.Working.{Working}
-use Rattle.xet_passing.specs.Passing.{passing_of}
-use Rattle.xet_stepping.specs.Holders.{Holder}
+use Rattle.xet_locked_session.specs.Passing.{passing_of}
+use Rattle.xet_steps.specs.Holders.{Holder}
 use Rattle.xet_steps.specs.Recorded.{RecordedState}
 use Rattle.xet_workers.specs.Workers.{HasPassed, Worked, worked}
 

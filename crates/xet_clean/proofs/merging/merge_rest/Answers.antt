@@ -2,7 +2,7 @@ use Rattle.std.proofs.Common.{◌≡◌, ◌∙◌, [], List, length, ap, subst,
 use Rattle.std.proofs.lemmas.List.{nil_from_length}
 use Rattle.std.specs.Vec.Iter.{into_iter_items}
 use Rattle.xet_base.specs.theorems.Exits.{exit_with}
-use Rattle.xet_stepping.specs.theorems.Following.{follows_nothing, follows_then}
+use Rattle.xet_steps.specs.theorems.Following.{follows_nothing, follows_then}
 use Rattle.xet_clean.specs.Merging.{IsUnmerged}
 use Rattle.xet_clean.specs.declared.working.Working.{Working}
 use Rattle.xet_clean.specs.internal.Merging.{IsMerging}

@@ -15,7 +15,6 @@ sources-init g c =
       choices_count = omega (arith, w.cleaned.choices.ok.0, ap length nothing.1);
       infos_room = c.requires.room.0;
       choices_room = c.requires.room.1;
-      block = c.requires.block;
     }
 
 pub keep-requires-clause-working : goal.keep-requires-clause-working
@@ -120,7 +119,6 @@ sources-preserved g c =
       choices_count = omega (arith, c.in_default.ensures.grown.1, before.choices_count);
       infos_room = omega (arith, c.keep.ensures.room.0, before.infos_room);
       choices_room = omega (arith, c.keep.ensures.room.1, before.choices_room);
-      block = omega (arith, before.block);
     }
 
 pub returns-clause-cleaned : goal.returns-clause-cleaned

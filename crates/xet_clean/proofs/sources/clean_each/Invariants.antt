@@ -10,5 +10,4 @@ invariant-sources g l = record {
   choices_count : vec_len l.working.cleaned.choices ≡ l.at;
   infos_room : length l.fn.sources ≤ vec_capacity l.working.cleaned.infos;
   choices_room : length l.fn.sources ≤ vec_capacity l.working.cleaned.choices;
-  block : 0 < length l.block;
 }

@@ -1,8 +1,8 @@
 use Rattle.std.proofs.Common.{◌∙◌, [], ℕ, List, Option, IfOk, true, sym, subst}
 use Rattle.std.proofs.lemmas.Result.{IfErr-weaker, IfOk-weaker, on_err_weaker}
-use Rattle.xet_stepping.specs.Asking.{IsErrorSince}
-use Rattle.xet_stepping.specs.Holders.{Follows, FollowsAsking}
-use Rattle.xet_stepping.specs.theorems.Following.{asking_nothing, asking_then}
+use Rattle.xet_steps.specs.Interface.{IsErrorSince}
+use Rattle.xet_steps.specs.Holders.{Follows, FollowsAsking}
+use Rattle.xet_steps.specs.theorems.Following.{asking_nothing, asking_then}
 use Rattle.xet_clean.specs.Planning.{IsFew, IsFinished}
 use Rattle.xet_clean.specs.Policies.{sha256_by}
 use Rattle.xet_clean.specs.Sources.{IsSourceError, Takes}
@@ -23,7 +23,7 @@ returns-in-Ok-read_into-clause-finished g c =
     let id = c.read_into.ensures.same.1 ∙ c.in-Ok.ensures.same.3 in
     let policy = c.args.policy.now in
     let given = c.finish.ensures.finished read.0 read.2 in
-    let digest = c.finalize_by.ensures read.0 read.3 in
+    let digest = c.end_by.ensures read.0 read.3 in
     IfOk-weaker r.1 (λ f. IsFinished (g.S.Stepping.holder d.start.value.steps) now d.file_id (sha256_by policy read.0) read.0 f.info f.metrics f.choices f.rest)
     (λ f. (bytes : List ℕ) × Takes true tells left rest bytes × IsFinished (g.S.Stepping.holder c.args.asking.steps) now c.args.number (sha256_by policy bytes) bytes f.info f.metrics f.choices f.rest)
     (λ f is. (
@@ -43,7 +43,7 @@ returns-in-Ok-read_into-clause-few g c =
     let now = g.S.Stepping.holder r.0.steps in
     let read = c.in-Ok-read_into.ensures.cleaning in
     let start = c.read_into.ensures.same.0 ∙ c.in-Ok.ensures.same.1 in
-    on_err_weaker r.1 (λ few. (read.0, takes_some tells left rest read.0 read.1, subst (λ a. IsFew (g.S.Stepping.holder a.steps) now read.0) start few)) (c.finish.ensures.few read.0 read.2)
+    on_err_weaker r.1 (λ few. (read.0, takes_some true tells left rest read.0 read.1, subst (λ a. IsFew (g.S.Stepping.holder a.steps) now read.0) start few)) (c.finish.ensures.few read.0 read.2)
 
 pub returns-in-Ok-read_into-clause-follows : goal.returns-in-Ok-read_into-clause-follows
 returns-in-Ok-read_into-clause-follows g c =

@@ -21,7 +21,7 @@ write_new-requires-clause-read g c =
     let bytes = c.args.bytes.now in
     let read : chunk_lookup_in c.args.info.metadata bytes ≡ Ok (flat_places c.in_ok-items.items.items) =
     read_of (TooLarge Shards) (nat_le (2 ^ 32 - 1) (length c.args.registry.now.files)) (chunk_lookup_in c.args.info.metadata bytes) (flat_places c.in_ok-items.items.items) c.in_ok-items.ensures.exact in
-    rw (c.in_ok-file.ensures.parts.1, c.deref.ensures.value) read
+    rw (c.in_ok-file.ensures.parts.1, c.deref-2.ensures.value) read
 
 pub write_new-requires-clause-room : goal.write_new-requires-clause-room
 write_new-requires-clause-room g c = record {

@@ -1,4 +1,4 @@
-use Rattle.std.proofs.Common.{◌∙◌, ◌++◌, [], ap, arith, length, length-append, refl, subst, sym}
+use Rattle.std.proofs.Common.{◌∙◌, ◌+◌, ◌++◌, ap, arith, drop, length, length-append, refl, slice_range, subst, sym, take}
 use Rattle.std.proofs.lemmas.List.{append-nil}
 use Rattle.std.proofs.lemmas.Result.{IfErr-weaker, on_err_weaker, on_ok_weaker}
 use Rattle.xet_base.specs.theorems.Exits.{exit_on, exit_with}
@@ -6,9 +6,9 @@ use Rattle.xet_clean.specs.Cleaner.{IsCleaning}
 use Rattle.xet_clean.specs.Errors.{IsCleanerError}
 use Rattle.xet_clean.specs.Planning.{IsFew}
 use Rattle.xet_clean.specs.Policies.{HasBytesBy}
-use Rattle.xet_stepping.specs.Asking.{IsErrorSince}
-use Rattle.xet_stepping.specs.theorems.Following.{asking_nothing, asking_then}
-use Rattle.xet_single_file.proofs.Piecewise.{few_of_whole, joined, joined_all, more_split, piece_error}
+use Rattle.xet_steps.specs.Interface.{IsErrorSince}
+use Rattle.xet_steps.specs.theorems.Following.{asking_nothing, asking_then}
+use Rattle.xet_single_file.proofs.Piecewise.{few_of_whole, in_pieces, more_range, piece_error, whole_range}
 use Rattle.xet_single_file.proofs.pieces.add_pieces.Goals as goal
 
 pub pieces-init : goal.pieces-init
@@ -16,122 +16,119 @@ pieces-init g c =
     let d = c.args.cleaner.now in
     record {
       some = omega (arith, c.block_bytes-most.ensures.range.0);
+      within = omega arith;
       start = refl;
       number = refl;
       id = refl;
       follows = asking_nothing (g.S.Stepping.holder d.deduper.interface.steps);
-      added = (
-        [],
-        refl,
-        λ before is.
-            subst (IsCleaning (g.S.Stepping.holder d.deduper.start.value.steps) (g.S.Stepping.holder d.deduper.interface.steps) d.deduper.whole d.deduper.plan d.deduper.global d.chunker d.byte_count) (sym (append-nil before)) is,
-        λ before has. subst (HasBytesBy c.args.policy.now c.args.generator.now) (sym (append-nil before)) has,
-      );
+      added = λ before is.
+          subst (IsCleaning (g.S.Stepping.holder d.deduper.start.value.steps) (g.S.Stepping.holder d.deduper.interface.steps) d.deduper.whole d.deduper.plan d.deduper.global d.chunker d.byte_count) (sym (append-nil before)) is;
+      hashed = λ before has. subst (HasBytesBy c.args.policy.now c.args.generator.now) (sym (append-nil before)) has;
     }
 
-pub add-requires : goal.add-requires
-add-requires g c =
-    let added = c.pieces.invariant.added in
-    let some = c.requires.cleaning in
-    record { cleaning = (some.0 ++ added.0, added.2 some.0 some.1) }
+pub add_piece-requires-clause-cleaning : goal.add_piece-requires-clause-cleaning
+add_piece-requires-clause-cleaning g c = let some = c.requires.cleaning in (some.0 ++ take c.pieces.from c.args.bytes.now, c.pieces.invariant.added some.0 some.1)
 
-pub returns-in_err-add-clause-follows : goal.returns-in_err-add-clause-follows
-returns-in_err-add-clause-follows g c = asking_then _ _ _ c.pieces.invariant.follows c.add.ensures.follows
+pub returns-in_err-add_piece-clause-follows : goal.returns-in_err-add_piece-clause-follows
+returns-in_err-add_piece-clause-follows g c = asking_then _ _ _ c.pieces.invariant.follows c.add_piece.ensures.follows
 
-pub returns-in_err-add-clause-few : goal.returns-in_err-add-clause-few
-returns-in_err-add-clause-few g c = λ before is.
-    let added = c.pieces.invariant.added in
-    let piece = c.split_at.result.0.now in
-    let back = c.split_at.result.1.now in
+pub returns-in_err-add_piece-clause-few : goal.returns-in_err-add_piece-clause-few
+returns-in_err-add_piece-clause-few g c = λ before is.
+    let from = c.pieces.from in
+    let to = from + c.block_bytes-most.result in
+    let bytes = c.args.bytes.now in
     let mid = g.S.Stepping.holder c.pieces.cleaner.deduper.interface.steps in
-    let now = g.S.Stepping.holder c.add.new.cleaner.deduper.interface.steps in
-    let start = g.S.Stepping.holder c.add.new.cleaner.deduper.start.value.steps in
-    let here = added.2 before is in
-    let split = more_split c.block_bytes-most.result added.0 c.pieces.rest.now piece back c.args.bytes.now added.1 c.split_at.ensures.front c.split_at.ensures.back in
+    let now = g.S.Stepping.holder c.add_piece.new.cleaner.deduper.interface.steps in
+    let start = g.S.Stepping.holder c.add_piece.new.cleaner.deduper.start.value.steps in
+    let here = c.pieces.invariant.added before is in
     exit_on _ c.from_residual.result c.from_residual.ensures.1
-    (few_of_whole start mid now before added.0 piece back c.args.bytes.now here.range c.add.ensures.follows.follows split (c.in_err-add.ensures.few (before ++ added.0) here))
+    (few_of_whole start mid now before (take from bytes) (slice_range bytes from to) (drop to bytes) bytes here.range c.add_piece.ensures.follows.follows (in_pieces from to bytes (omega arith) c.pieces.invariant.within)
+    (c.in_err-add_piece.ensures.few (before ++ take from bytes) here))
 
-pub returns-in_err-add-clause-refused : goal.returns-in_err-add-clause-refused
-returns-in_err-add-clause-refused g c =
+pub returns-in_err-add_piece-clause-refused : goal.returns-in_err-add_piece-clause-refused
+returns-in_err-add_piece-clause-refused g c =
     let i = c.pieces.invariant in
-    let added = i.added in
     let some = c.requires.cleaning in
-    let piece = c.split_at.result.0.now in
-    let rest = c.pieces.rest.now in
+    let from = c.pieces.from in
+    let to = from + c.block_bytes-most.result in
+    let bytes = c.args.bytes.now in
+    let done = take from bytes in
+    let piece = slice_range bytes from to in
     let old = g.S.Stepping.holder c.args.cleaner.now.deduper.interface.steps in
     let mid = g.S.Stepping.holder c.pieces.cleaner.deduper.interface.steps in
-    let now = g.S.Stepping.holder c.add.new.cleaner.deduper.interface.steps in
-    let here = added.2 some.0 some.1 in
+    let now = g.S.Stepping.holder c.add_piece.new.cleaner.deduper.interface.steps in
+    let here = i.added some.0 some.1 in
     exit_with (IsErrorSince old now) c.from_residual.result _ c.from_residual.ensures.1
     (piece_error c.pieces.cleaner.number c.pieces.cleaner.byte_count piece old mid now _ i.follows.follows
-    (omega (arith, c.requires.short, here.counted, some.1.counted, length-append some.0 added.0, ap length added.1, length-append added.0 rest, c.split_at.ensures.front_len, c.pieces-test.true))
-    c.in_err-add.ensures.refused)
+    (omega (arith, c.requires.short, here.counted, some.1.counted, length-append some.0 done, ap length (in_pieces from to bytes (omega arith) i.within), length-append (done ++ piece) (drop to bytes), length-append done piece))
+    c.in_err-add_piece.ensures.refused)
 
 pub pieces-preserved : goal.pieces-preserved
 pieces-preserved g c =
     let i = c.pieces.invariant in
-    let added = i.added in
-    let piece = c.split_at.result.0.now in
-    let d = c.add.new.cleaner in
-    let same = c.add.ensures.same in
+    let from = c.pieces.from in
+    let to = from + c.block_bytes-most.result in
+    let bytes = c.args.bytes.now in
+    let d = c.add_piece.new.cleaner in
+    let same = c.add_piece.ensures.same in
     record {
       some = i.some;
+      within = omega (arith, c.pieces-test.true, i.within);
       start = same.0 ∙ i.start;
       number = same.1 ∙ i.number;
       id = same.2 ∙ i.id;
-      follows = asking_then _ _ _ i.follows c.add.ensures.follows;
-      added = (
-        added.0 ++ piece,
-        more_split c.block_bytes-most.result added.0 c.pieces.rest.now piece c.split_at.result.1.now c.args.bytes.now added.1 c.split_at.ensures.front c.split_at.ensures.back,
-        λ before is.
-            joined (IsCleaning (g.S.Stepping.holder d.deduper.start.value.steps) (g.S.Stepping.holder d.deduper.interface.steps) d.deduper.whole d.deduper.plan d.deduper.global d.chunker d.byte_count) before added.0 piece
-            (c.in_ok-add.ensures.cleaning (before ++ added.0) (added.2 before is)),
-        λ before has. joined (HasBytesBy c.args.policy.now c.add.new.generator) before added.0 piece (c.in_ok-add.ensures.hashed (before ++ added.0) (added.3 before has)),
-      );
+      follows = asking_then _ _ _ i.follows c.add_piece.ensures.follows;
+      added = λ before is.
+          more_range (IsCleaning (g.S.Stepping.holder d.deduper.start.value.steps) (g.S.Stepping.holder d.deduper.interface.steps) d.deduper.whole d.deduper.plan d.deduper.global d.chunker d.byte_count) before bytes from to (omega arith) i.within
+          (c.in_ok-add_piece.ensures.cleaning (before ++ take from bytes) (i.added before is));
+      hashed = λ before has. more_range (HasBytesBy c.args.policy.now c.add_piece.new.generator) before bytes from to (omega arith) i.within (c.in_ok-add_piece.ensures.hashed (before ++ take from bytes) (i.hashed before has));
     }
 
-pub add-requires-2 : goal.add-requires-2
-add-requires-2 g c =
-    let added = c.pieces.invariant.added in
-    let some = c.requires.cleaning in
-    record { cleaning = (some.0 ++ added.0, added.2 some.0 some.1) }
+pub add_piece-requires-2-clause-cleaning : goal.add_piece-requires-2-clause-cleaning
+add_piece-requires-2-clause-cleaning g c = let some = c.requires.cleaning in (some.0 ++ take c.pieces.from c.args.bytes.now, c.pieces.invariant.added some.0 some.1)
 
 pub returns-clause-cleaning : goal.returns-clause-cleaning
 returns-clause-cleaning g c = λ before is.
-    let added = c.pieces.invariant.added in
-    let d = c.add-2.new.cleaner in
-    on_ok_weaker c.add-2.result
-    (joined_all (IsCleaning (g.S.Stepping.holder d.deduper.start.value.steps) (g.S.Stepping.holder d.deduper.interface.steps) d.deduper.whole d.deduper.plan d.deduper.global d.chunker d.byte_count) before added.0 c.pieces.rest.now c.args.bytes.now added.1)
-    (c.add-2.ensures.cleaning (before ++ added.0) (added.2 before is))
+    let i = c.pieces.invariant in
+    let bytes = c.args.bytes.now in
+    let d = c.add_piece-2.new.cleaner in
+    on_ok_weaker c.add_piece-2.result
+    (whole_range (IsCleaning (g.S.Stepping.holder d.deduper.start.value.steps) (g.S.Stepping.holder d.deduper.interface.steps) d.deduper.whole d.deduper.plan d.deduper.global d.chunker d.byte_count) before bytes c.pieces.from i.within)
+    (c.add_piece-2.ensures.cleaning (before ++ take c.pieces.from bytes) (i.added before is))
 
 pub returns-clause-hashed : goal.returns-clause-hashed
 returns-clause-hashed g c = λ before has.
-    let added = c.pieces.invariant.added in
-    on_ok_weaker c.add-2.result (joined_all (HasBytesBy c.args.policy.now c.add-2.new.generator) before added.0 c.pieces.rest.now c.args.bytes.now added.1) (c.add-2.ensures.hashed (before ++ added.0) (added.3 before has))
+    let i = c.pieces.invariant in
+    let bytes = c.args.bytes.now in
+    on_ok_weaker c.add_piece-2.result (whole_range (HasBytesBy c.args.policy.now c.add_piece-2.new.generator) before bytes c.pieces.from i.within) (c.add_piece-2.ensures.hashed (before ++ take c.pieces.from bytes) (i.hashed before has))
 
 pub returns-clause-follows : goal.returns-clause-follows
-returns-clause-follows g c = asking_then _ _ _ c.pieces.invariant.follows c.add-2.ensures.follows
+returns-clause-follows g c = asking_then _ _ _ c.pieces.invariant.follows c.add_piece-2.ensures.follows
 
 pub returns-clause-few : goal.returns-clause-few
 returns-clause-few g c = λ before is.
-    let added = c.pieces.invariant.added in
-    let d = c.add-2.new.cleaner.deduper in
-    on_err_weaker c.add-2.result (joined_all (IsFew (g.S.Stepping.holder d.start.value.steps) (g.S.Stepping.holder d.interface.steps)) before added.0 c.pieces.rest.now c.args.bytes.now added.1)
-    (c.add-2.ensures.few (before ++ added.0) (added.2 before is))
+    let i = c.pieces.invariant in
+    let bytes = c.args.bytes.now in
+    let d = c.add_piece-2.new.cleaner.deduper in
+    on_err_weaker c.add_piece-2.result (whole_range (IsFew (g.S.Stepping.holder d.start.value.steps) (g.S.Stepping.holder d.interface.steps)) before bytes c.pieces.from i.within)
+    (c.add_piece-2.ensures.few (before ++ take c.pieces.from bytes) (i.added before is))
 
 pub returns-clause-refused : goal.returns-clause-refused
 returns-clause-refused g c =
     let i = c.pieces.invariant in
-    let added = i.added in
     let some = c.requires.cleaning in
-    let rest = c.pieces.rest.now in
+    let from = c.pieces.from in
+    let bytes = c.args.bytes.now in
+    let done = take from bytes in
+    let rest = slice_range bytes from (length bytes) in
     let old = g.S.Stepping.holder c.args.cleaner.now.deduper.interface.steps in
     let mid = g.S.Stepping.holder c.pieces.cleaner.deduper.interface.steps in
-    let now = g.S.Stepping.holder c.add-2.new.cleaner.deduper.interface.steps in
+    let now = g.S.Stepping.holder c.add_piece-2.new.cleaner.deduper.interface.steps in
     let number = c.pieces.cleaner.number in
     let count = c.pieces.cleaner.byte_count in
-    let here = added.2 some.0 some.1 in
-    IfErr-weaker c.add-2.result (IsCleanerError number count rest mid now) (IsErrorSince old now)
+    let here = i.added some.0 some.1 in
+    IfErr-weaker c.add_piece-2.result (IsCleanerError number count rest mid now) (IsErrorSince old now)
     (λ e is.
-    piece_error number count rest old mid now e i.follows.follows (omega (arith, c.requires.short, here.counted, some.1.counted, length-append some.0 added.0, ap length added.1, length-append added.0 rest)) is)
-    c.add-2.ensures.refused
+    piece_error number count rest old mid now e i.follows.follows
+    (omega (arith, c.requires.short, here.counted, some.1.counted, length-append some.0 done, ap length (in_pieces from (length bytes) bytes i.within i.within), length-append (done ++ rest) (drop (length bytes) bytes), length-append done rest)) is)
+    c.add_piece-2.ensures.refused

@@ -2,7 +2,7 @@ use Rattle.std.proofs.Common.{false}
 use Rattle.std.proofs.lemmas.Result.{IfErr-weaker, IfOk-weaker}
 use Rattle.xet_clean.specs.Sources.{HasCleaned, IsCutShort, IsLoopError}
 use Rattle.xet_clean.specs.declared.policy.Sha256Policy.TheVariants.{Compute}
-use Rattle.xet_passing.specs.Passing.{passing_of}
+use Rattle.xet_locked_session.specs.Passing.{passing_of}
 use Rattle.xet_workers.specs.Workers.{HasPassed}
 use Rattle.xet_workers.proofs.Begun.{IsRefused, MayHavePassed, cleaned_by, err_and, holder_in, refused_by}
 use Rattle.xet_workers.proofs.work.clean_whole.Goals as goal

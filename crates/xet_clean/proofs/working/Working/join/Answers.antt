@@ -4,8 +4,8 @@ use Rattle.xet_base.specs.theorems.Exits.{exit_with}
 use Rattle.xet_cut.specs.declared.limits.LimitSettings.{LimitSettings}
 use Rattle.xet_dedup_queries.specs.Registering.{IsDue}
 use Rattle.xet_hash.specs.declared.error.StoreError.TheVariants.{OutOfMemory}
-use Rattle.xet_stepping.specs.Holders.{Follows, xorb_limits}
-use Rattle.xet_stepping.specs.theorems.Following.{follows_nothing}
+use Rattle.xet_steps.specs.Holders.{Follows, xorb_limits}
+use Rattle.xet_steps.specs.theorems.Following.{follows_nothing}
 use Rattle.xet_xorb_chunk.specs.Chunks.{chunk_leaf}
 use Rattle.xet_clean.specs.Closing.{Closes, IsAtMost, IsUnclosed}
 use Rattle.xet_clean.proofs.Completing.{due_unless_fits, unclosed_after, unclosed_nothing, unless_memory}

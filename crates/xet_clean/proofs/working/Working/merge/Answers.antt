@@ -1,6 +1,6 @@
 use Rattle.std.proofs.Common.{ℕ, ◌+◌, ◌*◌, List, length, map, subst, sym, arith}
 use Rattle.xet_base.specs.theorems.Exits.{exit_with}
-use Rattle.xet_stepping.specs.theorems.Following.{follows_nothing}
+use Rattle.xet_steps.specs.theorems.Following.{follows_nothing}
 use Rattle.xet_xorb_chunk.specs.Chunks.{chunk_leaf}
 use Rattle.xet_clean.specs.Closing.{IsUnclosed}
 use Rattle.xet_clean.proofs.Completing.{unclosed_nothing}

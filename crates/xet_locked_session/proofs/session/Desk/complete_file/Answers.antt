@@ -2,9 +2,9 @@ use Rattle.std.proofs.Common.{◌≡◌, ◌⊎◌, inl, inr, ◌∙◌, ◌+◌
 use Rattle.xet_history.specs.declared.entry.Entry.{Entry}
 use Rattle.xet_history.specs.declared.entry.StepKind.TheVariants as kind
 use Rattle.xet_history.specs.History.{complete_entries}
-use Rattle.xet_stepping.specs.Stepping.{SawComplete, cut_to_complete}
+use Rattle.xet_steps.specs.Stepping.{SawComplete, cut_to_complete}
 use Rattle.xet_shared_history.specs.Owned.{numbers_from}
-use Rattle.xet_stepping.specs.Holders.{Holder}
+use Rattle.xet_steps.specs.Holders.{Holder}
 use Rattle.xet_steps.specs.Recorded.{RecordedState, core_of}
 use Rattle.xet_steps.specs.Steps.{Steps, fault_entries}
 use Rattle.xet_locked_session.specs.internal.Guarded.{HasFailed, HasStep}

@@ -1,6 +1,5 @@
 use Rattle.std.proofs.Common.{◌≡◌, List, Some, subst, true, ℕ}
 use Rattle.xet_manager.specs.Manager.{ManagerState}
-use Rattle.xet_shard_directory.specs.Writing.{path_of}
 use Rattle.xet_shard_flush.specs.Due.{IsDue}
 use Rattle.xet_shard_flush.specs.Importing.{KeepsFiles, flushed_bytes}
 use Rattle.xet_manager.proofs.manager.ShardFileManager.cut.Goals as goal

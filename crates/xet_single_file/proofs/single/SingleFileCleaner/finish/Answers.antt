@@ -2,7 +2,7 @@ use Rattle.std.proofs.Common.{◌∙◌, ap, false}
 use Rattle.std.proofs.lemmas.Result.{IfOk-weaker}
 use Rattle.xet_clean.specs.Planning.{IsFinished}
 use Rattle.xet_clean.specs.Policies.{sha256_by}
-use Rattle.xet_passing.specs.Passing.{PassingState, passing_of}
+use Rattle.xet_locked_session.specs.Passing.{PassingState, passing_of}
 use Rattle.xet_single_file.specs.Single.{SingleFileState}
 use Rattle.xet_single_file.proofs.Clauses.{errors_clause, few_ended, finished_clause, follows_clause}
 use Rattle.xet_single_file.proofs.single.SingleFileCleaner.finish.Goals as goal

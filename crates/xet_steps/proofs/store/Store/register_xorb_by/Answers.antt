@@ -67,23 +67,23 @@ returns-then-is_known-clause-named g c = named_new _ c.args.xorb c.requires.new 
 pub returns-in_err-due-clause-refused : goal.returns-in_err-due-clause-refused
 returns-in_err-due-clause-refused g c =
     exit_of_memory _ _ _ c.from_residual-in_err-due.ensures.1 c.in_err-due.ensures.memory
-    (refuses_memory _ Register _ _ _ (same_view _ _ _ _ c.self.view_is c.reserve-2.ensures.items c.reserve.ensures.items))
+    (refuses_memory _ Register _ _ _ (same_view_kept _ _ _ _ _ c.self.view_is c.in_err-due.ensures.kept c.reserve-2.ensures.items c.reserve.ensures.items))
 
 pub returns-in_err-reserve_xorb-clause-refused : goal.returns-in_err-reserve_xorb-clause-refused
 returns-in_err-reserve_xorb-clause-refused g c =
     exit_of_memory _ _ _ c.from_residual-in_err-reserve_xorb.ensures.1 c.in_err-reserve_xorb.ensures.memory
-    (refuses_memory _ Register _ _ _ (same_view_kept _ _ _ _ _ c.self.view_is c.in_err-reserve_xorb.ensures.kept c.reserve-2.ensures.items c.reserve.ensures.items))
+    (refuses_memory _ Register _ _ _ (same_view_kept _ _ _ _ _ c.self.view_is (c.in_err-reserve_xorb.ensures.kept ∙ c.in_ok-due.ensures.kept) c.reserve-2.ensures.items c.reserve.ensures.items))
 
 pub register_due-requires-clause-new : goal.register_due-requires-clause-new
 register_due-requires-clause-new g c =
     let new : is_new c.self.inside.store.xorbs (xorb_hash (raw_leaves c.args.xorb)) ≡ true = new_if_unlisted _ c.args.xorb c.requires.new c.self.inside.store.xorbs _ c.hash.ensures c.in_ok-is_known.is_known false c.in_ok-is_known.ensures.listed c.if-is_known.false in
-    ap (λ (s : State). found s.xorbs c.in_ok-due.due.hash) c.reserve_xorb.ensures.kept
+    ap (λ (s : State). found s.xorbs c.in_ok-due.due.hash) (c.reserve_xorb.ensures.kept ∙ c.in_ok-due.ensures.kept)
     ∙ ap (λ (h : List ℕ). found c.self.inside.store.xorbs h) c.in_ok-due.ensures.hash
     ∙ none_if_new c.self.inside.store.xorbs (xorb_hash (raw_leaves c.args.xorb)) new
 
 pub invariant_of-self-2 : goal.invariant_of-self-2
 invariant_of-self-2 g c =
-    recorded_after _ _ c.register_due.result _ _ _ _ _ (recorded_same _ _ _ _ _ _ c.reserve_xorb.ensures.kept c.self.invariant) c.reserve-2.ensures.items c.reserve.ensures.items c.register_due.ensures.count
+    recorded_after _ _ c.register_due.result _ _ _ _ _ (recorded_same _ _ _ _ _ _ (c.reserve_xorb.ensures.kept ∙ c.in_ok-due.ensures.kept) c.self.invariant) c.reserve-2.ensures.items c.reserve.ensures.items c.register_due.ensures.count
     c.register_due.ensures.steps c.register_due.ensures.refused (λ p. (_, (p _).steps)) (λ e q. (_, (q _).refuses.steps))
 
 pub returns-clause-added : goal.returns-clause-added

@@ -1,6 +1,0 @@
-pub mod Counting
-pub mod Lengths
-pub mod Merging
-pub mod Places
-pub mod Searching
-pub mod Sorting

@@ -1,6 +1,0 @@
-use Rattle.std.proofs.Common.{◌≡◌, ◌++◌, drop}
-use Rattle.xet_packed_index.specs.internal.Items.{lasts}
-use Rattle.xet_packed_index.proofs.shard_items.keep_lasts.Given as goal
-
-abbrev pub invariant-loop-i : goal.invariant-loop-i
-invariant-loop-i l = l.last.items ++ lasts (drop l.i l.items) ≡ lasts l.items

@@ -1,4 +1,0 @@
-pub mod Passing
-pub mod Coding
-pub mod internal
-pub mod theorems

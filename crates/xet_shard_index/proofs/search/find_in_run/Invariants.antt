@@ -1,0 +1,12 @@
+use Rattle.std.proofs.Common.{◌-◌, length}
+use Rattle.xet_shard_index.proofs.Searching.{Bisected, StepsLeft}
+use Rattle.xet_shard_index.proofs.search.find_in_run.Given as goal
+
+abbrev pub invariant-loop-low : goal.invariant-loop-low
+invariant-loop-low g l = record {
+  bisected : Bisected l.run l.word l.low l.high;
+  steps : StepsLeft (length l.run) l.initial.steps l.steps (l.high - l.low);
+}
+
+abbrev pub decreases-loop-low : goal.decreases-loop-low
+decreases-loop-low g l = l.high - l.low
