@@ -1,3 +1,4 @@
+pub mod Between
 pub mod Counting
 pub mod Lengths
 pub mod Merging

@@ -5,7 +5,7 @@ use Rattle.std.proofs.Math.Nat.{pow-suc}
 use Rattle.std.proofs.Math.Pow.{pow_mono}
 use Rattle.xet_shard_index.specs.Places.{word_place}
 use Rattle.xet_shard_index.specs.declared.word_place.WordPlace.{WordPlace}
-use Rattle.xet_shard_index.specs.Runs.{AllAbove, Item, Rising}
+use Rattle.xet_shard_index.specs.Runs.{AllAbove, IsBetween, Item, Rising}
 use Rattle.xet_shard_index.proofs.Merging.{Run, at, at_first, at_later, cmp_equal}
 
 above_at : (v : ℕ) (is : Run) (i : ℕ) (d : Item) → AllAbove v is → i < length is → v < (get_or is i d).0
@@ -43,15 +43,8 @@ found_at is i word place h low is_word is_place =
 
 -- ---- bisection
 
--- what is known of a run where a word is looked up from item `low` up to item `high`
-pub record Bisected (is : Run) (word low high : ℕ) : Type 0 where
-  pub ordered : low ≤ high
-  pub within : high ≤ length is
-  pub below : (i : ℕ) (d : Item) → i < low → (get_or is i d).0 < word
-  pub above : (i : ℕ) (d : Item) → high ≤ i → i < length is → word < (get_or is i d).0
-
-pub bisected_right : (is : Run) (word low high middle : ℕ) → Rising is → Bisected is word low high → middle < high → low ≤ middle
-    → ((d : Item) → (get_or is middle d).0 < word) → Bisected is word (middle + 1) high
+pub bisected_right : (is : Run) (word low high middle : ℕ) → Rising is → IsBetween is word low high → middle < high → low ≤ middle
+    → ((d : Item) → (get_or is middle d).0 < word) → IsBetween is word (middle + 1) high
 bisected_right is word low high middle h b less more at_middle = record {
   ordered = omega (arith, less);
   within = b.within;
@@ -63,8 +56,8 @@ bisected_right is word low high middle h b less more at_middle = record {
     by i d earlier (inl before) = let r = rises is i middle d h before (omega (arith, less, b.within)) in omega (arith, r, at_middle d)
     by i d earlier (inr after) = let e : i ≡ middle = omega (arith, earlier, after) in rw e (at_middle d)
 
-pub bisected_left : (is : Run) (word low high middle : ℕ) → Rising is → Bisected is word low high → middle < high → low ≤ middle
-    → ((d : Item) → word < (get_or is middle d).0) → Bisected is word low middle
+pub bisected_left : (is : Run) (word low high middle : ℕ) → Rising is → IsBetween is word low high → middle < high → low ≤ middle
+    → ((d : Item) → word < (get_or is middle d).0) → IsBetween is word low middle
 bisected_left is word low high middle h b less more at_middle = record {
   ordered = more;
   within = omega (arith, less, b.within);
@@ -76,7 +69,7 @@ bisected_left is word low high middle h b less more at_middle = record {
     by i d later low (inl after) = let r = rises is middle i d h after low in omega (arith, r, at_middle d)
     by i d later low (inr before) = let e : i ≡ middle = omega (arith, later, before) in rw e (at_middle d)
 
-pub bisected_end : (is : Run) (word low high : ℕ) → Bisected is word low high → high ≤ low → at word is ≡ None
+pub bisected_end : (is : Run) (word low high : ℕ) → IsBetween is word low high → high ≤ low → at word is ≡ None
 bisected_end is word low high b met = no_place word is (λ i d inside. by i d inside (cases_lt i low))
   where
     by : (i : ℕ) (d : Item) → i < length is → (i < low) ⊎ (low ≤ i) → (get_or is i d).0 ≢ word

@@ -1,5 +1,5 @@
 -- Sorted runs of words with their places, and what several runs hold together.
-use Rattle.std.specs.Prelude.{ℕ, ◌<◌, ◌==◌, nat_eq, nat_lt, List, [], ◌∷◌, filter, fold, if◌then◌else◌, is_none}
+use Rattle.std.specs.Prelude.{ℕ, ◌<◌, ◌≤◌, ◌==◌, nat_eq, nat_lt, List, [], ◌∷◌, filter, fold, if◌then◌else◌, is_none, length, slice_index_or}
 use Rattle.std.specs.Map.{lookup}
 use Rattle.xet_shard_index.specs.declared.word_place.WordPlace.{WordPlace}
 
@@ -34,3 +34,10 @@ merged runs = fold (λ older newer. over newer older) [] runs
 -- the items of a run whose word is not in another run
 abbrev pub without : List Item → List Item → List Item
 without run other = filter (λ i. is_none (lookup {X = WordPlace} (nat_eq i.0) other)) run
+
+-- In a run, the words before index `low` are below a word, and those from index `high` on are above it.
+pub record IsBetween (run : List Item) (word low high : ℕ) : Type 0 where
+  pub ordered : low ≤ high
+  pub within : high ≤ length run
+  pub below : (i : ℕ) (d : Item) → i < low → (slice_index_or run i d).0 < word
+  pub above : (i : ℕ) (d : Item) → high ≤ i → i < length run → word < (slice_index_or run i d).0

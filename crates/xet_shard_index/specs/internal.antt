@@ -1,3 +1,4 @@
 pub mod Inserting
 pub mod Items
 pub mod Lengths
+pub mod Starts

@@ -1,5 +1,5 @@
 //! A packed index of the first words of the chunk hashes of shards: where the last chunk with a word is. Its entries
-//! stand in few sorted runs, of 20 bytes an item.
+//! stand in few sorted runs, of 20 bytes an item and at most one more for each.
 #![tactic(auto)]
 
 mod insertion;
@@ -7,6 +7,7 @@ mod packed_index;
 mod packed_item;
 mod search;
 mod shard_items;
+mod starts;
 mod steps;
 mod word_place;
 mod word_run;

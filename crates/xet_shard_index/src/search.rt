@@ -32,14 +32,13 @@ pub(crate) fn find_in_runs<L: Ledger>(
     None
 }
 
-/// The place of a word in a run, by bisection.
+/// The place of a word in a run, by bisection of the items among which it can stand.
 fn find_in_run<L: Ledger>(run: &WordRun, word: u64, steps: &mut Steps<L>) -> Option<WordPlace>
     requires { Rising run.now }
     ensures place { result ≡ lookup (nat_eq word) run.now }
     ensures steps { (b : ℕ) → length run.now < 2 ^ b → steps.new ≤ steps.old + b }
 {
-    let mut low = 0;
-    let mut high = run.len();
+    let (mut low, mut high) = run.range(word);
     while low < high {
         let middle = low + (high - low) / 2;
         match run.compare(middle, word, steps) {

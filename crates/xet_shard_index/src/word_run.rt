@@ -2,9 +2,10 @@
 
 ghost use Rattle.std.specs.Prelude.{◌≡◌, ◌<◌, ◌+◌, ℕ, IfOk, IsOkUnless, OnOk, length, [], slice_index_or};
 ghost use Rattle.std.specs.Ordering.{nat_cmp};
-ghost use Rattle.xet_shard_index.specs.Runs.{Item, Rising, over, without};
+ghost use Rattle.xet_shard_index.specs.Runs.{IsBetween, Item, Rising, over, without};
 
 use crate::packed_item::PackedItem;
+use crate::starts::Starts;
 use crate::steps::Steps;
 use crate::word_place::WordPlace;
 use std::alloc::AllocError;
@@ -17,18 +18,20 @@ use xet_hash::StoreError;
 #[derive(Drop)]
 pub struct WordRun {
     items: Vec<PackedItem>,
+    starts: Starts,
 }
 
 impl Model for WordRun {
     ghost use Rattle.std.specs.Prelude.{ℕ, List};
     ghost use Rattle.xet_shard_index.specs.declared.word_place.WordPlace.{WordPlace};
     ghost use Rattle.xet_shard_index.specs.Runs.{Rising};
+    ghost use Rattle.xet_shard_index.specs.internal.Starts.{AreStarts};
 
     ghost Value = { List (ℕ × WordPlace) };
 
     ghost view = { λ r. r.items.items };
 
-    ghost invariant = { λ r. Rising r.items.items };
+    ghost invariant = { λ r. Rising r.items.items × AreStarts r.starts.shift r.items.items r.starts.starts.items };
 }
 
 impl WordRun {
@@ -40,7 +43,7 @@ impl WordRun {
     {
         let mut packed = Vec::with_capacity(*items.allocator(), items.len())?;
         pack(&items, &mut packed)?;
-        Ok(WordRun { items: packed })
+        with_starts(packed)
     }
 
     /// The number of items.
@@ -56,6 +59,14 @@ impl WordRun {
         ensures { (d : Item) → result ≡ (slice_index_or self.now i d).1 }
     {
         self.items[i as usize].place()
+    }
+
+    /// From which item on, and before which one, a word can stand. It takes no step.
+    pub fn range(&self, word: u64) -> (u64, u64)
+        ensures { IsBetween self.now word result.0 result.1 }
+    {
+        let (low, high) = self.starts.range(&self.items, word);
+        (low as u64, high as u64)
     }
 
     /// The order of the word of item `i` to `word`. It takes one step.
@@ -78,7 +89,7 @@ impl WordRun {
         let mut items = Vec::with_capacity(*newer.items.allocator(), room)?;
         merge_items(&newer.items, &older.items, &mut items)?;
         items.shrink_to_fit();
-        Ok(WordRun { items })
+        with_starts(items)
     }
 
     /// The items whose word is not in the other run. The only error is `StoreError::OutOfMemory`.
@@ -89,8 +100,18 @@ impl WordRun {
         let mut items = Vec::with_capacity(*self.items.allocator(), self.items.len())?;
         add_without(&self.items, &other.items, &mut items)?;
         items.shrink_to_fit();
-        Ok(WordRun { items })
+        with_starts(items)
     }
+}
+
+/// The run of these items.
+fn with_starts(items: Vec<PackedItem>) -> Result<WordRun, StoreError>
+    requires { Rising items.items }
+    ensures items { IfOk result (λ run. run ≡ items.items) }
+    ensures memory { IsOkUnless result StoreError.OutOfMemory }
+{
+    let starts = Starts::new(*items.allocator(), &items)?;
+    Ok(WordRun { items, starts })
 }
 
 /// Appends the items, packed.

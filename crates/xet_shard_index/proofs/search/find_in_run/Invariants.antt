@@ -1,10 +1,11 @@
 use Rattle.std.proofs.Common.{◌-◌, length}
-use Rattle.xet_shard_index.proofs.Searching.{Bisected, StepsLeft}
+use Rattle.xet_shard_index.specs.Runs.{IsBetween}
+use Rattle.xet_shard_index.proofs.Searching.{StepsLeft}
 use Rattle.xet_shard_index.proofs.search.find_in_run.Given as goal
 
 abbrev pub invariant-loop-low : goal.invariant-loop-low
 invariant-loop-low g l = record {
-  bisected : Bisected l.run l.word l.low l.high;
+  bisected : IsBetween l.run l.word l.low l.high;
   steps : StepsLeft (length l.run) l.initial.steps l.steps (l.high - l.low);
 }
 
