@@ -8,4 +8,4 @@ mod session;
 
 pub use naming::Naming;
 pub use passing::Passing;
-pub use session::{LockedSession, Opened, Pass};
+pub use session::{LockedSession, Opened, Pass, StoppingSession};

@@ -5,7 +5,7 @@ ghost use Rattle.xet_locked_session.specs.Passes.{IsPassOf};
 ghost use Rattle.xet_locked_session.specs.Passing.{IsPassing, passing_of};
 
 use crate::naming::Naming;
-use crate::session::{LockedSession, Pass};
+use crate::session::{LockedSession, Pass, SharedStore, StoppingSession};
 use std::marker::Model;
 use std::sync::Wait;
 use xet_cut::Limits;
@@ -18,7 +18,7 @@ use xet_xorb::RawXorbData;
 
 /// A pass of a session, which makes steps of its store, each in one hold of the lock. Contracts see a `PassingState`.
 pub struct Passing<'a, D: Disk, J: Naming, R: Wait> {
-    session: &'a LockedSession<D, J>,
+    session: &'a SharedStore<D, J>,
     rt: &'a R,
     pass: Pass<J>,
     /// The pass when it began, for contracts alone.
@@ -46,6 +46,25 @@ impl<'a, D: Disk, J: Naming, R: Wait> Model for Passing<'a, D, J, R> {
 impl<'a, D: Disk, J: Naming, R: Wait> Passing<'a, D, J, R> {
     /// Begins with a pass of the session. `rt` is what waits for the lock.
     pub fn new(rt: &'a R, session: &'a LockedSession<D, J>, pass: Pass<J>) -> Passing<'a, D, J, R>
+        ensures { (result.start ≡ pass) × (result.pass ≡ pass) × (result.stopped ≡ false) }
+    {
+        Passing::of(rt, session.shared(), pass)
+    }
+
+    /// The same, in a session whose first failed step is the last one: after it, or after `stop`, each step fails with
+    /// `OutOfMemory` and does nothing.
+    pub fn new_stopping(
+        rt: &'a R,
+        session: &'a StoppingSession<D, J>,
+        pass: Pass<J>,
+    ) -> Passing<'a, D, J, R>
+        ensures { (result.start ≡ pass) × (result.pass ≡ pass) × (result.stopped ≡ false) }
+    {
+        Passing::of(rt, session.shared(), pass)
+    }
+
+    /// Begins with a pass of a shared store.
+    fn of(rt: &'a R, session: &'a SharedStore<D, J>, pass: Pass<J>) -> Passing<'a, D, J, R>
         ensures { (result.start ≡ pass) × (result.pass ≡ pass) × (result.stopped ≡ false) }
     {
         pass.recall_invariant();

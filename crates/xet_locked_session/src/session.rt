@@ -1,6 +1,6 @@
-//! `LockedSession`, what is under its lock, and its passes.
+//! `LockedSession` and `StoppingSession`, what is under their lock, and their passes.
 
-ghost use Rattle.std.specs.Prelude.{◌≡◌, []};
+ghost use Rattle.std.specs.Prelude.{◌≡◌, [], false, true};
 ghost use Rattle.xet_shared_history.specs.Seen.{seen_by};
 
 mod closing;
@@ -9,7 +9,9 @@ mod locked;
 mod making;
 mod named;
 mod passes;
+mod sharing;
 mod steps;
+mod stopping;
 mod telling;
 
 use crate::naming::Naming;
@@ -136,15 +138,30 @@ impl<J: Naming> Model for Pass<J> {
         × (p.known.share.parts ≡ 1) × (p.known.share.amount ≡ length p.known.own.items) };
 }
 
-/// A store under a lock. Each of its passes makes steps of it, and knows what it has seen of the history.
+/// A store under a lock, where the first step that fails may be the last one.
 #[derive(Drop)]
-pub struct LockedSession<D: Disk, J: Naming> {
+pub(crate) struct SharedStore<D: Disk, J: Naming> {
     word: HistoryWord,
     /// The limits of the store.
     limits: Limits,
     desk: Mutex<Guarded<D, J>>,
     ghost named: { word ≡ J.table },
     ghost limited: { limits ≡ J.store.store.limits },
+}
+
+/// A store under a lock. Each of its passes makes steps of it, and knows what it has seen of the history.
+#[derive(Drop)]
+pub struct LockedSession<D: Disk, J: Naming> {
+    shared: SharedStore<D, J>,
+    ghost going: { J.stops ≡ false },
+}
+
+/// A store under a lock, of which the first step that fails is the last one: no step is made after it. `Passing` makes the
+/// steps of its passes.
+#[derive(Drop)]
+pub struct StoppingSession<D: Disk, J: Naming> {
+    shared: SharedStore<D, J>,
+    ghost stops: { J.stops ≡ true },
 }
 
 /// What a session is made from: a table and a ledger that no type names yet. So they can be named before the session is made.
@@ -155,7 +172,5 @@ pub struct Opened {
     writer: Writer,
     /// Counts the entries of the passes.
     pub blank: Blank,
-    /// Whether the first step that fails is the last one.
-    pub stops: bool,
     pub ghost fresh: { writer ≡ seen_by word [] },
 }

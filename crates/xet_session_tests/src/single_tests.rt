@@ -1,6 +1,6 @@
 //! Tests of one file that is cleaned over a pass of a session.
 
-ghost use Rattle.std.specs.Prelude.{◌≡◌, IfOk, OnOk, true};
+ghost use Rattle.std.specs.Prelude.{◌≡◌, IfOk, OnOk, false, true};
 
 use bytes::Bytes;
 use std::alloc::{AllocError, Global};
@@ -115,7 +115,7 @@ fn clean_in<J: Naming, R: Wait>(
     requires table { opened.word ≡ J.table }
     requires ledger { (opened.blank.name ≡ J.name) × (opened.blank.parts ≡ J.parts) × (J.parts ≡ 2) }
     requires store { store ≡ J.store }
-    requires stops { opened.stops ≡ J.stops }
+    requires going { J.stops ≡ false }
 {
     match LockedSession::<MemoryDisk, J>::new(alloc, opened, store, 1) {
         Ok((session, passes)) => {

@@ -1,18 +1,18 @@
 //! Tests of a session that passes share under a lock.
 
-ghost use Rattle.std.specs.Prelude.{◌≡◌, IfOk, false};
+ghost use Rattle.std.specs.Prelude.{◌≡◌, false, true};
 ghost use Rattle.xet_locked_session.specs.Passes.{new_passes};
 
 use crate::files::{chunk_hashes, record, xorb};
 use crate::recorded::limits;
-use std::alloc::{AllocError, Global};
+use std::alloc::Global;
 use std::marker::Brand;
 use std::sync::Wait;
 use std::test::Fail;
 use xet_hash::{MerkleHash, Reason, StoreError, compute_data_hash};
 use xet_io::MemoryDisk;
-use xet_locked_session::{LockedSession, Naming, Opened, Pass};
-use xet_steps::Store;
+use xet_locked_session::{LockedSession, Naming, Opened, Pass, Passing, StoppingSession};
+use xet_steps::{Stepping, Store};
 
 /// A pass registers the xorb. Returns whether it was new, and its hash.
 fn register<J: Naming, R: Wait>(
@@ -62,9 +62,7 @@ fn flush_both<J: Naming, R: Wait>(
     session: &LockedSession<MemoryDisk, J>,
     first: &mut Pass<J>,
     second: &mut Pass<J>,
-) -> Result<(bool, bool), StoreError>
-    requires { J.stops ≡ false }
-{
+) -> Result<(bool, bool), StoreError> {
     let wrote = session.flush(rt, first)?.is_some();
     Ok((wrote, session.flush(rt, second)?.is_some()))
 }
@@ -77,8 +75,7 @@ fn take_turns<J: Naming, R: Wait>(
     first: &mut Pass<J>,
     second: &mut Pass<J>,
 ) -> Result<Seen, StoreError>
-    requires going { J.stops ≡ false }
-    requires limits { first.old.limits ≡ J.store.store.limits }
+    requires { first.old.limits ≡ J.store.store.limits }
 {
     let [a, b] = chunk_hashes();
     let (is_new, xorb) = register(rt, alloc, session, first)?;
@@ -101,8 +98,7 @@ fn take_turns_of<J: Naming, R: Wait>(
     session: &LockedSession<MemoryDisk, J>,
     passes: &mut [Pass<J>],
 ) -> Result<Seen, StoreError>
-    requires passes { passes.old ≡ new_passes J.store 1 2 }
-    requires going { J.stops ≡ false }
+    requires { passes.old ≡ new_passes J.store 1 2 }
 {
     match passes {
         [first, second] => take_turns(rt, alloc, session, first, second),
@@ -120,7 +116,6 @@ fn share<J: Naming, R: Wait>(
     requires table { opened.word ≡ J.table }
     requires ledger { (opened.blank.name ≡ J.name) × (opened.blank.parts ≡ J.parts) × (J.parts ≡ 3) }
     requires store { store ≡ J.store }
-    requires stops { opened.stops ≡ J.stops }
     requires going { J.stops ≡ false }
 {
     match LockedSession::<MemoryDisk, J>::new(alloc, opened, store, 2) {
@@ -139,8 +134,7 @@ fn share_once<R: Wait>(
     opened: Opened,
     store: Store<MemoryDisk>,
 ) -> (Store<MemoryDisk>, Result<Seen, StoreError>)
-    requires parts { opened.blank.parts ≡ 3 }
-    requires going { opened.stops ≡ false }
+    requires { opened.blank.parts ≡ 3 }
 {
     share::<Brand, R>(rt, alloc, opened, store)
 }
@@ -154,7 +148,7 @@ fn lock<J: Naming>(
     requires table { opened.word ≡ J.table }
     requires ledger { (opened.blank.name ≡ J.name) × (opened.blank.parts ≡ J.parts) × (J.parts ≡ 3) }
     requires store { store ≡ J.store }
-    requires stops { opened.stops ≡ J.stops }
+    requires going { J.stops ≡ false }
 {
     match LockedSession::<MemoryDisk, J>::new(alloc, opened, store, 2) {
         Ok((session, passes)) => (session.close(passes), Ok(())),
@@ -173,7 +167,7 @@ fn lock_once(
     lock::<Brand>(alloc, opened, store)
 }
 
-/// A session with two passes, which is stopped or not. Returns whether it was.
+/// A session that stops, with two passes; it is stopped by a call or not. Returns whether it was.
 fn halt<J: Naming, R: Wait>(
     rt: &R,
     alloc: Global,
@@ -184,9 +178,9 @@ fn halt<J: Naming, R: Wait>(
     requires table { opened.word ≡ J.table }
     requires ledger { (opened.blank.name ≡ J.name) × (opened.blank.parts ≡ J.parts) × (J.parts ≡ 3) }
     requires store { store ≡ J.store }
-    requires stops { opened.stops ≡ J.stops }
+    requires stops { J.stops ≡ true }
 {
-    match LockedSession::<MemoryDisk, J>::new(alloc, opened, store, 2) {
+    match StoppingSession::<MemoryDisk, J>::new(alloc, opened, store, 2) {
         Ok((session, passes)) => {
             if stop {
                 session.stop(rt);
@@ -211,42 +205,25 @@ fn halt_once<R: Wait>(
     halt::<Brand, R>(rt, alloc, opened, store, stop)
 }
 
-/// The errors of what ends a session, and of the query after it.
+/// The errors of a step, if one was made, and of the query after it.
 type Errors = (Option<StoreError>, Option<StoreError>);
 
 /// The error of a file that lies in no listed xorb.
 const OTHER: Option<StoreError> = Some(StoreError::MalformedData(Reason::OtherFileHash));
 
-/// The first pass records a file that lies in no listed xorb; or, without a step, the session is stopped. The second pass then
-/// queries.
-fn end<J: Naming, R: Wait>(
-    rt: &R,
-    alloc: Global,
-    session: &LockedSession<MemoryDisk, J>,
-    first: &mut Pass<J>,
-    second: &mut Pass<J>,
-    by_step: bool,
-) -> Errors {
-    let ended = if by_step {
-        complete(rt, alloc, session, first, compute_data_hash(b"abc")).err()
-    } else {
-        session.stop(rt);
-        None
-    };
-    let [a, _] = chunk_hashes();
-    (ended, query(rt, session, second, &[a]).err())
-}
-
-/// The same, with two passes of the session.
-fn end_of<J: Naming, R: Wait>(
+/// The first pass records a file that lies in no listed xorb. The second pass then queries.
+fn fail<J: Naming, R: Wait>(
     rt: &R,
     alloc: Global,
     session: &LockedSession<MemoryDisk, J>,
     passes: &mut [Pass<J>],
-    by_step: bool,
 ) -> Result<Errors, StoreError> {
     match passes {
-        [first, second] => Ok(end(rt, alloc, session, first, second, by_step)),
+        [first, second] => {
+            let failed = complete(rt, alloc, session, first, compute_data_hash(b"abc")).err();
+            let [a, _] = chunk_hashes();
+            Ok((failed, query(rt, session, second, &[a]).err()))
+        }
         _ => Err(StoreError::OutOfMemory),
     }
 }
@@ -263,6 +240,95 @@ fn abandon<J: Naming>(
 }
 
 /// The same, with a session of a store. The store is returned.
+fn fail_session<J: Naming, R: Wait>(
+    rt: &R,
+    alloc: Global,
+    opened: Opened,
+    store: Store<MemoryDisk>,
+) -> (Store<MemoryDisk>, Result<Errors, StoreError>)
+    requires table { opened.word ≡ J.table }
+    requires ledger { (opened.blank.name ≡ J.name) × (opened.blank.parts ≡ J.parts) × (J.parts ≡ 3) }
+    requires store { store ≡ J.store }
+    requires going { J.stops ≡ false }
+{
+    match LockedSession::<MemoryDisk, J>::new(alloc, opened, store, 2) {
+        Ok((session, mut passes)) => {
+            let errors = fail(rt, alloc, &session, &mut passes);
+            (abandon(session, passes), errors)
+        }
+        Err((store, error)) => (store, Err(error)),
+    }
+}
+
+/// The same, with a name of its own.
+fn fail_once<R: Wait>(
+    rt: &R,
+    alloc: Global,
+    opened: Opened,
+    store: Store<MemoryDisk>,
+) -> (Store<MemoryDisk>, Result<Errors, StoreError>)
+    requires { opened.blank.parts ≡ 3 }
+{
+    fail_session::<Brand, R>(rt, alloc, opened, store)
+}
+
+/// Records a file that lies in no listed xorb.
+fn record_other<S: Stepping>(alloc: Global, steps: &mut S) -> Result<bool, StoreError> {
+    steps.complete(record(alloc, compute_data_hash(b"abc"))?)
+}
+
+/// Queries a chunk.
+fn query_one<S: Stepping>(steps: &mut S) -> Result<bool, StoreError> {
+    let [a, _] = chunk_hashes();
+    Ok(steps.query(&[a])?.is_some())
+}
+
+/// The error of a file that lies in no listed xorb, over a pass of a session that stops.
+fn failed_over<J: Naming, R: Wait>(
+    rt: &R,
+    alloc: Global,
+    session: &StoppingSession<MemoryDisk, J>,
+    pass: Pass<J>,
+) -> Option<StoreError> {
+    let mut passing = Passing::new_stopping(rt, session, pass);
+    let failed = record_other(alloc, &mut passing).err();
+    let _pass = passing.into_pass();
+    failed
+}
+
+/// The error of a query over a pass of a session that stops.
+fn queried_over<J: Naming, R: Wait>(
+    rt: &R,
+    session: &StoppingSession<MemoryDisk, J>,
+    pass: Pass<J>,
+) -> Option<StoreError> {
+    let mut passing = Passing::new_stopping(rt, session, pass);
+    let failed = query_one(&mut passing).err();
+    let _pass = passing.into_pass();
+    failed
+}
+
+/// One pass records a file that lies in no listed xorb; or, without a step, the session is stopped. Another pass then queries.
+fn end<J: Naming, R: Wait>(
+    rt: &R,
+    alloc: Global,
+    session: &StoppingSession<MemoryDisk, J>,
+    mut passes: Vec<Pass<J>>,
+    by_step: bool,
+) -> Result<Errors, StoreError> {
+    let (Some(second), Some(first)) = (passes.pop(), passes.pop()) else {
+        return Err(StoreError::OutOfMemory);
+    };
+    let ended = if by_step {
+        failed_over(rt, alloc, session, first)
+    } else {
+        session.stop(rt);
+        None
+    };
+    Ok((ended, queried_over(rt, session, second)))
+}
+
+/// The same, with a session of a store. The store is returned.
 fn end_session<J: Naming, R: Wait>(
     rt: &R,
     alloc: Global,
@@ -273,12 +339,12 @@ fn end_session<J: Naming, R: Wait>(
     requires table { opened.word ≡ J.table }
     requires ledger { (opened.blank.name ≡ J.name) × (opened.blank.parts ≡ J.parts) × (J.parts ≡ 3) }
     requires store { store ≡ J.store }
-    requires stops { opened.stops ≡ J.stops }
+    requires stops { J.stops ≡ true }
 {
-    match LockedSession::<MemoryDisk, J>::new(alloc, opened, store, 2) {
-        Ok((session, mut passes)) => {
-            let errors = end_of(rt, alloc, &session, &mut passes, by_step);
-            (abandon(session, passes), errors)
+    match StoppingSession::<MemoryDisk, J>::new(alloc, opened, store, 2) {
+        Ok((session, passes)) => {
+            let errors = end(rt, alloc, &session, passes, by_step);
+            (session.abandon(), errors)
         }
         Err((store, error)) => (store, Err(error)),
     }
@@ -330,33 +396,25 @@ fn locked(alloc: Global) -> Result<usize, StoreError> {
     Ok(entries)
 }
 
-/// What a session with two passes is made from.
-fn opened(alloc: Global, stops: bool) -> Result<Opened, AllocError>
-    ensures { IfOk result (λ o. o.blank.parts ≡ 3) }
-{
-    if stops {
-        Opened::new_stopping(alloc, 2)
-    } else {
-        Opened::new(alloc, 2)
-    }
-}
-
 /// Whether a session that ends without a step is stopped at its end.
-fn halted<R: Wait>(rt: &R, alloc: Global, stops: bool, stop: bool) -> Result<bool, StoreError> {
-    let opened = opened(alloc, stops)?;
+fn halted<R: Wait>(rt: &R, alloc: Global, stop: bool) -> Result<bool, StoreError> {
+    let opened = Opened::new(alloc, 2)?;
     let (store, stopped) = halt_once(rt, alloc, opened, open(alloc)?, stop);
     let _entries = close(store);
     stopped
 }
 
-/// The errors of a session that ends by a step or by a call, and the number of entries of its store.
-fn ended<R: Wait>(
-    rt: &R,
-    alloc: Global,
-    stops: bool,
-    by_step: bool,
-) -> Result<(Errors, usize), StoreError> {
-    let opened = opened(alloc, stops)?;
+/// The errors of a session in which a step fails, and the number of entries of its store.
+fn failed<R: Wait>(rt: &R, alloc: Global) -> Result<(Errors, usize), StoreError> {
+    let opened = Opened::new(alloc, 2)?;
+    let (store, errors) = fail_once(rt, alloc, opened, open(alloc)?);
+    let entries = close(store);
+    Ok((errors?, entries))
+}
+
+/// The errors of a session that stops by a step or by a call, and the number of entries of its store.
+fn ended<R: Wait>(rt: &R, alloc: Global, by_step: bool) -> Result<(Errors, usize), StoreError> {
+    let opened = Opened::new(alloc, 2)?;
     let (store, errors) = end_once(rt, alloc, opened, open(alloc)?, by_step);
     let entries = close(store);
     Ok((errors?, entries))
@@ -378,8 +436,8 @@ fn session_without_steps_leaves_the_store(rt: HostRuntime) -> Result<(), Fail> {
 
 #[test]
 fn session_that_stops_makes_no_step_after_one_that_failed(rt: HostRuntime) -> Result<(), Fail> {
-    let stopping = ended(&rt, rt.alloc(), true, true)?;
-    let going = ended(&rt, rt.alloc(), false, true)?;
+    let stopping = ended(&rt, rt.alloc(), true)?;
+    let going = failed(&rt, rt.alloc())?;
     assert_eq!(rt;
         (stopping, going),
         (
@@ -392,23 +450,15 @@ fn session_that_stops_makes_no_step_after_one_that_failed(rt: HostRuntime) -> Re
 
 #[test]
 fn session_that_stops_is_stopped_by_a_call(rt: HostRuntime) -> Result<(), Fail> {
-    let stopping = ended(&rt, rt.alloc(), true, false)?;
-    let going = ended(&rt, rt.alloc(), false, false)?;
-    assert_eq!(rt;
-        (stopping, going),
-        (
-            ((None, Some(StoreError::OutOfMemory)), 0),
-            ((None, None), 1)
-        )
-    );
+    let stopping = ended(&rt, rt.alloc(), false)?;
+    assert_eq!(rt; stopping, ((None, Some(StoreError::OutOfMemory)), 0));
     Ok(())
 }
 
 #[test]
 fn session_says_whether_it_was_stopped(rt: HostRuntime) -> Result<(), Fail> {
-    let stopped = halted(&rt, rt.alloc(), true, true)?;
-    let left = halted(&rt, rt.alloc(), true, false)?;
-    let other = halted(&rt, rt.alloc(), false, true)?;
-    assert_eq!(rt; (stopped, left, other), (true, false, false));
+    let stopped = halted(&rt, rt.alloc(), true)?;
+    let left = halted(&rt, rt.alloc(), false)?;
+    assert_eq!(rt; (stopped, left), (true, false));
     Ok(())
 }

@@ -1,6 +1,6 @@
 //! Tests of a pass that makes steps.
 
-ghost use Rattle.std.specs.Prelude.{◌≡◌};
+ghost use Rattle.std.specs.Prelude.{◌≡◌, false};
 
 use crate::files::{chunk_hashes, record, xorb};
 use crate::locked_tests::{close, open};
@@ -93,7 +93,7 @@ fn pass_steps<J: Naming, R: Wait>(
     requires table { opened.word ≡ J.table }
     requires ledger { (opened.blank.name ≡ J.name) × (opened.blank.parts ≡ J.parts) × (J.parts ≡ 3) }
     requires store { store ≡ J.store }
-    requires stops { opened.stops ≡ J.stops }
+    requires going { J.stops ≡ false }
 {
     match LockedSession::<MemoryDisk, J>::new(alloc, opened, store, 2) {
         Ok((session, passes)) => {

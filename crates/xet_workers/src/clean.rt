@@ -24,7 +24,7 @@ use xet_clean::Cleaned;
 use xet_cut::Limits;
 use xet_hash::StoreError;
 use xet_io::{Disk, Source};
-use xet_locked_session::{LockedSession, Naming, Opened, Pass};
+use xet_locked_session::{Naming, Opened, Pass, StoppingSession};
 use xet_steps::Store;
 
 /// Reads each of at most 2^20 sources to its end and stores its file. The sources are divided among the workers before the first
@@ -87,7 +87,7 @@ pub fn clean_files<D: Disk + Send, S: Source + Send, R: Threads + Wait + Sync>(
     ensures bound { IfErr result.1 (λ e. IsBoundedBy workers S.tells S.left sources.old sources.new session result.0) }
 {
     let team = workers.min(sources.len().max(1) as u32);
-    match Opened::new_stopping(alloc, team) {
+    match Opened::new(alloc, team) {
         Ok(opened) => clean_named::<D, Brand, S, R>(rt, alloc, opened, session, sources, team),
         Err(_) => {
             session.recall_sound();
@@ -108,12 +108,12 @@ fn clean_named<D: Disk + Send, J: Naming + Send + Sync, S: Source + Send, R: Thr
     requires table { opened.word ≡ J.table }
     requires ledger { (opened.blank.name ≡ J.name) × (opened.blank.parts ≡ J.parts) × (J.parts ≡ workers + 1) }
     requires store { store ≡ J.store }
-    requires stops { (opened.stops ≡ J.stops) × (J.stops ≡ true) }
+    requires stops { J.stops ≡ true }
     requires count { length sources.old ≤ 2 ^ 20 }
     requires workers { (1 ≤ workers) × (workers ≤ 256) }
     ensures { Promises workers S.tells S.left S.faults sources.old sources.new J.store result.0 result.1 }
 {
-    match LockedSession::<D, J>::new(alloc, opened, store, workers) {
+    match StoppingSession::<D, J>::new(alloc, opened, store, workers) {
         Ok((session, passes)) => clean_passes(rt, alloc, session, passes, sources, workers),
         Err((store, error)) => {
             store.recall_sound();
@@ -131,12 +131,11 @@ fn clean_passes<
 >(
     rt: &R,
     alloc: Global,
-    session: LockedSession<D, J>,
+    session: StoppingSession<D, J>,
     passes: Vec<Pass<J>>,
     sources: &mut [S],
     workers: u32,
 ) -> (Store<D>, Result<Cleaned, StoreError>)
-    requires stops { J.stops ≡ true }
     requires parts { J.parts ≡ workers + 1 }
     requires passes { passes.items ≡ new_passes J.store 1 workers }
     requires count { length sources.old ≤ 2 ^ 20 }
@@ -159,12 +158,11 @@ fn clean_to_end<
 >(
     rt: &R,
     alloc: Global,
-    session: LockedSession<D, J>,
+    session: StoppingSession<D, J>,
     passes: Vec<Pass<J>>,
     sources: &mut [S],
     workers: u32,
 ) -> (Store<D>, Result<Cleaned, StoreError>)
-    requires stops { J.stops ≡ true }
     requires parts { J.parts ≡ workers + 1 }
     requires passes { passes.items ≡ new_passes J.store 1 workers }
     requires count { length sources.old ≤ 2 ^ 20 }

@@ -1,6 +1,6 @@
 //! How a session of workers ends: its store is taken out of the lock, and what is left of the parts is merged.
 
-ghost use Rattle.std.specs.Prelude.{◌≡◌, ◌≤◌, ◌<◌, ◌+◌, ◌^◌, Err, IfErr, IfOk, List, false, length, true};
+ghost use Rattle.std.specs.Prelude.{◌≡◌, ◌≤◌, ◌<◌, ◌+◌, ◌^◌, Err, IfErr, IfOk, List, false, length};
 ghost use Rattle.std.specs.List.{sum_by};
 ghost use Rattle.xet_clean.specs.Merging.{MayMergeAll, Part};
 ghost use Rattle.xet_locked_session.specs.Passes.{NumbersDiffer};
@@ -11,17 +11,16 @@ ghost use Rattle.xet_workers.specs.internal.Parts.{ArePartsBy, all_worked};
 use xet_clean::{Cleaned, Working, merge_all};
 use xet_hash::StoreError;
 use xet_io::Disk;
-use xet_locked_session::{LockedSession, Naming, Pass};
+use xet_locked_session::{Naming, Pass, StoppingSession};
 use xet_steps::{Alone, Store};
 
 /// The store, once all workers are done, and what was made of all sources: what is left of the parts is merged in order. Or the
 /// error of a worker.
 pub(crate) fn close_and_merge<D: Disk, J: Naming>(
-    session: LockedSession<D, J>,
+    session: StoppingSession<D, J>,
     passes: Vec<Pass<J>>,
     made: Result<Vec<Working>, StoreError>,
 ) -> (Store<D>, Result<Cleaned, StoreError>)
-    requires stops { J.stops ≡ true }
     requires all { length passes.items + 1 ≡ J.parts }
     requires differ { NumbersDiffer passes.items }
     requires count { IfOk made (λ ws. (0 < length ws.items) × (length ws.items ≡ length passes.items) × (sum_by (λ w. length w.cleaned.infos.items) ws.items ≤ 2 ^ 20)) }

@@ -37,7 +37,7 @@ fn clean_part<D: Disk, J: Naming, S: Source, R: Threads + Wait>(
     ensures later { Later S.faults sources.old sources.new }
 {
     let working = Working::new(crew.alloc, sources.len());
-    let passing = Passing::new(crew.rt, crew.session, pass);
+    let passing = Passing::new_stopping(crew.rt, crew.session, pass);
     passing.recall_passing();
     match working {
         Ok(working) => clean_whole(crew, passing, working, sources),

@@ -10,22 +10,22 @@ ghost use Rattle.xet_locked_session.specs.Session.{IsSince, fault_count};
 ghost use Rattle.xet_locked_session.specs.Shared.{HaveEnded, HaveMade};
 ghost use Rattle.xet_locked_session.specs.internal.Returned.{IsReturned};
 
-use super::{Desk, Guarded, Known, LockedSession, Log, NamedStore, Pass};
+use super::{Desk, Guarded, Known, Log, NamedStore, Pass, SharedStore};
 use crate::naming::Naming;
 use std::sync::ledger::Share;
 use xet_io::Disk;
 use xet_shared_history::{HistoryWord, Writer};
 use xet_steps::Store;
 
-impl<D: Disk, J: Naming> LockedSession<D, J> {
+impl<D: Disk, J: Naming> SharedStore<D, J> {
     /// The store, whether or not passes are left. That passes made the entries which were added since is promised by `close`
     /// alone.
-    pub fn abandon(self) -> Store<D>
+    pub(crate) fn abandon(self) -> Store<D>
         ensures since { IsSince J.store result }
         ensures made { J.stops ≡ true → HaveMade J.store result ⊎ HaveEnded J.store result }
         ensures one { J.stops ≡ true → fault_count result.history ≤ fault_count J.store.history + 1 }
     {
-        let LockedSession {
+        let SharedStore {
             word: _,
             limits: _,
             desk,
@@ -42,14 +42,14 @@ impl<D: Disk, J: Naming> LockedSession<D, J> {
     }
 
     /// The same, after one of the passes. The history begins with what that pass has seen.
-    pub fn abandon_after(self, pass: Pass<J>) -> Store<D>
+    pub(crate) fn abandon_after(self, pass: Pass<J>) -> Store<D>
         ensures since { IsSince J.store result }
         ensures made { J.stops ≡ true → HaveMade J.store result ⊎ HaveEnded J.store result }
         ensures one { J.stops ≡ true → fault_count result.history ≤ fault_count J.store.history + 1 }
         ensures known { IsSeen pass }
         ensures seen { IsPrefix (seen pass) result.history }
     {
-        let LockedSession {
+        let SharedStore {
             word,
             limits: _,
             desk,
@@ -72,24 +72,9 @@ impl<D: Disk, J: Naming> LockedSession<D, J> {
         store
     }
 
-    /// The store, once all passes are back. The history begins with what each of them has seen, and their own entries are
-    /// together those that were added since the session was made.
-    pub fn close(self, passes: Vec<Pass<J>>) -> Store<D>
-        requires all { length passes.items + 1 ≡ J.parts }
-        requires differ { NumbersDiffer passes.items }
-        ensures since { IsSince J.store result }
-        ensures known { AllByRecursion IsSeen passes.items }
-        ensures seen { AllByRecursion (λ p. IsPrefix (seen p) result.history) passes.items }
-        ensures own { HasEachOnce (length J.store.history) (length result.history) (own_numbers passes.items) }
-        ensures made { J.stops ≡ true → HaveMade J.store result ⊎ HaveEnded J.store result }
-        ensures one { J.stops ≡ true → fault_count result.history ≤ fault_count J.store.history + 1 }
-    {
-        self.close_stopped(passes).0
-    }
-
-    /// The same, and whether the last step was made: in a session that stops at the first failed step, a step failed, or `stop`
-    /// was called. It is false in any other session.
-    pub fn close_stopped(self, passes: Vec<Pass<J>>) -> (Store<D>, bool)
+    /// The store, once all passes are back, and whether the last step was made. The history begins with what each of them has seen,
+    /// and their own entries are together those that were added since the session was made.
+    pub(crate) fn close_stopped(self, passes: Vec<Pass<J>>) -> (Store<D>, bool)
         requires all { length passes.items + 1 ≡ J.parts }
         requires differ { NumbersDiffer passes.items }
         ensures since { IsSince J.store result.0 }
@@ -100,7 +85,7 @@ impl<D: Disk, J: Naming> LockedSession<D, J> {
         ensures made { J.stops ≡ true → HaveMade J.store result.0 ⊎ HaveEnded J.store result.0 }
         ensures one { J.stops ≡ true → fault_count result.0.history ≤ fault_count J.store.history + 1 }
     {
-        let LockedSession {
+        let SharedStore {
             word,
             limits: _,
             desk,

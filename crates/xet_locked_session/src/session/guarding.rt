@@ -86,7 +86,7 @@ impl<D: Disk, J: Naming> Guarded<D, J> {
         pass: &mut Pass<J>,
     ) -> Result<Option<MerkleHash>, StoreError>
         requires word { word.now ≡ J.table }
-        requires stops { J.stops ≡ false }
+        requires going { J.stops ≡ false }
         ensures saw { IfOk result (SawFlush pass.old pass.new) }
         ensures refused { IfErr result (FlushFailed pass.old pass.new) }
     {

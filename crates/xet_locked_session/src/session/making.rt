@@ -4,7 +4,10 @@ ghost use Rattle.std.specs.Prelude.{◌≡◌, ◌≤◌, ◌+◌, [], IfErr, If
 ghost use Rattle.xet_locked_session.specs.Passes.{holder_of, new_passes};
 ghost use Rattle.xet_shared_history.specs.Seen.{seen_by};
 
-use super::{Desk, Guarded, Known, LockedSession, Log, NamedStore, Opened, Pass};
+use super::{
+    Desk, Guarded, Known, LockedSession, Log, NamedStore, Opened, Pass, SharedStore,
+    StoppingSession,
+};
 use crate::naming::Naming;
 use std::alloc::{AllocError, Global};
 use std::marker::PhantomData;
@@ -16,33 +19,15 @@ use xet_shared_history::{HistoryWord, Writer};
 use xet_steps::Store;
 
 impl Opened {
-    /// For a session with this many passes, in which steps are made whether or not one failed.
+    /// For a session with this many passes.
     pub fn new(alloc: Global, passes: u32) -> Result<Opened, AllocError>
-        ensures parts { IfOk result (λ o. o.blank.parts ≡ passes + 1) }
-        ensures stops { IfOk result (λ o. o.stops ≡ false) }
-    {
-        Opened::of(alloc, passes, false)
-    }
-
-    /// For a session with this many passes, in which the first step that fails is the last one.
-    pub fn new_stopping(alloc: Global, passes: u32) -> Result<Opened, AllocError>
-        ensures parts { IfOk result (λ o. o.blank.parts ≡ passes + 1) }
-        ensures stops { IfOk result (λ o. o.stops ≡ true) }
-    {
-        Opened::of(alloc, passes, true)
-    }
-
-    /// The same, with or without a last step.
-    fn of(alloc: Global, passes: u32, stops: bool) -> Result<Opened, AllocError>
-        ensures parts { IfOk result (λ o. o.blank.parts ≡ passes + 1) }
-        ensures stops { IfOk result (λ o. o.stops ≡ stops) }
+        ensures { IfOk result (λ o. o.blank.parts ≡ passes + 1) }
     {
         let (word, writer) = HistoryWord::new(alloc)?;
         Ok(Opened {
             word,
             writer,
             blank: Blank::new(u64::from(passes) + 1),
-            stops,
         })
     }
 }
@@ -113,7 +98,53 @@ impl<D: Disk, J: Naming> LockedSession<D, J> {
         requires table { opened.word ≡ J.table }
         requires ledger { (opened.blank.name ≡ J.name) × (opened.blank.parts ≡ J.parts) × (J.parts ≡ passes + 1) }
         requires store { store ≡ J.store }
-        requires stops { opened.stops ≡ J.stops }
+        requires going { J.stops ≡ false }
+        ensures passes { IfOk result (λ r. r.1.items ≡ new_passes J.store 1 passes) }
+        ensures err { IfErr result (λ e. (e.0 ≡ store) × (e.1 ≡ StoreError.OutOfMemory)) }
+    {
+        match SharedStore::new(alloc, opened, store, passes, false) {
+            Ok((shared, all)) => Ok((LockedSession { shared }, all)),
+            Err(error) => Err(error),
+        }
+    }
+}
+
+impl<D: Disk, J: Naming> StoppingSession<D, J> {
+    /// A session of a store, and its passes, which have the numbers from 1 on and have seen its history. The only error is
+    /// `OutOfMemory`, and returns the store.
+    pub fn new(
+        alloc: Global,
+        opened: Opened,
+        store: Store<D>,
+        passes: u32,
+    ) -> Result<(StoppingSession<D, J>, Vec<Pass<J>>), (Store<D>, StoreError)>
+        requires table { opened.word ≡ J.table }
+        requires ledger { (opened.blank.name ≡ J.name) × (opened.blank.parts ≡ J.parts) × (J.parts ≡ passes + 1) }
+        requires store { store ≡ J.store }
+        requires stops { J.stops ≡ true }
+        ensures passes { IfOk result (λ r. r.1.items ≡ new_passes J.store 1 passes) }
+        ensures err { IfErr result (λ e. (e.0 ≡ store) × (e.1 ≡ StoreError.OutOfMemory)) }
+    {
+        match SharedStore::new(alloc, opened, store, passes, true) {
+            Ok((shared, all)) => Ok((StoppingSession { shared }, all)),
+            Err(error) => Err(error),
+        }
+    }
+}
+
+impl<D: Disk, J: Naming> SharedStore<D, J> {
+    /// The same, where the first step that fails is or is not the last one.
+    fn new(
+        alloc: Global,
+        opened: Opened,
+        store: Store<D>,
+        passes: u32,
+        stops: bool,
+    ) -> Result<(SharedStore<D, J>, Vec<Pass<J>>), (Store<D>, StoreError)>
+        requires table { opened.word ≡ J.table }
+        requires ledger { (opened.blank.name ≡ J.name) × (opened.blank.parts ≡ J.parts) × (J.parts ≡ passes + 1) }
+        requires store { store ≡ J.store }
+        requires stops { stops ≡ J.stops }
         ensures passes { IfOk result (λ r. r.1.items ≡ new_passes J.store 1 passes) }
         ensures err { IfErr result (λ e. (e.0 ≡ store) × (e.1 ≡ StoreError.OutOfMemory)) }
     {
@@ -121,7 +152,6 @@ impl<D: Disk, J: Naming> LockedSession<D, J> {
             word,
             mut writer,
             blank,
-            stops,
         } = opened;
         let (book, mut rest) = blank.open::<J>();
         let seen = store.history().len() as u64;
@@ -145,12 +175,12 @@ impl<D: Disk, J: Naming> LockedSession<D, J> {
                     stops,
                     stopped: false,
                 };
-                let session = LockedSession {
+                let shared = SharedStore {
                     word,
                     limits,
                     desk: Mutex::new(guarded),
                 };
-                Ok((session, all))
+                Ok((shared, all))
             }
             Err(AllocError) => Err((store, StoreError::OutOfMemory)),
         }

@@ -103,4 +103,4 @@ pub returns-in-Err : goal.returns-in-Err
 returns-in-Err g c = λ sound recorded.
     let closed = c.close.ensures in
     closed_promises c.args.workers c.requires.workers.0 g.S.Source.tells g.S.Source.left g.S.Source.faults c.args.sources.now g.J.Naming.store c.close.result c.args.workers c.args.passes.items c.requires.passes
-    (record { since = closed.since; made = closed.made c.requires.stops }) closed.own sound
+    (record { since = closed.since; made = closed.made }) closed.own sound

@@ -26,7 +26,7 @@ pub returns-then-stopped-clause-unmerged : goal.returns-then-stopped-clause-unme
 returns-then-stopped-clause-unmerged g c =
     let closed = c.close_stopped-store.ensures in
     at_ok c.args.made _ c.in-Ok.workings c.in-Ok.is
-    (λ ps are. inr (refl, record { is = record { since = closed.since; made = closed.made c.requires.stops }; known = closed.known; seen = closed.seen; own = closed.own }))
+    (λ ps are. inr (refl, record { is = record { since = closed.since; made = closed.made }; known = closed.known; seen = closed.seen; own = closed.own }))
 
 pub returns-else-stopped-clause-merged : goal.returns-else-stopped-clause-merged
 returns-else-stopped-clause-merged g c =
@@ -41,7 +41,7 @@ returns-else-stopped-clause-merged g c =
     IfOk-weaker c.merge_alone.result.1 (λ (k : Cleaned). MergedAlone mid new ps k.infos.items k.choices.items k.metrics) (λ (k : Cleaned). HasMerged old new hs ps k.infos.items k.choices.items k.metrics)
     (λ k merged. record {
       mid = mid;
-      closed = record { since = closed.since; made = closed.going c.requires.stops c.if-stopped.false; known = closed.known; seen = closed.seen; own = closed.own };
+      closed = record { since = closed.since; made = closed.going c.if-stopped.false; known = closed.known; seen = closed.seen; own = closed.own };
       merged = merged;
     })
     (c.merge_alone.ensures.merged ps (may_merge_all old mid closed.since 1 hs c.in-Ok.workings.items ps are count.1 closed.seen)))
@@ -60,7 +60,7 @@ returns-else-stopped-clause-unmerged g c =
     IfErr-weaker c.merge_alone.result.1 (UnmergedAlone mid new ps ws) (IsUnended old new hs ps ws)
     (λ e refused. inl (record {
       mid = mid;
-      closed = record { since = closed.since; made = closed.going c.requires.stops c.if-stopped.false; known = closed.known; seen = closed.seen; own = closed.own };
+      closed = record { since = closed.since; made = closed.going c.if-stopped.false; known = closed.known; seen = closed.seen; own = closed.own };
       refused = refused;
     }))
     (c.merge_alone.ensures.unmerged ps (may_merge_all old mid closed.since 1 hs ws ps are count.1 closed.seen)))

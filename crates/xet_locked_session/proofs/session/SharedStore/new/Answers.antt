@@ -4,7 +4,7 @@ use Rattle.xet_locked_session.specs.Session.{IsSince}
 use Rattle.xet_locked_session.specs.internal.Guarded.{IsGuarded}
 use Rattle.xet_locked_session.proofs.Guarding.{guarded_first}
 use Rattle.xet_locked_session.proofs.Since.{since_nothing}
-use Rattle.xet_locked_session.proofs.session.LockedSession.new.Goals as goal
+use Rattle.xet_locked_session.proofs.session.SharedStore.new.Goals as goal
 
 pub invariant_of-desk : goal.invariant_of-desk
 invariant_of-desk g c = subst (λ (s : RecordedState). IsSince g.J.Naming.store s) (sym c.requires.store) (since_nothing g.J.Naming.store)

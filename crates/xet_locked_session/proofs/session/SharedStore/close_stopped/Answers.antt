@@ -11,7 +11,7 @@ use Rattle.xet_locked_session.specs.internal.Guarded.{IsGuarded}
 use Rattle.xet_locked_session.specs.internal.Returned.{IsReturned}
 use Rattle.xet_locked_session.proofs.Guarding.{guarded_few}
 use Rattle.xet_locked_session.proofs.Returning.{returned_known, returned_once, returned_prefixes}
-use Rattle.xet_locked_session.proofs.session.LockedSession.close_stopped.Goals as goal
+use Rattle.xet_locked_session.proofs.session.SharedStore.close_stopped.Goals as goal
 
 pub passes-init : goal.passes-init
 passes-init g c =

@@ -2,7 +2,7 @@ use Rattle.std.proofs.Common.{false, subst, sym}
 use Rattle.xet_steps.specs.Holders.{Holder}
 use Rattle.xet_locked_session.specs.internal.Kept.{IsKept}
 use Rattle.xet_locked_session.proofs.Returned.{begins}
-use Rattle.xet_locked_session.proofs.passing.Passing.new.Goals as goal
+use Rattle.xet_locked_session.proofs.passing.Passing.of.Goals as goal
 
 pub invariant_of-result : goal.invariant_of-result
 invariant_of-result g c =

@@ -2,7 +2,7 @@ use Rattle.std.proofs.Common.{◌∙◌, sym, subst}
 use Rattle.xet_steps.specs.Recorded.{RecordedState}
 use Rattle.xet_locked_session.specs.internal.Guarded.{IsGuarded}
 use Rattle.xet_locked_session.proofs.Guarding.{guarded_few}
-use Rattle.xet_locked_session.proofs.session.LockedSession.abandon.Goals as goal
+use Rattle.xet_locked_session.proofs.session.SharedStore.abandon.Goals as goal
 
 pub returns-clause-made : goal.returns-clause-made
 returns-clause-made g c = (subst (λ (s : RecordedState). IsGuarded g.J.Naming.store g.J.Naming.stops c.desk.inside.stopped s) (sym (c.store.view_is ∙ c.desk-2.view_is)) c.desk.invariant.1).made

@@ -3,7 +3,7 @@ use Rattle.std.specs.List.{AllByRecursion}
 use Rattle.xet_steps.specs.Holders.{Holder}
 use Rattle.xet_locked_session.specs.Passes.{own_numbers}
 use Rattle.xet_locked_session.specs.internal.Returned.{IsReturned}
-use Rattle.xet_locked_session.proofs.session.LockedSession.close_stopped.Given as goal
+use Rattle.xet_locked_session.proofs.session.SharedStore.close_stopped.Given as goal
 
 abbrev pub invariant-passes : goal.invariant-passes
 invariant-passes g l = record {
