@@ -10,10 +10,10 @@ pub trait Naming: Ledger {
     ghost use Rattle.atomic_table.specs.Seated.{TableId};
     ghost use Rattle.xet_steps.specs.Recorded.{RecordedState};
 
-    /// The table, which counts the history from `LockedSession::new` on.
+    /// The table, which counts the history from when the session was made.
     ghost table: { TableId };
 
-    /// The store that was passed to `LockedSession::new`.
+    /// The store of which the session was made.
     ghost store: { RecordedState };
 
     /// Whether the first step that fails is the last one.

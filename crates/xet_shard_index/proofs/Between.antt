@@ -1,7 +1,10 @@
 -- Where the words with each value of their leading bits begin in a run.
-use Rattle.std.proofs.Common.{◌≡◌, ◌⊎◌, inl, inr, ℕ, ◌+◌, ◌/◌, ◌^◌, ◌<◌, ◌≤◌, List, [], ◌∷◌, ◌++◌, get_or, length, sym, subst, ap, ◌∙◌, arith, length-append}
+use Rattle.std.proofs.Common.{◌≡◌, ◌⊎◌, inl, inr, ℕ, zero, suc, ◌*◌, ◌+◌, ◌/◌, ◌^◌, ◌<◌, ◌≤◌, List, [], ◌∷◌, ◌++◌, get_or, length, sym, subst, ap, ◌∙◌, arith, length-append}
 use Rattle.std.proofs.lemmas.Bool.{cases_lt}
 use Rattle.std.proofs.lemmas.List.{get_or_append_left}
+use Rattle.std.proofs.lemmas.Nat.{leading_top}
+use lib.Count.{count_leading_zeros}
+use Rattle.std.proofs.Math.Nat.{pow-suc}
 use Rattle.std.proofs.Math.Pow.{shr_mono}
 use Rattle.std.proofs.Math.Seq.{get_or-append_seam}
 use Rattle.xet_shard_index.specs.Places.{word_place}
@@ -17,6 +20,15 @@ below_of shift a b low = by (cases_lt a b)
     by : (a < b) ⊎ (b ≤ a) → a < b
     by (inl h) = h
     by (inr h) = let m = shr_mono {a = b} {b = a} shift h in absurd (omega (arith, m, low))
+
+-- in all of a run
+pub between_all : (run : Run) (word count : ℕ) → length run ≡ count → IsBetween run word 0 count
+between_all run word count same = record {
+  ordered = omega arith;
+  within = omega (arith, same);
+  below = λ i d earlier. absurd (omega (arith, earlier));
+  above = λ i d later inside. absurd (omega (arith, later, inside, same));
+}
 
 -- from the start of a word's value on
 pub between_start : (shift : ℕ) (run : Run) (word low : ℕ) → IsStart shift run (word / 2 ^ shift) low → IsBetween run word low (length run)
@@ -83,3 +95,18 @@ with_start shift run starts at are is value d low = by (cases_lt value (length s
 pub start_read : (shift : ℕ) (run : Run) (starts table : List ℕ) (value start : ℕ) → AreStarts shift run starts → table ≡ starts → value < length table → ((d : ℕ) → start ≡ get_or table value d) → IsStart shift run value start
 start_read shift run starts table value start are same low is =
     subst (λ (s : ℕ). IsStart shift run value s) (sym (is 0 ∙ ap (λ (t : List ℕ). get_or t value 0) same)) (are value 0 (subst (λ (t : List ℕ). value < length t) same low))
+
+-- ---- how many leading bits there are
+
+pub leading_of : (unset count : ℕ) → 8 ≤ count → (j : ℕ) → unset + suc j ≡ 64 → 2 ^ j ≤ count → count < 2 ^ suc j → (m : ℕ) × (unset + m ≡ 61) × (0 < m) × (4 * 2 ^ m ≤ count) × (count < 8 * 2 ^ m)
+leading_of unset count some zero sum reaches low = absurd (omega (arith, some, low))
+leading_of unset count some (suc zero) sum reaches low = absurd (omega (arith, some, low))
+leading_of unset count some (suc (suc zero)) sum reaches low = absurd (omega (arith, some, low))
+leading_of unset count some (suc (suc (suc k))) sum reaches low =
+    let a = pow-suc 2 (suc k) in
+    let b = pow-suc 2 (suc (suc k)) in
+    let c = pow-suc 2 (suc (suc (suc k))) in
+    (suc k, omega (arith, sum), omega arith, omega (arith, reaches, a, b), omega (arith, low, a, b, c))
+
+pub leading : (count : ℕ) → 8 ≤ count → count < 2 ^ 64 → (m : ℕ) × (count_leading_zeros 64 count + m ≡ 61) × (0 < m) × (4 * 2 ^ m ≤ count) × (count < 8 * 2 ^ m)
+leading count some fits = let t = leading_top 64 count (omega (arith, some)) fits in leading_of (count_leading_zeros 64 count) count some t.0 t.1 t.2 t.3

@@ -19,7 +19,7 @@ use xet_hash::StoreError;
 /// The place of each first word of the chunk hashes of shards: that of the last chunk with it in the last shard that has
 /// it. Chunks with an index above 65,535 in their xorb are left out. Contracts see the entries, in order of their words.
 ///
-/// They stand in sorted runs of 20 bytes an item. The newest run is the last, none is empty, and each is at least twice as
+/// They stand in sorted runs, of 20 bytes an item and at most one more for each. The newest run is the last, none is empty, and each is at least twice as
 /// long as the next newer one: an insert merges runs until this holds again.
 #[derive(Drop)]
 pub struct PackedIndex {

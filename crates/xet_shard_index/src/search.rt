@@ -38,7 +38,7 @@ fn find_in_run<L: Ledger>(run: &WordRun, word: u64, steps: &mut Steps<L>) -> Opt
     ensures place { result ≡ lookup (nat_eq word) run.now }
     ensures steps { (b : ℕ) → length run.now < 2 ^ b → steps.new ≤ steps.old + b }
 {
-    let (mut low, mut high) = run.range(word);
+    let (mut low, mut high) = run.starts().range(run.len(), word);
     while low < high {
         let middle = low + (high - low) / 2;
         match run.compare(middle, word, steps) {

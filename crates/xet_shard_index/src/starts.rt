@@ -1,14 +1,14 @@
 //! Where the words with each value of their leading bits begin in a sorted run.
 
-ghost use Rattle.std.specs.Prelude.{◌≡◌, ◌<◌, ◌≤◌, ◌/◌, ◌^◌, ℕ, IfOk, OnOk, [], length, slice_index_or};
+ghost use Rattle.std.specs.Prelude.{◌≡◌, ◌*◌, ◌/◌, ◌^◌, ◌<◌, ◌≤◌, ℕ, List, [], IfOk, OnOk, length, slice_index_or};
 ghost use Rattle.xet_shard_index.specs.Runs.{IsBetween, Item, Rising};
 ghost use Rattle.xet_shard_index.specs.internal.Starts.{AreStarts, IsStart};
 
 use crate::packed_item::PackedItem;
 use std::alloc::{AllocError, Global};
 
-/// For each value of the leading bits of a word, the index of the first item with that value or a greater one. A run of fewer
-/// than 8 items has no such table, and other runs have one for each 4 to 8 items.
+/// For each value of the leading bits of a word, the index of the first item with that value or a greater one. Runs of fewer
+/// than 8 items, or of 2^32 or more, have none; other runs have one for 4 to 8 items.
 #[derive(Drop)]
 pub(crate) struct Starts {
     starts: Vec<u32>,
@@ -21,34 +21,48 @@ impl Starts {
     /// Those of these items.
     pub(crate) fn new(alloc: Global, items: &[PackedItem]) -> Result<Starts, AllocError>
         requires { Rising items.now }
-        ensures { IfOk result (λ s. AreStarts s.shift items.now s.starts.items) }
+        ensures starts { IfOk result (λ s. AreStarts s.shift items.now s.starts.items) }
+        ensures few { IfOk result (λ s. 4 * length s.starts.items ≤ length items.now) }
+        ensures many { IfOk result (λ s. 8 ≤ length items.now → length items.now < 2 ^ 32 → length items.now < 8 * length s.starts.items) }
     {
         let mut starts = Vec::new(alloc);
-        let leading = 61u32.saturating_sub(items.len().leading_zeros());
-        if leading == 0 || items.len() > u32::MAX as usize {
+        if items.len() < 8 || items.len() > u32::MAX as usize {
             return Ok(Starts { starts, shift: 0 });
         }
-        let shift = 64 - leading;
+        let leading = leading_bits(items.len() as u64);
         let values = 1u64 << leading;
         starts.reserve_exact(values as usize)?;
-        push_starts(items, shift, values, &mut starts)?;
-        Ok(Starts { starts, shift })
+        push_starts(items, 64 - leading, values, &mut starts)?;
+        Ok(Starts {
+            starts,
+            shift: 64 - leading,
+        })
     }
 
-    /// From which item on, and before which one, a word can stand.
-    pub(crate) fn range(&self, items: &[PackedItem], word: u64) -> (usize, usize)
-        requires { AreStarts self.now.shift items.now self.now.starts.items }
-        ensures { IsBetween items.now word result.0 result.1 }
+    /// From which item on, and before which one, a word can stand in a run of so many items with these starts. It does not see
+    /// their words.
+    pub(crate) fn range(&self, count: u64, word: u64) -> (u64, u64)
+        ensures { (run : List Item) → length run ≡ count → AreStarts self.now.shift run self.now.starts.items → IsBetween run word result.0 result.1 }
     {
         let leading = (word >> self.shift) as usize;
         let Some(low) = self.starts.get(leading) else {
-            return (0, items.len());
+            return (0, count);
         };
         match self.starts.get(leading + 1) {
-            Some(high) => (*low as usize, *high as usize),
-            None => (*low as usize, items.len()),
+            Some(high) => (u64::from(*low), u64::from(*high)),
+            None => (u64::from(*low), count),
         }
     }
+}
+
+/// How many leading bits of a word tell the starts of so many items apart: there is a start for 4 to 8 items.
+fn leading_bits(count: u64) -> u32
+    requires { 8 ≤ count }
+    ensures bits { (0 < result) × (result < 64) }
+    ensures few { 4 * 2 ^ result ≤ count }
+    ensures many { count < 8 * 2 ^ result }
+{
+    61 - count.leading_zeros()
 }
 
 /// Appends the starts of so many values, from 0 on.
@@ -62,7 +76,8 @@ fn push_starts(
     requires shift { shift < 64 }
     requires few { length items.now < 2 ^ 32 }
     requires none { starts.old.items ≡ [] }
-    ensures { OnOk result (AreStarts shift items.now starts.new.items) }
+    ensures starts { OnOk result (AreStarts shift items.now starts.new.items) }
+    ensures count { OnOk result (length starts.new.items ≡ values) }
 {
     let mut at = 0;
     for value in 0..values {

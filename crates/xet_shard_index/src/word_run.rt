@@ -2,7 +2,8 @@
 
 ghost use Rattle.std.specs.Prelude.{◌≡◌, ◌<◌, ◌+◌, ℕ, IfOk, IsOkUnless, OnOk, length, [], slice_index_or};
 ghost use Rattle.std.specs.Ordering.{nat_cmp};
-ghost use Rattle.xet_shard_index.specs.Runs.{IsBetween, Item, Rising, over, without};
+ghost use Rattle.xet_shard_index.specs.Runs.{Item, Rising, over, without};
+ghost use Rattle.xet_shard_index.specs.internal.Starts.{AreStarts};
 
 use crate::packed_item::PackedItem;
 use crate::starts::Starts;
@@ -14,7 +15,7 @@ use std::marker::Model;
 use std::sync::ledger::Ledger;
 use xet_hash::StoreError;
 
-/// Words in rising order, each once, with their places. Contracts see the list. A word is only ever compared.
+/// Words in rising order, each once, with their places. Contracts see the list. No word is lent: a look-up compares.
 #[derive(Drop)]
 pub struct WordRun {
     items: Vec<PackedItem>,
@@ -61,12 +62,11 @@ impl WordRun {
         self.items[i as usize].place()
     }
 
-    /// From which item on, and before which one, a word can stand. It takes no step.
-    pub fn range(&self, word: u64) -> (u64, u64)
-        ensures { IsBetween self.now word result.0 result.1 }
+    /// Where words begin.
+    pub(crate) fn starts(&self) -> &Starts
+        ensures { AreStarts result.now.shift self.now result.now.starts.items }
     {
-        let (low, high) = self.starts.range(&self.items, word);
-        (low as u64, high as u64)
+        &self.starts
     }
 
     /// The order of the word of item `i` to `word`. It takes one step.

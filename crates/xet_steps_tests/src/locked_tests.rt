@@ -239,7 +239,7 @@ fn abandon<J: Naming>(
     }
 }
 
-/// The same, with a session of a store. The store is returned.
+/// The errors of `fail` in a session of a store, which is returned.
 fn fail_session<J: Naming, R: Wait>(
     rt: &R,
     alloc: Global,

@@ -18,8 +18,8 @@ use xet_shared_history::{HistoryWord, Writer};
 use xet_steps::Store;
 
 impl<D: Disk, J: Naming> SharedStore<D, J> {
-    /// The store, whether or not passes are left. That passes made the entries which were added since is promised by `close`
-    /// alone.
+    /// The store, whether or not passes are left. That passes made the entries which were added since is promised by
+    /// `close_stopped` alone.
     pub(crate) fn abandon(self) -> Store<D>
         ensures since { IsSince J.store result }
         ensures made { J.stops ≡ true → HaveMade J.store result ⊎ HaveEnded J.store result }
@@ -44,8 +44,6 @@ impl<D: Disk, J: Naming> SharedStore<D, J> {
     /// The same, after one of the passes. The history begins with what that pass has seen.
     pub(crate) fn abandon_after(self, pass: Pass<J>) -> Store<D>
         ensures since { IsSince J.store result }
-        ensures made { J.stops ≡ true → HaveMade J.store result ⊎ HaveEnded J.store result }
-        ensures one { J.stops ≡ true → fault_count result.history ≤ fault_count J.store.history + 1 }
         ensures known { IsSeen pass }
         ensures seen { IsPrefix (seen pass) result.history }
     {

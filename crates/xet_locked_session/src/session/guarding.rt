@@ -17,7 +17,8 @@ use xet_shard_format::{FileDataSequenceEntry, MDBFileInfo};
 use xet_shared_history::HistoryWord;
 use xet_xorb::RawXorbData;
 
-/// Each step is the desk's. After the last one nothing is done, and the error is `OutOfMemory`.
+/// Each step is the desk's. After the last one nothing is done, and the error is `OutOfMemory`. Where there is a last one, a flush
+/// is no step of its own.
 impl<D: Disk, J: Naming> Guarded<D, J> {
     pub fn query(
         &mut self,
@@ -90,12 +91,7 @@ impl<D: Disk, J: Naming> Guarded<D, J> {
         ensures saw { IfOk result (SawFlush pass.old pass.new) }
         ensures refused { IfErr result (FlushFailed pass.old pass.new) }
     {
-        if self.stopped {
-            return Err(StoreError::OutOfMemory);
-        }
-        let result = self.desk.flush(word, pass);
-        self.stopped = self.stops && result.is_err();
-        result
+        self.desk.flush(word, pass)
     }
 
     /// If the first step that fails is the last one, no step is made from now on. Otherwise nothing changes.

@@ -25,7 +25,7 @@ use xet_xorb::RawXorbData;
 
 impl<D: Disk, J: Naming> LockedSession<D, J> {
     /// How many of the first hashes of a query are those of consecutive chunks of a listed xorb, and the segment of these
-    /// chunks. None, without an entry, if the query is empty. It waits for the lock, as each of these calls does. The pass
+    /// chunks. None, without an entry, if the query is empty. It waits for the lock, as each step does. The pass
     /// has then seen the history up to the entry. `Io(Disk)` has an entry, and the disk's count of failures rises by at least
     /// as many as there are such entries. `MalformedData` is returned only on a disk that is not observable. Any other error is
     /// `OutOfMemory`.

@@ -64,7 +64,7 @@ impl<D: Disk, J: Naming> StoppingSession<D, J> {
     }
 
     /// The store, whether or not passes are left. That passes made the entries which were added since is promised by `close`
-    /// alone.
+    /// and `close_stopped`.
     pub fn abandon(self) -> Store<D>
         ensures since { IsSince J.store result }
         ensures made { HaveMade J.store result ⊎ HaveEnded J.store result }
