@@ -1,7 +1,7 @@
 //! A disk over a folder of the operating system. Its files are not observable.
 
 ghost use Rattle.std.specs.Prelude.{◌≡◌, ◌≤◌, ℕ, false, length, IfOk, IfSome, IsErrOf};
-ghost use Rattle.std.specs.FinMap.{empty};
+ghost use Rattle.xet_io.specs.Disk.{no_files};
 ghost use Rattle.xet_io.specs.Faults.{HasCause, faults_after};
 ghost use Rattle.xet_fs.specs.FolderNames.{stays_inside};
 
@@ -213,7 +213,7 @@ impl<R: Files<File = File>> FolderDisk<R> {
 impl<R: Files<File = File>> Disk for FolderDisk<R> {
     ghost tells = { λ _. false };
 
-    ghost files = { λ _. empty };
+    ghost files = { λ _. no_files };
 
     ghost faults = { λ d. d };
 

@@ -5,7 +5,7 @@ use Rattle.std.specs.FinMap.{get}
 use Rattle.std.specs.List.{flat_map}
 use Rattle.xet_cut.specs.Generator.{generated}
 use Rattle.xet_group.specs.Groups.{grouped}
-use Rattle.xet_io.specs.Disk.{Files}
+use Rattle.xet_io.specs.Disk.{Files, entry_at}
 use Rattle.xet_io.specs.Named.{Named}
 use Rattle.xet_folder.specs.Names.{IsForeign}
 use Rattle.xet_store.specs.Store.{Differ, recorded_files}
@@ -151,7 +151,7 @@ module _ (start : Start) (new : Files) where
     pub answered_clean : (r : Answer) → IfOk r (λ text. IsCleanOf text.items) → IfErr r CleanCauses → (start.tells ≡ true → KeepsListed start.now start.files new) → (start.tells ≡ true → KeepsFolder start.now start.files new)
         → (start.tells ≡ true → (IsAdmittedAt start.now start.files → ⊥) → new ≡ start.files) → (start.inputs_tell ≡ true → start.tells ≡ true → LacksName (Some (Clean names)) start → new ≡ start.files)
         → (start.tells ≡ true → IsIdle (Some (Clean names)) (answer_outcome r).status → new ≡ start.files)
-        → (start.tells ≡ true → (name : List ℕ) → IsForeign store_folder name → get new name ≡ get start.files name) → Answered (Some (Clean names)) start new (answer_outcome r)
+        → (start.tells ≡ true → (name : List ℕ) → IsForeign store_folder name → entry_at new name ≡ entry_at start.files name) → Answered (Some (Clean names)) start new (answer_outcome r)
     answered_clean r is stop listed keeps refused absent kept foreign = record {
       ends = end_clean r is stop;
       works = record {
@@ -189,7 +189,7 @@ module _ (start : Start) (new : Files) where
 
     pub answered_make : (r : Answer) → IfOk r (λ text. IsMadeOf text.items) → IfErr r MakeCauses → (start.tells ≡ true → KeepsListed start.now start.files new) → (start.tells ≡ true → KeepsFolder start.now start.files new)
         → (start.tells ≡ true → (IsAdmittedAt start.now start.files → ⊥) → new ≡ start.files) → (start.tells ≡ true → (answer_outcome r).status ≡ 7 → new ≡ start.files)
-        → (start.tells ≡ true → (name : List ℕ) → IsForeign store_folder name → get new name ≡ get start.files name) → Answered (Some (Make seed bytes)) start new (answer_outcome r)
+        → (start.tells ≡ true → (name : List ℕ) → IsForeign store_folder name → entry_at new name ≡ entry_at start.files name) → Answered (Some (Make seed bytes)) start new (answer_outcome r)
     answered_make r is stop listed keeps refused kept foreign = record {
       ends = end_make r is stop;
       works = record {

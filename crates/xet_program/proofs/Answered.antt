@@ -1,6 +1,6 @@
 -- What a command answers, by how it may end.
 use Rattle.std.proofs.Common.{◌≡◌, ◌≢◌, ◌⊎◌, ◌∙◌, ℕ, inl, inr, List, [], subst, Option, Some, None, IfSome, Result, Ok, Err, IfErr, Vec, Global, refl, sym, ap, arith}
-use Rattle.std.specs.FinMap.{get}
+use Rattle.xet_io.specs.Disk.{entry_at as get}
 use Rattle.xet_io.specs.Disk.{Files}
 use Rattle.xet_cut.specs.declared.limits.LimitSettings.{LimitSettings}
 use Rattle.xet_program.specs.declared.ending.Stop.{Stop}

@@ -1,6 +1,6 @@
 -- What was listed when a folder was opened is listed still.
 use Rattle.std.proofs.Common.{◌≡◌, ◌⊎◌, inl, inr, ◌∙◌, ℕ, Bool, true, false, List, refl, subst, sym, ap}
-use Rattle.std.specs.FinMap.{get}
+use Rattle.xet_io.specs.Disk.{entry_at as get}
 use Rattle.xet_io.specs.Disk.{Files}
 use Rattle.xet_folder.specs.Admission.{Admits}
 use Rattle.xet_folder.specs.Contents.{HasContents}

@@ -1,6 +1,6 @@
 -- What a command does to the files of its disk.
 use Rattle.std.specs.Prelude.{◌≡◌, ◌≢◌, ◌⊎◌, ℕ, ◌<◌, ◌≤◌, ◌^◌, true, false, List, [], map, Option, Some, None, IfSome}
-use Rattle.std.specs.FinMap.{get}
+use Rattle.xet_io.specs.Disk.{entry_at as get}
 use Rattle.std.specs.List.{AllByRecursion, IsAmong}
 use Rattle.xet_io.specs.Disk.{Files}
 use Rattle.sha2.specs.Sha256.{sha256}

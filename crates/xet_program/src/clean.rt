@@ -2,6 +2,7 @@
 
 ghost use Rattle.std.specs.Prelude.{◌≡◌, ◌≤◌, ◌<◌, ◌+◌, ◌-◌, ◌^◌, ℕ, List, true, [], Some, None, length, map, string_bytes, vec_capacity, Any, IfErr, IfOk, OnOk, IsErrOf};
 ghost use Rattle.std.specs.FinMap.{get};
+ghost use Rattle.xet_io.specs.Disk.{entry_at};
 ghost use Rattle.xet_folder.specs.Contents.{HasContents};
 ghost use Rattle.xet_folder.specs.Names.{IsForeign};
 ghost use Rattle.xet_io.specs.Faults.{HasCause};
@@ -43,7 +44,7 @@ pub fn clean<D: Disk + Send, F: Inputs, R: Threads + Wait + Sync>(
     ensures refused { D.tells disk ≡ true → (IsAdmittedAt now (D.files disk) → ⊥) → D.files result.0 ≡ D.files disk }
     ensures absent { F.tells inputs.old ≡ true → D.tells disk ≡ true → Any (λ name. get (F.files inputs.old) name ≡ None) (map string_bytes names.now) → D.files result.0 ≡ D.files disk }
     ensures kept { D.tells disk ≡ true → IsIdle (Some (Clean (map string_bytes names.now))) (answer_outcome result.1).status → D.files result.0 ≡ D.files disk }
-    ensures foreign { D.tells disk ≡ true → (name : List ℕ) → IsForeign store_folder name → get (D.files result.0) name ≡ get (D.files disk) name }
+    ensures foreign { D.tells disk ≡ true → (name : List ℕ) → IsForeign store_folder name → entry_at (D.files result.0) name ≡ entry_at (D.files disk) name }
     ensures disk { Called D.tells D.faults disk result.0 (IsErrOf result.1 Stop.Disk) }
     ensures inputs { Queried F.files F.tells F.faults inputs.old inputs.new (IsErrOf result.1 Stop.Input) }
     ensures closed { F.opened inputs.old + length names.now < 2 ^ 64 → F.opened inputs.new ≡ F.opened inputs.old }

@@ -1,7 +1,7 @@
 //! The command `make`.
 
 ghost use Rattle.std.specs.Prelude.{◌≡◌, ◌≤◌, ◌⊎◌, ◌∷◌, ℕ, List, true, [], length, IfErr, IfOk, OnOk, IsErrOf, IsOkAnd, IsOkUnless};
-ghost use Rattle.std.specs.FinMap.{get};
+ghost use Rattle.xet_io.specs.Disk.{entry_at as get};
 ghost use Rattle.xet_cut.specs.Chunking.{chunking};
 ghost use Rattle.xet_cut.specs.Generator.{generated};
 ghost use Rattle.xet_folder.specs.Names.{IsForeign};

@@ -1,7 +1,7 @@
 //! The command `pack`.
 
 ghost use Rattle.std.specs.Prelude.{Some, ◌≡◌, ◌≤◌, ◌^◌, List, ℕ, true, [], length, IfErr, IfOk, OnOk, IsErrOf};
-ghost use Rattle.std.specs.FinMap.{get};
+ghost use Rattle.xet_io.specs.Disk.{entry_at as get};
 ghost use Rattle.xet_io.specs.Frame.{Called};
 ghost use Rattle.xet_folder.specs.Names.{IsForeign};
 ghost use Rattle.xet_program.specs.Answers.{AreSeparate};

@@ -1,6 +1,6 @@
 -- What a call leaves on a disk that writes a shard file into a folder.
 use Rattle.std.specs.Prelude.{◌≡◌, ◌≢◌, ◌⊎◌, ◌++◌, ℕ, Bool, List, take, Option, Some, None, Ok, Err, option_map}
-use Rattle.std.specs.FinMap.{get}
+use Rattle.xet_io.specs.Disk.{entry_at as get}
 use Rattle.xet_hash.specs.Merkle.{chunk_hash}
 use Rattle.xet_hash.specs.declared.error.Place.TheVariants.{Disk, Input}
 use Rattle.xet_hash.specs.declared.error.StoreError.{StoreError}

@@ -1,7 +1,7 @@
 -- What the write of a shard file leaves of the other files.
 use Rattle.std.proofs.Common.{◌≡◌, ◌≢◌, ◌∙◌, ◌⊎◌, ◌<◌, ℕ, List, get_or, length, None, Option, Ok, Some, true, option_map, inl, inr, sym, ap, subst}
 use Rattle.std.proofs.lemmas.Bool.{true≢false}
-use Rattle.std.specs.FinMap.{get}
+use Rattle.xet_io.specs.Disk.{entry_at as get}
 use Rattle.std.specs.Prelude.{IsOk}
 use Rattle.xet_io.specs.Disk.{Entry, File, Files, bytes_at, file_at, file_of, synced}
 use Rattle.xet_io.specs.theorems.Names.{either_name}

@@ -2,7 +2,7 @@
 use Rattle.std.proofs.Common.{◌≡◌, ◌≢◌, ◌∙◌, ◌⊎◌, inl, inr, ℕ, ◌<◌, ◌≤◌, ◌^◌, Bool, not, nat_eq, List, [], ◌∷◌, Any, None, Option, Some, option_map, Ok, flat_map, refl, sym, ap, subst, arith}
 use Rattle.std.proofs.lemmas.Bool.{true≢false}
 use Rattle.std.specs.Cmp.Lexicographic.{bytes_decides, pointwise}
-use Rattle.std.specs.FinMap.{get}
+use Rattle.xet_io.specs.Disk.{entry_at as get}
 use Rattle.std.specs.List.{IsAmong, list_any}
 use Rattle.xet_hash.specs.Hash.{zero_hash}
 use Rattle.xet_io.specs.Disk.{File, Files, bytes_at, file_at, file_of}

@@ -1,7 +1,7 @@
 -- What the write of a shard file leaves of the others.
 use Rattle.std.proofs.Common.{◌≡◌, ◌≢◌, ◌∙◌, ◌⊎◌, ℕ, ◌<◌, true, List, [], ◌∷◌, length, get_or, None, Option, Some, option_map, is_some, Result, Ok, Err, IfOk, OnErr, inl, inr, refl, sym, ap, subst, arith}
 use Rattle.std.proofs.lemmas.Bool.{true≢false}
-use Rattle.std.specs.FinMap.{get}
+use Rattle.xet_io.specs.Disk.{entry_at as get}
 use Rattle.xet_hash.specs.Merkle.{chunk_hash}
 use Rattle.xet_hash.specs.declared.error.StoreError.{StoreError}
 use Rattle.xet_io.specs.Disk.{Entry, File, Files, bytes_at, file_at, file_of}

@@ -1,27 +1,31 @@
 -- Files that were removed, and those that were not.
 use Rattle.std.proofs.Common.{◌≡◌, ◌≢◌, ◌∙◌, ◌⊎◌, inl, inr, ℕ, Bool, cond, List, [], ◌∷◌, None, Option, Some, refl, sym, ap, subst}
 use Rattle.std.specs.Cmp.Lexicographic.{nat_list_cmp_total}
-use Rattle.std.specs.FinMap.{get, get-remove}
+use Rattle.std.specs.FinMap.{get-remove}
+use Rattle.xet_io.specs.Entries as now
 use Rattle.std.specs.List.{IsAmong}
-use Rattle.xet_io.specs.Disk.{File, Files, file_at, file_of, gone_if, removed}
+use Rattle.xet_io.specs.Disk.{File, Files, entry_at as get, file_at, file_of, removed}
 use Rattle.xet_io.specs.theorems.Names.{either_name, get_kept, is_name_self}
 use Rattle.xet_shard_directory.specs.Directories.{all_removed}
 use Rattle.xet_shard_merge.proofs.Among.{among_cons, among_first, among_later, among_none}
 
 module _ (files : Files) (n : List ℕ) where
+  abbrev after : Option File → Files
+  after found = record { entries = now.gone_if files.entries n found; past = files.entries ∷ files.past }
+
   removed_other : (name : List ℕ) → name ≢ n → get (removed files n) name ≡ get files name
   removed_other name other = by (file_at files n)
     where
-      by : (found : Option File) → get (gone_if files n found) name ≡ get files name
+      by : (found : Option File) → get (after found) name ≡ get files name
       by None = refl
-      by (Some f) = get_kept files n name other
+      by (Some f) = get_kept files.entries n name other
 
   removed_here : file_at (removed files n) n ≡ None
   removed_here = by (file_at files n) refl
     where
-      by : (found : Option File) → file_at files n ≡ found → file_at (gone_if files n found) n ≡ None
+      by : (found : Option File) → file_at files n ≡ found → file_at (after found) n ≡ None
       by None is = is
-      by (Some f) is = ap file_of (get-remove nat_list_cmp_total files n n ∙ ap (λ (b : Bool). cond b None (get files n)) (is_name_self n))
+      by (Some f) is = ap file_of (get-remove nat_list_cmp_total files.entries n n ∙ ap (λ (b : Bool). cond b None (get files n)) (is_name_self n))
 
   still_absent : (name : List ℕ) → file_at files name ≡ None → file_at (removed files n) name ≡ None
   still_absent name absent = by (either_name name n)

@@ -1,7 +1,7 @@
 -- What merging the shards of a directory leaves.
 use Rattle.std.specs.Prelude.{◌≡◌, ◌≢◌, ◌⊎◌, ◌^◌, ◌<◌, ℕ, nat_eq, Bool, true, false, not, List, [], ◌∷◌, ◌++◌, filter, flat_map, length, map, min, take, Some, None, Ok, Err, IsOk, IsSome, All, AllPairs, Any}
 use Rattle.std.specs.Cmp.Lexicographic.{pointwise}
-use Rattle.std.specs.FinMap.{get}
+use Rattle.xet_io.specs.Disk.{entry_at as get}
 use Rattle.std.specs.List.{list_any}
 use Rattle.std.specs.List.Sorted.{IsPermutation}
 use Rattle.xet_hash.specs.Merkle.{chunk_hash}

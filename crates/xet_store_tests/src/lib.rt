@@ -4,6 +4,8 @@
 #![tactic(auto)]
 
 #[cfg(test)]
+mod crash_tests;
+#[cfg(test)]
 mod chunking_tests;
 #[cfg(test)]
 mod cleaning_tests;

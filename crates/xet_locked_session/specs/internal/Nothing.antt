@@ -1,6 +1,6 @@
 -- What the names of a session are where there is none.
 use Rattle.std.specs.Prelude.{[], false}
-use Rattle.std.specs.FinMap as map
+use Rattle.xet_io.specs.Disk.{no_files}
 use Rattle.atomic_table.specs.Seated.{TableId}
 use Rattle.xet_shard.specs.Held.{nothing}
 use Rattle.xet_steps.specs.Recorded.{RecordedState}
@@ -12,7 +12,7 @@ no_table = record { words = 0; slots = 0; views_name = 0; atom = 0; block = 0; o
 
 abbrev pub no_store : RecordedState
 no_store = record {
-  store = state false map.empty 0 []
+  store = state false no_files 0 []
       (record {
         target_chunk = 0;
         minimum_chunk = 0;
