@@ -27,4 +27,4 @@ pub use error::{Field, Place, Reason, Refused, StoreError, What};
 pub use hasher::DataHasher;
 pub use maps::{MerkleHashMap, PassThroughHashMap, TruncatedMerkleHashMap};
 pub use merkle::{file_hash, file_hash_with_salt, xorb_hash};
-pub use range::range_hash_from_chunks;
+pub use range::{range_hash, range_hash_from_chunks};
