@@ -1,6 +1,8 @@
 -- Where a part may begin: one chunk at a time, and one place at a time.
-use Rattle.std.proofs.Common.{◌≡◌, ◌∙◌, ℕ, zero, suc, ◌+◌, ◌-◌, ◌*◌, ◌<◌, ◌≤◌, true, false, ◌&&◌, List, [], ◌∷◌, ◌++◌, append_assoc, length, take, drop, map, take_while, Option, Some, None, refl, sym, ap, arith}
+use Rattle.std.proofs.Common.{◌≡◌, ◌∙◌, ℕ, zero, suc, ◌+◌, ◌-◌, ◌*◌, ◌<◌, ◌≤◌, true, false, ◌&&◌, List, [], ◌∷◌, ◌++◌, append_assoc, length, take, drop, map, take_while, All, AllPairs, IfSome, Option, Some, None, refl, sym, ap, arith}
 use Rattle.std.proofs.lemmas.List.{append-nil, drop-drop, length-take-le}
+use Rattle.std.proofs.lemmas.List.Elements.{All-push, All-weaker}
+use Rattle.std.proofs.lemmas.List.Quantifiers.{all_pairs_push}
 use Rattle.std.proofs.Math.Nat.{le-mul_of_pos_right}
 use Rattle.std.specs.List.{cons_option, filter_map, range_with_len}
 use Rattle.std.specs.Option.{option_to_list}
@@ -180,3 +182,22 @@ no_scan s bytes (x ∷ xs) =
 pub no_scan_within : (bytes xs : List ℕ) → AreWithin bytes 0 xs
 no_scan_within bytes [] = tt
 no_scan_within bytes (x ∷ xs) = (omega arith, no_scan_within bytes xs)
+
+-- the starts that were found so far, and one more or none
+pub starts_more : (size : ℕ) (first found new : List ℕ) (o : Option ℕ) → new ≡ found ++ option_to_list o → IfSome o (λ start. start < size)
+    → ((more : List ℕ) × (found ≡ first ++ more) × All (λ start. start < size) more) → (more : List ℕ) × (new ≡ first ++ more) × All (λ start. start < size) more
+starts_more size first found new None is below (more, so_far, all) = (more, is ∙ append-nil found ∙ so_far, all)
+starts_more size first found new (Some start) is below (more, so_far, all) =
+    (more ++ start ∷ [], is ∙ ap (λ (xs : List ℕ). xs ++ start ∷ []) so_far ∙ append_assoc first more (start ∷ []), All-push (λ x. x < size) more start all below)
+
+-- They rise, if each is past all before it.
+pub starts_rise : (place next : ℕ) (found new : List ℕ) (o : Option ℕ) → new ≡ found ++ option_to_list o → IfSome o (λ start. (place < start) × (start ≤ next)) → place ≤ next
+    → AllPairs ◌<◌ found → All (λ start. start ≤ place) found → AllPairs ◌<◌ new × All (λ start. start ≤ next) new
+starts_rise place next found new None is past later pairs all =
+    let same : new ≡ found = is ∙ append-nil found in
+    rw same (pairs, All-weaker (λ start. start ≤ place) (λ start. start ≤ next) (λ x below. omega (arith, below, later)) found all)
+starts_rise place next found new (Some start) is past later pairs all =
+    rw is (
+      all_pairs_push ◌<◌ found start pairs (λ k d within. let below = all k d within in omega (arith, below, past.0)),
+      All-push (λ x. x ≤ next) found start (All-weaker (λ x. x ≤ place) (λ x. x ≤ next) (λ x below. omega (arith, below, later)) found all) past.1,
+    )

@@ -1,6 +1,6 @@
 //! Places where a long file may be split into parts, which are then chunked at the same time.
 
-ghost use Rattle.std.specs.Prelude.{◌≡◌, ◌≤◌, ◌<◌, ◌+◌, ◌-◌, ◌*◌, ◌^◌, ◌⊎◌, ◌++◌, true, length, drop, IfErr, IfOk, IfSome, IsErrOf, OnOk, filter_map};
+ghost use Rattle.std.specs.Prelude.{◌≡◌, ◌≤◌, ◌<◌, ◌+◌, ◌-◌, ◌*◌, ◌^◌, ◌⊎◌, ◌++◌, ◌∷◌, [], ℕ, List, true, length, drop, All, AllPairs, IfErr, IfOk, IfSome, IsErrOf, OnOk, filter_map};
 ghost use Rattle.xet_hash.specs.declared.error.Place.TheVariants.{Input};
 ghost use Rattle.xet_hash.specs.declared.error.StoreError.TheVariants.{Io, OutOfMemory, UnexpectedEof};
 ghost use Rattle.xet_io.specs.Frame.{ReadFrom};
@@ -18,7 +18,8 @@ use xet_io::ReadAt;
 /// Finds where a file of `size` bytes may be split into parts that are chunked on their own: the offset of each part. In
 /// the chunks of the whole, a chunk probably ends there too. The first part begins at 0. `scan` bytes are read at each
 /// multiple of `min_partition` that more than `min_partition` and more than `scan` bytes follow, and a part begins in
-/// these, or none. All sizes are in bytes. If a chunk may have `min_partition` bytes, nothing is read.
+/// these, or none. All sizes are in bytes. If a chunk may have `min_partition` bytes, nothing is read. The offsets rise
+/// unless scans overlap.
 /// The error is `UnexpectedEof` if the bytes end before the end of a scan, `Io(Input)` only if the reader failed, and
 /// otherwise `OutOfMemory`.
 pub fn find_partitions<R: ReadAt>(
@@ -36,6 +37,10 @@ pub fn find_partitions<R: ReadAt>(
     ensures exact { R.tells reader.old ≡ true → IfOk result (λ starts. starts.items ≡ partitions limits.now (R.bytes reader.old) size min_partition scan) }
     ensures reached { R.tells reader.old ≡ true → OnOk result (AreWithin (R.bytes reader.old) scan (places limits.now size min_partition scan)) }
     ensures refused { R.tells reader.old ≡ true → AreWithin (R.bytes reader.old) scan (places limits.now size min_partition scan) → IfErr result (λ e. (e ≡ Io Input) ⊎ (e ≡ OutOfMemory)) }
+    ensures begins { IfOk result (λ starts. (rest : List ℕ) × (starts.items ≡ 0 ∷ rest) × All (λ start. start < size) rest) }
+    ensures rises { scan ≤ min_partition → IfOk result (λ starts. AllPairs ◌<◌ starts.items) }
+    ensures whole { min_partition ≤ limits.now.maximum_chunk → IfOk result (λ starts. starts.items ≡ 0 ∷ []) }
+    ensures unread { min_partition ≤ limits.now.maximum_chunk → IfErr result (λ e. e ≡ OutOfMemory) × (reader.new ≡ reader.old) }
     ensures kinds { IfErr result (λ e. (e ≡ UnexpectedEof) ⊎ (e ≡ Io Input) ⊎ (e ≡ OutOfMemory)) }
     ensures frame { ReadFrom R.bytes R.tells R.faults R.lent reader.old reader.new (IsErrOf result (Io Input)) }
 {
@@ -63,6 +68,8 @@ fn push_parts<R: ReadAt>(
     ensures exact { R.tells reader.old ≡ true → OnOk result (starts.new.items ≡ starts.old.items ++ filter_map (part_at limits.now (R.bytes reader.old) (length bytes.old)) (places_from size min_partition (length bytes.old) 1)) }
     ensures reached { R.tells reader.old ≡ true → OnOk result (AreWithin (R.bytes reader.old) (length bytes.old) (places_from size min_partition (length bytes.old) 1)) }
     ensures refused { R.tells reader.old ≡ true → AreWithin (R.bytes reader.old) (length bytes.old) (places_from size min_partition (length bytes.old) 1) → IfErr result (λ e. (e ≡ Io Input) ⊎ (e ≡ OutOfMemory)) }
+    ensures added { OnOk result ((more : List ℕ) × (starts.new.items ≡ starts.old.items ++ more) × All (λ start. start < size) more) }
+    ensures rises { length bytes.old ≤ min_partition → AllPairs ◌<◌ starts.old.items → All (λ start. start ≤ min_partition) starts.old.items → OnOk result (AllPairs ◌<◌ starts.new.items) }
     ensures kinds { IfErr result (λ e. (e ≡ UnexpectedEof) ⊎ (e ≡ Io Input) ⊎ (e ≡ OutOfMemory)) }
     ensures frame { ReadFrom R.bytes R.tells R.faults R.lent reader.old reader.new (IsErrOf result (Io Input)) }
 {
@@ -98,6 +105,7 @@ fn read_part<R: ReadAt>(
     ensures exact { R.tells reader.old ≡ true → IfOk result (λ start. start ≡ part_at limits.now (R.bytes reader.old) (length bytes.old) place) }
     ensures reached { R.tells reader.old ≡ true → OnOk result (length bytes.old ≤ length (R.bytes reader.old) - place) }
     ensures refused { R.tells reader.old ≡ true → length bytes.old ≤ length (R.bytes reader.old) - place → IfErr result (λ e. e ≡ Io Input) }
+    ensures within { IfOk result (λ found. IfSome found (λ start. (place < start) × (start ≤ place + length bytes.old))) }
     ensures len { length bytes.new ≡ length bytes.old }
     ensures kinds { IfErr result (λ e. (e ≡ UnexpectedEof) ⊎ (e ≡ Io Input)) }
     ensures frame { ReadFrom R.bytes R.tells R.faults R.lent reader.old reader.new (IsErrOf result (Io Input)) }
@@ -113,7 +121,7 @@ fn read_part<R: ReadAt>(
 /// short nor long, and is after one that is neither.
 fn part_in(limits: &Limits, bytes: &[u8]) -> Option<usize>
     ensures value { result ≡ part_in limits.now bytes.now }
-    ensures within { IfSome result (λ n. n ≤ length bytes.now) }
+    ensures within { IfSome result (λ n. (1 ≤ n) × (n ≤ length bytes.now)) }
 {
     limits.recall_invariant();
     let Some(first) = complete_len(limits, bytes) else {

@@ -1,4 +1,4 @@
-use Rattle.std.proofs.Common.{◌≡◌, ◌∙◌, ◌+◌, ◌-◌, ◌≤◌, ◌++◌, ◌⊎◌, true, length, sym, inl, refl, arith, rules}
+use Rattle.std.proofs.Common.{◌≡◌, ◌∙◌, ℕ, ◌+◌, ◌-◌, ◌<◌, ◌≤◌, ◌++◌, ◌⊎◌, true, length, IfSome, Option, None, Some, sym, inl, refl, arith, rules}
 use Rattle.std.proofs.lemmas.List.{append-nil}
 use Rattle.std.proofs.lemmas.Bool.{and_parts, ltb-true}
 use Rattle.std.specs.Option.{option_to_list}
@@ -6,9 +6,13 @@ use Rattle.xet_base.specs.theorems.Exits.{exit_with}
 use Rattle.xet_hash.specs.declared.error.Place.TheVariants.{Input}
 use Rattle.xet_hash.specs.declared.error.StoreError.TheVariants.{Io, OutOfMemory}
 use Rattle.xet_cut.specs.Partitions.{is_scanned, part_at}
-use Rattle.xet_cut.proofs.Parts.{walked_all, walked_due, walked_more}
+use Rattle.xet_cut.proofs.Parts.{starts_more, starts_rise, walked_all, walked_due, walked_more}
 use Rattle.xet_cut.proofs.partitions.push_parts.Goals as goal
 use Rattle.xet_cut.proofs.partitions.push_parts.Goals.{in-Some+in_ok-push, in_default}
+
+if_more : (P Q : ℕ → Type 0) → ((n : ℕ) → P n → Q n) → (o : Option ℕ) → IfSome o P → IfSome o Q
+if_more P Q f None h = tt
+if_more P Q f (Some n) h = f n h
 
 pub returns-in_err-start-clause-refused : goal.returns-in_err-start-clause-refused
 returns-in_err-start-clause-refused g c = λ tells all.
@@ -25,6 +29,13 @@ places-preserved g c =
     let bytes = g.R.ReadAt.bytes c.args.reader.now in
     let scan = length c.args.bytes.now in
     let passes : is_scanned c.args.size c.args.min_partition scan c.places.place ≡ true = rw c.is_scanned.ensures at c.places-test.true in
+    let ends : c.places.place + scan < c.args.size = ltb-true (c.places.place + scan) c.args.size (and_parts _ _ passes).1 in
+    let found : Option ℕ = c.in_ok-start.field-0 in
+    let new_is : c.match-branch-2.starts.items ≡ c.places.starts.items ++ option_to_list found = elim c.match-branch-2.branch [
+      | in-Some+in_ok-push w ↦ rw (w.starts-is, w.in-Some.is) w.in_ok-push.ensures.items
+      | in_default w ↦ rw (w.starts-is, w.in_default.is) (sym (append-nil c.places.starts.items))
+    ] in
+    let past : IfSome found (λ start. (c.places.place < start) × (start ≤ c.places.place + scan)) = rw c.places.auto.bytes at c.in_ok-start.ensures.within in
     record {
       small = omega (arith, ltb-true (c.places.place + c.args.min_partition) c.args.size (and_parts _ _ passes).0);
       walked = λ tells.
@@ -36,6 +47,12 @@ places-preserved g c =
             | in_default w ↦ rw (w.starts-is, ← found, w.in_default.is) (sym (append-nil c.places.starts.items))
           ] in
           walked_more c.match-branch-2.starts.items (c.places.place + c.args.min_partition) (inv.walked tells) c.requires.some passes new within refl;
+      added = starts_more c.args.size c.args.starts.now.items c.places.starts.items c.match-branch-2.starts.items found new_is
+          (if_more (λ start. (c.places.place < start) × (start ≤ c.places.place + scan)) (λ start. start < c.args.size) (λ start is. omega (arith, is.1, ends)) found past) inv.added;
+      rises = λ narrow pairs all. let now = inv.rises narrow pairs all in
+          starts_rise c.places.place (c.places.place + c.args.min_partition) c.places.starts.items c.match-branch-2.starts.items found new_is
+          (if_more (λ start. (c.places.place < start) × (start ≤ c.places.place + scan)) (λ start. (c.places.place < start) × (start ≤ c.places.place + c.args.min_partition)) (λ start is. (is.0, omega (arith, is.1, narrow))) found past)
+          (omega arith) now.0 now.1;
       frame = record { same = kept.same ∙ inv.frame.same; tells = kept.tells ∙ inv.frame.tells; later = omega (arith, kept.later, inv.frame.later); rose = λ x. absurd x; lent = search rules };
     }
 
