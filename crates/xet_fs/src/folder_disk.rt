@@ -1,19 +1,19 @@
 //! A disk over a folder of the operating system. Its files are not observable.
 
-ghost use Rattle.std.specs.Prelude.{◌≡◌, ◌≤◌, ℕ, false, length, IfOk, IfSome, IsErrOf};
+ghost use Rattle.std.specs.Prelude.{◌≡◌, ◌≤◌, ℕ, false, length, IfOk, IfErr, IfSome, IsErrOf};
 ghost use Rattle.xet_io.specs.Disk.{no_files};
 ghost use Rattle.xet_io.specs.Faults.{HasCause, faults_after};
 ghost use Rattle.xet_fs.specs.FolderNames.{stays_inside};
 
 use crate::folder_files::{
-    has_folders, is_own_file, list_files, open_file, remove_file, rename_file, stat_file,
-    write_file,
+    has_folders, is_own_file, list_files, open_file, read_part, remove_file, rename_file,
+    settle_folder, stat_file, sync_folder, write_file,
 };
-use crate::folder_name::{path_in, stays_inside};
+use crate::folder_name::{folder_path, holder, path_in, stays_inside};
+use crate::root_lock::RootLock;
 use std::alloc::Global;
 use std::fs::{File, Files};
 use std::marker::Model;
-use std::os::unix::fs::FileExt;
 use xet_io::{Disk, DiskEntry, Refusal};
 
 /// A disk over a folder of the operating system, its root, which must exist for a write. Contracts see the number
@@ -26,14 +26,19 @@ use xet_io::{Disk, DiskEntry, Refusal};
 /// symbolic link there is a failure, and so is whatever else is no regular file. A process that puts one there
 /// between the look and the change is not noticed. Of two names for one file, a write changes both.
 ///
-/// After an `Ok` rename or removal a crash keeps the change of the names. Whether it keeps the bytes of a file is
-/// settled by `sync`, which must come before. Out of memory is that of the program or of the system, and is not
-/// counted as a failure; every other error of the system but an absent name is.
+/// After an `Ok` rename or removal a crash keeps the change of the names, and after an `Ok` sync the name and its bytes.
+/// What an earlier process left in a folder, or gave the folder its name, is made durable before the folder is listed.
+/// A file system that syncs no folders answers `EINVAL` or `EROFS`; there a crash may lose names.
+///
+/// Out of memory is that of the program or of the system, and is not counted as a failure; every other error of the
+/// system but an absent name is.
 #[derive(Drop)]
 pub struct FolderDisk<R> {
     alloc: Global,
     runtime: R,
     root: String,
+    lock: RootLock,
+    settled: Option<String>,
     last: Option<LastFile>,
     faults: u64,
 }
@@ -53,16 +58,46 @@ impl<R> Model for FolderDisk<R> {
 }
 
 impl<R: Files<File = File>> FolderDisk<R> {
-    /// A disk over this folder, which has not failed yet. Calls nothing of the system, and does not allocate.
+    /// A disk over this folder, which has not failed yet. Takes no lock. Calls nothing of the system, and does not
+    /// allocate.
     pub fn new(alloc: Global, runtime: R, root: String) -> FolderDisk<R>
+        ensures { result ≡ 0 }
+    {
+        FolderDisk::with_lock(alloc, runtime, root, RootLock::Unlocked)
+    }
+
+    /// The same, but its first call locks the folder, before it reads or changes anything, until the disk is dropped. If
+    /// another such disk holds the lock, in whatever process, this call and all later ones fail. Without a lock where the
+    /// file system has none, or the folder cannot be opened.
+    pub fn locked(alloc: Global, runtime: R, root: String) -> FolderDisk<R>
+        ensures { result ≡ 0 }
+    {
+        FolderDisk::with_lock(alloc, runtime, root, RootLock::Due)
+    }
+
+    fn with_lock(alloc: Global, runtime: R, root: String, lock: RootLock) -> FolderDisk<R>
         ensures { result ≡ 0 }
     {
         FolderDisk {
             alloc,
             runtime,
             root,
+            lock,
+            settled: None,
             last: None,
             faults: 0,
+        }
+    }
+
+    /// Begins a call: takes the lock on the root if that is due. A failure if another disk has it.
+    fn enter(&mut self) -> Result<(), Refusal>
+        ensures failed { IfErr result (λ e. e ≡ Refusal.Failed) }
+        ensures same { self.new ≡ self.old }
+    {
+        if self.lock.enter(&self.runtime, folder_path(&self.root)) {
+            Ok(())
+        } else {
+            Err(Refusal::Failed)
         }
     }
 
@@ -89,9 +124,11 @@ impl<R: Files<File = File>> FolderDisk<R> {
         Ok(path_in(self.alloc, &self.root, name)?)
     }
 
-    fn stat_name(&self, name: &str) -> Result<Option<(u64, u64)>, Refusal>
+    fn stat_name(&mut self, name: &str) -> Result<Option<(u64, u64)>, Refusal>
         ensures outside { stays_inside name.now ≡ false → IsErrOf result Refusal.Failed }
+        ensures same { self.new ≡ self.old }
     {
+        self.enter()?;
         let path = self.path_of(name)?;
         stat_file(&self.runtime, &path)
     }
@@ -101,6 +138,7 @@ impl<R: Files<File = File>> FolderDisk<R> {
         ensures outside { stays_inside name.now ≡ false → IsErrOf result Refusal.Failed }
         ensures same { self.new ≡ self.old }
     {
+        self.enter()?;
         if !stays_inside(name) {
             return Err(Refusal::Failed);
         }
@@ -147,17 +185,46 @@ impl<R: Files<File = File>> FolderDisk<R> {
         match &self.last {
             Some(last) => {
                 last.file.sync_all()?;
+                self.sync_holder(name)?;
                 Ok(true)
             }
             None => Ok(false),
         }
     }
 
-    fn list_folder(&self, alloc: Global, folder: &str) -> Result<Vec<DiskEntry>, Refusal>
+    /// Makes a name durable.
+    fn sync_holder(&self, name: &str) -> Result<(), Refusal> {
+        let path = self.path_of(name)?;
+        sync_folder(&self.runtime, holder(&path))
+    }
+
+    fn list_folder(&mut self, alloc: Global, folder: &str) -> Result<Vec<DiskEntry>, Refusal>
         ensures outside { stays_inside folder.now ≡ false → IsErrOf result Refusal.Failed }
+        ensures same { self.new ≡ self.old }
     {
+        self.enter()?;
         let path = self.path_of(folder)?;
+        self.settle(folder, &path)?;
         list_files(&self.runtime, alloc, &path)
+    }
+
+    /// Makes durable what an earlier process left in a folder, unless that was done.
+    fn settle(&mut self, folder: &str, path: &str) -> Result<(), Refusal>
+        ensures same { self.new ≡ self.old }
+    {
+        if !self.is_settled(folder) {
+            settle_folder(&self.runtime, path)?;
+            self.settled = Some(String::from_str(self.alloc, folder)?);
+        }
+        Ok(())
+    }
+
+    /// Whether this is the folder that was settled last.
+    fn is_settled(&self, folder: &str) -> bool {
+        match &self.settled {
+            Some(settled) => settled.as_str() == folder,
+            None => false,
+        }
     }
 
     /// The path of a file that a call changes, and whether the file exists. A link at the name or at one of its
@@ -171,9 +238,11 @@ impl<R: Files<File = File>> FolderDisk<R> {
         Ok((path, there))
     }
 
-    fn write_name(&self, name: &str, bytes: &[u8]) -> Result<LastFile, Refusal>
+    fn write_name(&mut self, name: &str, bytes: &[u8]) -> Result<LastFile, Refusal>
         ensures outside { stays_inside name.now ≡ false → IsErrOf result Refusal.Failed }
+        ensures same { self.new ≡ self.old }
     {
+        self.enter()?;
         let (path, there) = self.own_path(name, true)?;
         last_file(
             self.alloc,
@@ -182,10 +251,12 @@ impl<R: Files<File = File>> FolderDisk<R> {
         )
     }
 
-    fn rename_name(&self, from: &str, to: &str) -> Result<bool, Refusal>
+    fn rename_name(&mut self, from: &str, to: &str) -> Result<bool, Refusal>
         ensures from { stays_inside from.now ≡ false → IsErrOf result Refusal.Failed }
         ensures to { stays_inside to.now ≡ false → IsErrOf result Refusal.Failed }
+        ensures same { self.new ≡ self.old }
     {
+        self.enter()?;
         if !stays_inside(to) {
             return Err(Refusal::Failed);
         }
@@ -198,9 +269,11 @@ impl<R: Files<File = File>> FolderDisk<R> {
         Ok(true)
     }
 
-    fn remove_name(&self, name: &str) -> Result<bool, Refusal>
+    fn remove_name(&mut self, name: &str) -> Result<bool, Refusal>
         ensures outside { stays_inside name.now ≡ false → IsErrOf result Refusal.Failed }
+        ensures same { self.new ≡ self.old }
     {
+        self.enter()?;
         let (path, there) = self.own_path(name, false)?;
         if !there {
             return Ok(false);
@@ -241,7 +314,9 @@ impl<R: Files<File = File>> Disk for FolderDisk<R> {
     }
 
     /// Lists what `read_at` can open: regular files, and links that lead to one. Folders and other files are passed
-    /// over, and so are names that are not UTF-8. Calls `open`, `getdents64`, and `statx` for each name.
+    /// over, and so are names that are not UTF-8, and links that cannot be followed. Calls `open`, `getdents64`, and
+    /// `statx` for each name; before that, unless the folder was the last that was listed, `statx`, and `open` and
+    /// `fsync` for the folder and for the one that holds it.
     fn list(&mut self, alloc: Global, folder: &str) -> Result<Vec<DiskEntry>, Refusal>
         ensures outside { stays_inside folder.now ≡ false → IsErrOf result Refusal.Failed }
         ensures counted { self.new ≡ faults_after result self.old }
@@ -253,7 +328,8 @@ impl<R: Files<File = File>> Disk for FolderDisk<R> {
     }
 
     /// Makes the folders of the name that are absent. Calls `statx` for each folder and for the name, `mkdir` for a
-    /// folder that is absent and then `open` and `fsync` for the folder that holds it, and `open` and `write`.
+    /// folder that is absent and then `open` and `fsync` for the folder that holds it, and `open` and `write`. A file
+    /// that was not there is removed again if it cannot be written.
     fn write(&mut self, name: &str, bytes: &[u8]) -> Result<(), Refusal>
         ensures outside { stays_inside name.now ≡ false → IsErrOf result Refusal.Failed }
         ensures counted { self.new ≡ faults_after result self.old }
@@ -267,7 +343,8 @@ impl<R: Files<File = File>> Disk for FolderDisk<R> {
         Ok(())
     }
 
-    /// Calls `fsync`, after `statx` and `open` unless the file is open from the last call.
+    /// Calls `fsync`, after `statx` and `open` unless the file is open from the last call, and `open` and `fsync` for
+    /// the folder.
     fn sync(&mut self, name: &str) -> Result<bool, Refusal>
         ensures outside { stays_inside name.now ≡ false → IsErrOf result Refusal.Failed }
         ensures counted { self.new ≡ faults_after result self.old }
@@ -310,14 +387,4 @@ fn last_file(alloc: Global, name: &str, file: File) -> Result<LastFile, Refusal>
         Ok(name) => Ok(LastFile { name, file }),
         Err(_) => Err(Refusal::OutOfMemory),
     }
-}
-
-/// Reads part of a file. Past 2^63 - 1, where no file reaches, there is nothing. Calls `pread`.
-fn read_part(file: &File, at: u64, buf: &mut [u8]) -> Result<Option<usize>, Refusal>
-    ensures { IfOk result (λ found. IfSome found (λ count. count ≤ length buf.new)) }
-{
-    if i64::try_from(at).is_err() {
-        return Ok(Some(0));
-    }
-    Ok(Some(file.read_at(buf, at)?))
 }

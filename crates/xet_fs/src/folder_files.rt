@@ -1,6 +1,6 @@
 //! The system calls of a disk over a real folder. Nothing here counts failures.
 
-ghost use Rattle.std.specs.Prelude.{◌≡◌, ◌≢◌, Ok, Some, None, IfOk, IfErr, IsErr};
+ghost use Rattle.std.specs.Prelude.{◌≡◌, ◌≢◌, ◌≤◌, Ok, Some, None, length, IfOk, IfErr, IfSome, IsErr};
 ghost use Rattle.std.specs.IoError.{error_kind};
 ghost use Rattle.xet_io.specs.Refusals.{IsRefusalOf};
 
@@ -8,7 +8,7 @@ use crate::folder_name::{holder, push_part};
 use std::alloc::Global;
 use std::fs::{self, DirEntry, File, Files, Metadata, OpenFile, OpenOptions, ReadDir};
 use std::io::{self, ErrorKind, Write};
-use std::os::unix::fs::MetadataExt;
+use std::os::unix::fs::{FileExt, MetadataExt};
 use xet_base::Text;
 use xet_io::{DiskEntry, Refusal};
 
@@ -51,6 +51,24 @@ pub(crate) fn open_file<R: Files<File = File>>(
         Some(_) => found(fs::open(files, path)),
         None => Ok(None),
     }
+}
+
+/// Reads part of a file. Past 2^63 - 1, where no file reaches, there is nothing. Calls `pread`, again if a signal
+/// interrupts it.
+pub(crate) fn read_part(file: &File, at: u64, buf: &mut [u8]) -> Result<Option<usize>, Refusal>
+    ensures { IfOk result (λ found. IfSome found (λ count. count ≤ length buf.new)) }
+{
+    if i64::try_from(at).is_err() {
+        return Ok(Some(0));
+    }
+    for _ in 0..u64::MAX {
+        match file.read_at(buf, at) {
+            Ok(count) => return Ok(Some(count)),
+            Err(error) if error.kind() == ErrorKind::Interrupted => {}
+            Err(error) => return Err(Refusal::from(error)),
+        }
+    }
+    Err(Refusal::Failed)
 }
 
 /// The regular files of a folder, through links. Calls `open`, `getdents64`, and `statx` for each name.
@@ -116,7 +134,7 @@ fn list_name<R: Files>(
     path: &str,
     name: &str,
 ) -> Result<(), Refusal> {
-    let Some(metadata) = found(fs::metadata(files, path))? else {
+    let Some(metadata) = look_through(files, path)? else {
         return Ok(());
     };
     if metadata.is_file() {
@@ -128,6 +146,34 @@ fn list_name<R: Files>(
         listed.push(entry)?;
     }
     Ok(())
+}
+
+/// What a path leads to, through links. `None` if it is absent, or a link that leads nowhere. Calls `statx`, twice if
+/// the first look fails.
+fn look_through<R: Files>(files: &R, path: &str) -> Result<Option<Metadata>, Refusal> {
+    match fs::metadata(files, path) {
+        Err(error) if leads_nowhere(error.kind()) && is_link(files, path) => Ok(None),
+        answer => found(answer),
+    }
+}
+
+/// Whether this error is one of the way that a link points: in a circle, through what is no folder or may not be
+/// searched, or by a name that no file can have.
+fn leads_nowhere(kind: ErrorKind) -> bool {
+    matches!(
+        kind,
+        ErrorKind::FilesystemLoop
+            | ErrorKind::NotADirectory
+            | ErrorKind::PermissionDenied
+            | ErrorKind::InvalidFilename
+    )
+}
+
+fn is_link<R: Files>(files: &R, path: &str) -> bool {
+    match fs::symlink_metadata(files, path) {
+        Ok(metadata) => metadata.is_symlink(),
+        Err(_) => false,
+    }
 }
 
 /// Whether a path is a regular file, not through links: a link, a folder or a device is a failure. Calls
@@ -198,13 +244,56 @@ fn sync_made<R: Files<File = File>>(files: &R, path: &str) -> Result<(), Refusal
 }
 
 /// Makes the folder at `path` durable, with the names in it. Calls `open` and `fsync`.
-fn sync_folder<R: Files<File = File>>(files: &R, path: &str) -> Result<(), Refusal> {
-    fs::open(files, path)?.sync_all()?;
+pub(crate) fn sync_folder<R: Files<File = File>>(files: &R, path: &str) -> Result<(), Refusal> {
+    sync_opened(&fs::open(files, path)?)
+}
+
+/// Makes an opened folder durable. A file system that syncs no folders answers `EINVAL`, and one that is only read
+/// may answer `EROFS`: there is nothing more to be done then, and that is no failure.
+fn sync_opened(folder: &File) -> Result<(), Refusal> {
+    match folder.sync_all() {
+        Err(error) if syncs_no_folder(error.kind()) => Ok(()),
+        Err(error) => Err(Refusal::from(error)),
+        Ok(()) => Ok(()),
+    }
+}
+
+fn syncs_no_folder(kind: ErrorKind) -> bool {
+    matches!(
+        kind,
+        ErrorKind::InvalidInput | ErrorKind::ReadOnlyFilesystem
+    )
+}
+
+/// Makes a folder durable that another process may have made or changed, and its name, if it exists. Calls `statx`, and
+/// `open` and `fsync` for both.
+pub(crate) fn settle_folder<R: Files<File = File>>(files: &R, path: &str) -> Result<(), Refusal> {
+    if is_folder(files, path) {
+        sync_folder(files, path)?;
+        sync_readable(files, holder(path))?;
+    }
     Ok(())
 }
 
+fn is_folder<R: Files>(files: &R, path: &str) -> bool {
+    match fs::metadata(files, path) {
+        Ok(metadata) => metadata.is_dir(),
+        Err(_) => false,
+    }
+}
+
+/// Makes a folder durable if it may be read: else it cannot be opened, and so not be synced.
+fn sync_readable<R: Files<File = File>>(files: &R, path: &str) -> Result<(), Refusal> {
+    match fs::open(files, path) {
+        Ok(folder) => sync_opened(&folder),
+        Err(error) if error.kind() == ErrorKind::PermissionDenied => Ok(()),
+        Err(error) => Err(Refusal::from(error)),
+    }
+}
+
 /// Writes the file at `path`, and returns it opened. `there` says whether it exists: then its bytes are
-/// replaced, and else it is created, which fails at a link too. Calls `open` and `write`.
+/// replaced, and else it is created, which fails at a link too, and removed again if it cannot be written, so that a full
+/// disk does not stay full. Calls `open` and `write`.
 pub(crate) fn write_file<R: Files<File = File>>(
     files: &R,
     path: &str,
@@ -217,7 +306,11 @@ pub(crate) fn write_file<R: Files<File = File>>(
         .truncate(there)
         .create_new(!there)
         .open(files, path)?;
-    file.write_all(bytes)?;
+    let done = file.write_all(bytes);
+    if done.is_err() && !there {
+        let _ = fs::remove_file(files, path);
+    }
+    done?;
     Ok(file)
 }
 

@@ -5,15 +5,13 @@ ghost use Rattle.std.specs.FinMap.{empty};
 ghost use Rattle.xet_io.specs.Faults.{HasCause, TakesFaults, after_close, faults_after};
 ghost use Rattle.xet_io.specs.Opened.{opened_after};
 
+use crate::file_source::FileSource;
 use crate::folder_files::found;
 use crate::folder_name::path_in;
 use std::alloc::Global;
 use std::fs::{self, File, Files};
-use std::marker::Model;
-use xet_io::{Inputs, Refusal, StdSource};
-
-/// A source over an opened file.
-pub type FileSource = StdSource<File>;
+use std::marker::{Model, Send};
+use xet_io::{Inputs, Refusal};
 
 /// Inputs in a real folder. A name is a path as the operating system takes it: relative to the folder, with `..`
 /// allowed, or absolute; `~` and patterns are not expanded. Contracts see the number of failures and the number of
@@ -37,7 +35,7 @@ impl<R> Model for FolderInputs<R> {
     ghost view = { λ i. record { faults = i.faults; opened = i.opened } };
 }
 
-impl<R: Files<File = File>> FolderInputs<R> {
+impl<R: Files<File = File> + Copy> FolderInputs<R> {
     /// Inputs in this folder, which have not failed yet. Calls nothing of the system, and does not allocate.
     pub fn new(alloc: Global, runtime: R, root: String) -> FolderInputs<R>
         ensures { result ≡ record { faults = 0; opened = 0 } }
@@ -51,7 +49,7 @@ impl<R: Files<File = File>> FolderInputs<R> {
         }
     }
 
-    fn open_file(&self, name: &str) -> Result<Option<FileSource>, Refusal>
+    fn open_file(&self, name: &str) -> Result<Option<FileSource<R>>, Refusal>
         ensures { IfOk result (λ found. IfSome found (λ source. source ≡ 0)) }
     {
         if name.is_empty() {
@@ -64,14 +62,29 @@ impl<R: Files<File = File>> FolderInputs<R> {
         };
         let path = path_in(self.alloc, folder, name)?;
         match found(fs::open(&self.runtime, &path))? {
-            Some(file) => Ok(Some(StdSource::new(file))),
+            Some(file) => Ok(Some(self.source_over(file, path)?)),
             None => Ok(None),
         }
     }
+
+    /// A source over a file that was opened at this path. A regular file is closed again until its first read; what can
+    /// be opened once only, as a pipe, stays open. A folder is a failure.
+    fn source_over(&self, file: File, path: String) -> Result<FileSource<R>, Refusal>
+        ensures { IfOk result (λ source. source ≡ 0) }
+    {
+        let metadata = file.metadata()?;
+        if metadata.is_dir() {
+            return Err(Refusal::Failed);
+        }
+        if metadata.is_file() {
+            return Ok(FileSource::closed(self.runtime, path));
+        }
+        Ok(FileSource::opened(self.runtime, file))
+    }
 }
 
-impl<R: Files<File = File>> Inputs for FolderInputs<R> {
-    type S = FileSource;
+impl<R: Files<File = File> + Copy + Send> Inputs for FolderInputs<R> {
+    type S = FileSource<R>;
 
     ghost tells = { λ _. false };
 
@@ -81,8 +94,9 @@ impl<R: Files<File = File>> Inputs for FolderInputs<R> {
 
     ghost opened = { λ i. i.opened };
 
-    /// Calls `open`. A folder is opened as a file is, and fails at its first read. An empty name does not exist.
-    fn open(&mut self, name: &str) -> Result<Option<FileSource>, Refusal>
+    /// Calls `open` and `statx`, and `close` for a regular file, which its first read opens again. A folder is a
+    /// failure. An empty name does not exist.
+    fn open(&mut self, name: &str) -> Result<Option<FileSource<R>>, Refusal>
         ensures whole { IfOk result (λ found. IfSome found (λ source. source ≡ 0)) }
         ensures counted { self.new.faults ≡ faults_after result self.old.faults }
         ensures opened { self.new.opened ≡ opened_after result self.old.opened }
@@ -98,8 +112,8 @@ impl<R: Files<File = File>> Inputs for FolderInputs<R> {
         answer
     }
 
-    /// Calls `close`.
-    fn close(&mut self, source: FileSource)
+    /// Calls `close` if the source is open.
+    fn close(&mut self, source: FileSource<R>)
         ensures counted { self.new.faults ≡ after_close source self.old.faults }
         ensures opened { self.new.opened ≡ self.old.opened - 1 }
         ensures cause { TakesFaults source self.old.faults self.new.faults }

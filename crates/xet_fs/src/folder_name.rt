@@ -39,6 +39,14 @@ pub(crate) fn path_in(alloc: Global, folder: &str, name: &str) -> Result<String,
     Ok(path)
 }
 
+/// The path of a folder. An empty folder is the current one.
+pub(crate) fn folder_path(folder: &str) -> &str {
+    match folder {
+        "" => ".",
+        _ => folder,
+    }
+}
+
 /// Extends the path of a folder to that of a name in it.
 pub(crate) fn push_part(path: &mut String, name: &str) -> Result<(), AllocError> {
     if !path.is_empty() {
