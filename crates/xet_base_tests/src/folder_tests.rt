@@ -36,6 +36,11 @@ fn folder_disk(rt: &HostRuntime, root: &str) -> Result<FolderDisk<HostRuntime>, 
     Ok(FolderDisk::new(alloc, *rt, String::from_str(alloc, root)?))
 }
 
+fn locked_disk(rt: &HostRuntime, root: &str) -> Result<FolderDisk<HostRuntime>, AllocError> {
+    let alloc = rt.alloc();
+    Ok(FolderDisk::locked(alloc, *rt, String::from_str(alloc, root)?))
+}
+
 fn lists<D: Disk>(disk: &mut D, alloc: Global, folder: &str) -> Result<usize, Refusal> {
     Ok(disk.list(alloc, folder)?.len())
 }
@@ -101,6 +106,44 @@ fn folder_disk_keeps_files(rt: HostRuntime) -> Result<(), Fail> {
     Ok(())
 }
 
+#[test]
+fn absent_root_has_no_files(rt: HostRuntime) -> Result<(), Fail> {
+    let root = path_of(&rt, "absent")?;
+    let mut disk = locked_disk(&rt, &root)?;
+    let empty = finds_nothing(&mut disk, rt.alloc());
+    let written = disk.write("store/a", b"x");
+    assert!(rt; empty && written == Err(Refusal::Failed));
+    Ok(())
+}
+
+/// Whether the first of two disks has the lock of their root, and the second fails.
+fn locks_out<D: Disk>(first: &mut D, second: &mut D, alloc: Global) -> bool {
+    lists(first, alloc, "store") == Ok(0)
+        && lists(second, alloc, "store") == Err(Refusal::Failed)
+        && second.write("a", b"x") == Err(Refusal::Failed)
+        && first.write("a", b"x") == Ok(())
+        && second.stat("a") == Err(Refusal::Failed)
+}
+
+/// Whether one disk at a time has the lock of this root, and a disk without a lock needs none.
+fn locks_root(rt: &HostRuntime, root: &str) -> Result<bool, AllocError> {
+    let mut first = locked_disk(rt, root)?;
+    let mut second = locked_disk(rt, root)?;
+    let mut reader = folder_disk(rt, root)?;
+    let locked = locks_out(&mut first, &mut second, rt.alloc());
+    Ok(locked && reader.remove("a") == Ok(true))
+}
+
+#[test]
+fn folder_disk_locks_its_root(rt: HostRuntime) -> Result<(), Fail> {
+    let root = temporary(&rt, "lock")?;
+    let locked = locks_root(&rt, &root) == Ok(true);
+    let later = locks_root(&rt, &root) == Ok(true);
+    let cleared = fs::remove_dir_all(&rt, &root).is_ok();
+    assert!(rt; locked && later && cleared);
+    Ok(())
+}
+
 /// Names that are not of a file below the root.
 const OUTSIDE: [&str; 8] = [
     "",
@@ -161,6 +204,15 @@ fn make_files(rt: &HostRuntime, root: &str) -> io::Result<()> {
     symlink(rt, "file", format!(in alloc; "{root}/store/link")?)
 }
 
+/// Makes links that lead to no file: to an absent one, to themselves, through a file, and to a device.
+fn make_dead_links(rt: &HostRuntime, root: &str) -> io::Result<()> {
+    let alloc = rt.alloc();
+    symlink(rt, "absent", format!(in alloc; "{root}/store/broken")?)?;
+    symlink(rt, "circle", format!(in alloc; "{root}/store/circle")?)?;
+    symlink(rt, "file/x", format!(in alloc; "{root}/store/through")?)?;
+    symlink(rt, "/dev/null", format!(in alloc; "{root}/store/device")?)
+}
+
 /// Whether the file is read by this name.
 fn reads_kept<D: Disk>(disk: &mut D, name: &str) -> bool {
     let mut buf = [0u8; 4];
@@ -180,6 +232,7 @@ fn follows_links_to_read<D: Disk>(disk: &mut D, alloc: Global) -> bool {
     reads_kept(disk, "store/link")
         && lists(disk, alloc, "store") == Ok(2)
         && disk.stat("store/folder") == Err(Refusal::Failed)
+        && disk.stat("store/circle") == Err(Refusal::Failed)
         && links_fail(disk)
         && reads_kept(disk, "store/file")
 }
@@ -187,7 +240,9 @@ fn follows_links_to_read<D: Disk>(disk: &mut D, alloc: Global) -> bool {
 #[test]
 fn folder_disk_writes_through_no_link(rt: HostRuntime) -> Result<(), Fail> {
     let root = temporary(&rt, "links")?;
-    let made = make_folders(&rt, &root).is_ok() && make_files(&rt, &root).is_ok();
+    let made = make_folders(&rt, &root).is_ok()
+        && make_files(&rt, &root).is_ok()
+        && make_dead_links(&rt, &root).is_ok();
     let kept = follows_links_to_read(&mut folder_disk(&rt, &root)?, rt.alloc());
     let cleared = fs::remove_dir_all(&rt, &root).is_ok();
     assert!(rt; made && kept && cleared);
@@ -202,11 +257,22 @@ fn read_twice<S: Source + Send>(source: &mut S) -> Read {
     (buf, [first, second])
 }
 
-/// What two reads of a file return, and how many failures its source counts.
-fn read_file_twice(rt: &HostRuntime, path: &str) -> io::Result<(Read, u64)> {
-    let mut source = FileSource::new(fs::open(rt, path)?);
+/// What two reads of an input return, and how many failures its source counts. The file may be removed before.
+fn read_file_twice(
+    rt: &HostRuntime,
+    path: &str,
+    removed: bool,
+) -> Result<Option<(Read, u64)>, Refusal> {
+    let alloc = rt.alloc();
+    let mut inputs = FolderInputs::new(alloc, *rt, String::new(alloc));
+    let Some(mut source) = inputs.open(path)? else {
+        return Ok(None);
+    };
+    if removed {
+        fs::remove_file(rt, path)?;
+    }
     let read = read_twice(&mut source);
-    Ok((read, source.failures()))
+    Ok(Some((read, source.failures())))
 }
 
 /// Writes a file of three bytes in a folder, and returns its path.
@@ -222,11 +288,11 @@ fn write_abc(rt: &HostRuntime, root: &str) -> io::Result<String> {
 fn file_source_reads_a_file(rt: HostRuntime) -> Result<(), Fail> {
     let root = temporary(&rt, "source")?;
     let path = write_abc(&rt, &root)?;
-    let file = read_file_twice(&rt, &path).ok();
-    let folder = read_file_twice(&rt, &root).ok();
+    let kept = read_file_twice(&rt, &path, false);
+    let removed = read_file_twice(&rt, &path, true);
     let cleared = fs::remove_dir_all(&rt, &root).is_ok();
-    assert!(rt; file == Some(((*b"abc\0", [Ok(3), Ok(0)]), 0)));
-    assert!(rt; folder == Some((([0; 4], [Err(Failed); 2]), 2)) && cleared);
+    assert!(rt; kept == Ok(Some(((*b"abc\0", [Ok(3), Ok(0)]), 0))));
+    assert!(rt; removed == Ok(Some((([0; 4], [Err(Failed); 2]), 2))) && cleared);
     Ok(())
 }
 
@@ -244,7 +310,8 @@ fn read_input<I: Inputs>(inputs: &mut I, name: &str) -> Result<Option<Read>, Ref
 fn opens_no_file<I: Inputs>(inputs: &mut I) -> bool {
     read_input(inputs, "missing") == Ok(None)
         && read_input(inputs, "") == Ok(None)
-        && read_input(inputs, ".") == Ok(Some(([0; 4], [Err(Failed); 2])))
+        && read_input(inputs, ".") == Err(Refusal::Failed)
+        && read_input(inputs, "/dev/null") == Ok(Some(([0; 4], [Ok(0); 2])))
         && read_input(inputs, "file/x") == Err(Refusal::Failed)
 }
 

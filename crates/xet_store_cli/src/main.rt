@@ -2,7 +2,7 @@
 //!
 //! `xet_program::run_program` is the whole program, over any input, output, disk and inputs. `main` passes the standard
 //! streams, the current folder, and for `pack` and `make` a disk in memory, of which nothing is left when the program
-//! ends.
+//! ends. `clean` locks the current folder.
 #![tactic(auto)]
 
 use std::process::ExitCode;
@@ -32,7 +32,7 @@ fn main(rt: HostRuntime) -> ExitCode {
         let disk = MemoryDisk::new(alloc);
         run_program(alloc, &rt, &words, input, output, disk, files, now).1
     } else {
-        let disk = FolderDisk::new(alloc, rt, String::new(alloc));
+        let disk = folder_disk(rt, &words);
         run_program(alloc, &rt, &words, input, output, disk, files, now).1
     };
     ExitCode::from(status)
@@ -43,6 +43,22 @@ fn stores_in_memory(words: &[String]) -> bool {
     words
         .first()
         .is_some_and(|word| matches!(word.as_str(), "pack" | "make"))
+}
+
+/// The disk over the current folder. Where the command changes the folder, the disk locks it.
+fn folder_disk(rt: HostRuntime, words: &[String]) -> FolderDisk<HostRuntime> {
+    let alloc = rt.alloc();
+    let root = String::new(alloc);
+    if changes_folder(words) {
+        FolderDisk::locked(alloc, rt, root)
+    } else {
+        FolderDisk::new(alloc, rt, root)
+    }
+}
+
+/// Whether the command changes the folder: `clean`.
+fn changes_folder(words: &[String]) -> bool {
+    words.first().is_some_and(|word| word.as_str() == "clean")
 }
 
 /// The arguments after the program's name, or the status if they cannot be read.
