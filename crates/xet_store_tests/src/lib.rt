@@ -4,11 +4,11 @@
 #![tactic(auto)]
 
 #[cfg(test)]
-mod crash_tests;
-#[cfg(test)]
 mod chunking_tests;
 #[cfg(test)]
 mod cleaning_tests;
+#[cfg(test)]
+mod crash_tests;
 #[cfg(test)]
 mod folder_tests;
 #[cfg(test)]
